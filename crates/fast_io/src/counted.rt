@@ -1,0 +1,81 @@
+//! The readers and writers of std, with their calls and errors counted.
+
+ghost use Rattle.std.specs.Prelude.{◌≡◌};
+
+use crate::input::{ByteInput, Failed};
+use crate::output::ByteOutput;
+use std::io::{Read, Write};
+
+/// A reader or a writer of std, with counts of its calls and its errors.
+#[derive(Drop)]
+pub struct Counted<I> {
+    inner: I,
+    calls: u64,
+    errors: u64,
+}
+
+impl<I> Counted<I> {
+    ghost use Rattle.fast_io.specs.Counted.{inner_of, calls_of, errors_of};
+
+    /// The same reader or writer, with both counts at 0. It takes no memory.
+    pub fn new(inner: I) -> Counted<I>
+        ensures inner { inner_of result ≡ inner }
+        ensures calls { calls_of result ≡ 0 }
+        ensures errors { errors_of result ≡ 0 }
+    {
+        Counted {
+            inner,
+            calls: 0,
+            errors: 0,
+        }
+    }
+}
+
+impl<I: Read> ByteInput for Counted<I> {
+    ghost left = { λ c. I.remaining c.inner };
+
+    ghost calls = { λ c. c.calls };
+
+    ghost errors = { λ c. c.errors };
+
+    fn pull(&mut self, buf: &mut [u8]) -> Result<usize, Failed> {
+        self.calls = self.calls.saturating_add(1);
+        match self.inner.read(buf) {
+            Ok(count) => Ok(count),
+            Err(_) => {
+                self.errors = self.errors.saturating_add(1);
+                Err(Failed)
+            }
+        }
+    }
+}
+
+impl<I: Write> ByteOutput for Counted<I> {
+    ghost taken = { λ c. I.contents c.inner };
+
+    ghost calls = { λ c. c.calls };
+
+    ghost errors = { λ c. c.errors };
+
+    fn push(&mut self, bytes: &[u8]) -> Result<usize, Failed> {
+        self.calls = self.calls.saturating_add(1);
+        match self.inner.write(bytes) {
+            Ok(count) if count > 0 || bytes.is_empty() => Ok(count),
+            _ => {
+                self.errors = self.errors.saturating_add(1);
+                Err(Failed)
+            }
+        }
+    }
+
+    fn flush(&mut self) -> Result<(), Failed> {
+        self.calls = self.calls.saturating_add(1);
+        match self.inner.flush() {
+            Ok(()) => Ok(()),
+            Err(_) => {
+                self.errors = self.errors.saturating_add(1);
+                Err(Failed)
+            }
+        }
+    }
+}

@@ -1,0 +1,198 @@
+-- The functions that read an entity, an unsigned integer and a presence map read their forms, and no more.
+use Rattle.std.proofs.Common.{◌≡◌, ℕ, zero, suc, ◌+◌, ◌-◌, ◌<◌, ◌≤◌, Bool, true, false, cond, List, [], ◌∷◌, ◌++◌, length, take, drop, slice_range, Result, Ok, Err, refl, sym, ap, subst, ◌∙◌, arith, append-nil, length-drop, length-take, take-append-drop, drop-drop, min}
+use Rattle.std.proofs.Math.Seq.{take-length}
+use Rattle.std.specs.Prelude.{nat_le}
+use Rattle.fast_wire.specs.Entity.{IsEntity, IsEntityWithin, HasNoStop, groups}
+use Rattle.fast_wire.specs.Integer.{IsUnsigned, unsigned_of}
+use Rattle.fast_wire.specs.PresenceMap.{IsWholeMap, bits_of}
+use Rattle.fast_wire.specs.Reading.{◌>>=◌, EntityFault, Fails, entity_at, unsigned_at, map_at}
+use Rattle.fast_wire.specs.Reader.{IsBytes, Takes, IsReader, Both}
+use Rattle.fast_wire.specs.declared.fault.WireFault.{WireFault}
+use Rattle.fast_wire.specs.declared.fault.WireFault.TheVariants as fault
+use Rattle.fast_wire.proofs.Readers.{reader_then, reader_of, reader_as}
+
+-- the two ways of a byte
+abbrev step : Bool → ℕ → List ℕ → Result (List ℕ × List ℕ) WireFault → Result (List ℕ × List ℕ) WireFault
+step t c bs r = cond t (Ok (c ∷ [], bs)) (r >>= λ e. Ok (c ∷ e.0, e.1))
+
+abbrev done : {A : Type 0} → A → Result A WireFault
+done x = Ok x
+
+ok_is : {A : Type 0} (x y : A) → done x ≡ done y → x ≡ y
+ok_is x y e = cc
+
+bind_ok : {A B : Type 0} (r : Result A WireFault) (k : A → Result B WireFault) (y : B) → (r >>= k) ≡ Ok y → (x : A) × (r ≡ Ok x) × (k x ≡ Ok y)
+bind_ok (Ok x) k y e = (x, refl, e)
+bind_ok (Err d) k y e = absurd cc
+
+bind_err : {A B : Type 0} (r : Result A WireFault) (k : A → B) (f : WireFault) → (r >>= λ x. Ok (k x)) ≡ Err f → r ≡ Err f
+bind_err (Ok x) k f e = absurd cc
+bind_err (Err d) k f e = cc
+
+entity_longer : (c : ℕ) (b : List ℕ) → c < 128 → IsEntity b → IsEntity (c ∷ b)
+entity_longer c [] lt h = absurd h
+entity_longer c (x ∷ b) lt h = (lt, h)
+
+-- what is read behind a byte below 128
+found_after : (limit c : ℕ) (bs : List ℕ) (r : Result (List ℕ × List ℕ) WireFault) (x rest : List ℕ) → c < 128 → ((x rest : List ℕ) → r ≡ Ok (x, rest) → Takes (IsEntityWithin limit) bs x rest)
+    → step false c bs r ≡ Ok (x, rest) → Takes (IsEntityWithin (suc limit)) (c ∷ bs) x rest
+found_after limit c bs r x rest lt inner e =
+    let k : List ℕ × List ℕ → Result (List ℕ × List ℕ) WireFault = λ e. Ok (c ∷ e.0, e.1) in
+    let a = bind_ok r k (x, rest) e in
+    let t = inner a.0.0 a.0.1 a.1 in
+    let same = ok_is (c ∷ a.0.0, a.0.1) (x, rest) a.2 in
+    let front : c ∷ t.front ≡ x = ap (λ (y : List ℕ). c ∷ y) t.form.same ∙ ap (λ p. p.0) same in
+    let back : a.0.1 ≡ rest = ap (λ p. p.1) same in
+    record { front = c ∷ t.front; parts = ap (λ (y : List ℕ). c ∷ y) t.parts ∙ ap (λ (y : List ℕ). c ∷ (t.front ++ y)) back; rest_bytes = subst (λ (y : List ℕ). IsBytes y) back t.rest_bytes; form = record { same = front; entity_is = entity_longer c t.front lt t.form.entity_is; short = omega (arith, t.form.short) } }
+
+entity_found : (limit : ℕ) (bytes x rest : List ℕ) → IsBytes bytes → entity_at limit bytes ≡ Ok (x, rest) → Takes (IsEntityWithin limit) bytes x rest
+unfolding entity_at
+entity_found zero bytes x rest fits e = absurd cc
+entity_found (suc limit) [] x rest fits e = absurd cc
+entity_found (suc limit) (c ∷ bs) x rest fits e =
+    elim (nat_le 128 c) as (λ t. nat_le 128 c ≡ t → step t c bs (entity_at limit bs) ≡ Ok (x, rest) → Takes (IsEntityWithin (suc limit)) (c ∷ bs) x rest) [
+      | true ↦ λ t e.
+          let same = ok_is (c ∷ [], bs) (x, rest) e in
+          let back : bs ≡ rest = ap (λ p. p.1) same in
+          let below = fits.0 in
+          let high : 128 ≤ c = grind arith in
+          record { front = c ∷ []; parts = ap (λ (y : List ℕ). c ∷ y) back; rest_bytes = subst (λ (y : List ℕ). IsBytes y) back fits.1; form = record { same = ap (λ p. p.0) same; entity_is = (high, below); short = omega arith } }
+      | false ↦ λ t e. let low : c < 128 = grind arith in found_after limit c bs (entity_at limit bs) x rest low (λ y r h. entity_found limit bs y r fits.1 h) e
+    ] refl e
+
+entity_again : (limit : ℕ) (b rest : List ℕ) → IsEntity b → length b ≤ limit → entity_at limit (b ++ rest) ≡ Ok (b, rest)
+unfolding entity_at
+entity_again limit [] rest h short = absurd h
+entity_again zero (c ∷ b) rest h short = absurd (omega arith)
+entity_again (suc limit) (c ∷ []) rest h short = let t : nat_le 128 c ≡ true = let high = h.0 in grind arith in rw t refl
+entity_again (suc limit) (c ∷ d ∷ b) rest h short =
+    let t : nat_le 128 c ≡ false = let low = h.0 in grind arith in
+    rw (t, entity_again limit (d ∷ b) rest h.1 (omega arith)) refl
+
+entity_stays : (limit : ℕ) (bytes others : List ℕ) (f : WireFault) → entity_at limit bytes ≡ Err f → (f ≡ fault.NeedMore → ⊥) → entity_at limit (bytes ++ others) ≡ Err f
+unfolding entity_at
+entity_stays zero bytes others f e other = e
+entity_stays (suc limit) [] others f e other = absurd (other cc)
+entity_stays (suc limit) (c ∷ bs) others f e other =
+    elim (nat_le 128 c) as (λ t. step t c bs (entity_at limit bs) ≡ Err f → step t c (bs ++ others) (entity_at limit (bs ++ others)) ≡ Err f) [
+      | true ↦ λ e. absurd cc
+      | false ↦ λ e. rw (entity_stays limit bs others f (bind_err (entity_at limit bs) (λ e. (c ∷ e.0, e.1)) f e) other) refl
+    ] e
+
+pub entities : (limit : ℕ) → IsReader fault.NeedMore (entity_at limit) (IsEntityWithin limit)
+entities limit = record {
+  found = entity_found limit;
+  again = λ b x rest h. entity_again limit b rest h.entity_is h.short ∙ ap (λ (y : List ℕ). Ok (y, rest)) h.same;
+  stays = λ bytes others f fits e other. entity_stays limit bytes others f e other;
+}
+
+-- a value that an entity spells whole
+abbrev Valued : {V : Type 0} → ℕ → (List ℕ → V) → List ℕ → V → Type 0
+Valued {V} limit value = Both (IsEntityWithin limit) (λ e b v. (b ≡ []) × (done (value e) ≡ Ok v))
+
+valued : {V : Type 0} (limit : ℕ) (value : List ℕ → V) → IsReader fault.NeedMore (λ bytes. entity_at limit bytes >>= λ e. Ok (value e.0, e.1)) (Valued limit value)
+valued limit value =
+    reader_then fault.NeedMore (entity_at limit) (λ e rest. Ok (value e, rest)) (IsEntityWithin limit) (λ e b v. (b ≡ []) × (done (value e) ≡ Ok v)) (entities limit) (λ e. reader_of fault.NeedMore (done (value e)))
+
+-- what such a value says of its bytes
+pub record IsValued {V : Type 0} (limit : ℕ) (value : List ℕ → V) (bytes : List ℕ) (v : V) : Type 0 where
+  pub entity : IsEntity bytes
+  pub short : length bytes ≤ limit
+  pub spelled : v ≡ value bytes
+
+valued_to : {V : Type 0} (limit : ℕ) (value : List ℕ → V) (b : List ℕ) (v : V) → Valued limit value b v → IsValued limit value b v
+valued_to limit value b v h =
+    let whole : b ≡ h.front = h.parts ∙ ap (λ (y : List ℕ). h.front ++ y) h.second.0 ∙ append-nil h.front in
+    let same : b ≡ h.x = whole ∙ h.first.same in record {
+      entity = subst (λ (y : List ℕ). IsEntity y) (sym whole) h.first.entity_is;
+      short = subst (λ (y : List ℕ). length y ≤ limit) (sym whole) h.first.short;
+      spelled = sym (ok_is (value h.x) v h.second.1) ∙ ap value (sym same);
+    }
+
+valued_from : {V : Type 0} (limit : ℕ) (value : List ℕ → V) (b : List ℕ) (v : V) → IsValued limit value b v → Valued limit value b v
+valued_from limit value b v h = record {
+  x = b;
+  front = b;
+  back = [];
+  parts = sym (append-nil b);
+  first = record { same = refl; entity_is = h.entity; short = h.short };
+  second = (refl, ap (λ y. done y) (sym h.spelled));
+}
+
+pub valued_forms : {V : Type 0} (limit : ℕ) (value : List ℕ → V) → IsReader fault.NeedMore (λ bytes. entity_at limit bytes >>= λ e. Ok (value e.0, e.1)) (IsValued limit value)
+valued_forms limit value = reader_as fault.NeedMore (λ bytes. entity_at limit bytes >>= λ e. Ok (value e.0, e.1)) (Valued limit value) (IsValued limit value) (valued_to limit value) (valued_from limit value) (valued limit value)
+
+pub unsigned_forms : IsReader fault.NeedMore unsigned_at IsUnsigned
+unfolding unsigned_at
+unsigned_forms =
+    reader_as fault.NeedMore unsigned_at (IsValued 10 unsigned_of) IsUnsigned
+    (λ b n h. record { entity = h.entity; short = h.short; value = h.spelled })
+    (λ b n h. record { entity = h.entity; short = h.short; spelled = h.value })
+    (valued_forms 10 unsigned_of)
+
+pub map_forms : IsReader fault.NeedMore map_at IsWholeMap
+unfolding map_at
+map_forms =
+    reader_as fault.NeedMore map_at (IsValued 256 (λ b. bits_of (groups b))) IsWholeMap
+    (λ b n h. record { entity = h.entity; short = h.short; value = h.spelled })
+    (λ b n h. record { entity = h.entity; short = h.short; spelled = h.value })
+    (valued_forms 256 (λ b. bits_of (groups b)))
+
+-- ---- from what a call of the code found to what reading gives
+
+-- an entity at a place is read there
+pub entity_given : (bytes : List ℕ) (at next limit : ℕ) → at ≤ next → next ≤ length bytes → next ≤ at + limit → IsEntity (slice_range bytes at next)
+    → entity_at limit (drop at bytes) ≡ Ok (slice_range bytes at next, drop next bytes)
+entity_given bytes at next limit below within short h =
+    let n = next - at in
+    let split : drop at bytes ≡ take n (drop at bytes) ++ drop n (drop at bytes) = sym (take-append-drop n (drop at bytes)) in
+    let on : at + n ≡ next = omega arith in
+    let behind : drop n (drop at bytes) ≡ drop next bytes = drop-drop n at bytes ∙ ap (λ k. drop k bytes) on in
+    ap (entity_at limit) split ∙ entity_again limit (take n (drop at bytes)) (drop n (drop at bytes)) h (omega (arith, length-take n (drop at bytes))) ∙ ap (λ (r : List ℕ). done (take n (drop at bytes), r)) behind
+
+-- the bytes end before a stop bit
+waits : (limit : ℕ) (xs : List ℕ) → length xs < limit → HasNoStop xs → entity_at limit xs ≡ Err fault.NeedMore
+unfolding entity_at
+waits zero xs few none = absurd (omega arith)
+waits (suc limit) [] few none = refl
+waits (suc limit) (x ∷ xs) few none =
+    let low : x < 128 = none 0 (omega arith) in
+    let t : nat_le 128 x ≡ false = grind arith in
+    rw (t, waits limit xs (omega arith) (λ k h. none (suc k) (omega arith))) refl
+
+-- the limit passes with no stop bit
+too_long : (limit : ℕ) (xs : List ℕ) → limit ≤ length xs → HasNoStop (take limit xs) → entity_at limit xs ≡ Err fault.TooLong
+unfolding entity_at
+too_long zero xs long none = refl
+too_long (suc limit) [] long none = absurd (omega arith)
+too_long (suc limit) (x ∷ xs) long none =
+    let low : x < 128 = none 0 (omega arith) in
+    let t : nat_le 128 x ≡ false = grind arith in
+    rw (t, too_long limit xs (omega arith) (λ k h. none (suc k) (omega arith))) refl
+
+-- a fault at a place is answered there
+pub fault_given : (limit : ℕ) (bytes : List ℕ) (at : ℕ) (e : WireFault) → at ≤ length bytes → EntityFault limit bytes at e → entity_at limit (drop at bytes) ≡ Err e
+fault_given limit bytes at fault.NeedMore within h = waits limit (drop at bytes) (omega (arith, length-drop at bytes, h.0)) h.1
+fault_given limit bytes at fault.TooLong within h = too_long limit (drop at bytes) (omega (arith, length-drop at bytes, h.0)) h.1
+fault_given limit bytes at fault.Range within h = absurd h
+fault_given limit bytes at fault.NotUtf8 within h = absurd h
+fault_given limit bytes at fault.Memory within h = absurd h
+
+-- no byte of a window that ends with the bytes, or at the limit, stops
+pub window_waits : (xs : List ℕ) (limit n : ℕ) → n ≡ min limit (length xs) → length xs < limit → HasNoStop (take n xs) → HasNoStop xs
+window_waits xs limit n e short none =
+    let whole : n ≡ length xs = omega arith in
+    rw take-length at (subst (λ (k : ℕ). HasNoStop (take k xs)) whole none)
+
+pub window_passes : (xs : List ℕ) (limit n : ℕ) → n ≡ min limit (length xs) → limit ≤ length xs → HasNoStop (take n xs) → HasNoStop (take limit xs)
+window_passes xs limit n e long none =
+    let whole : n ≡ limit = omega arith in
+    subst (λ (k : ℕ). HasNoStop (take k xs)) whole none
+
+-- a call that failed, as the reading of the first part does, failed as the whole reading does
+pub fails_then : {A B : Type 0} (e : WireFault) (r : Result A WireFault) (k : A → Result B WireFault) → Fails e r → Fails e (r >>= k)
+fails_then fault.Memory r k h = tt
+fails_then fault.NeedMore r k h = rw h refl
+fails_then fault.TooLong r k h = rw h refl
+fails_then fault.Range r k h = rw h refl
+fails_then fault.NotUtf8 r k h = rw h refl

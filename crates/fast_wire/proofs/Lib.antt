@@ -1,0 +1,9 @@
+pub mod Entities
+pub mod Numbers
+pub mod Readers
+pub mod Readings
+pub mod FormReaders
+pub mod UnsignedForms
+pub mod MapBits
+pub mod MapForms
+pub mod SameForms

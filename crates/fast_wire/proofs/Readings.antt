@@ -1,0 +1,44 @@
+-- A reader of one entity has one answer.
+use Rattle.std.proofs.Common.{◌≡◌, ℕ, ◌-◌, ◌≤◌, List, length, take, drop, slice_range, Result, Ok, Err, sym, ◌∙◌, subst, arith, length-take, length-drop}
+use Rattle.std.proofs.lemmas.List.{take-take}
+use Rattle.std.specs.Prelude.{MatchResult}
+use Rattle.fast_wire.specs.Entity.{IsEntity}
+use Rattle.fast_wire.specs.Reading.{EntityFault, Reads}
+use Rattle.fast_wire.specs.declared.fault.WireFault.{WireFault}
+use Rattle.fast_wire.specs.declared.fault.WireFault.TheVariants as fault
+use Rattle.fast_wire.specs.Integer.{IsUnsigned}
+use Rattle.fast_wire.proofs.Entities.{same_end, no_entity}
+
+module _ {V : Type 0} (Form : List ℕ → V → Type 0) (limit : ℕ)
+    (entity : (b : List ℕ) (v : V) → Form b v → IsEntity b) (short : (b : List ℕ) (v : V) → Form b v → length b ≤ limit)
+    (one : (b : List ℕ) (v w : V) → Form b v → Form b w → v ≡ w) where
+  -- two readings of the same bytes are one
+  reads_same : (xs : List ℕ) (at : ℕ) (v w : V) (m n : ℕ) → Reads Form xs at (v, m) → Reads Form xs at (w, n) → ◌≡◌ {A = Result (V × ℕ) WireFault} (Ok (v, m)) (Ok (w, n))
+  reads_same xs at v w m n p q =
+      let rest = drop at xs in
+      let len = length-drop at xs in
+      let count : m - at ≡ n - at = same_end rest (m - at) (n - at) (entity _ v p.2) (entity _ w q.2) (let a = p.1 in omega arith) (let a = q.1 in omega arith) in
+      let same : m ≡ n = let a = p.0 in let b = q.0 in omega arith in
+      let form : Form (slice_range xs at n) v = subst (λ k. Form (slice_range xs at k) v) same p.2 in
+      let value = one _ v w form q.2 in
+      cc
+
+  -- what is read is refused for no fault
+  reads_refused : (xs : List ℕ) (at : ℕ) (e : WireFault) (w : V) (n : ℕ) → EntityFault limit xs at e → Reads Form xs at (w, n) → ⊥
+  reads_refused xs at fault.NeedMore w n p q = no_entity (drop at xs) (n - at) p.1 (entity _ w q.2)
+  reads_refused xs at fault.TooLong w n p q =
+      let len = short _ w q.2 in
+      let le : n - at ≤ limit = let a = q.1 in omega (arith, length-take (n - at) (drop at xs), length-drop at xs) in
+      no_entity (take limit (drop at xs)) (n - at) p.1 (rw (take-take (n - at) limit (drop at xs) le) (entity _ w q.2))
+  reads_refused xs at fault.Range w n p q = p
+  reads_refused xs at fault.NotUtf8 w n p q = p
+  reads_refused xs at fault.Memory w n p q = p
+
+  pub reads_only : (xs : List ℕ) (at : ℕ) (r : Result (V × ℕ) WireFault) → MatchResult r (Reads Form xs at) (EntityFault limit xs at)
+      → (next : ℕ) (value : V) → Reads Form xs at (value, next) → r ≡ Ok (value, next)
+  reads_only xs at (Ok found) p next value q = reads_same xs at found.0 value found.1 next p q
+  reads_only xs at (Err e) p next value q = absurd (reads_refused xs at e value next p q)
+
+pub unsigned_only : (xs : List ℕ) (at : ℕ) (r : Result (ℕ × ℕ) WireFault) → MatchResult r (Reads IsUnsigned xs at) (EntityFault 10 xs at)
+    → (next : ℕ) (value : ℕ) → Reads IsUnsigned xs at (value, next) → r ≡ Ok (value, next)
+unsigned_only = reads_only IsUnsigned 10 (λ b v f. f.entity) (λ b v f. f.short) (λ b v w f h. f.value ∙ sym h.value)

@@ -1,0 +1,11 @@
+use Rattle.std.proofs.Common.{◌≡◌, ◌∙◌, [], sym, refl, arith}
+use Rattle.fast_wire.proofs.MapBits.{none_left}
+use Rattle.fast_wire.proofs.presence_map.Bits.take.Goals as goal
+
+pub returns-then-self-len-clause-bit : goal.returns-then-self-len-clause-bit
+returns-then-self-len-clause-bit c =
+    let empty : c.args.self.now ≡ [] = sym c.self.view_is ∙ none_left c.self.inside.bytes.items c.self.inside.place (omega arith) in rw empty refl
+
+pub returns-then-self-len-clause-rest : goal.returns-then-self-len-clause-rest
+returns-then-self-len-clause-rest c =
+    let empty : c.args.self.now ≡ [] = sym c.self.view_is ∙ none_left c.self.inside.bytes.items c.self.inside.place (omega arith) in rw empty refl

@@ -1,0 +1,42 @@
+-- FAST 1.1, Transfer Encoding, Presence Map: the bits of an entity's groups, the most significant bit of a
+-- group first.
+use Rattle.std.specs.Prelude.{◌≡◌, ℕ, ◌/◌, ◌%◌, ◌≤◌, Bool, true, false, nat_eq, List, [], ◌∷◌, length, slice_index_or}
+use Rattle.std.specs.List.{flat_map}
+use Rattle.fast_wire.specs.Entity.{IsEntity, groups}
+
+-- the seven bits of a group
+abbrev pub group_bits : ℕ → List Bool
+group_bits g = nat_eq (g / 64 % 2) 1 ∷ nat_eq (g / 32 % 2) 1 ∷ nat_eq (g / 16 % 2) 1 ∷ nat_eq (g / 8 % 2) 1 ∷ nat_eq (g / 4 % 2) 1 ∷ nat_eq (g / 2 % 2) 1 ∷ nat_eq (g % 2) 1 ∷ []
+
+abbrev pub bits_of : List ℕ → List Bool
+bits_of gs = flat_map group_bits gs
+
+-- bit i, which is 0 past the end
+abbrev pub bit_at : List Bool → ℕ → Bool
+bit_at bits i = slice_index_or bits i false
+
+-- the next bit, which is 0 past the end
+abbrev pub next_bit : List Bool → Bool
+next_bit [] = false
+next_bit (bit ∷ bits) = bit
+
+-- the bits after the next one
+abbrev pub later_bits : List Bool → List Bool
+later_bits [] = []
+later_bits (bit ∷ bits) = bits
+
+-- the bytes are a map of at most 256 bytes (our own limit), and have these bits, up to zeros at the end
+pub record IsMap (bytes : List ℕ) (bits : List Bool) : Type 0 where
+  pub entity : IsEntity bytes
+  pub short : length bytes ≤ 256
+  pub same : (i : ℕ) → bit_at (bits_of (groups bytes)) i ≡ bit_at bits i
+
+-- the bytes are such a map, and these are its bits, seven for each byte
+pub record IsWholeMap (bytes : List ℕ) (bits : List Bool) : Type 0 where
+  pub entity : IsEntity bytes
+  pub short : length bytes ≤ 256
+  pub value : bits ≡ bits_of (groups bytes)
+
+-- some bit is 1
+abbrev pub HasSetBit : List Bool → Type 0
+HasSetBit bits = (i : ℕ) × (bit_at bits i ≡ true)

@@ -1,0 +1,39 @@
+-- The shortest forms, made: what the writers append. No public clause names these.
+use Rattle.std.specs.Prelude.{◌≡◌, ℕ, ◌+◌, ◌-◌, ◌*◌, ◌/◌, ◌%◌, ◌^◌, ◌<◌, ◌≤◌, List, [], ◌∷◌, Bool, true, false}
+use Rattle.fast_wire.specs.PresenceMap.{bit_at}
+use Rattle.std.proofs.Common.{zero, suc}
+
+-- the lowest n groups of v, the most significant first, and the stop bit on the last
+abbrev pub entity_of : ℕ → ℕ → List ℕ
+entity_of zero v = []
+entity_of (suc zero) v = (v % 128 + 128) ∷ []
+entity_of (suc (suc n)) v = (v / 128 ^ suc n % 128) ∷ entity_of (suc n) v
+
+-- n is the least number of groups that v fits in, from 1 on
+abbrev pub IsLeastSize : ℕ → ℕ → Type 0
+IsLeastSize v n = (0 < n) × (n ≤ 10) × (v < 128 ^ n) × (1 < n → 128 ^ (n - 1) ≤ v)
+
+-- the number 1 or 0
+abbrev pub bit_number : Bool → ℕ
+bit_number true = 1
+bit_number false = 0
+
+-- the group of the seven bits from a place on
+abbrev pub group_from : List Bool → ℕ → ℕ
+group_from bits from = 64 * bit_number (bit_at bits from) + 32 * bit_number (bit_at bits (from + 1)) + 16 * bit_number (bit_at bits (from + 2))
+    + 8 * bit_number (bit_at bits (from + 3)) + 4 * bit_number (bit_at bits (from + 4)) + 2 * bit_number (bit_at bits (from + 5)) + bit_number (bit_at bits (from + 6))
+
+-- n groups of the bits from a place on, and the stop bit on the last
+abbrev pub map_of : ℕ → List Bool → ℕ → List ℕ
+map_of zero bits from = []
+map_of (suc zero) bits from = (group_from bits from + 128) ∷ []
+map_of (suc (suc n)) bits from = group_from bits from ∷ map_of (suc n) bits (from + 7)
+
+-- how many bits there are up to the last 1
+pub record IsUsed (bits : List Bool) (n : ℕ) : Type 0 where
+  pub last : 0 < n → bit_at bits (n - 1) ≡ true
+  pub rest : (i : ℕ) → n ≤ i → bit_at bits i ≡ false
+
+-- n is the least number of groups that holds used bits, from 1 on
+abbrev pub IsMapSize : ℕ → ℕ → Type 0
+IsMapSize used n = (0 < n) × (n ≤ 256) × (used ≤ 7 * n) × (1 < n → 7 * (n - 1) < used)

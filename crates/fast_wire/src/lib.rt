@@ -1,0 +1,20 @@
+//! The byte forms of FAST 1.1: stop-bit entities, unsigned integers and presence maps.
+//!
+//! A form is a list of bytes that spells a value (FAST 1.1, Transfer Encoding). A value may have many:
+//! what is written here is the shortest, and what is read may be any of at most the stated length.
+//! Each form is a relation between bytes and value in `specs/`, and beside it stands a function that
+//! reads the form from the front of a list; the module [`laws`] ties the two together.
+#![tactic(auto)]
+
+mod fault;
+mod integer;
+pub mod laws;
+mod presence_map;
+mod stop_bit;
+#[cfg(test)]
+mod tests;
+
+pub use fault::WireFault;
+pub use integer::{read_unsigned, size_unsigned, write_unsigned};
+pub use presence_map::{Bits, read_map, write_map};
+pub use stop_bit::find_stop;

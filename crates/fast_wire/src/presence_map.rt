@@ -1,0 +1,167 @@
+//! Presence maps: FAST 1.1, Transfer Encoding, Presence Map.
+
+ghost use Rattle.std.specs.Prelude.{◌≡◌, ◌≢◌, ◌≤◌, ◌<◌, ◌+◌, ◌*◌, ◌/◌, ◌%◌, ◌↔◌, ◌⊎◌, ◌-◌, ◌++◌, ℕ, Bool, true, false, List, [], length, drop, slice_range, slice_get, IsTrue, IfOk, MatchResult, IfErr, OnOk, OnErr, IsErrOf};
+ghost use Rattle.fast_wire.specs.Entity.{groups};
+ghost use Rattle.fast_wire.specs.Reading.{EntityFault, Gives, Reads, map_at};
+ghost use Rattle.fast_wire.specs.Writing.{AppendsShortest};
+ghost use Rattle.fast_wire.specs.PresenceMap.{bits_of, bit_at, next_bit, later_bits, IsMap, HasSetBit};
+ghost use Rattle.fast_wire.specs.Spellings.{bit_number, group_from, map_of, IsUsed, IsMapSize};
+
+use crate::fault::WireFault;
+use crate::stop_bit::entity_end;
+use std::alloc::Global;
+use std::marker::Model;
+
+/// The most bytes of a presence map.
+const MAP_LIMIT: usize = 256;
+
+/// The bits of a presence map that are not yet taken, the most significant of a group first. Past their end
+/// every bit is 0.
+#[derive(Drop)]
+pub struct Bits {
+    bytes: Vec<u8>,
+    place: usize,
+}
+
+impl Model for Bits {
+    ghost Value = { List Bool };
+
+    ghost view = { λ b. drop b.place (bits_of (groups b.bytes.items)) };
+
+    ghost invariant = { λ b. (length b.bytes.items ≤ 256) × (b.place ≤ 7 * length b.bytes.items) };
+}
+
+/// Bit `i` of the groups of these bytes.
+fn group_bit(bytes: &[u8], i: usize) -> bool
+    requires { i < 7 * length bytes.now }
+    ensures { result ≡ bit_at (bits_of (groups bytes.now)) i }
+{
+    let group = bytes[i / 7] % 128;
+    (group >> (6 - i % 7)) % 2 == 1
+}
+
+impl Bits {
+    /// The next bit, or false past the end. It takes no memory.
+    pub fn take(&mut self) -> bool
+        ensures bit { result ≡ next_bit self.old }
+        ensures rest { self.new ≡ later_bits self.old }
+    {
+        if self.place == 7 * self.bytes.len() {
+            return false;
+        }
+        let bit = group_bit(&self.bytes, self.place);
+        self.place += 1;
+        bit
+    }
+
+    /// Whether a bit that is not yet taken is 1. It takes no memory.
+    pub fn left_set(&self) -> bool
+        ensures { IsTrue result ↔ HasSetBit self.now }
+    {
+        for i in self.place..7 * self.bytes.len() {
+            if group_bit(&self.bytes, i) {
+                return true;
+            }
+        }
+        false
+    }
+}
+
+/// Reads a presence map of at most 256 bytes that begins at `at`, and answers its bits with the place after
+/// it. NeedMore: the bytes end, fewer than 256, with no stop bit. TooLong: the first 256 have none. Memory:
+/// the copy of the map was refused.
+pub fn read_map(alloc: Global, bytes: &[u8], at: usize) -> Result<(Bits, usize), WireFault>
+    requires { at ≤ length bytes.now }
+    ensures place { IfOk result (λ x. (at < x.1) × (x.1 ≤ length bytes.now)) }
+    ensures answer { MatchResult result (Reads IsMap bytes.now at) (λ e. (e ≡ WireFault.Memory) ⊎ EntityFault 256 bytes.now at e) }
+    // the same by the function that reads the front of a list, for the layers above
+    ensures gives { Gives (λ x. (x.0, drop x.1 bytes.now)) result (map_at (drop at bytes.now)) }
+{
+    let next = entity_end(bytes, at, MAP_LIMIT)?;
+    let Ok(map) = Vec::from_slice(alloc, &bytes[at..next]) else {
+        return Err(WireFault::Memory);
+    };
+    Ok((
+        Bits {
+            bytes: map,
+            place: 0,
+        },
+        next,
+    ))
+}
+
+/// One more than the index of the last 1, or 0.
+fn used_bits(bits: &[bool]) -> usize
+    ensures within { result ≤ length bits.now }
+    ensures used { IsUsed bits.now result }
+{
+    for i in (0..bits.len()).rev() {
+        if bits[i] {
+            return i + 1;
+        }
+    }
+    0
+}
+
+/// Bit `i` as a number, which is 0 past the end.
+fn bit_value(bits: &[bool], i: usize) -> u8
+    ensures value { result ≡ bit_number (bit_at bits.now i) }
+    ensures small { result ≤ 1 }
+{
+    if i < bits.len() && bits[i] { 1 } else { 0 }
+}
+
+/// The group of the seven bits from `from` on.
+fn group_at(bits: &[bool], from: usize) -> u8
+    requires { from < 2000 }
+    ensures value { result ≡ group_from bits.now from }
+    ensures small { result < 128 }
+{
+    64 * bit_value(bits, from)
+        + 32 * bit_value(bits, from + 1)
+        + 16 * bit_value(bits, from + 2)
+        + 8 * bit_value(bits, from + 3)
+        + 4 * bit_value(bits, from + 4)
+        + 2 * bit_value(bits, from + 5)
+        + bit_value(bits, from + 6)
+}
+
+/// Appends the shortest map with these bits, the fewest groups that reach the last 1 and at least one, or
+/// answers and appends nothing. TooLong: they do not fit 256 bytes. Memory: the one growth was refused.
+pub fn write_map(bits: &[bool], out: &mut Vec<u8>) -> Result<(), WireFault>
+    ensures ok { OnOk result (AppendsShortest IsMap out.old.items out.new.items bits.now) }
+    ensures too_long { IsErrOf result WireFault.TooLong ↔ HasSetBit (drop 1792 bits.now) }
+    ensures err { IfErr result (λ e. (e ≡ WireFault.TooLong) ⊎ (e ≡ WireFault.Memory)) }
+    ensures unchanged { OnErr result (out.new.items ≡ out.old.items) }
+{
+    let used = used_bits(bits);
+    if used > 7 * MAP_LIMIT {
+        return Err(WireFault::TooLong);
+    }
+    append_map(bits, map_size(used), out)
+}
+
+/// How many groups a map needs that has a last 1.
+fn map_size(used: usize) -> usize
+    requires { used ≤ 1792 }
+    ensures { IsMapSize used result }
+{
+    if used == 0 { 1 } else { used.div_ceil(7) }
+}
+
+/// Appends `size` groups of the bits, and the stop bit.
+fn append_map(bits: &[bool], size: usize, out: &mut Vec<u8>) -> Result<(), WireFault>
+    requires some { 0 < size }
+    requires few { size ≤ 256 }
+    ensures ok { OnOk result (out.new.items ≡ out.old.items ++ map_of size bits.now 0) }
+    ensures err { IfErr result (λ e. (e ≡ WireFault.Memory) × (out.new.items ≡ out.old.items)) }
+{
+    if out.reserve(size).is_err() {
+        return Err(WireFault::Memory);
+    }
+    for i in 0..size - 1 {
+        out.push(group_at(bits, 7 * i)).unwrap();
+    }
+    out.push(group_at(bits, 7 * (size - 1)) + 128).unwrap();
+    Ok(())
+}
