@@ -1,0 +1,10 @@
+//! What is done with a stream.
+
+/// What is done with a stream.
+#[derive(Clone, Copy, Debug, PartialEq, Eq)]
+pub enum Command {
+    /// Writes a line for each message.
+    Show,
+    /// Writes the canonical bytes.
+    Canon,
+}

@@ -1,0 +1,47 @@
+//! Why a stream was not read to its end.
+
+use crate::place::Place;
+use thiserror::Error;
+
+/// Why a stream was not read to its end. The numbers are those of FAST 1.1, Error Handling.
+#[derive(Clone, Copy, Debug, PartialEq, Eq)]
+pub enum Cause {
+    /// An integer is out of its type's bounds.
+    D2,
+    /// A mandatory field is left out, and no earlier value predicts it.
+    D5,
+    /// No template has the identifier.
+    D9,
+    /// The input ended inside a message.
+    Truncated,
+    /// An integer has more than 10 bytes, or a presence map more than 256.
+    Limit,
+    /// The reader answered an error.
+    Read,
+    /// The stated number of reads is used up.
+    Turns,
+    /// An allocation was refused.
+    Memory,
+}
+
+/// Why and where a stream was not read to its end.
+#[derive(Clone, Copy, Debug, PartialEq, Eq, Error)]
+#[error("{cause:?} {place}")]
+pub struct Fault {
+    pub cause: Cause,
+    pub place: Place,
+}
+
+/// Why `run` did not end well.
+#[derive(Clone, Copy, Debug, PartialEq, Eq, Error)]
+pub enum CanonFault {
+    /// The stream was not read to its end.
+    #[error("the stream is refused: {0}")]
+    Stream(Fault),
+    /// The writer answered an error, or took no byte of a list that is not empty.
+    #[error("the output was refused")]
+    Write,
+    /// An allocation was refused.
+    #[error("out of memory")]
+    Memory,
+}
