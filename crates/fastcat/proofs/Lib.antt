@@ -1,0 +1,4 @@
+pub mod Rows
+pub mod Exits
+pub mod Maps
+pub mod Encodings

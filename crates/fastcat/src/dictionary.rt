@@ -1,5 +1,7 @@
 //! The previous values: FAST 1.1, Dictionaries.
 
+ghost use Rattle.std.specs.Prelude.{◌≡◌};
+
 use crate::message::FIRST;
 
 /// The entries that operators read and write. An entry is undefined until a value is assigned to it; that of
@@ -20,7 +22,9 @@ impl Dictionary {
     };
 
     /// The dictionary after a message of the template `First` with this value of `B`.
-    pub fn after_message(b: u32) -> Dictionary {
+    pub fn after_message(b: u32) -> Dictionary
+        ensures { result ≡ record { template = Some 16; b = Some b } }
+    {
         Dictionary {
             template: Some(FIRST),
             b: Some(b),

@@ -35,7 +35,7 @@ fn transcribe_message(
 ) -> Result<(), AllocError> {
     match command {
         Command::Show => push_line(alloc, message, out),
-        Command::Canon => write_message(kept, message, out).map_err(|_| AllocError),
+        Command::Canon => write_message(kept, message, out),
     }
 }
 

@@ -1,0 +1,81 @@
+-- What a run answers, and what it wrote.
+use Rattle.std.specs.Prelude.{◌≡◌, ◌≢◌, ℕ, ◌+◌, ◌≤◌, List, ◌++◌, length, Option, ◌⊎◌, Result, Ok, Err}
+use Rattle.std.specs.Io.KnownBytes.{Appends, Consumes, IsAtEnd}
+use Rattle.fastcat.specs.declared.message.Message.{Message}
+use Rattle.fastcat.specs.declared.dictionary.Dictionary.{Dictionary}
+use Rattle.fastcat.specs.declared.place.Place.{Place}
+use Rattle.fastcat.specs.declared.summary.Summary.{Summary}
+use Rattle.fastcat.specs.declared.fault.Cause.{Cause}
+use Rattle.fastcat.specs.declared.fault.Cause.TheVariants as cause
+use Rattle.fastcat.specs.declared.fault.Fault.{Fault}
+use Rattle.fastcat.specs.declared.fault.CanonFault.{CanonFault}
+use Rattle.fastcat.specs.declared.fault.CanonFault.TheVariants as refusal
+use Rattle.fastcat.specs.declared.command.Command.{Command}
+use Rattle.fastcat.specs.declared.command.Command.TheVariants.{Show, Canon}
+use Rattle.fastcat.specs.Message.{Carries, CarriesFrom, empty}
+use Rattle.fastcat.specs.Best.{IsCanonical}
+use Rattle.fastcat.specs.Show.{lines_of}
+use Rattle.fastcat.specs.Faults.{FirstFault, EndsBetween}
+
+-- what a command writes of messages
+abbrev pub IsOutput : Command → List Message → List ℕ → Type 0
+IsOutput Show messages out = out ≡ lines_of messages
+IsOutput Canon messages out = IsCanonical messages out
+
+-- what was written for messages that these bytes carry
+pub record Writes (command : Command) (messages : List Message) (taken_old taken_new : Option (List ℕ)) (out : List ℕ) : Type 0 where
+  pub output : IsOutput command messages out
+  pub written : Appends taken_old taken_new out
+
+-- the reader has ended, the bytes read carry the messages, what was written is theirs, and all is counted
+pub record RunsToEnd (command : Command) (left_new taken_old taken_new : Option (List ℕ)) (input : List ℕ) (summary : Summary) : Type 0 where
+  pub messages : List Message
+  pub out : List ℕ
+  pub ended : IsAtEnd left_new
+  pub carried : Carries input messages
+  pub writes : Writes command messages taken_old taken_new out
+  pub counts : summary ≡ record { messages = length messages; read = length input; written = length out }
+
+-- Where and why the bytes read are refused. Truncated comes only where the reader ended; of a read that failed or was
+-- used up the place is where Truncated would be put in the bytes read, or their end between two messages; and want of
+-- memory has no place but the message.
+abbrev pub RefusedBy : Cause → Option (List ℕ) → List ℕ → Place → Type 0
+RefusedBy cause.D2 left input place = FirstFault input place cause.D2
+RefusedBy cause.D5 left input place = FirstFault input place cause.D5
+RefusedBy cause.D9 left input place = FirstFault input place cause.D9
+RefusedBy cause.Limit left input place = FirstFault input place cause.Limit
+RefusedBy cause.Truncated left input place = FirstFault input place cause.Truncated × IsAtEnd left
+RefusedBy cause.Read left input place = FirstFault input place cause.Truncated ⊎ EndsBetween input place
+RefusedBy cause.Turns left input place = FirstFault input place cause.Truncated ⊎ EndsBetween input place
+RefusedBy cause.Memory left input place = (place.offset ≡ 0) × (place.template ≡ 0) × (place.instruction ≡ 0)
+
+-- the stream is refused: what was written is that of the messages before the fault, which a prefix of the bytes carries
+pub record RunsToFault (command : Command) (left_new taken_old taken_new : Option (List ℕ)) (input : List ℕ) (fault : Fault) : Type 0 where
+  pub messages : List Message
+  pub d : Dictionary
+  pub front : List ℕ
+  pub rest : List ℕ
+  pub out : List ℕ
+  pub parts : input ≡ front ++ rest
+  pub carried : CarriesFrom empty front messages d
+  pub count : fault.place.message ≡ length messages + 1
+  pub writes : Writes command messages taken_old taken_new out
+  pub refused : RefusedBy fault.cause left_new input fault.place
+
+-- what is not the stream's fault: a write that failed, and an output or an input for which there was no memory
+abbrev pub RunsRefused : CanonFault → Command → Option (List ℕ) → Option (List ℕ) → Option (List ℕ) → List ℕ → Type 0
+RunsRefused (refusal.Stream fault) command left_new taken_old taken_new input = RunsToFault command left_new taken_old taken_new input fault
+RunsRefused refusal.Write command left_new taken_old taken_new input = Unit {0}
+RunsRefused refusal.Memory command left_new taken_old taken_new input = Unit {0}
+
+-- a run's answer, by the bytes that it read and wrote
+abbrev pub Runs : Command → Option (List ℕ) → Option (List ℕ) → Option (List ℕ) → List ℕ → Result Summary CanonFault → Type 0
+Runs command left_new taken_old taken_new input (Ok summary) = RunsToEnd command left_new taken_old taken_new input summary
+Runs command left_new taken_old taken_new input (Err e) = RunsRefused e command left_new taken_old taken_new input
+
+-- the stated number of reads is used up
+abbrev pub IsTurns : Result Summary CanonFault → (Type 0) → Type 0
+IsTurns (Ok summary) P = Unit {0}
+IsTurns (Err (refusal.Stream fault)) P = fault.cause ≡ cause.Turns → P
+IsTurns (Err refusal.Write) P = Unit {0}
+IsTurns (Err refusal.Memory) P = Unit {0}
