@@ -2,3 +2,5 @@ pub mod Rows
 pub mod Exits
 pub mod Maps
 pub mod Encodings
+pub mod Inputs
+pub mod Outputs

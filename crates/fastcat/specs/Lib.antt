@@ -1,4 +1,6 @@
 pub mod Form
+pub mod Input
+pub mod Output
 pub mod Message
 pub mod Best
 pub mod Encoding

@@ -1,5 +1,8 @@
 //! Reading an input whole.
 
+ghost use Rattle.std.specs.Prelude.{◌≡◌, ◌+◌, ◌≤◌, ℕ, length, IfOk, IfErr};
+ghost use Rattle.fastcat.specs.Input.{Ends, Reads};
+
 use fast_io::{ByteInput, Failed};
 use std::alloc::AllocError;
 
@@ -13,7 +16,7 @@ pub enum Ending {
     End,
     /// The last read failed.
     Failed,
-    /// All reads were made, and none met the end.
+    /// All reads were made, and each gave a byte.
     Turns,
 }
 
@@ -23,7 +26,12 @@ pub fn read_all<R: ByteInput>(
     reader: &mut R,
     turns: u64,
     input: &mut Vec<u8>,
-) -> Result<Ending, AllocError> {
+) -> Result<Ending, AllocError>
+    // what was read stands at the end, whatever the answer
+    ensures read { (k : ℕ) × (k ≤ turns) × Reads (R.left reader.old) (R.left reader.new) (R.calls reader.old) (R.calls reader.new) k 4096 input.old.items input.new.items }
+    ensures ending { IfOk result (λ ending. Ends ending turns (R.left reader.new) (R.calls reader.old) (R.calls reader.new) (R.errors reader.old) (R.errors reader.new) input.old.items input.new.items) }
+    ensures memory { IfErr result (λ _. R.errors reader.new ≡ R.errors reader.old) }
+{
     let mut chunk = [0u8; CHUNK];
     for _ in 0..turns {
         input.reserve(CHUNK)?;
