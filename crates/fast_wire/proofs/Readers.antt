@@ -5,10 +5,10 @@ use Rattle.fast_wire.specs.Reader.{IsBytes, Takes, IsReader, Both}
 
 -- ---- laws of every reader
 
-abbrev done : {A F : Type 0} → A → Result A F
+abbrev pub done : {A F : Type 0} → A → Result A F
 done x = Ok x
 
-ok_is : {A F : Type 0} (x y : A) → done {F = F} x ≡ done y → x ≡ y
+pub ok_is : {A F : Type 0} (x y : A) → done {F = F} x ≡ done y → x ≡ y
 ok_is x y e = cc
 
 -- one form at most begins a list, with one value
@@ -27,16 +27,16 @@ no_form wait r Form is bytes b rest x f e parts h =
 
 -- ---- how readers are put together
 
-bind_ok : {A B F : Type 0} (r : Result A F) (k : A → Result B F) (y : B) → (r >>= k) ≡ Ok y → (x : A) × (r ≡ Ok x) × (k x ≡ Ok y)
+pub bind_ok : {A B F : Type 0} (r : Result A F) (k : A → Result B F) (y : B) → (r >>= k) ≡ Ok y → (x : A) × (r ≡ Ok x) × (k x ≡ Ok y)
 bind_ok (Ok x) k y e = (x, refl, e)
 bind_ok (Err d) k y e = absurd cc
 
 -- the first failed, or the second did
-data Failed {A B F : Type 0} (r : Result A F) (k : A → Result B F) (f : F) : Type 0 where
+pub data Failed {A B F : Type 0} (r : Result A F) (k : A → Result B F) (f : F) : Type 0 where
   at_first : r ≡ Err f → Failed r k f
   at_second : (x : A) → r ≡ Ok x → k x ≡ Err f → Failed r k f
 
-bind_err : {A B F : Type 0} (r : Result A F) (k : A → Result B F) (f : F) → (r >>= k) ≡ Err f → Failed r k f
+pub bind_err : {A B F : Type 0} (r : Result A F) (k : A → Result B F) (f : F) → (r >>= k) ≡ Err f → Failed r k f
 bind_err (Ok x) k f e = at_second x refl e
 bind_err (Err d) k f e = at_first cc
 

@@ -4,3 +4,5 @@ pub mod Maps
 pub mod Encodings
 pub mod Inputs
 pub mod Outputs
+pub mod Found
+pub mod Stops
