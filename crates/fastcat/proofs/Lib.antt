@@ -6,3 +6,5 @@ pub mod Inputs
 pub mod Outputs
 pub mod Found
 pub mod Stops
+pub mod Streams
+pub mod Transcripts

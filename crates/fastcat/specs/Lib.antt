@@ -7,4 +7,6 @@ pub mod Encoding
 pub mod Faults
 pub mod Reading
 pub mod Show
+pub mod Transcript
+pub mod Verdict
 pub mod Run

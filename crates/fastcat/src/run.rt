@@ -1,5 +1,12 @@
 //! A stream, read and written.
 
+ghost use Rattle.std.specs.Prelude.{◌≡◌, ◌+◌, ◌-◌, ◌<◌, ◌≤◌, ◌^◌, ℕ, ◌∷◌, [], length, IfOk, OnOk, vec_len, IfSome, List, Option, None, Some};
+ghost use Rattle.std.specs.Io.KnownBytes.{Consumes};
+ghost use Rattle.fast_io.specs.Counts.{counted_by};
+ghost use Rattle.fastcat.specs.Run.{IsTurns, Runs};
+ghost use Rattle.fastcat.specs.Transcript.{Adds, IsTranscript};
+ghost use Rattle.fastcat.specs.Verdict.{cause_in, fault_after, fault_in, verdict_of};
+
 use crate::command::Command;
 use crate::decode::{Stop, read_message};
 use crate::dictionary::Dictionary;
@@ -32,7 +39,9 @@ fn transcribe_message(
     kept: Dictionary,
     message: Message,
     out: &mut Vec<u8>,
-) -> Result<(), AllocError> {
+) -> Result<(), AllocError>
+    ensures { OnOk result (Adds command kept out.old.items out.new.items message) }
+{
     match command {
         Command::Show => push_line(alloc, message, out),
         Command::Canon => write_message(kept, message, out),
@@ -40,7 +49,9 @@ fn transcribe_message(
 }
 
 /// What the command makes of the messages at the front of the bytes.
-fn transcribe(alloc: Global, command: Command, input: &[u8]) -> Result<Transcript, AllocError> {
+fn transcribe(alloc: Global, command: Command, input: &[u8]) -> Result<Transcript, AllocError>
+    ensures { IfOk result (IsTranscript command input.now) }
+{
     let mut out = Vec::new(alloc);
     let mut dictionary = Dictionary::EMPTY;
     let mut messages = 0;
@@ -69,8 +80,12 @@ fn transcribe(alloc: Global, command: Command, input: &[u8]) -> Result<Transcrip
     })
 }
 
-/// The place of the next piece, or of the end where nothing is left.
-fn place_of(messages: u64, read: usize, template: u32, instruction: u32, left: usize) -> Place {
+/// The place of a piece of which so many bytes are left from its beginning on.
+fn place_of(messages: u64, read: usize, template: u32, instruction: u32, left: usize) -> Place
+    requires few { messages + 1 < 2 ^ 64 }
+    requires within { left ≤ read }
+    ensures { result ≡ record { message = messages + 1; offset = read - left; template = template; instruction = instruction } }
+{
     Place {
         message: messages + 1,
         offset: (read - left) as u64,
@@ -79,8 +94,10 @@ fn place_of(messages: u64, read: usize, template: u32, instruction: u32, left: u
     }
 }
 
-/// The cause of a stop in an input that ended so: an input that was not read to its end was not truncated.
-fn cause_of(ending: Ending, cause: Cause) -> Cause {
+/// The cause of a stop in an input that ended so: one that was not read to its end was not truncated.
+fn cause_of(ending: Ending, cause: Cause) -> Cause
+    ensures { result ≡ cause_in ending cause }
+{
     match (ending, cause) {
         (Ending::Failed, Cause::Truncated) => Cause::Read,
         (Ending::Turns, Cause::Truncated) => Cause::Turns,
@@ -88,30 +105,27 @@ fn cause_of(ending: Ending, cause: Cause) -> Cause {
     }
 }
 
-/// What is answered of a stop.
-fn fault_of(ending: Ending, read: usize, messages: u64, stop: Stop) -> Fault {
-    let cause = cause_of(ending, stop.cause);
-    let place = if cause == Cause::Memory {
-        Place {
-            message: messages + 1,
-            offset: 0,
-            template: 0,
-            instruction: 0,
-        }
-    } else {
-        place_of(
-            messages,
-            read,
-            stop.template,
-            stop.instruction,
-            stop.left,
-        )
+/// What is answered of a stop. Want of memory has no place but the message.
+fn fault_of(ending: Ending, read: usize, messages: u64, stop: Stop) -> Fault
+    requires few { messages + 1 < 2 ^ 64 }
+    requires within { stop.left ≤ read }
+    ensures { result ≡ fault_in ending read messages stop }
+{
+    let place = match stop.cause {
+        Cause::Memory => place_of(messages, read, 0, 0, read),
+        _ => place_of(messages, read, stop.template, stop.instruction, stop.left),
     };
-    Fault { cause, place }
+    Fault {
+        cause: cause_of(ending, stop.cause),
+        place,
+    }
 }
 
 /// What is answered of an input that is whole messages.
-fn fault_between(ending: Ending, read: usize, messages: u64) -> Option<Fault> {
+fn fault_between(ending: Ending, read: usize, messages: u64) -> Option<Fault>
+    requires { messages + 1 < 2 ^ 64 }
+    ensures { result ≡ fault_after ending read messages }
+{
     let cause = match ending {
         Ending::End => return None,
         Ending::Failed => Cause::Read,
@@ -123,23 +137,45 @@ fn fault_between(ending: Ending, read: usize, messages: u64) -> Option<Fault> {
     })
 }
 
-/// Reads a stream of messages of the template `First`, and writes what the command makes of them.
+/// The fault of an input that ended so, where there is one.
+fn verdict(ending: Ending, read: usize, messages: u64, stop: Option<Stop>) -> Option<Fault>
+    requires few { messages + 1 < 2 ^ 64 }
+    requires within { IfSome stop (λ s. s.left ≤ read) }
+    ensures { result ≡ verdict_of ending read messages stop }
+{
+    match stop {
+        Some(stop) => Some(fault_of(ending, read, messages, stop)),
+        None => fault_between(ending, read, messages),
+    }
+}
+
+/// Reads a stream of messages of the template `First`, and writes what the command makes of them: their
+/// canonical bytes, or a line for each. It makes at most `turns` reads of at most 4,096 bytes, and flushes the
+/// writer once before it answers Ok or Stream.
+///
+/// Stream: the bytes read are refused, or the reader failed, or the reads are used up; what was written is that of
+/// the messages before. A fault that stands in the bytes read is answered even where a read failed behind it. Write:
+/// the writer failed. Memory: an allocation was refused; then nothing was written.
 pub fn run<R: ByteInput, W: ByteOutput>(
     alloc: Global,
     command: Command,
     reader: &mut R,
     writer: &mut W,
     turns: u64,
-) -> Result<Summary, CanonFault> {
+) -> Result<Summary, CanonFault>
+    // at most `turns` reads
+    ensures bounded { (k : ℕ) × (k ≤ turns) × (R.calls reader.new ≡ counted_by (R.calls reader.old) k) }
+    // the limit is answered only once they are made, each with a byte, so that no end was met
+    ensures turns { IsTurns result (R.calls reader.new ≡ counted_by (R.calls reader.old) turns) }
+    // what the bytes read carry, what was written, and what is answered
+    ensures answer { (input : List ℕ) × Consumes (R.left reader.old) (R.left reader.new) input
+        × Runs command (R.left reader.new) (W.taken writer.old) (W.taken writer.new) input result }
+{
     let mut input = Vec::new(alloc);
     let ending = read_all(reader, turns, &mut input).map_err(|_| CanonFault::Memory)?;
     let transcript = transcribe(alloc, command, &input).map_err(|_| CanonFault::Memory)?;
     write_all(writer, &transcript.out).map_err(|_| CanonFault::Write)?;
-    let fault = match transcript.stop {
-        Some(stop) => Some(fault_of(ending, input.len(), transcript.messages, stop)),
-        None => fault_between(ending, input.len(), transcript.messages),
-    };
-    match fault {
+    match verdict(ending, input.len(), transcript.messages, transcript.stop) {
         None => Ok(Summary {
             messages: transcript.messages,
             read: input.len() as u64,
