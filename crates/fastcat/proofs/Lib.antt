@@ -8,3 +8,4 @@ pub mod Found
 pub mod Stops
 pub mod Streams
 pub mod Transcripts
+pub mod Runs

@@ -37,20 +37,20 @@ pub record RunsToEnd (command : Command) (left_new taken_old taken_new : Option 
   pub counts : summary ≡ record { messages = length messages; read = length input; written = length out }
 
 -- Where and why the bytes read are refused. Truncated comes only where the reader ended; of a read that failed or was
--- used up the place is where Truncated would be put in the bytes read, or their end between two messages; and want of
--- memory has no place but the message.
-abbrev pub RefusedBy : Cause → Option (List ℕ) → List ℕ → Place → Type 0
-RefusedBy cause.D2 left input place = FirstFault input place cause.D2
-RefusedBy cause.D5 left input place = FirstFault input place cause.D5
-RefusedBy cause.D9 left input place = FirstFault input place cause.D9
-RefusedBy cause.Limit left input place = FirstFault input place cause.Limit
-RefusedBy cause.Truncated left input place = FirstFault input place cause.Truncated × IsAtEnd left
-RefusedBy cause.Read left input place = FirstFault input place cause.Truncated ⊎ EndsBetween input place
-RefusedBy cause.Turns left input place = FirstFault input place cause.Truncated ⊎ EndsBetween input place
-RefusedBy cause.Memory left input place = (place.offset ≡ 0) × (place.template ≡ 0) × (place.instruction ≡ 0)
+-- used up the place is where Truncated would be put in the bytes read, or their end between two messages; each of the
+-- reads that are used up gave a byte, so none met the end; and want of memory has no place but the message.
+abbrev pub RefusedBy : Cause → ℕ → Option (List ℕ) → List ℕ → Place → Type 0
+RefusedBy cause.D2 turns left input place = FirstFault input place cause.D2
+RefusedBy cause.D5 turns left input place = FirstFault input place cause.D5
+RefusedBy cause.D9 turns left input place = FirstFault input place cause.D9
+RefusedBy cause.Limit turns left input place = FirstFault input place cause.Limit
+RefusedBy cause.Truncated turns left input place = FirstFault input place cause.Truncated × IsAtEnd left
+RefusedBy cause.Read turns left input place = FirstFault input place cause.Truncated ⊎ EndsBetween input place
+RefusedBy cause.Turns turns left input place = (FirstFault input place cause.Truncated ⊎ EndsBetween input place) × (turns ≤ length input)
+RefusedBy cause.Memory turns left input place = (place.offset ≡ 0) × (place.template ≡ 0) × (place.instruction ≡ 0)
 
 -- the stream is refused: what was written is that of the messages before the fault, which a prefix of the bytes carries
-pub record RunsToFault (command : Command) (left_new taken_old taken_new : Option (List ℕ)) (input : List ℕ) (fault : Fault) : Type 0 where
+pub record RunsToFault (command : Command) (turns : ℕ) (left_new taken_old taken_new : Option (List ℕ)) (input : List ℕ) (fault : Fault) : Type 0 where
   pub messages : List Message
   pub d : Dictionary
   pub front : List ℕ
@@ -60,18 +60,18 @@ pub record RunsToFault (command : Command) (left_new taken_old taken_new : Optio
   pub carried : CarriesFrom empty front messages d
   pub count : fault.place.message ≡ length messages + 1
   pub writes : Writes command messages taken_old taken_new out
-  pub refused : RefusedBy fault.cause left_new input fault.place
+  pub refused : RefusedBy fault.cause turns left_new input fault.place
 
 -- what is not the stream's fault: a write that failed, and an output or an input for which there was no memory
-abbrev pub RunsRefused : CanonFault → Command → Option (List ℕ) → Option (List ℕ) → Option (List ℕ) → List ℕ → Type 0
-RunsRefused (refusal.Stream fault) command left_new taken_old taken_new input = RunsToFault command left_new taken_old taken_new input fault
-RunsRefused refusal.Write command left_new taken_old taken_new input = Unit {0}
-RunsRefused refusal.Memory command left_new taken_old taken_new input = Unit {0}
+abbrev pub RunsRefused : CanonFault → Command → ℕ → Option (List ℕ) → Option (List ℕ) → Option (List ℕ) → List ℕ → Type 0
+RunsRefused (refusal.Stream fault) command turns left_new taken_old taken_new input = RunsToFault command turns left_new taken_old taken_new input fault
+RunsRefused refusal.Write command turns left_new taken_old taken_new input = Unit {0}
+RunsRefused refusal.Memory command turns left_new taken_old taken_new input = Unit {0}
 
 -- a run's answer, by the bytes that it read and wrote
-abbrev pub Runs : Command → Option (List ℕ) → Option (List ℕ) → Option (List ℕ) → List ℕ → Result Summary CanonFault → Type 0
-Runs command left_new taken_old taken_new input (Ok summary) = RunsToEnd command left_new taken_old taken_new input summary
-Runs command left_new taken_old taken_new input (Err e) = RunsRefused e command left_new taken_old taken_new input
+abbrev pub Runs : Command → ℕ → Option (List ℕ) → Option (List ℕ) → Option (List ℕ) → List ℕ → Result Summary CanonFault → Type 0
+Runs command turns left_new taken_old taken_new input (Ok summary) = RunsToEnd command left_new taken_old taken_new input summary
+Runs command turns left_new taken_old taken_new input (Err e) = RunsRefused e command turns left_new taken_old taken_new input
 
 -- the stated number of reads is used up
 abbrev pub IsTurns : Result Summary CanonFault → (Type 0) → Type 0

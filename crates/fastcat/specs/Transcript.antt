@@ -1,5 +1,5 @@
 -- What was made of the messages at the front of some bytes.
-use Rattle.std.specs.Prelude.{◌≡◌, ◌≢◌, ℕ, ◌+◌, ◌<◌, ◌≤◌, List, ◌++◌, length, take, drop, Option, Some, None, Err}
+use Rattle.std.specs.Prelude.{◌≡◌, ◌≢◌, ℕ, ◌+◌, ◌<◌, ◌≤◌, List, ◌++◌, length, take, drop, Option, Some, None}
 use Rattle.fastcat.specs.declared.message.Message.{Message}
 use Rattle.fastcat.specs.declared.dictionary.Dictionary.{Dictionary}
 use Rattle.fastcat.specs.declared.command.Command.{Command}
@@ -10,7 +10,7 @@ use Rattle.fastcat.specs.declared.run.Transcript.{Transcript}
 use Rattle.fastcat.specs.Message.{CarriesFrom, empty}
 use Rattle.fastcat.specs.Best.{CanonFrom}
 use Rattle.fastcat.specs.Encoding.{AppendsMessage}
-use Rattle.fastcat.specs.Reading.{message_at}
+use Rattle.fastcat.specs.Faults.{MessageStops}
 use Rattle.fastcat.specs.Show.{line_of, lines_of}
 
 -- what a command appends for one message
@@ -30,10 +30,10 @@ pub record Transcribed (command : Command) (input : List ℕ) (at count : ℕ) (
   pub carried : CarriesFrom empty (take at input) messages d
   pub wrote : Wrote command messages out d
 
--- nothing is left at the place; or some is, and reading stops there, unless memory ran out
+-- nothing is left at the place; or some is, and the message there stops so, unless memory ran out
 abbrev pub StopsAt : Option Stop → List ℕ → ℕ → Dictionary → Type 0
 StopsAt None input at d = at ≡ length input
-StopsAt (Some stop) input at d = (at < length input) × (at + stop.left ≤ length input) × (stop.cause ≢ Memory → message_at d (drop at input) ≡ Err stop)
+StopsAt (Some stop) input at d = (at < length input) × (at + stop.left ≤ length input) × (stop.cause ≢ Memory → MessageStops d (drop at input) stop)
 
 -- the whole transcript of some bytes
 pub record IsTranscript (command : Command) (input : List ℕ) (t : Transcript) : Type 0 where

@@ -1,6 +1,11 @@
 //! Why a stream was not read to its end.
 
+ghost use Rattle.std.specs.Prelude.{◌≡◌};
+ghost use Rattle.fastcat.specs.declared.fault.CanonFault.TheVariants as refusal;
+
 use crate::place::Place;
+use fast_io::Failed;
+use std::alloc::AllocError;
 use thiserror::Error;
 
 /// Why a stream was not read to its end. The numbers are those of FAST 1.1, Error Handling.
@@ -44,4 +49,21 @@ pub enum CanonFault {
     /// An allocation was refused.
     #[error("out of memory")]
     Memory,
+}
+
+impl From<AllocError> for CanonFault {
+    ghost from_gives = { λ _ e. e ≡ refusal.Memory };
+
+    fn from(_: AllocError) -> Self {
+        CanonFault::Memory
+    }
+}
+
+/// The failure is the writer's: what a reader's is stands in the fault of the stream.
+impl From<Failed> for CanonFault {
+    ghost from_gives = { λ _ e. e ≡ refusal.Write };
+
+    fn from(_: Failed) -> Self {
+        CanonFault::Write
+    }
 }

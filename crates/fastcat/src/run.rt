@@ -165,16 +165,16 @@ pub fn run<R: ByteInput, W: ByteOutput>(
 ) -> Result<Summary, CanonFault>
     // at most `turns` reads
     ensures bounded { (k : ℕ) × (k ≤ turns) × (R.calls reader.new ≡ counted_by (R.calls reader.old) k) }
-    // the limit is answered only once they are made, each with a byte, so that no end was met
+    // the limit is answered only once they are made
     ensures turns { IsTurns result (R.calls reader.new ≡ counted_by (R.calls reader.old) turns) }
     // what the bytes read carry, what was written, and what is answered
     ensures answer { (input : List ℕ) × Consumes (R.left reader.old) (R.left reader.new) input
-        × Runs command (R.left reader.new) (W.taken writer.old) (W.taken writer.new) input result }
+        × Runs command turns (R.left reader.new) (W.taken writer.old) (W.taken writer.new) input result }
 {
     let mut input = Vec::new(alloc);
-    let ending = read_all(reader, turns, &mut input).map_err(|_| CanonFault::Memory)?;
-    let transcript = transcribe(alloc, command, &input).map_err(|_| CanonFault::Memory)?;
-    write_all(writer, &transcript.out).map_err(|_| CanonFault::Write)?;
+    let ending = read_all(reader, turns, &mut input)?;
+    let transcript = transcribe(alloc, command, &input)?;
+    write_all(writer, &transcript.out)?;
     match verdict(ending, input.len(), transcript.messages, transcript.stop) {
         None => Ok(Summary {
             messages: transcript.messages,
