@@ -7,3 +7,5 @@ pub mod UnsignedForms
 pub mod MapBits
 pub mod MapForms
 pub mod SameForms
+pub mod SameMaps
+pub mod ShortestForms

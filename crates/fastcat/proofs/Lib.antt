@@ -9,3 +9,5 @@ pub mod Stops
 pub mod Streams
 pub mod Transcripts
 pub mod Runs
+pub mod Canonical
+pub mod LawProofs
