@@ -18,6 +18,7 @@ use Rattle.fastcat.specs.declared.refusal.Refusal.TheVariants as refusal
 abbrev pub status_of : Refusal → ℕ
 status_of (refusal.Stream line) = 1
 status_of (refusal.Line text) = 2
+status_of refusal.NotText = 2
 status_of refusal.NotHex = 2
 status_of refusal.TooLong = 2
 status_of refusal.Read = 3
@@ -33,6 +34,7 @@ line_of word = word ++ 10 ∷ []
 abbrev pub text_of : Refusal → List ℕ
 text_of (refusal.Stream line) = string_bytes line
 text_of (refusal.Line text) = string_bytes text
+text_of refusal.NotText = line_of (codes "command line is not UTF-8")
 text_of refusal.NotHex = line_of (codes "input is not hex")
 text_of refusal.TooLong = line_of (codes "input too long")
 text_of refusal.Read = line_of (codes "fault read")

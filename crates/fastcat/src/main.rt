@@ -24,29 +24,36 @@ mod summary;
 #[cfg(test)]
 mod tests;
 
-use fast_io::Counted;
-use serve::serve;
+use fast_io::{ByteOutput, Counted};
+use refusal::Refusal;
+use serve::{report, serve};
 use std::env;
 use std::io;
 use std::process::ExitCode;
 
-/// How many reads the program makes at most.
+/// The most reads that the program makes of its input.
 const TURNS: u64 = 1 << 40;
 
-fn main(rt: HostRuntime) -> io::Result<ExitCode> {
+/// Serves the words and the streams of the process.
+fn serve_process<E: ByteOutput>(rt: &HostRuntime, err: &mut E) -> io::Result<u8> {
     let alloc = rt.alloc();
-    let args: Vec<String> = env::args(&rt)?.collect(alloc)?;
-    let mut words = Vec::with_capacity(alloc, args.len())?;
-    for arg in &args {
-        words.push(arg.as_str())?;
-    }
-    let status = serve(
+    let args: Vec<String> = env::args(rt)?.collect(alloc)?;
+    let words: Vec<&str> = args.iter().map(|arg| arg.as_str()).collect(alloc)?;
+    Ok(serve(
         alloc,
         &words,
         &mut Counted::new(rt.stdin()),
         &mut Counted::new(rt.stdout()),
-        &mut Counted::new(rt.stderr()),
+        err,
         TURNS,
-    );
-    Ok(ExitCode::from(status))
+    ))
+}
+
+fn main(rt: HostRuntime) -> ExitCode {
+    let mut err = Counted::new(rt.stderr());
+    let status = match serve_process(&rt, &mut err) {
+        Ok(status) => status,
+        Err(error) => report(&Refusal::of_words(&error), &mut err),
+    };
+    ExitCode::from(status)
 }

@@ -2,6 +2,8 @@
 
 ghost use Rattle.std.specs.Prelude.{◌≡◌, ◌≢◌, IfOk};
 ghost use Rattle.std.specs.String.{string_bytes};
+ghost use Rattle.std.specs.IoError.{error_kind};
+ghost use Rattle.std.specs.declared.io.ErrorKind.TheVariants as io_kind;
 ghost use Rattle.clap.specs.Words.{kind_of};
 ghost use Rattle.fastcat.specs.Refusals.{IsTextOrMemory, IsOfRun, IsOfStream, of_hex_lem, status_of, stream_line_of, text_of, cause_name_of};
 
@@ -9,6 +11,7 @@ use crate::fault::{CanonFault, Cause, Fault};
 use crate::hex_text::HexFault;
 use clap::error::ErrorKind;
 use std::alloc::{AllocError, Global};
+use std::io;
 
 /// Why the program does not do what it is asked to, or not to the end.
 #[derive(Debug, Drop)]
@@ -17,6 +20,8 @@ pub enum Refusal {
     Stream(String),
     /// The command line is refused, or asks for help, with the text for the user.
     Line(String),
+    /// A word of the command line is not UTF-8.
+    NotText,
     /// The input is not an even number of hex digits.
     NotHex,
     /// The input has more bytes than a hex text may have.
@@ -69,7 +74,7 @@ impl Refusal {
     {
         match self {
             Refusal::Stream(_) => 1,
-            Refusal::Line(_) | Refusal::NotHex | Refusal::TooLong => 2,
+            Refusal::Line(_) | Refusal::NotText | Refusal::NotHex | Refusal::TooLong => 2,
             Refusal::Read | Refusal::Write | Refusal::Turns | Refusal::Memory => 3,
         }
     }
@@ -80,12 +85,25 @@ impl Refusal {
     {
         match self {
             Refusal::Stream(text) | Refusal::Line(text) => text.as_str(),
+            Refusal::NotText => "command line is not UTF-8\n",
             Refusal::NotHex => "input is not hex\n",
             Refusal::TooLong => "input too long\n",
             Refusal::Read => "fault read\n",
             Refusal::Write => "fault write\n",
             Refusal::Turns => "fault turns\n",
             Refusal::Memory => "fault memory\n",
+        }
+    }
+
+    /// What a command line that gives no words is answered with.
+    pub fn of_words(error: &io::Error) -> Refusal
+        ensures memory { error_kind error.now ≡ io_kind.OutOfMemory → result ≡ Refusal.Memory }
+        ensures text { error_kind error.now ≢ io_kind.OutOfMemory → result ≡ Refusal.NotText }
+    {
+        if error.kind() == io::ErrorKind::OutOfMemory {
+            Refusal::Memory
+        } else {
+            Refusal::NotText
         }
     }
 

@@ -1,6 +1,7 @@
 //! The program as a call: from a command line and three streams to the exit status.
 
-ghost use Rattle.std.specs.Prelude.{◌≤◌};
+ghost use Rattle.std.specs.Prelude.{◌≡◌, ◌≤◌};
+ghost use Rattle.fastcat.specs.Refusals.{status_of};
 
 use crate::command::Command;
 use crate::fault::CanonFault;
@@ -24,6 +25,7 @@ struct Request {
 /// Reads a command line, of which the first word is the program's name.
 fn parse_words(alloc: Global, words: &[&str]) -> Result<Request, clap::Error> {
     let command = Arg::new(alloc, "command")
+        .value_name("COMMAND")
         .required(true)
         .value_parser(["show", "canon"].as_slice())
         .help("Write the messages, a line each, or the canonical bytes");
@@ -36,9 +38,10 @@ fn parse_words(alloc: Global, words: &[&str]) -> Result<Request, clap::Error> {
         .arg(command)?
         .arg(hex)?
         .try_get_matches_from(words)?;
+    // The parser wants one of the two words.
     let command = match matches.get_str("command") {
-        Some("show") => Command::Show,
-        _ => Command::Canon,
+        Some("canon") => Command::Canon,
+        _ => Command::Show,
     };
     Ok(Request {
         command,
@@ -137,8 +140,18 @@ fn perform<I: ByteInput, O: ByteOutput>(
     }
 }
 
-/// Does what a command line asks for, and answers the exit status of the program. What goes to `out` is what the
-/// command writes, and what goes to `err` says why the status is not 0. An `err` that fails changes no status.
+/// Says why the program does not do what it is asked to, and answers its exit status. An `err` that fails changes
+/// no status.
+pub fn report<E: ByteOutput>(refusal: &Refusal, err: &mut E) -> u8
+    ensures { result ≡ status_of refusal.now }
+{
+    let _ = write_all(err, refusal.text().as_bytes());
+    refusal.status()
+}
+
+/// Does what a command line asks for, and answers the exit status of the program: 0 where it is done, 1 where the
+/// stream is refused, 2 where the command line or a hex text is, and 3 for a fault of the machine. To `out` goes what
+/// the command writes, and to `err` the line that says why the status is not 0. The first word is the program's name.
 pub fn serve<I: ByteInput, O: ByteOutput, E: ByteOutput>(
     alloc: Global,
     words: &[&str],
@@ -147,13 +160,11 @@ pub fn serve<I: ByteInput, O: ByteOutput, E: ByteOutput>(
     err: &mut E,
     turns: u64,
 ) -> u8
-    ensures { result ≤ 3 }
+    ensures status { result ≤ 3 }
+    ensures quiet { result ≡ 0 → err.new ≡ err.old }
 {
     match perform(alloc, words, input, out, turns) {
         Ok(()) => 0,
-        Err(refusal) => {
-            let _ = write_all(err, refusal.text().as_bytes());
-            refusal.status()
-        }
+        Err(refusal) => report(&refusal, err),
     }
 }
