@@ -20,16 +20,14 @@ mod run;
 mod serve;
 mod show;
 mod summary;
-
 #[cfg(test)]
 mod tests;
 
 use fast_io::{ByteOutput, Counted};
 use refusal::Refusal;
 use serve::{report, serve};
-use std::env;
-use std::io;
 use std::process::ExitCode;
+use std::{env, io};
 
 /// The most reads that the program makes of its input.
 const TURNS: u64 = 1 << 40;

@@ -61,8 +61,7 @@ fn stream_line(alloc: Global, fault: Fault) -> Result<String, AllocError>
     let offset = fault.place.offset;
     let template = fault.place.template;
     let instruction = fault.place.instruction;
-    format!(
-        in alloc;
+    format!(in alloc;
         "refused {cause} message={message} offset={offset} template={template} instruction={instruction}\n"
     )
 }

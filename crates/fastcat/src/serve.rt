@@ -64,28 +64,27 @@ fn read_hex_input<I: ByteInput>(
     }
 }
 
-/// Runs a command from an input to an output.
-fn run_between<I: ByteInput, O: ByteOutput>(
+/// Runs a command from the input's bytes to the output's.
+fn run_plain<I: ByteInput, O: ByteOutput>(
     alloc: Global,
     command: Command,
     input: &mut I,
     out: &mut O,
     turns: u64,
-) -> Result<(), CanonFault> {
+) -> Result<(), Refusal> {
     match run(alloc, command, input, out, turns) {
         Ok(_) => Ok(()),
-        Err(fault) => Err(fault),
+        Err(fault) => Err(Refusal::of_run(alloc, fault)),
     }
 }
 
-/// Writes a line of hex.
+/// Writes bytes as a line of hex.
 fn write_hex_line<O: ByteOutput>(alloc: Global, bytes: &[u8], out: &mut O) -> Result<(), Refusal> {
     let line = hex_line(alloc, bytes).map_err(|_| Refusal::Memory)?;
     write_all(out, line.as_bytes()).map_err(|_| Refusal::Write)
 }
 
-/// Writes the canonical bytes of a stream as a line of hex. Those that stand before a fault of the stream are
-/// written before it is answered.
+/// Writes the canonical bytes of a stream as a line of hex, also those that stand before a fault of the stream.
 fn canon_in_hex<O: ByteOutput>(
     alloc: Global,
     stream: &[u8],
@@ -94,20 +93,14 @@ fn canon_in_hex<O: ByteOutput>(
 ) -> Result<(), Refusal> {
     let mut bytes = Vec::new(alloc);
     let mut input = Counted::new(stream);
-    let ran = run_between(
-        alloc,
-        Command::Canon,
-        &mut input,
-        &mut Counted::new(&mut bytes),
-        turns,
-    );
-    match ran {
-        Ok(()) => write_hex_line(alloc, &bytes, out),
+    let mut kept = Counted::new(&mut bytes);
+    match run(alloc, Command::Canon, &mut input, &mut kept, turns) {
+        Ok(_) => write_hex_line(alloc, &bytes, out),
         Err(CanonFault::Stream(fault)) => {
             write_hex_line(alloc, &bytes, out)?;
             Err(Refusal::of_stream(alloc, fault))
         }
-        // A vector refuses bytes only where memory does.
+        // A vector takes no bytes only where there is no memory.
         Err(CanonFault::Write | CanonFault::Memory) => Err(Refusal::Memory),
     }
 }
@@ -126,16 +119,14 @@ fn perform<I: ByteInput, O: ByteOutput>(
     };
     let command = request.command;
     if !request.hex {
-        return run_between(alloc, command, input, out, turns)
-            .map_err(|fault| Refusal::of_run(alloc, fault));
+        return run_plain(alloc, command, input, out, turns);
     }
     let stream = read_hex_input(alloc, input, turns)?;
     match command {
         Command::Canon => canon_in_hex(alloc, &stream, out, turns),
         Command::Show => {
             let mut bytes = Counted::new(stream.as_slice());
-            run_between(alloc, command, &mut bytes, out, turns)
-                .map_err(|fault| Refusal::of_run(alloc, fault))
+            run_plain(alloc, command, &mut bytes, out, turns)
         }
     }
 }

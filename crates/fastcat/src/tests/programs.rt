@@ -28,15 +28,33 @@ const TWO: &[u8] = b"\xe0\x90\x85\x86\xe0\x90\x87\x86";
 const TWO_LINES: &[u8] = b"16 First A=5 B=6\n16 First A=7 B=6\n";
 
 fn done<'a>(words: &'a [&'a str], input: &'a [u8], out: &'a [u8]) -> Row<'a> {
-    Row { words, input, status: 0, out, err: "" }
+    Row {
+        words,
+        input,
+        status: 0,
+        out,
+        err: "",
+    }
 }
 
 fn refused<'a>(words: &'a [&'a str], input: &'a [u8], out: &'a [u8], err: &'a str) -> Row<'a> {
-    Row { words, input, status: 1, out, err }
+    Row {
+        words,
+        input,
+        status: 1,
+        out,
+        err,
+    }
 }
 
 fn no_hex(input: &[u8]) -> Row<'_> {
-    Row { words: CANON_HEX, input, status: 2, out: b"", err: "input is not hex\n" }
+    Row {
+        words: CANON_HEX,
+        input,
+        status: 2,
+        out: b"",
+        err: "input is not hex\n",
+    }
 }
 
 #[test]
@@ -46,11 +64,20 @@ fn answers(rt: HostRuntime) -> Result<(), Fail> {
         done(CANON, b"", b""),
         done(SHOW, TWO, TWO_LINES),
         done(CANON_HEX, b"e0908586e0908786\n", b"e09085868087\n"),
-        done(CANON_HEX, b"E0 90\t85 86\r\ne0 9\n0 87 8 6 ", b"e09085868087\n"),
+        done(
+            CANON_HEX,
+            b"E0 90\t85 86\r\ne0 9\n0 87 8 6 ",
+            b"e09085868087\n",
+        ),
         done(CANON_HEX, b"", b"\n"),
         done(SHOW_HEX, b"e0908586e0908786", TWO_LINES),
         done(SHOW_HEX, b"\n", b""),
-        refused(CANON, b"\x80", b"", "refused D5 message=1 offset=1 template=0 instruction=0\n"),
+        refused(
+            CANON,
+            b"\x80",
+            b"",
+            "refused D5 message=1 offset=1 template=0 instruction=0\n",
+        ),
         refused(
             SHOW,
             b"\xe0\x90\x85\x86\xc0\xe4",
@@ -92,8 +119,20 @@ fn answers(rt: HostRuntime) -> Result<(), Fail> {
             &mut Counted::new(&mut err),
             9,
         );
-        assert_eq!(rt; err.as_slice(), row.err.as_bytes(), "{:?} of {:?}", row.words, row.input);
-        assert_eq!(rt; out.as_slice(), row.out, "{:?} of {:?}", row.words, row.input);
+        assert_eq!(rt;
+            err.as_slice(),
+            row.err.as_bytes(),
+            "{:?} of {:?}",
+            row.words,
+            row.input
+        );
+        assert_eq!(rt;
+            out.as_slice(),
+            row.out,
+            "{:?} of {:?}",
+            row.words,
+            row.input
+        );
         assert_eq!(rt; status, row.status, "{:?} of {:?}", row.words, row.input);
     }
     Ok(())
@@ -134,7 +173,14 @@ fn failing_inputs(rt: HostRuntime) -> Result<(), Fail> {
     let rows = [
         (CANON, one, After::Error, 9, one, "fault read\n"),
         (CANON, one, After::End, 4, one, "fault turns\n"),
-        (CANON_HEX, b"e0908586", After::Error, 9, none, "fault read\n"),
+        (
+            CANON_HEX,
+            b"e0908586",
+            After::Error,
+            9,
+            none,
+            "fault read\n",
+        ),
         (CANON_HEX, b"e0908586", After::End, 8, none, "fault turns\n"),
         (SHOW_HEX, b"zz", After::End, 0, none, "fault turns\n"),
     ];
@@ -144,7 +190,11 @@ fn failing_inputs(rt: HostRuntime) -> Result<(), Fail> {
         let status = serve(
             rt.alloc(),
             words,
-            &mut Counted::new(Source { rest, width: 1, after }),
+            &mut Counted::new(Source {
+                rest,
+                width: 1,
+                after,
+            }),
             &mut Counted::new(&mut out),
             &mut Counted::new(&mut err),
             turns,
@@ -173,11 +223,19 @@ fn failing_outputs(rt: HostRuntime) -> Result<(), Fail> {
             rt.alloc(),
             words,
             &mut Counted::new(input),
-            &mut Counted::new(Sink { kept: &mut out, room, full }),
+            &mut Counted::new(Sink {
+                kept: &mut out,
+                room,
+                full,
+            }),
             &mut Counted::new(&mut err),
             9,
         );
-        assert_eq!(rt; err.as_slice(), b"fault write\n".as_slice(), "{words:?} of {input:?}");
+        assert_eq!(rt;
+            err.as_slice(),
+            b"fault write\n".as_slice(),
+            "{words:?} of {input:?}"
+        );
         assert_eq!(rt; out.as_slice(), written, "{words:?} of {input:?}");
         assert_eq!(rt; status, 3, "{words:?} of {input:?}");
     }
@@ -186,7 +244,12 @@ fn failing_outputs(rt: HostRuntime) -> Result<(), Fail> {
 
 #[test]
 fn failing_errors(rt: HostRuntime) -> Result<(), Fail> {
-    let rows = [(CANON, 1, 1), (CANON_HEX, 9, 2), (&["fastcat"], 9, 2), (CANON, 0, 3)];
+    let rows = [
+        (CANON, 1, 1),
+        (CANON_HEX, 9, 2),
+        (&["fastcat"], 9, 2),
+        (CANON, 0, 3),
+    ];
     for (words, turns, want) in rows {
         let mut out = Vec::new(rt.alloc());
         let mut kept = Vec::new(rt.alloc());
@@ -195,7 +258,11 @@ fn failing_errors(rt: HostRuntime) -> Result<(), Fail> {
             words,
             &mut Counted::new(b"\x80\x80".as_slice()),
             &mut Counted::new(&mut out),
-            &mut Counted::new(Sink { kept: &mut kept, room: 0, full: Full::Error }),
+            &mut Counted::new(Sink {
+                kept: &mut kept,
+                room: 0,
+                full: Full::Error,
+            }),
             turns,
         );
         assert_eq!(rt; status, want, "{words:?} in {turns}");

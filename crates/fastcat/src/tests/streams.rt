@@ -57,12 +57,24 @@ const ONE_LINE: &str = "16 First A=5 B=6\n";
 
 /// A stream that is refused in its first message.
 fn refused(stream: &[u8], fault: Option<Fault>) -> Row<'_> {
-    Row { stream, messages: 0, canon: b"", lines: "", fault }
+    Row {
+        stream,
+        messages: 0,
+        canon: b"",
+        lines: "",
+        fault,
+    }
 }
 
 /// A stream that carries the message `A=5 B=6` alone.
 fn first(stream: &[u8]) -> Row<'_> {
-    Row { stream, messages: 1, canon: ONE, lines: ONE_LINE, fault: None }
+    Row {
+        stream,
+        messages: 1,
+        canon: ONE,
+        lines: ONE_LINE,
+        fault: None,
+    }
 }
 
 #[test]
@@ -89,7 +101,13 @@ fn worked(rt: HostRuntime) -> Result<(), Fail> {
             lines: "16 First A=4294967295 B=0\n",
             fault: None,
         },
-        Row { stream: b"", messages: 0, canon: b"", lines: "", fault: None },
+        Row {
+            stream: b"",
+            messages: 0,
+            canon: b"",
+            lines: "",
+            fault: None,
+        },
         first(ONE),
         // The value 5 in two bytes, a map in two groups, and a bit that nothing takes.
         first(b"\xe0\x90\x00\x85\x86"),
@@ -99,8 +117,14 @@ fn worked(rt: HostRuntime) -> Result<(), Fail> {
         refused(b"\xc0\xe4", at(Cause::D9, 1, 1, 0, 0)),
         refused(b"\xc0\x90\x85", at(Cause::D5, 1, 3, 16, 2)),
         refused(b"\xe0\x90\x10\x00\x00\x00\x80", at(Cause::D2, 1, 2, 16, 1)),
-        refused(b"\xe0\x90\0\0\0\0\0\0\0\0\0\0", at(Cause::Limit, 1, 2, 16, 1)),
-        refused(b"\xe0\x90\0\0\0\0\0\0\0\0\0", at(Cause::Truncated, 1, 2, 16, 1)),
+        refused(
+            b"\xe0\x90\0\0\0\0\0\0\0\0\0\0",
+            at(Cause::Limit, 1, 2, 16, 1),
+        ),
+        refused(
+            b"\xe0\x90\0\0\0\0\0\0\0\0\0",
+            at(Cause::Truncated, 1, 2, 16, 1),
+        ),
         refused(b"\xe0", at(Cause::Truncated, 1, 1, 0, 0)),
         refused(b"\xe0\x90", at(Cause::Truncated, 1, 2, 16, 1)),
         refused(b"\xe0\x90\x85", at(Cause::Truncated, 1, 3, 16, 2)),
@@ -121,13 +145,22 @@ fn worked(rt: HostRuntime) -> Result<(), Fail> {
                 let answer = run(
                     rt.alloc(),
                     command,
-                    &mut Counted::new(Source { rest: row.stream, width, after: After::End }),
+                    &mut Counted::new(Source {
+                        rest: row.stream,
+                        width,
+                        after: After::End,
+                    }),
                     &mut Counted::new(&mut written),
                     300,
                 );
                 let (bytes, want) = row.want(command);
                 assert_eq!(rt; answer, want, "{command:?} of {:?}", row.stream);
-                assert_eq!(rt; written.as_slice(), bytes, "{command:?} of {:?}", row.stream);
+                assert_eq!(rt;
+                    written.as_slice(),
+                    bytes,
+                    "{command:?} of {:?}",
+                    row.stream
+                );
             }
         }
     }
@@ -138,9 +171,21 @@ fn worked(rt: HostRuntime) -> Result<(), Fail> {
 fn failing_reads(rt: HostRuntime) -> Result<(), Fail> {
     let none: &[u8] = b"";
     let rows = [
-        (b"\xe0\x90".as_slice(), After::Error, 9, none, at(Cause::Read, 1, 2, 16, 1)),
+        (
+            b"\xe0\x90".as_slice(),
+            After::Error,
+            9,
+            none,
+            at(Cause::Read, 1, 2, 16, 1),
+        ),
         (ONE, After::Error, 9, ONE, at(Cause::Read, 2, 4, 0, 0)),
-        (b"\xc0\xe4", After::Error, 9, none, at(Cause::D9, 1, 1, 0, 0)),
+        (
+            b"\xc0\xe4",
+            After::Error,
+            9,
+            none,
+            at(Cause::D9, 1, 1, 0, 0),
+        ),
         (ONE, After::End, 0, none, at(Cause::Turns, 1, 0, 0, 0)),
         (ONE, After::End, 2, none, at(Cause::Turns, 1, 2, 16, 1)),
         (ONE, After::End, 4, ONE, at(Cause::Turns, 2, 4, 0, 0)),
@@ -151,11 +196,19 @@ fn failing_reads(rt: HostRuntime) -> Result<(), Fail> {
         let answer = run(
             rt.alloc(),
             Command::Canon,
-            &mut Counted::new(Source { rest: stream, width: 1, after }),
+            &mut Counted::new(Source {
+                rest: stream,
+                width: 1,
+                after,
+            }),
             &mut Counted::new(&mut written),
             turns,
         );
-        assert_eq!(rt; answer.err(), fault.map(CanonFault::Stream), "{stream:?} in {turns}");
+        assert_eq!(rt;
+            answer.err(),
+            fault.map(CanonFault::Stream),
+            "{stream:?} in {turns}"
+        );
         assert_eq!(rt; written.as_slice(), kept, "{stream:?} in {turns}");
     }
     Ok(())
@@ -169,7 +222,11 @@ fn failing_writes(rt: HostRuntime) -> Result<(), Fail> {
             rt.alloc(),
             Command::Canon,
             &mut Counted::new(ONE),
-            &mut Counted::new(Sink { kept: &mut kept, room: 3, full }),
+            &mut Counted::new(Sink {
+                kept: &mut kept,
+                room: 3,
+                full,
+            }),
             9,
         );
         assert_eq!(rt; answer, Err(CanonFault::Write));
@@ -192,7 +249,11 @@ fn long(rt: HostRuntime) -> Result<(), Fail> {
         &mut Counted::new(&mut written),
         100,
     );
-    let summary = Summary { messages: 100_000, read: 200_002, written: 200_002 };
+    let summary = Summary {
+        messages: 100_000,
+        read: 200_002,
+        written: 200_002,
+    };
     assert_eq!(rt; answer, Ok(summary));
     assert!(rt; written.as_slice() == stream.as_slice());
     Ok(())

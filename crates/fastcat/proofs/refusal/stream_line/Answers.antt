@@ -17,12 +17,12 @@ returns c =
     let place = c.args.fault.place in
     let cause = c.cause_name-cause.result.now in
     let written = grouped (codes "refused ") cause (codes " ") (codes "message=") (decimal place.message)
-        (codes " offset=") (decimal place.offset) (codes " template=") (decimal place.template)
-        (codes " instruction=") (decimal place.instruction) (10 ∷ []) in
+    (codes " offset=") (decimal place.offset) (codes " template=") (decimal place.template)
+    (codes " instruction=") (decimal place.instruction) (10 ∷ []) in
     let named = ap (λ cause. line_of (codes "refused " ++ cause ++ codes " " ++ place_text_of place)) c.cause_name-cause.ensures in
     IfOk-weaker c.format.result
     (λ line. string_bytes line ≡ codes "refused " ++ (cause ++ (codes " message=" ++ (decimal place.message
-        ++ (codes " offset=" ++ (decimal place.offset ++ (codes " template=" ++ (decimal place.template
-        ++ (codes " instruction=" ++ (decimal place.instruction ++ 10 ∷ []))))))))))
+    ++ (codes " offset=" ++ (decimal place.offset ++ (codes " template=" ++ (decimal place.template
+    ++ (codes " instruction=" ++ (decimal place.instruction ++ 10 ∷ []))))))))))
     (λ line. string_bytes line ≡ stream_line_of c.args.fault)
     (λ line wrote. wrote ∙ written ∙ named) c.format.ensures.ok

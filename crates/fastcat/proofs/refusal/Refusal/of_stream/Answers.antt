@@ -21,13 +21,13 @@ returns-in-Ok c =
     elim c.in-D2.is [
       | inl d2 ↦ at_cause D2 fault r d2 answer
       | inr rest ↦ elim rest [
-          | inl d5 ↦ at_cause D5 fault r d5 answer
+        | inl d5 ↦ at_cause D5 fault r d5 answer
+        | inr rest ↦ elim rest [
+          | inl d9 ↦ at_cause D9 fault r d9 answer
           | inr rest ↦ elim rest [
-              | inl d9 ↦ at_cause D9 fault r d9 answer
-              | inr rest ↦ elim rest [
-                  | inl truncated ↦ at_cause Truncated fault r truncated answer
-                  | inr limit ↦ at_cause Limit fault r limit answer
-                ]
-            ]
+            | inl truncated ↦ at_cause Truncated fault r truncated answer
+            | inr limit ↦ at_cause Limit fault r limit answer
+          ]
         ]
+      ]
     ]
