@@ -10,3 +10,5 @@ pub mod Show
 pub mod Transcript
 pub mod Verdict
 pub mod Run
+pub mod HexText
+pub mod Refusals

@@ -1,0 +1,162 @@
+//! Why the program does not do what it is asked to, and what it says of that.
+
+ghost use Rattle.std.specs.Prelude.{◌≡◌, ◌≢◌, IfOk};
+ghost use Rattle.std.specs.String.{string_bytes};
+ghost use Rattle.std.specs.IoError.{error_kind};
+ghost use Rattle.std.specs.declared.io.ErrorKind.TheVariants as io_kind;
+ghost use Rattle.clap.specs.Words.{kind_of};
+ghost use Rattle.fastcat.specs.Refusals.{IsTextOrMemory, IsOfRun, IsOfStream, of_hex_lem, status_of, stream_line_of, text_of, cause_name_of};
+
+use crate::fault::{CanonFault, Cause, Fault};
+use crate::hex_text::HexFault;
+use clap::error::ErrorKind;
+use std::alloc::{AllocError, Global};
+use std::io;
+
+/// Why the program does not do what it is asked to, or not to the end.
+#[derive(Debug, Drop)]
+pub enum Refusal {
+    /// The stream is refused, with the line that says so.
+    Stream(String),
+    /// The command line is refused, or asks for help, with the text for the user.
+    Line(String),
+    /// A word of the command line is not UTF-8.
+    NotText,
+    /// The input is not an even number of hex digits.
+    NotHex,
+    /// The input has more bytes than a hex text may have.
+    TooLong,
+    /// The input answered an error.
+    Read,
+    /// The output answered an error, or took nothing.
+    Write,
+    /// The stated number of reads is used up.
+    Turns,
+    /// An allocation was refused.
+    Memory,
+}
+
+/// A cause as a word.
+fn cause_name(cause: Cause) -> &'static str
+    ensures { result.now ≡ cause_name_of cause }
+{
+    match cause {
+        Cause::D2 => "D2",
+        Cause::D5 => "D5",
+        Cause::D9 => "D9",
+        Cause::Truncated => "Truncated",
+        Cause::Limit => "Limit",
+        Cause::Read => "Read",
+        Cause::Turns => "Turns",
+        Cause::Memory => "Memory",
+    }
+}
+
+/// The line of a refused stream.
+fn stream_line(alloc: Global, fault: Fault) -> Result<String, AllocError>
+    ensures { IfOk result (λ line. string_bytes line ≡ stream_line_of fault) }
+{
+    let cause = cause_name(fault.cause);
+    let message = fault.place.message;
+    let offset = fault.place.offset;
+    let template = fault.place.template;
+    let instruction = fault.place.instruction;
+    format!(in alloc;
+        "refused {cause} message={message} offset={offset} template={template} instruction={instruction}\n"
+    )
+}
+
+impl Refusal {
+    /// The exit status of the program.
+    pub fn status(&self) -> u8
+        ensures { result ≡ status_of self.now }
+    {
+        match self {
+            Refusal::Stream(_) => 1,
+            Refusal::Line(_) | Refusal::NotText | Refusal::NotHex | Refusal::TooLong => 2,
+            Refusal::Read | Refusal::Write | Refusal::Turns | Refusal::Memory => 3,
+        }
+    }
+
+    /// The text for the user, with its last line feed.
+    pub fn text(&self) -> &str
+        ensures { result.now ≡ text_of self.now }
+    {
+        match self {
+            Refusal::Stream(text) | Refusal::Line(text) => text.as_str(),
+            Refusal::NotText => "command line is not UTF-8\n",
+            Refusal::NotHex => "input is not hex\n",
+            Refusal::TooLong => "input too long\n",
+            Refusal::Read => "fault read\n",
+            Refusal::Write => "fault write\n",
+            Refusal::Turns => "fault turns\n",
+            Refusal::Memory => "fault memory\n",
+        }
+    }
+
+    /// What a command line that gives no words is answered with.
+    pub fn of_words(error: &io::Error) -> Refusal
+        ensures memory { error_kind error.now ≡ io_kind.OutOfMemory → result ≡ Refusal.Memory }
+        ensures text { error_kind error.now ≢ io_kind.OutOfMemory → result ≡ Refusal.NotText }
+    {
+        if error.kind() == io::ErrorKind::OutOfMemory {
+            Refusal::Memory
+        } else {
+            Refusal::NotText
+        }
+    }
+
+    /// What a command line that is no request is answered with: the parser's text, help included. A parser that had
+    /// no memory refuses no line.
+    pub fn of_line(alloc: Global, error: &clap::Error) -> Refusal
+        ensures memory { kind_of error.now ≡ ErrorKind.OutOfMemory → result ≡ Refusal.Memory }
+        ensures line { kind_of error.now ≢ ErrorKind.OutOfMemory → IsTextOrMemory result }
+    {
+        if error.kind() == ErrorKind::OutOfMemory {
+            return Refusal::Memory;
+        }
+        match format!(in alloc; "{error}") {
+            Ok(text) => Refusal::Line(text),
+            Err(_) => Refusal::Memory,
+        }
+    }
+
+    /// What a hex text that gives no bytes is answered with.
+    pub fn of_hex(fault: HexFault) -> Refusal
+        ensures { result ≡ of_hex_lem fault }
+    {
+        match fault {
+            HexFault::TooLong => Refusal::TooLong,
+            HexFault::NotHex => Refusal::NotHex,
+            HexFault::Memory => Refusal::Memory,
+        }
+    }
+
+    /// What a stream that was not read to its end is answered with.
+    pub fn of_stream(alloc: Global, fault: Fault) -> Refusal
+        ensures { IsOfStream fault.cause fault result }
+    {
+        match fault.cause {
+            Cause::Read => Refusal::Read,
+            Cause::Turns => Refusal::Turns,
+            Cause::Memory => Refusal::Memory,
+            Cause::D2 | Cause::D5 | Cause::D9 | Cause::Truncated | Cause::Limit => {
+                match stream_line(alloc, fault) {
+                    Ok(line) => Refusal::Stream(line),
+                    Err(_) => Refusal::Memory,
+                }
+            }
+        }
+    }
+
+    /// What a run that did not end well is answered with.
+    pub fn of_run(alloc: Global, fault: CanonFault) -> Refusal
+        ensures { IsOfRun fault result }
+    {
+        match fault {
+            CanonFault::Stream(fault) => Refusal::of_stream(alloc, fault),
+            CanonFault::Write => Refusal::Write,
+            CanonFault::Memory => Refusal::Memory,
+        }
+    }
+}
