@@ -1,20 +1,19 @@
 -- Canonical bytes: they carry their messages, they exist, and they are one.
-use Rattle.std.proofs.Common.{◌≡◌, ◌≢◌, ℕ, zero, suc, ◌+◌, ◌*◌, ◌^◌, ◌<◌, ◌≤◌, Bool, true, false, nat_eq, not, List, [], ◌∷◌, ◌++◌, length, Option, Some, None, refl, sym, ap, ap₂, subst, ◌∙◌, arith, inl, inr, ◌⊎◌}
+use Rattle.std.proofs.Common.{◌≡◌, ◌≢◌, ℕ, zero, suc, ◌^◌, ◌<◌, ◌≤◌, Bool, true, false, nat_eq, List, [], ◌∷◌, ◌++◌, length, Option, Some, None, refl, sym, ap, ap₂, subst, ◌∙◌, arith}
 use Rattle.std.proofs.lemmas.Bool.{eqb-true, eq-eqb}
 use Rattle.fast_wire.specs.Integer.{IsUnsigned}
 use Rattle.fast_wire.specs.Entity.{groups}
-use Rattle.fast_wire.specs.PresenceMap.{bit_at, bits_of, next_bit, later_bits, IsMap, IsWholeMap}
+use Rattle.fast_wire.specs.PresenceMap.{bit_at, bits_of, next_bit, later_bits}
 use Rattle.fast_wire.specs.Writing.{IsShortest}
 use Rattle.fast_wire.proofs.SameForms.{one_form}
 use Rattle.fast_wire.proofs.SameMaps.{one_map}
 use Rattle.fast_wire.proofs.ShortestForms.{shortest_unsigned, shortest_map_of_two}
 use Rattle.fastcat.specs.declared.message.Message.{Message}
 use Rattle.fastcat.specs.declared.dictionary.Dictionary.{Dictionary}
-use Rattle.fastcat.specs.Form.{Operator, plain, copy, Spelled, Form}
+use Rattle.fastcat.specs.Form.{plain, copy, Form}
 use Rattle.fastcat.specs.Message.{CarriesFrom, MessageForm, after_message}
 use Rattle.fastcat.specs.Best.{NotAfter, IsBest, IsShortestMap, CanonMessage, CanonFrom}
-use Rattle.fastcat.specs.Encoding.{copy_bit}
-use Rattle.fastcat.proofs.Maps.{next_bit_is, later_bits_are, IsMapOf, shortest_map}
+use Rattle.fastcat.proofs.Maps.{next_bit_is, later_bits_are, shortest_map}
 
 -- ---- canonical bytes carry their messages
 

@@ -1,13 +1,13 @@
 -- The canonical bytes of a message, put together of the forms of its pieces.
-use Rattle.std.proofs.Common.{◌≡◌, ℕ, Bool, true, false, List, [], ◌∷◌, ◌++◌, Option, None, refl, sym, ap, subst, ◌∙◌, append_assoc}
-use Rattle.fast_wire.specs.PresenceMap.{IsMap, next_bit, later_bits}
+use Rattle.std.proofs.Common.{◌≡◌, ℕ, Bool, true, List, [], ◌∷◌, ◌++◌, None, refl, sym, ap, subst, ◌∙◌, append_assoc}
+use Rattle.fast_wire.specs.PresenceMap.{IsMap}
 use Rattle.fast_wire.specs.Writing.{AppendsShortest}
 use Rattle.fastcat.specs.declared.message.Message.{Message}
 use Rattle.fastcat.specs.declared.dictionary.Dictionary.{Dictionary}
 use Rattle.fastcat.specs.Form.{plain, copy}
-use Rattle.fastcat.specs.Best.{IsBest, CanonMessage}
+use Rattle.fastcat.specs.Best.{IsBest}
 use Rattle.fastcat.specs.Encoding.{copy_bit, AppendsField, AppendsMessage}
-use Rattle.fastcat.proofs.Maps.{IsMapOf, shortest_map}
+use Rattle.fastcat.proofs.Maps.{shortest_map}
 
 regroup : (old w x y z : List ℕ) → (((old ++ w) ++ x) ++ y) ++ z ≡ old ++ (w ++ (x ++ (y ++ z)))
 regroup old w x y z = simp append_assoc

@@ -1,9 +1,8 @@
 -- From what a call of a byte form answered to what the reading functions give.
-use Rattle.std.proofs.Common.{◌≡◌, ◌≢◌, ℕ, List, length, Result, Ok, Err, refl, ap}
+use Rattle.std.proofs.Common.{◌≡◌, ◌≢◌, ℕ, List, Result, Err, refl}
 use Rattle.fast_wire.specs.declared.fault.WireFault.{WireFault}
 use Rattle.fast_wire.specs.declared.fault.WireFault.TheVariants as wire
 use Rattle.fast_wire.specs.Reading.{◌>>=◌, EntityFault, Fails}
-use Rattle.fastcat.specs.declared.fault.Cause.{Cause}
 use Rattle.fastcat.specs.declared.fault.Cause.TheVariants.{Memory}
 use Rattle.fastcat.specs.declared.decode.Stop.{Stop}
 use Rattle.fastcat.specs.Reading.{cause_of, caused}

@@ -1,20 +1,19 @@
 -- What is read from the front of a list is a form, and each form is read whatever follows.
-use Rattle.std.proofs.Common.{◌≡◌, ℕ, ◌+◌, ◌^◌, ◌<◌, ◌≤◌, Bool, true, false, cond, List, [], ◌∷◌, ◌++◌, length, Option, Some, None, Result, Ok, Err, refl, sym, ap, subst, ◌∙◌, append_assoc, arith, inl, inr, ◌⊎◌}
+use Rattle.std.proofs.Common.{◌≡◌, ℕ, ◌^◌, ◌<◌, Bool, true, false, cond, List, [], ◌++◌, Option, Some, None, Result, Ok, Err, refl, sym, ap, subst, ◌∙◌, append_assoc, inl, inr, ◌⊎◌}
 use Rattle.std.specs.Prelude.{nat_lt, nat_eq}
 use Rattle.std.proofs.lemmas.Bool.{lt-ltb, ltb-true, eqb-true}
 use Rattle.fast_wire.specs.declared.fault.WireFault.{WireFault}
 use Rattle.fast_wire.specs.Reader.{IsBytes, Takes}
 use Rattle.fast_wire.specs.Reading.{◌>>=◌, unsigned_at, map_at}
-use Rattle.fast_wire.specs.Integer.{IsUnsigned}
-use Rattle.fast_wire.specs.PresenceMap.{IsWholeMap, next_bit, later_bits}
+use Rattle.fast_wire.specs.PresenceMap.{next_bit, later_bits}
 use Rattle.fast_wire.proofs.Readers.{bind_ok, ok_is}
 use Rattle.fast_wire.proofs.FormReaders.{unsigned_forms, map_forms}
 use Rattle.fastcat.specs.declared.message.Message.{Message}
 use Rattle.fastcat.specs.declared.dictionary.Dictionary.{Dictionary}
 use Rattle.fastcat.specs.declared.fault.Cause.{Cause}
-use Rattle.fastcat.specs.declared.fault.Cause.TheVariants.{D2, D5, D9}
+use Rattle.fastcat.specs.declared.fault.Cause.TheVariants.{D2, D9}
 use Rattle.fastcat.specs.declared.decode.Stop.{Stop}
-use Rattle.fastcat.specs.Form.{Operator, plain, copy, Spelled, Form}
+use Rattle.fastcat.specs.Form.{copy, Spelled, Form}
 use Rattle.fastcat.specs.Message.{MessageForm, after_message}
 use Rattle.fastcat.specs.Reading.{caused, in_bounds, spelled_at, predicted, copied_at, known, identifier_at, placed, message_at}
 

@@ -1,5 +1,5 @@
 -- The laws of streams.
-use Rattle.std.proofs.Common.{◌≡◌, ℕ, List, [], ◌∷◌, ◌++◌, ◌↔◌, Result, Ok, Err, refl, sym, ap, ap₂, subst, ◌∙◌}
+use Rattle.std.proofs.Common.{◌≡◌, ℕ, List, [], ◌∷◌, ◌++◌, ◌↔◌, Ok, refl, sym, ap, ap₂, subst, ◌∙◌}
 use Rattle.fast_wire.specs.Reading.{map_at, entity_at}
 use Rattle.fast_wire.proofs.Readers.{ok_is}
 use Rattle.fastcat.specs.declared.message.Message.{Message}

@@ -1,7 +1,7 @@
 -- The map of a message: its two bits, and that the shortest map asks for no other.
-use Rattle.std.proofs.Common.{◌≡◌, ℕ, zero, suc, ◌≤◌, Bool, true, false, List, [], ◌∷◌, length, refl, sym, ap, ◌∙◌, arith}
+use Rattle.std.proofs.Common.{◌≡◌, ℕ, suc, Bool, false, List, [], ◌∷◌, refl, ◌∙◌}
 use Rattle.fast_wire.specs.Entity.{groups}
-use Rattle.fast_wire.specs.PresenceMap.{bit_at, bits_of, next_bit, later_bits, IsMap, IsWholeMap}
+use Rattle.fast_wire.specs.PresenceMap.{bit_at, bits_of, next_bit, later_bits, IsMap}
 use Rattle.fast_wire.specs.Writing.{IsShortest}
 use Rattle.fastcat.specs.Best.{IsShortestMap}
 

@@ -1,5 +1,5 @@
 -- Lemmas on runs of writes.
-use Rattle.std.proofs.Common.{◌≡◌, ℕ, List, [], ◌++◌, Option, None, Some, ap, ◌∙◌, append_assoc, append-nil, sym, take, drop, take-append-drop}
+use Rattle.std.proofs.Common.{ℕ, List, [], ◌++◌, Option, None, Some, ap, ◌∙◌, append_assoc, append-nil, sym, take, drop, take-append-drop}
 use Rattle.std.specs.Io.KnownBytes.{Appends, Keeps}
 use Rattle.fastcat.specs.Output.{Taken}
 

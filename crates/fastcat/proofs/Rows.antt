@@ -1,9 +1,7 @@
 -- The worked rows of the template First, computed: what each stream's bytes are read as.
-use Rattle.std.proofs.Common.{◌≡◌, ℕ, ◌+◌, ◌-◌, List, [], ◌∷◌, ◌++◌, length, Option, None, Some, Result, Ok, Err, refl}
+use Rattle.std.proofs.Common.{◌≡◌, ℕ, [], ◌∷◌, Some, Ok, Err, refl}
 use Rattle.std.specs.Prelude.{replicate}
 use Rattle.fastcat.specs.declared.fault.Cause.TheVariants.{D2, D5, D9, Truncated, Limit}
-use Rattle.fastcat.specs.declared.decode.Stop.{Stop}
-use Rattle.fastcat.specs.declared.message.Message.{Message}
 use Rattle.fastcat.specs.declared.dictionary.Dictionary.{Dictionary}
 use Rattle.fastcat.specs.Message.{empty}
 use Rattle.fastcat.specs.Reading.{message_at, identifier_at, copied_at, spelled_at}

@@ -1,5 +1,5 @@
 -- From the transcript of the bytes read to what a run answers.
-use Rattle.std.proofs.Common.{◌≡◌, ◌≢◌, ℕ, ◌+◌, ◌-◌, ◌<◌, ◌≤◌, List, [], ◌∷◌, ◌++◌, length, take, drop, get_or, Option, Some, None, refl, sym, ap, subst, ◌∙◌, arith, inl, inr, ◌⊎◌, length-drop, take-append-drop, true, false, Bool}
+use Rattle.std.proofs.Common.{◌≡◌, ◌≢◌, ℕ, ◌+◌, ◌-◌, ◌≤◌, List, [], ◌++◌, length, take, drop, Option, Some, None, refl, sym, ap, subst, ◌∙◌, arith, inl, inr, length-drop, take-append-drop, true, false, Bool}
 use Rattle.std.proofs.Math.Seq.{take-length}
 use Rattle.std.specs.Io.KnownBytes.{Appends, Consumes, IsAtEnd}
 use Rattle.fast_io.specs.Counts.{counted_by}
@@ -9,7 +9,6 @@ use Rattle.fastcat.specs.declared.dictionary.Dictionary.{Dictionary}
 use Rattle.fastcat.specs.declared.command.Command.{Command}
 use Rattle.fastcat.specs.declared.command.Command.TheVariants.{Show, Canon}
 use Rattle.fastcat.specs.declared.place.Place.{Place}
-use Rattle.fastcat.specs.declared.summary.Summary.{Summary}
 use Rattle.fastcat.specs.declared.fault.Fault.{Fault}
 use Rattle.fastcat.specs.declared.fault.Cause.{Cause}
 use Rattle.fastcat.specs.declared.fault.Cause.TheVariants.{D2, D5, D9, Truncated, Limit, Read, Turns, Memory}
@@ -19,10 +18,10 @@ use Rattle.fastcat.specs.declared.decode.Stop.{Stop}
 use Rattle.fastcat.specs.declared.run.Transcript.{Transcript}
 use Rattle.fastcat.specs.Faults.{EntityFault, SpelledFault, CopyFault, IdentifierFault, MessageStops, in_map, in_identifier, in_a, in_b, FirstFault, EndsBetween}
 use Rattle.fastcat.specs.Input.{Ends, Reads}
-use Rattle.fastcat.specs.Message.{Carries, CarriesFrom, empty}
+use Rattle.fastcat.specs.Message.{CarriesFrom, empty}
 use Rattle.fastcat.specs.Run.{IsOutput, Writes, RunsToEnd, RefusedBy, RunsToFault}
 use Rattle.fastcat.specs.Transcript.{Wrote, IsTranscript, StopsAt}
-use Rattle.fastcat.specs.Verdict.{cause_in, place_in, fault_in, place_after, fault_after, verdict_of}
+use Rattle.fastcat.specs.Verdict.{cause_in, place_in, fault_in, place_after, verdict_of}
 
 -- a cause that bytes have
 abbrev IsOfBytes : Cause → Type 0
@@ -57,7 +56,7 @@ output_of : (command : Command) (ms : List Message) (out : List ℕ) (d : Dictio
 output_of Show ms out d w = w
 output_of Canon ms out d w = (d, w)
 
-module _ (command : Command) (turns : ℕ) (left_new taken_old taken_new : Option (List ℕ)) (input : List ℕ)  (t : Transcript) (is : IsTranscript command input t) (written : Appends taken_old taken_new t.out.items) where
+module _ (command : Command) (turns : ℕ) (left_new taken_old taken_new : Option (List ℕ)) (input : List ℕ) (t : Transcript) (is : IsTranscript command input t) (written : Appends taken_old taken_new t.out.items) where
   abbrev front : List ℕ
   front = take is.place input
 

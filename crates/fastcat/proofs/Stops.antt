@@ -1,23 +1,22 @@
 -- Where reading stops, a piece has the fault that it answers.
-use Rattle.std.proofs.Common.{◌≡◌, ◌≢◌, ℕ, zero, suc, ◌+◌, ◌^◌, ◌<◌, ◌≤◌, Bool, true, false, cond, List, [], ◌∷◌, ◌++◌, length, take, get_or, Option, Some, None, Result, Ok, Err, refl, sym, ap, subst, ◌∙◌, append_assoc, arith, inl, inr, ◌⊎◌}
+use Rattle.std.proofs.Common.{◌≡◌, ◌≢◌, ℕ, zero, suc, ◌^◌, ◌<◌, ◌≤◌, Bool, true, false, cond, List, [], ◌∷◌, ◌++◌, length, take, Option, Some, None, Result, Ok, Err, refl, sym, ap, subst, ◌∙◌, arith, inl, inr, ◌⊎◌}
 use Rattle.std.specs.Prelude.{nat_lt, nat_le, nat_eq}
 use Rattle.std.proofs.lemmas.Bool.{ltb-false, eqb-false}
 use Rattle.fast_wire.specs.Entity.{HasNoStop, groups}
-use Rattle.fast_wire.specs.Integer.{IsUnsigned, unsigned_of}
+use Rattle.fast_wire.specs.Integer.{unsigned_of}
 use Rattle.fast_wire.specs.PresenceMap.{bits_of, next_bit, later_bits}
-use Rattle.fast_wire.specs.Reader.{IsBytes, Takes}
+use Rattle.fast_wire.specs.Reader.{IsBytes}
 use Rattle.fast_wire.specs.Reading.{◌>>=◌, entity_at, unsigned_at, map_at}
 use Rattle.fast_wire.specs.declared.fault.WireFault.{WireFault}
 use Rattle.fast_wire.specs.declared.fault.WireFault.TheVariants as wire
-use Rattle.fast_wire.proofs.Readers.{bind_ok, bind_err, Failed, at_first, at_second}
+use Rattle.fast_wire.proofs.Readers.{bind_err, at_first, at_second}
 use Rattle.fast_wire.proofs.FormReaders.{unsigned_forms, map_forms}
 use Rattle.fastcat.specs.declared.message.Message.{Message}
 use Rattle.fastcat.specs.declared.dictionary.Dictionary.{Dictionary}
 use Rattle.fastcat.specs.declared.fault.Cause.{Cause}
-use Rattle.fastcat.specs.declared.fault.Cause.TheVariants.{D2, D5, D9, Truncated, Limit}
+use Rattle.fastcat.specs.declared.fault.Cause.TheVariants.{D2, D5, D9}
 use Rattle.fastcat.specs.declared.decode.Stop.{Stop}
-use Rattle.fastcat.specs.Form.{copy, Form, Spelled}
-use Rattle.fastcat.specs.Faults.{EntityFault, OutOfBounds, SpelledFault, CopyFault, IsUnknown, IdentifierFault, IsAt, MessageStops, in_map, in_identifier, in_a, in_b}
+use Rattle.fastcat.specs.Faults.{EntityFault, SpelledFault, CopyFault, IdentifierFault, IsAt, MessageStops, in_map, in_identifier, in_a, in_b}
 use Rattle.fastcat.specs.Message.{after_message}
 use Rattle.fastcat.specs.Reading.{cause_of, caused, in_bounds, spelled_at, predicted, copied_at, known, identifier_at, placed, message_at}
 use Rattle.fastcat.proofs.Found.{caused_ok, placed_ok, chosen, found_spelled, found_copied, found_identifier}
@@ -51,8 +50,8 @@ refused_entity (suc limit) (b ∷ s) e h =
     elim (nat_le 128 b) as (λ t. nat_le 128 b ≡ t → step t b s (entity_at limit s) ≡ Err e → Refused (suc limit) (b ∷ s) e) [
       | true ↦ λ t g. absurd cc
       | false ↦ λ t g.
-        let low : b < 128 = grind arith in
-        refused_behind limit b s e low (refused_entity limit s e (bind_err_ok (entity_at limit s) (λ x. (b ∷ x.0, x.1)) e g))
+          let low : b < 128 = grind arith in
+          refused_behind limit b s e low (refused_entity limit s e (bind_err_ok (entity_at limit s) (λ x. (b ∷ x.0, x.1)) e g))
     ] refl h
 
 -- the same as a cause

@@ -1,5 +1,5 @@
 -- Lemmas on what a stream carries.
-use Rattle.std.proofs.Common.{◌≡◌, ℕ, List, [], ◌∷◌, ◌++◌, length, refl, sym, ap, subst, ◌∙◌, append_assoc, append-nil}
+use Rattle.std.proofs.Common.{◌≡◌, ℕ, List, [], ◌∷◌, ◌++◌, refl, sym, ap, subst, ◌∙◌, append_assoc, append-nil}
 use Rattle.fastcat.specs.declared.message.Message.{Message}
 use Rattle.fastcat.specs.declared.dictionary.Dictionary.{Dictionary}
 use Rattle.fastcat.specs.Message.{Spelling, Mapping, MessageFormBy, CarriesBy, after_message}

@@ -6,7 +6,7 @@ use Rattle.fastcat.specs.declared.place.Place.{Place}
 use Rattle.fastcat.specs.declared.fault.Cause.{Cause}
 use Rattle.fastcat.specs.declared.fault.Cause.TheVariants.{D2, D5, D9, Truncated, Limit}
 use Rattle.fastcat.specs.declared.decode.Stop.{Stop}
-use Rattle.fastcat.specs.Form.{Operator, copy, Form, Spelled}
+use Rattle.fastcat.specs.Form.{copy, Form, Spelled}
 use Rattle.fastcat.specs.Message.{CarriesFrom, empty}
 use Rattle.fast_wire.specs.Entity.{HasNoStop}
 use Rattle.fast_wire.specs.Integer.{IsUnsigned}

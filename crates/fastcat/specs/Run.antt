@@ -1,6 +1,6 @@
 -- What a run answers, and what it wrote.
-use Rattle.std.specs.Prelude.{◌≡◌, ◌≢◌, ℕ, ◌+◌, ◌≤◌, List, ◌++◌, length, Option, ◌⊎◌, Result, Ok, Err}
-use Rattle.std.specs.Io.KnownBytes.{Appends, Consumes, IsAtEnd}
+use Rattle.std.specs.Prelude.{◌≡◌, ℕ, ◌+◌, ◌≤◌, List, ◌++◌, length, Option, ◌⊎◌, Result, Ok, Err}
+use Rattle.std.specs.Io.KnownBytes.{Appends, IsAtEnd}
 use Rattle.fastcat.specs.declared.message.Message.{Message}
 use Rattle.fastcat.specs.declared.dictionary.Dictionary.{Dictionary}
 use Rattle.fastcat.specs.declared.place.Place.{Place}

@@ -96,12 +96,7 @@ fn read_bits(alloc: Global, bytes: &[u8], at: usize) -> Result<(Bits, usize), St
 }
 
 /// The identifier of a message's template, which has to be that of `First`: the place after it.
-fn read_identifier(
-    entry: Option<u32>,
-    bit: bool,
-    bytes: &[u8],
-    at: usize,
-) -> Result<usize, Stop>
+fn read_identifier(entry: Option<u32>, bit: bool, bytes: &[u8], at: usize) -> Result<usize, Stop>
     requires { at ≤ length bytes.now }
     ensures place { IfOk result (λ next. (at ≤ next) × (next ≤ length bytes.now)) }
     ensures left { IfErr result (λ s. at + s.left ≡ length bytes.now) }

@@ -9,25 +9,21 @@ ghost use Rattle.fastcat.specs.Message.{Carries};
 /// A stream carries at most one list of messages.
 pub fn one_reading()
     ensures { (stream : List ℕ) (messages others : List Message) → Carries stream messages → Carries stream others → messages ≡ others }
-{
-}
+{}
 
 /// The messages of a stream have canonical bytes, and these carry the messages.
 pub fn canonical_bytes_exist()
     ensures { (stream : List ℕ) (messages : List Message) → Carries stream messages
         → (bytes : List ℕ) × IsCanonical messages bytes × Carries bytes messages }
-{
-}
+{}
 
 /// Canonical bytes carry their messages.
 pub fn canonical_bytes_carry()
     ensures { (messages : List Message) (bytes : List ℕ) → IsCanonical messages bytes → Carries bytes messages }
-{
-}
+{}
 
 /// Messages are the same exactly if their canonical bytes are.
 pub fn same_messages_same_bytes()
     ensures { (messages others : List Message) (bytes more : List ℕ) → IsCanonical messages bytes → IsCanonical others more
         → (messages ≡ others) ↔ (bytes ≡ more) }
-{
-}
+{}

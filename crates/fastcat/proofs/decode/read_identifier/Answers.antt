@@ -1,4 +1,4 @@
-use Rattle.std.proofs.Common.{◌≡◌, ◌≢◌, ◌-◌, ℕ, length, drop, Ok, Err, refl, arith, ap, length-drop, nat_eq, false}
+use Rattle.std.proofs.Common.{refl, length-drop}
 use Rattle.std.proofs.lemmas.Bool.{ne_eqb}
 use Rattle.fastcat.specs.Reading.{identifier_at}
 use Rattle.fastcat.proofs.decode.read_identifier.Goals as goal

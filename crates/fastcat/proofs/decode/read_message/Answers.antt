@@ -1,4 +1,4 @@
-use Rattle.std.proofs.Common.{◌≡◌, ◌≢◌, ◌-◌, ℕ, length, drop, Ok, Err, refl, arith, ap}
+use Rattle.std.proofs.Common.{refl}
 use Rattle.std.proofs.lemmas.Result.{err_from_is_err_and}
 use Rattle.fastcat.specs.Reading.{message_at}
 use Rattle.fastcat.proofs.decode.read_message.Goals as goal
@@ -14,25 +14,25 @@ unfolding message_at
 returns-in_err-next-clause-gives c =
     let p = err_from_is_err_and c.from_residual-in_err-next.result c.from_residual-in_err-next.ensures.1 in
     rw (p.1, p.2) (λ no_memory.
-      let identifier = rw c.take.ensures.bit at (c.in_err-next.ensures.gives no_memory) in
-      rw (c.in_ok-bits.ensures.gives, identifier) refl)
+    let identifier = rw c.take.ensures.bit at (c.in_err-next.ensures.gives no_memory) in
+    rw (c.in_ok-bits.ensures.gives, identifier) refl)
 
 pub returns-in_err-a-clause-gives : goal.returns-in_err-a-clause-gives
 unfolding message_at
 returns-in_err-a-clause-gives c =
     let p = err_from_is_err_and c.from_residual-in_err-a.result c.from_residual-in_err-a.ensures.1 in
     rw (p.1, p.2) (λ no_memory.
-      let identifier = rw c.take.ensures.bit at c.in_ok-next.ensures.gives in
-      rw (c.in_ok-bits.ensures.gives, identifier, c.in_err-a.ensures.gives no_memory) refl)
+    let identifier = rw c.take.ensures.bit at c.in_ok-next.ensures.gives in
+    rw (c.in_ok-bits.ensures.gives, identifier, c.in_err-a.ensures.gives no_memory) refl)
 
 pub returns-in_err-b-clause-gives : goal.returns-in_err-b-clause-gives
 unfolding message_at
 returns-in_err-b-clause-gives c =
     let p = err_from_is_err_and c.from_residual-in_err-b.result c.from_residual-in_err-b.ensures.1 in
     rw (p.1, p.2) (λ no_memory.
-      let identifier = rw c.take.ensures.bit at c.in_ok-next.ensures.gives in
-      let b = rw (c.take-2.ensures.bit, c.take.ensures.rest) at (c.in_err-b.ensures.gives no_memory) in
-      rw (c.in_ok-bits.ensures.gives, identifier, c.in_ok-a.ensures.gives, b) refl)
+    let identifier = rw c.take.ensures.bit at c.in_ok-next.ensures.gives in
+    let b = rw (c.take-2.ensures.bit, c.take.ensures.rest) at (c.in_err-b.ensures.gives no_memory) in
+    rw (c.in_ok-bits.ensures.gives, identifier, c.in_ok-a.ensures.gives, b) refl)
 
 pub returns-clause-gives : goal.returns-clause-gives
 unfolding message_at

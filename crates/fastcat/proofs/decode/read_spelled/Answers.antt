@@ -1,7 +1,7 @@
-use Rattle.std.proofs.Common.{◌≡◌, ◌+◌, ◌<◌, ◌≤◌, ◌^◌, ℕ, length, drop, List, Ok, Err, refl, arith, ap, ◌∙◌}
+use Rattle.std.proofs.Common.{◌≤◌, ◌^◌, drop, refl, arith}
 use Rattle.std.proofs.lemmas.Bool.{lt-ltb, le-ltb}
-use Rattle.fast_wire.specs.Reading.{unsigned_at, ◌>>=◌}
-use Rattle.fastcat.specs.Reading.{spelled_at, in_bounds}
+use Rattle.fast_wire.specs.Reading.{unsigned_at}
+use Rattle.fastcat.specs.Reading.{spelled_at}
 use Rattle.fastcat.proofs.Exits.{fault_caused}
 use Rattle.fastcat.proofs.decode.read_spelled.Goals as goal
 

@@ -1,4 +1,3 @@
-use Rattle.std.proofs.Common.{◌≡◌, ◌++◌, List, ◌∷◌, [], OnOk}
 use Rattle.std.proofs.lemmas.Result.{on_ok_weaker}
 use Rattle.fastcat.proofs.Encodings.{message_written}
 use Rattle.fastcat.proofs.encode.write_message.Goals as goal

@@ -1,6 +1,4 @@
-use Rattle.std.proofs.Common.{◌≡◌, ◌∙◌, ℕ, Option, None, Some, sym, ap, subst, arith, length}
-use Rattle.fastcat.specs.declared.fault.Fault.{Fault}
-use Rattle.fastcat.specs.Verdict.{verdict_of}
+use Rattle.std.proofs.Common.{◌≡◌, ◌∙◌, sym, ap, length}
 use Rattle.fastcat.proofs.Runs.{run_ends, run_faults, run_turns}
 use Rattle.fastcat.proofs.run.run.Goals as goal
 

@@ -1,4 +1,4 @@
-use Rattle.std.proofs.Common.{arith, length, ◌≤◌}
+use Rattle.std.proofs.Common.{arith}
 use Rattle.fastcat.proofs.Stops.{message_stops}
 use Rattle.fastcat.proofs.Transcripts.{bytes_from}
 use Rattle.fastcat.proofs.Transcripts.{transcribed_more}
@@ -11,7 +11,7 @@ loop-at-preserved c =
       place.1,
       omega (arith, inv.1, place.0),
       transcribed_more c.args.command c.args.input.now c.loop-at.at c.in-Ok.next c.loop-at.messages _ _ c.loop-at.dictionary c.in-Ok.after c.in-Ok.message
-      (λ k. omega (arith, c.type_inv.input k)) (omega (arith, place.0)) place.1 inv.2 c.in-Ok.ensures.gives c.in_ok-transcribe_message-in-Ok.ensures,
+          (λ k. omega (arith, c.type_inv.input k)) (omega (arith, place.0)) place.1 inv.2 c.in-Ok.ensures.gives c.in_ok-transcribe_message-in-Ok.ensures,
     )
 
 pub returns-in-Err : goal.returns-in-Err
