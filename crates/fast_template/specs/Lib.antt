@@ -1,0 +1,7 @@
+pub mod Scalar
+pub mod InitialValues
+pub mod Written
+pub mod Resolved
+pub mod FlatLists
+pub mod TemplateSets
+pub mod LoadChecks

@@ -5,21 +5,20 @@
 //! and which check of a load fails first (`LoadChecks`).
 #![tactic(auto)]
 
+mod bits;
 mod fault;
 mod key;
 mod kind;
-//mod resolved;
+mod resolved;
 mod scalar;
-//mod set;
+mod set;
 mod written;
 
-//#[cfg(test)]
-//mod tests;
-
+pub use bits::{has_map, needs_bit, part_needs_bit};
 pub use fault::{LoadCause, LoadFault};
 pub use key::{Key, Name, Scope};
 pub use kind::{Kind, Operator, Part, Presence};
-//pub use resolved::{FieldPart, Flat, FlatTemplate, has_map, needs_bit, part_needs_bit};
+pub use resolved::{FieldPart, Flat, FlatTemplate};
 pub use scalar::{ByteString, Scalar, UnicodeText};
-//pub use set::TemplateSet;
+pub use set::TemplateSet;
 pub use written::{Instruction, Operation, Template};
