@@ -1,4 +1,5 @@
 pub mod Scalar
+pub mod Key
 pub mod InitialValues
 pub mod Written
 pub mod Resolved
