@@ -29,14 +29,15 @@ impl Name {
     pub fn from_string(text: String) -> Name
         ensures { result ≡ string_bytes text }
     {
-        Name { text }
+        Self { text }
     }
 
     /// The string that spells this name. Takes no memory.
     pub fn into_string(self) -> String
         ensures { string_bytes result ≡ self }
     {
-        self.text
+        let Name { text } = self;
+        text
     }
 
     /// The name as text.

@@ -14,6 +14,9 @@ mod scalar;
 mod set;
 mod written;
 
+#[cfg(test)]
+mod tests;
+
 pub use bits::{has_map, needs_bit, part_needs_bit};
 pub use fault::{LoadCause, LoadFault};
 pub use key::{Key, Name, Scope};

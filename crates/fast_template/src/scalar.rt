@@ -26,14 +26,15 @@ impl ByteString {
     pub fn from_vec(bytes: Vec<u8>) -> ByteString
         ensures { result ≡ bytes.items }
     {
-        ByteString { bytes }
+        Self { bytes }
     }
 
     /// The vector of these bytes. Takes no memory.
     pub fn into_vec(self) -> Vec<u8>
         ensures { result.items ≡ self }
     {
-        self.bytes
+        let ByteString { bytes } = self;
+        bytes
     }
 
     /// The bytes, in order.
@@ -89,14 +90,15 @@ impl UnicodeText {
     pub fn from_string(text: String) -> UnicodeText
         ensures { result ≡ string_bytes text }
     {
-        UnicodeText { text }
+        Self { text }
     }
 
     /// The string of this text. Takes no memory.
     pub fn into_string(self) -> String
         ensures { string_bytes result ≡ self }
     {
-        self.text
+        let UnicodeText { text } = self;
+        text
     }
 
     /// The text.
