@@ -132,7 +132,7 @@ impl Scope {
 /// What an entry is found by. Keys are ordered by slot, then scope, name and part.
 ///
 /// In one template set two keys have the same slot exactly if their scope, name and part are the same.
-#[derive(Debug, PartialEq, Eq, PartialOrd, Ord, Drop)]
+#[derive(PartialEq, Eq, PartialOrd, Ord, Debug, Drop)]
 pub struct Key {
     /// A number of its own in its template set, from 0.
     pub slot: u32,
