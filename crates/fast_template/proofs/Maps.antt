@@ -1,5 +1,5 @@
 -- Bits of lists as they lie in memory.
-use Rattle.std.proofs.Common.{◌≡◌, List, [], ◌∷◌, Bool, ◌||◌, refl, ap}
+use Rattle.std.proofs.Common.{◌≡◌, List, [], ◌∷◌, ◌||◌, refl, ap}
 use Rattle.std.specs.List.{list_any}
 use Rattle.fast_template.specs.declared.resolved.Flat.{Flat}
 use Rattle.fast_template.specs.Resolved.{instruction_of, list_of, takes_bit, has_map}

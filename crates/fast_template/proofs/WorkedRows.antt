@@ -1,5 +1,5 @@
 -- The definitions of `specs/` on the templates of the worked rows: each row computes.
-use Rattle.std.proofs.Common.{◌≡◌, ◌≢◌, ℕ, zero, suc, ◌-◌, ◌^◌, List, [], ◌∷◌, ◌++◌, length, Option, Some, None, Bool, true, false, pos, negsuc, refl, ap, ◌∙◌, lit<}
+use Rattle.std.proofs.Common.{◌≡◌, ◌≢◌, ℕ, zero, suc, ◌-◌, ◌^◌, List, [], ◌∷◌, length, Option, Some, None, Bool, true, false, pos, negsuc, refl, ap, ◌∙◌, lit<}
 use Rattle.std.specs.Prelude.{codes}
 use Rattle.std.specs.Option.{option_map_or}
 use Rattle.fast_template.specs.declared.kind.Kind.{Kind}
@@ -17,11 +17,10 @@ use Rattle.fast_template.specs.declared.key.Scope.TheVariants.{Global, Template,
 use Rattle.fast_template.specs.declared.key.Key.{Key}
 use Rattle.fast_template.specs.declared.resolved.FieldPart.{FieldPart}
 use Rattle.fast_template.specs.InitialValues.{value_of_text}
-use Rattle.fast_template.specs.Written.{WrittenOperation, Surroundings, WrittenInstruction, WrittenInstructions, written_field, written_parts, written_group, written_sequence, written_reference, written_list, WrittenTemplate}
+use Rattle.fast_template.specs.Written.{WrittenOperation, Surroundings, WrittenInstruction, written_field, written_parts, written_group, written_sequence, written_reference, written_list, WrittenTemplate}
 use Rattle.fast_template.specs.Resolved.{Instruction, Instructions, whole_field, field_in_parts, group_of, sequence_of, instructions_of, no_instructions, then_instruction, numbered, keys_of, size_of, depth_of, needs_bit, has_map}
-use Rattle.fast_template.specs.FlatLists.{Context, context_of, flat_list}
-use Rattle.fast_template.specs.LoadChecks.{Before, few_templates, names_well_made, name_new, id_new, operator_allowed, constant_has_value, default_has_value, value_spelled, reference_known, off_cycles, nests_little, sum_small, is_name, fault_of, Fails, Leads, directly, IsTemplateAt}
-use Rattle.fast_template.specs.TemplateSets.{applies}
+use Rattle.fast_template.specs.FlatLists.{context_of, flat_list}
+use Rattle.fast_template.specs.LoadChecks.{Before, names_well_made, name_new, id_new, operator_allowed, constant_has_value, default_has_value, value_spelled, reference_known, off_cycles, nests_little, sum_small, Fails, directly, IsTemplateAt}
 use Rattle.fast_template.proofs.WorkedTemplates.{by, by_value, by_key, nothing_around, template, quote, wrap, opt, legs, marks, bare, clash, tail, init, delta, common, grp, uni, empty, const, fixed, first}
 
 -- The only reference of the worked rows is to Common, the eleventh template.
@@ -52,11 +51,11 @@ field_under number name kind presence operator key = whole_field name number pre
 -- ---- flat lists, with keys and numbers
 
 quote_is : flat 1 quote ≡ instructions_of (
-  field 1 (codes "Seq") UInt32 Mandatory Increment None
-  ∷ field 2 (codes "Sym") Ascii Mandatory Copy None
-  ∷ field 3 (codes "Px") Decimal Mandatory Delta None
-  ∷ field 4 (codes "Qty") UInt32 Optional Copy None
-  ∷ [])
+    field 1 (codes "Seq") UInt32 Mandatory Increment None
+    ∷ field 2 (codes "Sym") Ascii Mandatory Copy None
+    ∷ field 3 (codes "Px") Decimal Mandatory Delta None
+    ∷ field 4 (codes "Qty") UInt32 Optional Copy None
+    ∷ [])
 quote_is = refl
 
 wrap_is : flat 2 wrap ≡ instructions_of (field 1 (codes "A") UInt32 Mandatory Increment None ∷ field 2 (codes "B") UInt32 Mandatory Delta None ∷ [])
@@ -64,24 +63,24 @@ wrap_is = refl
 
 -- A decimal in parts has one number, and internal keys of its own.
 opt_is : flat 3 opt ≡ instructions_of (
-  field_in_parts (codes "Px") 1 Optional
+    field_in_parts (codes "Px") 1 Optional
     (part_at 1 Exponent Int32 Optional Default (Some (value.I32 (pos 2))) (internal (codes "Px") Exponent))
     (part_at 1 Mantissa Int64 Mandatory Copy None (internal (codes "Px") Mantissa))
-  ∷ field 2 (codes "Flag") UInt32 Mandatory Copy None
-  ∷ [])
+    ∷ field 2 (codes "Flag") UInt32 Mandatory Copy None
+    ∷ [])
 opt_is = refl
 
 -- A length without a name has an internal key; its sequence is numbered before the members.
 legs_is : flat 4 legs ≡ instructions_of (
-  sequence_of (codes "L") 1 Optional (part_at 1 Length UInt32 Optional Plain None (internal (codes "L") Length))
+    sequence_of (codes "L") 1 Optional (part_at 1 Length UInt32 Optional Plain None (internal (codes "L") Length))
     (instructions_of (field 2 (codes "P") UInt32 Mandatory Plain None ∷ []))
-  ∷ [])
+    ∷ [])
 legs_is = refl
 
 marks_is : flat 5 marks ≡ instructions_of (
-  sequence_of (codes "L") 1 Mandatory (part_at 1 Length UInt32 Mandatory Plain None (internal (codes "L") Length))
+    sequence_of (codes "L") 1 Mandatory (part_at 1 Length UInt32 Mandatory Plain None (internal (codes "L") Length))
     (instructions_of (field 2 (codes "Q") UInt32 Mandatory Copy None ∷ []))
-  ∷ [])
+    ∷ [])
 marks_is = refl
 
 bare_is : flat 6 bare ≡ instructions_of (sequence_of (codes "L") 1 Mandatory (part_at 1 Length UInt32 Mandatory Plain None (internal (codes "L") Length)) no_instructions ∷ [])
@@ -101,9 +100,9 @@ delta_is = refl
 
 -- A reference stands for the instructions of its template, numbered where they stand.
 grp_is : flat 12 grp ≡ instructions_of (
-  group_of (codes "Hd") 1 Optional (instructions_of (field 2 (codes "A") UInt32 Mandatory Copy None ∷ []))
-  ∷ field 3 (codes "B") UInt32 Mandatory Copy None
-  ∷ [])
+    group_of (codes "Hd") 1 Optional (instructions_of (field 2 (codes "A") UInt32 Mandatory Copy None ∷ []))
+    ∷ field 3 (codes "B") UInt32 Mandatory Copy None
+    ∷ [])
 grp_is = refl
 
 uni_is : flat 13 uni ≡ instructions_of (field 1 (codes "S") Unicode Mandatory Tail None ∷ [])
@@ -113,18 +112,18 @@ empty_is : flat 14 empty ≡ instructions_of (field_under 1 (codes "A") UInt32 O
 empty_is = refl
 
 const_is : flat 15 const ≡ instructions_of (
-  field 1 (codes "K") UInt32 Mandatory Constant (Some (value.U32 7))
-  ∷ field 2 (codes "O") UInt32 Optional Constant (Some (value.U32 9))
-  ∷ field 3 (codes "D") UInt32 Mandatory Default (Some (value.U32 3))
-  ∷ [])
+    field 1 (codes "K") UInt32 Mandatory Constant (Some (value.U32 7))
+    ∷ field 2 (codes "O") UInt32 Optional Constant (Some (value.U32 9))
+    ∷ field 3 (codes "D") UInt32 Mandatory Default (Some (value.U32 3))
+    ∷ [])
 const_is = refl
 
 fixed_is : flat 16 fixed ≡ instructions_of (
-  field_in_parts (codes "Px") 1 Mandatory
+    field_in_parts (codes "Px") 1 Mandatory
     (part_at 1 Exponent Int32 Mandatory Constant (Some (value.I32 (negsuc 1))) (internal (codes "Px") Exponent))
     (part_at 1 Mantissa Int64 Mandatory Delta None (internal (codes "Px") Mantissa))
-  ∷ field 2 (codes "Raw") Bytes Optional Copy None
-  ∷ [])
+    ∷ field 2 (codes "Raw") Bytes Optional Copy None
+    ∷ [])
 fixed_is = refl
 
 first_is : flat 17 first ≡ instructions_of (field 1 (codes "A") UInt32 Mandatory Plain None ∷ field 2 (codes "B") UInt32 Mandatory Copy None ∷ [])
@@ -210,21 +209,21 @@ words_is : keys (template (codes "T") None (
     ∷ written_field (codes "c") UInt32 Mandatory (in_dictionary (codes "type"))
     ∷ written_field (codes "d") UInt32 Mandatory (in_dictionary (codes "mine"))
     ∷ []))
-  ≡ key_in Global (codes "a") Whole ∷ key_in (Template 2) (codes "b") Whole ∷ key_in (Typed (codes "any")) (codes "c") Whole ∷ key_in (User (codes "mine")) (codes "d") Whole ∷ []
+    ≡ key_in Global (codes "a") Whole ∷ key_in (Template 2) (codes "b") Whole ∷ key_in (Typed (codes "any")) (codes "c") Whole ∷ key_in (User (codes "mine")) (codes "d") Whole ∷ []
 words_is = refl
 
 -- The innermost element's name holds, and a sequence's names hold for its length too.
 innermost_is : keys (template (codes "T") None (
     written_sequence (codes "L") Mandatory (around_with (codes "type") (codes "Legs")) None (by Copy) (written_list (
-      written_field (codes "a") UInt32 Mandatory (by Copy)
-      ∷ written_group (codes "G") Mandatory (record { dictionary = None; type_ref = Some (codes "any") }) (written_list (
-          written_field (codes "b") UInt32 Mandatory (by Copy)
-          ∷ written_field (codes "c") UInt32 Mandatory (in_dictionary (codes "mine"))
-          ∷ []))
-      ∷ []))
+    written_field (codes "a") UInt32 Mandatory (by Copy)
+    ∷ written_group (codes "G") Mandatory (record { dictionary = None; type_ref = Some (codes "any") }) (written_list (
+    written_field (codes "b") UInt32 Mandatory (by Copy)
+    ∷ written_field (codes "c") UInt32 Mandatory (in_dictionary (codes "mine"))
+    ∷ []))
+    ∷ []))
     ∷ written_field (codes "d") UInt32 Mandatory (by Copy)
     ∷ []))
-  ≡ key_in (Typed (codes "Legs")) (codes "L") Length
+    ≡ key_in (Typed (codes "Legs")) (codes "L") Length
     ∷ key_in (Typed (codes "Legs")) (codes "a") Whole
     ∷ key_in (Typed (codes "any")) (codes "b") Whole
     ∷ key_in (User (codes "mine")) (codes "c") Whole
@@ -237,17 +236,17 @@ length_is : keys (template (codes "T") None (
     written_sequence (codes "L") Mandatory nothing_around (Some (codes "N")) (by Copy) (written_list [])
     ∷ written_field (codes "N") UInt32 Mandatory (by Copy)
     ∷ []))
-  ≡ key_in Global (codes "N") Whole ∷ key_in Global (codes "N") Whole ∷ []
+    ≡ key_in Global (codes "N") Whole ∷ key_in Global (codes "N") Whole ∷ []
 length_is = refl
 
 -- Both parts of a decimal have one key, where it is given to both.
 shared_is : keys (template (codes "T") None (written_parts (codes "Px") Mandatory (by_key Copy (codes "K")) (by_key Copy (codes "K")) ∷ []))
-  ≡ key_in Global (codes "K") Whole ∷ key_in Global (codes "K") Whole ∷ []
+    ≡ key_in Global (codes "K") Whole ∷ key_in Global (codes "K") Whole ∷ []
 shared_is = refl
 
 -- A reference's instructions keep the key of where they were written: in the eleventh template.
 referred_is : keys_of (flat_list (λ _. flat_list (λ _. no_instructions) (context_of 11 common) (written_list (written_field (codes "B") UInt32 Mandatory (in_dictionary (codes "template")) ∷ []))) (context_of 12 grp) grp.members)
-  ≡ key_in Global (codes "A") Whole ∷ key_in (Template 11) (codes "B") Whole ∷ []
+    ≡ key_in Global (codes "A") Whole ∷ key_in (Template 11) (codes "B") Whole ∷ []
 referred_is = refl
 
 -- ---- texts of initial values

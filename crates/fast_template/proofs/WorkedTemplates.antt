@@ -1,13 +1,11 @@
 -- The templates of the worked rows, as they are written.
 use Rattle.std.proofs.Common.{ℕ, List, [], ◌∷◌, Option, Some, None}
 use Rattle.std.specs.Prelude.{codes}
-use Rattle.fast_template.specs.declared.kind.Kind.{Kind}
 use Rattle.fast_template.specs.declared.kind.Kind.TheVariants.{UInt32, Decimal, Ascii, Unicode, Bytes}
-use Rattle.fast_template.specs.declared.kind.Presence.{Presence}
 use Rattle.fast_template.specs.declared.kind.Presence.TheVariants.{Mandatory, Optional}
 use Rattle.fast_template.specs.declared.kind.Operator.{Operator}
 use Rattle.fast_template.specs.declared.kind.Operator.TheVariants.{Plain, Constant, Default, Copy, Increment, Delta, Tail}
-use Rattle.fast_template.specs.Written.{WrittenOperation, Surroundings, WrittenInstruction, WrittenInstructions, written_field, written_parts, written_group, written_sequence, written_reference, written_list, WrittenTemplate}
+use Rattle.fast_template.specs.Written.{WrittenOperation, Surroundings, WrittenInstruction, written_field, written_parts, written_group, written_sequence, written_reference, written_list, WrittenTemplate}
 
 -- an operator alone, with a value, and with a key
 abbrev pub by : Operator → WrittenOperation
@@ -27,11 +25,11 @@ template name id members = record { name = name; id = id; around = nothing_aroun
 
 abbrev pub quote : WrittenTemplate
 quote = template (codes "Quote") (Some 1) (
-  written_field (codes "Seq") UInt32 Mandatory (by Increment)
-  ∷ written_field (codes "Sym") Ascii Mandatory (by Copy)
-  ∷ written_field (codes "Px") Decimal Mandatory (by Delta)
-  ∷ written_field (codes "Qty") UInt32 Optional (by Copy)
-  ∷ [])
+    written_field (codes "Seq") UInt32 Mandatory (by Increment)
+    ∷ written_field (codes "Sym") Ascii Mandatory (by Copy)
+    ∷ written_field (codes "Px") Decimal Mandatory (by Delta)
+    ∷ written_field (codes "Qty") UInt32 Optional (by Copy)
+    ∷ [])
 
 abbrev pub wrap : WrittenTemplate
 wrap = template (codes "Wrap") (Some 2) (written_field (codes "A") UInt32 Mandatory (by Increment) ∷ written_field (codes "B") UInt32 Mandatory (by Delta) ∷ [])
@@ -65,9 +63,9 @@ common = template (codes "Common") None (written_field (codes "B") UInt32 Mandat
 
 abbrev pub grp : WrittenTemplate
 grp = template (codes "Grp") (Some 11) (
-  written_group (codes "Hd") Optional nothing_around (written_list (written_field (codes "A") UInt32 Mandatory (by Copy) ∷ []))
-  ∷ written_reference (codes "Common")
-  ∷ [])
+    written_group (codes "Hd") Optional nothing_around (written_list (written_field (codes "A") UInt32 Mandatory (by Copy) ∷ []))
+    ∷ written_reference (codes "Common")
+    ∷ [])
 
 abbrev pub uni : WrittenTemplate
 uni = template (codes "Uni") (Some 12) (written_field (codes "S") Unicode Mandatory (by Tail) ∷ [])
@@ -77,10 +75,10 @@ empty = template (codes "Empty") (Some 13) (written_field (codes "A") UInt32 Opt
 
 abbrev pub const : WrittenTemplate
 const = template (codes "Const") (Some 14) (
-  written_field (codes "K") UInt32 Mandatory (by_value Constant (codes "7"))
-  ∷ written_field (codes "O") UInt32 Optional (by_value Constant (codes "9"))
-  ∷ written_field (codes "D") UInt32 Mandatory (by_value Default (codes "3"))
-  ∷ [])
+    written_field (codes "K") UInt32 Mandatory (by_value Constant (codes "7"))
+    ∷ written_field (codes "O") UInt32 Optional (by_value Constant (codes "9"))
+    ∷ written_field (codes "D") UInt32 Mandatory (by_value Default (codes "3"))
+    ∷ [])
 
 abbrev pub fixed : WrittenTemplate
 fixed = template (codes "Fixed") (Some 15) (written_parts (codes "Px") Mandatory (by_value Constant (codes "-2")) (by Delta) ∷ written_field (codes "Raw") Bytes Optional (by Copy) ∷ [])

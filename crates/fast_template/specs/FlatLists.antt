@@ -1,7 +1,7 @@
 -- Flat lists and keys: what a written template is once its references and names are resolved.
 -- FAST 1.1, Templates, Template Reference Instructions, and Field Operators, Dictionaries and Previous Values.
 -- That names are resolved where the instruction was written, and the internal keys, are this project's own.
-use Rattle.std.specs.Prelude.{◌≡◌, ℕ, ◌+◌, nat_eq, if◌then◌else◌, List, [], ◌∷◌, codes, length, map, slice_get, Option, Some, None, unwrap_or, option_and_then}
+use Rattle.std.specs.Prelude.{◌≡◌, ℕ, ◌+◌, nat_eq, if◌then◌else◌, List, codes, length, slice_get, Option, Some, None, unwrap_or, option_and_then}
 use Rattle.std.specs.Option.{option_or}
 use Rattle.std.specs.List.{AllZip}
 use Rattle.std.specs.Cmp.Lexicographic.{pointwise}
@@ -17,7 +17,7 @@ use Rattle.fast_template.specs.declared.key.Key.{Key}
 use Rattle.fast_template.specs.declared.resolved.FieldPart.{FieldPart}
 use Rattle.fast_template.specs.InitialValues.{value_of_text}
 use Rattle.fast_template.specs.Written.{WrittenOperation, Surroundings, WrittenInstruction, WrittenInstructions, written_field, written_parts, written_group, written_sequence, written_reference, no_written, then_written, WrittenTemplate}
-use Rattle.fast_template.specs.Resolved.{Instruction, Instructions, whole_field, field_in_parts, group_of, sequence_of, no_instructions, then_instruction, joined, numbered, with_keys, Resolved}
+use Rattle.fast_template.specs.Resolved.{Instructions, whole_field, field_in_parts, group_of, sequence_of, no_instructions, then_instruction, joined, numbered, with_keys, Resolved}
 
 -- where an instruction was written: in which template, and what the elements around it name
 pub record Context : Type 0 where

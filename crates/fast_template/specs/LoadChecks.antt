@@ -1,6 +1,6 @@
 -- The checks of a load, their order, and the first that fails.
 -- FAST 1.1, Errors, Static Errors, and D8. The order and the causes without a number are this project's own.
-use Rattle.std.specs.Prelude.{◌≡◌, ◌≢◌, ◌<◌, ◌≤◌, ◌+◌, ◌&&◌, ℕ, zero, suc, min, nat_le, Bool, false, List, [], ◌∷◌, ◌++◌, length, take, slice_get, option_to_list, Option, Some, None, IsSome, IsTrue, Any, Contains}
+use Rattle.std.specs.Prelude.{◌≡◌, ◌≢◌, ◌<◌, ◌+◌, ◌&&◌, ℕ, zero, suc, min, nat_le, Bool, false, List, [], ◌∷◌, ◌++◌, length, take, slice_get, option_to_list, Option, Some, None, IsSome}
 use Rattle.std.specs.List.{list_all}
 use Rattle.std.specs.Ordering.{nat_cmp}
 use Rattle.std.specs.declared.cmp.Ordering.TheVariants.{Less}
@@ -11,7 +11,7 @@ use Rattle.fast_template.specs.declared.fault.LoadCause.{LoadCause}
 use Rattle.fast_template.specs.declared.fault.LoadCause.TheVariants as cause
 use Rattle.fast_template.specs.declared.fault.LoadFault.{LoadFault}
 use Rattle.fast_template.specs.InitialValues.{value_of_text}
-use Rattle.fast_template.specs.Written.{WrittenOperation, Surroundings, WrittenInstruction, WrittenInstructions, written_field, written_parts, written_group, written_sequence, written_reference, WrittenTemplate, WrittenPart, parts_of, listed}
+use Rattle.fast_template.specs.Written.{WrittenOperation, Surroundings, WrittenInstruction, written_field, written_parts, written_group, written_sequence, written_reference, WrittenTemplate, WrittenPart, parts_of, listed}
 use Rattle.fast_template.specs.Resolved.{Instructions, size_of, depth_of}
 use Rattle.fast_template.specs.FlatLists.{AreFlatLists}
 use Rattle.fast_template.specs.TemplateSets.{applies}

@@ -1,6 +1,6 @@
 -- Values of the eight types of fields.
 -- FAST 1.1, Templates, Field Instructions. The limits of exponents and of strings are this project's own.
-use Rattle.std.specs.Prelude.{ℕ, ◌^◌, ◌-◌, ◌<◌, ◌≤◌, ℤ, pos, negsuc, nat_abs, int_le, Bool, true, false, ◌&&◌, List, length, IsTrue, IsUtf8}
+use Rattle.std.specs.Prelude.{◌^◌, ◌-◌, ◌<◌, ◌≤◌, ℤ, pos, negsuc, nat_abs, int_le, Bool, true, false, ◌&&◌, length, IsTrue, IsUtf8}
 use Rattle.std.specs.List.{AllByRecursion}
 use Rattle.fast_template.specs.declared.scalar.Scalar.{Scalar}
 use Rattle.fast_template.specs.declared.scalar.Scalar.TheVariants.{U32, I32, U64, I64, Decimal, Ascii, Unicode, Bytes}

@@ -57,7 +57,9 @@ fn takes_bit(instruction: &Flat) -> bool
 {
     match instruction {
         Flat::Parts {
-            exponent, mantissa, ..
+            exponent,
+            mantissa,
+            ..
         } => part_needs_bit(exponent) || part_needs_bit(mantissa),
         _ => needs_bit(instruction),
     }

@@ -12,10 +12,9 @@ mod kind;
 mod resolved;
 mod scalar;
 mod set;
-mod written;
-
 #[cfg(test)]
 mod tests;
+mod written;
 
 pub use bits::{has_map, needs_bit, part_needs_bit};
 pub use fault::{LoadCause, LoadFault};

@@ -143,10 +143,7 @@ pub enum Scalar {
     U64(u64),
     I64(i64),
     /// The mantissa times ten to the exponent.
-    Decimal {
-        exponent: i32,
-        mantissa: i64,
-    },
+    Decimal { exponent: i32, mantissa: i64 },
     Ascii(ByteString),
     Unicode(UnicodeText),
     Bytes(ByteString),

@@ -37,9 +37,7 @@ impl TemplateSet {
         ensures value { option_map (λ t. t.now) result ≡ template_of id self.now }
         ensures sound { IsSound self.now }
     {
-        self.templates
-            .iter()
-            .find(|template| has_id(template, id))
+        self.templates.iter().find(|template| has_id(template, id))
     }
 
     /// The name of the template of an identifier.

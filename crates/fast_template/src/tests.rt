@@ -43,7 +43,10 @@ fn copies_are_equal(rt: HostRuntime) -> Result<(), AllocError> {
         Scalar::I32(-7942755),
         Scalar::U64(18446744073709551615),
         Scalar::I64(-9223372036854775808),
-        Scalar::Decimal { exponent: -2, mantissa: 942755 },
+        Scalar::Decimal {
+            exponent: -2,
+            mantissa: 942755
+        },
         Scalar::Ascii(ByteString::from_vec(vec![in alloc; 0x47, 0x45, 0x4D, 0x36]?)),
         Scalar::Unicode(UnicodeText::from_string(String::from_str(alloc, "é")?)),
         Scalar::Bytes(ByteString::from_vec(vec![in alloc; 0x0A, 0xFF]?)),

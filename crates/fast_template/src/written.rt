@@ -50,7 +50,9 @@ pub enum Instruction {
         members: Vec<Instruction>,
     },
     /// The instructions of the template of this name.
-    Reference { name: String },
+    Reference {
+        name: String,
+    },
 }
 
 /// A template as it is written.
