@@ -1,0 +1,10 @@
+//! Dictionaries: what earlier messages left for later ones, as one finite map from keys to entries.
+#![tactic(auto)]
+
+mod entries;
+mod entry;
+mod map;
+
+pub use entries::Entries;
+pub use entry::{Entry, EntryRef};
+pub use map::MapEntries;
