@@ -1,6 +1,6 @@
 -- An ordered map of the program as a finite map.
-use Rattle.std.proofs.Common.{◌≡◌, List, [], ◌∷◌, ◌++◌, Bool, Option, Some, None, cond, refl, sym, ap, ◌∙◌}
-use Rattle.std.specs.FinMap.{FinMap, find, get, insert, empty, from_entries, get-from_entries, get-insert, same_map}
+use Rattle.std.proofs.Common.{◌≡◌, List, [], ◌∷◌, ◌++◌, Option, Some, cond, refl, sym, ap, ◌∙◌}
+use Rattle.std.specs.FinMap.{find, get, insert, empty, from_entries, get-from_entries, get-insert, same_map}
 use Rattle.std.specs.Ordering.{is_eq, eq_by_cmp}
 use Rattle.std.specs.Cmp.{eq_by_cmp_equiv}
 use Rattle.std.specs.Map.{lookup}
@@ -28,11 +28,11 @@ ties k q = ap is_eq (key_cmp_is k q) ∙ (eq_by_cmp_equiv key_cmp-total).symm k 
 -- a key that is set in an ordered map is set in the finite map, and no other
 pub insert_is : (m n : BTreeMap Key (Option Scalar)) (k : Key) (v : Option Scalar) → Updates (cmp-value).it m n k (Some v) → from_entries {R = key_cmp} n.entries ≡ insert (from_entries m.entries) k v
 insert_is m n k v updates = same_map key_cmp-total key_cmp-exact _ _ (λ q.
-  get_is n.entries q
-  ∙ updates.0 q
-  ∙ ap (λ b. cond b (Some v) (lookup (is_at ((cmp-value).it q)) m.entries)) (ties k q)
-  ∙ ap (cond (eq_by_cmp key_cmp q k) (Some v)) (sym (get_is m.entries q))
-  ∙ sym (get-insert key_cmp-total (from_entries m.entries) k v q))
+    get_is n.entries q
+    ∙ updates.0 q
+    ∙ ap (λ b. cond b (Some v) (lookup (is_at ((cmp-value).it q)) m.entries)) (ties k q)
+    ∙ ap (cond (eq_by_cmp key_cmp q k) (Some v)) (sym (get_is m.entries q))
+    ∙ sym (get-insert key_cmp-total (from_entries m.entries) k v q))
 
 -- the map with these entries set, the last of them first
 abbrev pub onto : List (Key × Option Scalar) → Dictionary → Dictionary

@@ -4,6 +4,8 @@
 mod entries;
 mod entry;
 mod map;
+#[cfg(test)]
+mod tests;
 
 pub use entries::Entries;
 pub use entry::{Entry, EntryRef};

@@ -1,5 +1,4 @@
-use Rattle.std.proofs.Common.{◌≡◌, sym, ◌∙◌, ap}
-use Rattle.std.specs.FinMap.{get}
+use Rattle.std.proofs.Common.{sym, ◌∙◌, ap}
 use Rattle.fast_dictionary.specs.Dictionary.{entry_from, entry_at}
 use Rattle.fast_dictionary.proofs.OrderedMaps.{get_is}
 use Rattle.fast_dictionary.proofs.map.MapEntriesEntries.get.Goals as goal
