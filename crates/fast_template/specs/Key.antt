@@ -1,11 +1,11 @@
 -- The order of keys, its laws, and that the keys of the program have it.
 -- Own: FAST 1.1, Field Operators, Dictionaries and Previous Values names what a key is made of, and no order.
-use Rattle.std.specs.Prelude.{◌≡◌, ℕ, T, zero, suc, List, [], ◌∷◌, refl}
+use Rattle.std.specs.Prelude.{◌≡◌, true, ℕ, T, zero, suc, List, [], ◌∷◌, refl}
 use Rattle.std.proofs.Common.{sym, ap, subst, ◌∙◌}
 use Rattle.std.specs.declared.cmp.Ordering.{Ordering}
 use Rattle.std.specs.declared.cmp.Ordering.TheVariants.{Less, Equal, Greater}
 use Rattle.std.specs.Ordering.{nat_cmp, ordering_then, is_eq}
-use Rattle.std.specs.Cmp.{IsTotalOrder, nat_cmp_total, then_total, on_total}
+use Rattle.std.specs.Cmp.{IsTotalOrder, Equal-is, nat_cmp_total, then_total, on_total}
 use Rattle.std.specs.Cmp.Lexicographic.{slice_cmp, nat_list_cmp_total}
 use Rattle.std.specs.FinMap.{IsAntisymmetric, nat_cmp-IsAntisymmetric, slice_cmp-IsAntisymmetric}
 use Rattle.fast_template.specs.declared.kind.Part.{Part}
@@ -16,6 +16,9 @@ use Rattle.fast_template.specs.declared.key.Key.{Key}
 use Rattle.fast_template.specs.contracts.kind.PartOrd.TheImpl as part
 use Rattle.fast_template.specs.contracts.key.ScopeOrd.TheImpl as scope
 use Rattle.fast_template.specs.contracts.key.KeyOrd.TheImpl as key
+use Rattle.fast_template.specs.contracts.key.KeyOrd.TheImpl.Laws as key_laws
+use Rattle.fast_template.specs.contracts.key.KeyPartialEq.TheImpl as key_eq
+use Rattle.fast_template.specs.contracts.key.KeyEq.TheImpl.Laws as key_eq_laws
 
 -- a part and a dictionary as numbers that tell them apart
 abbrev pub part_number : Part → ℕ
@@ -139,3 +142,10 @@ key_cmp_is a b =
     let names : Ordering = slice_cmp nat_cmp a.name b.name in
     ap (λ o. ordering_then (nat_cmp a.slot b.slot) (ordering_then o (ordering_then names ((part.cmp-value).it a.part b.part)))) (scope_cmp_is a.scope b.scope)
     ∙ ap (λ o. ordering_then (nat_cmp a.slot b.slot) (ordering_then (slice_cmp nat_cmp (scope_numbers a.scope) (scope_numbers b.scope)) (ordering_then names o))) (part_cmp_is a.part b.part)
+
+-- `==` of two keys is true exactly if they are the same.
+pub key_eq-exact : (a b : Key) → (key_eq.eq-value).it a b ≡ true → a ≡ b
+key_eq-exact a b e = key_cmp-exact a b ((Equal-is (key_cmp a b)).0 (ap is_eq (sym (key_cmp_is a b)) ∙ sym (key_laws.matches_eq-law a b) ∙ e))
+
+pub key_eq-same : (a : Key) → (key_eq.eq-value).it a a ≡ true
+key_eq-same a = key_eq_laws.laws-law.refl a

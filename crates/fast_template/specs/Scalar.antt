@@ -1,9 +1,15 @@
 -- Values of the eight types of fields.
 -- FAST 1.1, Templates, Field Instructions. The limits of exponents and of strings are this project's own.
-use Rattle.std.specs.Prelude.{◌^◌, ◌-◌, ◌<◌, ◌≤◌, ℤ, pos, negsuc, nat_abs, int_le, Bool, true, false, ◌&&◌, length, IsTrue, IsUtf8}
+use Rattle.std.proofs.Common.{sym, ap, ap₂, true≢false}
+use Rattle.std.specs.Ordering.{int_eq}
+use Rattle.std.specs.Cmp.{unsigned_Decides, signed_Decides, first_so, second_so}
+use Rattle.std.specs.Cmp.Lexicographic.{same_text}
+use Rattle.std.specs.Prelude.{◌≡◌, ◌^◌, ◌-◌, ◌<◌, ◌≤◌, ℤ, pos, negsuc, nat_abs, int_le, Bool, true, false, ◌&&◌, length, IsTrue, IsUtf8}
 use Rattle.std.specs.List.{AllByRecursion}
 use Rattle.fast_template.specs.declared.scalar.Scalar.{Scalar}
 use Rattle.fast_template.specs.declared.scalar.Scalar.TheVariants.{U32, I32, U64, I64, Decimal, Ascii, Unicode, Bytes}
+use Rattle.fast_template.specs.contracts.scalar.ScalarPartialEq.TheImpl as scalar_eq
+use Rattle.fast_template.specs.contracts.scalar.ScalarEq.TheImpl.Laws as scalar_eq_laws
 use Rattle.fast_template.specs.declared.kind.Kind.{Kind}
 use Rattle.fast_template.specs.declared.kind.Kind.TheVariants as kind
 
@@ -74,3 +80,20 @@ IsScalar (Decimal exponent mantissa) = IsTrue (exponent_in_range exponent) × Is
 IsScalar (Ascii s) = (length s ≤ 65535) × AllByRecursion (λ c. c < 128) s
 IsScalar (Unicode s) = (length s ≤ 65535) × AllByRecursion (λ c. c < 256) s × IsUtf8 s
 IsScalar (Bytes s) = (length s ≤ 65535) × AllByRecursion (λ c. c < 256) s
+
+-- ---- `==` of two values is true exactly if they are the same
+
+pub scalar_eq-exact : (a b : Scalar) → (scalar_eq.eq-value).it a b ≡ true → a ≡ b
+scalar_eq-exact (U32 m) (U32 n) e = ap U32 ((unsigned_Decides m n).0 e)
+scalar_eq-exact (I32 m) (I32 n) e = ap I32 ((signed_Decides m n).0 e)
+scalar_eq-exact (U64 m) (U64 n) e = ap U64 ((unsigned_Decides m n).0 e)
+scalar_eq-exact (I64 m) (I64 n) e = ap I64 ((signed_Decides m n).0 e)
+scalar_eq-exact (Decimal x m) (Decimal y n) e =
+    ap₂ Decimal ((signed_Decides x y).0 (first_so (int_eq x y) (int_eq m n) e)) ((signed_Decides m n).0 (second_so (int_eq x y) (int_eq m n) e))
+scalar_eq-exact (Ascii s) (Ascii t) e = ap Ascii (same_text s t (sym e))
+scalar_eq-exact (Unicode s) (Unicode t) e = ap Unicode (same_text s t (sym e))
+scalar_eq-exact (Bytes s) (Bytes t) e = ap Bytes (same_text s t (sym e))
+scalar_eq-exact a b e = absurd (true≢false (sym e))
+
+pub scalar_eq-same : (a : Scalar) → (scalar_eq.eq-value).it a a ≡ true
+scalar_eq-same a = scalar_eq_laws.laws-law.refl a
