@@ -1,6 +1,6 @@
 -- The definitions of `specs/` on the templates of the worked rows: each row computes.
-use Rattle.std.proofs.Common.{◌≡◌, ◌≢◌, ℕ, zero, suc, ◌-◌, ◌^◌, List, [], ◌∷◌, length, Option, Some, None, Bool, true, false, pos, negsuc, refl, ap, ◌∙◌, lit<}
-use Rattle.std.specs.Prelude.{codes}
+use Rattle.std.proofs.Common.{◌≡◌, ◌≢◌, ℕ, zero, suc, ◌-◌, ◌^◌, List, [], ◌∷◌, length, Option, Some, None, Bool, true, false, pos, negsuc, refl, sym, ap, subst, ◌∙◌, ◌<◌, get_or, lit<, lit≤, arith}
+use Rattle.std.specs.Prelude.{codes, Contains}
 use Rattle.std.specs.Option.{option_map_or}
 use Rattle.fast_template.specs.declared.kind.Kind.{Kind}
 use Rattle.fast_template.specs.declared.kind.Kind.TheVariants.{Int32, UInt32, Int64, Decimal, Ascii, Unicode, Bytes}
@@ -21,6 +21,7 @@ use Rattle.fast_template.specs.Written.{WrittenOperation, Surroundings, WrittenI
 use Rattle.fast_template.specs.Resolved.{Instruction, Instructions, whole_field, field_in_parts, group_of, sequence_of, instructions_of, no_instructions, then_instruction, numbered, keys_of, size_of, depth_of, needs_bit, has_map}
 use Rattle.fast_template.specs.FlatLists.{context_of, flat_list}
 use Rattle.fast_template.specs.LoadChecks.{Before, names_well_made, name_new, id_new, operator_allowed, constant_has_value, default_has_value, value_spelled, reference_known, off_cycles, nests_little, sum_small, Fails, directly, IsTemplateAt}
+use Rattle.fast_template.specs.TemplateSets.{HaveTypedParts, IsNumbered, AreSound, identifier_key}
 use Rattle.fast_template.proofs.WorkedTemplates.{by, by_value, by_key, nothing_around, template, quote, wrap, opt, legs, marks, bare, clash, tail, init, delta, common, grp, uni, empty, const, fixed, first}
 
 -- The only reference of the worked rows is to Common, the eleventh template.
@@ -421,3 +422,56 @@ levels_referred = refl
 -- A group counts one, and so does each instruction inside it; what a reference stands for counts where it stands.
 grp_size : size_of (flat 12 grp) ≡ 3
 grp_size = refl
+
+-- ---- what is true of every set
+
+-- a field with an initial value, and one without, of a type that its operator applies to
+init_typed : HaveTypedParts (flat 9 init)
+init_typed = (
+  record {
+    part_is = refl;
+    kind_is = refl;
+    presence_is = refl;
+    typed = record {
+      operator_applies = refl;
+      initial_fits = (refl, refl, (lit≤ tt, (lit< tt, (lit< tt, tt))));
+      constant_has_value = λ e. refl;
+      default_has_value = λ e f. refl;
+    };
+  },
+  tt,
+)
+
+wrap_typed : HaveTypedParts (flat 2 wrap)
+wrap_typed = (
+  record { part_is = refl; kind_is = refl; presence_is = refl; typed = record { operator_applies = refl; initial_fits = tt; constant_has_value = λ e. absurd (cc e); default_has_value = λ e f. absurd (cc e) } },
+  (
+    record { part_is = refl; kind_is = refl; presence_is = refl; typed = record { operator_applies = refl; initial_fits = tt; constant_has_value = λ e. absurd (cc e); default_has_value = λ e f. absurd (cc e) } },
+    tt,
+  ),
+)
+
+grp_numbered : IsNumbered (flat 12 grp)
+grp_numbered = refl
+
+-- The set of no template is sound: its only slot is the identifier's.
+only_identifier : (k : Key) → Contains (identifier_key ∷ []) k → identifier_key ≡ k
+only_identifier k found = let first : found.0 ≡ 0 = omega (arith, found.1) in ap (λ i. get_or (identifier_key ∷ []) i k) (sym first) ∙ found.2
+
+no_template : AreSound [] 1
+no_template = record {
+  few = lit≤ tt;
+  distinct = λ i j d below within. absurd (omega (arith, within));
+  typed = tt;
+  in_order = tt;
+  shallow = tt;
+  small = lit≤ tt;
+  slotted = record {
+    below = λ k found. subst (λ l. l.slot < 1) (only_identifier k found) (lit< tt);
+    one_slot = λ k l found there same. ap (λ m. m.slot) (sym (only_identifier k found) ∙ only_identifier l there);
+    one_key = λ k l found there same.
+      let equal : k ≡ l = sym (only_identifier k found) ∙ only_identifier l there in
+      (ap (λ m. m.scope) equal, ap (λ m. m.name) equal, ap (λ m. m.part) equal);
+    each_used = λ n below. (0, lit< tt, omega (arith, below));
+  };
+}
