@@ -470,8 +470,8 @@ no_template = record {
     below = λ k found. subst (λ l. l.slot < 1) (only_identifier k found) (lit< tt);
     one_slot = λ k l found there same. ap (λ m. m.slot) (sym (only_identifier k found) ∙ only_identifier l there);
     one_key = λ k l found there same.
-      let equal : k ≡ l = sym (only_identifier k found) ∙ only_identifier l there in
-      (ap (λ m. m.scope) equal, ap (λ m. m.name) equal, ap (λ m. m.part) equal);
+        let equal : k ≡ l = sym (only_identifier k found) ∙ only_identifier l there in
+        (ap (λ m. m.scope) equal, ap (λ m. m.name) equal, ap (λ m. m.part) equal);
     each_used = λ n below. (0, lit< tt, omega (arith, below));
   };
 }
