@@ -1,0 +1,12 @@
+//! Dictionaries: what earlier messages left for later ones, as one finite map from keys to entries.
+#![tactic(auto)]
+
+mod entries;
+mod entry;
+mod map;
+#[cfg(test)]
+mod tests;
+
+pub use entries::Entries;
+pub use entry::{Entry, EntryRef};
+pub use map::MapEntries;

@@ -1,0 +1,162 @@
+//! Names of entries in dictionaries.
+
+ghost use Rattle.std.specs.Prelude.{◌≡◌, IfOk, Some, nat_eq, refl, string_bytes};
+ghost use Rattle.std.specs.Cmp.{partial_equiv_from_equiv};
+ghost use Rattle.std.specs.Cmp.Lexicographic.{nat_list_cmp_total, nat_list_eq_equiv, pointwise, slice_cmp, texts_po, texts_ties};
+ghost use Rattle.std.specs.Ordering.{nat_cmp};
+
+use crate::kind::Part;
+use std::alloc::{AllocError, Global};
+use std::cmp::Ordering;
+use std::marker::Model;
+
+/// A name of a template, a field, a key, a dictionary or a type. A contract sees its bytes.
+#[derive(Debug, Drop)]
+pub struct Name {
+    text: String,
+}
+
+impl Model for Name {
+    ghost use Rattle.std.specs.Prelude.{List, ℕ, string_bytes};
+
+    ghost Value = { List ℕ };
+
+    ghost view = { λ n. string_bytes n.text };
+}
+
+impl Name {
+    /// The name that a string spells. Takes no memory.
+    pub fn from_string(text: String) -> Name
+        ensures { result ≡ string_bytes text }
+    {
+        Self { text }
+    }
+
+    /// The string that spells this name. Takes no memory.
+    pub fn into_string(self) -> String
+        ensures { string_bytes result ≡ self }
+    {
+        let Name { text } = self;
+        text
+    }
+
+    /// The name as text.
+    pub fn as_str(&self) -> &str
+        ensures { result.now ≡ self.now }
+    {
+        self.text.as_str()
+    }
+
+    /// The same name once more.
+    ///
+    /// # Errors
+    ///
+    /// Where memory is refused.
+    pub fn copy(&self, alloc: Global) -> Result<Name, AllocError>
+        ensures { IfOk result (λ other. other ≡ self.now) }
+    {
+        let text = String::from_str(alloc, self.as_str())?;
+        Ok(Name { text })
+    }
+}
+
+impl PartialEq for Name {
+    ghost eq = { pointwise nat_eq };
+
+    ghost laws = { partial_equiv_from_equiv nat_list_eq_equiv };
+
+    fn eq(&self, other: &Name) -> bool {
+        self.as_str() == other.as_str()
+    }
+}
+
+impl Eq for Name {
+    ghost laws = { nat_list_eq_equiv };
+}
+
+impl PartialOrd for Name {
+    ghost partial_cmp = { λ a b. Some (slice_cmp nat_cmp a b) };
+
+    ghost laws = { texts_po };
+
+    fn partial_cmp(&self, other: &Name) -> Option<Ordering> {
+        Some(self.cmp(other))
+    }
+}
+
+impl Ord for Name {
+    ghost cmp = { slice_cmp nat_cmp };
+
+    ghost total = { nat_list_cmp_total };
+
+    ghost matches_partial_cmp = { λ a b. refl };
+
+    ghost matches_eq = { texts_ties };
+
+    fn cmp(&self, other: &Name) -> Ordering {
+        self.as_str().cmp(other.as_str())
+    }
+}
+
+/// The dictionary that an entry is in.
+#[derive(Debug, PartialEq, Eq, PartialOrd, Ord, Drop)]
+pub enum Scope {
+    /// The one that all templates share.
+    Global,
+    /// That of the template in which the instruction was written: its place in the list of templates, from 1.
+    Template(u32),
+    /// That of an application type.
+    Typed(Name),
+    /// One that a user named.
+    User(Name),
+}
+
+impl Scope {
+    /// The same scope once more.
+    ///
+    /// # Errors
+    ///
+    /// Where memory is refused.
+    pub fn copy(&self, alloc: Global) -> Result<Scope, AllocError>
+        ensures { IfOk result (λ other. other ≡ self.now) }
+    {
+        match self {
+            Scope::Global => Ok(Scope::Global),
+            Scope::Template(place) => Ok(Scope::Template(*place)),
+            Scope::Typed(name) => Ok(Scope::Typed(name.copy(alloc)?)),
+            Scope::User(name) => Ok(Scope::User(name.copy(alloc)?)),
+        }
+    }
+}
+
+/// What an entry is found by. Keys are ordered by slot, then scope, name and part.
+///
+/// In one template set two keys have the same slot exactly if their scope, name and part are the same.
+#[derive(PartialEq, Eq, PartialOrd, Ord, Debug, Drop)]
+pub struct Key {
+    /// A number of its own in its template set, from 0.
+    pub slot: u32,
+    pub scope: Scope,
+    /// The key that was given, or else the field's name. Empty for the template identifier.
+    pub name: Name,
+    /// Other than `Whole` where the key is internal, as that of an exponent or of a length without a name.
+    pub part: Part,
+}
+
+impl Key {
+    /// The same key once more.
+    ///
+    /// # Errors
+    ///
+    /// Where memory is refused.
+    pub fn copy(&self, alloc: Global) -> Result<Key, AllocError>
+        ensures { IfOk result (λ other. other ≡ self.now) }
+    {
+        Ok(Key {
+            slot: self.slot,
+            scope: self.scope.copy(alloc)?,
+            name: self.name.copy(alloc)?,
+            part: self.part,
+        })
+    }
+}

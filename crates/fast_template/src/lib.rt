@@ -1,0 +1,26 @@
+//! What a message looks like: templates as written, resolved templates and sets of them.
+//!
+//! A template set is described by its `specs/`: what the parts of a template are (`Written`, `Resolved`),
+//! how one becomes the other (`FlatLists`, `InitialValues`), what is true of every set (`TemplateSets`)
+//! and which check of a load fails first (`LoadChecks`).
+#![tactic(auto)]
+
+mod bits;
+mod fault;
+mod key;
+mod kind;
+mod resolved;
+mod scalar;
+mod set;
+#[cfg(test)]
+mod tests;
+mod written;
+
+pub use bits::{has_map, needs_bit, part_needs_bit};
+pub use fault::{LoadCause, LoadFault};
+pub use key::{Key, Name, Scope};
+pub use kind::{Kind, Operator, Part, Presence};
+pub use resolved::{FieldPart, Flat, FlatTemplate};
+pub use scalar::{ByteString, Scalar, UnicodeText};
+pub use set::TemplateSet;
+pub use written::{Instruction, Operation, Template};

@@ -1,0 +1,175 @@
+//! Values of fields.
+
+ghost use Rattle.std.specs.Prelude.{◌≡◌, IfOk, nat_eq, string_bytes};
+ghost use Rattle.std.specs.Cmp.{partial_equiv_from_equiv};
+ghost use Rattle.std.specs.Cmp.Lexicographic.{nat_list_eq_equiv, pointwise};
+
+use std::alloc::{AllocError, Global};
+use std::marker::Model;
+
+/// Characters of ASCII, or bytes. A contract sees the list of them.
+#[derive(Debug, Drop)]
+pub struct ByteString {
+    bytes: Vec<u8>,
+}
+
+impl Model for ByteString {
+    ghost use Rattle.std.specs.Prelude.{List, ℕ};
+
+    ghost Value = { List ℕ };
+
+    ghost view = { λ s. s.bytes.items };
+}
+
+impl ByteString {
+    /// The bytes of a vector. Takes no memory.
+    pub fn from_vec(bytes: Vec<u8>) -> ByteString
+        ensures { result ≡ bytes.items }
+    {
+        Self { bytes }
+    }
+
+    /// The vector of these bytes. Takes no memory.
+    pub fn into_vec(self) -> Vec<u8>
+        ensures { result.items ≡ self }
+    {
+        let ByteString { bytes } = self;
+        bytes
+    }
+
+    /// The bytes, in order.
+    pub fn as_slice(&self) -> &[u8]
+        ensures { result.now ≡ self.now }
+    {
+        self.bytes.as_slice()
+    }
+
+    /// The same bytes once more.
+    ///
+    /// # Errors
+    ///
+    /// Where memory is refused.
+    pub fn copy(&self, alloc: Global) -> Result<ByteString, AllocError>
+        ensures { IfOk result (λ other. other ≡ self.now) }
+    {
+        let bytes = self.as_slice().to_vec(alloc)?;
+        Ok(ByteString { bytes })
+    }
+}
+
+impl PartialEq for ByteString {
+    ghost eq = { pointwise nat_eq };
+
+    ghost laws = { partial_equiv_from_equiv nat_list_eq_equiv };
+
+    fn eq(&self, other: &ByteString) -> bool {
+        self.as_slice() == other.as_slice()
+    }
+}
+
+impl Eq for ByteString {
+    ghost laws = { nat_list_eq_equiv };
+}
+
+/// A text in UTF-8. A contract sees its bytes.
+#[derive(Debug, Drop)]
+pub struct UnicodeText {
+    text: String,
+}
+
+impl Model for UnicodeText {
+    ghost use Rattle.std.specs.Prelude.{List, ℕ, string_bytes};
+
+    ghost Value = { List ℕ };
+
+    ghost view = { λ s. string_bytes s.text };
+}
+
+impl UnicodeText {
+    /// The text of a string. Takes no memory.
+    pub fn from_string(text: String) -> UnicodeText
+        ensures { result ≡ string_bytes text }
+    {
+        Self { text }
+    }
+
+    /// The string of this text. Takes no memory.
+    pub fn into_string(self) -> String
+        ensures { string_bytes result ≡ self }
+    {
+        let UnicodeText { text } = self;
+        text
+    }
+
+    /// The text.
+    pub fn as_str(&self) -> &str
+        ensures { result.now ≡ self.now }
+    {
+        self.text.as_str()
+    }
+
+    /// The same text once more.
+    ///
+    /// # Errors
+    ///
+    /// Where memory is refused.
+    pub fn copy(&self, alloc: Global) -> Result<UnicodeText, AllocError>
+        ensures { IfOk result (λ other. other ≡ self.now) }
+    {
+        let text = String::from_str(alloc, self.as_str())?;
+        Ok(UnicodeText { text })
+    }
+}
+
+impl PartialEq for UnicodeText {
+    ghost eq = { pointwise nat_eq };
+
+    ghost laws = { partial_equiv_from_equiv nat_list_eq_equiv };
+
+    fn eq(&self, other: &UnicodeText) -> bool {
+        self.as_str() == other.as_str()
+    }
+}
+
+impl Eq for UnicodeText {
+    ghost laws = { nat_list_eq_equiv };
+}
+
+/// A value of a field.
+#[derive(Debug, PartialEq, Eq, Drop)]
+pub enum Scalar {
+    U32(u32),
+    I32(i32),
+    U64(u64),
+    I64(i64),
+    /// The mantissa times ten to the exponent.
+    Decimal { exponent: i32, mantissa: i64 },
+    Ascii(ByteString),
+    Unicode(UnicodeText),
+    Bytes(ByteString),
+}
+
+impl Scalar {
+    /// The same value once more.
+    ///
+    /// # Errors
+    ///
+    /// Where memory is refused.
+    pub fn copy(&self, alloc: Global) -> Result<Scalar, AllocError>
+        ensures { IfOk result (λ other. other ≡ self.now) }
+    {
+        match self {
+            Scalar::U32(number) => Ok(Scalar::U32(*number)),
+            Scalar::I32(number) => Ok(Scalar::I32(*number)),
+            Scalar::U64(number) => Ok(Scalar::U64(*number)),
+            Scalar::I64(number) => Ok(Scalar::I64(*number)),
+            Scalar::Decimal { exponent, mantissa } => Ok(Scalar::Decimal {
+                exponent: *exponent,
+                mantissa: *mantissa,
+            }),
+            Scalar::Ascii(characters) => Ok(Scalar::Ascii(characters.copy(alloc)?)),
+            Scalar::Unicode(text) => Ok(Scalar::Unicode(text.copy(alloc)?)),
+            Scalar::Bytes(bytes) => Ok(Scalar::Bytes(bytes.copy(alloc)?)),
+        }
+    }
+}

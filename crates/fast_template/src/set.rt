@@ -1,0 +1,71 @@
+//! Sets of resolved templates.
+
+ghost use Rattle.std.specs.Prelude.{◌≡◌, option_map};
+ghost use Rattle.fast_template.specs.TemplateSets.{has_id as has_id_of, template_of};
+
+use crate::resolved::FlatTemplate;
+use std::marker::Model;
+
+/// Resolved templates.
+///
+/// Each set is free of references, typed, numbered and within the limits, and has a slot for each key.
+#[derive(Debug, Drop)]
+pub struct TemplateSet {
+    templates: Vec<FlatTemplate>,
+    slots: u32,
+}
+
+impl Model for TemplateSet {
+    ghost use Rattle.std.specs.Coded.{codes};
+    ghost use Rattle.fast_template.specs.contracts.resolved.Flat as flat;
+    ghost use Rattle.fast_template.specs.TemplateSets.{TemplateList, IsSound};
+
+    ghost Value = { TemplateList };
+
+    ghost coded = { Prim.hlevel (codes, flat.the_row.coded) };
+
+    ghost view = { λ s. record { templates = s.templates.items; slots = s.slots } };
+
+    ghost invariant = { λ s. IsSound (record { templates = s.templates.items; slots = s.slots }) };
+}
+
+impl TemplateSet {
+    ghost use Rattle.fast_template.specs.TemplateSets.{IsSound};
+
+    /// The template of an identifier.
+    pub fn find(&self, id: u32) -> Option<&FlatTemplate>
+        ensures value { option_map (λ t. t.now) result ≡ template_of id self.now }
+        ensures sound { IsSound self.now }
+    {
+        self.templates.iter().find(|template| has_id(template, id))
+    }
+
+    /// The name of the template of an identifier.
+    pub fn name(&self, id: u32) -> Option<&str>
+        ensures value { option_map (λ s. s.now) result ≡ option_map (λ t. t.name) (template_of id self.now) }
+        ensures sound { IsSound self.now }
+    {
+        match self.find(id) {
+            Some(template) => Some(template.name.as_str()),
+            None => None,
+        }
+    }
+
+    /// How many slots the keys of this set have: one more than the greatest.
+    pub fn slots(&self) -> u32
+        ensures value { result ≡ self.now.slots }
+        ensures sound { IsSound self.now }
+    {
+        self.slots
+    }
+}
+
+// Whether a template has an identifier.
+fn has_id(template: &FlatTemplate, id: u32) -> bool
+    ensures { result ≡ has_id_of id template.now.id }
+{
+    match template.id {
+        Some(own) => own == id,
+        None => false,
+    }
+}
