@@ -3,9 +3,9 @@ use Rattle.std.proofs.Common.{◌≡◌, ℕ, zero, suc, ◌+◌, ◌-◌, ◌<�
 use Rattle.std.proofs.Math.Seq.{take-length}
 use Rattle.std.specs.Prelude.{nat_le}
 use Rattle.fast_wire.specs.Entity.{IsEntity, IsEntityWithin, HasNoStop, groups}
-use Rattle.fast_wire.specs.Integer.{IsUnsigned, unsigned_of}
+use Rattle.fast_wire.specs.Integer.{IsUnsigned, IsSigned, unsigned_of, signed_of}
 use Rattle.fast_wire.specs.PresenceMap.{IsWholeMap, bits_of}
-use Rattle.fast_wire.specs.Reading.{◌>>=◌, EntityFault, Fails, entity_at, unsigned_at, map_at}
+use Rattle.fast_wire.specs.Reading.{◌>>=◌, EntityFault, Fails, entity_at, unsigned_at, signed_at, map_at}
 use Rattle.fast_wire.specs.Reader.{IsBytes, Takes, IsReader, Both}
 use Rattle.fast_wire.specs.declared.fault.WireFault.{WireFault}
 use Rattle.fast_wire.specs.declared.fault.WireFault.TheVariants as fault
@@ -129,6 +129,14 @@ unsigned_forms =
     (λ b n h. record { entity = h.entity; short = h.short; value = h.spelled })
     (λ b n h. record { entity = h.entity; short = h.short; spelled = h.value })
     (valued_forms 10 unsigned_of)
+
+pub signed_forms : IsReader fault.NeedMore signed_at IsSigned
+unfolding signed_at
+signed_forms =
+    reader_as fault.NeedMore signed_at (IsValued 10 signed_of) IsSigned
+    (λ b n h. record { entity = h.entity; short = h.short; value = h.spelled })
+    (λ b n h. record { entity = h.entity; short = h.short; spelled = h.value })
+    (valued_forms 10 signed_of)
 
 pub map_forms : IsReader fault.NeedMore map_at IsWholeMap
 unfolding map_at

@@ -7,3 +7,7 @@ pub mod UnsignedForms
 pub mod MapBits
 pub mod MapForms
 pub mod SameForms
+pub mod SignedNumbers
+pub mod SignedForms
+pub mod Sizes
+pub mod NullableForms

@@ -1,12 +1,12 @@
 -- A reader of one entity has one answer.
-use Rattle.std.proofs.Common.{◌≡◌, ℕ, ◌-◌, ◌≤◌, List, length, take, drop, slice_range, Result, Ok, Err, sym, ◌∙◌, subst, arith, length-take, length-drop}
+use Rattle.std.proofs.Common.{◌≡◌, ℕ, ℤ, ◌-◌, ◌≤◌, List, length, take, drop, slice_range, Result, Ok, Err, sym, ◌∙◌, subst, arith, length-take, length-drop}
 use Rattle.std.proofs.lemmas.List.{take-take}
 use Rattle.std.specs.Prelude.{MatchResult}
 use Rattle.fast_wire.specs.Entity.{IsEntity}
 use Rattle.fast_wire.specs.Reading.{EntityFault, Reads}
 use Rattle.fast_wire.specs.declared.fault.WireFault.{WireFault}
 use Rattle.fast_wire.specs.declared.fault.WireFault.TheVariants as fault
-use Rattle.fast_wire.specs.Integer.{IsUnsigned}
+use Rattle.fast_wire.specs.Integer.{IsUnsigned, IsSigned}
 use Rattle.fast_wire.proofs.Entities.{same_end, no_entity}
 
 module _ {V : Type 0} (Form : List ℕ → V → Type 0) (limit : ℕ)
@@ -42,3 +42,7 @@ module _ {V : Type 0} (Form : List ℕ → V → Type 0) (limit : ℕ)
 pub unsigned_only : (xs : List ℕ) (at : ℕ) (r : Result (ℕ × ℕ) WireFault) → MatchResult r (Reads IsUnsigned xs at) (EntityFault 10 xs at)
     → (next : ℕ) (value : ℕ) → Reads IsUnsigned xs at (value, next) → r ≡ Ok (value, next)
 unsigned_only = reads_only IsUnsigned 10 (λ b v f. f.entity) (λ b v f. f.short) (λ b v w f h. f.value ∙ sym h.value)
+
+pub signed_only : (xs : List ℕ) (at : ℕ) (r : Result (ℤ × ℕ) WireFault) → MatchResult r (Reads IsSigned xs at) (EntityFault 10 xs at)
+    → (next : ℕ) (value : ℤ) → Reads IsSigned xs at (value, next) → r ≡ Ok (value, next)
+signed_only = reads_only IsSigned 10 (λ b v f. f.entity) (λ b v f. f.short) (λ b v w f h. f.value ∙ sym h.value)

@@ -1,5 +1,6 @@
 -- The shortest forms, made: what the writers append. No public clause names these.
-use Rattle.std.specs.Prelude.{◌≡◌, ℕ, ◌+◌, ◌-◌, ◌*◌, ◌/◌, ◌%◌, ◌^◌, ◌<◌, ◌≤◌, List, [], ◌∷◌, Bool, true, false}
+use Rattle.std.specs.Prelude.{◌≡◌, ℕ, ℤ, ◌+◌, ◌-◌, ◌*◌, ◌/◌, ◌%◌, ◌^◌, ◌<◌, ◌≤◌, List, [], ◌∷◌, Bool, true, false}
+use Rattle.fast_wire.specs.Integer.{magnitude}
 use Rattle.fast_wire.specs.PresenceMap.{bit_at}
 use Rattle.std.proofs.Common.{zero, suc}
 
@@ -12,6 +13,10 @@ entity_of (suc (suc n)) v = (v / 128 ^ suc n % 128) ∷ entity_of (suc n) v
 -- n is the least number of groups that v fits in, from 1 on
 abbrev pub IsLeastSize : ℕ → ℕ → Type 0
 IsLeastSize v n = (0 < n) × (n ≤ 10) × (v < 128 ^ n) × (1 < n → 128 ^ (n - 1) ≤ v)
+
+-- n is the least number of groups whose top bit can be the sign, from 1 on
+abbrev pub IsLeastSignedSize : ℤ → ℕ → Type 0
+IsLeastSignedSize v n = (0 < n) × (n ≤ 10) × (magnitude v < 64 * 128 ^ (n - 1)) × (1 < n → 64 * 128 ^ (n - 2) ≤ magnitude v)
 
 -- the number 1 or 0
 abbrev pub bit_number : Bool → ℕ

@@ -9,12 +9,19 @@
 mod fault;
 mod integer;
 pub mod laws;
+mod nullable;
 mod presence_map;
 mod stop_bit;
 #[cfg(test)]
 mod tests;
 
 pub use fault::WireFault;
-pub use integer::{read_unsigned, size_unsigned, write_unsigned};
+pub use integer::{
+    read_signed, read_unsigned, size_signed, size_unsigned, write_signed, write_unsigned,
+};
+pub use nullable::{
+    Nullable, read_signed_nullable, read_unsigned_nullable, size_signed_nullable,
+    size_unsigned_nullable, write_signed_nullable, write_unsigned_nullable,
+};
 pub use presence_map::{Bits, read_map, write_map};
 pub use stop_bit::find_stop;
