@@ -11,3 +11,4 @@ pub mod SignedNumbers
 pub mod SignedForms
 pub mod Sizes
 pub mod NullableForms
+pub mod AsciiForms

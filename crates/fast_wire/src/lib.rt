@@ -6,6 +6,7 @@
 //! reads the form from the front of a list; the module [`laws`] ties the two together.
 #![tactic(auto)]
 
+mod ascii;
 mod fault;
 mod integer;
 pub mod laws;
@@ -14,7 +15,12 @@ mod presence_map;
 mod stop_bit;
 #[cfg(test)]
 mod tests;
+mod text;
 
+pub use ascii::{
+    read_ascii, read_ascii_nullable, size_ascii, size_ascii_nullable, write_ascii,
+    write_ascii_nullable,
+};
 pub use fault::WireFault;
 pub use integer::{
     read_signed, read_unsigned, size_signed, size_unsigned, write_signed, write_unsigned,
@@ -25,3 +31,4 @@ pub use nullable::{
 };
 pub use presence_map::{Bits, read_map, write_map};
 pub use stop_bit::find_stop;
+pub use text::check_text;
