@@ -12,3 +12,4 @@ pub mod SignedForms
 pub mod Sizes
 pub mod NullableForms
 pub mod AsciiForms
+pub mod VectorForms

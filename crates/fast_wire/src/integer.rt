@@ -60,7 +60,7 @@ pub(crate) fn least_size(value: u128) -> usize
 }
 
 /// Appends the lowest `size` groups of a number, the stop bit on the last, or nothing.
-fn append_entity(value: u128, size: usize, out: &mut Vec<u8>) -> Result<(), WireFault>
+pub(crate) fn append_entity(value: u128, size: usize, out: &mut Vec<u8>) -> Result<(), WireFault>
     requires some { 0 < size }
     requires few { size ≤ 10 }
     ensures ok { OnOk result (out.new.items ≡ out.old.items ++ entity_of size value) }
@@ -79,6 +79,7 @@ pub(crate) fn push_entity(value: u128, size: usize, out: &mut Vec<u8>)
     requires few { size ≤ 10 }
     requires room { vec_len out.old + size ≤ vec_capacity out.old }
     ensures items { out.new.items ≡ out.old.items ++ entity_of size value }
+    ensures len { vec_len out.new ≡ vec_len out.old + size }
     ensures capacity { vec_capacity out.old ≤ vec_capacity out.new }
 {
     for left in (1..size).rev() {

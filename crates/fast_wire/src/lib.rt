@@ -16,6 +16,7 @@ mod stop_bit;
 #[cfg(test)]
 mod tests;
 mod text;
+mod vector;
 
 pub use ascii::{
     read_ascii, read_ascii_nullable, size_ascii, size_ascii_nullable, write_ascii,
@@ -32,3 +33,7 @@ pub use nullable::{
 pub use presence_map::{Bits, read_map, write_map};
 pub use stop_bit::find_stop;
 pub use text::check_text;
+pub use vector::{
+    read_vector, read_vector_nullable, size_vector, size_vector_nullable, write_vector,
+    write_vector_nullable,
+};
