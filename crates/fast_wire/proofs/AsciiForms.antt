@@ -121,17 +121,17 @@ value_here (x ∷ y ∷ ys) h e = value_of (x % 128) (groups (y ∷ ys)) (λ z. 
 
 -- ---- the shape of a form: zeros, and then the string
 
-shape : (gs s : List ℕ) → SpellsAscii gs s → gs ≡ replicate (length gs - length s) 0 ++ s
+pub shape : (gs s : List ℕ) → SpellsAscii gs s → gs ≡ replicate (length gs - length s) 0 ++ s
 shape [] s h = absurd h
 shape (zero ∷ gs) s h = rw h (let e : suc (length gs) - length gs ≡ 1 = omega arith in rw e refl)
 shape (suc g ∷ gs) s h = rw h (let e : suc (length gs) - suc (length gs) ≡ 0 = omega arith in rw e refl)
 
 -- the characters of a value, none for NULL
-abbrev text_of : Nullable (List ℕ) → List ℕ
+abbrev pub text_of : Nullable (List ℕ) → List ℕ
 text_of Null = []
 text_of (Value s) = s
 
-shape_nullable : (gs : List ℕ) (s : Nullable (List ℕ)) → SpellsAsciiNullable gs s → gs ≡ replicate (length gs - units s) 0 ++ text_of s
+pub shape_nullable : (gs : List ℕ) (s : Nullable (List ℕ)) → SpellsAsciiNullable gs s → gs ≡ replicate (length gs - units s) 0 ++ text_of s
 shape_nullable [] s h = absurd h
 shape_nullable (zero ∷ []) s h = rw h refl
 shape_nullable (zero ∷ zero ∷ gs) s h = rw h (let e : suc (suc (length gs)) - length gs ≡ 2 = omega arith in rw e refl)
@@ -139,7 +139,7 @@ shape_nullable (zero ∷ suc g ∷ gs) s h = rw h (let e : suc (suc (length gs))
 shape_nullable (suc g ∷ gs) s h = rw h (let e : suc (length gs) - suc (length gs) ≡ 0 = omega arith in rw e refl)
 
 -- the bytes of an entity are told by its groups
-same_entity : (b c : List ℕ) → IsEntity b → IsEntity c → groups b ≡ groups c → b ≡ c
+pub same_entity : (b c : List ℕ) → IsEntity b → IsEntity c → groups b ≡ groups c → b ≡ c
 same_entity [] c hb hc e = absurd hb
 same_entity (x ∷ xs) [] hb hc e = absurd hc
 same_entity (x ∷ []) (y ∷ []) hb hc e =

@@ -13,3 +13,4 @@ pub mod Sizes
 pub mod NullableForms
 pub mod AsciiForms
 pub mod VectorForms
+pub mod FormSizes

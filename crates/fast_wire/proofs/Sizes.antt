@@ -136,3 +136,19 @@ unsigned_size-grows v w h = groups_from-grows 9 128 v w h
 pub signed_size-grows : (v w : ℤ) → magnitude v ≤ magnitude w → signed_size v ≤ signed_size w
 unfolding signed_size
 signed_size-grows v w h = groups_from-grows 9 64 (magnitude v) (magnitude w) h
+
+pub unsigned_size-most : (v : ℕ) → unsigned_size v ≤ 10
+unfolding unsigned_size
+unsigned_size-most v = groups_from-most 9 128 v
+
+pub unsigned_size-positive : (v : ℕ) → 0 < unsigned_size v
+unfolding unsigned_size
+unsigned_size-positive v = groups_from-positive 9 128 v
+
+pub signed_size-most : (v : ℤ) → signed_size v ≤ 10
+unfolding signed_size
+signed_size-most v = groups_from-most 9 64 (magnitude v)
+
+pub signed_size-positive : (v : ℤ) → 0 < signed_size v
+unfolding signed_size
+signed_size-positive v = groups_from-positive 9 64 (magnitude v)
