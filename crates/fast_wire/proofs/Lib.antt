@@ -14,3 +14,4 @@ pub mod NullableForms
 pub mod AsciiForms
 pub mod VectorForms
 pub mod FormSizes
+pub mod MapReadings
