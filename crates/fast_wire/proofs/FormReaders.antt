@@ -1,15 +1,23 @@
 -- The functions that read an entity, an unsigned integer and a presence map read their forms, and no more.
-use Rattle.std.proofs.Common.{◌≡◌, ℕ, zero, suc, ◌+◌, ◌-◌, ◌<◌, ◌≤◌, Bool, true, false, cond, List, [], ◌∷◌, ◌++◌, length, take, drop, slice_range, Result, Ok, Err, refl, sym, ap, subst, ◌∙◌, arith, append-nil, length-drop, length-take, take-append-drop, drop-drop, min}
+use Rattle.std.proofs.Common.{◌≡◌, ℕ, zero, suc, ◌+◌, ◌-◌, ◌<◌, ◌≤◌, Bool, true, false, cond, List, [], ◌∷◌, ◌++◌, length, take, drop, slice_range, Result, Ok, Err, refl, sym, ap, subst, ◌∙◌, arith, append-nil, length-drop, length-take, take-append-drop, drop-drop, min, inl, inr, ◌⊎◌}
 use Rattle.std.proofs.Math.Seq.{take-length}
-use Rattle.std.specs.Prelude.{nat_le}
+use Rattle.std.specs.Prelude.{nat_le, nat_lt, ◌%◌}
 use Rattle.fast_wire.specs.Entity.{IsEntity, IsEntityWithin, HasNoStop, groups}
-use Rattle.fast_wire.specs.Integer.{IsUnsigned, unsigned_of}
+use Rattle.fast_wire.specs.Integer.{IsUnsigned, IsSigned, unsigned_of, signed_of}
 use Rattle.fast_wire.specs.PresenceMap.{IsWholeMap, bits_of}
-use Rattle.fast_wire.specs.Reading.{◌>>=◌, EntityFault, Fails, entity_at, unsigned_at, map_at}
+use Rattle.fast_wire.specs.Reading.{◌>>=◌, EntityFault, Fails, within_limit, characters, nullable_characters, entity_at, unsigned_at, signed_at, ascii_at, ascii_nullable_at, map_at}
 use Rattle.fast_wire.specs.Reader.{IsBytes, Takes, IsReader, Both}
 use Rattle.fast_wire.specs.declared.fault.WireFault.{WireFault}
 use Rattle.fast_wire.specs.declared.fault.WireFault.TheVariants as fault
-use Rattle.fast_wire.proofs.Readers.{reader_then, reader_of, reader_as}
+use Rattle.fast_wire.specs.declared.nullable.Nullable.{Nullable}
+use Rattle.fast_wire.specs.Nullable.{units}
+use Rattle.fast_wire.specs.Ascii.{SpellsAscii, SpellsAsciiNullable, IsAscii, IsAsciiNullable}
+use Rattle.std.proofs.lemmas.Bool.{cases_lt}
+use Rattle.std.proofs.lemmas.Bool.Decides.{nat_tests}
+use Rattle.std.proofs.lemmas.List.{length-map}
+use Rattle.fast_wire.proofs.UnsignedForms.{entity_some}
+use Rattle.fast_wire.proofs.AsciiForms.{spells, spelled, characters_behind, spells_nullable, spelled_nullable}
+use Rattle.fast_wire.proofs.Readers.{reader_then, reader_of, reader_as, reader_checked}
 
 -- the two ways of a byte
 abbrev step : Bool → ℕ → List ℕ → Result (List ℕ × List ℕ) WireFault → Result (List ℕ × List ℕ) WireFault
@@ -130,6 +138,14 @@ unsigned_forms =
     (λ b n h. record { entity = h.entity; short = h.short; spelled = h.value })
     (valued_forms 10 unsigned_of)
 
+pub signed_forms : IsReader fault.NeedMore signed_at IsSigned
+unfolding signed_at
+signed_forms =
+    reader_as fault.NeedMore signed_at (IsValued 10 signed_of) IsSigned
+    (λ b n h. record { entity = h.entity; short = h.short; value = h.spelled })
+    (λ b n h. record { entity = h.entity; short = h.short; spelled = h.value })
+    (valued_forms 10 signed_of)
+
 pub map_forms : IsReader fault.NeedMore map_at IsWholeMap
 unfolding map_at
 map_forms =
@@ -196,3 +212,54 @@ fails_then fault.NeedMore r k h = rw h refl
 fails_then fault.TooLong r k h = rw h refl
 fails_then fault.Range r k h = rw h refl
 fails_then fault.NotUtf8 r k h = rw h refl
+
+-- ---- ASCII strings
+
+pub within_ok : {V : Type 0} (size : V → ℕ) (s : V) → size s ≤ 65535 → within_limit size s ≡ Ok s
+within_ok size s h = let t : nat_lt 65535 (size s) ≡ false = grind (arith, nat_tests) in rw t refl
+
+pub within_err : {V : Type 0} (size : V → ℕ) (s : V) → 65535 < size s → within_limit size s ≡ Err fault.TooLong
+within_err size s h = let t : nat_lt 65535 (size s) ≡ true = grind (arith, nat_tests) in rw t refl
+
+within_is : {V : Type 0} (size : V → ℕ) (s t : V) → within_limit size s ≡ Ok t → (s ≡ t) × (size t ≤ 65535)
+within_is size s t e = elim (cases_lt 65535 (size s)) [
+  | inl lt ↦ let w = within_err size s lt in absurd cc
+  | inr ge ↦ let same : s ≡ t = ok_is s t (sym (within_ok size s ge) ∙ e) in (same, rw (← same) ge)
+]
+
+pub ascii_forms : IsReader fault.NeedMore ascii_at IsAscii
+unfolding ascii_at
+ascii_forms =
+    reader_as fault.NeedMore ascii_at (λ b s. (e : List ℕ) × IsEntityWithin 65540 b e × (within_limit length (characters (groups e)) ≡ Ok s)) IsAscii
+    (λ b s h.
+    let w = within_is length (characters (groups h.0)) s h.2 in
+    let some : 0 < length (groups b) = let p = entity_some b h.1.entity_is in let l = length-map b (λ x. x % 128) in omega arith in
+    let is : characters (groups b) ≡ s = ap (λ e. characters (groups e)) h.1.same ∙ w.0 in
+    record { spelled = record { entity = h.1.entity_is; short = h.1.short; value = subst (λ (s : List ℕ). SpellsAscii (groups b) s) (sym (characters_behind (groups b)) ∙ is) (spells (groups b) some) }; limit = w.1 })
+    (λ b s h. (b, record { same = refl; entity_is = h.spelled.entity; short = h.spelled.short }, rw (spelled (groups b) s h.spelled.value) (within_ok length s h.limit)))
+    (reader_checked fault.NeedMore (entity_at 65540) (λ e. within_limit length (characters (groups e))) (IsEntityWithin 65540) (entities 65540))
+
+pub ascii_nullable_forms : IsReader fault.NeedMore ascii_nullable_at IsAsciiNullable
+unfolding ascii_nullable_at
+ascii_nullable_forms =
+    reader_as fault.NeedMore ascii_nullable_at (λ b s. (e : List ℕ) × IsEntityWithin 65540 b e × (within_limit units (nullable_characters (groups e)) ≡ Ok s)) IsAsciiNullable
+    (λ b s h.
+    let w = within_is units (nullable_characters (groups h.0)) s h.2 in
+    let some : 0 < length (groups b) = let p = entity_some b h.1.entity_is in let l = length-map b (λ x. x % 128) in omega arith in
+    let is : nullable_characters (groups b) ≡ s = ap (λ e. nullable_characters (groups e)) h.1.same ∙ w.0 in
+    record { spelled = record { entity = h.1.entity_is; short = h.1.short; value = subst (λ (s : Nullable (List ℕ)). SpellsAsciiNullable (groups b) s) is (spells_nullable (groups b) some) }; limit = w.1 })
+    (λ b s h. (b, record { same = refl; entity_is = h.spelled.entity; short = h.spelled.short }, rw (spelled_nullable (groups b) s h.spelled.value) (within_ok units s h.limit)))
+    (reader_checked fault.NeedMore (entity_at 65540) (λ e. within_limit units (nullable_characters (groups e))) (IsEntityWithin 65540) (entities 65540))
+
+-- from what the entity spells to what reading gives
+abbrev pub string_at : {V : Type 0} → (V → ℕ) → (List ℕ → V) → List ℕ → Result (V × List ℕ) WireFault
+string_at size value bytes = entity_at 65540 bytes >>= λ e. (within_limit size (value e.0) >>= λ s. Ok (s, e.1))
+
+pub string_given : {V : Type 0} (size : V → ℕ) (value : List ℕ → V) (bytes e rest : List ℕ) (v : V) → entity_at 65540 bytes ≡ Ok (e, rest) → value e ≡ v → size v ≤ 65535
+    → string_at size value bytes ≡ Ok (v, rest)
+string_given size value bytes e rest v h is few = rw (h, is, within_ok size v few) refl
+
+pub string_refused : {V : Type 0} (size : V → ℕ) (value : List ℕ → V) (bytes e rest : List ℕ) (f : WireFault) → entity_at 65540 bytes ≡ Ok (e, rest)
+    → (f ≡ fault.Memory) ⊎ ((f ≡ fault.TooLong) × (65535 < size (value e))) → Fails f (string_at size value bytes)
+string_refused size value bytes e rest f h (inl m) = rw m tt
+string_refused size value bytes e rest f h (inr t) = rw (t.0, h, within_err size (value e) t.1) refl

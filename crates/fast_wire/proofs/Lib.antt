@@ -9,3 +9,11 @@ pub mod MapForms
 pub mod SameForms
 pub mod SameMaps
 pub mod ShortestForms
+pub mod SignedNumbers
+pub mod SignedForms
+pub mod Sizes
+pub mod NullableForms
+pub mod AsciiForms
+pub mod VectorForms
+pub mod FormSizes
+pub mod MapReadings

@@ -1,7 +1,7 @@
 -- Laws of readers, and how readers are put together.
-use Rattle.std.proofs.Common.{◌≡◌, ℕ, suc, ◌<◌, ◌≤◌, Bool, true, false, List, [], ◌∷◌, ◌++◌, length, Result, Ok, Err, refl, sym, ap, subst, ◌∙◌, append_assoc}
+use Rattle.std.proofs.Common.{◌≡◌, ℕ, Bool, true, false, List, [], ◌++◌, Result, Ok, Err, refl, sym, ap, subst, ◌∙◌, append_assoc, append-nil, cond}
 use Rattle.fast_wire.specs.Reading.{◌>>=◌}
-use Rattle.fast_wire.specs.Reader.{IsBytes, Takes, IsReader, Both}
+use Rattle.fast_wire.specs.Reader.{IsBytes, IsReader, Both}
 
 -- ---- laws of every reader
 
@@ -83,4 +83,52 @@ reader_as wait r Form Other to from is = record {
   found = λ bytes x rest fits e. let t = is.found bytes x rest fits e in record { front = t.front; parts = t.parts; rest_bytes = t.rest_bytes; form = to t.front x t.form };
   again = λ b x rest h. is.again b x rest (from b x h);
   stays = is.stays;
+}
+
+-- a value that is made of a form's value, or refused
+pub reader_checked : {A B F : Type 0} (wait : F) (r : List ℕ → Result (A × List ℕ) F) (m : A → Result B F) (Form : List ℕ → A → Type 0) → IsReader wait r Form
+    → IsReader wait (λ bytes. r bytes >>= λ x. (m x.0 >>= λ y. Ok (y, x.1))) (λ b y. (x : A) × Form b x × (m x ≡ Ok y))
+reader_checked {A = A} {B = B} {F = F} wait r m Form is =
+    reader_as wait (λ bytes. r bytes >>= λ x. (m x.0 >>= λ y. Ok (y, x.1))) (Both Form (λ x b y. (b ≡ []) × (m x ≡ Ok y))) (λ b y. (x : A) × Form b x × (m x ≡ Ok y))
+    (λ b y h.
+    let whole : b ≡ h.front = h.parts ∙ ap (λ (z : List ℕ). h.front ++ z) h.second.0 ∙ append-nil h.front in
+    (h.x, subst (λ (z : List ℕ). Form z h.x) (sym whole) h.first, h.second.1))
+    (λ b y h. record { x = h.0; front = b; back = []; parts = sym (append-nil b); first = h.1; second = (refl, h.2) })
+    (reader_then wait r (λ x rest. m x >>= λ y. Ok (y, rest)) Form (λ x b y. (b ≡ []) × (m x ≡ Ok y)) is (λ x. reader_of wait (m x)))
+
+-- a value that is made of a form's value
+pub reader_map : {A B F : Type 0} (wait : F) (r : List ℕ → Result (A × List ℕ) F) (g : A → B) (Form : List ℕ → A → Type 0) → IsReader wait r Form
+    → IsReader wait (λ bytes. r bytes >>= λ x. Ok (g x.0, x.1)) (λ b y. (x : A) × Form b x × (g x ≡ y))
+reader_map {A = A} {B = B} {F = F} wait r g Form is =
+    reader_as wait (λ bytes. r bytes >>= λ x. Ok (g x.0, x.1)) (λ b y. (x : A) × Form b x × (done {F = F} (g x) ≡ Ok y)) (λ b y. (x : A) × Form b x × (g x ≡ y))
+    (λ b y h. (h.0, h.1, ok_is (g h.0) y h.2))
+    (λ b y h. (h.0, h.1, ap (λ (z : B). done {F = F} z) h.2))
+    (reader_checked wait r (λ x. done {F = F} (g x)) Form is)
+
+-- a step that looks at no bytes, before a reader
+pub reader_after : {A B F : Type 0} (wait : F) (m : Result A F) (k : A → List ℕ → Result (B × List ℕ) F) (Form : A → List ℕ → B → Type 0)
+    → ((x : A) → IsReader wait (k x) (Form x)) → IsReader wait (λ bytes. m >>= λ x. k x bytes) (λ b y. (x : A) × (m ≡ Ok x) × Form x b y)
+reader_after wait (Ok x) k Form is = record {
+  found = λ bytes y rest fits e. let t = (is x).found bytes y rest fits e in record { front = t.front; parts = t.parts; rest_bytes = t.rest_bytes; form = (x, refl, t.form) };
+  again = λ b y rest h. let same : x ≡ h.0 = ok_is x h.0 h.1 in rw same ((is h.0).again b y rest h.2);
+  stays = λ bytes others f fits e other. (is x).stays bytes others f fits e other;
+}
+reader_after wait (Err d) k Form is = record {
+  found = λ bytes y rest fits e. absurd cc;
+  again = λ b y rest h. let e = h.1 in absurd cc;
+  stays = λ bytes others f fits e other. e;
+}
+
+-- a test before a reader
+pub reader_if : {B F : Type 0} (wait : F) (t : Bool) (d : F) (k : List ℕ → Result (B × List ℕ) F) (Form : List ℕ → B → Type 0) → IsReader wait k Form
+    → IsReader wait (λ bytes. cond t (k bytes) (Err d)) (λ b y. (t ≡ true) × Form b y)
+reader_if wait true d k Form is = record {
+  found = λ bytes y rest fits e. let t = is.found bytes y rest fits e in record { front = t.front; parts = t.parts; rest_bytes = t.rest_bytes; form = (refl, t.form) };
+  again = λ b y rest h. is.again b y rest h.1;
+  stays = λ bytes others f fits e other. is.stays bytes others f fits e other;
+}
+reader_if wait false d k Form is = record {
+  found = λ bytes y rest fits e. absurd cc;
+  again = λ b y rest h. let e = h.0 in absurd cc;
+  stays = λ bytes others f fits e other. e;
 }

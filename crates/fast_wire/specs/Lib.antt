@@ -1,7 +1,11 @@
 pub mod Entity
 pub mod Integer
+pub mod Nullable
+pub mod Ascii
+pub mod Vector
 pub mod PresenceMap
 pub mod Reading
 pub mod Reader
 pub mod Writing
+pub mod Sizes
 pub mod Spellings

@@ -1,7 +1,6 @@
 -- What ties a form to the function that reads it from the front of a list.
 use Rattle.std.specs.Prelude.{◌≡◌, ℕ, ◌<◌, List, ◌++◌, Result, Ok, Err}
 use Rattle.std.specs.List.{AllByRecursion}
-use Rattle.fast_wire.specs.Reading.{◌>>=◌}
 
 -- each number is a byte
 abbrev pub IsBytes : List ℕ → Type 0

@@ -1,8 +1,11 @@
 -- Reading forms from the front of a list: the value and the bytes after it, or the first fault.
-use Rattle.std.specs.Prelude.{◌≡◌, ℕ, zero, suc, ◌+◌, ◌<◌, ◌≤◌, Bool, nat_le, if◌then◌else◌, List, [], ◌∷◌, length, take, drop, slice_range, Result, Ok, Err}
+use Rattle.std.specs.Prelude.{◌≡◌, ℕ, zero, suc, ◌+◌, ◌-◌, ◌<◌, ◌≤◌, ◌⊎◌, ℤ, Bool, nat_le, nat_lt, if◌then◌else◌, List, [], ◌∷◌, length, take, drop, slice_range, Result, Ok, Err}
 use Rattle.fast_wire.specs.Entity.{HasNoStop, groups}
-use Rattle.fast_wire.specs.Integer.{unsigned_of}
+use Rattle.fast_wire.specs.Integer.{unsigned_of, signed_of}
+use Rattle.fast_wire.specs.Nullable.{received_unsigned, received_signed, units}
 use Rattle.fast_wire.specs.PresenceMap.{bits_of}
+use Rattle.fast_wire.specs.declared.nullable.Nullable.{Nullable}
+use Rattle.fast_wire.specs.declared.nullable.Nullable.TheVariants.{Null, Value}
 use Rattle.fast_wire.specs.declared.fault.WireFault.{WireFault}
 use Rattle.fast_wire.specs.declared.fault.WireFault.TheVariants as fault
 
@@ -17,6 +20,26 @@ EntityFault limit bytes at fault.Memory = ⊥
 -- the bytes from at to the place answered are a form of the value
 abbrev pub Reads : {V : Type 0} → (List ℕ → V → Type 0) → List ℕ → ℕ → V × ℕ → Type 0
 Reads Form bytes at found = (at ≤ found.1) × (found.1 ≤ length bytes) × Form (slice_range bytes at found.1) found.0
+
+-- a form stands there whose value has more units than a string or a vector may have
+abbrev pub SpellsTooMany : {V : Type 0} → (List ℕ → V → Type 0) → (V → ℕ) → List ℕ → ℕ → Type 0
+SpellsTooMany {V} Form units bytes at = (next : ℕ) × (value : V) × Reads Form bytes at (value, next) × (65535 < units value)
+
+-- no entity of at most 65,540 bytes ends there, or one does that spells too many characters
+abbrev pub AsciiFault : {V : Type 0} → (List ℕ → V → Type 0) → (V → ℕ) → List ℕ → ℕ → WireFault → Type 0
+AsciiFault Form units bytes at e = EntityFault 65540 bytes at e ⊎ ((e ≡ fault.TooLong) × SpellsTooMany Form units bytes at)
+
+-- a length of n has come, and so many bytes are left: it is too large, or else the bytes end before it does
+abbrev pub LengthFault : ℕ → ℕ → WireFault → Type 0
+LengthFault n left fault.NeedMore = (n ≤ 65535) × (left < n)
+LengthFault n left fault.TooLong = 65535 < n
+LengthFault n left fault.Range = ⊥
+LengthFault n left fault.NotUtf8 = ⊥
+LengthFault n left fault.Memory = ⊥
+
+-- no length ends there, or the fault is one of the length that does
+abbrev pub VectorFault : (List ℕ → ℕ → Type 0) → List ℕ → ℕ → WireFault → Type 0
+VectorFault IsLength bytes at e = EntityFault 10 bytes at e ⊎ ((next : ℕ) × (n : ℕ) × Reads IsLength bytes at (n, next) × LengthFault n (length bytes - next) e)
 
 -- one reading and then another, or the first's fault
 infixl 10 ◌>>=◌
@@ -46,6 +69,56 @@ entity_at (suc limit) (b ∷ bs) = if nat_le 128 b then Ok (b ∷ [], bs) else (
 -- an unsigned integer
 unfoldable pub unsigned_at : List ℕ → Result (ℕ × List ℕ) WireFault
 unsigned_at bytes = entity_at 10 bytes >>= λ e. Ok (unsigned_of e.0, e.1)
+
+-- a signed integer
+unfoldable pub signed_at : List ℕ → Result (ℤ × List ℕ) WireFault
+signed_at bytes = entity_at 10 bytes >>= λ e. Ok (signed_of e.0, e.1)
+
+unfoldable pub unsigned_nullable_at : List ℕ → Result (Nullable ℕ × List ℕ) WireFault
+unsigned_nullable_at bytes = unsigned_at bytes >>= λ n. Ok (received_unsigned n.0, n.1)
+
+unfoldable pub signed_nullable_at : List ℕ → Result (Nullable ℤ × List ℕ) WireFault
+signed_nullable_at bytes = signed_at bytes >>= λ n. Ok (received_signed n.0, n.1)
+
+-- the characters that groups spell
+abbrev pub characters : List ℕ → List ℕ
+characters [] = []
+characters (zero ∷ gs) = gs
+characters (suc g ∷ gs) = suc g ∷ gs
+
+abbrev pub nullable_characters : List ℕ → Nullable (List ℕ)
+nullable_characters [] = Null
+nullable_characters (zero ∷ []) = Null
+nullable_characters (zero ∷ zero ∷ gs) = Value gs
+nullable_characters (zero ∷ suc g ∷ gs) = Value (suc g ∷ gs)
+nullable_characters (suc g ∷ gs) = Value (suc g ∷ gs)
+
+-- a value that has few enough units
+abbrev pub within_limit : {V : Type 0} → (V → ℕ) → V → Result V WireFault
+within_limit units s = if nat_lt 65535 (units s) then Err fault.TooLong else Ok s
+
+-- an ASCII string
+unfoldable pub ascii_at : List ℕ → Result (List ℕ × List ℕ) WireFault
+ascii_at bytes = entity_at 65540 bytes >>= λ e. within_limit length (characters (groups e.0)) >>= λ s. Ok (s, e.1)
+
+unfoldable pub ascii_nullable_at : List ℕ → Result (Nullable (List ℕ) × List ℕ) WireFault
+ascii_nullable_at bytes = entity_at 65540 bytes >>= λ e. within_limit units (nullable_characters (groups e.0)) >>= λ s. Ok (s, e.1)
+
+-- that many bytes
+unfoldable pub bytes_at : ℕ → List ℕ → Result (List ℕ × List ℕ) WireFault
+bytes_at n bytes = if nat_lt 65535 n then Err fault.TooLong else if nat_lt (length bytes) n then Err fault.NeedMore else Ok (take n bytes, drop n bytes)
+
+-- a byte vector
+unfoldable pub vector_at : List ℕ → Result (List ℕ × List ℕ) WireFault
+vector_at bytes = unsigned_at bytes >>= λ n. bytes_at n.0 n.1
+
+-- what follows a nullable length
+unfoldable pub behind_length : Nullable ℕ → List ℕ → Result (Nullable (List ℕ) × List ℕ) WireFault
+behind_length Null rest = Ok (Null, rest)
+behind_length (Value n) rest = bytes_at n rest >>= λ s. Ok (Value s.0, s.1)
+
+unfoldable pub vector_nullable_at : List ℕ → Result (Nullable (List ℕ) × List ℕ) WireFault
+vector_nullable_at bytes = unsigned_nullable_at bytes >>= λ n. behind_length n.0 n.1
 
 -- a presence map's bits
 unfoldable pub map_at : List ℕ → Result (List Bool × List ℕ) WireFault

@@ -1,5 +1,6 @@
 -- The shortest forms, made: what the writers append. No public clause names these.
-use Rattle.std.specs.Prelude.{◌≡◌, ℕ, ◌+◌, ◌-◌, ◌*◌, ◌/◌, ◌%◌, ◌^◌, ◌<◌, ◌≤◌, List, [], ◌∷◌, Bool, true, false}
+use Rattle.std.specs.Prelude.{◌≡◌, ℕ, ℤ, ◌+◌, ◌-◌, ◌*◌, ◌/◌, ◌%◌, ◌^◌, ◌<◌, ◌≤◌, List, [], ◌∷◌, ◌++◌, replicate, Bool, true, false}
+use Rattle.fast_wire.specs.Integer.{magnitude}
 use Rattle.fast_wire.specs.PresenceMap.{bit_at}
 use Rattle.std.proofs.Common.{zero, suc}
 
@@ -12,6 +13,10 @@ entity_of (suc (suc n)) v = (v / 128 ^ suc n % 128) ∷ entity_of (suc n) v
 -- n is the least number of groups that v fits in, from 1 on
 abbrev pub IsLeastSize : ℕ → ℕ → Type 0
 IsLeastSize v n = (0 < n) × (n ≤ 10) × (v < 128 ^ n) × (1 < n → 128 ^ (n - 1) ≤ v)
+
+-- n is the least number of groups whose top bit can be the sign, from 1 on
+abbrev pub IsLeastSignedSize : ℤ → ℕ → Type 0
+IsLeastSignedSize v n = (0 < n) × (n ≤ 10) × (magnitude v < 64 * 128 ^ (n - 1)) × (1 < n → 64 * 128 ^ (n - 2) ≤ magnitude v)
 
 -- the number 1 or 0
 abbrev pub bit_number : Bool → ℕ
@@ -37,3 +42,26 @@ pub record IsUsed (bits : List Bool) (n : ℕ) : Type 0 where
 -- n is the least number of groups that holds used bits, from 1 on
 abbrev pub IsMapSize : ℕ → ℕ → Type 0
 IsMapSize used n = (0 < n) × (n ≤ 256) × (used ≤ 7 * n) × (1 < n → 7 * (n - 1) < used)
+
+-- groups less those in front that are 0, of which at most so many go
+abbrev pub behind_zeros : ℕ → List ℕ → List ℕ
+behind_zeros zero gs = gs
+behind_zeros (suc most) [] = []
+behind_zeros (suc most) (zero ∷ gs) = behind_zeros most gs
+behind_zeros (suc most) (suc g ∷ gs) = suc g ∷ gs
+
+-- how many groups of 0 stand in front of a string: a whole preamble if it is empty or begins with NUL
+abbrev pub preamble_for : List ℕ → ℕ → ℕ
+preamble_for [] preamble = preamble
+preamble_for (zero ∷ s) preamble = preamble
+preamble_for (suc c ∷ s) preamble = 0
+
+-- groups as bytes, the stop bit on the last
+abbrev pub stopped : List ℕ → List ℕ
+stopped [] = []
+stopped (g ∷ []) = (g + 128) ∷ []
+stopped (g ∷ h ∷ gs) = g ∷ stopped (h ∷ gs)
+
+-- so many groups of 0 and then a string
+abbrev pub string_of : ℕ → List ℕ → List ℕ
+string_of preamble s = stopped (replicate preamble 0 ++ s)

@@ -1,10 +1,11 @@
 //! Integers: FAST 1.1, Transfer Encoding, Integer Representation.
 
-ghost use Rattle.std.specs.Prelude.{◌≡◌, ℕ, ◌+◌, ◌*◌, ◌^◌, ◌<◌, ◌≤◌, length, drop, slice_range, IfErr, IfOk, MatchResult, OnOk, OnErr, Ok, IsErrOf, ◌++◌, ◌↔◌, ◌⊎◌};
-ghost use Rattle.fast_wire.specs.Reading.{EntityFault, Gives, Reads, unsigned_at};
+ghost use Rattle.std.specs.Prelude.{◌≡◌, ℕ, ℤ, ◌+◌, ◌-◌, ◌*◌, ◌^◌, ◌<◌, ◌≤◌, length, drop, slice_range, IfErr, IfOk, MatchResult, OnOk, OnErr, Ok, IsErrOf, ◌++◌, ◌↔◌, ◌⊎◌, vec_len, vec_capacity};
+ghost use Rattle.fast_wire.specs.Reading.{EntityFault, Gives, Reads, unsigned_at, signed_at};
+ghost use Rattle.fast_wire.specs.Sizes.{unsigned_size, signed_size, CanBeUnsigned, CanBeSigned};
 ghost use Rattle.fast_wire.specs.Writing.{AppendsShortest, IsShortestSize};
-ghost use Rattle.fast_wire.specs.Spellings.{entity_of, IsLeastSize};
-ghost use Rattle.fast_wire.specs.Integer.{unsigned_of, IsUnsigned};
+ghost use Rattle.fast_wire.specs.Spellings.{entity_of, IsLeastSize, IsLeastSignedSize};
+ghost use Rattle.fast_wire.specs.Integer.{unsigned_of, signed_of, magnitude, IsUnsigned, IsSigned, IsSignedRange};
 
 use crate::fault::WireFault;
 use crate::stop_bit::entity_end;
@@ -44,7 +45,7 @@ pub fn read_unsigned(bytes: &[u8], at: usize) -> Result<(u128, usize), WireFault
 }
 
 /// How many groups a number needs.
-fn least_size(value: u128) -> usize
+pub(crate) fn least_size(value: u128) -> usize
     requires { value < 128 ^ 10 }
     ensures { IsLeastSize value result }
 {
@@ -59,7 +60,7 @@ fn least_size(value: u128) -> usize
 }
 
 /// Appends the lowest `size` groups of a number, the stop bit on the last, or nothing.
-fn append_entity(value: u128, size: usize, out: &mut Vec<u8>) -> Result<(), WireFault>
+pub(crate) fn append_entity(value: u128, size: usize, out: &mut Vec<u8>) -> Result<(), WireFault>
     requires some { 0 < size }
     requires few { size ≤ 10 }
     ensures ok { OnOk result (out.new.items ≡ out.old.items ++ entity_of size value) }
@@ -68,13 +69,25 @@ fn append_entity(value: u128, size: usize, out: &mut Vec<u8>) -> Result<(), Wire
     if out.reserve(size).is_err() {
         return Err(WireFault::Memory);
     }
+    push_entity(value, size, out);
+    Ok(())
+}
+
+/// Appends the lowest `size` groups of a number, the stop bit on the last, in room that is there.
+pub(crate) fn push_entity(value: u128, size: usize, out: &mut Vec<u8>)
+    requires some { 0 < size }
+    requires few { size ≤ 10 }
+    requires room { vec_len out.old + size ≤ vec_capacity out.old }
+    ensures items { out.new.items ≡ out.old.items ++ entity_of size value }
+    ensures len { vec_len out.new ≡ vec_len out.old + size }
+    ensures capacity { vec_capacity out.old ≤ vec_capacity out.new }
+{
     for left in (1..size).rev() {
         let group = (value >> (7 * left)) % 128;
         out.push(group as u8).unwrap();
     }
     let group = value % 128;
     out.push(group as u8 + 128).unwrap();
-    Ok(())
 }
 
 /// Appends the shortest form of a number, or answers and appends nothing. Range: the number does not fit ten
@@ -94,7 +107,96 @@ pub fn write_unsigned(value: u128, out: &mut Vec<u8>) -> Result<(), WireFault>
 /// The number of bytes of the shortest form of a number that fits ten bytes. It takes no memory.
 pub fn size_unsigned(value: u128) -> usize
     requires { value < 128 ^ 10 }
-    ensures { IsShortestSize IsUnsigned value result }
+    ensures size { result ≡ unsigned_size value }
+    ensures few { result ≤ 10 }
+    ensures least { IsShortestSize IsUnsigned value result }
 {
     least_size(value)
+}
+
+/// The signed number that an entity of at most ten bytes spells.
+fn signed_value(entity: &[u8]) -> i128
+    requires some { 0 < length entity.now }
+    requires few { length entity.now ≤ 10 }
+    ensures { result ≡ signed_of entity.now }
+{
+    let value = unsigned_value(entity) as i128;
+    let span = (1u128 << (7 * entity.len())) as i128;
+    if entity[0] % 128 >= 64 {
+        value - span
+    } else {
+        value
+    }
+}
+
+/// Reads a signed integer of at most ten bytes, in two's complement, that begins at `at`, and answers it with
+/// the place after it. Its form may be longer than it need be. NeedMore: the bytes end, fewer than ten, with
+/// no stop bit. TooLong: the first ten have none. It takes no memory.
+pub fn read_signed(bytes: &[u8], at: usize) -> Result<(i128, usize), WireFault>
+    requires { at ≤ length bytes.now }
+    ensures place { IfOk result (λ x. (at < x.1) × (x.1 ≤ length bytes.now)) }
+    ensures range { IfOk result (λ x. IsSignedRange x.0) }
+    ensures answer { MatchResult result (Reads IsSigned bytes.now at) (EntityFault 10 bytes.now at) }
+    ensures only { (next : ℕ) (value : ℤ) → Reads IsSigned bytes.now at (value, next) → result ≡ Ok (value, next) }
+    ensures gives { Gives (λ x. (x.0, drop x.1 bytes.now)) result (signed_at (drop at bytes.now)) }
+{
+    let end = entity_end(bytes, at, INTEGER_LIMIT)?;
+    Ok((signed_value(&bytes[at..end]), end))
+}
+
+/// How far a number is from 0, or a negative one from -1.
+fn distance(value: i128) -> u128
+    ensures { result ≡ magnitude value }
+{
+    if value < 0 {
+        (-(value + 1)) as u128
+    } else {
+        value as u128
+    }
+}
+
+/// How many groups a signed number needs.
+fn least_signed_size(value: i128) -> usize
+    requires { magnitude value < 64 * 128 ^ 9 }
+    ensures { IsLeastSignedSize value result }
+{
+    let distance = distance(value);
+    let mut limit: u128 = 64;
+    for size in 1..INTEGER_LIMIT {
+        if distance < limit {
+            return size;
+        }
+        limit *= 128;
+    }
+    INTEGER_LIMIT
+}
+
+/// Appends the shortest form of a signed number, or answers and appends nothing. Range: the number does not
+/// fit ten bytes, a bit of which is the sign. Memory: the one growth was refused.
+pub fn write_signed(value: i128, out: &mut Vec<u8>) -> Result<(), WireFault>
+    ensures ok { OnOk result (AppendsShortest IsSigned out.old.items out.new.items value) }
+    ensures range { IsErrOf result WireFault.Range ↔ (64 * 128 ^ 9 ≤ magnitude value) }
+    ensures err { IfErr result (λ e. (e ≡ WireFault.Range) ⊎ (e ≡ WireFault.Memory)) }
+    ensures unchanged { OnErr result (out.new.items ≡ out.old.items) }
+{
+    let distance = distance(value);
+    if distance >> 69 != 0 {
+        return Err(WireFault::Range);
+    }
+    let size = least_signed_size(value);
+    if value < 0 {
+        append_entity((1u128 << (7 * size)) - 1 - distance, size, out)
+    } else {
+        append_entity(distance, size, out)
+    }
+}
+
+/// The number of bytes of the shortest form of a signed number that fits ten bytes. It takes no memory.
+pub fn size_signed(value: i128) -> usize
+    requires { CanBeSigned value }
+    ensures size { result ≡ signed_size value }
+    ensures few { result ≤ 10 }
+    ensures least { IsShortestSize IsSigned value result }
+{
+    least_signed_size(value)
 }

@@ -6,15 +6,34 @@
 //! reads the form from the front of a list; the module [`laws`] ties the two together.
 #![tactic(auto)]
 
+mod ascii;
 mod fault;
 mod integer;
 pub mod laws;
+mod nullable;
 mod presence_map;
 mod stop_bit;
 #[cfg(test)]
 mod tests;
+mod text;
+mod vector;
 
+pub use ascii::{
+    read_ascii, read_ascii_nullable, size_ascii, size_ascii_nullable, write_ascii,
+    write_ascii_nullable,
+};
 pub use fault::WireFault;
-pub use integer::{read_unsigned, size_unsigned, write_unsigned};
+pub use integer::{
+    read_signed, read_unsigned, size_signed, size_unsigned, write_signed, write_unsigned,
+};
+pub use nullable::{
+    Nullable, read_signed_nullable, read_unsigned_nullable, size_signed_nullable,
+    size_unsigned_nullable, write_signed_nullable, write_unsigned_nullable,
+};
 pub use presence_map::{Bits, read_map, write_map};
 pub use stop_bit::find_stop;
+pub use text::check_text;
+pub use vector::{
+    read_vector, read_vector_nullable, size_vector, size_vector_nullable, write_vector,
+    write_vector_nullable,
+};

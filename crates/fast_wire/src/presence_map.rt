@@ -74,6 +74,9 @@ pub fn read_map(alloc: Global, bytes: &[u8], at: usize) -> Result<(Bits, usize),
     requires { at ≤ length bytes.now }
     ensures place { IfOk result (λ x. (at < x.1) × (x.1 ≤ length bytes.now)) }
     ensures answer { MatchResult result (Reads IsMap bytes.now at) (λ e. (e ≡ WireFault.Memory) ⊎ EntityFault 256 bytes.now at e) }
+    // what is spelled so is read, unless memory runs out
+    ensures only { (next : ℕ) (bits : List Bool) → Reads IsMap bytes.now at (bits, next)
+        → MatchResult result (λ x. ((i : ℕ) → bit_at x.0 i ≡ bit_at bits i) × (x.1 ≡ next)) (λ e. e ≡ WireFault.Memory) }
     // the same by the function that reads the front of a list, for the layers above
     ensures gives { Gives (λ x. (x.0, drop x.1 bytes.now)) result (map_at (drop at bytes.now)) }
 {

@@ -1,4 +1,4 @@
-//! The vectors of unsigned integers and presence maps, read, written and sized, and calls at their limits.
+//! The vectors of every form, read, written and sized, and calls at their limits.
 
 use crate::*;
 use std::test::Fail;
@@ -54,6 +54,275 @@ fn unsigned_limits(rt: HostRuntime) -> Result<(), Fail> {
     let mut out = Vec::new(rt.alloc());
     assert_eq!(rt; write_unsigned(1 << 70, &mut out), Err(WireFault::Range));
     assert!(rt; out.is_empty());
+    Ok(())
+}
+
+#[test]
+fn signed_vectors(rt: HostRuntime) -> Result<(), Fail> {
+    let vectors: [(i128, &[u8]); 7] = [
+        (942_755, &[0x39, 0x45, 0xa3]),
+        (-942_755, &[0x46, 0x3a, 0xdd]),
+        (-7_942_755, &[0x7c, 0x1b, 0x1b, 0x9d]),
+        (8193, &[0x00, 0x40, 0x81]),
+        (-8193, &[0x7f, 0x3f, 0xff]),
+        (2, &[0x82]),
+        (
+            (1 << 69) - 1,
+            &[0x3f, 0x7f, 0x7f, 0x7f, 0x7f, 0x7f, 0x7f, 0x7f, 0x7f, 0xff],
+        ),
+    ];
+    for (value, bytes) in vectors {
+        let mut out = Vec::new(rt.alloc());
+        write_signed(value, &mut out)?;
+        assert_eq!(rt; out.as_slice(), bytes);
+        assert_eq!(rt; read_signed(bytes, 0)?, (value, bytes.len()));
+        assert_eq!(rt; size_signed(value), bytes.len());
+    }
+    let mut out = Vec::new(rt.alloc());
+    assert_eq!(rt; write_signed(1 << 69, &mut out), Err(WireFault::Range));
+    assert_eq!(rt;
+        write_signed(-(1 << 69) - 1, &mut out),
+        Err(WireFault::Range)
+    );
+    assert!(rt; out.is_empty());
+    assert_eq!(rt; read_signed(&[0x00; 10], 0), Err(WireFault::TooLong));
+    assert_eq!(rt; read_signed(&[0x00; 9], 0), Err(WireFault::NeedMore));
+    Ok(())
+}
+
+/// A decimal is two signed integers, the exponent and then the mantissa.
+#[test]
+fn decimal_vector(rt: HostRuntime) -> Result<(), Fail> {
+    let bytes = [0x82, 0x39, 0x45, 0xa3];
+    let mut out = Vec::new(rt.alloc());
+    write_signed(2, &mut out)?;
+    write_signed(942_755, &mut out)?;
+    assert_eq!(rt; out.as_slice(), bytes.as_slice());
+    let (exponent, next) = read_signed(&bytes, 0)?;
+    assert_eq!(rt; (exponent, next), (2, 1));
+    assert_eq!(rt; read_signed(&bytes, next)?, (942_755, 4));
+    assert_eq!(rt; size_signed(2) + size_signed(942_755), 4);
+    Ok(())
+}
+
+#[test]
+fn unsigned_nullable_vectors(rt: HostRuntime) -> Result<(), Fail> {
+    let vectors: [(Nullable<u128>, &[u8]); 4] = [
+        (Nullable::Null, &[0x80]),
+        (Nullable::Value(0), &[0x81]),
+        (
+            Nullable::Value((1 << 64) - 1),
+            &[0x02, 0x00, 0x00, 0x00, 0x00, 0x00, 0x00, 0x00, 0x00, 0x80],
+        ),
+        (
+            Nullable::Value((1 << 70) - 2),
+            &[0x7f, 0x7f, 0x7f, 0x7f, 0x7f, 0x7f, 0x7f, 0x7f, 0x7f, 0xff],
+        ),
+    ];
+    for (value, bytes) in vectors {
+        let mut out = Vec::new(rt.alloc());
+        write_unsigned_nullable(value, &mut out)?;
+        assert_eq!(rt; out.as_slice(), bytes);
+        assert_eq!(rt; read_unsigned_nullable(bytes, 0)?, (value, bytes.len()));
+        assert_eq!(rt; size_unsigned_nullable(value), bytes.len());
+    }
+    assert_eq!(rt;
+        read_unsigned_nullable(&[0x00, 0x80], 0)?,
+        (Nullable::Null, 2)
+    );
+    assert_eq!(rt;
+        read_unsigned_nullable(&[0x00; 10], 0),
+        Err(WireFault::TooLong)
+    );
+    let mut out = Vec::new(rt.alloc());
+    for value in [(1 << 70) - 1, u128::MAX] {
+        assert_eq!(rt;
+            write_unsigned_nullable(Nullable::Value(value), &mut out),
+            Err(WireFault::Range)
+        );
+    }
+    assert!(rt; out.is_empty());
+    Ok(())
+}
+
+#[test]
+fn signed_nullable_vectors(rt: HostRuntime) -> Result<(), Fail> {
+    let vectors: [(Nullable<i128>, &[u8]); 6] = [
+        (Nullable::Value(942_755), &[0x39, 0x45, 0xa4]),
+        (Nullable::Value(-942_755), &[0x46, 0x3a, 0xdd]),
+        (Nullable::Null, &[0x80]),
+        (Nullable::Value(0), &[0x81]),
+        (Nullable::Value(63), &[0x00, 0xc0]),
+        (Nullable::Value(-64), &[0xc0]),
+    ];
+    for (value, bytes) in vectors {
+        let mut out = Vec::new(rt.alloc());
+        write_signed_nullable(value, &mut out)?;
+        assert_eq!(rt; out.as_slice(), bytes);
+        assert_eq!(rt; read_signed_nullable(bytes, 0)?, (value, bytes.len()));
+        assert_eq!(rt; size_signed_nullable(value), bytes.len());
+    }
+    assert_eq!(rt;
+        read_signed_nullable(&[0x00, 0x80], 0)?,
+        (Nullable::Null, 2)
+    );
+    assert_eq!(rt; read_signed_nullable(&[0x7f], 0), Err(WireFault::NeedMore));
+    let mut out = Vec::new(rt.alloc());
+    for value in [(1 << 69) - 1, i128::MAX, i128::MIN] {
+        assert_eq!(rt;
+            write_signed_nullable(Nullable::Value(value), &mut out),
+            Err(WireFault::Range)
+        );
+    }
+    assert!(rt; out.is_empty());
+    Ok(())
+}
+
+#[test]
+fn ascii_vectors(rt: HostRuntime) -> Result<(), Fail> {
+    let vectors: [(&[u8], &[u8]); 4] = [
+        (b"", &[0x80]),
+        (b"\0", &[0x00, 0x80]),
+        (b"\0A", &[0x00, 0x00, 0xc1]),
+        (b"A", &[0xc1]),
+    ];
+    for (text, bytes) in vectors {
+        let mut out = Vec::new(rt.alloc());
+        write_ascii(text, &mut out)?;
+        assert_eq!(rt; out.as_slice(), bytes);
+        let (read, next) = read_ascii(rt.alloc(), bytes, 0)?;
+        assert_eq!(rt; read.as_slice(), text);
+        assert_eq!(rt; next, bytes.len());
+        assert_eq!(rt; size_ascii(text), bytes.len());
+    }
+    let (overlong, next) = read_ascii(rt.alloc(), &[0x00, 0xc1], 0)?;
+    assert_eq!(rt; overlong.as_slice(), b"A".as_slice());
+    assert_eq!(rt; next, 2);
+    Ok(())
+}
+
+/// The bytes of a value that was read, where there is one.
+fn shown(value: &Nullable<Vec<u8>>) -> Nullable<&[u8]> {
+    match value {
+        Nullable::Null => Nullable::Null,
+        Nullable::Value(bytes) => Nullable::Value(bytes.as_slice()),
+    }
+}
+
+#[test]
+fn ascii_nullable_vectors(rt: HostRuntime) -> Result<(), Fail> {
+    let vectors: [(Nullable<&[u8]>, &[u8]); 5] = [
+        (Nullable::Null, &[0x80]),
+        (Nullable::Value(b""), &[0x00, 0x80]),
+        (Nullable::Value(b"\0"), &[0x00, 0x00, 0x80]),
+        (Nullable::Value(b"\0A"), &[0x00, 0x00, 0x00, 0xc1]),
+        (Nullable::Value(b"A"), &[0xc1]),
+    ];
+    for (value, bytes) in vectors {
+        let mut out = Vec::new(rt.alloc());
+        write_ascii_nullable(value, &mut out)?;
+        assert_eq!(rt; out.as_slice(), bytes);
+        let (read, next) = read_ascii_nullable(rt.alloc(), bytes, 0)?;
+        assert_eq!(rt; shown(&read), value);
+        assert_eq!(rt; next, bytes.len());
+        assert_eq!(rt; size_ascii_nullable(value), bytes.len());
+    }
+    Ok(())
+}
+
+#[test]
+fn ascii_overlong(rt: HostRuntime) -> Result<(), Fail> {
+    let overlong: [&[u8]; 2] = [&[0x00, 0xc1], &[0x00, 0x00, 0xc1]];
+    for bytes in overlong {
+        let (read, next) = read_ascii_nullable(rt.alloc(), bytes, 0)?;
+        assert_eq!(rt; shown(&read), Nullable::Value(b"A".as_slice()));
+        assert_eq!(rt; next, bytes.len());
+    }
+    Ok(())
+}
+
+#[test]
+fn ascii_limits(rt: HostRuntime) -> Result<(), Fail> {
+    let mut out = Vec::new(rt.alloc());
+    assert_eq!(rt; write_ascii(&[0x80], &mut out), Err(WireFault::Range));
+    let long = [0x41; 65_536];
+    assert_eq!(rt; write_ascii(&long, &mut out), Err(WireFault::TooLong));
+    assert_eq!(rt;
+        write_ascii_nullable(Nullable::Value(&long), &mut out),
+        Err(WireFault::TooLong)
+    );
+    assert!(rt; out.is_empty());
+    let mut groups = [0x00; 65_540];
+    assert!(rt;
+        matches!(
+            read_ascii(rt.alloc(), &groups[..65_539], 0),
+            Err(WireFault::NeedMore)
+        )
+    );
+    assert!(rt; matches!(read_ascii(rt.alloc(), &groups, 0), Err(WireFault::TooLong)));
+    groups[65_536] = 0x80;
+    assert!(rt; matches!(read_ascii(rt.alloc(), &groups, 0), Err(WireFault::TooLong)));
+    let (text, next) = read_ascii_nullable(rt.alloc(), &groups, 0)?;
+    assert_eq!(rt; shown(&text), Nullable::Value(&groups[..65_535]));
+    assert_eq!(rt; next, 65_537);
+    Ok(())
+}
+
+#[test]
+fn vector_vectors(rt: HostRuntime) -> Result<(), Fail> {
+    let bytes = [0x82, 0xc3, 0xa9];
+    let items = [0xc3, 0xa9];
+    let mut out = Vec::new(rt.alloc());
+    write_vector(&items, &mut out)?;
+    assert_eq!(rt; out.as_slice(), bytes.as_slice());
+    let (read, next) = read_vector(rt.alloc(), &bytes, 0)?;
+    assert_eq!(rt; read.as_slice(), items.as_slice());
+    assert_eq!(rt; next, 3);
+    assert_eq!(rt; size_vector(&items), 3);
+    let refused: [(&[u8], WireFault); 3] = [
+        (&[0x82, 0xc3], WireFault::NeedMore),
+        (&[0x04, 0x00, 0x80], WireFault::TooLong),
+        (&[0x04], WireFault::NeedMore),
+    ];
+    for (bytes, fault) in refused {
+        assert!(rt; matches!(read_vector(rt.alloc(), bytes, 0), Err(found) if found == fault));
+    }
+    let long = [0x00; 65_536];
+    let mut none = Vec::new(rt.alloc());
+    assert_eq!(rt; write_vector(&long, &mut none), Err(WireFault::TooLong));
+    assert!(rt; none.is_empty());
+    Ok(())
+}
+
+#[test]
+fn vector_nullable_vectors(rt: HostRuntime) -> Result<(), Fail> {
+    let vectors: [(Nullable<&[u8]>, &[u8]); 3] = [
+        (Nullable::Value(&[0xc3, 0xa9]), &[0x83, 0xc3, 0xa9]),
+        (Nullable::Value(b""), &[0x81]),
+        (Nullable::Null, &[0x80]),
+    ];
+    for (value, bytes) in vectors {
+        let mut out = Vec::new(rt.alloc());
+        write_vector_nullable(value, &mut out)?;
+        assert_eq!(rt; out.as_slice(), bytes);
+        let (read, next) = read_vector_nullable(rt.alloc(), bytes, 0)?;
+        assert_eq!(rt; shown(&read), value);
+        assert_eq!(rt; next, bytes.len());
+        assert_eq!(rt; size_vector_nullable(value), bytes.len());
+    }
+    assert!(rt;
+        matches!(
+            read_vector_nullable(rt.alloc(), &[0x04, 0x00, 0x81], 0),
+            Err(WireFault::TooLong)
+        )
+    );
+    Ok(())
+}
+
+#[test]
+fn texts(rt: HostRuntime) -> Result<(), Fail> {
+    assert_eq!(rt; check_text(&[0xc3, 0xa9]), Ok(()));
+    assert_eq!(rt; check_text(&[0xc3, 0x41]), Err(WireFault::NotUtf8));
     Ok(())
 }
 
@@ -116,29 +385,71 @@ fn stop_bits(rt: HostRuntime) -> Result<(), Fail> {
     Ok(())
 }
 
+/// Writes, once more where memory was refused, and compares the bytes.
+macro_rules! written {
+    ($rt:ident, $bytes:expr, $out:ident => $call:expr) => {
+        let mut $out = Vec::new($rt.alloc());
+        if let Err(fault) = $call {
+            assert_eq!($rt; fault, WireFault::Memory);
+            assert!($rt; $out.is_empty());
+            $call?;
+        }
+        assert_eq!($rt; $out.as_slice(), $bytes.as_slice());
+    };
+}
+
+/// Reads, once more where memory was refused, and compares the bytes of the value.
+macro_rules! taken {
+    ($rt:ident, $bytes:expr, $call:expr) => {
+        let read = match $call {
+            Err(WireFault::Memory) => $call,
+            read => read,
+        };
+        let (value, _) = read?;
+        assert_eq!($rt; value.as_slice(), $bytes.as_slice());
+    };
+}
+
 /// A refused growth appends nothing, and the same call then gives the row's answer: run with the first, the
 /// second and each later allocation refused, until a run meets no refusal.
 #[test]
 fn refused_growths(rt: HostRuntime) -> Result<(), Fail> {
-    let mut out = Vec::new(rt.alloc());
-    if let Err(fault) = write_unsigned(942_755, &mut out) {
-        assert_eq!(rt; fault, WireFault::Memory);
-        assert!(rt; out.is_empty());
-        write_unsigned(942_755, &mut out)?;
-    }
-    assert_eq!(rt; out.as_slice(), [0x39, 0x45, 0xa3].as_slice());
-    let mut map = Vec::new(rt.alloc());
-    if let Err(fault) = write_map(&[true, true, true], &mut map) {
-        assert_eq!(rt; fault, WireFault::Memory);
-        assert!(rt; map.is_empty());
-        write_map(&[true, true, true], &mut map)?;
-    }
-    assert_eq!(rt; map.as_slice(), [0xf0].as_slice());
+    written!(rt, [0x39, 0x45, 0xa3], out => write_unsigned(942_755, &mut out));
+    written!(rt, [0x39, 0x45, 0xa3], out => write_signed(942_755, &mut out));
+    written!(rt, [0x81], out => write_unsigned_nullable(Nullable::Value(0), &mut out));
+    written!(rt, [0x39, 0x45, 0xa4], out => write_signed_nullable(Nullable::Value(942_755), &mut out));
+    written!(rt, [0x00, 0x00, 0xc1], out => write_ascii(b"\0A", &mut out));
+    written!(rt, [0x00, 0x80], out => write_ascii_nullable(Nullable::Value(b""), &mut out));
+    written!(rt, [0x82, 0xc3, 0xa9], out => write_vector(&[0xc3, 0xa9], &mut out));
+    written!(rt, [0x80], out => write_vector_nullable(Nullable::Null, &mut out));
+    written!(rt, [0xf0], out => write_map(&[true, true, true], &mut out));
+    Ok(())
+}
+
+/// A refused copy is Memory, and the same call then gives the row's answer.
+#[test]
+fn refused_copies(rt: HostRuntime) -> Result<(), Fail> {
+    taken!(rt, b"A", read_ascii(rt.alloc(), &[0xc1], 0));
+    taken!(
+        rt,
+        [0xc3, 0xa9],
+        read_vector(rt.alloc(), &[0x82, 0xc3, 0xa9], 0)
+    );
     let read = match read_map(rt.alloc(), &[0xf0], 0) {
         Err(WireFault::Memory) => read_map(rt.alloc(), &[0xf0], 0),
         read => read,
     };
     let (bits, next) = read?;
     assert!(rt; next == 1 && bits.left_set());
+    let text = match read_ascii_nullable(rt.alloc(), &[0xc1], 0) {
+        Err(WireFault::Memory) => read_ascii_nullable(rt.alloc(), &[0xc1], 0),
+        read => read,
+    };
+    assert_eq!(rt; shown(&text?.0), Nullable::Value(b"A".as_slice()));
+    let vector = match read_vector_nullable(rt.alloc(), &[0x82, 0x41], 0) {
+        Err(WireFault::Memory) => read_vector_nullable(rt.alloc(), &[0x82, 0x41], 0),
+        read => read,
+    };
+    assert_eq!(rt; shown(&vector?.0), Nullable::Value(b"A".as_slice()));
     Ok(())
 }

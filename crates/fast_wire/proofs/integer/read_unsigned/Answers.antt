@@ -1,6 +1,6 @@
-use Rattle.std.proofs.Common.{◌≡◌, ◌-◌, ◌≤◌, arith, length-take, drop, Ok, length, slice_range, refl}
+use Rattle.std.proofs.Common.{◌-◌, ◌≤◌, arith, length-take, drop, Ok, length, slice_range, refl}
 use Rattle.std.proofs.lemmas.Result.{err_from_is_err_and}
-use Rattle.fast_wire.specs.Reading.{unsigned_at, entity_at, ◌>>=◌}
+use Rattle.fast_wire.specs.Reading.{unsigned_at, entity_at}
 use Rattle.fast_wire.specs.Integer.{unsigned_of}
 use Rattle.fast_wire.proofs.Numbers.{pow_ten}
 use Rattle.fast_wire.proofs.FormReaders.{fails_then}

@@ -4,6 +4,7 @@ use Rattle.fast_wire.specs.Entity.{groups}
 use Rattle.fast_wire.specs.PresenceMap.{bits_of}
 use Rattle.fast_wire.specs.Reading.{map_at, entity_at}
 use Rattle.fast_wire.proofs.FormReaders.{fails_then}
+use Rattle.fast_wire.proofs.MapReadings.{map_found, map_memory}
 use Rattle.fast_wire.proofs.presence_map.read_map.Goals as goal
 
 pub returns-in_err-next-clause-gives : goal.returns-in_err-next-clause-gives
@@ -15,3 +16,11 @@ returns-in_err-next-clause-gives c =
 pub returns-clause-gives : goal.returns-clause-gives
 unfolding map_at
 returns-clause-gives c = rw (c.in_ok-next.ensures.gives, c.in-Ok.ensures.items) refl
+
+pub returns-in_err-next-clause-only : goal.returns-in_err-next-clause-only
+returns-in_err-next-clause-only c =
+    let p = err_from_is_err_and c.from_residual.result c.from_residual.ensures.1 in
+    rw (p.1, p.2) (map_memory c.args.bytes.now c.args.at c.in_err-next.field-0.0 (rw (p.1, p.2) at (returns-in_err-next-clause-gives c)))
+
+pub returns-clause-only : goal.returns-clause-only
+returns-clause-only c = map_found c.args.bytes.now c.args.at c.in-Ok.map.items c.in_ok-next.next (let a = c.in_ok-next.ensures.answer in a.1) (returns-clause-gives c)

@@ -1,6 +1,5 @@
-use Rattle.std.proofs.Common.{◌≡◌, ◌+◌, ◌<◌, ◌≤◌, length, drop, arith, length-drop, length-take, min, take, sym, ap, ◌∙◌}
+use Rattle.std.proofs.Common.{◌+◌, drop, arith, length-drop}
 use Rattle.std.proofs.lemmas.List.{take_rest}
-use Rattle.fast_wire.specs.Reading.{entity_at, Fails}
 use Rattle.fast_wire.specs.declared.fault.WireFault.TheVariants as fault
 use Rattle.fast_wire.proofs.Entities.{entity_from}
 use Rattle.fast_wire.proofs.FormReaders.{entity_given, fault_given, window_waits, window_passes}

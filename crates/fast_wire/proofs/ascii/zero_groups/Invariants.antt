@@ -1,0 +1,7 @@
+use Rattle.std.proofs.Common.{◌≡◌, ◌-◌, drop}
+use Rattle.fast_wire.specs.Entity.{groups}
+use Rattle.fast_wire.specs.Spellings.{behind_zeros}
+use Rattle.fast_wire.proofs.ascii.zero_groups.Given as goal
+
+abbrev pub invariant-loop-i : goal.invariant-loop-i
+invariant-loop-i l = behind_zeros (l.most - l.i) (drop l.i (groups l.entity)) ≡ behind_zeros l.most (groups l.entity)

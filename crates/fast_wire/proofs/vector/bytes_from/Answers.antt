@@ -1,0 +1,18 @@
+use Rattle.std.proofs.Common.{◌≡◌, ◌+◌, ◌-◌, ◌≤◌, ◌∙◌, arith, drop, take, length, length-drop, drop-drop, refl}
+use Rattle.fast_wire.proofs.VectorForms.{bytes_long, bytes_wait, bytes_ok}
+use Rattle.fast_wire.proofs.vector.bytes_from.Goals as goal
+
+pub returns-then-count-clause-gives : goal.returns-then-count-clause-gives
+returns-then-count-clause-gives c = bytes_long c.args.count (drop c.args.start c.args.bytes.now) c.if-count.true
+
+pub returns-then-bytes-start-clause-gives : goal.returns-then-bytes-start-clause-gives
+returns-then-bytes-start-clause-gives c =
+    bytes_wait c.args.count (drop c.args.start c.args.bytes.now) (omega (arith, c.if-count.false)) (omega (arith, c.if-bytes-start.true, length-drop c.args.start c.args.bytes.now))
+
+pub returns-clause-gives : goal.returns-clause-gives
+returns-clause-gives c =
+    let bytes = c.args.bytes.now in let start = c.args.start in let n = c.args.count in
+    let there : n ≤ length (drop start bytes) = omega (arith, c.if-bytes-start.false, length-drop start bytes) in
+    let size : start + n - start ≡ n = omega arith in
+    let copied : c.in-Ok.items.items ≡ take n (drop start bytes) = rw size at c.in-Ok.ensures.items in
+    bytes_ok n (drop start bytes) (omega (arith, c.if-count.false)) there ∙ rw (drop-drop n start bytes, copied) refl

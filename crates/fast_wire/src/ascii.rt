@@ -1,0 +1,210 @@
+//! ASCII strings: FAST 1.1, Transfer Encoding, ASCII String Representation.
+
+ghost use Rattle.std.specs.Prelude.{◌≡◌, ℕ, ◌+◌, ◌<◌, ◌≤◌, List, ◌++◌, length, drop, All, IfErr, IfOk, MatchResult, OnOk, OnErr, IsErrOf, ◌↔◌, ◌⊎◌};
+ghost use Rattle.fast_wire.specs.Entity.{IsEntity, groups};
+ghost use Rattle.fast_wire.specs.Ascii.{IsAscii, IsAsciiEntity, IsAsciiEntityNullable, IsAsciiNullable, IsAsciiText};
+ghost use Rattle.fast_wire.specs.Nullable.{IsNullOr, borrowed, items_of, units};
+ghost use Rattle.fast_wire.specs.Reading.{AsciiFault, Gives, Reads, ascii_at, ascii_nullable_at};
+ghost use Rattle.fast_wire.specs.Sizes.{ascii_size, ascii_nullable_size};
+ghost use Rattle.fast_wire.specs.Spellings.{behind_zeros, preamble_for, string_of};
+ghost use Rattle.fast_wire.specs.Writing.{AppendsShortest, IsShortestSize};
+ghost use Rattle.fast_wire.specs.declared.nullable.Nullable.{Nullable};
+
+use crate::fault::WireFault;
+use crate::nullable::Nullable;
+use crate::stop_bit::{entity_end, find_stop};
+use std::alloc::Global;
+
+/// The most bytes of a string's entity.
+const ENTITY_LIMIT: usize = 65_540;
+
+/// The most characters of a string.
+const CHARACTER_LIMIT: usize = 65_535;
+
+/// The groups of a preamble in the form that has no NULL.
+const PREAMBLE: usize = 1;
+
+/// The groups of a preamble in the nullable form.
+const NULLABLE_PREAMBLE: usize = 2;
+
+/// The groups of the longest preamble.
+const ZEROS: [u8; 2] = [0, 0];
+
+/// How many groups in front are 0, but no more than `most`.
+fn zero_groups(entity: &[u8], most: usize) -> usize
+    ensures within { result ≤ length entity.now }
+    ensures behind { drop result (groups entity.now) ≡ behind_zeros most (groups entity.now) }
+{
+    let end = most.min(entity.len());
+    for i in 0..end {
+        if entity[i] % 128 != 0 {
+            return i;
+        }
+    }
+    end
+}
+
+/// The characters of an entity behind at most `most` groups of 0, copied once. TooLong: there are too many.
+fn characters(alloc: Global, entity: &[u8], most: usize) -> Result<Vec<u8>, WireFault>
+    requires { IsEntity entity.now }
+    ensures ok { IfOk result (λ text. (text.items ≡ behind_zeros most (groups entity.now)) × (length text.items ≤ 65535)) }
+    ensures err { IfErr result (λ e. (e ≡ WireFault.Memory) ⊎ ((e ≡ WireFault.TooLong) × (65535 < length (behind_zeros most (groups entity.now))))) }
+{
+    let spelled = &entity[zero_groups(entity, most)..];
+    if spelled.len() > CHARACTER_LIMIT {
+        return Err(WireFault::TooLong);
+    }
+    let Ok(mut text) = Vec::from_slice(alloc, spelled) else {
+        return Err(WireFault::Memory);
+    };
+    if !text.is_empty() {
+        let last = text.len() - 1;
+        text[last] %= 128;
+    }
+    Ok(text)
+}
+
+/// Reads an ASCII string that begins at `at`, of at most 65,540 bytes and 65,535 characters, and answers it
+/// with the place after it. A first group of 0 is a preamble, also where none is needed. NeedMore: the bytes
+/// end, fewer than 65,540, with no stop bit. TooLong: the first 65,540 have none, or there are too many
+/// characters. Memory: the one copy was refused.
+pub fn read_ascii(alloc: Global, bytes: &[u8], at: usize) -> Result<(Vec<u8>, usize), WireFault>
+    requires { at ≤ length bytes.now }
+    ensures place { IfOk result (λ x. (at < x.1) × (x.1 ≤ length bytes.now)) }
+    // what is read is spelled so, and a refusal is this one
+    ensures answer { MatchResult result (λ x. Reads IsAscii bytes.now at (x.0.items, x.1))
+        (λ e. (e ≡ WireFault.Memory) ⊎ AsciiFault IsAsciiEntity length bytes.now at e) }
+    // what is spelled so is read, unless memory runs out
+    ensures only { (next : ℕ) (value : List ℕ) → Reads IsAscii bytes.now at (value, next)
+        → MatchResult result (λ x. (x.0.items ≡ value) × (x.1 ≡ next)) (λ e. e ≡ WireFault.Memory) }
+    // the same by the function that reads the front of a list, for the layers above
+    ensures gives { Gives (λ x. (x.0.items, drop x.1 bytes.now)) result (ascii_at (drop at bytes.now)) }
+{
+    let next = entity_end(bytes, at, ENTITY_LIMIT)?;
+    let text = characters(alloc, &bytes[at..next], PREAMBLE)?;
+    Ok((text, next))
+}
+
+/// Reads a nullable ASCII string that begins at `at`, as `read_ascii`: but the single group 0 is NULL, and
+/// two first groups of 0 are a preamble, as one before another group is.
+pub fn read_ascii_nullable(
+    alloc: Global,
+    bytes: &[u8],
+    at: usize,
+) -> Result<(Nullable<Vec<u8>>, usize), WireFault>
+    requires { at ≤ length bytes.now }
+    ensures place { IfOk result (λ x. (at < x.1) × (x.1 ≤ length bytes.now)) }
+    ensures answer { MatchResult result (λ x. Reads IsAsciiNullable bytes.now at (items_of x.0, x.1))
+        (λ e. (e ≡ WireFault.Memory) ⊎ AsciiFault IsAsciiEntityNullable units bytes.now at e) }
+    ensures only { (next : ℕ) (value : Nullable (List ℕ)) → Reads IsAsciiNullable bytes.now at (value, next)
+        → MatchResult result (λ x. (items_of x.0 ≡ value) × (x.1 ≡ next)) (λ e. e ≡ WireFault.Memory) }
+    ensures gives { Gives (λ x. (items_of x.0, drop x.1 bytes.now)) result (ascii_nullable_at (drop at bytes.now)) }
+{
+    let next = entity_end(bytes, at, ENTITY_LIMIT)?;
+    if bytes[at] == 0x80 {
+        return Ok((Nullable::Null, next));
+    }
+    let text = characters(alloc, &bytes[at..next], NULLABLE_PREAMBLE)?;
+    Ok((Nullable::Value(text), next))
+}
+
+/// How many groups of 0 stand in front of a string: a whole preamble if it is empty or begins with NUL, and
+/// else none.
+fn preamble_size(text: &[u8], preamble: usize) -> usize
+    ensures { result ≡ preamble_for text.now preamble }
+{
+    if text.is_empty() || text[0] == 0 {
+        preamble
+    } else {
+        0
+    }
+}
+
+/// Whether a string has a form. Range: a character is above 127. TooLong, where none is: there are more than
+/// 65,535.
+fn check_characters(text: &[u8]) -> Result<(), WireFault>
+    ensures ok { OnOk result (IsAsciiText text.now) }
+    ensures range { IsErrOf result WireFault.Range ↔ (All (λ c. c < 128) text.now → ⊥) }
+    ensures too_long { IsErrOf result WireFault.TooLong ↔ (All (λ c. c < 128) text.now × (65535 < length text.now)) }
+    ensures err { IfErr result (λ e. (e ≡ WireFault.Range) ⊎ (e ≡ WireFault.TooLong)) }
+{
+    if find_stop(text).is_some() {
+        return Err(WireFault::Range);
+    }
+    if text.len() > CHARACTER_LIMIT {
+        return Err(WireFault::TooLong);
+    }
+    Ok(())
+}
+
+/// Appends `preamble` groups of 0 and the characters, the stop bit on the last, or nothing.
+fn append_string(text: &[u8], preamble: usize, out: &mut Vec<u8>) -> Result<(), WireFault>
+    requires text { IsAsciiText text.now }
+    requires few { preamble ≤ 2 }
+    requires some { 0 < preamble + length text.now }
+    ensures ok { OnOk result (out.new.items ≡ out.old.items ++ string_of preamble text.now) }
+    ensures err { IfErr result (λ e. (e ≡ WireFault.Memory) × (out.new.items ≡ out.old.items)) }
+{
+    if out.reserve(preamble + text.len()).is_err() {
+        return Err(WireFault::Memory);
+    }
+    out.extend_from_slice(&ZEROS[..preamble]).unwrap();
+    out.extend_from_slice(text).unwrap();
+    let last = out.len() - 1;
+    out[last] += 128;
+    Ok(())
+}
+
+/// Appends the shortest form of an ASCII string, or answers and appends nothing. Range: a character is above
+/// 127. TooLong, where none is: there are more than 65,535. Memory: the one growth was refused.
+pub fn write_ascii(text: &[u8], out: &mut Vec<u8>) -> Result<(), WireFault>
+    ensures ok { OnOk result (AppendsShortest IsAscii out.old.items out.new.items text.now) }
+    ensures range { IsErrOf result WireFault.Range ↔ (All (λ c. c < 128) text.now → ⊥) }
+    ensures too_long { IsErrOf result WireFault.TooLong ↔ (All (λ c. c < 128) text.now × (65535 < length text.now)) }
+    ensures err { IfErr result (λ e. (e ≡ WireFault.Range) ⊎ ((e ≡ WireFault.TooLong) ⊎ (e ≡ WireFault.Memory))) }
+    ensures unchanged { OnErr result (out.new.items ≡ out.old.items) }
+{
+    check_characters(text)?;
+    append_string(text, preamble_size(text, PREAMBLE), out)
+}
+
+/// The number of bytes of the shortest form of an ASCII string that has one. It takes no memory.
+pub fn size_ascii(text: &[u8]) -> usize
+    requires { IsAsciiText text.now }
+    ensures size { result ≡ ascii_size text.now }
+    ensures few { result ≤ 65536 }
+    ensures least { IsShortestSize IsAscii text.now result }
+{
+    preamble_size(text, PREAMBLE) + text.len()
+}
+
+/// Appends the shortest form of a nullable ASCII string, or answers and appends nothing. Range, TooLong,
+/// Memory: as `write_ascii`.
+pub fn write_ascii_nullable(value: Nullable<&[u8]>, out: &mut Vec<u8>) -> Result<(), WireFault>
+    ensures ok { OnOk result (AppendsShortest IsAsciiNullable out.old.items out.new.items (borrowed value.entry)) }
+    ensures range { IsErrOf result WireFault.Range ↔ (IsNullOr (All (λ c. c < 128)) (borrowed value.entry) → ⊥) }
+    ensures too_long { IsErrOf result WireFault.TooLong ↔ (IsNullOr (All (λ c. c < 128)) (borrowed value.entry) × (65535 < units (borrowed value.entry))) }
+    ensures err { IfErr result (λ e. (e ≡ WireFault.Range) ⊎ ((e ≡ WireFault.TooLong) ⊎ (e ≡ WireFault.Memory))) }
+    ensures unchanged { OnErr result (out.new.items ≡ out.old.items) }
+{
+    match value {
+        Nullable::Null => append_string(&[], 1, out),
+        Nullable::Value(text) => {
+            check_characters(text)?;
+            append_string(text, preamble_size(text, NULLABLE_PREAMBLE), out)
+        }
+    }
+}
+
+/// The number of bytes of the shortest form of a nullable ASCII string that has one. It takes no memory.
+pub fn size_ascii_nullable(value: Nullable<&[u8]>) -> usize
+    requires { IsNullOr IsAsciiText (borrowed value) }
+    ensures size { result ≡ ascii_nullable_size (borrowed value.entry) }
+    ensures few { result ≤ 65537 }
+    ensures least { IsShortestSize IsAsciiNullable (borrowed value.entry) result }
+{
+    match value {
+        Nullable::Null => 1,
+        Nullable::Value(text) => preamble_size(text, NULLABLE_PREAMBLE) + text.len(),
+    }
+}

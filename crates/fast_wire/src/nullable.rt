@@ -1,0 +1,143 @@
+//! Nullable integers: FAST 1.1, Transfer Encoding, Nullable Integer Representation.
+
+ghost use Rattle.std.specs.Prelude.{◌≡◌, ℕ, ℤ, ◌+◌, ◌*◌, ◌^◌, ◌<◌, ◌≤◌, length, drop, IfErr, IfOk, MatchResult, OnOk, OnErr, Ok, IsErrOf, ◌↔◌, ◌⊎◌};
+ghost use Rattle.fast_wire.specs.Integer.{magnitude, IsSignedRange};
+ghost use Rattle.fast_wire.specs.Reading.{EntityFault, Gives, Reads, unsigned_nullable_at, signed_nullable_at};
+ghost use Rattle.fast_wire.specs.Sizes.{unsigned_nullable_size, signed_nullable_size, CanBeUnsigned, CanBeSigned};
+ghost use Rattle.fast_wire.specs.Writing.{AppendsShortest, IsShortestSize};
+ghost use Rattle.fast_wire.specs.Nullable.{sent_unsigned, sent_signed, received_unsigned, received_signed, IsNullOr, IsUnsignedNullable, IsSignedNullable};
+
+use crate::fault::WireFault;
+use crate::integer::{
+    read_signed, read_unsigned, size_signed, size_unsigned, write_signed, write_unsigned,
+};
+
+/// A value of a nullable form.
+#[derive(Clone, Copy, Debug, PartialEq, Eq, Drop)]
+pub enum Nullable<T> {
+    /// The form's one value more, which says that there is none.
+    Null,
+    /// A value.
+    Value(T),
+}
+
+/// What is meant by a number that was sent.
+fn unsigned_received(sent: u128) -> Nullable<u128>
+    ensures { result ≡ received_unsigned sent }
+{
+    if sent == 0 {
+        Nullable::Null
+    } else {
+        Nullable::Value(sent - 1)
+    }
+}
+
+/// Reads a nullable unsigned integer of at most ten bytes that begins at `at`, and answers it with the place
+/// after it. Its form may be longer than it need be, NULL's too. NeedMore, TooLong: as `read_unsigned`. It
+/// takes no memory.
+pub fn read_unsigned_nullable(bytes: &[u8], at: usize) -> Result<(Nullable<u128>, usize), WireFault>
+    requires { at ≤ length bytes.now }
+    ensures place { IfOk result (λ x. (at < x.1) × (x.1 ≤ length bytes.now)) }
+    ensures range { IfOk result (λ x. IsNullOr (λ v. v + 1 < 2 ^ 70) x.0) }
+    ensures answer { MatchResult result (Reads IsUnsignedNullable bytes.now at) (EntityFault 10 bytes.now at) }
+    ensures only { (next : ℕ) (value : Nullable ℕ) → Reads IsUnsignedNullable bytes.now at (value, next) → result ≡ Ok (value, next) }
+    ensures gives { Gives (λ x. (x.0, drop x.1 bytes.now)) result (unsigned_nullable_at (drop at bytes.now)) }
+{
+    let (sent, next) = read_unsigned(bytes, at)?;
+    Ok((unsigned_received(sent), next))
+}
+
+/// What is sent for a value. The largest number, which has no form, stands for the one after it.
+fn unsigned_sent(value: Nullable<u128>) -> u128
+    ensures small { sent_unsigned value < 2 ^ 128 → result ≡ sent_unsigned value }
+    ensures large { 2 ^ 128 ≤ sent_unsigned value → result + 1 ≡ sent_unsigned value }
+{
+    match value {
+        Nullable::Null => 0,
+        Nullable::Value(value) => value.saturating_add(1),
+    }
+}
+
+/// Appends the shortest form of a nullable unsigned number, or answers and appends nothing. Range: one more
+/// than the number does not fit ten bytes. Memory: the one growth was refused.
+pub fn write_unsigned_nullable(value: Nullable<u128>, out: &mut Vec<u8>) -> Result<(), WireFault>
+    ensures ok { OnOk result (AppendsShortest IsUnsignedNullable out.old.items out.new.items value) }
+    ensures range { IsErrOf result WireFault.Range ↔ (128 ^ 10 ≤ sent_unsigned value) }
+    ensures err { IfErr result (λ e. (e ≡ WireFault.Range) ⊎ (e ≡ WireFault.Memory)) }
+    ensures unchanged { OnErr result (out.new.items ≡ out.old.items) }
+{
+    write_unsigned(unsigned_sent(value), out)
+}
+
+/// The number of bytes of the shortest form of a nullable unsigned number that fits ten bytes. It takes no
+/// memory.
+pub fn size_unsigned_nullable(value: Nullable<u128>) -> usize
+    requires { CanBeUnsigned (sent_unsigned value) }
+    ensures size { result ≡ unsigned_nullable_size value }
+    ensures few { result ≤ 10 }
+    ensures least { IsShortestSize IsUnsignedNullable value result }
+{
+    size_unsigned(unsigned_sent(value))
+}
+
+/// What is meant by a signed number that was sent.
+fn signed_received(sent: i128) -> Nullable<i128>
+    ensures { result ≡ received_signed sent }
+{
+    if sent == 0 {
+        Nullable::Null
+    } else if sent > 0 {
+        Nullable::Value(sent - 1)
+    } else {
+        Nullable::Value(sent)
+    }
+}
+
+/// Reads a nullable signed integer of at most ten bytes that begins at `at`, and answers it with the place
+/// after it. Its form may be longer than it need be, NULL's too. NeedMore, TooLong: as `read_signed`. It takes
+/// no memory.
+pub fn read_signed_nullable(bytes: &[u8], at: usize) -> Result<(Nullable<i128>, usize), WireFault>
+    requires { at ≤ length bytes.now }
+    ensures place { IfOk result (λ x. (at < x.1) × (x.1 ≤ length bytes.now)) }
+    ensures range { IfOk result (λ x. IsNullOr IsSignedRange x.0) }
+    ensures answer { MatchResult result (Reads IsSignedNullable bytes.now at) (EntityFault 10 bytes.now at) }
+    ensures only { (next : ℕ) (value : Nullable ℤ) → Reads IsSignedNullable bytes.now at (value, next) → result ≡ Ok (value, next) }
+    ensures gives { Gives (λ x. (x.0, drop x.1 bytes.now)) result (signed_nullable_at (drop at bytes.now)) }
+{
+    let (sent, next) = read_signed(bytes, at)?;
+    Ok((signed_received(sent), next))
+}
+
+/// What is sent for a value. The largest number, which has no form, stands for the one after it.
+fn signed_sent(value: Nullable<i128>) -> i128
+    ensures small { magnitude (sent_signed value) < 2 ^ 127 → result ≡ sent_signed value }
+    ensures large { 2 ^ 127 ≤ magnitude (sent_signed value) → magnitude result + 1 ≡ magnitude (sent_signed value) }
+{
+    match value {
+        Nullable::Null => 0,
+        Nullable::Value(value) if value < 0 => value,
+        Nullable::Value(value) => value.saturating_add(1),
+    }
+}
+
+/// Appends the shortest form of a nullable signed number, or answers and appends nothing. Range: what is sent
+/// for it, one more for a number from 0 up, does not fit ten bytes. Memory: the one growth was refused.
+pub fn write_signed_nullable(value: Nullable<i128>, out: &mut Vec<u8>) -> Result<(), WireFault>
+    ensures ok { OnOk result (AppendsShortest IsSignedNullable out.old.items out.new.items value) }
+    ensures range { IsErrOf result WireFault.Range ↔ (64 * 128 ^ 9 ≤ magnitude (sent_signed value)) }
+    ensures err { IfErr result (λ e. (e ≡ WireFault.Range) ⊎ (e ≡ WireFault.Memory)) }
+    ensures unchanged { OnErr result (out.new.items ≡ out.old.items) }
+{
+    write_signed(signed_sent(value), out)
+}
+
+/// The number of bytes of the shortest form of a nullable signed number that fits ten bytes. It takes no
+/// memory.
+pub fn size_signed_nullable(value: Nullable<i128>) -> usize
+    requires { CanBeSigned (sent_signed value) }
+    ensures size { result ≡ signed_nullable_size value }
+    ensures few { result ≤ 10 }
+    ensures least { IsShortestSize IsSignedNullable value result }
+{
+    size_signed(signed_sent(value))
+}
