@@ -90,6 +90,16 @@ pub(crate) fn push_entity(value: u128, size: usize, out: &mut Vec<u8>)
     out.push(group as u8 + 128).unwrap();
 }
 
+/// The number of bytes of the shortest form of a number that fits ten bytes. It takes no memory.
+pub fn size_unsigned(value: u128) -> usize
+    requires { value < 128 ^ 10 }
+    ensures size { result ≡ unsigned_size value }
+    ensures few { result ≤ 10 }
+    ensures least { IsShortestSize IsUnsigned value result }
+{
+    least_size(value)
+}
+
 /// Appends the shortest form of a number, or answers and appends nothing. Range: the number does not fit ten
 /// bytes. Memory: the one growth was refused.
 pub fn write_unsigned(value: u128, out: &mut Vec<u8>) -> Result<(), WireFault>
@@ -102,16 +112,6 @@ pub fn write_unsigned(value: u128, out: &mut Vec<u8>) -> Result<(), WireFault>
         return Err(WireFault::Range);
     }
     append_entity(value, least_size(value), out)
-}
-
-/// The number of bytes of the shortest form of a number that fits ten bytes. It takes no memory.
-pub fn size_unsigned(value: u128) -> usize
-    requires { value < 128 ^ 10 }
-    ensures size { result ≡ unsigned_size value }
-    ensures few { result ≤ 10 }
-    ensures least { IsShortestSize IsUnsigned value result }
-{
-    least_size(value)
 }
 
 /// The signed number that an entity of at most ten bytes spells.
@@ -171,6 +171,16 @@ fn least_signed_size(value: i128) -> usize
     INTEGER_LIMIT
 }
 
+/// The number of bytes of the shortest form of a signed number that fits ten bytes. It takes no memory.
+pub fn size_signed(value: i128) -> usize
+    requires { CanBeSigned value }
+    ensures size { result ≡ signed_size value }
+    ensures few { result ≤ 10 }
+    ensures least { IsShortestSize IsSigned value result }
+{
+    least_signed_size(value)
+}
+
 /// Appends the shortest form of a signed number, or answers and appends nothing. Range: the number does not
 /// fit ten bytes, a bit of which is the sign. Memory: the one growth was refused.
 pub fn write_signed(value: i128, out: &mut Vec<u8>) -> Result<(), WireFault>
@@ -189,14 +199,4 @@ pub fn write_signed(value: i128, out: &mut Vec<u8>) -> Result<(), WireFault>
     } else {
         append_entity(distance, size, out)
     }
-}
-
-/// The number of bytes of the shortest form of a signed number that fits ten bytes. It takes no memory.
-pub fn size_signed(value: i128) -> usize
-    requires { CanBeSigned value }
-    ensures size { result ≡ signed_size value }
-    ensures few { result ≤ 10 }
-    ensures least { IsShortestSize IsSigned value result }
-{
-    least_signed_size(value)
 }
