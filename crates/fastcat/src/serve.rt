@@ -1,6 +1,9 @@
 //! The program as a call: from a command line and three streams to the exit status.
 
-ghost use Rattle.std.specs.Prelude.{◌≡◌, ◌≤◌};
+ghost use Rattle.std.specs.Prelude.{◌≡◌, ◌≤◌, ◌⊎◌, ◌++◌, ◌∷◌, [], OnOk, IfErr};
+ghost use Rattle.std.specs.Io.KnownBytes.{Appends};
+ghost use Rattle.hex.specs.Hex.{encode_lower};
+ghost use Rattle.fastcat.specs.Served.{RunsPlain};
 ghost use Rattle.fastcat.specs.Refusals.{status_of};
 
 use crate::command::Command;
@@ -71,7 +74,9 @@ fn run_plain<I: ByteInput, O: ByteOutput>(
     input: &mut I,
     out: &mut O,
     turns: u64,
-) -> Result<(), Refusal> {
+) -> Result<(), Refusal>
+    ensures { RunsPlain command turns (I.left input.old) (I.left input.new) (O.taken out.old) (O.taken out.new) result }
+{
     match run(alloc, command, input, out, turns) {
         Ok(_) => Ok(()),
         Err(fault) => Err(Refusal::of_run(alloc, fault)),
@@ -79,7 +84,10 @@ fn run_plain<I: ByteInput, O: ByteOutput>(
 }
 
 /// Writes bytes as a line of hex.
-fn write_hex_line<O: ByteOutput>(alloc: Global, bytes: &[u8], out: &mut O) -> Result<(), Refusal> {
+fn write_hex_line<O: ByteOutput>(alloc: Global, bytes: &[u8], out: &mut O) -> Result<(), Refusal>
+    ensures written { OnOk result (Appends (O.taken out.old) (O.taken out.new) (encode_lower bytes.now ++ 10 ∷ [])) }
+    ensures refused { IfErr result (λ e. (e ≡ Refusal.Write) ⊎ (e ≡ Refusal.Memory)) }
+{
     let line = hex_line(alloc, bytes).map_err(|_| Refusal::Memory)?;
     write_all(out, line.as_bytes()).map_err(|_| Refusal::Write)
 }
