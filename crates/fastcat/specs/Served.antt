@@ -3,10 +3,10 @@ use Rattle.std.specs.Prelude.{◌≡◌, ◌⊎◌, ℕ, ◌<◌, ◌≤◌, ◌
 use Rattle.std.specs.Io.KnownBytes.{Appends, Consumes, IsAtEnd}
 use Rattle.hex.specs.Hex.{decode_of, encode_lower}
 use Rattle.fastcat.specs.HexText.{digits_of}
-use Rattle.fastcat.specs.Refusals.{IsOfRun, IsOfStream}
+use Rattle.fastcat.specs.Refusals.{IsOfRun, IsOfStream, IsTextOrMemory, status_of}
 use Rattle.fastcat.specs.Run.{Runs}
 use Rattle.fastcat.specs.declared.command.Command.{Command}
-use Rattle.fastcat.specs.declared.command.Command.TheVariants.{Canon}
+use Rattle.fastcat.specs.declared.command.Command.TheVariants.{Show, Canon}
 use Rattle.fastcat.specs.declared.fault.CanonFault.{CanonFault}
 use Rattle.fastcat.specs.declared.fault.CanonFault.TheVariants as fault
 use Rattle.fastcat.specs.declared.refusal.Refusal.{Refusal}
@@ -73,3 +73,41 @@ pub record CanonInHex (turns : ℕ) (stream : List ℕ) (taken_old taken_new : O
   pub answer : Result Summary CanonFault
   pub ran : RunsInMemory turns stream [] bytes answer
   pub answered : AnswersInHex taken_old taken_new bytes answer r
+
+-- what was done of a stream in hex text
+abbrev pub PerformsInHex : Command → ℕ → List ℕ → Option (List ℕ) → Option (List ℕ) → Result (Unit {0}) Refusal → Type 0
+PerformsInHex Show turns stream taken_old taken_new r =
+    (left : Option (List ℕ)) × RunsPlain Show turns (Some stream) left taken_old taken_new r
+PerformsInHex Canon turns stream taken_old taken_new r = CanonInHex turns stream taken_old taken_new r
+
+-- the input is no hex text, and nothing was written
+pub record RefusesInput (left_old left_new taken_old taken_new : Option (List ℕ)) (r : Result (Unit {0}) Refusal) : Type 0 where
+  pub refusal : Refusal
+  pub refused : RefusesHex left_old left_new refusal
+  pub unwritten : taken_new ≡ taken_old
+  pub answered : r ≡ Err refusal
+
+-- the input is hex text of a stream, of which this was done
+pub record PerformsHexText (command : Command) (turns : ℕ) (left_old left_new taken_old taken_new : Option (List ℕ)) (r : Result (Unit {0}) Refusal) : Type 0 where
+  pub stream : List ℕ
+  pub read : ReadsHex left_old left_new stream
+  pub performed : PerformsInHex command turns stream taken_old taken_new r
+
+-- no request was read, and nothing of the input, and nothing was written
+pub record RefusesLine (left_old left_new taken_old taken_new : Option (List ℕ)) (r : Result (Unit {0}) Refusal) : Type 0 where
+  pub unread : left_new ≡ left_old
+  pub unwritten : taken_new ≡ taken_old
+  pub answered : IsErrAnd r IsTextOrMemory
+
+-- one of the things that the program does with its input and its output
+abbrev pub Performs : ℕ → Option (List ℕ) → Option (List ℕ) → Option (List ℕ) → Option (List ℕ) → Result (Unit {0}) Refusal → Type 0
+Performs turns left_old left_new taken_old taken_new r =
+    RefusesLine left_old left_new taken_old taken_new r
+    ⊎ RefusesInput left_old left_new taken_old taken_new r
+    ⊎ ((command : Command) × RunsPlain command turns left_old left_new taken_old taken_new r)
+    ⊎ ((command : Command) × PerformsHexText command turns left_old left_new taken_old taken_new r)
+
+-- the exit status of what was done
+abbrev pub status_after : Result (Unit {0}) Refusal → ℕ
+status_after (Ok done) = 0
+status_after (Err refusal) = status_of refusal

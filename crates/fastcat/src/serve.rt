@@ -3,7 +3,7 @@
 ghost use Rattle.std.specs.Prelude.{◌≡◌, ◌≤◌, ◌⊎◌, ◌++◌, ◌∷◌, [], OnOk, IfOk, IfErr};
 ghost use Rattle.std.specs.Io.KnownBytes.{Appends};
 ghost use Rattle.hex.specs.Hex.{encode_lower};
-ghost use Rattle.fastcat.specs.Served.{CanonInHex, ReadsHex, RefusesHex, RunsPlain};
+ghost use Rattle.fastcat.specs.Served.{CanonInHex, Performs, ReadsHex, RefusesHex, RunsPlain, status_after};
 ghost use Rattle.fastcat.specs.Refusals.{status_of};
 
 use crate::command::Command;
@@ -129,7 +129,9 @@ fn perform<I: ByteInput, O: ByteOutput>(
     input: &mut I,
     out: &mut O,
     turns: u64,
-) -> Result<(), Refusal> {
+) -> Result<(), Refusal>
+    ensures { Performs turns (I.left input.old) (I.left input.new) (O.taken out.old) (O.taken out.new) result }
+{
     let request = match parse_words(alloc, words) {
         Ok(request) => request,
         Err(error) => return Err(Refusal::of_line(alloc, &error)),
@@ -170,6 +172,9 @@ pub fn serve<I: ByteInput, O: ByteOutput, E: ByteOutput>(
 ) -> u8
     ensures status { result ≤ 3 }
     ensures quiet { result ≡ 0 → err.new ≡ err.old }
+    // what was read, written and answered, and that the status is that of the answer
+    ensures performed { (r : _) × (result ≡ status_after r)
+        × Performs turns (I.left input.old) (I.left input.new) (O.taken out.old) (O.taken out.new) r }
 {
     match perform(alloc, words, input, out, turns) {
         Ok(()) => 0,
