@@ -12,3 +12,4 @@ pub mod Verdict
 pub mod Run
 pub mod HexText
 pub mod Refusals
+pub mod Served

@@ -12,6 +12,7 @@ mod fault;
 mod hex_text;
 mod input;
 mod laws;
+mod memory;
 mod message;
 mod output;
 mod place;

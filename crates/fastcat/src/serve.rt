@@ -1,12 +1,16 @@
 //! The program as a call: from a command line and three streams to the exit status.
 
-ghost use Rattle.std.specs.Prelude.{◌≡◌, ◌≤◌};
+ghost use Rattle.std.specs.Prelude.{◌≡◌, ◌≤◌, ◌⊎◌, ◌++◌, ◌∷◌, [], OnOk, IfOk, IfErr};
+ghost use Rattle.std.specs.Io.KnownBytes.{Appends};
+ghost use Rattle.hex.specs.Hex.{encode_lower};
+ghost use Rattle.fastcat.specs.Served.{CanonInHex, Performs, ReadsHex, RefusesHex, RunsPlain, status_after};
 ghost use Rattle.fastcat.specs.Refusals.{status_of};
 
 use crate::command::Command;
 use crate::fault::CanonFault;
 use crate::hex_text::{hex_line, read_hex};
 use crate::input::{Ending, read_all};
+use crate::memory::MemoryOutput;
 use crate::output::write_all;
 use crate::refusal::Refusal;
 use crate::run::run;
@@ -54,7 +58,10 @@ fn read_hex_input<I: ByteInput>(
     alloc: Global,
     input: &mut I,
     turns: u64,
-) -> Result<Vec<u8>, Refusal> {
+) -> Result<Vec<u8>, Refusal>
+    ensures ok { IfOk result (λ bytes. ReadsHex (I.left input.old) (I.left input.new) bytes.items) }
+    ensures err { IfErr result (RefusesHex (I.left input.old) (I.left input.new)) }
+{
     let mut text = Vec::new(alloc);
     match read_all(input, turns, &mut text) {
         Ok(Ending::End) => read_hex(alloc, text).map_err(Refusal::of_hex),
@@ -71,7 +78,9 @@ fn run_plain<I: ByteInput, O: ByteOutput>(
     input: &mut I,
     out: &mut O,
     turns: u64,
-) -> Result<(), Refusal> {
+) -> Result<(), Refusal>
+    ensures { RunsPlain command turns (I.left input.old) (I.left input.new) (O.taken out.old) (O.taken out.new) result }
+{
     match run(alloc, command, input, out, turns) {
         Ok(_) => Ok(()),
         Err(fault) => Err(Refusal::of_run(alloc, fault)),
@@ -79,7 +88,10 @@ fn run_plain<I: ByteInput, O: ByteOutput>(
 }
 
 /// Writes bytes as a line of hex.
-fn write_hex_line<O: ByteOutput>(alloc: Global, bytes: &[u8], out: &mut O) -> Result<(), Refusal> {
+fn write_hex_line<O: ByteOutput>(alloc: Global, bytes: &[u8], out: &mut O) -> Result<(), Refusal>
+    ensures written { OnOk result (Appends (O.taken out.old) (O.taken out.new) (encode_lower bytes.now ++ 10 ∷ [])) }
+    ensures refused { IfErr result (λ e. (e ≡ Refusal.Write) ⊎ (e ≡ Refusal.Memory)) }
+{
     let line = hex_line(alloc, bytes).map_err(|_| Refusal::Memory)?;
     write_all(out, line.as_bytes()).map_err(|_| Refusal::Write)
 }
@@ -90,17 +102,22 @@ fn canon_in_hex<O: ByteOutput>(
     stream: &[u8],
     out: &mut O,
     turns: u64,
-) -> Result<(), Refusal> {
-    let mut bytes = Vec::new(alloc);
+) -> Result<(), Refusal>
+    ensures { CanonInHex turns stream.now (O.taken out.old) (O.taken out.new) result }
+{
     let mut input = Counted::new(stream);
-    let mut kept = Counted::new(&mut bytes);
+    let mut kept = MemoryOutput {
+        bytes: Vec::new(alloc),
+        calls: 0,
+        errors: 0,
+    };
     match run(alloc, Command::Canon, &mut input, &mut kept, turns) {
-        Ok(_) => write_hex_line(alloc, &bytes, out),
+        Ok(_) => write_hex_line(alloc, &kept.bytes, out),
         Err(CanonFault::Stream(fault)) => {
-            write_hex_line(alloc, &bytes, out)?;
+            write_hex_line(alloc, &kept.bytes, out)?;
             Err(Refusal::of_stream(alloc, fault))
         }
-        // A vector takes no bytes only where there is no memory.
+        // An output in memory fails only where there is no memory.
         Err(CanonFault::Write | CanonFault::Memory) => Err(Refusal::Memory),
     }
 }
@@ -112,7 +129,9 @@ fn perform<I: ByteInput, O: ByteOutput>(
     input: &mut I,
     out: &mut O,
     turns: u64,
-) -> Result<(), Refusal> {
+) -> Result<(), Refusal>
+    ensures { Performs turns (I.left input.old) (I.left input.new) (O.taken out.old) (O.taken out.new) result }
+{
     let request = match parse_words(alloc, words) {
         Ok(request) => request,
         Err(error) => return Err(Refusal::of_line(alloc, &error)),
@@ -153,6 +172,9 @@ pub fn serve<I: ByteInput, O: ByteOutput, E: ByteOutput>(
 ) -> u8
     ensures status { result ≤ 3 }
     ensures quiet { result ≡ 0 → err.new ≡ err.old }
+    // what was read, written and answered, and that the status is that of the answer
+    ensures performed { (r : _) × (result ≡ status_after r)
+        × Performs turns (I.left input.old) (I.left input.new) (O.taken out.old) (O.taken out.new) r }
 {
     match perform(alloc, words, input, out, turns) {
         Ok(()) => 0,
