@@ -33,7 +33,7 @@ abbrev pub magnitude : ℤ → ℕ
 magnitude (pos n) = n
 magnitude (negsuc n) = n
 
--- the numbers of ten groups
+-- from -2 ^ 69 to 2 ^ 69 - 1, the signed numbers of ten groups
 abbrev pub IsSignedRange : ℤ → Type 0
 IsSignedRange v = (negsuc (2 ^ 69) <ℤ v) × (v <ℤ pos (2 ^ 69))
 

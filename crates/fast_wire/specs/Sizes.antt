@@ -1,5 +1,4 @@
--- How many bytes the shortest forms take, and the laws of that. The numbers here are our own reckoning; what
--- makes them the standard's is `HasSizes`.
+-- How many bytes the shortest forms take (our own reckoning), and the law that ties this to the forms.
 use Rattle.std.specs.Prelude.{◌≡◌, ℕ, zero, suc, ◌+◌, ◌*◌, ◌^◌, ◌<◌, ◌≤◌, ℤ, nat_lt, if◌then◌else◌, List, [], ◌∷◌, length}
 use Rattle.fast_wire.specs.Integer.{magnitude}
 use Rattle.fast_wire.specs.Nullable.{sent_unsigned, sent_signed}

@@ -1,4 +1,5 @@
-//! The byte forms of FAST 1.1: stop-bit entities, unsigned integers and presence maps.
+//! The byte forms of FAST 1.1: stop-bit entities, integers, ASCII strings, byte vectors, Unicode strings and
+//! presence maps.
 //!
 //! A form is a list of bytes that spells a value (FAST 1.1, Transfer Encoding). A value may have many:
 //! what is written here is the shortest, and what is read may be any of at most the stated length.
