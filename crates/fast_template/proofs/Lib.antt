@@ -1,3 +1,4 @@
+pub mod KeyOrder
 pub mod Maps
 pub mod WorkedTemplates
 pub mod WorkedRows

@@ -1,12 +1,12 @@
--- The order of keys, its laws, and that the keys of the program have it.
+-- The order of keys, its laws, and their equality.
 -- Own: FAST 1.1, Field Operators, Dictionaries and Previous Values names what a key is made of, and no order.
-use Rattle.std.specs.Prelude.{◌≡◌, true, ℕ, T, zero, suc, List, [], ◌∷◌, refl}
+use Rattle.std.specs.Prelude.{◌≡◌, ◌==◌, true, ℕ, T, zero, suc, List, [], ◌∷◌, refl}
 use Rattle.std.proofs.Common.{sym, ap, subst, ◌∙◌}
 use Rattle.std.specs.declared.cmp.Ordering.{Ordering}
 use Rattle.std.specs.declared.cmp.Ordering.TheVariants.{Less, Equal, Greater}
-use Rattle.std.specs.Ordering.{nat_cmp, ordering_then, is_eq}
-use Rattle.std.specs.Cmp.{IsTotalOrder, Equal-is, nat_cmp_total, then_total, on_total}
-use Rattle.std.specs.Cmp.Lexicographic.{slice_cmp, nat_list_cmp_total}
+use Rattle.std.specs.Ordering.{nat_cmp, ordering_then, is_eq, eq_by_cmp}
+use Rattle.std.specs.Cmp.{IsTotalOrder, Equal-is, both_tied, unsigned_ties, nat_cmp_total, then_total, on_total}
+use Rattle.std.specs.Cmp.Lexicographic.{slice_cmp, nat_list_cmp_total, texts_ties}
 use Rattle.std.specs.FinMap.{IsAntisymmetric, nat_cmp-IsAntisymmetric, slice_cmp-IsAntisymmetric}
 use Rattle.fast_template.specs.declared.kind.Part.{Part}
 use Rattle.fast_template.specs.declared.kind.Part.TheVariants.{Whole, Exponent, Mantissa, Length}
@@ -15,8 +15,8 @@ use Rattle.fast_template.specs.declared.key.Scope.TheVariants.{Global, Template,
 use Rattle.fast_template.specs.declared.key.Key.{Key}
 use Rattle.fast_template.specs.contracts.kind.PartOrd.TheImpl as part
 use Rattle.fast_template.specs.contracts.key.ScopeOrd.TheImpl as scope
-use Rattle.fast_template.specs.contracts.key.KeyOrd.TheImpl as key
-use Rattle.fast_template.specs.contracts.key.KeyOrd.TheImpl.Laws as key_laws
+use Rattle.fast_template.specs.contracts.kind.PartOrd.TheImpl.Laws as part_laws
+use Rattle.fast_template.specs.contracts.key.ScopeOrd.TheImpl.Laws as scope_laws
 use Rattle.fast_template.specs.contracts.key.KeyPartialEq.TheImpl as key_eq
 use Rattle.fast_template.specs.contracts.key.KeyEq.TheImpl.Laws as key_eq_laws
 
@@ -93,14 +93,14 @@ key_cmp-exact a b e =
     let parts : a.part ≡ b.part = sym (part_of-part_number a.part) ∙ ap part_of (nat_cmp-IsAntisymmetric _ _ (then_second (slice_cmp nat_cmp a.name b.name) _ behind_scope)) ∙ part_of-part_number b.part in
     λ i. record { slot = slots i; scope = scopes i; name = names i; part = parts i }
 
--- ---- what `cmp` of two keys answers
+-- ---- what `cmp` of two scopes and of two parts answers
 
 then_equal : (o : Ordering) → o ≡ ordering_then o Equal
 then_equal Less = refl
 then_equal Equal = refl
 then_equal Greater = refl
 
-scope_cmp_is : (a b : Scope) → (scope.cmp-value).it a b ≡ slice_cmp nat_cmp (scope_numbers a) (scope_numbers b)
+pub scope_cmp_is : (a b : Scope) → (scope.cmp-value).it a b ≡ slice_cmp nat_cmp (scope_numbers a) (scope_numbers b)
 scope_cmp_is Global Global = refl
 scope_cmp_is Global (Template n) = refl
 scope_cmp_is Global (Typed n) = refl
@@ -118,7 +118,7 @@ scope_cmp_is (User m) (Template n) = refl
 scope_cmp_is (User m) (Typed n) = refl
 scope_cmp_is (User m) (User n) = refl
 
-part_cmp_is : (a b : Part) → (part.cmp-value).it a b ≡ nat_cmp (part_number a) (part_number b)
+pub part_cmp_is : (a b : Part) → (part.cmp-value).it a b ≡ nat_cmp (part_number a) (part_number b)
 part_cmp_is Whole Whole = refl
 part_cmp_is Whole Exponent = refl
 part_cmp_is Whole Mantissa = refl
@@ -136,16 +136,20 @@ part_cmp_is Length Exponent = refl
 part_cmp_is Length Mantissa = refl
 part_cmp_is Length Length = refl
 
--- The program compares keys by `key_cmp`.
-pub key_cmp_is : (a b : Key) → (key.cmp-value).it a b ≡ key_cmp a b
-key_cmp_is a b =
-    let names : Ordering = slice_cmp nat_cmp a.name b.name in
-    ap (λ o. ordering_then (nat_cmp a.slot b.slot) (ordering_then o (ordering_then names ((part.cmp-value).it a.part b.part)))) (scope_cmp_is a.scope b.scope)
-    ∙ ap (λ o. ordering_then (nat_cmp a.slot b.slot) (ordering_then (slice_cmp nat_cmp (scope_numbers a.scope) (scope_numbers b.scope)) (ordering_then names o))) (part_cmp_is a.part b.part)
+-- ---- equality of keys
 
--- `==` of two keys is true exactly if they are the same.
+-- `==` of two keys is true exactly where they tie, and so where they are the same
+pub key_eq_ties : (a b : Key) → (key_eq.eq-value).it a b ≡ eq_by_cmp key_cmp a b
+key_eq_ties a b =
+    let scopes : Ordering = slice_cmp nat_cmp (scope_numbers a.scope) (scope_numbers b.scope) in
+    let parts : Ordering = nat_cmp (part_number a.part) (part_number b.part) in
+    both_tied (a.slot == b.slot) _ (nat_cmp a.slot b.slot) _ (unsigned_ties a.slot b.slot)
+    (both_tied _ _ scopes _ (scope_laws.matches_eq-law a.scope b.scope ∙ ap is_eq (scope_cmp_is a.scope b.scope))
+    (both_tied _ _ (slice_cmp nat_cmp a.name b.name) parts (texts_ties a.name b.name)
+    (part_laws.matches_eq-law a.part b.part ∙ ap is_eq (part_cmp_is a.part b.part))))
+
 pub key_eq-exact : (a b : Key) → (key_eq.eq-value).it a b ≡ true → a ≡ b
-key_eq-exact a b e = key_cmp-exact a b ((Equal-is (key_cmp a b)).0 (ap is_eq (sym (key_cmp_is a b)) ∙ sym (key_laws.matches_eq-law a b) ∙ e))
+key_eq-exact a b e = key_cmp-exact a b ((Equal-is (key_cmp a b)).0 (sym (key_eq_ties a b) ∙ e))
 
 pub key_eq-same : (a : Key) → (key_eq.eq-value).it a a ≡ true
 key_eq-same a = key_eq_laws.laws-law.refl a

@@ -132,7 +132,7 @@ impl Scope {
 /// What an entry is found by. Keys are ordered by slot, then scope, name and part.
 ///
 /// In one template set two keys have the same slot exactly if their scope, name and part are the same.
-#[derive(PartialEq, Eq, PartialOrd, Ord, Debug, Drop)]
+#[derive(Debug, PartialEq, Eq, Drop)]
 pub struct Key {
     /// A number of its own in its template set, from 0.
     pub slot: u32,
@@ -158,5 +158,40 @@ impl Key {
             name: self.name.copy(alloc)?,
             part: self.part,
         })
+    }
+}
+
+impl PartialOrd for Key {
+    ghost use Rattle.std.specs.Prelude.{Some, refl};
+    ghost use Rattle.std.specs.Cmp.{partial_order_from_agreeing_total};
+    ghost use Rattle.fast_template.specs.Key.{key_cmp, key_cmp-total, key_eq_ties};
+
+    ghost partial_cmp = { λ a b. Some (key_cmp a b) };
+
+    ghost laws = { partial_order_from_agreeing_total key_cmp key_cmp-total (λ a b. refl) key_eq_ties };
+
+    fn partial_cmp(&self, other: &Key) -> Option<Ordering> {
+        Some(self.cmp(other))
+    }
+}
+
+impl Ord for Key {
+    ghost use Rattle.std.specs.Prelude.{refl};
+    ghost use Rattle.fast_template.specs.Key.{key_cmp, key_cmp-total, key_eq_ties};
+
+    ghost cmp = { key_cmp };
+
+    ghost total = { key_cmp-total };
+
+    ghost matches_partial_cmp = { λ a b. refl };
+
+    ghost matches_eq = { key_eq_ties };
+
+    fn cmp(&self, other: &Key) -> Ordering {
+        self.slot
+            .cmp(&other.slot)
+            .then(self.scope.cmp(&other.scope))
+            .then(self.name.cmp(&other.name))
+            .then(self.part.cmp(&other.part))
     }
 }
