@@ -1,24 +1,16 @@
 -- Each number that fits ten groups has a shortest form, and so has each list of two bits.
-use Rattle.std.proofs.Common.{◌≡◌, ℕ, zero, suc, ◌+◌, ◌-◌, ◌*◌, ◌^◌, ◌<◌, ◌≤◌, Bool, true, false, List, [], ◌∷◌, length, refl, arith, inl, inr}
-use Rattle.std.proofs.lemmas.Bool.{cases_lt}
+use Rattle.std.proofs.Common.{◌≡◌, ℕ, zero, suc, ◌^◌, ◌<◌, ◌≤◌, Bool, true, false, List, [], ◌∷◌, refl, arith}
 use Rattle.fast_wire.specs.Integer.{IsUnsigned}
 use Rattle.fast_wire.specs.PresenceMap.{bit_at, IsMap}
 use Rattle.fast_wire.specs.Writing.{IsShortest}
-use Rattle.fast_wire.specs.Spellings.{entity_of, map_of, IsLeastSize, IsUsed}
+use Rattle.fast_wire.specs.Spellings.{entity_of, map_of, IsUsed}
+use Rattle.fast_wire.specs.Sizes.{unsigned_size}
+use Rattle.fast_wire.proofs.Sizes.{unsigned_fits}
 use Rattle.fast_wire.proofs.UnsignedForms.{entity_shortest}
 use Rattle.fast_wire.proofs.MapForms.{map_shortest}
 
--- the least number of groups, from above
-least_from : (k v : ℕ) → suc k ≤ 10 → v < 128 ^ suc k → (n : ℕ) × IsLeastSize v n
-least_from zero v few fits = (1, (omega arith, omega arith, fits, λ more. absurd (omega arith)))
-least_from (suc k) v few fits =
-    elim (cases_lt v (128 ^ suc k)) [
-      | inl less ↦ least_from k v (omega arith) less
-      | inr more ↦ (suc (suc k), (omega arith, few, fits, λ long. let back : suc (suc k) - 1 ≡ suc k = omega arith in rw back more))
-    ]
-
 pub shortest_unsigned : (v : ℕ) → v < 128 ^ 10 → (bytes : List ℕ) × IsShortest IsUnsigned bytes v
-shortest_unsigned v fits = let n = least_from 9 v (omega arith) fits in (entity_of n.0 v, entity_shortest v n.0 n.1)
+shortest_unsigned v fits = (entity_of (unsigned_size v) v, entity_shortest v (unsigned_size v) (unsigned_fits v fits))
 
 -- how many of two bits there are up to the last 1
 abbrev used : Bool → Bool → ℕ
