@@ -1,0 +1,2 @@
+pub mod WorkedSet
+pub mod Rows
