@@ -1,0 +1,2 @@
+pub mod WorkedFields
+pub mod WorkedRows
