@@ -1,5 +1,5 @@
 -- The fields of the worked rows, and how a row reads.
-use Rattle.std.proofs.Common.{◌≡◌, ℕ, List, [], drop, Option, Some, None, Bool, Ok, pos}
+use Rattle.std.proofs.Common.{◌≡◌, ℕ, List, drop, Option, Some, None, Bool, Ok, pos}
 use Rattle.std.specs.Prelude.{codes}
 use Rattle.fast_template.specs.declared.kind.Kind.{Kind}
 use Rattle.fast_template.specs.declared.kind.Kind.TheVariants as kind

@@ -1,15 +1,15 @@
 -- Worked rows: what one field reads, computed by the definitions.
-use Rattle.std.proofs.Common.{◌≡◌, ℕ, Bool, true, false, List, [], ◌∷◌, Option, Some, None, pos, refl}
+use Rattle.std.proofs.Common.{true, false, [], ◌∷◌, Some, None, pos, refl}
 use Rattle.std.specs.Prelude.{codes}
 use Rattle.std.specs.Str.{is_utf8, chars}
-use Rattle.fast_wire.specs.Reading.{entity_at, unsigned_at, signed_at, unsigned_nullable_at, signed_nullable_at, ascii_at, ascii_nullable_at, bytes_at, vector_at}
+use Rattle.fast_wire.specs.Reading.{entity_at, unsigned_at, signed_at, signed_nullable_at, ascii_at, ascii_nullable_at, bytes_at, vector_at}
 use Rattle.fast_template.specs.declared.kind.Kind.TheVariants as kind
 use Rattle.fast_template.specs.declared.kind.Presence.TheVariants.{Optional}
 use Rattle.fast_template.specs.declared.kind.Operator.TheVariants.{Copy, Delta}
 use Rattle.fast_template.specs.declared.scalar.Scalar.TheVariants.{U32, I32, Ascii, Unicode}
 use Rattle.fast_dictionary.specs.declared.entry.Entry.TheVariants.{Undefined, Empty, Assigned}
 use Rattle.fast_field.specs.declared.fault.FieldFault.TheVariants as fault
-use Rattle.fast_field.specs.FieldReading.{integer_at, part_at, units_at, integer_value, decimal_value, unit_value, integer_spelled_at, mantissa_behind, decimal_spelled_at, units_spelled_at, spelled_at, integer_delta_at, mantissa_delta_behind, decimal_delta_at, new_part_behind, unit_delta_at, delta_at, tail_at, whole_at, predicted_at, row_at, part_checked, field_at, IsFieldFault}
+use Rattle.fast_field.specs.FieldReading.{integer_at, part_at, units_at, integer_value, unit_value, integer_spelled_at, spelled_at, integer_delta_at, mantissa_delta_behind, decimal_delta_at, new_part_behind, unit_delta_at, delta_at, tail_at, whole_at, predicted_at, row_at, part_checked, field_at, IsFieldFault}
 use Rattle.fast_field.proofs.WorkedFields.{Reads, field, field_with, text, number, quote_seq, quote_sym, quote_px, quote_qty, wrap_b, opt_px_exponent, clash_a, tail_s, init_s, delta_s, uni_s, empty_b, const_k, const_o, const_d}
 
 -- ---- without a base
