@@ -1,0 +1,4 @@
+pub mod WorkedFields
+pub mod WorkedRows
+pub mod BestForms
+pub mod WorkedBest
