@@ -1,2 +1,3 @@
 pub mod WorkedSet
 pub mod Rows
+pub mod Weaker
