@@ -1,3 +1,4 @@
 pub mod WorkedSet
 pub mod Rows
 pub mod Weaker
+pub mod Leaves

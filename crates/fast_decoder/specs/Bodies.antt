@@ -42,9 +42,13 @@ with_entry d k Undefined = d
 with_entry d k Empty = map.insert d k None
 with_entry d k (Assigned v) = map.insert d k (Some v)
 
+-- the dictionary once a part has had this value
+abbrev pub written : FieldPart → Dictionary → Option Scalar → Dictionary
+written p d v = with_entry d p.key (next p (entry_at d p.key) v)
+
 -- what a part with this value leaves
 abbrev pub after_part : FieldPart → State → Option Scalar → State
-after_part p s v = record { dictionary = with_entry s.dictionary p.key (next p (entry_at s.dictionary p.key) v); bits = after_bit (part_needs_bit p) s.bits }
+after_part p s v = record { dictionary = written p s.dictionary v; bits = after_bit (part_needs_bit p) s.bits }
 
 -- One segment for each element, each from the dictionary that the one before left.
 abbrev pub Each : (Dictionary → List ℕ → Items → Dictionary → Type 0) → Dictionary → List ℕ → Elements → Dictionary → Type 0

@@ -47,6 +47,9 @@ module _ (Spells : Spelling) (Maps : Mapping) where
 abbrev pub AnyMap : Mapping
 AnyMap bits left bytes = IsWholeMap bytes bits
 
+abbrev pub Body : Instructions → State → List ℕ → Items → State → Type 0
+Body = BodyBy Form AnyMap
+
 abbrev pub MessageForm : List Resolved → Dictionary → List ℕ → Content → Dictionary → Type 0
 MessageForm = MessageFormBy Form AnyMap
 

@@ -6,9 +6,11 @@
 #![tactic(auto)]
 
 mod fault;
+mod laws;
 mod message;
 mod place;
 
 pub use fault::{Cause, Fault};
+pub use laws::{bits_are_taken, same_messages_same_dictionary};
 pub use message::{Message, Node};
 pub use place::Place;
