@@ -15,12 +15,13 @@ use Rattle.fast_decoder.specs.declared.fault.Cause.{Cause}
 use Rattle.fast_decoder.specs.declared.fault.Cause.TheVariants.{D2, D4, D5, D6, D7, D9, R1, R2, Truncated, Limit}
 use Rattle.fast_decoder.specs.declared.fault.Fault.{Fault}
 use Rattle.fast_decoder.specs.Nodes.{Item, single, group_items, sequence_elements, items_of, elements_of, Content}
-use Rattle.fast_decoder.specs.Reading.{field_part_at, head_at, message_at, MessageStop, StreamReading, messages_at, stream_at, fault_in}
+use Rattle.fast_decoder.specs.Reading.{Cursor, field_part_at, body_at, head_at, message_at, MessageStop, StreamReading, messages_at, stream_at, fault_in}
 use Rattle.std.specs.Str.{is_utf8, chars}
 use Rattle.fast_template.specs.TemplateSets.{identifier_key}
 use Rattle.fast_template.specs.declared.key.Scope.TheVariants.{Global}
 use Rattle.fast_template.specs.declared.kind.Part.TheVariants.{Whole}
-use Rattle.fast_decoder.proofs.WorkedSet.{worked_set}
+use Rattle.fast_template.proofs.WorkedTemplates.{legs, bare}
+use Rattle.fast_decoder.proofs.WorkedSet.{resolved, worked_set}
 
 -- ---- how a row is written
 
@@ -463,3 +464,28 @@ map_too_long = refl
 map_not_whole : read (replicate 255 0x00) ≡ ([], refused Truncated 1 0 0 0)
 unfolding reading
 map_not_whole = refl
+
+-- ---- The limit of nodes, which is seen with fewer nodes than 65,536: how many may still come, and the bytes
+
+abbrev may_come : ℕ → List ℕ → Cursor
+may_come spare bytes = record { dictionary = finite.empty; bits = []; spare = spare; bytes = bytes }
+
+-- a sequence of three elements without fields is four nodes: 83
+four_nodes : body_at (resolved 6 bare).members (may_come 4 (0x83 ∷ [])) ≡ Ok (items_of (sequence ([] ∷ [] ∷ [] ∷ []) ∷ []), may_come 0 [])
+unfolding reading
+four_nodes = simp absent_there
+
+-- the fourth is refused where three may come, at the sequence's number
+three_may_come : body_at (resolved 6 bare).members (may_come 3 (0x83 ∷ [])) ≡ Err (record { cause = Limit; instruction = 1; left = 0 })
+unfolding reading
+three_may_come = refl
+
+-- a node is counted before its bytes are looked at: 83 85, where an element's P would be the fourth
+counted_first : body_at (resolved 4 legs).members (may_come 2 (0x83 ∷ 0x85 ∷ [])) ≡ Err (record { cause = Limit; instruction = 2; left = 1 })
+unfolding reading
+counted_first = refl
+
+-- and 83, where an element's P is not there: still the limit
+counted_before_the_end : body_at (resolved 4 legs).members (may_come 2 (0x83 ∷ [])) ≡ Err (record { cause = Limit; instruction = 2; left = 0 })
+unfolding reading
+counted_before_the_end = refl
