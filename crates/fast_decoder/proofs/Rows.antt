@@ -1,6 +1,6 @@
 -- The worked rows, computed: what each stream is read as. A refusal is a cause with the message, the offset, the
 -- template and the instruction of the piece.
-use Rattle.std.proofs.Common.{◌≡◌, ap, ℕ, suc, ℤ, pos, negsuc, List, [], ◌∷◌, map, Option, Some, None, Ok, Err, refl}
+use Rattle.std.proofs.Common.{◌≡◌, ap, ℕ, suc, ℤ, pos, negsuc, List, [], ◌∷◌, map, length, Option, Some, None, Ok, Err, refl}
 use Rattle.std.specs.Prelude.{codes, replicate, cond}
 use Rattle.std.specs.FinMap as finite
 use Rattle.std.specs.Ordering.{eq_by_cmp}
@@ -15,6 +15,7 @@ use Rattle.fast_decoder.specs.declared.fault.Cause.{Cause}
 use Rattle.fast_decoder.specs.declared.fault.Cause.TheVariants.{D2, D4, D5, D6, D7, D9, R1, R2, Truncated, Limit}
 use Rattle.fast_decoder.specs.declared.fault.Fault.{Fault}
 use Rattle.fast_decoder.specs.Nodes.{Item, single, group_items, sequence_elements, items_of, elements_of, Content}
+use Rattle.fast_decoder.specs.Faults.{Stop}
 use Rattle.fast_decoder.specs.Reading.{Cursor, field_part_at, body_at, head_at, message_at, MessageStop, StreamReading, messages_at, stream_at, fault_in}
 use Rattle.std.specs.Str.{is_utf8, chars}
 use Rattle.fast_template.specs.TemplateSets.{identifier_key}
@@ -31,8 +32,8 @@ u32 n = single (Some (U32 n))
 abbrev decimal : ℤ → ℤ → Item
 decimal exponent mantissa = single (Some (Decimal exponent mantissa))
 
-abbrev characters : List ℕ → Item
-characters s = single (Some (Ascii s))
+abbrev text : List ℕ → Item
+text s = single (Some (Ascii s))
 
 abbrev unicode : List ℕ → Item
 unicode s = single (Some (Unicode s))
@@ -51,6 +52,10 @@ sequence es = sequence_elements (elements_of (map items_of es))
 
 abbrev message : ℕ → List Item → Content
 message template ns = record { template = template; items = items_of ns }
+
+-- a message of Quote with Sym="AB", an exponent of -2 and no Qty: its Seq and its mantissa
+abbrev quote : ℕ → ℕ → Content
+quote seq mantissa = message 1 (u32 seq ∷ text (codes "AB") ∷ decimal (negsuc 1) (pos mantissa) ∷ absent ∷ [])
 
 abbrev refused : Cause → ℕ → ℕ → ℕ → ℕ → Option Fault
 refused cause message offset template instruction = Some (record { cause = cause; place = record { message = message; offset = offset; template = template; instruction = instruction } })
@@ -72,7 +77,7 @@ abbrev puts : Dictionary → List (Key × Option Scalar) → Dictionary
 puts d [] = d
 puts d (w ∷ ws) = puts (finite.insert d w.0 w.1) ws
 
--- what a dictionary has under a key, where it is empty and where a value was put: a finite map computes by these
+-- a stream of one message more, and one that stops
 one_more : (n : ℕ) (d : Dictionary) (b : ℕ) (bytes : List ℕ) {rest : List ℕ} {e : Dictionary} {m : Content} {r : StreamReading}
     → message_at worked_set d (b ∷ bytes) ≡ Ok (m, e, rest) → messages_at n worked_set e rest ≡ r
     → messages_at (suc n) worked_set d (b ∷ bytes) ≡ record { messages = m ∷ r.messages; fault = r.fault }
@@ -82,6 +87,7 @@ last_stop : (n : ℕ) (d : Dictionary) (b : ℕ) (bytes : List ℕ) {s : Message
     → message_at worked_set d (b ∷ bytes) ≡ Err s → messages_at (suc n) worked_set d (b ∷ bytes) ≡ record { messages = []; fault = Some s }
 last_stop n d b bytes h = rw h refl
 
+-- what a dictionary has under a key, where it is empty and where a value was put: a finite map computes by these
 absent_there : (q : Key) → finite.get (finite.empty {X = Option Scalar} {R = key_cmp}) q ≡ None
 absent_there q = finite.get-empty key_cmp q
 
@@ -91,42 +97,42 @@ put_there d k v q = finite.get-insert key_cmp-total d k v q
 -- ---- Presence map, template identifier, and fields of each kind of operator
 
 -- F0 81 81 41 C2 FE 00 E4: Quote Seq=1 Sym="AB" Px=100e-2 Qty=-
-one_message : read (0xf0 ∷ 0x81 ∷ 0x81 ∷ 0x41 ∷ 0xc2 ∷ 0xfe ∷ 0x00 ∷ 0xe4 ∷ []) ≡ (message 1 (u32 1 ∷ characters (codes "AB") ∷ decimal (negsuc 1) (pos 100) ∷ absent ∷ []) ∷ [], None)
+one_message : read (0xf0 ∷ 0x81 ∷ 0x81 ∷ 0x41 ∷ 0xc2 ∷ 0xfe ∷ 0x00 ∷ 0xe4 ∷ []) ≡ (quote 1 100 ∷ [], None)
 unfolding reading
 one_message = simp (absent_there, put_there)
 
 abbrev quoted : Dictionary
 quoted = puts finite.empty ((identifier_key, Some (U32 1)) ∷ (named (codes "Seq"), Some (U32 1)) ∷ (named (codes "Sym"), Some (Ascii (codes "AB"))) ∷ (named (codes "Px"), Some (Decimal (negsuc 1) (pos 100))) ∷ (named (codes "Qty"), None) ∷ [])
 
-spelled_out_first : message_at worked_set finite.empty (0xf0 ∷ 0x81 ∷ 0x81 ∷ 0x41 ∷ 0xc2 ∷ 0xfe ∷ 0x00 ∷ 0xe4 ∷ 0xf8 ∷ 0x81 ∷ 0x82 ∷ 0x41 ∷ 0xc2 ∷ 0x80 ∷ 0x81 ∷ 0x80 ∷ []) ≡ Ok (message 1 (u32 1 ∷ characters (codes "AB") ∷ decimal (negsuc 1) (pos 100) ∷ absent ∷ []), quoted, 0xf8 ∷ 0x81 ∷ 0x82 ∷ 0x41 ∷ 0xc2 ∷ 0x80 ∷ 0x81 ∷ 0x80 ∷ [])
+spelled_out_first : message_at worked_set finite.empty (0xf0 ∷ 0x81 ∷ 0x81 ∷ 0x41 ∷ 0xc2 ∷ 0xfe ∷ 0x00 ∷ 0xe4 ∷ 0xf8 ∷ 0x81 ∷ 0x82 ∷ 0x41 ∷ 0xc2 ∷ 0x80 ∷ 0x81 ∷ 0x80 ∷ []) ≡ Ok (quote 1 100, quoted, 0xf8 ∷ 0x81 ∷ 0x82 ∷ 0x41 ∷ 0xc2 ∷ 0x80 ∷ 0x81 ∷ 0x80 ∷ [])
 unfolding reading
 spelled_out_first = simp (absent_there, put_there)
 
 abbrev quoted_again : Dictionary
 quoted_again = puts quoted ((identifier_key, Some (U32 1)) ∷ (named (codes "Seq"), Some (U32 2)) ∷ (named (codes "Sym"), Some (Ascii (codes "AB"))) ∷ (named (codes "Px"), Some (Decimal (negsuc 1) (pos 101))) ∷ (named (codes "Qty"), None) ∷ [])
 
-spelled_out_second : message_at worked_set quoted (0xf8 ∷ 0x81 ∷ 0x82 ∷ 0x41 ∷ 0xc2 ∷ 0x80 ∷ 0x81 ∷ 0x80 ∷ []) ≡ Ok (message 1 (u32 2 ∷ characters (codes "AB") ∷ decimal (negsuc 1) (pos 101) ∷ absent ∷ []), quoted_again, [])
+spelled_out_second : message_at worked_set quoted (0xf8 ∷ 0x81 ∷ 0x82 ∷ 0x41 ∷ 0xc2 ∷ 0x80 ∷ 0x81 ∷ 0x80 ∷ []) ≡ Ok (quote 2 101, quoted_again, [])
 unfolding reading
 spelled_out_second = simp put_there
 
--- behind it F8 81 82 41 C2 80 81 80: Seq=2 Sym="AB" Px=101e-2, all spelled out
-spelled_out : read (0xf0 ∷ 0x81 ∷ 0x81 ∷ 0x41 ∷ 0xc2 ∷ 0xfe ∷ 0x00 ∷ 0xe4 ∷ 0xf8 ∷ 0x81 ∷ 0x82 ∷ 0x41 ∷ 0xc2 ∷ 0x80 ∷ 0x81 ∷ 0x80 ∷ []) ≡ (message 1 (u32 1 ∷ characters (codes "AB") ∷ decimal (negsuc 1) (pos 100) ∷ absent ∷ []) ∷ message 1 (u32 2 ∷ characters (codes "AB") ∷ decimal (negsuc 1) (pos 101) ∷ absent ∷ []) ∷ [], None)
+-- behind these bytes F8 81 82 41 C2 80 81 80: Seq=2 Sym="AB" Px=101e-2 Qty=-, spelled out
+spelled_out : read (0xf0 ∷ 0x81 ∷ 0x81 ∷ 0x41 ∷ 0xc2 ∷ 0xfe ∷ 0x00 ∷ 0xe4 ∷ 0xf8 ∷ 0x81 ∷ 0x82 ∷ 0x41 ∷ 0xc2 ∷ 0x80 ∷ 0x81 ∷ 0x80 ∷ []) ≡ (quote 1 100 ∷ quote 2 101 ∷ [], None)
 spelled_out = rw (spelled_out_first, spelled_out_second) refl
 
-left_out_first : message_at worked_set finite.empty (0xf0 ∷ 0x81 ∷ 0x81 ∷ 0x41 ∷ 0xc2 ∷ 0xfe ∷ 0x00 ∷ 0xe4 ∷ 0x80 ∷ 0x80 ∷ 0x81 ∷ []) ≡ Ok (message 1 (u32 1 ∷ characters (codes "AB") ∷ decimal (negsuc 1) (pos 100) ∷ absent ∷ []), quoted, 0x80 ∷ 0x80 ∷ 0x81 ∷ [])
+left_out_first : message_at worked_set finite.empty (0xf0 ∷ 0x81 ∷ 0x81 ∷ 0x41 ∷ 0xc2 ∷ 0xfe ∷ 0x00 ∷ 0xe4 ∷ 0x80 ∷ 0x80 ∷ 0x81 ∷ []) ≡ Ok (quote 1 100, quoted, 0x80 ∷ 0x80 ∷ 0x81 ∷ [])
 unfolding reading
 left_out_first = simp (absent_there, put_there)
 
-left_out_second : message_at worked_set quoted (0x80 ∷ 0x80 ∷ 0x81 ∷ []) ≡ Ok (message 1 (u32 2 ∷ characters (codes "AB") ∷ decimal (negsuc 1) (pos 101) ∷ absent ∷ []), quoted_again, [])
+left_out_second : message_at worked_set quoted (0x80 ∷ 0x80 ∷ 0x81 ∷ []) ≡ Ok (quote 2 101, quoted_again, [])
 unfolding reading
 left_out_second = simp put_there
 
--- behind it 80 80 81: the same two messages
-left_out : read (0xf0 ∷ 0x81 ∷ 0x81 ∷ 0x41 ∷ 0xc2 ∷ 0xfe ∷ 0x00 ∷ 0xe4 ∷ 0x80 ∷ 0x80 ∷ 0x81 ∷ []) ≡ (message 1 (u32 1 ∷ characters (codes "AB") ∷ decimal (negsuc 1) (pos 100) ∷ absent ∷ []) ∷ message 1 (u32 2 ∷ characters (codes "AB") ∷ decimal (negsuc 1) (pos 101) ∷ absent ∷ []) ∷ [], None)
+-- behind F0 81 81 41 C2 FE 00 E4 the bytes 80 80 81: the same two messages
+left_out : read (0xf0 ∷ 0x81 ∷ 0x81 ∷ 0x41 ∷ 0xc2 ∷ 0xfe ∷ 0x00 ∷ 0xe4 ∷ 0x80 ∷ 0x80 ∷ 0x81 ∷ []) ≡ (quote 1 100 ∷ quote 2 101 ∷ [], None)
 left_out = rw (left_out_first, left_out_second) refl
 
 -- the empty stream: no message
-nothing : read ([]) ≡ ([], None)
+nothing : read [] ≡ ([], None)
 unfolding reading
 nothing = refl
 
@@ -185,45 +191,45 @@ cut_after_seven = simp (absent_there, put_there)
 -- ---- Overlong forms, and bits that no instruction asks for
 
 -- 00 00 81 for Seq
-overlong_integer : read (0xf0 ∷ 0x81 ∷ 0x00 ∷ 0x00 ∷ 0x81 ∷ 0x41 ∷ 0xc2 ∷ 0xfe ∷ 0x00 ∷ 0xe4 ∷ []) ≡ (message 1 (u32 1 ∷ characters (codes "AB") ∷ decimal (negsuc 1) (pos 100) ∷ absent ∷ []) ∷ [], None)
+overlong_integer : read (0xf0 ∷ 0x81 ∷ 0x00 ∷ 0x00 ∷ 0x81 ∷ 0x41 ∷ 0xc2 ∷ 0xfe ∷ 0x00 ∷ 0xe4 ∷ []) ≡ (quote 1 100 ∷ [], None)
 unfolding reading
 overlong_integer = simp (absent_there, put_there)
 
 -- 70 00 80 for the map
-overlong_map : read (0x70 ∷ 0x00 ∷ 0x80 ∷ 0x81 ∷ 0x81 ∷ 0x41 ∷ 0xc2 ∷ 0xfe ∷ 0x00 ∷ 0xe4 ∷ []) ≡ (message 1 (u32 1 ∷ characters (codes "AB") ∷ decimal (negsuc 1) (pos 100) ∷ absent ∷ []) ∷ [], None)
+overlong_map : read (0x70 ∷ 0x00 ∷ 0x80 ∷ 0x81 ∷ 0x81 ∷ 0x41 ∷ 0xc2 ∷ 0xfe ∷ 0x00 ∷ 0xe4 ∷ []) ≡ (quote 1 100 ∷ [], None)
 unfolding reading
 overlong_map = simp (absent_there, put_there)
 
 -- F1 for the map
-unasked_bit : read (0xf1 ∷ 0x81 ∷ 0x81 ∷ 0x41 ∷ 0xc2 ∷ 0xfe ∷ 0x00 ∷ 0xe4 ∷ []) ≡ (message 1 (u32 1 ∷ characters (codes "AB") ∷ decimal (negsuc 1) (pos 100) ∷ absent ∷ []) ∷ [], None)
+unasked_bit : read (0xf1 ∷ 0x81 ∷ 0x81 ∷ 0x41 ∷ 0xc2 ∷ 0xfe ∷ 0x00 ∷ 0xe4 ∷ []) ≡ (quote 1 100 ∷ [], None)
 unfolding reading
 unasked_bit = simp (absent_there, put_there)
 
 -- ---- Delta of a string
 
 -- S is "GEH6"; two at the end make way for "M6"; two in front for "ES"
-deltas : read (0xc0 ∷ 0x8a ∷ 0x80 ∷ 0x47 ∷ 0x45 ∷ 0x48 ∷ 0xb6 ∷ 0x80 ∷ 0x82 ∷ 0x4d ∷ 0xb6 ∷ 0x80 ∷ 0xfd ∷ 0x45 ∷ 0xd3 ∷ []) ≡ (message 10 (characters (codes "GEH6") ∷ []) ∷ message 10 (characters (codes "GEM6") ∷ []) ∷ message 10 (characters (codes "ESM6") ∷ []) ∷ [], None)
+deltas : read (0xc0 ∷ 0x8a ∷ 0x80 ∷ 0x47 ∷ 0x45 ∷ 0x48 ∷ 0xb6 ∷ 0x80 ∷ 0x82 ∷ 0x4d ∷ 0xb6 ∷ 0x80 ∷ 0xfd ∷ 0x45 ∷ 0xd3 ∷ []) ≡ (message 10 (text (codes "GEH6") ∷ []) ∷ message 10 (text (codes "GEM6") ∷ []) ∷ message 10 (text (codes "ESM6") ∷ []) ∷ [], None)
 unfolding reading
 deltas = simp (absent_there, put_there)
 
 abbrev geh6 : Dictionary
 geh6 = puts finite.empty ((identifier_key, Some (U32 10)) ∷ (named (codes "S"), Some (Ascii (codes "GEH6"))) ∷ [])
 
-removes_too_much_first : message_at worked_set finite.empty (0xc0 ∷ 0x8a ∷ 0x80 ∷ 0x47 ∷ 0x45 ∷ 0x48 ∷ 0xb6 ∷ 0x80 ∷ 0x82 ∷ 0x4d ∷ 0xb6 ∷ 0x80 ∷ 0xfd ∷ 0x45 ∷ 0xd3 ∷ 0x80 ∷ 0x85 ∷ 0x80 ∷ []) ≡ Ok (message 10 (characters (codes "GEH6") ∷ []), geh6, 0x80 ∷ 0x82 ∷ 0x4d ∷ 0xb6 ∷ 0x80 ∷ 0xfd ∷ 0x45 ∷ 0xd3 ∷ 0x80 ∷ 0x85 ∷ 0x80 ∷ [])
+removes_too_much_first : message_at worked_set finite.empty (0xc0 ∷ 0x8a ∷ 0x80 ∷ 0x47 ∷ 0x45 ∷ 0x48 ∷ 0xb6 ∷ 0x80 ∷ 0x82 ∷ 0x4d ∷ 0xb6 ∷ 0x80 ∷ 0xfd ∷ 0x45 ∷ 0xd3 ∷ 0x80 ∷ 0x85 ∷ 0x80 ∷ []) ≡ Ok (message 10 (text (codes "GEH6") ∷ []), geh6, 0x80 ∷ 0x82 ∷ 0x4d ∷ 0xb6 ∷ 0x80 ∷ 0xfd ∷ 0x45 ∷ 0xd3 ∷ 0x80 ∷ 0x85 ∷ 0x80 ∷ [])
 unfolding reading
 removes_too_much_first = simp (absent_there, put_there)
 
 abbrev gem6 : Dictionary
 gem6 = puts geh6 ((identifier_key, Some (U32 10)) ∷ (named (codes "S"), Some (Ascii (codes "GEM6"))) ∷ [])
 
-removes_too_much_second : message_at worked_set geh6 (0x80 ∷ 0x82 ∷ 0x4d ∷ 0xb6 ∷ 0x80 ∷ 0xfd ∷ 0x45 ∷ 0xd3 ∷ 0x80 ∷ 0x85 ∷ 0x80 ∷ []) ≡ Ok (message 10 (characters (codes "GEM6") ∷ []), gem6, 0x80 ∷ 0xfd ∷ 0x45 ∷ 0xd3 ∷ 0x80 ∷ 0x85 ∷ 0x80 ∷ [])
+removes_too_much_second : message_at worked_set geh6 (0x80 ∷ 0x82 ∷ 0x4d ∷ 0xb6 ∷ 0x80 ∷ 0xfd ∷ 0x45 ∷ 0xd3 ∷ 0x80 ∷ 0x85 ∷ 0x80 ∷ []) ≡ Ok (message 10 (text (codes "GEM6") ∷ []), gem6, 0x80 ∷ 0xfd ∷ 0x45 ∷ 0xd3 ∷ 0x80 ∷ 0x85 ∷ 0x80 ∷ [])
 unfolding reading
 removes_too_much_second = simp put_there
 
 abbrev esm6 : Dictionary
 esm6 = puts gem6 ((identifier_key, Some (U32 10)) ∷ (named (codes "S"), Some (Ascii (codes "ESM6"))) ∷ [])
 
-removes_too_much_third : message_at worked_set gem6 (0x80 ∷ 0xfd ∷ 0x45 ∷ 0xd3 ∷ 0x80 ∷ 0x85 ∷ 0x80 ∷ []) ≡ Ok (message 10 (characters (codes "ESM6") ∷ []), esm6, 0x80 ∷ 0x85 ∷ 0x80 ∷ [])
+removes_too_much_third : message_at worked_set gem6 (0x80 ∷ 0xfd ∷ 0x45 ∷ 0xd3 ∷ 0x80 ∷ 0x85 ∷ 0x80 ∷ []) ≡ Ok (message 10 (text (codes "ESM6") ∷ []), esm6, 0x80 ∷ 0x85 ∷ 0x80 ∷ [])
 unfolding reading
 removes_too_much_third = simp put_there
 
@@ -232,41 +238,41 @@ unfolding reading
 removes_too_much_fourth = simp put_there
 
 -- behind them 80 85 80: five of four
-removes_too_much : read (0xc0 ∷ 0x8a ∷ 0x80 ∷ 0x47 ∷ 0x45 ∷ 0x48 ∷ 0xb6 ∷ 0x80 ∷ 0x82 ∷ 0x4d ∷ 0xb6 ∷ 0x80 ∷ 0xfd ∷ 0x45 ∷ 0xd3 ∷ 0x80 ∷ 0x85 ∷ 0x80 ∷ []) ≡ (message 10 (characters (codes "GEH6") ∷ []) ∷ message 10 (characters (codes "GEM6") ∷ []) ∷ message 10 (characters (codes "ESM6") ∷ []) ∷ [], refused D7 4 16 10 1)
+removes_too_much : read (0xc0 ∷ 0x8a ∷ 0x80 ∷ 0x47 ∷ 0x45 ∷ 0x48 ∷ 0xb6 ∷ 0x80 ∷ 0x82 ∷ 0x4d ∷ 0xb6 ∷ 0x80 ∷ 0xfd ∷ 0x45 ∷ 0xd3 ∷ 0x80 ∷ 0x85 ∷ 0x80 ∷ []) ≡ (message 10 (text (codes "GEH6") ∷ []) ∷ message 10 (text (codes "GEM6") ∷ []) ∷ message 10 (text (codes "ESM6") ∷ []) ∷ [], refused D7 4 16 10 1)
 removes_too_much = ap (λ r. (r.messages, fault_in (0xc0 ∷ 0x8a ∷ 0x80 ∷ 0x47 ∷ 0x45 ∷ 0x48 ∷ 0xb6 ∷ 0x80 ∷ 0x82 ∷ 0x4d ∷ 0xb6 ∷ 0x80 ∷ 0xfd ∷ 0x45 ∷ 0xd3 ∷ 0x80 ∷ 0x85 ∷ 0x80 ∷ []) r)) (one_more 17 _ _ _ removes_too_much_first (one_more 16 _ _ _ removes_too_much_second (one_more 15 _ _ _ removes_too_much_third (last_stop 14 _ _ _ removes_too_much_fourth))))
 
-removes_nothing_in_front_first : message_at worked_set finite.empty (0xc0 ∷ 0x8a ∷ 0x80 ∷ 0x47 ∷ 0x45 ∷ 0x48 ∷ 0xb6 ∷ 0x80 ∷ 0x82 ∷ 0x4d ∷ 0xb6 ∷ 0x80 ∷ 0xfd ∷ 0x45 ∷ 0xd3 ∷ 0x80 ∷ 0xff ∷ 0x80 ∷ []) ≡ Ok (message 10 (characters (codes "GEH6") ∷ []), geh6, 0x80 ∷ 0x82 ∷ 0x4d ∷ 0xb6 ∷ 0x80 ∷ 0xfd ∷ 0x45 ∷ 0xd3 ∷ 0x80 ∷ 0xff ∷ 0x80 ∷ [])
+removes_nothing_in_front_first : message_at worked_set finite.empty (0xc0 ∷ 0x8a ∷ 0x80 ∷ 0x47 ∷ 0x45 ∷ 0x48 ∷ 0xb6 ∷ 0x80 ∷ 0x82 ∷ 0x4d ∷ 0xb6 ∷ 0x80 ∷ 0xfd ∷ 0x45 ∷ 0xd3 ∷ 0x80 ∷ 0xff ∷ 0x80 ∷ []) ≡ Ok (message 10 (text (codes "GEH6") ∷ []), geh6, 0x80 ∷ 0x82 ∷ 0x4d ∷ 0xb6 ∷ 0x80 ∷ 0xfd ∷ 0x45 ∷ 0xd3 ∷ 0x80 ∷ 0xff ∷ 0x80 ∷ [])
 unfolding reading
 removes_nothing_in_front_first = simp (absent_there, put_there)
 
-removes_nothing_in_front_second : message_at worked_set geh6 (0x80 ∷ 0x82 ∷ 0x4d ∷ 0xb6 ∷ 0x80 ∷ 0xfd ∷ 0x45 ∷ 0xd3 ∷ 0x80 ∷ 0xff ∷ 0x80 ∷ []) ≡ Ok (message 10 (characters (codes "GEM6") ∷ []), gem6, 0x80 ∷ 0xfd ∷ 0x45 ∷ 0xd3 ∷ 0x80 ∷ 0xff ∷ 0x80 ∷ [])
+removes_nothing_in_front_second : message_at worked_set geh6 (0x80 ∷ 0x82 ∷ 0x4d ∷ 0xb6 ∷ 0x80 ∷ 0xfd ∷ 0x45 ∷ 0xd3 ∷ 0x80 ∷ 0xff ∷ 0x80 ∷ []) ≡ Ok (message 10 (text (codes "GEM6") ∷ []), gem6, 0x80 ∷ 0xfd ∷ 0x45 ∷ 0xd3 ∷ 0x80 ∷ 0xff ∷ 0x80 ∷ [])
 unfolding reading
 removes_nothing_in_front_second = simp put_there
 
-removes_nothing_in_front_third : message_at worked_set gem6 (0x80 ∷ 0xfd ∷ 0x45 ∷ 0xd3 ∷ 0x80 ∷ 0xff ∷ 0x80 ∷ []) ≡ Ok (message 10 (characters (codes "ESM6") ∷ []), esm6, 0x80 ∷ 0xff ∷ 0x80 ∷ [])
+removes_nothing_in_front_third : message_at worked_set gem6 (0x80 ∷ 0xfd ∷ 0x45 ∷ 0xd3 ∷ 0x80 ∷ 0xff ∷ 0x80 ∷ []) ≡ Ok (message 10 (text (codes "ESM6") ∷ []), esm6, 0x80 ∷ 0xff ∷ 0x80 ∷ [])
 unfolding reading
 removes_nothing_in_front_third = simp put_there
 
 abbrev esm6_again : Dictionary
 esm6_again = puts esm6 ((identifier_key, Some (U32 10)) ∷ (named (codes "S"), Some (Ascii (codes "ESM6"))) ∷ [])
 
-removes_nothing_in_front_fourth : message_at worked_set esm6 (0x80 ∷ 0xff ∷ 0x80 ∷ []) ≡ Ok (message 10 (characters (codes "ESM6") ∷ []), esm6_again, [])
+removes_nothing_in_front_fourth : message_at worked_set esm6 (0x80 ∷ 0xff ∷ 0x80 ∷ []) ≡ Ok (message 10 (text (codes "ESM6") ∷ []), esm6_again, [])
 unfolding reading
 removes_nothing_in_front_fourth = simp put_there
 
 -- behind them 80 FF 80: S is "ESM6" again
-removes_nothing_in_front : read (0xc0 ∷ 0x8a ∷ 0x80 ∷ 0x47 ∷ 0x45 ∷ 0x48 ∷ 0xb6 ∷ 0x80 ∷ 0x82 ∷ 0x4d ∷ 0xb6 ∷ 0x80 ∷ 0xfd ∷ 0x45 ∷ 0xd3 ∷ 0x80 ∷ 0xff ∷ 0x80 ∷ []) ≡ (message 10 (characters (codes "GEH6") ∷ []) ∷ message 10 (characters (codes "GEM6") ∷ []) ∷ message 10 (characters (codes "ESM6") ∷ []) ∷ message 10 (characters (codes "ESM6") ∷ []) ∷ [], None)
+removes_nothing_in_front : read (0xc0 ∷ 0x8a ∷ 0x80 ∷ 0x47 ∷ 0x45 ∷ 0x48 ∷ 0xb6 ∷ 0x80 ∷ 0x82 ∷ 0x4d ∷ 0xb6 ∷ 0x80 ∷ 0xfd ∷ 0x45 ∷ 0xd3 ∷ 0x80 ∷ 0xff ∷ 0x80 ∷ []) ≡ (message 10 (text (codes "GEH6") ∷ []) ∷ message 10 (text (codes "GEM6") ∷ []) ∷ message 10 (text (codes "ESM6") ∷ []) ∷ message 10 (text (codes "ESM6") ∷ []) ∷ [], None)
 removes_nothing_in_front = ap (λ r. (r.messages, fault_in (0xc0 ∷ 0x8a ∷ 0x80 ∷ 0x47 ∷ 0x45 ∷ 0x48 ∷ 0xb6 ∷ 0x80 ∷ 0x82 ∷ 0x4d ∷ 0xb6 ∷ 0x80 ∷ 0xfd ∷ 0x45 ∷ 0xd3 ∷ 0x80 ∷ 0xff ∷ 0x80 ∷ []) r)) (one_more 17 _ _ _ removes_nothing_in_front_first (one_more 16 _ _ _ removes_nothing_in_front_second (one_more 15 _ _ _ removes_nothing_in_front_third (one_more 14 _ _ _ removes_nothing_in_front_fourth refl))))
 
 -- ---- Tail
 
 -- S is "xab", and then x, NUL, b by a tail of NUL and b
-tail_with_nul : read (0xe0 ∷ 0x88 ∷ 0x78 ∷ 0x61 ∷ 0xe2 ∷ 0xa0 ∷ 0x00 ∷ 0x00 ∷ 0x00 ∷ 0xe2 ∷ []) ≡ (message 8 (characters (codes "xab") ∷ []) ∷ message 8 (characters (120 ∷ 0 ∷ 98 ∷ []) ∷ []) ∷ [], None)
+tail_with_nul : read (0xe0 ∷ 0x88 ∷ 0x78 ∷ 0x61 ∷ 0xe2 ∷ 0xa0 ∷ 0x00 ∷ 0x00 ∷ 0x00 ∷ 0xe2 ∷ []) ≡ (message 8 (text (codes "xab") ∷ []) ∷ message 8 (text (120 ∷ 0 ∷ 98 ∷ []) ∷ []) ∷ [], None)
 unfolding reading
 tail_with_nul = simp (absent_there, put_there)
 
 -- S is absent, and then the initial value "ab" by an empty tail
-tail_on_empty : read (0xe0 ∷ 0x89 ∷ 0x80 ∷ 0xa0 ∷ 0x00 ∷ 0x80 ∷ []) ≡ (message 9 (absent ∷ []) ∷ message 9 (characters (codes "ab") ∷ []) ∷ [], None)
+tail_on_empty : read (0xe0 ∷ 0x89 ∷ 0x80 ∷ 0xa0 ∷ 0x00 ∷ 0x80 ∷ []) ≡ (message 9 (absent ∷ []) ∷ message 9 (text (codes "ab") ∷ []) ∷ [], None)
 unfolding reading
 tail_on_empty = simp put_there
 
@@ -385,7 +391,7 @@ groups = rw (groups_first, groups_second, groups_third) refl
 abbrev clashed : Dictionary
 clashed = puts finite.empty ((identifier_key, Some (U32 7)) ∷ (named (codes "K"), Some (U32 5)) ∷ (named (codes "K"), Some (Ascii (codes "A"))) ∷ [])
 
-another_type_first : message_at worked_set finite.empty (0xf0 ∷ 0x87 ∷ 0x85 ∷ 0xc1 ∷ 0x80 ∷ []) ≡ Ok (message 7 (u32 5 ∷ characters (codes "A") ∷ []), clashed, 0x80 ∷ [])
+another_type_first : message_at worked_set finite.empty (0xf0 ∷ 0x87 ∷ 0x85 ∷ 0xc1 ∷ 0x80 ∷ []) ≡ Ok (message 7 (u32 5 ∷ text (codes "A") ∷ []), clashed, 0x80 ∷ [])
 unfolding reading
 another_type_first = refl
 
@@ -394,11 +400,11 @@ unfolding reading
 another_type_second = simp put_there
 
 -- A=5 B="A", and then A finds the string
-another_type : read (0xf0 ∷ 0x87 ∷ 0x85 ∷ 0xc1 ∷ 0x80 ∷ []) ≡ (message 7 (u32 5 ∷ characters (codes "A") ∷ []) ∷ [], refused D4 2 5 7 1)
+another_type : read (0xf0 ∷ 0x87 ∷ 0x85 ∷ 0xc1 ∷ 0x80 ∷ []) ≡ (message 7 (u32 5 ∷ text (codes "A") ∷ []) ∷ [], refused D4 2 5 7 1)
 another_type = rw (another_type_first, another_type_second) refl
 
 -- A=5 B="A", and A=6 B="A", both spelled out
-another_type_unused : read (0xf0 ∷ 0x87 ∷ 0x85 ∷ 0xc1 ∷ 0xb0 ∷ 0x86 ∷ 0xc1 ∷ []) ≡ (message 7 (u32 5 ∷ characters (codes "A") ∷ []) ∷ message 7 (u32 6 ∷ characters (codes "A") ∷ []) ∷ [], None)
+another_type_unused : read (0xf0 ∷ 0x87 ∷ 0x85 ∷ 0xc1 ∷ 0xb0 ∷ 0x86 ∷ 0xc1 ∷ []) ≡ (message 7 (u32 5 ∷ text (codes "A") ∷ []) ∷ message 7 (u32 6 ∷ text (codes "A") ∷ []) ∷ [], None)
 unfolding reading
 another_type_unused = simp put_there
 
