@@ -2,3 +2,5 @@ pub mod WorkedFields
 pub mod WorkedRows
 pub mod BestForms
 pub mod WorkedBest
+pub mod FieldLaws
+pub mod SpelledForms

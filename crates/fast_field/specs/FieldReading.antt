@@ -195,17 +195,18 @@ row_at operator.Tail i e false bytes = predicted_at i e bytes
 row_at operator.Tail i e true bytes = tail_at i e bytes
 
 -- an exponent and a length are checked once more, also where bit 0 gave them
-unfoldable pub part_checked : Part → Option Scalar → List ℕ → Result (Option Scalar × List ℕ) FieldFault
-part_checked p None rest = Ok (None, rest)
-part_checked part.Exponent (Some v) rest = if within_part part.Exponent v then Ok (Some v, rest) else Err fault.R1
-part_checked part.Length (Some v) rest = if within_part part.Length v then Ok (Some v, rest) else Err fault.Limit
-part_checked p (Some v) rest = Ok (Some v, rest)
+unfoldable pub part_checked : Part → Option Scalar → Result (Option Scalar) FieldFault
+part_checked p None = Ok None
+part_checked part.Exponent (Some v) = if within_part part.Exponent v then Ok (Some v) else Err fault.R1
+part_checked part.Length (Some v) = if within_part part.Length v then Ok (Some v) else Err fault.Limit
+part_checked p (Some v) = Ok (Some v)
 
 -- the value and the bytes after it, or the first fault; want of memory is no fault of the bytes
 unfoldable pub field_at : FieldPart → Entry → Bool → List ℕ → Result (Option Scalar × List ℕ) FieldFault
 field_at i e bit bytes = do
   x ← row_at i.operator i e bit bytes
-  part_checked i.part x.0 x.1
+  v ← part_checked i.part x.0
+  Ok (v, x.1)
 
 -- the first fault of a field under this bit on these bytes
 abbrev pub IsFieldFault : FieldPart → Entry → Bool → List ℕ → FieldFault → Type 0
