@@ -1,7 +1,7 @@
 -- How readers of fields are put together.
 use Rattle.std.proofs.Common.{◌≡◌, ℕ, Bool, true, false, List, [], ◌++◌, Result, Ok, Err, refl, sym, ap, subst, ◌∙◌, append-nil}
 use Rattle.std.specs.Prelude.{Option, Some, None}
-use Rattle.fast_wire.specs.Reader.{IsBytes, IsReader, Both}
+use Rattle.fast_wire.specs.Reader.{IsReader, Both}
 use Rattle.fast_wire.specs.Reading.{◌>>=◌}
 use Rattle.fast_wire.specs.declared.fault.WireFault.{WireFault}
 use Rattle.fast_wire.specs.declared.fault.WireFault.TheVariants as wire

@@ -1,12 +1,11 @@
 -- What each operator has is read, and nothing else is.
-use Rattle.std.proofs.Common.{◌≡◌, ℕ, zero, suc, ◌<◌, ◌≤◌, Bool, true, false, cond, List, [], ◌∷◌, ◌++◌, length, Result, Ok, Err, refl, sym, ap, subst, ◌∙◌, arith}
-use Rattle.std.specs.Prelude.{ℤ, pos, negsuc, Option, Some, None, IsTrue, IsSome, IfSome, nat_le, int_lt, if◌then◌else◌}
+use Rattle.std.proofs.Common.{◌≡◌, ℕ, ◌≤◌, Bool, true, false, List, [], length, Result, Ok, refl, sym, ap, subst, arith}
+use Rattle.std.specs.Prelude.{ℤ, Option, Some, None, IsTrue, IsSome, IfSome, nat_le, if◌then◌else◌}
 use Rattle.std.proofs.lemmas.Bool.Decides.{nat_tests}
 use Rattle.fast_wire.specs.Reader.{IsReader}
-use Rattle.fast_wire.specs.Reading.{◌>>=◌}
-use Rattle.fast_wire.specs.declared.nullable.Nullable.TheVariants.{Null, Value}
+use Rattle.fast_wire.specs.declared.nullable.Nullable.TheVariants.{Value}
 use Rattle.fast_wire.proofs.Readers.{ok_is, reader_of, reader_as, reader_checked}
-use Rattle.fast_template.specs.Resolved.{operator_needs_bit, part_needs_bit}
+use Rattle.fast_template.specs.Resolved.{operator_needs_bit}
 use Rattle.fast_template.specs.Scalar.{IsScalar, kind_of, of_integer, is_of}
 use Rattle.fast_template.specs.TemplateSets.{IsTyped, IsInitial}
 use Rattle.fast_template.specs.declared.kind.Kind.{Kind}
@@ -19,13 +18,13 @@ use Rattle.fast_template.specs.declared.kind.Presence.{Presence}
 use Rattle.fast_template.specs.declared.kind.Presence.TheVariants.{Mandatory, Optional}
 use Rattle.fast_template.specs.declared.resolved.FieldPart.{FieldPart}
 use Rattle.fast_template.specs.declared.scalar.Scalar.{Scalar}
-use Rattle.fast_template.specs.declared.scalar.Scalar.TheVariants.{U32, I32, U64, I64, Decimal, Ascii, Unicode, Bytes}
+use Rattle.fast_template.specs.declared.scalar.Scalar.TheVariants.{Ascii, Unicode, Bytes}
 use Rattle.fast_dictionary.specs.declared.entry.Entry.{Entry}
 use Rattle.fast_dictionary.specs.declared.entry.Entry.TheVariants.{Undefined, Empty, Assigned}
 use Rattle.fast_field.specs.declared.fault.FieldFault.{FieldFault}
 use Rattle.fast_field.specs.declared.fault.FieldFault.TheVariants as fault
-use Rattle.fast_field.specs.Values.{units_of, integer_of, increased}
-use Rattle.fast_field.specs.Fields.{Cut, uncut, SpellsUnits, Spelled, FormOf, FormBy, Form, IsWithin, within_part, predicted, absent_or, initial_or, repeated, InitialOrAbsent, IsBitOf, HoldsScalar}
+use Rattle.fast_field.specs.Values.{units_of}
+use Rattle.fast_field.specs.Fields.{Cut, uncut, SpellsUnits, Spelled, FormOf, Form, IsWithin, within_part, predicted, absent_or, initial_or, repeated, InitialOrAbsent, HoldsScalar}
 use Rattle.fast_field.specs.FieldReading.{whole_at, predicted_at, row_at, part_checked, field_at}
 use Rattle.fast_field.proofs.SpelledForms.{spelled_forms, if_ok, if_holds}
 
@@ -175,20 +174,27 @@ unfolding row_at
 increment_row i e false typed holds = predicted_row i e typed holds
 increment_row i e true typed holds = whole_row i
 
--- each operator that spells whole values alone
-pub row_few : (o : Operator) (i : FieldPart) (e : Entry) (bit : Bool) (cut : Cut) (b : List ℕ) (v : Option Scalar) → (o ≡ operator.Delta → ⊥) → (o ≡ operator.Tail → ⊥) → IsTyped i → HoldsScalar e → FormOf o i e bit cut b v → HasFew v
-row_few operator.Plain i e false cut b v d t typed holds h = absurd h
-row_few operator.Plain i e true cut b v d t typed holds h = spelled_few i.kind i.presence b v h.1
-row_few operator.Constant i e false cut b v d t typed holds h = subst HasFew (sym h.3) tt
-row_few operator.Constant i e true cut b v d t typed holds h = subst HasFew (sym h.2) (initial_few i i.initial typed.initial_fits)
-row_few operator.Default i e false cut b v d t typed holds h = subst HasFew (initial_from i v h.2) (initial_few i i.initial typed.initial_fits)
-row_few operator.Default i e true cut b v d t typed holds h = spelled_few i.kind i.presence b v h.1
-row_few operator.Copy i e false cut b v d t typed holds h = predicted_few i e v typed holds h.2
-row_few operator.Copy i e true cut b v d t typed holds h = spelled_few i.kind i.presence b v h.1
-row_few operator.Increment i e false cut b v d t typed holds h = predicted_few i e v typed holds h.2
-row_few operator.Increment i e true cut b v d t typed holds h = spelled_few i.kind i.presence b v h.1
-row_few operator.Delta i e bit cut b v d t typed holds h = absurd (d refl)
-row_few operator.Tail i e bit cut b v d t typed holds h = absurd (t refl)
+-- ---- what has a form has few enough units
+
+pub plain_few : (i : FieldPart) (e : Entry) (bit : Bool) (cut : Cut) (b : List ℕ) (v : Option Scalar) → FormOf operator.Plain i e bit cut b v → HasFew v
+plain_few i e false cut b v h = absurd h
+plain_few i e true cut b v h = spelled_few i.kind i.presence b v h.1
+
+pub constant_few : (i : FieldPart) (e : Entry) (bit : Bool) (cut : Cut) (b : List ℕ) (v : Option Scalar) → IsTyped i → FormOf operator.Constant i e bit cut b v → HasFew v
+constant_few i e false cut b v typed h = subst HasFew (sym h.3) tt
+constant_few i e true cut b v typed h = subst HasFew (sym h.2) (initial_few i i.initial typed.initial_fits)
+
+pub default_few : (i : FieldPart) (e : Entry) (bit : Bool) (cut : Cut) (b : List ℕ) (v : Option Scalar) → IsTyped i → FormOf operator.Default i e bit cut b v → HasFew v
+default_few i e false cut b v typed h = subst HasFew (initial_from i v h.2) (initial_few i i.initial typed.initial_fits)
+default_few i e true cut b v typed h = spelled_few i.kind i.presence b v h.1
+
+pub copy_few : (i : FieldPart) (e : Entry) (bit : Bool) (cut : Cut) (b : List ℕ) (v : Option Scalar) → IsTyped i → HoldsScalar e → FormOf operator.Copy i e bit cut b v → HasFew v
+copy_few i e false cut b v typed holds h = predicted_few i e v typed holds h.2
+copy_few i e true cut b v typed holds h = spelled_few i.kind i.presence b v h.1
+
+pub increment_few : (i : FieldPart) (e : Entry) (bit : Bool) (cut : Cut) (b : List ℕ) (v : Option Scalar) → IsTyped i → HoldsScalar e → FormOf operator.Increment i e bit cut b v → HasFew v
+increment_few i e false cut b v typed holds h = predicted_few i e v typed holds h.2
+increment_few i e true cut b v typed holds h = spelled_few i.kind i.presence b v h.1
 
 -- ---- the limits of parts
 
@@ -209,13 +215,14 @@ checked_is part.Whole (Some v) h = refl
 checked_is part.Mantissa (Some v) h = refl
 
 -- where every form within the limits of its part has few enough units, the row is the form
-pub field_forms : (i : FieldPart) (e : Entry) (bit : Bool) → IsReader fault.NeedMore (row_at i.operator i e bit) (Row i.operator i e bit)
-    → ((cut : Cut) (b : List ℕ) (v : Option Scalar) → FormBy i e bit cut b v → HasFew v) → IsReader fault.NeedMore (field_at i e bit) (Form i e bit)
+pub field_forms : (o : Operator) (i : FieldPart) (e : Entry) (bit : Bool) → i.operator ≡ o → IsReader fault.NeedMore (row_at o i e bit) (Row o i e bit)
+    → ((cut : Cut) (b : List ℕ) (v : Option Scalar) → FormOf o i e bit cut b v → IsWithin i.part v → HasFew v) → IsReader fault.NeedMore (field_at i e bit) (Form i e bit)
 unfolding field_at
-field_forms i e bit row few =
+field_forms o i e bit is row few =
+    let own = subst (λ (o : Operator). IsReader fault.NeedMore (row_at o i e bit) (Row o i e bit)) (sym is) row in
     reader_as fault.NeedMore (field_at i e bit) (λ b y. (x : Option Scalar) × Row i.operator i e bit b x × (part_checked i.part x ≡ Ok y)) (Form i e bit)
     (λ b y h.
-      let w = checked_ok i.part h.0 y h.1.2 h.2 in
-      subst (λ (y : Option Scalar). Form i e bit b y) w.0 (h.1.0, record { row = h.1.1; within = w.1 }))
-    (λ b y h. (y, (h.0, h.1.row, few h.0 b y h.1), checked_is i.part y h.1.within))
-    (reader_checked fault.NeedMore (row_at i.operator i e bit) (part_checked i.part) (Row i.operator i e bit) row)
+    let w = checked_ok i.part h.0 y h.1.2 h.2 in
+    subst (λ (y : Option Scalar). Form i e bit b y) w.0 (h.1.0, record { row = h.1.1; within = w.1 }))
+    (λ b y h. (y, (h.0, h.1.row, few h.0 b y (subst (λ (o : Operator). FormOf o i e bit h.0 b y) is h.1.row) h.1.within), checked_is i.part y h.1.within))
+    (reader_checked fault.NeedMore (row_at i.operator i e bit) (part_checked i.part) (Row i.operator i e bit) own)

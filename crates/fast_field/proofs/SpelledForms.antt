@@ -1,5 +1,5 @@
 -- What stands whole is read, and nothing else is.
-use Rattle.std.proofs.Common.{◌≡◌, ℕ, zero, suc, ◌<◌, ◌≤◌, ◌^◌, Bool, true, false, cond, List, [], ◌++◌, Result, Ok, Err, refl, sym, ap, subst, ◌∙◌, arith, append-nil}
+use Rattle.std.proofs.Common.{◌≡◌, ℕ, ◌<◌, ◌^◌, Bool, true, false, List, [], ◌++◌, Result, Ok, Err, refl, sym, ap, subst, ◌∙◌, arith, append-nil}
 use Rattle.std.specs.Prelude.{ℤ, pos, negsuc, Option, Some, None, IsTrue, if◌then◌else◌}
 use Rattle.std.specs.Str.{is_utf8}
 use Rattle.std.proofs.lemmas.Str.{IsUtf8-from_is_utf8, is_utf8-from_IsUtf8}
@@ -22,10 +22,9 @@ use Rattle.fast_template.specs.declared.kind.Presence.TheVariants.{Mandatory, Op
 use Rattle.fast_template.specs.declared.kind.Part.{Part}
 use Rattle.fast_template.specs.declared.scalar.Scalar.{Scalar}
 use Rattle.fast_template.specs.declared.scalar.Scalar.TheVariants.{U32, I32, U64, I64, Decimal, Ascii, Unicode, Bytes}
-use Rattle.fast_template.specs.Scalar.{is_of, in_range, exponent_in_range, of_integer}
+use Rattle.fast_template.specs.Scalar.{in_range, exponent_in_range, of_integer}
 use Rattle.fast_field.specs.declared.fault.FieldFault.{FieldFault}
 use Rattle.fast_field.specs.declared.fault.FieldFault.TheVariants as fault
-use Rattle.fast_field.specs.Values.{is_unsigned}
 use Rattle.fast_field.specs.Fields.{SpellsInteger, SpellsPart, SpellsUnits, SpellsPair, Spelled}
 use Rattle.fast_field.specs.FieldReading.{in_field, signless, integer_at, part_at, units_at, range_fault, integer_value, decimal_value, unit_value, as_value, unless_null, integer_spelled_at, mantissa_behind, decimal_spelled_at, units_spelled_at, spelled_at}
 use Rattle.fast_field.proofs.FieldLaws.{reader_in_field, reader_check, reader_made, reader_null, reader_value, Made, NullOr, IsMade}
@@ -129,8 +128,8 @@ spelled_made : {A : Type 0} (k : Kind) (p : Presence) (r : List ℕ → Result (
     → IsReader fault.NeedMore (λ bytes. r bytes >>= λ x. unless_null x (λ x. as_value (make x))) (Spelled k p)
 spelled_made {A} k p r First make is null_to null_from to from =
     reader_as fault.NeedMore (λ bytes. r bytes >>= λ x. unless_null x (λ x. as_value (make x))) (Made First make) (Spelled k p)
-    (λ b y. elim y as (λ y. Made First make b y → Spelled k p b y) [ | None ↦ λ h. null_to b h | Some v ↦ λ h. to b h.0 v h.1 h.2 ])
-    (λ b y. elim y as (λ y. Spelled k p b y → Made First make b y) [ | None ↦ λ h. null_from b h | Some v ↦ λ h. from b v h ])
+    (λ b y. elim y as (λ y. Made First make b y → Spelled k p b y) [ None ↦ λ h. null_to b h | Some v ↦ λ h. to b h.0 v h.1 h.2 ])
+    (λ b y. elim y as (λ y. Spelled k p b y → Made First make b y) [ None ↦ λ h. null_from b h | Some v ↦ λ h. from b v h ])
     (reader_made r First make is)
 
 -- ---- integers, as values
