@@ -6,3 +6,4 @@ pub mod FieldLaws
 pub mod SpelledForms
 pub mod RowForms
 pub mod FieldForms
+pub mod DeltaForms

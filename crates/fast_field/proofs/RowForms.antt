@@ -37,7 +37,7 @@ abbrev pub HasFew : Option Scalar → Type 0
 HasFew None = Unit {0}
 HasFew (Some v) = IsTrue (nat_le (length (units_of v)) 65535)
 
-few : (n : ℕ) → n ≤ 65535 → IsTrue (nat_le n 65535)
+pub few : (n : ℕ) → n ≤ 65535 → IsTrue (nat_le n 65535)
 few n h = grind (arith, nat_tests)
 
 pub few_units : (k : Kind) (p : Presence) (b s : List ℕ) → SpellsUnits k p b (Value s) → length s ≤ 65535

@@ -230,11 +230,11 @@ bytes_values Optional = spelled_made kind.Bytes Optional (units_at kind.Bytes Op
 
 -- ---- decimals
 
-decimal_value_ok : (e m : ℤ) (v : Scalar) → decimal_value e m ≡ Ok v → IsTrue (in_range kind.Int64 m) × (Decimal e m ≡ v)
+pub decimal_value_ok : (e m : ℤ) (v : Scalar) → decimal_value e m ≡ Ok v → IsTrue (in_range kind.Int64 m) × (Decimal e m ≡ v)
 unfolding decimal_value
 decimal_value_ok e m v h = if_ok (in_range kind.Int64 m) (Decimal e m) v fault.R1 h
 
-decimal_value_is : (e m : ℤ) → IsTrue (in_range kind.Int64 m) → decimal_value e m ≡ Ok (Decimal e m)
+pub decimal_value_is : (e m : ℤ) → IsTrue (in_range kind.Int64 m) → decimal_value e m ≡ Ok (Decimal e m)
 unfolding decimal_value
 decimal_value_is e m h = if_holds (in_range kind.Int64 m) (Decimal e m) fault.R1 h
 
