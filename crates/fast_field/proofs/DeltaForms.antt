@@ -1,5 +1,5 @@
 -- Deltas are read, and nothing else is.
-use Rattle.std.proofs.Common.{◌≡◌, ℕ, zero, suc, ◌<◌, ◌≤◌, ◌^◌, Bool, true, false, cond, List, [], ◌∷◌, ◌++◌, length, Result, Ok, Err, refl, sym, ap, subst, ◌∙◌, arith, append-nil}
+use Rattle.std.proofs.Common.{◌≡◌, ℕ, ◌≤◌, Bool, true, false, List, [], ◌++◌, length, Result, Ok, Err, refl, sym, ap, subst, ◌∙◌, arith, append-nil}
 use Rattle.std.specs.Prelude.{ℤ, pos, negsuc, ◌+ℤ◌, Option, Some, None, IsTrue, IfSome, unwrap_or, nat_le, nat_lt, if◌then◌else◌}
 use Rattle.std.specs.Str.{is_utf8}
 use Rattle.std.proofs.lemmas.Str.{IsUtf8-from_is_utf8, is_utf8-from_IsUtf8}
@@ -11,7 +11,7 @@ use Rattle.fast_wire.specs.declared.nullable.Nullable.{Nullable}
 use Rattle.fast_wire.specs.declared.nullable.Nullable.TheVariants.{Null, Value}
 use Rattle.fast_wire.proofs.Readers.{ok_is, bind_ok, reader_then, reader_as, reader_after}
 use Rattle.fast_wire.proofs.FormReaders.{signed_forms}
-use Rattle.fast_template.specs.Scalar.{is_of, is_integer, in_range, exponent_in_range, of_integer}
+use Rattle.fast_template.specs.Scalar.{is_of, is_integer, in_range, exponent_in_range}
 use Rattle.fast_template.specs.TemplateSets.{IsTyped, IsInitial}
 use Rattle.fast_template.specs.declared.kind.Kind.{Kind}
 use Rattle.fast_template.specs.declared.kind.Kind.TheVariants as kind
@@ -26,9 +26,9 @@ use Rattle.fast_dictionary.specs.declared.entry.Entry.{Entry}
 use Rattle.fast_dictionary.specs.declared.entry.Entry.TheVariants.{Undefined, Empty, Assigned}
 use Rattle.fast_field.specs.declared.fault.FieldFault.{FieldFault}
 use Rattle.fast_field.specs.declared.fault.FieldFault.TheVariants as fault
-use Rattle.fast_field.specs.Values.{integer_of, exponent_of, mantissa_of, units_of, of_units, default_of}
-use Rattle.fast_field.specs.Fields.{Cut, uncut, at_end, side_of, removed_of, put_together, SpellsInteger, SpellsPart, SpellsPair, SpellsDelta, SpellsDeltas, SpellsCut, DeltaValue, DeltaForm, FormOf, delta_base, kept_of, start_of}
-use Rattle.fast_field.specs.FieldReading.{in_field, check, as_value, unless_null, integer_at, part_at, range_fault, integer_value, decimal_value, unit_value, limited_value, integer_sum, integer_delta_at, mantissa_delta_behind, decimal_delta_at, new_part_behind, unit_delta_at, delta_at, row_at}
+use Rattle.fast_field.specs.Values.{integer_of, exponent_of, mantissa_of, units_of, default_of}
+use Rattle.fast_field.specs.Fields.{Cut, uncut, side_of, removed_of, put_together, SpellsInteger, SpellsPart, SpellsPair, SpellsDelta, SpellsDeltas, SpellsCut, DeltaValue, DeltaForm, delta_base, kept_of, start_of}
+use Rattle.fast_field.specs.FieldReading.{in_field, check, as_value, unless_null, integer_at, part_at, integer_value, decimal_value, unit_value, limited_value, integer_sum, integer_delta_at, mantissa_delta_behind, decimal_delta_at, new_part_behind, unit_delta_at, delta_at, row_at}
 use Rattle.fast_field.proofs.FieldLaws.{reader_in_field, reader_check, reader_made, reader_null, reader_value, Made, NullOr, IsMade}
 use Rattle.fast_field.proofs.SpelledForms.{integer_forms, part_forms, if_ok, if_holds, integer_value_ok, integer_value_is, in_uint32, uint32_in, in_uint64, uint64_in, decimal_value_ok, decimal_value_is}
 use Rattle.fast_field.proofs.RowForms.{Row, HasFew, few}
@@ -186,8 +186,7 @@ decimal_sum_from p c b (Decimal x l) (Decimal e m) of h =
     let s = h.1 in
     let pair = s.form in
     let range : exponent_in_range (x +ℤ s.exponent_delta) ≡ true = rw (← s.exponent_sum) h.2 in
-    let made : decimal_value (x +ℤ s.exponent_delta) (l +ℤ s.mantissa_delta) ≡ Ok (Decimal e m) = rw (← s.exponent_sum, ← s.mantissa_sum) (decimal_value_is e m h.3) in
-    (
+    let made : decimal_value (x +ℤ s.exponent_delta) (l +ℤ s.mantissa_delta) ≡ Ok (Decimal e m) = rw (← s.exponent_sum, ← s.mantissa_sum) (decimal_value_is e m h.3) in (
       s.exponent_delta,
       pair.front,
       pair.back,
@@ -281,7 +280,7 @@ behind_removal i e removal =
     reader_check (in_range kind.Int32 removal) fault.D7 (λ rest. delta_base i e >>= λ base. new_part_behind i.kind removal (units_of base) rest) (WithBase i e removal)
     (reader_after fault.NeedMore (delta_base i e) (λ base. new_part_behind i.kind removal (units_of base)) (λ base. IsNewPart i.kind removal (units_of base)) (λ base. new_parts i.kind removal (units_of base)))
 
-at_most : (m n : ℕ) → nat_le m n ≡ true → m ≤ n
+pub at_most : (m n : ℕ) → nat_le m n ≡ true → m ≤ n
 at_most m n h = grind (arith, nat_tests)
 
 is_at_most : (m n : ℕ) → m ≤ n → nat_le m n ≡ true
@@ -386,3 +385,49 @@ unit_deltas i e typed u =
     (λ b v. units_from i e b v typed u)
     (reader_then fault.NeedMore (integer_at false i.presence) (λ x rest. unless_null (x, rest) (λ removal rest. check (in_range kind.Int32 removal) fault.D7 >>= λ fits. (delta_base i e >>= λ base. new_part_behind i.kind removal (units_of base) rest))) (SpellsInteger false i.presence) (NullOr (BehindRemoval i e)) (integer_forms false i.presence)
     (reader_null (λ removal rest. check (in_range kind.Int32 removal) fault.D7 >>= λ fits. (delta_base i e >>= λ base. new_part_behind i.kind removal (units_of base) rest)) (BehindRemoval i e) (behind_removal i e)))
+
+-- ---- all types
+
+-- a delta of a number has no units
+number_few : (k : Kind) (p : Presence) (c : Cut) (b : List ℕ) (base v : Scalar) → has_units k ≡ false → IsTrue (is_of k base) → DeltaValue p base c b v → HasFew (Some v)
+number_few kind.UInt32 p c b (U32 m) (U32 n) none of h = refl
+number_few kind.UInt32 p c b (U32 m) v none of h = absurd h
+number_few kind.UInt64 p c b (U64 m) (U64 n) none of h = refl
+number_few kind.UInt64 p c b (U64 m) v none of h = absurd h
+number_few kind.Int32 p c b (I32 y) (I32 z) none of h = refl
+number_few kind.Int32 p c b (I32 y) v none of h = absurd h
+number_few kind.Int64 p c b (I64 y) (I64 z) none of h = refl
+number_few kind.Int64 p c b (I64 y) v none of h = absurd h
+number_few kind.Decimal p c b (Decimal x l) (Decimal e m) none of h = refl
+number_few kind.Decimal p c b (Decimal x l) v none of h = absurd h
+number_few kind.Ascii p c b base v none of h = absurd cc
+number_few kind.Unicode p c b base v none of h = absurd cc
+number_few kind.Bytes p c b base v none of h = absurd cc
+number_few k p c b base v none of h = absurd cc
+
+pub number_delta_few : (i : FieldPart) (e : Entry) (c : Cut) (b : List ℕ) (v : Option Scalar) → IsTyped i → has_units i.kind ≡ false → DeltaForm i e c b v → HasFew v
+number_delta_few i e c b None typed none h = tt
+number_delta_few i e c b (Some v) typed none h = number_few i.kind i.presence c b h.0 v none (base_is i e h.0 typed h.1) h.2
+
+number_row : (i : FieldPart) (e : Entry) (read : List ℕ → Result (Option Scalar × List ℕ) FieldFault) → IsTyped i → has_units i.kind ≡ false → IsReader fault.NeedMore read (Delta i e) → IsReader fault.NeedMore read (Row operator.Delta i e true)
+number_row i e read typed none is =
+    reader_as fault.NeedMore read (Delta i e) (Row operator.Delta i e true)
+    (λ b v h. (h.0, h.1, number_delta_few i e h.0 b v typed none h.1))
+    (λ b v h. (h.0, h.1))
+    is
+
+deltas : (k : Kind) (i : FieldPart) (e : Entry) → i.kind ≡ k → IsTyped i → IsReader fault.NeedMore (delta_at k i e) (Row operator.Delta i e true)
+unfolding delta_at
+deltas kind.UInt32 i e k typed = number_row i e (integer_delta_at i e) typed (ap has_units k) (integer_deltas i e typed (ap is_integer k))
+deltas kind.UInt64 i e k typed = number_row i e (integer_delta_at i e) typed (ap has_units k) (integer_deltas i e typed (ap is_integer k))
+deltas kind.Int32 i e k typed = number_row i e (integer_delta_at i e) typed (ap has_units k) (integer_deltas i e typed (ap is_integer k))
+deltas kind.Int64 i e k typed = number_row i e (integer_delta_at i e) typed (ap has_units k) (integer_deltas i e typed (ap is_integer k))
+deltas kind.Decimal i e k typed = number_row i e (decimal_delta_at i e) typed (ap has_units k) (decimal_deltas i e typed k)
+deltas kind.Ascii i e k typed = unit_deltas i e typed (ap has_units k)
+deltas kind.Unicode i e k typed = unit_deltas i e typed (ap has_units k)
+deltas kind.Bytes i e k typed = unit_deltas i e typed (ap has_units k)
+
+pub delta_row : (i : FieldPart) (e : Entry) (bit : Bool) → bit ≡ true → IsTyped i → IsReader fault.NeedMore (row_at operator.Delta i e bit) (Row operator.Delta i e bit)
+unfolding row_at
+delta_row i e false h typed = absurd cc
+delta_row i e true h typed = deltas i.kind i e refl typed

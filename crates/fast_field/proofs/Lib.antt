@@ -7,3 +7,4 @@ pub mod SpelledForms
 pub mod RowForms
 pub mod FieldForms
 pub mod DeltaForms
+pub mod TailForms
