@@ -9,7 +9,7 @@ use Rattle.fast_template.specs.declared.kind.Operator.TheVariants.{Copy, Delta}
 use Rattle.fast_template.specs.declared.scalar.Scalar.TheVariants.{U32, I32, Ascii, Unicode}
 use Rattle.fast_dictionary.specs.declared.entry.Entry.TheVariants.{Undefined, Empty, Assigned}
 use Rattle.fast_field.specs.declared.fault.FieldFault.TheVariants as fault
-use Rattle.fast_field.specs.FieldReading.{integer_at, part_at, units_at, integer_value, unit_value, integer_spelled_at, spelled_at, integer_delta_at, mantissa_delta_behind, decimal_delta_at, new_part_behind, unit_delta_at, delta_at, tail_at, whole_at, predicted_at, row_at, part_checked, field_at, IsFieldFault}
+use Rattle.fast_field.specs.FieldReading.{integer_at, part_at, units_at, integer_value, unit_value, integer_spelled_at, spelled_at, integer_delta_at, integer_sum, mantissa_delta_behind, decimal_delta_at, new_part_behind, unit_delta_at, delta_at, tail_at, ended_value, limited_value, whole_at, predicted_at, row_at, part_checked, field_at, IsFieldFault}
 use Rattle.fast_field.proofs.WorkedFields.{Reads, field, field_with, text, number, quote_seq, quote_sym, quote_px, quote_qty, wrap_b, opt_px_exponent, clash_a, tail_s, init_s, delta_s, uni_s, empty_b, const_k, const_o, const_d}
 
 -- ---- without a base
@@ -77,7 +77,7 @@ default_left_out = (refl, refl)
 
 -- removal of no unit in front, and no new part
 nothing_in_front : Reads delta_s (text (codes "ESM6")) true (0xFF ∷ 0x80 ∷ []) (Some (Ascii (codes "ESM6"))) (text (codes "ESM6")) 2
-unfolding field_at row_at delta_at unit_delta_at integer_at signed_at entity_at new_part_behind part_at ascii_at unit_value part_checked
+unfolding field_at row_at delta_at unit_delta_at integer_at signed_at entity_at new_part_behind part_at ascii_at limited_value unit_value part_checked
 nothing_in_front = (refl, refl)
 
 -- five units of four; before a new part has come, and where none can come
@@ -95,36 +95,36 @@ more_than_there_first = refl
 
 -- two units removed in front, and two put there
 in_front : Reads delta_s (text (codes "GEM6")) true (0xFD ∷ 0x45 ∷ 0xD3 ∷ []) (Some (Ascii (codes "ESM6"))) (text (codes "ESM6")) 3
-unfolding field_at row_at delta_at unit_delta_at integer_at signed_at entity_at new_part_behind part_at ascii_at unit_value part_checked
+unfolding field_at row_at delta_at unit_delta_at integer_at signed_at entity_at new_part_behind part_at ascii_at limited_value unit_value part_checked
 in_front = (refl, refl)
 
 -- one more than the greatest number
 delta_out_of_range : IsFieldFault wrap_b (number 4294967295) true (0x81 ∷ []) fault.D2
-unfolding field_at row_at delta_at integer_delta_at integer_at signed_at entity_at integer_value part_checked
+unfolding field_at row_at delta_at integer_delta_at integer_sum integer_at signed_at entity_at integer_value part_checked
 delta_out_of_range = refl
 
 -- a tail that begins with NUL
 tail_of_nul : Reads tail_s (text (codes "xab")) true (0x00 ∷ 0x00 ∷ 0x00 ∷ 0xE2 ∷ []) (Some (Ascii (0x78 ∷ 0 ∷ 0x62 ∷ []))) (text (0x78 ∷ 0 ∷ 0x62 ∷ [])) 4
-unfolding field_at row_at tail_at units_at ascii_nullable_at entity_at unit_value part_checked
+unfolding field_at row_at tail_at ended_value limited_value units_at ascii_nullable_at entity_at unit_value part_checked
 tail_of_nul = (refl, refl)
 
 -- an empty tail, whose base is the initial value
 tail_of_nothing : Reads init_s Empty true (0x00 ∷ 0x80 ∷ []) (Some (Ascii (codes "ab"))) (text (codes "ab")) 2
-unfolding field_at row_at tail_at units_at ascii_nullable_at entity_at unit_value part_checked
+unfolding field_at row_at tail_at ended_value limited_value units_at ascii_nullable_at entity_at unit_value part_checked
 tail_of_nothing = (refl, refl)
 
 -- a delta has no base on an empty entry
 delta_on_empty : IsFieldFault empty_b Empty true (0x81 ∷ []) fault.D6
-unfolding field_at row_at delta_at integer_delta_at integer_at signed_at entity_at integer_value part_checked
+unfolding field_at row_at delta_at integer_delta_at integer_sum integer_at signed_at entity_at integer_value part_checked
 delta_on_empty = refl
 
 -- NULL is absent on every entry, and leaves it
 null_on_empty : Reads (field kind.UInt32 Optional Delta) Empty true (0x80 ∷ []) None Empty 1
-unfolding field_at row_at delta_at integer_delta_at integer_at signed_nullable_at signed_at entity_at part_checked
+unfolding field_at row_at delta_at integer_delta_at integer_sum integer_at signed_nullable_at signed_at entity_at part_checked
 null_on_empty = (refl, refl)
 
 null_on_a_number : Reads (field kind.UInt32 Optional Delta) (number 5) true (0x80 ∷ []) None (number 5) 1
-unfolding field_at row_at delta_at integer_delta_at integer_at signed_nullable_at signed_at entity_at part_checked
+unfolding field_at row_at delta_at integer_delta_at integer_sum integer_at signed_nullable_at signed_at entity_at part_checked
 null_on_a_number = (refl, refl)
 
 -- an exponent: NULL, 63 and 64 in the nullable form
@@ -147,13 +147,13 @@ exponent_64_alone = refl
 
 -- a character of two bytes, of which a tail of one byte changes the second; and one that leaves no UTF-8
 unicode_whole : Reads uni_s Undefined true (0x82 ∷ 0xC3 ∷ 0xA9 ∷ []) (Some (Unicode (0xC3 ∷ 0xA9 ∷ []))) (Assigned (Unicode (0xC3 ∷ 0xA9 ∷ []))) 3
-unfolding field_at row_at tail_at units_at part_at vector_at unsigned_at entity_at bytes_at unit_value part_checked is_utf8 chars lib.Utf8.encode
+unfolding field_at row_at tail_at ended_value limited_value units_at part_at vector_at unsigned_at entity_at bytes_at unit_value part_checked is_utf8 chars lib.Utf8.encode
 unicode_whole = (refl, refl)
 
 unicode_tail : Reads uni_s (Assigned (Unicode (0xC3 ∷ 0xA9 ∷ []))) true (0x81 ∷ 0xA8 ∷ []) (Some (Unicode (0xC3 ∷ 0xA8 ∷ []))) (Assigned (Unicode (0xC3 ∷ 0xA8 ∷ []))) 2
-unfolding field_at row_at tail_at units_at part_at vector_at unsigned_at entity_at bytes_at unit_value part_checked is_utf8 chars lib.Utf8.encode
+unfolding field_at row_at tail_at ended_value limited_value units_at part_at vector_at unsigned_at entity_at bytes_at unit_value part_checked is_utf8 chars lib.Utf8.encode
 unicode_tail = (refl, refl)
 
 no_unicode : IsFieldFault uni_s (Assigned (Unicode (0xC3 ∷ 0xA8 ∷ []))) true (0x81 ∷ 0x41 ∷ []) fault.R2
-unfolding field_at row_at tail_at units_at part_at vector_at unsigned_at entity_at bytes_at unit_value part_checked is_utf8 chars lib.Utf8.encode
+unfolding field_at row_at tail_at ended_value limited_value units_at part_at vector_at unsigned_at entity_at bytes_at unit_value part_checked is_utf8 chars lib.Utf8.encode
 no_unicode = refl

@@ -79,7 +79,7 @@ unit_value kind.Unicode s = if is_utf8 s then Ok (of_units kind.Unicode s) else 
 unit_value k s = Ok (of_units k s)
 
 -- and within the limit on units
-abbrev pub limited_value : Kind → List ℕ → Result Scalar FieldFault
+unfoldable pub limited_value : Kind → List ℕ → Result Scalar FieldFault
 limited_value k s = if nat_lt 65535 (length s) then Err fault.Limit else unit_value k s
 
 -- NULL ends a reading, and the value is absent
@@ -122,12 +122,15 @@ spelled_at pt k p bytes = integer_spelled_at pt k p bytes
 
 -- ---- Deltas. The base is asked for once a delta has come that is not NULL (own).
 
+unfoldable pub integer_sum : FieldPart → Entry → ℤ → Result Scalar FieldFault
+integer_sum i e d = do
+  base ← delta_base i e
+  integer_value i.part i.kind (integer_of base +ℤ d)
+
 unfoldable pub integer_delta_at : FieldPart → Entry → List ℕ → Result (Option Scalar × List ℕ) FieldFault
 integer_delta_at i e bytes = do
   d ← integer_at false i.presence bytes
-  unless_null d (λ d rest. do
-    base ← delta_base i e
-    as_value (integer_value i.part i.kind (integer_of base +ℤ d)) rest)
+  unless_null d (λ d. as_value (integer_sum i e d))
 
 unfoldable pub mantissa_delta_behind : ℤ → ℤ → List ℕ → Result (Option Scalar × List ℕ) FieldFault
 mantissa_delta_behind e base rest = do
@@ -165,12 +168,15 @@ delta_at k i e bytes = integer_delta_at i e bytes
 
 -- ---- Tails. The base is asked for once a tail has come that is not NULL (own).
 
+unfoldable pub ended_value : FieldPart → Entry → List ℕ → Result Scalar FieldFault
+ended_value i e tail = do
+  base ← tail_base i e
+  limited_value i.kind (ended_by (units_of base) tail)
+
 unfoldable pub tail_at : FieldPart → Entry → List ℕ → Result (Option Scalar × List ℕ) FieldFault
 tail_at i e bytes = do
   tail ← units_at i.kind i.presence bytes
-  unless_null tail (λ tail rest. do
-    base ← tail_base i e
-    as_value (limited_value i.kind (ended_by (units_of base) tail)) rest)
+  unless_null tail (λ tail. as_value (ended_value i e tail))
 
 -- ---- The operators, by bit
 
@@ -195,17 +201,18 @@ row_at operator.Tail i e false bytes = predicted_at i e bytes
 row_at operator.Tail i e true bytes = tail_at i e bytes
 
 -- an exponent and a length are checked once more, also where bit 0 gave them
-unfoldable pub part_checked : Part → Option Scalar → List ℕ → Result (Option Scalar × List ℕ) FieldFault
-part_checked p None rest = Ok (None, rest)
-part_checked part.Exponent (Some v) rest = if within_part part.Exponent v then Ok (Some v, rest) else Err fault.R1
-part_checked part.Length (Some v) rest = if within_part part.Length v then Ok (Some v, rest) else Err fault.Limit
-part_checked p (Some v) rest = Ok (Some v, rest)
+unfoldable pub part_checked : Part → Option Scalar → Result (Option Scalar) FieldFault
+part_checked p None = Ok None
+part_checked part.Exponent (Some v) = if within_part part.Exponent v then Ok (Some v) else Err fault.R1
+part_checked part.Length (Some v) = if within_part part.Length v then Ok (Some v) else Err fault.Limit
+part_checked p (Some v) = Ok (Some v)
 
 -- the value and the bytes after it, or the first fault; want of memory is no fault of the bytes
 unfoldable pub field_at : FieldPart → Entry → Bool → List ℕ → Result (Option Scalar × List ℕ) FieldFault
 field_at i e bit bytes = do
   x ← row_at i.operator i e bit bytes
-  part_checked i.part x.0 x.1
+  v ← part_checked i.part x.0
+  Ok (v, x.1)
 
 -- the first fault of a field under this bit on these bytes
 abbrev pub IsFieldFault : FieldPart → Entry → Bool → List ℕ → FieldFault → Type 0

@@ -9,6 +9,7 @@ use Rattle.fast_wire.specs.declared.nullable.Nullable.{Nullable}
 use Rattle.fast_wire.specs.declared.nullable.Nullable.TheVariants.{Null, Value}
 use Rattle.fast_template.specs.Resolved.{part_needs_bit}
 use Rattle.fast_template.specs.Scalar.{is_of, in_range, exponent_in_range, IsScalar}
+use Rattle.fast_template.specs.TemplateSets.{IsTyped}
 use Rattle.fast_template.specs.declared.kind.Kind.{Kind}
 use Rattle.fast_template.specs.declared.kind.Kind.TheVariants as kind
 use Rattle.fast_template.specs.declared.kind.Operator.{Operator}
@@ -283,9 +284,20 @@ pub record FormBy (i : FieldPart) (e : Entry) (bit : Bool) (cut : Cut) (b : List
 abbrev pub Form : FieldPart → Entry → Bool → List ℕ → Option Scalar → Type 0
 Form i e bit b v = (cut : Cut) × FormBy i e bit cut b v
 
--- ---- What the laws of forms ask for.
+-- ---- What the laws of forms ask for: it holds of every instruction of a set of templates, and of every entry.
 
--- a bit that a field can have
+-- an exponent is an int32, a mantissa an int64, a length a uInt32
+abbrev pub IsKindOfPart : Part → Kind → Type 0
+IsKindOfPart part.Whole k = Unit {0}
+IsKindOfPart part.Exponent k = k ≡ kind.Int32
+IsKindOfPart part.Mantissa k = k ≡ kind.Int64
+IsKindOfPart part.Length k = k ≡ kind.UInt32
+
+pub record IsFieldPart (i : FieldPart) : Type 0 where
+  pub typed : IsTyped i
+  pub kind_of_part : IsKindOfPart i.part i.kind
+
+-- a bit that a field can have: without one it is true
 abbrev pub IsBitOf : FieldPart → Bool → Type 0
 IsBitOf i bit = part_needs_bit i ≡ false → bit ≡ true
 
