@@ -1,6 +1,6 @@
 -- The worked rows, computed: what each stream is read as. A refusal is a cause with the message, the offset, the
 -- template and the instruction of the piece.
-use Rattle.std.proofs.Common.{◌≡◌, ap, ℕ, suc, ℤ, pos, negsuc, List, [], ◌∷◌, map, length, Option, Some, None, Ok, Err, refl}
+use Rattle.std.proofs.Common.{◌≡◌, ap, ℕ, suc, ℤ, pos, negsuc, List, [], ◌∷◌, map, Option, Some, None, Ok, Err, refl}
 use Rattle.std.specs.Prelude.{codes, replicate, cond}
 use Rattle.std.specs.FinMap as finite
 use Rattle.std.specs.Ordering.{eq_by_cmp}
@@ -10,12 +10,11 @@ use Rattle.fast_template.specs.declared.scalar.Scalar.{Scalar}
 use Rattle.fast_template.specs.declared.scalar.Scalar.TheVariants.{U32, Decimal, Ascii, Unicode, Bytes}
 use Rattle.fast_dictionary.specs.Dictionary.{Dictionary}
 use Rattle.fast_wire.specs.Reading.{entity_at, unsigned_at, signed_at, unsigned_nullable_at, signed_nullable_at, ascii_at, ascii_nullable_at, bytes_at, vector_at, behind_length, vector_nullable_at, map_at}
-use Rattle.fast_field.specs.FieldReading.{integer_at, part_at, units_at, integer_value, decimal_value, unit_value, integer_spelled_at, mantissa_behind, decimal_spelled_at, units_spelled_at, spelled_at, integer_delta_at, mantissa_delta_behind, decimal_delta_at, new_part_behind, unit_delta_at, delta_at, tail_at, whole_at, predicted_at, row_at, part_checked, field_at}
+use Rattle.fast_field.specs.FieldReading.{integer_at, part_at, units_at, integer_value, decimal_value, unit_value, integer_spelled_at, mantissa_behind, decimal_spelled_at, units_spelled_at, spelled_at, integer_delta_at, mantissa_delta_behind, decimal_delta_at, new_part_behind, unit_delta_at, delta_at, limited_value, integer_sum, ended_value, tail_at, whole_at, predicted_at, row_at, part_checked, field_at}
 use Rattle.fast_decoder.specs.declared.fault.Cause.{Cause}
 use Rattle.fast_decoder.specs.declared.fault.Cause.TheVariants.{D2, D4, D5, D6, D7, D9, R1, R2, Truncated, Limit}
 use Rattle.fast_decoder.specs.declared.fault.Fault.{Fault}
 use Rattle.fast_decoder.specs.Nodes.{Item, single, group_items, sequence_elements, items_of, elements_of, Content}
-use Rattle.fast_decoder.specs.Faults.{Stop}
 use Rattle.fast_decoder.specs.Reading.{Cursor, field_part_at, body_at, head_at, message_at, MessageStop, StreamReading, messages_at, stream_at, fault_in}
 use Rattle.std.specs.Str.{is_utf8, chars}
 use Rattle.fast_template.specs.TemplateSets.{identifier_key}
@@ -66,7 +65,7 @@ read stream = let r = stream_at worked_set stream in (r.messages, fault_in strea
 
 -- all that reading is made of: who unfolds this unfolds its line
 reading : ℕ
-unfolding entity_at unsigned_at signed_at unsigned_nullable_at signed_nullable_at ascii_at ascii_nullable_at bytes_at vector_at behind_length vector_nullable_at map_at integer_at part_at units_at integer_value decimal_value unit_value is_utf8 chars lib.Utf8.encode integer_spelled_at mantissa_behind decimal_spelled_at units_spelled_at spelled_at integer_delta_at mantissa_delta_behind decimal_delta_at new_part_behind unit_delta_at delta_at tail_at whole_at predicted_at row_at part_checked field_at field_part_at head_at message_at
+unfolding entity_at unsigned_at signed_at unsigned_nullable_at signed_nullable_at ascii_at ascii_nullable_at bytes_at vector_at behind_length vector_nullable_at map_at integer_at part_at units_at integer_value decimal_value unit_value is_utf8 chars lib.Utf8.encode integer_spelled_at mantissa_behind decimal_spelled_at units_spelled_at spelled_at integer_delta_at mantissa_delta_behind decimal_delta_at new_part_behind unit_delta_at delta_at limited_value integer_sum ended_value tail_at whole_at predicted_at row_at part_checked field_at field_part_at head_at message_at
 reading = 0
 
 -- a key of a name, and a dictionary once these values were put
