@@ -1,0 +1,5 @@
+pub mod WorkedSet
+pub mod Rows
+pub mod WorkedStreams
+pub mod Weaker
+pub mod Leaves

@@ -1,0 +1,6 @@
+pub mod Nodes
+pub mod Bits
+pub mod Bodies
+pub mod Streams
+pub mod Faults
+pub mod Reading

@@ -1,0 +1,11 @@
+//! The canonical bytes of messages.
+//!
+//! Of all forms of a message one is canonical: each field in the form that comes first, each map as short as it can be,
+//! and no bit set that no instruction asks for. `specs/Canonical` says so over the definitions of `fast_decoder`.
+#![tactic(auto)]
+
+mod fault;
+mod laws;
+
+pub use fault::{EncodeCause, EncodeFault};
+pub use laws::canonical_bytes_carry;

@@ -1,0 +1,10 @@
+pub mod WorkedFields
+pub mod WorkedRows
+pub mod BestForms
+pub mod WorkedBest
+pub mod FieldLaws
+pub mod SpelledForms
+pub mod RowForms
+pub mod FieldForms
+pub mod DeltaForms
+pub mod TailForms

@@ -1,0 +1,93 @@
+-- The fields of the worked rows, and how a row reads.
+use Rattle.std.proofs.Common.{◌≡◌, ℕ, List, drop, Option, Some, None, Bool, Ok, pos}
+use Rattle.std.specs.Prelude.{codes}
+use Rattle.fast_template.specs.declared.kind.Kind.{Kind}
+use Rattle.fast_template.specs.declared.kind.Kind.TheVariants as kind
+use Rattle.fast_template.specs.declared.kind.Presence.{Presence}
+use Rattle.fast_template.specs.declared.kind.Presence.TheVariants.{Mandatory, Optional}
+use Rattle.fast_template.specs.declared.kind.Operator.{Operator}
+use Rattle.fast_template.specs.declared.kind.Operator.TheVariants.{Constant, Default, Copy, Increment, Delta, Tail}
+use Rattle.fast_template.specs.declared.kind.Part.{Part}
+use Rattle.fast_template.specs.declared.kind.Part.TheVariants.{Whole, Exponent}
+use Rattle.fast_template.specs.declared.key.Scope.TheVariants.{Global}
+use Rattle.fast_template.specs.declared.resolved.FieldPart.{FieldPart}
+use Rattle.fast_template.specs.declared.scalar.Scalar.{Scalar}
+use Rattle.fast_template.specs.declared.scalar.Scalar.TheVariants.{U32, I32, Ascii}
+use Rattle.fast_dictionary.specs.declared.entry.Entry.{Entry}
+use Rattle.fast_dictionary.specs.declared.entry.Entry.TheVariants.{Assigned}
+use Rattle.fast_field.specs.Fields.{next}
+use Rattle.fast_field.specs.FieldReading.{field_at}
+
+abbrev part_of : Part → Kind → Presence → Operator → Option Scalar → FieldPart
+part_of p k presence operator initial = record {
+  number = 1;
+  part = p;
+  kind = k;
+  presence = presence;
+  operator = operator;
+  initial = initial;
+  key = record { slot = 1; scope = Global; name = codes "F"; part = p };
+}
+
+abbrev pub field : Kind → Presence → Operator → FieldPart
+field k presence operator = part_of Whole k presence operator None
+
+abbrev pub field_with : Kind → Presence → Operator → Scalar → FieldPart
+field_with k presence operator initial = part_of Whole k presence operator (Some initial)
+
+-- each field by the names of its template and of itself
+abbrev pub quote_seq : FieldPart
+quote_seq = field kind.UInt32 Mandatory Increment
+
+abbrev pub quote_sym : FieldPart
+quote_sym = field kind.Ascii Mandatory Copy
+
+abbrev pub quote_px : FieldPart
+quote_px = field kind.Decimal Mandatory Delta
+
+abbrev pub quote_qty : FieldPart
+quote_qty = field kind.UInt32 Optional Copy
+
+abbrev pub wrap_b : FieldPart
+wrap_b = field kind.UInt32 Mandatory Delta
+
+abbrev pub opt_px_exponent : FieldPart
+opt_px_exponent = part_of Exponent kind.Int32 Optional Default (Some (I32 (pos 2)))
+
+abbrev pub clash_a : FieldPart
+clash_a = field kind.UInt32 Mandatory Copy
+
+abbrev pub tail_s : FieldPart
+tail_s = field kind.Ascii Optional Tail
+
+abbrev pub init_s : FieldPart
+init_s = field_with kind.Ascii Optional Tail (Ascii (codes "ab"))
+
+abbrev pub delta_s : FieldPart
+delta_s = field kind.Ascii Mandatory Delta
+
+abbrev pub uni_s : FieldPart
+uni_s = field kind.Unicode Mandatory Tail
+
+abbrev pub empty_b : FieldPart
+empty_b = field kind.UInt32 Mandatory Delta
+
+abbrev pub const_k : FieldPart
+const_k = field_with kind.UInt32 Mandatory Constant (U32 7)
+
+abbrev pub const_o : FieldPart
+const_o = field_with kind.UInt32 Optional Constant (U32 9)
+
+abbrev pub const_d : FieldPart
+const_d = field_with kind.UInt32 Mandatory Default (U32 3)
+
+-- an entry with a text, and with a number
+abbrev pub text : List ℕ → Entry
+text s = Assigned (Ascii s)
+
+abbrev pub number : ℕ → Entry
+number n = Assigned (U32 n)
+
+-- A row: the value that is read, the entry afterwards, and the place after the value.
+abbrev pub Reads : FieldPart → Entry → Bool → List ℕ → Option Scalar → Entry → ℕ → Type 0
+Reads i e bit bytes v after place = (field_at i e bit bytes ≡ Ok (v, drop place bytes)) × (next i e v ≡ after)

@@ -1,0 +1,5 @@
+use Rattle.fast_field.proofs.FieldForms.{all_forms}
+use Rattle.fast_field.proofs.laws.fields_are_read.Goals as goal
+
+pub returns : goal.returns
+returns c = all_forms

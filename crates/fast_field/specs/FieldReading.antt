@@ -1,0 +1,219 @@
+-- Reading one field from the front of a list: its value and the bytes after it, or its first fault.
+-- FAST 1.1, Field Operators, and Transfer Encoding, Field Encoding. The order of the checks is this project's own.
+use Rattle.std.specs.Prelude.{◌≡◌, ℕ, ℤ, pos, ◌+ℤ◌, Bool, true, false, nat_le, nat_lt, if◌then◌else◌, List, length, Option, Some, None, Result, Ok, Err}
+use Rattle.std.specs.Str.{is_utf8}
+use Rattle.fast_wire.specs.Reading.{◌>>=◌, unsigned_at, signed_at, unsigned_nullable_at, signed_nullable_at, ascii_at, ascii_nullable_at, vector_at, vector_nullable_at}
+use Rattle.fast_wire.specs.declared.fault.WireFault.{WireFault}
+use Rattle.fast_wire.specs.declared.nullable.Nullable.{Nullable}
+use Rattle.fast_wire.specs.declared.nullable.Nullable.TheVariants.{Null, Value}
+use Rattle.fast_template.specs.Scalar.{in_range, exponent_in_range, of_integer}
+use Rattle.fast_template.specs.declared.kind.Kind.{Kind}
+use Rattle.fast_template.specs.declared.kind.Kind.TheVariants as kind
+use Rattle.fast_template.specs.declared.kind.Operator.{Operator}
+use Rattle.fast_template.specs.declared.kind.Operator.TheVariants as operator
+use Rattle.fast_template.specs.declared.kind.Part.{Part}
+use Rattle.fast_template.specs.declared.kind.Part.TheVariants as part
+use Rattle.fast_template.specs.declared.kind.Presence.{Presence}
+use Rattle.fast_template.specs.declared.kind.Presence.TheVariants.{Mandatory, Optional}
+use Rattle.fast_template.specs.declared.resolved.FieldPart.{FieldPart}
+use Rattle.fast_template.specs.declared.scalar.Scalar.{Scalar}
+use Rattle.fast_template.specs.declared.scalar.Scalar.TheVariants.{Decimal}
+use Rattle.fast_dictionary.specs.declared.entry.Entry.{Entry}
+use Rattle.fast_field.specs.declared.fault.FieldFault.{FieldFault}
+use Rattle.fast_field.specs.declared.fault.FieldFault.TheVariants as fault
+use Rattle.fast_field.specs.Faults.{field_fault}
+use Rattle.fast_field.specs.Values.{is_unsigned, integer_of, exponent_of, mantissa_of, units_of, of_units}
+use Rattle.fast_field.specs.Fields.{delta_base, tail_base, predicted, removed_of, put_together, ended_by, within_part}
+
+-- ---- Forms and values
+
+-- the answer of a byte form, as a field's
+abbrev pub in_field : {A : Type 0} → Result A WireFault → Result A FieldFault
+in_field (Ok x) = Ok x
+in_field (Err f) = Err (field_fault f)
+
+-- a test that must hold
+abbrev pub check : Bool → FieldFault → Result (Unit {0}) FieldFault
+check true f = Ok tt
+check false f = Err f
+
+abbrev pub signless : Nullable ℕ → Nullable ℤ
+signless Null = Null
+signless (Value n) = Value (pos n)
+
+-- an integer, with no sign where the first argument is true
+unfoldable pub integer_at : Bool → Presence → List ℕ → Result (Nullable ℤ × List ℕ) FieldFault
+integer_at true Mandatory bytes = in_field (unsigned_at bytes) >>= λ x. Ok (Value (pos x.0), x.1)
+integer_at true Optional bytes = in_field (unsigned_nullable_at bytes) >>= λ x. Ok (signless x.0, x.1)
+integer_at false Mandatory bytes = in_field (signed_at bytes) >>= λ x. Ok (Value x.0, x.1)
+integer_at false Optional bytes = in_field (signed_nullable_at bytes)
+
+-- characters or bytes, of Unicode its bytes, in the form that is not nullable
+unfoldable pub part_at : Kind → List ℕ → Result (List ℕ × List ℕ) FieldFault
+part_at kind.Ascii bytes = in_field (ascii_at bytes)
+part_at k bytes = in_field (vector_at bytes)
+
+-- and in the form of a presence
+unfoldable pub units_at : Kind → Presence → List ℕ → Result (Nullable (List ℕ) × List ℕ) FieldFault
+units_at k Mandatory bytes = part_at k bytes >>= λ x. Ok (Value x.0, x.1)
+units_at kind.Ascii Optional bytes = in_field (ascii_nullable_at bytes)
+units_at k Optional bytes = in_field (vector_nullable_at bytes)
+
+-- a number out of its type's bounds: of a part of a decimal it is the decimal that is out of range
+abbrev pub range_fault : Part → FieldFault
+range_fault part.Exponent = fault.R1
+range_fault part.Mantissa = fault.R1
+range_fault p = fault.D2
+
+-- a number as a value of an integer type
+unfoldable pub integer_value : Part → Kind → ℤ → Result Scalar FieldFault
+integer_value p k z = if in_range k z then Ok (of_integer k z) else Err (range_fault p)
+
+-- an exponent and a mantissa as a decimal
+unfoldable pub decimal_value : ℤ → ℤ → Result Scalar FieldFault
+decimal_value e m = if in_range kind.Int64 m then Ok (Decimal e m) else Err fault.R1
+
+-- characters or bytes as a value of their type
+unfoldable pub unit_value : Kind → List ℕ → Result Scalar FieldFault
+unit_value kind.Unicode s = if is_utf8 s then Ok (of_units kind.Unicode s) else Err fault.R2
+unit_value k s = Ok (of_units k s)
+
+-- and within the limit on units
+unfoldable pub limited_value : Kind → List ℕ → Result Scalar FieldFault
+limited_value k s = if nat_lt 65535 (length s) then Err fault.Limit else unit_value k s
+
+-- NULL ends a reading, and the value is absent
+abbrev pub unless_null : {A : Type 0} → Nullable A × List ℕ → (A → List ℕ → Result (Option Scalar × List ℕ) FieldFault) → Result (Option Scalar × List ℕ) FieldFault
+unless_null (Null, rest) f = Ok (None, rest)
+unless_null (Value x, rest) f = f x rest
+
+abbrev pub as_value : Result Scalar FieldFault → List ℕ → Result (Option Scalar × List ℕ) FieldFault
+as_value r rest = r >>= λ v. Ok (Some v, rest)
+
+-- ---- What stands whole
+
+unfoldable pub integer_spelled_at : Part → Kind → Presence → List ℕ → Result (Option Scalar × List ℕ) FieldFault
+integer_spelled_at pt k p bytes = do
+  z ← integer_at (is_unsigned k) p bytes
+  unless_null z (λ z. as_value (integer_value pt k z))
+
+unfoldable pub mantissa_behind : ℤ → List ℕ → Result (Option Scalar × List ℕ) FieldFault
+mantissa_behind e rest = do
+  ok ← check (exponent_in_range e) fault.R1
+  m ← in_field (signed_at rest)
+  as_value (decimal_value e m.0) m.1
+
+unfoldable pub decimal_spelled_at : Presence → List ℕ → Result (Option Scalar × List ℕ) FieldFault
+decimal_spelled_at p bytes = do
+  e ← integer_at false p bytes
+  unless_null e mantissa_behind
+
+unfoldable pub units_spelled_at : Kind → Presence → List ℕ → Result (Option Scalar × List ℕ) FieldFault
+units_spelled_at k p bytes = do
+  s ← units_at k p bytes
+  unless_null s (λ s. as_value (unit_value k s))
+
+unfoldable pub spelled_at : Part → Kind → Presence → List ℕ → Result (Option Scalar × List ℕ) FieldFault
+spelled_at pt kind.Decimal p bytes = decimal_spelled_at p bytes
+spelled_at pt kind.Ascii p bytes = units_spelled_at kind.Ascii p bytes
+spelled_at pt kind.Unicode p bytes = units_spelled_at kind.Unicode p bytes
+spelled_at pt kind.Bytes p bytes = units_spelled_at kind.Bytes p bytes
+spelled_at pt k p bytes = integer_spelled_at pt k p bytes
+
+-- ---- Deltas. The base is asked for once a delta has come that is not NULL (own).
+
+unfoldable pub integer_sum : FieldPart → Entry → ℤ → Result Scalar FieldFault
+integer_sum i e d = do
+  base ← delta_base i e
+  integer_value i.part i.kind (integer_of base +ℤ d)
+
+unfoldable pub integer_delta_at : FieldPart → Entry → List ℕ → Result (Option Scalar × List ℕ) FieldFault
+integer_delta_at i e bytes = do
+  d ← integer_at false i.presence bytes
+  unless_null d (λ d. as_value (integer_sum i e d))
+
+unfoldable pub mantissa_delta_behind : ℤ → ℤ → List ℕ → Result (Option Scalar × List ℕ) FieldFault
+mantissa_delta_behind e base rest = do
+  ok ← check (exponent_in_range e) fault.R1
+  d ← in_field (signed_at rest)
+  as_value (decimal_value e (base +ℤ d.0)) d.1
+
+unfoldable pub decimal_delta_at : FieldPart → Entry → List ℕ → Result (Option Scalar × List ℕ) FieldFault
+decimal_delta_at i e bytes = do
+  d ← integer_at false i.presence bytes
+  unless_null d (λ d rest. do
+    base ← delta_base i e
+    mantissa_delta_behind (exponent_of base +ℤ d) (mantissa_of base) rest)
+
+unfoldable pub new_part_behind : Kind → ℤ → List ℕ → List ℕ → Result (Option Scalar × List ℕ) FieldFault
+new_part_behind k removal base rest = do
+  there ← check (nat_le (removed_of removal) (length base)) fault.D7
+  s ← part_at k rest
+  as_value (limited_value k (put_together removal base s.0)) s.1
+
+unfoldable pub unit_delta_at : FieldPart → Entry → List ℕ → Result (Option Scalar × List ℕ) FieldFault
+unit_delta_at i e bytes = do
+  removal ← integer_at false i.presence bytes
+  unless_null removal (λ removal rest. do
+    fits ← check (in_range kind.Int32 removal) fault.D7
+    base ← delta_base i e
+    new_part_behind i.kind removal (units_of base) rest)
+
+unfoldable pub delta_at : Kind → FieldPart → Entry → List ℕ → Result (Option Scalar × List ℕ) FieldFault
+delta_at kind.Decimal i e bytes = decimal_delta_at i e bytes
+delta_at kind.Ascii i e bytes = unit_delta_at i e bytes
+delta_at kind.Unicode i e bytes = unit_delta_at i e bytes
+delta_at kind.Bytes i e bytes = unit_delta_at i e bytes
+delta_at k i e bytes = integer_delta_at i e bytes
+
+-- ---- Tails. The base is asked for once a tail has come that is not NULL (own).
+
+unfoldable pub ended_value : FieldPart → Entry → List ℕ → Result Scalar FieldFault
+ended_value i e tail = do
+  base ← tail_base i e
+  limited_value i.kind (ended_by (units_of base) tail)
+
+unfoldable pub tail_at : FieldPart → Entry → List ℕ → Result (Option Scalar × List ℕ) FieldFault
+tail_at i e bytes = do
+  tail ← units_at i.kind i.presence bytes
+  unless_null tail (λ tail. as_value (ended_value i e tail))
+
+-- ---- The operators, by bit
+
+unfoldable pub whole_at : FieldPart → List ℕ → Result (Option Scalar × List ℕ) FieldFault
+whole_at i bytes = spelled_at i.part i.kind i.presence bytes
+
+unfoldable pub predicted_at : FieldPart → Entry → List ℕ → Result (Option Scalar × List ℕ) FieldFault
+predicted_at i e bytes = predicted i e >>= λ v. Ok (v, bytes)
+
+unfoldable pub row_at : Operator → FieldPart → Entry → Bool → List ℕ → Result (Option Scalar × List ℕ) FieldFault
+row_at operator.Plain i e bit bytes = whole_at i bytes
+row_at operator.Constant i e false bytes = Ok (None, bytes)
+row_at operator.Constant i e true bytes = Ok (i.initial, bytes)
+row_at operator.Default i e false bytes = Ok (i.initial, bytes)
+row_at operator.Default i e true bytes = whole_at i bytes
+row_at operator.Copy i e false bytes = predicted_at i e bytes
+row_at operator.Copy i e true bytes = whole_at i bytes
+row_at operator.Increment i e false bytes = predicted_at i e bytes
+row_at operator.Increment i e true bytes = whole_at i bytes
+row_at operator.Delta i e bit bytes = delta_at i.kind i e bytes
+row_at operator.Tail i e false bytes = predicted_at i e bytes
+row_at operator.Tail i e true bytes = tail_at i e bytes
+
+-- an exponent and a length are checked once more, also where bit 0 gave them
+unfoldable pub part_checked : Part → Option Scalar → Result (Option Scalar) FieldFault
+part_checked p None = Ok None
+part_checked part.Exponent (Some v) = if within_part part.Exponent v then Ok (Some v) else Err fault.R1
+part_checked part.Length (Some v) = if within_part part.Length v then Ok (Some v) else Err fault.Limit
+part_checked p (Some v) = Ok (Some v)
+
+-- the value and the bytes after it, or the first fault; want of memory is no fault of the bytes
+unfoldable pub field_at : FieldPart → Entry → Bool → List ℕ → Result (Option Scalar × List ℕ) FieldFault
+field_at i e bit bytes = do
+  x ← row_at i.operator i e bit bytes
+  v ← part_checked i.part x.0
+  Ok (v, x.1)
+
+-- the first fault of a field under this bit on these bytes
+abbrev pub IsFieldFault : FieldPart → Entry → Bool → List ℕ → FieldFault → Type 0
+IsFieldFault i e bit rest f = field_at i e bit rest ≡ Err f

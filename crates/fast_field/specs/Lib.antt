@@ -1,0 +1,5 @@
+pub mod Values
+pub mod Fields
+pub mod Best
+pub mod Faults
+pub mod FieldReading
