@@ -13,7 +13,7 @@ use Rattle.fast_field.specs.Values.{integer_of, units_of}
 use Rattle.fast_field.specs.Fields.{at_end, in_front, Cut, uncut, FormBy, Form, DeltaValue, TailValue, removed_of, side_of, put_together, ended_by}
 use Rattle.fast_field.specs.Best.{NoLater, IsBest}
 use Rattle.fast_field.proofs.BestForms.{bit_zero_is_best, shorter_first, at_end_first, in_front_first, cut_size, tail_size, part_size, tail_part_size}
-use Rattle.fast_field.proofs.WorkedFields.{text, number, quote_seq, quote_sym, quote_qty, opt_px_exponent, tail_s, init_s, delta_s, uni_s, const_k, const_o, const_d}
+use Rattle.fast_field.proofs.WorkedFields.{text, number, quote_seq, quote_sym, quote_qty, opt_px_exponent, fixed_px_exponent, tail_s, init_s, delta_s, uni_s, const_k, const_o, const_d}
 
 -- ---- what bit 0 gives is never sent
 
@@ -240,6 +240,13 @@ other_than_constant false b h = let e = h.1.row.3 in cc
 other_than_constant true b h =
     let number = λ (v : Option Scalar). integer_of (unwrap_or v (U32 0)) in
     eight_is_not_seven (ap number h.1.row.2)
+
+other_exponent : negsuc 0 ≡ negsuc 1 → ⊥
+other_exponent e = cc
+
+other_than_constant_exponent : (bit : Bool) (b : List ℕ) → Form fixed_px_exponent Undefined bit b (Some (I32 (negsuc 0))) → ⊥
+other_than_constant_exponent false b h = let e = h.1.row.3 in cc
+other_than_constant_exponent true b h = other_exponent (ap (λ (v : Option Scalar). integer_of (unwrap_or v (U32 0))) h.1.row.2)
 
 -- ---- a value shorter than its base has no tail, and a base of another type none either
 

@@ -1,5 +1,5 @@
 -- The fields of the worked rows, and how a row reads.
-use Rattle.std.proofs.Common.{◌≡◌, ℕ, List, drop, Option, Some, None, Bool, Ok, pos}
+use Rattle.std.proofs.Common.{◌≡◌, ℕ, List, drop, Option, Some, None, Bool, Ok, pos, negsuc}
 use Rattle.std.specs.Prelude.{codes}
 use Rattle.fast_template.specs.declared.kind.Kind.{Kind}
 use Rattle.fast_template.specs.declared.kind.Kind.TheVariants as kind
@@ -53,6 +53,9 @@ wrap_b = field kind.UInt32 Mandatory Delta
 
 abbrev pub opt_px_exponent : FieldPart
 opt_px_exponent = part_of Exponent kind.Int32 Optional Default (Some (I32 (pos 2)))
+
+abbrev pub fixed_px_exponent : FieldPart
+fixed_px_exponent = part_of Exponent kind.Int32 Mandatory Constant (Some (I32 (negsuc 1)))
 
 abbrev pub clash_a : FieldPart
 clash_a = field kind.UInt32 Mandatory Copy
