@@ -57,6 +57,10 @@ opt_px_exponent = part_of Exponent kind.Int32 Optional Default (Some (I32 (pos 2
 abbrev pub fixed_px_exponent : FieldPart
 fixed_px_exponent = part_of Exponent kind.Int32 Mandatory Constant (Some (I32 (negsuc 1)))
 
+-- (of no template: an exponent with the operator increment)
+abbrev pub counted_exponent : FieldPart
+counted_exponent = part_of Exponent kind.Int32 Mandatory Increment None
+
 abbrev pub clash_a : FieldPart
 clash_a = field kind.UInt32 Mandatory Copy
 

@@ -10,7 +10,7 @@ use Rattle.fast_template.specs.declared.scalar.Scalar.TheVariants.{U32, I32, Asc
 use Rattle.fast_dictionary.specs.declared.entry.Entry.TheVariants.{Undefined, Empty, Assigned}
 use Rattle.fast_field.specs.declared.fault.FieldFault.TheVariants as fault
 use Rattle.fast_field.specs.FieldReading.{integer_at, part_at, units_at, integer_value, unit_value, integer_spelled_at, spelled_at, integer_delta_at, integer_sum, mantissa_delta_behind, decimal_delta_at, new_part_behind, unit_delta_at, delta_at, tail_at, ended_value, limited_value, whole_at, predicted_at, row_at, part_checked, field_at, IsFieldFault}
-use Rattle.fast_field.proofs.WorkedFields.{Reads, field, field_with, text, number, quote_seq, quote_sym, quote_px, quote_qty, wrap_b, opt_px_exponent, clash_a, tail_s, init_s, delta_s, uni_s, empty_b, const_k, const_o, const_d}
+use Rattle.fast_field.proofs.WorkedFields.{Reads, field, field_with, text, number, quote_seq, quote_sym, quote_px, quote_qty, wrap_b, opt_px_exponent, counted_exponent, clash_a, tail_s, init_s, delta_s, uni_s, empty_b, const_k, const_o, const_d}
 
 -- ---- without a base
 
@@ -157,3 +157,28 @@ unicode_tail = (refl, refl)
 no_unicode : IsFieldFault uni_s (Assigned (Unicode (0xC3 ∷ 0xA8 ∷ []))) true (0x81 ∷ 0x41 ∷ []) fault.R2
 unfolding field_at row_at tail_at ended_value limited_value units_at part_at vector_at unsigned_at entity_at bytes_at unit_value part_checked is_utf8 chars lib.Utf8.encode
 no_unicode = refl
+
+-- ---- the order of checks
+
+-- NULL ends a delta and a tail before the base is asked for
+null_on_another_type : Reads (field kind.UInt32 Optional Delta) (text (codes "A")) true (0x80 ∷ []) None (text (codes "A")) 1
+unfolding field_at row_at delta_at integer_delta_at integer_at signed_nullable_at signed_at entity_at part_checked
+null_on_another_type = (refl, refl)
+
+null_tail_on_another_type : Reads tail_s (number 5) true (0x80 ∷ []) None Empty 1
+unfolding field_at row_at tail_at units_at ascii_nullable_at entity_at part_checked
+null_tail_on_another_type = (refl, refl)
+
+-- a subtraction length of 2^31 is no int32, also where there is no base
+no_int32_on_empty : IsFieldFault delta_s Empty true (0x08 ∷ 0x00 ∷ 0x00 ∷ 0x00 ∷ 0x80 ∷ []) fault.D7
+unfolding field_at row_at delta_at unit_delta_at integer_at signed_at entity_at
+no_int32_on_empty = refl
+
+no_base : IsFieldFault delta_s Empty true (0x80 ∷ 0x80 ∷ []) fault.D6
+unfolding field_at row_at delta_at unit_delta_at integer_at signed_at entity_at
+no_base = refl
+
+-- an exponent of 64 that bit 0 gives
+exponent_64_by_increment : IsFieldFault counted_exponent (Assigned (I32 (pos 63))) false [] fault.R1
+unfolding field_at row_at predicted_at part_checked
+exponent_64_by_increment = refl
