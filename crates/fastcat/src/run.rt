@@ -155,7 +155,7 @@ fn verdict(ending: Ending, read: usize, messages: u64, stop: Option<Stop>) -> Op
 ///
 /// Stream: the bytes read are refused, or the reader failed, or the reads are used up; what was written is that of
 /// the messages before. A fault that stands in the bytes read is answered even where a read failed behind it. Write:
-/// the writer failed. Memory: an allocation was refused; then nothing was written.
+/// the writer failed. Memory: an allocation was refused. What stands written after these two no clause says yet.
 pub fn run<R: ByteInput, W: ByteOutput>(
     alloc: Global,
     command: Command,
