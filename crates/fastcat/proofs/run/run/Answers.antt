@@ -7,7 +7,7 @@ returns-in-None-clause-answer g c =
     let h = c.in_ok-ending.ensures in
     let seen = c.deref.ensures.value in
     let t = rw seen at c.in_ok-transcript.ensures in
-    let w = rw c.deref-2.ensures.value at c.in_ok-write_all.ensures in
+    let w = rw c.deref-2.ensures.value at c.in_ok-write_all.ensures.written in
     let size : c.len.result ≡ length c.read_all.new.input.items = c.len.ensures ∙ sym c.deref.ensures.len ∙ ap length seen in
     let read : c.len-in-None.result ≡ length c.read_all.new.input.items = c.len-in-None.ensures ∙ sym c.deref.ensures.len ∙ ap length seen in
     let written : c.len-in-None-2.result ≡ length c.in_ok-transcript.transcript.out.items = c.len-in-None-2.ensures ∙ sym c.deref-2.ensures.len ∙ ap length c.deref-2.ensures.value in
@@ -28,7 +28,7 @@ returns-clause-answer g c =
     let h = c.in_ok-ending.ensures in
     let seen = c.deref.ensures.value in
     let t = rw seen at c.in_ok-transcript.ensures in
-    let w = rw c.deref-2.ensures.value at c.in_ok-write_all.ensures in
+    let w = rw c.deref-2.ensures.value at c.in_ok-write_all.ensures.written in
     let size : c.len.result ≡ length c.read_all.new.input.items = c.len.ensures ∙ sym c.deref.ensures.len ∙ ap length seen in
     let v = rw size at (sym c.verdict.ensures ∙ c.in-Some.is) in
     run_faults c.args.command c.args.turns _ _ _ _ _ _ _ _ _ _ _ c.in_ok-ending.ending c.in_ok-transcript.transcript c.in-Some.fault c.new-input.ensures.items h.read.2 h.ending t w v
