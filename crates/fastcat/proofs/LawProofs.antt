@@ -51,3 +51,11 @@ same_canonical ms ns b c h k = (
   λ e. let moved : IsCanonical ns b = subst (λ (xs : List Message). IsCanonical xs b) e h in canon_one empty b c ns moved.0 k.0 moved.1 k.1,
   λ e. one_reading_is c ms ns (subst (λ (x : List ℕ). Carries x ms) e (canonical_carries ms b h)) (canonical_carries ns c k),
 )
+
+pub own_canonical : (ms ns : List Message) (b c : List ℕ) → IsCanonical ms b → Carries b ns → IsCanonical ns c ↔ (c ≡ b)
+own_canonical ms ns b c h k =
+    let same = one_reading_is b ms ns (canonical_carries ms b h) k in
+    let mine : IsCanonical ns b = subst (λ (xs : List Message). IsCanonical xs b) same h in (
+      λ g. canon_one empty c b ns g.0 mine.0 g.1 mine.1,
+      λ e. subst (λ (x : List ℕ). IsCanonical ns x) (sym e) mine,
+    )

@@ -27,3 +27,10 @@ pub fn same_messages_same_bytes()
     ensures { (messages others : List Message) (bytes more : List ℕ) → IsCanonical messages bytes → IsCanonical others more
         → (messages ≡ others) ↔ (bytes ≡ more) }
 {}
+
+/// A canonical stream is its own canonical stream: of the messages that it carries, it is the canonical bytes, and no
+/// others are.
+pub fn canonical_stays()
+    ensures { (messages others : List Message) (bytes more : List ℕ) → IsCanonical messages bytes → Carries bytes others
+        → IsCanonical others more ↔ (more ≡ bytes) }
+{}
