@@ -18,14 +18,14 @@ fn needs_value(entry: Option<u32>, value: u32) -> bool
     entry != Some(value)
 }
 
-/// Appends a value whole, in its shortest form, or nothing.
+/// Appends a value whole, in its shortest form.
 fn write_value(value: u32, out: &mut Vec<u8>) -> Result<(), AllocError>
     ensures { OnOk result (AppendsField plain None true out.old.items out.new.items value) }
 {
     write_unsigned(u128::from(value), out).map_err(|_| AllocError)
 }
 
-/// Appends a field with the copy operator under its best bit, or nothing.
+/// Appends a field with the copy operator under its best bit.
 fn write_copied(entry: Option<u32>, value: u32, out: &mut Vec<u8>) -> Result<(), AllocError>
     ensures { OnOk result (AppendsField copy entry (copy_bit entry value) out.old.items out.new.items value) }
 {
@@ -35,7 +35,7 @@ fn write_copied(entry: Option<u32>, value: u32, out: &mut Vec<u8>) -> Result<(),
     Ok(())
 }
 
-/// Appends the shortest map of a message's two bits, or nothing.
+/// Appends the shortest map of a message's two bits.
 fn write_bits(identifier_bit: bool, b_bit: bool, out: &mut Vec<u8>) -> Result<(), AllocError>
     ensures { OnOk result (AppendsShortest IsMap out.old.items out.new.items (identifier_bit ∷ b_bit ∷ [])) }
 {

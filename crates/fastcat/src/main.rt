@@ -11,7 +11,7 @@ mod encode;
 mod fault;
 mod hex_text;
 mod input;
-mod laws;
+pub mod laws;
 mod memory;
 mod message;
 mod output;

@@ -21,7 +21,7 @@ fn line_bytes(alloc: Global, message: Message) -> Result<Vec<u8>, AllocError>
     Ok(line)
 }
 
-/// Appends the line of a message, or nothing.
+/// Appends the line of a message.
 pub fn push_line(alloc: Global, message: Message, out: &mut Vec<u8>) -> Result<(), AllocError>
     ensures { OnOk result (out.new.items ≡ out.old.items ++ line_of message) }
 {
