@@ -13,3 +13,11 @@ calls_of c = c.calls
 -- how many of them failed
 abbrev pub errors_of : {I : Type 0} → Counted I → ℕ
 errors_of c = c.errors
+
+-- how many of them met the end of a reader
+abbrev pub ends_of : {I : Type 0} → Counted I → ℕ
+ends_of c = c.ends
+
+-- how many of them flushed a writer
+abbrev pub flushes_of : {I : Type 0} → Counted I → ℕ
+flushes_of c = c.flushes

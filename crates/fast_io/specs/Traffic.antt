@@ -17,3 +17,8 @@ Pushes old new (Err e) bytes = Keeps old new
 abbrev pub CountsError : {T E : Type 0} → Result T E → ℕ → ℕ → Type 0
 CountsError (Ok x) old new = new ≡ old
 CountsError (Err e) old new = new ≡ counted old
+
+-- the count of ends rises exactly where the call gave no byte into a buffer that has room
+abbrev pub CountsEnd : {E : Type 0} → Result ℕ E → List ℕ → ℕ → ℕ → Type 0
+CountsEnd (Ok n) buf old new = (n ≡ 0 → 0 < length buf → new ≡ counted old) × (0 < n → new ≡ old) × (length buf ≡ 0 → new ≡ old)
+CountsEnd (Err e) buf old new = new ≡ old

@@ -1,4 +1,4 @@
-//! The readers and writers of std, with their calls and errors counted.
+//! The readers and writers of std, with their calls, errors, ends and flushes counted.
 
 ghost use Rattle.std.specs.Prelude.{◌≡◌};
 
@@ -6,27 +6,34 @@ use crate::input::{ByteInput, Failed};
 use crate::output::ByteOutput;
 use std::io::{Read, Write};
 
-/// A reader or a writer of std, with counts of its calls and its errors.
+/// A reader or a writer of std, with counts of its calls, of its errors, and of the calls that met a reader's
+/// end or flushed a writer.
 #[derive(Drop)]
 pub struct Counted<I> {
     inner: I,
     calls: u64,
     errors: u64,
+    ends: u64,
+    flushes: u64,
 }
 
 impl<I> Counted<I> {
-    ghost use Rattle.fast_io.specs.Counted.{inner_of, calls_of, errors_of};
+    ghost use Rattle.fast_io.specs.Counted.{inner_of, calls_of, errors_of, ends_of, flushes_of};
 
-    /// The same reader or writer, with both counts at 0. It takes no memory.
+    /// The same reader or writer, with all counts at 0. It takes no memory.
     pub fn new(inner: I) -> Counted<I>
         ensures inner { inner_of result ≡ inner }
         ensures calls { calls_of result ≡ 0 }
         ensures errors { errors_of result ≡ 0 }
+        ensures ends { ends_of result ≡ 0 }
+        ensures flushes { flushes_of result ≡ 0 }
     {
         Counted {
             inner,
             calls: 0,
             errors: 0,
+            ends: 0,
+            flushes: 0,
         }
     }
 }
@@ -38,9 +45,15 @@ impl<I: Read> ByteInput for Counted<I> {
 
     ghost errors = { λ c. c.errors };
 
+    ghost ends = { λ c. c.ends };
+
     fn pull(&mut self, buf: &mut [u8]) -> Result<usize, Failed> {
         self.calls = self.calls.saturating_add(1);
         match self.inner.read(buf) {
+            Ok(0) if !buf.is_empty() => {
+                self.ends = self.ends.saturating_add(1);
+                Ok(0)
+            }
             Ok(count) => Ok(count),
             Err(_) => {
                 self.errors = self.errors.saturating_add(1);
@@ -57,6 +70,8 @@ impl<I: Write> ByteOutput for Counted<I> {
 
     ghost errors = { λ c. c.errors };
 
+    ghost flushes = { λ c. c.flushes };
+
     fn push(&mut self, bytes: &[u8]) -> Result<usize, Failed> {
         self.calls = self.calls.saturating_add(1);
         match self.inner.write(bytes) {
@@ -70,6 +85,7 @@ impl<I: Write> ByteOutput for Counted<I> {
 
     fn flush(&mut self) -> Result<(), Failed> {
         self.calls = self.calls.saturating_add(1);
+        self.flushes = self.flushes.saturating_add(1);
         match self.inner.flush() {
             Ok(()) => Ok(()),
             Err(_) => {

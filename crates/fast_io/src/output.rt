@@ -18,18 +18,23 @@ pub trait ByteOutput {
     /// How many of them failed. The count stops at 2^64 - 1.
     ghost errors: { Self → ℕ };
 
+    /// How many of them were calls of `flush`. The count stops at 2^64 - 1.
+    ghost flushes: { Self → ℕ };
+
     /// Takes a prefix of `bytes`, and answers its length in bytes. That is 0 only where `bytes` is empty:
     /// a sink that takes nothing of a list that is not empty has failed. A call that fails takes none.
     fn push(&mut self, bytes: &[u8]) -> Result<usize, Failed>
         ensures bytes { Pushes (taken self.old) (taken self.new) result bytes.now }
         ensures call { calls self.new ≡ counted (calls self.old) }
-        ensures error { CountsError result (errors self.old) (errors self.new) };
+        ensures error { CountsError result (errors self.old) (errors self.new) }
+        ensures flush { flushes self.new ≡ flushes self.old };
 
     /// Passes on what was taken. It takes nothing itself.
     fn flush(&mut self) -> Result<(), Failed>
         ensures bytes { Keeps (taken self.old) (taken self.new) }
         ensures call { calls self.new ≡ counted (calls self.old) }
-        ensures error { CountsError result (errors self.old) (errors self.new) };
+        ensures error { CountsError result (errors self.old) (errors self.new) }
+        ensures flush { flushes self.new ≡ counted (flushes self.old) };
 }
 
 impl<O: ByteOutput> ByteOutput for &mut O {
@@ -38,6 +43,8 @@ impl<O: ByteOutput> ByteOutput for &mut O {
     ghost calls = { λ w. O.calls w.now };
 
     ghost errors = { λ w. O.errors w.now };
+
+    ghost flushes = { λ w. O.flushes w.now };
 
     fn push(&mut self, bytes: &[u8]) -> Result<usize, Failed> {
         (**self).push(bytes)

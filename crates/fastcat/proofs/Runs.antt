@@ -2,7 +2,7 @@
 use Rattle.std.proofs.Common.{◌≡◌, ◌≢◌, ℕ, ◌+◌, ◌-◌, ◌≤◌, List, [], ◌++◌, length, take, drop, Option, Some, None, refl, sym, ap, subst, ◌∙◌, arith, inl, inr, length-drop, take-append-drop, true, false, Bool}
 use Rattle.std.proofs.Math.Seq.{take-length}
 use Rattle.std.specs.Io.KnownBytes.{Appends, Consumes, IsAtEnd}
-use Rattle.fast_io.specs.Counts.{counted_by}
+use Rattle.fast_io.specs.Counts.{counted, counted_by}
 use Rattle.fast_wire.specs.PresenceMap.{next_bit, later_bits}
 use Rattle.fastcat.specs.declared.message.Message.{Message}
 use Rattle.fastcat.specs.declared.dictionary.Dictionary.{Dictionary}
@@ -17,11 +17,12 @@ use Rattle.fastcat.specs.declared.input.Ending.TheVariants as ending
 use Rattle.fastcat.specs.declared.decode.Stop.{Stop}
 use Rattle.fastcat.specs.declared.run.Transcript.{Transcript}
 use Rattle.fastcat.specs.Faults.{EntityFault, SpelledFault, CopyFault, IdentifierFault, MessageStops, in_map, in_identifier, in_a, in_b, FirstFault, EndsBetween}
+use Rattle.fastcat.specs.Devices.{Reader}
 use Rattle.fastcat.specs.Input.{Ends, Reads}
 use Rattle.fastcat.specs.Message.{CarriesFrom, empty}
 use Rattle.fastcat.specs.Run.{IsOutput, Writes, RunsToEnd, RefusedBy, RunsToFault}
 use Rattle.fastcat.specs.Transcript.{Wrote, IsTranscript, StopsAt}
-use Rattle.fastcat.specs.Verdict.{cause_in, place_in, fault_in, place_after, verdict_of}
+use Rattle.fastcat.specs.Verdict.{truncated_in, cause_in, place_in, fault_in, place_after, verdict_of}
 
 -- a cause that bytes have
 abbrev IsOfBytes : Cause → Type 0
@@ -183,71 +184,90 @@ module _ (command : Command) (turns : ℕ) (left_new taken_old taken_new : Optio
       (to_fault (record { cause = Turns; place = place_after (length input) t.messages }) refl (inr (ends_between s), all refl))
 
 -- the same from what the calls of a run answered
-at_end : (e : Ending) (turns : ℕ) (left_new : Option (List ℕ)) (co cn eo en : ℕ) (old input : List ℕ) → Ends e turns left_new co cn eo en old input → e ≡ ending.End → IsAtEnd left_new
-at_end ending.End turns left_new co cn eo en old input h same = h.0
-at_end ending.Failed turns left_new co cn eo en old input h same = absurd cc
-at_end ending.Turns turns left_new co cn eo en old input h same = absurd cc
+at_end : (e : Ending) (turns : ℕ) (before after : Reader) (old input : List ℕ) → Ends e turns before after old input → e ≡ ending.End → IsAtEnd after.left
+at_end ending.End turns before after old input h same = h.0
+at_end ending.Failed turns before after old input h same = absurd cc
+at_end ending.Turns turns before after old input h same = absurd cc
 
-all_gave : (e : Ending) (turns : ℕ) (left_new : Option (List ℕ)) (co cn eo en : ℕ) (old input : List ℕ) → Ends e turns left_new co cn eo en old input → e ≡ ending.Turns → turns ≤ length input
-all_gave ending.End turns left_new co cn eo en old input h same = absurd cc
-all_gave ending.Failed turns left_new co cn eo en old input h same = absurd cc
-all_gave ending.Turns turns left_new co cn eo en old input h same = omega (arith, h.2)
+all_gave : (e : Ending) (turns : ℕ) (before after : Reader) (old input : List ℕ) → Ends e turns before after old input → e ≡ ending.Turns → turns ≤ length input
+all_gave ending.End turns before after old input h same = absurd cc
+all_gave ending.Failed turns before after old input h same = absurd cc
+all_gave ending.Turns turns before after old input h same = omega (arith, h.3)
 
 consumed : (left_old left_new : Option (List ℕ)) (co cn k : ℕ) (old input : List ℕ) → old ≡ [] → Reads left_old left_new co cn k 4096 old input → Consumes left_old left_new input
 consumed left_old left_new co cn k old input none r =
     let same : input ≡ r.got = r.appended ∙ ap (λ (l : List ℕ). l ++ r.got) none in
     subst (λ (l : List ℕ). Consumes left_old left_new l) (sym same) r.consumed
 
-pub run_ends : (command : Command) (turns : ℕ) (left_old left_new taken_old taken_new : Option (List ℕ)) (co cn eo en k : ℕ) (old input : List ℕ) (e : Ending) (t : Transcript)
-    → old ≡ [] → Reads left_old left_new co cn k 4096 old input → Ends e turns left_new co cn eo en old input
-    → IsTranscript command input t → Appends taken_old taken_new t.out.items → verdict_of e (length input) t.messages t.stop ≡ None
-    → (x : List ℕ) × Consumes left_old left_new x × RunsToEnd command left_new taken_old taken_new x (record { messages = t.messages; read = length input; written = length t.out.items })
-run_ends command turns left_old left_new taken_old taken_new co cn eo en k old input e t none r h is w v =
-    (input, consumed left_old left_new co cn k old input none r, runs_to_end command turns left_new taken_old taken_new input t is w e t.stop is.stops v (at_end e turns left_new co cn eo en old input h))
+module _ (command : Command) (turns : ℕ) (before after : Reader) (taken_old taken_new : Option (List ℕ)) (k : ℕ) (old input : List ℕ) (e : Ending) (t : Transcript) where
+  pub run_ends : old ≡ [] → Reads before.left after.left before.calls after.calls k 4096 old input → Ends e turns before after old input
+      → IsTranscript command input t → Appends taken_old taken_new t.out.items → verdict_of e (length input) t.messages t.stop ≡ None
+      → (x : List ℕ) × Consumes before.left after.left x × RunsToEnd command after.left taken_old taken_new x (record { messages = t.messages; read = length input; written = length t.out.items })
+  run_ends none r h is w v =
+      (input, consumed before.left after.left before.calls after.calls k old input none r, runs_to_end command turns after.left taken_old taken_new input t is w e t.stop is.stops v (at_end e turns before after old input h))
 
-pub run_faults : (command : Command) (turns : ℕ) (left_old left_new taken_old taken_new : Option (List ℕ)) (co cn eo en k : ℕ) (old input : List ℕ) (e : Ending) (t : Transcript) (fault : Fault)
-    → old ≡ [] → Reads left_old left_new co cn k 4096 old input → Ends e turns left_new co cn eo en old input
-    → IsTranscript command input t → Appends taken_old taken_new t.out.items → verdict_of e (length input) t.messages t.stop ≡ Some fault
-    → (x : List ℕ) × Consumes left_old left_new x × RunsToFault command turns left_new taken_old taken_new x fault
-run_faults command turns left_old left_new taken_old taken_new co cn eo en k old input e t fault none r h is w v = (
-  input,
-  consumed left_old left_new co cn k old input none r,
-  runs_to_fault command turns left_new taken_old taken_new input t is w e t.stop fault is.stops v (at_end e turns left_new co cn eo en old input h) (all_gave e turns left_new co cn eo en old input h),
-)
+  pub run_faults : (fault : Fault) → old ≡ [] → Reads before.left after.left before.calls after.calls k 4096 old input → Ends e turns before after old input
+      → IsTranscript command input t → Appends taken_old taken_new t.out.items → verdict_of e (length input) t.messages t.stop ≡ Some fault
+      → (x : List ℕ) × Consumes before.left after.left x × RunsToFault command turns after.left taken_old taken_new x fault
+  run_faults fault none r h is w v = (
+    input,
+    consumed before.left after.left before.calls after.calls k old input none r,
+    runs_to_fault command turns after.left taken_old taken_new input t is w e t.stop fault is.stops v (at_end e turns before after old input h) (all_gave e turns before after old input h),
+  )
+
+-- a cause that a reader has
+abbrev IsOfReader : Cause → Type 0
+IsOfReader Read = Unit {0}
+IsOfReader Turns = Unit {0}
+IsOfReader _ = ⊥
+
+-- no cause of bytes becomes the reader's but by how reading ended
+ended_by_stop : (e : Ending) (c x : Cause) → IsOfBytes c → IsOfReader x → cause_in e c ≡ x → truncated_in e ≡ x
+ended_by_stop e D2 x b r h = absurd (subst IsOfReader (sym h) r)
+ended_by_stop e D5 x b r h = absurd (subst IsOfReader (sym h) r)
+ended_by_stop e D9 x b r h = absurd (subst IsOfReader (sym h) r)
+ended_by_stop e Limit x b r h = absurd (subst IsOfReader (sym h) r)
+ended_by_stop e Truncated x b r h = h
+ended_by_stop e Read x b r h = absurd b
+ended_by_stop e Turns x b r h = absurd b
+ended_by_stop e Memory x b r h = absurd b
+
+not_memory : (e : Ending) (c x : Cause) → IsOfReader x → cause_in e c ≡ x → c ≢ Memory
+not_memory e c x r h m =
+    let turned : cause_in e Memory ≡ x = subst (λ (y : Cause). cause_in e y ≡ x) m h in
+    subst IsOfReader (sym turned) r
+
+ended_by : (input : List ℕ) (place : ℕ) (d : Dictionary) (e : Ending) (n : ℕ) (stop : Option Stop) (fault : Fault) (x : Cause) → IsOfReader x
+    → StopsAt stop input place d → verdict_of e (length input) n stop ≡ Some fault → fault.cause ≡ x → truncated_in e ≡ x
+ended_by input place d e n (Some stop) fault x r s v h =
+    let same : fault_in e (length input) n stop ≡ fault = cc in
+    let turned : cause_in e stop.cause ≡ x = ap (λ (y : Fault). y.cause) same ∙ h in
+    ended_by_stop e stop.cause x (stops_cause d (drop place input) stop (s.2 (not_memory e stop.cause x r turned))) r turned
+ended_by input place d ending.End n None fault x r s v h = absurd cc
+ended_by input place d ending.Failed n None fault x r s v h =
+    let same : record { cause = Read; place = place_after (length input) n } ≡ fault = cc in
+    ap (λ (y : Fault). y.cause) same ∙ h
+ended_by input place d ending.Turns n None fault x r s v h =
+    let same : record { cause = Turns; place = place_after (length input) n } ≡ fault = cc in
+    ap (λ (y : Fault). y.cause) same ∙ h
 
 -- the limit on reads is answered only where they are used up
-used_up : (e : Ending) (turns : ℕ) (left_new : Option (List ℕ)) (co cn eo en : ℕ) (old input : List ℕ) → Ends e turns left_new co cn eo en old input → e ≡ ending.Turns → cn ≡ counted_by co turns
-used_up ending.End turns left_new co cn eo en old input h same = absurd cc
-used_up ending.Failed turns left_new co cn eo en old input h same = absurd cc
-used_up ending.Turns turns left_new co cn eo en old input h same = h.1
+used_up : (e : Ending) (turns : ℕ) (before after : Reader) (old input : List ℕ) → Ends e turns before after old input → truncated_in e ≡ Turns
+    → (after.calls ≡ counted_by before.calls turns) × (after.ends ≡ before.ends)
+used_up ending.End turns before after old input h same = absurd cc
+used_up ending.Failed turns before after old input h same = absurd cc
+used_up ending.Turns turns before after old input h same = (h.2, h.1)
 
-memory_not_turns : (e : Ending) (c : Cause) → c ≡ Memory → cause_in e c ≡ Turns → ⊥
-memory_not_turns e c m h = let turned : cause_in e Memory ≡ Turns = subst (λ (x : Cause). cause_in e x ≡ Turns) m h in cc
+-- and a failed read only where one failed
+read_failed : (e : Ending) (turns : ℕ) (before after : Reader) (old input : List ℕ) → Ends e turns before after old input → truncated_in e ≡ Read → after.errors ≡ counted before.errors
+read_failed ending.End turns before after old input h same = absurd cc
+read_failed ending.Failed turns before after old input h same = h.0
+read_failed ending.Turns turns before after old input h same = absurd cc
 
-turns_of_stop : (e : Ending) (c : Cause) → IsOfBytes c → cause_in e c ≡ Turns → e ≡ ending.Turns
-turns_of_stop e D2 b h = absurd cc
-turns_of_stop e D5 b h = absurd cc
-turns_of_stop e D9 b h = absurd cc
-turns_of_stop e Limit b h = absurd cc
-turns_of_stop ending.End Truncated b h = absurd cc
-turns_of_stop ending.Failed Truncated b h = absurd cc
-turns_of_stop ending.Turns Truncated b h = refl
-turns_of_stop e Read b h = absurd b
-turns_of_stop e Turns b h = absurd b
-turns_of_stop e Memory b h = absurd b
+module _ (command : Command) (turns : ℕ) (before after : Reader) (old input : List ℕ) (e : Ending) (t : Transcript) (fault : Fault) (h : Ends e turns before after old input)
+    (is : IsTranscript command input t) (v : verdict_of e (length input) t.messages t.stop ≡ Some fault) where
+  pub run_turns : fault.cause ≡ Turns → (after.calls ≡ counted_by before.calls turns) × (after.ends ≡ before.ends)
+  run_turns same = used_up e turns before after old input h (ended_by input is.place is.d e t.messages t.stop fault Turns tt is.stops v same)
 
-turns_of : (input : List ℕ) (place : ℕ) (d : Dictionary) (e : Ending) (n : ℕ) (stop : Option Stop) (fault : Fault) → StopsAt stop input place d → verdict_of e (length input) n stop ≡ Some fault → fault.cause ≡ Turns → e ≡ ending.Turns
-turns_of input place d e n (Some stop) fault s v h =
-    let same : fault_in e (length input) n stop ≡ fault = cc in
-    let turned : cause_in e stop.cause ≡ Turns = ap (λ (x : Fault). x.cause) same ∙ h in
-    turns_of_stop e stop.cause (stops_cause d (drop place input) stop (s.2 (λ m. memory_not_turns e stop.cause m turned))) turned
-turns_of input place d ending.End n None fault s v h = absurd cc
-turns_of input place d ending.Failed n None fault s v h =
-    let same : record { cause = Read; place = place_after (length input) n } ≡ fault = cc in
-    let turned : Read ≡ Turns = ap (λ (x : Fault). x.cause) same ∙ h in absurd cc
-turns_of input place d ending.Turns n None fault s v h = refl
-
-pub run_turns : (command : Command) (turns : ℕ) (left_new : Option (List ℕ)) (co cn eo en : ℕ) (old input : List ℕ) (e : Ending) (t : Transcript) (fault : Fault)
-    → Ends e turns left_new co cn eo en old input → IsTranscript command input t → verdict_of e (length input) t.messages t.stop ≡ Some fault → fault.cause ≡ Turns → cn ≡ counted_by co turns
-run_turns command turns left_new co cn eo en old input e t fault h is v turned =
-    used_up e turns left_new co cn eo en old input h (turns_of input is.place is.d e t.messages t.stop fault is.stops v turned)
+  pub run_read : fault.cause ≡ Read → after.errors ≡ counted before.errors
+  run_read same = read_failed e turns before after old input h (ended_by input is.place is.d e t.messages t.stop fault Read tt is.stops v same)

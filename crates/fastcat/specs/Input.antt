@@ -2,6 +2,7 @@
 use Rattle.std.specs.Prelude.{◌≡◌, ℕ, ◌+◌, ◌*◌, ◌≤◌, List, ◌++◌, length, Option}
 use Rattle.std.specs.Io.KnownBytes.{Consumes, IsAtEnd}
 use Rattle.fast_io.specs.Counts.{counted, counted_by}
+use Rattle.fastcat.specs.Devices.{Reader}
 use Rattle.fastcat.specs.declared.input.Ending.{Ending}
 use Rattle.fastcat.specs.declared.input.Ending.TheVariants.{End, Failed, Turns}
 
@@ -13,9 +14,12 @@ pub record Reads (left_old left_new : Option (List ℕ)) (calls_old calls_new k 
   pub called : calls_new ≡ counted_by calls_old k
   pub bounded : length got ≤ size * k
 
--- how they ended: with no error at the reader's end; with the last read's error; or all made, each with a byte
-abbrev pub Ends : Ending → ℕ → Option (List ℕ) → ℕ → ℕ → ℕ → ℕ → List ℕ → List ℕ → Type 0
-Ends End turns left_new calls_old calls_new errors_old errors_new old new = IsAtEnd left_new × (errors_new ≡ errors_old)
-Ends Failed turns left_new calls_old calls_new errors_old errors_new old new = errors_new ≡ counted errors_old
-Ends Turns turns left_new calls_old calls_new errors_old errors_new old new =
-    (errors_new ≡ errors_old) × (calls_new ≡ counted_by calls_old turns) × (length old + turns ≤ length new)
+-- how they ended: the last met the reader's end; the last failed; or all were made, and each gave a byte
+abbrev pub Ends : Ending → ℕ → Reader → Reader → List ℕ → List ℕ → Type 0
+Ends End turns old new before after =
+    IsAtEnd new.left × (new.errors ≡ old.errors) × (new.ends ≡ counted old.ends)
+Ends Failed turns old new before after =
+    (new.errors ≡ counted old.errors) × (new.ends ≡ old.ends)
+Ends Turns turns old new before after =
+    (new.errors ≡ old.errors) × (new.ends ≡ old.ends) × (new.calls ≡ counted_by old.calls turns)
+    × (length before + turns ≤ length after)

@@ -1,4 +1,5 @@
 pub mod Form
+pub mod Devices
 pub mod Input
 pub mod Output
 pub mod Message

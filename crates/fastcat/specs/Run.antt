@@ -1,6 +1,8 @@
 -- What a run answers, and what it wrote.
 use Rattle.std.specs.Prelude.{◌≡◌, ℕ, ◌+◌, ◌≤◌, List, ◌++◌, length, Option, ◌⊎◌, Result, Ok, Err}
 use Rattle.std.specs.Io.KnownBytes.{Appends, IsAtEnd}
+use Rattle.fast_io.specs.Counts.{counted, counted_by}
+use Rattle.fastcat.specs.Devices.{Reader, Writer}
 use Rattle.fastcat.specs.declared.message.Message.{Message}
 use Rattle.fastcat.specs.declared.dictionary.Dictionary.{Dictionary}
 use Rattle.fastcat.specs.declared.place.Place.{Place}
@@ -73,9 +75,30 @@ abbrev pub Runs : Command → ℕ → Option (List ℕ) → Option (List ℕ) �
 Runs command turns left_new taken_old taken_new input (Ok summary) = RunsToEnd command left_new taken_old taken_new input summary
 Runs command turns left_new taken_old taken_new input (Err e) = RunsRefused e command turns left_new taken_old taken_new input
 
--- the stated number of reads is used up
-abbrev pub IsTurns : Result Summary CanonFault → (Type 0) → Type 0
-IsTurns (Ok summary) P = Unit {0}
-IsTurns (Err (refusal.Stream fault)) P = fault.cause ≡ cause.Turns → P
-IsTurns (Err refusal.Write) P = Unit {0}
-IsTurns (Err refusal.Memory) P = Unit {0}
+-- a fact for the answer that the stream is refused with this cause
+abbrev pub OnFault : Cause → Result Summary CanonFault → Type 0 → Type 0
+OnFault c (Ok summary) P = Unit {0}
+OnFault c (Err (refusal.Stream fault)) P = fault.cause ≡ c → P
+OnFault c (Err refusal.Write) P = Unit {0}
+OnFault c (Err refusal.Memory) P = Unit {0}
+
+-- the writer's count of errors afterwards: one call failed where the answer is Write, and else none
+abbrev pub errors_after : Result Summary CanonFault → ℕ → ℕ
+errors_after (Ok summary) n = n
+errors_after (Err (refusal.Stream fault)) n = n
+errors_after (Err refusal.Write) n = counted n
+errors_after (Err refusal.Memory) n = n
+
+-- the writer is flushed once before Ok and before a refused stream is answered, also where nothing was written
+abbrev pub FlushesOnce : Result Summary CanonFault → ℕ → ℕ → Type 0
+FlushesOnce (Ok summary) old new = new ≡ counted old
+FlushesOnce (Err (refusal.Stream fault)) old new = new ≡ counted old
+FlushesOnce (Err refusal.Write) old new = Unit {0}
+FlushesOnce (Err refusal.Memory) old new = new ≡ old
+
+-- a failed read, used up reads and a failed write are answered only where the counts show them
+pub record IsCounted (answer : Result Summary CanonFault) (turns : ℕ) (in_old in_new : Reader) (out_old out_new : Writer) : Type 0 where
+  pub read_failed : OnFault cause.Read answer (in_new.errors ≡ counted in_old.errors)
+  pub used_up : OnFault cause.Turns answer ((in_new.calls ≡ counted_by in_old.calls turns) × (in_new.ends ≡ in_old.ends))
+  pub write_failed : out_new.errors ≡ errors_after answer out_old.errors
+  pub flushed : FlushesOnce answer out_old.flushes out_new.flushes

@@ -28,8 +28,23 @@ pub fn read_all<R: ByteInput>(
     input: &mut Vec<u8>,
 ) -> Result<Ending, AllocError>
     // what was read stands at the end, whatever the answer
-    ensures read { (k : ℕ) × (k ≤ turns) × Reads (R.left reader.old) (R.left reader.new) (R.calls reader.old) (R.calls reader.new) k 4096 input.old.items input.new.items }
-    ensures ending { IfOk result (λ ending. Ends ending turns (R.left reader.new) (R.calls reader.old) (R.calls reader.new) (R.errors reader.old) (R.errors reader.new) input.old.items input.new.items) }
+    ensures read { (k : ℕ) × (k ≤ turns)
+        × Reads (R.left reader.old) (R.left reader.new) (R.calls reader.old) (R.calls reader.new) k
+        CHUNK input.old.items input.new.items }
+    ensures ending { IfOk result (λ ending. Ends ending turns
+        (record {
+          left = R.left reader.old;
+          calls = R.calls reader.old;
+          errors = R.errors reader.old;
+          ends = R.ends reader.old;
+        })
+        (record {
+          left = R.left reader.new;
+          calls = R.calls reader.new;
+          errors = R.errors reader.new;
+          ends = R.ends reader.new;
+        })
+        input.old.items input.new.items) }
     ensures memory { IfErr result (λ _. R.errors reader.new ≡ R.errors reader.old) }
 {
     let mut chunk = [0u8; CHUNK];

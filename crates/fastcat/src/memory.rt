@@ -10,6 +10,7 @@ pub struct MemoryOutput {
     pub bytes: Vec<u8>,
     pub calls: u64,
     pub errors: u64,
+    pub flushes: u64,
 }
 
 impl ByteOutput for MemoryOutput {
@@ -18,6 +19,8 @@ impl ByteOutput for MemoryOutput {
     ghost calls = { λ m. m.calls };
 
     ghost errors = { λ m. m.errors };
+
+    ghost flushes = { λ m. m.flushes };
 
     fn push(&mut self, bytes: &[u8]) -> Result<usize, Failed> {
         self.calls = self.calls.saturating_add(1);
@@ -32,6 +35,7 @@ impl ByteOutput for MemoryOutput {
 
     fn flush(&mut self) -> Result<(), Failed> {
         self.calls = self.calls.saturating_add(1);
+        self.flushes = self.flushes.saturating_add(1);
         Ok(())
     }
 }

@@ -1,7 +1,8 @@
 //! Writing an output whole.
 
-ghost use Rattle.std.specs.Prelude.{OnOk};
+ghost use Rattle.std.specs.Prelude.{◌≡◌, OnOk};
 ghost use Rattle.std.specs.Io.KnownBytes.{Appends};
+ghost use Rattle.fast_io.specs.Counts.{counted};
 ghost use Rattle.fast_io.specs.Traffic.{CountsError};
 
 use fast_io::{ByteOutput, Failed};
@@ -10,6 +11,7 @@ use fast_io::{ByteOutput, Failed};
 pub fn write_all<W: ByteOutput>(writer: &mut W, bytes: &[u8]) -> Result<(), Failed>
     ensures written { OnOk result (Appends (W.taken writer.old) (W.taken writer.new) bytes.now) }
     ensures failed { CountsError result (W.errors writer.old) (W.errors writer.new) }
+    ensures flushed { OnOk result (W.flushes writer.new ≡ counted (W.flushes writer.old)) }
 {
     let mut rest = bytes;
     while !rest.is_empty() {

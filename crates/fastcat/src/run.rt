@@ -2,8 +2,8 @@
 
 ghost use Rattle.std.specs.Prelude.{◌≡◌, ◌+◌, ◌-◌, ◌<◌, ◌≤◌, ◌^◌, ℕ, ◌∷◌, [], length, IfOk, OnOk, vec_len, IfSome, List, Option, None, Some};
 ghost use Rattle.std.specs.Io.KnownBytes.{Consumes};
-ghost use Rattle.fast_io.specs.Counts.{counted_by};
-ghost use Rattle.fastcat.specs.Run.{IsTurns, Runs};
+ghost use Rattle.fast_io.specs.Counts.{counted, counted_by};
+ghost use Rattle.fastcat.specs.Run.{errors_after, FlushesOnce, OnFault, Runs};
 ghost use Rattle.fastcat.specs.Transcript.{Adds, IsTranscript};
 ghost use Rattle.fastcat.specs.Verdict.{cause_in, fault_after, fault_in, verdict_of};
 
@@ -165,8 +165,15 @@ pub fn run<R: ByteInput, W: ByteOutput>(
 ) -> Result<Summary, CanonFault>
     // at most `turns` reads
     ensures bounded { (k : ℕ) × (k ≤ turns) × (R.calls reader.new ≡ counted_by (R.calls reader.old) k) }
-    // the limit is answered only once they are made
-    ensures turns { IsTurns result (R.calls reader.new ≡ counted_by (R.calls reader.old) turns) }
+    // the limit is answered only once they are made, and none of them met the end
+    ensures turns { OnFault Cause.Turns result
+        ((R.calls reader.new ≡ counted_by (R.calls reader.old) turns)
+        × (R.ends reader.new ≡ R.ends reader.old)) }
+    // a failed read is answered only where a read failed
+    ensures read { OnFault Cause.Read result (R.errors reader.new ≡ counted (R.errors reader.old)) }
+    // a failed write is answered exactly where a call of the writer failed
+    ensures write { W.errors writer.new ≡ errors_after result (W.errors writer.old) }
+    ensures flush { FlushesOnce result (W.flushes writer.old) (W.flushes writer.new) }
     // what the bytes read carry, what was written, and what is answered
     ensures answer { (input : List ℕ) × Consumes (R.left reader.old) (R.left reader.new) input
         × Runs command turns (R.left reader.new) (W.taken writer.old) (W.taken writer.new) input result }

@@ -3,8 +3,8 @@
 ghost use Rattle.std.specs.Prelude.{◌≡◌, ◌≤◌, ◌⊎◌, ◌++◌, ◌∷◌, [], OnOk, IfOk, IfErr};
 ghost use Rattle.std.specs.Io.KnownBytes.{Appends};
 ghost use Rattle.hex.specs.Hex.{encode_lower};
-ghost use Rattle.fastcat.specs.Served.{CanonInHex, Performs, ReadsHex, RefusesHex, RunsPlain, status_after};
-ghost use Rattle.fastcat.specs.Refusals.{status_of};
+ghost use Rattle.fastcat.specs.Served.{CanonInHex, Performs, ReadsHex, RefusesHex, RunsPlain, Says, SaysText, status_after, WritesHex};
+ghost use Rattle.fastcat.specs.Refusals.{status_of, text_of};
 
 use crate::command::Command;
 use crate::fault::CanonFault;
@@ -14,9 +14,14 @@ use crate::memory::MemoryOutput;
 use crate::output::write_all;
 use crate::refusal::Refusal;
 use crate::run::run;
+use clap::error::ErrorKind;
 use clap::{Arg, ArgAction};
 use fast_io::{ByteInput, ByteOutput, Counted};
 use std::alloc::Global;
+use std::io;
+
+/// The most reads that the program makes of its input.
+pub const TURNS: u64 = 1 << 40;
 
 /// What a command line asks for.
 #[derive(Clone, Copy, Debug, PartialEq, Eq)]
@@ -37,15 +42,18 @@ fn parse_words(alloc: Global, words: &[&str]) -> Result<Request, clap::Error> {
         .long("hex")
         .action(ArgAction::SetTrue)
         .help("Read hex text, and write canonical bytes as hex text");
-    let matches = clap::Command::new(alloc, "fastcat")
+    let mut line = clap::Command::new(alloc, "fastcat")
         .about("Reads a FAST 1.1 stream from standard input")
         .arg(command)?
-        .arg(hex)?
-        .try_get_matches_from(words)?;
-    // The parser wants one of the two words.
+        .arg(hex)?;
+    let matches = line.try_get_matches_from_mut(words)?;
     let command = match matches.get_str("command") {
+        Some("show") => Command::Show,
         Some("canon") => Command::Canon,
-        _ => Command::Show,
+        // The parser lets no other word through.
+        Some(_) | None => {
+            return Err(line.error(ErrorKind::InvalidValue, "COMMAND is show or canon")?);
+        }
     };
     Ok(Request {
         command,
@@ -60,7 +68,19 @@ fn read_hex_input<I: ByteInput>(
     turns: u64,
 ) -> Result<Vec<u8>, Refusal>
     ensures ok { IfOk result (λ bytes. ReadsHex (I.left input.old) (I.left input.new) bytes.items) }
-    ensures err { IfErr result (RefusesHex (I.left input.old) (I.left input.new)) }
+    ensures err { IfErr result (RefusesHex turns
+        (record {
+          left = I.left input.old;
+          calls = I.calls input.old;
+          errors = I.errors input.old;
+          ends = I.ends input.old;
+        })
+        (record {
+          left = I.left input.new;
+          calls = I.calls input.new;
+          errors = I.errors input.new;
+          ends = I.ends input.new;
+        })) }
 {
     let mut text = Vec::new(alloc);
     match read_all(input, turns, &mut text) {
@@ -79,7 +99,29 @@ fn run_plain<I: ByteInput, O: ByteOutput>(
     out: &mut O,
     turns: u64,
 ) -> Result<(), Refusal>
-    ensures { RunsPlain command turns (I.left input.old) (I.left input.new) (O.taken out.old) (O.taken out.new) result }
+    ensures { RunsPlain command turns
+        (record {
+          left = I.left input.old;
+          calls = I.calls input.old;
+          errors = I.errors input.old;
+          ends = I.ends input.old;
+        })
+        (record {
+          left = I.left input.new;
+          calls = I.calls input.new;
+          errors = I.errors input.new;
+          ends = I.ends input.new;
+        })
+        (record {
+          taken = O.taken out.old;
+          errors = O.errors out.old;
+          flushes = O.flushes out.old;
+        })
+        (record {
+          taken = O.taken out.new;
+          errors = O.errors out.new;
+          flushes = O.flushes out.new;
+        }) result }
 {
     match run(alloc, command, input, out, turns) {
         Ok(_) => Ok(()),
@@ -89,8 +131,17 @@ fn run_plain<I: ByteInput, O: ByteOutput>(
 
 /// Writes bytes as a line of hex.
 fn write_hex_line<O: ByteOutput>(alloc: Global, bytes: &[u8], out: &mut O) -> Result<(), Refusal>
-    ensures written { OnOk result (Appends (O.taken out.old) (O.taken out.new) (encode_lower bytes.now ++ 10 ∷ [])) }
-    ensures refused { IfErr result (λ e. (e ≡ Refusal.Write) ⊎ (e ≡ Refusal.Memory)) }
+    ensures { WritesHex
+        (record {
+          taken = O.taken out.old;
+          errors = O.errors out.old;
+          flushes = O.flushes out.old;
+        })
+        (record {
+          taken = O.taken out.new;
+          errors = O.errors out.new;
+          flushes = O.flushes out.new;
+        }) bytes.now result }
 {
     let line = hex_line(alloc, bytes).map_err(|_| Refusal::Memory)?;
     write_all(out, line.as_bytes()).map_err(|_| Refusal::Write)
@@ -103,13 +154,24 @@ fn canon_in_hex<O: ByteOutput>(
     out: &mut O,
     turns: u64,
 ) -> Result<(), Refusal>
-    ensures { CanonInHex turns stream.now (O.taken out.old) (O.taken out.new) result }
+    ensures { CanonInHex turns stream.now
+        (record {
+          taken = O.taken out.old;
+          errors = O.errors out.old;
+          flushes = O.flushes out.old;
+        })
+        (record {
+          taken = O.taken out.new;
+          errors = O.errors out.new;
+          flushes = O.flushes out.new;
+        }) result }
 {
     let mut input = Counted::new(stream);
     let mut kept = MemoryOutput {
         bytes: Vec::new(alloc),
         calls: 0,
         errors: 0,
+        flushes: 0,
     };
     match run(alloc, Command::Canon, &mut input, &mut kept, turns) {
         Ok(_) => write_hex_line(alloc, &kept.bytes, out),
@@ -130,7 +192,29 @@ fn perform<I: ByteInput, O: ByteOutput>(
     out: &mut O,
     turns: u64,
 ) -> Result<(), Refusal>
-    ensures { Performs turns (I.left input.old) (I.left input.new) (O.taken out.old) (O.taken out.new) result }
+    ensures { Performs turns
+        (record {
+          left = I.left input.old;
+          calls = I.calls input.old;
+          errors = I.errors input.old;
+          ends = I.ends input.old;
+        })
+        (record {
+          left = I.left input.new;
+          calls = I.calls input.new;
+          errors = I.errors input.new;
+          ends = I.ends input.new;
+        })
+        (record {
+          taken = O.taken out.old;
+          errors = O.errors out.old;
+          flushes = O.flushes out.old;
+        })
+        (record {
+          taken = O.taken out.new;
+          errors = O.errors out.new;
+          flushes = O.flushes out.new;
+        }) result }
 {
     let request = match parse_words(alloc, words) {
         Ok(request) => request,
@@ -153,7 +237,19 @@ fn perform<I: ByteInput, O: ByteOutput>(
 /// Says why the program does not do what it is asked to, and answers its exit status. An `err` that fails changes
 /// no status.
 pub fn report<E: ByteOutput>(refusal: &Refusal, err: &mut E) -> u8
-    ensures { result ≡ status_of refusal.now }
+    ensures status { result ≡ status_of refusal.now }
+    // its text is written and flushed, or a call failed
+    ensures said { SaysText
+        (record {
+          taken = E.taken err.old;
+          errors = E.errors err.old;
+          flushes = E.flushes err.old;
+        })
+        (record {
+          taken = E.taken err.new;
+          errors = E.errors err.new;
+          flushes = E.flushes err.new;
+        }) (text_of refusal.now) }
 {
     let _ = write_all(err, refusal.text().as_bytes());
     refusal.status()
@@ -172,12 +268,70 @@ pub fn serve<I: ByteInput, O: ByteOutput, E: ByteOutput>(
 ) -> u8
     ensures status { result ≤ 3 }
     ensures quiet { result ≡ 0 → err.new ≡ err.old }
-    // what was read, written and answered, and that the status is that of the answer
+    // what was read, written and answered, that the status is that of the answer, and what is said
     ensures performed { (r : _) × (result ≡ status_after r)
-        × Performs turns (I.left input.old) (I.left input.new) (O.taken out.old) (O.taken out.new) r }
+        × Performs turns
+        (record {
+          left = I.left input.old;
+          calls = I.calls input.old;
+          errors = I.errors input.old;
+          ends = I.ends input.old;
+        })
+        (record {
+          left = I.left input.new;
+          calls = I.calls input.new;
+          errors = I.errors input.new;
+          ends = I.ends input.new;
+        })
+        (record {
+          taken = O.taken out.old;
+          errors = O.errors out.old;
+          flushes = O.flushes out.old;
+        })
+        (record {
+          taken = O.taken out.new;
+          errors = O.errors out.new;
+          flushes = O.flushes out.new;
+        }) r
+        × Says
+        (record {
+          taken = E.taken err.old;
+          errors = E.errors err.old;
+          flushes = E.flushes err.old;
+        })
+        (record {
+          taken = E.taken err.new;
+          errors = E.errors err.new;
+          flushes = E.flushes err.new;
+        }) r }
 {
     match perform(alloc, words, input, out, turns) {
         Ok(()) => 0,
         Err(refusal) => report(&refusal, err),
+    }
+}
+
+/// Serves the words of a process, of which each has to be text.
+pub fn serve_words<I: ByteInput, O: ByteOutput, E: ByteOutput>(
+    alloc: Global,
+    words: io::Result<Vec<String>>,
+    input: &mut I,
+    out: &mut O,
+    err: &mut E,
+    turns: u64,
+) -> u8
+    ensures status { result ≤ 3 }
+    ensures quiet { result ≡ 0 → err.new ≡ err.old }
+    // where there are no words nothing is read or written, and the status says so
+    ensures no_words { IfErr words (λ _. (2 ≤ result) × (input.new ≡ input.old) × (out.new ≡ out.old)) }
+{
+    let words = match words {
+        Ok(words) => words,
+        Err(error) => return report(&Refusal::of_words(&error), err),
+    };
+    let texts: Result<Vec<&str>, _> = words.iter().map(|word| word.as_str()).collect(alloc);
+    match texts {
+        Ok(texts) => serve(alloc, &texts, input, out, err, turns),
+        Err(_) => report(&Refusal::Memory, err),
     }
 }

@@ -50,6 +50,24 @@ impl Read for Repeated {
     }
 }
 
+/// Keeps all bytes, and counts the flushes.
+#[derive(Drop)]
+pub struct Flushed<'a> {
+    pub kept: &'a mut Vec<u8>,
+    pub flushes: &'a mut u32,
+}
+
+impl Write for Flushed<'_> {
+    fn write(&mut self, bytes: &[u8]) -> io::Result<usize> {
+        self.kept.write(bytes)
+    }
+
+    fn flush(&mut self) -> io::Result<()> {
+        *self.flushes = self.flushes.saturating_add(1);
+        Ok(())
+    }
+}
+
 /// What a full sink answers, and to what.
 #[derive(Clone, Copy)]
 pub enum Full {

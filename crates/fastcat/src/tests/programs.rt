@@ -1,8 +1,9 @@
 //! The program: its exit status, what it writes, and what it says.
 
-use crate::serve::serve;
-use crate::tests::devices::{After, Full, Repeated, Sink, Source};
+use crate::serve::{TURNS, serve, serve_words};
+use crate::tests::devices::{After, Flushed, Full, Repeated, Sink, Source};
 use fast_io::Counted;
+use std::io;
 use std::test::Fail;
 
 /// A command line, an input, and what is answered, written and said.
@@ -238,6 +239,81 @@ fn failing_outputs(rt: HostRuntime) -> Result<(), Fail> {
         );
         assert_eq!(rt; out.as_slice(), written, "{words:?} of {input:?}");
         assert_eq!(rt; status, 3, "{words:?} of {input:?}");
+    }
+    Ok(())
+}
+
+#[test]
+fn flushes(rt: HostRuntime) -> Result<(), Fail> {
+    let rows = [
+        (CANON, TWO, 0, 6),
+        (CANON, b"", 0, 0),
+        (SHOW, b"", 0, 0),
+        (CANON, b"\x80", 1, 0),
+        (SHOW, b"\x80", 1, 0),
+        (CANON_HEX, b"e0908586", 0, 9),
+        (CANON_HEX, b"", 0, 1),
+        (CANON_HEX, b"80", 1, 1),
+    ];
+    for (words, input, want, written) in rows {
+        let mut kept = Vec::new(rt.alloc());
+        let mut flushes = 0;
+        let mut err = Vec::new(rt.alloc());
+        let status = serve(
+            rt.alloc(),
+            words,
+            &mut Counted::new(input),
+            &mut Counted::new(Flushed {
+                kept: &mut kept,
+                flushes: &mut flushes,
+            }),
+            &mut Counted::new(&mut err),
+            9,
+        );
+        assert_eq!(rt; status, want, "{words:?} of {input:?}");
+        assert_eq!(rt; kept.len(), written, "{words:?} of {input:?}");
+        assert_eq!(rt; flushes, 1, "{words:?} of {input:?}");
+    }
+    Ok(())
+}
+
+#[test]
+fn process_words(rt: HostRuntime) -> Result<(), Fail> {
+    assert_eq!(rt; TURNS, 1_099_511_627_776);
+    let texts = [
+        String::from_str(rt.alloc(), "fastcat")?,
+        String::from_str(rt.alloc(), "canon")?,
+    ];
+    let words = Vec::from_array(rt.alloc(), texts)?;
+    let rows = [
+        (Ok(words), 0, b"\xe0\x90\x85\x86\x80\x87".as_slice(), ""),
+        (
+            Err(io::Error::from(io::ErrorKind::InvalidData)),
+            2,
+            b"",
+            "command line is not UTF-8\n",
+        ),
+        (
+            Err(io::Error::from(io::ErrorKind::OutOfMemory)),
+            3,
+            b"",
+            "fault memory\n",
+        ),
+    ];
+    for (words, want, written, said) in rows {
+        let mut out = Vec::new(rt.alloc());
+        let mut err = Vec::new(rt.alloc());
+        let status = serve_words(
+            rt.alloc(),
+            words,
+            &mut Counted::new(TWO),
+            &mut Counted::new(&mut out),
+            &mut Counted::new(&mut err),
+            TURNS,
+        );
+        assert_eq!(rt; status, want, "{said}");
+        assert_eq!(rt; out.as_slice(), written, "{said}");
+        assert_eq!(rt; err.as_slice(), said.as_bytes());
     }
     Ok(())
 }
