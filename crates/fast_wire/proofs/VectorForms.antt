@@ -44,7 +44,7 @@ bytes_drop (suc n) [] h = h
 bytes_drop (suc n) (b ∷ bs) h = bytes_drop n bs h.1
 
 -- the bytes are these, as many as said
-abbrev AreBytes : ℕ → List ℕ → List ℕ → Type 0
+abbrev pub AreBytes : ℕ → List ℕ → List ℕ → Type 0
 AreBytes n b s = (b ≡ s) × (length s ≡ n) × (n ≤ 65535)
 
 abbrev done : {A : Type 0} → A → Result A WireFault
@@ -71,7 +71,7 @@ bytes_found n bytes x rest fits e = elim (cases_lt 65535 n) [
   ]
 ]
 
-bytes_again : (n : ℕ) (b x rest : List ℕ) → AreBytes n b x → bytes_at n (b ++ rest) ≡ Ok (x, rest)
+pub bytes_again : (n : ℕ) (b x rest : List ℕ) → AreBytes n b x → bytes_at n (b ++ rest) ≡ Ok (x, rest)
 bytes_again n b x rest h =
     let size : length b ≡ n = ap length h.0 ∙ h.1 in
     let enough : n ≤ length (b ++ rest) = omega (arith, length-append b rest) in

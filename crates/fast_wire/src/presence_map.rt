@@ -41,16 +41,35 @@ fn group_bit(bytes: &[u8], i: usize) -> bool
 }
 
 impl Bits {
+    /// No bits: each that is taken is 0. It takes no memory.
+    pub fn none(alloc: Global) -> Bits
+        ensures { result ≡ [] }
+    {
+        Bits {
+            bytes: Vec::new(alloc),
+            place: 0,
+        }
+    }
+
+    /// The next bit, or false past the end; it stays the next. It takes no memory.
+    pub fn first(&self) -> bool
+        ensures { result ≡ next_bit self.now }
+    {
+        if self.place == 7 * self.bytes.len() {
+            return false;
+        }
+        group_bit(&self.bytes, self.place)
+    }
+
     /// The next bit, or false past the end. It takes no memory.
     pub fn take(&mut self) -> bool
         ensures bit { result ≡ next_bit self.old }
         ensures rest { self.new ≡ later_bits self.old }
     {
-        if self.place == 7 * self.bytes.len() {
-            return false;
+        let bit = self.first();
+        if self.place < 7 * self.bytes.len() {
+            self.place += 1;
         }
-        let bit = group_bit(&self.bytes, self.place);
-        self.place += 1;
         bit
     }
 
