@@ -4,7 +4,5 @@ pub mod BestForms
 pub mod WorkedBest
 pub mod FieldLaws
 pub mod SpelledForms
-pub mod RowForms
+pub mod BaseForms
 pub mod FieldForms
-pub mod DeltaForms
-pub mod TailForms

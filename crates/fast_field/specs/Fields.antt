@@ -1,6 +1,6 @@
 -- One instruction and the entry of its key: the forms that spell a value, and the entry afterwards.
 -- FAST 1.1, Field Operators, and Transfer Encoding, Field Encoding. The limits are this project's own.
-use Rattle.std.specs.Prelude.{◌≡◌, ℕ, ◌-◌, ◌^◌, ◌<◌, ◌≤◌, ℤ, pos, negsuc, ◌+ℤ◌, Bool, true, false, nat_le, int_le, if◌then◌else◌, List, [], ◌++◌, length, take, drop, Option, Some, None, Result, Ok, Err, unwrap_or, IsTrue, IsUtf8}
+use Rattle.std.specs.Prelude.{◌≡◌, ℕ, ◌-◌, ◌^◌, ◌<◌, ◌≤◌, ℤ, pos, negsuc, ◌+ℤ◌, Bool, true, false, nat_le, int_le, if◌then◌else◌, List, [], ◌++◌, length, take, drop, Option, Some, None, Result, Ok, Err, unwrap_or, IsTrue, IsSome, IsUtf8}
 use Rattle.fast_wire.specs.Ascii.{IsAscii, IsAsciiNullable}
 use Rattle.fast_wire.specs.Integer.{IsUnsigned, IsSigned}
 use Rattle.fast_wire.specs.Nullable.{IsUnsignedNullable, IsSignedNullable}
@@ -8,8 +8,7 @@ use Rattle.fast_wire.specs.Vector.{IsVector, IsVectorNullable}
 use Rattle.fast_wire.specs.declared.nullable.Nullable.{Nullable}
 use Rattle.fast_wire.specs.declared.nullable.Nullable.TheVariants.{Null, Value}
 use Rattle.fast_template.specs.Resolved.{part_needs_bit}
-use Rattle.fast_template.specs.Scalar.{is_of, in_range, exponent_in_range, IsScalar}
-use Rattle.fast_template.specs.TemplateSets.{IsTyped}
+use Rattle.fast_template.specs.Scalar.{is_of, in_range, exponent_in_range, of_integer}
 use Rattle.fast_template.specs.declared.kind.Kind.{Kind}
 use Rattle.fast_template.specs.declared.kind.Kind.TheVariants as kind
 use Rattle.fast_template.specs.declared.kind.Operator.{Operator}
@@ -25,7 +24,7 @@ use Rattle.fast_dictionary.specs.declared.entry.Entry.{Entry}
 use Rattle.fast_dictionary.specs.declared.entry.Entry.TheVariants.{Undefined, Empty, Assigned}
 use Rattle.fast_field.specs.declared.fault.FieldFault.{FieldFault}
 use Rattle.fast_field.specs.declared.fault.FieldFault.TheVariants as fault
-use Rattle.fast_field.specs.Values.{integer_of, units_of, default_of, increased}
+use Rattle.fast_field.specs.Values.{is_unsigned, integer_of, exponent_of, mantissa_of, units_of, of_units, default_of, increased}
 
 -- ---- What is kept. FAST 1.1, Field Operators, Dictionaries and Previous Values.
 
@@ -112,6 +111,23 @@ SpellsUnits k Mandatory b Null = ⊥
 SpellsUnits kind.Ascii Optional b s = IsAsciiNullable b s
 SpellsUnits k Optional b s = IsVectorNullable b s
 
+-- a number in the range of its type
+pub record SpellsNumber (k : Kind) (p : Presence) (b : List ℕ) (v : Scalar) : Type 0 where
+  pub number : ℤ
+  pub form : SpellsInteger (is_unsigned k) p b (Value number)
+  pub range : IsTrue (in_range k number)
+  pub value : v ≡ of_integer k number
+
+-- these characters or bytes, of Unicode UTF-8, are the value
+abbrev pub IsOfUnits : Kind → List ℕ → Scalar → Type 0
+IsOfUnits kind.Unicode s v = IsUtf8 s × (v ≡ Unicode s)
+IsOfUnits k s v = v ≡ of_units k s
+
+pub record SpellsString (k : Kind) (p : Presence) (b : List ℕ) (v : Scalar) : Type 0 where
+  pub string : List ℕ
+  pub form : SpellsUnits k p b (Value string)
+  pub value : IsOfUnits k string v
+
 -- a decimal: an exponent in the form of a presence, followed by a mantissa
 pub record SpellsPair (p : Presence) (b : List ℕ) (exponent mantissa : ℤ) : Type 0 where
   pub front : List ℕ
@@ -120,30 +136,38 @@ pub record SpellsPair (p : Presence) (b : List ℕ) (exponent mantissa : ℤ) : 
   pub exponent_form : SpellsInteger false p front (Value exponent)
   pub mantissa_form : IsSigned back mantissa
 
-abbrev pub SpelledValue : Presence → List ℕ → Scalar → Type 0
-SpelledValue p b (U32 n) = SpellsInteger true p b (Value (pos n)) × (n < 2 ^ 32)
-SpelledValue p b (U64 n) = SpellsInteger true p b (Value (pos n)) × (n < 2 ^ 64)
-SpelledValue p b (I32 z) = SpellsInteger false p b (Value z) × IsTrue (in_range kind.Int32 z)
-SpelledValue p b (I64 z) = SpellsInteger false p b (Value z) × IsTrue (in_range kind.Int64 z)
-SpelledValue p b (Decimal e m) = SpellsPair p b e m × IsTrue (exponent_in_range e) × IsTrue (in_range kind.Int64 m)
-SpelledValue p b (Ascii s) = SpellsUnits kind.Ascii p b (Value s)
-SpelledValue p b (Unicode s) = SpellsUnits kind.Unicode p b (Value s) × IsUtf8 s
-SpelledValue p b (Bytes s) = SpellsUnits kind.Bytes p b (Value s)
+-- an exponent and a mantissa in range are the value
+abbrev pub IsOfPair : ℤ → ℤ → Scalar → Type 0
+IsOfPair e m v = IsTrue (exponent_in_range e) × IsTrue (in_range kind.Int64 m) × (v ≡ Decimal e m)
 
--- NULL: of a decimal it is the exponent's, and no mantissa follows
-abbrev pub SpelledNull : Kind → List ℕ → Type 0
-SpelledNull kind.UInt32 b = SpellsInteger true Optional b Null
-SpelledNull kind.UInt64 b = SpellsInteger true Optional b Null
-SpelledNull kind.Int32 b = SpellsInteger false Optional b Null
-SpelledNull kind.Int64 b = SpellsInteger false Optional b Null
-SpelledNull kind.Decimal b = SpellsInteger false Optional b Null
-SpelledNull k b = SpellsUnits k Optional b Null
+pub record SpellsDecimal (p : Presence) (b : List ℕ) (v : Scalar) : Type 0 where
+  pub exponent : ℤ
+  pub mantissa : ℤ
+  pub form : SpellsPair p b exponent mantissa
+  pub value : IsOfPair exponent mantissa v
+
+-- NULL for an absent value, or what spells a value
+abbrev pub OrNull : (List ℕ → Type 0) → (List ℕ → Scalar → Type 0) → List ℕ → Option Scalar → Type 0
+OrNull IsNull Spells b None = IsNull b
+OrNull IsNull Spells b (Some v) = Spells b v
+
+abbrev pub SpelledNumber : Kind → Presence → List ℕ → Option Scalar → Type 0
+SpelledNumber k p = OrNull (λ b. SpellsInteger (is_unsigned k) p b Null) (SpellsNumber k p)
+
+abbrev pub SpelledString : Kind → Presence → List ℕ → Option Scalar → Type 0
+SpelledString k p = OrNull (λ b. SpellsUnits k p b Null) (SpellsString k p)
+
+-- the NULL of a decimal is the exponent's, and no mantissa follows
+abbrev pub SpelledDecimal : Presence → List ℕ → Option Scalar → Type 0
+SpelledDecimal p = OrNull (λ b. SpellsInteger false p b Null) (SpellsDecimal p)
 
 -- the bytes spell a value of the type, or NULL for an absent one
 abbrev pub Spelled : Kind → Presence → List ℕ → Option Scalar → Type 0
-Spelled k p b (Some v) = IsTrue (is_of k v) × SpelledValue p b v
-Spelled k Optional b None = SpelledNull k b
-Spelled k Mandatory b None = ⊥
+Spelled kind.Decimal p = SpelledDecimal p
+Spelled kind.Ascii p = SpelledString kind.Ascii p
+Spelled kind.Unicode p = SpelledString kind.Unicode p
+Spelled kind.Bytes p = SpelledString kind.Bytes p
+Spelled k p = SpelledNumber k p
 
 -- ---- How a form cuts its base: on which side units are removed, and how many units the new part has.
 -- (Own; it is what decides between forms of the same length.) What is not cut counts as removed at the end, with
@@ -176,8 +200,12 @@ abbrev pub put_together : ℤ → List ℕ → List ℕ → List ℕ
 put_together (pos n) base part = take (length base - n) base ++ part
 put_together (negsuc n) base part = part ++ drop n base
 
+-- few enough units, and they are the value
+abbrev pub IsOfFewUnits : Kind → List ℕ → Scalar → Type 0
+IsOfFewUnits k s v = (length s ≤ 65535) × IsOfUnits k s v
+
 -- a string or vector: a subtraction length, which is an int32, in the form of a presence, followed by a new part
-pub record SpellsCut (k : Kind) (p : Presence) (base : List ℕ) (cut : Cut) (b v : List ℕ) : Type 0 where
+pub record SpellsCut (k : Kind) (p : Presence) (base : Scalar) (cut : Cut) (b : List ℕ) (v : Scalar) : Type 0 where
   pub removal : ℤ
   pub new_part : List ℕ
   pub front : List ℕ
@@ -185,41 +213,39 @@ pub record SpellsCut (k : Kind) (p : Presence) (base : List ℕ) (cut : Cut) (b 
   pub parts : b ≡ front ++ back
   pub removal_form : SpellsInteger false p front (Value removal)
   pub is_int32 : IsTrue (in_range kind.Int32 removal)
-  pub there : removed_of removal ≤ length base
+  pub there : removed_of removal ≤ length (units_of base)
   pub part_form : SpellsPart k back new_part
-  pub value : v ≡ put_together removal base new_part
+  pub value : IsOfFewUnits k (put_together removal (units_of base) new_part) v
   pub cut_is : cut ≡ record { side = side_of removal; part = length new_part }
 
 -- an integer: what is added to the base; it has no range but that of its ten bytes
-pub record SpellsDelta (p : Presence) (base : ℤ) (b : List ℕ) (v : ℤ) : Type 0 where
+pub record SpellsDelta (k : Kind) (p : Presence) (base : Scalar) (cut : Cut) (b : List ℕ) (v : Scalar) : Type 0 where
   pub delta : ℤ
   pub form : SpellsInteger false p b (Value delta)
-  pub sum : v ≡ base +ℤ delta
+  pub range : IsTrue (in_range k (integer_of base +ℤ delta))
+  pub value : v ≡ of_integer k (integer_of base +ℤ delta)
+  pub cut_is : cut ≡ uncut
 
 -- a decimal: a delta of the exponent in the form of a presence, followed by one of the mantissa
-pub record SpellsDeltas (p : Presence) (base_exponent base_mantissa : ℤ) (b : List ℕ) (exponent mantissa : ℤ) : Type 0 where
+pub record SpellsDeltas (p : Presence) (base : Scalar) (cut : Cut) (b : List ℕ) (v : Scalar) : Type 0 where
   pub exponent_delta : ℤ
   pub mantissa_delta : ℤ
   pub form : SpellsPair p b exponent_delta mantissa_delta
-  pub exponent_sum : exponent ≡ base_exponent +ℤ exponent_delta
-  pub mantissa_sum : mantissa ≡ base_mantissa +ℤ mantissa_delta
+  pub value : IsOfPair (exponent_of base +ℤ exponent_delta) (mantissa_of base +ℤ mantissa_delta) v
+  pub cut_is : cut ≡ uncut
 
--- the value that a delta makes of a base of the same type
-abbrev pub DeltaValue : Presence → Scalar → Cut → List ℕ → Scalar → Type 0
-DeltaValue p (U32 m) c b (U32 n) = (c ≡ uncut) × SpellsDelta p (pos m) b (pos n) × (n < 2 ^ 32)
-DeltaValue p (U64 m) c b (U64 n) = (c ≡ uncut) × SpellsDelta p (pos m) b (pos n) × (n < 2 ^ 64)
-DeltaValue p (I32 y) c b (I32 z) = (c ≡ uncut) × SpellsDelta p y b z × IsTrue (in_range kind.Int32 z)
-DeltaValue p (I64 y) c b (I64 z) = (c ≡ uncut) × SpellsDelta p y b z × IsTrue (in_range kind.Int64 z)
-DeltaValue p (Decimal d l) c b (Decimal e m) = (c ≡ uncut) × SpellsDeltas p d l b e m × IsTrue (exponent_in_range e) × IsTrue (in_range kind.Int64 m)
-DeltaValue p (Ascii base) c b (Ascii s) = SpellsCut kind.Ascii p base c b s
-DeltaValue p (Unicode base) c b (Unicode s) = SpellsCut kind.Unicode p base c b s × IsUtf8 s
-DeltaValue p (Bytes base) c b (Bytes s) = SpellsCut kind.Bytes p base c b s
-DeltaValue p base c b v = ⊥
+-- the value that a delta makes of a base
+abbrev pub DeltaValue : Kind → Presence → Scalar → Cut → List ℕ → Scalar → Type 0
+DeltaValue kind.Decimal p base c b v = SpellsDeltas p base c b v
+DeltaValue kind.Ascii p base c b v = SpellsCut kind.Ascii p base c b v
+DeltaValue kind.Unicode p base c b v = SpellsCut kind.Unicode p base c b v
+DeltaValue kind.Bytes p base c b v = SpellsCut kind.Bytes p base c b v
+DeltaValue k p base c b v = SpellsDelta k p base c b v
 
 -- NULL, alone, is absent on every entry; of a string it is the subtraction length's
 abbrev pub DeltaForm : FieldPart → Entry → Cut → List ℕ → Option Scalar → Type 0
-DeltaForm i e c b None = (i.presence ≡ Optional) × (c ≡ uncut) × SpellsInteger false Optional b Null
-DeltaForm i e c b (Some v) = (base : Scalar) × (delta_base i e ≡ Ok base) × DeltaValue i.presence base c b v
+DeltaForm i e c b None = (c ≡ uncut) × SpellsInteger false i.presence b Null
+DeltaForm i e c b (Some v) = (base : Scalar) × (delta_base i e ≡ Ok base) × DeltaValue i.kind i.presence base c b v
 
 -- ---- Tails. FAST 1.1, Field Operators, Tail Operator.
 
@@ -227,21 +253,15 @@ DeltaForm i e c b (Some v) = (base : Scalar) × (delta_base i e ≡ Ok base) × 
 abbrev pub ended_by : List ℕ → List ℕ → List ℕ
 ended_by base tail = take (length base - length tail) base ++ tail
 
-pub record SpellsTail (k : Kind) (p : Presence) (base : List ℕ) (cut : Cut) (b v : List ℕ) : Type 0 where
+pub record SpellsTail (k : Kind) (p : Presence) (base : Scalar) (cut : Cut) (b : List ℕ) (v : Scalar) : Type 0 where
   pub tail : List ℕ
   pub tail_form : SpellsUnits k p b (Value tail)
-  pub value : v ≡ ended_by base tail
+  pub value : IsOfFewUnits k (ended_by (units_of base) tail) v
   pub cut_is : cut ≡ record { side = at_end; part = length tail }
 
-abbrev pub TailValue : Presence → Scalar → Cut → List ℕ → Scalar → Type 0
-TailValue p (Ascii base) c b (Ascii s) = SpellsTail kind.Ascii p base c b s
-TailValue p (Unicode base) c b (Unicode s) = SpellsTail kind.Unicode p base c b s × IsUtf8 s
-TailValue p (Bytes base) c b (Bytes s) = SpellsTail kind.Bytes p base c b s
-TailValue p base c b v = ⊥
-
 abbrev pub TailForm : FieldPart → Entry → Cut → List ℕ → Option Scalar → Type 0
-TailForm i e c b None = (i.presence ≡ Optional) × (c ≡ uncut) × SpelledNull i.kind b
-TailForm i e c b (Some v) = (base : Scalar) × (tail_base i e ≡ Ok base) × TailValue i.presence base c b v
+TailForm i e c b None = (c ≡ uncut) × SpellsUnits i.kind i.presence b Null
+TailForm i e c b (Some v) = (base : Scalar) × (tail_base i e ≡ Ok base) × SpellsTail i.kind i.presence base c b v
 
 -- ---- The forms, by operator and bit. FAST 1.1, Field Operators. Where a field has no bit, the bit is true.
 
@@ -266,11 +286,11 @@ FormOf operator.Delta i e true c b v = DeltaForm i e c b v
 FormOf operator.Tail i e false c b v = (c ≡ uncut) × (b ≡ []) × (predicted i e ≡ Ok v)
 FormOf operator.Tail i e true c b v = TailForm i e c b v
 
--- limits, also of what bit 0 gives: an exponent's, a length's, and the number of units
+-- limits, also of what bit 0 gives: an exponent's, and a length's
 abbrev pub within_part : Part → Scalar → Bool
 within_part part.Exponent v = exponent_in_range (integer_of v)
 within_part part.Length v = int_le (integer_of v) (pos 65535)
-within_part p v = nat_le (length (units_of v)) 65535
+within_part p v = true
 
 abbrev pub IsWithin : Part → Option Scalar → Type 0
 IsWithin p None = Unit {0}
@@ -284,25 +304,12 @@ pub record FormBy (i : FieldPart) (e : Entry) (bit : Bool) (cut : Cut) (b : List
 abbrev pub Form : FieldPart → Entry → Bool → List ℕ → Option Scalar → Type 0
 Form i e bit b v = (cut : Cut) × FormBy i e bit cut b v
 
--- ---- What the laws of forms ask for: it holds of every instruction of a set of templates, and of every entry.
-
--- an exponent is an int32, a mantissa an int64, a length a uInt32
-abbrev pub IsKindOfPart : Part → Kind → Type 0
-IsKindOfPart part.Whole k = Unit {0}
-IsKindOfPart part.Exponent k = k ≡ kind.Int32
-IsKindOfPart part.Mantissa k = k ≡ kind.Int64
-IsKindOfPart part.Length k = k ≡ kind.UInt32
-
-pub record IsFieldPart (i : FieldPart) : Type 0 where
-  pub typed : IsTyped i
-  pub kind_of_part : IsKindOfPart i.part i.kind
+-- ---- What the laws of forms ask for
 
 -- a bit that a field can have: without one it is true
 abbrev pub IsBitOf : FieldPart → Bool → Type 0
 IsBitOf i bit = part_needs_bit i ≡ false → bit ≡ true
 
--- an entry whose value is within its type
-abbrev pub HoldsScalar : Entry → Type 0
-HoldsScalar Undefined = Unit {0}
-HoldsScalar Empty = Unit {0}
-HoldsScalar (Assigned v) = IsScalar v
+-- a mandatory default has an initial value
+abbrev pub HasDefault : FieldPart → Type 0
+HasDefault i = i.operator ≡ operator.Default → i.presence ≡ Mandatory → IsSome i.initial
