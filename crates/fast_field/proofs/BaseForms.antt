@@ -19,7 +19,9 @@ use Rattle.fast_dictionary.specs.declared.entry.Entry.{Entry}
 use Rattle.fast_field.specs.declared.fault.FieldFault.{FieldFault}
 use Rattle.fast_field.specs.declared.fault.FieldFault.TheVariants as fault
 use Rattle.fast_field.specs.Values.{integer_of, exponent_of, mantissa_of, units_of}
-use Rattle.fast_field.specs.Fields.{Cut, uncut, at_end, side_of, removed_of, put_together, ended_by, SpellsInteger, SpellsPart, SpellsUnits, SpellsDelta, SpellsDeltas, SpellsCut, SpellsTail, IsOfFewUnits, DeltaValue, DeltaForm, TailForm, delta_base, tail_base}
+use Rattle.fast_field.specs.Bases.{delta_base, tail_base}
+use Rattle.fast_field.specs.Spelled.{SpellsInteger, SpellsPart, SpellsUnits}
+use Rattle.fast_field.specs.Deltas.{Cut, uncut, at_end, side_of, removed_of, put_together, ended_by, SpellsDelta, SpellsDeltas, SpellsCut, SpellsTail, IsOfFewUnits, DeltaValue, DeltaForm, TailForm}
 use Rattle.fast_field.specs.FieldReading.{in_field, check, as_value, unless_null, integer_at, part_at, units_at, integer_value, decimal_value, unit_value, limited_value, integer_sum, integer_delta_at, mantissa_delta_behind, decimal_delta_at, new_part_behind, unit_delta_at, delta_at, ended_value, tail_at}
 use Rattle.fast_field.proofs.FieldLaws.{reader_in_field, reader_check, reader_null, reader_value, NullOr, IsMade, whole}
 use Rattle.fast_field.proofs.SpelledForms.{integer_forms, part_forms, units_forms, integer_value_ok, integer_value_is, unit_value_ok, unit_value_is, decimal_value_ok, decimal_value_is, made_forms}

@@ -12,7 +12,8 @@ use Rattle.fast_template.specs.declared.kind.Presence.TheVariants.{Mandatory, Op
 use Rattle.fast_template.specs.declared.resolved.FieldPart.{FieldPart}
 use Rattle.fast_template.specs.declared.scalar.Scalar.{Scalar}
 use Rattle.fast_dictionary.specs.declared.entry.Entry.{Entry}
-use Rattle.fast_field.specs.Fields.{Side, at_end, in_front, Cut, uncut, FormOf, FormBy, SpellsCut, SpellsTail}
+use Rattle.fast_field.specs.Deltas.{Side, at_end, in_front, Cut, uncut, SpellsCut, SpellsTail}
+use Rattle.fast_field.specs.Fields.{FormOf, FormBy}
 use Rattle.fast_field.specs.Best.{NoLater, IsBest, side_rank}
 
 -- ---- bit 0

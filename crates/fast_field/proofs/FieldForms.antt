@@ -16,7 +16,10 @@ use Rattle.fast_template.specs.declared.scalar.Scalar.{Scalar}
 use Rattle.fast_dictionary.specs.declared.entry.Entry.{Entry}
 use Rattle.fast_field.specs.declared.fault.FieldFault.{FieldFault}
 use Rattle.fast_field.specs.declared.fault.FieldFault.TheVariants as fault
-use Rattle.fast_field.specs.Fields.{Cut, uncut, Spelled, FormOf, Form, IsWithin, within_part, predicted, InitialOrAbsent, IsBitOf, HasDefault}
+use Rattle.fast_field.specs.Bases.{predicted}
+use Rattle.fast_field.specs.Spelled.{Spelled}
+use Rattle.fast_field.specs.Deltas.{Cut, uncut}
+use Rattle.fast_field.specs.Fields.{FormOf, Form, IsWithin, within_part, InitialOrAbsent, IsBitOf, HasDefault}
 use Rattle.fast_field.specs.FieldReading.{whole_at, predicted_at, row_at, part_checked, field_at, IsFieldFault}
 use Rattle.fast_field.proofs.SpelledForms.{spelled_forms, if_ok, if_holds}
 use Rattle.fast_field.proofs.BaseForms.{deltas, tails}

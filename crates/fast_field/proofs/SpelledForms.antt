@@ -26,7 +26,7 @@ use Rattle.fast_template.specs.Scalar.{in_range, exponent_in_range, of_integer}
 use Rattle.fast_field.specs.declared.fault.FieldFault.{FieldFault}
 use Rattle.fast_field.specs.declared.fault.FieldFault.TheVariants as fault
 use Rattle.fast_field.specs.Values.{is_unsigned, of_units}
-use Rattle.fast_field.specs.Fields.{SpellsInteger, SpellsPart, SpellsUnits, SpellsNumber, SpellsString, SpellsPair, SpellsDecimal, IsOfUnits, SpelledNumber, SpelledString, SpelledDecimal, Spelled}
+use Rattle.fast_field.specs.Spelled.{SpellsInteger, SpellsPart, SpellsUnits, SpellsNumber, SpellsString, SpellsPair, SpellsDecimal, IsOfUnits, SpelledNumber, SpelledString, SpelledDecimal, Spelled}
 use Rattle.fast_field.specs.FieldReading.{in_field, signless, integer_at, part_at, units_at, range_fault, integer_value, decimal_value, unit_value, as_value, unless_null, integer_spelled_at, mantissa_behind, decimal_spelled_at, units_spelled_at, spelled_at}
 use Rattle.fast_field.proofs.FieldLaws.{reader_in_field, reader_check, reader_made, reader_null, reader_value, Made, NullOr, IsMade, whole}
 

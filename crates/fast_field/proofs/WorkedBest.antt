@@ -11,7 +11,8 @@ use Rattle.fast_template.specs.declared.scalar.Scalar.TheVariants.{U32, I32, Asc
 use Rattle.fast_dictionary.specs.declared.entry.Entry.TheVariants.{Undefined, Empty}
 use Rattle.fast_field.specs.declared.fault.FieldFault.{FieldFault}
 use Rattle.fast_field.specs.Values.{integer_of, units_of}
-use Rattle.fast_field.specs.Fields.{at_end, in_front, Cut, uncut, FormBy, Form, DeltaValue, SpellsTail, removed_of, side_of, put_together, ended_by}
+use Rattle.fast_field.specs.Deltas.{at_end, in_front, Cut, uncut, DeltaValue, SpellsTail, removed_of, side_of, put_together, ended_by}
+use Rattle.fast_field.specs.Fields.{FormBy, Form}
 use Rattle.fast_field.specs.Best.{NoLater, IsBest}
 use Rattle.fast_field.proofs.BestForms.{bit_zero_is_best, shorter_first, at_end_first, in_front_first, cut_size, tail_size, part_size, tail_part_size}
 use Rattle.fast_field.proofs.WorkedFields.{text, number, quote_seq, quote_sym, quote_qty, opt_px_exponent, fixed_px_exponent, tail_s, init_s, delta_s, uni_s, const_k, const_o, const_d}
