@@ -18,7 +18,7 @@ use Rattle.fast_wire.specs.Entity.{groups}
 use Rattle.fast_wire.specs.Integer.{IsUnsigned}
 use Rattle.fast_wire.specs.PresenceMap.{bits_of}
 use Rattle.fast_field.specs.declared.fault.FieldFault.TheVariants as field
-use Rattle.fast_field.specs.Fields.{uncut}
+use Rattle.fast_field.specs.Deltas.{uncut}
 use Rattle.fast_field.specs.FieldReading.{predicted_at, row_at, field_at}
 use Rattle.fast_decoder.specs.declared.fault.Cause.TheVariants.{D5}
 use Rattle.fast_decoder.specs.Nodes.{single, items_of, Content}
