@@ -1,5 +1,7 @@
 pub mod WorkedFields
 pub mod WorkedRows
+pub mod TypeRows
+pub mod LimitRows
 pub mod BestForms
 pub mod WorkedBest
 pub mod FieldLaws

@@ -18,7 +18,7 @@ use Rattle.fast_dictionary.specs.declared.entry.Entry.TheVariants.{Assigned}
 use Rattle.fast_field.specs.Bases.{next}
 use Rattle.fast_field.specs.FieldReading.{field_at}
 
-abbrev part_of : Part → Kind → Presence → Operator → Option Scalar → FieldPart
+abbrev pub part_of : Part → Kind → Presence → Operator → Option Scalar → FieldPart
 part_of p k presence operator initial = record {
   number = 1;
   part = p;
