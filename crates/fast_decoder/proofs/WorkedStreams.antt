@@ -1,5 +1,5 @@
 -- Two streams of the worked templates as the relations see them: one that carries a message, and one that is refused.
-use Rattle.std.proofs.Common.{◌≡◌, ℕ, List, [], ◌∷◌, Option, Some, None, refl, ap, lit<, lit≤, inl}
+use Rattle.std.proofs.Common.{◌≡◌, ℕ, List, [], ◌∷◌, Option, Some, None, pos, refl, ap, lit<, lit≤, inl}
 use Rattle.std.specs.Prelude.{codes}
 use Rattle.std.specs.FinMap as finite
 use Rattle.fast_template.specs.Key.{key_cmp}
@@ -18,7 +18,7 @@ use Rattle.fast_wire.specs.Entity.{groups}
 use Rattle.fast_wire.specs.Integer.{IsUnsigned}
 use Rattle.fast_wire.specs.PresenceMap.{bits_of}
 use Rattle.fast_field.specs.declared.fault.FieldFault.TheVariants as field
-use Rattle.fast_field.specs.Fields.{uncut}
+use Rattle.fast_field.specs.Deltas.{uncut}
 use Rattle.fast_field.specs.FieldReading.{predicted_at, row_at, field_at}
 use Rattle.fast_decoder.specs.declared.fault.Cause.TheVariants.{D5}
 use Rattle.fast_decoder.specs.Nodes.{single, items_of, Content}
@@ -84,19 +84,19 @@ carries_first = (
           front = 0x90 ∷ [];
           back = 0x85 ∷ 0x86 ∷ [];
           parts = refl;
-          first = ((uncut, record { row = (refl, (refl, (of_16, lit< tt))); within = refl }), refl);
+          first = ((uncut, record { row = (refl, record { number = pos 16; form = of_16; range = refl; value = refl }); within = refl }), refl);
           second = record {
             between = at_b;
             front = 0x85 ∷ [];
             back = 0x86 ∷ [];
             parts = refl;
-            first = ((uncut, record { row = (refl, (refl, (of_5, lit< tt))); within = refl }), refl);
+            first = ((uncut, record { row = (refl, record { number = pos 5; form = of_5; range = refl; value = refl }); within = refl }), refl);
             second = record {
               between = at_end;
               front = 0x86 ∷ [];
               back = [];
               parts = refl;
-              first = ((uncut, record { row = (refl, (refl, (of_6, lit< tt))); within = refl }), refl);
+              first = ((uncut, record { row = (refl, record { number = pos 6; form = of_6; range = refl; value = refl }); within = refl }), refl);
               second = (refl, refl);
             };
           };

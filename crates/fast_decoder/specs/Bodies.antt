@@ -10,7 +10,7 @@ use Rattle.fast_template.specs.Resolved.{Instruction, Instructions, whole_field,
 use Rattle.fast_dictionary.specs.declared.entry.Entry.{Entry}
 use Rattle.fast_dictionary.specs.declared.entry.Entry.TheVariants.{Undefined, Empty, Assigned}
 use Rattle.fast_dictionary.specs.Dictionary.{Dictionary, entry_at}
-use Rattle.fast_field.specs.Fields.{next}
+use Rattle.fast_field.specs.Bases.{next}
 use Rattle.fast_decoder.specs.Nodes.{Item, single, group_items, sequence_elements, Items, no_items, then_item, Elements, no_elements, then_element, element_count}
 use Rattle.fast_decoder.specs.Bits.{bit_for, after_bit}
 

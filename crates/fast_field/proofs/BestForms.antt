@@ -12,7 +12,8 @@ use Rattle.fast_template.specs.declared.kind.Presence.TheVariants.{Mandatory, Op
 use Rattle.fast_template.specs.declared.resolved.FieldPart.{FieldPart}
 use Rattle.fast_template.specs.declared.scalar.Scalar.{Scalar}
 use Rattle.fast_dictionary.specs.declared.entry.Entry.{Entry}
-use Rattle.fast_field.specs.Fields.{Side, at_end, in_front, Cut, uncut, FormOf, FormBy, SpellsCut, SpellsTail}
+use Rattle.fast_field.specs.Deltas.{Side, at_end, in_front, Cut, uncut, SpellsCut, SpellsTail}
+use Rattle.fast_field.specs.Fields.{FormOf, FormBy}
 use Rattle.fast_field.specs.Best.{NoLater, IsBest, side_rank}
 
 -- ---- bit 0
@@ -61,16 +62,16 @@ in_front_first n n' part c' le rest = elim (cases_lt n n') [
 -- ---- how long a form is at least
 
 -- a delta of a mandatory ASCII string: one byte, and the new part's
-pub cut_size : (base b v : List ℕ) (cut : Cut) (h : SpellsCut kind.Ascii Mandatory base cut b v) → 1 + ascii_size h.new_part ≤ length b
-cut_size base b v cut h =
+pub cut_size : (base v : Scalar) (b : List ℕ) (cut : Cut) (h : SpellsCut kind.Ascii Mandatory base cut b v) → 1 + ascii_size h.new_part ≤ length b
+cut_size base v b cut h =
     let whole : length b ≡ length h.front + length h.back = ap length h.parts ∙ length-append h.front h.back in
     let some = entity_some h.front h.removal_form.entity in
     let part = ascii_sizes.least h.back h.new_part h.part_form in
     omega arith
 
 -- a tail of an optional one
-pub tail_size : (base b v : List ℕ) (cut : Cut) (h : SpellsTail kind.Ascii Optional base cut b v) → ascii_nullable_size (Value h.tail) ≤ length b
-tail_size base b v cut h = ascii_nullable_sizes.least b (Value h.tail) h.tail_form
+pub tail_size : (base v : Scalar) (b : List ℕ) (cut : Cut) (h : SpellsTail kind.Ascii Optional base cut b v) → ascii_nullable_size (Value h.tail) ≤ length b
+tail_size base v b cut h = ascii_nullable_sizes.least b (Value h.tail) h.tail_form
 
 -- a new part has a byte for each character
 pub part_size : (s : List ℕ) → length s ≤ ascii_size s

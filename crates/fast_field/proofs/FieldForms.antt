@@ -1,106 +1,128 @@
 -- The forms of each operator are read, and nothing else is.
-use Rattle.std.proofs.Common.{subst, ℕ, List, ◌≡◌, Bool, true, false, refl, ap, ◌∙◌}
+use Rattle.std.proofs.Common.{◌≡◌, ℕ, Bool, true, false, List, [], ◌++◌, Result, Ok, refl, sym, ap, subst, ◌∙◌}
+use Rattle.std.specs.Prelude.{Option, Some, None, IsSome}
 use Rattle.fast_wire.specs.Reader.{IsReader}
+use Rattle.fast_wire.specs.Reading.{◌>>=◌}
+use Rattle.fast_wire.proofs.Readers.{ok_is, reader_of, reader_as, reader_checked, one_form, no_form}
 use Rattle.fast_template.specs.Resolved.{operator_needs_bit}
-use Rattle.fast_template.specs.TemplateSets.{IsTyped, IsPartOf}
-use Rattle.fast_template.specs.declared.kind.Presence.{Presence}
 use Rattle.fast_template.specs.declared.kind.Operator.{Operator}
 use Rattle.fast_template.specs.declared.kind.Operator.TheVariants as operator
-use Rattle.fast_template.specs.declared.resolved.FieldPart.{FieldPart}
-use Rattle.fast_dictionary.specs.declared.entry.Entry.{Entry}
-use Rattle.fast_field.specs.declared.fault.FieldFault.TheVariants as fault
-use Rattle.fast_field.specs.Fields.{Cut, FormOf, DeltaForm, Form, IsWithin, IsKindOfPart, IsFieldPart, IsBitOf, HoldsScalar}
-use Rattle.fast_field.specs.FieldReading.{field_at}
-use Rattle.fast_field.proofs.DeltaForms.{has_units, number_delta_few, delta_row}
-use Rattle.fast_field.proofs.TailForms.{tail_row}
-use Rattle.fast_wire.proofs.Readers.{one_form, no_form}
-use Rattle.fast_template.specs.TemplateSets.{applies}
-use Rattle.fast_template.specs.declared.kind.Kind.{Kind}
-use Rattle.fast_template.specs.declared.kind.Kind.TheVariants as kind
 use Rattle.fast_template.specs.declared.kind.Part.{Part}
 use Rattle.fast_template.specs.declared.kind.Part.TheVariants as part
+use Rattle.fast_template.specs.declared.kind.Presence.{Presence}
+use Rattle.fast_template.specs.declared.kind.Presence.TheVariants.{Mandatory, Optional}
+use Rattle.fast_template.specs.declared.resolved.FieldPart.{FieldPart}
 use Rattle.fast_template.specs.declared.scalar.Scalar.{Scalar}
-use Rattle.std.specs.Prelude.{Option, Some, None, IsTrue, ◌++◌}
+use Rattle.fast_dictionary.specs.declared.entry.Entry.{Entry}
 use Rattle.fast_field.specs.declared.fault.FieldFault.{FieldFault}
-use Rattle.fast_field.specs.FieldReading.{IsFieldFault}
-use Rattle.fast_field.proofs.RowForms.{HasFew, plain_row, constant_row, default_row, copy_row, increment_row, plain_few, constant_few, default_few, copy_few, increment_few, field_forms}
+use Rattle.fast_field.specs.declared.fault.FieldFault.TheVariants as fault
+use Rattle.fast_field.specs.Bases.{predicted}
+use Rattle.fast_field.specs.Spelled.{Spelled}
+use Rattle.fast_field.specs.Deltas.{Cut, uncut}
+use Rattle.fast_field.specs.Fields.{FormOf, Form, IsWithin, within_part, InitialOrAbsent, IsBitOf, HasDefault}
+use Rattle.fast_field.specs.FieldReading.{whole_at, predicted_at, row_at, part_checked, field_at, IsFieldFault}
+use Rattle.fast_field.proofs.SpelledForms.{spelled_forms, if_ok, if_holds}
+use Rattle.fast_field.proofs.BaseForms.{deltas, tails}
 
-bit_of : (o : Operator) (i : FieldPart) (bit : Bool) → i.operator ≡ o → IsBitOf i bit → operator_needs_bit o i.presence ≡ false → bit ≡ true
-bit_of o i bit is h none = h (ap (λ (o : Operator). operator_needs_bit o i.presence) is ∙ none)
+abbrev done : {A : Type 0} → A → Result A FieldFault
+done x = Ok x
 
-pub plain_forms : (i : FieldPart) (e : Entry) (bit : Bool) → i.operator ≡ operator.Plain → IsBitOf i bit → IsReader fault.NeedMore (field_at i e bit) (Form i e bit)
-plain_forms i e bit is h = field_forms operator.Plain i e bit is (plain_row i e bit (bit_of operator.Plain i bit is h refl)) (λ cut b v f w. plain_few i e bit cut b v f)
+abbrev Row : Operator → FieldPart → Entry → Bool → List ℕ → Option Scalar → Type 0
+Row o i e bit b v = (cut : Cut) × FormOf o i e bit cut b v
 
-pub constant_forms : (i : FieldPart) (e : Entry) (bit : Bool) → i.operator ≡ operator.Constant → IsBitOf i bit → IsTyped i → IsReader fault.NeedMore (field_at i e bit) (Form i e bit)
-constant_forms i e bit is h typed = field_forms operator.Constant i e bit is (constant_row i e bit (bit_of operator.Constant i bit is h) typed) (λ cut b v f w. constant_few i e bit cut b v typed f)
+-- ---- the rows
 
-pub default_forms : (i : FieldPart) (e : Entry) (bit : Bool) → i.operator ≡ operator.Default → IsTyped i → IsReader fault.NeedMore (field_at i e bit) (Form i e bit)
-default_forms i e bit is typed = field_forms operator.Default i e bit is (default_row i e bit (typed.default_has_value is) typed) (λ cut b v f w. default_few i e bit cut b v typed f)
+whole_row : (i : FieldPart) → IsReader fault.NeedMore (whole_at i) (λ b v. (cut : Cut) × ((cut ≡ uncut) × Spelled i.kind i.presence b v))
+unfolding whole_at
+whole_row i =
+    reader_as fault.NeedMore (whole_at i) (Spelled i.kind i.presence) (λ b v. (cut : Cut) × ((cut ≡ uncut) × Spelled i.kind i.presence b v)) (λ b v h. (uncut, (refl, h))) (λ b v h. h.1.1)
+    (spelled_forms i.part i.kind i.presence)
 
-pub copy_forms : (i : FieldPart) (e : Entry) (bit : Bool) → i.operator ≡ operator.Copy → IsTyped i → HoldsScalar e → IsReader fault.NeedMore (field_at i e bit) (Form i e bit)
-copy_forms i e bit is typed holds = field_forms operator.Copy i e bit is (copy_row i e bit typed holds) (λ cut b v f w. copy_few i e bit cut b v typed holds f)
+-- a value that takes no bytes
+given : (m : Result (Option Scalar) FieldFault) (Is : Cut → List ℕ → Option Scalar → Type 0) → ((v : Option Scalar) → m ≡ Ok v → Is uncut [] v) → ((cut : Cut) (b : List ℕ) (v : Option Scalar) → Is cut b v → (b ≡ []) × (m ≡ Ok v))
+    → IsReader fault.NeedMore (λ bytes. m >>= λ v. Ok (v, bytes)) (λ b v. (cut : Cut) × Is cut b v)
+given m Is to from =
+    reader_as fault.NeedMore (λ bytes. m >>= λ v. Ok (v, bytes)) (λ b v. (b ≡ []) × (m ≡ Ok v)) (λ b v. (cut : Cut) × Is cut b v)
+    (λ b v h. (uncut, rw h.0 (to v h.1)))
+    (λ b v h. from h.0 b v h.1)
+    (reader_of fault.NeedMore m)
 
-pub increment_forms : (i : FieldPart) (e : Entry) (bit : Bool) → i.operator ≡ operator.Increment → IsTyped i → HoldsScalar e → IsReader fault.NeedMore (field_at i e bit) (Form i e bit)
-increment_forms i e bit is typed holds = field_forms operator.Increment i e bit is (increment_row i e bit typed holds) (λ cut b v f w. increment_few i e bit cut b v typed holds f)
+predicted_row : (i : FieldPart) (e : Entry) → IsReader fault.NeedMore (predicted_at i e) (λ b v. (cut : Cut) × ((cut ≡ uncut) × (b ≡ []) × (predicted i e ≡ Ok v)))
+unfolding predicted_at
+predicted_row i e = given (predicted i e) (λ cut b v. (cut ≡ uncut) × (b ≡ []) × (predicted i e ≡ Ok v)) (λ v h. (refl, refl, h)) (λ cut b v h. (h.1, h.2))
 
--- ---- deltas and tails: of an exponent or a length the value has no units, and of the others the limit is the part's
+made_so : (x v : Option Scalar) → done x ≡ Ok v → v ≡ x
+made_so x v e = sym (ok_is {F = FieldFault} x v e)
 
-delta_few_by : (pt : Part) (i : FieldPart) (e : Entry) (cut : Cut) (b : List ℕ) (v : Option Scalar) → IsTyped i → IsKindOfPart pt i.kind → DeltaForm i e cut b v → IsWithin pt v → HasFew v
-delta_few_by pt i e cut b None typed k h w = tt
-delta_few_by part.Exponent i e cut b (Some v) typed k h w = number_delta_few i e cut b (Some v) typed (ap has_units k) h
-delta_few_by part.Length i e cut b (Some v) typed k h w = number_delta_few i e cut b (Some v) typed (ap has_units k) h
-delta_few_by part.Mantissa i e cut b (Some v) typed k h w = w
-delta_few_by part.Whole i e cut b (Some v) typed k h w = w
+so_made : (x v : Option Scalar) → v ≡ x → done x ≡ Ok v
+so_made x v e = ap (λ (y : Option Scalar). done y) (sym e)
 
-delta_few : (i : FieldPart) (e : Entry) (bit : Bool) (cut : Cut) (b : List ℕ) (v : Option Scalar) → IsFieldPart i → FormOf operator.Delta i e bit cut b v → IsWithin i.part v → HasFew v
-delta_few i e false cut b v is h w = absurd h
-delta_few i e true cut b v is h w = delta_few_by i.part i e cut b v is.typed is.kind_of_part h w
+optional_constant : (p : Presence) → (operator_needs_bit operator.Constant p ≡ false → false ≡ true) → p ≡ Optional
+optional_constant Mandatory h = let e = h refl in absurd cc
+optional_constant Optional h = refl
 
-pub delta_forms : (i : FieldPart) (e : Entry) (bit : Bool) → i.operator ≡ operator.Delta → IsBitOf i bit → IsFieldPart i → IsReader fault.NeedMore (field_at i e bit) (Form i e bit)
-delta_forms i e bit is h sound = field_forms operator.Delta i e bit is (delta_row i e bit (bit_of operator.Delta i bit is h refl) sound.typed) (λ cut b v f w. delta_few i e bit cut b v sound f w)
+optional_default : (p : Presence) (o : Option Scalar) → (p ≡ Mandatory → IsSome o) → o ≡ None → p ≡ Optional
+optional_default Mandatory None h e = let some = h refl in absurd cc
+optional_default Mandatory (Some v) h e = absurd cc
+optional_default Optional o h e = refl
 
-no_tail : (k l : Kind) → k ≡ l → applies operator.Tail l ≡ false → applies operator.Tail k ≡ true → ⊥
-no_tail k l is none some = let e = ap (λ (k : Kind). applies operator.Tail k) is in cc
+initial_to : (i : FieldPart) (v : Option Scalar) → (i.presence ≡ Mandatory → IsSome i.initial) → i.initial ≡ v → InitialOrAbsent i v
+initial_to i None has e = (e, optional_default i.presence i.initial has e)
+initial_to i (Some v) has e = e
 
-tail_few_by : (pt : Part) (i : FieldPart) (v : Option Scalar) → IsKindOfPart pt i.kind → IsTrue (applies operator.Tail i.kind) → IsWithin pt v → HasFew v
-tail_few_by pt i None k h w = tt
-tail_few_by part.Exponent i (Some v) k h w = absurd (no_tail i.kind kind.Int32 k refl h)
-tail_few_by part.Length i (Some v) k h w = absurd (no_tail i.kind kind.UInt32 k refl h)
-tail_few_by part.Mantissa i (Some v) k h w = w
-tail_few_by part.Whole i (Some v) k h w = w
+initial_from : (i : FieldPart) (v : Option Scalar) → InitialOrAbsent i v → i.initial ≡ v
+initial_from i None h = h.0
+initial_from i (Some v) h = h
 
-applies_as : (i : FieldPart) (o : Operator) → i.operator ≡ o → IsTyped i → IsTrue (applies o i.kind)
-applies_as i o is typed = subst (λ (o : Operator). IsTrue (applies o i.kind)) is typed.operator_applies
+row : (o : Operator) (i : FieldPart) (e : Entry) (bit : Bool) → (operator_needs_bit o i.presence ≡ false → bit ≡ true) → (o ≡ operator.Default → i.presence ≡ Mandatory → IsSome i.initial) → IsReader fault.NeedMore (row_at o i e bit) (Row o i e bit)
+unfolding row_at
+row operator.Plain i e false h d = let b = h refl in absurd cc
+row operator.Plain i e true h d = whole_row i
+row operator.Constant i e false h d = given (done None) (λ cut b v. FormOf operator.Constant i e false cut b v) (λ v w. (refl, refl, optional_constant i.presence h, made_so None v w)) (λ cut b v w. (w.1, so_made None v w.3))
+row operator.Constant i e true h d = given (done i.initial) (λ cut b v. FormOf operator.Constant i e true cut b v) (λ v w. (refl, refl, made_so i.initial v w)) (λ cut b v w. (w.1, so_made i.initial v w.2))
+row operator.Default i e false h d = given (done i.initial) (λ cut b v. FormOf operator.Default i e false cut b v) (λ v w. (refl, refl, initial_to i v (d refl) (sym (made_so i.initial v w)))) (λ cut b v w. (w.1, so_made i.initial v (sym (initial_from i v w.2))))
+row operator.Default i e true h d = whole_row i
+row operator.Copy i e false h d = predicted_row i e
+row operator.Copy i e true h d = whole_row i
+row operator.Increment i e false h d = predicted_row i e
+row operator.Increment i e true h d = whole_row i
+row operator.Delta i e false h d = let b = h refl in absurd cc
+row operator.Delta i e true h d = deltas i e
+row operator.Tail i e false h d = predicted_row i e
+row operator.Tail i e true h d = tails i e
 
-pub tail_forms : (i : FieldPart) (e : Entry) (bit : Bool) → i.operator ≡ operator.Tail → IsFieldPart i → HoldsScalar e → IsReader fault.NeedMore (field_at i e bit) (Form i e bit)
-tail_forms i e bit is sound holds =
-    let h = applies_as i operator.Tail is sound.typed in
-    field_forms operator.Tail i e bit is (tail_row i e bit h sound.typed holds) (λ cut b v f w. tail_few_by i.part i v sound.kind_of_part h w)
+-- ---- the limits of parts
 
--- ---- every operator
+checked_ok : (pt : Part) (x y : Option Scalar) → part_checked pt x ≡ Ok y → (x ≡ y) × IsWithin pt x
+unfolding part_checked
+checked_ok pt None y e = (ok_is {F = FieldFault} None y e, tt)
+checked_ok part.Exponent (Some v) y e = let w = if_ok (within_part part.Exponent v) (Some v) y fault.R1 e in (w.1, w.0)
+checked_ok part.Length (Some v) y e = let w = if_ok (within_part part.Length v) (Some v) y fault.Limit e in (w.1, w.0)
+checked_ok part.Whole (Some v) y e = (ok_is {F = FieldFault} (Some v) y e, refl)
+checked_ok part.Mantissa (Some v) y e = (ok_is {F = FieldFault} (Some v) y e, refl)
 
-forms_by : (o : Operator) (i : FieldPart) (e : Entry) (bit : Bool) → i.operator ≡ o → IsFieldPart i → HoldsScalar e → IsBitOf i bit → IsReader fault.NeedMore (field_at i e bit) (Form i e bit)
-forms_by operator.Plain i e bit is sound holds h = plain_forms i e bit is h
-forms_by operator.Constant i e bit is sound holds h = constant_forms i e bit is h sound.typed
-forms_by operator.Default i e bit is sound holds h = default_forms i e bit is sound.typed
-forms_by operator.Copy i e bit is sound holds h = copy_forms i e bit is sound.typed holds
-forms_by operator.Increment i e bit is sound holds h = increment_forms i e bit is sound.typed holds
-forms_by operator.Delta i e bit is sound holds h = delta_forms i e bit is h sound
-forms_by operator.Tail i e bit is sound holds h = tail_forms i e bit is sound holds
+checked_is : (pt : Part) (x : Option Scalar) → IsWithin pt x → part_checked pt x ≡ Ok x
+unfolding part_checked
+checked_is pt None h = refl
+checked_is part.Exponent (Some v) h = if_holds (within_part part.Exponent v) (Some v) fault.R1 h
+checked_is part.Length (Some v) h = if_holds (within_part part.Length v) (Some v) fault.Limit h
+checked_is part.Whole (Some v) h = refl
+checked_is part.Mantissa (Some v) h = refl
 
-pub all_forms : (i : FieldPart) (e : Entry) (bit : Bool) → IsFieldPart i → HoldsScalar e → IsBitOf i bit → IsReader fault.NeedMore (field_at i e bit) (Form i e bit)
-all_forms i e bit sound holds h = forms_by i.operator i e bit refl sound holds h
+pub field_forms : (i : FieldPart) (e : Entry) (bit : Bool) → IsBitOf i bit → HasDefault i → IsReader fault.NeedMore (field_at i e bit) (Form i e bit)
+unfolding field_at
+field_forms i e bit h d =
+    reader_as fault.NeedMore (field_at i e bit) (λ b y. (x : Option Scalar) × Row i.operator i e bit b x × (part_checked i.part x ≡ Ok y)) (Form i e bit)
+    (λ b y h. let w = checked_ok i.part h.0 y h.2 in subst (λ (y : Option Scalar). Form i e bit b y) w.0 (h.1.0, record { row = h.1.1; within = w.1 }))
+    (λ b y h. (y, (h.0, h.1.row), checked_is i.part y h.1.within))
+    (reader_checked fault.NeedMore (row_at i.operator i e bit) (part_checked i.part) (Row i.operator i e bit) (row i.operator i e bit h d))
 
 -- ---- what follows
 
-pub one_field_form : (i : FieldPart) (e : Entry) (bit : Bool) → IsFieldPart i → HoldsScalar e → IsBitOf i bit
+pub one_field_form : (i : FieldPart) (e : Entry) (bit : Bool) → IsBitOf i bit → HasDefault i
     → (b c rest others : List ℕ) (v w : Option Scalar) → Form i e bit b v → Form i e bit c w → b ++ rest ≡ c ++ others → (v ≡ w) × (rest ≡ others)
-one_field_form i e bit sound holds h b c rest others v w = one_form fault.NeedMore (field_at i e bit) (Form i e bit) (all_forms i e bit sound holds h) b c rest others v w
+one_field_form i e bit h d b c rest others v w = one_form fault.NeedMore (field_at i e bit) (Form i e bit) (field_forms i e bit h d) b c rest others v w
 
-pub fault_is_no_form : (i : FieldPart) (e : Entry) (bit : Bool) → IsFieldPart i → HoldsScalar e → IsBitOf i bit
+pub fault_is_no_form : (i : FieldPart) (e : Entry) (bit : Bool) → IsBitOf i bit → HasDefault i
     → (bytes b rest : List ℕ) (v : Option Scalar) (f : FieldFault) → IsFieldFault i e bit bytes f → bytes ≡ b ++ rest → Form i e bit b v → ⊥
-fault_is_no_form i e bit sound holds h bytes b rest v f = no_form fault.NeedMore (field_at i e bit) (Form i e bit) (all_forms i e bit sound holds h) bytes b rest v f
-
--- a part of an instruction of a set of templates
-pub field_part : (pt : Part) (k : Kind) (p : Presence) (i : FieldPart) → IsKindOfPart pt k → IsPartOf pt k p i → IsFieldPart i
-field_part pt k p i h is = record { typed = is.typed; kind_of_part = rw (is.part_is, is.kind_is) h }
+fault_is_no_form i e bit h d bytes b rest v f = no_form fault.NeedMore (field_at i e bit) (Form i e bit) (field_forms i e bit h d) bytes b rest v f

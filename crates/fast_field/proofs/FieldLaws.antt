@@ -87,7 +87,7 @@ abbrev pub Made : {A : Type 0} → (List ℕ → Nullable A → Type 0) → (A �
 Made First make b None = First b Null
 Made {A} First make b (Some v) = (x : A) × First b (Value x) × (make x ≡ Ok v)
 
-whole : (b front back : List ℕ) → b ≡ front ++ back → back ≡ [] → front ≡ b
+pub whole : (b front back : List ℕ) → b ≡ front ++ back → back ≡ [] → front ≡ b
 whole b front back parts none = sym (parts ∙ ap (λ (z : List ℕ). front ++ z) none ∙ append-nil front)
 
 made_to : {A : Type 0} (First : List ℕ → Nullable A → Type 0) (make : A → Result Scalar FieldFault) (b front back : List ℕ) (x : Nullable A) (y : Option Scalar) → b ≡ front ++ back → First front x

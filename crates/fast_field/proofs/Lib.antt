@@ -1,10 +1,10 @@
 pub mod WorkedFields
 pub mod WorkedRows
+pub mod TypeRows
+pub mod LimitRows
 pub mod BestForms
 pub mod WorkedBest
 pub mod FieldLaws
 pub mod SpelledForms
-pub mod RowForms
+pub mod BaseForms
 pub mod FieldForms
-pub mod DeltaForms
-pub mod TailForms

@@ -4,13 +4,15 @@ use Rattle.std.specs.Prelude.{codes, ℤ, unwrap_or}
 use Rattle.fast_wire.specs.Sizes.{ascii_size, ascii_nullable_size}
 use Rattle.fast_wire.specs.declared.nullable.Nullable.TheVariants.{Value}
 use Rattle.fast_wire.proofs.Readers.{ok_is}
+use Rattle.fast_template.specs.declared.kind.Kind.TheVariants as kind
 use Rattle.fast_template.specs.declared.kind.Presence.TheVariants.{Mandatory, Optional}
 use Rattle.fast_template.specs.declared.scalar.Scalar.{Scalar}
 use Rattle.fast_template.specs.declared.scalar.Scalar.TheVariants.{U32, I32, Ascii, Unicode}
 use Rattle.fast_dictionary.specs.declared.entry.Entry.TheVariants.{Undefined, Empty}
 use Rattle.fast_field.specs.declared.fault.FieldFault.{FieldFault}
 use Rattle.fast_field.specs.Values.{integer_of, units_of}
-use Rattle.fast_field.specs.Fields.{at_end, in_front, Cut, uncut, FormBy, Form, DeltaValue, TailValue, removed_of, side_of, put_together, ended_by}
+use Rattle.fast_field.specs.Deltas.{at_end, in_front, Cut, uncut, DeltaValue, SpellsTail, removed_of, side_of, put_together, ended_by}
+use Rattle.fast_field.specs.Fields.{FormBy, Form}
 use Rattle.fast_field.specs.Best.{NoLater, IsBest}
 use Rattle.fast_field.proofs.BestForms.{bit_zero_is_best, shorter_first, at_end_first, in_front_first, cut_size, tail_size, part_size, tail_part_size}
 use Rattle.fast_field.proofs.WorkedFields.{text, number, quote_seq, quote_sym, quote_qty, opt_px_exponent, fixed_px_exponent, tail_s, init_s, delta_s, uni_s, const_k, const_o, const_d}
@@ -49,8 +51,8 @@ same_again_first : (bit : Bool) (cut : Cut) (b : List ℕ) → FormBy delta_s (t
 same_again_first false cut b h = absurd h.row
 same_again_first true cut b h =
     let base : Ascii (codes "ESM6") ≡ h.row.0 = ok_is {F = FieldFault} (Ascii (codes "ESM6")) h.row.0 h.row.1 in
-    let spelled = subst (λ (x : Scalar). DeltaValue Mandatory x cut b (Ascii (codes "ESM6"))) (sym base) h.row.2 in
-    let size = cut_size (codes "ESM6") b (codes "ESM6") cut spelled in
+    let spelled = subst (λ (x : Scalar). DeltaValue kind.Ascii Mandatory x cut b (Ascii (codes "ESM6"))) (sym base) h.row.2 in
+    let size = cut_size (Ascii (codes "ESM6")) (Ascii (codes "ESM6")) b cut spelled in
     at_end_first 2 (length b) 0 cut (omega (arith, size, one_byte spelled.new_part)) (λ same. omega arith)
 
 same_again : IsBest delta_s (text (codes "ESM6")) true (0x80 ∷ 0x80 ∷ []) (Some (Ascii (codes "ESM6")))
@@ -70,7 +72,7 @@ same_again = record {
         is_int32 = refl;
         there = omega arith;
         part_form = record { spelled = record { entity = (omega arith, omega arith); short = omega arith; value = refl }; limit = omega arith };
-        value = refl;
+        value = (omega arith, refl);
         cut_is = refl;
       },
     );
@@ -110,8 +112,8 @@ in_front_is_first : (bit : Bool) (cut : Cut) (b : List ℕ) → FormBy delta_s (
 in_front_is_first false cut b h = absurd h.row
 in_front_is_first true cut b h =
     let base : Ascii (codes "GEM6") ≡ h.row.0 = ok_is {F = FieldFault} (Ascii (codes "GEM6")) h.row.0 h.row.1 in
-    let spelled = subst (λ (x : Scalar). DeltaValue Mandatory x cut b (Ascii (codes "ESM6"))) (sym base) h.row.2 in
-    first_by b cut spelled.removal spelled.new_part (cut_size (codes "GEM6") b (codes "ESM6") cut spelled) spelled.there spelled.value spelled.cut_is
+    let spelled = subst (λ (x : Scalar). DeltaValue kind.Ascii Mandatory x cut b (Ascii (codes "ESM6"))) (sym base) h.row.2 in
+    first_by b cut spelled.removal spelled.new_part (cut_size (Ascii (codes "GEM6")) (Ascii (codes "ESM6")) b cut spelled) spelled.there (ap units_of spelled.value.1) spelled.cut_is
 
 removed_in_front : IsBest delta_s (text (codes "GEM6")) true (0xFD ∷ 0x45 ∷ 0xD3 ∷ []) (Some (Ascii (codes "ESM6")))
 removed_in_front = record {
@@ -130,7 +132,7 @@ removed_in_front = record {
         is_int32 = refl;
         there = omega arith;
         part_form = record { spelled = record { entity = (omega arith, (omega arith, omega arith)); short = omega arith; value = refl }; limit = omega arith };
-        value = refl;
+        value = (omega arith, refl);
         cut_is = refl;
       },
     );
@@ -162,8 +164,8 @@ tail_is_first false cut b h =
     absurd (nul_not_predicted (Ascii (codes "xab")) (Ascii x_nul_b) refl refl (ap (λ (x : Option Scalar). unwrap_or x (U32 0)) same))
 tail_is_first true cut b h =
     let base : Ascii (codes "xab") ≡ h.row.0 = ok_is {F = FieldFault} (Ascii (codes "xab")) h.row.0 h.row.1 in
-    let spelled = subst (λ (x : Scalar). TailValue Optional x cut b (Ascii x_nul_b)) (sym base) h.row.2 in
-    tail_first_by b spelled.tail cut (tail_size (codes "xab") b x_nul_b cut spelled) spelled.value spelled.cut_is
+    let spelled = subst (λ (x : Scalar). SpellsTail kind.Ascii Optional x cut b (Ascii x_nul_b)) (sym base) h.row.2 in
+    tail_first_by b spelled.tail cut (tail_size (Ascii (codes "xab")) (Ascii x_nul_b) b cut spelled) (ap units_of spelled.value.1) spelled.cut_is
 
 longer_tail : IsBest tail_s (text (codes "xab")) true (0x78 ∷ 0 ∷ 0xE2 ∷ []) (Some (Ascii x_nul_b))
 longer_tail = record {
@@ -175,7 +177,7 @@ longer_tail = record {
       record {
         tail = x_nul_b;
         tail_form = record { spelled = record { entity = (omega arith, (omega arith, (omega arith, omega arith))); short = omega arith; value = refl }; limit = omega arith };
-        value = refl;
+        value = (omega arith, refl);
         cut_is = refl;
       },
     );
@@ -194,8 +196,8 @@ short_is_first : (bit : Bool) (cut : Cut) (b : List ℕ) → FormBy init_s Empty
 short_is_first false cut b h = let e = h.row.2 in absurd cc
 short_is_first true cut b h =
     let base : Ascii (codes "ab") ≡ h.row.0 = ok_is {F = FieldFault} (Ascii (codes "ab")) h.row.0 h.row.1 in
-    let spelled = subst (λ (x : Scalar). TailValue Optional x cut b (Ascii (codes "ab"))) (sym base) h.row.2 in
-    short_first_by b spelled.tail cut (tail_size (codes "ab") b (codes "ab") cut spelled) spelled.cut_is
+    let spelled = subst (λ (x : Scalar). SpellsTail kind.Ascii Optional x cut b (Ascii (codes "ab"))) (sym base) h.row.2 in
+    short_first_by b spelled.tail cut (tail_size (Ascii (codes "ab")) (Ascii (codes "ab")) b cut spelled) spelled.cut_is
 
 tail_in_place_of_nothing : IsBest init_s Empty true (0xE2 ∷ []) (Some (Ascii (codes "ab")))
 tail_in_place_of_nothing = record {
@@ -207,7 +209,7 @@ tail_in_place_of_nothing = record {
       record {
         tail = codes "b";
         tail_form = record { spelled = record { entity = (omega arith, omega arith); short = omega arith; value = refl }; limit = omega arith };
-        value = refl;
+        value = (omega arith, refl);
         cut_is = refl;
       },
     );
@@ -257,9 +259,9 @@ shorter_than_base false b h =
 shorter_than_base true b h =
     let row = h.1.row in
     let base : Ascii (codes "xab") ≡ row.0 = ok_is {F = FieldFault} (Ascii (codes "xab")) row.0 row.1 in
-    let spelled = subst (λ (x : Scalar). TailValue Optional x h.0 b (Ascii (codes "x"))) (sym base) row.2 in
+    let spelled = subst (λ (x : Scalar). SpellsTail kind.Ascii Optional x h.0 b (Ascii (codes "x"))) (sym base) row.2 in
     let kept = take (3 - length spelled.tail) (codes "xab") in
-    omega (arith, ap length spelled.value, length-append kept spelled.tail, length-take (3 - length spelled.tail) (codes "xab"))
+    omega (arith, ap (λ (x : Scalar). length (units_of x)) spelled.value.1, length-append kept spelled.tail, length-take (3 - length spelled.tail) (codes "xab"))
 
 base_of_another_type : (bit : Bool) (b : List ℕ) → Form uni_s (text (codes "xab")) bit b (Some (Unicode (0xC3 ∷ 0xA9 ∷ []))) → ⊥
 base_of_another_type false b h = let e = h.1.row.2 in cc

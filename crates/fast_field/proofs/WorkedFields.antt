@@ -15,10 +15,10 @@ use Rattle.fast_template.specs.declared.scalar.Scalar.{Scalar}
 use Rattle.fast_template.specs.declared.scalar.Scalar.TheVariants.{U32, I32, Ascii}
 use Rattle.fast_dictionary.specs.declared.entry.Entry.{Entry}
 use Rattle.fast_dictionary.specs.declared.entry.Entry.TheVariants.{Assigned}
-use Rattle.fast_field.specs.Fields.{next}
+use Rattle.fast_field.specs.Bases.{next}
 use Rattle.fast_field.specs.FieldReading.{field_at}
 
-abbrev part_of : Part → Kind → Presence → Operator → Option Scalar → FieldPart
+abbrev pub part_of : Part → Kind → Presence → Operator → Option Scalar → FieldPart
 part_of p k presence operator initial = record {
   number = 1;
   part = p;

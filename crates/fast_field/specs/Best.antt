@@ -3,7 +3,8 @@ use Rattle.std.specs.Prelude.{◌≡◌, ℕ, ◌<◌, ◌≤◌, Bool, true, fa
 use Rattle.fast_template.specs.declared.resolved.FieldPart.{FieldPart}
 use Rattle.fast_template.specs.declared.scalar.Scalar.{Scalar}
 use Rattle.fast_dictionary.specs.declared.entry.Entry.{Entry}
-use Rattle.fast_field.specs.Fields.{Side, at_end, in_front, Cut, FormBy}
+use Rattle.fast_field.specs.Deltas.{Side, at_end, in_front, Cut}
+use Rattle.fast_field.specs.Fields.{FormBy}
 
 abbrev pub bit_rank : Bool → ℕ
 bit_rank false = 0

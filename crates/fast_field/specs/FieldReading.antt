@@ -23,7 +23,9 @@ use Rattle.fast_field.specs.declared.fault.FieldFault.{FieldFault}
 use Rattle.fast_field.specs.declared.fault.FieldFault.TheVariants as fault
 use Rattle.fast_field.specs.Faults.{field_fault}
 use Rattle.fast_field.specs.Values.{is_unsigned, integer_of, exponent_of, mantissa_of, units_of, of_units}
-use Rattle.fast_field.specs.Fields.{delta_base, tail_base, predicted, removed_of, put_together, ended_by, within_part}
+use Rattle.fast_field.specs.Bases.{delta_base, tail_base, predicted}
+use Rattle.fast_field.specs.Deltas.{removed_of, put_together, ended_by}
+use Rattle.fast_field.specs.Fields.{within_part}
 
 -- ---- Forms and values
 
