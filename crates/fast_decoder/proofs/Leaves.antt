@@ -42,7 +42,7 @@ messages_leave set d (m ∷ ms) = messages_leave set (message_leaves set d m) ms
 
 module _ (P : Spelling) (M : Mapping) where
   segment_left : (has : Bool) (Inside : State → List ℕ → State → Type 0) (d : Dictionary) (b : List ℕ) (after e : Dictionary)
-      → ((s : State) (x : List ℕ) (t : State) → Inside s x t → s.dictionary ≡ d → t.dictionary ≡ e) → SegmentBy P M has Inside d b after → after ≡ e
+      → ((s : State) (x : List ℕ) (t : State) → Inside s x t → s.dictionary ≡ d → t.dictionary ≡ e) → SegmentBy M has Inside d b after → after ≡ e
   segment_left true Inside d b after e left h = left _ h.body _ h.inside refl
   segment_left false Inside d b after e left h = left _ b _ h refl
 
@@ -68,7 +68,7 @@ module _ (P : Spelling) (M : Mapping) where
     body_left is s b ns after h = absurd h
 
     each_left : (members : Instructions) (es : Elements) (d : Dictionary) (b : List ℕ) (after : Dictionary)
-        → Each (λ d' x ns e. SegmentBy P M (has_map members) (λ t z u. BodyBy P M members t z ns u) d' x e) d b es after → after ≡ each_leaves members d es
+        → Each (λ d' x ns e. SegmentBy M (has_map members) (λ t z u. BodyBy P M members t z ns u) d' x e) d b es after → after ≡ each_leaves members d es
     each_left members no_elements d b after h = h.1
     each_left members (then_element ns es) d b after h =
         each_left members es h.between h.back after h.second

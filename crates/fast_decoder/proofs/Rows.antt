@@ -15,7 +15,8 @@ use Rattle.fast_decoder.specs.declared.fault.Cause.{Cause}
 use Rattle.fast_decoder.specs.declared.fault.Cause.TheVariants.{D2, D4, D5, D6, D7, D9, R1, R2, Truncated, Limit}
 use Rattle.fast_decoder.specs.declared.fault.Fault.{Fault}
 use Rattle.fast_decoder.specs.Nodes.{Item, single, group_items, sequence_elements, items_of, elements_of, Content}
-use Rattle.fast_decoder.specs.Reading.{Cursor, field_part_at, body_at, head_at, message_at, MessageStop, StreamReading, messages_at, stream_at, fault_in}
+use Rattle.fast_decoder.specs.Faults.{MessageStop}
+use Rattle.fast_decoder.specs.Reading.{Cursor, field_part_at, body_at, head_at, message_at, StreamReading, messages_at, stream_at, fault_in}
 use Rattle.std.specs.Str.{is_utf8, chars}
 use Rattle.fast_template.specs.TemplateSets.{identifier_key}
 use Rattle.fast_template.specs.declared.key.Scope.TheVariants.{Global}

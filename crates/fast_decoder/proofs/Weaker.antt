@@ -21,7 +21,7 @@ each_weaker One Two one (then_element ns es) d b after h =
     (λ x e o. one d x ns e o) (λ e y o. each_weaker One Two one es e y after o) b h
 
 module _ (P Q : Spelling) (M N : Mapping) (fields : IsSpelling P Q) (maps : IsMapping M N) where
-  part_weaker : (p : FieldPart) (s : State) (b : List ℕ) (v : Option Scalar) (after : State) → PartBy P M p s b v after → PartBy Q N p s b v after
+  part_weaker : (p : FieldPart) (s : State) (b : List ℕ) (v : Option Scalar) (after : State) → PartBy P p s b v after → PartBy Q p s b v after
   part_weaker p s b v after h = (fields p _ _ b v h.0, h.1)
 
   map_weaker : (Inside Other : State → List ℕ → State → Type 0) → ((s : State) (x : List ℕ) (t : State) → Inside s x t → Other s x t)
@@ -30,7 +30,7 @@ module _ (P Q : Spelling) (M N : Mapping) (fields : IsSpelling P Q) (maps : IsMa
       record { bits = h.bits; left = h.left; map = h.map; body = h.body; parts = h.parts; map_form = maps h.bits h.left h.map h.map_form; inside = f _ h.body _ h.inside }
 
   segment_weaker : (has : Bool) (Inside Other : State → List ℕ → State → Type 0) → ((s : State) (x : List ℕ) (t : State) → Inside s x t → Other s x t)
-      → (d : Dictionary) (b : List ℕ) (after : Dictionary) → SegmentBy P M has Inside d b after → SegmentBy Q N has Other d b after
+      → (d : Dictionary) (b : List ℕ) (after : Dictionary) → SegmentBy M has Inside d b after → SegmentBy N has Other d b after
   segment_weaker true Inside Other f d b after h = map_weaker Inside Other f d b after h
   segment_weaker false Inside Other f d b after h = f _ b _ h
 
@@ -39,8 +39,8 @@ module _ (P Q : Spelling) (M N : Mapping) (fields : IsSpelling P Q) (maps : IsMa
     piece_weaker (whole_field name number presence whole) s b (single v) after h = part_weaker whole s b v after h
     piece_weaker (field_in_parts name number presence exponent mantissa) s b (single None) after h = part_weaker exponent s b None after h
     piece_weaker (field_in_parts name number presence exponent mantissa) s b (single (Some (Decimal e m))) after h =
-        then_weaker (λ x t. PartBy P M exponent s x (Some (I32 e)) t) (λ x t. PartBy Q N exponent s x (Some (I32 e)) t)
-        (λ t y. PartBy P M mantissa t y (Some (I64 m)) after) (λ t y. PartBy Q N mantissa t y (Some (I64 m)) after)
+        then_weaker (λ x t. PartBy P exponent s x (Some (I32 e)) t) (λ x t. PartBy Q exponent s x (Some (I32 e)) t)
+        (λ t y. PartBy P mantissa t y (Some (I64 m)) after) (λ t y. PartBy Q mantissa t y (Some (I64 m)) after)
         (λ x t o. part_weaker exponent s x (Some (I32 e)) t o) (λ t y o. part_weaker mantissa t y (Some (I64 m)) after o) b h
     piece_weaker (group_of name number presence members) s b (single None) after h = h
     piece_weaker (group_of name number presence members) s b (group_items ns) after h = (
@@ -51,9 +51,9 @@ module _ (P Q : Spelling) (M N : Mapping) (fields : IsSpelling P Q) (maps : IsMa
     )
     piece_weaker (sequence_of name number presence length members) s b (single None) after h = part_weaker length s b None after h
     piece_weaker (sequence_of name number presence length members) s b (sequence_elements es) after h =
-        let One : Dictionary → List ℕ → Items → Dictionary → Type 0 = λ d x ns e. SegmentBy P M (has_map members) (λ t z u. BodyBy P M members t z ns u) d x e in
-        let Two : Dictionary → List ℕ → Items → Dictionary → Type 0 = λ d x ns e. SegmentBy Q N (has_map members) (λ t z u. BodyBy Q N members t z ns u) d x e in
-        then_weaker (λ x t. PartBy P M length s x (Some (U32 (element_count es))) t) (λ x t. PartBy Q N length s x (Some (U32 (element_count es))) t)
+        let One : Dictionary → List ℕ → Items → Dictionary → Type 0 = λ d x ns e. SegmentBy M (has_map members) (λ t z u. BodyBy P M members t z ns u) d x e in
+        let Two : Dictionary → List ℕ → Items → Dictionary → Type 0 = λ d x ns e. SegmentBy N (has_map members) (λ t z u. BodyBy Q N members t z ns u) d x e in
+        then_weaker (λ x t. PartBy P length s x (Some (U32 (element_count es))) t) (λ x t. PartBy Q length s x (Some (U32 (element_count es))) t)
         (λ t y. (after.bits ≡ t.bits) × Each One t.dictionary y es after.dictionary) (λ t y. (after.bits ≡ t.bits) × Each Two t.dictionary y es after.dictionary)
         (λ x t o. part_weaker length s x (Some (U32 (element_count es))) t o)
         (λ t y o. (
@@ -81,9 +81,9 @@ module _ (P Q : Spelling) (M N : Mapping) (fields : IsSpelling P Q) (maps : IsMa
       record {
         few = h.few;
         segment = map_weaker
-            (λ s x t. Then (λ y u. PartBy P M identifier s y id u) (λ u z. BodyOfBy P M (members_of set m.template) u z m.items t) x)
-            (λ s x t. Then (λ y u. PartBy Q N identifier s y id u) (λ u z. BodyOfBy Q N (members_of set m.template) u z m.items t) x)
-            (λ s x t. then_weaker (λ y u. PartBy P M identifier s y id u) (λ y u. PartBy Q N identifier s y id u)
+            (λ s x t. Then (λ y u. PartBy P identifier s y id u) (λ u z. BodyOfBy P M (members_of set m.template) u z m.items t) x)
+            (λ s x t. Then (λ y u. PartBy Q identifier s y id u) (λ u z. BodyOfBy Q N (members_of set m.template) u z m.items t) x)
+            (λ s x t. then_weaker (λ y u. PartBy P identifier s y id u) (λ y u. PartBy Q identifier s y id u)
             (λ u z. BodyOfBy P M (members_of set m.template) u z m.items t) (λ u z. BodyOfBy Q N (members_of set m.template) u z m.items t)
             (λ y u o. part_weaker identifier s y id u o) (λ u z o. body_of_weaker (members_of set m.template) u z m.items t o) x)
             d b after h.segment;

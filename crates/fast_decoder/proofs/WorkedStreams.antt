@@ -118,8 +118,7 @@ no_identifier = record {
   dictionary = finite.empty;
   front = [];
   rest = 0x80 ∷ [];
-  template = 0;
-  stop = record { cause = D5; instruction = 0; left = 0 };
+  stop = record { template = 0; stop = record { cause = D5; instruction = 0; left = 0 } };
   parts = refl;
   carried = (refl, refl);
   some = lit< tt;

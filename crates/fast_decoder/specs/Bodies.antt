@@ -65,34 +65,36 @@ pub record WithMap (Maps : Mapping) (Inside : State → List ℕ → State → T
   pub map_form : Maps bits left map
   pub inside : Inside (record { dictionary = d; bits = bits }) body (record { dictionary = after; bits = left })
 
+-- a part: a form of its value from its entry, under its bit
+abbrev pub PartBy : Spelling → FieldPart → State → List ℕ → Option Scalar → State → Type 0
+PartBy Spells p s bytes v after =
+    Spells p (entry_at s.dictionary p.key) (bit_for (part_needs_bit p) s.bits) bytes v × (after ≡ after_part p s v)
+
+-- A segment begins with a map of its own exactly if an instruction directly in it takes a bit.
+abbrev pub SegmentBy : Mapping → Bool → (State → List ℕ → State → Type 0) → Dictionary → List ℕ → Dictionary → Type 0
+SegmentBy Maps true Inside d bytes after = WithMap Maps Inside d bytes after
+SegmentBy Maps false Inside d bytes after =
+    Inside (record { dictionary = d; bits = [] }) bytes (record { dictionary = after; bits = [] })
+
 module _ (Spells : Spelling) (Maps : Mapping) where
-  -- a part: a form of its value from its entry, under its bit
-  abbrev pub PartBy : FieldPart → State → List ℕ → Option Scalar → State → Type 0
-  PartBy p s bytes v after = Spells p (entry_at s.dictionary p.key) (bit_for (part_needs_bit p) s.bits) bytes v × (after ≡ after_part p s v)
-
-  -- A segment begins with a map of its own exactly if an instruction directly in it takes a bit.
-  abbrev pub SegmentBy : Bool → (State → List ℕ → State → Type 0) → Dictionary → List ℕ → Dictionary → Type 0
-  SegmentBy true Inside d bytes after = WithMap Maps Inside d bytes after
-  SegmentBy false Inside d bytes after = Inside (record { dictionary = d; bits = [] }) bytes (record { dictionary = after; bits = [] })
-
   abbrev mutual
     -- One instruction: a field; a decimal's exponent, and its mantissa where the exponent is present; a group as a
     -- segment, or nothing where it is left out; a sequence's length, and so many segments where it is present.
     pub PieceBy : Instruction → State → List ℕ → Item → State → Type 0
-    PieceBy (whole_field name number presence whole) s bytes (single v) after = PartBy whole s bytes v after
-    PieceBy (field_in_parts name number presence exponent mantissa) s bytes (single None) after = PartBy exponent s bytes None after
+    PieceBy (whole_field name number presence whole) s bytes (single v) after = PartBy Spells whole s bytes v after
+    PieceBy (field_in_parts name number presence exponent mantissa) s bytes (single None) after = PartBy Spells exponent s bytes None after
     PieceBy (field_in_parts name number presence exponent mantissa) s bytes (single (Some (Decimal e m))) after =
-        Then (λ x between. PartBy exponent s x (Some (I32 e)) between) (λ between y. PartBy mantissa between y (Some (I64 m)) after) bytes
+        Then (λ x between. PartBy Spells exponent s x (Some (I32 e)) between) (λ between y. PartBy Spells mantissa between y (Some (I64 m)) after) bytes
     PieceBy (group_of name number presence members) s bytes (single None) after =
         (bit_for (is_optional presence) s.bits ≡ false) × (bytes ≡ []) × (after ≡ record s { bits = after_bit (is_optional presence) s.bits })
     PieceBy (group_of name number presence members) s bytes (group_items ns) after =
         (bit_for (is_optional presence) s.bits ≡ true) × (after.bits ≡ after_bit (is_optional presence) s.bits)
-        × SegmentBy (has_map members) (λ t x u. BodyBy members t x ns u) s.dictionary bytes after.dictionary
-    PieceBy (sequence_of name number presence length members) s bytes (single None) after = PartBy length s bytes None after
+        × SegmentBy Maps (has_map members) (λ t x u. BodyBy members t x ns u) s.dictionary bytes after.dictionary
+    PieceBy (sequence_of name number presence length members) s bytes (single None) after = PartBy Spells length s bytes None after
     PieceBy (sequence_of name number presence length members) s bytes (sequence_elements es) after =
-        Then (λ x between. PartBy length s x (Some (U32 (element_count es))) between)
+        Then (λ x between. PartBy Spells length s x (Some (U32 (element_count es))) between)
         (λ between y. (after.bits ≡ between.bits)
-        × Each (λ d x ns e. SegmentBy (has_map members) (λ t z u. BodyBy members t z ns u) d x e) between.dictionary y es after.dictionary) bytes
+        × Each (λ d x ns e. SegmentBy Maps (has_map members) (λ t z u. BodyBy members t z ns u) d x e) between.dictionary y es after.dictionary) bytes
     PieceBy _ s bytes _ after = ⊥
 
     -- one piece for each instruction, each from what the one before left

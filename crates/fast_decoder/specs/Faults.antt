@@ -14,14 +14,14 @@ use Rattle.fast_wire.specs.Reading.{EntityFault}
 use Rattle.fast_field.specs.declared.fault.FieldFault.{FieldFault}
 use Rattle.fast_field.specs.declared.fault.FieldFault.TheVariants as field
 use Rattle.fast_field.specs.Fields.{Form}
-use Rattle.fast_field.specs.FieldReading.{field_at}
+use Rattle.fast_field.specs.FieldReading.{IsFieldFault}
 use Rattle.fast_decoder.specs.declared.fault.Cause.{Cause}
 use Rattle.fast_decoder.specs.declared.fault.Cause.TheVariants.{D2, D4, D5, D6, D7, D9, R1, R2, Truncated, Limit, Memory}
 use Rattle.fast_decoder.specs.declared.place.Place.{Place}
 use Rattle.fast_decoder.specs.Nodes.{Item, Items, Content, nodes_of, nodes_in, node_limit}
 use Rattle.fast_decoder.specs.Bits.{bit_for}
 use Rattle.fast_decoder.specs.Bodies.{State, Then, PartBy, SegmentBy, PieceBy, BodyBy}
-use Rattle.fast_decoder.specs.Streams.{members_of, identifier, AnyMap, CarriesFrom}
+use Rattle.fast_decoder.specs.Streams.{members_of, identifier, AnyMap, Carries, CarriesFrom}
 
 -- the cause that a fault of a byte form is in a stream; the last three come of no bytes
 abbrev pub cause_of_wire : WireFault → Cause
@@ -50,6 +50,11 @@ pub record Stop : Type 0 where
   pub instruction : ℕ
   pub left : ℕ
 
+-- a fault in a message, with its template's identifier: 0 for its map and its identifier
+pub record MessageStop : Type 0 where
+  pub template : ℕ
+  pub stop : Stop
+
 -- the piece that begins with the rest has the fault
 pub record StopsAt (number : ℕ) (Fault : Cause → Type 0) (rest : List ℕ) (stop : Stop) : Type 0 where
   pub instruction_is : stop.instruction ≡ number
@@ -60,9 +65,15 @@ pub record StopsAt (number : ℕ) (Fault : Cause → Type 0) (rest : List ℕ) (
 abbrev pub MapFault : List ℕ → Cause → Type 0
 MapFault rest cause = (f : WireFault) × EntityFault 256 rest 0 f × (cause ≡ cause_of_wire f)
 
+-- behind a map, under its bits
+abbrev pub BehindMap : (List Bool → List ℕ → Type 0) → List ℕ → Type 0
+BehindMap Behind rest = Then (λ x bits. IsWholeMap x bits) Behind rest
+
 -- a part: the first of its checks that fails
 abbrev pub PartFault : FieldPart → State → List ℕ → Cause → Type 0
-PartFault p s rest cause = (f : FieldFault) × (field_at p (entry_at s.dictionary p.key) (bit_for (part_needs_bit p) s.bits) rest ≡ Err f) × (cause ≡ cause_of_field f)
+PartFault p s rest cause =
+    (f : FieldFault) × IsFieldFault p (entry_at s.dictionary p.key) (bit_for (part_needs_bit p) s.bits) rest f
+    × (cause ≡ cause_of_field f)
 
 abbrev pub PartStops : FieldPart → State → List ℕ → Stop → Type 0
 PartStops p s rest stop = StopsAt p.number (PartFault p s rest) rest stop
@@ -75,11 +86,11 @@ NodeStops number (suc spare) Behind rest stop = Behind spare
 -- the map of a segment, or what is inside it
 abbrev pub SegmentStops : ℕ → Bool → (State → List ℕ → Type 0) → Dictionary → List ℕ → Stop → Type 0
 SegmentStops number true Inside d rest stop =
-    StopsAt number (MapFault rest) rest stop ⊎ Then (λ x bits. IsWholeMap x bits) (λ bits y. Inside (record { dictionary = d; bits = bits }) y) rest
+    StopsAt number (MapFault rest) rest stop ⊎ BehindMap (λ bits y. Inside (record { dictionary = d; bits = bits }) y) rest
 SegmentStops number false Inside d rest stop = Inside (record { dictionary = d; bits = [] }) rest
 
 abbrev pub Part : FieldPart → State → List ℕ → Option Scalar → State → Type 0
-Part = PartBy Form AnyMap
+Part = PartBy Form
 
 -- what came before the piece: items, how many nodes may still come, and what they left
 pub record Passed (A B : Type 0) : Type 0 where
@@ -113,7 +124,7 @@ abbrev mutual
       NodeStops number spare
       (λ left. PartStops length s rest stop
       ⊎ Then (λ x (p : Passed ℕ State). Part length s x (Some (U32 p.value)) p.after × (p.spare ≡ left))
-      (λ p y. EachStops number (λ d z ns e. SegmentBy Form AnyMap (has_map members) (λ t w u. BodyBy Form AnyMap members t w ns u) d z e)
+      (λ p y. EachStops number (λ d z ns e. SegmentBy AnyMap (has_map members) (λ t w u. BodyBy Form AnyMap members t w ns u) d z e)
       (λ k d z. SegmentStops number (has_map members) (λ t w. BodyStops members t k w stop) d z stop) p.value p.spare p.after.dictionary y stop)
       rest)
       rest stop
@@ -132,22 +143,28 @@ IdentifierFault set s rest cause =
     ⊎ ((cause ≡ D9) × Then (λ x id. (after : State) × Part identifier s x (Some (U32 id)) after) (λ id y. members_of set id ≡ None) rest)
 
 -- a good identifier, and behind it the body of its template
-pub record InBody (set : List Resolved) (s : State) (rest : List ℕ) (template : ℕ) (stop : Stop) : Type 0 where
+pub record InBody (set : List Resolved) (s : State) (rest : List ℕ) (m : MessageStop) : Type 0 where
   pub members : Instructions
-  pub there : members_of set template ≡ Some members
-  pub behind : Then (λ x between. Part identifier s x (Some (U32 template)) between) (λ between y. BodyStops members between node_limit y stop) rest
+  pub there : members_of set m.template ≡ Some members
+  pub behind : Then (λ x between. Part identifier s x (Some (U32 m.template)) between)
+      (λ between y. BodyStops members between node_limit y m.stop) rest
 
 -- The pieces of a message before one, and then that piece's fault. Of its map and its identifier the template is 0.
-pub data MessageStops (set : List Resolved) (d : Dictionary) (rest : List ℕ) (template : ℕ) (stop : Stop) : Type 0 where
-  in_map : template ≡ 0 → StopsAt 0 (MapFault rest) rest stop → MessageStops set d rest template stop
-  in_identifier : template ≡ 0
-      → Then (λ x bits. IsWholeMap x bits) (λ bits y. StopsAt 0 (IdentifierFault set (record { dictionary = d; bits = bits }) y) y stop) rest
-      → MessageStops set d rest template stop
-  in_body : Then (λ x bits. IsWholeMap x bits) (λ bits y. InBody set (record { dictionary = d; bits = bits }) y template stop) rest → MessageStops set d rest template stop
+pub data MessageStops (set : List Resolved) (d : Dictionary) (rest : List ℕ) (m : MessageStop) : Type 0 where
+  in_map : m.template ≡ 0 → StopsAt 0 (MapFault rest) rest m.stop → MessageStops set d rest m
+  in_identifier : m.template ≡ 0
+      → BehindMap (λ bits y. StopsAt 0 (IdentifierFault set (record { dictionary = d; bits = bits }) y) y m.stop) rest
+      → MessageStops set d rest m
+  in_body : BehindMap (λ bits y. InBody set (record { dictionary = d; bits = bits }) y m) rest → MessageStops set d rest m
 
 -- where a stream of this many bytes stops behind this many messages
-abbrev pub place_of : ℕ → ℕ → ℕ → Stop → Place
-place_of size messages template stop = record { message = messages + 1; offset = size - stop.left; template = template; instruction = stop.instruction }
+abbrev pub place_of : ℕ → ℕ → MessageStop → Place
+place_of size messages m =
+    record { message = messages + 1; offset = size - m.stop.left; template = m.template; instruction = m.stop.instruction }
+
+-- the place at the end of a stream of this many bytes, which is this many messages: where a read fails between two
+abbrev pub place_between : ℕ → ℕ → Place
+place_between size messages = record { message = messages + 1; offset = size; template = 0; instruction = 0 }
 
 -- The stream is message forms of the messages before the place's, and then the pieces of the next one before the
 -- place's piece, which has the fault. A stream that ends between two messages has none.
@@ -156,11 +173,16 @@ pub record FirstFault (set : List Resolved) (stream : List ℕ) (place : Place) 
   pub dictionary : Dictionary
   pub front : List ℕ
   pub rest : List ℕ
-  pub template : ℕ
-  pub stop : Stop
+  pub stop : MessageStop
   pub parts : stream ≡ front ++ rest
   pub carried : CarriesFrom set map.empty front messages dictionary
   pub some : 0 < length rest
-  pub stops : MessageStops set dictionary rest template stop
-  pub cause_is : cause ≡ stop.cause
-  pub place_is : place ≡ place_of (length stream) (length messages) template stop
+  pub stops : MessageStops set dictionary rest stop
+  pub cause_is : cause ≡ stop.stop.cause
+  pub place_is : place ≡ place_of (length stream) (length messages) stop
+
+-- A stream that ends behind a message, with its end as the place: where a read fails or the reads are used up there.
+pub record EndsBetween (set : List Resolved) (stream : List ℕ) (place : Place) : Type 0 where
+  pub messages : List Content
+  pub carried : Carries set stream messages
+  pub place_is : place ≡ place_between (length stream) (length messages)

@@ -16,7 +16,7 @@ use Rattle.fast_decoder.specs.Nodes.{Item, single, group_items, sequence_element
 use Rattle.fast_decoder.specs.Bits.{bit_for, after_bit}
 use Rattle.fast_decoder.specs.Bodies.{State, after_part}
 use Rattle.fast_decoder.specs.Streams.{members_of, identifier}
-use Rattle.fast_decoder.specs.Faults.{cause_of_wire, cause_of_field, Stop, place_of}
+use Rattle.fast_decoder.specs.Faults.{cause_of_wire, cause_of_field, Stop, MessageStop, place_of}
 
 -- what reading has before it: the dictionary, the bits left of the map, how many nodes may still come, and the bytes
 pub record Cursor : Type 0 where
@@ -131,11 +131,6 @@ head_at set d bytes =
     own_map_at 0 true (record { dictionary = d; bits = []; spare = node_limit; bytes = bytes }) >>= λ c.
     field_part_at identifier c >>= named_at set c.bytes
 
--- a fault in a message, with its template's identifier, or 0
-pub record MessageStop : Type 0 where
-  pub template : ℕ
-  pub stop : Stop
-
 abbrev pub in_template : {A : Type 0} → ℕ → Result A Stop → Result A MessageStop
 in_template id (Ok x) = Ok x
 in_template id (Err s) = Err (record { template = id; stop = s })
@@ -168,4 +163,4 @@ stream_at set stream = messages_at (length stream) set map.empty stream
 
 -- the fault as it is answered
 abbrev pub fault_in : List ℕ → StreamReading → Option Fault
-fault_in stream r = option_map (λ s. record { cause = s.stop.cause; place = place_of (length stream) (length r.messages) s.template s.stop }) r.fault
+fault_in stream r = option_map (λ s. record { cause = s.stop.cause; place = place_of (length stream) (length r.messages) s }) r.fault

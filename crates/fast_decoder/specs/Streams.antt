@@ -35,7 +35,7 @@ module _ (Spells : Spelling) (Maps : Mapping) where
   -- at most 65,536 nodes (our own limit).
   pub record MessageFormBy (set : List Resolved) (d : Dictionary) (bytes : List ℕ) (m : Content) (after : Dictionary) : Type 0 where
     pub few : nodes_in m.items ≤ node_limit
-    pub segment : WithMap Maps (λ s x t. Then (λ y u. PartBy Spells Maps identifier s y (Some (U32 m.template)) u)
+    pub segment : WithMap Maps (λ s x t. Then (λ y u. PartBy Spells identifier s y (Some (U32 m.template)) u)
         (λ u z. BodyOfBy (members_of set m.template) u z m.items t) x) d bytes after
 
   -- One message form for each message, each from the dictionary that the one before left.
