@@ -2,4 +2,5 @@ pub mod WorkedSet
 pub mod Rows
 pub mod WorkedStreams
 pub mod Weaker
+pub mod PieceReaders
 pub mod Leaves

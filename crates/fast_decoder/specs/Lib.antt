@@ -4,3 +4,4 @@ pub mod Bodies
 pub mod Streams
 pub mod Faults
 pub mod Reading
+pub mod Readers

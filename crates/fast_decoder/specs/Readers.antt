@@ -1,0 +1,42 @@
+-- What ties the function that reads a piece of a message to the piece's forms and faults.
+use Rattle.std.specs.Prelude.{◌≡◌, ◌≢◌, ℕ, ◌+◌, List, ◌++◌, length, Ok, Err}
+use Rattle.fast_wire.specs.Reader.{IsBytes}
+use Rattle.fast_decoder.specs.declared.fault.Cause.TheVariants.{Truncated}
+use Rattle.fast_decoder.specs.Bodies.{State}
+use Rattle.fast_decoder.specs.Faults.{Stop}
+use Rattle.fast_decoder.specs.Reading.{Cursor, state_of, Reads}
+
+-- a state, how many nodes may still come, and the bytes
+abbrev pub cursor : State → ℕ → List ℕ → Cursor
+cursor s spare bytes = record { dictionary = s.dictionary; bits = s.bits; spare = spare; bytes = bytes }
+
+-- the same stop, seen from so many bytes more
+abbrev pub further : ℕ → Stop → Stop
+further more s = record { cause = s.cause; instruction = s.instruction; left = s.left + more }
+
+-- a form of x stands at the front of the bytes, and behind it is the cursor, with fewer nodes to come
+pub record Passes {A : Type 0} (nodes : A → ℕ) (Form : State → List ℕ → A → State → Type 0) (s : State) (spare : ℕ) (bytes : List ℕ) (x : A) (behind : Cursor) : Type 0 where
+  pub front : List ℕ
+  pub parts : bytes ≡ front ++ behind.bytes
+  pub rest_bytes : IsBytes behind.bytes
+  pub form : Form s front x (state_of behind)
+  pub counted : spare ≡ nodes x + behind.spare
+
+-- the function reads the forms of a piece, and stops exactly at its faults
+pub record IsPieceReader {A : Type 0} (nodes : A → ℕ) (Form : State → List ℕ → A → State → Type 0) (Stops : State → ℕ → List ℕ → Stop → Type 0) (read : Cursor → Reads A) : Type 0 where
+  -- what is read is a form
+  pub found : (s : State) (spare : ℕ) (bytes : List ℕ) (x : A) (behind : Cursor) → IsBytes bytes
+      → read (cursor s spare bytes) ≡ Ok (x, behind) → Passes nodes Form s spare bytes x behind
+  -- each form is read, whatever follows
+  pub again : (s after : State) (spare : ℕ) (form rest : List ℕ) (x : A) → Form s form x after
+      → read (cursor s (nodes x + spare) (form ++ rest)) ≡ Ok (x, cursor after spare rest)
+  -- where reading stops there is that fault
+  pub stops : (s : State) (spare : ℕ) (bytes : List ℕ) (stop : Stop) → IsBytes bytes
+      → read (cursor s spare bytes) ≡ Err stop → Stops s spare bytes stop
+  -- at each fault reading stops
+  pub stopped : (s : State) (spare : ℕ) (bytes : List ℕ) (stop : Stop) → Stops s spare bytes stop
+      → read (cursor s spare bytes) ≡ Err stop
+  -- a fault other than want of bytes stays, whatever follows
+  pub stays : (s : State) (spare : ℕ) (bytes more : List ℕ) (stop : Stop) → IsBytes bytes
+      → read (cursor s spare bytes) ≡ Err stop → stop.cause ≢ Truncated
+      → read (cursor s spare (bytes ++ more)) ≡ Err (further (length more) stop)
