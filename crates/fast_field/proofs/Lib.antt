@@ -2,6 +2,9 @@ pub mod WorkedFields
 pub mod WorkedRows
 pub mod TypeRows
 pub mod LimitRows
+pub mod LongRows
+pub mod NoMemory
+pub mod PartsOfSets
 pub mod BestForms
 pub mod WorkedBest
 pub mod FieldLaws

@@ -5,7 +5,8 @@ ghost use Rattle.fast_wire.specs.Reader.{IsReader};
 ghost use Rattle.fast_template.specs.declared.resolved.FieldPart.{FieldPart};
 ghost use Rattle.fast_template.specs.declared.scalar.Scalar.{Scalar};
 ghost use Rattle.fast_dictionary.specs.declared.entry.Entry.{Entry};
-ghost use Rattle.fast_field.specs.Fields.{Form, HasDefault, IsBitOf};
+ghost use Rattle.fast_field.specs.Parts.{HasDefault, IsBitOf};
+ghost use Rattle.fast_field.specs.Fields.{Form};
 ghost use Rattle.fast_field.specs.FieldReading.{field_at, IsFieldFault};
 
 use crate::fault::FieldFault;
