@@ -7,6 +7,7 @@ pub mod NoMemory
 pub mod PartsOfSets
 pub mod BestForms
 pub mod WorkedBest
+pub mod NotBest
 pub mod FieldLaws
 pub mod SpelledForms
 pub mod BaseForms
