@@ -1,5 +1,5 @@
 -- The forms of each operator are read, and nothing else is.
-use Rattle.std.proofs.Common.{◌≡◌, ℕ, Bool, true, false, List, [], ◌++◌, Result, Ok, Err, refl, sym, ap, subst, ◌∙◌}
+use Rattle.std.proofs.Common.{◌≡◌, ℕ, Bool, true, false, List, [], ◌++◌, Result, Ok, Err, refl, sym, ap, subst}
 use Rattle.std.specs.Prelude.{Option, Some, None, IsSome}
 use Rattle.fast_wire.specs.Reader.{IsBytes, IsReader}
 use Rattle.fast_wire.specs.Reading.{◌>>=◌}

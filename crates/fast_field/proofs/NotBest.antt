@@ -1,5 +1,5 @@
 -- Worked rows: forms as short as the best that are not the best, by each of the last two rules.
-use Rattle.std.proofs.Common.{◌≡◌, ℕ, ◌<◌, ◌≤◌, Bool, true, List, [], ◌∷◌, ◌++◌, length, Option, Some, pos, negsuc, refl, sym, ap, subst, ◌∙◌, arith, inl, inr, ◌⊎◌, append-nil}
+use Rattle.std.proofs.Common.{◌≡◌, ℕ, ◌≤◌, true, List, [], ◌∷◌, ◌++◌, length, Some, pos, negsuc, refl, sym, ap, ◌∙◌, arith, inl, inr}
 use Rattle.std.specs.Prelude.{ℤ, codes}
 use Rattle.fast_wire.specs.Integer.{IsSigned}
 use Rattle.fast_wire.specs.Ascii.{IsAscii}
@@ -11,7 +11,7 @@ use Rattle.fast_template.specs.declared.kind.Kind.TheVariants as kind
 use Rattle.fast_template.specs.declared.kind.Presence.TheVariants.{Mandatory}
 use Rattle.fast_template.specs.declared.scalar.Scalar.{Scalar}
 use Rattle.fast_template.specs.declared.scalar.Scalar.TheVariants.{Ascii}
-use Rattle.fast_field.specs.Deltas.{Side, at_end, in_front, Cut, side_of, SpellsCut}
+use Rattle.fast_field.specs.Deltas.{at_end, in_front, Cut, side_of, SpellsCut}
 use Rattle.fast_field.specs.Fields.{FormBy}
 use Rattle.fast_field.specs.Best.{side_rank, NoLater, IsBest}
 use Rattle.fast_field.proofs.WorkedFields.{text, delta_s}

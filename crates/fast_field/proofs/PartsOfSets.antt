@@ -1,5 +1,5 @@
 -- The parts of a sound set of templates are field parts.
-use Rattle.std.proofs.Common.{◌≡◌, List, [], ◌∷◌, sym, subst, refl}
+use Rattle.std.proofs.Common.{List, [], ◌∷◌, sym, subst, refl}
 use Rattle.std.specs.List.{AllByRecursion}
 use Rattle.fast_template.specs.Resolved.{Instruction, Instructions, whole_field, field_in_parts, group_of, sequence_of, no_instructions, then_instruction, Resolved}
 use Rattle.fast_template.specs.TemplateSets.{IsPartOf, HasTypedParts, HaveTypedParts, TemplateList, templates_in, IsSound}
