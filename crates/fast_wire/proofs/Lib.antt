@@ -17,3 +17,4 @@ pub mod AsciiForms
 pub mod VectorForms
 pub mod FormSizes
 pub mod MapReadings
+pub mod GoingOn

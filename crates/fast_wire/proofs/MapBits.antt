@@ -1,9 +1,9 @@
 -- Lemmas on the bits of a presence map.
-use Rattle.std.proofs.Common.{◌≡◌, ℕ, zero, suc, ◌+◌, ◌-◌, ◌*◌, ◌/◌, ◌%◌, ◌^◌, ◌<◌, ◌≤◌, Bool, true, false, nat_eq, List, [], ◌∷◌, length, get_or, drop, refl, sym, ap, ◌∙◌, arith, get_or-drop, inl, inr}
+use Rattle.std.proofs.Common.{◌≡◌, ℕ, zero, suc, ◌+◌, ◌-◌, ◌*◌, ◌/◌, ◌%◌, ◌^◌, ◌<◌, ◌≤◌, Bool, true, false, nat_eq, List, [], ◌∷◌, length, get_or, drop, drop-drop, refl, sym, ap, ◌∙◌, arith, get_or-drop, inl, inr}
 use Rattle.std.proofs.lemmas.Bool.{cases_lt, true≢false}
 use Rattle.std.proofs.lemmas.List.{drop_all, length-map, get_or_past}
 use Rattle.fast_wire.specs.Entity.{groups}
-use Rattle.fast_wire.specs.PresenceMap.{bits_of, bit_at, HasSetBit}
+use Rattle.fast_wire.specs.PresenceMap.{bits_of, bit_at, later_bits, HasSetBit}
 
 -- seven bits for each group
 pub length_bits : (gs : List ℕ) → length (bits_of gs) ≡ 7 * length gs
@@ -28,6 +28,14 @@ bit_is (b ∷ bs) (suc (suc (suc (suc (suc (suc (suc j))))))) h =
 -- past the last group no bit is left
 pub none_left : (bs : List ℕ) (place : ℕ) → 7 * length bs ≤ place → drop place (bits_of (groups bs)) ≡ []
 none_left bs place h = drop_all place (bits_of (groups bs)) (omega (arith, length_bits (groups bs), length-map bs (λ b. b % 128)))
+
+-- the bits behind the next one
+later_drop : (bits : List Bool) → drop 1 bits ≡ later_bits bits
+later_drop [] = refl
+later_drop (bit ∷ bits) = refl
+
+pub later_left : (bits : List Bool) (place : ℕ) → drop (place + 1) bits ≡ later_bits (drop place bits)
+later_left bits place = sym (drop-drop 1 place bits) ∙ later_drop (drop place bits)
 
 -- a bit of what is left
 pub bit_left : (bits : List Bool) (place i : ℕ) → place ≤ i → bit_at bits i ≡ bit_at (drop place bits) (i - place)

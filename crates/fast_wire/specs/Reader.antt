@@ -22,6 +22,11 @@ pub record IsReader {A F : Type 0} (wait : F) (read : List ℕ → Result (A × 
   -- another fault stays, whatever follows
   pub stays : (bytes others : List ℕ) (f : F) → IsBytes bytes → read bytes ≡ Err f → (f ≡ wait → ⊥) → read (bytes ++ others) ≡ Err f
 
+-- what is read is read whatever follows: more bytes change neither the value nor where it ends
+abbrev pub GoesOn : {A F : Type 0} → (List ℕ → Result (A × List ℕ) F) → Type 0
+GoesOn {A} read = (bytes : List ℕ) (x : A) (rest more : List ℕ) → read bytes ≡ Ok (x, rest)
+    → read (bytes ++ more) ≡ Ok (x, rest ++ more)
+
 -- a form in two parts: the second's form may depend on the first's value
 pub record Both {A B : Type 0} (First : List ℕ → A → Type 0) (Second : A → List ℕ → B → Type 0) (bytes : List ℕ) (y : B) : Type 0 where
   pub x : A

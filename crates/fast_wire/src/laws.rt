@@ -11,8 +11,8 @@ ghost use Rattle.fast_wire.specs.Entity.{IsEntityWithin};
 ghost use Rattle.fast_wire.specs.Integer.{IsNoCloser, IsSigned, IsUnsigned};
 ghost use Rattle.fast_wire.specs.Nullable.{IsNullOr, IsSignedNullable, IsUnsignedNullable, sent_signed, sent_unsigned, units};
 ghost use Rattle.fast_wire.specs.PresenceMap.{IsWholeMap};
-ghost use Rattle.fast_wire.specs.Reader.{IsReader};
-ghost use Rattle.fast_wire.specs.Reading.{ascii_at, ascii_nullable_at, entity_at, map_at, signed_at, signed_nullable_at, unsigned_at, unsigned_nullable_at, vector_at, vector_nullable_at};
+ghost use Rattle.fast_wire.specs.Reader.{GoesOn, IsReader};
+ghost use Rattle.fast_wire.specs.Reading.{ascii_at, ascii_nullable_at, bytes_at, entity_at, map_at, signed_at, signed_nullable_at, unsigned_at, unsigned_nullable_at, vector_at, vector_nullable_at};
 ghost use Rattle.fast_wire.specs.Sizes.{ascii_nullable_size, ascii_size, CanBeSigned, CanBeUnsigned, HasSizes, signed_nullable_size, signed_size, unsigned_nullable_size, unsigned_size, vector_nullable_size, vector_size};
 ghost use Rattle.fast_wire.specs.Vector.{IsVector, IsVectorNullable};
 ghost use Rattle.fast_wire.specs.Writing.{IsShortest};
@@ -69,6 +69,21 @@ pub fn nullable_vectors_are_read()
 /// A presence map is read from the front of a list, and nothing else is.
 pub fn maps_are_read()
     ensures { IsReader WireFault.NeedMore map_at IsWholeMap }
+{}
+
+/// What is read from the front of a list is read whatever follows, with no premise on the bytes.
+pub fn readings_go_on()
+    ensures entity { (limit : ℕ) → GoesOn (entity_at limit) }
+    ensures unsigned { GoesOn unsigned_at }
+    ensures signed { GoesOn signed_at }
+    ensures unsigned_nullable { GoesOn unsigned_nullable_at }
+    ensures signed_nullable { GoesOn signed_nullable_at }
+    ensures ascii { GoesOn ascii_at }
+    ensures ascii_nullable { GoesOn ascii_nullable_at }
+    ensures bytes { (n : ℕ) → GoesOn (bytes_at n) }
+    ensures vector { GoesOn vector_at }
+    ensures vector_nullable { GoesOn vector_nullable_at }
+    ensures map { GoesOn map_at }
 {}
 
 /// Two forms of one number that are as long are the same bytes.

@@ -2,7 +2,7 @@
 
 ghost use Rattle.std.specs.Prelude.{◌≡◌, ◌≢◌, ◌≤◌, ◌<◌, ◌+◌, ◌*◌, ◌/◌, ◌%◌, ◌↔◌, ◌⊎◌, ◌-◌, ◌++◌, ℕ, Bool, true, false, List, [], length, drop, slice_range, slice_get, IsTrue, IfOk, MatchResult, IfErr, OnOk, OnErr, IsErrOf};
 ghost use Rattle.fast_wire.specs.Entity.{groups};
-ghost use Rattle.fast_wire.specs.Reading.{EntityFault, Gives, Reads, map_at};
+ghost use Rattle.fast_wire.specs.Reading.{EntityFault, Gives, OrMemory, Reads, RefusedAt, map_at};
 ghost use Rattle.fast_wire.specs.Writing.{AppendsShortest};
 ghost use Rattle.fast_wire.specs.PresenceMap.{bits_of, bit_at, next_bit, later_bits, IsMap, HasSetBit};
 ghost use Rattle.fast_wire.specs.Spellings.{bit_number, group_from, map_of, IsUsed, IsMapSize};
@@ -41,16 +41,35 @@ fn group_bit(bytes: &[u8], i: usize) -> bool
 }
 
 impl Bits {
+    /// No bits: each that is taken is 0. It takes no memory.
+    pub fn none(alloc: Global) -> Bits
+        ensures { result ≡ [] }
+    {
+        Bits {
+            bytes: Vec::new(alloc),
+            place: 0,
+        }
+    }
+
+    /// The next bit, or false past the end; it stays the next. It takes no memory.
+    pub fn first(&self) -> bool
+        ensures { result ≡ next_bit self.now }
+    {
+        if self.place == 7 * self.bytes.len() {
+            return false;
+        }
+        group_bit(&self.bytes, self.place)
+    }
+
     /// The next bit, or false past the end. It takes no memory.
     pub fn take(&mut self) -> bool
         ensures bit { result ≡ next_bit self.old }
         ensures rest { self.new ≡ later_bits self.old }
     {
-        if self.place == 7 * self.bytes.len() {
-            return false;
+        let bit = self.first();
+        if self.place < 7 * self.bytes.len() {
+            self.place += 1;
         }
-        let bit = group_bit(&self.bytes, self.place);
-        self.place += 1;
         bit
     }
 
@@ -73,12 +92,12 @@ impl Bits {
 pub fn read_map(alloc: Global, bytes: &[u8], at: usize) -> Result<(Bits, usize), WireFault>
     requires { at ≤ length bytes.now }
     ensures place { IfOk result (λ x. (at < x.1) × (x.1 ≤ length bytes.now)) }
-    ensures answer { MatchResult result (Reads IsMap bytes.now at) (λ e. (e ≡ WireFault.Memory) ⊎ EntityFault 256 bytes.now at e) }
+    ensures answer { MatchResult result (Reads IsMap bytes.now at) (λ e. RefusedAt IsMap bytes.now at e ⊎ EntityFault 256 bytes.now at e) }
     // what is spelled so is read, unless memory runs out
     ensures only { (next : ℕ) (bits : List Bool) → Reads IsMap bytes.now at (bits, next)
         → MatchResult result (λ x. ((i : ℕ) → bit_at x.0 i ≡ bit_at bits i) × (x.1 ≡ next)) (λ e. e ≡ WireFault.Memory) }
     // the same by the function that reads the front of a list, for the layers above
-    ensures gives { Gives (λ x. (x.0, drop x.1 bytes.now)) result (map_at (drop at bytes.now)) }
+    ensures gives { Gives OrMemory (λ x. (x.0, drop x.1 bytes.now)) result (map_at (drop at bytes.now)) }
 {
     let next = entity_end(bytes, at, MAP_LIMIT)?;
     let Ok(map) = Vec::from_slice(alloc, &bytes[at..next]) else {

@@ -344,9 +344,10 @@ fn map_vectors(rt: HostRuntime) -> Result<(), Fail> {
         let (mut read, next) = read_map(rt.alloc(), bytes, 0)?;
         assert_eq!(rt; next, bytes.len());
         for bit in bits {
+            assert_eq!(rt; read.first(), *bit);
             assert_eq!(rt; read.take(), *bit);
         }
-        assert!(rt; !read.left_set() && !read.take());
+        assert!(rt; !read.left_set() && !read.first() && !read.take());
     }
     Ok(())
 }
@@ -357,6 +358,8 @@ fn map_limits(rt: HostRuntime) -> Result<(), Fail> {
     assert_eq!(rt; next, 3);
     assert!(rt; long.left_set() && long.take() && long.take() && long.take());
     assert!(rt; !long.left_set() && !long.take());
+    let mut none = Bits::none(rt.alloc());
+    assert!(rt; !none.left_set() && !none.first() && !none.take());
     let zeros = [0u8; 256];
     assert!(rt;
         matches!(
