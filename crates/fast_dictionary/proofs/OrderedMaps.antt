@@ -1,42 +1,55 @@
 -- An ordered map of the program as a finite map.
-use Rattle.std.proofs.Common.{◌≡◌, List, [], ◌∷◌, ◌++◌, Option, Some, cond, refl, sym, ap, ◌∙◌}
-use Rattle.std.specs.FinMap.{find, get, insert, empty, from_entries, get-from_entries, get-insert, same_map}
+use Rattle.std.proofs.Common.{◌≡◌, Bool, true, false, List, [], ◌∷◌, ◌++◌, Option, Some, None, cond, unwrap_or, refl, sym, ap, ◌∙◌}
 use Rattle.std.specs.Ordering.{eq_by_cmp}
 use Rattle.std.specs.Cmp.{eq_by_cmp_equiv}
 use Rattle.std.specs.Map.{lookup}
 use Rattle.std.specs.BTreeMap.{BTreeMap, is_at, Updates}
-use Rattle.fast_template.specs.Key.{key_cmp, key_cmp-total, key_cmp-exact}
+use Rattle.fast_template.specs.Key.{key_cmp, key_cmp-total}
 use Rattle.fast_template.specs.declared.key.Key.{Key}
-use Rattle.fast_template.specs.declared.scalar.Scalar.{Scalar}
-use Rattle.fast_dictionary.specs.Dictionary.{Dictionary}
+use Rattle.fast_dictionary.specs.declared.entry.Entry.{Entry}
+use Rattle.fast_dictionary.specs.declared.entry.Entry.TheVariants.{Undefined}
+use Rattle.fast_dictionary.specs.Dictionary.{Dictionary, entry_at, entry_at-empty, entry_at-set_entry, set_entry, from_pairs, same_dictionary, set_entry-there}
+
+-- what a look-up answers, as an entry
+abbrev pub entry_or : Option Entry → Entry
+entry_or o = unwrap_or o Undefined
+
+shown : (b : Bool) (e : Entry) (o : Option Entry) → cond b e (entry_or o) ≡ entry_or (cond b (Some e) o)
+shown true e o = refl
+shown false e o = refl
 
 -- what a look-up finds is what the finite map has
-find_is : (es : List (Key × Option Scalar)) (k : Key) → find key_cmp k es ≡ lookup (is_at (key_cmp k)) es
-find_is [] k = refl
-find_is (e ∷ es) k = ap (cond (is_at (key_cmp k) e.0) (Some e.1)) (find_is es k)
-
-pub get_is : (es : List (Key × Option Scalar)) (k : Key) → get (from_entries {R = key_cmp} es) k ≡ lookup (is_at (key_cmp k)) es
-get_is es k = get-from_entries key_cmp-total es k ∙ find_is es k
+pub entry_is : (es : List (Key × Entry)) (k : Key) → entry_at (from_pairs es) k ≡ entry_or (lookup (is_at (key_cmp k)) es)
+entry_is [] k = entry_at-empty k
+entry_is (e ∷ es) k =
+    entry_at-set_entry (from_pairs es) e.0 e.1 k
+    ∙ ap (cond (is_at (key_cmp k) e.0) e.1) (entry_is es k)
+    ∙ shown (is_at (key_cmp k) e.0) e.1 (lookup (is_at (key_cmp k)) es)
 
 -- a key that is set in an ordered map is set in the finite map, and no other
-pub insert_is : (m n : BTreeMap Key (Option Scalar)) (k : Key) (v : Option Scalar) → Updates key_cmp m n k (Some v) → from_entries {R = key_cmp} n.entries ≡ insert (from_entries m.entries) k v
-insert_is m n k v updates =
-    same_map key_cmp-total key_cmp-exact _ _ (λ q.
-    get_is n.entries q
-    ∙ updates.0 q
-    ∙ ap (λ b. cond b (Some v) (lookup (is_at (key_cmp q)) m.entries)) ((eq_by_cmp_equiv key_cmp-total).symm k q)
-    ∙ ap (cond (eq_by_cmp key_cmp q k) (Some v)) (sym (get_is m.entries q))
-    ∙ sym (get-insert key_cmp-total (from_entries m.entries) k v q))
+pub insert_is : (m n : BTreeMap Key Entry) (k : Key) (e : Entry) → Updates key_cmp m n k (Some e) → from_pairs n.entries ≡ set_entry (from_pairs m.entries) k e
+insert_is m n k e updates =
+    same_dictionary _ _ (λ q.
+    entry_is n.entries q
+    ∙ ap entry_or (updates.0 q)
+    ∙ sym (shown (eq_by_cmp key_cmp k q) e (lookup (is_at (key_cmp q)) m.entries))
+    ∙ ap (λ b. cond b e (entry_or (lookup (is_at (key_cmp q)) m.entries))) ((eq_by_cmp_equiv key_cmp-total).symm k q)
+    ∙ ap (cond (eq_by_cmp key_cmp q k) e) (sym (entry_is m.entries q))
+    ∙ sym (entry_at-set_entry (from_pairs m.entries) k e q))
 
--- the map with these entries set, the last of them first
-abbrev pub onto : List (Key × Option Scalar) → Dictionary → Dictionary
-onto [] m = m
-onto (e ∷ es) m = insert (onto es m) e.0 e.1
+-- the dictionary with these entries set, the last of them first
+abbrev pub onto : List (Key × Entry) → Dictionary → Dictionary
+onto [] d = d
+onto (e ∷ es) d = set_entry (onto es d) e.0 e.1
 
-pub onto-append : (xs ys : List (Key × Option Scalar)) (m : Dictionary) → onto (xs ++ ys) m ≡ onto xs (onto ys m)
-onto-append [] ys m = refl
-onto-append (x ∷ xs) ys m = ap (λ n. insert n x.0 x.1) (onto-append xs ys m)
+pub onto-append : (xs ys : List (Key × Entry)) (d : Dictionary) → onto (xs ++ ys) d ≡ onto xs (onto ys d)
+onto-append [] ys d = refl
+onto-append (x ∷ xs) ys d = ap (λ n. set_entry n x.0 x.1) (onto-append xs ys d)
 
-pub onto_empty : (es : List (Key × Option Scalar)) → onto es empty ≡ from_entries es
+pub onto_empty : (es : List (Key × Entry)) → onto es (from_pairs []) ≡ from_pairs es
 onto_empty [] = refl
-onto_empty (e ∷ es) = ap (λ n. insert n e.0 e.1) (onto_empty es)
+onto_empty (e ∷ es) = ap (λ n. set_entry n e.0 e.1) (onto_empty es)
+
+-- an undefined entry for a key that was not there changes nothing
+pub held_is : (m : BTreeMap Key Entry) (k : Key) (d : Dictionary) → d ≡ set_entry (from_pairs m.entries) k Undefined → lookup (is_at (key_cmp k)) m.entries ≡ None → d ≡ from_pairs m.entries
+held_is m k d e none = e ∙ ap (set_entry (from_pairs m.entries) k) (sym (entry_is m.entries k ∙ ap entry_or none)) ∙ set_entry-there (from_pairs m.entries) k

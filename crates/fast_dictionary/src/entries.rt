@@ -1,8 +1,11 @@
 //! What every kind of dictionary does.
 
-ghost use Rattle.std.specs.Prelude.{◌≡◌, ◌≢◌, IfOk, OnOk, OnErr};
+ghost use Rattle.std.specs.Prelude.{◌≡◌, ◌≢◌, Bool, IsTrue, IfOk, OnOk, OnErr};
+ghost use Rattle.std.specs.Borrow.{sem, LendsSoOk};
 ghost use Rattle.std.specs.FinMap as map;
-ghost use Rattle.fast_dictionary.specs.Dictionary.{Dictionary, entry_at, entry_of, value_in};
+ghost use Rattle.fast_template.specs.declared.key.Key as key_type;
+ghost use Rattle.fast_dictionary.specs.Dictionary.{Dictionary, entry_at, entry_of, set_entry, value_in};
+ghost use Rattle.fast_dictionary.specs.contracts.entry.Entry as entry_type;
 ghost use Rattle.fast_dictionary.specs.declared.entry.Entry.TheVariants.{Undefined};
 
 use crate::entry::{Entry, EntryRef};
@@ -13,23 +16,53 @@ use std::alloc::{AllocError, Global};
 pub trait Entries: Drop {
     ghost contents: { Self → Dictionary };
 
+    // The keys that the entries may be asked for. No call changes which these are.
+    ghost serves: { Self → key_type.Key → Bool };
+
     /// The entry under a key.
     fn get(&self, key: &Key) -> EntryRef<'_>
+        requires { IsTrue (serves self.now key.now) }
         ensures { entry_of result ≡ entry_at (contents self.now) key.now };
+
+    /// The entry under a key, to be changed where it lies. Every other stays.
+    ///
+    /// # Errors
+    ///
+    /// Where memory is refused, and then nothing has changed. Only for an undefined entry is memory
+    /// asked for.
+    fn entry_mut(&mut self, key: &Key) -> Result<&mut Entry, AllocError>
+        requires { IsTrue (serves self.old key.now) }
+        ensures* writes_back { sem 𝓛 (LendsSoOk Self.row entry_type.the_row self.entry result
+            (λ after entry. (contents after ≡ set_entry (contents self.entry.now) key.now entry)
+            × (serves after ≡ serves self.entry.now))
+            (λ after. (contents after ≡ contents self.entry.now)
+            × (serves after ≡ serves self.entry.now))) }
+        ensures value { IfOk result (λ entry. entry.now ≡ entry_at (contents self.old) key.now) }
+        ensures refused { OnErr result (entry_at (contents self.old) key.now ≡ Undefined) };
 
     /// Puts an entry under a key, in place of the one that is there, and leaves every other.
     ///
     /// # Errors
     ///
-    /// Where memory is refused, and then nothing has changed.
+    /// Where memory is refused, and then nothing has changed. Only for an undefined entry is memory
+    /// asked for.
     fn put(&mut self, key: &Key, entry: Entry) -> Result<(), AllocError>
-        requires { entry ≢ Undefined }
-        ensures ok { OnOk result (contents self.new ≡ map.insert (contents self.old) key.now (value_in entry)) }
-        ensures err { OnErr result (contents self.new ≡ contents self.old) };
+        requires served { IsTrue (serves self.old key.now) }
+        requires defined { entry ≢ Undefined }
+        ensures ok { OnOk result
+            (contents self.new ≡ map.insert (contents self.old) key.now (value_in entry)) }
+        ensures err { OnErr result (contents self.new ≡ contents self.old) }
+        ensures refused { OnErr result (entry_at (contents self.old) key.now ≡ Undefined) }
+        ensures same_keys { serves self.new ≡ serves self.old }
+    {
+        *self.entry_mut(key)? = entry;
+        Ok(())
+    }
 
     /// Makes every entry undefined.
     fn reset(&mut self)
-        ensures { contents self.new ≡ map.empty };
+        ensures cleared { contents self.new ≡ map.empty }
+        ensures same_keys { serves self.new ≡ serves self.old };
 
     /// The same entries once more.
     ///
@@ -37,5 +70,6 @@ pub trait Entries: Drop {
     ///
     /// Where memory is refused.
     fn copy(&self, alloc: Global) -> Result<Self, AllocError>
-        ensures { IfOk result (λ other. contents other ≡ contents self.now) };
+        ensures same { IfOk result (λ other. contents other ≡ contents self.now) }
+        ensures same_keys { IfOk result (λ other. serves other ≡ serves self.now) };
 }

@@ -1,14 +1,14 @@
 //! Entries in an ordered map.
 
-ghost use Rattle.std.specs.Prelude.{◌≡◌, ◌≢◌, IfOk, OnErr, OnOk};
+ghost use Rattle.std.specs.Prelude.{◌≡◌, true, Some, None, IsSome, OnErr, OnOk};
+ghost use Rattle.std.specs.BTreeMap.{get};
 ghost use Rattle.std.specs.FinMap as map;
 ghost use Rattle.fast_template.specs.Key.{key_cmp};
-ghost use Rattle.fast_dictionary.specs.Dictionary.{value_in};
-ghost use Rattle.fast_dictionary.specs.declared.entry.Entry.TheVariants.{Undefined};
+ghost use Rattle.fast_dictionary.specs.Dictionary.{from_pairs, set_entry};
 
 use crate::entries::Entries;
 use crate::entry::{Entry, EntryRef};
-use fast_template::{Key, Scalar};
+use fast_template::Key;
 use std::alloc::{AllocError, Global};
 use std::collections::BTreeMap;
 use std::marker::Model;
@@ -17,19 +17,18 @@ use std::marker::Model;
 #[derive(Drop)]
 pub struct MapEntries {
     alloc: Global,
-    // no value under a key: its entry is empty
-    values: BTreeMap<Key, Option<Scalar>>,
+    // a key with an undefined entry is as good as none
+    entries: BTreeMap<Key, Entry>,
 }
 
 impl Model for MapEntries {
-    ghost use Rattle.fast_dictionary.specs.Dictionary.{Dictionary, dictionary_code};
-    ghost use Rattle.std.specs.FinMap.{from_entries};
+    ghost use Rattle.fast_dictionary.specs.Dictionary.{Dictionary, dictionary_code, from_pairs};
 
     ghost Value = { Dictionary };
 
     ghost coded = { dictionary_code };
 
-    ghost view = { λ m. from_entries m.values.entries };
+    ghost view = { λ m. from_pairs m.entries.entries };
 }
 
 impl MapEntries {
@@ -39,7 +38,7 @@ impl MapEntries {
     {
         MapEntries {
             alloc,
-            values: BTreeMap::new(alloc),
+            entries: BTreeMap::new(alloc),
         }
     }
 }
@@ -47,64 +46,58 @@ impl MapEntries {
 impl Entries for MapEntries {
     ghost contents = { λ m. m };
 
+    ghost serves = { λ m k. true };
+
     fn get(&self, key: &Key) -> EntryRef<'_> {
-        match self.values.get(key) {
+        match self.entries.get(key) {
             None => EntryRef::Undefined,
-            Some(None) => EntryRef::Empty,
-            Some(Some(value)) => EntryRef::Assigned(value),
+            Some(entry) => entry.view(),
         }
     }
 
-    fn put(&mut self, key: &Key, entry: Entry) -> Result<(), AllocError> {
-        let key = key.copy(self.alloc)?;
-        set_value(&mut self.values, key, value_of(entry))
+    fn entry_mut(&mut self, key: &Key) -> Result<&mut Entry, AllocError> {
+        if let Err(error) = hold(&mut self.entries, key, self.alloc) {
+            return Err(error);
+        }
+        match self.entries.get_mut(key) {
+            Some(entry) => Ok(entry),
+            None => Err(AllocError),
+        }
     }
 
     fn reset(&mut self) {
-        self.values.clear();
+        self.entries.clear();
     }
 
     fn copy(&self, alloc: Global) -> Result<MapEntries, AllocError> {
-        let mut values = BTreeMap::new(alloc);
-        for (key, value) in self.values.iter().rev() {
-            let value = copy_of(value, alloc)?;
-            set_value(&mut values, key.copy(alloc)?, value)?;
+        let mut entries = BTreeMap::new(alloc);
+        for (key, entry) in self.entries.iter().rev() {
+            let entry = entry.view().copy(alloc)?;
+            set(&mut entries, key.copy(alloc)?, entry)?;
         }
-        Ok(MapEntries { alloc, values })
+        Ok(MapEntries { alloc, entries })
     }
 }
 
-// Sets the value of a key, in place of the one that is there.
-fn set_value(
-    values: &mut BTreeMap<Key, Option<Scalar>>,
-    key: Key,
-    value: Option<Scalar>,
-) -> Result<(), AllocError>
-    ensures ok { OnOk result (map.from_entries {R = key_cmp} values.new.entries ≡ map.insert (map.from_entries values.old.entries) key value) }
-    ensures err { OnErr result (map.from_entries {R = key_cmp} values.new.entries ≡ map.from_entries values.old.entries) }
+// Makes room for the entry of a key, where there is none.
+fn hold(entries: &mut BTreeMap<Key, Entry>, key: &Key, alloc: Global) -> Result<(), AllocError>
+    ensures same { from_pairs entries.new.entries ≡ from_pairs entries.old.entries }
+    ensures there { OnOk result (IsSome (get key_cmp entries.new key.now)) }
+    ensures refused { OnErr result (get key_cmp entries.old key.now ≡ None) }
 {
-    values.insert(key, value)?;
+    if !entries.contains_key(key) {
+        set(entries, key.copy(alloc)?, Entry::Undefined)?;
+    }
     Ok(())
 }
 
-// The value that a map has for an entry.
-fn value_of(entry: Entry) -> Option<Scalar>
-    requires { entry ≢ Undefined }
-    ensures { result ≡ value_in entry }
+// Sets the entry of a key, in place of the one that is there.
+fn set(entries: &mut BTreeMap<Key, Entry>, key: Key, entry: Entry) -> Result<(), AllocError>
+    ensures ok { OnOk result
+        (from_pairs entries.new.entries ≡ set_entry (from_pairs entries.old.entries) key entry) }
+    ensures there { OnOk result (get key_cmp entries.new key ≡ Some entry) }
+    ensures err { OnErr result (from_pairs entries.new.entries ≡ from_pairs entries.old.entries) }
 {
-    match entry {
-        Entry::Assigned(value) => Some(value),
-        Entry::Empty => None,
-        Entry::Undefined => unreachable!(),
-    }
-}
-
-// The same value once more, or none.
-fn copy_of(value: &Option<Scalar>, alloc: Global) -> Result<Option<Scalar>, AllocError>
-    ensures { IfOk result (λ other. other ≡ value.now) }
-{
-    match value {
-        Some(value) => Ok(Some(value.copy(alloc)?)),
-        None => Ok(None),
-    }
+    entries.insert(key, entry)?;
+    Ok(())
 }

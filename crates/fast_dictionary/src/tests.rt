@@ -1,3 +1,5 @@
+ghost use Rattle.std.specs.Prelude.{IsTrue};
+
 use crate::entries::Entries;
 use crate::entry::{Entry, EntryRef};
 use crate::map::MapEntries;
@@ -20,7 +22,9 @@ fn text(alloc: Global, text: &str) -> Result<Scalar, AllocError> {
 }
 
 // Whether a key's entry is the one that is wanted.
-fn has<E: Entries>(entries: &E, key: &Key, wanted: &Entry) -> bool {
+fn has<E: Entries>(entries: &E, key: &Key, wanted: &Entry) -> bool
+    requires { IsTrue (E.serves entries.now key.now) }
+{
     match (entries.get(key), wanted.view()) {
         (EntryRef::Undefined, EntryRef::Undefined) | (EntryRef::Empty, EntryRef::Empty) => true,
         (EntryRef::Assigned(value), EntryRef::Assigned(other)) => *value == *other,
@@ -28,45 +32,54 @@ fn has<E: Entries>(entries: &E, key: &Key, wanted: &Entry) -> bool {
     }
 }
 
-// Puts entries under the keys of slots 1 and 2, copies and resets. A refusal changes nothing.
-fn walk<E: Entries>(rt: &impl Abort, alloc: Global, mut entries: E) -> Result<(), AllocError> {
-    let first = key(alloc, 1, "A")?;
-    let second = key(alloc, 2, "B")?;
+// Puts and changes the entries of two keys, copies and resets. A refusal changes nothing.
+fn walk<E: Entries>(
+    rt: &impl Abort,
+    alloc: Global,
+    mut entries: E,
+    first: &Key,
+    second: &Key,
+) -> Result<(), AllocError>
+    requires first { IsTrue (E.serves entries first.now) }
+    requires second { IsTrue (E.serves entries second.now) }
+{
     let value = Entry::Assigned(text(alloc, "é")?);
-    assert!(rt; has(&entries, &first, &Entry::Undefined));
+    assert!(rt; has(&entries, first, &Entry::Undefined));
     if entries
-        .put(&first, Entry::Assigned(text(alloc, "é")?))
+        .put(first, Entry::Assigned(text(alloc, "é")?))
         .is_err()
     {
-        assert!(rt; has(&entries, &first, &Entry::Undefined));
+        assert!(rt; has(&entries, first, &Entry::Undefined));
         return Err(AllocError);
     }
     if entries
-        .put(&second, Entry::Assigned(text(alloc, "é")?))
+        .put(second, Entry::Assigned(text(alloc, "é")?))
         .is_err()
     {
-        assert!(rt; has(&entries, &second, &Entry::Undefined));
+        assert!(rt; has(&entries, second, &Entry::Undefined));
         return Err(AllocError);
     }
-    if entries.put(&first, Entry::Empty).is_err() {
-        assert!(rt; has(&entries, &first, &value));
-        return Err(AllocError);
-    }
-    assert!(rt; has(&entries, &first, &Entry::Empty));
-    assert!(rt; has(&entries, &second, &value));
+    assert!(rt; entries.put(first, Entry::Empty).is_ok());
+    assert!(rt; has(&entries, first, &Entry::Empty));
+    assert!(rt; has(&entries, second, &value));
     let copy = entries.copy(alloc)?;
-    assert!(rt; has(&copy, &first, &Entry::Empty));
-    assert!(rt; has(&copy, &second, &value));
+    *entries.entry_mut(second)? = Entry::Undefined;
+    assert!(rt; has(&entries, first, &Entry::Empty));
+    assert!(rt; has(&entries, second, &Entry::Undefined));
+    assert!(rt; has(&copy, first, &Entry::Empty));
+    assert!(rt; has(&copy, second, &value));
     entries.reset();
-    assert!(rt; has(&entries, &first, &Entry::Undefined));
-    assert!(rt; has(&copy, &second, &value));
+    assert!(rt; has(&entries, first, &Entry::Undefined));
+    assert!(rt; has(&copy, second, &value));
     Ok(())
 }
 
 #[test]
 fn entries_in_a_map(rt: HostRuntime) -> Result<(), AllocError> {
     let alloc = rt.alloc();
-    walk(&rt, alloc, MapEntries::new(alloc))
+    let first = key(alloc, 1, "A")?;
+    let second = key(alloc, 2, "B")?;
+    walk(&rt, alloc, MapEntries::new(alloc), &first, &second)
 }
 
 #[test]

@@ -1,6 +1,6 @@
 -- Deltas and tails are read, and nothing else is.
 use Rattle.std.proofs.Common.{◌≡◌, ℕ, ◌≤◌, Bool, true, false, List, [], ◌++◌, length, Result, Ok, Err, refl, sym, subst, arith, append-nil}
-use Rattle.std.specs.Prelude.{ℤ, ◌+ℤ◌, Option, Some, None, IsTrue, nat_le, nat_lt, if◌then◌else◌}
+use Rattle.std.specs.Prelude.{ℤ, ◌+ℤ◌, Option, Some, None, nat_le, nat_lt, if◌then◌else◌}
 use Rattle.std.proofs.lemmas.Bool.Decides.{nat_tests}
 use Rattle.fast_wire.specs.Integer.{IsSigned}
 use Rattle.fast_wire.specs.Reader.{IsReader, Both}
@@ -12,7 +12,6 @@ use Rattle.fast_wire.proofs.FormReaders.{signed_forms}
 use Rattle.fast_template.specs.Scalar.{in_range, exponent_in_range}
 use Rattle.fast_template.specs.declared.kind.Kind.{Kind}
 use Rattle.fast_template.specs.declared.kind.Kind.TheVariants as kind
-use Rattle.fast_template.specs.declared.kind.Operator.TheVariants as operator
 use Rattle.fast_template.specs.declared.resolved.FieldPart.{FieldPart}
 use Rattle.fast_template.specs.declared.scalar.Scalar.{Scalar}
 use Rattle.fast_dictionary.specs.declared.entry.Entry.{Entry}
@@ -21,7 +20,7 @@ use Rattle.fast_field.specs.declared.fault.FieldFault.TheVariants as fault
 use Rattle.fast_field.specs.Values.{integer_of, exponent_of, mantissa_of, units_of}
 use Rattle.fast_field.specs.Bases.{delta_base, tail_base}
 use Rattle.fast_field.specs.Spelled.{SpellsInteger, SpellsPart, SpellsUnits}
-use Rattle.fast_field.specs.Deltas.{Cut, uncut, at_end, side_of, removed_of, put_together, ended_by, SpellsDelta, SpellsDeltas, SpellsCut, SpellsTail, IsOfFewUnits, DeltaValue, DeltaForm, TailForm}
+use Rattle.fast_field.specs.Deltas.{Cut, uncut, at_end, side_of, removed_of, put_together, ended_by, SpellsDelta, SpellsDeltas, SpellsCut, IsOfFewUnits, DeltaValue, DeltaForm, TailForm}
 use Rattle.fast_field.specs.FieldReading.{in_field, check, as_value, unless_null, integer_at, part_at, units_at, integer_value, decimal_value, unit_value, limited_value, integer_sum, integer_delta_at, mantissa_delta_behind, decimal_delta_at, new_part_behind, unit_delta_at, delta_at, ended_value, tail_at}
 use Rattle.fast_field.proofs.FieldLaws.{reader_in_field, reader_check, reader_null, reader_value, NullOr, IsMade, whole}
 use Rattle.fast_field.proofs.SpelledForms.{integer_forms, part_forms, units_forms, integer_value_ok, integer_value_is, unit_value_ok, unit_value_is, decimal_value_ok, decimal_value_is, made_forms}

@@ -1,7 +1,7 @@
 -- The forms of each operator are read, and nothing else is.
-use Rattle.std.proofs.Common.{◌≡◌, ℕ, Bool, true, false, List, [], ◌++◌, Result, Ok, refl, sym, ap, subst, ◌∙◌}
+use Rattle.std.proofs.Common.{◌≡◌, ℕ, Bool, true, false, List, [], ◌++◌, Result, Ok, Err, refl, sym, ap, subst}
 use Rattle.std.specs.Prelude.{Option, Some, None, IsSome}
-use Rattle.fast_wire.specs.Reader.{IsReader}
+use Rattle.fast_wire.specs.Reader.{IsBytes, IsReader}
 use Rattle.fast_wire.specs.Reading.{◌>>=◌}
 use Rattle.fast_wire.proofs.Readers.{ok_is, reader_of, reader_as, reader_checked, one_form, no_form}
 use Rattle.fast_template.specs.Resolved.{operator_needs_bit}
@@ -19,7 +19,8 @@ use Rattle.fast_field.specs.declared.fault.FieldFault.TheVariants as fault
 use Rattle.fast_field.specs.Bases.{predicted}
 use Rattle.fast_field.specs.Spelled.{Spelled}
 use Rattle.fast_field.specs.Deltas.{Cut, uncut}
-use Rattle.fast_field.specs.Fields.{FormOf, Form, IsWithin, within_part, InitialOrAbsent, IsBitOf, HasDefault}
+use Rattle.fast_field.specs.Parts.{IsBitOf, HasDefault}
+use Rattle.fast_field.specs.Fields.{FormOf, Form, IsWithin, within_part, InitialOrAbsent}
 use Rattle.fast_field.specs.FieldReading.{whole_at, predicted_at, row_at, part_checked, field_at, IsFieldFault}
 use Rattle.fast_field.proofs.SpelledForms.{spelled_forms, if_ok, if_holds}
 use Rattle.fast_field.proofs.BaseForms.{deltas, tails}
@@ -126,3 +127,14 @@ one_field_form i e bit h d b c rest others v w = one_form fault.NeedMore (field_
 pub fault_is_no_form : (i : FieldPart) (e : Entry) (bit : Bool) → IsBitOf i bit → HasDefault i
     → (bytes b rest : List ℕ) (v : Option Scalar) (f : FieldFault) → IsFieldFault i e bit bytes f → bytes ≡ b ++ rest → Form i e bit b v → ⊥
 fault_is_no_form i e bit h d bytes b rest v f = no_form fault.NeedMore (field_at i e bit) (Form i e bit) (field_forms i e bit h d) bytes b rest v f
+
+ok_or_fault : {A : Type 0} (r : Result A FieldFault) → ((x : A) → r ≡ Ok x → ⊥) → (f : FieldFault) × (r ≡ Err f)
+ok_or_fault (Ok x) none = absurd (none x refl)
+ok_or_fault (Err f) none = (f, refl)
+
+-- a list that no form begins has a fault
+pub no_form_is_fault : (i : FieldPart) (e : Entry) (bit : Bool) → IsBitOf i bit → HasDefault i
+    → (bytes : List ℕ) → IsBytes bytes → ((b rest : List ℕ) (v : Option Scalar) → bytes ≡ b ++ rest → Form i e bit b v → ⊥) → (f : FieldFault) × IsFieldFault i e bit bytes f
+no_form_is_fault i e bit h d bytes fits none =
+    ok_or_fault (field_at i e bit bytes)
+    (λ x read. let t = (field_forms i e bit h d).found bytes x.0 x.1 fits read in none t.front x.1 x.0 t.parts t.form)

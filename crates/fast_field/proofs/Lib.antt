@@ -2,8 +2,12 @@ pub mod WorkedFields
 pub mod WorkedRows
 pub mod TypeRows
 pub mod LimitRows
+pub mod LongRows
+pub mod NoMemory
+pub mod PartsOfSets
 pub mod BestForms
 pub mod WorkedBest
+pub mod NotBest
 pub mod FieldLaws
 pub mod SpelledForms
 pub mod BaseForms

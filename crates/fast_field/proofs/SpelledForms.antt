@@ -1,5 +1,5 @@
 -- What stands whole is read, and nothing else is.
-use Rattle.std.proofs.Common.{◌≡◌, ℕ, Bool, true, false, List, [], ◌++◌, Result, Ok, Err, refl, sym, ap, subst, ◌∙◌, append-nil}
+use Rattle.std.proofs.Common.{◌≡◌, ℕ, Bool, true, false, List, [], ◌++◌, Result, Ok, Err, refl, sym, subst, append-nil}
 use Rattle.std.specs.Prelude.{ℤ, pos, negsuc, Option, Some, None, IsTrue, if◌then◌else◌}
 use Rattle.std.specs.Str.{is_utf8}
 use Rattle.std.proofs.lemmas.Str.{IsUtf8-from_is_utf8, is_utf8-from_IsUtf8}
@@ -21,12 +21,12 @@ use Rattle.fast_template.specs.declared.kind.Presence.{Presence}
 use Rattle.fast_template.specs.declared.kind.Presence.TheVariants.{Mandatory, Optional}
 use Rattle.fast_template.specs.declared.kind.Part.{Part}
 use Rattle.fast_template.specs.declared.scalar.Scalar.{Scalar}
-use Rattle.fast_template.specs.declared.scalar.Scalar.TheVariants.{Decimal, Unicode}
+use Rattle.fast_template.specs.declared.scalar.Scalar.TheVariants.{Decimal}
 use Rattle.fast_template.specs.Scalar.{in_range, exponent_in_range, of_integer}
 use Rattle.fast_field.specs.declared.fault.FieldFault.{FieldFault}
 use Rattle.fast_field.specs.declared.fault.FieldFault.TheVariants as fault
 use Rattle.fast_field.specs.Values.{is_unsigned, of_units}
-use Rattle.fast_field.specs.Spelled.{SpellsInteger, SpellsPart, SpellsUnits, SpellsNumber, SpellsString, SpellsPair, SpellsDecimal, IsOfUnits, SpelledNumber, SpelledString, SpelledDecimal, Spelled}
+use Rattle.fast_field.specs.Spelled.{SpellsInteger, SpellsPart, SpellsUnits, IsOfUnits, SpelledNumber, SpelledString, SpelledDecimal, Spelled}
 use Rattle.fast_field.specs.FieldReading.{in_field, signless, integer_at, part_at, units_at, range_fault, integer_value, decimal_value, unit_value, as_value, unless_null, integer_spelled_at, mantissa_behind, decimal_spelled_at, units_spelled_at, spelled_at}
 use Rattle.fast_field.proofs.FieldLaws.{reader_in_field, reader_check, reader_made, reader_null, reader_value, Made, NullOr, IsMade, whole}
 

@@ -1,13 +1,12 @@
 -- The forms of one field, by operator and bit. Where a field has no bit, the bit is true.
 -- FAST 1.1, Field Operators. The limits are this project's own.
-use Rattle.std.specs.Prelude.{◌≡◌, ℕ, pos, Bool, true, false, int_le, List, [], Option, Some, None, Ok, IsTrue, IsSome}
-use Rattle.fast_template.specs.Resolved.{part_needs_bit}
+use Rattle.std.specs.Prelude.{◌≡◌, ℕ, pos, Bool, true, false, int_le, List, [], Option, Some, None, Ok, IsTrue}
 use Rattle.fast_template.specs.Scalar.{exponent_in_range}
 use Rattle.fast_template.specs.declared.kind.Operator.{Operator}
 use Rattle.fast_template.specs.declared.kind.Operator.TheVariants as operator
 use Rattle.fast_template.specs.declared.kind.Part.{Part}
 use Rattle.fast_template.specs.declared.kind.Part.TheVariants as part
-use Rattle.fast_template.specs.declared.kind.Presence.TheVariants.{Mandatory, Optional}
+use Rattle.fast_template.specs.declared.kind.Presence.TheVariants.{Optional}
 use Rattle.fast_template.specs.declared.resolved.FieldPart.{FieldPart}
 use Rattle.fast_template.specs.declared.scalar.Scalar.{Scalar}
 use Rattle.fast_dictionary.specs.declared.entry.Entry.{Entry}
@@ -54,13 +53,3 @@ pub record FormBy (i : FieldPart) (e : Entry) (bit : Bool) (cut : Cut) (b : List
 -- under this bit the bytes are a form of the value
 abbrev pub Form : FieldPart → Entry → Bool → List ℕ → Option Scalar → Type 0
 Form i e bit b v = (cut : Cut) × FormBy i e bit cut b v
-
--- ---- What the laws of forms ask for
-
--- a bit that a field can have: without one it is true
-abbrev pub IsBitOf : FieldPart → Bool → Type 0
-IsBitOf i bit = part_needs_bit i ≡ false → bit ≡ true
-
--- a mandatory default has an initial value
-abbrev pub HasDefault : FieldPart → Type 0
-HasDefault i = i.operator ≡ operator.Default → i.presence ≡ Mandatory → IsSome i.initial

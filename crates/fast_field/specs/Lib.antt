@@ -1,4 +1,5 @@
 pub mod Values
+pub mod Parts
 pub mod Bases
 pub mod Spelled
 pub mod Deltas

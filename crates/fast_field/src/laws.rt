@@ -1,11 +1,14 @@
 //! Laws of the forms of fields, each the contract of a function that does nothing.
 
 ghost use Rattle.std.specs.Prelude.{◌≡◌, ℕ, ◌++◌, Bool, List, Option};
-ghost use Rattle.fast_wire.specs.Reader.{IsReader};
+ghost use Rattle.std.specs.List.{AllByRecursion};
+ghost use Rattle.fast_wire.specs.Reader.{IsBytes, IsReader};
+ghost use Rattle.fast_template.specs.TemplateSets.{IsSound, TemplateList, templates_in};
 ghost use Rattle.fast_template.specs.declared.resolved.FieldPart.{FieldPart};
 ghost use Rattle.fast_template.specs.declared.scalar.Scalar.{Scalar};
 ghost use Rattle.fast_dictionary.specs.declared.entry.Entry.{Entry};
-ghost use Rattle.fast_field.specs.Fields.{Form, HasDefault, IsBitOf};
+ghost use Rattle.fast_field.specs.Parts.{EachPartIn, HasDefault, IsBitOf, IsFieldPart};
+ghost use Rattle.fast_field.specs.Fields.{Form};
 ghost use Rattle.fast_field.specs.FieldReading.{field_at, IsFieldFault};
 
 use crate::fault::FieldFault;
@@ -25,4 +28,22 @@ pub fn one_form_begins_a_list()
 pub fn no_form_begins_at_a_fault()
     ensures { (i : FieldPart) (e : Entry) (bit : Bool) → IsBitOf i bit → HasDefault i
         → (bytes b rest : List ℕ) (v : Option Scalar) (f : FieldFault) → IsFieldFault i e bit bytes f → bytes ≡ b ++ rest → Form i e bit b v → ⊥ }
+{}
+
+/// Where no form begins a list of bytes, the field has a first fault.
+pub fn a_fault_where_no_form_begins()
+    ensures { (i : FieldPart) (e : Entry) (bit : Bool) → IsBitOf i bit → HasDefault i
+        → (bytes : List ℕ) → IsBytes bytes → ((b rest : List ℕ) (v : Option Scalar) → bytes ≡ b ++ rest → Form i e bit b v → ⊥)
+        → (f : FieldFault) × IsFieldFault i e bit bytes f }
+{}
+
+/// Want of memory is no fault of the bytes.
+pub fn no_fault_is_want_of_memory()
+    ensures { (i : FieldPart) (e : Entry) (bit : Bool) (bytes : List ℕ) → IsFieldFault i e bit bytes FieldFault.Memory → ⊥ }
+{}
+
+/// Each part of a sound set of templates is a field part; so a mandatory default has an initial value.
+pub fn parts_of_sets_are_field_parts()
+    ensures parts { (set : TemplateList) → IsSound set → AllByRecursion (λ t. EachPartIn IsFieldPart t.members) (templates_in set) }
+    ensures defaults { (i : FieldPart) → IsFieldPart i → HasDefault i }
 {}

@@ -53,34 +53,34 @@ then_second Equal p e = e
 then_second Greater p e = absurd (subst (λ r. T (is_eq r)) (sym e) tt)
 
 -- the part and the dictionary that have these numbers
-abbrev part_of : ℕ → Part
-part_of zero = Whole
-part_of (suc zero) = Exponent
-part_of (suc (suc zero)) = Mantissa
-part_of (suc (suc (suc n))) = Length
+abbrev part_numbered : ℕ → Part
+part_numbered zero = Whole
+part_numbered (suc zero) = Exponent
+part_numbered (suc (suc zero)) = Mantissa
+part_numbered (suc (suc (suc n))) = Length
 
-part_of-part_number : (p : Part) → part_of (part_number p) ≡ p
-part_of-part_number Whole = refl
-part_of-part_number Exponent = refl
-part_of-part_number Mantissa = refl
-part_of-part_number Length = refl
+part_numbered-part_number : (p : Part) → part_numbered (part_number p) ≡ p
+part_numbered-part_number Whole = refl
+part_numbered-part_number Exponent = refl
+part_numbered-part_number Mantissa = refl
+part_numbered-part_number Length = refl
 
 abbrev first_number : List ℕ → ℕ
 first_number [] = 0
 first_number (n ∷ ns) = n
 
-abbrev scope_of : List ℕ → Scope
-scope_of [] = Global
-scope_of (zero ∷ ns) = Global
-scope_of (suc zero ∷ ns) = Template (first_number ns)
-scope_of (suc (suc zero) ∷ ns) = Typed ns
-scope_of (suc (suc (suc n)) ∷ ns) = User ns
+abbrev scope_numbered : List ℕ → Scope
+scope_numbered [] = Global
+scope_numbered (zero ∷ ns) = Global
+scope_numbered (suc zero ∷ ns) = Template (first_number ns)
+scope_numbered (suc (suc zero) ∷ ns) = Typed ns
+scope_numbered (suc (suc (suc n)) ∷ ns) = User ns
 
-scope_of-scope_numbers : (s : Scope) → scope_of (scope_numbers s) ≡ s
-scope_of-scope_numbers Global = refl
-scope_of-scope_numbers (Template place) = refl
-scope_of-scope_numbers (Typed name) = refl
-scope_of-scope_numbers (User name) = refl
+scope_numbered-scope_numbers : (s : Scope) → scope_numbered (scope_numbers s) ≡ s
+scope_numbered-scope_numbers Global = refl
+scope_numbered-scope_numbers (Template place) = refl
+scope_numbered-scope_numbers (Typed name) = refl
+scope_numbered-scope_numbers (User name) = refl
 
 -- Only equal keys tie.
 pub key_cmp-exact : IsAntisymmetric key_cmp
@@ -88,9 +88,9 @@ key_cmp-exact a b e =
     let behind_slot : ordering_then (slice_cmp nat_cmp (scope_numbers a.scope) (scope_numbers b.scope)) (ordering_then (slice_cmp nat_cmp a.name b.name) (nat_cmp (part_number a.part) (part_number b.part))) ≡ Equal = then_second (nat_cmp a.slot b.slot) _ e in
     let behind_scope : ordering_then (slice_cmp nat_cmp a.name b.name) (nat_cmp (part_number a.part) (part_number b.part)) ≡ Equal = then_second (slice_cmp nat_cmp (scope_numbers a.scope) (scope_numbers b.scope)) _ behind_slot in
     let slots : a.slot ≡ b.slot = nat_cmp-IsAntisymmetric a.slot b.slot (then_first _ _ e) in
-    let scopes : a.scope ≡ b.scope = sym (scope_of-scope_numbers a.scope) ∙ ap scope_of (slice_cmp-IsAntisymmetric nat_cmp-IsAntisymmetric _ _ (then_first _ _ behind_slot)) ∙ scope_of-scope_numbers b.scope in
+    let scopes : a.scope ≡ b.scope = sym (scope_numbered-scope_numbers a.scope) ∙ ap scope_numbered (slice_cmp-IsAntisymmetric nat_cmp-IsAntisymmetric _ _ (then_first _ _ behind_slot)) ∙ scope_numbered-scope_numbers b.scope in
     let names : a.name ≡ b.name = slice_cmp-IsAntisymmetric nat_cmp-IsAntisymmetric a.name b.name (then_first _ _ behind_scope) in
-    let parts : a.part ≡ b.part = sym (part_of-part_number a.part) ∙ ap part_of (nat_cmp-IsAntisymmetric _ _ (then_second (slice_cmp nat_cmp a.name b.name) _ behind_scope)) ∙ part_of-part_number b.part in
+    let parts : a.part ≡ b.part = sym (part_numbered-part_number a.part) ∙ ap part_numbered (nat_cmp-IsAntisymmetric _ _ (then_second (slice_cmp nat_cmp a.name b.name) _ behind_scope)) ∙ part_numbered-part_number b.part in
     λ i. record { slot = slots i; scope = scopes i; name = names i; part = parts i }
 
 -- ---- what `cmp` of two scopes and of two parts answers

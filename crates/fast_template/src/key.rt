@@ -161,6 +161,21 @@ impl Key {
     }
 }
 
+impl Key {
+    ghost use Rattle.std.specs.Ordering.{ordering_then};
+    ghost use Rattle.fast_template.specs.Key.{part_number, scope_numbers};
+
+    // How two keys of one slot compare: by scope, then name and part.
+    fn cmp_behind_slot(&self, other: &Key) -> Ordering
+        ensures { result ≡ ordering_then (slice_cmp nat_cmp (scope_numbers self.now.scope) (scope_numbers other.now.scope)) (ordering_then (slice_cmp nat_cmp self.now.name other.now.name) (nat_cmp (part_number self.now.part) (part_number other.now.part))) }
+    {
+        self.scope
+            .cmp(&other.scope)
+            .then(self.name.cmp(&other.name))
+            .then(self.part.cmp(&other.part))
+    }
+}
+
 impl PartialOrd for Key {
     ghost use Rattle.std.specs.Prelude.{Some, refl};
     ghost use Rattle.std.specs.Cmp.{partial_order_from_agreeing_total};
@@ -188,10 +203,9 @@ impl Ord for Key {
     ghost matches_eq = { key_eq_ties };
 
     fn cmp(&self, other: &Key) -> Ordering {
-        self.slot
-            .cmp(&other.slot)
-            .then(self.scope.cmp(&other.scope))
-            .then(self.name.cmp(&other.name))
-            .then(self.part.cmp(&other.part))
+        match self.slot.cmp(&other.slot) {
+            Ordering::Equal => self.cmp_behind_slot(other),
+            order => order,
+        }
     }
 }

@@ -14,6 +14,7 @@ mod scalar;
 mod set;
 #[cfg(test)]
 mod tests;
+mod unicode_text;
 mod written;
 
 pub use bits::{has_map, needs_bit, part_needs_bit};
@@ -21,6 +22,7 @@ pub use fault::{LoadCause, LoadFault};
 pub use key::{Key, Name, Scope};
 pub use kind::{Kind, Operator, Part, Presence};
 pub use resolved::{FieldPart, Flat, FlatTemplate};
-pub use scalar::{ByteString, Scalar, UnicodeText};
+pub use scalar::{ByteString, Scalar};
 pub use set::TemplateSet;
+pub use unicode_text::UnicodeText;
 pub use written::{Instruction, Operation, Template};

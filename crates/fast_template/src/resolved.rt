@@ -15,8 +15,8 @@ pub struct FieldPart {
     /// Of a mantissa `Mandatory`.
     pub presence: Presence,
     pub operator: Operator,
-    pub initial: Option<Scalar>,
     pub key: Key,
+    pub initial: Option<Scalar>,
 }
 
 /// An instruction of a resolved template.

@@ -1,9 +1,10 @@
 //! Values of fields.
 
-ghost use Rattle.std.specs.Prelude.{◌≡◌, IfOk, nat_eq, string_bytes};
+ghost use Rattle.std.specs.Prelude.{◌≡◌, IfOk, nat_eq};
 ghost use Rattle.std.specs.Cmp.{partial_equiv_from_equiv};
 ghost use Rattle.std.specs.Cmp.Lexicographic.{nat_list_eq_equiv, pointwise};
 
+use crate::unicode_text::UnicodeText;
 use std::alloc::{AllocError, Global};
 use std::marker::Model;
 
@@ -68,70 +69,6 @@ impl PartialEq for ByteString {
 }
 
 impl Eq for ByteString {
-    ghost laws = { nat_list_eq_equiv };
-}
-
-/// A text in UTF-8. A contract sees its bytes.
-#[derive(Debug, Drop)]
-pub struct UnicodeText {
-    text: String,
-}
-
-impl Model for UnicodeText {
-    ghost use Rattle.std.specs.Prelude.{List, ℕ, string_bytes};
-
-    ghost Value = { List ℕ };
-
-    ghost view = { λ s. string_bytes s.text };
-}
-
-impl UnicodeText {
-    /// The text of a string. Takes no memory.
-    pub fn from_string(text: String) -> UnicodeText
-        ensures { result ≡ string_bytes text }
-    {
-        Self { text }
-    }
-
-    /// The string of this text. Takes no memory.
-    pub fn into_string(self) -> String
-        ensures { string_bytes result ≡ self }
-    {
-        let UnicodeText { text } = self;
-        text
-    }
-
-    /// The text.
-    pub fn as_str(&self) -> &str
-        ensures { result.now ≡ self.now }
-    {
-        self.text.as_str()
-    }
-
-    /// The same text once more.
-    ///
-    /// # Errors
-    ///
-    /// Where memory is refused.
-    pub fn copy(&self, alloc: Global) -> Result<UnicodeText, AllocError>
-        ensures { IfOk result (λ other. other ≡ self.now) }
-    {
-        let text = String::from_str(alloc, self.as_str())?;
-        Ok(UnicodeText { text })
-    }
-}
-
-impl PartialEq for UnicodeText {
-    ghost eq = { pointwise nat_eq };
-
-    ghost laws = { partial_equiv_from_equiv nat_list_eq_equiv };
-
-    fn eq(&self, other: &UnicodeText) -> bool {
-        self.as_str() == other.as_str()
-    }
-}
-
-impl Eq for UnicodeText {
     ghost laws = { nat_list_eq_equiv };
 }
 

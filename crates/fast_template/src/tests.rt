@@ -2,7 +2,8 @@ use crate::bits::{has_map, needs_bit, part_needs_bit};
 use crate::key::{Key, Name, Scope};
 use crate::kind::{Kind, Operator, Part, Presence};
 use crate::resolved::{FieldPart, Flat};
-use crate::scalar::{ByteString, Scalar, UnicodeText};
+use crate::scalar::{ByteString, Scalar};
+use crate::unicode_text::UnicodeText;
 use std::alloc::{AllocError, Global};
 
 fn name(alloc: Global, text: &str) -> Result<Name, AllocError> {
@@ -63,6 +64,19 @@ fn copies_are_equal(rt: HostRuntime) -> Result<(), AllocError> {
     };
     let copy = length_key.copy(alloc)?;
     assert_eq!(rt; copy, length_key);
+    Ok(())
+}
+
+#[test]
+fn a_text_is_filled_again(rt: HostRuntime) -> Result<(), AllocError> {
+    let alloc = rt.alloc();
+    let text = UnicodeText::from_string(String::from_str(alloc, "é")?);
+    assert_eq!(rt; text.as_bytes(), [0xC3, 0xA9]);
+    assert_eq!(rt; text.as_str(), "é");
+    let mut bytes = text.into_bytes();
+    bytes.clear();
+    let text = UnicodeText::from_utf8(bytes);
+    assert_eq!(rt; text.into_string().as_str(), "");
     Ok(())
 }
 

@@ -1,9 +1,9 @@
 -- A reader of one entity has one answer.
-use Rattle.std.proofs.Common.{◌≡◌, ℕ, ℤ, ◌+◌, ◌-◌, ◌≤◌, List, ◌++◌, length, take, drop, slice_range, Result, Ok, Err, refl, sym, ap, ◌∙◌, subst, arith, length-take, length-drop, take-append-drop, drop-drop}
+use Rattle.std.proofs.Common.{◌≡◌, ℕ, ℤ, ◌+◌, ◌-◌, ◌≤◌, List, ◌++◌, length, take, drop, slice_range, Result, Ok, Err, sym, ap, ◌∙◌, subst, arith, length-take, length-drop, take-append-drop, drop-drop, inl, inr}
 use Rattle.std.proofs.lemmas.List.{take-take}
 use Rattle.std.specs.Prelude.{MatchResult, IfOk}
 use Rattle.fast_wire.specs.Entity.{IsEntity}
-use Rattle.fast_wire.specs.Reading.{EntityFault, Fails, Gives, Reads}
+use Rattle.fast_wire.specs.Reading.{EntityFault, Fails, Gives, OrMemory, Reads}
 use Rattle.fast_wire.specs.Reader.{IsReader}
 use Rattle.fast_wire.specs.declared.fault.WireFault.{WireFault}
 use Rattle.fast_wire.specs.declared.fault.WireFault.TheVariants as fault
@@ -75,16 +75,13 @@ module _ {V : Type 0} (read : List ℕ → Result (V × List ℕ) WireFault) (Fo
       (ap (λ p. p.0) both, omega (arith, length-drop n bytes, length-drop next bytes))
 
   -- and one that failed ran out of memory
-  pub only_memory : (e : WireFault) → Fails e (read (drop at bytes)) → (next : ℕ) (value : V) → Reads Form bytes at (value, next) → e ≡ fault.Memory
-  only_memory fault.Memory f next value h = refl
-  only_memory fault.NeedMore f next value h = let s = spelled_here next value h in absurd cc
-  only_memory fault.TooLong f next value h = let s = spelled_here next value h in absurd cc
-  only_memory fault.Range f next value h = let s = spelled_here next value h in absurd cc
-  only_memory fault.NotUtf8 f next value h = let s = spelled_here next value h in absurd cc
+  pub only_memory : (e : WireFault) → Fails OrMemory e (read (drop at bytes)) → (next : ℕ) (value : V) → Reads Form bytes at (value, next) → e ≡ fault.Memory
+  only_memory e (inl f) next value h = let s = spelled_here next value h in absurd cc
+  only_memory e (inr f) next value h = f.0
 
 -- the same of a call that answered either
 pub only_given : {X V : Type 0} (read : List ℕ → Result (V × List ℕ) WireFault) (Form : List ℕ → V → Type 0) (is : IsReader fault.NeedMore read Form) (bytes : List ℕ) (at : ℕ) (view : X → V) (r : Result (X × ℕ) WireFault)
-    → IfOk r (λ x. x.1 ≤ length bytes) → Gives (λ x. (view x.0, drop x.1 bytes)) r (read (drop at bytes))
+    → IfOk r (λ x. x.1 ≤ length bytes) → Gives OrMemory (λ x. (view x.0, drop x.1 bytes)) r (read (drop at bytes))
     → (next : ℕ) (value : V) → Reads Form bytes at (value, next) → MatchResult r (λ x. (view x.0 ≡ value) × (x.1 ≡ next)) (λ e. e ≡ fault.Memory)
 only_given read Form is bytes at view (Ok x) place gives = only_found read Form is bytes at (view x.0) x.1 place gives
 only_given read Form is bytes at view (Err e) place gives = only_memory read Form is bytes at e gives

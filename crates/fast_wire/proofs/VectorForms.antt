@@ -1,14 +1,14 @@
 -- Byte vectors: how they are read, and the shortest forms.
 use Rattle.std.proofs.Common.{◌≡◌, ℕ, zero, suc, ◌+◌, ◌-◌, ◌<◌, ◌≤◌, true, false, List, [], ◌∷◌, ◌++◌, length, take, drop, slice_range, Result, Ok, Err, Vec, Global, refl, sym, ap, subst, ◌∙◌, arith, inl, inr, ◌⊎◌, take-append-drop, length-append, length-take, length-drop, append-nil, drop-drop, take-add}
-use Rattle.std.specs.Prelude.{nat_lt, IfOk, IfErr, MatchResult}
+use Rattle.std.specs.Prelude.{nat_lt, IsOk, IfOk, IfErr, MatchResult}
 use Rattle.std.proofs.lemmas.Bool.{cases_lt}
 use Rattle.std.proofs.lemmas.Bool.Decides.{nat_tests}
 use Rattle.std.proofs.lemmas.List.{take_at, drop_at}
 use Rattle.fast_wire.specs.Integer.{IsUnsigned}
 use Rattle.fast_wire.specs.Nullable.{IsUnsignedNullable}
-use Rattle.fast_wire.specs.Vector.{IsCounted, IsVector, IsVectorNullable}
+use Rattle.fast_wire.specs.Vector.{IsCounted, IsLengthNullable, IsVector, IsVectorNullable}
 use Rattle.fast_wire.specs.Reader.{IsBytes, Takes, IsReader, Both}
-use Rattle.fast_wire.specs.Reading.{Reads, LengthFault, VectorFault, bytes_at, behind_length, unsigned_at, unsigned_nullable_at, vector_at, vector_nullable_at}
+use Rattle.fast_wire.specs.Reading.{Reads, RefusedAt, LengthFault, VectorFault, bytes_at, behind_length, unsigned_at, unsigned_nullable_at, vector_at, vector_nullable_at}
 use Rattle.fast_wire.specs.Spellings.{IsLeastSize, entity_of}
 use Rattle.fast_wire.specs.Writing.{IsShortest, AppendsShortest}
 use Rattle.fast_wire.specs.declared.fault.WireFault.{WireFault}
@@ -37,6 +37,10 @@ unfolding bytes_at
 bytes_ok n bytes few h =
     let t : nat_lt 65535 n ≡ false = grind (arith, nat_tests) in
     let u : nat_lt (length bytes) n ≡ false = grind (arith, nat_tests) in rw (t, u) refl
+
+-- so a call that was refused their copy
+pub bytes_there : (n start : ℕ) (bytes : List ℕ) → start + n ≤ length bytes → n ≤ 65535 → IsOk (bytes_at n (drop start bytes))
+bytes_there n start bytes within few = rw (bytes_ok n (drop start bytes) few (omega (arith, length-drop start bytes))) refl
 
 bytes_drop : (n : ℕ) (bytes : List ℕ) → IsBytes bytes → IsBytes (drop n bytes)
 bytes_drop zero bytes h = h
@@ -205,15 +209,27 @@ pub found_within : (bytes : List ℕ) (start count : ℕ) (r : Result (Vec ℕ G
 found_within bytes start count (Ok x) ok = ok.1
 found_within bytes start count (Err e) ok = ok
 
+-- memory was refused for bytes that are there
+pub refused_here : (IsLength : List ℕ → ℕ → Type 0) (bytes : List ℕ) (at start count : ℕ) (e : WireFault) → Reads IsLength bytes at (count, start) → e ≡ fault.Memory → count ≤ 65535 → start + count ≤ length bytes
+    → RefusedAt (IsCounted IsLength) bytes at e
+refused_here IsLength bytes at start count e h m few within =
+    (m, start + count, slice_range bytes start (start + count), counted_here IsLength bytes at start count (start + count) (slice_range bytes start (start + count)) h refl within few refl)
+
 -- a length was read, and then so many bytes or a fault
 pub vector_answer : (bytes : List ℕ) (at start count : ℕ) (r : Result (Vec ℕ Global × ℕ) WireFault) → Reads IsUnsigned bytes at (count, start)
-    → IfOk r (IsFound bytes start count) → IfErr r (λ e. (e ≡ fault.Memory) ⊎ LengthFault count (length bytes - start) e)
-    → MatchResult r (λ x. Reads IsVector bytes at (x.0.items, x.1)) (λ e. (e ≡ fault.Memory) ⊎ VectorFault IsUnsigned bytes at e)
+    → IfOk r (IsFound bytes start count) → IfErr r (λ e. ((e ≡ fault.Memory) × (count ≤ 65535) × (start + count ≤ length bytes)) ⊎ LengthFault count (length bytes - start) e)
+    → MatchResult r (λ x. Reads IsVector bytes at (x.0.items, x.1)) (λ e. RefusedAt IsVector bytes at e ⊎ VectorFault IsUnsigned bytes at e)
 vector_answer bytes at start count (Ok x) h ok err = counted_here IsUnsigned bytes at start count x.1 x.0.items h ok.0 ok.1 ok.2 ok.3
 vector_answer bytes at start count (Err e) h ok err = elim err [
-  | inl m ↦ inl m
+  | inl m ↦ inl (refused_here IsUnsigned bytes at start count e h m.0 m.1 m.2)
   | inr f ↦ inr (inr (start, count, h, f))
 ]
+
+pub vector_nullable_err : (bytes : List ℕ) (at start count : ℕ) (e : WireFault) → Reads IsLengthNullable bytes at (count, start)
+    → ((e ≡ fault.Memory) × (count ≤ 65535) × (start + count ≤ length bytes)) ⊎ LengthFault count (length bytes - start) e
+    → RefusedAt IsVectorNullable bytes at e ⊎ VectorFault IsLengthNullable bytes at e
+vector_nullable_err bytes at start count e h (inl m) = let r = refused_here IsLengthNullable bytes at start count e h m.0 m.1 m.2 in inl (r.0, r.1, Value r.2, r.3)
+vector_nullable_err bytes at start count e h (inr f) = inr (inr (start, count, h, f))
 
 -- the bytes of a vector that was appended
 pub vector_appends : (old new s : List ℕ) → length s ≤ 65535 → (size : ℕ) × IsLeastSize (length s) size × (new ≡ old ++ (entity_of size (length s) ++ s)) → AppendsShortest IsVector old new s

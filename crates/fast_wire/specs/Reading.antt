@@ -1,5 +1,5 @@
 -- Reading forms from the front of a list: the value and the bytes after it, or the first fault.
-use Rattle.std.specs.Prelude.{◌≡◌, ℕ, zero, suc, ◌+◌, ◌-◌, ◌<◌, ◌≤◌, ◌⊎◌, ℤ, Bool, nat_le, nat_lt, if◌then◌else◌, List, [], ◌∷◌, length, take, drop, slice_range, Result, Ok, Err}
+use Rattle.std.specs.Prelude.{◌≡◌, ℕ, zero, suc, ◌+◌, ◌-◌, ◌<◌, ◌≤◌, ◌⊎◌, ℤ, Bool, nat_le, nat_lt, if◌then◌else◌, List, [], ◌∷◌, length, take, drop, slice_range, Result, Ok, Err, IsOk}
 use Rattle.fast_wire.specs.Entity.{HasNoStop, groups}
 use Rattle.fast_wire.specs.Integer.{unsigned_of, signed_of}
 use Rattle.fast_wire.specs.Nullable.{received_unsigned, received_signed, units}
@@ -25,6 +25,10 @@ Reads Form bytes at found = (at ≤ found.1) × (found.1 ≤ length bytes) × Fo
 abbrev pub SpellsTooMany : {V : Type 0} → (List ℕ → V → Type 0) → (V → ℕ) → List ℕ → ℕ → Type 0
 SpellsTooMany {V} Form units bytes at = (next : ℕ) × (value : V) × Reads Form bytes at (value, next) × (65535 < units value)
 
+-- memory was refused, where a form stands
+abbrev pub RefusedAt : {V : Type 0} → (List ℕ → V → Type 0) → List ℕ → ℕ → WireFault → Type 0
+RefusedAt {V} Form bytes at e = (e ≡ fault.Memory) × (next : ℕ) × (value : V) × Reads Form bytes at (value, next)
+
 -- no entity of at most 65,540 bytes ends there, or one does that spells too many characters
 abbrev pub AsciiFault : {V : Type 0} → (List ℕ → V → Type 0) → (V → ℕ) → List ℕ → ℕ → WireFault → Type 0
 AsciiFault Form units bytes at e = EntityFault 65540 bytes at e ⊎ ((e ≡ fault.TooLong) × SpellsTooMany Form units bytes at)
@@ -47,18 +51,21 @@ abbrev pub ◌>>=◌ : {A B F : Type 0} → Result A F → (A → Result B F) �
 (Ok x) >>= f = f x
 (Err e) >>= f = Err e
 
--- a call that failed did so as reading does, unless memory ran out
-abbrev pub Fails : {Y : Type 0} → WireFault → Result Y WireFault → Type 0
-Fails fault.Memory read = Unit {0}
-Fails fault.NeedMore read = read ≡ Err fault.NeedMore
-Fails fault.TooLong read = read ≡ Err fault.TooLong
-Fails fault.Range read = read ≡ Err fault.Range
-Fails fault.NotUtf8 read = read ≡ Err fault.NotUtf8
+-- why else a call may fail: for no reason; or since memory was refused, where reading gives a value
+abbrev pub NothingElse : {Y F : Type 0} → Result Y F → F → Type 0
+NothingElse read e = ⊥
 
--- what a call answered, seen by view, is what reading gives, unless memory ran out
-abbrev pub Gives : {X Y : Type 0} → (X → Y) → Result X WireFault → Result Y WireFault → Type 0
-Gives view (Ok x) read = read ≡ Ok (view x)
-Gives view (Err e) read = Fails e read
+abbrev pub OrMemory : {Y : Type 0} → Result Y WireFault → WireFault → Type 0
+OrMemory read e = (e ≡ fault.Memory) × IsOk read
+
+-- a call that failed did so as reading does, or for another reason
+abbrev pub Fails : {F Y : Type 0} → (Result Y F → F → Type 0) → F → Result Y F → Type 0
+Fails Else e read = (read ≡ Err e) ⊎ Else read e
+
+-- what a call answered, seen by view, is what reading gives, or it failed for another reason
+abbrev pub Gives : {F X Y : Type 0} → (Result Y F → F → Type 0) → (X → Y) → Result X F → Result Y F → Type 0
+Gives Else view (Ok x) read = read ≡ Ok (view x)
+Gives Else view (Err e) read = Fails Else e read
 
 -- the bytes up to the first stop bit, of which there are at most so many
 unfoldable pub entity_at : ℕ → List ℕ → Result (List ℕ × List ℕ) WireFault

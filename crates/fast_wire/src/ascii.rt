@@ -4,7 +4,7 @@ ghost use Rattle.std.specs.Prelude.{◌≡◌, ℕ, ◌+◌, ◌<◌, ◌≤◌,
 ghost use Rattle.fast_wire.specs.Entity.{IsEntity, groups};
 ghost use Rattle.fast_wire.specs.Ascii.{IsAscii, IsAsciiEntity, IsAsciiEntityNullable, IsAsciiNullable, IsAsciiText};
 ghost use Rattle.fast_wire.specs.Nullable.{IsNullOr, borrowed, items_of, units};
-ghost use Rattle.fast_wire.specs.Reading.{AsciiFault, Gives, Reads, ascii_at, ascii_nullable_at};
+ghost use Rattle.fast_wire.specs.Reading.{AsciiFault, Gives, OrMemory, Reads, RefusedAt, ascii_at, ascii_nullable_at};
 ghost use Rattle.fast_wire.specs.Sizes.{ascii_size, ascii_nullable_size};
 ghost use Rattle.fast_wire.specs.Spellings.{behind_zeros, preamble_for, string_of};
 ghost use Rattle.fast_wire.specs.Writing.{AppendsShortest, IsShortestSize};
@@ -48,7 +48,8 @@ fn zero_groups(entity: &[u8], most: usize) -> usize
 fn characters(alloc: Global, entity: &[u8], most: usize) -> Result<Vec<u8>, WireFault>
     requires { IsEntity entity.now }
     ensures ok { IfOk result (λ text. (text.items ≡ behind_zeros most (groups entity.now)) × (length text.items ≤ 65535)) }
-    ensures err { IfErr result (λ e. (e ≡ WireFault.Memory) ⊎ ((e ≡ WireFault.TooLong) × (65535 < length (behind_zeros most (groups entity.now))))) }
+    ensures err { IfErr result (λ e. let count = length (behind_zeros most (groups entity.now)) in
+        ((e ≡ WireFault.Memory) × (count ≤ 65535)) ⊎ ((e ≡ WireFault.TooLong) × (65535 < count))) }
 {
     let spelled = &entity[zero_groups(entity, most)..];
     if spelled.len() > CHARACTER_LIMIT {
@@ -73,12 +74,12 @@ pub fn read_ascii(alloc: Global, bytes: &[u8], at: usize) -> Result<(Vec<u8>, us
     ensures place { IfOk result (λ x. (at < x.1) × (x.1 ≤ length bytes.now)) }
     // what is read is spelled so, and a refusal is this one
     ensures answer { MatchResult result (λ x. Reads IsAscii bytes.now at (x.0.items, x.1))
-        (λ e. (e ≡ WireFault.Memory) ⊎ AsciiFault IsAsciiEntity length bytes.now at e) }
+        (λ e. RefusedAt IsAscii bytes.now at e ⊎ AsciiFault IsAsciiEntity length bytes.now at e) }
     // what is spelled so is read, unless memory runs out
     ensures only { (next : ℕ) (value : List ℕ) → Reads IsAscii bytes.now at (value, next)
         → MatchResult result (λ x. (x.0.items ≡ value) × (x.1 ≡ next)) (λ e. e ≡ WireFault.Memory) }
     // the same by the function that reads the front of a list, for the layers above
-    ensures gives { Gives (λ x. (x.0.items, drop x.1 bytes.now)) result (ascii_at (drop at bytes.now)) }
+    ensures gives { Gives OrMemory (λ x. (x.0.items, drop x.1 bytes.now)) result (ascii_at (drop at bytes.now)) }
 {
     let next = entity_end(bytes, at, ENTITY_LIMIT)?;
     let text = characters(alloc, &bytes[at..next], PREAMBLE)?;
@@ -95,10 +96,10 @@ pub fn read_ascii_nullable(
     requires { at ≤ length bytes.now }
     ensures place { IfOk result (λ x. (at < x.1) × (x.1 ≤ length bytes.now)) }
     ensures answer { MatchResult result (λ x. Reads IsAsciiNullable bytes.now at (items_of x.0, x.1))
-        (λ e. (e ≡ WireFault.Memory) ⊎ AsciiFault IsAsciiEntityNullable units bytes.now at e) }
+        (λ e. RefusedAt IsAsciiNullable bytes.now at e ⊎ AsciiFault IsAsciiEntityNullable units bytes.now at e) }
     ensures only { (next : ℕ) (value : Nullable (List ℕ)) → Reads IsAsciiNullable bytes.now at (value, next)
         → MatchResult result (λ x. (items_of x.0 ≡ value) × (x.1 ≡ next)) (λ e. e ≡ WireFault.Memory) }
-    ensures gives { Gives (λ x. (items_of x.0, drop x.1 bytes.now)) result (ascii_nullable_at (drop at bytes.now)) }
+    ensures gives { Gives OrMemory (λ x. (items_of x.0, drop x.1 bytes.now)) result (ascii_nullable_at (drop at bytes.now)) }
 {
     let next = entity_end(bytes, at, ENTITY_LIMIT)?;
     if bytes[at] == 0x80 {

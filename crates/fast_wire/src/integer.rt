@@ -1,7 +1,7 @@
 //! Integers: FAST 1.1, Transfer Encoding, Integer Representation.
 
 ghost use Rattle.std.specs.Prelude.{◌≡◌, ℕ, ℤ, ◌+◌, ◌-◌, ◌*◌, ◌^◌, ◌<◌, ◌≤◌, length, drop, slice_range, IfErr, IfOk, MatchResult, OnOk, OnErr, Ok, IsErrOf, ◌++◌, ◌↔◌, ◌⊎◌, vec_len, vec_capacity};
-ghost use Rattle.fast_wire.specs.Reading.{EntityFault, Gives, Reads, unsigned_at, signed_at};
+ghost use Rattle.fast_wire.specs.Reading.{EntityFault, Gives, NothingElse, Reads, unsigned_at, signed_at};
 ghost use Rattle.fast_wire.specs.Sizes.{unsigned_size, signed_size, CanBeUnsigned, CanBeSigned};
 ghost use Rattle.fast_wire.specs.Writing.{AppendsShortest, IsShortestSize};
 ghost use Rattle.fast_wire.specs.Spellings.{entity_of, IsLeastSize, IsLeastSignedSize};
@@ -38,7 +38,7 @@ pub fn read_unsigned(bytes: &[u8], at: usize) -> Result<(u128, usize), WireFault
     // what is spelled so is read
     ensures only { (next value : ℕ) → Reads IsUnsigned bytes.now at (value, next) → result ≡ Ok (value, next) }
     // the same by the function that reads the front of a list, for the layers above
-    ensures gives { Gives (λ x. (x.0, drop x.1 bytes.now)) result (unsigned_at (drop at bytes.now)) }
+    ensures gives { Gives NothingElse (λ x. (x.0, drop x.1 bytes.now)) result (unsigned_at (drop at bytes.now)) }
 {
     let next = entity_end(bytes, at, INTEGER_LIMIT)?;
     Ok((unsigned_value(&bytes[at..next]), next))
@@ -138,7 +138,7 @@ pub fn read_signed(bytes: &[u8], at: usize) -> Result<(i128, usize), WireFault>
     ensures range { IfOk result (λ x. IsSignedRange x.0) }
     ensures answer { MatchResult result (Reads IsSigned bytes.now at) (EntityFault 10 bytes.now at) }
     ensures only { (next : ℕ) (value : ℤ) → Reads IsSigned bytes.now at (value, next) → result ≡ Ok (value, next) }
-    ensures gives { Gives (λ x. (x.0, drop x.1 bytes.now)) result (signed_at (drop at bytes.now)) }
+    ensures gives { Gives NothingElse (λ x. (x.0, drop x.1 bytes.now)) result (signed_at (drop at bytes.now)) }
 {
     let end = entity_end(bytes, at, INTEGER_LIMIT)?;
     Ok((signed_value(&bytes[at..end]), end))

@@ -2,7 +2,7 @@
 
 ghost use Rattle.std.specs.Prelude.{◌≡◌, ℕ, ℤ, ◌+◌, ◌*◌, ◌^◌, ◌<◌, ◌≤◌, length, drop, IfErr, IfOk, MatchResult, OnOk, OnErr, Ok, IsErrOf, ◌↔◌, ◌⊎◌};
 ghost use Rattle.fast_wire.specs.Integer.{magnitude, IsSignedRange};
-ghost use Rattle.fast_wire.specs.Reading.{EntityFault, Gives, Reads, unsigned_nullable_at, signed_nullable_at};
+ghost use Rattle.fast_wire.specs.Reading.{EntityFault, Gives, NothingElse, Reads, unsigned_nullable_at, signed_nullable_at};
 ghost use Rattle.fast_wire.specs.Sizes.{unsigned_nullable_size, signed_nullable_size, CanBeUnsigned, CanBeSigned};
 ghost use Rattle.fast_wire.specs.Writing.{AppendsShortest, IsShortestSize};
 ghost use Rattle.fast_wire.specs.Nullable.{sent_unsigned, sent_signed, received_unsigned, received_signed, IsNullOr, IsUnsignedNullable, IsSignedNullable};
@@ -41,7 +41,7 @@ pub fn read_unsigned_nullable(bytes: &[u8], at: usize) -> Result<(Nullable<u128>
     ensures range { IfOk result (λ x. IsNullOr (λ v. v + 1 < 2 ^ 70) x.0) }
     ensures answer { MatchResult result (Reads IsUnsignedNullable bytes.now at) (EntityFault 10 bytes.now at) }
     ensures only { (next : ℕ) (value : Nullable ℕ) → Reads IsUnsignedNullable bytes.now at (value, next) → result ≡ Ok (value, next) }
-    ensures gives { Gives (λ x. (x.0, drop x.1 bytes.now)) result (unsigned_nullable_at (drop at bytes.now)) }
+    ensures gives { Gives NothingElse (λ x. (x.0, drop x.1 bytes.now)) result (unsigned_nullable_at (drop at bytes.now)) }
 {
     let (sent, next) = read_unsigned(bytes, at)?;
     Ok((unsigned_received(sent), next))
@@ -102,7 +102,7 @@ pub fn read_signed_nullable(bytes: &[u8], at: usize) -> Result<(Nullable<i128>, 
     ensures range { IfOk result (λ x. IsNullOr IsSignedRange x.0) }
     ensures answer { MatchResult result (Reads IsSignedNullable bytes.now at) (EntityFault 10 bytes.now at) }
     ensures only { (next : ℕ) (value : Nullable ℤ) → Reads IsSignedNullable bytes.now at (value, next) → result ≡ Ok (value, next) }
-    ensures gives { Gives (λ x. (x.0, drop x.1 bytes.now)) result (signed_nullable_at (drop at bytes.now)) }
+    ensures gives { Gives NothingElse (λ x. (x.0, drop x.1 bytes.now)) result (signed_nullable_at (drop at bytes.now)) }
 {
     let (sent, next) = read_signed(bytes, at)?;
     Ok((signed_received(sent), next))

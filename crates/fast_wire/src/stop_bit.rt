@@ -2,7 +2,7 @@
 
 ghost use Rattle.std.specs.Prelude.{◌≡◌, ◌+◌, ◌<◌, ◌≤◌, length, drop, slice_range, MatchOption, MatchResult};
 ghost use Rattle.fast_wire.specs.Entity.{HasNoStop, IsEntity, IsFirstStop};
-ghost use Rattle.fast_wire.specs.Reading.{EntityFault, Gives, entity_at};
+ghost use Rattle.fast_wire.specs.Reading.{EntityFault, Gives, NothingElse, entity_at};
 
 use crate::fault::WireFault;
 
@@ -26,7 +26,7 @@ pub(crate) fn entity_end(bytes: &[u8], at: usize, limit: usize) -> Result<usize,
     ensures answer { MatchResult result
         (λ next. (at < next) × (next ≤ length bytes.now) × (next ≤ at + limit) × IsEntity (slice_range bytes.now at next))
         (EntityFault limit bytes.now at) }
-    ensures gives { Gives (λ next. (slice_range bytes.now at next, drop next bytes.now)) result (entity_at limit (drop at bytes.now)) }
+    ensures gives { Gives NothingElse (λ next. (slice_range bytes.now at next, drop next bytes.now)) result (entity_at limit (drop at bytes.now)) }
 {
     let rest = &bytes[at..];
     let missing = if rest.len() < limit {

@@ -3,7 +3,7 @@
 ghost use Rattle.std.specs.Prelude.{◌≡◌, ℕ, ◌+◌, ◌-◌, ◌<◌, ◌≤◌, List, ◌++◌, length, drop, slice_range, IfErr, IfOk, MatchResult, OnOk, OnErr, IsErrOf, ◌↔◌, ◌⊎◌};
 ghost use Rattle.fast_wire.specs.Integer.{IsUnsigned};
 ghost use Rattle.fast_wire.specs.Nullable.{borrowed, items_of, units};
-ghost use Rattle.fast_wire.specs.Reading.{Gives, LengthFault, Reads, VectorFault, bytes_at, vector_at, vector_nullable_at};
+ghost use Rattle.fast_wire.specs.Reading.{Gives, OrMemory, LengthFault, Reads, RefusedAt, VectorFault, bytes_at, vector_at, vector_nullable_at};
 ghost use Rattle.fast_wire.specs.Sizes.{vector_size, vector_nullable_size};
 ghost use Rattle.fast_wire.specs.Spellings.{IsLeastSize, entity_of};
 ghost use Rattle.fast_wire.specs.Vector.{IsLengthNullable, IsVector, IsVectorNullable};
@@ -28,8 +28,9 @@ fn bytes_from(
 ) -> Result<(Vec<u8>, usize), WireFault>
     requires { start ≤ length bytes.now }
     ensures ok { IfOk result (λ x. (x.1 ≡ start + count) × (x.1 ≤ length bytes.now) × (count ≤ 65535) × (x.0.items ≡ slice_range bytes.now start x.1)) }
-    ensures err { IfErr result (λ e. (e ≡ WireFault.Memory) ⊎ LengthFault count (length bytes.now - start) e) }
-    ensures gives { Gives (λ x. (x.0.items, drop x.1 bytes.now)) result (bytes_at count (drop start bytes.now)) }
+    ensures err { IfErr result (λ e. ((e ≡ WireFault.Memory) × (count ≤ 65535) × (start + count ≤ length bytes.now))
+        ⊎ LengthFault count (length bytes.now - start) e) }
+    ensures gives { Gives OrMemory (λ x. (x.0.items, drop x.1 bytes.now)) result (bytes_at count (drop start bytes.now)) }
 {
     if count > BYTE_LIMIT as u128 {
         return Err(WireFault::TooLong);
@@ -54,12 +55,12 @@ pub fn read_vector(alloc: Global, bytes: &[u8], at: usize) -> Result<(Vec<u8>, u
     ensures place { IfOk result (λ x. (at < x.1) × (x.1 ≤ length bytes.now)) }
     // what is read is spelled so, and a refusal is this one
     ensures answer { MatchResult result (λ x. Reads IsVector bytes.now at (x.0.items, x.1))
-        (λ e. (e ≡ WireFault.Memory) ⊎ VectorFault IsUnsigned bytes.now at e) }
+        (λ e. RefusedAt IsVector bytes.now at e ⊎ VectorFault IsUnsigned bytes.now at e) }
     // what is spelled so is read, unless memory runs out
     ensures only { (next : ℕ) (value : List ℕ) → Reads IsVector bytes.now at (value, next)
         → MatchResult result (λ x. (x.0.items ≡ value) × (x.1 ≡ next)) (λ e. e ≡ WireFault.Memory) }
     // the same by the function that reads the front of a list, for the layers above
-    ensures gives { Gives (λ x. (x.0.items, drop x.1 bytes.now)) result (vector_at (drop at bytes.now)) }
+    ensures gives { Gives OrMemory (λ x. (x.0.items, drop x.1 bytes.now)) result (vector_at (drop at bytes.now)) }
 {
     let (count, start) = read_unsigned(bytes, at)?;
     bytes_from(alloc, bytes, start, count)
@@ -75,10 +76,10 @@ pub fn read_vector_nullable(
     requires { at ≤ length bytes.now }
     ensures place { IfOk result (λ x. (at < x.1) × (x.1 ≤ length bytes.now)) }
     ensures answer { MatchResult result (λ x. Reads IsVectorNullable bytes.now at (items_of x.0, x.1))
-        (λ e. (e ≡ WireFault.Memory) ⊎ VectorFault IsLengthNullable bytes.now at e) }
+        (λ e. RefusedAt IsVectorNullable bytes.now at e ⊎ VectorFault IsLengthNullable bytes.now at e) }
     ensures only { (next : ℕ) (value : Nullable (List ℕ)) → Reads IsVectorNullable bytes.now at (value, next)
         → MatchResult result (λ x. (items_of x.0 ≡ value) × (x.1 ≡ next)) (λ e. e ≡ WireFault.Memory) }
-    ensures gives { Gives (λ x. (items_of x.0, drop x.1 bytes.now)) result (vector_nullable_at (drop at bytes.now)) }
+    ensures gives { Gives OrMemory (λ x. (items_of x.0, drop x.1 bytes.now)) result (vector_nullable_at (drop at bytes.now)) }
 {
     let (count, start) = read_unsigned_nullable(bytes, at)?;
     match count {

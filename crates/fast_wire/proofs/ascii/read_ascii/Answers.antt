@@ -2,7 +2,7 @@ use Rattle.std.proofs.Common.{◌∙◌, sym, drop, length, slice_range, Ok}
 use Rattle.std.proofs.lemmas.Result.{err_from_is_err_and}
 use Rattle.fast_wire.specs.Ascii.{IsAscii}
 use Rattle.fast_wire.specs.Entity.{groups}
-use Rattle.fast_wire.specs.Reading.{ascii_at, entity_at, characters, within_limit, ◌>>=◌}
+use Rattle.fast_wire.specs.Reading.{OrMemory, ascii_at, entity_at, characters, within_limit, ◌>>=◌}
 use Rattle.fast_wire.proofs.FormReaders.{fails_then, ascii_forms, string_given, string_refused}
 use Rattle.fast_wire.proofs.Readings.{only_found, only_memory}
 use Rattle.fast_wire.proofs.AsciiForms.{characters_behind}
@@ -12,7 +12,7 @@ pub returns-in_err-next-clause-gives : goal.returns-in_err-next-clause-gives
 unfolding ascii_at
 returns-in_err-next-clause-gives c =
     let p = err_from_is_err_and c.from_residual.result c.from_residual.ensures.1 in
-    rw (p.1, p.2) (fails_then c.in_err-next.field-0.0 (entity_at 65540 (drop c.args.at c.args.bytes.now)) (λ e. within_limit length (characters (groups e.0)) >>= λ s. Ok (s, e.1)) c.in_err-next.ensures.gives)
+    rw (p.1, p.2) (fails_then OrMemory c.in_err-next.field-0.0 (entity_at 65540 (drop c.args.at c.args.bytes.now)) (λ e. within_limit length (characters (groups e.0)) >>= λ s. Ok (s, e.1)) c.in_err-next.ensures.gives)
 
 pub returns-in_err-next-clause-only : goal.returns-in_err-next-clause-only
 returns-in_err-next-clause-only c =

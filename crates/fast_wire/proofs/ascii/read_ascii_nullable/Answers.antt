@@ -3,7 +3,7 @@ use Rattle.std.proofs.lemmas.Result.{err_from_is_err_and}
 use Rattle.fast_wire.specs.Ascii.{IsAsciiNullable}
 use Rattle.fast_wire.specs.Entity.{groups}
 use Rattle.fast_wire.specs.Nullable.{units}
-use Rattle.fast_wire.specs.Reading.{ascii_nullable_at, entity_at, nullable_characters, within_limit, ◌>>=◌}
+use Rattle.fast_wire.specs.Reading.{OrMemory, ascii_nullable_at, entity_at, nullable_characters, within_limit, ◌>>=◌}
 use Rattle.fast_wire.specs.Spellings.{behind_zeros}
 use Rattle.fast_wire.specs.declared.nullable.Nullable.TheVariants.{Null, Value}
 use Rattle.fast_wire.proofs.FormReaders.{fails_then, ascii_nullable_forms, string_given, string_refused}
@@ -15,7 +15,7 @@ pub returns-in_err-next-clause-gives : goal.returns-in_err-next-clause-gives
 unfolding ascii_nullable_at
 returns-in_err-next-clause-gives c =
     let p = err_from_is_err_and c.from_residual.result c.from_residual.ensures.1 in
-    rw (p.1, p.2) (fails_then c.in_err-next.field-0.0 (entity_at 65540 (drop c.args.at c.args.bytes.now)) (λ e. within_limit units (nullable_characters (groups e.0)) >>= λ s. Ok (s, e.1)) c.in_err-next.ensures.gives)
+    rw (p.1, p.2) (fails_then OrMemory c.in_err-next.field-0.0 (entity_at 65540 (drop c.args.at c.args.bytes.now)) (λ e. within_limit units (nullable_characters (groups e.0)) >>= λ s. Ok (s, e.1)) c.in_err-next.ensures.gives)
 
 pub returns-in_err-next-clause-only : goal.returns-in_err-next-clause-only
 returns-in_err-next-clause-only c =
@@ -64,7 +64,7 @@ returns-in_err-text-clause-answer c =
     let few : length e ≤ 65540 = omega (arith, a.2, length-take (c.in_ok-next.next - c.args.at) (drop c.args.at c.args.bytes.now)) in
     let value = value_here e a.3 (λ n. c.if-bytes-at.false (sym (first_byte c.args.bytes.now c.args.at c.in_ok-next.next a.0) ∙ n)) in
     rw (p.1, p.2) (elim c.in_err-text.ensures.err [
-      | inl m ↦ inl m
+      | inl m ↦ inl (m.0, c.in_ok-next.next, Value (behind_zeros 2 (groups e)), (omega (arith, a.0), a.1, record { spelled = nullable_entity e (Value (behind_zeros 2 (groups e))) a.3 few value; limit = m.1 }))
       | inr t ↦ inr (inr (t.0, (c.in_ok-next.next, Value (behind_zeros 2 (groups e)), (omega (arith, a.0), a.1, nullable_entity e (Value (behind_zeros 2 (groups e))) a.3 few value), t.1)))
     ])
 

@@ -1,6 +1,6 @@
 use Rattle.std.proofs.Common.{◌-◌, ◌≤◌, arith, length-take, drop, Ok, length, slice_range, refl}
 use Rattle.std.proofs.lemmas.Result.{err_from_is_err_and}
-use Rattle.fast_wire.specs.Reading.{unsigned_at, entity_at}
+use Rattle.fast_wire.specs.Reading.{NothingElse, unsigned_at, entity_at}
 use Rattle.fast_wire.specs.Integer.{unsigned_of}
 use Rattle.fast_wire.proofs.Numbers.{pow_ten}
 use Rattle.fast_wire.proofs.FormReaders.{fails_then}
@@ -16,7 +16,7 @@ pub returns-in_err-next-clause-gives : goal.returns-in_err-next-clause-gives
 unfolding unsigned_at
 returns-in_err-next-clause-gives c =
     let p = err_from_is_err_and c.from_residual.result c.from_residual.ensures.1 in
-    rw (p.1, p.2) (fails_then c.in_err-next.field-0.0 (entity_at 10 (drop c.args.at c.args.bytes.now)) (λ e. Ok (unsigned_of e.0, e.1)) c.in_err-next.ensures.gives)
+    rw (p.1, p.2) (fails_then NothingElse c.in_err-next.field-0.0 (entity_at 10 (drop c.args.at c.args.bytes.now)) (λ e. Ok (unsigned_of e.0, e.1)) c.in_err-next.ensures.gives)
 
 pub returns-clause-range : goal.returns-clause-range
 returns-clause-range c =

@@ -4,7 +4,7 @@ use Rattle.std.proofs.lemmas.Int.{to_z-of_z}
 use Rattle.std.proofs.lemmas.Result.{err_from_is_err_and}
 use Rattle.fast_wire.specs.Integer.{IsSigned}
 use Rattle.fast_wire.specs.Nullable.{received_signed, sent_signed}
-use Rattle.fast_wire.specs.Reading.{signed_at, signed_nullable_at}
+use Rattle.fast_wire.specs.Reading.{NothingElse, signed_at, signed_nullable_at}
 use Rattle.fast_wire.proofs.FormReaders.{fails_then}
 use Rattle.fast_wire.proofs.SignedForms.{range_fits}
 use Rattle.fast_wire.proofs.NullableForms.{sent_received_signed, signed_nullable_only}
@@ -14,7 +14,7 @@ pub returns-in_err-sent-clause-gives : goal.returns-in_err-sent-clause-gives
 unfolding signed_nullable_at
 returns-in_err-sent-clause-gives c =
     let p = err_from_is_err_and c.from_residual.result c.from_residual.ensures.1 in
-    rw (p.1, p.2) (fails_then c.in_err-sent.field-0.0 (signed_at (drop c.args.at c.args.bytes.now)) (λ n. Ok (received_signed n.0, n.1)) c.in_err-sent.ensures.gives)
+    rw (p.1, p.2) (fails_then NothingElse c.in_err-sent.field-0.0 (signed_at (drop c.args.at c.args.bytes.now)) (λ n. Ok (received_signed n.0, n.1)) c.in_err-sent.ensures.gives)
 
 pub returns-clause-only : goal.returns-clause-only
 returns-clause-only c =

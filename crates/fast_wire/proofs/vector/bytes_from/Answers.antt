@@ -1,13 +1,13 @@
-use Rattle.std.proofs.Common.{◌≡◌, ◌+◌, ◌-◌, ◌≤◌, ◌∙◌, arith, drop, take, length, length-drop, drop-drop, refl}
-use Rattle.fast_wire.proofs.VectorForms.{bytes_long, bytes_wait, bytes_ok}
+use Rattle.std.proofs.Common.{◌≡◌, ◌+◌, ◌-◌, ◌≤◌, ◌∙◌, arith, drop, take, length, length-drop, drop-drop, refl, inl, inr}
+use Rattle.fast_wire.proofs.VectorForms.{bytes_there, bytes_long, bytes_wait, bytes_ok}
 use Rattle.fast_wire.proofs.vector.bytes_from.Goals as goal
 
 pub returns-then-count-clause-gives : goal.returns-then-count-clause-gives
-returns-then-count-clause-gives c = bytes_long c.args.count (drop c.args.start c.args.bytes.now) c.if-count.true
+returns-then-count-clause-gives c = inl (bytes_long c.args.count (drop c.args.start c.args.bytes.now) c.if-count.true)
 
 pub returns-then-bytes-start-clause-gives : goal.returns-then-bytes-start-clause-gives
 returns-then-bytes-start-clause-gives c =
-    bytes_wait c.args.count (drop c.args.start c.args.bytes.now) (omega (arith, c.if-count.false)) (omega (arith, c.if-bytes-start.true, length-drop c.args.start c.args.bytes.now))
+    inl (bytes_wait c.args.count (drop c.args.start c.args.bytes.now) (omega (arith, c.if-count.false)) (omega (arith, c.if-bytes-start.true, length-drop c.args.start c.args.bytes.now)))
 
 pub returns-clause-gives : goal.returns-clause-gives
 returns-clause-gives c =
@@ -16,3 +16,7 @@ returns-clause-gives c =
     let size : start + n - start ≡ n = omega arith in
     let copied : c.in-Ok.items.items ≡ take n (drop start bytes) = rw size at c.in-Ok.ensures.items in
     bytes_ok n (drop start bytes) (omega (arith, c.if-count.false)) there ∙ rw (drop-drop n start bytes, copied) refl
+
+pub returns-in_default-clause-gives : goal.returns-in_default-clause-gives
+returns-in_default-clause-gives c =
+    inr (refl, bytes_there c.args.count c.args.start c.args.bytes.now (omega (arith, c.if-bytes-start.false, c.requires)) (omega (arith, c.if-count.false)))

@@ -1,6 +1,6 @@
 use Rattle.std.proofs.Common.{drop}
 use Rattle.std.proofs.lemmas.Result.{err_from_is_err_and}
-use Rattle.fast_wire.specs.Reading.{bytes_at, unsigned_at, vector_at}
+use Rattle.fast_wire.specs.Reading.{OrMemory, bytes_at, unsigned_at, vector_at}
 use Rattle.fast_wire.specs.Vector.{IsVector}
 use Rattle.fast_wire.proofs.FormReaders.{fails_then}
 use Rattle.fast_wire.proofs.Readings.{only_memory, only_given}
@@ -11,7 +11,7 @@ pub returns-in_err-count-clause-gives : goal.returns-in_err-count-clause-gives
 unfolding vector_at
 returns-in_err-count-clause-gives c =
     let p = err_from_is_err_and c.from_residual.result c.from_residual.ensures.1 in
-    rw (p.1, p.2) (fails_then c.in_err-count.field-0.0 (unsigned_at (drop c.args.at c.args.bytes.now)) (λ n. bytes_at n.0 n.1) c.in_err-count.ensures.gives)
+    rw (p.1, p.2) (fails_then OrMemory c.in_err-count.field-0.0 (unsigned_at (drop c.args.at c.args.bytes.now)) (λ n. bytes_at n.0 n.1) c.in_err-count.ensures.gives)
 
 pub returns-in_err-count-clause-only : goal.returns-in_err-count-clause-only
 returns-in_err-count-clause-only c =

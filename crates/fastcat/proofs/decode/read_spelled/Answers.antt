@@ -21,4 +21,4 @@ pub returns-in-Err-clause-gives : goal.returns-in-Err-clause-gives
 unfolding spelled_at
 returns-in-Err-clause-gives c =
     let e = c.in-Err.ensures in
-    rw (fault_caused c.in-Err.fault 10 c.args.bytes.now c.args.at (unsigned_at (drop c.args.at c.args.bytes.now)) e.answer e.gives, c.cause_of.ensures) refl
+    rw (fault_caused c.in-Err.fault (unsigned_at (drop c.args.at c.args.bytes.now)) e.gives, c.cause_of.ensures) refl
