@@ -74,10 +74,10 @@ module _ {A F : Type 0} (wait : F) (cause_of : F → Cause) (number : ℕ) (read
 
 -- ---- one node more
 
-module _ {A : Type 0} (number : ℕ) (nodes : A → ℕ) (Form : Forms A) (Stops : Stopping) (read : Cursor → Reads A) (is : IsPieceReader nodes Form Stops read) where
-  abbrev pub CountedStops : Stopping
-  CountedStops s spare rest stop = NodeStops number spare (λ left. Stops s left rest stop) rest stop
+abbrev pub CountedStops : ℕ → Stopping → Stopping
+CountedStops number Stops s spare rest stop = NodeStops number spare (λ left. Stops s left rest stop) rest stop
 
+module _ {A : Type 0} (number : ℕ) (nodes : A → ℕ) (Form : Forms A) (Stops : Stopping) (read : Cursor → Reads A) (is : IsPieceReader nodes Form Stops read) where
   abbrev counting : Cursor → Reads A
   counting c = node_at number c >>= read
 
@@ -87,13 +87,13 @@ module _ {A : Type 0} (number : ℕ) (nodes : A → ℕ) (Form : Forms A) (Stops
       let t = is.found s spare bytes x k fits e in
       record { front = t.front; parts = t.parts; rest_bytes = t.rest_bytes; form = t.form; counted = let n = t.counted in omega arith }
 
-  counted_stops : (s : State) (spare : ℕ) (bytes : List ℕ) (stop : Stop) → IsBytes bytes → counting (cursor s spare bytes) ≡ Err stop → CountedStops s spare bytes stop
+  counted_stops : (s : State) (spare : ℕ) (bytes : List ℕ) (stop : Stop) → IsBytes bytes → counting (cursor s spare bytes) ≡ Err stop → CountedStops number Stops s spare bytes stop
   counted_stops s zero bytes stop fits e =
       let same : record { cause = Limit; instruction = number; left = length bytes } ≡ stop = cc in
       subst (λ (y : Stop). StopsAt number (λ cause. cause ≡ Limit) bytes y) same (record { instruction_is = refl; left_is = refl; fault = refl })
   counted_stops s (suc spare) bytes stop fits e = is.stops s spare bytes stop fits e
 
-  counted_stopped : (s : State) (spare : ℕ) (bytes : List ℕ) (stop : Stop) → CountedStops s spare bytes stop → counting (cursor s spare bytes) ≡ Err stop
+  counted_stopped : (s : State) (spare : ℕ) (bytes : List ℕ) (stop : Stop) → CountedStops number Stops s spare bytes stop → counting (cursor s spare bytes) ≡ Err stop
   counted_stopped s zero bytes stop h = ap (λ (y : Stop). fails_as {A = A} y) (stop_is stop Limit number (length bytes) h.fault h.instruction_is h.left_is)
   counted_stopped s (suc spare) bytes stop h = is.stopped s spare bytes stop h
 
@@ -104,7 +104,7 @@ module _ {A : Type 0} (number : ℕ) (nodes : A → ℕ) (Form : Forms A) (Stops
       subst (λ (y : Stop). counting (cursor s zero (bytes ++ more)) ≡ Err (further (length more) y)) same (rw (length-append bytes more) refl)
   counted_stays s (suc spare) bytes more stop fits e other = is.stays s spare bytes more stop fits e other
 
-  pub counted_reader : IsPieceReader (λ y. 1 + nodes y) Form CountedStops counting
+  pub counted_reader : IsPieceReader (λ y. 1 + nodes y) Form (CountedStops number Stops) counting
   counted_reader = record {
     found = counted_found;
     again = λ s t spare form rest x h.
@@ -117,24 +117,24 @@ module _ {A : Type 0} (number : ℕ) (nodes : A → ℕ) (Form : Forms A) (Stops
 
 -- ---- a piece, and one behind it that may depend on its value
 
+abbrev pub Bound : {A B : Type 0} → Forms A → (A → Forms B) → Forms B
+Bound {A} First Second s form y t = (x : A) × Then (λ b u. First s b x u) (λ u b. Second x u b y t) form
+
+abbrev pub BoundStops : {A : Type 0} → (A → ℕ) → Forms A → Stopping → (A → Stopping) → Stopping
+BoundStops {A} nodes First FirstStops SecondStops s spare rest stop =
+    FirstStops s spare rest stop
+    ⊎ Then (λ b (p : Passed A State). First s b p.value p.after × (spare ≡ nodes p.value + p.spare)) (λ p y. SecondStops p.value p.after p.spare y stop) rest
+
 module _ {A B : Type 0} (nodes_a : A → ℕ) (nodes_b : A → B → ℕ) (nodes : B → ℕ) (First : Forms A) (Second : A → Forms B) (FirstStops : Stopping) (SecondStops : A → Stopping)
     (Possible : A → Type 0) (one_read : Cursor → Reads A) (two_read : A → Cursor → Reads B)
     (one : IsPieceReader nodes_a First FirstStops one_read)
     (possible : (s : State) (b : List ℕ) (x : A) (t : State) → First s b x t → Possible x)
     (two : (x : A) → Possible x → IsPieceReader (nodes_b x) (Second x) (SecondStops x) (two_read x))
     (sums : (x : A) (s : State) (b : List ℕ) (y : B) (t : State) → Second x s b y t → nodes y ≡ nodes_a x + nodes_b x y) where
-  abbrev pub BoundForm : Forms B
-  BoundForm s form y t = (x : A) × Then (λ b u. First s b x u) (λ u b. Second x u b y t) form
-
-  abbrev pub BoundStops : Stopping
-  BoundStops s spare rest stop =
-      FirstStops s spare rest stop
-      ⊎ Then (λ b (p : Passed A State). First s b p.value p.after × (spare ≡ nodes_a p.value + p.spare)) (λ p y. SecondStops p.value p.after p.spare y stop) rest
-
   abbrev binding : Cursor → Reads B
   binding c = one_read c >>= λ x. two_read x.0 x.1
 
-  bound_found : (s : State) (spare : ℕ) (bytes : List ℕ) (y : B) (k : Cursor) → IsBytes bytes → binding (cursor s spare bytes) ≡ Ok (y, k) → Passes nodes BoundForm s spare bytes y k
+  bound_found : (s : State) (spare : ℕ) (bytes : List ℕ) (y : B) (k : Cursor) → IsBytes bytes → binding (cursor s spare bytes) ≡ Ok (y, k) → Passes nodes (Bound First Second) s spare bytes y k
   bound_found s spare bytes y k fits e =
       let a = bind_ok (one_read (cursor s spare bytes)) (λ x. two_read x.0 x.1) (y, k) e in
       let t = one.found s spare bytes a.0.0 a.0.1 fits a.1 in
@@ -147,7 +147,7 @@ module _ {A B : Type 0} (nodes_a : A → ℕ) (nodes_b : A → B → ℕ) (nodes
         counted = let n = t.counted in let m = u.counted in let both = sums a.0.0 (state_of a.0.1) u.front y (state_of k) u.form in omega arith;
       }
 
-  bound_again : (s t : State) (spare : ℕ) (form rest : List ℕ) (y : B) → BoundForm s form y t → binding (cursor s (nodes y + spare) (form ++ rest)) ≡ Ok (y, cursor t spare rest)
+  bound_again : (s t : State) (spare : ℕ) (form rest : List ℕ) (y : B) → Bound First Second s form y t → binding (cursor s (nodes y + spare) (form ++ rest)) ≡ Ok (y, cursor t spare rest)
   bound_again s t spare form rest y h =
       let x = h.0 in
       let u = h.1.between in
@@ -157,7 +157,7 @@ module _ {A B : Type 0} (nodes_a : A → ℕ) (nodes_b : A → B → ℕ) (nodes
       rw (regrouped, count, one.again s u (nodes_b x y + spare) h.1.front (h.1.back ++ rest) x h.1.first)
       ((two x (possible s h.1.front x u h.1.first)).again u t spare h.1.back rest y h.1.second)
 
-  bound_stops : (s : State) (spare : ℕ) (bytes : List ℕ) (stop : Stop) → IsBytes bytes → binding (cursor s spare bytes) ≡ Err stop → BoundStops s spare bytes stop
+  bound_stops : (s : State) (spare : ℕ) (bytes : List ℕ) (stop : Stop) → IsBytes bytes → binding (cursor s spare bytes) ≡ Err stop → BoundStops nodes_a First FirstStops SecondStops s spare bytes stop
   bound_stops s spare bytes stop fits e = elim (bind_err (one_read (cursor s spare bytes)) (λ x. two_read x.0 x.1) stop e) [
     | at_first g ↦ inl (one.stops s spare bytes stop fits g)
     | at_second x g h ↦
@@ -172,7 +172,7 @@ module _ {A B : Type 0} (nodes_a : A → ℕ) (nodes_b : A → B → ℕ) (nodes
         })
   ]
 
-  bound_stopped : (s : State) (spare : ℕ) (bytes : List ℕ) (stop : Stop) → BoundStops s spare bytes stop → binding (cursor s spare bytes) ≡ Err stop
+  bound_stopped : (s : State) (spare : ℕ) (bytes : List ℕ) (stop : Stop) → BoundStops nodes_a First FirstStops SecondStops s spare bytes stop → binding (cursor s spare bytes) ≡ Err stop
   bound_stopped s spare bytes stop (inl h) = rw (one.stopped s spare bytes stop h) refl
   bound_stopped s spare bytes stop (inr h) =
       let p = h.between in
@@ -195,27 +195,27 @@ module _ {A B : Type 0} (nodes_a : A → ℕ) (nodes_b : A → B → ℕ) (nodes
         bound_stays_behind s spare bytes more t.front stop x.0 x.1 t.parts t.counted t.form t.rest_bytes h other
   ]
 
-  pub bound_reader : IsPieceReader nodes BoundForm BoundStops binding
+  pub bound_reader : IsPieceReader nodes (Bound First Second) (BoundStops nodes_a First FirstStops SecondStops) binding
   bound_reader = record { found = bound_found; again = bound_again; stops = bound_stops; stopped = bound_stopped; stays = bound_stays }
 
 -- ---- a value that is made of a piece's value
 
-module _ {A B : Type 0} (g : A → B) (nodes_a : A → ℕ) (nodes : B → ℕ) (same : (x : A) → nodes (g x) ≡ nodes_a x) (Form : Forms A) (Stops : Stopping) (read : Cursor → Reads A) (is : IsPieceReader nodes_a Form Stops read) where
-  abbrev pub MadeForm : Forms B
-  MadeForm s b y t = (x : A) × (y ≡ g x) × Form s b x t
+abbrev pub Made : {A B : Type 0} → (A → B) → Forms A → Forms B
+Made {A} g Form s b y t = (x : A) × (y ≡ g x) × Form s b x t
 
+module _ {A B : Type 0} (g : A → B) (nodes_a : A → ℕ) (nodes : B → ℕ) (same : (x : A) → nodes (g x) ≡ nodes_a x) (Form : Forms A) (Stops : Stopping) (read : Cursor → Reads A) (is : IsPieceReader nodes_a Form Stops read) where
   abbrev making : Cursor → Reads B
   making c = read c >>= λ x. Ok (g x.0, x.1)
 
-  made_found : (s : State) (spare : ℕ) (bytes : List ℕ) (y : B) (k : Cursor) → IsBytes bytes → making (cursor s spare bytes) ≡ Ok (y, k) → Passes nodes MadeForm s spare bytes y k
+  made_found : (s : State) (spare : ℕ) (bytes : List ℕ) (y : B) (k : Cursor) → IsBytes bytes → making (cursor s spare bytes) ≡ Ok (y, k) → Passes nodes (Made g Form) s spare bytes y k
   made_found s spare bytes y k fits e =
       let a = bind_ok (read (cursor s spare bytes)) (λ x. read_as {A = B × Cursor} (g x.0, x.1)) (y, k) e in
       let t = is.found s spare bytes a.0.0 a.0.1 fits a.1 in
       let whole : (g a.0.0, a.0.1) ≡ (y, k) = ok_is {F = Stop} (g a.0.0, a.0.1) (y, k) a.2 in
-      subst (λ (z : B × Cursor). Passes nodes MadeForm s spare bytes z.0 z.1) whole
+      subst (λ (z : B × Cursor). Passes nodes (Made g Form) s spare bytes z.0 z.1) whole
       (record { front = t.front; parts = t.parts; rest_bytes = t.rest_bytes; form = (a.0.0, refl, t.form); counted = rw (same a.0.0) t.counted })
 
-  pub made_reader : IsPieceReader nodes MadeForm Stops making
+  pub made_reader : IsPieceReader nodes (Made g Form) Stops making
   made_reader = record {
     found = made_found;
     again = λ s t spare form rest y h. rw (h.1, same h.0, is.again s t spare form rest h.0 h.2) refl;
@@ -232,20 +232,20 @@ module _ {A B : Type 0} (g : A → B) (nodes_a : A → ℕ) (nodes : B → ℕ) 
 
 -- ---- a value that takes no bytes
 
+abbrev pub Given : {A : Type 0} → A → Forms A
+Given value s b y t = (b ≡ []) × (y ≡ value) × (t ≡ s)
+
+abbrev pub NeverStops : Stopping
+NeverStops s spare rest stop = ⊥
+
 module _ {A : Type 0} (value : A) (nodes : A → ℕ) (none : nodes value ≡ 0) where
-  abbrev pub GivenForm : Forms A
-  GivenForm s b y t = (b ≡ []) × (y ≡ value) × (t ≡ s)
-
-  abbrev pub NeverStops : Stopping
-  NeverStops s spare rest stop = ⊥
-
   abbrev giving : Cursor → Reads A
   giving c = Ok (value, c)
 
-  pub given_reader : IsPieceReader nodes GivenForm NeverStops giving
+  pub given_reader : IsPieceReader nodes (Given value) NeverStops giving
   given_reader = record {
     found = λ s spare bytes y k fits e.
-        subst (λ (z : A × Cursor). Passes nodes GivenForm s spare bytes z.0 z.1) (ok_is {F = Stop} (value, cursor s spare bytes) (y, k) e)
+        subst (λ (z : A × Cursor). Passes nodes (Given value) s spare bytes z.0 z.1) (ok_is {F = Stop} (value, cursor s spare bytes) (y, k) e)
         (record { front = []; parts = refl; rest_bytes = fits; form = (refl, refl, refl); counted = rw none (sym (zero-add spare)) });
     again = λ s t spare form rest y h. rw (h.0, h.1, h.2, none, zero-add) refl;
     stops = λ s spare bytes stop fits e. absurd cc;
