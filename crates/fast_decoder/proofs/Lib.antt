@@ -3,4 +3,5 @@ pub mod Rows
 pub mod WorkedStreams
 pub mod Weaker
 pub mod PieceReaders
+pub mod BodyReaders
 pub mod Leaves

@@ -5,6 +5,7 @@ use Rattle.fast_wire.specs.Reading.{◌>>=◌}
 use Rattle.fast_wire.proofs.Readers.{ok_is, bind_ok, Failed, at_first, at_second, bind_err}
 use Rattle.fast_decoder.specs.declared.fault.Cause.{Cause}
 use Rattle.fast_decoder.specs.declared.fault.Cause.TheVariants.{Limit, Truncated}
+use Rattle.fast_dictionary.specs.Dictionary.{Dictionary}
 use Rattle.fast_decoder.specs.Bodies.{State, Then}
 use Rattle.fast_decoder.specs.Faults.{Stop, StopsAt, NodeStops, Passed}
 use Rattle.fast_decoder.specs.Reading.{Cursor, state_of, Reads, stopped, placed, node_at}
@@ -253,18 +254,76 @@ module _ {A : Type 0} (value : A) (nodes : A → ℕ) (none : nodes value ≡ 0)
     stays = λ s spare bytes more stop fits e other. absurd cc;
   }
 
+-- ---- a reader that is chosen by the state, and goes on from another
+
+module _ {A C : Type 0} (nodes : A → ℕ) (Form : C → Forms A) (Stops : C → Stopping) (read : C → Cursor → Reads A) (is : (x : C) → IsPieceReader nodes (Form x) (Stops x) (read x)) (choice : State → C) (moved : State → State) where
+  pub chosen_reader : IsPieceReader nodes (λ s. Form (choice s) (moved s)) (λ s. Stops (choice s) (moved s)) (λ c. read (choice (state_of c)) (cursor (moved (state_of c)) c.spare c.bytes))
+  chosen_reader = record {
+    found = λ s spare bytes x k fits e. let t = (is (choice s)).found (moved s) spare bytes x k fits e in record { front = t.front; parts = t.parts; rest_bytes = t.rest_bytes; form = t.form; counted = t.counted };
+    again = λ s t spare form rest x h. (is (choice s)).again (moved s) t spare form rest x h;
+    stops = λ s spare bytes stop fits e. (is (choice s)).stops (moved s) spare bytes stop fits e;
+    stopped = λ s spare bytes stop h. (is (choice s)).stopped (moved s) spare bytes stop h;
+    stays = λ s spare bytes more stop fits e other. (is (choice s)).stays (moved s) spare bytes more stop fits e other;
+  }
+
+-- ---- a piece behind which the bits stand as they were before it
+
+module _ {A : Type 0} (nodes : A → ℕ) (Inner : Forms A) (Outer : State → List ℕ → A → Dictionary → Type 0) (Stops : Stopping) (read : Cursor → Reads A) (is : IsPieceReader nodes Inner Stops read)
+    (to : (s : State) (b : List ℕ) (x : A) (u : State) → Inner s b x u → Outer s b x u.dictionary)
+    (from : (s : State) (b : List ℕ) (x : A) (d : Dictionary) → Outer s b x d → (bits : List Bool) × Inner s b x (record { dictionary = d; bits = bits })) where
+  abbrev pub Restored : Forms A
+  Restored s b x t = (t.bits ≡ s.bits) × Outer s b x t.dictionary
+
+  abbrev restore : List Bool → A × Cursor → Reads A
+  restore bits r = Ok (r.0, record { dictionary = r.1.dictionary; bits = bits; spare = r.1.spare; bytes = r.1.bytes })
+
+  abbrev restoring : Cursor → Reads A
+  restoring c = read c >>= restore c.bits
+
+  restored_found : (s : State) (spare : ℕ) (bytes : List ℕ) (x : A) (k : Cursor) → IsBytes bytes → restoring (cursor s spare bytes) ≡ Ok (x, k) → Passes nodes Restored s spare bytes x k
+  restored_found s spare bytes x k fits e =
+      let a = bind_ok (read (cursor s spare bytes)) (restore s.bits) (x, k) e in
+      let t = is.found s spare bytes a.0.0 a.0.1 fits a.1 in
+      subst (λ (z : A × Cursor). Passes nodes Restored s spare bytes z.0 z.1)
+      (ok_is {F = Stop} (a.0.0, record { dictionary = a.0.1.dictionary; bits = s.bits; spare = a.0.1.spare; bytes = a.0.1.bytes }) (x, k) a.2)
+      (record { front = t.front; parts = t.parts; rest_bytes = t.rest_bytes; form = (refl, to s t.front a.0.0 (state_of a.0.1) t.form); counted = t.counted })
+
+  pub restored_reader : IsPieceReader nodes Restored Stops restoring
+  restored_reader = record {
+    found = restored_found;
+    again = λ s t spare form rest x h.
+        let inner = from s form x t.dictionary h.1 in
+        rw (is.again s (record { dictionary = t.dictionary; bits = inner.0 }) spare form rest x inner.1, h.0) refl;
+    stops = λ s spare bytes stop fits e. elim (bind_err (read (cursor s spare bytes)) (restore s.bits) stop e) [
+      | at_first h ↦ is.stops s spare bytes stop fits h
+      | at_second x h e' ↦ absurd cc
+    ];
+    stopped = λ s spare bytes stop h. rw (is.stopped s spare bytes stop h) refl;
+    stays = λ s spare bytes more stop fits e other. elim (bind_err (read (cursor s spare bytes)) (restore s.bits) stop e) [
+      | at_first h ↦ rw (is.stays s spare bytes more stop fits h other) refl
+      | at_second x h e' ↦ absurd cc
+    ];
+  }
+
 -- ---- the same reader, said otherwise
 
-pub reader_as : {A : Type 0} (nodes : A → ℕ) (Form Other : Forms A) (Stops Elsewhere : Stopping) (read again_read : Cursor → Reads A)
+pub bound_again_is : {A B C F : Type 0} (r : Result A F) (f : A → Result B F) (g : B → Result C F) → (r >>= f >>= g) ≡ (r >>= λ x. (f x >>= g))
+bound_again_is (Ok x) f g = refl
+bound_again_is (Err e) f g = refl
+
+pub reader_as : {A : Type 0} (nodes others : A → ℕ) (Form Other : Forms A) (Stops Elsewhere : Stopping) (read again_read : Cursor → Reads A)
     → ((c : Cursor) → again_read c ≡ read c)
+    → ((s : State) (b : List ℕ) (x : A) (t : State) → Form s b x t → others x ≡ nodes x)
     → ((s : State) (b : List ℕ) (x : A) (t : State) → Form s b x t → Other s b x t) → ((s : State) (b : List ℕ) (x : A) (t : State) → Other s b x t → Form s b x t)
     → ((s : State) (spare : ℕ) (b : List ℕ) (stop : Stop) → Stops s spare b stop → Elsewhere s spare b stop) → ((s : State) (spare : ℕ) (b : List ℕ) (stop : Stop) → Elsewhere s spare b stop → Stops s spare b stop)
-    → IsPieceReader nodes Form Stops read → IsPieceReader nodes Other Elsewhere again_read
-reader_as nodes Form Other Stops Elsewhere read again_read same to from to_stop from_stop is = record {
+    → IsPieceReader nodes Form Stops read → IsPieceReader others Other Elsewhere again_read
+reader_as nodes others Form Other Stops Elsewhere read again_read same count to from to_stop from_stop is = record {
   found = λ s spare bytes x k fits e.
       let t = is.found s spare bytes x k fits (sym (same (cursor s spare bytes)) ∙ e) in
-      record { front = t.front; parts = t.parts; rest_bytes = t.rest_bytes; form = to s t.front x (state_of k) t.form; counted = t.counted };
-  again = λ s t spare form rest x h. same (cursor s (nodes x + spare) (form ++ rest)) ∙ is.again s t spare form rest x (from s form x t h);
+      record { front = t.front; parts = t.parts; rest_bytes = t.rest_bytes; form = to s t.front x (state_of k) t.form; counted = rw (count s t.front x (state_of k) t.form) t.counted };
+  again = λ s t spare form rest x h.
+      let inner = from s form x t h in
+      rw (count s form x t inner) (same (cursor s (nodes x + spare) (form ++ rest)) ∙ is.again s t spare form rest x inner);
   stops = λ s spare bytes stop fits e. to_stop s spare bytes stop (is.stops s spare bytes stop fits (sym (same (cursor s spare bytes)) ∙ e));
   stopped = λ s spare bytes stop h. same (cursor s spare bytes) ∙ is.stopped s spare bytes stop (from_stop s spare bytes stop h);
   stays = λ s spare bytes more stop fits e other. same (cursor s spare (bytes ++ more)) ∙ is.stays s spare bytes more stop fits (sym (same (cursor s spare bytes)) ∙ e) other;

@@ -1,0 +1,168 @@
+-- The reading functions of pieces and bodies read their forms, and stop exactly at their faults.
+use Rattle.std.proofs.Common.{◌≡◌, ◌≢◌, ℕ, zero, suc, ◌+◌, ℤ, Bool, true, false, List, [], ◌∷◌, ◌++◌, length, Option, Some, None, Result, Ok, Err, refl, sym, ap, subst, ◌∙◌, ◌⊎◌, inl, inr, arith, append-nil, zero-add, IsTrue}
+use Rattle.std.proofs.lemmas.List.{length-append}
+use Rattle.fast_wire.specs.Reader.{IsBytes}
+use Rattle.fast_wire.specs.Entity.{HasNoStop}
+use Rattle.fast_wire.specs.PresenceMap.{IsWholeMap}
+use Rattle.fast_wire.specs.Reading.{◌>>=◌, EntityFault, entity_at, map_at}
+use Rattle.fast_wire.specs.declared.fault.WireFault.{WireFault}
+use Rattle.fast_wire.specs.declared.fault.WireFault.TheVariants as wire
+use Rattle.fast_wire.proofs.FormReaders.{map_forms}
+use Rattle.fast_template.specs.declared.kind.Kind.{Kind}
+use Rattle.fast_template.specs.declared.kind.Kind.TheVariants as kind
+use Rattle.fast_template.specs.declared.kind.Presence.TheVariants.{Mandatory}
+use Rattle.fast_template.specs.declared.scalar.Scalar.{Scalar}
+use Rattle.fast_template.specs.declared.scalar.Scalar.TheVariants.{U32, I32, U64, I64, Decimal, Ascii, Unicode, Bytes}
+use Rattle.fast_template.specs.declared.resolved.FieldPart.{FieldPart}
+use Rattle.fast_template.specs.Scalar.{is_of}
+use Rattle.fast_template.specs.Resolved.{Instruction, Instructions, whole_field, field_in_parts, group_of, sequence_of, no_instructions, then_instruction, part_needs_bit, is_optional, has_map}
+use Rattle.fast_template.specs.TemplateSets.{IsTyped, HasTypedParts, HaveTypedParts}
+use Rattle.fast_dictionary.specs.declared.entry.Entry.{Entry}
+use Rattle.fast_dictionary.specs.Dictionary.{Dictionary, entry_at}
+use Rattle.fast_field.specs.declared.fault.FieldFault.TheVariants as field
+use Rattle.fast_field.specs.Fields.{Form}
+use Rattle.fast_field.specs.Parts.{HasDefault}
+use Rattle.fast_field.specs.FieldReading.{field_at}
+use Rattle.fast_field.proofs.FieldForms.{field_forms}
+use Rattle.fast_decoder.specs.declared.fault.Cause.{Cause}
+use Rattle.fast_decoder.specs.declared.fault.Cause.TheVariants.{Truncated}
+use Rattle.fast_decoder.specs.Nodes.{Item, single, group_items, sequence_elements, Items, no_items, then_item, Elements, no_elements, then_element, element_count, nodes_of, nodes_in, nodes_in_elements}
+use Rattle.fast_decoder.specs.Bits.{bit_for, after_bit}
+use Rattle.fast_decoder.specs.Bodies.{State, Then, Each, WithMap, PartBy, SegmentBy, PieceBy, BodyBy, after_part}
+use Rattle.fast_decoder.specs.Streams.{AnyMap}
+use Rattle.fast_decoder.specs.Faults.{cause_of_wire, cause_of_field, Stop, StopsAt, MapFault, PartStops, NodeStops, SegmentStops, Part, Passed, EachStops, PieceStops, BodyStops}
+use Rattle.fast_decoder.specs.Reading.{Cursor, state_of, Reads, stopped, placed, node_at, field_part_at, decimal_of, mantissa_at, own_map_at, segment_at, each_at, elements_at, group_at, behind_bit, piece_at, body_at}
+use Rattle.fast_decoder.specs.Readers.{cursor, IsPieceReader}
+use Rattle.fast_decoder.proofs.PieceReaders.{Forms, Stopping, Bound, BoundStops, Made, Given, NeverStops, CountedStops, placed_reader, counted_reader, bound_reader, made_reader, given_reader, reader_as}
+
+-- what is known of the values of a part: they are of its type, and there where it is mandatory
+pub record IsExact (p : FieldPart) : Type 0 where
+  pub default : HasDefault p
+  pub of_kind : (e : Entry) (bit : Bool) (b : List ℕ) (v : Scalar) → Form p e bit b (Some v) → IsTrue (is_of p.kind v)
+  pub there : p.presence ≡ Mandatory → (e : Entry) (bit : Bool) (b : List ℕ) → Form p e bit b None → ⊥
+
+-- ---- a part
+
+bit_is : (needs : Bool) (bits : List Bool) → needs ≡ false → bit_for needs bits ≡ true
+bit_is true bits e = absurd cc
+bit_is false bits e = refl
+
+abbrev PartStopping : FieldPart → Stopping
+PartStopping p s spare rest stop = PartStops p s rest stop
+
+pub part_reader : (p : FieldPart) → IsExact p → IsPieceReader (λ _. 0) (Part p) (PartStopping p) (field_part_at p)
+unfolding field_part_at
+part_reader p exact =
+    placed_reader field.NeedMore cause_of_field p.number
+    (λ s. field_at p (entry_at s.dictionary p.key) (bit_for (part_needs_bit p) s.bits))
+    (λ s. Form p (entry_at s.dictionary p.key) (bit_for (part_needs_bit p) s.bits))
+    (after_part p) refl
+    (λ s. field_forms p (entry_at s.dictionary p.key) (bit_for (part_needs_bit p) s.bits) (bit_is (part_needs_bit p) s.bits) exact.default)
+
+-- ---- a decimal in parts
+
+abbrev IsExponent : Option Scalar → Type 0
+IsExponent None = Unit {0}
+IsExponent (Some (I32 e)) = Unit {0}
+IsExponent (Some v) = ⊥
+
+abbrev IsMantissa : Option Scalar → Type 0
+IsMantissa (Some (I64 m)) = Unit {0}
+IsMantissa v = ⊥
+
+abbrev IsLength : Option Scalar → Type 0
+IsLength None = Unit {0}
+IsLength (Some (U32 n)) = Unit {0}
+IsLength (Some v) = ⊥
+
+of_int32 : (v : Scalar) → IsTrue (is_of kind.Int32 v) → IsExponent (Some v)
+of_int32 (U32 n) h = absurd cc
+of_int32 (I32 z) h = tt
+of_int32 (U64 n) h = absurd cc
+of_int32 (I64 z) h = absurd cc
+of_int32 (Decimal e m) h = absurd cc
+of_int32 (Ascii s) h = absurd cc
+of_int32 (Unicode s) h = absurd cc
+of_int32 (Bytes s) h = absurd cc
+
+of_int64 : (v : Scalar) → IsTrue (is_of kind.Int64 v) → IsMantissa (Some v)
+of_int64 (U32 n) h = absurd cc
+of_int64 (I32 z) h = absurd cc
+of_int64 (U64 n) h = absurd cc
+of_int64 (I64 z) h = tt
+of_int64 (Decimal e m) h = absurd cc
+of_int64 (Ascii s) h = absurd cc
+of_int64 (Unicode s) h = absurd cc
+of_int64 (Bytes s) h = absurd cc
+
+of_uint32 : (v : Scalar) → IsTrue (is_of kind.UInt32 v) → IsLength (Some v)
+of_uint32 (U32 n) h = tt
+of_uint32 (I32 z) h = absurd cc
+of_uint32 (U64 n) h = absurd cc
+of_uint32 (I64 z) h = absurd cc
+of_uint32 (Decimal e m) h = absurd cc
+of_uint32 (Ascii s) h = absurd cc
+of_uint32 (Unicode s) h = absurd cc
+of_uint32 (Bytes s) h = absurd cc
+
+exponent_possible : (p : FieldPart) → IsExact p → p.kind ≡ kind.Int32 → (s : State) (b : List ℕ) (v : Option Scalar) (t : State) → Part p s b v t → IsExponent v
+exponent_possible p exact is s b None t h = tt
+exponent_possible p exact is s b (Some v) t h = of_int32 v (rw is at (exact.of_kind _ _ b v h.0))
+
+mantissa_possible : (p : FieldPart) → IsExact p → p.kind ≡ kind.Int64 → p.presence ≡ Mandatory → (s : State) (b : List ℕ) (v : Option Scalar) (t : State) → Part p s b v t → IsMantissa v
+mantissa_possible p exact is mandatory s b None t h = absurd (exact.there mandatory _ _ b h.0)
+mantissa_possible p exact is mandatory s b (Some v) t h = of_int64 v (rw is at (exact.of_kind _ _ b v h.0))
+
+length_possible : (p : FieldPart) → IsExact p → p.kind ≡ kind.UInt32 → (s : State) (b : List ℕ) (v : Option Scalar) (t : State) → Part p s b v t → IsLength v
+length_possible p exact is s b None t h = tt
+length_possible p exact is s b (Some v) t h = of_uint32 v (rw is at (exact.of_kind _ _ b v h.0))
+
+-- the nodes of an item but for its own
+abbrev pub nodes_inside : Item → ℕ
+nodes_inside (single v) = 0
+nodes_inside (group_items ns) = nodes_in ns
+nodes_inside (sequence_elements es) = nodes_in_elements es
+
+nodes_of_is : (n : Item) → nodes_of n ≡ 1 + nodes_inside n
+nodes_of_is (single v) = refl
+nodes_of_is (group_items ns) = refl
+nodes_of_is (sequence_elements es) = refl
+
+abbrev DecimalOf : ℤ → Option Scalar → Forms Item
+DecimalOf e (Some (I64 m)) = Given (single (Some (Decimal e m)))
+DecimalOf e v = λ s b n t. ⊥
+
+decimal_reader : (e : ℤ) (v : Option Scalar) → IsMantissa v → IsPieceReader nodes_inside (DecimalOf e v) NeverStops (λ c. decimal_of e (v, c))
+decimal_reader e None h = absurd h
+decimal_reader e (Some (U32 n)) h = absurd h
+decimal_reader e (Some (I32 z)) h = absurd h
+decimal_reader e (Some (U64 n)) h = absurd h
+decimal_reader e (Some (I64 m)) h = given_reader (single (Some (Decimal e m))) nodes_inside refl
+decimal_reader e (Some (Decimal x m)) h = absurd h
+decimal_reader e (Some (Ascii s)) h = absurd h
+decimal_reader e (Some (Unicode s)) h = absurd h
+decimal_reader e (Some (Bytes s)) h = absurd h
+
+abbrev MantissaOf : FieldPart → Option Scalar → Forms Item
+MantissaOf p None = Given (single None)
+MantissaOf p (Some (I32 e)) = Bound (Part p) (DecimalOf e)
+MantissaOf p (Some v) = λ s b n t. ⊥
+
+abbrev MantissaStops : FieldPart → Option Scalar → Stopping
+MantissaStops p None = NeverStops
+MantissaStops p (Some (I32 e)) = BoundStops (λ _. 0) (Part p) (PartStopping p) (λ v. NeverStops)
+MantissaStops p (Some v) = NeverStops
+
+mantissa_reader : (p : FieldPart) → IsExact p → p.kind ≡ kind.Int64 → p.presence ≡ Mandatory → (v : Option Scalar) → IsExponent v
+    → IsPieceReader nodes_inside (MantissaOf p v) (MantissaStops p v) (λ c. mantissa_at p (v, c))
+mantissa_reader p exact is mandatory None h = given_reader (single None) nodes_inside refl
+mantissa_reader p exact is mandatory (Some (U32 n)) h = absurd h
+mantissa_reader p exact is mandatory (Some (I32 e)) h =
+    bound_reader (λ _. 0) (λ _ n. nodes_inside n) nodes_inside (Part p) (DecimalOf e) (PartStopping p) (λ v. NeverStops) IsMantissa (field_part_at p) (λ v c. decimal_of e (v, c))
+    (part_reader p exact) (mantissa_possible p exact is mandatory) (decimal_reader e) (λ x s b y t h. sym (zero-add (nodes_inside y)))
+mantissa_reader p exact is mandatory (Some (U64 n)) h = absurd h
+mantissa_reader p exact is mandatory (Some (I64 z)) h = absurd h
+mantissa_reader p exact is mandatory (Some (Decimal x m)) h = absurd h
+mantissa_reader p exact is mandatory (Some (Ascii s)) h = absurd h
+mantissa_reader p exact is mandatory (Some (Unicode s)) h = absurd h
+mantissa_reader p exact is mandatory (Some (Bytes s)) h = absurd h
