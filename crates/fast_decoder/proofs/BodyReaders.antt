@@ -33,7 +33,8 @@ use Rattle.fast_decoder.specs.Streams.{AnyMap}
 use Rattle.fast_decoder.specs.Faults.{cause_of_wire, cause_of_field, Stop, StopsAt, MapFault, PartStops, NodeStops, SegmentStops, Part, Passed, EachStops, PieceStops, BodyStops}
 use Rattle.fast_decoder.specs.Reading.{Cursor, state_of, Reads, stopped, placed, node_at, field_part_at, decimal_of, mantissa_at, own_map_at, segment_at, each_at, elements_at, group_at, behind_bit, piece_at, body_at}
 use Rattle.fast_decoder.specs.Readers.{cursor, IsPieceReader}
-use Rattle.fast_decoder.proofs.PieceReaders.{Forms, Stopping, Bound, BoundStops, Made, Given, NeverStops, CountedStops, placed_reader, counted_reader, bound_reader, made_reader, given_reader, reader_as}
+use Rattle.fast_decoder.proofs.MapFaults.{map_refused, map_faulty}
+use Rattle.fast_decoder.proofs.PieceReaders.{restore, restored_reader, chosen_reader, bound_again_is, Forms, Stopping, Bound, BoundStops, Made, Given, NeverStops, CountedStops, placed_reader, counted_reader, bound_reader, made_reader, given_reader, reader_as}
 
 -- what is known of the values of a part: they are of its type, and there where it is mandatory
 pub record IsExact (p : FieldPart) : Type 0 where
@@ -166,3 +167,100 @@ mantissa_reader p exact is mandatory (Some (Decimal x m)) h = absurd h
 mantissa_reader p exact is mandatory (Some (Ascii s)) h = absurd h
 mantissa_reader p exact is mandatory (Some (Unicode s)) h = absurd h
 mantissa_reader p exact is mandatory (Some (Bytes s)) h = absurd h
+
+abbrev as_bits : List Bool × Cursor → Reads (List Bool)
+as_bits x = Ok x
+
+abbrev as_cursor : Cursor → Result Cursor Stop
+as_cursor c = Ok c
+
+-- ---- a segment: its map where it has one, and what is inside
+
+module _ {A : Type 0} (number : ℕ) (nodes : A → ℕ) (Inside : Forms A) (InsideStops : Stopping) (inside : Cursor → Reads A) (is : IsPieceReader nodes Inside InsideStops inside)
+    (empty : (s : State) (b : List ℕ) (x : A) (t : State) → Inside s b x t → s.bits ≡ [] → t.bits ≡ []) where
+  abbrev pub SegmentForm : Bool → Forms A
+  SegmentForm has s b x t = (t.bits ≡ s.bits) × SegmentBy AnyMap has (λ u y w. Inside u y x w) s.dictionary b t.dictionary
+
+  abbrev pub SegmentStopping : Bool → Stopping
+  SegmentStopping has s spare rest stop = SegmentStops number has (λ u y. InsideStops u spare y stop) s.dictionary rest stop
+
+  abbrev under : Dictionary → List Bool → State
+  under d bits = record { dictionary = d; bits = bits }
+
+  -- without a map
+  blank_reader : IsPieceReader nodes (λ s b x t. Inside (under s.dictionary []) b x t) (λ s spare rest stop. InsideStops (under s.dictionary []) spare rest stop) (λ c. inside (cursor (under c.dictionary []) c.spare c.bytes))
+  blank_reader = chosen_reader nodes (λ (x : Bool). Inside) (λ x. InsideStops) (λ x. inside) (λ x. is) (λ s. true) (λ s. under s.dictionary [])
+
+  unmapped_reader : IsPieceReader nodes (SegmentForm false) (SegmentStopping false) (segment_at number false inside)
+  unmapped_reader =
+      restored_reader nodes (λ s b x t. Inside (under s.dictionary []) b x t) (λ s b x d. SegmentBy AnyMap false (λ u y w. Inside u y x w) s.dictionary b d)
+      (λ s spare rest stop. InsideStops (under s.dictionary []) spare rest stop) (λ c. inside (cursor (under c.dictionary []) c.spare c.bytes)) blank_reader
+      (λ s b x u h. subst (λ (bits : List Bool). Inside (under s.dictionary []) b x (under u.dictionary bits)) (empty (under s.dictionary []) b x u h refl) h)
+      (λ s b x d h. ([], h))
+
+  -- with one
+  abbrev with_bits : State → List Bool → State
+  with_bits s bits = under s.dictionary bits
+
+  map_reader : IsPieceReader (λ _. 0) (λ s b bits t. IsWholeMap b bits × (t ≡ with_bits s bits))
+      (λ s spare rest stop. StopsAt number (λ cause. (f : WireFault) × (map_at rest ≡ Err f) × (cause ≡ cause_of_wire f)) rest stop)
+      (λ c. placed cause_of_wire number c.bytes (map_at c.bytes) >>= λ v. Ok (v.0, cursor (with_bits (state_of c) v.0) c.spare v.1))
+  map_reader = placed_reader wire.NeedMore cause_of_wire number (λ s. map_at) (λ s. IsWholeMap) with_bits refl (λ s. map_forms)
+
+  abbrev MapForm : Forms (List Bool)
+  MapForm s b bits t = IsWholeMap b bits × (t ≡ with_bits s bits)
+
+  abbrev MapStopping : Stopping
+  MapStopping s spare rest stop = StopsAt number (λ cause. (f : WireFault) × (map_at rest ≡ Err f) × (cause ≡ cause_of_wire f)) rest stop
+
+  abbrev reading_map : Cursor → Reads (List Bool)
+  reading_map c = placed cause_of_wire number c.bytes (map_at c.bytes) >>= λ v. as_bits (v.0, cursor (with_bits (state_of c) v.0) c.spare v.1)
+
+  abbrev behind_map : Cursor → Reads A
+  behind_map c = reading_map c >>= λ x. inside x.1
+
+  behind_map_reader : IsPieceReader nodes (Bound MapForm (λ _. Inside)) (BoundStops (λ _. 0) MapForm MapStopping (λ _. InsideStops)) behind_map
+  behind_map_reader =
+      bound_reader (λ _. 0) (λ _ y. nodes y) nodes MapForm (λ _. Inside) MapStopping (λ _. InsideStops) (λ _. Unit {0}) reading_map (λ x. inside)
+      map_reader (λ s b x t h. tt) (λ x h. is) (λ x s b y t h. sym (zero-add (nodes y)))
+
+  mapped_same : (c : Cursor) (m : Result (List Bool × List ℕ) WireFault)
+      → ((placed cause_of_wire number c.bytes m >>= λ v. as_cursor (cursor (with_bits (state_of c) v.0) c.spare v.1)) >>= inside)
+      ≡ ((placed cause_of_wire number c.bytes m >>= λ v. as_bits (v.0, cursor (with_bits (state_of c) v.0) c.spare v.1)) >>= λ x. inside x.1)
+  mapped_same c (Ok v) = refl
+  mapped_same c (Err f) = refl
+
+  to_mapped : (s : State) (b : List ℕ) (x : A) (u : State) → Bound MapForm (λ _. Inside) s b x u → SegmentBy AnyMap true (λ u y w. Inside u y x w) s.dictionary b u.dictionary
+  to_mapped s b x u h = record {
+    bits = h.0;
+    left = u.bits;
+    map = h.1.front;
+    body = h.1.back;
+    parts = h.1.parts;
+    map_form = h.1.first.0;
+    inside = subst (λ (t : State). Inside t h.1.back x u) h.1.first.1 h.1.second;
+  }
+
+  from_mapped : (s : State) (b : List ℕ) (x : A) (d : Dictionary) → SegmentBy AnyMap true (λ u y w. Inside u y x w) s.dictionary b d → (bits : List Bool) × Bound MapForm (λ _. Inside) s b x (under d bits)
+  from_mapped s b x d h = (h.left, (h.bits, record { between = with_bits s h.bits; front = h.map; back = h.body; parts = h.parts; first = (h.map_form, refl); second = h.inside }))
+
+  to_map_stop : (s : State) (spare : ℕ) (rest : List ℕ) (stop : Stop) → BoundStops (λ _. 0) MapForm MapStopping (λ _. InsideStops) s spare rest stop → SegmentStopping true s spare rest stop
+  to_map_stop s spare rest stop (inl h) = inl (record { instruction_is = h.instruction_is; left_is = h.left_is; fault = (h.fault.0, map_refused rest h.fault.0 h.fault.1, h.fault.2) })
+  to_map_stop s spare rest stop (inr h) =
+      let same : spare ≡ h.between.spare = h.first.1 ∙ zero-add h.between.spare in
+      inr (record { between = h.between.value; front = h.front; back = h.back; parts = h.parts; first = h.first.0.0; second = rw (same, sym h.first.0.1) h.second })
+
+  from_map_stop : (s : State) (spare : ℕ) (rest : List ℕ) (stop : Stop) → SegmentStopping true s spare rest stop → BoundStops (λ _. 0) MapForm MapStopping (λ _. InsideStops) s spare rest stop
+  from_map_stop s spare rest stop (inl h) = inl (record { instruction_is = h.instruction_is; left_is = h.left_is; fault = (h.fault.0, map_faulty rest h.fault.0 h.fault.1, h.fault.2) })
+  from_map_stop s spare rest stop (inr h) =
+      inr (record { between = record { value = h.between; spare = spare; after = with_bits s h.between }; front = h.front; back = h.back; parts = h.parts; first = ((h.first, refl), sym (zero-add spare)); second = h.second })
+
+  mapped_reader : IsPieceReader nodes (SegmentForm true) (SegmentStopping true) (segment_at number true inside)
+  mapped_reader =
+      reader_as nodes nodes (SegmentForm true) (SegmentForm true) (BoundStops (λ _. 0) MapForm MapStopping (λ _. InsideStops)) (SegmentStopping true) (λ c. behind_map c >>= restore c.bits) (segment_at number true inside)
+      (λ c. ap (λ (r : Reads A). r >>= restore c.bits) (mapped_same c (map_at c.bytes))) (λ s b x t h. refl) (λ s b x t h. h) (λ s b x t h. h) to_map_stop from_map_stop
+      (restored_reader nodes (Bound MapForm (λ _. Inside)) (λ s b x d. SegmentBy AnyMap true (λ u y w. Inside u y x w) s.dictionary b d) (BoundStops (λ _. 0) MapForm MapStopping (λ _. InsideStops)) behind_map behind_map_reader to_mapped from_mapped)
+
+  pub segment_reader : (has : Bool) → IsPieceReader nodes (SegmentForm has) (SegmentStopping has) (segment_at number has inside)
+  segment_reader true = mapped_reader
+  segment_reader false = unmapped_reader

@@ -3,5 +3,6 @@ pub mod Rows
 pub mod WorkedStreams
 pub mod Weaker
 pub mod PieceReaders
+pub mod MapFaults
 pub mod BodyReaders
 pub mod Leaves

@@ -268,14 +268,14 @@ module _ {A C : Type 0} (nodes : A → ℕ) (Form : C → Forms A) (Stops : C �
 
 -- ---- a piece behind which the bits stand as they were before it
 
+abbrev pub restore : {A : Type 0} → List Bool → A × Cursor → Reads A
+restore bits r = Ok (r.0, record { dictionary = r.1.dictionary; bits = bits; spare = r.1.spare; bytes = r.1.bytes })
+
 module _ {A : Type 0} (nodes : A → ℕ) (Inner : Forms A) (Outer : State → List ℕ → A → Dictionary → Type 0) (Stops : Stopping) (read : Cursor → Reads A) (is : IsPieceReader nodes Inner Stops read)
     (to : (s : State) (b : List ℕ) (x : A) (u : State) → Inner s b x u → Outer s b x u.dictionary)
     (from : (s : State) (b : List ℕ) (x : A) (d : Dictionary) → Outer s b x d → (bits : List Bool) × Inner s b x (record { dictionary = d; bits = bits })) where
   abbrev pub Restored : Forms A
   Restored s b x t = (t.bits ≡ s.bits) × Outer s b x t.dictionary
-
-  abbrev restore : List Bool → A × Cursor → Reads A
-  restore bits r = Ok (r.0, record { dictionary = r.1.dictionary; bits = bits; spare = r.1.spare; bytes = r.1.bytes })
 
   abbrev restoring : Cursor → Reads A
   restoring c = read c >>= restore c.bits
