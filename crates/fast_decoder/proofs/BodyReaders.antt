@@ -264,3 +264,132 @@ module _ {A : Type 0} (number : ℕ) (nodes : A → ℕ) (Inside : Forms A) (Ins
   pub segment_reader : (has : Bool) → IsPieceReader nodes (SegmentForm has) (SegmentStopping has) (segment_at number has inside)
   segment_reader true = mapped_reader
   segment_reader false = unmapped_reader
+
+-- ---- elements, each a node and a segment
+
+abbrev as_elements : Elements × Cursor → Reads Elements
+as_elements x = Ok x
+
+-- the nodes of elements but for the first one's own
+nodes_in_elements_less : Elements → ℕ
+nodes_in_elements_less no_elements = 0
+nodes_in_elements_less (then_element ns es) = nodes_in ns + nodes_in_elements es
+
+state_is : (t s : State) → t.dictionary ≡ s.dictionary → t.bits ≡ s.bits → t ≡ s
+state_is t s d b = ap (λ (x : Dictionary). record { dictionary = x; bits = t.bits }) d ∙ ap (λ (x : List Bool). record { dictionary = s.dictionary; bits = x }) b
+
+module _ (number : ℕ) (One : Dictionary → List ℕ → Items → Dictionary → Type 0) (OneStops : ℕ → Dictionary → List ℕ → Stop → Type 0) (one : Cursor → Reads Items)
+    (is : IsPieceReader nodes_in (λ s b ns t. (t.bits ≡ s.bits) × One s.dictionary b ns t.dictionary) (λ s spare rest stop. OneStops spare s.dictionary rest stop) one) where
+  abbrev OneForm : Forms Items
+  OneForm s b ns t = (t.bits ≡ s.bits) × One s.dictionary b ns t.dictionary
+
+  abbrev OneStopping : Stopping
+  OneStopping s spare rest stop = OneStops spare s.dictionary rest stop
+
+  abbrev pub EachForm : ℕ → Forms Elements
+  EachForm n s b es t = (element_count es ≡ n) × (t.bits ≡ s.bits) × Each One s.dictionary b es t.dictionary
+
+  abbrev pub EachStopping : ℕ → Stopping
+  EachStopping n s spare rest stop = EachStops number One (λ k d z. OneStops k d z stop) n spare s.dictionary rest stop
+
+  later_elements : Elements → ℕ
+  later_elements no_elements = 0
+  later_elements (then_element ns es) = nodes_in_elements es
+
+  abbrev NextForm : ℕ → Items → Forms Elements
+  NextForm n ns = Made (then_element ns) (EachForm n)
+
+  next_reader : (n : ℕ) → IsPieceReader nodes_in_elements (EachForm n) (EachStopping n) (each_at number one n) → (ns : Items) → Unit {0}
+      → IsPieceReader later_elements (NextForm n ns) (EachStopping n) (λ c. each_at number one n c >>= λ rs. Ok (then_element ns rs.0, rs.1))
+  unfolding later_elements
+  next_reader n rest ns h = made_reader (then_element ns) nodes_in_elements later_elements (λ es. refl) (EachForm n) (EachStopping n) (each_at number one n) rest
+
+  abbrev each_next : ℕ → Cursor → Reads Elements
+  each_next n c = one c >>= λ r. (each_at number one n r.1 >>= λ rs. as_elements (then_element r.0 rs.0, rs.1))
+
+  sums : (n : ℕ) (ns : Items) (s : State) (b : List ℕ) (es : Elements) (t : State) → NextForm n ns s b es t → nodes_in_elements_less es ≡ nodes_in ns + later_elements es
+  unfolding later_elements nodes_in_elements_less
+  sums n ns s b es t h = rw h.1 refl
+
+  next_one_reader : (n : ℕ) → IsPieceReader nodes_in_elements (EachForm n) (EachStopping n) (each_at number one n)
+      → IsPieceReader nodes_in_elements_less (Bound OneForm (NextForm n)) (BoundStops nodes_in OneForm OneStopping (λ _. EachStopping n)) (each_next n)
+  next_one_reader n rest =
+      bound_reader nodes_in (λ _ es. later_elements es) nodes_in_elements_less OneForm (NextForm n) OneStopping (λ _. EachStopping n) (λ _. Unit {0}) one
+      (λ ns c. each_at number one n c >>= λ rs. as_elements (then_element ns rs.0, rs.1)) is (λ s b x t h. tt) (next_reader n rest) (sums n)
+
+  each_to : (n : ℕ) (s : State) (b : List ℕ) (es : Elements) (t : State) → Bound OneForm (NextForm n) s b es t → EachForm (suc n) s b es t
+  each_to n s b es t h =
+      let u = h.1.between in
+      let later = h.1.second in
+      rw later.1 (
+        (let count = later.2.0 in omega arith),
+        later.2.1 ∙ h.1.first.0,
+        record { between = u.dictionary; front = h.1.front; back = h.1.back; parts = h.1.parts; first = h.1.first.1; second = later.2.2 },
+      )
+
+  each_from : (n : ℕ) (s : State) (b : List ℕ) (es : Elements) (t : State) → EachForm (suc n) s b es t → Bound OneForm (NextForm n) s b es t
+  each_from n s b no_elements t h = let none = h.0 in absurd (omega arith)
+  each_from n s b (then_element ns es) t h = (
+    ns,
+    record {
+      between = record { dictionary = h.2.between; bits = s.bits };
+      front = h.2.front;
+      back = h.2.back;
+      parts = h.2.parts;
+      first = (refl, h.2.first);
+      second = (es, refl, ((let count = h.0 in omega arith), h.1, h.2.second));
+    },
+  )
+
+  abbrev NextStopping : ℕ → Stopping
+  NextStopping n s spare rest stop =
+      OneStops spare s.dictionary rest stop
+      ⊎ Then (λ x (p : Passed Items Dictionary). One s.dictionary x p.value p.after × (spare ≡ nodes_in p.value + p.spare)) (λ p y. EachStops number One (λ k d z. OneStops k d z stop) n p.spare p.after y stop) rest
+
+  next_to_stop : (n : ℕ) (s : State) (spare : ℕ) (rest : List ℕ) (stop : Stop) → BoundStops nodes_in OneForm OneStopping (λ _. EachStopping n) s spare rest stop → NextStopping n s spare rest stop
+  next_to_stop n s spare rest stop (inl h) = inl h
+  next_to_stop n s spare rest stop (inr h) =
+      inr (record {
+        between = record { value = h.between.value; spare = h.between.spare; after = h.between.after.dictionary };
+        front = h.front;
+        back = h.back;
+        parts = h.parts;
+        first = (h.first.0.1, h.first.1);
+        second = h.second;
+      })
+
+  next_from_stop : (n : ℕ) (s : State) (spare : ℕ) (rest : List ℕ) (stop : Stop) → NextStopping n s spare rest stop → BoundStops nodes_in OneForm OneStopping (λ _. EachStopping n) s spare rest stop
+  next_from_stop n s spare rest stop (inl h) = inl h
+  next_from_stop n s spare rest stop (inr h) =
+      inr (record {
+        between = record { value = h.between.value; spare = h.between.spare; after = record { dictionary = h.between.after; bits = s.bits } };
+        front = h.front;
+        back = h.back;
+        parts = h.parts;
+        first = ((refl, h.first.0), h.first.1);
+        second = h.second;
+      })
+
+  each_count : (n : ℕ) (s : State) (b : List ℕ) (es : Elements) (t : State) → EachForm (suc n) s b es t → nodes_in_elements es ≡ 1 + nodes_in_elements_less es
+  unfolding nodes_in_elements_less
+  each_count n s b no_elements t h = let none = h.0 in absurd (omega arith)
+  each_count n s b (then_element ns es) t h = omega arith
+
+  no_element : (s : State) (b : List ℕ) (es : Elements) (t : State) → Given no_elements s b es t → EachForm zero s b es t
+  no_element s b es t h = rw (h.1, h.2) (refl, refl, (h.0, refl))
+
+  none_given : (s : State) (b : List ℕ) (es : Elements) (t : State) → EachForm zero s b es t → Given no_elements s b es t
+  none_given s b no_elements t h = (h.2.0, refl, state_is t s h.2.1 h.1)
+  none_given s b (then_element ns es) t h = let some = h.0 in absurd (omega arith)
+
+  pub each_reader : (n : ℕ) → IsPieceReader nodes_in_elements (EachForm n) (EachStopping n) (each_at number one n)
+  each_reader zero =
+      reader_as nodes_in_elements nodes_in_elements (Given no_elements) (EachForm zero) NeverStops (EachStopping zero) (λ c. Ok (no_elements, c)) (each_at number one zero)
+      (λ c. refl) (λ s b x t h. refl) no_element none_given (λ s spare rest stop h. h) (λ s spare rest stop h. h) (given_reader no_elements nodes_in_elements refl)
+  each_reader (suc n) =
+      reader_as (λ es. 1 + nodes_in_elements_less es) nodes_in_elements (EachForm (suc n)) (EachForm (suc n)) (CountedStops number (NextStopping n)) (EachStopping (suc n)) (λ c. node_at number c >>= each_next n) (each_at number one (suc n))
+      (λ c. bound_again_is (node_at number c) one (λ r. (each_at number one n r.1 >>= λ rs. as_elements (then_element r.0 rs.0, rs.1)))) (each_count n) (λ s b x t h. h) (λ s b x t h. h)
+      (λ s spare rest stop h. h) (λ s spare rest stop h. h)
+      (counted_reader number nodes_in_elements_less (EachForm (suc n)) (NextStopping n) (each_next n)
+      (reader_as nodes_in_elements_less nodes_in_elements_less (Bound OneForm (NextForm n)) (EachForm (suc n)) (BoundStops nodes_in OneForm OneStopping (λ _. EachStopping n)) (NextStopping n) (each_next n) (each_next n)
+      (λ c. refl) (λ s b x t h. refl) (each_to n) (each_from n) (next_to_stop n) (next_from_stop n) (next_one_reader n (each_reader n))))
