@@ -10,6 +10,7 @@ use Rattle.fast_wire.specs.declared.fault.WireFault.TheVariants as wire
 use Rattle.fast_wire.proofs.FormReaders.{map_forms}
 use Rattle.fast_template.specs.declared.kind.Kind.{Kind}
 use Rattle.fast_template.specs.declared.kind.Kind.TheVariants as kind
+use Rattle.fast_template.specs.declared.kind.Presence.{Presence}
 use Rattle.fast_template.specs.declared.kind.Presence.TheVariants.{Mandatory}
 use Rattle.fast_template.specs.declared.scalar.Scalar.{Scalar}
 use Rattle.fast_template.specs.declared.scalar.Scalar.TheVariants.{U32, I32, U64, I64, Decimal, Ascii, Unicode, Bytes}
@@ -393,3 +394,142 @@ module _ (number : ℕ) (One : Dictionary → List ℕ → Items → Dictionary 
       (counted_reader number nodes_in_elements_less (EachForm (suc n)) (NextStopping n) (each_next n)
       (reader_as nodes_in_elements_less nodes_in_elements_less (Bound OneForm (NextForm n)) (EachForm (suc n)) (BoundStops nodes_in OneForm OneStopping (λ _. EachStopping n)) (NextStopping n) (each_next n) (each_next n)
       (λ c. refl) (λ s b x t h. refl) (each_to n) (each_from n) (next_to_stop n) (next_from_stop n) (next_one_reader n (each_reader n))))
+
+  abbrev pub ElementsOf : Option Scalar → Forms Item
+  ElementsOf None = Given (single None)
+  ElementsOf (Some (U32 n)) = Made sequence_elements (EachForm n)
+  ElementsOf (Some v) = λ s b n t. ⊥
+
+  abbrev pub ElementsStopping : Option Scalar → Stopping
+  ElementsStopping (Some (U32 n)) = EachStopping n
+  ElementsStopping v = NeverStops
+
+  pub elements_reader : (v : Option Scalar) → IsLength v → IsPieceReader nodes_inside (ElementsOf v) (ElementsStopping v) (λ c. elements_at number one (v, c))
+  elements_reader None h = given_reader (single None) nodes_inside refl
+  elements_reader (Some (U32 n)) h = made_reader sequence_elements nodes_in_elements nodes_inside (λ es. refl) (EachForm n) (EachStopping n) (each_at number one n) (each_reader n)
+  elements_reader (Some (I32 z)) h = absurd h
+  elements_reader (Some (U64 n)) h = absurd h
+  elements_reader (Some (I64 z)) h = absurd h
+  elements_reader (Some (Decimal x m)) h = absurd h
+  elements_reader (Some (Ascii s)) h = absurd h
+  elements_reader (Some (Unicode s)) h = absurd h
+  elements_reader (Some (Bytes s)) h = absurd h
+
+-- ---- a group, by its bit
+
+module _ (needs : Bool) (Seg : Forms Items) (SegStops : Stopping) (inside : Cursor → Reads Items) (is : IsPieceReader nodes_in Seg SegStops inside) where
+  abbrev passed : State → State
+  passed s = record { dictionary = s.dictionary; bits = after_bit needs s.bits }
+
+  abbrev pub Chosen : Bool → Forms Item
+  Chosen false = Given (single None)
+  Chosen true = Made group_items Seg
+
+  abbrev pub ChosenStops : Bool → Stopping
+  ChosenStops false = NeverStops
+  ChosenStops true = SegStops
+
+  by_bit : (t : Bool) → IsPieceReader nodes_inside (Chosen t) (ChosenStops t) (group_at t inside)
+  by_bit false = given_reader (single None) nodes_inside refl
+  by_bit true = made_reader group_items nodes_in nodes_inside (λ ns. refl) Seg SegStops inside is
+
+  pub group_reader : IsPieceReader nodes_inside (λ s. Chosen (bit_for needs s.bits) (passed s)) (λ s. ChosenStops (bit_for needs s.bits) (passed s)) (λ c. group_at (bit_for needs c.bits) inside (behind_bit needs c))
+  group_reader = chosen_reader nodes_inside Chosen ChosenStops (λ t. group_at t inside) by_bit (λ s. bit_for needs s.bits) passed
+
+-- ---- one instruction: from the forms of its readers to those of the page
+
+-- what comes first has all the bytes, where nothing comes behind it
+whole_is : (b front back : List ℕ) → b ≡ front ++ back → back ≡ [] → b ≡ front
+whole_is b front back parts none = parts ∙ ap (λ (z : List ℕ). front ++ z) none ∙ append-nil front
+
+module _ (name : List ℕ) (number : ℕ) where
+  module _ (presence : Presence) (whole : FieldPart) where
+    abbrev Whole : Forms Item
+    Whole s b n t = PieceBy Form AnyMap (whole_field name number presence whole) s b n t
+
+    field_to : (s : State) (b : List ℕ) (n : Item) (t : State) → Made single (Part whole) s b n t → Whole s b n t
+    field_to s b n t h = rw h.1 h.2
+
+    field_from : (s : State) (b : List ℕ) (n : Item) (t : State) → Whole s b n t → Made single (Part whole) s b n t
+    field_from s b (single v) t h = (v, refl, h)
+    field_from s b (group_items ns) t h = absurd h
+    field_from s b (sequence_elements es) t h = absurd h
+
+  module _ (presence : Presence) (exponent mantissa : FieldPart) where
+    abbrev Parts : Forms Item
+    Parts s b n t = PieceBy Form AnyMap (field_in_parts name number presence exponent mantissa) s b n t
+
+    mantissa_to : (s : State) (b : List ℕ) (n : Item) (t : State) (e : ℤ) (w : Option Scalar) (h : Then (λ x u. Part exponent s x (Some (I32 e)) u) (λ u b. Then (λ x k. Part mantissa u x w k) (λ k b. DecimalOf e w k b n t) b) b) → Parts s b n t
+    mantissa_to s b n t e (Some (I64 m)) h =
+        let back = h.second in
+        let same : h.back ≡ back.front = whole_is h.back back.front back.back back.parts back.second.0 in
+        rw (back.second.1, back.second.2) (record { between = h.between; front = h.front; back = h.back; parts = h.parts; first = h.first; second = subst (λ (z : List ℕ). Part mantissa h.between z (Some (I64 m)) back.between) (sym same) back.first })
+    mantissa_to s b n t e None h = absurd h.second.second
+    mantissa_to s b n t e (Some (U32 x)) h = absurd h.second.second
+    mantissa_to s b n t e (Some (I32 x)) h = absurd h.second.second
+    mantissa_to s b n t e (Some (U64 x)) h = absurd h.second.second
+    mantissa_to s b n t e (Some (Decimal x m)) h = absurd h.second.second
+    mantissa_to s b n t e (Some (Ascii x)) h = absurd h.second.second
+    mantissa_to s b n t e (Some (Unicode x)) h = absurd h.second.second
+    mantissa_to s b n t e (Some (Bytes x)) h = absurd h.second.second
+
+    parts_to_of : (s : State) (b : List ℕ) (n : Item) (t : State) (v : Option Scalar) → Then (λ x u. Part exponent s x v u) (λ u b. MantissaOf mantissa v u b n t) b → Parts s b n t
+    parts_to_of s b n t None h =
+        let same : b ≡ h.front = whole_is b h.front h.back h.parts h.second.0 in
+        rw (h.second.1, h.second.2) (subst (λ (z : List ℕ). Part exponent s z None h.between) (sym same) h.first)
+    parts_to_of s b n t (Some (I32 e)) h =
+        mantissa_to s b n t e h.second.0 (record { between = h.between; front = h.front; back = h.back; parts = h.parts; first = h.first; second = h.second.1 })
+    parts_to_of s b n t (Some (U32 x)) h = absurd h.second
+    parts_to_of s b n t (Some (U64 x)) h = absurd h.second
+    parts_to_of s b n t (Some (I64 x)) h = absurd h.second
+    parts_to_of s b n t (Some (Decimal x m)) h = absurd h.second
+    parts_to_of s b n t (Some (Ascii x)) h = absurd h.second
+    parts_to_of s b n t (Some (Unicode x)) h = absurd h.second
+    parts_to_of s b n t (Some (Bytes x)) h = absurd h.second
+
+    parts_to : (s : State) (b : List ℕ) (n : Item) (t : State) → Bound (Part exponent) (MantissaOf mantissa) s b n t → Parts s b n t
+    parts_to s b n t h = parts_to_of s b n t h.0 h.1
+
+    parts_from : (s : State) (b : List ℕ) (n : Item) (t : State) → Parts s b n t → Bound (Part exponent) (MantissaOf mantissa) s b n t
+    parts_from s b (single None) t h = (None, record { between = t; front = b; back = []; parts = sym (append-nil b); first = h; second = (refl, refl, refl) })
+    parts_from s b (single (Some (Decimal e m))) t h = (
+      Some (I32 e),
+      record {
+        between = h.between;
+        front = h.front;
+        back = h.back;
+        parts = h.parts;
+        first = h.first;
+        second = (Some (I64 m), record { between = t; front = h.back; back = []; parts = sym (append-nil h.back); first = h.second; second = (refl, refl, refl) });
+      },
+    )
+    parts_from s b n t h = absurd h
+
+    abbrev PartsStopping : Stopping
+    PartsStopping s spare rest stop =
+        PartStops exponent s rest stop
+        ⊎ Then (λ x between. (e : ℤ) × Part exponent s x (Some (I32 e)) between) (λ between y. PartStops mantissa between y stop) rest
+
+    abbrev PartsBound : Stopping
+    PartsBound = BoundStops (λ _. 0) (Part exponent) (PartStopping exponent) (MantissaStops mantissa)
+
+    parts_to_behind : (s : State) (spare : ℕ) (rest : List ℕ) (stop : Stop) (v : Option Scalar) (u : State) (k : ℕ) (front back : List ℕ) → rest ≡ front ++ back → Part exponent s front v u → MantissaStops mantissa v u k back stop → PartsStopping s spare rest stop
+    parts_to_behind s spare rest stop (Some (I32 e)) u k front back parts first (inl h) = inr (record { between = u; front = front; back = back; parts = parts; first = (e, first); second = h })
+    parts_to_behind s spare rest stop (Some (I32 e)) u k front back parts first (inr h) = absurd h.second
+    parts_to_behind s spare rest stop v u k front back parts first h = absurd h
+
+    parts_to_stop : (s : State) (spare : ℕ) (rest : List ℕ) (stop : Stop) → PartsBound s spare rest stop → PartsStopping s spare rest stop
+    parts_to_stop s spare rest stop (inl h) = inl h
+    parts_to_stop s spare rest stop (inr h) = parts_to_behind s spare rest stop h.between.value h.between.after h.between.spare h.front h.back h.parts h.first.0 h.second
+
+    parts_from_stop : (s : State) (spare : ℕ) (rest : List ℕ) (stop : Stop) → PartsStopping s spare rest stop → PartsBound s spare rest stop
+    parts_from_stop s spare rest stop (inl h) = inl h
+    parts_from_stop s spare rest stop (inr h) =
+        inr (record {
+          between = record { value = Some (I32 h.first.0); spare = spare; after = h.between };
+          front = h.front;
+          back = h.back;
+          parts = h.parts;
+          first = (h.first.1, sym (zero-add spare));
+          second = inl h.second;
+        })
