@@ -1,5 +1,5 @@
 -- The reading functions of pieces and bodies read their forms, and stop exactly at their faults.
-use Rattle.std.proofs.Common.{◌≡◌, ◌≢◌, ℕ, zero, suc, ◌+◌, ℤ, Bool, true, false, List, [], ◌∷◌, ◌++◌, length, Option, Some, None, Result, Ok, Err, refl, sym, ap, subst, ◌∙◌, ◌⊎◌, inl, inr, arith, append-nil, zero-add, IsTrue}
+use Rattle.std.proofs.Common.{◌≡◌, ◌≢◌, ℕ, zero, suc, ◌+◌, ℤ, Bool, true, false, List, [], ◌∷◌, ◌++◌, length, drop, Option, Some, None, Result, Ok, Err, refl, sym, ap, subst, ◌∙◌, ◌⊎◌, inl, inr, arith, append-nil, zero-add, IsTrue}
 use Rattle.std.proofs.lemmas.List.{length-append}
 use Rattle.fast_wire.specs.Reader.{IsBytes}
 use Rattle.fast_wire.specs.Entity.{HasNoStop}
@@ -28,12 +28,13 @@ use Rattle.fast_field.proofs.FieldForms.{field_forms}
 use Rattle.fast_decoder.specs.declared.fault.Cause.{Cause}
 use Rattle.fast_decoder.specs.declared.fault.Cause.TheVariants.{Truncated}
 use Rattle.fast_decoder.specs.Nodes.{Item, single, group_items, sequence_elements, Items, no_items, then_item, Elements, no_elements, then_element, element_count, nodes_of, nodes_in, nodes_in_elements}
-use Rattle.fast_decoder.specs.Bits.{bit_for, after_bit}
+use Rattle.fast_decoder.specs.Bits.{bit_for, after_bit, takes}
 use Rattle.fast_decoder.specs.Bodies.{State, Then, Each, WithMap, PartBy, SegmentBy, PieceBy, BodyBy, after_part}
 use Rattle.fast_decoder.specs.Streams.{AnyMap}
 use Rattle.fast_decoder.specs.Faults.{cause_of_wire, cause_of_field, Stop, StopsAt, MapFault, PartStops, NodeStops, SegmentStops, Part, Passed, EachStops, PieceStops, BodyStops}
 use Rattle.fast_decoder.specs.Reading.{Cursor, state_of, Reads, stopped, placed, node_at, field_part_at, decimal_of, mantissa_at, own_map_at, segment_at, each_at, elements_at, group_at, behind_bit, piece_at, body_at}
 use Rattle.fast_decoder.specs.Readers.{cursor, IsPieceReader}
+use Rattle.fast_decoder.proofs.Leaves.{bits_taken_are}
 use Rattle.fast_decoder.proofs.MapFaults.{map_refused, map_faulty}
 use Rattle.fast_decoder.proofs.PieceReaders.{restore, restored_reader, chosen_reader, bound_again_is, Forms, Stopping, Bound, BoundStops, Made, Given, NeverStops, CountedStops, placed_reader, counted_reader, bound_reader, made_reader, given_reader, reader_as}
 
@@ -533,3 +534,279 @@ module _ (name : List ℕ) (number : ℕ) where
           first = (h.first.1, sym (zero-add spare));
           second = inl h.second;
         })
+
+  -- groups and sequences, over what their members are
+  module _ (presence : Presence) (members : Instructions) where
+    abbrev Inside : Forms Items
+    Inside s b ns t = BodyBy Form AnyMap members s b ns t
+
+    abbrev InsideStops : Stopping
+    InsideStops s spare rest stop = BodyStops members s spare rest stop
+
+    abbrev Members : Forms Items
+    Members s b ns t = (t.bits ≡ s.bits) × SegmentBy AnyMap (has_map members) (λ u y w. Inside u y ns w) s.dictionary b t.dictionary
+
+    abbrev MembersStopping : Stopping
+    MembersStopping s spare rest stop = SegmentStops number (has_map members) (λ u y. InsideStops u spare y stop) s.dictionary rest stop
+
+    abbrev needs : Bool
+    needs = is_optional presence
+
+    abbrev behind : State → State
+    behind s = record { dictionary = s.dictionary; bits = after_bit needs s.bits }
+
+    abbrev Group : Forms Item
+    Group s b n t = PieceBy Form AnyMap (group_of name number presence members) s b n t
+
+    abbrev Choice : Bool → Forms Item
+    Choice false = Given (single None)
+    Choice true = Made group_items Members
+
+    group_to_of : (s : State) (b : List ℕ) (n : Item) (t : State) (bit : Bool) → bit_for needs s.bits ≡ bit → Choice bit (behind s) b n t → Group s b n t
+    group_to_of s b n t false is h = rw h.1 (is, h.0, h.2)
+    group_to_of s b n t true is h = rw h.1 (is, h.2.0, h.2.1)
+
+    group_from_of : (s : State) (b : List ℕ) (n : Item) (t : State) (bit : Bool) → bit_for needs s.bits ≡ bit → Group s b n t → Choice bit (behind s) b n t
+    group_from_of s b (single None) t false is h = (h.1, refl, h.2)
+    group_from_of s b (single None) t true is h = let no = h.0 in absurd cc
+    group_from_of s b (group_items ns) t false is h = let yes = h.0 in absurd cc
+    group_from_of s b (group_items ns) t true is h = (ns, refl, (h.1, h.2))
+    group_from_of s b n t bit is h = absurd h
+
+    abbrev ChoiceStops : Bool → Stopping
+    ChoiceStops false = NeverStops
+    ChoiceStops true = MembersStopping
+
+    abbrev GroupStopping : Stopping
+    GroupStopping s spare rest stop = (bit_for needs s.bits ≡ true) × MembersStopping s spare rest stop
+
+    group_to_stop_of : (s : State) (spare : ℕ) (rest : List ℕ) (stop : Stop) (bit : Bool) → bit_for needs s.bits ≡ bit → ChoiceStops bit (behind s) spare rest stop → GroupStopping s spare rest stop
+    group_to_stop_of s spare rest stop false is h = absurd h
+    group_to_stop_of s spare rest stop true is h = (is, h)
+
+    group_from_stop_of : (s : State) (spare : ℕ) (rest : List ℕ) (stop : Stop) (bit : Bool) → bit_for needs s.bits ≡ bit → GroupStopping s spare rest stop → ChoiceStops bit (behind s) spare rest stop
+    group_from_stop_of s spare rest stop false is h = let yes = h.0 in absurd cc
+    group_from_stop_of s spare rest stop true is h = h.1
+
+  module _ (presence : Presence) (length : FieldPart) (members : Instructions) where
+    abbrev One : Dictionary → List ℕ → Items → Dictionary → Type 0
+    One d x ns e = SegmentBy AnyMap (has_map members) (λ t z u. BodyBy Form AnyMap members t z ns u) d x e
+
+    abbrev OneStops : ℕ → Dictionary → List ℕ → Stop → Type 0
+    OneStops k d z stop = SegmentStops number (has_map members) (λ t w. BodyStops members t k w stop) d z stop
+
+    abbrev Sequence : Forms Item
+    Sequence s b n t = PieceBy Form AnyMap (sequence_of name number presence length members) s b n t
+
+    abbrev SomeElements : ℕ → Forms Elements
+    SomeElements n s b es t = (element_count es ≡ n) × (t.bits ≡ s.bits) × Each One s.dictionary b es t.dictionary
+
+    abbrev ElementsBy : Option Scalar → Forms Item
+    ElementsBy None = Given (single None)
+    ElementsBy (Some (U32 n)) = Made sequence_elements (SomeElements n)
+    ElementsBy (Some v) = λ s b n t. ⊥
+
+    sequence_to_of : (s : State) (b : List ℕ) (n : Item) (t : State) (v : Option Scalar) → Then (λ x u. Part length s x v u) (λ u b. ElementsBy v u b n t) b → Sequence s b n t
+    sequence_to_of s b n t None h =
+        let same : b ≡ h.front = whole_is b h.front h.back h.parts h.second.0 in
+        rw (h.second.1, h.second.2) (subst (λ (z : List ℕ). Part length s z None h.between) (sym same) h.first)
+    sequence_to_of s b n t (Some (U32 k)) h =
+        let elements = h.second.2 in
+        rw h.second.1 (record {
+          between = h.between;
+          front = h.front;
+          back = h.back;
+          parts = h.parts;
+          first = subst (λ (m : ℕ). Part length s h.front (Some (U32 m)) h.between) (sym elements.0) h.first;
+          second = (elements.1, elements.2);
+        })
+    sequence_to_of s b n t (Some (I32 x)) h = absurd h.second
+    sequence_to_of s b n t (Some (U64 x)) h = absurd h.second
+    sequence_to_of s b n t (Some (I64 x)) h = absurd h.second
+    sequence_to_of s b n t (Some (Decimal x m)) h = absurd h.second
+    sequence_to_of s b n t (Some (Ascii x)) h = absurd h.second
+    sequence_to_of s b n t (Some (Unicode x)) h = absurd h.second
+    sequence_to_of s b n t (Some (Bytes x)) h = absurd h.second
+
+    sequence_to : (s : State) (b : List ℕ) (n : Item) (t : State) → Bound (Part length) ElementsBy s b n t → Sequence s b n t
+    sequence_to s b n t h = sequence_to_of s b n t h.0 h.1
+
+    sequence_from : (s : State) (b : List ℕ) (n : Item) (t : State) → Sequence s b n t → Bound (Part length) ElementsBy s b n t
+    sequence_from s b (single None) t h = (None, record { between = t; front = b; back = []; parts = sym (append-nil b); first = h; second = (refl, refl, refl) })
+    sequence_from s b (sequence_elements es) t h = (
+      Some (U32 (element_count es)),
+      record { between = h.between; front = h.front; back = h.back; parts = h.parts; first = h.first; second = (es, refl, (refl, h.second.0, h.second.1)) },
+    )
+    sequence_from s b n t h = absurd h
+
+    abbrev ElementStops : Option Scalar → Stopping
+    ElementStops (Some (U32 n)) = λ s spare rest stop. EachStops number One (λ k d z. OneStops k d z stop) n spare s.dictionary rest stop
+    ElementStops v = NeverStops
+
+    abbrev SequenceStopping : Stopping
+    SequenceStopping s spare rest stop =
+        PartStops length s rest stop
+        ⊎ Then (λ x (p : Passed ℕ State). Part length s x (Some (U32 p.value)) p.after × (p.spare ≡ spare))
+        (λ p y. EachStops number One (λ k d z. OneStops k d z stop) p.value p.spare p.after.dictionary y stop) rest
+
+    abbrev SequenceBound : Stopping
+    SequenceBound = BoundStops (λ _. 0) (Part length) (PartStopping length) ElementStops
+
+    sequence_to_behind : (s : State) (spare : ℕ) (rest : List ℕ) (stop : Stop) (v : Option Scalar) (u : State) (k : ℕ) (front back : List ℕ) → rest ≡ front ++ back → Part length s front v u → spare ≡ 0 + k
+        → ElementStops v u k back stop → SequenceStopping s spare rest stop
+    sequence_to_behind s spare rest stop (Some (U32 n)) u k front back parts first same h =
+        inr (record { between = record { value = n; spare = k; after = u }; front = front; back = back; parts = parts; first = (first, sym (same ∙ zero-add k)); second = h })
+    sequence_to_behind s spare rest stop v u k front back parts first same h = absurd h
+
+    sequence_to_stop : (s : State) (spare : ℕ) (rest : List ℕ) (stop : Stop) → SequenceBound s spare rest stop → SequenceStopping s spare rest stop
+    sequence_to_stop s spare rest stop (inl h) = inl h
+    sequence_to_stop s spare rest stop (inr h) = sequence_to_behind s spare rest stop h.between.value h.between.after h.between.spare h.front h.back h.parts h.first.0 h.first.1 h.second
+
+    sequence_from_stop : (s : State) (spare : ℕ) (rest : List ℕ) (stop : Stop) → SequenceStopping s spare rest stop → SequenceBound s spare rest stop
+    sequence_from_stop s spare rest stop (inl h) = inl h
+    sequence_from_stop s spare rest stop (inr h) =
+        inr (record {
+          between = record { value = Some (U32 h.between.value); spare = h.between.spare; after = h.between.after };
+          front = h.front;
+          back = h.back;
+          parts = h.parts;
+          first = (h.first.0, sym h.first.1 ∙ sym (zero-add h.between.spare));
+          second = h.second;
+        })
+
+-- ---- all instructions
+
+abbrev no_bits : List Bool
+no_bits = []
+
+no_bits_left : (n : ℕ) → drop n no_bits ≡ no_bits
+no_bits_left zero = refl
+no_bits_left (suc n) = refl
+
+body_empty : (members : Instructions) (s : State) (b : List ℕ) (ns : Items) (t : State) → BodyBy Form AnyMap members s b ns t → s.bits ≡ [] → t.bits ≡ []
+body_empty members s b ns t h none = bits_taken_are members s t b ns h ∙ ap (λ (bits : List Bool). drop (takes members ns) bits) none ∙ no_bits_left (takes members ns)
+
+later_items : Items → ℕ
+later_items no_items = 0
+later_items (then_item n ns) = nodes_in ns
+
+abbrev as_item : Item × Cursor → Reads Item
+as_item x = Ok x
+
+abbrev as_items : Items × Cursor → Reads Items
+as_items x = Ok x
+
+module _ (exact : (p : FieldPart) → IsTyped p → IsExact p) where
+  abbrev PieceReader : Instruction → Type 0
+  PieceReader i = IsPieceReader nodes_of (λ s b n t. PieceBy Form AnyMap i s b n t) (λ s spare rest stop. PieceStops i s spare rest stop) (piece_at i)
+
+  abbrev BodyReader : Instructions → Type 0
+  BodyReader is = IsPieceReader nodes_in (λ s b ns t. BodyBy Form AnyMap is s b ns t) (λ s spare rest stop. BodyStops is s spare rest stop) (body_at is)
+
+  whole_reader : (name : List ℕ) (number : ℕ) (presence : Presence) (whole : FieldPart) → IsExact whole → PieceReader (whole_field name number presence whole)
+  whole_reader name number presence whole is =
+      reader_as (λ n. 1 + nodes_inside n) nodes_of (Whole name number presence whole) (Whole name number presence whole) (CountedStops number (PartStopping whole)) (λ s spare rest stop. PieceStops (whole_field name number presence whole) s spare rest stop)
+      (λ c. node_at number c >>= λ k. (field_part_at whole k >>= λ v. as_item (single v.0, v.1))) (piece_at (whole_field name number presence whole))
+      (λ c. bound_again_is (node_at number c) (field_part_at whole) (λ v. as_item (single v.0, v.1))) (λ s b n t h. nodes_of_is n) (λ s b n t h. h) (λ s b n t h. h) (λ s spare rest stop h. h) (λ s spare rest stop h. h)
+      (counted_reader number nodes_inside (Whole name number presence whole) (PartStopping whole) (λ k. field_part_at whole k >>= λ v. as_item (single v.0, v.1))
+      (reader_as nodes_inside nodes_inside (Made single (Part whole)) (Whole name number presence whole) (PartStopping whole) (PartStopping whole) (λ k. field_part_at whole k >>= λ v. as_item (single v.0, v.1)) (λ k. field_part_at whole k >>= λ v. as_item (single v.0, v.1))
+      (λ c. refl) (λ s b n t h. refl) (field_to name number presence whole) (field_from name number presence whole) (λ s spare rest stop h. h) (λ s spare rest stop h. h)
+      (made_reader single (λ _. 0) nodes_inside (λ v. refl) (Part whole) (PartStopping whole) (field_part_at whole) (part_reader whole is))))
+
+  parts_reader : (name : List ℕ) (number : ℕ) (presence : Presence) (exponent mantissa : FieldPart) → IsExact exponent → exponent.kind ≡ kind.Int32 → IsExact mantissa → mantissa.kind ≡ kind.Int64 → mantissa.presence ≡ Mandatory
+      → PieceReader (field_in_parts name number presence exponent mantissa)
+  parts_reader name number presence exponent mantissa is int32 has int64 mandatory =
+      reader_as (λ n. 1 + nodes_inside n) nodes_of (Parts name number presence exponent mantissa) (Parts name number presence exponent mantissa) (CountedStops number (PartsStopping name number presence exponent mantissa))
+      (λ s spare rest stop. PieceStops (field_in_parts name number presence exponent mantissa) s spare rest stop)
+      (λ c. node_at number c >>= λ k. (field_part_at exponent k >>= mantissa_at mantissa)) (piece_at (field_in_parts name number presence exponent mantissa))
+      (λ c. bound_again_is (node_at number c) (field_part_at exponent) (mantissa_at mantissa)) (λ s b n t h. nodes_of_is n) (λ s b n t h. h) (λ s b n t h. h) (λ s spare rest stop h. h) (λ s spare rest stop h. h)
+      (counted_reader number nodes_inside (Parts name number presence exponent mantissa) (PartsStopping name number presence exponent mantissa) (λ k. field_part_at exponent k >>= mantissa_at mantissa)
+      (reader_as nodes_inside nodes_inside (Bound (Part exponent) (MantissaOf mantissa)) (Parts name number presence exponent mantissa) (PartsBound name number presence exponent mantissa) (PartsStopping name number presence exponent mantissa)
+      (λ k. field_part_at exponent k >>= mantissa_at mantissa) (λ k. field_part_at exponent k >>= mantissa_at mantissa)
+      (λ c. refl) (λ s b n t h. refl) (parts_to name number presence exponent mantissa) (parts_from name number presence exponent mantissa) (parts_to_stop name number presence exponent mantissa) (parts_from_stop name number presence exponent mantissa)
+      (bound_reader (λ _. 0) (λ _ n. nodes_inside n) nodes_inside (Part exponent) (MantissaOf mantissa) (PartStopping exponent) (MantissaStops mantissa) IsExponent (field_part_at exponent) (λ v c. mantissa_at mantissa (v, c))
+      (part_reader exponent is) (exponent_possible exponent is int32) (mantissa_reader mantissa has int64 mandatory) (λ x s b y t h. sym (zero-add (nodes_inside y))))))
+
+  abbrev segment_of : ℕ → Instructions → Cursor → Reads Items
+  segment_of number members c = segment_at number (has_map members) (λ k. body_at members k) c
+
+  members_reader : (name : List ℕ) (number : ℕ) (presence : Presence) (members : Instructions) → BodyReader members
+      → IsPieceReader nodes_in (Members name number presence members) (MembersStopping name number presence members) (segment_of number members)
+  members_reader name number presence members inside =
+      segment_reader number nodes_in (Inside name number presence members) (InsideStops name number presence members) (λ c. body_at members c) inside (body_empty members) (has_map members)
+
+  grouped_reader : (name : List ℕ) (number : ℕ) (presence : Presence) (members : Instructions) → BodyReader members → PieceReader (group_of name number presence members)
+  grouped_reader name number presence members inside =
+      let needs = is_optional presence in
+      let Forms = Members name number presence members in
+      let Stops = MembersStopping name number presence members in
+      reader_as (λ n. 1 + nodes_inside n) nodes_of (Group name number presence members) (Group name number presence members) (CountedStops number (GroupStopping name number presence members)) (λ s spare rest stop. PieceStops (group_of name number presence members) s spare rest stop)
+      (λ c. node_at number c >>= λ k. group_at (bit_for (is_optional presence) k.bits) (segment_of number members) (behind_bit (is_optional presence) k)) (piece_at (group_of name number presence members))
+      (λ c. refl) (λ s b n t h. nodes_of_is n) (λ s b n t h. h) (λ s b n t h. h) (λ s spare rest stop h. h) (λ s spare rest stop h. h)
+      (counted_reader number nodes_inside (Group name number presence members) (GroupStopping name number presence members) (λ k. group_at (bit_for (is_optional presence) k.bits) (segment_of number members) (behind_bit (is_optional presence) k))
+      (reader_as nodes_inside nodes_inside (λ s. Choice name number presence members (bit_for (is_optional presence) s.bits) (behind name number presence members s)) (Group name number presence members)
+      (λ s. ChoiceStops name number presence members (bit_for (is_optional presence) s.bits) (behind name number presence members s)) (GroupStopping name number presence members)
+      (λ k. group_at (bit_for (is_optional presence) k.bits) (segment_of number members) (behind_bit (is_optional presence) k)) (λ k. group_at (bit_for (is_optional presence) k.bits) (segment_of number members) (behind_bit (is_optional presence) k))
+      (λ c. refl) (λ s b n t h. refl)
+      (λ s b n t h. group_to_of name number presence members s b n t (bit_for (is_optional presence) s.bits) refl h) (λ s b n t h. group_from_of name number presence members s b n t (bit_for (is_optional presence) s.bits) refl h)
+      (λ s spare rest stop h. group_to_stop_of name number presence members s spare rest stop (bit_for (is_optional presence) s.bits) refl h) (λ s spare rest stop h. group_from_stop_of name number presence members s spare rest stop (bit_for (is_optional presence) s.bits) refl h)
+      (group_reader (is_optional presence) (Members name number presence members) (MembersStopping name number presence members) (segment_of number members) (members_reader name number presence members inside))))
+
+  sequenced_reader : (name : List ℕ) (number : ℕ) (presence : Presence) (length : FieldPart) (members : Instructions) → IsExact length → length.kind ≡ kind.UInt32 → BodyReader members → PieceReader (sequence_of name number presence length members)
+  sequenced_reader name number presence length members is uint32 inside =
+      reader_as (λ n. 1 + nodes_inside n) nodes_of (Sequence name number presence length members) (Sequence name number presence length members) (CountedStops number (SequenceStopping name number presence length members))
+      (λ s spare rest stop. PieceStops (sequence_of name number presence length members) s spare rest stop)
+      (λ c. node_at number c >>= λ k. (field_part_at length k >>= elements_at number (segment_of number members))) (piece_at (sequence_of name number presence length members))
+      (λ c. bound_again_is (node_at number c) (field_part_at length) (elements_at number (segment_of number members))) (λ s b n t h. nodes_of_is n) (λ s b n t h. h) (λ s b n t h. h) (λ s spare rest stop h. h) (λ s spare rest stop h. h)
+      (counted_reader number nodes_inside (Sequence name number presence length members) (SequenceStopping name number presence length members) (λ k. field_part_at length k >>= elements_at number (segment_of number members))
+      (reader_as nodes_inside nodes_inside (Bound (Part length) (ElementsBy name number presence length members)) (Sequence name number presence length members) (SequenceBound name number presence length members) (SequenceStopping name number presence length members)
+      (λ k. field_part_at length k >>= elements_at number (segment_of number members)) (λ k. field_part_at length k >>= elements_at number (segment_of number members))
+      (λ c. refl) (λ s b n t h. refl) (sequence_to name number presence length members) (sequence_from name number presence length members) (sequence_to_stop name number presence length members) (sequence_from_stop name number presence length members)
+      (bound_reader (λ _. 0) (λ _ n. nodes_inside n) nodes_inside (Part length) (ElementsBy name number presence length members) (PartStopping length) (ElementStops name number presence length members) IsLength (field_part_at length)
+      (λ v c. elements_at number (segment_of number members) (v, c)) (part_reader length is) (length_possible length is uint32)
+      (elements_reader number (One name number presence length members) (OneStops name number presence length members) (segment_of number members) (members_reader name number presence members inside))
+      (λ x s b y t h. sym (zero-add (nodes_inside y))))))
+
+  later_sums : (n : Item) (s : State) (b : List ℕ) (is : Instructions) (ns : Items) (t : State) → Made (then_item n) (λ s b ns t. BodyBy Form AnyMap is s b ns t) s b ns t → nodes_in ns ≡ nodes_of n + later_items ns
+  unfolding later_items
+  later_sums n s b is ns t h = rw h.1 refl
+
+  then_reader : (is : Instructions) → BodyReader is → (n : Item) → IsPieceReader later_items (Made (then_item n) (λ s b ns t. BodyBy Form AnyMap is s b ns t)) (λ s spare rest stop. BodyStops is s spare rest stop) (λ c. body_at is c >>= λ ns. as_items (then_item n ns.0, ns.1))
+  unfolding later_items
+  then_reader is rest n = made_reader (then_item n) nodes_in later_items (λ ns. refl) (λ s b ns t. BodyBy Form AnyMap is s b ns t) (λ s spare rest stop. BodyStops is s spare rest stop) (body_at is) rest
+
+  body_to : (i : Instruction) (is : Instructions) (s : State) (b : List ℕ) (ns : Items) (t : State) → Bound (λ s b n t. PieceBy Form AnyMap i s b n t) (λ n. Made (then_item n) (λ s b ns t. BodyBy Form AnyMap is s b ns t)) s b ns t
+      → BodyBy Form AnyMap (then_instruction i is) s b ns t
+  body_to i is s b ns t h =
+      let later = h.1.second in
+      rw later.1 (record { between = h.1.between; front = h.1.front; back = h.1.back; parts = h.1.parts; first = h.1.first; second = later.2 })
+
+  body_from : (i : Instruction) (is : Instructions) (s : State) (b : List ℕ) (ns : Items) (t : State) → BodyBy Form AnyMap (then_instruction i is) s b ns t
+      → Bound (λ s b n t. PieceBy Form AnyMap i s b n t) (λ n. Made (then_item n) (λ s b ns t. BodyBy Form AnyMap is s b ns t)) s b ns t
+  body_from i is s b no_items t h = absurd h
+  body_from i is s b (then_item n ns) t h = (n, record { between = h.between; front = h.front; back = h.back; parts = h.parts; first = h.first; second = (ns, refl, h.second) })
+
+  empty_from : (s : State) (b : List ℕ) (ns : Items) (t : State) → BodyBy Form AnyMap no_instructions s b ns t → Given no_items s b ns t
+  empty_from s b no_items t h = (h.0, refl, h.1)
+  empty_from s b (then_item n ns) t h = absurd h
+
+  mutual
+    pub piece_reader : (i : Instruction) → HasTypedParts i → PieceReader i
+    piece_reader (whole_field name number presence whole) h = whole_reader name number presence whole (exact whole h.typed)
+    piece_reader (field_in_parts name number presence exponent mantissa) h =
+        parts_reader name number presence exponent mantissa (exact exponent h.0.typed) h.0.kind_is (exact mantissa h.1.typed) h.1.kind_is h.1.presence_is
+    piece_reader (group_of name number presence members) h = grouped_reader name number presence members (body_reader members h)
+    piece_reader (sequence_of name number presence length members) h = sequenced_reader name number presence length members (exact length h.0.typed) h.0.kind_is (body_reader members h.1)
+
+    pub body_reader : (is : Instructions) → HaveTypedParts is → BodyReader is
+    body_reader no_instructions h =
+        reader_as nodes_in nodes_in (Given no_items) (λ s b ns t. BodyBy Form AnyMap no_instructions s b ns t) NeverStops (λ s spare rest stop. BodyStops no_instructions s spare rest stop) (λ c. as_items (no_items, c)) (body_at no_instructions)
+        (λ c. refl) (λ s b ns t g. refl) (λ s b ns t g. rw g.1 (g.0, g.2)) empty_from (λ s spare rest stop g. g) (λ s spare rest stop g. g) (given_reader no_items nodes_in refl)
+    body_reader (then_instruction i is) h =
+        reader_as nodes_in nodes_in (Bound (λ s b n t. PieceBy Form AnyMap i s b n t) (λ n. Made (then_item n) (λ s b ns t. BodyBy Form AnyMap is s b ns t))) (λ s b ns t. BodyBy Form AnyMap (then_instruction i is) s b ns t)
+        (BoundStops nodes_of (λ s b n t. PieceBy Form AnyMap i s b n t) (λ s spare rest stop. PieceStops i s spare rest stop) (λ n s spare rest stop. BodyStops is s spare rest stop)) (λ s spare rest stop. BodyStops (then_instruction i is) s spare rest stop)
+        (λ c. piece_at i c >>= λ n. (body_at is n.1 >>= λ ns. as_items (then_item n.0 ns.0, ns.1))) (body_at (then_instruction i is))
+        (λ c. refl) (λ s b ns t g. refl) (body_to i is) (body_from i is) (λ s spare rest stop g. g) (λ s spare rest stop g. g)
+        (bound_reader nodes_of (λ _ ns. later_items ns) nodes_in (λ s b n t. PieceBy Form AnyMap i s b n t) (λ n. Made (then_item n) (λ s b ns t. BodyBy Form AnyMap is s b ns t))
+        (λ s spare rest stop. PieceStops i s spare rest stop) (λ n s spare rest stop. BodyStops is s spare rest stop) (λ _. Unit {0}) (piece_at i) (λ n c. body_at is c >>= λ ns. as_items (then_item n ns.0, ns.1))
+        (piece_reader i h.0) (λ s b n t g. tt) (λ n g. then_reader is (body_reader is h.1) n) (λ n s b ns t g. later_sums n s b is ns t g))
