@@ -50,7 +50,7 @@ bit_is : (needs : Bool) (bits : List Bool) → needs ≡ false → bit_for needs
 bit_is true bits e = absurd cc
 bit_is false bits e = refl
 
-abbrev PartStopping : FieldPart → Stopping
+abbrev pub PartStopping : FieldPart → Stopping
 PartStopping p s spare rest stop = PartStops p s rest stop
 
 pub part_reader : (p : FieldPart) → IsExact p → IsPieceReader (λ _. 0) (Part p) (PartStopping p) (field_part_at p)
@@ -73,7 +73,7 @@ abbrev IsMantissa : Option Scalar → Type 0
 IsMantissa (Some (I64 m)) = Unit {0}
 IsMantissa v = ⊥
 
-abbrev IsLength : Option Scalar → Type 0
+abbrev pub IsLength : Option Scalar → Type 0
 IsLength None = Unit {0}
 IsLength (Some (U32 n)) = Unit {0}
 IsLength (Some v) = ⊥
@@ -98,7 +98,7 @@ of_int64 (Ascii s) h = absurd cc
 of_int64 (Unicode s) h = absurd cc
 of_int64 (Bytes s) h = absurd cc
 
-of_uint32 : (v : Scalar) → IsTrue (is_of kind.UInt32 v) → IsLength (Some v)
+pub of_uint32 : (v : Scalar) → IsTrue (is_of kind.UInt32 v) → IsLength (Some v)
 of_uint32 (U32 n) h = tt
 of_uint32 (I32 z) h = absurd cc
 of_uint32 (U64 n) h = absurd cc

@@ -5,4 +5,5 @@ pub mod Weaker
 pub mod PieceReaders
 pub mod MapFaults
 pub mod BodyReaders
+pub mod MessageReaders
 pub mod Leaves
