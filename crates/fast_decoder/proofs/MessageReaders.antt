@@ -287,7 +287,7 @@ module _ (set : List Resolved) where
           };
         }
 
-    message_found : (d : Dictionary) (bytes : List ℕ) (m : Content) (after : Dictionary) (rest : List ℕ) → IsBytes bytes → message_at set d bytes ≡ Ok (m, after, rest) → MessagePasses d bytes m after rest
+    pub message_found : (d : Dictionary) (bytes : List ℕ) (m : Content) (after : Dictionary) (rest : List ℕ) → IsBytes bytes → message_at set d bytes ≡ Ok (m, after, rest) → MessagePasses d bytes m after rest
     message_found d bytes m after rest fits e =
         let a = bind_ok (in_template 0 (head d bytes)) behind_head (m, after, rest) (sym (message_is d bytes) ∙ e) in
         let named = a.0.0 in
@@ -335,7 +335,7 @@ module _ (set : List Resolved) where
     take_apart : (d : Dictionary) (bytes : List ℕ) (m : Content) (after : Dictionary) → MessageForm set d bytes m after → Taken d bytes m after
     take_apart d bytes m after h = take_apart_of d bytes m after h (members_of set m.template) refl
 
-    message_again : (d : Dictionary) (form rest : List ℕ) (m : Content) (after : Dictionary) → MessageForm set d form m after → message_at set d (form ++ rest) ≡ Ok (m, after, rest)
+    pub message_again : (d : Dictionary) (form rest : List ℕ) (m : Content) (after : Dictionary) → MessageForm set d form m after → message_at set d (form ++ rest) ≡ Ok (m, after, rest)
     message_again d form rest m after h =
         let t = take_apart d form m after h in
         let few = h.few in
@@ -348,5 +348,151 @@ module _ (set : List Resolved) where
         let three : body_at t.members (cursor t.u node_limit (t.back ++ rest)) ≡ Ok (m.items, cursor (under after t.left) spare rest) = subst (λ (n : ℕ). body_at t.members (cursor t.u n (t.back ++ rest)) ≡ Ok (m.items, cursor (under after t.left) spare rest)) (sym count) two in
         message_is d (form ++ rest) ∙ rw (regrouped, one, three) refl
 
-    message_stops : (d : Dictionary) (bytes : List ℕ) (stop : MessageStop) → IsBytes bytes → message_at set d bytes ≡ Err stop → MessageStops set d bytes stop
-    message_stops d bytes stop fits e = ?
+    head_stopped : (d : Dictionary) (bytes : List ℕ) (s : Stop) → HeadStopping (start d) node_limit bytes s → MessageStops set d bytes (record { template = 0; stop = s })
+    head_stopped d bytes s (inl h) = in_map refl (record { instruction_is = h.instruction_is; left_is = h.left_is; fault = (h.fault.0, map_refused bytes h.fault.0 h.fault.1, h.fault.2) })
+    head_stopped d bytes s (inr h) =
+        let p = h.between in
+        in_identifier refl (record {
+          between = p.value;
+          front = h.front;
+          back = h.back;
+          parts = h.parts;
+          first = h.first.0.0;
+          second = subst (λ (u : State). StopsAt 0 (IdentifierFault set u h.back) h.back s) h.first.0.1 h.second;
+        })
+
+    body_stopped : (d : Dictionary) (bytes : List ℕ) (named : Named) (k : Cursor) (s : Stop) → Passes (λ (_ : Named). 0) HeadForm (start d) node_limit bytes named k → body_at named.members k ≡ Err s
+        → MessageStops set d bytes (record { template = named.template; stop = s })
+    body_stopped d bytes named k s t e =
+        let m = t.form.1 in
+        let is = m.second.1 in
+        let count : k.spare ≡ node_limit = sym (t.counted ∙ zero-add k.spare) in
+        let stops = (body_of named.template named.members is).stops (state_of k) k.spare k.bytes s t.rest_bytes e in
+        in_body (record {
+          between = t.form.0;
+          front = m.front;
+          back = m.back ++ k.bytes;
+          parts = t.parts ∙ ap (λ (z : List ℕ). z ++ k.bytes) m.parts ∙ append_assoc m.front m.back k.bytes;
+          first = m.first.0;
+          second = record {
+            members = named.members;
+            there = is;
+            behind = record {
+              between = state_of k;
+              front = m.back;
+              back = k.bytes;
+              parts = refl;
+              first = subst (λ (u : State). Part identifier u m.back (Some (U32 named.template)) (state_of k)) m.first.1 m.second.0;
+              second = subst (λ (n : ℕ). BodyStops named.members (state_of k) n k.bytes s) count stops;
+            };
+          };
+        })
+
+    pub message_stops : (d : Dictionary) (bytes : List ℕ) (stop : MessageStop) → IsBytes bytes → message_at set d bytes ≡ Err stop → MessageStops set d bytes stop
+    message_stops d bytes stop fits e = elim (bind_err (in_template 0 (head d bytes)) behind_head stop (sym (message_is d bytes) ∙ e)) [
+      | at_first g ↦
+          let h = in_err 0 (head d bytes) stop g in
+          subst (λ (m : MessageStop). MessageStops set d bytes m) h.2 (head_stopped d bytes h.0 (head_reader.stops (start d) node_limit bytes h.0 fits h.1))
+      | at_second x g h ↦ elim (bind_err (in_template x.0.template (body_at x.0.members x.1)) (as_whole x.0.template) stop h) [
+        | at_first g2 ↦
+            let t = head_reader.found (start d) node_limit bytes x.0 x.1 fits (in_ok 0 (head d bytes) x g) in
+            let b = in_err x.0.template (body_at x.0.members x.1) stop g2 in
+            subst (λ (m : MessageStop). MessageStops set d bytes m) b.2 (body_stopped d bytes x.0 x.1 b.0 t b.1)
+        | at_second y g2 h2 ↦ absurd cc
+      ]
+    ]
+
+    template_is : (m : MessageStop) → m.template ≡ 0 → record { template = 0; stop = m.stop } ≡ m
+    template_is m e = rw (sym e) refl
+
+    abbrev failed : MessageStop → Result Whole MessageStop
+    failed m = Err m
+
+    head_faulty : (d : Dictionary) (rest : List ℕ) (m : MessageStop) → m.template ≡ 0 → HeadStopping (start d) node_limit rest m.stop → message_at set d rest ≡ Err m
+    head_faulty d rest m template h =
+        let stopped : head d rest ≡ Err m.stop = head_reader.stopped (start d) node_limit rest m.stop h in
+        message_is d rest ∙ rw stopped (ap failed (template_is m template))
+
+    -- what a message has in its body, behind its head
+    pub record Behind (d : Dictionary) (rest : List ℕ) (m : MessageStop) : Type 0 where
+      pub members : Instructions
+      pub there : members_of set m.template ≡ Some members
+      pub front : List ℕ
+      pub back : List ℕ
+      pub u : State
+      pub parts : rest ≡ front ++ back
+      pub head_form : HeadForm (start d) front (record { template = m.template; members = members }) u
+      pub stops : BodyStops members u node_limit back m.stop
+
+    behind_of : (d : Dictionary) (rest : List ℕ) (m : MessageStop) (bits : List Bool) (front back : List ℕ) → rest ≡ front ++ back → IsWholeMap front bits → InBody set (under d bits) back m → Behind d rest m
+    behind_of d rest m bits front back parts map h =
+        let g = h.behind in
+        record {
+          members = h.members;
+          there = h.there;
+          front = front ++ g.front;
+          back = g.back;
+          u = g.between;
+          parts = parts ∙ ap (λ (z : List ℕ). front ++ z) g.parts ∙ sym (append_assoc front g.front g.back);
+          head_form = (bits, record { between = under d bits; front = front; back = g.front; parts = refl; first = (map, refl); second = (g.first, h.there) });
+          stops = g.second;
+        }
+
+    head_read : (d : Dictionary) (front back : List ℕ) (named : Named) (u : State) → HeadForm (start d) front named u → head d (front ++ back) ≡ Ok (named, cursor u node_limit back)
+    head_read d front back named u h = head_reader.again (start d) u node_limit front back named h
+
+    body_faulty : (d : Dictionary) (rest : List ℕ) (m : MessageStop) → Behind d rest m → message_at set d rest ≡ Err m
+    body_faulty d rest m h =
+        let named : Named = record { template = m.template; members = h.members } in
+        let one : head d (h.front ++ h.back) ≡ Ok (named, cursor h.u node_limit h.back) = head_read d h.front h.back named h.u h.head_form in
+        let two : body_at h.members (cursor h.u node_limit h.back) ≡ Err m.stop = (body_of m.template h.members h.there).stopped h.u node_limit h.back m.stop h.stops in
+        message_is d rest ∙ rw (h.parts, one, two) refl
+
+    pub message_stopped : (d : Dictionary) (rest : List ℕ) (m : MessageStop) → MessageStops set d rest m → message_at set d rest ≡ Err m
+    message_stopped d rest m (in_map t h) =
+        head_faulty d rest m t (inl (record { instruction_is = h.instruction_is; left_is = h.left_is; fault = (h.fault.0, map_faulty rest h.fault.0 h.fault.1, h.fault.2) }))
+    message_stopped d rest m (in_identifier t h) =
+        head_faulty d rest m t (inr (record {
+          between = record { value = h.between; spare = node_limit; after = under d h.between };
+          front = h.front;
+          back = h.back;
+          parts = h.parts;
+          first = ((h.first, refl), refl);
+          second = h.second;
+        }))
+    message_stopped d rest m (in_body h) = body_faulty d rest m (behind_of d rest m h.between h.front h.back h.parts h.first h.second)
+
+    abbrev pub longer : ℕ → MessageStop → MessageStop
+    longer more m = record { template = m.template; stop = further more m.stop }
+
+    head_stays : (d : Dictionary) (bytes more : List ℕ) (s : Stop) → IsBytes bytes → head d bytes ≡ Err s → s.cause ≢ Truncated → message_at set d (bytes ++ more) ≡ Err (record { template = 0; stop = further (length more) s })
+    head_stays d bytes more s fits e other =
+        let stays : head d (bytes ++ more) ≡ Err (further (length more) s) = head_reader.stays (start d) node_limit bytes more s fits e other in
+        message_is d (bytes ++ more) ∙ rw stays refl
+
+    body_stays : (d : Dictionary) (bytes more front : List ℕ) (named : Named) (k : Cursor) (s : Stop) → bytes ≡ front ++ k.bytes → node_limit ≡ k.spare → HeadForm (start d) front named (state_of k) → IsBytes k.bytes
+        → body_at named.members k ≡ Err s → s.cause ≢ Truncated → message_at set d (bytes ++ more) ≡ Err (record { template = named.template; stop = further (length more) s })
+    body_stays d bytes more front named k s parts count h fits e other =
+        let is = h.1.second.1 in
+        let regrouped : bytes ++ more ≡ front ++ (k.bytes ++ more) = ap (λ (z : List ℕ). z ++ more) parts ∙ append_assoc front k.bytes more in
+        let one : head d (front ++ (k.bytes ++ more)) ≡ Ok (named, cursor (state_of k) node_limit (k.bytes ++ more)) = head_read d front (k.bytes ++ more) named (state_of k) h in
+        let stays : body_at named.members (cursor (state_of k) k.spare (k.bytes ++ more)) ≡ Err (further (length more) s) = (body_of named.template named.members is).stays (state_of k) k.spare k.bytes more s fits e other in
+        let two : body_at named.members (cursor (state_of k) node_limit (k.bytes ++ more)) ≡ Err (further (length more) s) =
+        subst (λ (n : ℕ). body_at named.members (cursor (state_of k) n (k.bytes ++ more)) ≡ Err (further (length more) s)) (sym count) stays in
+        message_is d (bytes ++ more) ∙ rw (regrouped, one, two) refl
+
+    pub message_stays : (d : Dictionary) (bytes more : List ℕ) (m : MessageStop) → IsBytes bytes → message_at set d bytes ≡ Err m → m.stop.cause ≢ Truncated → message_at set d (bytes ++ more) ≡ Err (longer (length more) m)
+    message_stays d bytes more m fits e other = elim (bind_err (in_template 0 (head d bytes)) behind_head m (sym (message_is d bytes) ∙ e)) [
+      | at_first g ↦
+          let h = in_err 0 (head d bytes) m g in
+          subst (λ (y : MessageStop). message_at set d (bytes ++ more) ≡ Err (longer (length more) y)) h.2
+          (head_stays d bytes more h.0 fits h.1 (λ c. other (sym (ap (λ (y : MessageStop). y.stop.cause) h.2) ∙ c)))
+      | at_second x g h ↦ elim (bind_err (in_template x.0.template (body_at x.0.members x.1)) (as_whole x.0.template) m h) [
+        | at_first g2 ↦
+            let t = head_reader.found (start d) node_limit bytes x.0 x.1 fits (in_ok 0 (head d bytes) x g) in
+            let b = in_err x.0.template (body_at x.0.members x.1) m g2 in
+            subst (λ (y : MessageStop). message_at set d (bytes ++ more) ≡ Err (longer (length more) y)) b.2
+            (body_stays d bytes more t.front x.0 x.1 b.0 t.parts (t.counted ∙ zero-add x.1.spare) t.form t.rest_bytes b.1 (λ c. other (sym (ap (λ (y : MessageStop). y.stop.cause) b.2) ∙ c)))
+        | at_second y g2 h2 ↦ absurd cc
+      ]
+    ]
