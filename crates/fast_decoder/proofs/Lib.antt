@@ -6,4 +6,5 @@ pub mod PieceReaders
 pub mod MapFaults
 pub mod BodyReaders
 pub mod MessageReaders
+pub mod StreamReaders
 pub mod Leaves
