@@ -119,3 +119,106 @@ module _ (set : List Resolved) (typed : AllByRecursion (λ t. HaveTypedParts t.m
   read_is_carried stream messages fits e =
       let t : Reached map.empty stream (reading messages None) = subst (λ (r : StreamReading). Reached map.empty stream r) e (reached (length stream) map.empty stream (omega arith) fits) in
       (t.after, subst (λ (z : List ℕ). CarriesFrom set map.empty z messages t.after) (sym (t.parts ∙ ap (λ (z : List ℕ). t.front ++ z) t.ends ∙ append-nil t.front)) t.carried)
+
+  -- ---- and a stop is the first fault
+
+  stops_reading : (k : ℕ) (after : Dictionary) (rest : List ℕ) (m : MessageStop) → length rest ≤ k → 0 < length rest → MessageStops set after rest m → messages_at k set after rest ≡ reading [] (Some m)
+  stops_reading k after [] m enough some h = absurd (omega arith)
+  stops_reading zero after (b ∷ rest) m enough some h = absurd (omega arith)
+  stops_reading (suc k) after (b ∷ rest) m enough some h = rw (message_stopped set typed after (b ∷ rest) m h) refl
+
+  pub fault_is_read : (stream : List ℕ) (place : Place) (cause : Cause) (h : FirstFault set stream place cause) → stream_at set stream ≡ reading h.messages (Some h.stop)
+  fault_is_read stream place cause h =
+      let sizes = ap (λ (z : List ℕ). length z) h.parts in
+      let g = goes h.messages (length stream) map.empty h.dictionary h.front h.rest h.carried (omega arith) in
+      let ends = stops_reading g.left h.dictionary h.rest h.stop g.enough h.some h.stops in
+      let reads : messages_at (length stream) set map.empty (h.front ++ h.rest) ≡ reading h.messages (Some h.stop) = g.reads ∙ rw (ends, append-nil) refl in
+      subst (λ (z : List ℕ). messages_at (length stream) set map.empty z ≡ reading h.messages (Some h.stop)) (sym h.parts) reads
+
+  pub read_is_fault : (stream : List ℕ) (messages : List Content) (m : MessageStop) → IsBytes stream → stream_at set stream ≡ reading messages (Some m) → FirstFault set stream (place_of (length stream) (length messages) m) m.stop.cause
+  read_is_fault stream messages m fits e =
+      let t : Reached map.empty stream (reading messages (Some m)) = subst (λ (r : StreamReading). Reached map.empty stream r) e (reached (length stream) map.empty stream (omega arith) fits) in
+      record { messages = messages; dictionary = t.after; front = t.front; rest = t.rest; stop = m; parts = t.parts; carried = t.carried; some = t.ends.0; stops = t.ends.1; cause_is = refl; place_is = refl }
+
+  -- the fault as it is answered
+  abbrev answer : List ℕ → List Content → MessageStop → Fault
+  answer stream messages m = record { cause = m.stop.cause; place = place_of (length stream) (length messages) m }
+
+  pub fault_is_answered : (stream : List ℕ) (place : Place) (cause : Cause) → FirstFault set stream place cause → fault_in stream (stream_at set stream) ≡ Some (record { cause = cause; place = place })
+  fault_is_answered stream place cause h = rw (fault_is_read stream place cause h, h.cause_is, h.place_is) refl
+
+  answered_of : (stream : List ℕ) (fault : Fault) (r : StreamReading) → IsBytes stream → stream_at set stream ≡ r → fault_in stream r ≡ Some fault → FirstFault set stream fault.place fault.cause
+  answered_of stream fault r fits is e = go r.fault refl e
+    where
+      go : (o : Option MessageStop) → r.fault ≡ o → option_map (λ s. record { cause = s.stop.cause; place = place_of (length stream) (length r.messages) s }) o ≡ Some fault → FirstFault set stream fault.place fault.cause
+      go None h e = absurd cc
+      go (Some m) h e =
+          let same : answer stream r.messages m ≡ fault = cc in
+          let whole : stream_at set stream ≡ reading r.messages (Some m) = is ∙ ap (λ (o : Option MessageStop). reading r.messages o) h in
+          subst (λ (f : Fault). FirstFault set stream f.place f.cause) same (read_is_fault stream r.messages m fits whole)
+
+  pub answered_is_fault : (stream : List ℕ) (fault : Fault) → IsBytes stream → fault_in stream (stream_at set stream) ≡ Some fault → FirstFault set stream fault.place fault.cause
+  answered_is_fault stream fault fits e = answered_of stream fault (stream_at set stream) fits refl e
+
+  -- ---- laws of streams
+
+  pub one_list : (stream : List ℕ) (messages others : List Content) → Carries set stream messages → Carries set stream others → messages ≡ others
+  one_list stream messages others h g = ap (λ (r : StreamReading). r.messages) (sym (carried_is_read stream messages h) ∙ carried_is_read stream others g)
+
+  pub not_both : (stream : List ℕ) (messages : List Content) (place : Place) (cause : Cause) → Carries set stream messages → FirstFault set stream place cause → ⊥
+  not_both stream messages place cause h f =
+      let none : None ≡ Some f.stop = ap (λ (r : StreamReading). r.fault) (sym (carried_is_read stream messages h) ∙ fault_is_read stream place cause f) in
+      cc
+
+  pub one_fault : (stream : List ℕ) (place other : Place) (cause second : Cause) → FirstFault set stream place cause → FirstFault set stream other second → (place ≡ other) × (cause ≡ second)
+  one_fault stream place other cause second f g =
+      let first : Fault = record { cause = cause; place = place } in
+      let later : Fault = record { cause = second; place = other } in
+      let same : Some first ≡ Some later = sym (fault_is_answered stream place cause f) ∙ fault_is_answered stream other second g in
+      let faults : first ≡ later = cc in
+      (ap (λ (x : Fault). x.place) faults, ap (λ (x : Fault). x.cause) faults)
+
+  abbrev Refused : List ℕ → Type 0
+  Refused stream = (place : Place) × (cause : Cause) × FirstFault set stream place cause
+
+  one_of_two_of : (stream : List ℕ) (r : StreamReading) → IsBytes stream → stream_at set stream ≡ r → ((messages : List Content) × Carries set stream messages) ⊎ Refused stream
+  one_of_two_of stream r fits is = go r.fault refl
+    where
+      go : (o : Option MessageStop) → r.fault ≡ o → ((messages : List Content) × Carries set stream messages) ⊎ Refused stream
+      go None h = inl (r.messages, read_is_carried stream r.messages fits (is ∙ ap (λ (o : Option MessageStop). reading r.messages o) h))
+      go (Some m) h = inr (place_of (length stream) (length r.messages) m, m.stop.cause, read_is_fault stream r.messages m fits (is ∙ ap (λ (o : Option MessageStop). reading r.messages o) h))
+
+  pub one_of_two : (stream : List ℕ) → IsBytes stream → ((messages : List Content) × Carries set stream messages) ⊎ Refused stream
+  one_of_two stream fits = one_of_two_of stream (stream_at set stream) fits refl
+
+  bytes_of_rest : (front rest : List ℕ) → IsBytes (front ++ rest) → IsBytes rest
+  bytes_of_rest [] rest h = h
+  bytes_of_rest (b ∷ front) rest h = bytes_of_rest front rest h.1
+
+  bytes_of_front : (front rest : List ℕ) → IsBytes (front ++ rest) → IsBytes front
+  bytes_of_front [] rest h = tt
+  bytes_of_front (b ∷ front) rest h = (h.0, bytes_of_front front rest h.1)
+
+  pub fault_stays : (stream more : List ℕ) (place : Place) (cause : Cause) → IsBytes (stream ++ more) → FirstFault set stream place cause → cause ≢ Truncated → FirstFault set (stream ++ more) place cause
+  fault_stays stream more place cause fits f other =
+      let stream_fits = bytes_of_front stream more fits in
+      let rest_fits = bytes_of_rest f.front f.rest (subst (λ (z : List ℕ). IsBytes z) f.parts stream_fits) in
+      let regrouped : stream ++ more ≡ f.front ++ (f.rest ++ more) = ap (λ (z : List ℕ). z ++ more) f.parts ∙ append_assoc f.front f.rest more in
+      let longer_fits = bytes_of_rest f.front (f.rest ++ more) (subst (λ (z : List ℕ). IsBytes z) regrouped fits) in
+      let read = message_stays set typed f.dictionary f.rest more f.stop rest_fits (message_stopped set typed f.dictionary f.rest f.stop f.stops) (λ c. other (f.cause_is ∙ c)) in
+      let stops = message_stops set typed f.dictionary (f.rest ++ more) _ longer_fits read in
+      let sizes = length-append stream more in
+      let offset : length stream - f.stop.stop.left ≡ length (stream ++ more) - (f.stop.stop.left + length more) = omega arith in
+      record {
+        messages = f.messages;
+        dictionary = f.dictionary;
+        front = f.front;
+        rest = f.rest ++ more;
+        stop = record { template = f.stop.template; stop = record { cause = f.stop.stop.cause; instruction = f.stop.stop.instruction; left = f.stop.stop.left + length more } };
+        parts = regrouped;
+        carried = f.carried;
+        some = let some = f.some in let size = length-append f.rest more in omega arith;
+        stops = stops;
+        cause_is = f.cause_is;
+        place_is = f.place_is ∙ ap (λ (n : ℕ). record { message = length f.messages + 1; offset = n; template = f.stop.template; instruction = f.stop.stop.instruction }) offset;
+      }
