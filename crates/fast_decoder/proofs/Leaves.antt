@@ -1,7 +1,7 @@
 -- What a message leaves behind it, in the dictionary and of its map, follows from its items alone.
-use Rattle.std.proofs.Common.{◌≡◌, ℕ, Bool, true, false, List, [], ◌∷◌, drop, Option, Some, None, refl, sym, ap, ◌∙◌, drop-drop}
+use Rattle.std.proofs.Common.{◌≡◌, ℕ, Bool, true, false, List, [], ◌∷◌, drop, Option, Some, None, refl, sym, ap, ◌∙◌, drop-drop, ◌||◌}
 use Rattle.fast_template.specs.declared.scalar.Scalar.TheVariants.{U32, I32, I64, Decimal}
-use Rattle.fast_template.specs.Resolved.{Instruction, Instructions, whole_field, field_in_parts, group_of, sequence_of, no_instructions, then_instruction, part_needs_bit, is_optional, has_map, Resolved}
+use Rattle.fast_template.specs.Resolved.{Instruction, Instructions, whole_field, field_in_parts, group_of, sequence_of, no_instructions, then_instruction, part_needs_bit, is_optional, has_map, Resolved, takes_bit}
 use Rattle.fast_dictionary.specs.Dictionary.{Dictionary}
 use Rattle.fast_field.specs.Fields.{Form}
 use Rattle.fast_decoder.specs.Nodes.{Item, single, group_items, sequence_elements, Items, no_items, then_item, Elements, no_elements, then_element, element_count, Content}
@@ -125,3 +125,25 @@ module _ (P : Spelling) (M : Mapping) where
 pub bits_taken_are : (members : Instructions) (before after : State) (bytes : List ℕ) (items : Items)
     → Body members before bytes items after → after.bits ≡ drop (takes members items) before.bits
 bits_taken_are members before after bytes items h = body_bits Form AnyMap members before bytes items after h
+
+-- ---- a list that asks for no map takes no bits
+
+either_false : (t u : Bool) → (t || u) ≡ false → (t ≡ false) × (u ≡ false)
+either_false true u h = absurd cc
+either_false false u h = (refl, h)
+
+takes_none : (i : Instruction) (n : Item) → takes_bit i ≡ false → takes_one i n ≡ 0
+takes_none (whole_field name number presence whole) n h = rw h refl
+takes_none (field_in_parts name number presence exponent mantissa) (single None) h = let e = either_false (part_needs_bit exponent) (part_needs_bit mantissa) h in rw e.0 refl
+takes_none (field_in_parts name number presence exponent mantissa) (single (Some v)) h = let e = either_false (part_needs_bit exponent) (part_needs_bit mantissa) h in rw (e.0, e.1) refl
+takes_none (field_in_parts name number presence exponent mantissa) (group_items ns) h = let e = either_false (part_needs_bit exponent) (part_needs_bit mantissa) h in rw (e.0, e.1) refl
+takes_none (field_in_parts name number presence exponent mantissa) (sequence_elements es) h = let e = either_false (part_needs_bit exponent) (part_needs_bit mantissa) h in rw (e.0, e.1) refl
+takes_none (group_of name number presence members) n h = rw h refl
+takes_none (sequence_of name number presence length members) n h = rw h refl
+
+pub no_bits_are_taken : (members : Instructions) (items : Items) → has_map members ≡ false → takes members items ≡ 0
+no_bits_are_taken no_instructions items h = refl
+no_bits_are_taken (then_instruction i is) no_items h = refl
+no_bits_are_taken (then_instruction i is) (then_item n ns) h =
+    let e = either_false (takes_bit i) (has_map is) h in
+    rw (takes_none i n e.0, no_bits_are_taken is ns e.1) refl

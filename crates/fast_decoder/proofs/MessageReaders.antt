@@ -23,7 +23,7 @@ use Rattle.fast_decoder.specs.Bodies.{State, Then}
 use Rattle.fast_decoder.specs.Streams.{members_of, identifier, Body, MessageForm}
 use Rattle.fast_decoder.specs.Faults.{cause_of_wire, Stop, MessageStop, StopsAt, PartFault, Part, Passed, BodyStops, IdentifierFault, InBody, MessageStops, in_map, in_identifier, in_body}
 use Rattle.fast_decoder.specs.Reading.{Cursor, state_of, Reads, placed, field_part_at, own_map_at, body_at, Named, known, named_at, head_at, in_template, message_at}
-use Rattle.fast_decoder.specs.Readers.{cursor, further, Passes, IsPieceReader}
+use Rattle.fast_decoder.specs.Readers.{cursor, further, further_on, Passes, IsPieceReader, MessagePasses, IsMessageReader}
 use Rattle.fast_decoder.proofs.PieceReaders.{Forms, Stopping, Bound, BoundStops, placed_reader, bound_reader, stop_is, fails_as}
 use Rattle.fast_decoder.proofs.MapFaults.{map_refused, map_faulty}
 use Rattle.fast_decoder.proofs.BodyReaders.{IsExact, PartStopping, part_reader, of_uint32, IsLength, body_reader}
@@ -249,12 +249,6 @@ module _ (set : List Resolved) where
   in_err id (Err s) m e = (s, refl, cc)
 
   module _ (typed : AllByRecursion (λ t. HaveTypedParts t.members) set) where
-    pub record MessagePasses (d : Dictionary) (bytes : List ℕ) (m : Content) (after : Dictionary) (rest : List ℕ) : Type 0 where
-      pub front : List ℕ
-      pub parts : bytes ≡ front ++ rest
-      pub rest_bytes : IsBytes rest
-      pub form : MessageForm set d front m after
-
     abbrev BodyReader : Instructions → Type 0
     BodyReader members = IsPieceReader nodes_in (λ s b ns t. Body members s b ns t) (λ s spare rest stop. BodyStops members s spare rest stop) (body_at members)
 
@@ -287,7 +281,7 @@ module _ (set : List Resolved) where
           };
         }
 
-    pub message_found : (d : Dictionary) (bytes : List ℕ) (m : Content) (after : Dictionary) (rest : List ℕ) → IsBytes bytes → message_at set d bytes ≡ Ok (m, after, rest) → MessagePasses d bytes m after rest
+    pub message_found : (d : Dictionary) (bytes : List ℕ) (m : Content) (after : Dictionary) (rest : List ℕ) → IsBytes bytes → message_at set d bytes ≡ Ok (m, after, rest) → MessagePasses set d bytes m after rest
     message_found d bytes m after rest fits e =
         let a = bind_ok (in_template 0 (head d bytes)) behind_head (m, after, rest) (sym (message_is d bytes) ∙ e) in
         let named = a.0.0 in
@@ -297,7 +291,7 @@ module _ (set : List Resolved) where
         let is = t.form.1.second.1 in
         let u = (body_of named.template named.members is).found (state_of k) k.spare k.bytes b.0.0 b.0.1 t.rest_bytes (in_ok named.template (body_at named.members k) b.0 b.1) in
         let few : nodes_in b.0.0 ≤ node_limit = let n = t.counted in let o = u.counted in omega arith in
-        subst (λ (w : Whole). MessagePasses d bytes w.0 w.1 w.2) (ok_is {F = MessageStop} (content named.template b.0.0, b.0.1.dictionary, b.0.1.bytes) (m, after, rest) b.2)
+        subst (λ (w : Whole). MessagePasses set d bytes w.0 w.1 w.2) (ok_is {F = MessageStop} (content named.template b.0.0, b.0.1.dictionary, b.0.1.bytes) (m, after, rest) b.2)
         (record {
           front = t.front ++ u.front;
           parts = t.parts ∙ ap (λ (z : List ℕ). t.front ++ z) u.parts ∙ sym (append_assoc t.front u.front b.0.1.bytes);
@@ -462,9 +456,6 @@ module _ (set : List Resolved) where
         }))
     message_stopped d rest m (in_body h) = body_faulty d rest m (behind_of d rest m h.between h.front h.back h.parts h.first h.second)
 
-    abbrev pub longer : ℕ → MessageStop → MessageStop
-    longer more m = record { template = m.template; stop = further more m.stop }
-
     head_stays : (d : Dictionary) (bytes more : List ℕ) (s : Stop) → IsBytes bytes → head d bytes ≡ Err s → s.cause ≢ Truncated → message_at set d (bytes ++ more) ≡ Err (record { template = 0; stop = further (length more) s })
     head_stays d bytes more s fits e other =
         let stays : head d (bytes ++ more) ≡ Err (further (length more) s) = head_reader.stays (start d) node_limit bytes more s fits e other in
@@ -481,18 +472,21 @@ module _ (set : List Resolved) where
         subst (λ (n : ℕ). body_at named.members (cursor (state_of k) n (k.bytes ++ more)) ≡ Err (further (length more) s)) (sym count) stays in
         message_is d (bytes ++ more) ∙ rw (regrouped, one, two) refl
 
-    pub message_stays : (d : Dictionary) (bytes more : List ℕ) (m : MessageStop) → IsBytes bytes → message_at set d bytes ≡ Err m → m.stop.cause ≢ Truncated → message_at set d (bytes ++ more) ≡ Err (longer (length more) m)
+    pub message_stays : (d : Dictionary) (bytes more : List ℕ) (m : MessageStop) → IsBytes bytes → message_at set d bytes ≡ Err m → m.stop.cause ≢ Truncated → message_at set d (bytes ++ more) ≡ Err (further_on (length more) m)
     message_stays d bytes more m fits e other = elim (bind_err (in_template 0 (head d bytes)) behind_head m (sym (message_is d bytes) ∙ e)) [
       | at_first g ↦
           let h = in_err 0 (head d bytes) m g in
-          subst (λ (y : MessageStop). message_at set d (bytes ++ more) ≡ Err (longer (length more) y)) h.2
+          subst (λ (y : MessageStop). message_at set d (bytes ++ more) ≡ Err (further_on (length more) y)) h.2
           (head_stays d bytes more h.0 fits h.1 (λ c. other (sym (ap (λ (y : MessageStop). y.stop.cause) h.2) ∙ c)))
       | at_second x g h ↦ elim (bind_err (in_template x.0.template (body_at x.0.members x.1)) (as_whole x.0.template) m h) [
         | at_first g2 ↦
             let t = head_reader.found (start d) node_limit bytes x.0 x.1 fits (in_ok 0 (head d bytes) x g) in
             let b = in_err x.0.template (body_at x.0.members x.1) m g2 in
-            subst (λ (y : MessageStop). message_at set d (bytes ++ more) ≡ Err (longer (length more) y)) b.2
+            subst (λ (y : MessageStop). message_at set d (bytes ++ more) ≡ Err (further_on (length more) y)) b.2
             (body_stays d bytes more t.front x.0 x.1 b.0 t.parts (t.counted ∙ zero-add x.1.spare) t.form t.rest_bytes b.1 (λ c. other (sym (ap (λ (y : MessageStop). y.stop.cause) b.2) ∙ c)))
         | at_second y g2 h2 ↦ absurd cc
       ]
     ]
+
+    pub message_reader : IsMessageReader set
+    message_reader = record { found = message_found; again = message_again; stops = message_stops; stopped = message_stopped; stays = message_stays }

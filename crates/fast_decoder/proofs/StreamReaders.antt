@@ -16,8 +16,9 @@ use Rattle.fast_decoder.specs.Nodes.{Content}
 use Rattle.fast_decoder.specs.Bodies.{Then}
 use Rattle.fast_decoder.specs.Streams.{MessageForm, Carries, CarriesFrom}
 use Rattle.fast_decoder.specs.Faults.{MessageStop, MessageStops, place_of, FirstFault}
+use Rattle.fast_decoder.specs.Readers.{MessagePasses}
 use Rattle.fast_decoder.specs.Reading.{message_at, StreamReading, and_then, messages_at, stream_at, fault_in}
-use Rattle.fast_decoder.proofs.MessageReaders.{MessagePasses, message_found, message_again, message_stops, message_stopped, message_stays}
+use Rattle.fast_decoder.proofs.MessageReaders.{message_found, message_again, message_stops, message_stopped, message_stays}
 
 entity_some : (b : List ℕ) → IsEntity b → 0 < length b
 entity_some [] h = absurd h
@@ -48,7 +49,7 @@ module _ (set : List Resolved) (typed : AllByRecursion (λ t. HaveTypedParts t.m
     carried : CarriesFrom set d front r.messages after
     ends : EndsBy r.fault after rest
 
-  one_more : (d : Dictionary) (b : ℕ) (bytes : List ℕ) (m : Content) (between : Dictionary) (rest : List ℕ) (r : StreamReading) → MessagePasses set typed d (b ∷ bytes) m between rest → Reached between rest r
+  one_more : (d : Dictionary) (b : ℕ) (bytes : List ℕ) (m : Content) (between : Dictionary) (rest : List ℕ) (r : StreamReading) → MessagePasses set d (b ∷ bytes) m between rest → Reached between rest r
       → Reached d (b ∷ bytes) (reading (m ∷ r.messages) r.fault)
   one_more d b bytes m between rest r t u = record {
     front = t.front ++ u.front;

@@ -2,9 +2,13 @@
 use Rattle.std.specs.Prelude.{◌≡◌, ◌≢◌, ℕ, ◌+◌, List, ◌++◌, length, Ok, Err}
 use Rattle.fast_wire.specs.Reader.{IsBytes}
 use Rattle.fast_decoder.specs.declared.fault.Cause.TheVariants.{Truncated}
+use Rattle.fast_template.specs.Resolved.{Resolved}
+use Rattle.fast_dictionary.specs.Dictionary.{Dictionary}
+use Rattle.fast_decoder.specs.Nodes.{Content}
 use Rattle.fast_decoder.specs.Bodies.{State}
-use Rattle.fast_decoder.specs.Faults.{Stop}
-use Rattle.fast_decoder.specs.Reading.{Cursor, state_of, Reads}
+use Rattle.fast_decoder.specs.Streams.{MessageForm}
+use Rattle.fast_decoder.specs.Faults.{Stop, MessageStop, MessageStops}
+use Rattle.fast_decoder.specs.Reading.{Cursor, state_of, Reads, message_at}
 
 -- a state, how many nodes may still come, and the bytes
 abbrev pub cursor : State → ℕ → List ℕ → Cursor
@@ -40,3 +44,28 @@ pub record IsPieceReader {A : Type 0} (nodes : A → ℕ) (Form : State → List
   pub stays : (s : State) (spare : ℕ) (bytes more : List ℕ) (stop : Stop) → IsBytes bytes
       → read (cursor s spare bytes) ≡ Err stop → stop.cause ≢ Truncated
       → read (cursor s spare (bytes ++ more)) ≡ Err (further (length more) stop)
+
+-- the same stop in a message, seen from so many bytes more
+abbrev pub further_on : ℕ → MessageStop → MessageStop
+further_on more m = record { template = m.template; stop = further more m.stop }
+
+-- a message stands at the front of the bytes, and the rest follows
+pub record MessagePasses (set : List Resolved) (d : Dictionary) (bytes : List ℕ) (m : Content) (after : Dictionary) (rest : List ℕ) : Type 0 where
+  pub front : List ℕ
+  pub parts : bytes ≡ front ++ rest
+  pub rest_bytes : IsBytes rest
+  pub form : MessageForm set d front m after
+
+-- messages of the set are read, and reading stops exactly at their faults
+pub record IsMessageReader (set : List Resolved) : Type 0 where
+  pub found : (d : Dictionary) (bytes : List ℕ) (m : Content) (after : Dictionary) (rest : List ℕ) → IsBytes bytes
+      → message_at set d bytes ≡ Ok (m, after, rest) → MessagePasses set d bytes m after rest
+  pub again : (d : Dictionary) (form rest : List ℕ) (m : Content) (after : Dictionary) → MessageForm set d form m after
+      → message_at set d (form ++ rest) ≡ Ok (m, after, rest)
+  pub stops : (d : Dictionary) (bytes : List ℕ) (m : MessageStop) → IsBytes bytes
+      → message_at set d bytes ≡ Err m → MessageStops set d bytes m
+  pub stopped : (d : Dictionary) (bytes : List ℕ) (m : MessageStop) → MessageStops set d bytes m
+      → message_at set d bytes ≡ Err m
+  pub stays : (d : Dictionary) (bytes more : List ℕ) (m : MessageStop) → IsBytes bytes
+      → message_at set d bytes ≡ Err m → m.stop.cause ≢ Truncated
+      → message_at set d (bytes ++ more) ≡ Err (further_on (length more) m)
