@@ -1,18 +1,15 @@
 -- Nullable integers: what is sent and what is meant, and their readers.
-use Rattle.std.proofs.Common.{◌≡◌, ℕ, ℤ, zero, suc, ◌+◌, ◌*◌, ◌^◌, ◌<◌, ◌≤◌, pos, negsuc, List, Result, Ok, refl, sym, ap, subst, ◌∙◌, arith, add-one, inl, inr}
-use Rattle.std.specs.Prelude.{MatchResult}
+use Rattle.std.proofs.Common.{◌≡◌, ℕ, ℤ, zero, suc, ◌+◌, ◌*◌, ◌^◌, ◌<◌, ◌≤◌, pos, negsuc, List, refl, sym, ap, subst, ◌∙◌, arith, add-one, inl, inr}
 use Rattle.fast_wire.specs.Integer.{magnitude, IsUnsigned, IsSigned}
 use Rattle.fast_wire.specs.Nullable.{sent_unsigned, sent_signed, received_unsigned, received_signed, IsUnsignedNullable, IsSignedNullable}
-use Rattle.fast_wire.specs.Reading.{EntityFault, Reads, unsigned_at, signed_at, unsigned_nullable_at, signed_nullable_at}
+use Rattle.fast_wire.specs.Reading.{unsigned_at, signed_at, unsigned_nullable_at, signed_nullable_at}
 use Rattle.fast_wire.specs.Reader.{IsReader}
 use Rattle.fast_wire.specs.Writing.{AppendsShortest}
-use Rattle.fast_wire.specs.declared.fault.WireFault.{WireFault}
 use Rattle.fast_wire.specs.declared.fault.WireFault.TheVariants as fault
 use Rattle.fast_wire.specs.declared.nullable.Nullable.{Nullable}
 use Rattle.fast_wire.specs.declared.nullable.Nullable.TheVariants.{Null, Value}
 use Rattle.std.proofs.lemmas.Bool.{cases_lt}
 use Rattle.fast_wire.proofs.Readers.{reader_map, reader_as}
-use Rattle.fast_wire.proofs.Readings.{reads_only}
 use Rattle.fast_wire.proofs.FormReaders.{unsigned_forms, signed_forms}
 use Rattle.fast_wire.proofs.SignedForms.{signed_most}
 
@@ -49,18 +46,6 @@ signed_nullable_forms =
     (λ b y h. subst (λ (n : ℤ). IsSigned b n) (sym (sent_received_signed h.0) ∙ ap sent_signed h.2) h.1)
     (λ b y h. (sent_signed y, h, received_sent_signed y))
     (reader_map fault.NeedMore signed_at received_signed IsSigned signed_forms)
-
-pub unsigned_nullable_only : (xs : List ℕ) (at : ℕ) (r : Result (Nullable ℕ × ℕ) WireFault) → MatchResult r (Reads IsUnsignedNullable xs at) (EntityFault 10 xs at)
-    → (next : ℕ) (value : Nullable ℕ) → Reads IsUnsignedNullable xs at (value, next) → r ≡ Ok (value, next)
-unsigned_nullable_only =
-    reads_only IsUnsignedNullable 10 (λ b v f. f.entity) (λ b v f. f.short)
-    (λ b v w f h. sym (received_sent v) ∙ ap received_unsigned (f.value ∙ sym h.value) ∙ received_sent w)
-
-pub signed_nullable_only : (xs : List ℕ) (at : ℕ) (r : Result (Nullable ℤ × ℕ) WireFault) → MatchResult r (Reads IsSignedNullable xs at) (EntityFault 10 xs at)
-    → (next : ℕ) (value : Nullable ℤ) → Reads IsSignedNullable xs at (value, next) → r ≡ Ok (value, next)
-signed_nullable_only =
-    reads_only IsSignedNullable 10 (λ b v f. f.entity) (λ b v f. f.short)
-    (λ b v w f h. sym (received_sent_signed v) ∙ ap received_signed (f.value ∙ sym h.value) ∙ received_sent_signed w)
 
 -- a number with a form is what is sent for the value, and not one that was cut off at the largest
 sent_is : (v z : ℤ) → (magnitude v < 2 ^ 127 → z ≡ v) → (2 ^ 127 ≤ magnitude v → magnitude z + 1 ≡ magnitude v) → magnitude z < 64 * 128 ^ 9 → z ≡ v

@@ -4,7 +4,7 @@ ghost use Rattle.std.specs.Prelude.{◌≡◌, ℕ, ◌+◌, ◌<◌, ◌≤◌,
 ghost use Rattle.fast_wire.specs.Entity.{IsEntity, groups};
 ghost use Rattle.fast_wire.specs.Ascii.{IsAscii, IsAsciiEntity, IsAsciiEntityNullable, IsAsciiNullable, IsAsciiText};
 ghost use Rattle.fast_wire.specs.Nullable.{IsNullOr, borrowed, items_of, units};
-ghost use Rattle.fast_wire.specs.Reading.{AsciiFault, Gives, OrMemory, Reads, RefusedAt, ascii_at, ascii_nullable_at};
+ghost use Rattle.fast_wire.specs.Reading.{AsciiFault, Gives, OrMemory, Reads, ascii_at, ascii_nullable_at, IsReadAt};
 ghost use Rattle.fast_wire.specs.Sizes.{ascii_size, ascii_nullable_size};
 ghost use Rattle.fast_wire.specs.Spellings.{behind_zeros, preamble_for, string_of};
 ghost use Rattle.fast_wire.specs.Writing.{AppendsShortest, IsShortestSize};
@@ -71,14 +71,15 @@ fn characters(alloc: Global, entity: &[u8], most: usize) -> Result<Vec<u8>, Wire
 /// characters. Memory: the one copy was refused.
 pub fn read_ascii(alloc: Global, bytes: &[u8], at: usize) -> Result<(Vec<u8>, usize), WireFault>
     requires { at ≤ length bytes.now }
+    ensures { IsReadAt OrMemory ascii_at IsAscii IsAsciiText (AsciiFault IsAsciiEntity length) (λ v. v.items) bytes.now at result }
+{
+    ascii_from(alloc, bytes, at)
+}
+
+/// The string that stands at `at`, and the place after it.
+fn ascii_from(alloc: Global, bytes: &[u8], at: usize) -> Result<(Vec<u8>, usize), WireFault>
+    requires { at ≤ length bytes.now }
     ensures place { IfOk result (λ x. (at < x.1) × (x.1 ≤ length bytes.now)) }
-    // what is read is spelled so, and a refusal is this one
-    ensures answer { MatchResult result (λ x. Reads IsAscii bytes.now at (x.0.items, x.1))
-        (λ e. RefusedAt IsAscii bytes.now at e ⊎ AsciiFault IsAsciiEntity length bytes.now at e) }
-    // what is spelled so is read, unless memory runs out
-    ensures only { (next : ℕ) (value : List ℕ) → Reads IsAscii bytes.now at (value, next)
-        → MatchResult result (λ x. (x.0.items ≡ value) × (x.1 ≡ next)) (λ e. e ≡ WireFault.Memory) }
-    // the same by the function that reads the front of a list, for the layers above
     ensures gives { Gives OrMemory (λ x. (x.0.items, drop x.1 bytes.now)) result (ascii_at (drop at bytes.now)) }
 {
     let next = entity_end(bytes, at, ENTITY_LIMIT)?;
@@ -94,11 +95,20 @@ pub fn read_ascii_nullable(
     at: usize,
 ) -> Result<(Nullable<Vec<u8>>, usize), WireFault>
     requires { at ≤ length bytes.now }
+    ensures { IsReadAt OrMemory ascii_nullable_at IsAsciiNullable (IsNullOr IsAsciiText)
+        (AsciiFault IsAsciiEntityNullable units) items_of bytes.now at result }
+{
+    ascii_nullable_from(alloc, bytes, at)
+}
+
+/// The nullable string that stands at `at`, and the place after it.
+fn ascii_nullable_from(
+    alloc: Global,
+    bytes: &[u8],
+    at: usize,
+) -> Result<(Nullable<Vec<u8>>, usize), WireFault>
+    requires { at ≤ length bytes.now }
     ensures place { IfOk result (λ x. (at < x.1) × (x.1 ≤ length bytes.now)) }
-    ensures answer { MatchResult result (λ x. Reads IsAsciiNullable bytes.now at (items_of x.0, x.1))
-        (λ e. RefusedAt IsAsciiNullable bytes.now at e ⊎ AsciiFault IsAsciiEntityNullable units bytes.now at e) }
-    ensures only { (next : ℕ) (value : Nullable (List ℕ)) → Reads IsAsciiNullable bytes.now at (value, next)
-        → MatchResult result (λ x. (items_of x.0 ≡ value) × (x.1 ≡ next)) (λ e. e ≡ WireFault.Memory) }
     ensures gives { Gives OrMemory (λ x. (items_of x.0, drop x.1 bytes.now)) result (ascii_nullable_at (drop at bytes.now)) }
 {
     let next = entity_end(bytes, at, ENTITY_LIMIT)?;

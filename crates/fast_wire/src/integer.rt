@@ -1,11 +1,11 @@
 //! Integers: FAST 1.1, Transfer Encoding, Integer Representation.
 
 ghost use Rattle.std.specs.Prelude.{◌≡◌, ℕ, ℤ, ◌+◌, ◌-◌, ◌*◌, ◌^◌, ◌<◌, ◌≤◌, length, drop, slice_range, IfErr, IfOk, MatchResult, OnOk, OnErr, Ok, IsErrOf, ◌++◌, ◌↔◌, ◌⊎◌, vec_len, vec_capacity};
-ghost use Rattle.fast_wire.specs.Reading.{EntityFault, Gives, NothingElse, Reads, unsigned_at, signed_at};
+ghost use Rattle.fast_wire.specs.Reading.{EntityFault, IsReadAt, Gives, NothingElse, Reads, unsigned_at, signed_at};
 ghost use Rattle.fast_wire.specs.Sizes.{unsigned_size, signed_size, CanBeUnsigned, CanBeSigned};
 ghost use Rattle.fast_wire.specs.Writing.{AppendsShortest, IsShortestSize};
 ghost use Rattle.fast_wire.specs.Spellings.{entity_of, IsLeastSize, IsLeastSignedSize};
-ghost use Rattle.fast_wire.specs.Integer.{unsigned_of, signed_of, magnitude, IsUnsigned, IsSigned, IsSignedRange};
+ghost use Rattle.fast_wire.specs.Integer.{unsigned_of, signed_of, magnitude, IsUnsigned, IsSigned};
 
 use crate::fault::WireFault;
 use crate::stop_bit::entity_end;
@@ -31,13 +31,15 @@ fn unsigned_value(entity: &[u8]) -> u128
 /// TooLong: the first ten have none. It takes no memory.
 pub fn read_unsigned(bytes: &[u8], at: usize) -> Result<(u128, usize), WireFault>
     requires { at ≤ length bytes.now }
+    ensures { IsReadAt NothingElse unsigned_at IsUnsigned CanBeUnsigned (EntityFault 10) (λ v. v) bytes.now at result }
+{
+    unsigned_from(bytes, at)
+}
+
+/// The number that stands at `at`, and the place after it.
+fn unsigned_from(bytes: &[u8], at: usize) -> Result<(u128, usize), WireFault>
+    requires { at ≤ length bytes.now }
     ensures place { IfOk result (λ x. (at < x.1) × (x.1 ≤ length bytes.now)) }
-    ensures range { IfOk result (λ x. x.0 < 2 ^ 70) }
-    // what is read is spelled so, and a refusal is this one
-    ensures answer { MatchResult result (Reads IsUnsigned bytes.now at) (EntityFault 10 bytes.now at) }
-    // what is spelled so is read
-    ensures only { (next value : ℕ) → Reads IsUnsigned bytes.now at (value, next) → result ≡ Ok (value, next) }
-    // the same by the function that reads the front of a list, for the layers above
     ensures gives { Gives NothingElse (λ x. (x.0, drop x.1 bytes.now)) result (unsigned_at (drop at bytes.now)) }
 {
     let next = entity_end(bytes, at, INTEGER_LIMIT)?;
@@ -134,10 +136,15 @@ fn signed_value(entity: &[u8]) -> i128
 /// no stop bit. TooLong: the first ten have none. It takes no memory.
 pub fn read_signed(bytes: &[u8], at: usize) -> Result<(i128, usize), WireFault>
     requires { at ≤ length bytes.now }
+    ensures { IsReadAt NothingElse signed_at IsSigned CanBeSigned (EntityFault 10) (λ v. v) bytes.now at result }
+{
+    signed_from(bytes, at)
+}
+
+/// The signed number that stands at `at`, and the place after it.
+fn signed_from(bytes: &[u8], at: usize) -> Result<(i128, usize), WireFault>
+    requires { at ≤ length bytes.now }
     ensures place { IfOk result (λ x. (at < x.1) × (x.1 ≤ length bytes.now)) }
-    ensures range { IfOk result (λ x. IsSignedRange x.0) }
-    ensures answer { MatchResult result (Reads IsSigned bytes.now at) (EntityFault 10 bytes.now at) }
-    ensures only { (next : ℕ) (value : ℤ) → Reads IsSigned bytes.now at (value, next) → result ≡ Ok (value, next) }
     ensures gives { Gives NothingElse (λ x. (x.0, drop x.1 bytes.now)) result (signed_at (drop at bytes.now)) }
 {
     let end = entity_end(bytes, at, INTEGER_LIMIT)?;

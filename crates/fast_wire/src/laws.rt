@@ -13,7 +13,7 @@ ghost use Rattle.fast_wire.specs.Nullable.{IsNullOr, IsSignedNullable, IsUnsigne
 ghost use Rattle.fast_wire.specs.PresenceMap.{IsWholeMap};
 ghost use Rattle.fast_wire.specs.Reader.{GoesOn, IsReader};
 ghost use Rattle.fast_wire.specs.Reading.{ascii_at, ascii_nullable_at, bytes_at, entity_at, map_at, signed_at, signed_nullable_at, unsigned_at, unsigned_nullable_at, vector_at, vector_nullable_at};
-ghost use Rattle.fast_wire.specs.Sizes.{ascii_nullable_size, ascii_size, CanBeSigned, CanBeUnsigned, HasSizes, signed_nullable_size, signed_size, unsigned_nullable_size, unsigned_size, vector_nullable_size, vector_size};
+ghost use Rattle.fast_wire.specs.Sizes.{ascii_nullable_size, ascii_size, CanBeSigned, CanBeUnsigned, CanBeVector, HasSizes, signed_nullable_size, signed_size, unsigned_nullable_size, unsigned_size, vector_nullable_size, vector_size};
 ghost use Rattle.fast_wire.specs.Vector.{IsVector, IsVectorNullable};
 ghost use Rattle.fast_wire.specs.Writing.{IsShortest};
 ghost use Rattle.fast_wire.specs.declared.nullable.Nullable.{Nullable};
@@ -123,12 +123,12 @@ pub fn ascii_nullable_sizes()
 
 /// Which byte vectors have a form, and how long the shortest is.
 pub fn vector_sizes()
-    ensures { HasSizes IsVector (λ s. length s ≤ 65535) vector_size }
+    ensures { HasSizes IsVector CanBeVector vector_size }
 {}
 
 /// Which nullable byte vectors have a form, and how long the shortest is.
 pub fn vector_nullable_sizes()
-    ensures { HasSizes IsVectorNullable (λ s. units s ≤ 65535) vector_nullable_size }
+    ensures { HasSizes IsVectorNullable (IsNullOr CanBeVector) vector_nullable_size }
 {}
 
 /// The shortest form of a larger unsigned number is not shorter, and none is longer than ten bytes.

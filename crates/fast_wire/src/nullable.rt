@@ -1,8 +1,8 @@
 //! Nullable integers: FAST 1.1, Transfer Encoding, Nullable Integer Representation.
 
 ghost use Rattle.std.specs.Prelude.{◌≡◌, ℕ, ℤ, ◌+◌, ◌*◌, ◌^◌, ◌<◌, ◌≤◌, length, drop, IfErr, IfOk, MatchResult, OnOk, OnErr, Ok, IsErrOf, ◌↔◌, ◌⊎◌};
-ghost use Rattle.fast_wire.specs.Integer.{magnitude, IsSignedRange};
-ghost use Rattle.fast_wire.specs.Reading.{EntityFault, Gives, NothingElse, Reads, unsigned_nullable_at, signed_nullable_at};
+ghost use Rattle.fast_wire.specs.Integer.{magnitude};
+ghost use Rattle.fast_wire.specs.Reading.{EntityFault, Gives, NothingElse, Reads, unsigned_nullable_at, signed_nullable_at, IsReadAt};
 ghost use Rattle.fast_wire.specs.Sizes.{unsigned_nullable_size, signed_nullable_size, CanBeUnsigned, CanBeSigned};
 ghost use Rattle.fast_wire.specs.Writing.{AppendsShortest, IsShortestSize};
 ghost use Rattle.fast_wire.specs.Nullable.{sent_unsigned, sent_signed, received_unsigned, received_signed, IsNullOr, IsUnsignedNullable, IsSignedNullable};
@@ -37,10 +37,16 @@ fn unsigned_received(sent: u128) -> Nullable<u128>
 /// takes no memory.
 pub fn read_unsigned_nullable(bytes: &[u8], at: usize) -> Result<(Nullable<u128>, usize), WireFault>
     requires { at ≤ length bytes.now }
+    ensures { IsReadAt NothingElse unsigned_nullable_at IsUnsignedNullable (λ v. CanBeUnsigned (sent_unsigned v))
+        (EntityFault 10) (λ v. v) bytes.now at result }
+{
+    unsigned_nullable_from(bytes, at)
+}
+
+/// The nullable number that stands at `at`, and the place after it.
+fn unsigned_nullable_from(bytes: &[u8], at: usize) -> Result<(Nullable<u128>, usize), WireFault>
+    requires { at ≤ length bytes.now }
     ensures place { IfOk result (λ x. (at < x.1) × (x.1 ≤ length bytes.now)) }
-    ensures range { IfOk result (λ x. IsNullOr (λ v. v + 1 < 2 ^ 70) x.0) }
-    ensures answer { MatchResult result (Reads IsUnsignedNullable bytes.now at) (EntityFault 10 bytes.now at) }
-    ensures only { (next : ℕ) (value : Nullable ℕ) → Reads IsUnsignedNullable bytes.now at (value, next) → result ≡ Ok (value, next) }
     ensures gives { Gives NothingElse (λ x. (x.0, drop x.1 bytes.now)) result (unsigned_nullable_at (drop at bytes.now)) }
 {
     let (sent, next) = read_unsigned(bytes, at)?;
@@ -98,10 +104,16 @@ fn signed_received(sent: i128) -> Nullable<i128>
 /// no memory.
 pub fn read_signed_nullable(bytes: &[u8], at: usize) -> Result<(Nullable<i128>, usize), WireFault>
     requires { at ≤ length bytes.now }
+    ensures { IsReadAt NothingElse signed_nullable_at IsSignedNullable (λ v. CanBeSigned (sent_signed v))
+        (EntityFault 10) (λ v. v) bytes.now at result }
+{
+    signed_nullable_from(bytes, at)
+}
+
+/// The nullable signed number that stands at `at`, and the place after it.
+fn signed_nullable_from(bytes: &[u8], at: usize) -> Result<(Nullable<i128>, usize), WireFault>
+    requires { at ≤ length bytes.now }
     ensures place { IfOk result (λ x. (at < x.1) × (x.1 ≤ length bytes.now)) }
-    ensures range { IfOk result (λ x. IsNullOr IsSignedRange x.0) }
-    ensures answer { MatchResult result (Reads IsSignedNullable bytes.now at) (EntityFault 10 bytes.now at) }
-    ensures only { (next : ℕ) (value : Nullable ℤ) → Reads IsSignedNullable bytes.now at (value, next) → result ≡ Ok (value, next) }
     ensures gives { Gives NothingElse (λ x. (x.0, drop x.1 bytes.now)) result (signed_nullable_at (drop at bytes.now)) }
 {
     let (sent, next) = read_signed(bytes, at)?;

@@ -1,10 +1,11 @@
 //! Presence maps: FAST 1.1, Transfer Encoding, Presence Map.
 
 ghost use Rattle.std.specs.Prelude.{◌≡◌, ◌≢◌, ◌≤◌, ◌<◌, ◌+◌, ◌*◌, ◌/◌, ◌%◌, ◌↔◌, ◌⊎◌, ◌-◌, ◌++◌, ℕ, Bool, true, false, List, [], length, drop, slice_range, slice_get, IsTrue, IfOk, MatchResult, IfErr, OnOk, OnErr, IsErrOf};
+ghost use Rattle.fast_wire.specs.Sizes.{CanBeMap};
 ghost use Rattle.fast_wire.specs.Entity.{groups};
-ghost use Rattle.fast_wire.specs.Reading.{EntityFault, Gives, OrMemory, Reads, RefusedAt, map_at};
+ghost use Rattle.fast_wire.specs.Reading.{EntityFault, Gives, OrMemory, Reads, map_at, IsReadAt};
 ghost use Rattle.fast_wire.specs.Writing.{AppendsShortest};
-ghost use Rattle.fast_wire.specs.PresenceMap.{bits_of, bit_at, next_bit, later_bits, IsMap, HasSetBit};
+ghost use Rattle.fast_wire.specs.PresenceMap.{bits_of, bit_at, next_bit, later_bits, IsMap, HasSetBit, IsWholeMap};
 ghost use Rattle.fast_wire.specs.Spellings.{bit_number, group_from, map_of, IsUsed, IsMapSize};
 
 use crate::fault::WireFault;
@@ -91,12 +92,15 @@ impl Bits {
 /// the copy of the map was refused.
 pub fn read_map(alloc: Global, bytes: &[u8], at: usize) -> Result<(Bits, usize), WireFault>
     requires { at ≤ length bytes.now }
+    ensures { IsReadAt OrMemory map_at IsWholeMap CanBeMap (EntityFault 256) (λ v. v) bytes.now at result }
+{
+    map_from(alloc, bytes, at)
+}
+
+/// The map that stands at `at`, and the place after it.
+fn map_from(alloc: Global, bytes: &[u8], at: usize) -> Result<(Bits, usize), WireFault>
+    requires { at ≤ length bytes.now }
     ensures place { IfOk result (λ x. (at < x.1) × (x.1 ≤ length bytes.now)) }
-    ensures answer { MatchResult result (Reads IsMap bytes.now at) (λ e. RefusedAt IsMap bytes.now at e ⊎ EntityFault 256 bytes.now at e) }
-    // what is spelled so is read, unless memory runs out
-    ensures only { (next : ℕ) (bits : List Bool) → Reads IsMap bytes.now at (bits, next)
-        → MatchResult result (λ x. ((i : ℕ) → bit_at x.0 i ≡ bit_at bits i) × (x.1 ≡ next)) (λ e. e ≡ WireFault.Memory) }
-    // the same by the function that reads the front of a list, for the layers above
     ensures gives { Gives OrMemory (λ x. (x.0, drop x.1 bytes.now)) result (map_at (drop at bytes.now)) }
 {
     let next = entity_end(bytes, at, MAP_LIMIT)?;
