@@ -18,3 +18,4 @@ pub mod VectorForms
 pub mod FormSizes
 pub mod GoingOn
 pub mod Calls
+pub mod Written

@@ -11,7 +11,7 @@ use Rattle.fast_wire.specs.Vector.{IsVector, IsVectorNullable}
 use Rattle.fast_wire.specs.Reader.{IsBytes, Takes, IsReader, Both}
 use Rattle.fast_wire.specs.Reading.{bytes_at, behind_length, unsigned_at, unsigned_nullable_at, vector_at, vector_nullable_at}
 use Rattle.fast_wire.specs.Spellings.{IsLeastSize, entity_of}
-use Rattle.fast_wire.specs.Writing.{IsShortest, IsShortestSize, AppendsShortest}
+use Rattle.fast_wire.specs.Writing.{IsShortest, IsShortestSize}
 use Rattle.fast_wire.specs.declared.fault.WireFault.{WireFault}
 use Rattle.fast_wire.specs.declared.fault.WireFault.TheVariants as fault
 use Rattle.fast_wire.specs.declared.nullable.Nullable.{Nullable}
@@ -181,13 +181,6 @@ vector_null_shortest = record {
   form = record { entity = (omega arith, omega arith); short = omega arith; value = refl };
   least = λ other f. entity_some other f.entity;
 }
-
--- the bytes of a vector that was appended
-pub vector_appends : (old new s : List ℕ) → CanBeVector s → (size : ℕ) × IsLeastSize (length s) size × (new ≡ old ++ (entity_of size (length s) ++ s)) → AppendsShortest IsVector old new s
-vector_appends old new s few h = (entity_of h.0 (length s) ++ s, h.2, vector_shortest s h.0 few h.1)
-
-pub vector_nullable_appends : (old new s : List ℕ) → CanBeVector s → (size : ℕ) × IsLeastSize (length s + 1) size × (new ≡ old ++ (entity_of size (length s + 1) ++ s)) → AppendsShortest IsVectorNullable old new (Value s)
-vector_nullable_appends old new s few h = (entity_of h.0 (length s + 1) ++ s, h.2, vector_nullable_shortest s h.0 few h.1)
 
 -- the number of bytes of a vector's shortest form
 pub vector_sized : (s : List ℕ) (n : ℕ) → CanBeVector s → (k : ℕ) × IsLeastSize (length s) k × (n ≡ k + length s) → (n ≡ vector_size s) × IsShortestSize IsVector s n

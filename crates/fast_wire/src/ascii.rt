@@ -6,8 +6,8 @@ ghost use Rattle.fast_wire.specs.Ascii.{IsAscii, IsAsciiEntity, IsAsciiEntityNul
 ghost use Rattle.fast_wire.specs.Nullable.{IsNullOr, borrowed, items_of, units};
 ghost use Rattle.fast_wire.specs.Reading.{AsciiFault, Gives, OrMemory, Reads, ascii_at, ascii_nullable_at, IsReadAt};
 ghost use Rattle.fast_wire.specs.Sizes.{ascii_size, ascii_nullable_size};
-ghost use Rattle.fast_wire.specs.Spellings.{behind_zeros, preamble_for, string_of};
-ghost use Rattle.fast_wire.specs.Writing.{AppendsShortest, IsShortestSize};
+ghost use Rattle.fast_wire.specs.Spellings.{behind_zeros, preamble_for, string_of, Appends};
+ghost use Rattle.fast_wire.specs.Writing.{IsShortestSize, Writes, NoText};
 ghost use Rattle.fast_wire.specs.declared.nullable.Nullable.{Nullable};
 
 use crate::fault::WireFault;
@@ -55,9 +55,7 @@ fn characters(alloc: Global, entity: &[u8], most: usize) -> Result<Vec<u8>, Wire
     if spelled.len() > CHARACTER_LIMIT {
         return Err(WireFault::TooLong);
     }
-    let Ok(mut text) = Vec::from_slice(alloc, spelled) else {
-        return Err(WireFault::Memory);
-    };
+    let mut text = Vec::from_slice(alloc, spelled)?;
     if !text.is_empty() {
         let last = text.len() - 1;
         text[last] %= 128;
@@ -134,10 +132,7 @@ fn preamble_size(text: &[u8], preamble: usize) -> usize
 /// Whether a string has a form. Range: a character is above 127. TooLong, where none is: there are more than
 /// 65,535.
 fn check_characters(text: &[u8]) -> Result<(), WireFault>
-    ensures ok { OnOk result (IsAsciiText text.now) }
-    ensures range { IsErrOf result WireFault.Range ↔ (All (λ c. c < 128) text.now → ⊥) }
-    ensures too_long { IsErrOf result WireFault.TooLong ↔ (All (λ c. c < 128) text.now × (65535 < length text.now)) }
-    ensures err { IfErr result (λ e. (e ≡ WireFault.Range) ⊎ (e ≡ WireFault.TooLong)) }
+    ensures { MatchResult result (λ _. IsAsciiText text.now) (NoText (Nullable.Value text.now)) }
 {
     if find_stop(text).is_some() {
         return Err(WireFault::Range);
@@ -153,12 +148,9 @@ fn append_string(text: &[u8], preamble: usize, out: &mut Vec<u8>) -> Result<(), 
     requires text { IsAsciiText text.now }
     requires few { preamble ≤ 2 }
     requires some { 0 < preamble + length text.now }
-    ensures ok { OnOk result (out.new.items ≡ out.old.items ++ string_of preamble text.now) }
-    ensures err { IfErr result (λ e. (e ≡ WireFault.Memory) × (out.new.items ≡ out.old.items)) }
+    ensures { Appends (string_of preamble text.now) out.old out.new result }
 {
-    if out.reserve(preamble + text.len()).is_err() {
-        return Err(WireFault::Memory);
-    }
+    out.reserve(preamble + text.len())?;
     out.extend_from_slice(&ZEROS[..preamble]).unwrap();
     out.extend_from_slice(text).unwrap();
     let last = out.len() - 1;
@@ -169,11 +161,7 @@ fn append_string(text: &[u8], preamble: usize, out: &mut Vec<u8>) -> Result<(), 
 /// Appends the shortest form of an ASCII string, or answers and appends nothing. Range: a character is above
 /// 127. TooLong, where none is: there are more than 65,535. Memory: the one growth was refused.
 pub fn write_ascii(text: &[u8], out: &mut Vec<u8>) -> Result<(), WireFault>
-    ensures ok { OnOk result (AppendsShortest IsAscii out.old.items out.new.items text.now) }
-    ensures range { IsErrOf result WireFault.Range ↔ (All (λ c. c < 128) text.now → ⊥) }
-    ensures too_long { IsErrOf result WireFault.TooLong ↔ (All (λ c. c < 128) text.now × (65535 < length text.now)) }
-    ensures err { IfErr result (λ e. (e ≡ WireFault.Range) ⊎ ((e ≡ WireFault.TooLong) ⊎ (e ≡ WireFault.Memory))) }
-    ensures unchanged { OnErr result (out.new.items ≡ out.old.items) }
+    ensures { Writes IsAscii (λ s. NoText (Nullable.Value s)) out.old out.new text.now result }
 {
     check_characters(text)?;
     append_string(text, preamble_size(text, PREAMBLE), out)
@@ -192,11 +180,7 @@ pub fn size_ascii(text: &[u8]) -> usize
 /// Appends the shortest form of a nullable ASCII string, or answers and appends nothing. Range, TooLong,
 /// Memory: as `write_ascii`.
 pub fn write_ascii_nullable(value: Nullable<&[u8]>, out: &mut Vec<u8>) -> Result<(), WireFault>
-    ensures ok { OnOk result (AppendsShortest IsAsciiNullable out.old.items out.new.items (borrowed value.entry)) }
-    ensures range { IsErrOf result WireFault.Range ↔ (IsNullOr (All (λ c. c < 128)) (borrowed value.entry) → ⊥) }
-    ensures too_long { IsErrOf result WireFault.TooLong ↔ (IsNullOr (All (λ c. c < 128)) (borrowed value.entry) × (65535 < units (borrowed value.entry))) }
-    ensures err { IfErr result (λ e. (e ≡ WireFault.Range) ⊎ ((e ≡ WireFault.TooLong) ⊎ (e ≡ WireFault.Memory))) }
-    ensures unchanged { OnErr result (out.new.items ≡ out.old.items) }
+    ensures { Writes IsAsciiNullable NoText out.old out.new (borrowed value.entry) result }
 {
     match value {
         Nullable::Null => append_string(&[], 1, out),

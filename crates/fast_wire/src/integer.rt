@@ -3,8 +3,8 @@
 ghost use Rattle.std.specs.Prelude.{◌≡◌, ℕ, ℤ, ◌+◌, ◌-◌, ◌*◌, ◌^◌, ◌<◌, ◌≤◌, length, drop, slice_range, IfErr, IfOk, MatchResult, OnOk, OnErr, Ok, IsErrOf, ◌++◌, ◌↔◌, ◌⊎◌, vec_len, vec_capacity};
 ghost use Rattle.fast_wire.specs.Reading.{EntityFault, IsReadAt, Gives, NothingElse, Reads, unsigned_at, signed_at};
 ghost use Rattle.fast_wire.specs.Sizes.{unsigned_size, signed_size, CanBeUnsigned, CanBeSigned};
-ghost use Rattle.fast_wire.specs.Writing.{AppendsShortest, IsShortestSize};
-ghost use Rattle.fast_wire.specs.Spellings.{entity_of, IsLeastSize, IsLeastSignedSize};
+ghost use Rattle.fast_wire.specs.Writing.{IsShortestSize, Writes, OutOfRange};
+ghost use Rattle.fast_wire.specs.Spellings.{entity_of, IsLeastSize, IsLeastSignedSize, Appends};
 ghost use Rattle.fast_wire.specs.Integer.{unsigned_of, signed_of, magnitude, IsUnsigned, IsSigned};
 
 use crate::fault::WireFault;
@@ -65,12 +65,9 @@ pub(crate) fn least_size(value: u128) -> usize
 pub(crate) fn append_entity(value: u128, size: usize, out: &mut Vec<u8>) -> Result<(), WireFault>
     requires some { 0 < size }
     requires few { size ≤ 10 }
-    ensures ok { OnOk result (out.new.items ≡ out.old.items ++ entity_of size value) }
-    ensures err { IfErr result (λ e. (e ≡ WireFault.Memory) × (out.new.items ≡ out.old.items)) }
+    ensures { Appends (entity_of size value) out.old out.new result }
 {
-    if out.reserve(size).is_err() {
-        return Err(WireFault::Memory);
-    }
+    out.reserve(size)?;
     push_entity(value, size, out);
     Ok(())
 }
@@ -105,10 +102,7 @@ pub fn size_unsigned(value: u128) -> usize
 /// Appends the shortest form of a number, or answers and appends nothing. Range: the number does not fit ten
 /// bytes. Memory: the one growth was refused.
 pub fn write_unsigned(value: u128, out: &mut Vec<u8>) -> Result<(), WireFault>
-    ensures ok { OnOk result (AppendsShortest IsUnsigned out.old.items out.new.items value) }
-    ensures range { IsErrOf result WireFault.Range ↔ (128 ^ 10 ≤ value) }
-    ensures err { IfErr result (λ e. (e ≡ WireFault.Range) ⊎ (e ≡ WireFault.Memory)) }
-    ensures unchanged { OnErr result (out.new.items ≡ out.old.items) }
+    ensures { Writes IsUnsigned (OutOfRange CanBeUnsigned) out.old out.new value result }
 {
     if value >> 70 != 0 {
         return Err(WireFault::Range);
@@ -191,10 +185,7 @@ pub fn size_signed(value: i128) -> usize
 /// Appends the shortest form of a signed number, or answers and appends nothing. Range: the number does not
 /// fit ten bytes, a bit of which is the sign. Memory: the one growth was refused.
 pub fn write_signed(value: i128, out: &mut Vec<u8>) -> Result<(), WireFault>
-    ensures ok { OnOk result (AppendsShortest IsSigned out.old.items out.new.items value) }
-    ensures range { IsErrOf result WireFault.Range ↔ (64 * 128 ^ 9 ≤ magnitude value) }
-    ensures err { IfErr result (λ e. (e ≡ WireFault.Range) ⊎ (e ≡ WireFault.Memory)) }
-    ensures unchanged { OnErr result (out.new.items ≡ out.old.items) }
+    ensures { Writes IsSigned (OutOfRange CanBeSigned) out.old out.new value result }
 {
     let distance = distance(value);
     if distance >> 69 != 0 {

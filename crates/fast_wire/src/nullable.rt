@@ -4,7 +4,7 @@ ghost use Rattle.std.specs.Prelude.{◌≡◌, ℕ, ℤ, ◌+◌, ◌*◌, ◌^�
 ghost use Rattle.fast_wire.specs.Integer.{magnitude};
 ghost use Rattle.fast_wire.specs.Reading.{EntityFault, Gives, NothingElse, Reads, unsigned_nullable_at, signed_nullable_at, IsReadAt};
 ghost use Rattle.fast_wire.specs.Sizes.{unsigned_nullable_size, signed_nullable_size, CanBeUnsigned, CanBeSigned};
-ghost use Rattle.fast_wire.specs.Writing.{AppendsShortest, IsShortestSize};
+ghost use Rattle.fast_wire.specs.Writing.{IsShortestSize, Writes, OutOfRange};
 ghost use Rattle.fast_wire.specs.Nullable.{sent_unsigned, sent_signed, received_unsigned, received_signed, IsNullOr, IsUnsignedNullable, IsSignedNullable};
 
 use crate::fault::WireFault;
@@ -67,10 +67,7 @@ fn unsigned_sent(value: Nullable<u128>) -> u128
 /// Appends the shortest form of a nullable unsigned number, or answers and appends nothing. Range: one more
 /// than the number does not fit ten bytes. Memory: the one growth was refused.
 pub fn write_unsigned_nullable(value: Nullable<u128>, out: &mut Vec<u8>) -> Result<(), WireFault>
-    ensures ok { OnOk result (AppendsShortest IsUnsignedNullable out.old.items out.new.items value) }
-    ensures range { IsErrOf result WireFault.Range ↔ (128 ^ 10 ≤ sent_unsigned value) }
-    ensures err { IfErr result (λ e. (e ≡ WireFault.Range) ⊎ (e ≡ WireFault.Memory)) }
-    ensures unchanged { OnErr result (out.new.items ≡ out.old.items) }
+    ensures { Writes IsUnsignedNullable (OutOfRange (λ v. CanBeUnsigned (sent_unsigned v))) out.old out.new value result }
 {
     write_unsigned(unsigned_sent(value), out)
 }
@@ -135,10 +132,7 @@ fn signed_sent(value: Nullable<i128>) -> i128
 /// Appends the shortest form of a nullable signed number, or answers and appends nothing. Range: what is sent
 /// for it, one more for a number from 0 up, does not fit ten bytes. Memory: the one growth was refused.
 pub fn write_signed_nullable(value: Nullable<i128>, out: &mut Vec<u8>) -> Result<(), WireFault>
-    ensures ok { OnOk result (AppendsShortest IsSignedNullable out.old.items out.new.items value) }
-    ensures range { IsErrOf result WireFault.Range ↔ (64 * 128 ^ 9 ≤ magnitude (sent_signed value)) }
-    ensures err { IfErr result (λ e. (e ≡ WireFault.Range) ⊎ (e ≡ WireFault.Memory)) }
-    ensures unchanged { OnErr result (out.new.items ≡ out.old.items) }
+    ensures { Writes IsSignedNullable (OutOfRange (λ v. CanBeSigned (sent_signed v))) out.old out.new value result }
 {
     write_signed(signed_sent(value), out)
 }

@@ -4,9 +4,9 @@ ghost use Rattle.std.specs.Prelude.{◌≡◌, ◌≢◌, ◌≤◌, ◌<◌, �
 ghost use Rattle.fast_wire.specs.Sizes.{CanBeMap};
 ghost use Rattle.fast_wire.specs.Entity.{groups};
 ghost use Rattle.fast_wire.specs.Reading.{EntityFault, Gives, OrMemory, Reads, map_at, IsReadAt};
-ghost use Rattle.fast_wire.specs.Writing.{AppendsShortest};
+ghost use Rattle.fast_wire.specs.Writing.{Writes, TooManyBits};
 ghost use Rattle.fast_wire.specs.PresenceMap.{bits_of, bit_at, next_bit, later_bits, IsMap, HasSetBit, IsWholeMap};
-ghost use Rattle.fast_wire.specs.Spellings.{bit_number, group_from, map_of, IsUsed, IsMapSize};
+ghost use Rattle.fast_wire.specs.Spellings.{bit_number, group_from, map_of, IsUsed, IsMapSize, Appends};
 
 use crate::fault::WireFault;
 use crate::stop_bit::entity_end;
@@ -104,16 +104,8 @@ fn map_from(alloc: Global, bytes: &[u8], at: usize) -> Result<(Bits, usize), Wir
     ensures gives { Gives OrMemory (λ x. (x.0, drop x.1 bytes.now)) result (map_at (drop at bytes.now)) }
 {
     let next = entity_end(bytes, at, MAP_LIMIT)?;
-    let Ok(map) = Vec::from_slice(alloc, &bytes[at..next]) else {
-        return Err(WireFault::Memory);
-    };
-    Ok((
-        Bits {
-            bytes: map,
-            place: 0,
-        },
-        next,
-    ))
+    let bytes = Vec::from_slice(alloc, &bytes[at..next])?;
+    Ok((Bits { bytes, place: 0 }, next))
 }
 
 /// One more than the index of the last 1, or 0.
@@ -155,10 +147,7 @@ fn group_at(bits: &[bool], from: usize) -> u8
 /// Appends the shortest map with these bits, the fewest groups that reach the last 1 and at least one, or
 /// answers and appends nothing. TooLong: they do not fit 256 bytes. Memory: the one growth was refused.
 pub fn write_map(bits: &[bool], out: &mut Vec<u8>) -> Result<(), WireFault>
-    ensures ok { OnOk result (AppendsShortest IsMap out.old.items out.new.items bits.now) }
-    ensures too_long { IsErrOf result WireFault.TooLong ↔ HasSetBit (drop 1792 bits.now) }
-    ensures err { IfErr result (λ e. (e ≡ WireFault.TooLong) ⊎ (e ≡ WireFault.Memory)) }
-    ensures unchanged { OnErr result (out.new.items ≡ out.old.items) }
+    ensures { Writes IsMap TooManyBits out.old out.new bits.now result }
 {
     let used = used_bits(bits);
     if used > 7 * MAP_LIMIT {
@@ -179,12 +168,9 @@ fn map_size(used: usize) -> usize
 fn append_map(bits: &[bool], size: usize, out: &mut Vec<u8>) -> Result<(), WireFault>
     requires some { 0 < size }
     requires few { size ≤ 256 }
-    ensures ok { OnOk result (out.new.items ≡ out.old.items ++ map_of size bits.now 0) }
-    ensures err { IfErr result (λ e. (e ≡ WireFault.Memory) × (out.new.items ≡ out.old.items)) }
+    ensures { Appends (map_of size bits.now 0) out.old out.new result }
 {
-    if out.reserve(size).is_err() {
-        return Err(WireFault::Memory);
-    }
+    out.reserve(size)?;
     for i in 0..size - 1 {
         out.push(group_at(bits, 7 * i)).unwrap();
     }

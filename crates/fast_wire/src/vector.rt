@@ -6,9 +6,9 @@ ghost use Rattle.fast_wire.specs.Nullable.{borrowed, items_of, units, IsNullOr};
 ghost use Rattle.fast_wire.specs.Reader.{IsBytes};
 ghost use Rattle.fast_wire.specs.Reading.{Gives, OrMemory, LengthFault, Reads, VectorFault, bytes_at, vector_at, vector_nullable_at, IsReadAt};
 ghost use Rattle.fast_wire.specs.Sizes.{vector_size, vector_nullable_size, CanBeVector};
-ghost use Rattle.fast_wire.specs.Spellings.{IsLeastSize, entity_of};
+ghost use Rattle.fast_wire.specs.Spellings.{IsLeastSize, entity_of, Appends};
 ghost use Rattle.fast_wire.specs.Vector.{IsLengthNullable, IsVector, IsVectorNullable};
-ghost use Rattle.fast_wire.specs.Writing.{AppendsShortest, IsShortestSize};
+ghost use Rattle.fast_wire.specs.Writing.{IsShortestSize, Writes, TooManyBytes};
 ghost use Rattle.fast_wire.specs.declared.nullable.Nullable.{Nullable};
 
 use crate::fault::WireFault;
@@ -39,9 +39,7 @@ fn bytes_from(
         return Err(WireFault::NeedMore);
     }
     let next = start + count;
-    let Ok(items) = Vec::from_slice(alloc, &bytes[start..next]) else {
-        return Err(WireFault::Memory);
-    };
+    let items = Vec::from_slice(alloc, &bytes[start..next])?;
     Ok((items, next))
 }
 
@@ -104,14 +102,11 @@ fn vector_nullable_from(
 fn append_vector(sent: u128, items: &[u8], out: &mut Vec<u8>) -> Result<(), WireFault>
     requires few { sent ≤ 65536 }
     requires bytes { length items.now ≤ 65535 }
-    ensures ok { OnOk result ((size : ℕ) × IsLeastSize sent size × (out.new.items ≡ out.old.items ++ (entity_of size sent ++ items.now))) }
-    ensures err { IfErr result (λ e. (e ≡ WireFault.Memory) × (out.new.items ≡ out.old.items)) }
+    ensures appended { (size : ℕ) × IsLeastSize sent size × Appends (entity_of size sent ++ items.now) out.old out.new result }
     ensures fit { IsBytes items.now }
 {
     let size = least_size(sent);
-    if out.reserve(size + items.len()).is_err() {
-        return Err(WireFault::Memory);
-    }
+    out.reserve(size + items.len())?;
     push_entity(sent, size, out);
     out.extend_from_slice(items).unwrap();
     Ok(())
@@ -120,10 +115,7 @@ fn append_vector(sent: u128, items: &[u8], out: &mut Vec<u8>) -> Result<(), Wire
 /// Appends the shortest form of a byte vector, or answers and appends nothing. TooLong: it has more than
 /// 65,535 bytes. Memory: the one growth was refused.
 pub fn write_vector(items: &[u8], out: &mut Vec<u8>) -> Result<(), WireFault>
-    ensures ok { OnOk result (AppendsShortest IsVector out.old.items out.new.items items.now) }
-    ensures too_long { IsErrOf result WireFault.TooLong ↔ (65535 < length items.now) }
-    ensures err { IfErr result (λ e. (e ≡ WireFault.TooLong) ⊎ (e ≡ WireFault.Memory)) }
-    ensures unchanged { OnErr result (out.new.items ≡ out.old.items) }
+    ensures { Writes IsVector (λ s. TooManyBytes (Nullable.Value s)) out.old out.new items.now result }
 {
     if items.len() > BYTE_LIMIT {
         return Err(WireFault::TooLong);
@@ -154,10 +146,7 @@ pub fn size_vector(items: &[u8]) -> usize
 /// Appends the shortest form of a nullable byte vector, or answers and appends nothing. TooLong, Memory: as
 /// `write_vector`.
 pub fn write_vector_nullable(value: Nullable<&[u8]>, out: &mut Vec<u8>) -> Result<(), WireFault>
-    ensures ok { OnOk result (AppendsShortest IsVectorNullable out.old.items out.new.items (borrowed value.entry)) }
-    ensures too_long { IsErrOf result WireFault.TooLong ↔ (65535 < units (borrowed value.entry)) }
-    ensures err { IfErr result (λ e. (e ≡ WireFault.TooLong) ⊎ (e ≡ WireFault.Memory)) }
-    ensures unchanged { OnErr result (out.new.items ≡ out.old.items) }
+    ensures { Writes IsVectorNullable TooManyBytes out.old out.new (borrowed value.entry) result }
 {
     let Nullable::Value(items) = value else {
         return append_entity(0, 1, out);

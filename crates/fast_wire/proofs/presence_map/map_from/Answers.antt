@@ -14,8 +14,10 @@ returns-in_err-next-clause-gives c =
 
 pub returns-clause-gives : goal.returns-clause-gives
 unfolding map_at
-returns-clause-gives c = rw (c.in_ok-next.ensures.gives, c.in-Ok.ensures.items) refl
+returns-clause-gives c = rw (c.in_ok-next.ensures.gives, c.in_ok-bytes.ensures.items) refl
 
-pub returns-in_default-clause-gives : goal.returns-in_default-clause-gives
+pub returns-in_err-bytes-clause-gives : goal.returns-in_err-bytes-clause-gives
 unfolding map_at
-returns-in_default-clause-gives c = inr (refl, rw c.in_ok-next.ensures.gives refl)
+returns-in_err-bytes-clause-gives c =
+    let p = err_from_is_err_and c.from_residual-in_err-bytes.result c.from_residual-in_err-bytes.ensures.1 in
+    rw (p.1, p.2) (inr (refl, rw c.in_ok-next.ensures.gives refl))
