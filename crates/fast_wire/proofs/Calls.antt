@@ -10,7 +10,7 @@ use Rattle.fast_wire.specs.Nullable.{IsNullOr, IsSignedNullable, IsUnsignedNulla
 use Rattle.fast_wire.specs.PresenceMap.{IsWholeMap, bits_of}
 use Rattle.fast_wire.specs.Reader.{IsBytes, IsReader, Takes}
 use Rattle.fast_wire.specs.Reading.{◌>>=◌, AsciiFault, EntityFault, Gives, IsReadAt, NothingElse, OrMemory, Reads, VectorFault, LengthFault, ascii_at, ascii_nullable_at, behind_length, bytes_at, characters, entity_at, map_at, nullable_characters, signed_at, signed_nullable_at, unsigned_at, unsigned_nullable_at, vector_at, vector_nullable_at, within_limit}
-use Rattle.fast_wire.specs.Sizes.{CanBeMap, CanBeSigned, CanBeUnsigned, CanBeVector}
+use Rattle.fast_wire.specs.Sizes.{CanBeMap, CanBeSigned, CanBeSignedNullable, CanBeUnsignedNullable, CanBeUnsigned, CanBeVector}
 use Rattle.fast_wire.specs.Vector.{IsLengthNullable, IsVector, IsVectorNullable}
 use Rattle.fast_wire.specs.declared.fault.WireFault.{WireFault}
 use Rattle.fast_wire.specs.declared.fault.WireFault.TheVariants as fault
@@ -211,14 +211,14 @@ unsigned_answers = read_at NothingElse nothing_stands unsigned_at IsUnsigned uns
 pub signed_answers : Answers NothingElse signed_at IsSigned CanBeSigned (EntityFault 10) (λ v. v)
 signed_answers = read_at NothingElse nothing_stands signed_at IsSigned signed_forms CanBeSigned signed_sizes.within (EntityFault 10) (λ bytes at e fits. signed_fault bytes at e) (λ v. v)
 
-pub unsigned_nullable_answers : Answers NothingElse unsigned_nullable_at IsUnsignedNullable (λ v. CanBeUnsigned (sent_unsigned v)) (EntityFault 10) (λ v. v)
+pub unsigned_nullable_answers : Answers NothingElse unsigned_nullable_at IsUnsignedNullable CanBeUnsignedNullable (EntityFault 10) (λ v. v)
 unsigned_nullable_answers =
-    read_at NothingElse nothing_stands unsigned_nullable_at IsUnsignedNullable unsigned_nullable_forms (λ v. CanBeUnsigned (sent_unsigned v)) unsigned_nullable_sizes.within (EntityFault 10)
+    read_at NothingElse nothing_stands unsigned_nullable_at IsUnsignedNullable unsigned_nullable_forms CanBeUnsignedNullable unsigned_nullable_sizes.within (EntityFault 10)
     (λ bytes at e fits. unsigned_nullable_fault bytes at e) (λ v. v)
 
-pub signed_nullable_answers : Answers NothingElse signed_nullable_at IsSignedNullable (λ v. CanBeSigned (sent_signed v)) (EntityFault 10) (λ v. v)
+pub signed_nullable_answers : Answers NothingElse signed_nullable_at IsSignedNullable CanBeSignedNullable (EntityFault 10) (λ v. v)
 signed_nullable_answers =
-    read_at NothingElse nothing_stands signed_nullable_at IsSignedNullable signed_nullable_forms (λ v. CanBeSigned (sent_signed v)) signed_nullable_sizes.within (EntityFault 10)
+    read_at NothingElse nothing_stands signed_nullable_at IsSignedNullable signed_nullable_forms CanBeSignedNullable signed_nullable_sizes.within (EntityFault 10)
     (λ bytes at e fits. signed_nullable_fault bytes at e) (λ v. v)
 
 pub ascii_answers : {X : Type 0} (view : X → List ℕ) → Answers OrMemory ascii_at IsAscii IsAsciiText (AsciiFault IsAsciiEntity length) view

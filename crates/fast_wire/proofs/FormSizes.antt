@@ -10,7 +10,7 @@ use Rattle.fast_wire.specs.Ascii.{IsAscii, IsAsciiNullable, IsAsciiText}
 use Rattle.fast_wire.specs.Entity.{groups}
 use Rattle.fast_wire.specs.Integer.{IsNoCloser, IsSigned, IsUnsigned, magnitude, unsigned_of}
 use Rattle.fast_wire.specs.Nullable.{IsNullOr, IsSignedNullable, IsUnsignedNullable, sent_signed, sent_unsigned}
-use Rattle.fast_wire.specs.Sizes.{ascii_nullable_size, ascii_size, CanBeSigned, CanBeUnsigned, CanBeVector, HasSizes, signed_nullable_size, signed_size, unsigned_nullable_size, unsigned_size, vector_nullable_size, vector_size}
+use Rattle.fast_wire.specs.Sizes.{ascii_nullable_size, ascii_size, CanBeSigned, CanBeSignedNullable, CanBeUnsignedNullable, CanBeUnsigned, CanBeVector, HasSizes, signed_nullable_size, signed_size, unsigned_nullable_size, unsigned_size, vector_nullable_size, vector_size}
 use Rattle.fast_wire.specs.Spellings.{entity_of, preamble_for, string_of}
 use Rattle.fast_wire.specs.Vector.{IsVector, IsVectorNullable}
 use Rattle.fast_wire.specs.Writing.{IsShortest}
@@ -75,7 +75,7 @@ signed_sizes = record {
   one = λ b c v hb hc long. same_bytes b c hb.entity hc.entity long (same_unsigned b c v hb hc long);
 }
 
-pub unsigned_nullable_sizes : HasSizes IsUnsignedNullable (λ v. CanBeUnsigned (sent_unsigned v)) unsigned_nullable_size
+pub unsigned_nullable_sizes : HasSizes IsUnsignedNullable CanBeUnsignedNullable unsigned_nullable_size
 unfolding unsigned_nullable_size
 unsigned_nullable_sizes = record {
   within = λ b v f. unsigned_sizes.within b (sent_unsigned v) f;
@@ -84,7 +84,7 @@ unsigned_nullable_sizes = record {
   one = λ b c v hb hc long. unsigned_sizes.one b c (sent_unsigned v) hb hc long;
 }
 
-pub signed_nullable_sizes : HasSizes IsSignedNullable (λ v. CanBeSigned (sent_signed v)) signed_nullable_size
+pub signed_nullable_sizes : HasSizes IsSignedNullable CanBeSignedNullable signed_nullable_size
 unfolding signed_nullable_size
 signed_nullable_sizes = record {
   within = λ b v f. signed_sizes.within b (sent_signed v) f;
@@ -234,6 +234,6 @@ forms_grow v w b c h hb hc =
 
 pub nullable_forms_grow : (v w : ℤ) (b c : List ℕ) → IsNoCloser v w → IsShortest IsSignedNullable b (Value v) → IsShortest IsSignedNullable c (Value w) → length b ≤ length c
 nullable_forms_grow v w b c h hb hc =
-    let sb = shortest_size IsSignedNullable (λ v. CanBeSigned (sent_signed v)) signed_nullable_size signed_nullable_sizes b (Value v) hb in
-    let sc = shortest_size IsSignedNullable (λ v. CanBeSigned (sent_signed v)) signed_nullable_size signed_nullable_sizes c (Value w) hc in
+    let sb = shortest_size IsSignedNullable CanBeSignedNullable signed_nullable_size signed_nullable_sizes b (Value v) hb in
+    let sc = shortest_size IsSignedNullable CanBeSignedNullable signed_nullable_size signed_nullable_sizes c (Value w) hc in
     let g = signed_nullable_grow v w h in omega arith

@@ -4,7 +4,7 @@ use Rattle.fast_wire.specs.Ascii.{IsAscii, IsAsciiNullable, IsAsciiText}
 use Rattle.fast_wire.specs.Integer.{IsSigned, magnitude}
 use Rattle.fast_wire.specs.Nullable.{IsSignedNullable, sent_signed}
 use Rattle.fast_wire.specs.PresenceMap.{IsMap}
-use Rattle.fast_wire.specs.Sizes.{CanBeSigned, CanBeVector}
+use Rattle.fast_wire.specs.Sizes.{CanBeSigned, CanBeSignedNullable, CanBeUnsignedNullable, CanBeVector}
 use Rattle.fast_wire.specs.Spellings.{Appends, IsLeastSize, IsMapSize, IsUsed, entity_of, map_of, preamble_for, string_of}
 use Rattle.fast_wire.specs.Vector.{IsVector, IsVectorNullable}
 use Rattle.fast_wire.specs.Writing.{IsShortest, NoText, OutOfRange, TooManyBits, TooManyBytes, Writes}
@@ -83,7 +83,7 @@ signed_appended old new v bytes r short a = appended IsSigned (OutOfRange CanBeS
 -- what is sent for a nullable number, or a number cut off at the largest, was written
 pub sent_written : (old new : Vec ℕ Global) (v : Nullable ℤ) (z : ℤ) (r : Result (Unit {0}) WireFault) → (magnitude (sent_signed v) < 2 ^ 127 → z ≡ sent_signed v)
     → (2 ^ 127 ≤ magnitude (sent_signed v) → magnitude z + 1 ≡ magnitude (sent_signed v)) → Writes IsSigned (OutOfRange CanBeSigned) old new z r
-    → Writes IsSignedNullable (OutOfRange (λ v. CanBeSigned (sent_signed v))) old new v r
+    → Writes IsSignedNullable (OutOfRange CanBeSignedNullable) old new v r
 sent_written old new v z r small large h =
     by_result old new v z r small large h
   where
@@ -98,7 +98,7 @@ sent_written old new v z r small large h =
 
     by_result : (old new : Vec ℕ Global) (v : Nullable ℤ) (z : ℤ) (r : Result (Unit {0}) WireFault) → (magnitude (sent_signed v) < 2 ^ 127 → z ≡ sent_signed v)
         → (2 ^ 127 ≤ magnitude (sent_signed v) → magnitude z + 1 ≡ magnitude (sent_signed v)) → Writes IsSigned (OutOfRange CanBeSigned) old new z r
-        → Writes IsSignedNullable (OutOfRange (λ v. CanBeSigned (sent_signed v))) old new v r
+        → Writes IsSignedNullable (OutOfRange CanBeSignedNullable) old new v r
     by_result old new v z (Ok x) small large h =
         let a = h.ok in
         let can = signed_most a.0 z a.2.form in

@@ -67,6 +67,11 @@ abbrev pub Gives : {F X Y : Type 0} → (Result Y F → F → Type 0) → (X →
 Gives Else view (Ok x) read = read ≡ Ok (view x)
 Gives Else view (Err e) read = Fails Else e read
 
+-- the same of a call that reads at a place, and answers a value and the place after it
+abbrev pub GivesAt : {X V F : Type 0} → (Result (V × List ℕ) F → F → Type 0) → (List ℕ → Result (V × List ℕ) F)
+    → (X → V) → List ℕ → ℕ → Result (X × ℕ) F → Type 0
+GivesAt Else read view bytes at r = Gives Else (λ x. (view x.0, drop x.1 bytes)) r (read (drop at bytes))
+
 -- what a call that reads a form at a place answers, its value seen by view
 pub record IsReadAt {X V : Type 0} (Else : Result (V × List ℕ) WireFault → WireFault → Type 0)
     (read : List ℕ → Result (V × List ℕ) WireFault) (Form : List ℕ → V → Type 0) (Can : V → Type 0)
@@ -83,7 +88,7 @@ pub record IsReadAt {X V : Type 0} (Else : Result (V × List ℕ) WireFault → 
   pub only : (next : ℕ) (value : V) → Reads Form bytes at (value, next)
       → MatchResult r (λ x. (view x.0 ≡ value) × (x.1 ≡ next)) (Else (read (drop at bytes)))
   -- the same by the function that reads the front of a list, for the layers above
-  pub gives : Gives Else (λ x. (view x.0, drop x.1 bytes)) r (read (drop at bytes))
+  pub gives : GivesAt Else read view bytes at r
 
 -- the bytes up to the first stop bit, of which there are at most so many
 unfoldable pub entity_at : ℕ → List ℕ → Result (List ℕ × List ℕ) WireFault

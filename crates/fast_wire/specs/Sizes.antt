@@ -60,6 +60,12 @@ CanBeUnsigned v = v < 128 ^ 10
 abbrev pub CanBeSigned : ℤ → Type 0
 CanBeSigned v = magnitude v < 64 * 128 ^ 9
 
+abbrev pub CanBeUnsignedNullable : Nullable ℕ → Type 0
+CanBeUnsignedNullable v = CanBeUnsigned (sent_unsigned v)
+
+abbrev pub CanBeSignedNullable : Nullable ℤ → Type 0
+CanBeSignedNullable v = CanBeSigned (sent_signed v)
+
 -- bytes, of which there are not too many
 abbrev pub CanBeVector : List ℕ → Type 0
 CanBeVector s = IsBytes s × (length s ≤ 65535)

@@ -4,7 +4,7 @@ ghost use Rattle.std.specs.Prelude.{◌≡◌, ℕ, ◌+◌, ◌<◌, ◌≤◌,
 ghost use Rattle.fast_wire.specs.Entity.{IsEntity, groups};
 ghost use Rattle.fast_wire.specs.Ascii.{IsAscii, IsAsciiEntity, IsAsciiEntityNullable, IsAsciiNullable, IsAsciiText};
 ghost use Rattle.fast_wire.specs.Nullable.{IsNullOr, borrowed, items_of, units};
-ghost use Rattle.fast_wire.specs.Reading.{AsciiFault, Gives, OrMemory, Reads, ascii_at, ascii_nullable_at, IsReadAt};
+ghost use Rattle.fast_wire.specs.Reading.{AsciiFault, GivesAt, OrMemory, Reads, ascii_at, ascii_nullable_at, IsReadAt};
 ghost use Rattle.fast_wire.specs.Sizes.{ascii_size, ascii_nullable_size};
 ghost use Rattle.fast_wire.specs.Spellings.{behind_zeros, preamble_for, string_of, Appends};
 ghost use Rattle.fast_wire.specs.Writing.{IsShortestSize, Writes, NoText};
@@ -12,7 +12,7 @@ ghost use Rattle.fast_wire.specs.declared.nullable.Nullable.{Nullable};
 
 use crate::fault::WireFault;
 use crate::nullable::Nullable;
-use crate::stop_bit::{entity_end, find_stop};
+use crate::stop_bit::{STOP_BIT, entity_end, find_stop};
 use std::alloc::Global;
 
 /// The most bytes of a string's entity.
@@ -26,6 +26,9 @@ const PREAMBLE: usize = 1;
 
 /// The groups of a preamble in the nullable form.
 const NULLABLE_PREAMBLE: usize = 2;
+
+/// The one byte of NULL's shortest form: a group of 0 with the stop bit.
+const NULL: u8 = STOP_BIT;
 
 /// The groups of the longest preamble.
 const ZEROS: [u8; 2] = [0, 0];
@@ -47,7 +50,8 @@ fn zero_groups(entity: &[u8], most: usize) -> usize
 /// The characters of an entity behind at most `most` groups of 0, copied once. TooLong: there are too many.
 fn characters(alloc: Global, entity: &[u8], most: usize) -> Result<Vec<u8>, WireFault>
     requires { IsEntity entity.now }
-    ensures ok { IfOk result (λ text. (text.items ≡ behind_zeros most (groups entity.now)) × (length text.items ≤ 65535)) }
+    ensures ok { IfOk result (λ text. (text.items ≡ behind_zeros most (groups entity.now))
+        × (length text.items ≤ 65535)) }
     ensures err { IfErr result (λ e. let count = length (behind_zeros most (groups entity.now)) in
         ((e ≡ WireFault.Memory) × (count ≤ 65535)) ⊎ ((e ≡ WireFault.TooLong) × (65535 < count))) }
 {
@@ -69,7 +73,8 @@ fn characters(alloc: Global, entity: &[u8], most: usize) -> Result<Vec<u8>, Wire
 /// characters. Memory: the one copy was refused.
 pub fn read_ascii(alloc: Global, bytes: &[u8], at: usize) -> Result<(Vec<u8>, usize), WireFault>
     requires { at ≤ length bytes.now }
-    ensures { IsReadAt OrMemory ascii_at IsAscii IsAsciiText (AsciiFault IsAsciiEntity length) (λ v. v.items) bytes.now at result }
+    ensures { IsReadAt OrMemory ascii_at IsAscii IsAsciiText
+        (AsciiFault IsAsciiEntity length) (λ v. v.items) bytes.now at result }
 {
     ascii_from(alloc, bytes, at)
 }
@@ -78,7 +83,7 @@ pub fn read_ascii(alloc: Global, bytes: &[u8], at: usize) -> Result<(Vec<u8>, us
 fn ascii_from(alloc: Global, bytes: &[u8], at: usize) -> Result<(Vec<u8>, usize), WireFault>
     requires { at ≤ length bytes.now }
     ensures place { IfOk result (λ x. (at < x.1) × (x.1 ≤ length bytes.now)) }
-    ensures gives { Gives OrMemory (λ x. (x.0.items, drop x.1 bytes.now)) result (ascii_at (drop at bytes.now)) }
+    ensures gives { GivesAt OrMemory ascii_at (λ v. v.items) bytes.now at result }
 {
     let next = entity_end(bytes, at, ENTITY_LIMIT)?;
     let text = characters(alloc, &bytes[at..next], PREAMBLE)?;
@@ -107,10 +112,10 @@ fn ascii_nullable_from(
 ) -> Result<(Nullable<Vec<u8>>, usize), WireFault>
     requires { at ≤ length bytes.now }
     ensures place { IfOk result (λ x. (at < x.1) × (x.1 ≤ length bytes.now)) }
-    ensures gives { Gives OrMemory (λ x. (items_of x.0, drop x.1 bytes.now)) result (ascii_nullable_at (drop at bytes.now)) }
+    ensures gives { GivesAt OrMemory ascii_nullable_at items_of bytes.now at result }
 {
     let next = entity_end(bytes, at, ENTITY_LIMIT)?;
-    if bytes[at] == 0x80 {
+    if bytes[at] == NULL {
         return Ok((Nullable::Null, next));
     }
     let text = characters(alloc, &bytes[at..next], NULLABLE_PREAMBLE)?;
@@ -154,7 +159,7 @@ fn append_string(text: &[u8], preamble: usize, out: &mut Vec<u8>) -> Result<(), 
     out.extend_from_slice(&ZEROS[..preamble]).unwrap();
     out.extend_from_slice(text).unwrap();
     let last = out.len() - 1;
-    out[last] += 128;
+    out[last] += STOP_BIT;
     Ok(())
 }
 

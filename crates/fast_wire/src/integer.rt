@@ -1,14 +1,14 @@
 //! Integers: FAST 1.1, Transfer Encoding, Integer Representation.
 
 ghost use Rattle.std.specs.Prelude.{◌≡◌, ℕ, ℤ, ◌+◌, ◌-◌, ◌*◌, ◌^◌, ◌<◌, ◌≤◌, length, drop, slice_range, IfErr, IfOk, MatchResult, OnOk, OnErr, Ok, IsErrOf, ◌++◌, ◌↔◌, ◌⊎◌, vec_len, vec_capacity};
-ghost use Rattle.fast_wire.specs.Reading.{EntityFault, IsReadAt, Gives, NothingElse, Reads, unsigned_at, signed_at};
+ghost use Rattle.fast_wire.specs.Reading.{EntityFault, IsReadAt, GivesAt, NothingElse, Reads, unsigned_at, signed_at};
 ghost use Rattle.fast_wire.specs.Sizes.{unsigned_size, signed_size, CanBeUnsigned, CanBeSigned};
 ghost use Rattle.fast_wire.specs.Writing.{IsShortestSize, Writes, OutOfRange};
 ghost use Rattle.fast_wire.specs.Spellings.{entity_of, IsLeastSize, IsLeastSignedSize, Appends};
 ghost use Rattle.fast_wire.specs.Integer.{unsigned_of, signed_of, magnitude, IsUnsigned, IsSigned};
 
 use crate::fault::WireFault;
-use crate::stop_bit::entity_end;
+use crate::stop_bit::{STOP_BIT, entity_end};
 
 /// The most bytes of an integer's entity.
 const INTEGER_LIMIT: usize = 10;
@@ -31,7 +31,8 @@ fn unsigned_value(entity: &[u8]) -> u128
 /// TooLong: the first ten have none. It takes no memory.
 pub fn read_unsigned(bytes: &[u8], at: usize) -> Result<(u128, usize), WireFault>
     requires { at ≤ length bytes.now }
-    ensures { IsReadAt NothingElse unsigned_at IsUnsigned CanBeUnsigned (EntityFault 10) (λ v. v) bytes.now at result }
+    ensures { IsReadAt NothingElse unsigned_at IsUnsigned CanBeUnsigned
+        (EntityFault 10) (λ v. v) bytes.now at result }
 {
     unsigned_from(bytes, at)
 }
@@ -40,7 +41,7 @@ pub fn read_unsigned(bytes: &[u8], at: usize) -> Result<(u128, usize), WireFault
 fn unsigned_from(bytes: &[u8], at: usize) -> Result<(u128, usize), WireFault>
     requires { at ≤ length bytes.now }
     ensures place { IfOk result (λ x. (at < x.1) × (x.1 ≤ length bytes.now)) }
-    ensures gives { Gives NothingElse (λ x. (x.0, drop x.1 bytes.now)) result (unsigned_at (drop at bytes.now)) }
+    ensures gives { GivesAt NothingElse unsigned_at (λ v. v) bytes.now at result }
 {
     let next = entity_end(bytes, at, INTEGER_LIMIT)?;
     Ok((unsigned_value(&bytes[at..next]), next))
@@ -86,7 +87,7 @@ pub(crate) fn push_entity(value: u128, size: usize, out: &mut Vec<u8>)
         out.push(group as u8).unwrap();
     }
     let group = value % 128;
-    out.push(group as u8 + 128).unwrap();
+    out.push(group as u8 + STOP_BIT).unwrap();
 }
 
 /// The number of bytes of the shortest form of a number that fits ten bytes. It takes no memory.
@@ -130,7 +131,8 @@ fn signed_value(entity: &[u8]) -> i128
 /// no stop bit. TooLong: the first ten have none. It takes no memory.
 pub fn read_signed(bytes: &[u8], at: usize) -> Result<(i128, usize), WireFault>
     requires { at ≤ length bytes.now }
-    ensures { IsReadAt NothingElse signed_at IsSigned CanBeSigned (EntityFault 10) (λ v. v) bytes.now at result }
+    ensures { IsReadAt NothingElse signed_at IsSigned CanBeSigned
+        (EntityFault 10) (λ v. v) bytes.now at result }
 {
     signed_from(bytes, at)
 }
@@ -139,7 +141,7 @@ pub fn read_signed(bytes: &[u8], at: usize) -> Result<(i128, usize), WireFault>
 fn signed_from(bytes: &[u8], at: usize) -> Result<(i128, usize), WireFault>
     requires { at ≤ length bytes.now }
     ensures place { IfOk result (λ x. (at < x.1) × (x.1 ≤ length bytes.now)) }
-    ensures gives { Gives NothingElse (λ x. (x.0, drop x.1 bytes.now)) result (signed_at (drop at bytes.now)) }
+    ensures gives { GivesAt NothingElse signed_at (λ v. v) bytes.now at result }
 {
     let end = entity_end(bytes, at, INTEGER_LIMIT)?;
     Ok((signed_value(&bytes[at..end]), end))

@@ -3,13 +3,13 @@
 ghost use Rattle.std.specs.Prelude.{◌≡◌, ◌≢◌, ◌≤◌, ◌<◌, ◌+◌, ◌*◌, ◌/◌, ◌%◌, ◌↔◌, ◌⊎◌, ◌-◌, ◌++◌, ℕ, Bool, true, false, List, [], length, drop, slice_range, slice_get, IsTrue, IfOk, MatchResult, IfErr, OnOk, OnErr, IsErrOf};
 ghost use Rattle.fast_wire.specs.Sizes.{CanBeMap};
 ghost use Rattle.fast_wire.specs.Entity.{groups};
-ghost use Rattle.fast_wire.specs.Reading.{EntityFault, Gives, OrMemory, Reads, map_at, IsReadAt};
+ghost use Rattle.fast_wire.specs.Reading.{EntityFault, GivesAt, OrMemory, Reads, map_at, IsReadAt};
 ghost use Rattle.fast_wire.specs.Writing.{Writes, TooManyBits};
 ghost use Rattle.fast_wire.specs.PresenceMap.{bits_of, bit_at, next_bit, later_bits, IsMap, HasSetBit, IsWholeMap};
 ghost use Rattle.fast_wire.specs.Spellings.{bit_number, group_from, map_of, IsUsed, IsMapSize, Appends};
 
 use crate::fault::WireFault;
-use crate::stop_bit::entity_end;
+use crate::stop_bit::{STOP_BIT, entity_end};
 use std::alloc::Global;
 use std::marker::Model;
 
@@ -92,7 +92,8 @@ impl Bits {
 /// the copy of the map was refused.
 pub fn read_map(alloc: Global, bytes: &[u8], at: usize) -> Result<(Bits, usize), WireFault>
     requires { at ≤ length bytes.now }
-    ensures { IsReadAt OrMemory map_at IsWholeMap CanBeMap (EntityFault 256) (λ v. v) bytes.now at result }
+    ensures { IsReadAt OrMemory map_at IsWholeMap CanBeMap
+        (EntityFault 256) (λ v. v) bytes.now at result }
 {
     map_from(alloc, bytes, at)
 }
@@ -101,7 +102,7 @@ pub fn read_map(alloc: Global, bytes: &[u8], at: usize) -> Result<(Bits, usize),
 fn map_from(alloc: Global, bytes: &[u8], at: usize) -> Result<(Bits, usize), WireFault>
     requires { at ≤ length bytes.now }
     ensures place { IfOk result (λ x. (at < x.1) × (x.1 ≤ length bytes.now)) }
-    ensures gives { Gives OrMemory (λ x. (x.0, drop x.1 bytes.now)) result (map_at (drop at bytes.now)) }
+    ensures gives { GivesAt OrMemory map_at (λ v. v) bytes.now at result }
 {
     let next = entity_end(bytes, at, MAP_LIMIT)?;
     let bytes = Vec::from_slice(alloc, &bytes[at..next])?;
@@ -174,6 +175,6 @@ fn append_map(bits: &[bool], size: usize, out: &mut Vec<u8>) -> Result<(), WireF
     for i in 0..size - 1 {
         out.push(group_at(bits, 7 * i)).unwrap();
     }
-    out.push(group_at(bits, 7 * (size - 1)) + 128).unwrap();
+    out.push(group_at(bits, 7 * (size - 1)) + STOP_BIT).unwrap();
     Ok(())
 }

@@ -4,7 +4,7 @@ ghost use Rattle.std.specs.Prelude.{◌≡◌, ℕ, ◌+◌, ◌-◌, ◌<◌, �
 ghost use Rattle.fast_wire.specs.Integer.{IsUnsigned};
 ghost use Rattle.fast_wire.specs.Nullable.{borrowed, items_of, units, IsNullOr};
 ghost use Rattle.fast_wire.specs.Reader.{IsBytes};
-ghost use Rattle.fast_wire.specs.Reading.{Gives, OrMemory, LengthFault, Reads, VectorFault, bytes_at, vector_at, vector_nullable_at, IsReadAt};
+ghost use Rattle.fast_wire.specs.Reading.{GivesAt, OrMemory, LengthFault, Reads, VectorFault, bytes_at, vector_at, vector_nullable_at, IsReadAt};
 ghost use Rattle.fast_wire.specs.Sizes.{vector_size, vector_nullable_size, CanBeVector};
 ghost use Rattle.fast_wire.specs.Spellings.{IsLeastSize, entity_of, Appends};
 ghost use Rattle.fast_wire.specs.Vector.{IsLengthNullable, IsVector, IsVectorNullable};
@@ -29,7 +29,7 @@ fn bytes_from(
 ) -> Result<(Vec<u8>, usize), WireFault>
     requires { start ≤ length bytes.now }
     ensures place { IfOk result (λ x. (start ≤ x.1) × (x.1 ≤ length bytes.now)) }
-    ensures gives { Gives OrMemory (λ x. (x.0.items, drop x.1 bytes.now)) result (bytes_at count (drop start bytes.now)) }
+    ensures gives { GivesAt OrMemory (bytes_at count) (λ v. v.items) bytes.now start result }
 {
     if count > BYTE_LIMIT as u128 {
         return Err(WireFault::TooLong);
@@ -49,7 +49,8 @@ fn bytes_from(
 /// which is judged before any byte behind it. Memory: the one copy was refused.
 pub fn read_vector(alloc: Global, bytes: &[u8], at: usize) -> Result<(Vec<u8>, usize), WireFault>
     requires { at ≤ length bytes.now }
-    ensures { IsReadAt OrMemory vector_at IsVector CanBeVector (VectorFault IsUnsigned) (λ v. v.items) bytes.now at result }
+    ensures { IsReadAt OrMemory vector_at IsVector CanBeVector
+        (VectorFault IsUnsigned) (λ v. v.items) bytes.now at result }
 {
     vector_from(alloc, bytes, at)
 }
@@ -58,7 +59,7 @@ pub fn read_vector(alloc: Global, bytes: &[u8], at: usize) -> Result<(Vec<u8>, u
 fn vector_from(alloc: Global, bytes: &[u8], at: usize) -> Result<(Vec<u8>, usize), WireFault>
     requires { at ≤ length bytes.now }
     ensures place { IfOk result (λ x. (at < x.1) × (x.1 ≤ length bytes.now)) }
-    ensures gives { Gives OrMemory (λ x. (x.0.items, drop x.1 bytes.now)) result (vector_at (drop at bytes.now)) }
+    ensures gives { GivesAt OrMemory vector_at (λ v. v.items) bytes.now at result }
 {
     let (count, start) = read_unsigned(bytes, at)?;
     bytes_from(alloc, bytes, start, count)
@@ -86,7 +87,7 @@ fn vector_nullable_from(
 ) -> Result<(Nullable<Vec<u8>>, usize), WireFault>
     requires { at ≤ length bytes.now }
     ensures place { IfOk result (λ x. (at < x.1) × (x.1 ≤ length bytes.now)) }
-    ensures gives { Gives OrMemory (λ x. (items_of x.0, drop x.1 bytes.now)) result (vector_nullable_at (drop at bytes.now)) }
+    ensures gives { GivesAt OrMemory vector_nullable_at items_of bytes.now at result }
 {
     let (count, start) = read_unsigned_nullable(bytes, at)?;
     match count {
@@ -102,7 +103,8 @@ fn vector_nullable_from(
 fn append_vector(sent: u128, items: &[u8], out: &mut Vec<u8>) -> Result<(), WireFault>
     requires few { sent ≤ 65536 }
     requires bytes { length items.now ≤ 65535 }
-    ensures appended { (size : ℕ) × IsLeastSize sent size × Appends (entity_of size sent ++ items.now) out.old out.new result }
+    ensures appended { (size : ℕ) × IsLeastSize sent size
+        × Appends (entity_of size sent ++ items.now) out.old out.new result }
     ensures fit { IsBytes items.now }
 {
     let size = least_size(sent);
@@ -115,7 +117,8 @@ fn append_vector(sent: u128, items: &[u8], out: &mut Vec<u8>) -> Result<(), Wire
 /// Appends the shortest form of a byte vector, or answers and appends nothing. TooLong: it has more than
 /// 65,535 bytes. Memory: the one growth was refused.
 pub fn write_vector(items: &[u8], out: &mut Vec<u8>) -> Result<(), WireFault>
-    ensures { Writes IsVector (λ s. TooManyBytes (Nullable.Value s)) out.old out.new items.now result }
+    ensures { Writes IsVector (λ s. TooManyBytes (Nullable.Value s)) out.old out.new items.now
+        result }
 {
     if items.len() > BYTE_LIMIT {
         return Err(WireFault::TooLong);
