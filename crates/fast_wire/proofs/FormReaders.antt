@@ -87,6 +87,38 @@ entity_stays (suc limit) (c ∷ bs) others f e other =
       | false ↦ λ e. rw (entity_stays limit bs others f (bind_err (entity_at limit bs) (λ e. (c ∷ e.0, e.1)) f e) other) refl
     ] e
 
+-- which faults an entity has
+abbrev pub ListFault : ℕ → List ℕ → WireFault → Type 0
+ListFault limit bytes fault.NeedMore = (length bytes < limit) × HasNoStop bytes
+ListFault limit bytes fault.TooLong = (limit ≤ length bytes) × HasNoStop (take limit bytes)
+ListFault limit bytes fault.Range = ⊥
+ListFault limit bytes fault.NotUtf8 = ⊥
+ListFault limit bytes fault.Memory = ⊥
+
+no_stop_after : (c : ℕ) (bs : List ℕ) → c < 128 → HasNoStop bs → HasNoStop (c ∷ bs)
+no_stop_after c bs low none zero p = low
+no_stop_after c bs low none (suc k) p = none k (omega arith)
+
+fault_after : (limit c : ℕ) (bs : List ℕ) (e : WireFault) → c < 128 → ListFault limit bs e → ListFault (suc limit) (c ∷ bs) e
+fault_after limit c bs fault.NeedMore low h = (omega (arith, h.0), no_stop_after c bs low h.1)
+fault_after limit c bs fault.TooLong low h = (omega (arith, h.0), no_stop_after c (take limit bs) low h.1)
+fault_after limit c bs fault.Range low h = h
+fault_after limit c bs fault.NotUtf8 low h = h
+fault_after limit c bs fault.Memory low h = h
+
+err_is : (d e : WireFault) → ◌≡◌ {A = Result (List ℕ × List ℕ) WireFault} (Err d) (Err e) → d ≡ e
+err_is d e h = cc
+
+pub entity_err : (limit : ℕ) (bytes : List ℕ) (e : WireFault) → entity_at limit bytes ≡ Err e → ListFault limit bytes e
+unfolding entity_at
+entity_err zero bytes e h = subst (λ (f : WireFault). ListFault zero bytes f) (err_is fault.TooLong e h) (omega arith, λ k p. absurd (omega arith))
+entity_err (suc limit) [] e h = subst (λ (f : WireFault). ListFault (suc limit) [] f) (err_is fault.NeedMore e h) (omega arith, λ k p. absurd (omega arith))
+entity_err (suc limit) (c ∷ bs) e h =
+    elim (nat_le 128 c) as (λ t. nat_le 128 c ≡ t → step t c bs (entity_at limit bs) ≡ Err e → ListFault (suc limit) (c ∷ bs) e) [
+      | true ↦ λ t h. absurd cc
+      | false ↦ λ t h. let low : c < 128 = grind arith in fault_after limit c bs e low (entity_err limit bs e (bind_err (entity_at limit bs) (λ e. (c ∷ e.0, e.1)) e h))
+    ] refl h
+
 pub entities : (limit : ℕ) → IsReader fault.NeedMore (entity_at limit) (IsEntityWithin limit)
 entities limit = record {
   found = entity_found limit;

@@ -16,5 +16,6 @@ pub mod NullableForms
 pub mod AsciiForms
 pub mod VectorForms
 pub mod FormSizes
-pub mod MapReadings
 pub mod GoingOn
+pub mod Calls
+pub mod Written

@@ -1,6 +1,6 @@
 -- FAST 1.1, Transfer Encoding, Integer Representation: integers as entities of at most ten groups (the limit
 -- is our own).
-use Rattle.std.specs.Prelude.{◌≡◌, ℕ, ℤ, pos, negsuc, ◌^◌, ◌≤◌, ◌-ℤ◌, ◌<ℤ◌, List, [], ◌∷◌, length, nat_le, Bool, false, if◌then◌else◌}
+use Rattle.std.specs.Prelude.{◌≡◌, ℕ, ℤ, pos, negsuc, ◌^◌, ◌≤◌, ◌-ℤ◌, List, [], ◌∷◌, length, nat_le, Bool, false, if◌then◌else◌}
 use Rattle.fast_wire.specs.Entity.{IsEntity, groups, number_of}
 
 -- the number that an entity's groups spell
@@ -32,10 +32,6 @@ pub record IsSigned (bytes : List ℕ) (v : ℤ) : Type 0 where
 abbrev pub magnitude : ℤ → ℕ
 magnitude (pos n) = n
 magnitude (negsuc n) = n
-
--- from -2 ^ 69 to 2 ^ 69 - 1, the signed numbers of ten groups
-abbrev pub IsSignedRange : ℤ → Type 0
-IsSignedRange v = (negsuc (2 ^ 69) <ℤ v) × (v <ℤ pos (2 ^ 69))
 
 -- both are from zero up, or both below it, and the second is as far from zero as the first or farther
 abbrev pub IsNoCloser : ℤ → ℤ → Type 0

@@ -1,5 +1,5 @@
 -- Reading forms from the front of a list: the value and the bytes after it, or the first fault.
-use Rattle.std.specs.Prelude.{◌≡◌, ℕ, zero, suc, ◌+◌, ◌-◌, ◌<◌, ◌≤◌, ◌⊎◌, ℤ, Bool, nat_le, nat_lt, if◌then◌else◌, List, [], ◌∷◌, length, take, drop, slice_range, Result, Ok, Err, IsOk}
+use Rattle.std.specs.Prelude.{◌≡◌, ℕ, zero, suc, ◌+◌, ◌-◌, ◌<◌, ◌≤◌, ◌⊎◌, ℤ, Bool, nat_le, nat_lt, if◌then◌else◌, List, [], ◌∷◌, length, take, drop, slice_range, Result, Ok, Err, IsOk, IfOk, MatchResult}
 use Rattle.fast_wire.specs.Entity.{HasNoStop, groups}
 use Rattle.fast_wire.specs.Integer.{unsigned_of, signed_of}
 use Rattle.fast_wire.specs.Nullable.{received_unsigned, received_signed, units}
@@ -25,9 +25,9 @@ Reads Form bytes at found = (at ≤ found.1) × (found.1 ≤ length bytes) × Fo
 abbrev pub SpellsTooMany : {V : Type 0} → (List ℕ → V → Type 0) → (V → ℕ) → List ℕ → ℕ → Type 0
 SpellsTooMany {V} Form units bytes at = (next : ℕ) × (value : V) × Reads Form bytes at (value, next) × (65535 < units value)
 
--- memory was refused, where a form stands
-abbrev pub RefusedAt : {V : Type 0} → (List ℕ → V → Type 0) → List ℕ → ℕ → WireFault → Type 0
-RefusedAt {V} Form bytes at e = (e ≡ fault.Memory) × (next : ℕ) × (value : V) × Reads Form bytes at (value, next)
+-- a form stands there
+abbrev pub StandsAt : {V : Type 0} → (List ℕ → V → Type 0) → List ℕ → ℕ → Type 0
+StandsAt {V} Form bytes at = (next : ℕ) × (value : V) × Reads Form bytes at (value, next)
 
 -- no entity of at most 65,540 bytes ends there, or one does that spells too many characters
 abbrev pub AsciiFault : {V : Type 0} → (List ℕ → V → Type 0) → (V → ℕ) → List ℕ → ℕ → WireFault → Type 0
@@ -66,6 +66,29 @@ Fails Else e read = (read ≡ Err e) ⊎ Else read e
 abbrev pub Gives : {F X Y : Type 0} → (Result Y F → F → Type 0) → (X → Y) → Result X F → Result Y F → Type 0
 Gives Else view (Ok x) read = read ≡ Ok (view x)
 Gives Else view (Err e) read = Fails Else e read
+
+-- the same of a call that reads at a place, and answers a value and the place after it
+abbrev pub GivesAt : {X V F : Type 0} → (Result (V × List ℕ) F → F → Type 0) → (List ℕ → Result (V × List ℕ) F)
+    → (X → V) → List ℕ → ℕ → Result (X × ℕ) F → Type 0
+GivesAt Else read view bytes at r = Gives Else (λ x. (view x.0, drop x.1 bytes)) r (read (drop at bytes))
+
+-- what a call that reads a form at a place answers, its value seen by view
+pub record IsReadAt {X V : Type 0} (Else : Result (V × List ℕ) WireFault → WireFault → Type 0)
+    (read : List ℕ → Result (V × List ℕ) WireFault) (Form : List ℕ → V → Type 0) (Can : V → Type 0)
+    (Fault : List ℕ → ℕ → WireFault → Type 0) (view : X → V) (bytes : List ℕ) (at : ℕ)
+    (r : Result (X × ℕ) WireFault) : Type 0 where
+  -- the place after it, within the bytes
+  pub place : IfOk r (λ x. (at < x.1) × (x.1 ≤ length bytes))
+  -- a value that can have a form
+  pub range : IfOk r (λ x. Can (view x.0))
+  -- what is read is spelled so; what is refused has this fault, or has a form and memory was refused
+  pub answer : MatchResult r (λ x. Reads Form bytes at (view x.0, x.1))
+      (λ e. Fault bytes at e ⊎ (Else (read (drop at bytes)) e × StandsAt Form bytes at))
+  -- what is spelled so is read, unless memory was refused
+  pub only : (next : ℕ) (value : V) → Reads Form bytes at (value, next)
+      → MatchResult r (λ x. (view x.0 ≡ value) × (x.1 ≡ next)) (Else (read (drop at bytes)))
+  -- the same by the function that reads the front of a list, for the layers above
+  pub gives : GivesAt Else read view bytes at r
 
 -- the bytes up to the first stop bit, of which there are at most so many
 unfoldable pub entity_at : ℕ → List ℕ → Result (List ℕ × List ℕ) WireFault

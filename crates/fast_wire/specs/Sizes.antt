@@ -1,6 +1,7 @@
 -- How many bytes the shortest forms take (our own reckoning), and the law that ties this to the forms.
-use Rattle.std.specs.Prelude.{◌≡◌, ℕ, zero, suc, ◌+◌, ◌*◌, ◌^◌, ◌<◌, ◌≤◌, ℤ, nat_lt, if◌then◌else◌, List, [], ◌∷◌, length}
+use Rattle.std.specs.Prelude.{◌≡◌, ℕ, zero, suc, ◌+◌, ◌*◌, ◌^◌, ◌<◌, ◌≤◌, ℤ, Bool, nat_lt, if◌then◌else◌, List, [], ◌∷◌, length}
 use Rattle.fast_wire.specs.Integer.{magnitude}
+use Rattle.fast_wire.specs.Reader.{IsBytes}
 use Rattle.fast_wire.specs.Nullable.{sent_unsigned, sent_signed}
 use Rattle.fast_wire.specs.declared.nullable.Nullable.{Nullable}
 use Rattle.fast_wire.specs.declared.nullable.Nullable.TheVariants.{Null, Value}
@@ -58,3 +59,17 @@ CanBeUnsigned v = v < 128 ^ 10
 
 abbrev pub CanBeSigned : ℤ → Type 0
 CanBeSigned v = magnitude v < 64 * 128 ^ 9
+
+abbrev pub CanBeUnsignedNullable : Nullable ℕ → Type 0
+CanBeUnsignedNullable v = CanBeUnsigned (sent_unsigned v)
+
+abbrev pub CanBeSignedNullable : Nullable ℤ → Type 0
+CanBeSignedNullable v = CanBeSigned (sent_signed v)
+
+-- bytes, of which there are not too many
+abbrev pub CanBeVector : List ℕ → Type 0
+CanBeVector s = IsBytes s × (length s ≤ 65535)
+
+-- the bits that 256 groups hold
+abbrev pub CanBeMap : List Bool → Type 0
+CanBeMap bits = length bits ≤ 1792

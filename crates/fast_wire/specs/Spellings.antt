@@ -1,7 +1,10 @@
 -- The shortest forms, made: what the writers append. No public clause names these.
-use Rattle.std.specs.Prelude.{◌≡◌, ℕ, ℤ, ◌+◌, ◌-◌, ◌*◌, ◌/◌, ◌%◌, ◌^◌, ◌<◌, ◌≤◌, List, [], ◌∷◌, ◌++◌, replicate, Bool, true, false}
+use Rattle.std.specs.Prelude.{◌≡◌, ℕ, ℤ, ◌+◌, ◌-◌, ◌*◌, ◌/◌, ◌%◌, ◌^◌, ◌<◌, ◌≤◌, List, [], ◌∷◌, ◌++◌, length, replicate, Bool, true, false, Result, OnOk, IfErr, Vec, vec_len, vec_capacity}
+use Rattle.std.specs.declared.alloc.Global.{Global}
 use Rattle.fast_wire.specs.Integer.{magnitude}
 use Rattle.fast_wire.specs.PresenceMap.{bit_at}
+use Rattle.fast_wire.specs.declared.fault.WireFault.{WireFault}
+use Rattle.fast_wire.specs.declared.fault.WireFault.TheVariants as fault
 use Rattle.std.proofs.Common.{zero, suc}
 
 -- the lowest n groups of v, the most significant first, and the stop bit on the last
@@ -65,3 +68,9 @@ stopped (g ∷ h ∷ gs) = g ∷ stopped (h ∷ gs)
 -- so many groups of 0 and then a string
 abbrev pub string_of : ℕ → List ℕ → List ℕ
 string_of preamble s = stopped (replicate preamble 0 ++ s)
+
+-- what a call that appends given bytes answers, and leaves behind
+pub record Appends (bytes : List ℕ) (old new : Vec ℕ Global) (r : Result (Unit {0}) WireFault) : Type 0 where
+  pub ok : OnOk r (new.items ≡ old.items ++ bytes)
+  pub err : IfErr r (λ e. (e ≡ fault.Memory) × (new.items ≡ old.items)
+      × (vec_capacity old < vec_len old + length bytes))

@@ -6,12 +6,15 @@ ghost use Rattle.fast_wire.specs.Reading.{EntityFault, Gives, NothingElse, entit
 
 use crate::fault::WireFault;
 
+/// The bit that is set in the last byte of an entity, and in no other.
+pub(crate) const STOP_BIT: u8 = 0x80;
+
 /// The first index whose byte has its high bit, the stop bit, set. It takes no memory.
 pub fn find_stop(bytes: &[u8]) -> Option<usize>
     ensures { MatchOption result (HasNoStop bytes.now) (IsFirstStop bytes.now) }
 {
     for (i, byte) in bytes.iter().enumerate() {
-        if *byte >= 128 {
+        if *byte >= STOP_BIT {
             return Some(i);
         }
     }
@@ -26,7 +29,8 @@ pub(crate) fn entity_end(bytes: &[u8], at: usize, limit: usize) -> Result<usize,
     ensures answer { MatchResult result
         (λ next. (at < next) × (next ≤ length bytes.now) × (next ≤ at + limit) × IsEntity (slice_range bytes.now at next))
         (EntityFault limit bytes.now at) }
-    ensures gives { Gives NothingElse (λ next. (slice_range bytes.now at next, drop next bytes.now)) result (entity_at limit (drop at bytes.now)) }
+    ensures gives { Gives NothingElse (λ next. (slice_range bytes.now at next, drop next bytes.now)) result
+        (entity_at limit (drop at bytes.now)) }
 {
     let rest = &bytes[at..];
     let missing = if rest.len() < limit {
