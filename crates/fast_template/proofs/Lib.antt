@@ -5,3 +5,5 @@ pub mod OneFault
 pub mod Solutions
 pub mod Deep
 pub mod LoadRows
+pub mod Tested
+pub mod WorkedSet
