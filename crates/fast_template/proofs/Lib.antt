@@ -7,3 +7,5 @@ pub mod Deep
 pub mod LoadRows
 pub mod Tested
 pub mod WorkedSet
+pub mod ScalarRows
+pub mod CheckRows
