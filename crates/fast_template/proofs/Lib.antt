@@ -9,3 +9,4 @@ pub mod Tested
 pub mod WorkedSet
 pub mod ScalarRows
 pub mod CheckRows
+pub mod SetRows
