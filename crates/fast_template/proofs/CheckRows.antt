@@ -1,19 +1,19 @@
 -- The checks of a load at their limits: what fails, what does not, in which order, and how it is answered.
-use Rattle.std.proofs.Common.{◌≡◌, ◌≢◌, ◌<◌, ◌≤◌, ◌+◌, ◌-◌, ℕ, zero, suc, List, [], ◌∷◌, length, take, map, nat_eq, if◌then◌else◌, Option, Some, None, Bool, true, false, refl, sym, ap, subst, ◌∙◌, lit<, lit≤, arith}
+use Rattle.std.proofs.Common.{◌≡◌, ◌<◌, ◌+◌, ℕ, zero, suc, List, [], ◌∷◌, length, map, nat_eq, if◌then◌else◌, Option, Some, None, true, false, refl, sym, ap, subst, ◌∙◌, lit<, arith}
 use Rattle.std.specs.Prelude.{codes, slice_get, option_and_then, IsSome}
 use Rattle.std.specs.Option.{option_map_or}
 use Rattle.std.specs.Cmp.Lexicographic.{pointwise}
 use Rattle.fast_template.specs.declared.kind.Kind.TheVariants.{UInt32}
 use Rattle.fast_template.specs.declared.kind.Presence.{Presence}
 use Rattle.fast_template.specs.declared.kind.Presence.TheVariants.{Mandatory, Optional}
-use Rattle.fast_template.specs.declared.kind.Operator.TheVariants.{Plain, Constant, Default, Copy, Delta}
+use Rattle.fast_template.specs.declared.kind.Operator.TheVariants.{Default, Copy}
 use Rattle.fast_template.specs.declared.fault.LoadFault.{LoadFault}
 use Rattle.fast_template.specs.declared.fault.LoadCause.{LoadCause}
 use Rattle.fast_template.specs.declared.fault.LoadCause.TheVariants as cause
 use Rattle.fast_template.specs.Written.{WrittenOperation, Surroundings, WrittenInstruction, WrittenInstructions, written_field, written_parts, written_group, written_sequence, written_reference, written_list, no_written, then_written, WrittenTemplate, WrittenPart, parts_of, listed}
 use Rattle.fast_template.specs.Resolved.{Instructions, no_instructions, joined, size_of, depth_of}
 use Rattle.fast_template.specs.FlatLists.{Context, context_of, flat_one, flat_list, AreFlatLists}
-use Rattle.fast_template.specs.LoadChecks.{from_one, IsTemplateAt, IsInstructionAt, IsPartAt, HasNames, is_name, names_of, names_in, Refers, Leads, directly, onwards, size_up_to, Check, few_templates, names_well_made, name_new, id_new, operator_allowed, constant_has_value, default_has_value, value_spelled, reference_known, off_cycles, nests_little, sum_small, Fails, turn_of, Before, fault_of, IsAccepted, IsFirstFault}
+use Rattle.fast_template.specs.LoadChecks.{from_one, IsTemplateAt, IsInstructionAt, IsPartAt, HasNames, is_name, names_of, names_in, Refers, Leads, directly, onwards, size_up_to, Check, few_templates, names_well_made, name_new, id_new, operator_allowed, constant_has_value, default_has_value, value_spelled, reference_known, off_cycles, nests_little, sum_small, Fails, turn_of, Before, fault_of, want_of_memory, IsAccepted, IsFirstFault}
 use Rattle.fast_template.proofs.WorkedTemplates.{by, nothing_around, template}
 
 -- ---- names
@@ -97,6 +97,9 @@ answers = refl
 great_numbers : fault_of (names_well_made 4294967296 4294967297) ∷ fault_of (names_well_made 4294967295 4294967294) ∷ [] ≡ fault cause.S1 4294967295 4294967295 ∷ fault cause.S1 4294967295 4294967294 ∷ []
 great_numbers = refl
 
+memory : want_of_memory ≡ fault cause.Memory 0 0
+memory = refl
+
 -- ---- the order
 
 turns : map turn_of (few_templates ∷ names_well_made 7 8 ∷ name_new 7 ∷ id_new 7 ∷ operator_allowed 7 8 9 ∷ constant_has_value 7 8 9 ∷ default_has_value 7 8 9 ∷ value_spelled 7 8 9 ∷ reference_known 7 8 ∷ off_cycles 7 ∷ nests_little 7 ∷ sum_small 7 ∷ [])
@@ -131,7 +134,6 @@ as_many_as_may fails = let less : 65535 < 65535 = subst (λ n. 65535 < n) (lengt
 -- Two templates without an identifier do not share one, and no template is its own double.
 abbrev nameless : List WrittenTemplate
 nameless = template (codes "A") None [] ∷ template (codes "B") None [] ∷ []
-
 
 no_ids : ¬ (Fails nameless (id_new 2))
 no_ids fails =

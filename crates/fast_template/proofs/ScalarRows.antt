@@ -1,9 +1,9 @@
 -- Values, texts of initial values and keys at their limits.
-use Rattle.std.proofs.Common.{◌≡◌, ◌<◌, ◌≤◌, ◌-◌, ℕ, ℤ, List, [], ◌∷◌, ◌++◌, length, map, nat_le, Option, Some, None, Bool, true, false, IsTrue, IsUtf8, pos, negsuc, refl, true≢false, sym}
+use Rattle.std.proofs.Common.{◌≡◌, ◌<◌, ◌≤◌, ℕ, ℤ, List, [], ◌∷◌, length, map, nat_le, Option, Some, None, true, false, IsUtf8, pos, negsuc, refl}
 use Rattle.std.specs.Prelude.{codes}
 use Rattle.std.specs.List.{AllByRecursion}
 use Rattle.std.specs.declared.cmp.Ordering.{Ordering}
-use Rattle.std.specs.declared.cmp.Ordering.TheVariants.{Less, Equal, Greater}
+use Rattle.std.specs.declared.cmp.Ordering.TheVariants.{Less, Equal}
 use Rattle.fast_template.specs.declared.kind.Kind.{Kind}
 use Rattle.fast_template.specs.declared.kind.Kind.TheVariants as kind
 use Rattle.fast_template.specs.declared.kind.Part.{Part}

@@ -1,8 +1,8 @@
 -- Resolved templates and what is true of every set: rows.
-use Rattle.std.proofs.Common.{◌≡◌, ◌≤◌, ◌<◌, ℕ, zero, suc, List, [], ◌∷◌, length, map, nat_eq, if◌then◌else◌, Option, Some, None, Bool, true, false, pos, negsuc, refl, ap, subst, sym, ◌∙◌, lit<, lit≤, arith}
-use Rattle.std.specs.Prelude.{codes, slice_get, Contains}
+use Rattle.std.proofs.Common.{◌≡◌, ◌≤◌, ◌<◌, ℕ, zero, suc, List, [], ◌∷◌, length, map, nat_eq, if◌then◌else◌, Some, None, Bool, true, false, pos, negsuc, refl, ap, subst, lit<, arith}
+use Rattle.std.specs.Prelude.{codes, Contains}
 use Rattle.std.specs.Option.{option_map_or}
-use Rattle.std.specs.List.{AllByRecursion, AllZip}
+use Rattle.std.specs.List.{AllByRecursion}
 use Rattle.std.specs.Cmp.Lexicographic.{pointwise}
 use Rattle.fast_template.specs.declared.kind.Kind.{Kind}
 use Rattle.fast_template.specs.declared.kind.Kind.TheVariants as kind
@@ -10,15 +10,13 @@ use Rattle.fast_template.specs.declared.kind.Presence.{Presence}
 use Rattle.fast_template.specs.declared.kind.Presence.TheVariants.{Mandatory, Optional}
 use Rattle.fast_template.specs.declared.kind.Operator.{Operator}
 use Rattle.fast_template.specs.declared.kind.Operator.TheVariants as operator
-use Rattle.fast_template.specs.declared.kind.Part.{Part}
 use Rattle.fast_template.specs.declared.kind.Part.TheVariants as part
-use Rattle.fast_template.specs.declared.scalar.Scalar.{Scalar}
 use Rattle.fast_template.specs.declared.scalar.Scalar.TheVariants as value
 use Rattle.fast_template.specs.declared.key.Scope.TheVariants.{Global}
 use Rattle.fast_template.specs.declared.key.Key.{Key}
 use Rattle.fast_template.specs.declared.resolved.FieldPart.{FieldPart}
 use Rattle.fast_template.specs.Written.{WrittenTemplate}
-use Rattle.fast_template.specs.Resolved.{Instruction, Instructions, whole_field, field_in_parts, group_of, sequence_of, instructions_of, no_instructions, then_instruction, Resolved, takes_bit, size_of, depth_of, keys_of, numbered, with_keys}
+use Rattle.fast_template.specs.Resolved.{Instruction, Instructions, whole_field, field_in_parts, group_of, sequence_of, instructions_of, no_instructions, Resolved, takes_bit, size_of, depth_of, keys_of, numbered, with_keys}
 use Rattle.fast_template.specs.FlatLists.{context_of, flat_list, AreFlatLists, AreResolved}
 use Rattle.fast_template.specs.TemplateSets.{applies, is_in_part, HasSlots, identifier_key, keys_of_all, size_of_all, AreSound}
 use Rattle.fast_template.proofs.WorkedTemplates.{common, grp}

@@ -1,5 +1,5 @@
 -- What a test of each element of a list says, and what tests of keys and of templates decide.
-use Rattle.std.proofs.Common.{◌≡◌, ◌≢◌, ◌<◌, ◌≤◌, ℕ, List, [], ◌∷◌, ◌&&◌, nat_eq, nat_lt, length, map, Bool, true, false, not, Option, Some, None, refl, sym, ap, subst, ◌∙◌, zero, suc, arith, lit<, true≢false}
+use Rattle.std.proofs.Common.{◌≡◌, ◌<◌, ℕ, List, [], ◌∷◌, ◌&&◌, nat_eq, nat_lt, map, Bool, true, false, not, Option, Some, None, refl, sym, ap, ◌∙◌, zero, suc, arith, true≢false}
 use Rattle.std.specs.Prelude.{Contains, AllPairs, slice_index_or}
 use Rattle.std.specs.List.{list_all, list_any}
 use Rattle.std.specs.Ordering.{is_eq}

@@ -1,12 +1,11 @@
 -- The templates of the worked rows, resolved, are a sound set.
-use Rattle.std.proofs.Common.{◌≡◌, ◌≢◌, ◌+◌, ℕ, List, [], ◌∷◌, nat_eq, if◌then◌else◌, Some, None, Bool, true, false, pos, negsuc, Option, refl, sym, ap, subst, ◌∙◌, lit≤, lit<}
-use Rattle.std.specs.Prelude.{codes, IsTrue, IsSome, IfSome}
-use Rattle.std.specs.List.{AllByRecursion}
+use Rattle.std.proofs.Common.{◌≡◌, ◌+◌, ℕ, List, [], ◌∷◌, if◌then◌else◌, Some, None, Bool, true, false, pos, negsuc, refl, sym, ap, subst, ◌∙◌, lit≤, lit<}
+use Rattle.std.specs.Prelude.{codes, IsSome, IfSome}
 use Rattle.fast_template.specs.declared.kind.Kind.{Kind}
 use Rattle.fast_template.specs.declared.kind.Presence.{Presence}
-use Rattle.fast_template.specs.declared.kind.Presence.TheVariants.{Mandatory, Optional}
+use Rattle.fast_template.specs.declared.kind.Presence.TheVariants.{Mandatory}
 use Rattle.fast_template.specs.declared.kind.Operator.{Operator}
-use Rattle.fast_template.specs.declared.kind.Operator.TheVariants.{Plain, Constant, Default, Copy, Increment, Delta, Tail}
+use Rattle.fast_template.specs.declared.kind.Operator.TheVariants.{Constant, Default}
 use Rattle.fast_template.specs.declared.kind.Part.{Part}
 use Rattle.fast_template.specs.declared.kind.Part.TheVariants.{Whole, Exponent, Mantissa, Length}
 use Rattle.fast_template.specs.declared.scalar.Scalar.{Scalar}
@@ -17,7 +16,7 @@ use Rattle.fast_template.specs.declared.resolved.FieldPart.{FieldPart}
 use Rattle.fast_template.specs.Written.{WrittenTemplate}
 use Rattle.fast_template.specs.Resolved.{Instructions, no_instructions, Resolved, numbered, with_keys}
 use Rattle.fast_template.specs.FlatLists.{context_of, flat_list}
-use Rattle.fast_template.specs.TemplateSets.{applies, IsInitial, IsTyped, IsPartOf, HaveTypedParts, AreSound, identifier_key, keys_of_all}
+use Rattle.fast_template.specs.TemplateSets.{applies, IsInitial, IsPartOf, HaveTypedParts, AreSound, identifier_key, keys_of_all}
 use Rattle.fast_template.proofs.Tested.{names_tie, slotted_by, all_differ}
 use Rattle.fast_template.proofs.WorkedTemplates.{quote, wrap, opt, legs, marks, bare, clash, tail, init, delta, common, grp, uni, empty, const, fixed, first}
 
