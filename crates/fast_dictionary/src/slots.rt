@@ -28,8 +28,10 @@ impl<'a> SlotEntries<'a> {
     ///
     /// Where memory is refused.
     pub fn new(alloc: Global, set: &'a TemplateSet) -> Result<SlotEntries<'a>, AllocError>
-        ensures empty { IfOk result (λ s. ⟦<SlotEntries<'a> as Entries>⟧.contents s ≡ map.empty) }
-        ensures keys { IfOk result (λ s. ⟦<SlotEntries<'a> as Entries>⟧.serves s ≡ is_key_in set.now) }
+        ensures empty { IfOk result
+            (λ s. ⟦<SlotEntries<'a> as Entries>⟧.contents s ≡ map.empty) }
+        ensures keys { IfOk result
+            (λ s. ⟦<SlotEntries<'a> as Entries>⟧.serves s ≡ is_key_in set.now) }
     {
         let slots = set.slots();
         let mut entries = Vec::with_capacity(alloc, slots as usize)?;
