@@ -1,1 +1,2 @@
 pub mod OrderedMaps
+pub mod SlotMaps

@@ -19,6 +19,9 @@ pub trait Entries: Drop {
     // The keys that the entries may be asked for. No call changes which these are.
     ghost serves: { Self → key_type.Key → Bool };
 
+    // Whether an undefined entry may ask for memory where it is changed.
+    ghost takes_memory: { Bool };
+
     /// The entry under a key.
     fn get(&self, key: &Key) -> EntryRef<'_>
         requires { IsTrue (serves self.now key.now) }
@@ -38,7 +41,8 @@ pub trait Entries: Drop {
             (λ after. (contents after ≡ contents self.entry.now)
             × (serves after ≡ serves self.entry.now))) }
         ensures value { IfOk result (λ entry. entry.now ≡ entry_at (contents self.old) key.now) }
-        ensures refused { OnErr result (entry_at (contents self.old) key.now ≡ Undefined) };
+        ensures refused { OnErr result (entry_at (contents self.old) key.now ≡ Undefined) }
+        ensures granted { OnErr result (IsTrue takes_memory) };
 
     /// Puts an entry under a key, in place of the one that is there, and leaves every other.
     ///
@@ -53,6 +57,7 @@ pub trait Entries: Drop {
             (contents self.new ≡ map.insert (contents self.old) key.now (value_in entry)) }
         ensures err { OnErr result (contents self.new ≡ contents self.old) }
         ensures refused { OnErr result (entry_at (contents self.old) key.now ≡ Undefined) }
+        ensures granted { OnErr result (IsTrue takes_memory) }
         ensures same_keys { serves self.new ≡ serves self.old }
     {
         *self.entry_mut(key)? = entry;

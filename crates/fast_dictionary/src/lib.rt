@@ -4,9 +4,11 @@
 mod entries;
 mod entry;
 mod map;
+mod slots;
 #[cfg(test)]
 mod tests;
 
 pub use entries::Entries;
 pub use entry::{Entry, EntryRef};
 pub use map::MapEntries;
+pub use slots::SlotEntries;

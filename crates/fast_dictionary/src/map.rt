@@ -48,6 +48,8 @@ impl Entries for MapEntries {
 
     ghost serves = { λ m k. true };
 
+    ghost takes_memory = { true };
+
     fn get(&self, key: &Key) -> EntryRef<'_> {
         match self.entries.get(key) {
             None => EntryRef::Undefined,

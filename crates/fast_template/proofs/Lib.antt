@@ -1,7 +1,13 @@
 pub mod Maps
+pub mod Slots
 pub mod WorkedTemplates
 pub mod WorkedRows
 pub mod OneFault
 pub mod Solutions
 pub mod Deep
 pub mod LoadRows
+pub mod Tested
+pub mod WorkedSet
+pub mod ScalarRows
+pub mod CheckRows
+pub mod SetRows

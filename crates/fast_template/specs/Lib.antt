@@ -5,4 +5,5 @@ pub mod Written
 pub mod Resolved
 pub mod FlatLists
 pub mod TemplateSets
+pub mod Places
 pub mod LoadChecks

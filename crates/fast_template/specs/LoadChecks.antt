@@ -149,6 +149,10 @@ fault_of (off_cycles t) = fault_at cause.Cycle t 0
 fault_of (nests_little t) = fault_at cause.TooDeep t 0
 fault_of (sum_small t) = fault_at cause.TooMany t 0
 
+-- the fault where memory is refused, whichever step asked for it
+abbrev pub want_of_memory : LoadFault
+want_of_memory = fault_at cause.Memory 0 0
+
 -- no check fails
 abbrev pub IsAccepted : List WrittenTemplate → Type 0
 IsAccepted templates = (check : Check) → ¬ (Fails templates check)

@@ -129,3 +129,7 @@ pub record AreSound (templates : List Resolved) (slots : ℕ) : Type 0 where
 
 abbrev pub IsSound : TemplateList → Type 0
 IsSound set = AreSound (templates_in set) set.slots
+
+-- the keys of a set, the identifier's first
+abbrev pub keys_in : TemplateList → List Key
+keys_in set = identifier_key ∷ keys_of_all (templates_in set)

@@ -9,6 +9,7 @@ mod bits;
 mod fault;
 mod key;
 mod kind;
+pub mod laws;
 mod resolved;
 mod scalar;
 mod set;

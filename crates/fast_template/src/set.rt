@@ -1,9 +1,10 @@
 //! Sets of resolved templates.
 
 ghost use Rattle.std.specs.Prelude.{◌≡◌, option_map};
-ghost use Rattle.fast_template.specs.TemplateSets.{has_id as has_id_of, template_of};
+ghost use Rattle.fast_template.specs.TemplateSets.{template_of};
 
 use crate::resolved::FlatTemplate;
+use std::collections::HashMap;
 use std::marker::Model;
 
 /// Resolved templates.
@@ -13,12 +14,15 @@ use std::marker::Model;
 pub struct TemplateSet {
     templates: Vec<FlatTemplate>,
     slots: u32,
+    // the place of the template of each identifier
+    places: HashMap<u32, u32>,
 }
 
 impl Model for TemplateSet {
     ghost use Rattle.std.specs.Coded.{codes};
     ghost use Rattle.fast_template.specs.contracts.resolved.Flat as flat;
     ghost use Rattle.fast_template.specs.TemplateSets.{TemplateList, IsSound};
+    ghost use Rattle.fast_template.specs.Places.{FindsAll};
 
     ghost Value = { TemplateList };
 
@@ -26,7 +30,8 @@ impl Model for TemplateSet {
 
     ghost view = { λ s. record { templates = s.templates.items; slots = s.slots } };
 
-    ghost invariant = { λ s. IsSound (record { templates = s.templates.items; slots = s.slots }) };
+    ghost invariant = { λ s. IsSound (record { templates = s.templates.items; slots = s.slots })
+        × FindsAll s.places s.templates.items };
 }
 
 impl TemplateSet {
@@ -37,7 +42,10 @@ impl TemplateSet {
         ensures value { option_map (λ t. t.now) result ≡ template_of id self.now }
         ensures sound { IsSound self.now }
     {
-        self.templates.iter().find(|template| has_id(template, id))
+        match self.places.get(&id) {
+            Some(place) => self.templates.get(*place as usize),
+            None => None,
+        }
     }
 
     /// The name of the template of an identifier.
@@ -57,15 +65,5 @@ impl TemplateSet {
         ensures sound { IsSound self.now }
     {
         self.slots
-    }
-}
-
-// Whether a template has an identifier.
-fn has_id(template: &FlatTemplate, id: u32) -> bool
-    ensures { result ≡ has_id_of id template.now.id }
-{
-    match template.id {
-        Some(own) => own == id,
-        None => false,
     }
 }

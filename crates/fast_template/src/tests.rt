@@ -71,7 +71,7 @@ fn copies_are_equal(rt: HostRuntime) -> Result<(), AllocError> {
 fn a_text_is_filled_again(rt: HostRuntime) -> Result<(), AllocError> {
     let alloc = rt.alloc();
     let text = UnicodeText::from_string(String::from_str(alloc, "é")?);
-    assert_eq!(rt; text.as_bytes(), [0xC3, 0xA9]);
+    assert_eq!(rt; text.as_bytes(), [0xC3, 0xA9].as_slice());
     assert_eq!(rt; text.as_str(), "é");
     let mut bytes = text.into_bytes();
     bytes.clear();

@@ -5,9 +5,8 @@ ghost use Rattle.std.specs.Cmp.{partial_equiv_from_equiv};
 ghost use Rattle.std.specs.Cmp.Lexicographic.{nat_list_eq_equiv, pointwise};
 
 use std::alloc::{AllocError, Global};
-use std::fmt;
 use std::marker::Model;
-use std::str;
+use std::{fmt, str};
 
 /// A text in UTF-8. A contract sees its bytes.
 #[derive(Drop)]

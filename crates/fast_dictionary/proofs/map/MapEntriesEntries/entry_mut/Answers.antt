@@ -10,6 +10,7 @@ returns-in-Err c = (
     writes_back = tt;
     value = tt;
     refused = ap (λ d. entry_at d c.args.key.now) (sym c.self.view_is) ∙ entry_is c.self.inside.entries.entries c.args.key.now ∙ ap entry_or c.in-Err.ensures.refused;
+    granted = refl;
   },
 )
 
@@ -21,5 +22,6 @@ returns-in-Some c =
         writes_back = tt;
         value = ap entry_or c.in-Some.ensures.value ∙ sym (entry_is c.hold.new.entries.entries c.args.key.now) ∙ ap (λ d. entry_at d c.args.key.now) same;
         refused = tt;
+        granted = tt;
       },
     )

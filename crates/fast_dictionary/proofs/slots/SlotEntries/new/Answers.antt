@@ -1,0 +1,11 @@
+use Rattle.fast_dictionary.proofs.SlotMaps.{are_below, have_own_slots, undefined_is_empty}
+use Rattle.fast_dictionary.proofs.slots.SlotEntries.new.Goals as goal
+
+pub invariant_of-result-clause-below : goal.invariant_of-result-clause-below
+invariant_of-result-clause-below c = are_below c.args.set.now c.slots-slots.ensures.sound
+
+pub invariant_of-result-clause-own_slots : goal.invariant_of-result-clause-own_slots
+invariant_of-result-clause-own_slots c = have_own_slots c.args.set.now c.slots-slots.ensures.sound
+
+pub returns-clause-empty : goal.returns-clause-empty
+returns-clause-empty c = undefined_is_empty c.args.set.now c.loop.entries.items c.loop.invariant.1
