@@ -1,4 +1,4 @@
-pub mod WorkedSet
+pub mod Hex
 pub mod Rows
 pub mod WorkedStreams
 pub mod Weaker

@@ -7,7 +7,7 @@ use Rattle.std.specs.Ordering.{eq_by_cmp}
 use Rattle.fast_template.specs.Key.{key_cmp, key_cmp-total}
 use Rattle.fast_template.specs.declared.key.Key.{Key}
 use Rattle.fast_template.specs.declared.scalar.Scalar.{Scalar}
-use Rattle.fast_template.specs.declared.scalar.Scalar.TheVariants.{U32, Decimal, Ascii, Unicode, Bytes}
+use Rattle.fast_template.specs.declared.scalar.Scalar.TheVariants.{U32, I64, Decimal, Ascii, Unicode, Bytes}
 use Rattle.fast_dictionary.specs.Dictionary.{Dictionary}
 use Rattle.fast_wire.specs.Reading.{entity_at, unsigned_at, signed_at, unsigned_nullable_at, signed_nullable_at, ascii_at, ascii_nullable_at, bytes_at, vector_at, behind_length, vector_nullable_at, map_at}
 use Rattle.fast_field.specs.FieldReading.{integer_at, part_at, units_at, integer_value, decimal_value, unit_value, integer_spelled_at, mantissa_behind, decimal_spelled_at, units_spelled_at, spelled_at, integer_delta_at, mantissa_delta_behind, decimal_delta_at, new_part_behind, unit_delta_at, delta_at, limited_value, integer_sum, ended_value, tail_at, whole_at, predicted_at, row_at, part_checked, field_at}
@@ -20,9 +20,10 @@ use Rattle.fast_decoder.specs.Reading.{Cursor, field_part_at, body_at, head_at, 
 use Rattle.std.specs.Str.{is_utf8, chars}
 use Rattle.fast_template.specs.TemplateSets.{identifier_key}
 use Rattle.fast_template.specs.declared.key.Scope.TheVariants.{Global}
-use Rattle.fast_template.specs.declared.kind.Part.TheVariants.{Whole}
+use Rattle.fast_template.specs.declared.kind.Part.{Part}
+use Rattle.fast_template.specs.declared.kind.Part.TheVariants.{Whole, Mantissa}
 use Rattle.fast_template.proofs.WorkedTemplates.{legs, bare}
-use Rattle.fast_decoder.proofs.WorkedSet.{resolved, worked_set}
+use Rattle.fast_template.proofs.WorkedSet.{resolved, slot_of, worked_set}
 
 -- ---- how a row is written
 
@@ -71,7 +72,7 @@ reading = 0
 
 -- a key of a name, and a dictionary once these values were put
 abbrev named : List ℕ → Key
-named name = record { slot = 0; scope = Global; name = name; part = Whole }
+named name = let k : Key = record { slot = 0; scope = Global; name = name; part = Whole } in record k { slot = slot_of k }
 
 abbrev puts : Dictionary → List (Key × Option Scalar) → Dictionary
 puts d [] = d
@@ -324,25 +325,61 @@ wraps = rw (wraps_first, wraps_second, wraps_third) refl
 
 -- ---- Decimals in parts
 
+abbrev parted : List ℕ → Part → Key
+parted name part = let k : Key = record { slot = 0; scope = Global; name = name; part = part } in record k { slot = slot_of k }
+
+abbrev flagged : Dictionary
+flagged = puts finite.empty ((identifier_key, Some (U32 3)) ∷ (named (codes "Flag"), Some (U32 5)) ∷ [])
+
+abbrev priced : Dictionary
+priced = puts flagged ((identifier_key, Some (U32 3)) ∷ (parted (codes "Px") Mantissa, Some (I64 (pos 942755))) ∷ (named (codes "Flag"), Some (U32 5)) ∷ [])
+
+mantissa_takes_a_bit_first : message_at worked_set finite.empty (0xf0 ∷ 0x83 ∷ 0x80 ∷ 0x85 ∷ 0x90 ∷ 0x39 ∷ 0x45 ∷ 0xa3 ∷ []) ≡ Ok (message 3 (absent ∷ u32 5 ∷ []), flagged, 0x90 ∷ 0x39 ∷ 0x45 ∷ 0xa3 ∷ [])
+unfolding reading
+mantissa_takes_a_bit_first = simp (absent_there, put_there)
+
+mantissa_takes_a_bit_second : message_at worked_set flagged (0x90 ∷ 0x39 ∷ 0x45 ∷ 0xa3 ∷ []) ≡ Ok (message 3 (decimal (pos 2) (pos 942755) ∷ u32 5 ∷ []), priced, [])
+unfolding reading
+mantissa_takes_a_bit_second = simp (absent_there, put_there)
+
 -- The absent exponent leaves the mantissa's bit to Flag: Px=- Flag=5, and then Px=942755e2 Flag=5
 mantissa_takes_a_bit : read (0xf0 ∷ 0x83 ∷ 0x80 ∷ 0x85 ∷ 0x90 ∷ 0x39 ∷ 0x45 ∷ 0xa3 ∷ []) ≡ (message 3 (absent ∷ u32 5 ∷ []) ∷ message 3 (decimal (pos 2) (pos 942755) ∷ u32 5 ∷ []) ∷ [], None)
+mantissa_takes_a_bit = rw (mantissa_takes_a_bit_first, mantissa_takes_a_bit_second) refl
+
+exponent_spelled_out_first : message_at worked_set finite.empty (0xf0 ∷ 0x83 ∷ 0x80 ∷ 0x85 ∷ 0xb0 ∷ 0x83 ∷ 0x39 ∷ 0x45 ∷ 0xa3 ∷ []) ≡ Ok (message 3 (absent ∷ u32 5 ∷ []), flagged, 0xb0 ∷ 0x83 ∷ 0x39 ∷ 0x45 ∷ 0xa3 ∷ [])
 unfolding reading
-mantissa_takes_a_bit = simp (absent_there, put_there)
+exponent_spelled_out_first = simp (absent_there, put_there)
+
+exponent_spelled_out_second : message_at worked_set flagged (0xb0 ∷ 0x83 ∷ 0x39 ∷ 0x45 ∷ 0xa3 ∷ []) ≡ Ok (message 3 (decimal (pos 2) (pos 942755) ∷ u32 5 ∷ []), priced, [])
+unfolding reading
+exponent_spelled_out_second = simp (absent_there, put_there)
 
 -- the same with B0 and 83 for an exponent of 2
 exponent_spelled_out : read (0xf0 ∷ 0x83 ∷ 0x80 ∷ 0x85 ∷ 0xb0 ∷ 0x83 ∷ 0x39 ∷ 0x45 ∷ 0xa3 ∷ []) ≡ (message 3 (absent ∷ u32 5 ∷ []) ∷ message 3 (decimal (pos 2) (pos 942755) ∷ u32 5 ∷ []) ∷ [], None)
-unfolding reading
-exponent_spelled_out = simp (absent_there, put_there)
+exponent_spelled_out = rw (exponent_spelled_out_first, exponent_spelled_out_second) refl
 
 -- an exponent of 64 is refused before a mantissa has come
 exponent_first : read (0xf0 ∷ 0x81 ∷ 0x81 ∷ 0x41 ∷ 0xc2 ∷ 0x00 ∷ 0xc0 ∷ []) ≡ ([], refused R1 1 5 1 3)
 unfolding reading
 exponent_first = simp (absent_there, put_there)
 
+abbrev fixed_once : Dictionary
+fixed_once = puts finite.empty ((identifier_key, Some (U32 15)) ∷ (parted (codes "Px") Mantissa, Some (I64 (pos 100))) ∷ (named (codes "Raw"), Some (Bytes (0x0a ∷ 0xff ∷ []))) ∷ [])
+
+abbrev fixed_twice : Dictionary
+fixed_twice = puts fixed_once ((identifier_key, Some (U32 15)) ∷ (parted (codes "Px") Mantissa, Some (I64 (pos 101))) ∷ (named (codes "Raw"), Some (Bytes (0x0a ∷ 0xff ∷ []))) ∷ [])
+
+constant_exponent_first : message_at worked_set finite.empty (0xe0 ∷ 0x8f ∷ 0x00 ∷ 0xe4 ∷ 0x83 ∷ 0x0a ∷ 0xff ∷ 0x80 ∷ 0x81 ∷ []) ≡ Ok (message 15 (decimal (negsuc 1) (pos 100) ∷ vector (0x0a ∷ 0xff ∷ []) ∷ []), fixed_once, 0x80 ∷ 0x81 ∷ [])
+unfolding reading
+constant_exponent_first = simp (absent_there, put_there)
+
+constant_exponent_second : message_at worked_set fixed_once (0x80 ∷ 0x81 ∷ []) ≡ Ok (message 15 (decimal (negsuc 1) (pos 101) ∷ vector (0x0a ∷ 0xff ∷ []) ∷ []), fixed_twice, [])
+unfolding reading
+constant_exponent_second = simp (absent_there, put_there)
+
 -- Px=100e-2 Raw=x0aff, and Px=101e-2 Raw=x0aff
 constant_exponent : read (0xe0 ∷ 0x8f ∷ 0x00 ∷ 0xe4 ∷ 0x83 ∷ 0x0a ∷ 0xff ∷ 0x80 ∷ 0x81 ∷ []) ≡ (message 15 (decimal (negsuc 1) (pos 100) ∷ vector (0x0a ∷ 0xff ∷ []) ∷ []) ∷ message 15 (decimal (negsuc 1) (pos 101) ∷ vector (0x0a ∷ 0xff ∷ []) ∷ []) ∷ [], None)
-unfolding reading
-constant_exponent = simp (absent_there, put_there)
+constant_exponent = rw (constant_exponent_first, constant_exponent_second) refl
 
 -- ---- Groups and sequences
 

@@ -20,25 +20,26 @@ use Rattle.fast_wire.specs.PresenceMap.{bits_of}
 use Rattle.fast_field.specs.declared.fault.FieldFault.TheVariants as field
 use Rattle.fast_field.specs.Deltas.{uncut}
 use Rattle.fast_field.specs.FieldReading.{predicted_at, row_at, field_at}
+use Rattle.fast_decoder.proofs.Hex.{hex}
 use Rattle.fast_decoder.specs.declared.fault.Cause.TheVariants.{D5}
 use Rattle.fast_decoder.specs.Nodes.{single, items_of, Content}
 use Rattle.fast_decoder.specs.Bodies.{State, after_part}
 use Rattle.fast_decoder.specs.Streams.{identifier, Carries}
 use Rattle.fast_decoder.specs.Faults.{FirstFault, in_identifier}
-use Rattle.fast_decoder.proofs.WorkedSet.{worked_set}
+use Rattle.fast_template.proofs.WorkedSet.{worked_set}
 
-abbrev uint32 : ℕ → List ℕ → Operator → FieldPart
-uint32 number name operator = record { number = number; part = Whole; kind = UInt32; presence = Mandatory; operator = operator; initial = None; key = record { slot = 0; scope = Global; name = name; part = Whole } }
+abbrev uint32 : ℕ → ℕ → List ℕ → Operator → FieldPart
+uint32 number slot name operator = record { number = number; part = Whole; kind = UInt32; presence = Mandatory; operator = operator; initial = None; key = record { slot = slot; scope = Global; name = name; part = Whole } }
 
 abbrev first_a : FieldPart
-first_a = uint32 1 (codes "A") Plain
+first_a = uint32 1 5 (codes "A") Plain
 
 abbrev first_b : FieldPart
-first_b = uint32 2 (codes "B") Copy
+first_b = uint32 2 6 (codes "B") Copy
 
 -- what there is before each part of E0 90 85 86
 abbrev at_identifier : State
-at_identifier = record { dictionary = finite.empty; bits = bits_of (groups (0xe0 ∷ [])) }
+at_identifier = record { dictionary = finite.empty; bits = bits_of (groups (hex "E0")) }
 
 abbrev at_a : State
 at_a = after_part identifier at_identifier (Some (U32 16))
@@ -52,22 +53,22 @@ at_end = after_part first_b at_b (Some (U32 6))
 abbrev five_and_six : Content
 five_and_six = record { template = 16; items = items_of (single (Some (U32 5)) ∷ single (Some (U32 6)) ∷ []) }
 
-of_16 : IsUnsigned (0x90 ∷ []) 16
+of_16 : IsUnsigned (hex "90") 16
 of_16 = record { entity = (lit≤ tt, lit< tt); short = lit≤ tt; value = refl }
 
-of_5 : IsUnsigned (0x85 ∷ []) 5
+of_5 : IsUnsigned (hex "85") 5
 of_5 = record { entity = (lit≤ tt, lit< tt); short = lit≤ tt; value = refl }
 
-of_6 : IsUnsigned (0x86 ∷ []) 6
+of_6 : IsUnsigned (hex "86") 6
 of_6 = record { entity = (lit≤ tt, lit< tt); short = lit≤ tt; value = refl }
 
 -- E0 90 85 86: First A=5 B=6
-carries_first : Carries worked_set (0xe0 ∷ 0x90 ∷ 0x85 ∷ 0x86 ∷ []) (five_and_six ∷ [])
+carries_first : Carries worked_set (hex "E0 90 85 86") (five_and_six ∷ [])
 carries_first = (
   at_end.dictionary,
   record {
     between = at_end.dictionary;
-    front = 0xe0 ∷ 0x90 ∷ 0x85 ∷ 0x86 ∷ [];
+    front = hex "E0 90 85 86";
     back = [];
     parts = refl;
     first = record {
@@ -75,25 +76,25 @@ carries_first = (
       segment = record {
         bits = at_identifier.bits;
         left = at_end.bits;
-        map = 0xe0 ∷ [];
-        body = 0x90 ∷ 0x85 ∷ 0x86 ∷ [];
+        map = hex "E0";
+        body = hex "90 85 86";
         parts = refl;
         map_form = record { entity = (lit≤ tt, lit< tt); short = lit≤ tt; value = refl };
         inside = record {
           between = at_a;
-          front = 0x90 ∷ [];
-          back = 0x85 ∷ 0x86 ∷ [];
+          front = hex "90";
+          back = hex "85 86";
           parts = refl;
           first = ((uncut, record { row = (refl, record { number = pos 16; form = of_16; range = refl; value = refl }); within = refl }), refl);
           second = record {
             between = at_b;
-            front = 0x85 ∷ [];
-            back = 0x86 ∷ [];
+            front = hex "85";
+            back = hex "86";
             parts = refl;
             first = ((uncut, record { row = (refl, record { number = pos 5; form = of_5; range = refl; value = refl }); within = refl }), refl);
             second = record {
               between = at_end;
-              front = 0x86 ∷ [];
+              front = hex "86";
               back = [];
               parts = refl;
               first = ((uncut, record { row = (refl, record { number = pos 6; form = of_6; range = refl; value = refl }); within = refl }), refl);
@@ -111,20 +112,20 @@ absent_there : (q : Key) → entry_from (finite.get (finite.empty {X = Option Sc
 absent_there q = ap entry_from (finite.get-empty key_cmp q)
 
 -- 80: no identifier predicted, at offset 1
-no_identifier : FirstFault worked_set (0x80 ∷ []) (record { message = 1; offset = 1; template = 0; instruction = 0 }) D5
+no_identifier : FirstFault worked_set (hex "80") (record { message = 1; offset = 1; template = 0; instruction = 0 }) D5
 unfolding field_at row_at predicted_at
 no_identifier = record {
   messages = [];
   dictionary = finite.empty;
   front = [];
-  rest = 0x80 ∷ [];
+  rest = hex "80";
   stop = record { template = 0; stop = record { cause = D5; instruction = 0; left = 0 } };
   parts = refl;
   carried = (refl, refl);
   some = lit< tt;
   stops = in_identifier refl (record {
-    between = bits_of (groups (0x80 ∷ []));
-    front = 0x80 ∷ [];
+    between = bits_of (groups (hex "80"));
+    front = hex "80";
     back = [];
     parts = refl;
     first = record { entity = (lit≤ tt, lit< tt); short = lit≤ tt; value = refl };

@@ -9,7 +9,7 @@ use Rattle.fast_template.specs.declared.resolved.FieldPart.{FieldPart}
 use Rattle.fast_template.specs.Resolved.{Instruction, Instructions, whole_field, field_in_parts, group_of, sequence_of, no_instructions, then_instruction, part_needs_bit, is_optional, has_map}
 use Rattle.fast_dictionary.specs.declared.entry.Entry.{Entry}
 use Rattle.fast_dictionary.specs.declared.entry.Entry.TheVariants.{Undefined, Empty, Assigned}
-use Rattle.fast_dictionary.specs.Dictionary.{Dictionary, entry_at}
+use Rattle.fast_dictionary.specs.Dictionary.{Dictionary, entry_at, value_in}
 use Rattle.fast_field.specs.Bases.{next}
 use Rattle.fast_decoder.specs.Nodes.{Item, single, group_items, sequence_elements, Items, no_items, then_item, Elements, no_elements, then_element, element_count}
 use Rattle.fast_decoder.specs.Bits.{bit_for, after_bit}
@@ -39,8 +39,7 @@ pub record Then {A : Type 0} (First : List ℕ → A → Type 0) (Second : A →
 -- FAST 1.1, Field Operators, Dictionaries and Previous Values: the dictionary once an entry is written
 abbrev pub with_entry : Dictionary → Key → Entry → Dictionary
 with_entry d k Undefined = d
-with_entry d k Empty = map.insert d k None
-with_entry d k (Assigned v) = map.insert d k (Some v)
+with_entry d k e = map.insert d k (value_in e)
 
 -- the dictionary once a part has had this value
 abbrev pub written : FieldPart → Dictionary → Option Scalar → Dictionary
