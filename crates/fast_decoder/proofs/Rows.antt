@@ -1,6 +1,6 @@
 -- The worked rows, computed: what each stream is read as. A refusal is a cause with the message, the offset, the
 -- template and the instruction of the piece.
-use Rattle.std.proofs.Common.{◌≡◌, ap, ℕ, suc, ℤ, pos, negsuc, List, [], ◌∷◌, map, Option, Some, None, Ok, Err, refl}
+use Rattle.std.proofs.Common.{Bool, true, false, ◌≡◌, ap, ℕ, suc, ℤ, pos, negsuc, List, [], ◌∷◌, map, Option, Some, None, Ok, Err, refl}
 use Rattle.std.specs.Prelude.{codes, replicate, cond}
 use Rattle.std.specs.FinMap as finite
 use Rattle.std.specs.Ordering.{eq_by_cmp}
@@ -22,47 +22,47 @@ use Rattle.fast_template.specs.TemplateSets.{identifier_key}
 use Rattle.fast_template.specs.declared.key.Scope.TheVariants.{Global}
 use Rattle.fast_template.specs.declared.kind.Part.{Part}
 use Rattle.fast_template.specs.declared.kind.Part.TheVariants.{Whole, Mantissa}
-use Rattle.fast_template.proofs.WorkedTemplates.{legs, bare}
+use Rattle.fast_template.proofs.WorkedTemplates.{opt, legs, bare, grp}
 use Rattle.fast_template.proofs.WorkedSet.{resolved, slot_of, worked_set}
 
 -- ---- how a row is written
 
-abbrev u32 : ℕ → Item
+abbrev pub u32 : ℕ → Item
 u32 n = single (Some (U32 n))
 
-abbrev decimal : ℤ → ℤ → Item
+abbrev pub decimal : ℤ → ℤ → Item
 decimal exponent mantissa = single (Some (Decimal exponent mantissa))
 
-abbrev text : List ℕ → Item
+abbrev pub text : List ℕ → Item
 text s = single (Some (Ascii s))
 
-abbrev unicode : List ℕ → Item
+abbrev pub unicode : List ℕ → Item
 unicode s = single (Some (Unicode s))
 
-abbrev vector : List ℕ → Item
+abbrev pub vector : List ℕ → Item
 vector s = single (Some (Bytes s))
 
-abbrev absent : Item
+abbrev pub absent : Item
 absent = single None
 
-abbrev group : List Item → Item
+abbrev pub group : List Item → Item
 group ns = group_items (items_of ns)
 
-abbrev sequence : List (List Item) → Item
+abbrev pub sequence : List (List Item) → Item
 sequence es = sequence_elements (elements_of (map items_of es))
 
-abbrev message : ℕ → List Item → Content
+abbrev pub message : ℕ → List Item → Content
 message template ns = record { template = template; items = items_of ns }
 
 -- a message of Quote with Sym="AB", an exponent of -2 and no Qty: its Seq and its mantissa
-abbrev quote : ℕ → ℕ → Content
+abbrev pub quote : ℕ → ℕ → Content
 quote seq mantissa = message 1 (u32 seq ∷ text (codes "AB") ∷ decimal (negsuc 1) (pos mantissa) ∷ absent ∷ [])
 
-abbrev refused : Cause → ℕ → ℕ → ℕ → ℕ → Option Fault
+abbrev pub refused : Cause → ℕ → ℕ → ℕ → ℕ → Option Fault
 refused cause message offset template instruction = Some (record { cause = cause; place = record { message = message; offset = offset; template = template; instruction = instruction } })
 
 -- the messages of a stream, and its first fault
-abbrev read : List ℕ → List Content × Option Fault
+abbrev pub read : List ℕ → List Content × Option Fault
 read stream = let r = stream_at worked_set stream in (r.messages, fault_in stream r)
 
 -- all that reading is made of: who unfolds this unfolds its line
@@ -98,7 +98,7 @@ put_there d k v q = finite.get-insert key_cmp-total d k v q
 -- ---- Presence map, template identifier, and fields of each kind of operator
 
 -- F0 81 81 41 C2 FE 00 E4: Quote Seq=1 Sym="AB" Px=100e-2 Qty=-
-one_message : read (0xf0 ∷ 0x81 ∷ 0x81 ∷ 0x41 ∷ 0xc2 ∷ 0xfe ∷ 0x00 ∷ 0xe4 ∷ []) ≡ (quote 1 100 ∷ [], None)
+pub one_message : read (0xf0 ∷ 0x81 ∷ 0x81 ∷ 0x41 ∷ 0xc2 ∷ 0xfe ∷ 0x00 ∷ 0xe4 ∷ []) ≡ (quote 1 100 ∷ [], None)
 unfolding reading
 one_message = simp (absent_there, put_there)
 
@@ -117,7 +117,7 @@ unfolding reading
 spelled_out_second = simp put_there
 
 -- behind these bytes F8 81 82 41 C2 80 81 80: Seq=2 Sym="AB" Px=101e-2 Qty=-, spelled out
-spelled_out : read (0xf0 ∷ 0x81 ∷ 0x81 ∷ 0x41 ∷ 0xc2 ∷ 0xfe ∷ 0x00 ∷ 0xe4 ∷ 0xf8 ∷ 0x81 ∷ 0x82 ∷ 0x41 ∷ 0xc2 ∷ 0x80 ∷ 0x81 ∷ 0x80 ∷ []) ≡ (quote 1 100 ∷ quote 2 101 ∷ [], None)
+pub spelled_out : read (0xf0 ∷ 0x81 ∷ 0x81 ∷ 0x41 ∷ 0xc2 ∷ 0xfe ∷ 0x00 ∷ 0xe4 ∷ 0xf8 ∷ 0x81 ∷ 0x82 ∷ 0x41 ∷ 0xc2 ∷ 0x80 ∷ 0x81 ∷ 0x80 ∷ []) ≡ (quote 1 100 ∷ quote 2 101 ∷ [], None)
 spelled_out = rw (spelled_out_first, spelled_out_second) refl
 
 left_out_first : message_at worked_set finite.empty (0xf0 ∷ 0x81 ∷ 0x81 ∷ 0x41 ∷ 0xc2 ∷ 0xfe ∷ 0x00 ∷ 0xe4 ∷ 0x80 ∷ 0x80 ∷ 0x81 ∷ []) ≡ Ok (quote 1 100, quoted, 0x80 ∷ 0x80 ∷ 0x81 ∷ [])
@@ -129,87 +129,87 @@ unfolding reading
 left_out_second = simp put_there
 
 -- behind F0 81 81 41 C2 FE 00 E4 the bytes 80 80 81: the same two messages
-left_out : read (0xf0 ∷ 0x81 ∷ 0x81 ∷ 0x41 ∷ 0xc2 ∷ 0xfe ∷ 0x00 ∷ 0xe4 ∷ 0x80 ∷ 0x80 ∷ 0x81 ∷ []) ≡ (quote 1 100 ∷ quote 2 101 ∷ [], None)
+pub left_out : read (0xf0 ∷ 0x81 ∷ 0x81 ∷ 0x41 ∷ 0xc2 ∷ 0xfe ∷ 0x00 ∷ 0xe4 ∷ 0x80 ∷ 0x80 ∷ 0x81 ∷ []) ≡ (quote 1 100 ∷ quote 2 101 ∷ [], None)
 left_out = rw (left_out_first, left_out_second) refl
 
 -- the empty stream: no message
-nothing : read [] ≡ ([], None)
+pub nothing : read [] ≡ ([], None)
 unfolding reading
 nothing = refl
 
 -- 80: no identifier predicted
-no_identifier : read (0x80 ∷ []) ≡ ([], refused D5 1 1 0 0)
+pub no_identifier : read (0x80 ∷ []) ≡ ([], refused D5 1 1 0 0)
 unfolding reading
 no_identifier = simp absent_there
 
 -- C0 E4: no template has the identifier 100
-unknown_identifier : read (0xc0 ∷ 0xe4 ∷ []) ≡ ([], refused D9 1 1 0 0)
+pub unknown_identifier : read (0xc0 ∷ 0xe4 ∷ []) ≡ ([], refused D9 1 1 0 0)
 unfolding reading
 unknown_identifier = refl
 
 -- 80 and behind it a good message: the same fault
-fault_stays : read (0x80 ∷ 0xf0 ∷ 0x81 ∷ 0x81 ∷ 0x41 ∷ 0xc2 ∷ 0xfe ∷ 0x00 ∷ 0xe4 ∷ []) ≡ ([], refused D5 1 1 0 0)
+pub fault_stays : read (0x80 ∷ 0xf0 ∷ 0x81 ∷ 0x81 ∷ 0x41 ∷ 0xc2 ∷ 0xfe ∷ 0x00 ∷ 0xe4 ∷ []) ≡ ([], refused D5 1 1 0 0)
 unfolding reading
 fault_stays = simp absent_there
 
 -- ---- A message that is cut
 
 -- the first byte of F0 81 81 41 C2 FE 00 E4
-cut_after_one : read (0xf0 ∷ []) ≡ ([], refused Truncated 1 1 0 0)
+pub cut_after_one : read (0xf0 ∷ []) ≡ ([], refused Truncated 1 1 0 0)
 unfolding reading
 cut_after_one = refl
 
 -- the first 2 of F0 81 81 41 C2 FE 00 E4
-cut_after_two : read (0xf0 ∷ 0x81 ∷ []) ≡ ([], refused Truncated 1 2 1 1)
+pub cut_after_two : read (0xf0 ∷ 0x81 ∷ []) ≡ ([], refused Truncated 1 2 1 1)
 unfolding reading
 cut_after_two = refl
 
 -- the first 3 of F0 81 81 41 C2 FE 00 E4
-cut_after_three : read (0xf0 ∷ 0x81 ∷ 0x81 ∷ []) ≡ ([], refused Truncated 1 3 1 2)
+pub cut_after_three : read (0xf0 ∷ 0x81 ∷ 0x81 ∷ []) ≡ ([], refused Truncated 1 3 1 2)
 unfolding reading
 cut_after_three = refl
 
 -- the first 4 of F0 81 81 41 C2 FE 00 E4
-cut_after_four : read (0xf0 ∷ 0x81 ∷ 0x81 ∷ 0x41 ∷ []) ≡ ([], refused Truncated 1 3 1 2)
+pub cut_after_four : read (0xf0 ∷ 0x81 ∷ 0x81 ∷ 0x41 ∷ []) ≡ ([], refused Truncated 1 3 1 2)
 unfolding reading
 cut_after_four = refl
 
 -- the first 5 of F0 81 81 41 C2 FE 00 E4
-cut_after_five : read (0xf0 ∷ 0x81 ∷ 0x81 ∷ 0x41 ∷ 0xc2 ∷ []) ≡ ([], refused Truncated 1 5 1 3)
+pub cut_after_five : read (0xf0 ∷ 0x81 ∷ 0x81 ∷ 0x41 ∷ 0xc2 ∷ []) ≡ ([], refused Truncated 1 5 1 3)
 unfolding reading
 cut_after_five = refl
 
 -- the first 6 of F0 81 81 41 C2 FE 00 E4
-cut_after_six : read (0xf0 ∷ 0x81 ∷ 0x81 ∷ 0x41 ∷ 0xc2 ∷ 0xfe ∷ []) ≡ ([], refused Truncated 1 5 1 3)
+pub cut_after_six : read (0xf0 ∷ 0x81 ∷ 0x81 ∷ 0x41 ∷ 0xc2 ∷ 0xfe ∷ []) ≡ ([], refused Truncated 1 5 1 3)
 unfolding reading
 cut_after_six = simp (absent_there, put_there)
 
 -- the first 7 of F0 81 81 41 C2 FE 00 E4
-cut_after_seven : read (0xf0 ∷ 0x81 ∷ 0x81 ∷ 0x41 ∷ 0xc2 ∷ 0xfe ∷ 0x00 ∷ []) ≡ ([], refused Truncated 1 5 1 3)
+pub cut_after_seven : read (0xf0 ∷ 0x81 ∷ 0x81 ∷ 0x41 ∷ 0xc2 ∷ 0xfe ∷ 0x00 ∷ []) ≡ ([], refused Truncated 1 5 1 3)
 unfolding reading
 cut_after_seven = simp (absent_there, put_there)
 
 -- ---- Overlong forms, and bits that no instruction asks for
 
 -- 00 00 81 for Seq
-overlong_integer : read (0xf0 ∷ 0x81 ∷ 0x00 ∷ 0x00 ∷ 0x81 ∷ 0x41 ∷ 0xc2 ∷ 0xfe ∷ 0x00 ∷ 0xe4 ∷ []) ≡ (quote 1 100 ∷ [], None)
+pub overlong_integer : read (0xf0 ∷ 0x81 ∷ 0x00 ∷ 0x00 ∷ 0x81 ∷ 0x41 ∷ 0xc2 ∷ 0xfe ∷ 0x00 ∷ 0xe4 ∷ []) ≡ (quote 1 100 ∷ [], None)
 unfolding reading
 overlong_integer = simp (absent_there, put_there)
 
 -- 70 00 80 for the map
-overlong_map : read (0x70 ∷ 0x00 ∷ 0x80 ∷ 0x81 ∷ 0x81 ∷ 0x41 ∷ 0xc2 ∷ 0xfe ∷ 0x00 ∷ 0xe4 ∷ []) ≡ (quote 1 100 ∷ [], None)
+pub overlong_map : read (0x70 ∷ 0x00 ∷ 0x80 ∷ 0x81 ∷ 0x81 ∷ 0x41 ∷ 0xc2 ∷ 0xfe ∷ 0x00 ∷ 0xe4 ∷ []) ≡ (quote 1 100 ∷ [], None)
 unfolding reading
 overlong_map = simp (absent_there, put_there)
 
 -- F1 for the map
-unasked_bit : read (0xf1 ∷ 0x81 ∷ 0x81 ∷ 0x41 ∷ 0xc2 ∷ 0xfe ∷ 0x00 ∷ 0xe4 ∷ []) ≡ (quote 1 100 ∷ [], None)
+pub unasked_bit : read (0xf1 ∷ 0x81 ∷ 0x81 ∷ 0x41 ∷ 0xc2 ∷ 0xfe ∷ 0x00 ∷ 0xe4 ∷ []) ≡ (quote 1 100 ∷ [], None)
 unfolding reading
 unasked_bit = simp (absent_there, put_there)
 
 -- ---- Delta of a string
 
 -- S is "GEH6"; two at the end make way for "M6"; two in front for "ES"
-deltas : read (0xc0 ∷ 0x8a ∷ 0x80 ∷ 0x47 ∷ 0x45 ∷ 0x48 ∷ 0xb6 ∷ 0x80 ∷ 0x82 ∷ 0x4d ∷ 0xb6 ∷ 0x80 ∷ 0xfd ∷ 0x45 ∷ 0xd3 ∷ []) ≡ (message 10 (text (codes "GEH6") ∷ []) ∷ message 10 (text (codes "GEM6") ∷ []) ∷ message 10 (text (codes "ESM6") ∷ []) ∷ [], None)
+pub deltas : read (0xc0 ∷ 0x8a ∷ 0x80 ∷ 0x47 ∷ 0x45 ∷ 0x48 ∷ 0xb6 ∷ 0x80 ∷ 0x82 ∷ 0x4d ∷ 0xb6 ∷ 0x80 ∷ 0xfd ∷ 0x45 ∷ 0xd3 ∷ []) ≡ (message 10 (text (codes "GEH6") ∷ []) ∷ message 10 (text (codes "GEM6") ∷ []) ∷ message 10 (text (codes "ESM6") ∷ []) ∷ [], None)
 unfolding reading
 deltas = simp (absent_there, put_there)
 
@@ -239,7 +239,7 @@ unfolding reading
 removes_too_much_fourth = simp put_there
 
 -- behind them 80 85 80: five of four
-removes_too_much : read (0xc0 ∷ 0x8a ∷ 0x80 ∷ 0x47 ∷ 0x45 ∷ 0x48 ∷ 0xb6 ∷ 0x80 ∷ 0x82 ∷ 0x4d ∷ 0xb6 ∷ 0x80 ∷ 0xfd ∷ 0x45 ∷ 0xd3 ∷ 0x80 ∷ 0x85 ∷ 0x80 ∷ []) ≡ (message 10 (text (codes "GEH6") ∷ []) ∷ message 10 (text (codes "GEM6") ∷ []) ∷ message 10 (text (codes "ESM6") ∷ []) ∷ [], refused D7 4 16 10 1)
+pub removes_too_much : read (0xc0 ∷ 0x8a ∷ 0x80 ∷ 0x47 ∷ 0x45 ∷ 0x48 ∷ 0xb6 ∷ 0x80 ∷ 0x82 ∷ 0x4d ∷ 0xb6 ∷ 0x80 ∷ 0xfd ∷ 0x45 ∷ 0xd3 ∷ 0x80 ∷ 0x85 ∷ 0x80 ∷ []) ≡ (message 10 (text (codes "GEH6") ∷ []) ∷ message 10 (text (codes "GEM6") ∷ []) ∷ message 10 (text (codes "ESM6") ∷ []) ∷ [], refused D7 4 16 10 1)
 removes_too_much = ap (λ r. (r.messages, fault_in (0xc0 ∷ 0x8a ∷ 0x80 ∷ 0x47 ∷ 0x45 ∷ 0x48 ∷ 0xb6 ∷ 0x80 ∷ 0x82 ∷ 0x4d ∷ 0xb6 ∷ 0x80 ∷ 0xfd ∷ 0x45 ∷ 0xd3 ∷ 0x80 ∷ 0x85 ∷ 0x80 ∷ []) r)) (one_more 17 _ _ _ removes_too_much_first (one_more 16 _ _ _ removes_too_much_second (one_more 15 _ _ _ removes_too_much_third (last_stop 14 _ _ _ removes_too_much_fourth))))
 
 removes_nothing_in_front_first : message_at worked_set finite.empty (0xc0 ∷ 0x8a ∷ 0x80 ∷ 0x47 ∷ 0x45 ∷ 0x48 ∷ 0xb6 ∷ 0x80 ∷ 0x82 ∷ 0x4d ∷ 0xb6 ∷ 0x80 ∷ 0xfd ∷ 0x45 ∷ 0xd3 ∷ 0x80 ∷ 0xff ∷ 0x80 ∷ []) ≡ Ok (message 10 (text (codes "GEH6") ∷ []), geh6, 0x80 ∷ 0x82 ∷ 0x4d ∷ 0xb6 ∷ 0x80 ∷ 0xfd ∷ 0x45 ∷ 0xd3 ∷ 0x80 ∷ 0xff ∷ 0x80 ∷ [])
@@ -262,18 +262,18 @@ unfolding reading
 removes_nothing_in_front_fourth = simp put_there
 
 -- behind them 80 FF 80: S is "ESM6" again
-removes_nothing_in_front : read (0xc0 ∷ 0x8a ∷ 0x80 ∷ 0x47 ∷ 0x45 ∷ 0x48 ∷ 0xb6 ∷ 0x80 ∷ 0x82 ∷ 0x4d ∷ 0xb6 ∷ 0x80 ∷ 0xfd ∷ 0x45 ∷ 0xd3 ∷ 0x80 ∷ 0xff ∷ 0x80 ∷ []) ≡ (message 10 (text (codes "GEH6") ∷ []) ∷ message 10 (text (codes "GEM6") ∷ []) ∷ message 10 (text (codes "ESM6") ∷ []) ∷ message 10 (text (codes "ESM6") ∷ []) ∷ [], None)
+pub removes_nothing_in_front : read (0xc0 ∷ 0x8a ∷ 0x80 ∷ 0x47 ∷ 0x45 ∷ 0x48 ∷ 0xb6 ∷ 0x80 ∷ 0x82 ∷ 0x4d ∷ 0xb6 ∷ 0x80 ∷ 0xfd ∷ 0x45 ∷ 0xd3 ∷ 0x80 ∷ 0xff ∷ 0x80 ∷ []) ≡ (message 10 (text (codes "GEH6") ∷ []) ∷ message 10 (text (codes "GEM6") ∷ []) ∷ message 10 (text (codes "ESM6") ∷ []) ∷ message 10 (text (codes "ESM6") ∷ []) ∷ [], None)
 removes_nothing_in_front = ap (λ r. (r.messages, fault_in (0xc0 ∷ 0x8a ∷ 0x80 ∷ 0x47 ∷ 0x45 ∷ 0x48 ∷ 0xb6 ∷ 0x80 ∷ 0x82 ∷ 0x4d ∷ 0xb6 ∷ 0x80 ∷ 0xfd ∷ 0x45 ∷ 0xd3 ∷ 0x80 ∷ 0xff ∷ 0x80 ∷ []) r)) (one_more 17 _ _ _ removes_nothing_in_front_first (one_more 16 _ _ _ removes_nothing_in_front_second (one_more 15 _ _ _ removes_nothing_in_front_third (one_more 14 _ _ _ removes_nothing_in_front_fourth refl))))
 
 -- ---- Tail
 
 -- S is "xab", and then x, NUL, b by a tail of NUL and b
-tail_with_nul : read (0xe0 ∷ 0x88 ∷ 0x78 ∷ 0x61 ∷ 0xe2 ∷ 0xa0 ∷ 0x00 ∷ 0x00 ∷ 0x00 ∷ 0xe2 ∷ []) ≡ (message 8 (text (codes "xab") ∷ []) ∷ message 8 (text (120 ∷ 0 ∷ 98 ∷ []) ∷ []) ∷ [], None)
+pub tail_with_nul : read (0xe0 ∷ 0x88 ∷ 0x78 ∷ 0x61 ∷ 0xe2 ∷ 0xa0 ∷ 0x00 ∷ 0x00 ∷ 0x00 ∷ 0xe2 ∷ []) ≡ (message 8 (text (codes "xab") ∷ []) ∷ message 8 (text (120 ∷ 0 ∷ 98 ∷ []) ∷ []) ∷ [], None)
 unfolding reading
 tail_with_nul = simp (absent_there, put_there)
 
 -- S is absent, and then the initial value "ab" by an empty tail
-tail_on_empty : read (0xe0 ∷ 0x89 ∷ 0x80 ∷ 0xa0 ∷ 0x00 ∷ 0x80 ∷ []) ≡ (message 9 (absent ∷ []) ∷ message 9 (text (codes "ab") ∷ []) ∷ [], None)
+pub tail_on_empty : read (0xe0 ∷ 0x89 ∷ 0x80 ∷ 0xa0 ∷ 0x00 ∷ 0x80 ∷ []) ≡ (message 9 (absent ∷ []) ∷ message 9 (text (codes "ab") ∷ []) ∷ [], None)
 unfolding reading
 tail_on_empty = simp put_there
 
@@ -296,7 +296,7 @@ unfolding reading
 tail_in_a_character_third = simp put_there
 
 -- S is C3 A9, then C3 A8, and then C3 41, which is not UTF-8
-tail_in_a_character : read (0xe0 ∷ 0x8c ∷ 0x82 ∷ 0xc3 ∷ 0xa9 ∷ 0xa0 ∷ 0x81 ∷ 0xa8 ∷ 0xa0 ∷ 0x81 ∷ 0x41 ∷ []) ≡ (message 12 (unicode (0xc3 ∷ 0xa9 ∷ []) ∷ []) ∷ message 12 (unicode (0xc3 ∷ 0xa8 ∷ []) ∷ []) ∷ [], refused R2 3 9 12 1)
+pub tail_in_a_character : read (0xe0 ∷ 0x8c ∷ 0x82 ∷ 0xc3 ∷ 0xa9 ∷ 0xa0 ∷ 0x81 ∷ 0xa8 ∷ 0xa0 ∷ 0x81 ∷ 0x41 ∷ []) ≡ (message 12 (unicode (0xc3 ∷ 0xa9 ∷ []) ∷ []) ∷ message 12 (unicode (0xc3 ∷ 0xa8 ∷ []) ∷ []) ∷ [], refused R2 3 9 12 1)
 tail_in_a_character = rw (tail_in_a_character_first, tail_in_a_character_second, tail_in_a_character_third) refl
 
 -- ---- Increment past the maximum, and a delta past it
@@ -320,7 +320,7 @@ unfolding reading
 wraps_third = simp put_there
 
 -- A=4294967295 B=4294967295; A=0 B=4294967295; and B one more
-wraps : read (0xe0 ∷ 0x82 ∷ 0x0f ∷ 0x7f ∷ 0x7f ∷ 0x7f ∷ 0xff ∷ 0x0f ∷ 0x7f ∷ 0x7f ∷ 0x7f ∷ 0xff ∷ 0x80 ∷ 0x80 ∷ 0x80 ∷ 0x81 ∷ []) ≡ (message 2 (u32 4294967295 ∷ u32 4294967295 ∷ []) ∷ message 2 (u32 0 ∷ u32 4294967295 ∷ []) ∷ [], refused D2 3 15 2 2)
+pub wraps : read (0xe0 ∷ 0x82 ∷ 0x0f ∷ 0x7f ∷ 0x7f ∷ 0x7f ∷ 0xff ∷ 0x0f ∷ 0x7f ∷ 0x7f ∷ 0x7f ∷ 0xff ∷ 0x80 ∷ 0x80 ∷ 0x80 ∷ 0x81 ∷ []) ≡ (message 2 (u32 4294967295 ∷ u32 4294967295 ∷ []) ∷ message 2 (u32 0 ∷ u32 4294967295 ∷ []) ∷ [], refused D2 3 15 2 2)
 wraps = rw (wraps_first, wraps_second, wraps_third) refl
 
 -- ---- Decimals in parts
@@ -343,7 +343,7 @@ unfolding reading
 mantissa_takes_a_bit_second = simp (absent_there, put_there)
 
 -- The absent exponent leaves the mantissa's bit to Flag: Px=- Flag=5, and then Px=942755e2 Flag=5
-mantissa_takes_a_bit : read (0xf0 ∷ 0x83 ∷ 0x80 ∷ 0x85 ∷ 0x90 ∷ 0x39 ∷ 0x45 ∷ 0xa3 ∷ []) ≡ (message 3 (absent ∷ u32 5 ∷ []) ∷ message 3 (decimal (pos 2) (pos 942755) ∷ u32 5 ∷ []) ∷ [], None)
+pub mantissa_takes_a_bit : read (0xf0 ∷ 0x83 ∷ 0x80 ∷ 0x85 ∷ 0x90 ∷ 0x39 ∷ 0x45 ∷ 0xa3 ∷ []) ≡ (message 3 (absent ∷ u32 5 ∷ []) ∷ message 3 (decimal (pos 2) (pos 942755) ∷ u32 5 ∷ []) ∷ [], None)
 mantissa_takes_a_bit = rw (mantissa_takes_a_bit_first, mantissa_takes_a_bit_second) refl
 
 exponent_spelled_out_first : message_at worked_set finite.empty (0xf0 ∷ 0x83 ∷ 0x80 ∷ 0x85 ∷ 0xb0 ∷ 0x83 ∷ 0x39 ∷ 0x45 ∷ 0xa3 ∷ []) ≡ Ok (message 3 (absent ∷ u32 5 ∷ []), flagged, 0xb0 ∷ 0x83 ∷ 0x39 ∷ 0x45 ∷ 0xa3 ∷ [])
@@ -355,11 +355,11 @@ unfolding reading
 exponent_spelled_out_second = simp (absent_there, put_there)
 
 -- the same with B0 and 83 for an exponent of 2
-exponent_spelled_out : read (0xf0 ∷ 0x83 ∷ 0x80 ∷ 0x85 ∷ 0xb0 ∷ 0x83 ∷ 0x39 ∷ 0x45 ∷ 0xa3 ∷ []) ≡ (message 3 (absent ∷ u32 5 ∷ []) ∷ message 3 (decimal (pos 2) (pos 942755) ∷ u32 5 ∷ []) ∷ [], None)
+pub exponent_spelled_out : read (0xf0 ∷ 0x83 ∷ 0x80 ∷ 0x85 ∷ 0xb0 ∷ 0x83 ∷ 0x39 ∷ 0x45 ∷ 0xa3 ∷ []) ≡ (message 3 (absent ∷ u32 5 ∷ []) ∷ message 3 (decimal (pos 2) (pos 942755) ∷ u32 5 ∷ []) ∷ [], None)
 exponent_spelled_out = rw (exponent_spelled_out_first, exponent_spelled_out_second) refl
 
 -- an exponent of 64 is refused before a mantissa has come
-exponent_first : read (0xf0 ∷ 0x81 ∷ 0x81 ∷ 0x41 ∷ 0xc2 ∷ 0x00 ∷ 0xc0 ∷ []) ≡ ([], refused R1 1 5 1 3)
+pub exponent_first : read (0xf0 ∷ 0x81 ∷ 0x81 ∷ 0x41 ∷ 0xc2 ∷ 0x00 ∷ 0xc0 ∷ []) ≡ ([], refused R1 1 5 1 3)
 unfolding reading
 exponent_first = simp (absent_there, put_there)
 
@@ -378,23 +378,23 @@ unfolding reading
 constant_exponent_second = simp (absent_there, put_there)
 
 -- Px=100e-2 Raw=x0aff, and Px=101e-2 Raw=x0aff
-constant_exponent : read (0xe0 ∷ 0x8f ∷ 0x00 ∷ 0xe4 ∷ 0x83 ∷ 0x0a ∷ 0xff ∷ 0x80 ∷ 0x81 ∷ []) ≡ (message 15 (decimal (negsuc 1) (pos 100) ∷ vector (0x0a ∷ 0xff ∷ []) ∷ []) ∷ message 15 (decimal (negsuc 1) (pos 101) ∷ vector (0x0a ∷ 0xff ∷ []) ∷ []) ∷ [], None)
+pub constant_exponent : read (0xe0 ∷ 0x8f ∷ 0x00 ∷ 0xe4 ∷ 0x83 ∷ 0x0a ∷ 0xff ∷ 0x80 ∷ 0x81 ∷ []) ≡ (message 15 (decimal (negsuc 1) (pos 100) ∷ vector (0x0a ∷ 0xff ∷ []) ∷ []) ∷ message 15 (decimal (negsuc 1) (pos 101) ∷ vector (0x0a ∷ 0xff ∷ []) ∷ []) ∷ [], None)
 constant_exponent = rw (constant_exponent_first, constant_exponent_second) refl
 
 -- ---- Groups and sequences
 
 -- L=-, L=[], and L=[{P=5} {P=6}]
-lengths : read (0xc0 ∷ 0x84 ∷ 0x80 ∷ 0x80 ∷ 0x81 ∷ 0x80 ∷ 0x83 ∷ 0x85 ∷ 0x86 ∷ []) ≡ (message 4 (absent ∷ []) ∷ message 4 (sequence [] ∷ []) ∷ message 4 (sequence ((u32 5 ∷ []) ∷ (u32 6 ∷ []) ∷ []) ∷ []) ∷ [], None)
+pub lengths : read (0xc0 ∷ 0x84 ∷ 0x80 ∷ 0x80 ∷ 0x81 ∷ 0x80 ∷ 0x83 ∷ 0x85 ∷ 0x86 ∷ []) ≡ (message 4 (absent ∷ []) ∷ message 4 (sequence [] ∷ []) ∷ message 4 (sequence ((u32 5 ∷ []) ∷ (u32 6 ∷ []) ∷ []) ∷ []) ∷ [], None)
 unfolding reading
 lengths = simp (absent_there, put_there)
 
 -- Each element has its own map: L=[{Q=5} {Q=5}]
-maps_of_elements : read (0xc0 ∷ 0x85 ∷ 0x82 ∷ 0xc0 ∷ 0x85 ∷ 0x80 ∷ []) ≡ (message 5 (sequence ((u32 5 ∷ []) ∷ (u32 5 ∷ []) ∷ []) ∷ []) ∷ [], None)
+pub maps_of_elements : read (0xc0 ∷ 0x85 ∷ 0x82 ∷ 0xc0 ∷ 0x85 ∷ 0x80 ∷ []) ≡ (message 5 (sequence ((u32 5 ∷ []) ∷ (u32 5 ∷ []) ∷ []) ∷ []) ∷ [], None)
 unfolding reading
 maps_of_elements = simp (absent_there, put_there)
 
 -- a length of 65,536
-too_many_elements : read (0xc0 ∷ 0x84 ∷ 0x04 ∷ 0x00 ∷ 0x81 ∷ []) ≡ ([], refused Limit 1 2 4 1)
+pub too_many_elements : read (0xc0 ∷ 0x84 ∷ 0x04 ∷ 0x00 ∷ 0x81 ∷ []) ≡ ([], refused Limit 1 2 4 1)
 unfolding reading
 too_many_elements = refl
 
@@ -420,8 +420,8 @@ unfolding reading
 groups_third = simp put_there
 
 -- Hd={A=5} B=6, Hd=- B=6, and Hd={A=5} B=6
-groups : read (0xf0 ∷ 0x8b ∷ 0xc0 ∷ 0x85 ∷ 0x86 ∷ 0x80 ∷ 0xa0 ∷ 0x80 ∷ []) ≡ (message 11 (group (u32 5 ∷ []) ∷ u32 6 ∷ []) ∷ message 11 (absent ∷ u32 6 ∷ []) ∷ message 11 (group (u32 5 ∷ []) ∷ u32 6 ∷ []) ∷ [], None)
-groups = rw (groups_first, groups_second, groups_third) refl
+pub groups_there : read (0xf0 ∷ 0x8b ∷ 0xc0 ∷ 0x85 ∷ 0x86 ∷ 0x80 ∷ 0xa0 ∷ 0x80 ∷ []) ≡ (message 11 (group (u32 5 ∷ []) ∷ u32 6 ∷ []) ∷ message 11 (absent ∷ u32 6 ∷ []) ∷ message 11 (group (u32 5 ∷ []) ∷ u32 6 ∷ []) ∷ [], None)
+groups_there = rw (groups_first, groups_second, groups_third) refl
 
 -- ---- One key for two fields
 
@@ -437,23 +437,23 @@ unfolding reading
 another_type_second = simp put_there
 
 -- A=5 B="A", and then A finds the string
-another_type : read (0xf0 ∷ 0x87 ∷ 0x85 ∷ 0xc1 ∷ 0x80 ∷ []) ≡ (message 7 (u32 5 ∷ text (codes "A") ∷ []) ∷ [], refused D4 2 5 7 1)
+pub another_type : read (0xf0 ∷ 0x87 ∷ 0x85 ∷ 0xc1 ∷ 0x80 ∷ []) ≡ (message 7 (u32 5 ∷ text (codes "A") ∷ []) ∷ [], refused D4 2 5 7 1)
 another_type = rw (another_type_first, another_type_second) refl
 
 -- A=5 B="A", and A=6 B="A", both spelled out
-another_type_unused : read (0xf0 ∷ 0x87 ∷ 0x85 ∷ 0xc1 ∷ 0xb0 ∷ 0x86 ∷ 0xc1 ∷ []) ≡ (message 7 (u32 5 ∷ text (codes "A") ∷ []) ∷ message 7 (u32 6 ∷ text (codes "A") ∷ []) ∷ [], None)
+pub another_type_unused : read (0xf0 ∷ 0x87 ∷ 0x85 ∷ 0xc1 ∷ 0xb0 ∷ 0x86 ∷ 0xc1 ∷ []) ≡ (message 7 (u32 5 ∷ text (codes "A") ∷ []) ∷ message 7 (u32 6 ∷ text (codes "A") ∷ []) ∷ [], None)
 unfolding reading
 another_type_unused = simp put_there
 
 -- A is absent, and B a delta on what it left
-empty_entry : read (0xc0 ∷ 0x8d ∷ 0x85 ∷ []) ≡ ([], refused D6 1 2 13 2)
+pub empty_entry : read (0xc0 ∷ 0x8d ∷ 0x85 ∷ []) ≡ ([], refused D6 1 2 13 2)
 unfolding reading
 empty_entry = simp (absent_there, put_there)
 
 -- ---- Copy, constant and default
 
 -- A=5 B=6, and A=7 B=6
-copied : read (0xe0 ∷ 0x90 ∷ 0x85 ∷ 0x86 ∷ 0xe0 ∷ 0x90 ∷ 0x87 ∷ 0x86 ∷ []) ≡ (message 16 (u32 5 ∷ u32 6 ∷ []) ∷ message 16 (u32 7 ∷ u32 6 ∷ []) ∷ [], None)
+pub copied : read (0xe0 ∷ 0x90 ∷ 0x85 ∷ 0x86 ∷ 0xe0 ∷ 0x90 ∷ 0x87 ∷ 0x86 ∷ []) ≡ (message 16 (u32 5 ∷ u32 6 ∷ []) ∷ message 16 (u32 7 ∷ u32 6 ∷ []) ∷ [], None)
 unfolding reading
 copied = refl
 
@@ -483,28 +483,28 @@ unfolding reading
 constants_fourth = simp put_there
 
 -- K=7 O=9 D=3; twice K=7 O=- D=3; and D past its type
-constants : read (0xe0 ∷ 0x8e ∷ 0x80 ∷ 0x90 ∷ 0x83 ∷ 0x90 ∷ 0x10 ∷ 0x00 ∷ 0x00 ∷ 0x00 ∷ 0x80 ∷ []) ≡ (message 14 (u32 7 ∷ u32 9 ∷ u32 3 ∷ []) ∷ message 14 (u32 7 ∷ absent ∷ u32 3 ∷ []) ∷ message 14 (u32 7 ∷ absent ∷ u32 3 ∷ []) ∷ [], refused D2 4 6 14 3)
+pub constants : read (0xe0 ∷ 0x8e ∷ 0x80 ∷ 0x90 ∷ 0x83 ∷ 0x90 ∷ 0x10 ∷ 0x00 ∷ 0x00 ∷ 0x00 ∷ 0x80 ∷ []) ≡ (message 14 (u32 7 ∷ u32 9 ∷ u32 3 ∷ []) ∷ message 14 (u32 7 ∷ absent ∷ u32 3 ∷ []) ∷ message 14 (u32 7 ∷ absent ∷ u32 3 ∷ []) ∷ [], refused D2 4 6 14 3)
 constants = ap (λ r. (r.messages, fault_in (0xe0 ∷ 0x8e ∷ 0x80 ∷ 0x90 ∷ 0x83 ∷ 0x90 ∷ 0x10 ∷ 0x00 ∷ 0x00 ∷ 0x00 ∷ 0x80 ∷ []) r)) (one_more 10 _ _ _ constants_first (one_more 9 _ _ _ constants_second (one_more 8 _ _ _ constants_third (last_stop 7 _ _ _ constants_fourth))))
 
 -- ---- Entities that do not end
 
 -- F0 81 and ten times 00
-too_long : read (0xf0 ∷ 0x81 ∷ replicate 10 0x00) ≡ ([], refused Limit 1 2 1 1)
+pub too_long : read (0xf0 ∷ 0x81 ∷ replicate 10 0x00) ≡ ([], refused Limit 1 2 1 1)
 unfolding reading
 too_long = refl
 
 -- F0 81 and nine times 00
-not_whole : read (0xf0 ∷ 0x81 ∷ replicate 9 0x00) ≡ ([], refused Truncated 1 2 1 1)
+pub not_whole : read (0xf0 ∷ 0x81 ∷ replicate 9 0x00) ≡ ([], refused Truncated 1 2 1 1)
 unfolding reading
 not_whole = refl
 
 -- 256 times 00
-map_too_long : read (replicate 256 0x00) ≡ ([], refused Limit 1 0 0 0)
+pub map_too_long : read (replicate 256 0x00) ≡ ([], refused Limit 1 0 0 0)
 unfolding reading
 map_too_long = refl
 
 -- 255 times 00
-map_not_whole : read (replicate 255 0x00) ≡ ([], refused Truncated 1 0 0 0)
+pub map_not_whole : read (replicate 255 0x00) ≡ ([], refused Truncated 1 0 0 0)
 unfolding reading
 map_not_whole = refl
 
@@ -532,3 +532,78 @@ counted_first = refl
 counted_before_the_end : body_at (resolved 4 legs).members (may_come 2 (0x83 ∷ [])) ≡ Err (record { cause = Limit; instruction = 2; left = 0 })
 unfolding reading
 counted_before_the_end = refl
+
+-- ---- Faults inside a group, an element and a decimal in parts
+
+-- F0 8B: the group's map is not there
+pub no_map_of_group : read (0xf0 ∷ 0x8b ∷ []) ≡ ([], refused Truncated 1 2 11 1)
+unfolding reading
+no_map_of_group = refl
+
+-- F0 8B C0: its A is not there
+pub no_field_of_group : read (0xf0 ∷ 0x8b ∷ 0xc0 ∷ []) ≡ ([], refused Truncated 1 3 11 2)
+unfolding reading
+no_field_of_group = refl
+
+-- F0 8B 80: its A is left out, and no value predicts it
+pub no_value_in_group : read (0xf0 ∷ 0x8b ∷ 0x80 ∷ []) ≡ ([], refused D5 1 3 11 2)
+unfolding reading
+no_value_in_group = simp (absent_there, put_there)
+
+-- C0 85 82: the first element's map is not there
+pub no_map_of_element : read (0xc0 ∷ 0x85 ∷ 0x82 ∷ []) ≡ ([], refused Truncated 1 3 5 1)
+unfolding reading
+no_map_of_element = refl
+
+-- C0 85 82 C0 85: the second element's is not
+pub no_map_of_second_element : read (0xc0 ∷ 0x85 ∷ 0x82 ∷ 0xc0 ∷ 0x85 ∷ []) ≡ ([], refused Truncated 1 5 5 1)
+unfolding reading
+no_map_of_second_element = refl
+
+-- F0 83 83: the mantissa is not there
+pub no_mantissa : read (0xf0 ∷ 0x83 ∷ 0x83 ∷ []) ≡ ([], refused Truncated 1 3 3 1)
+unfolding reading
+no_mantissa = refl
+
+-- F0 83 83 and behind them 2^63 in ten bytes: no mantissa is so large
+pub mantissa_too_large : read (0xf0 ∷ 0x83 ∷ 0x83 ∷ 0x01 ∷ 0x00 ∷ 0x00 ∷ 0x00 ∷ 0x00 ∷ 0x00 ∷ 0x00 ∷ 0x00 ∷ 0x00 ∷ 0x80 ∷ []) ≡ ([], refused R1 1 3 3 1)
+unfolding reading
+mantissa_too_large = refl
+
+-- C0 10 00 00 00 80: an identifier of 2^32, with no template and no instruction
+pub identifier_too_large : read (0xc0 ∷ 0x10 ∷ 0x00 ∷ 0x00 ∷ 0x00 ∷ 0x80 ∷ []) ≡ ([], refused D2 1 1 0 0)
+unfolding reading
+identifier_too_large = refl
+
+-- ---- Small numbers of nodes, under bits of a map
+
+abbrev under_bits : List Bool → ℕ → List ℕ → Cursor
+under_bits bits spare bytes = record { dictionary = finite.empty; bits = bits; spare = spare; bytes = bytes }
+
+-- C0 85 86 under 1 1: the group is a node, its A another
+group_counts : body_at (resolved 12 grp).members (under_bits (true ∷ true ∷ []) 1 (0xc0 ∷ 0x85 ∷ 0x86 ∷ [])) ≡ Err (record { cause = Limit; instruction = 2; left = 2 })
+unfolding reading
+group_counts = refl
+
+-- and B the third
+third_of_two : body_at (resolved 12 grp).members (under_bits (true ∷ true ∷ []) 2 (0xc0 ∷ 0x85 ∷ 0x86 ∷ [])) ≡ Err (record { cause = Limit; instruction = 3; left = 1 })
+unfolding reading
+third_of_two = refl
+
+-- 86 under 0 1: an absent group is a node
+absent_group_counts : body_at (resolved 12 grp).members (under_bits (false ∷ true ∷ []) 1 (0x86 ∷ [])) ≡ Err (record { cause = Limit; instruction = 3; left = 1 })
+unfolding reading
+absent_group_counts = refl
+
+no_node_for_a_group : body_at (resolved 12 grp).members (under_bits (false ∷ true ∷ []) 0 (0x86 ∷ [])) ≡ Err (record { cause = Limit; instruction = 1; left = 1 })
+unfolding reading
+no_node_for_a_group = refl
+
+-- 39 45 A3 under 0 1: a decimal in parts is one node
+parts_count_once : body_at (resolved 3 opt).members (under_bits (false ∷ true ∷ []) 1 (0x39 ∷ 0x45 ∷ 0xa3 ∷ [])) ≡ Err (record { cause = Limit; instruction = 2; left = 0 })
+unfolding reading
+parts_count_once = refl
+
+no_node_for_parts : body_at (resolved 3 opt).members (under_bits (false ∷ true ∷ []) 0 (0x39 ∷ 0x45 ∷ 0xa3 ∷ [])) ≡ Err (record { cause = Limit; instruction = 1; left = 3 })
+unfolding reading
+no_node_for_parts = refl

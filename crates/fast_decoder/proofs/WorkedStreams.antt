@@ -1,6 +1,9 @@
--- Two streams of the worked templates as the relations see them: one that carries a message, and one that is refused.
-use Rattle.std.proofs.Common.{◌≡◌, ℕ, List, [], ◌∷◌, Option, Some, None, pos, refl, ap, lit<, lit≤, inl}
-use Rattle.std.specs.Prelude.{codes}
+-- Streams of the worked templates as the relations see them. Two are shown part by part; the others stand on what reading
+-- computes of them, by the laws that join reading and the relations.
+use Rattle.std.proofs.Common.{◌≡◌, ℕ, List, [], ◌∷◌, Option, Some, None, pos, refl, ap, lit<, lit≤, inl, ◌∙◌, ◌&&◌, Bool, true, false, true≢false, sym, length, arith}
+use Rattle.std.specs.Prelude.{codes, nat_lt, option_map, replicate}
+use Rattle.std.specs.List.{list_all}
+use Rattle.fast_wire.specs.Reader.{IsBytes}
 use Rattle.std.specs.FinMap as finite
 use Rattle.fast_template.specs.Key.{key_cmp}
 use Rattle.fast_template.specs.declared.key.Key.{Key}
@@ -21,12 +24,17 @@ use Rattle.fast_field.specs.declared.fault.FieldFault.TheVariants as field
 use Rattle.fast_field.specs.Deltas.{uncut}
 use Rattle.fast_field.specs.FieldReading.{predicted_at, row_at, field_at}
 use Rattle.fast_decoder.proofs.Hex.{hex}
-use Rattle.fast_decoder.specs.declared.fault.Cause.TheVariants.{D5}
+use Rattle.fast_decoder.specs.declared.fault.Cause.{Cause}
+use Rattle.fast_decoder.specs.declared.fault.Cause.TheVariants.{D2, D4, D5, D9, R1, Truncated, Limit}
+use Rattle.fast_decoder.specs.declared.fault.Fault.{Fault}
 use Rattle.fast_decoder.specs.Nodes.{single, items_of, Content}
 use Rattle.fast_decoder.specs.Bodies.{State, after_part}
 use Rattle.fast_decoder.specs.Streams.{identifier, Carries}
-use Rattle.fast_decoder.specs.Faults.{FirstFault, in_identifier}
-use Rattle.fast_template.proofs.WorkedSet.{worked_set}
+use Rattle.fast_decoder.specs.Faults.{FirstFault, in_identifier, MessageStop, place_of}
+use Rattle.fast_decoder.specs.Reading.{StreamReading, stream_at, fault_in}
+use Rattle.fast_decoder.proofs.StreamReaders.{read_is_carried, answered_is_fault}
+use Rattle.fast_decoder.proofs.Rows.{u32, decimal, text, absent, group, sequence, message, quote, read, groups_there, lengths, maps_of_elements, mantissa_takes_a_bit, left_out, overlong_integer, overlong_map, unasked_bit, map_too_long, unknown_identifier, identifier_too_large, no_map_of_group, no_value_in_group, no_map_of_second_element, mantissa_too_large, another_type}
+use Rattle.fast_template.proofs.WorkedSet.{worked_set, worked_set_is_sound}
 
 abbrev uint32 : ℕ → ℕ → List ℕ → Operator → FieldPart
 uint32 number slot name operator = record { number = number; part = Whole; kind = UInt32; presence = Mandatory; operator = operator; initial = None; key = record { slot = slot; scope = Global; name = name; part = Whole } }
@@ -134,3 +142,101 @@ no_identifier = record {
   cause_is = refl;
   place_is = refl;
 }
+
+both_left : (a b : Bool) → (a && b) ≡ true → a ≡ true
+both_left true b e = refl
+both_left false b e = e
+
+both_right : (a b : Bool) → (a && b) ≡ true → b ≡ true
+both_right true b e = e
+both_right false b e = absurd (true≢false (sym e))
+
+abbrev shown : List Content → Option Fault → List Content × Option Fault
+shown messages fault = (messages, fault)
+
+abbrev none_answered : Option Fault
+none_answered = None
+
+abbrev reading : List Content → Option MessageStop → StreamReading
+reading messages fault = record { messages = messages; fault = fault }
+
+-- ---- from what is read to what the relations say
+
+all_bytes : (bytes : List ℕ) → list_all (λ b. nat_lt b 256) bytes ≡ true → IsBytes bytes
+all_bytes [] h = tt
+all_bytes (b ∷ bs) h = (let test = both_left (nat_lt b 256) (list_all (λ c. nat_lt c 256) bs) h in grind (arith, test), all_bytes bs (both_right (nat_lt b 256) (list_all (λ c. nat_lt c 256) bs) h))
+
+carried_of : (stream : List ℕ) (messages : List Content) (r : StreamReading) → IsBytes stream → stream_at worked_set stream ≡ r → shown r.messages (fault_in stream r) ≡ shown messages None → Carries worked_set stream messages
+carried_of stream messages r fits is e = go r.fault refl (ap (λ p. p.1) e)
+  where
+    go : (o : Option MessageStop) → r.fault ≡ o → option_map (λ s. record { cause = s.stop.cause; place = place_of (length stream) (length r.messages) s }) o ≡ none_answered → Carries worked_set stream messages
+    go None h none =
+        read_is_carried worked_set worked_set_is_sound.typed stream messages fits
+        (is ∙ ap (λ (o : Option MessageStop). reading r.messages o) h ∙ ap (λ (ms : List Content). reading ms None) (ap (λ p. p.0) e))
+    go (Some m) h none = absurd cc
+
+-- the stream carries the messages
+carried : (stream : List ℕ) (messages : List Content) → list_all (λ b. nat_lt b 256) stream ≡ true → read stream ≡ (messages, None) → Carries worked_set stream messages
+carried stream messages fits e = carried_of stream messages (stream_at worked_set stream) (all_bytes stream fits) refl e
+
+-- the stream is refused so
+refusal : (stream : List ℕ) (messages : List Content) (fault : Fault) → list_all (λ b. nat_lt b 256) stream ≡ true → read stream ≡ (messages, Some fault) → FirstFault worked_set stream fault.place fault.cause
+refusal stream messages fault fits e = answered_is_fault worked_set worked_set_is_sound.typed stream fault (all_bytes stream fits) (ap (λ p. p.1) e)
+
+abbrev Refused : List ℕ → Cause → ℕ → ℕ → ℕ → ℕ → Type 0
+Refused stream cause message offset template instruction =
+    FirstFault worked_set stream (record { message = message; offset = offset; template = template; instruction = instruction }) cause
+
+-- a group there, left out, and there again
+groups_carried : Carries worked_set (hex "F0 8B C0 85 86 80 A0 80") (message 11 (group (u32 5 ∷ []) ∷ u32 6 ∷ []) ∷ message 11 (absent ∷ u32 6 ∷ []) ∷ message 11 (group (u32 5 ∷ []) ∷ u32 6 ∷ []) ∷ [])
+groups_carried = carried _ _ refl groups_there
+
+-- a sequence absent, empty and of two elements
+lengths_carried : Carries worked_set (hex "C0 84 80 80 81 80 83 85 86") (message 4 (absent ∷ []) ∷ message 4 (sequence [] ∷ []) ∷ message 4 (sequence ((u32 5 ∷ []) ∷ (u32 6 ∷ []) ∷ []) ∷ []) ∷ [])
+lengths_carried = carried _ _ refl lengths
+
+-- each element with a map of its own
+elements_carried : Carries worked_set (hex "C0 85 82 C0 85 80") (message 5 (sequence ((u32 5 ∷ []) ∷ (u32 5 ∷ []) ∷ []) ∷ []) ∷ [])
+elements_carried = carried _ _ refl maps_of_elements
+
+-- a decimal in parts without its mantissa and with it
+parts_carried : Carries worked_set (hex "F0 83 80 85 90 39 45 A3") (message 3 (absent ∷ u32 5 ∷ []) ∷ message 3 (decimal (pos 2) (pos 942755) ∷ u32 5 ∷ []) ∷ [])
+parts_carried = carried _ _ refl mantissa_takes_a_bit
+
+-- messages spelled out and left out, overlong forms, and a bit that no instruction asks for
+quotes_carried : Carries worked_set (hex "F0 81 81 41 C2 FE 00 E4 80 80 81") (quote 1 100 ∷ quote 2 101 ∷ [])
+quotes_carried = carried _ _ refl left_out
+
+overlong_integer_carried : Carries worked_set (hex "F0 81 00 00 81 41 C2 FE 00 E4") (quote 1 100 ∷ [])
+overlong_integer_carried = carried _ _ refl overlong_integer
+
+overlong_map_carried : Carries worked_set (hex "70 00 80 81 81 41 C2 FE 00 E4") (quote 1 100 ∷ [])
+overlong_map_carried = carried _ _ refl overlong_map
+
+unasked_bit_carried : Carries worked_set (hex "F1 81 81 41 C2 FE 00 E4") (quote 1 100 ∷ [])
+unasked_bit_carried = carried _ _ refl unasked_bit
+
+-- a fault in a map, an identifier, a group's map and field, an element's map, and a mantissa
+map_refused : Refused (replicate 256 0x00) Limit 1 0 0 0
+map_refused = refusal _ [] _ refl map_too_long
+
+identifier_refused : Refused (hex "C0 E4") D9 1 1 0 0
+identifier_refused = refusal _ [] _ refl unknown_identifier
+
+large_identifier_refused : Refused (hex "C0 10 00 00 00 80") D2 1 1 0 0
+large_identifier_refused = refusal _ [] _ refl identifier_too_large
+
+group_refused : Refused (hex "F0 8B") Truncated 1 2 11 1
+group_refused = refusal _ [] _ refl no_map_of_group
+
+group_field_refused : Refused (hex "F0 8B 80") D5 1 3 11 2
+group_field_refused = refusal _ [] _ refl no_value_in_group
+
+element_refused : Refused (hex "C0 85 82 C0 85") Truncated 1 5 5 1
+element_refused = refusal _ [] _ refl no_map_of_second_element
+
+mantissa_refused : Refused (hex "F0 83 83 01 00 00 00 00 00 00 00 00 80") R1 1 3 3 1
+mantissa_refused = refusal _ [] _ refl mantissa_too_large
+
+second_message_refused : Refused (hex "F0 87 85 C1 80") D4 2 5 7 1
+second_message_refused = refusal _ (message 7 (u32 5 ∷ text (codes "A") ∷ []) ∷ []) _ refl another_type
