@@ -18,8 +18,8 @@ number_of [] = 0
 number_of (g ∷ gs) = g * 128 ^ length gs + number_of gs
 
 -- the bytes are an entity of at most so many bytes, and spell v
-pub record IsSpelled {V : Type 0} (limit : ℕ) (Spells : List ℕ → V → Type 0) (bytes : List ℕ) (v : V)
-    : Type 0 where
+pub record IsSpelled {V : Type 0} (limit : ℕ) (Spells : List ℕ → V → Type 0)
+    (bytes : List ℕ) (v : V) : Type 0 where
   pub entity : IsEntity bytes
   pub short : length bytes ≤ limit
   pub value : Spells bytes v

@@ -14,7 +14,9 @@ is_negative (g ∷ gs) = nat_le 64 g
 
 -- the number that an entity's groups spell as two's complement
 abbrev pub signed_of : List ℕ → ℤ
-signed_of bytes = if is_negative (groups bytes) then pos (unsigned_of bytes) -ℤ pos (128 ^ length bytes) else pos (unsigned_of bytes)
+signed_of bytes =
+    if is_negative (groups bytes) then pos (unsigned_of bytes) -ℤ pos (128 ^ length bytes)
+    else pos (unsigned_of bytes)
 
 -- the bytes are an entity of at most ten groups, and spell v
 abbrev pub IsUnsigned : List ℕ → ℕ → Type 0

@@ -6,7 +6,9 @@ use Rattle.fast_wire.specs.Entity.{IsSpelled, groups}
 
 -- the seven bits of a group
 abbrev pub group_bits : ℕ → List Bool
-group_bits g = nat_eq (g / 64 % 2) 1 ∷ nat_eq (g / 32 % 2) 1 ∷ nat_eq (g / 16 % 2) 1 ∷ nat_eq (g / 8 % 2) 1 ∷ nat_eq (g / 4 % 2) 1 ∷ nat_eq (g / 2 % 2) 1 ∷ nat_eq (g % 2) 1 ∷ []
+group_bits g =
+    nat_eq (g / 64 % 2) 1 ∷ nat_eq (g / 32 % 2) 1 ∷ nat_eq (g / 16 % 2) 1 ∷ nat_eq (g / 8 % 2) 1
+    ∷ nat_eq (g / 4 % 2) 1 ∷ nat_eq (g / 2 % 2) 1 ∷ nat_eq (g % 2) 1 ∷ []
 
 abbrev pub bits_of : List ℕ → List Bool
 bits_of gs = flat_map group_bits gs
@@ -27,7 +29,8 @@ later_bits (bit ∷ bits) = bits
 
 -- the bytes are a map of at most 256 bytes (our own limit), and have these bits, up to zeros at the end
 abbrev pub IsMap : List ℕ → List Bool → Type 0
-IsMap bytes bits = IsSpelled 256 (λ b bits. (i : ℕ) → bit_at (bits_of (groups b)) i ≡ bit_at bits i) bytes bits
+IsMap bytes bits =
+    IsSpelled 256 (λ b bits. (i : ℕ) → bit_at (bits_of (groups b)) i ≡ bit_at bits i) bytes bits
 
 -- the bytes are such a map, and these are its bits, seven for each byte
 abbrev pub IsWholeMap : List ℕ → List Bool → Type 0
