@@ -6,7 +6,7 @@ use Rattle.std.proofs.lemmas.List.{length-map, take_at, get_or-drop}
 use Rattle.fast_wire.specs.Ascii.{IsAscii, IsAsciiEntity, IsAsciiEntityNullable, IsAsciiNullable, IsAsciiText}
 use Rattle.fast_wire.specs.Entity.{IsEntity, IsEntityWithin, groups}
 use Rattle.fast_wire.specs.Integer.{IsUnsigned, IsSigned, unsigned_of, signed_of}
-use Rattle.fast_wire.specs.Nullable.{IsNullOr, IsSignedNullable, IsUnsignedNullable, received_signed, received_unsigned, sent_signed, sent_unsigned, units}
+use Rattle.fast_wire.specs.Nullable.{IsNullOr, IsSignedNullable, IsUnsignedNullable, received_signed, received_unsigned, units}
 use Rattle.fast_wire.specs.PresenceMap.{IsWholeMap, bits_of}
 use Rattle.fast_wire.specs.Reader.{IsBytes, IsReader, Takes}
 use Rattle.fast_wire.specs.Reading.{◌>>=◌, AsciiFault, EntityFault, Gives, IsReadAt, NothingElse, OrMemory, Reads, VectorFault, LengthFault, ascii_at, ascii_nullable_at, behind_length, bytes_at, characters, entity_at, map_at, nullable_characters, signed_at, signed_nullable_at, unsigned_at, unsigned_nullable_at, vector_at, vector_nullable_at, within_limit}
@@ -17,7 +17,7 @@ use Rattle.fast_wire.specs.declared.fault.WireFault.TheVariants as fault
 use Rattle.fast_wire.specs.declared.nullable.Nullable.{Nullable}
 use Rattle.fast_wire.specs.declared.nullable.Nullable.TheVariants.{Null, Value}
 use Rattle.fast_wire.proofs.AsciiForms.{characters_behind, spells, spells_nullable}
-use Rattle.fast_wire.proofs.FormReaders.{ascii_forms, ascii_nullable_forms, entities, entity_err, map_forms, signed_forms, string_at, unsigned_forms, within_ok, within_err}
+use Rattle.fast_wire.proofs.FormReaders.{ascii_forms, ascii_nullable_forms, entities, entity_err, err_is, map_err, map_forms, signed_forms, string_at, unsigned_forms, within_ok, within_err}
 use Rattle.fast_wire.proofs.FormSizes.{ascii_nullable_sizes, ascii_sizes, signed_nullable_sizes, signed_sizes, unsigned_nullable_sizes, unsigned_sizes, vector_nullable_sizes, vector_sizes}
 use Rattle.fast_wire.proofs.MapBits.{length_bits}
 use Rattle.fast_wire.proofs.NullableForms.{signed_nullable_forms, unsigned_nullable_forms}
@@ -97,11 +97,6 @@ entity_fault limit bytes at fault.Range within h = entity_err limit (drop at byt
 entity_fault limit bytes at fault.NotUtf8 within h = entity_err limit (drop at bytes) fault.NotUtf8 h
 entity_fault limit bytes at fault.Memory within h = entity_err limit (drop at bytes) fault.Memory h
 
--- a value made of a first one fails as that does
-map_err : {A B F : Type 0} (r : Result A F) (g : A → B) (f : F) → (r >>= λ x. Ok (g x)) ≡ Err f → r ≡ Err f
-map_err (Ok x) g f e = absurd cc
-map_err (Err d) g f e = cc
-
 unsigned_fault : (bytes : List ℕ) (at : ℕ) (e : WireFault) → at ≤ length bytes → unsigned_at (drop at bytes) ≡ Err e → EntityFault 10 bytes at e
 unfolding unsigned_at
 unsigned_fault bytes at e within h = entity_fault 10 bytes at e within (map_err (entity_at 10 (drop at bytes)) (λ e. (unsigned_of e.0, e.1)) e h)
@@ -122,9 +117,6 @@ map_fault : (bytes : List ℕ) (at : ℕ) (e : WireFault) → at ≤ length byte
 unfolding map_at
 map_fault bytes at e within h = entity_fault 256 bytes at e within (map_err (entity_at 256 (drop at bytes)) (λ e. (bits_of (groups e.0), e.1)) e h)
 
-err_is : {A F : Type 0} (d e : F) → ◌≡◌ {A = Result A F} (Err d) (Err e) → d ≡ e
-err_is d e h = cc
-
 within_fault : {V : Type 0} (size : V → ℕ) (s : V) (e : WireFault) → within_limit size s ≡ Err e → (e ≡ fault.TooLong) × (65535 < size s)
 within_fault {V} size s e h = elim (cases_lt 65535 (size s)) [
   | inl lt ↦ (err_is {A = V} e fault.TooLong (sym h ∙ within_err size s lt), lt)
@@ -143,7 +135,7 @@ text_fault {V} size value Spelled spelled bytes at e fits within h =
           let t = (entities 65540).found (drop at bytes) x.0 x.1 fits g in
           let here = taken_at (IsEntityWithin 65540) bytes at x.0 x.1 within t in
           let r = here.0 in
-          inr (w.0, (at + length t.front, value x.0, (r.0, r.1, subst (λ (z : List ℕ). Spelled (slice_range bytes at (at + length t.front)) (value z)) r.2.same (spelled (slice_range bytes at (at + length t.front)) r.2.entity_is r.2.short)), w.1))
+          inr (w.0, (at + length t.front, value x.0, (r.0, r.1, subst (λ (z : List ℕ). Spelled (slice_range bytes at (at + length t.front)) (value z)) r.2.value (spelled (slice_range bytes at (at + length t.front)) r.2.entity r.2.short)), w.1))
     ]
 
 some_groups : (b : List ℕ) → IsEntity b → 0 < length (groups b)

@@ -1,10 +1,10 @@
 -- What a call that appends a form leaves, from what it appended.
-use Rattle.std.proofs.Common.{◌≡◌, ℕ, ℤ, ◌+◌, ◌^◌, ◌<◌, ◌≤◌, ◌++◌, List, [], length, Bool, Result, Ok, Err, Vec, Global, refl, sym, ap, subst, ◌∙◌, arith, inl, inr}
+use Rattle.std.proofs.Common.{◌≡◌, ℕ, ℤ, ◌+◌, ◌^◌, ◌<◌, ◌≤◌, ◌++◌, List, [], length, Bool, Result, Ok, Err, Vec, Global, refl, sym, ap, subst, arith, inl, inr}
 use Rattle.fast_wire.specs.Ascii.{IsAscii, IsAsciiNullable, IsAsciiText}
 use Rattle.fast_wire.specs.Integer.{IsSigned, magnitude}
 use Rattle.fast_wire.specs.Nullable.{IsSignedNullable, sent_signed}
 use Rattle.fast_wire.specs.PresenceMap.{IsMap}
-use Rattle.fast_wire.specs.Sizes.{CanBeSigned, CanBeSignedNullable, CanBeUnsignedNullable, CanBeVector}
+use Rattle.fast_wire.specs.Sizes.{CanBeSigned, CanBeSignedNullable, CanBeVector}
 use Rattle.fast_wire.specs.Spellings.{Appends, IsLeastSize, IsMapSize, IsUsed, entity_of, map_of, preamble_for, string_of}
 use Rattle.fast_wire.specs.Vector.{IsVector, IsVectorNullable}
 use Rattle.fast_wire.specs.Writing.{IsShortest, NoText, OutOfRange, TooManyBits, TooManyBytes, Writes}

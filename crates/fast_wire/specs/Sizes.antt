@@ -7,7 +7,8 @@ use Rattle.fast_wire.specs.declared.nullable.Nullable.{Nullable}
 use Rattle.fast_wire.specs.declared.nullable.Nullable.TheVariants.{Null, Value}
 
 -- a value has a form exactly where it can have one, and its shortest form takes size bytes
-pub record HasSizes {V : Type 0} (Form : List ℕ → V → Type 0) (Can : V → Type 0) (size : V → ℕ) : Type 0 where
+pub record HasSizes {V : Type 0} (Form : List ℕ → V → Type 0) (Can : V → Type 0)
+    (size : V → ℕ) : Type 0 where
   -- only a value that can has a form
   pub within : (bytes : List ℕ) (v : V) → Form bytes v → Can v
   -- some form of it has so many bytes
@@ -20,7 +21,8 @@ pub record HasSizes {V : Type 0} (Form : List ℕ → V → Type 0) (Can : V →
 -- groups for a number, where one group serves below the limit, and each further one 128 times as far
 unfoldable pub groups_from : ℕ → ℕ → ℕ → ℕ
 groups_from zero limit n = 1
-groups_from (suc more) limit n = if nat_lt n limit then 1 else suc (groups_from more (limit * 128) n)
+groups_from (suc more) limit n =
+    if nat_lt n limit then 1 else suc (groups_from more (limit * 128) n)
 
 unfoldable pub unsigned_size : ℕ → ℕ
 unsigned_size n = groups_from 9 128 n

@@ -8,7 +8,8 @@ use Rattle.fast_wire.specs.declared.fault.WireFault.TheVariants as fault
 use Rattle.fast_wire.specs.declared.nullable.Nullable.{Nullable}
 
 -- the bytes are a form of v, and no form of v has fewer bytes
-pub record IsShortest {V : Type 0} (Form : List ℕ → V → Type 0) (bytes : List ℕ) (v : V) : Type 0 where
+pub record IsShortest {V : Type 0} (Form : List ℕ → V → Type 0)
+    (bytes : List ℕ) (v : V) : Type 0 where
   pub form : Form bytes v
   pub least : (other : List ℕ) → Form other v → length bytes ≤ length other
 

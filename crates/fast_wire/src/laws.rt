@@ -24,10 +24,12 @@ use crate::nullable::Nullable;
 
 /// Each form is read from the front of a list, and nothing else is.
 pub fn forms_are_read()
-    ensures entity { (limit : ℕ) → IsReader WireFault.NeedMore (entity_at limit) (IsEntityWithin limit) }
+    ensures entity { (limit : ℕ)
+        → IsReader WireFault.NeedMore (entity_at limit) (IsEntityWithin limit) }
     ensures unsigned { IsReader WireFault.NeedMore unsigned_at IsUnsigned }
     ensures signed { IsReader WireFault.NeedMore signed_at IsSigned }
-    ensures unsigned_nullable { IsReader WireFault.NeedMore unsigned_nullable_at IsUnsignedNullable }
+    ensures unsigned_nullable { IsReader WireFault.NeedMore unsigned_nullable_at
+        IsUnsignedNullable }
     ensures signed_nullable { IsReader WireFault.NeedMore signed_nullable_at IsSignedNullable }
     ensures ascii { IsReader WireFault.NeedMore ascii_at IsAscii }
     ensures ascii_nullable { IsReader WireFault.NeedMore ascii_nullable_at IsAsciiNullable }
@@ -55,12 +57,14 @@ pub fn readings_go_on()
 pub fn forms_have_sizes()
     ensures unsigned { HasSizes IsUnsigned CanBeUnsigned unsigned_size }
     ensures signed { HasSizes IsSigned CanBeSigned signed_size }
-    ensures unsigned_nullable { HasSizes IsUnsignedNullable CanBeUnsignedNullable unsigned_nullable_size }
+    ensures unsigned_nullable { HasSizes IsUnsignedNullable CanBeUnsignedNullable
+        unsigned_nullable_size }
     ensures signed_nullable { HasSizes IsSignedNullable CanBeSignedNullable signed_nullable_size }
     ensures ascii { HasSizes IsAscii IsAsciiText ascii_size }
     ensures ascii_nullable { HasSizes IsAsciiNullable (IsNullOr IsAsciiText) ascii_nullable_size }
     ensures vector { HasSizes IsVector CanBeVector vector_size }
-    ensures vector_nullable { HasSizes IsVectorNullable (IsNullOr CanBeVector) vector_nullable_size }
+    ensures vector_nullable { HasSizes IsVectorNullable (IsNullOr CanBeVector)
+        vector_nullable_size }
 {}
 
 /// The shortest form of a larger unsigned number is not shorter; nor is that of a signed number that is farther

@@ -67,7 +67,8 @@ fn unsigned_sent(value: Nullable<u128>) -> u128
 /// Appends the shortest form of a nullable unsigned number, or answers and appends nothing. Range: one more
 /// than the number does not fit ten bytes. Memory: the one growth was refused.
 pub fn write_unsigned_nullable(value: Nullable<u128>, out: &mut Vec<u8>) -> Result<(), WireFault>
-    ensures { Writes IsUnsignedNullable (OutOfRange CanBeUnsignedNullable) out.old out.new value result }
+    ensures { Writes IsUnsignedNullable (OutOfRange CanBeUnsignedNullable) out.old out.new value
+        result }
 {
     write_unsigned(unsigned_sent(value), out)
 }
@@ -133,7 +134,8 @@ fn signed_sent(value: Nullable<i128>) -> i128
 /// Appends the shortest form of a nullable signed number, or answers and appends nothing. Range: what is sent
 /// for it, one more for a number from 0 up, does not fit ten bytes. Memory: the one growth was refused.
 pub fn write_signed_nullable(value: Nullable<i128>, out: &mut Vec<u8>) -> Result<(), WireFault>
-    ensures { Writes IsSignedNullable (OutOfRange CanBeSignedNullable) out.old out.new value result }
+    ensures { Writes IsSignedNullable (OutOfRange CanBeSignedNullable) out.old out.new value
+        result }
 {
     write_signed(signed_sent(value), out)
 }

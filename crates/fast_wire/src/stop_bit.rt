@@ -27,9 +27,11 @@ pub(crate) fn entity_end(bytes: &[u8], at: usize, limit: usize) -> Result<usize,
     requires place { at ≤ length bytes.now }
     requires some { 0 < limit }
     ensures answer { MatchResult result
-        (λ next. (at < next) × (next ≤ length bytes.now) × (next ≤ at + limit) × IsEntity (slice_range bytes.now at next))
+        (λ next. (at < next) × (next ≤ length bytes.now) × (next ≤ at + limit)
+        × IsEntity (slice_range bytes.now at next))
         (EntityFault limit bytes.now at) }
-    ensures gives { Gives NothingElse (λ next. (slice_range bytes.now at next, drop next bytes.now)) result
+    ensures gives { Gives NothingElse
+        (λ next. (slice_range bytes.now at next, drop next bytes.now)) result
         (entity_at limit (drop at bytes.now)) }
 {
     let rest = &bytes[at..];
