@@ -1,17 +1,22 @@
 -- The canonical bytes of two worked streams, part by part.
 use Rattle.std.proofs.Common.{◌≡◌, ◌≢◌, ◌∙◌, ◌+◌, ◌≤◌, ◌<◌, ◌^◌, ℕ, zero, suc, Bool, true, false, pos, negsuc, List, [], ◌∷◌, ◌++◌, length, Option, Some, None, Result, Ok, refl, sym, ap, subst, arith, lit<, lit≤, length-append, cond}
-use Rattle.std.specs.Prelude.{ℤ, codes, IsTrue}
+use Rattle.std.specs.Prelude.{ℤ, ◌+ℤ◌, codes, nat_lt, if◌then◌else◌, IsTrue}
 use Rattle.fast_template.specs.Scalar.{in_range}
+use Rattle.std.proofs.Math.IntN.{+ℤ_idl}
 use Rattle.std.specs.FinMap as finite
 use Rattle.std.specs.Ordering.{eq_by_cmp}
 use Rattle.fast_wire.specs.Entity.{IsEntity, groups}
-use Rattle.fast_wire.specs.Integer.{unsigned_of, IsUnsigned}
+use Rattle.fast_wire.specs.Integer.{unsigned_of, magnitude, IsUnsigned, IsSigned}
+use Rattle.fast_wire.specs.Sizes.{groups_from, signed_size, ascii_size}
+use Rattle.fast_wire.proofs.FormSizes.{signed_sizes, ascii_sizes}
 use Rattle.fast_wire.specs.declared.nullable.Nullable.TheVariants.{Value}
 use Rattle.fast_wire.specs.PresenceMap.{bits_of, bit_at, IsMap}
 use Rattle.fast_template.specs.Key.{key_cmp, key_cmp-total}
 use Rattle.fast_template.specs.declared.key.Key.{Key}
 use Rattle.fast_template.specs.declared.key.Scope.TheVariants.{Global}
+use Rattle.fast_template.specs.declared.kind.Kind.{Kind}
 use Rattle.fast_template.specs.declared.kind.Kind.TheVariants as kind
+use Rattle.fast_template.specs.declared.kind.Presence.{Presence}
 use Rattle.fast_template.specs.declared.kind.Presence.TheVariants.{Mandatory, Optional}
 use Rattle.fast_template.specs.declared.kind.Operator.{Operator}
 use Rattle.fast_template.specs.declared.kind.Operator.TheVariants as operator
@@ -23,9 +28,11 @@ use Rattle.fast_template.proofs.WorkedSet.{worked_set}
 use Rattle.fast_dictionary.specs.declared.entry.Entry.{Entry}
 use Rattle.fast_dictionary.specs.declared.entry.Entry.TheVariants.{Undefined, Empty, Assigned}
 use Rattle.fast_dictionary.specs.Dictionary.{Dictionary, entry_at, entry_from}
+use Rattle.fast_field.specs.declared.fault.FieldFault.{FieldFault}
 use Rattle.fast_field.specs.Bases.{predicted}
-use Rattle.fast_field.specs.Spelled.{SpellsInteger, Spelled}
-use Rattle.fast_field.specs.Deltas.{Cut, uncut}
+use Rattle.fast_field.specs.Values.{mantissa_of}
+use Rattle.fast_field.specs.Spelled.{SpellsInteger, SpellsPair, Spelled}
+use Rattle.fast_field.specs.Deltas.{Cut, uncut, SpellsDeltas, DeltaForm}
 use Rattle.fast_field.specs.Fields.{FormOf, FormBy}
 use Rattle.fast_field.specs.Best.{NoLater, IsBest}
 use Rattle.fast_field.proofs.BestForms.{bit_zero_is_best, at_end_first}
@@ -33,7 +40,7 @@ use Rattle.fast_decoder.specs.Nodes.{single, items_of, Content}
 use Rattle.fast_decoder.specs.Bodies.{State, after_part}
 use Rattle.fast_decoder.specs.Streams.{identifier}
 use Rattle.fast_decoder.proofs.Hex.{hex}
-use Rattle.fast_encoder.specs.Canonical.{IsShortestMap, CanonFrom, IsCanonical}
+use Rattle.fast_encoder.specs.Canonical.{IsShortestMap, CanonMessage, IsCanonical}
 
 entity_some : (b : List ℕ) → IsEntity b → 1 ≤ length b
 entity_some [] h = absurd h
@@ -247,5 +254,311 @@ canonical_first = (
       };
       second = (refl, refl);
     };
+  },
+)
+
+-- ---- F0 81 81 41 C2 FE 00 E4 and 80 80 81: Quote Seq=1 Sym="AB" Px=100e-2 Qty=-, and Seq=2 Px=101e-2
+
+abbrev part_of : ℕ → Kind → Presence → Operator → ℕ → List ℕ → FieldPart
+part_of number kind presence operator slot name =
+    record { number = number; part = Whole; kind = kind; presence = presence; operator = operator; initial = None; key = record { slot = slot; scope = Global; name = name; part = Whole } }
+
+abbrev seq : FieldPart
+seq = part_of 1 kind.UInt32 Mandatory operator.Increment 1 (codes "Seq")
+
+abbrev sym_part : FieldPart
+sym_part = part_of 2 kind.Ascii Mandatory operator.Copy 2 (codes "Sym")
+
+abbrev px : FieldPart
+px = part_of 3 kind.Decimal Mandatory operator.Delta 3 (codes "Px")
+
+abbrev qty : FieldPart
+qty = part_of 4 kind.UInt32 Optional operator.Copy 4 (codes "Qty")
+
+abbrev price : ℕ → Scalar
+price m = Decimal (negsuc 1) (pos m)
+
+-- no string of "AB" has fewer bytes
+sym_least : (x : List ℕ) → Spelled kind.Ascii Mandatory x (Some (Ascii (codes "AB"))) → 2 ≤ length x
+sym_least x h =
+    let same : codes "AB" ≡ h.string = let e = h.value in cc in
+    subst (λ (s : List ℕ). ascii_size s ≤ length x) (sym same) (ascii_sizes.least x h.string h.form)
+
+sym_spelled : IsBest sym_part Undefined true (hex "41 C2") (Some (Ascii (codes "AB")))
+sym_spelled =
+    spelled_best sym_part Undefined (Some (Ascii (codes "AB"))) (hex "41 C2")
+    (record { row = (refl, record { string = codes "AB"; form = record { spelled = record { entity = (lit< tt, (lit≤ tt, lit< tt)); short = lit≤ tt; value = refl }; limit = lit≤ tt }; value = refl }); within = refl })
+    (λ c x h. let none = h.2 in cc) (λ c x h. sym_least x h.1)
+
+-- a delta of a decimal is an entity and another: of these sizes at least
+signed_some : (x : List ℕ) (v : ℤ) → IsSigned x v → 1 ≤ length x
+signed_some x v h = entity_some x h.entity
+
+pair_least : (x : List ℕ) (e m : ℤ) (h : SpellsPair Mandatory x e m) (n : ℕ) → n ≤ signed_size m → 1 + n ≤ length x
+pair_least x e m h n few =
+    let front = signed_some h.front e h.exponent_form in
+    let back = signed_sizes.least h.back m h.mantissa_form in
+    let sizes = ap (λ (z : List ℕ). length z) h.parts ∙ length-append h.front h.back in
+    omega arith
+
+one_at_least : (m : ℤ) → 1 ≤ signed_size m
+unfolding signed_size groups_from
+one_at_least m = go (nat_lt (magnitude m) 64) (groups_from 8 8192 (magnitude m))
+  where
+    go : (b : Bool) (n : ℕ) → 1 ≤ (if b then 1 else suc n)
+    go true n = omega arith
+    go false n = omega arith
+
+hundred_takes_two : 2 ≤ signed_size (pos 100)
+unfolding signed_size groups_from
+hundred_takes_two = lit≤ tt
+
+abbrev as_base : Scalar → Result Scalar FieldFault
+as_base v = Ok v
+
+base_is : (v w : Scalar) → as_base v ≡ Ok w → v ≡ w
+base_is v w e = cc
+
+-- the mantissa's delta, from the base that there is
+mantissa_delta : (base : Scalar) (x : List ℕ) (c : Cut) (v : Scalar) (h : SpellsDeltas Mandatory base c x v) (m : ℕ) → v ≡ price m → mantissa_of base +ℤ h.mantissa_delta ≡ pos m
+mantissa_delta base x c v h m e = let same = sym e ∙ h.value.2 in sym (ap mantissa_of same)
+
+px_least : (x : List ℕ) (c : Cut) → DeltaForm px Undefined c x (Some (price 100)) → 3 ≤ length x
+px_least x c h =
+    let base : Decimal (pos 0) (pos 0) ≡ h.0 = base_is (Decimal (pos 0) (pos 0)) h.0 h.1 in
+    let spelled = subst (λ (w : Scalar). SpellsDeltas Mandatory w c x (price 100)) (sym base) h.2 in
+    let delta : spelled.mantissa_delta ≡ pos 100 = sym (+ℤ_idl spelled.mantissa_delta) ∙ mantissa_delta (Decimal (pos 0) (pos 0)) x c (price 100) spelled 100 refl in
+    pair_least x spelled.exponent_delta spelled.mantissa_delta spelled.form 2 (rw delta hundred_takes_two)
+
+px_spelled : IsBest px Undefined true (hex "FE 00 E4") (Some (price 100))
+px_spelled =
+    spelled_best px Undefined (Some (price 100)) (hex "FE 00 E4")
+    (record {
+      row = (Decimal (pos 0) (pos 0), refl, record {
+        exponent_delta = negsuc 1;
+        mantissa_delta = pos 100;
+        form = record {
+          front = hex "FE";
+          back = hex "00 E4";
+          parts = refl;
+          exponent_form = record { entity = (lit≤ tt, lit< tt); short = lit≤ tt; value = refl };
+          mantissa_form = record { entity = (lit< tt, (lit≤ tt, lit< tt)); short = lit≤ tt; value = refl };
+        };
+        value = (refl, refl, refl);
+        cut_is = refl;
+      });
+      within = refl;
+    })
+    (λ c x h. h) px_at_least
+  where
+    px_at_least : (c : Cut) (x : List ℕ) → DeltaForm px Undefined c x (Some (price 100)) → 3 ≤ length x
+    px_at_least c x h = px_least x c h
+
+px_again_least : (x : List ℕ) (c : Cut) → DeltaForm px (Assigned (price 100)) c x (Some (price 101)) → 2 ≤ length x
+px_again_least x c h =
+    let base : price 100 ≡ h.0 = base_is (price 100) h.0 h.1 in
+    let spelled = subst (λ (w : Scalar). SpellsDeltas Mandatory w c x (price 101)) (sym base) h.2 in
+    pair_least x spelled.exponent_delta spelled.mantissa_delta spelled.form 1 (one_at_least spelled.mantissa_delta)
+
+px_again : IsBest px (Assigned (price 100)) true (hex "80 81") (Some (price 101))
+px_again =
+    spelled_best px (Assigned (price 100)) (Some (price 101)) (hex "80 81")
+    (record {
+      row = (price 100, refl, record {
+        exponent_delta = pos 0;
+        mantissa_delta = pos 1;
+        form = record {
+          front = hex "80";
+          back = hex "81";
+          parts = refl;
+          exponent_form = record { entity = (lit≤ tt, lit< tt); short = lit≤ tt; value = refl };
+          mantissa_form = record { entity = (lit≤ tt, lit< tt); short = lit≤ tt; value = refl };
+        };
+        value = (refl, refl, refl);
+        cut_is = refl;
+      });
+      within = refl;
+    })
+    (λ c x h. h) (λ c x h. px_again_least x c h)
+
+abbrev q0 : State
+q0 = before finite.empty 0xf0
+
+abbrev q1 : State
+q1 = after_part identifier q0 (Some (U32 1))
+
+abbrev q2 : State
+q2 = after_part seq q1 (Some (U32 1))
+
+abbrev q3 : State
+q3 = after_part sym_part q2 (Some (Ascii (codes "AB")))
+
+abbrev q4 : State
+q4 = after_part px q3 (Some (price 100))
+
+abbrev q5 : State
+q5 = after_part qty q4 None
+
+abbrev r0 : State
+r0 = before q5.dictionary 0x80
+
+abbrev r1 : State
+r1 = after_part identifier r0 (Some (U32 1))
+
+abbrev r2 : State
+r2 = after_part seq r1 (Some (U32 2))
+
+abbrev r3 : State
+r3 = after_part sym_part r2 (Some (Ascii (codes "AB")))
+
+abbrev r4 : State
+r4 = after_part px r3 (Some (price 101))
+
+abbrev r5 : State
+r5 = after_part qty r4 None
+
+no_seq : entry_at q1.dictionary seq.key ≡ Undefined
+no_seq = simp (absent_there, put_there)
+
+no_sym : entry_at q2.dictionary sym_part.key ≡ Undefined
+no_sym = simp (absent_there, put_there)
+
+no_px : entry_at q3.dictionary px.key ≡ Undefined
+no_px = simp (absent_there, put_there)
+
+no_qty : entry_at q4.dictionary qty.key ≡ Undefined
+no_qty = simp (absent_there, put_there)
+
+same_quote : entry_at r0.dictionary identifier.key ≡ Assigned (U32 1)
+same_quote = simp put_there
+
+next_seq : entry_at r1.dictionary seq.key ≡ Assigned (U32 1)
+next_seq = simp put_there
+
+same_sym : entry_at r2.dictionary sym_part.key ≡ Assigned (Ascii (codes "AB"))
+same_sym = simp put_there
+
+next_px : entry_at r3.dictionary px.key ≡ Assigned (price 100)
+next_px = simp put_there
+
+empty_qty : entry_at r4.dictionary qty.key ≡ Empty
+empty_qty = simp put_there
+
+abbrev quote : ℕ → ℕ → Content
+quote n m = record { template = 1; items = items_of (single (Some (U32 n)) ∷ single (Some (Ascii (codes "AB"))) ∷ single (Some (price m)) ∷ single None ∷ []) }
+
+-- absent by bit 0
+qty_absent : (d : Dictionary) (e : Entry) → entry_at d qty.key ≡ e → FormBy qty e false uncut [] None → IsBest qty (entry_at d qty.key) false [] None
+qty_absent d e is form = subst (λ (x : Entry). IsBest qty x false [] None) (sym is) (bit_zero_is_best qty e None form)
+
+quote_one : CanonMessage worked_set finite.empty (hex "F0 81 81 41 C2 FE 00 E4") (quote 1 100) q5.dictionary
+quote_one = record {
+  few = lit≤ tt;
+  segment = record {
+    bits = q0.bits;
+    left = q5.bits;
+    map = hex "F0";
+    body = hex "81 81 41 C2 FE 00 E4";
+    parts = refl;
+    map_form = one_byte_map 0xf0 3 q0.bits (lit≤ tt) (lit< tt) refl;
+    inside = record {
+      between = q1;
+      front = hex "81";
+      back = hex "81 41 C2 FE 00 E4";
+      parts = refl;
+      first = (undefined_at identifier q0.dictionary (hex "81") (Some (U32 1)) no_identifier (copied_byte 0 0 [] 0x81 1 (lit≤ tt) (lit< tt) refl (lit< tt)), refl);
+      second = record {
+        between = q2;
+        front = hex "81";
+        back = hex "41 C2 FE 00 E4";
+        parts = refl;
+        first = (undefined_at seq q1.dictionary (hex "81") (Some (U32 1)) no_seq (incremented_byte 1 1 (codes "Seq") 0x81 1 (lit≤ tt) (lit< tt) refl (lit< tt)), refl);
+        second = record {
+          between = q3;
+          front = hex "41 C2";
+          back = hex "FE 00 E4";
+          parts = refl;
+          first = (undefined_at sym_part q2.dictionary (hex "41 C2") (Some (Ascii (codes "AB"))) no_sym sym_spelled, refl);
+          second = record {
+            between = q4;
+            front = hex "FE 00 E4";
+            back = [];
+            parts = refl;
+            first = (undefined_at px q3.dictionary (hex "FE 00 E4") (Some (price 100)) no_px px_spelled, refl);
+            second = record {
+              between = q5;
+              front = [];
+              back = [];
+              parts = refl;
+              first = (qty_absent q4.dictionary Undefined no_qty (record { row = (refl, refl, refl); within = tt }), refl);
+              second = (refl, refl);
+            };
+          };
+        };
+      };
+    };
+  };
+}
+
+quote_two : CanonMessage worked_set q5.dictionary (hex "80 80 81") (quote 2 101) r5.dictionary
+quote_two = record {
+  few = lit≤ tt;
+  segment = record {
+    bits = r0.bits;
+    left = r5.bits;
+    map = hex "80";
+    body = hex "80 81";
+    parts = refl;
+    map_form = one_byte_map 0x80 3 r0.bits (lit≤ tt) (lit< tt) refl;
+    inside = record {
+      between = r1;
+      front = [];
+      back = hex "80 81";
+      parts = refl;
+      first = (assigned_at identifier r0.dictionary (U32 1) (Some (U32 1)) same_quote (record { row = (refl, refl, refl); within = refl }), refl);
+      second = record {
+        between = r2;
+        front = [];
+        back = hex "80 81";
+        parts = refl;
+        first = (assigned_at seq r1.dictionary (U32 1) (Some (U32 2)) next_seq (record { row = (refl, refl, refl); within = refl }), refl);
+        second = record {
+          between = r3;
+          front = [];
+          back = hex "80 81";
+          parts = refl;
+          first = (assigned_at sym_part r2.dictionary (Ascii (codes "AB")) (Some (Ascii (codes "AB"))) same_sym (record { row = (refl, refl, refl); within = refl }), refl);
+          second = record {
+            between = r4;
+            front = hex "80 81";
+            back = [];
+            parts = refl;
+            first = (subst (λ (e : Entry). IsBest px e true (hex "80 81") (Some (price 101))) (sym next_px) px_again, refl);
+            second = record {
+              between = r5;
+              front = [];
+              back = [];
+              parts = refl;
+              first = (qty_absent r4.dictionary Empty empty_qty (record { row = (refl, refl, refl); within = tt }), refl);
+              second = (refl, refl);
+            };
+          };
+        };
+      };
+    };
+  };
+}
+
+-- F0 81 81 41 C2 FE 00 E4 80 80 81
+canonical_quotes : IsCanonical worked_set (quote 1 100 ∷ quote 2 101 ∷ []) (hex "F0 81 81 41 C2 FE 00 E4 80 80 81")
+canonical_quotes = (
+  r5.dictionary,
+  record {
+    between = q5.dictionary;
+    front = hex "F0 81 81 41 C2 FE 00 E4";
+    back = hex "80 80 81";
+    parts = refl;
+    first = quote_one;
+    second = record { between = r5.dictionary; front = hex "80 80 81"; back = []; parts = refl; first = quote_two; second = (refl, refl) };
   },
 )
