@@ -1,14 +1,10 @@
 -- The reading functions of pieces and bodies read their forms, and stop exactly at their faults.
-use Rattle.std.proofs.Common.{◌≡◌, ◌≢◌, ℕ, zero, suc, ◌+◌, ℤ, Bool, true, false, List, [], ◌∷◌, ◌++◌, length, drop, Option, Some, None, Result, Ok, Err, refl, sym, ap, subst, ◌∙◌, ◌⊎◌, inl, inr, arith, append-nil, zero-add, IsTrue}
-use Rattle.std.proofs.lemmas.List.{length-append}
-use Rattle.fast_wire.specs.Reader.{IsBytes}
-use Rattle.fast_wire.specs.Entity.{HasNoStop}
+use Rattle.std.proofs.Common.{◌≡◌, ℕ, zero, suc, ◌+◌, ℤ, Bool, true, false, List, [], ◌++◌, length, drop, Option, Some, None, Result, Ok, Err, refl, sym, ap, subst, ◌∙◌, ◌⊎◌, inl, inr, arith, append-nil, zero-add, IsTrue}
 use Rattle.fast_wire.specs.PresenceMap.{IsWholeMap}
-use Rattle.fast_wire.specs.Reading.{◌>>=◌, EntityFault, entity_at, map_at}
+use Rattle.fast_wire.specs.Reading.{◌>>=◌, map_at}
 use Rattle.fast_wire.specs.declared.fault.WireFault.{WireFault}
 use Rattle.fast_wire.specs.declared.fault.WireFault.TheVariants as wire
 use Rattle.fast_wire.proofs.FormReaders.{map_forms}
-use Rattle.fast_template.specs.declared.kind.Kind.{Kind}
 use Rattle.fast_template.specs.declared.kind.Kind.TheVariants as kind
 use Rattle.fast_template.specs.declared.kind.Presence.{Presence}
 use Rattle.fast_template.specs.declared.kind.Presence.TheVariants.{Mandatory}
@@ -25,14 +21,12 @@ use Rattle.fast_field.specs.Fields.{Form}
 use Rattle.fast_field.specs.Parts.{HasDefault}
 use Rattle.fast_field.specs.FieldReading.{field_at}
 use Rattle.fast_field.proofs.FieldForms.{field_forms}
-use Rattle.fast_decoder.specs.declared.fault.Cause.{Cause}
-use Rattle.fast_decoder.specs.declared.fault.Cause.TheVariants.{Truncated}
 use Rattle.fast_decoder.specs.Nodes.{Item, single, group_items, sequence_elements, Items, no_items, then_item, Elements, no_elements, then_element, element_count, nodes_of, nodes_in, nodes_in_elements}
 use Rattle.fast_decoder.specs.Bits.{bit_for, after_bit, takes}
-use Rattle.fast_decoder.specs.Bodies.{State, Then, Each, WithMap, PartBy, SegmentBy, PieceBy, BodyBy, after_part}
+use Rattle.fast_decoder.specs.Bodies.{State, Then, Each, SegmentBy, PieceBy, BodyBy, after_part}
 use Rattle.fast_decoder.specs.Streams.{AnyMap}
-use Rattle.fast_decoder.specs.Faults.{cause_of_wire, cause_of_field, Stop, StopsAt, MapFault, PartStops, NodeStops, SegmentStops, Part, Passed, EachStops, PieceStops, BodyStops}
-use Rattle.fast_decoder.specs.Reading.{Cursor, state_of, Reads, stopped, placed, node_at, field_part_at, decimal_of, mantissa_at, own_map_at, segment_at, each_at, elements_at, group_at, behind_bit, piece_at, body_at}
+use Rattle.fast_decoder.specs.Faults.{cause_of_wire, cause_of_field, Stop, StopsAt, PartStops, SegmentStops, Part, Passed, EachStops, PieceStops, BodyStops}
+use Rattle.fast_decoder.specs.Reading.{Cursor, state_of, Reads, placed, node_at, field_part_at, decimal_of, mantissa_at, segment_at, each_at, elements_at, group_at, behind_bit, piece_at, body_at}
 use Rattle.fast_decoder.specs.Readers.{cursor, IsPieceReader}
 use Rattle.fast_decoder.proofs.Leaves.{bits_taken_are}
 use Rattle.fast_decoder.proofs.MapFaults.{map_refused, map_faulty}

@@ -1,6 +1,6 @@
 -- Bytes as the tables of FAST write them.
-use Rattle.std.proofs.Common.{ℕ, ◌+◌, ◌-◌, ◌*◌, List, [], ◌∷◌, zero, suc}
-use Rattle.std.specs.Prelude.{codes, nat_lt, nat_eq, if◌then◌else◌}
+use Rattle.std.proofs.Common.{ℕ, ◌+◌, ◌-◌, ◌*◌, List, [], ◌∷◌}
+use Rattle.std.specs.Prelude.{codes, nat_lt, if◌then◌else◌}
 use Prim.Native.String.{String}
 
 -- the value of a digit, in upper case

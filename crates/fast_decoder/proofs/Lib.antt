@@ -8,3 +8,4 @@ pub mod BodyReaders
 pub mod MessageReaders
 pub mod StreamReaders
 pub mod Leaves
+mod SameNodes

@@ -1,5 +1,5 @@
 -- The reading function of messages reads their forms, and stops exactly at their faults.
-use Rattle.std.proofs.Common.{◌≡◌, ◌≢◌, ℕ, zero, suc, ◌+◌, ◌-◌, ◌≤◌, Bool, true, false, List, [], ◌∷◌, ◌++◌, length, Option, Some, None, Result, Ok, Err, refl, sym, ap, subst, ◌∙◌, ◌⊎◌, inl, inr, arith, append_assoc, append-nil, zero-add, length-append}
+use Rattle.std.proofs.Common.{◌≡◌, ◌≢◌, ℕ, ◌+◌, ◌-◌, ◌≤◌, Bool, true, false, List, [], ◌∷◌, ◌++◌, length, Option, Some, None, Result, Ok, Err, refl, sym, ap, subst, ◌∙◌, inl, inr, arith, append_assoc, zero-add, length-append}
 use Rattle.std.specs.Prelude.{find, option_map, if◌then◌else◌}
 use Rattle.std.specs.List.{AllByRecursion}
 use Rattle.fast_wire.specs.Reader.{IsBytes}
@@ -8,7 +8,7 @@ use Rattle.fast_wire.specs.Reading.{◌>>=◌, map_at}
 use Rattle.fast_wire.specs.declared.fault.WireFault.{WireFault}
 use Rattle.fast_wire.specs.declared.fault.WireFault.TheVariants as wire
 use Rattle.fast_wire.proofs.FormReaders.{map_forms}
-use Rattle.fast_wire.proofs.Readers.{ok_is, bind_ok, Failed, at_first, at_second, bind_err}
+use Rattle.fast_wire.proofs.Readers.{ok_is, bind_ok, at_first, at_second, bind_err}
 use Rattle.fast_template.specs.declared.scalar.Scalar.{Scalar}
 use Rattle.fast_template.specs.declared.scalar.Scalar.TheVariants.{U32, I32, U64, I64, Decimal, Ascii, Unicode, Bytes}
 use Rattle.fast_template.specs.declared.resolved.FieldPart.{FieldPart}
@@ -16,13 +16,12 @@ use Rattle.fast_template.specs.Resolved.{Instructions, Resolved}
 use Rattle.fast_template.specs.TemplateSets.{IsTyped, HaveTypedParts, has_id}
 use Rattle.fast_dictionary.specs.Dictionary.{Dictionary}
 use Rattle.fast_field.proofs.ValueKinds.{value_kind, value_there}
-use Rattle.fast_decoder.specs.declared.fault.Cause.{Cause}
 use Rattle.fast_decoder.specs.declared.fault.Cause.TheVariants.{D9, Truncated}
 use Rattle.fast_decoder.specs.Nodes.{Items, Content, nodes_in, node_limit}
-use Rattle.fast_decoder.specs.Bodies.{State, Then}
+use Rattle.fast_decoder.specs.Bodies.{State}
 use Rattle.fast_decoder.specs.Streams.{members_of, identifier, Body, MessageForm}
-use Rattle.fast_decoder.specs.Faults.{cause_of_wire, Stop, MessageStop, StopsAt, PartFault, Part, Passed, BodyStops, IdentifierFault, InBody, MessageStops, in_map, in_identifier, in_body}
-use Rattle.fast_decoder.specs.Reading.{Cursor, state_of, Reads, placed, field_part_at, own_map_at, body_at, Named, known, named_at, head_at, in_template, message_at}
+use Rattle.fast_decoder.specs.Faults.{cause_of_wire, Stop, MessageStop, StopsAt, Part, BodyStops, IdentifierFault, InBody, MessageStops, in_map, in_identifier, in_body}
+use Rattle.fast_decoder.specs.Reading.{Cursor, state_of, Reads, placed, field_part_at, body_at, Named, known, named_at, head_at, in_template, message_at}
 use Rattle.fast_decoder.specs.Readers.{cursor, further, further_on, Passes, IsPieceReader, MessagePasses, IsMessageReader}
 use Rattle.fast_decoder.proofs.PieceReaders.{Forms, Stopping, Bound, BoundStops, placed_reader, bound_reader, stop_is, fails_as}
 use Rattle.fast_decoder.proofs.MapFaults.{map_refused, map_faulty}
@@ -161,14 +160,17 @@ module _ (set : List Resolved) where
         let u = unknown_at s spare bytes stop x fits g h in
         id_stopped_of s spare (bytes ++ more) (further (length more) stop) (ap (λ (y : Stop). y.instruction) (sym u.stop_is))
         (ap (λ (y : Stop). y.left + length more) (sym u.stop_is) ∙ sym (length-append bytes more))
-        (inr (ap (λ (y : Stop). y.cause) (sym u.stop_is), record {
-          between = u.id;
-          front = u.passes.front;
-          back = u.behind.bytes ++ more;
-          parts = ap (λ (z : List ℕ). z ++ more) u.passes.parts ∙ append_assoc u.passes.front u.behind.bytes more;
-          first = (state_of u.behind, u.passes.form);
-          second = u.unknown;
-        }))
+        (inr (
+          ap (λ (y : Stop). y.cause) (sym u.stop_is),
+          record {
+            between = u.id;
+            front = u.passes.front;
+            back = u.behind.bytes ++ more;
+            parts = ap (λ (z : List ℕ). z ++ more) u.passes.parts ∙ append_assoc u.passes.front u.behind.bytes more;
+            first = (state_of u.behind, u.passes.form);
+            second = u.unknown;
+          },
+        ))
   ]
 
   pub id_reader : IsPieceReader (λ (_ : Named). 0) IdForm IdStopping ident

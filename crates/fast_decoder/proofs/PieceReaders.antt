@@ -1,14 +1,14 @@
 -- How readers of pieces are put together.
-use Rattle.std.proofs.Common.{◌≡◌, ◌≢◌, ℕ, zero, suc, ◌+◌, Bool, true, false, List, [], ◌∷◌, ◌++◌, length, Result, Ok, Err, refl, sym, ap, subst, ◌∙◌, ◌⊎◌, inl, inr, arith, append_assoc, append-nil, zero-add, length-append}
+use Rattle.std.proofs.Common.{◌≡◌, ◌≢◌, ℕ, zero, suc, ◌+◌, Bool, List, [], ◌++◌, length, Result, Ok, Err, refl, sym, ap, subst, ◌∙◌, ◌⊎◌, inl, inr, arith, append_assoc, zero-add, length-append}
 use Rattle.fast_wire.specs.Reader.{IsBytes, IsReader}
 use Rattle.fast_wire.specs.Reading.{◌>>=◌}
-use Rattle.fast_wire.proofs.Readers.{ok_is, bind_ok, Failed, at_first, at_second, bind_err}
+use Rattle.fast_wire.proofs.Readers.{ok_is, bind_ok, at_first, at_second, bind_err}
 use Rattle.fast_decoder.specs.declared.fault.Cause.{Cause}
 use Rattle.fast_decoder.specs.declared.fault.Cause.TheVariants.{Limit, Truncated}
 use Rattle.fast_dictionary.specs.Dictionary.{Dictionary}
 use Rattle.fast_decoder.specs.Bodies.{State, Then}
 use Rattle.fast_decoder.specs.Faults.{Stop, StopsAt, NodeStops, Passed}
-use Rattle.fast_decoder.specs.Reading.{Cursor, state_of, Reads, stopped, placed, node_at}
+use Rattle.fast_decoder.specs.Reading.{Cursor, state_of, Reads, placed, node_at}
 use Rattle.fast_decoder.specs.Readers.{cursor, further, Passes, IsPieceReader}
 
 abbrev pub Forms : Type 0 → Type 1

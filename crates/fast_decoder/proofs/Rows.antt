@@ -14,7 +14,7 @@ use Rattle.fast_field.specs.FieldReading.{integer_at, part_at, units_at, integer
 use Rattle.fast_decoder.specs.declared.fault.Cause.{Cause}
 use Rattle.fast_decoder.specs.declared.fault.Cause.TheVariants.{D2, D4, D5, D6, D7, D9, R1, R2, Truncated, Limit}
 use Rattle.fast_decoder.specs.declared.fault.Fault.{Fault}
-use Rattle.fast_decoder.specs.Nodes.{Item, single, group_items, sequence_elements, items_of, elements_of, Content}
+use Rattle.fast_decoder.specs.Nodes.{Item, single, group_items, sequence_elements, items_of, elements_of, Content, node_limit}
 use Rattle.fast_decoder.specs.Faults.{MessageStop}
 use Rattle.fast_decoder.specs.Reading.{Cursor, field_part_at, body_at, head_at, message_at, StreamReading, messages_at, stream_at, fault_in}
 use Rattle.std.specs.Str.{is_utf8, chars}
@@ -607,3 +607,7 @@ parts_count_once = refl
 no_node_for_parts : body_at (resolved 3 opt).members (under_bits (false ∷ true ∷ []) 0 (0x39 ∷ 0x45 ∷ 0xa3 ∷ [])) ≡ Err (record { cause = Limit; instruction = 1; left = 3 })
 unfolding reading
 no_node_for_parts = refl
+
+-- a message has at most so many nodes
+limit_of_nodes : node_limit ≡ 65536
+limit_of_nodes = refl

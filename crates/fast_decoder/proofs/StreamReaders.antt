@@ -13,7 +13,6 @@ use Rattle.fast_decoder.specs.declared.fault.Cause.TheVariants.{Truncated}
 use Rattle.fast_decoder.specs.declared.fault.Fault.{Fault}
 use Rattle.fast_decoder.specs.declared.place.Place.{Place}
 use Rattle.fast_decoder.specs.Nodes.{Content}
-use Rattle.fast_decoder.specs.Bodies.{Then}
 use Rattle.fast_decoder.specs.Streams.{MessageForm, Carries, CarriesFrom}
 use Rattle.fast_decoder.specs.Faults.{MessageStop, MessageStops, place_of, FirstFault}
 use Rattle.fast_decoder.specs.Readers.{MessagePasses}

@@ -8,7 +8,7 @@ use Rattle.fast_template.specs.declared.scalar.Scalar.TheVariants.{U32, I32, I64
 use Rattle.fast_template.specs.declared.resolved.FieldPart.{FieldPart}
 use Rattle.fast_template.specs.Resolved.{Instruction, Instructions, whole_field, field_in_parts, group_of, sequence_of, no_instructions, then_instruction, part_needs_bit, is_optional, has_map}
 use Rattle.fast_dictionary.specs.declared.entry.Entry.{Entry}
-use Rattle.fast_dictionary.specs.declared.entry.Entry.TheVariants.{Undefined, Empty, Assigned}
+use Rattle.fast_dictionary.specs.declared.entry.Entry.TheVariants.{Undefined}
 use Rattle.fast_dictionary.specs.Dictionary.{Dictionary, entry_at, value_in}
 use Rattle.fast_field.specs.Bases.{next}
 use Rattle.fast_decoder.specs.Nodes.{Item, single, group_items, sequence_elements, Items, no_items, then_item, Elements, no_elements, then_element, element_count}

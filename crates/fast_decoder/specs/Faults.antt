@@ -1,6 +1,6 @@
 -- The first fault of a stream.
 -- FAST 1.1, Error Handling. Which check comes first, the places and the limits are this project's own.
-use Rattle.std.specs.Prelude.{◌≡◌, ◌<◌, ℕ, zero, suc, ◌+◌, ◌-◌, ℤ, Bool, true, false, List, [], ◌++◌, length, Option, Some, None, Err, ◌⊎◌}
+use Rattle.std.specs.Prelude.{◌≡◌, ◌<◌, ℕ, zero, suc, ◌+◌, ◌-◌, ℤ, Bool, true, false, List, [], ◌++◌, length, Option, Some, None, ◌⊎◌}
 use Rattle.std.specs.FinMap as map
 use Rattle.fast_template.specs.declared.scalar.Scalar.{Scalar}
 use Rattle.fast_template.specs.declared.scalar.Scalar.TheVariants.{U32, I32}

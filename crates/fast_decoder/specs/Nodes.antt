@@ -1,6 +1,6 @@
 -- Messages, without where they lie in memory.
 -- FAST 1.1, Templates, Application Messages. The limit of nodes is this project's own.
-use Rattle.std.specs.Prelude.{ℕ, ◌+◌, List, [], ◌∷◌, map, Option, Some, None}
+use Rattle.std.specs.Prelude.{◌≡◌, ℕ, ◌+◌, List, [], ◌∷◌, map, Option, Some, None}
 use Rattle.fast_template.specs.declared.scalar.Scalar.{Scalar}
 use Rattle.fast_decoder.specs.declared.message.Message.{Message}
 use Rattle.fast_decoder.specs.declared.message.Node.{Node, fold-Node}
@@ -42,6 +42,14 @@ node_step Node-F.Absent = single None
 node_step (Node-F.Value v) = single (Some v)
 node_step (Node-F.Group ns) = group_items (items_of ns.items)
 node_step (Node-F.Sequence es) = sequence_elements (elements_of (map (λ e. items_of e.items) es.items))
+
+-- two nodes of one level are the same but for where they lie in memory
+abbrev pub AreAlike : Node-F Item → Node-F Item → Type 0
+AreAlike Node-F.Absent Node-F.Absent = Unit {0}
+AreAlike (Node-F.Value v) (Node-F.Value w) = v ≡ w
+AreAlike (Node-F.Group ns) (Node-F.Group ms) = ns.items ≡ ms.items
+AreAlike (Node-F.Sequence es) (Node-F.Sequence fs) = map (λ e. e.items) es.items ≡ map (λ e. e.items) fs.items
+AreAlike a b = ⊥
 
 abbrev pub item_of : Node → Item
 item_of = fold-Node Item node_step

@@ -8,7 +8,8 @@ ghost use Rattle.fast_dictionary.specs.Dictionary.{Dictionary};
 ghost use Rattle.fast_decoder.specs.declared.fault.Cause.{Cause};
 ghost use Rattle.fast_decoder.specs.declared.fault.Fault.{Fault};
 ghost use Rattle.fast_decoder.specs.declared.place.Place.{Place};
-ghost use Rattle.fast_decoder.specs.Nodes.{Items, Content, nodes_in};
+ghost use Rattle.fast_decoder.specs.declared.message.Node.TheOpen.{Node-F};
+ghost use Rattle.fast_decoder.specs.Nodes.{AreAlike, Item, Items, Content, node_step, nodes_in};
 ghost use Rattle.fast_decoder.specs.Bits.{takes};
 ghost use Rattle.fast_decoder.specs.Bodies.{State};
 ghost use Rattle.fast_decoder.specs.Streams.{Body, Carries, CarriesFrom};
@@ -23,7 +24,7 @@ use crate::fault::Cause;
 pub fn bodies_are_read()
     ensures { (members : Instructions) → HaveTypedParts members
         → IsPieceReader nodes_in (λ s b ns t. Body members s b ns t)
-            (λ s spare rest stop. BodyStops members s spare rest stop) (body_at members) }
+        (λ s spare rest stop. BodyStops members s spare rest stop) (body_at members) }
 {}
 
 /// The same of messages.
@@ -59,7 +60,7 @@ pub fn one_reading()
 pub fn carried_or_refused()
     ensures one_of_the_two { (set : TemplateList) (stream : List ℕ) → IsSound set → IsBytes stream
         → ((messages : List Content) × Carries (templates_in set) stream messages)
-            ⊎ ((place : Place) × (cause : Cause) × FirstFault (templates_in set) stream place cause) }
+        ⊎ ((place : Place) × (cause : Cause) × FirstFault (templates_in set) stream place cause) }
     ensures not_both { (set : TemplateList) (stream : List ℕ) (messages : List Content) (place : Place)
         (cause : Cause) → IsSound set → Carries (templates_in set) stream messages
         → FirstFault (templates_in set) stream place cause → ⊥ }
@@ -89,4 +90,10 @@ pub fn bits_are_taken()
     // a list that asks for no map takes none
     ensures none { (members : Instructions) (items : Items) → has_map members ≡ false
         → takes members items ≡ 0 }
+{}
+
+/// What contracts see of a message's nodes is faithful, level by level: nodes that are seen as the same are the same
+/// but for where they lie in memory.
+pub fn contents_are_faithful()
+    ensures { (a b : Node-F Item) → node_step a ≡ node_step b → AreAlike a b }
 {}

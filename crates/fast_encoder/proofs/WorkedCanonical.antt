@@ -1,16 +1,16 @@
 -- The canonical bytes of two worked streams, part by part.
-use Rattle.std.proofs.Common.{◌≡◌, ◌≢◌, ◌∙◌, ◌+◌, ◌≤◌, ◌<◌, ◌^◌, ℕ, zero, suc, Bool, true, false, pos, negsuc, List, [], ◌∷◌, ◌++◌, length, Option, Some, None, Result, Ok, refl, sym, ap, subst, arith, lit<, lit≤, length-append, cond}
+use Rattle.std.proofs.Common.{◌≡◌, ◌∙◌, ◌+◌, ◌≤◌, ◌<◌, ◌^◌, ℕ, zero, suc, Bool, true, false, pos, negsuc, List, [], ◌∷◌, length, Option, Some, None, Result, Ok, refl, sym, ap, subst, arith, lit<, lit≤, length-append, cond}
 use Rattle.std.specs.Prelude.{ℤ, ◌+ℤ◌, codes, nat_lt, if◌then◌else◌, IsTrue}
 use Rattle.fast_template.specs.Scalar.{in_range}
 use Rattle.std.proofs.Math.IntN.{+ℤ_idl}
 use Rattle.std.specs.FinMap as finite
 use Rattle.std.specs.Ordering.{eq_by_cmp}
 use Rattle.fast_wire.specs.Entity.{IsEntity, groups}
-use Rattle.fast_wire.specs.Integer.{unsigned_of, magnitude, IsUnsigned, IsSigned}
+use Rattle.fast_wire.specs.Integer.{unsigned_of, magnitude, IsSigned}
 use Rattle.fast_wire.specs.Sizes.{groups_from, signed_size, ascii_size}
 use Rattle.fast_wire.proofs.FormSizes.{signed_sizes, ascii_sizes}
 use Rattle.fast_wire.specs.declared.nullable.Nullable.TheVariants.{Value}
-use Rattle.fast_wire.specs.PresenceMap.{bits_of, bit_at, IsMap}
+use Rattle.fast_wire.specs.PresenceMap.{bits_of, bit_at}
 use Rattle.fast_template.specs.Key.{key_cmp, key_cmp-total}
 use Rattle.fast_template.specs.declared.key.Key.{Key}
 use Rattle.fast_template.specs.declared.key.Scope.TheVariants.{Global}
@@ -27,9 +27,8 @@ use Rattle.fast_template.specs.declared.resolved.FieldPart.{FieldPart}
 use Rattle.fast_template.proofs.WorkedSet.{worked_set}
 use Rattle.fast_dictionary.specs.declared.entry.Entry.{Entry}
 use Rattle.fast_dictionary.specs.declared.entry.Entry.TheVariants.{Undefined, Empty, Assigned}
-use Rattle.fast_dictionary.specs.Dictionary.{Dictionary, entry_at, entry_from}
+use Rattle.fast_dictionary.specs.Dictionary.{Dictionary, entry_at}
 use Rattle.fast_field.specs.declared.fault.FieldFault.{FieldFault}
-use Rattle.fast_field.specs.Bases.{predicted}
 use Rattle.fast_field.specs.Values.{mantissa_of}
 use Rattle.fast_field.specs.Spelled.{SpellsInteger, SpellsPair, Spelled}
 use Rattle.fast_field.specs.Deltas.{Cut, uncut, SpellsDeltas, DeltaForm}
@@ -334,19 +333,23 @@ px_spelled : IsBest px Undefined true (hex "FE 00 E4") (Some (price 100))
 px_spelled =
     spelled_best px Undefined (Some (price 100)) (hex "FE 00 E4")
     (record {
-      row = (Decimal (pos 0) (pos 0), refl, record {
-        exponent_delta = negsuc 1;
-        mantissa_delta = pos 100;
-        form = record {
-          front = hex "FE";
-          back = hex "00 E4";
-          parts = refl;
-          exponent_form = record { entity = (lit≤ tt, lit< tt); short = lit≤ tt; value = refl };
-          mantissa_form = record { entity = (lit< tt, (lit≤ tt, lit< tt)); short = lit≤ tt; value = refl };
-        };
-        value = (refl, refl, refl);
-        cut_is = refl;
-      });
+      row = (
+        Decimal (pos 0) (pos 0),
+        refl,
+        record {
+          exponent_delta = negsuc 1;
+          mantissa_delta = pos 100;
+          form = record {
+            front = hex "FE";
+            back = hex "00 E4";
+            parts = refl;
+            exponent_form = record { entity = (lit≤ tt, lit< tt); short = lit≤ tt; value = refl };
+            mantissa_form = record { entity = (lit< tt, (lit≤ tt, lit< tt)); short = lit≤ tt; value = refl };
+          };
+          value = (refl, refl, refl);
+          cut_is = refl;
+        },
+      );
       within = refl;
     })
     (λ c x h. h) px_at_least
@@ -364,19 +367,23 @@ px_again : IsBest px (Assigned (price 100)) true (hex "80 81") (Some (price 101)
 px_again =
     spelled_best px (Assigned (price 100)) (Some (price 101)) (hex "80 81")
     (record {
-      row = (price 100, refl, record {
-        exponent_delta = pos 0;
-        mantissa_delta = pos 1;
-        form = record {
-          front = hex "80";
-          back = hex "81";
-          parts = refl;
-          exponent_form = record { entity = (lit≤ tt, lit< tt); short = lit≤ tt; value = refl };
-          mantissa_form = record { entity = (lit≤ tt, lit< tt); short = lit≤ tt; value = refl };
-        };
-        value = (refl, refl, refl);
-        cut_is = refl;
-      });
+      row = (
+        price 100,
+        refl,
+        record {
+          exponent_delta = pos 0;
+          mantissa_delta = pos 1;
+          form = record {
+            front = hex "80";
+            back = hex "81";
+            parts = refl;
+            exponent_form = record { entity = (lit≤ tt, lit< tt); short = lit≤ tt; value = refl };
+            mantissa_form = record { entity = (lit≤ tt, lit< tt); short = lit≤ tt; value = refl };
+          };
+          value = (refl, refl, refl);
+          cut_is = refl;
+        },
+      );
       within = refl;
     })
     (λ c x h. h) (λ c x h. px_again_least x c h)
