@@ -11,3 +11,4 @@ pub mod Transcripts
 pub mod Runs
 pub mod Canonical
 pub mod LawProofs
+mod ServedRows
