@@ -1,6 +1,6 @@
 -- Streams of the worked templates as the relations see them. Two are shown part by part; the others stand on what reading
 -- computes of them, by the laws that join reading and the relations.
-use Rattle.std.proofs.Common.{◌≡◌, ℕ, List, [], ◌∷◌, Option, Some, None, pos, refl, ap, lit<, lit≤, inl, ◌∙◌, ◌&&◌, Bool, true, false, true≢false, sym, length, arith}
+use Rattle.std.proofs.Common.{◌+◌, ◌≡◌, ℕ, List, [], ◌∷◌, Option, Some, None, pos, refl, ap, lit<, lit≤, inl, ◌∙◌, ◌&&◌, Bool, true, false, true≢false, sym, length, arith}
 use Rattle.std.specs.Prelude.{codes, nat_lt, option_map, replicate}
 use Rattle.std.specs.List.{list_all}
 use Rattle.fast_wire.specs.Reader.{IsBytes}
@@ -30,7 +30,8 @@ use Rattle.fast_decoder.specs.declared.fault.Fault.{Fault}
 use Rattle.fast_decoder.specs.Nodes.{single, items_of, Content}
 use Rattle.fast_decoder.specs.Bodies.{State, after_part}
 use Rattle.fast_decoder.specs.Streams.{identifier, Carries}
-use Rattle.fast_decoder.specs.Faults.{FirstFault, in_identifier, MessageStop, place_of}
+use Rattle.fast_decoder.specs.Faults.{FirstFault, EndsBetween, in_identifier, MessageStop, place_of}
+use Rattle.fast_decoder.specs.declared.place.Place.{Place}
 use Rattle.fast_decoder.specs.Reading.{StreamReading, stream_at, fault_in}
 use Rattle.fast_decoder.proofs.StreamReaders.{read_is_carried, answered_is_fault}
 use Rattle.fast_decoder.proofs.Rows.{u32, decimal, text, absent, group, sequence, message, quote, read, groups_there, lengths, maps_of_elements, mantissa_takes_a_bit, left_out, overlong_integer, overlong_map, unasked_bit, map_too_long, unknown_identifier, identifier_too_large, no_map_of_group, no_value_in_group, no_map_of_second_element, mantissa_too_large, another_type}
@@ -240,3 +241,13 @@ mantissa_refused = refusal _ [] _ refl mantissa_too_large
 
 second_message_refused : Refused (hex "F0 87 85 C1 80") D4 2 5 7 1
 second_message_refused = refusal _ (message 7 (u32 5 ∷ text (codes "A") ∷ []) ∷ []) _ refl another_type
+
+-- E0 90 85 86 ends between two messages: the place of a read that fails there
+between_messages : EndsBetween worked_set (hex "E0 90 85 86") (record { message = 2; offset = 4; template = 0; instruction = 0 })
+between_messages = record { messages = five_and_six ∷ []; carried = carries_first; place_is = refl }
+
+-- it ends behind its messages, and the place follows from them
+ends_behind : (stream : List ℕ) (place : Place) → EndsBetween worked_set stream place
+    → (messages : List Content) × Carries worked_set stream messages
+    × (place ≡ record { message = length messages + 1; offset = length stream; template = 0; instruction = 0 })
+ends_behind stream place h = (h.messages, h.carried, h.place_is)
