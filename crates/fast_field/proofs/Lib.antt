@@ -4,6 +4,10 @@ pub mod TypeRows
 pub mod LimitRows
 pub mod LongRows
 pub mod NoMemory
+pub mod FieldsGoOn
+pub mod CallSteps
+pub mod ReadFields
+pub mod BaseSteps
 pub mod PartsOfSets
 pub mod BestForms
 pub mod WorkedBest

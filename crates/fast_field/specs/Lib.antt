@@ -7,3 +7,6 @@ pub mod Fields
 pub mod Best
 pub mod Faults
 pub mod FieldReading
+pub mod Calls
+pub mod Found
+pub mod Removals

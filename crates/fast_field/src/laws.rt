@@ -2,7 +2,7 @@
 
 ghost use Rattle.std.specs.Prelude.{◌≡◌, ℕ, ◌++◌, Bool, List, Option};
 ghost use Rattle.std.specs.List.{AllByRecursion};
-ghost use Rattle.fast_wire.specs.Reader.{IsBytes, IsReader};
+ghost use Rattle.fast_wire.specs.Reader.{GoesOn, IsBytes, IsReader};
 ghost use Rattle.fast_template.specs.TemplateSets.{IsSound, TemplateList, templates_in};
 ghost use Rattle.fast_template.specs.declared.resolved.FieldPart.{FieldPart};
 ghost use Rattle.fast_template.specs.declared.scalar.Scalar.{Scalar};
@@ -16,6 +16,11 @@ use crate::fault::FieldFault;
 /// Every field is read, whatever its operator.
 pub fn fields_are_read()
     ensures { (i : FieldPart) (e : Entry) (bit : Bool) → IsBitOf i bit → HasDefault i → IsReader FieldFault.NeedMore (field_at i e bit) (Form i e bit) }
+{}
+
+/// What is read of a field is read whatever follows.
+pub fn fields_go_on()
+    ensures { (i : FieldPart) (e : Entry) (bit : Bool) → GoesOn (field_at i e bit) }
 {}
 
 /// At most one form begins a list, and it has one value.
