@@ -5,7 +5,7 @@ use Rattle.std.proofs.lemmas.Bool.{cases_lt}
 use Rattle.std.proofs.lemmas.List.{length-map, length-append, get_or_default}
 use Rattle.std.proofs.lemmas.List.Elements.{All-get_or}
 use Rattle.fast_wire.specs.Entity.{IsEntity, groups}
-use Rattle.fast_wire.specs.Ascii.{SpellsAscii, SpellsAsciiNullable, IsAsciiEntityNullable, IsAscii, IsAsciiNullable, IsAsciiText}
+use Rattle.fast_wire.specs.Ascii.{SpellsAscii, SpellsAsciiNullable, IsAscii, IsAsciiNullable, IsAsciiText}
 use Rattle.fast_wire.specs.Nullable.{units}
 use Rattle.fast_wire.specs.Reading.{characters, nullable_characters}
 use Rattle.fast_wire.specs.Spellings.{behind_zeros, preamble_for, stopped, string_of}
@@ -316,17 +316,6 @@ written_last items old n s size x few some below parts long read =
     rw here (subst (λ (k : ℕ). set items (k - 1) (get_or items (k - 1) 0 + 128) ≡ old ++ stopped gs) (sym long)
     (subst (λ (z : List ℕ). set z (length z - 1) (get_or z (length z - 1) 0 + 128) ≡ old ++ stopped gs) (sym grouped) (set_last old gs more)))
 
-pub small_last : (items old : List ℕ) (n : ℕ) (s : List ℕ) (size x : ℕ) → n ≤ 2 → 0 < n + length s → All (λ c. c < 128) s
-    → items ≡ (old ++ take n (0 ∷ 0 ∷ [])) ++ s → size ≡ length items → x ≡ get_or items (size - 1) x → x < 128
-small_last items old n s size x few some below parts long read =
-    let gs = replicate n 0 ++ s in
-    let grouped : items ≡ old ++ gs = parts ∙ append_assoc old (take n (0 ∷ 0 ∷ [])) s ∙ ap (λ (z : List ℕ). old ++ (z ++ s)) (zeros_taken n few) in
-    let more : 0 < length gs = let e = zeros_length n s in omega arith in
-    let whole : length items ≡ length old + length gs = ap length grouped ∙ length-append old gs in
-    let here : x ≡ get_or items (size - 1) 0 = read ∙ get_or_default items (size - 1) x 0 (omega arith) in
-    rw here (subst (λ (k : ℕ). get_or items (k - 1) 0 < 128) (sym long)
-    (subst (λ (z : List ℕ). get_or z (length z - 1) 0 < 128) (sym grouped) (last_below old gs more (zeros_groups n s below))))
-
 -- a tail of an entity, where the stop bit was taken off the last element
 pub written_tail : (items xs : List ℕ) (i size x : ℕ) → IsEntity xs → items ≡ drop i xs → 0 < length items → size ≡ length items → x ≡ get_or items (size - 1) x
     → set items (size - 1) (x % 128) ≡ drop i (groups xs)
@@ -342,8 +331,3 @@ pub first_byte : (bytes : List ℕ) (at next : ℕ) → at < next → get_or (sl
 first_byte bytes at next h =
     let on : at + 0 ≡ at = omega arith in
     rw (get_or-take (next - at) (drop at bytes) 0 0 (omega arith), get_or-drop at bytes 0 0, on) refl
-
-pub nullable_entity : (b : List ℕ) (s : Nullable (List ℕ)) → IsEntity b → length b ≤ 65540 → nullable_characters (groups b) ≡ s → IsAsciiEntityNullable b s
-nullable_entity b s h few is =
-    let some : 0 < length (groups b) = let p = entity_some b h in let l = length-map b (λ x. x % 128) in omega arith in
-    record { entity = h; short = few; value = subst (λ (s : Nullable (List ℕ)). SpellsAsciiNullable (groups b) s) is (spells_nullable (groups b) some) }

@@ -1,12 +1,12 @@
 -- The functions that read an entity, an unsigned integer and a presence map read their forms, and no more.
-use Rattle.std.proofs.Common.{◌≡◌, ℕ, zero, suc, ◌+◌, ◌-◌, ◌<◌, ◌≤◌, Bool, true, false, cond, List, [], ◌∷◌, ◌++◌, length, take, drop, slice_range, Result, Ok, Err, refl, sym, ap, subst, ◌∙◌, arith, append-nil, length-drop, length-take, take-append-drop, drop-drop, min, inl, inr, ◌⊎◌}
+use Rattle.std.proofs.Common.{◌≡◌, ℕ, zero, suc, ◌+◌, ◌-◌, ◌<◌, ◌≤◌, Bool, true, false, cond, List, [], ◌∷◌, ◌++◌, length, take, drop, slice_range, Result, Ok, Err, refl, sym, ap, subst, ◌∙◌, arith, length-drop, length-take, take-append-drop, drop-drop, min, inl, inr, ◌⊎◌}
 use Rattle.std.proofs.Math.Seq.{take-length}
 use Rattle.std.specs.Prelude.{nat_le, nat_lt, ◌%◌, IsOk}
-use Rattle.fast_wire.specs.Entity.{IsEntity, IsEntityWithin, HasNoStop, groups}
+use Rattle.fast_wire.specs.Entity.{IsEntity, IsEntityWithin, IsSpelled, HasNoStop, groups}
 use Rattle.fast_wire.specs.Integer.{IsUnsigned, IsSigned, unsigned_of, signed_of}
 use Rattle.fast_wire.specs.PresenceMap.{IsWholeMap, bits_of}
 use Rattle.fast_wire.specs.Reading.{◌>>=◌, EntityFault, Fails, NothingElse, OrMemory, within_limit, characters, nullable_characters, entity_at, unsigned_at, signed_at, ascii_at, ascii_nullable_at, map_at}
-use Rattle.fast_wire.specs.Reader.{IsBytes, Takes, IsReader, Both}
+use Rattle.fast_wire.specs.Reader.{IsBytes, Takes, IsReader}
 use Rattle.fast_wire.specs.declared.fault.WireFault.{WireFault}
 use Rattle.fast_wire.specs.declared.fault.WireFault.TheVariants as fault
 use Rattle.fast_wire.specs.declared.nullable.Nullable.{Nullable}
@@ -17,25 +17,19 @@ use Rattle.std.proofs.lemmas.Bool.Decides.{nat_tests}
 use Rattle.std.proofs.lemmas.List.{length-map}
 use Rattle.fast_wire.proofs.UnsignedForms.{entity_some}
 use Rattle.fast_wire.proofs.AsciiForms.{spells, spelled, characters_behind, spells_nullable, spelled_nullable}
-use Rattle.fast_wire.proofs.Readers.{reader_then, reader_of, reader_as, reader_checked}
+use Rattle.fast_wire.proofs.Readers.{bind_ok, done, ok_is, reader_as, reader_checked, reader_map}
 
 -- the two ways of a byte
 abbrev step : Bool → ℕ → List ℕ → Result (List ℕ × List ℕ) WireFault → Result (List ℕ × List ℕ) WireFault
 step t c bs r = cond t (Ok (c ∷ [], bs)) (r >>= λ e. Ok (c ∷ e.0, e.1))
 
-abbrev done : {A : Type 0} → A → Result A WireFault
-done x = Ok x
+-- a value made of a first one fails as that does
+pub map_err : {A B F : Type 0} (r : Result A F) (g : A → B) (f : F) → (r >>= λ x. Ok (g x)) ≡ Err f → r ≡ Err f
+map_err (Ok x) g f e = absurd cc
+map_err (Err d) g f e = cc
 
-ok_is : {A : Type 0} (x y : A) → done x ≡ done y → x ≡ y
-ok_is x y e = cc
-
-bind_ok : {A B : Type 0} (r : Result A WireFault) (k : A → Result B WireFault) (y : B) → (r >>= k) ≡ Ok y → (x : A) × (r ≡ Ok x) × (k x ≡ Ok y)
-bind_ok (Ok x) k y e = (x, refl, e)
-bind_ok (Err d) k y e = absurd cc
-
-bind_err : {A B : Type 0} (r : Result A WireFault) (k : A → B) (f : WireFault) → (r >>= λ x. Ok (k x)) ≡ Err f → r ≡ Err f
-bind_err (Ok x) k f e = absurd cc
-bind_err (Err d) k f e = cc
+pub err_is : {A F : Type 0} (d e : F) → ◌≡◌ {A = Result A F} (Err d) (Err e) → d ≡ e
+err_is d e h = cc
 
 entity_longer : (c : ℕ) (b : List ℕ) → c < 128 → IsEntity b → IsEntity (c ∷ b)
 entity_longer c [] lt h = absurd h
@@ -49,9 +43,9 @@ found_after limit c bs r x rest lt inner e =
     let a = bind_ok r k (x, rest) e in
     let t = inner a.0.0 a.0.1 a.1 in
     let same = ok_is (c ∷ a.0.0, a.0.1) (x, rest) a.2 in
-    let front : c ∷ t.front ≡ x = ap (λ (y : List ℕ). c ∷ y) t.form.same ∙ ap (λ p. p.0) same in
+    let front : c ∷ t.front ≡ x = ap (λ (y : List ℕ). c ∷ y) t.form.value ∙ ap (λ p. p.0) same in
     let back : a.0.1 ≡ rest = ap (λ p. p.1) same in
-    record { front = c ∷ t.front; parts = ap (λ (y : List ℕ). c ∷ y) t.parts ∙ ap (λ (y : List ℕ). c ∷ (t.front ++ y)) back; rest_bytes = subst (λ (y : List ℕ). IsBytes y) back t.rest_bytes; form = record { same = front; entity_is = entity_longer c t.front lt t.form.entity_is; short = omega (arith, t.form.short) } }
+    record { front = c ∷ t.front; parts = ap (λ (y : List ℕ). c ∷ y) t.parts ∙ ap (λ (y : List ℕ). c ∷ (t.front ++ y)) back; rest_bytes = subst (λ (y : List ℕ). IsBytes y) back t.rest_bytes; form = record { value = front; entity = entity_longer c t.front lt t.form.entity; short = omega (arith, t.form.short) } }
 
 entity_found : (limit : ℕ) (bytes x rest : List ℕ) → IsBytes bytes → entity_at limit bytes ≡ Ok (x, rest) → Takes (IsEntityWithin limit) bytes x rest
 unfolding entity_at
@@ -64,7 +58,7 @@ entity_found (suc limit) (c ∷ bs) x rest fits e =
           let back : bs ≡ rest = ap (λ p. p.1) same in
           let below = fits.0 in
           let high : 128 ≤ c = grind arith in
-          record { front = c ∷ []; parts = ap (λ (y : List ℕ). c ∷ y) back; rest_bytes = subst (λ (y : List ℕ). IsBytes y) back fits.1; form = record { same = ap (λ p. p.0) same; entity_is = (high, below); short = omega arith } }
+          record { front = c ∷ []; parts = ap (λ (y : List ℕ). c ∷ y) back; rest_bytes = subst (λ (y : List ℕ). IsBytes y) back fits.1; form = record { value = ap (λ p. p.0) same; entity = (high, below); short = omega arith } }
       | false ↦ λ t e. let low : c < 128 = grind arith in found_after limit c bs (entity_at limit bs) x rest low (λ y r h. entity_found limit bs y r fits.1 h) e
     ] refl e
 
@@ -84,75 +78,64 @@ entity_stays (suc limit) [] others f e other = absurd (other cc)
 entity_stays (suc limit) (c ∷ bs) others f e other =
     elim (nat_le 128 c) as (λ t. step t c bs (entity_at limit bs) ≡ Err f → step t c (bs ++ others) (entity_at limit (bs ++ others)) ≡ Err f) [
       | true ↦ λ e. absurd cc
-      | false ↦ λ e. rw (entity_stays limit bs others f (bind_err (entity_at limit bs) (λ e. (c ∷ e.0, e.1)) f e) other) refl
+      | false ↦ λ e. rw (entity_stays limit bs others f (map_err (entity_at limit bs) (λ e. (c ∷ e.0, e.1)) f e) other) refl
     ] e
+
+-- which faults an entity has
+abbrev pub ListFault : ℕ → List ℕ → WireFault → Type 0
+ListFault limit bytes fault.NeedMore = (length bytes < limit) × HasNoStop bytes
+ListFault limit bytes fault.TooLong = (limit ≤ length bytes) × HasNoStop (take limit bytes)
+ListFault limit bytes fault.Range = ⊥
+ListFault limit bytes fault.NotUtf8 = ⊥
+ListFault limit bytes fault.Memory = ⊥
+
+no_stop_after : (c : ℕ) (bs : List ℕ) → c < 128 → HasNoStop bs → HasNoStop (c ∷ bs)
+no_stop_after c bs low none zero p = low
+no_stop_after c bs low none (suc k) p = none k (omega arith)
+
+fault_after : (limit c : ℕ) (bs : List ℕ) (e : WireFault) → c < 128 → ListFault limit bs e → ListFault (suc limit) (c ∷ bs) e
+fault_after limit c bs fault.NeedMore low h = (omega (arith, h.0), no_stop_after c bs low h.1)
+fault_after limit c bs fault.TooLong low h = (omega (arith, h.0), no_stop_after c (take limit bs) low h.1)
+fault_after limit c bs fault.Range low h = h
+fault_after limit c bs fault.NotUtf8 low h = h
+fault_after limit c bs fault.Memory low h = h
+
+pub entity_err : (limit : ℕ) (bytes : List ℕ) (e : WireFault) → entity_at limit bytes ≡ Err e → ListFault limit bytes e
+unfolding entity_at
+entity_err zero bytes e h = subst (λ (f : WireFault). ListFault zero bytes f) (err_is {A = List ℕ × List ℕ} fault.TooLong e h) (omega arith, λ k p. absurd (omega arith))
+entity_err (suc limit) [] e h = subst (λ (f : WireFault). ListFault (suc limit) [] f) (err_is {A = List ℕ × List ℕ} fault.NeedMore e h) (omega arith, λ k p. absurd (omega arith))
+entity_err (suc limit) (c ∷ bs) e h =
+    elim (nat_le 128 c) as (λ t. nat_le 128 c ≡ t → step t c bs (entity_at limit bs) ≡ Err e → ListFault (suc limit) (c ∷ bs) e) [
+      | true ↦ λ t h. absurd cc
+      | false ↦ λ t h. let low : c < 128 = grind arith in fault_after limit c bs e low (entity_err limit bs e (map_err (entity_at limit bs) (λ e. (c ∷ e.0, e.1)) e h))
+    ] refl h
 
 pub entities : (limit : ℕ) → IsReader fault.NeedMore (entity_at limit) (IsEntityWithin limit)
 entities limit = record {
   found = entity_found limit;
-  again = λ b x rest h. entity_again limit b rest h.entity_is h.short ∙ ap (λ (y : List ℕ). Ok (y, rest)) h.same;
+  again = λ b x rest h. entity_again limit b rest h.entity h.short ∙ ap (λ (y : List ℕ). Ok (y, rest)) h.value;
   stays = λ bytes others f fits e other. entity_stays limit bytes others f e other;
 }
 
 -- a value that an entity spells whole
-abbrev Valued : {V : Type 0} → ℕ → (List ℕ → V) → List ℕ → V → Type 0
-Valued {V} limit value = Both (IsEntityWithin limit) (λ e b v. (b ≡ []) × (done (value e) ≡ Ok v))
-
-valued : {V : Type 0} (limit : ℕ) (value : List ℕ → V) → IsReader fault.NeedMore (λ bytes. entity_at limit bytes >>= λ e. Ok (value e.0, e.1)) (Valued limit value)
-valued limit value =
-    reader_then fault.NeedMore (entity_at limit) (λ e rest. Ok (value e, rest)) (IsEntityWithin limit) (λ e b v. (b ≡ []) × (done (value e) ≡ Ok v)) (entities limit) (λ e. reader_of fault.NeedMore (done (value e)))
-
--- what such a value says of its bytes
-pub record IsValued {V : Type 0} (limit : ℕ) (value : List ℕ → V) (bytes : List ℕ) (v : V) : Type 0 where
-  pub entity : IsEntity bytes
-  pub short : length bytes ≤ limit
-  pub spelled : v ≡ value bytes
-
-valued_to : {V : Type 0} (limit : ℕ) (value : List ℕ → V) (b : List ℕ) (v : V) → Valued limit value b v → IsValued limit value b v
-valued_to limit value b v h =
-    let whole : b ≡ h.front = h.parts ∙ ap (λ (y : List ℕ). h.front ++ y) h.second.0 ∙ append-nil h.front in
-    let same : b ≡ h.x = whole ∙ h.first.same in record {
-      entity = subst (λ (y : List ℕ). IsEntity y) (sym whole) h.first.entity_is;
-      short = subst (λ (y : List ℕ). length y ≤ limit) (sym whole) h.first.short;
-      spelled = sym (ok_is (value h.x) v h.second.1) ∙ ap value (sym same);
-    }
-
-valued_from : {V : Type 0} (limit : ℕ) (value : List ℕ → V) (b : List ℕ) (v : V) → IsValued limit value b v → Valued limit value b v
-valued_from limit value b v h = record {
-  x = b;
-  front = b;
-  back = [];
-  parts = sym (append-nil b);
-  first = record { same = refl; entity_is = h.entity; short = h.short };
-  second = (refl, ap (λ y. done y) (sym h.spelled));
-}
-
-pub valued_forms : {V : Type 0} (limit : ℕ) (value : List ℕ → V) → IsReader fault.NeedMore (λ bytes. entity_at limit bytes >>= λ e. Ok (value e.0, e.1)) (IsValued limit value)
-valued_forms limit value = reader_as fault.NeedMore (λ bytes. entity_at limit bytes >>= λ e. Ok (value e.0, e.1)) (Valued limit value) (IsValued limit value) (valued_to limit value) (valued_from limit value) (valued limit value)
+pub valued_forms : {V : Type 0} (limit : ℕ) (value : List ℕ → V) → IsReader fault.NeedMore (λ bytes. entity_at limit bytes >>= λ e. Ok (value e.0, e.1)) (IsSpelled limit (λ b v. v ≡ value b))
+valued_forms limit value =
+    reader_as fault.NeedMore (λ bytes. entity_at limit bytes >>= λ e. Ok (value e.0, e.1)) (λ b v. (e : List ℕ) × IsEntityWithin limit b e × (value e ≡ v)) (IsSpelled limit (λ b v. v ≡ value b))
+    (λ b v h. record { entity = h.1.entity; short = h.1.short; value = sym (ap value h.1.value ∙ h.2) })
+    (λ b v h. (b, record { entity = h.entity; short = h.short; value = refl }, sym h.value))
+    (reader_map fault.NeedMore (entity_at limit) value (IsEntityWithin limit) (entities limit))
 
 pub unsigned_forms : IsReader fault.NeedMore unsigned_at IsUnsigned
 unfolding unsigned_at
-unsigned_forms =
-    reader_as fault.NeedMore unsigned_at (IsValued 10 unsigned_of) IsUnsigned
-    (λ b n h. record { entity = h.entity; short = h.short; value = h.spelled })
-    (λ b n h. record { entity = h.entity; short = h.short; spelled = h.value })
-    (valued_forms 10 unsigned_of)
+unsigned_forms = valued_forms 10 unsigned_of
 
 pub signed_forms : IsReader fault.NeedMore signed_at IsSigned
 unfolding signed_at
-signed_forms =
-    reader_as fault.NeedMore signed_at (IsValued 10 signed_of) IsSigned
-    (λ b n h. record { entity = h.entity; short = h.short; value = h.spelled })
-    (λ b n h. record { entity = h.entity; short = h.short; spelled = h.value })
-    (valued_forms 10 signed_of)
+signed_forms = valued_forms 10 signed_of
 
 pub map_forms : IsReader fault.NeedMore map_at IsWholeMap
 unfolding map_at
-map_forms =
-    reader_as fault.NeedMore map_at (IsValued 256 (λ b. bits_of (groups b))) IsWholeMap
-    (λ b n h. record { entity = h.entity; short = h.short; value = h.spelled })
-    (λ b n h. record { entity = h.entity; short = h.short; spelled = h.value })
-    (valued_forms 256 (λ b. bits_of (groups b)))
+map_forms = valued_forms 256 (λ b. bits_of (groups b))
 
 -- ---- from what a call of the code found to what reading gives
 
@@ -164,7 +147,7 @@ entity_given bytes at next limit below within short h =
     let split : drop at bytes ≡ take n (drop at bytes) ++ drop n (drop at bytes) = sym (take-append-drop n (drop at bytes)) in
     let on : at + n ≡ next = omega arith in
     let behind : drop n (drop at bytes) ≡ drop next bytes = drop-drop n at bytes ∙ ap (λ k. drop k bytes) on in
-    ap (entity_at limit) split ∙ entity_again limit (take n (drop at bytes)) (drop n (drop at bytes)) h (omega (arith, length-take n (drop at bytes))) ∙ ap (λ (r : List ℕ). done (take n (drop at bytes), r)) behind
+    ap (entity_at limit) split ∙ entity_again limit (take n (drop at bytes)) (drop n (drop at bytes)) h (omega (arith, length-take n (drop at bytes))) ∙ ap (λ (r : List ℕ). done {F = WireFault} (take n (drop at bytes), r)) behind
 
 -- the bytes end before a stop bit
 waits : (limit : ℕ) (xs : List ℕ) → length xs < limit → HasNoStop xs → entity_at limit xs ≡ Err fault.NeedMore
@@ -239,10 +222,10 @@ ascii_forms =
     reader_as fault.NeedMore ascii_at (λ b s. (e : List ℕ) × IsEntityWithin 65540 b e × (within_limit length (characters (groups e)) ≡ Ok s)) IsAscii
     (λ b s h.
     let w = within_is length (characters (groups h.0)) s h.2 in
-    let some : 0 < length (groups b) = let p = entity_some b h.1.entity_is in let l = length-map b (λ x. x % 128) in omega arith in
-    let is : characters (groups b) ≡ s = ap (λ e. characters (groups e)) h.1.same ∙ w.0 in
-    record { spelled = record { entity = h.1.entity_is; short = h.1.short; value = subst (λ (s : List ℕ). SpellsAscii (groups b) s) (sym (characters_behind (groups b)) ∙ is) (spells (groups b) some) }; limit = w.1 })
-    (λ b s h. (b, record { same = refl; entity_is = h.spelled.entity; short = h.spelled.short }, rw (spelled (groups b) s h.spelled.value) (within_ok length s h.limit)))
+    let some : 0 < length (groups b) = let p = entity_some b h.1.entity in let l = length-map b (λ x. x % 128) in omega arith in
+    let is : characters (groups b) ≡ s = ap (λ e. characters (groups e)) h.1.value ∙ w.0 in
+    record { spelled = record { entity = h.1.entity; short = h.1.short; value = subst (λ (s : List ℕ). SpellsAscii (groups b) s) (sym (characters_behind (groups b)) ∙ is) (spells (groups b) some) }; limit = w.1 })
+    (λ b s h. (b, record { value = refl; entity = h.spelled.entity; short = h.spelled.short }, rw (spelled (groups b) s h.spelled.value) (within_ok length s h.limit)))
     (reader_checked fault.NeedMore (entity_at 65540) (λ e. within_limit length (characters (groups e))) (IsEntityWithin 65540) (entities 65540))
 
 pub ascii_nullable_forms : IsReader fault.NeedMore ascii_nullable_at IsAsciiNullable
@@ -251,10 +234,10 @@ ascii_nullable_forms =
     reader_as fault.NeedMore ascii_nullable_at (λ b s. (e : List ℕ) × IsEntityWithin 65540 b e × (within_limit units (nullable_characters (groups e)) ≡ Ok s)) IsAsciiNullable
     (λ b s h.
     let w = within_is units (nullable_characters (groups h.0)) s h.2 in
-    let some : 0 < length (groups b) = let p = entity_some b h.1.entity_is in let l = length-map b (λ x. x % 128) in omega arith in
-    let is : nullable_characters (groups b) ≡ s = ap (λ e. nullable_characters (groups e)) h.1.same ∙ w.0 in
-    record { spelled = record { entity = h.1.entity_is; short = h.1.short; value = subst (λ (s : Nullable (List ℕ)). SpellsAsciiNullable (groups b) s) is (spells_nullable (groups b) some) }; limit = w.1 })
-    (λ b s h. (b, record { same = refl; entity_is = h.spelled.entity; short = h.spelled.short }, rw (spelled_nullable (groups b) s h.spelled.value) (within_ok units s h.limit)))
+    let some : 0 < length (groups b) = let p = entity_some b h.1.entity in let l = length-map b (λ x. x % 128) in omega arith in
+    let is : nullable_characters (groups b) ≡ s = ap (λ e. nullable_characters (groups e)) h.1.value ∙ w.0 in
+    record { spelled = record { entity = h.1.entity; short = h.1.short; value = subst (λ (s : Nullable (List ℕ)). SpellsAsciiNullable (groups b) s) is (spells_nullable (groups b) some) }; limit = w.1 })
+    (λ b s h. (b, record { value = refl; entity = h.spelled.entity; short = h.spelled.short }, rw (spelled_nullable (groups b) s h.spelled.value) (within_ok units s h.limit)))
     (reader_checked fault.NeedMore (entity_at 65540) (λ e. within_limit units (nullable_characters (groups e))) (IsEntityWithin 65540) (entities 65540))
 
 -- from what the entity spells to what reading gives

@@ -9,8 +9,8 @@ use Rattle.std.proofs.lemmas.List.Elements.{All-drop, All-from_get_or}
 use Rattle.fast_wire.specs.Ascii.{IsAscii, IsAsciiNullable, IsAsciiText}
 use Rattle.fast_wire.specs.Entity.{groups}
 use Rattle.fast_wire.specs.Integer.{IsNoCloser, IsSigned, IsUnsigned, magnitude, unsigned_of}
-use Rattle.fast_wire.specs.Nullable.{IsNullOr, IsSignedNullable, IsUnsignedNullable, sent_signed, sent_unsigned, units}
-use Rattle.fast_wire.specs.Sizes.{ascii_nullable_size, ascii_size, CanBeSigned, CanBeUnsigned, HasSizes, signed_nullable_size, signed_size, unsigned_nullable_size, unsigned_size, vector_nullable_size, vector_size}
+use Rattle.fast_wire.specs.Nullable.{IsNullOr, IsSignedNullable, IsUnsignedNullable, sent_signed, sent_unsigned}
+use Rattle.fast_wire.specs.Sizes.{ascii_nullable_size, ascii_size, CanBeSigned, CanBeSignedNullable, CanBeUnsignedNullable, CanBeUnsigned, CanBeVector, HasSizes, signed_nullable_size, signed_size, unsigned_nullable_size, unsigned_size, vector_nullable_size, vector_size}
 use Rattle.fast_wire.specs.Spellings.{entity_of, preamble_for, string_of}
 use Rattle.fast_wire.specs.Vector.{IsVector, IsVectorNullable}
 use Rattle.fast_wire.specs.Writing.{IsShortest}
@@ -75,7 +75,7 @@ signed_sizes = record {
   one = λ b c v hb hc long. same_bytes b c hb.entity hc.entity long (same_unsigned b c v hb hc long);
 }
 
-pub unsigned_nullable_sizes : HasSizes IsUnsignedNullable (λ v. CanBeUnsigned (sent_unsigned v)) unsigned_nullable_size
+pub unsigned_nullable_sizes : HasSizes IsUnsignedNullable CanBeUnsignedNullable unsigned_nullable_size
 unfolding unsigned_nullable_size
 unsigned_nullable_sizes = record {
   within = λ b v f. unsigned_sizes.within b (sent_unsigned v) f;
@@ -84,7 +84,7 @@ unsigned_nullable_sizes = record {
   one = λ b c v hb hc long. unsigned_sizes.one b c (sent_unsigned v) hb hc long;
 }
 
-pub signed_nullable_sizes : HasSizes IsSignedNullable (λ v. CanBeSigned (sent_signed v)) signed_nullable_size
+pub signed_nullable_sizes : HasSizes IsSignedNullable CanBeSignedNullable signed_nullable_size
 unfolding signed_nullable_size
 signed_nullable_sizes = record {
   within = λ b v f. signed_sizes.within b (sent_signed v) f;
@@ -162,39 +162,39 @@ one_counted v s b c front back eb ec hf hk long =
     let same : front ≡ back = one_form v front back hf hk (omega arith) in
     eb ∙ ap (λ (z : List ℕ). z ++ s) same ∙ sym ec
 
-pub vector_sizes : HasSizes IsVector (λ s. length s ≤ 65535) vector_size
+pub vector_sizes : HasSizes IsVector CanBeVector vector_size
 vector_sizes = record {
-  within = λ b s f. f.limit;
+  within = λ b s f. (f.bytes_fit, f.limit);
   stands = λ s h.
-      let n = unsigned_size (length s) in
+      let n = unsigned_size (length s) in let few = h.1 in
       (entity_of n (length s) ++ s, (vector_shortest s n h (unsigned_fits (length s) (fits_length (length s) (omega arith)))).form, counted_length n (length s) s);
   least = λ b s f.
-      let n = unsigned_size (length s) in let few = f.limit in
-      subst (λ k. k ≤ length b) (counted_length n (length s) s) ((vector_shortest s n few (unsigned_fits (length s) (fits_length (length s) (omega arith)))).least b f);
+      let n = unsigned_size (length s) in let few = f.limit in let can : CanBeVector s = (f.bytes_fit, f.limit) in
+      subst (λ k. k ≤ length b) (counted_length n (length s) s) ((vector_shortest s n can (unsigned_fits (length s) (fits_length (length s) (omega arith)))).least b f);
   one = λ b c s hb hc long. one_counted (length s) s b c hb.front hc.front hb.parts hc.parts hb.length_form hc.length_form long;
 }
 
-vector_within : (b : List ℕ) (s : Nullable (List ℕ)) → IsVectorNullable b s → units s ≤ 65535
-vector_within b Null f = omega arith
-vector_within b (Value s) f = f.limit
+vector_within : (b : List ℕ) (s : Nullable (List ℕ)) → IsVectorNullable b s → IsNullOr CanBeVector s
+vector_within b Null f = tt
+vector_within b (Value s) f = (f.bytes_fit, f.limit)
 
-vector_stands : (s : Nullable (List ℕ)) → units s ≤ 65535 → (bytes : List ℕ) × IsVectorNullable bytes s × (length bytes ≡ vector_nullable_size s)
+vector_stands : (s : Nullable (List ℕ)) → IsNullOr CanBeVector s → (bytes : List ℕ) × IsVectorNullable bytes s × (length bytes ≡ vector_nullable_size s)
 vector_stands Null h = (entity_of 1 0, vector_null_shortest.form, refl)
 vector_stands (Value s) h =
-    let n = unsigned_size (length s + 1) in
+    let n = unsigned_size (length s + 1) in let few = h.1 in
     (entity_of n (length s + 1) ++ s, (vector_nullable_shortest s n h (unsigned_fits (length s + 1) (fits_length (length s + 1) (omega arith)))).form, counted_length n (length s + 1) s)
 
 vector_least : (b : List ℕ) (s : Nullable (List ℕ)) → IsVectorNullable b s → vector_nullable_size s ≤ length b
 vector_least b Null f = vector_null_shortest.least b f
 vector_least b (Value s) f =
-    let n = unsigned_size (length s + 1) in let few = f.limit in
-    subst (λ k. k ≤ length b) (counted_length n (length s + 1) s) ((vector_nullable_shortest s n few (unsigned_fits (length s + 1) (fits_length (length s + 1) (omega arith)))).least b f)
+    let n = unsigned_size (length s + 1) in let few = f.limit in let can : CanBeVector s = (f.bytes_fit, f.limit) in
+    subst (λ k. k ≤ length b) (counted_length n (length s + 1) s) ((vector_nullable_shortest s n can (unsigned_fits (length s + 1) (fits_length (length s + 1) (omega arith)))).least b f)
 
 vector_one : (b c : List ℕ) (s : Nullable (List ℕ)) → IsVectorNullable b s → IsVectorNullable c s → length b ≡ length c → b ≡ c
 vector_one b c Null hb hc long = one_form 0 b c hb hc long
 vector_one b c (Value s) hb hc long = one_counted (length s + 1) s b c hb.front hc.front hb.parts hc.parts hb.length_form hc.length_form long
 
-pub vector_nullable_sizes : HasSizes IsVectorNullable (λ s. units s ≤ 65535) vector_nullable_size
+pub vector_nullable_sizes : HasSizes IsVectorNullable (IsNullOr CanBeVector) vector_nullable_size
 vector_nullable_sizes = record { within = vector_within; stands = vector_stands; least = vector_least; one = vector_one }
 
 -- ---- how sizes grow
@@ -234,6 +234,6 @@ forms_grow v w b c h hb hc =
 
 pub nullable_forms_grow : (v w : ℤ) (b c : List ℕ) → IsNoCloser v w → IsShortest IsSignedNullable b (Value v) → IsShortest IsSignedNullable c (Value w) → length b ≤ length c
 nullable_forms_grow v w b c h hb hc =
-    let sb = shortest_size IsSignedNullable (λ v. CanBeSigned (sent_signed v)) signed_nullable_size signed_nullable_sizes b (Value v) hb in
-    let sc = shortest_size IsSignedNullable (λ v. CanBeSigned (sent_signed v)) signed_nullable_size signed_nullable_sizes c (Value w) hc in
+    let sb = shortest_size IsSignedNullable CanBeSignedNullable signed_nullable_size signed_nullable_sizes b (Value v) hb in
+    let sc = shortest_size IsSignedNullable CanBeSignedNullable signed_nullable_size signed_nullable_sizes c (Value w) hc in
     let g = signed_nullable_grow v w h in omega arith

@@ -1,4 +1,5 @@
 pub mod Entities
+pub mod Lanes
 pub mod Numbers
 pub mod Readers
 pub mod Readings
@@ -16,5 +17,6 @@ pub mod NullableForms
 pub mod AsciiForms
 pub mod VectorForms
 pub mod FormSizes
-pub mod MapReadings
 pub mod GoingOn
+pub mod Calls
+pub mod Written

@@ -99,7 +99,7 @@ map_shortest bits used n u h = record {
   form = record {
     entity = map_entity n bits 0 h.0;
     short = rw (map_length n bits 0) h.1;
-    same = λ i.
+    value = λ i.
         elim (cases_lt i (7 * n)) [
           | inl less ↦ let e : 0 + i ≡ i = omega arith in map_bits n bits 0 i less ∙ ap (bit_at bits) e
           | inr more ↦ past (map_of n bits 0) i (rw (map_length n bits 0) more) ∙ sym (u.rest i (omega (arith, h.2)))
@@ -110,7 +110,7 @@ map_shortest bits used n u h = record {
         let some = entity_some other f.entity in
         let long = h.3 (omega arith) in
         let set = u.last (omega arith) in
-        absurd (true≢false (sym set ∙ sym (f.same (used - 1)) ∙ past other (used - 1) (omega arith)))
+        absurd (true≢false (sym set ∙ sym (f.value (used - 1)) ∙ past other (used - 1) (omega arith)))
     | inr le ↦ le
   ]);
 }

@@ -1,20 +1,15 @@
 -- Nullable integers: what is sent and what is meant, and their readers.
-use Rattle.std.proofs.Common.{◌≡◌, ℕ, ℤ, zero, suc, ◌+◌, ◌*◌, ◌^◌, ◌<◌, ◌≤◌, pos, negsuc, List, Result, Ok, refl, sym, ap, subst, ◌∙◌, arith, add-one, inl, inr}
-use Rattle.std.specs.Prelude.{MatchResult}
+use Rattle.std.proofs.Common.{◌≡◌, ℕ, ℤ, zero, suc, ◌+◌, ◌*◌, ◌^◌, ◌<◌, ◌≤◌, pos, negsuc, refl, sym, ap, subst, ◌∙◌, arith, add-one, inl, inr}
 use Rattle.fast_wire.specs.Integer.{magnitude, IsUnsigned, IsSigned}
 use Rattle.fast_wire.specs.Nullable.{sent_unsigned, sent_signed, received_unsigned, received_signed, IsUnsignedNullable, IsSignedNullable}
-use Rattle.fast_wire.specs.Reading.{EntityFault, Reads, unsigned_at, signed_at, unsigned_nullable_at, signed_nullable_at}
+use Rattle.fast_wire.specs.Reading.{unsigned_at, signed_at, unsigned_nullable_at, signed_nullable_at}
 use Rattle.fast_wire.specs.Reader.{IsReader}
-use Rattle.fast_wire.specs.Writing.{AppendsShortest}
-use Rattle.fast_wire.specs.declared.fault.WireFault.{WireFault}
 use Rattle.fast_wire.specs.declared.fault.WireFault.TheVariants as fault
 use Rattle.fast_wire.specs.declared.nullable.Nullable.{Nullable}
 use Rattle.fast_wire.specs.declared.nullable.Nullable.TheVariants.{Null, Value}
 use Rattle.std.proofs.lemmas.Bool.{cases_lt}
 use Rattle.fast_wire.proofs.Readers.{reader_map, reader_as}
-use Rattle.fast_wire.proofs.Readings.{reads_only}
 use Rattle.fast_wire.proofs.FormReaders.{unsigned_forms, signed_forms}
-use Rattle.fast_wire.proofs.SignedForms.{signed_most}
 
 pub sent_received : (n : ℕ) → sent_unsigned (received_unsigned n) ≡ n
 sent_received zero = refl
@@ -50,29 +45,9 @@ signed_nullable_forms =
     (λ b y h. (sent_signed y, h, received_sent_signed y))
     (reader_map fault.NeedMore signed_at received_signed IsSigned signed_forms)
 
-pub unsigned_nullable_only : (xs : List ℕ) (at : ℕ) (r : Result (Nullable ℕ × ℕ) WireFault) → MatchResult r (Reads IsUnsignedNullable xs at) (EntityFault 10 xs at)
-    → (next : ℕ) (value : Nullable ℕ) → Reads IsUnsignedNullable xs at (value, next) → r ≡ Ok (value, next)
-unsigned_nullable_only =
-    reads_only IsUnsignedNullable 10 (λ b v f. f.entity) (λ b v f. f.short)
-    (λ b v w f h. sym (received_sent v) ∙ ap received_unsigned (f.value ∙ sym h.value) ∙ received_sent w)
-
-pub signed_nullable_only : (xs : List ℕ) (at : ℕ) (r : Result (Nullable ℤ × ℕ) WireFault) → MatchResult r (Reads IsSignedNullable xs at) (EntityFault 10 xs at)
-    → (next : ℕ) (value : Nullable ℤ) → Reads IsSignedNullable xs at (value, next) → r ≡ Ok (value, next)
-signed_nullable_only =
-    reads_only IsSignedNullable 10 (λ b v f. f.entity) (λ b v f. f.short)
-    (λ b v w f h. sym (received_sent_signed v) ∙ ap received_signed (f.value ∙ sym h.value) ∙ received_sent_signed w)
-
 -- a number with a form is what is sent for the value, and not one that was cut off at the largest
-sent_is : (v z : ℤ) → (magnitude v < 2 ^ 127 → z ≡ v) → (2 ^ 127 ≤ magnitude v → magnitude z + 1 ≡ magnitude v) → magnitude z < 64 * 128 ^ 9 → z ≡ v
+pub sent_is : (v z : ℤ) → (magnitude v < 2 ^ 127 → z ≡ v) → (2 ^ 127 ≤ magnitude v → magnitude z + 1 ≡ magnitude v) → magnitude z < 64 * 128 ^ 9 → z ≡ v
 sent_is v z small large h = elim (cases_lt (magnitude v) (2 ^ 127)) [
   | inl lt ↦ small lt
   | inr ge ↦ let e = large ge in absurd (omega arith)
 ]
-
--- a shortest form of what is sent is one of the value
-pub sent_appends : (old new : List ℕ) (v : Nullable ℤ) (z : ℤ) → (magnitude (sent_signed v) < 2 ^ 127 → z ≡ sent_signed v)
-    → (2 ^ 127 ≤ magnitude (sent_signed v) → magnitude z + 1 ≡ magnitude (sent_signed v)) → AppendsShortest IsSigned old new z → AppendsShortest IsSignedNullable old new v
-sent_appends old new v z small large h =
-    let same : z ≡ sent_signed v = sent_is (sent_signed v) z small large (signed_most h.0 z h.2.form) in
-    let to : (b : List ℕ) → IsSigned b (sent_signed v) → IsSigned b z = λ b f. subst (λ (n : ℤ). IsSigned b n) (sym same) f in
-    (h.0, h.1, record { form = subst (λ (n : ℤ). IsSigned h.0 n) same h.2.form; least = λ other f. h.2.least other (to other f) })

@@ -11,7 +11,8 @@ use Rattle.std.proofs.lemmas.List.{length-map}
 use Rattle.std.proofs.lemmas.Nat.{le-div, div_below, pow_pos}
 use Rattle.std.proofs.lemmas.Int.{ints}
 use Rattle.fast_wire.specs.Entity.{groups}
-use Rattle.fast_wire.specs.Integer.{magnitude, unsigned_of, signed_of, IsSigned, IsSignedRange}
+use Rattle.fast_wire.specs.Integer.{magnitude, unsigned_of, signed_of, IsSigned}
+use Rattle.fast_wire.specs.Sizes.{CanBeSigned}
 use Rattle.fast_wire.specs.Writing.{IsShortest}
 use Rattle.fast_wire.specs.Spellings.{entity_of, IsLeastSignedSize}
 use Rattle.fast_wire.proofs.Numbers.{pow_bits, number_bound}
@@ -126,13 +127,6 @@ signed_most b v f =
     let top : 128 ^ (length b - 1) ≤ 128 ^ 9 = pow-le-pow_right {n = 128} (omega arith) few in
     omega (arith, signed_bound b v f)
 
-in_range : (v : ℤ) → magnitude v < 64 * 128 ^ 9 → IsSignedRange v
-in_range (pos n) h = (omega (arith, ints), omega (arith, ints))
-in_range (negsuc n) h = (omega (arith, ints), omega (arith, ints))
-
-pub signed_range : (b : List ℕ) (v : ℤ) → IsSigned b v → IsSignedRange v
-signed_range b v f = in_range v (signed_most b v f)
-
-pub range_fits : (v : ℤ) → IsSignedRange v → SFits w128 v
-range_fits (pos n) h = record { sfits = let a = h.1 in omega (arith, ints) }
-range_fits (negsuc n) h = record { sfits = let a = h.0 in omega (arith, ints) }
+pub signed_fit : (v : ℤ) → CanBeSigned v → SFits w128 v
+signed_fit (pos n) h = record { sfits = omega (arith, ints) }
+signed_fit (negsuc n) h = record { sfits = omega (arith, ints) }

@@ -1,7 +1,7 @@
 -- FAST 1.1, Transfer Encoding, ASCII String Representation: a string as the groups of an entity. Zero groups
 -- in front may be a preamble; which of them are is our own reading, and so are the limits.
 use Rattle.std.specs.Prelude.{◌≡◌, ℕ, zero, suc, ◌<◌, ◌≤◌, List, [], ◌∷◌, length, All}
-use Rattle.fast_wire.specs.Entity.{IsEntity, groups}
+use Rattle.fast_wire.specs.Entity.{IsSpelled, groups}
 use Rattle.fast_wire.specs.Nullable.{units}
 use Rattle.fast_wire.specs.declared.nullable.Nullable.{Nullable}
 use Rattle.fast_wire.specs.declared.nullable.Nullable.TheVariants.{Null, Value}
@@ -22,15 +22,11 @@ SpellsAsciiNullable (zero ∷ suc g ∷ gs) s = s ≡ Value (suc g ∷ gs)
 SpellsAsciiNullable (suc g ∷ gs) s = s ≡ Value (suc g ∷ gs)
 
 -- the bytes are an entity of at most 65,540 groups, and spell s
-pub record IsAsciiEntity (bytes s : List ℕ) : Type 0 where
-  pub entity : IsEntity bytes
-  pub short : length bytes ≤ 65540
-  pub value : SpellsAscii (groups bytes) s
+abbrev pub IsAsciiEntity : List ℕ → List ℕ → Type 0
+IsAsciiEntity bytes s = IsSpelled 65540 (λ b s. SpellsAscii (groups b) s) bytes s
 
-pub record IsAsciiEntityNullable (bytes : List ℕ) (s : Nullable (List ℕ)) : Type 0 where
-  pub entity : IsEntity bytes
-  pub short : length bytes ≤ 65540
-  pub value : SpellsAsciiNullable (groups bytes) s
+abbrev pub IsAsciiEntityNullable : List ℕ → Nullable (List ℕ) → Type 0
+IsAsciiEntityNullable bytes s = IsSpelled 65540 (λ b s. SpellsAsciiNullable (groups b) s) bytes s
 
 -- and s has at most 65,535 characters
 pub record IsAscii (bytes s : List ℕ) : Type 0 where

@@ -17,11 +17,16 @@ abbrev pub number_of : List ℕ → ℕ
 number_of [] = 0
 number_of (g ∷ gs) = g * 128 ^ length gs + number_of gs
 
--- an entity of at most this many bytes
-pub record IsEntityWithin (limit : ℕ) (bytes entity : List ℕ) : Type 0 where
-  pub same : bytes ≡ entity
-  pub entity_is : IsEntity bytes
+-- the bytes are an entity of at most so many bytes, and spell v
+pub record IsSpelled {V : Type 0} (limit : ℕ) (Spells : List ℕ → V → Type 0)
+    (bytes : List ℕ) (v : V) : Type 0 where
+  pub entity : IsEntity bytes
   pub short : length bytes ≤ limit
+  pub value : Spells bytes v
+
+-- an entity of at most so many bytes, as it stands
+abbrev pub IsEntityWithin : ℕ → List ℕ → List ℕ → Type 0
+IsEntityWithin limit bytes entity = IsSpelled limit (λ b e. b ≡ e) bytes entity
 
 -- no byte has its high bit set
 abbrev pub HasNoStop : List ℕ → Type 0
@@ -32,3 +37,9 @@ pub record IsFirstStop (bytes : List ℕ) (i : ℕ) : Type 0 where
   pub within : i < length bytes
   pub stop : 128 ≤ slice_index bytes i
   pub before : (k : ℕ) → k < i → slice_index bytes k < 128
+
+-- r of the 16 bytes from at on come before the first with its high bit set
+pub record IsRun (bytes : List ℕ) (at r : ℕ) : Type 0 where
+  pub within : r ≤ 16
+  pub before : (k : ℕ) → at ≤ k → k < at + r → slice_index bytes k < 128
+  pub stop : r < 16 → 128 ≤ slice_index bytes (at + r)

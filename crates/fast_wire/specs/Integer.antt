@@ -1,7 +1,7 @@
 -- FAST 1.1, Transfer Encoding, Integer Representation: integers as entities of at most ten groups (the limit
 -- is our own).
-use Rattle.std.specs.Prelude.{◌≡◌, ℕ, ℤ, pos, negsuc, ◌^◌, ◌≤◌, ◌-ℤ◌, ◌<ℤ◌, List, [], ◌∷◌, length, nat_le, Bool, false, if◌then◌else◌}
-use Rattle.fast_wire.specs.Entity.{IsEntity, groups, number_of}
+use Rattle.std.specs.Prelude.{◌≡◌, ℕ, ℤ, pos, negsuc, ◌^◌, ◌≤◌, ◌-ℤ◌, List, [], ◌∷◌, length, nat_le, Bool, false, if◌then◌else◌}
+use Rattle.fast_wire.specs.Entity.{IsSpelled, groups, number_of}
 
 -- the number that an entity's groups spell
 abbrev pub unsigned_of : List ℕ → ℕ
@@ -14,28 +14,22 @@ is_negative (g ∷ gs) = nat_le 64 g
 
 -- the number that an entity's groups spell as two's complement
 abbrev pub signed_of : List ℕ → ℤ
-signed_of bytes = if is_negative (groups bytes) then pos (unsigned_of bytes) -ℤ pos (128 ^ length bytes) else pos (unsigned_of bytes)
+signed_of bytes =
+    if is_negative (groups bytes) then pos (unsigned_of bytes) -ℤ pos (128 ^ length bytes)
+    else pos (unsigned_of bytes)
 
 -- the bytes are an entity of at most ten groups, and spell v
-pub record IsUnsigned (bytes : List ℕ) (v : ℕ) : Type 0 where
-  pub entity : IsEntity bytes
-  pub short : length bytes ≤ 10
-  pub value : v ≡ unsigned_of bytes
+abbrev pub IsUnsigned : List ℕ → ℕ → Type 0
+IsUnsigned bytes v = IsSpelled 10 (λ b v. v ≡ unsigned_of b) bytes v
 
 -- the bytes are an entity of at most ten groups, and spell v as two's complement
-pub record IsSigned (bytes : List ℕ) (v : ℤ) : Type 0 where
-  pub entity : IsEntity bytes
-  pub short : length bytes ≤ 10
-  pub value : v ≡ signed_of bytes
+abbrev pub IsSigned : List ℕ → ℤ → Type 0
+IsSigned bytes v = IsSpelled 10 (λ b v. v ≡ signed_of b) bytes v
 
 -- n for n from 0 up, and n for -1 - n: a number less its sign bit
 abbrev pub magnitude : ℤ → ℕ
 magnitude (pos n) = n
 magnitude (negsuc n) = n
-
--- from -2 ^ 69 to 2 ^ 69 - 1, the signed numbers of ten groups
-abbrev pub IsSignedRange : ℤ → Type 0
-IsSignedRange v = (negsuc (2 ^ 69) <ℤ v) × (v <ℤ pos (2 ^ 69))
 
 -- both are from zero up, or both below it, and the second is as far from zero as the first or farther
 abbrev pub IsNoCloser : ℤ → ℤ → Type 0

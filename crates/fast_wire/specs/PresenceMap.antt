@@ -1,12 +1,14 @@
 -- FAST 1.1, Transfer Encoding, Presence Map: the bits of an entity's groups, the most significant bit of a
 -- group first.
-use Rattle.std.specs.Prelude.{◌≡◌, ℕ, ◌/◌, ◌%◌, ◌≤◌, Bool, true, false, nat_eq, List, [], ◌∷◌, length, slice_index_or}
+use Rattle.std.specs.Prelude.{◌≡◌, ℕ, ◌/◌, ◌%◌, Bool, true, false, nat_eq, List, [], ◌∷◌, slice_index_or}
 use Rattle.std.specs.List.{flat_map}
-use Rattle.fast_wire.specs.Entity.{IsEntity, groups}
+use Rattle.fast_wire.specs.Entity.{IsSpelled, groups}
 
 -- the seven bits of a group
 abbrev pub group_bits : ℕ → List Bool
-group_bits g = nat_eq (g / 64 % 2) 1 ∷ nat_eq (g / 32 % 2) 1 ∷ nat_eq (g / 16 % 2) 1 ∷ nat_eq (g / 8 % 2) 1 ∷ nat_eq (g / 4 % 2) 1 ∷ nat_eq (g / 2 % 2) 1 ∷ nat_eq (g % 2) 1 ∷ []
+group_bits g =
+    nat_eq (g / 64 % 2) 1 ∷ nat_eq (g / 32 % 2) 1 ∷ nat_eq (g / 16 % 2) 1 ∷ nat_eq (g / 8 % 2) 1
+    ∷ nat_eq (g / 4 % 2) 1 ∷ nat_eq (g / 2 % 2) 1 ∷ nat_eq (g % 2) 1 ∷ []
 
 abbrev pub bits_of : List ℕ → List Bool
 bits_of gs = flat_map group_bits gs
@@ -26,16 +28,13 @@ later_bits [] = []
 later_bits (bit ∷ bits) = bits
 
 -- the bytes are a map of at most 256 bytes (our own limit), and have these bits, up to zeros at the end
-pub record IsMap (bytes : List ℕ) (bits : List Bool) : Type 0 where
-  pub entity : IsEntity bytes
-  pub short : length bytes ≤ 256
-  pub same : (i : ℕ) → bit_at (bits_of (groups bytes)) i ≡ bit_at bits i
+abbrev pub IsMap : List ℕ → List Bool → Type 0
+IsMap bytes bits =
+    IsSpelled 256 (λ b bits. (i : ℕ) → bit_at (bits_of (groups b)) i ≡ bit_at bits i) bytes bits
 
 -- the bytes are such a map, and these are its bits, seven for each byte
-pub record IsWholeMap (bytes : List ℕ) (bits : List Bool) : Type 0 where
-  pub entity : IsEntity bytes
-  pub short : length bytes ≤ 256
-  pub value : bits ≡ bits_of (groups bytes)
+abbrev pub IsWholeMap : List ℕ → List Bool → Type 0
+IsWholeMap bytes bits = IsSpelled 256 (λ b bits. bits ≡ bits_of (groups b)) bytes bits
 
 -- some bit is 1
 abbrev pub HasSetBit : List Bool → Type 0

@@ -1,12 +1,14 @@
 -- How many bytes the shortest forms take (our own reckoning), and the law that ties this to the forms.
-use Rattle.std.specs.Prelude.{◌≡◌, ℕ, zero, suc, ◌+◌, ◌*◌, ◌^◌, ◌<◌, ◌≤◌, ℤ, nat_lt, if◌then◌else◌, List, [], ◌∷◌, length}
+use Rattle.std.specs.Prelude.{◌≡◌, ℕ, zero, suc, ◌+◌, ◌*◌, ◌^◌, ◌<◌, ◌≤◌, ℤ, Bool, nat_lt, if◌then◌else◌, List, [], ◌∷◌, length}
 use Rattle.fast_wire.specs.Integer.{magnitude}
+use Rattle.fast_wire.specs.Reader.{IsBytes}
 use Rattle.fast_wire.specs.Nullable.{sent_unsigned, sent_signed}
 use Rattle.fast_wire.specs.declared.nullable.Nullable.{Nullable}
 use Rattle.fast_wire.specs.declared.nullable.Nullable.TheVariants.{Null, Value}
 
 -- a value has a form exactly where it can have one, and its shortest form takes size bytes
-pub record HasSizes {V : Type 0} (Form : List ℕ → V → Type 0) (Can : V → Type 0) (size : V → ℕ) : Type 0 where
+pub record HasSizes {V : Type 0} (Form : List ℕ → V → Type 0) (Can : V → Type 0)
+    (size : V → ℕ) : Type 0 where
   -- only a value that can has a form
   pub within : (bytes : List ℕ) (v : V) → Form bytes v → Can v
   -- some form of it has so many bytes
@@ -19,7 +21,8 @@ pub record HasSizes {V : Type 0} (Form : List ℕ → V → Type 0) (Can : V →
 -- groups for a number, where one group serves below the limit, and each further one 128 times as far
 unfoldable pub groups_from : ℕ → ℕ → ℕ → ℕ
 groups_from zero limit n = 1
-groups_from (suc more) limit n = if nat_lt n limit then 1 else suc (groups_from more (limit * 128) n)
+groups_from (suc more) limit n =
+    if nat_lt n limit then 1 else suc (groups_from more (limit * 128) n)
 
 unfoldable pub unsigned_size : ℕ → ℕ
 unsigned_size n = groups_from 9 128 n
@@ -58,3 +61,17 @@ CanBeUnsigned v = v < 128 ^ 10
 
 abbrev pub CanBeSigned : ℤ → Type 0
 CanBeSigned v = magnitude v < 64 * 128 ^ 9
+
+abbrev pub CanBeUnsignedNullable : Nullable ℕ → Type 0
+CanBeUnsignedNullable v = CanBeUnsigned (sent_unsigned v)
+
+abbrev pub CanBeSignedNullable : Nullable ℤ → Type 0
+CanBeSignedNullable v = CanBeSigned (sent_signed v)
+
+-- bytes, of which there are not too many
+abbrev pub CanBeVector : List ℕ → Type 0
+CanBeVector s = IsBytes s × (length s ≤ 65535)
+
+-- the bits that 256 groups hold
+abbrev pub CanBeMap : List Bool → Type 0
+CanBeMap bits = length bits ≤ 1792

@@ -1,7 +1,10 @@
 -- The shortest forms, made: what the writers append. No public clause names these.
-use Rattle.std.specs.Prelude.{◌≡◌, ℕ, ℤ, ◌+◌, ◌-◌, ◌*◌, ◌/◌, ◌%◌, ◌^◌, ◌<◌, ◌≤◌, List, [], ◌∷◌, ◌++◌, replicate, Bool, true, false}
+use Rattle.std.specs.Prelude.{◌≡◌, ℕ, ℤ, ◌+◌, ◌-◌, ◌*◌, ◌/◌, ◌%◌, ◌^◌, ◌<◌, ◌≤◌, List, [], ◌∷◌, ◌++◌, length, replicate, Bool, true, false, Result, OnOk, IfErr, Vec, vec_len, vec_capacity}
+use Rattle.std.specs.declared.alloc.Global.{Global}
 use Rattle.fast_wire.specs.Integer.{magnitude}
 use Rattle.fast_wire.specs.PresenceMap.{bit_at}
+use Rattle.fast_wire.specs.declared.fault.WireFault.{WireFault}
+use Rattle.fast_wire.specs.declared.fault.WireFault.TheVariants as fault
 use Rattle.std.proofs.Common.{zero, suc}
 
 -- the lowest n groups of v, the most significant first, and the stop bit on the last
@@ -16,7 +19,9 @@ IsLeastSize v n = (0 < n) × (n ≤ 10) × (v < 128 ^ n) × (1 < n → 128 ^ (n 
 
 -- n is the least number of groups whose top bit can be the sign, from 1 on
 abbrev pub IsLeastSignedSize : ℤ → ℕ → Type 0
-IsLeastSignedSize v n = (0 < n) × (n ≤ 10) × (magnitude v < 64 * 128 ^ (n - 1)) × (1 < n → 64 * 128 ^ (n - 2) ≤ magnitude v)
+IsLeastSignedSize v n =
+    (0 < n) × (n ≤ 10) × (magnitude v < 64 * 128 ^ (n - 1))
+    × (1 < n → 64 * 128 ^ (n - 2) ≤ magnitude v)
 
 -- the number 1 or 0
 abbrev pub bit_number : Bool → ℕ
@@ -25,8 +30,11 @@ bit_number false = 0
 
 -- the group of the seven bits from a place on
 abbrev pub group_from : List Bool → ℕ → ℕ
-group_from bits from = 64 * bit_number (bit_at bits from) + 32 * bit_number (bit_at bits (from + 1)) + 16 * bit_number (bit_at bits (from + 2))
-    + 8 * bit_number (bit_at bits (from + 3)) + 4 * bit_number (bit_at bits (from + 4)) + 2 * bit_number (bit_at bits (from + 5)) + bit_number (bit_at bits (from + 6))
+group_from bits from =
+    64 * bit_number (bit_at bits from) + 32 * bit_number (bit_at bits (from + 1))
+    + 16 * bit_number (bit_at bits (from + 2)) + 8 * bit_number (bit_at bits (from + 3))
+    + 4 * bit_number (bit_at bits (from + 4)) + 2 * bit_number (bit_at bits (from + 5))
+    + bit_number (bit_at bits (from + 6))
 
 -- n groups of the bits from a place on, and the stop bit on the last
 abbrev pub map_of : ℕ → List Bool → ℕ → List ℕ
@@ -65,3 +73,10 @@ stopped (g ∷ h ∷ gs) = g ∷ stopped (h ∷ gs)
 -- so many groups of 0 and then a string
 abbrev pub string_of : ℕ → List ℕ → List ℕ
 string_of preamble s = stopped (replicate preamble 0 ++ s)
+
+-- what a call that appends given bytes answers, and leaves behind
+pub record Appends (bytes : List ℕ) (old new : Vec ℕ Global)
+    (r : Result (Unit {0}) WireFault) : Type 0 where
+  pub ok : OnOk r (new.items ≡ old.items ++ bytes)
+  pub err : IfErr r (λ e. (e ≡ fault.Memory) × (new.items ≡ old.items)
+      × (vec_capacity old < vec_len old + length bytes))

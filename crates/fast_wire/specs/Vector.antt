@@ -2,6 +2,7 @@
 -- own limit). The bytes of a Unicode string stand in this form too.
 use Rattle.std.specs.Prelude.{◌≡◌, ℕ, ◌≤◌, List, ◌++◌, length}
 use Rattle.fast_wire.specs.Integer.{IsUnsigned}
+use Rattle.fast_wire.specs.Reader.{IsBytes}
 use Rattle.fast_wire.specs.Nullable.{IsUnsignedNullable}
 use Rattle.fast_wire.specs.declared.nullable.Nullable.{Nullable}
 use Rattle.fast_wire.specs.declared.nullable.Nullable.TheVariants.{Null, Value}
@@ -11,6 +12,7 @@ pub record IsCounted (IsLength : List ℕ → ℕ → Type 0) (bytes s : List �
   pub front : List ℕ
   pub parts : bytes ≡ front ++ s
   pub length_form : IsLength front (length s)
+  pub bytes_fit : IsBytes s
   pub limit : length s ≤ 65535
 
 abbrev pub IsVector : List ℕ → List ℕ → Type 0

@@ -4,15 +4,15 @@ ghost use Rattle.std.specs.Prelude.{◌≡◌, ℕ, ◌+◌, ◌<◌, ◌≤◌,
 ghost use Rattle.fast_wire.specs.Entity.{IsEntity, groups};
 ghost use Rattle.fast_wire.specs.Ascii.{IsAscii, IsAsciiEntity, IsAsciiEntityNullable, IsAsciiNullable, IsAsciiText};
 ghost use Rattle.fast_wire.specs.Nullable.{IsNullOr, borrowed, items_of, units};
-ghost use Rattle.fast_wire.specs.Reading.{AsciiFault, Gives, OrMemory, Reads, RefusedAt, ascii_at, ascii_nullable_at};
+ghost use Rattle.fast_wire.specs.Reading.{AsciiFault, GivesAt, OrMemory, Reads, ascii_at, ascii_nullable_at, IsReadAt};
 ghost use Rattle.fast_wire.specs.Sizes.{ascii_size, ascii_nullable_size};
-ghost use Rattle.fast_wire.specs.Spellings.{behind_zeros, preamble_for, string_of};
-ghost use Rattle.fast_wire.specs.Writing.{AppendsShortest, IsShortestSize};
+ghost use Rattle.fast_wire.specs.Spellings.{behind_zeros, preamble_for, string_of, Appends};
+ghost use Rattle.fast_wire.specs.Writing.{IsShortestSize, Writes, NoText};
 ghost use Rattle.fast_wire.specs.declared.nullable.Nullable.{Nullable};
 
 use crate::fault::WireFault;
 use crate::nullable::Nullable;
-use crate::stop_bit::{entity_end, find_stop};
+use crate::stop_bit::{STOP_BIT, entity_end, find_stop};
 use std::alloc::Global;
 
 /// The most bytes of a string's entity.
@@ -26,6 +26,9 @@ const PREAMBLE: usize = 1;
 
 /// The groups of a preamble in the nullable form.
 const NULLABLE_PREAMBLE: usize = 2;
+
+/// The one byte of NULL's shortest form: a group of 0 with the stop bit.
+const NULL: u8 = STOP_BIT;
 
 /// The groups of the longest preamble.
 const ZEROS: [u8; 2] = [0, 0];
@@ -47,7 +50,8 @@ fn zero_groups(entity: &[u8], most: usize) -> usize
 /// The characters of an entity behind at most `most` groups of 0, copied once. TooLong: there are too many.
 fn characters(alloc: Global, entity: &[u8], most: usize) -> Result<Vec<u8>, WireFault>
     requires { IsEntity entity.now }
-    ensures ok { IfOk result (λ text. (text.items ≡ behind_zeros most (groups entity.now)) × (length text.items ≤ 65535)) }
+    ensures ok { IfOk result (λ text. (text.items ≡ behind_zeros most (groups entity.now))
+        × (length text.items ≤ 65535)) }
     ensures err { IfErr result (λ e. let count = length (behind_zeros most (groups entity.now)) in
         ((e ≡ WireFault.Memory) × (count ≤ 65535)) ⊎ ((e ≡ WireFault.TooLong) × (65535 < count))) }
 {
@@ -55,9 +59,7 @@ fn characters(alloc: Global, entity: &[u8], most: usize) -> Result<Vec<u8>, Wire
     if spelled.len() > CHARACTER_LIMIT {
         return Err(WireFault::TooLong);
     }
-    let Ok(mut text) = Vec::from_slice(alloc, spelled) else {
-        return Err(WireFault::Memory);
-    };
+    let mut text = Vec::from_slice(alloc, spelled)?;
     if !text.is_empty() {
         let last = text.len() - 1;
         text[last] %= 128;
@@ -71,15 +73,17 @@ fn characters(alloc: Global, entity: &[u8], most: usize) -> Result<Vec<u8>, Wire
 /// characters. Memory: the one copy was refused.
 pub fn read_ascii(alloc: Global, bytes: &[u8], at: usize) -> Result<(Vec<u8>, usize), WireFault>
     requires { at ≤ length bytes.now }
+    ensures { IsReadAt OrMemory ascii_at IsAscii IsAsciiText
+        (AsciiFault IsAsciiEntity length) (λ v. v.items) bytes.now at result }
+{
+    ascii_from(alloc, bytes, at)
+}
+
+/// The string that stands at `at`, and the place after it.
+fn ascii_from(alloc: Global, bytes: &[u8], at: usize) -> Result<(Vec<u8>, usize), WireFault>
+    requires { at ≤ length bytes.now }
     ensures place { IfOk result (λ x. (at < x.1) × (x.1 ≤ length bytes.now)) }
-    // what is read is spelled so, and a refusal is this one
-    ensures answer { MatchResult result (λ x. Reads IsAscii bytes.now at (x.0.items, x.1))
-        (λ e. RefusedAt IsAscii bytes.now at e ⊎ AsciiFault IsAsciiEntity length bytes.now at e) }
-    // what is spelled so is read, unless memory runs out
-    ensures only { (next : ℕ) (value : List ℕ) → Reads IsAscii bytes.now at (value, next)
-        → MatchResult result (λ x. (x.0.items ≡ value) × (x.1 ≡ next)) (λ e. e ≡ WireFault.Memory) }
-    // the same by the function that reads the front of a list, for the layers above
-    ensures gives { Gives OrMemory (λ x. (x.0.items, drop x.1 bytes.now)) result (ascii_at (drop at bytes.now)) }
+    ensures gives { GivesAt OrMemory ascii_at (λ v. v.items) bytes.now at result }
 {
     let next = entity_end(bytes, at, ENTITY_LIMIT)?;
     let text = characters(alloc, &bytes[at..next], PREAMBLE)?;
@@ -94,15 +98,24 @@ pub fn read_ascii_nullable(
     at: usize,
 ) -> Result<(Nullable<Vec<u8>>, usize), WireFault>
     requires { at ≤ length bytes.now }
+    ensures { IsReadAt OrMemory ascii_nullable_at IsAsciiNullable (IsNullOr IsAsciiText)
+        (AsciiFault IsAsciiEntityNullable units) items_of bytes.now at result }
+{
+    ascii_nullable_from(alloc, bytes, at)
+}
+
+/// The nullable string that stands at `at`, and the place after it.
+fn ascii_nullable_from(
+    alloc: Global,
+    bytes: &[u8],
+    at: usize,
+) -> Result<(Nullable<Vec<u8>>, usize), WireFault>
+    requires { at ≤ length bytes.now }
     ensures place { IfOk result (λ x. (at < x.1) × (x.1 ≤ length bytes.now)) }
-    ensures answer { MatchResult result (λ x. Reads IsAsciiNullable bytes.now at (items_of x.0, x.1))
-        (λ e. RefusedAt IsAsciiNullable bytes.now at e ⊎ AsciiFault IsAsciiEntityNullable units bytes.now at e) }
-    ensures only { (next : ℕ) (value : Nullable (List ℕ)) → Reads IsAsciiNullable bytes.now at (value, next)
-        → MatchResult result (λ x. (items_of x.0 ≡ value) × (x.1 ≡ next)) (λ e. e ≡ WireFault.Memory) }
-    ensures gives { Gives OrMemory (λ x. (items_of x.0, drop x.1 bytes.now)) result (ascii_nullable_at (drop at bytes.now)) }
+    ensures gives { GivesAt OrMemory ascii_nullable_at items_of bytes.now at result }
 {
     let next = entity_end(bytes, at, ENTITY_LIMIT)?;
-    if bytes[at] == 0x80 {
+    if bytes[at] == NULL {
         return Ok((Nullable::Null, next));
     }
     let text = characters(alloc, &bytes[at..next], NULLABLE_PREAMBLE)?;
@@ -124,10 +137,7 @@ fn preamble_size(text: &[u8], preamble: usize) -> usize
 /// Whether a string has a form. Range: a character is above 127. TooLong, where none is: there are more than
 /// 65,535.
 fn check_characters(text: &[u8]) -> Result<(), WireFault>
-    ensures ok { OnOk result (IsAsciiText text.now) }
-    ensures range { IsErrOf result WireFault.Range ↔ (All (λ c. c < 128) text.now → ⊥) }
-    ensures too_long { IsErrOf result WireFault.TooLong ↔ (All (λ c. c < 128) text.now × (65535 < length text.now)) }
-    ensures err { IfErr result (λ e. (e ≡ WireFault.Range) ⊎ (e ≡ WireFault.TooLong)) }
+    ensures { MatchResult result (λ _. IsAsciiText text.now) (NoText (Nullable.Value text.now)) }
 {
     if find_stop(text).is_some() {
         return Err(WireFault::Range);
@@ -143,27 +153,20 @@ fn append_string(text: &[u8], preamble: usize, out: &mut Vec<u8>) -> Result<(), 
     requires text { IsAsciiText text.now }
     requires few { preamble ≤ 2 }
     requires some { 0 < preamble + length text.now }
-    ensures ok { OnOk result (out.new.items ≡ out.old.items ++ string_of preamble text.now) }
-    ensures err { IfErr result (λ e. (e ≡ WireFault.Memory) × (out.new.items ≡ out.old.items)) }
+    ensures { Appends (string_of preamble text.now) out.old out.new result }
 {
-    if out.reserve(preamble + text.len()).is_err() {
-        return Err(WireFault::Memory);
-    }
+    out.reserve(preamble + text.len())?;
     out.extend_from_slice(&ZEROS[..preamble]).unwrap();
     out.extend_from_slice(text).unwrap();
     let last = out.len() - 1;
-    out[last] += 128;
+    out[last] += STOP_BIT;
     Ok(())
 }
 
 /// Appends the shortest form of an ASCII string, or answers and appends nothing. Range: a character is above
 /// 127. TooLong, where none is: there are more than 65,535. Memory: the one growth was refused.
 pub fn write_ascii(text: &[u8], out: &mut Vec<u8>) -> Result<(), WireFault>
-    ensures ok { OnOk result (AppendsShortest IsAscii out.old.items out.new.items text.now) }
-    ensures range { IsErrOf result WireFault.Range ↔ (All (λ c. c < 128) text.now → ⊥) }
-    ensures too_long { IsErrOf result WireFault.TooLong ↔ (All (λ c. c < 128) text.now × (65535 < length text.now)) }
-    ensures err { IfErr result (λ e. (e ≡ WireFault.Range) ⊎ ((e ≡ WireFault.TooLong) ⊎ (e ≡ WireFault.Memory))) }
-    ensures unchanged { OnErr result (out.new.items ≡ out.old.items) }
+    ensures { Writes IsAscii (λ s. NoText (Nullable.Value s)) out.old out.new text.now result }
 {
     check_characters(text)?;
     append_string(text, preamble_size(text, PREAMBLE), out)
@@ -182,11 +185,7 @@ pub fn size_ascii(text: &[u8]) -> usize
 /// Appends the shortest form of a nullable ASCII string, or answers and appends nothing. Range, TooLong,
 /// Memory: as `write_ascii`.
 pub fn write_ascii_nullable(value: Nullable<&[u8]>, out: &mut Vec<u8>) -> Result<(), WireFault>
-    ensures ok { OnOk result (AppendsShortest IsAsciiNullable out.old.items out.new.items (borrowed value.entry)) }
-    ensures range { IsErrOf result WireFault.Range ↔ (IsNullOr (All (λ c. c < 128)) (borrowed value.entry) → ⊥) }
-    ensures too_long { IsErrOf result WireFault.TooLong ↔ (IsNullOr (All (λ c. c < 128)) (borrowed value.entry) × (65535 < units (borrowed value.entry))) }
-    ensures err { IfErr result (λ e. (e ≡ WireFault.Range) ⊎ ((e ≡ WireFault.TooLong) ⊎ (e ≡ WireFault.Memory))) }
-    ensures unchanged { OnErr result (out.new.items ≡ out.old.items) }
+    ensures { Writes IsAsciiNullable NoText out.old out.new (borrowed value.entry) result }
 {
     match value {
         Nullable::Null => append_string(&[], 1, out),

@@ -1,5 +1,9 @@
 //! Why bytes are no form, or a value has none.
 
+ghost use Rattle.std.specs.Prelude.{◌≡◌};
+ghost use Rattle.fast_wire.specs.declared.fault.WireFault.TheVariants as wire;
+
+use std::alloc::AllocError;
 use thiserror::Error;
 
 /// Why bytes are no form, or a value has none.
@@ -20,4 +24,12 @@ pub enum WireFault {
     /// An allocation was refused.
     #[error("out of memory")]
     Memory,
+}
+
+impl From<AllocError> for WireFault {
+    ghost from_gives = { λ _ e. e ≡ wire.Memory };
+
+    fn from(_: AllocError) -> Self {
+        WireFault::Memory
+    }
 }

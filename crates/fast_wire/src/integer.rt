@@ -1,14 +1,14 @@
 //! Integers: FAST 1.1, Transfer Encoding, Integer Representation.
 
 ghost use Rattle.std.specs.Prelude.{◌≡◌, ℕ, ℤ, ◌+◌, ◌-◌, ◌*◌, ◌^◌, ◌<◌, ◌≤◌, length, drop, slice_range, IfErr, IfOk, MatchResult, OnOk, OnErr, Ok, IsErrOf, ◌++◌, ◌↔◌, ◌⊎◌, vec_len, vec_capacity};
-ghost use Rattle.fast_wire.specs.Reading.{EntityFault, Gives, NothingElse, Reads, unsigned_at, signed_at};
+ghost use Rattle.fast_wire.specs.Reading.{EntityFault, IsReadAt, GivesAt, NothingElse, Reads, unsigned_at, signed_at};
 ghost use Rattle.fast_wire.specs.Sizes.{unsigned_size, signed_size, CanBeUnsigned, CanBeSigned};
-ghost use Rattle.fast_wire.specs.Writing.{AppendsShortest, IsShortestSize};
-ghost use Rattle.fast_wire.specs.Spellings.{entity_of, IsLeastSize, IsLeastSignedSize};
-ghost use Rattle.fast_wire.specs.Integer.{unsigned_of, signed_of, magnitude, IsUnsigned, IsSigned, IsSignedRange};
+ghost use Rattle.fast_wire.specs.Writing.{IsShortestSize, Writes, OutOfRange};
+ghost use Rattle.fast_wire.specs.Spellings.{entity_of, IsLeastSize, IsLeastSignedSize, Appends};
+ghost use Rattle.fast_wire.specs.Integer.{unsigned_of, signed_of, magnitude, IsUnsigned, IsSigned};
 
 use crate::fault::WireFault;
-use crate::stop_bit::entity_end;
+use crate::stop_bit::{STOP_BIT, entity_end};
 
 /// The most bytes of an integer's entity.
 const INTEGER_LIMIT: usize = 10;
@@ -31,14 +31,17 @@ fn unsigned_value(entity: &[u8]) -> u128
 /// TooLong: the first ten have none. It takes no memory.
 pub fn read_unsigned(bytes: &[u8], at: usize) -> Result<(u128, usize), WireFault>
     requires { at ≤ length bytes.now }
+    ensures { IsReadAt NothingElse unsigned_at IsUnsigned CanBeUnsigned
+        (EntityFault 10) (λ v. v) bytes.now at result }
+{
+    unsigned_from(bytes, at)
+}
+
+/// The number that stands at `at`, and the place after it.
+fn unsigned_from(bytes: &[u8], at: usize) -> Result<(u128, usize), WireFault>
+    requires { at ≤ length bytes.now }
     ensures place { IfOk result (λ x. (at < x.1) × (x.1 ≤ length bytes.now)) }
-    ensures range { IfOk result (λ x. x.0 < 2 ^ 70) }
-    // what is read is spelled so, and a refusal is this one
-    ensures answer { MatchResult result (Reads IsUnsigned bytes.now at) (EntityFault 10 bytes.now at) }
-    // what is spelled so is read
-    ensures only { (next value : ℕ) → Reads IsUnsigned bytes.now at (value, next) → result ≡ Ok (value, next) }
-    // the same by the function that reads the front of a list, for the layers above
-    ensures gives { Gives NothingElse (λ x. (x.0, drop x.1 bytes.now)) result (unsigned_at (drop at bytes.now)) }
+    ensures gives { GivesAt NothingElse unsigned_at (λ v. v) bytes.now at result }
 {
     let next = entity_end(bytes, at, INTEGER_LIMIT)?;
     Ok((unsigned_value(&bytes[at..next]), next))
@@ -63,12 +66,9 @@ pub(crate) fn least_size(value: u128) -> usize
 pub(crate) fn append_entity(value: u128, size: usize, out: &mut Vec<u8>) -> Result<(), WireFault>
     requires some { 0 < size }
     requires few { size ≤ 10 }
-    ensures ok { OnOk result (out.new.items ≡ out.old.items ++ entity_of size value) }
-    ensures err { IfErr result (λ e. (e ≡ WireFault.Memory) × (out.new.items ≡ out.old.items)) }
+    ensures { Appends (entity_of size value) out.old out.new result }
 {
-    if out.reserve(size).is_err() {
-        return Err(WireFault::Memory);
-    }
+    out.reserve(size)?;
     push_entity(value, size, out);
     Ok(())
 }
@@ -87,7 +87,7 @@ pub(crate) fn push_entity(value: u128, size: usize, out: &mut Vec<u8>)
         out.push(group as u8).unwrap();
     }
     let group = value % 128;
-    out.push(group as u8 + 128).unwrap();
+    out.push(group as u8 + STOP_BIT).unwrap();
 }
 
 /// The number of bytes of the shortest form of a number that fits ten bytes. It takes no memory.
@@ -103,10 +103,7 @@ pub fn size_unsigned(value: u128) -> usize
 /// Appends the shortest form of a number, or answers and appends nothing. Range: the number does not fit ten
 /// bytes. Memory: the one growth was refused.
 pub fn write_unsigned(value: u128, out: &mut Vec<u8>) -> Result<(), WireFault>
-    ensures ok { OnOk result (AppendsShortest IsUnsigned out.old.items out.new.items value) }
-    ensures range { IsErrOf result WireFault.Range ↔ (128 ^ 10 ≤ value) }
-    ensures err { IfErr result (λ e. (e ≡ WireFault.Range) ⊎ (e ≡ WireFault.Memory)) }
-    ensures unchanged { OnErr result (out.new.items ≡ out.old.items) }
+    ensures { Writes IsUnsigned (OutOfRange CanBeUnsigned) out.old out.new value result }
 {
     if value >> 70 != 0 {
         return Err(WireFault::Range);
@@ -134,11 +131,17 @@ fn signed_value(entity: &[u8]) -> i128
 /// no stop bit. TooLong: the first ten have none. It takes no memory.
 pub fn read_signed(bytes: &[u8], at: usize) -> Result<(i128, usize), WireFault>
     requires { at ≤ length bytes.now }
+    ensures { IsReadAt NothingElse signed_at IsSigned CanBeSigned
+        (EntityFault 10) (λ v. v) bytes.now at result }
+{
+    signed_from(bytes, at)
+}
+
+/// The signed number that stands at `at`, and the place after it.
+fn signed_from(bytes: &[u8], at: usize) -> Result<(i128, usize), WireFault>
+    requires { at ≤ length bytes.now }
     ensures place { IfOk result (λ x. (at < x.1) × (x.1 ≤ length bytes.now)) }
-    ensures range { IfOk result (λ x. IsSignedRange x.0) }
-    ensures answer { MatchResult result (Reads IsSigned bytes.now at) (EntityFault 10 bytes.now at) }
-    ensures only { (next : ℕ) (value : ℤ) → Reads IsSigned bytes.now at (value, next) → result ≡ Ok (value, next) }
-    ensures gives { Gives NothingElse (λ x. (x.0, drop x.1 bytes.now)) result (signed_at (drop at bytes.now)) }
+    ensures gives { GivesAt NothingElse signed_at (λ v. v) bytes.now at result }
 {
     let end = entity_end(bytes, at, INTEGER_LIMIT)?;
     Ok((signed_value(&bytes[at..end]), end))
@@ -184,10 +187,7 @@ pub fn size_signed(value: i128) -> usize
 /// Appends the shortest form of a signed number, or answers and appends nothing. Range: the number does not
 /// fit ten bytes, a bit of which is the sign. Memory: the one growth was refused.
 pub fn write_signed(value: i128, out: &mut Vec<u8>) -> Result<(), WireFault>
-    ensures ok { OnOk result (AppendsShortest IsSigned out.old.items out.new.items value) }
-    ensures range { IsErrOf result WireFault.Range ↔ (64 * 128 ^ 9 ≤ magnitude value) }
-    ensures err { IfErr result (λ e. (e ≡ WireFault.Range) ⊎ (e ≡ WireFault.Memory)) }
-    ensures unchanged { OnErr result (out.new.items ≡ out.old.items) }
+    ensures { Writes IsSigned (OutOfRange CanBeSigned) out.old out.new value result }
 {
     let distance = distance(value);
     if distance >> 69 != 0 {

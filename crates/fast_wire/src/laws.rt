@@ -1,7 +1,8 @@
-//! Laws of the byte forms, each the contract of a function that does nothing.
+//! Laws of the byte forms: the contracts of functions that do nothing, with a clause for each form.
 //!
 //! A form *is read* (`IsReader`): what the function that reads the front of a list takes is a form, each form
-//! is taken whatever follows it, and a fault other than want of bytes stays whatever follows. Its *sizes*
+//! is taken whatever follows it, and a fault other than want of bytes stays whatever follows. The function *goes
+//! on* (`GoesOn`): what it takes it takes whatever follows, with no premise on the bytes. The form's *sizes*
 //! (`HasSizes`): which values have a form, how many bytes the shortest takes, and that two forms of one value
 //! that are as long are the same bytes.
 
@@ -13,7 +14,7 @@ ghost use Rattle.fast_wire.specs.Nullable.{IsNullOr, IsSignedNullable, IsUnsigne
 ghost use Rattle.fast_wire.specs.PresenceMap.{IsWholeMap};
 ghost use Rattle.fast_wire.specs.Reader.{GoesOn, IsReader};
 ghost use Rattle.fast_wire.specs.Reading.{ascii_at, ascii_nullable_at, bytes_at, entity_at, map_at, signed_at, signed_nullable_at, unsigned_at, unsigned_nullable_at, vector_at, vector_nullable_at};
-ghost use Rattle.fast_wire.specs.Sizes.{ascii_nullable_size, ascii_size, CanBeSigned, CanBeUnsigned, HasSizes, signed_nullable_size, signed_size, unsigned_nullable_size, unsigned_size, vector_nullable_size, vector_size};
+ghost use Rattle.fast_wire.specs.Sizes.{ascii_nullable_size, ascii_size, CanBeSigned, CanBeSignedNullable, CanBeUnsigned, CanBeUnsignedNullable, CanBeVector, HasSizes, signed_nullable_size, signed_size, unsigned_nullable_size, unsigned_size, vector_nullable_size, vector_size};
 ghost use Rattle.fast_wire.specs.Vector.{IsVector, IsVectorNullable};
 ghost use Rattle.fast_wire.specs.Writing.{IsShortest};
 ghost use Rattle.fast_wire.specs.declared.nullable.Nullable.{Nullable};
@@ -21,54 +22,20 @@ ghost use Rattle.fast_wire.specs.declared.nullable.Nullable.{Nullable};
 use crate::fault::WireFault;
 use crate::nullable::Nullable;
 
-/// An entity of at most so many bytes is read from the front of a list, and nothing else is.
-pub fn entities_are_read()
-    ensures { (limit : ℕ) → IsReader WireFault.NeedMore (entity_at limit) (IsEntityWithin limit) }
-{}
-
-/// An unsigned integer is read from the front of a list, and nothing else is.
-pub fn unsigned_forms_are_read()
-    ensures { IsReader WireFault.NeedMore unsigned_at IsUnsigned }
-{}
-
-/// A signed integer is read from the front of a list, and nothing else is.
-pub fn signed_forms_are_read()
-    ensures { IsReader WireFault.NeedMore signed_at IsSigned }
-{}
-
-/// A nullable unsigned integer is read from the front of a list, and nothing else is.
-pub fn unsigned_nullable_forms_are_read()
-    ensures { IsReader WireFault.NeedMore unsigned_nullable_at IsUnsignedNullable }
-{}
-
-/// A nullable signed integer is read from the front of a list, and nothing else is.
-pub fn signed_nullable_forms_are_read()
-    ensures { IsReader WireFault.NeedMore signed_nullable_at IsSignedNullable }
-{}
-
-/// An ASCII string is read from the front of a list, and nothing else is.
-pub fn ascii_forms_are_read()
-    ensures { IsReader WireFault.NeedMore ascii_at IsAscii }
-{}
-
-/// A nullable ASCII string is read from the front of a list, and nothing else is.
-pub fn ascii_nullable_forms_are_read()
-    ensures { IsReader WireFault.NeedMore ascii_nullable_at IsAsciiNullable }
-{}
-
-/// A byte vector is read from the front of a list, and nothing else is.
-pub fn vectors_are_read()
-    ensures { IsReader WireFault.NeedMore vector_at IsVector }
-{}
-
-/// A nullable byte vector is read from the front of a list, and nothing else is.
-pub fn nullable_vectors_are_read()
-    ensures { IsReader WireFault.NeedMore vector_nullable_at IsVectorNullable }
-{}
-
-/// A presence map is read from the front of a list, and nothing else is.
-pub fn maps_are_read()
-    ensures { IsReader WireFault.NeedMore map_at IsWholeMap }
+/// Each form is read from the front of a list, and nothing else is.
+pub fn forms_are_read()
+    ensures entity { (limit : ℕ)
+        → IsReader WireFault.NeedMore (entity_at limit) (IsEntityWithin limit) }
+    ensures unsigned { IsReader WireFault.NeedMore unsigned_at IsUnsigned }
+    ensures signed { IsReader WireFault.NeedMore signed_at IsSigned }
+    ensures unsigned_nullable { IsReader WireFault.NeedMore unsigned_nullable_at
+        IsUnsignedNullable }
+    ensures signed_nullable { IsReader WireFault.NeedMore signed_nullable_at IsSignedNullable }
+    ensures ascii { IsReader WireFault.NeedMore ascii_at IsAscii }
+    ensures ascii_nullable { IsReader WireFault.NeedMore ascii_nullable_at IsAsciiNullable }
+    ensures vector { IsReader WireFault.NeedMore vector_at IsVector }
+    ensures vector_nullable { IsReader WireFault.NeedMore vector_nullable_at IsVectorNullable }
+    ensures map { IsReader WireFault.NeedMore map_at IsWholeMap }
 {}
 
 /// What is read from the front of a list is read whatever follows, with no premise on the bytes.
@@ -86,70 +53,33 @@ pub fn readings_go_on()
     ensures map { GoesOn map_at }
 {}
 
-/// Two forms of one number that are as long are the same bytes.
-pub fn one_unsigned_form_of_a_length()
-    ensures { (v : ℕ) (b c : List ℕ) → IsUnsigned b v → IsUnsigned c v → length b ≡ length c → b ≡ c }
+/// Which values have a form, and how long the shortest is.
+pub fn forms_have_sizes()
+    ensures unsigned { HasSizes IsUnsigned CanBeUnsigned unsigned_size }
+    ensures signed { HasSizes IsSigned CanBeSigned signed_size }
+    ensures unsigned_nullable { HasSizes IsUnsignedNullable CanBeUnsignedNullable
+        unsigned_nullable_size }
+    ensures signed_nullable { HasSizes IsSignedNullable CanBeSignedNullable signed_nullable_size }
+    ensures ascii { HasSizes IsAscii IsAsciiText ascii_size }
+    ensures ascii_nullable { HasSizes IsAsciiNullable (IsNullOr IsAsciiText) ascii_nullable_size }
+    ensures vector { HasSizes IsVector CanBeVector vector_size }
+    ensures vector_nullable { HasSizes IsVectorNullable (IsNullOr CanBeVector)
+        vector_nullable_size }
 {}
 
-/// Which unsigned numbers have a form, and how long the shortest is.
-pub fn unsigned_sizes()
-    ensures { HasSizes IsUnsigned CanBeUnsigned unsigned_size }
-{}
-
-/// Which signed numbers have a form, and how long the shortest is.
-pub fn signed_sizes()
-    ensures { HasSizes IsSigned CanBeSigned signed_size }
-{}
-
-/// Which nullable unsigned numbers have a form, and how long the shortest is.
-pub fn unsigned_nullable_sizes()
-    ensures { HasSizes IsUnsignedNullable (λ v. CanBeUnsigned (sent_unsigned v)) unsigned_nullable_size }
-{}
-
-/// Which nullable signed numbers have a form, and how long the shortest is.
-pub fn signed_nullable_sizes()
-    ensures { HasSizes IsSignedNullable (λ v. CanBeSigned (sent_signed v)) signed_nullable_size }
-{}
-
-/// Which strings have an ASCII form, and how long the shortest is.
-pub fn ascii_sizes()
-    ensures { HasSizes IsAscii IsAsciiText ascii_size }
-{}
-
-/// Which strings have a nullable ASCII form, and how long the shortest is.
-pub fn ascii_nullable_sizes()
-    ensures { HasSizes IsAsciiNullable (IsNullOr IsAsciiText) ascii_nullable_size }
-{}
-
-/// Which byte vectors have a form, and how long the shortest is.
-pub fn vector_sizes()
-    ensures { HasSizes IsVector (λ s. length s ≤ 65535) vector_size }
-{}
-
-/// Which nullable byte vectors have a form, and how long the shortest is.
-pub fn vector_nullable_sizes()
-    ensures { HasSizes IsVectorNullable (λ s. units s ≤ 65535) vector_nullable_size }
-{}
-
-/// The shortest form of a larger unsigned number is not shorter, and none is longer than ten bytes.
-pub fn unsigned_sizes_grow()
-    ensures grow { (v w : ℕ) → v ≤ w → unsigned_size v ≤ unsigned_size w }
-    ensures few { (v : ℕ) → unsigned_size v ≤ 10 }
-    ensures some { (v : ℕ) → 0 < unsigned_size v }
-{}
-
-/// The shortest form of a signed number that is farther from zero on the same side is not shorter, in the form
-/// without NULL and in the nullable one, and none is longer than ten bytes.
-pub fn signed_sizes_grow()
-    ensures grow { (v w : ℤ) → IsNoCloser v w → signed_size v ≤ signed_size w }
-    ensures grow_nullable { (v w : ℤ) → IsNoCloser v w → signed_nullable_size (Nullable.Value v) ≤ signed_nullable_size (Nullable.Value w) }
-    ensures few { (v : ℤ) → signed_size v ≤ 10 }
-    ensures some { (v : ℤ) → 0 < signed_size v }
-{}
-
-/// The same of the forms themselves.
-pub fn signed_forms_grow()
-    ensures grow { (v w : ℤ) (b c : List ℕ) → IsNoCloser v w → IsShortest IsSigned b v → IsShortest IsSigned c w → length b ≤ length c }
-    ensures grow_nullable { (v w : ℤ) (b c : List ℕ) → IsNoCloser v w → IsShortest IsSignedNullable b (Nullable.Value v)
+/// The shortest form of a larger unsigned number is not shorter; nor is that of a signed number that is farther
+/// from zero on the same side, in the form without NULL and in the nullable one. None is longer than ten bytes.
+pub fn sizes_grow()
+    ensures unsigned { (v w : ℕ) → v ≤ w → unsigned_size v ≤ unsigned_size w }
+    ensures unsigned_few { (v : ℕ) → (0 < unsigned_size v) × (unsigned_size v ≤ 10) }
+    ensures signed { (v w : ℤ) → IsNoCloser v w → signed_size v ≤ signed_size w }
+    ensures signed_nullable { (v w : ℤ) → IsNoCloser v w
+        → signed_nullable_size (Nullable.Value v) ≤ signed_nullable_size (Nullable.Value w) }
+    ensures signed_few { (v : ℤ) → (0 < signed_size v) × (signed_size v ≤ 10) }
+    // the same of the forms themselves
+    ensures signed_forms { (v w : ℤ) (b c : List ℕ) → IsNoCloser v w
+        → IsShortest IsSigned b v → IsShortest IsSigned c w → length b ≤ length c }
+    ensures signed_nullable_forms { (v w : ℤ) (b c : List ℕ) → IsNoCloser v w
+        → IsShortest IsSignedNullable b (Nullable.Value v)
         → IsShortest IsSignedNullable c (Nullable.Value w) → length b ≤ length c }
 {}

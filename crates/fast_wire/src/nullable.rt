@@ -1,10 +1,10 @@
 //! Nullable integers: FAST 1.1, Transfer Encoding, Nullable Integer Representation.
 
 ghost use Rattle.std.specs.Prelude.{◌≡◌, ℕ, ℤ, ◌+◌, ◌*◌, ◌^◌, ◌<◌, ◌≤◌, length, drop, IfErr, IfOk, MatchResult, OnOk, OnErr, Ok, IsErrOf, ◌↔◌, ◌⊎◌};
-ghost use Rattle.fast_wire.specs.Integer.{magnitude, IsSignedRange};
-ghost use Rattle.fast_wire.specs.Reading.{EntityFault, Gives, NothingElse, Reads, unsigned_nullable_at, signed_nullable_at};
-ghost use Rattle.fast_wire.specs.Sizes.{unsigned_nullable_size, signed_nullable_size, CanBeUnsigned, CanBeSigned};
-ghost use Rattle.fast_wire.specs.Writing.{AppendsShortest, IsShortestSize};
+ghost use Rattle.fast_wire.specs.Integer.{magnitude};
+ghost use Rattle.fast_wire.specs.Reading.{EntityFault, GivesAt, NothingElse, Reads, unsigned_nullable_at, signed_nullable_at, IsReadAt};
+ghost use Rattle.fast_wire.specs.Sizes.{unsigned_nullable_size, signed_nullable_size, CanBeUnsignedNullable, CanBeSignedNullable};
+ghost use Rattle.fast_wire.specs.Writing.{IsShortestSize, Writes, OutOfRange};
 ghost use Rattle.fast_wire.specs.Nullable.{sent_unsigned, sent_signed, received_unsigned, received_signed, IsNullOr, IsUnsignedNullable, IsSignedNullable};
 
 use crate::fault::WireFault;
@@ -37,11 +37,17 @@ fn unsigned_received(sent: u128) -> Nullable<u128>
 /// takes no memory.
 pub fn read_unsigned_nullable(bytes: &[u8], at: usize) -> Result<(Nullable<u128>, usize), WireFault>
     requires { at ≤ length bytes.now }
+    ensures { IsReadAt NothingElse unsigned_nullable_at IsUnsignedNullable CanBeUnsignedNullable
+        (EntityFault 10) (λ v. v) bytes.now at result }
+{
+    unsigned_nullable_from(bytes, at)
+}
+
+/// The nullable number that stands at `at`, and the place after it.
+fn unsigned_nullable_from(bytes: &[u8], at: usize) -> Result<(Nullable<u128>, usize), WireFault>
+    requires { at ≤ length bytes.now }
     ensures place { IfOk result (λ x. (at < x.1) × (x.1 ≤ length bytes.now)) }
-    ensures range { IfOk result (λ x. IsNullOr (λ v. v + 1 < 2 ^ 70) x.0) }
-    ensures answer { MatchResult result (Reads IsUnsignedNullable bytes.now at) (EntityFault 10 bytes.now at) }
-    ensures only { (next : ℕ) (value : Nullable ℕ) → Reads IsUnsignedNullable bytes.now at (value, next) → result ≡ Ok (value, next) }
-    ensures gives { Gives NothingElse (λ x. (x.0, drop x.1 bytes.now)) result (unsigned_nullable_at (drop at bytes.now)) }
+    ensures gives { GivesAt NothingElse unsigned_nullable_at (λ v. v) bytes.now at result }
 {
     let (sent, next) = read_unsigned(bytes, at)?;
     Ok((unsigned_received(sent), next))
@@ -61,10 +67,8 @@ fn unsigned_sent(value: Nullable<u128>) -> u128
 /// Appends the shortest form of a nullable unsigned number, or answers and appends nothing. Range: one more
 /// than the number does not fit ten bytes. Memory: the one growth was refused.
 pub fn write_unsigned_nullable(value: Nullable<u128>, out: &mut Vec<u8>) -> Result<(), WireFault>
-    ensures ok { OnOk result (AppendsShortest IsUnsignedNullable out.old.items out.new.items value) }
-    ensures range { IsErrOf result WireFault.Range ↔ (128 ^ 10 ≤ sent_unsigned value) }
-    ensures err { IfErr result (λ e. (e ≡ WireFault.Range) ⊎ (e ≡ WireFault.Memory)) }
-    ensures unchanged { OnErr result (out.new.items ≡ out.old.items) }
+    ensures { Writes IsUnsignedNullable (OutOfRange CanBeUnsignedNullable) out.old out.new value
+        result }
 {
     write_unsigned(unsigned_sent(value), out)
 }
@@ -72,7 +76,7 @@ pub fn write_unsigned_nullable(value: Nullable<u128>, out: &mut Vec<u8>) -> Resu
 /// The number of bytes of the shortest form of a nullable unsigned number that fits ten bytes. It takes no
 /// memory.
 pub fn size_unsigned_nullable(value: Nullable<u128>) -> usize
-    requires { CanBeUnsigned (sent_unsigned value) }
+    requires { CanBeUnsignedNullable value }
     ensures size { result ≡ unsigned_nullable_size value }
     ensures few { result ≤ 10 }
     ensures least { IsShortestSize IsUnsignedNullable value result }
@@ -98,11 +102,17 @@ fn signed_received(sent: i128) -> Nullable<i128>
 /// no memory.
 pub fn read_signed_nullable(bytes: &[u8], at: usize) -> Result<(Nullable<i128>, usize), WireFault>
     requires { at ≤ length bytes.now }
+    ensures { IsReadAt NothingElse signed_nullable_at IsSignedNullable CanBeSignedNullable
+        (EntityFault 10) (λ v. v) bytes.now at result }
+{
+    signed_nullable_from(bytes, at)
+}
+
+/// The nullable signed number that stands at `at`, and the place after it.
+fn signed_nullable_from(bytes: &[u8], at: usize) -> Result<(Nullable<i128>, usize), WireFault>
+    requires { at ≤ length bytes.now }
     ensures place { IfOk result (λ x. (at < x.1) × (x.1 ≤ length bytes.now)) }
-    ensures range { IfOk result (λ x. IsNullOr IsSignedRange x.0) }
-    ensures answer { MatchResult result (Reads IsSignedNullable bytes.now at) (EntityFault 10 bytes.now at) }
-    ensures only { (next : ℕ) (value : Nullable ℤ) → Reads IsSignedNullable bytes.now at (value, next) → result ≡ Ok (value, next) }
-    ensures gives { Gives NothingElse (λ x. (x.0, drop x.1 bytes.now)) result (signed_nullable_at (drop at bytes.now)) }
+    ensures gives { GivesAt NothingElse signed_nullable_at (λ v. v) bytes.now at result }
 {
     let (sent, next) = read_signed(bytes, at)?;
     Ok((signed_received(sent), next))
@@ -111,7 +121,8 @@ pub fn read_signed_nullable(bytes: &[u8], at: usize) -> Result<(Nullable<i128>, 
 /// What is sent for a value. The largest number, which has no form, stands for the one after it.
 fn signed_sent(value: Nullable<i128>) -> i128
     ensures small { magnitude (sent_signed value) < 2 ^ 127 → result ≡ sent_signed value }
-    ensures large { 2 ^ 127 ≤ magnitude (sent_signed value) → magnitude result + 1 ≡ magnitude (sent_signed value) }
+    ensures large { let sent = magnitude (sent_signed value) in
+        2 ^ 127 ≤ sent → magnitude result + 1 ≡ sent }
 {
     match value {
         Nullable::Null => 0,
@@ -123,10 +134,8 @@ fn signed_sent(value: Nullable<i128>) -> i128
 /// Appends the shortest form of a nullable signed number, or answers and appends nothing. Range: what is sent
 /// for it, one more for a number from 0 up, does not fit ten bytes. Memory: the one growth was refused.
 pub fn write_signed_nullable(value: Nullable<i128>, out: &mut Vec<u8>) -> Result<(), WireFault>
-    ensures ok { OnOk result (AppendsShortest IsSignedNullable out.old.items out.new.items value) }
-    ensures range { IsErrOf result WireFault.Range ↔ (64 * 128 ^ 9 ≤ magnitude (sent_signed value)) }
-    ensures err { IfErr result (λ e. (e ≡ WireFault.Range) ⊎ (e ≡ WireFault.Memory)) }
-    ensures unchanged { OnErr result (out.new.items ≡ out.old.items) }
+    ensures { Writes IsSignedNullable (OutOfRange CanBeSignedNullable) out.old out.new value
+        result }
 {
     write_signed(signed_sent(value), out)
 }
@@ -134,7 +143,7 @@ pub fn write_signed_nullable(value: Nullable<i128>, out: &mut Vec<u8>) -> Result
 /// The number of bytes of the shortest form of a nullable signed number that fits ten bytes. It takes no
 /// memory.
 pub fn size_signed_nullable(value: Nullable<i128>) -> usize
-    requires { CanBeSigned (sent_signed value) }
+    requires { CanBeSignedNullable value }
     ensures size { result ≡ signed_nullable_size value }
     ensures few { result ≤ 10 }
     ensures least { IsShortestSize IsSignedNullable value result }

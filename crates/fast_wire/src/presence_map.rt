@@ -1,14 +1,15 @@
 //! Presence maps: FAST 1.1, Transfer Encoding, Presence Map.
 
 ghost use Rattle.std.specs.Prelude.{◌≡◌, ◌≢◌, ◌≤◌, ◌<◌, ◌+◌, ◌*◌, ◌/◌, ◌%◌, ◌↔◌, ◌⊎◌, ◌-◌, ◌++◌, ℕ, Bool, true, false, List, [], length, drop, slice_range, slice_get, IsTrue, IfOk, MatchResult, IfErr, OnOk, OnErr, IsErrOf};
+ghost use Rattle.fast_wire.specs.Sizes.{CanBeMap};
 ghost use Rattle.fast_wire.specs.Entity.{groups};
-ghost use Rattle.fast_wire.specs.Reading.{EntityFault, Gives, OrMemory, Reads, RefusedAt, map_at};
-ghost use Rattle.fast_wire.specs.Writing.{AppendsShortest};
-ghost use Rattle.fast_wire.specs.PresenceMap.{bits_of, bit_at, next_bit, later_bits, IsMap, HasSetBit};
-ghost use Rattle.fast_wire.specs.Spellings.{bit_number, group_from, map_of, IsUsed, IsMapSize};
+ghost use Rattle.fast_wire.specs.Reading.{EntityFault, GivesAt, OrMemory, Reads, map_at, IsReadAt};
+ghost use Rattle.fast_wire.specs.Writing.{Writes, TooManyBits};
+ghost use Rattle.fast_wire.specs.PresenceMap.{bits_of, bit_at, next_bit, later_bits, IsMap, HasSetBit, IsWholeMap};
+ghost use Rattle.fast_wire.specs.Spellings.{bit_number, group_from, map_of, IsUsed, IsMapSize, Appends};
 
 use crate::fault::WireFault;
-use crate::stop_bit::entity_end;
+use crate::stop_bit::{STOP_BIT, entity_end};
 use std::alloc::Global;
 use std::marker::Model;
 
@@ -91,25 +92,21 @@ impl Bits {
 /// the copy of the map was refused.
 pub fn read_map(alloc: Global, bytes: &[u8], at: usize) -> Result<(Bits, usize), WireFault>
     requires { at ≤ length bytes.now }
+    ensures { IsReadAt OrMemory map_at IsWholeMap CanBeMap
+        (EntityFault 256) (λ v. v) bytes.now at result }
+{
+    map_from(alloc, bytes, at)
+}
+
+/// The map that stands at `at`, and the place after it.
+fn map_from(alloc: Global, bytes: &[u8], at: usize) -> Result<(Bits, usize), WireFault>
+    requires { at ≤ length bytes.now }
     ensures place { IfOk result (λ x. (at < x.1) × (x.1 ≤ length bytes.now)) }
-    ensures answer { MatchResult result (Reads IsMap bytes.now at) (λ e. RefusedAt IsMap bytes.now at e ⊎ EntityFault 256 bytes.now at e) }
-    // what is spelled so is read, unless memory runs out
-    ensures only { (next : ℕ) (bits : List Bool) → Reads IsMap bytes.now at (bits, next)
-        → MatchResult result (λ x. ((i : ℕ) → bit_at x.0 i ≡ bit_at bits i) × (x.1 ≡ next)) (λ e. e ≡ WireFault.Memory) }
-    // the same by the function that reads the front of a list, for the layers above
-    ensures gives { Gives OrMemory (λ x. (x.0, drop x.1 bytes.now)) result (map_at (drop at bytes.now)) }
+    ensures gives { GivesAt OrMemory map_at (λ v. v) bytes.now at result }
 {
     let next = entity_end(bytes, at, MAP_LIMIT)?;
-    let Ok(map) = Vec::from_slice(alloc, &bytes[at..next]) else {
-        return Err(WireFault::Memory);
-    };
-    Ok((
-        Bits {
-            bytes: map,
-            place: 0,
-        },
-        next,
-    ))
+    let bytes = Vec::from_slice(alloc, &bytes[at..next])?;
+    Ok((Bits { bytes, place: 0 }, next))
 }
 
 /// One more than the index of the last 1, or 0.
@@ -151,10 +148,7 @@ fn group_at(bits: &[bool], from: usize) -> u8
 /// Appends the shortest map with these bits, the fewest groups that reach the last 1 and at least one, or
 /// answers and appends nothing. TooLong: they do not fit 256 bytes. Memory: the one growth was refused.
 pub fn write_map(bits: &[bool], out: &mut Vec<u8>) -> Result<(), WireFault>
-    ensures ok { OnOk result (AppendsShortest IsMap out.old.items out.new.items bits.now) }
-    ensures too_long { IsErrOf result WireFault.TooLong ↔ HasSetBit (drop 1792 bits.now) }
-    ensures err { IfErr result (λ e. (e ≡ WireFault.TooLong) ⊎ (e ≡ WireFault.Memory)) }
-    ensures unchanged { OnErr result (out.new.items ≡ out.old.items) }
+    ensures { Writes IsMap TooManyBits out.old out.new bits.now result }
 {
     let used = used_bits(bits);
     if used > 7 * MAP_LIMIT {
@@ -175,15 +169,12 @@ fn map_size(used: usize) -> usize
 fn append_map(bits: &[bool], size: usize, out: &mut Vec<u8>) -> Result<(), WireFault>
     requires some { 0 < size }
     requires few { size ≤ 256 }
-    ensures ok { OnOk result (out.new.items ≡ out.old.items ++ map_of size bits.now 0) }
-    ensures err { IfErr result (λ e. (e ≡ WireFault.Memory) × (out.new.items ≡ out.old.items)) }
+    ensures { Appends (map_of size bits.now 0) out.old out.new result }
 {
-    if out.reserve(size).is_err() {
-        return Err(WireFault::Memory);
-    }
+    out.reserve(size)?;
     for i in 0..size - 1 {
         out.push(group_at(bits, 7 * i)).unwrap();
     }
-    out.push(group_at(bits, 7 * (size - 1)) + 128).unwrap();
+    out.push(group_at(bits, 7 * (size - 1)) + STOP_BIT).unwrap();
     Ok(())
 }

@@ -377,27 +377,42 @@ fn map_limits(rt: HostRuntime) -> Result<(), Fail> {
     Ok(())
 }
 
+/// Every length up to 64: with no stop bit, and with the first at each index and the bytes after it all one
+/// byte without it, or with it.
 #[test]
 fn stop_bits(rt: HostRuntime) -> Result<(), Fail> {
-    let mut bytes = [0u8; 40];
-    assert_eq!(rt; find_stop(&bytes), None);
-    bytes[37] = 0x80;
-    assert_eq!(rt; find_stop(&bytes), Some(37));
-    bytes[17] = 0xff;
-    assert_eq!(rt; find_stop(&bytes), Some(17));
+    for length in 0..=64 {
+        let mut bytes = [0x7f; 64];
+        assert_eq!(rt; find_stop(&bytes[..length]), None);
+        for stop in 0..length {
+            for after in [0x00, 0xff] {
+                bytes[stop..].fill(after);
+                bytes[stop] = 0x80;
+                assert_eq!(rt; find_stop(&bytes[..length]), Some(stop));
+            }
+            bytes.fill(0x7f);
+        }
+    }
     Ok(())
 }
 
-/// Writes, once more where memory was refused, and compares the bytes.
+/// Bytes that stand in an output before a form is written.
+const FRONT: [u8; 3] = [0xd5, 0x00, 0x80];
+
+/// Writes behind bytes that are there, once more where memory was refused, and compares the bytes.
 macro_rules! written {
     ($rt:ident, $bytes:expr, $out:ident => $call:expr) => {
         let mut $out = Vec::new($rt.alloc());
+        if $out.extend_from_slice(&FRONT).is_err() {
+            $out.extend_from_slice(&FRONT)?;
+        }
         if let Err(fault) = $call {
             assert_eq!($rt; fault, WireFault::Memory);
-            assert!($rt; $out.is_empty());
+            assert_eq!($rt; $out.as_slice(), FRONT.as_slice());
             $call?;
         }
-        assert_eq!($rt; $out.as_slice(), $bytes.as_slice());
+        assert_eq!($rt; &$out[..FRONT.len()], FRONT.as_slice());
+        assert_eq!($rt; &$out[FRONT.len()..], $bytes.as_slice());
     };
 }
 
@@ -424,7 +439,11 @@ fn refused_growths(rt: HostRuntime) -> Result<(), Fail> {
     written!(rt, [0x00, 0x00, 0xc1], out => write_ascii(b"\0A", &mut out));
     written!(rt, [0x00, 0x80], out => write_ascii_nullable(Nullable::Value(b""), &mut out));
     written!(rt, [0x82, 0xc3, 0xa9], out => write_vector(&[0xc3, 0xa9], &mut out));
+    written!(rt, [0x83, 0xc3, 0xa9], out => write_vector_nullable(Nullable::Value(&[0xc3, 0xa9]), &mut out));
     written!(rt, [0x80], out => write_vector_nullable(Nullable::Null, &mut out));
+    written!(rt, [0x80], out => write_ascii_nullable(Nullable::Null, &mut out));
+    written!(rt, [0x48, 0x65, 0xf9], out => write_ascii(b"Hey", &mut out));
+    written!(rt, [0x00, 0xc0], out => write_map(&[false, false, false, false, false, false, false, true], &mut out));
     written!(rt, [0xf0], out => write_map(&[true, true, true], &mut out));
     Ok(())
 }
@@ -454,5 +473,70 @@ fn refused_copies(rt: HostRuntime) -> Result<(), Fail> {
         read => read,
     };
     assert_eq!(rt; shown(&vector?.0), Nullable::Value(b"A".as_slice()));
+    Ok(())
+}
+
+/// Where no value stands no memory is asked for: the answer is the same, whichever allocation is refused.
+#[test]
+fn no_memory_for_no_value(rt: HostRuntime) -> Result<(), Fail> {
+    let long = [0u8; 65_540];
+    assert!(rt; matches!(read_ascii(rt.alloc(), b"Hey", 0), Err(WireFault::NeedMore)));
+    assert!(rt; matches!(read_ascii(rt.alloc(), &long, 0), Err(WireFault::TooLong)));
+    assert!(rt;
+        matches!(
+            read_ascii_nullable(rt.alloc(), b"Hey", 0),
+            Err(WireFault::NeedMore)
+        )
+    );
+    assert!(rt;
+        matches!(
+            read_vector(rt.alloc(), &[0x83, 0x41, 0x42], 0),
+            Err(WireFault::NeedMore)
+        )
+    );
+    assert!(rt;
+        matches!(
+            read_vector(rt.alloc(), &[0x04, 0x00, 0x80], 0),
+            Err(WireFault::TooLong)
+        )
+    );
+    assert!(rt;
+        matches!(
+            read_vector_nullable(rt.alloc(), &[0x84, 0x41], 0),
+            Err(WireFault::NeedMore)
+        )
+    );
+    assert!(rt; matches!(read_map(rt.alloc(), &[0x40], 0), Err(WireFault::NeedMore)));
+    assert!(rt;
+        matches!(
+            read_map(rt.alloc(), &long[..256], 0),
+            Err(WireFault::TooLong)
+        )
+    );
+    Ok(())
+}
+
+/// A form that fits the room that is there asks for no memory.
+#[test]
+fn no_memory_where_it_fits(rt: HostRuntime) -> Result<(), Fail> {
+    let mut out = Vec::new(rt.alloc());
+    if out.reserve(64).is_err() {
+        out.reserve(64)?;
+    }
+    write_unsigned(942_755, &mut out)?;
+    write_signed(-942_755, &mut out)?;
+    write_ascii(b"Hey", &mut out)?;
+    write_ascii_nullable(Nullable::Value(b""), &mut out)?;
+    write_vector(&[0xc3, 0xa9], &mut out)?;
+    write_vector_nullable(Nullable::Null, &mut out)?;
+    write_map(&[true], &mut out)?;
+    assert_eq!(rt;
+        out.as_slice(),
+        [
+            0x39, 0x45, 0xa3, 0x46, 0x3a, 0xdd, 0x48, 0x65, 0xf9, 0x00, 0x80, 0x82, 0xc3, 0xa9,
+            0x80, 0xc0,
+        ]
+        .as_slice()
+    );
     Ok(())
 }

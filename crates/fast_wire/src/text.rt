@@ -7,7 +7,8 @@ use crate::fault::WireFault;
 
 /// Whether bytes are UTF-8. NotUtf8: they are not. It takes no memory.
 pub fn check_text(bytes: &[u8]) -> Result<(), WireFault>
-    ensures { MatchResult result (λ _. IsUtf8 bytes.now) (λ e. (e ≡ WireFault.NotUtf8) × (IsUtf8 bytes.now → ⊥)) }
+    ensures { MatchResult result (λ _. IsUtf8 bytes.now)
+        (λ e. (e ≡ WireFault.NotUtf8) × (IsUtf8 bytes.now → ⊥)) }
 {
     if simdutf8::is_utf8(bytes) {
         Ok(())

@@ -139,8 +139,8 @@ same_map p q b c hb hc first second =
     let same = same_bits p q first second hb.asked hc.asked in
     let p_is : (i : ℕ) → bit_at (bits_of (groups b)) i ≡ bit_at p i = λ i. ap (λ (l : List Bool). bit_at l i) (sym hb.form.value) in
     let q_is : (i : ℕ) → bit_at (bits_of (groups c)) i ≡ bit_at q i = λ i. ap (λ (l : List Bool). bit_at l i) (sym hc.form.value) in
-    let b_long = hb.least c (record { entity = hc.form.entity; short = hc.form.short; same = λ i. q_is i ∙ sym (same i) }) in
-    let c_long = hc.least b (record { entity = hb.form.entity; short = hb.form.short; same = λ i. p_is i ∙ same i }) in
+    let b_long = hb.least c (record { entity = hc.form.entity; short = hc.form.short; value = λ i. q_is i ∙ sym (same i) }) in
+    let c_long = hc.least b (record { entity = hb.form.entity; short = hb.form.short; value = λ i. p_is i ∙ same i }) in
     one_map b c hb.form.entity hc.form.entity (same_order (length b) (length c) b_long c_long) (λ i. p_is i ∙ same i ∙ sym (q_is i))
 
 same_message : (d : Dictionary) (b c : List ℕ) (m : Message) → CanonMessage d b m → CanonMessage d c m → b ≡ c

@@ -30,9 +30,9 @@ shortest_map x y bytes h =
       bits = bits;
       shortest = record {
         form = record { entity = h.form.entity; short = h.form.short; value = refl };
-        asked = none_asked bits x y h.form.same;
-        least = λ others f. h.least others (record { entity = f.entity; short = f.short; same = λ i. f.same i ∙ h.form.same i });
+        asked = none_asked bits x y h.form.value;
+        least = λ others f. h.least others (record { entity = f.entity; short = f.short; value = λ i. f.value i ∙ h.form.value i });
       };
-      first = next_bit_is bits ∙ h.form.same 0;
-      second = next_bit_is (later_bits bits) ∙ later_bits_are bits 0 ∙ h.form.same 1;
+      first = next_bit_is bits ∙ h.form.value 0;
+      second = next_bit_is (later_bits bits) ∙ later_bits_are bits 0 ∙ h.form.value 1;
     }

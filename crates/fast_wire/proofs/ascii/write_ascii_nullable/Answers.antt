@@ -1,11 +1,10 @@
-use Rattle.std.proofs.Common.{◌∙◌, ◌++◌, ap}
-use Rattle.std.proofs.lemmas.Result.{on_ok_weaker}
-use Rattle.fast_wire.specs.Spellings.{string_of}
-use Rattle.fast_wire.proofs.AsciiForms.{ascii_nullable_shortest}
+use Rattle.fast_wire.proofs.Written.{null_text_appended, nullable_text_appended}
 use Rattle.fast_wire.proofs.ascii.write_ascii_nullable.Goals as goal
 
-pub returns-in_ok-check_characters-in-Value-clause-ok : goal.returns-in_ok-check_characters-in-Value-clause-ok
-returns-in_ok-check_characters-in-Value-clause-ok c =
-    let text = c.in_ok-check_characters-in-Value.ensures.ok in
-    rw c.in-Value.is (on_ok_weaker c.append_string-in-Value.result
-    (λ e. (_, e ∙ ap (λ n. c.args.out.now.items ++ string_of n c.in-Value.text.now) c.preamble_size.ensures, ascii_nullable_shortest c.in-Value.text.now text)) c.append_string-in-Value.ensures.ok)
+pub returns-in-Null : goal.returns-in-Null
+returns-in-Null c = rw c.in-Null.is (null_text_appended c.args.out.now c.append_string.new.out c.append_string.result c.append_string.ensures)
+
+pub returns-in_ok-check_characters-in-Value : goal.returns-in_ok-check_characters-in-Value
+returns-in_ok-check_characters-in-Value c =
+    rw c.in-Value.is (nullable_text_appended c.args.out.now c.append_string-in-Value.new.out c.in-Value.text.now c.preamble_size.result c.append_string-in-Value.result
+    c.in_ok-check_characters-in-Value.ensures c.preamble_size.ensures c.append_string-in-Value.ensures)

@@ -1,8 +1,14 @@
-use Rattle.std.proofs.lemmas.Result.{on_ok_weaker}
+use Rattle.fast_wire.specs.Integer.{IsUnsigned}
+use Rattle.fast_wire.specs.Sizes.{CanBeUnsigned}
 use Rattle.fast_wire.specs.Spellings.{entity_of}
+use Rattle.fast_wire.specs.Writing.{OutOfRange}
+use Rattle.fast_wire.proofs.FormSizes.{unsigned_sizes}
 use Rattle.fast_wire.proofs.UnsignedForms.{entity_shortest}
+use Rattle.fast_wire.proofs.Written.{appended}
 use Rattle.fast_wire.proofs.integer.write_unsigned.Goals as goal
 
-pub returns-clause-ok : goal.returns-clause-ok
-returns-clause-ok c =
-    on_ok_weaker c.append_entity.result (λ e. (entity_of c.least_size.result c.args.value, e, entity_shortest _ _ c.least_size.ensures)) c.append_entity.ensures.ok
+pub returns : goal.returns
+returns c =
+    let v = c.args.value in let bytes = entity_of c.least_size.result v in
+    let short = entity_shortest v c.least_size.result c.least_size.ensures in
+    appended IsUnsigned (OutOfRange CanBeUnsigned) c.args.out.now c.append_entity.new.out v bytes c.append_entity.result short (λ e f. f.1 (unsigned_sizes.within bytes v short.form)) c.append_entity.ensures

@@ -1,5 +1,6 @@
 use Rattle.std.proofs.Common.{◌≡◌, ◌∙◌, ◌-◌, ◌+◌, ◌*◌, ◌∷◌, [], refl, ap, arith, is_ok, true, length, length-append}
-use Rattle.fast_wire.proofs.MapForms.{map_step}
+use Rattle.fast_wire.proofs.MapForms.{map_length, map_step}
+use Rattle.std.proofs.lemmas.Result.{err_from_is_err_and}
 use Rattle.fast_wire.proofs.presence_map.append_map.Goals as goal
 
 pub loop-i-preserved : goal.loop-i-preserved
@@ -14,3 +15,8 @@ loop-i-preserved c =
       rw (grown, group, here, on) (map_step c.loop-i.out.items bits (n - i) (7 * i) (omega arith)) ∙ c.loop-i.invariant.0,
       omega (arith, cap, long, length-append c.loop-i.out.items (c.group_at.result ∷ [])),
     )
+
+pub returns-in_err-reserve : goal.returns-in_err-reserve
+returns-in_err-reserve c =
+    let p = err_from_is_err_and c.from_residual.result c.from_residual.ensures.1 in
+    rw (p.1, p.2) (record { ok = tt; err = (refl, c.in_err-reserve.ensures.items, omega (arith, map_length c.args.size c.args.bits.now 0, c.in_err-reserve.ensures.full)) })

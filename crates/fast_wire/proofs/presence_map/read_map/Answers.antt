@@ -1,35 +1,7 @@
-use Rattle.std.proofs.Common.{drop, Ok, refl, inl, inr}
-use Rattle.std.proofs.lemmas.Result.{err_from_is_err_and}
-use Rattle.fast_wire.specs.Entity.{groups}
-use Rattle.fast_wire.specs.PresenceMap.{bits_of}
-use Rattle.fast_wire.specs.Reading.{OrMemory, map_at, entity_at}
-use Rattle.fast_wire.proofs.FormReaders.{fails_then}
-use Rattle.fast_wire.proofs.MapReadings.{map_found, map_memory, map_there}
+use Rattle.std.proofs.Common.{arith}
+use Rattle.fast_wire.proofs.Calls.{map_answers}
 use Rattle.fast_wire.proofs.presence_map.read_map.Goals as goal
 
-pub returns-in_err-next-clause-gives : goal.returns-in_err-next-clause-gives
-unfolding map_at
-returns-in_err-next-clause-gives c =
-    let p = err_from_is_err_and c.from_residual.result c.from_residual.ensures.1 in
-    rw (p.1, p.2) (fails_then OrMemory c.in_err-next.field-0.0 (entity_at 256 (drop c.args.at c.args.bytes.now)) (λ e. Ok (bits_of (groups e.0), e.1)) c.in_err-next.ensures.gives)
-
-pub returns-clause-gives : goal.returns-clause-gives
-unfolding map_at
-returns-clause-gives c = rw (c.in_ok-next.ensures.gives, c.in-Ok.ensures.items) refl
-
-pub returns-in_err-next-clause-only : goal.returns-in_err-next-clause-only
-returns-in_err-next-clause-only c =
-    let p = err_from_is_err_and c.from_residual.result c.from_residual.ensures.1 in
-    rw (p.1, p.2) (map_memory c.args.bytes.now c.args.at c.in_err-next.field-0.0 (rw (p.1, p.2) at (returns-in_err-next-clause-gives c)))
-
-pub returns-clause-only : goal.returns-clause-only
-returns-clause-only c = map_found c.args.bytes.now c.args.at c.in-Ok.map.items c.in_ok-next.next (let a = c.in_ok-next.ensures.answer in a.1) (returns-clause-gives c)
-
-pub returns-in_default-clause-gives : goal.returns-in_default-clause-gives
-unfolding map_at
-returns-in_default-clause-gives c = inr (refl, rw c.in_ok-next.ensures.gives refl)
-
-pub returns-in_default-clause-answer : goal.returns-in_default-clause-answer
-returns-in_default-clause-answer c =
-    let a = c.in_ok-next.ensures.answer in
-    let there = map_there c.args.bytes.now c.args.at c.in_ok-next.next a in inl (refl, there.0, there.1, there.2)
+pub returns : goal.returns
+returns c =
+    map_answers (λ v. v) c.args.bytes.now c.args.at c.map_from.result (λ k. omega (arith, c.type_inv.bytes k)) c.requires c.map_from.ensures.place c.map_from.ensures.gives

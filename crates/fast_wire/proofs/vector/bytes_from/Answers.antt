@@ -1,4 +1,5 @@
 use Rattle.std.proofs.Common.{◌≡◌, ◌+◌, ◌-◌, ◌≤◌, ◌∙◌, arith, drop, take, length, length-drop, drop-drop, refl, inl, inr}
+use Rattle.std.proofs.lemmas.Result.{err_from_is_err_and}
 use Rattle.fast_wire.proofs.VectorForms.{bytes_there, bytes_long, bytes_wait, bytes_ok}
 use Rattle.fast_wire.proofs.vector.bytes_from.Goals as goal
 
@@ -14,9 +15,10 @@ returns-clause-gives c =
     let bytes = c.args.bytes.now in let start = c.args.start in let n = c.args.count in
     let there : n ≤ length (drop start bytes) = omega (arith, c.if-bytes-start.false, length-drop start bytes) in
     let size : start + n - start ≡ n = omega arith in
-    let copied : c.in-Ok.items.items ≡ take n (drop start bytes) = rw size at c.in-Ok.ensures.items in
+    let copied : c.in_ok-items.items.items ≡ take n (drop start bytes) = rw size at c.in_ok-items.ensures.items in
     bytes_ok n (drop start bytes) (omega (arith, c.if-count.false)) there ∙ rw (drop-drop n start bytes, copied) refl
 
-pub returns-in_default-clause-gives : goal.returns-in_default-clause-gives
-returns-in_default-clause-gives c =
-    inr (refl, bytes_there c.args.count c.args.start c.args.bytes.now (omega (arith, c.if-bytes-start.false, c.requires)) (omega (arith, c.if-count.false)))
+pub returns-in_err-items-clause-gives : goal.returns-in_err-items-clause-gives
+returns-in_err-items-clause-gives c =
+    let p = err_from_is_err_and c.from_residual.result c.from_residual.ensures.1 in
+    rw (p.1, p.2) (inr (refl, bytes_there c.args.count c.args.start c.args.bytes.now (omega (arith, c.if-bytes-start.false, c.requires)) (omega (arith, c.if-count.false))))

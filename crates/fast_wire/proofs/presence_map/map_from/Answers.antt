@@ -1,0 +1,23 @@
+use Rattle.std.proofs.Common.{drop, Ok, refl, inr}
+use Rattle.std.proofs.lemmas.Result.{err_from_is_err_and}
+use Rattle.fast_wire.specs.Entity.{groups}
+use Rattle.fast_wire.specs.PresenceMap.{bits_of}
+use Rattle.fast_wire.specs.Reading.{OrMemory, map_at, entity_at}
+use Rattle.fast_wire.proofs.FormReaders.{fails_then}
+use Rattle.fast_wire.proofs.presence_map.map_from.Goals as goal
+
+pub returns-in_err-next-clause-gives : goal.returns-in_err-next-clause-gives
+unfolding map_at
+returns-in_err-next-clause-gives c =
+    let p = err_from_is_err_and c.from_residual.result c.from_residual.ensures.1 in
+    rw (p.1, p.2) (fails_then OrMemory c.in_err-next.field-0.0 (entity_at 256 (drop c.args.at c.args.bytes.now)) (λ e. Ok (bits_of (groups e.0), e.1)) c.in_err-next.ensures.gives)
+
+pub returns-clause-gives : goal.returns-clause-gives
+unfolding map_at
+returns-clause-gives c = rw (c.in_ok-next.ensures.gives, c.in_ok-bytes.ensures.items) refl
+
+pub returns-in_err-bytes-clause-gives : goal.returns-in_err-bytes-clause-gives
+unfolding map_at
+returns-in_err-bytes-clause-gives c =
+    let p = err_from_is_err_and c.from_residual-in_err-bytes.result c.from_residual-in_err-bytes.ensures.1 in
+    rw (p.1, p.2) (inr (refl, rw c.in_ok-next.ensures.gives refl))
