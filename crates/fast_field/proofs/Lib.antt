@@ -5,6 +5,8 @@ pub mod LimitRows
 pub mod LongRows
 pub mod NoMemory
 pub mod FieldsGoOn
+pub mod ValuesWithin
+pub mod FieldsWithin
 pub mod CallSteps
 pub mod ReadFields
 pub mod BaseSteps

@@ -4,6 +4,7 @@ pub mod Bases
 pub mod Spelled
 pub mod Deltas
 pub mod Fields
+pub mod Within
 pub mod Best
 pub mod Faults
 pub mod FieldReading
