@@ -25,7 +25,7 @@ IsOfType k v = IsTrue (is_of k v) × IsScalar v
 
 -- ---- numbers
 
-both : (a b : Bool) → (a && b) ≡ true → (a ≡ true) × (b ≡ true)
+pub both : (a b : Bool) → (a && b) ≡ true → (a ≡ true) × (b ≡ true)
 both true true e = (refl, refl)
 both true false e = absurd cc
 both false b e = absurd cc
@@ -50,36 +50,36 @@ number_within k z i h = absurd cc
 
 -- ---- units
 
-abbrev unit_limit : Kind → ℕ
+abbrev pub unit_limit : Kind → ℕ
 unit_limit kind.Ascii = 128
 unit_limit k = 256
 
-abbrev AreUnits : Kind → List ℕ → Type 0
+abbrev pub AreUnits : Kind → List ℕ → Type 0
 AreUnits k s = AllByRecursion (λ c. c < unit_limit k) s
 
 -- so few and each so small
 abbrev pub IsString : Kind → List ℕ → Type 0
 IsString k s = (length s ≤ 65535) × AreUnits k s
 
-all_append : (P : ℕ → Type 0) (s t : List ℕ) → AllByRecursion P s → AllByRecursion P t → AllByRecursion P (s ++ t)
+pub all_append : (P : ℕ → Type 0) (s t : List ℕ) → AllByRecursion P s → AllByRecursion P t → AllByRecursion P (s ++ t)
 all_append P [] t h l = l
 all_append P (c ∷ s) t h l = (h.0, all_append P s t h.1 l)
 
-all_take : (P : ℕ → Type 0) (n : ℕ) (s : List ℕ) → AllByRecursion P s → AllByRecursion P (take n s)
+pub all_take : (P : ℕ → Type 0) (n : ℕ) (s : List ℕ) → AllByRecursion P s → AllByRecursion P (take n s)
 all_take P zero s h = tt
 all_take P (suc n) [] h = tt
 all_take P (suc n) (c ∷ s) h = (h.0, all_take P n s h.1)
 
-all_drop : (P : ℕ → Type 0) (n : ℕ) (s : List ℕ) → AllByRecursion P s → AllByRecursion P (drop n s)
+pub all_drop : (P : ℕ → Type 0) (n : ℕ) (s : List ℕ) → AllByRecursion P s → AllByRecursion P (drop n s)
 all_drop P zero s h = h
 all_drop P (suc n) [] h = tt
 all_drop P (suc n) (c ∷ s) h = all_drop P n s h.1
 
-part_within : (k : Kind) (b s : List ℕ) → SpellsPart k b s → IsString k s
+pub part_within : (k : Kind) (b s : List ℕ) → SpellsPart k b s → IsString k s
 part_within kind.Ascii b s h = let w = ascii_sizes.within b s h in (w.1, recursion_from_All (λ c. c < 128) s w.0)
 part_within k b s h = (h.limit, h.bytes_fit)
 
-units_within : (k : Kind) (p : Presence) (b s : List ℕ) → SpellsUnits k p b (Value s) → IsString k s
+pub units_within : (k : Kind) (p : Presence) (b s : List ℕ) → SpellsUnits k p b (Value s) → IsString k s
 units_within k Mandatory b s h = part_within k b s h
 units_within kind.Ascii Optional b s h = let w = ascii_nullable_sizes.within b (Value s) h in (w.1, recursion_from_All (λ c. c < 128) s w.0)
 units_within k Optional b s h = (h.limit, h.bytes_fit)
@@ -91,13 +91,13 @@ IsUnitKind kind.Unicode = Unit {0}
 IsUnitKind kind.Bytes = Unit {0}
 IsUnitKind k = ⊥
 
-string_within : (k : Kind) (s : List ℕ) (v : Scalar) → IsUnitKind k → IsOfUnits k s v → IsString k s → IsOfType k v
+pub string_within : (k : Kind) (s : List ℕ) (v : Scalar) → IsUnitKind k → IsOfUnits k s v → IsString k s → IsOfType k v
 string_within kind.Ascii s v u h w = rw h (refl, (w.0, w.1))
 string_within kind.Unicode s v u h w = rw h.1 (refl, (w.0, w.1, h.0))
 string_within kind.Bytes s v u h w = rw h (refl, (w.0, w.1))
 string_within k s v u h w = absurd u
 
-units_of_string : (k : Kind) (v : Scalar) → IsUnitKind k → IsOfType k v → IsString k (units_of v)
+pub units_of_string : (k : Kind) (v : Scalar) → IsUnitKind k → IsOfType k v → IsString k (units_of v)
 units_of_string kind.Ascii (Ascii s) u h = (h.1.0, h.1.1)
 units_of_string kind.Unicode (Unicode s) u h = (h.1.0, h.1.1)
 units_of_string kind.Bytes (Bytes s) u h = (h.1.0, h.1.1)
@@ -108,12 +108,12 @@ units_of_string k v u h = absurd u
 
 -- ---- what stands whole
 
-null_optional : (u : Bool) (p : Presence) (b : List ℕ) → SpellsInteger u p b Null → p ≡ Optional
+pub null_optional : (u : Bool) (p : Presence) (b : List ℕ) → SpellsInteger u p b Null → p ≡ Optional
 null_optional true Mandatory b h = absurd h
 null_optional false Mandatory b h = absurd h
 null_optional u Optional b h = refl
 
-null_units_optional : (k : Kind) (p : Presence) (b : List ℕ) → SpellsUnits k p b Null → p ≡ Optional
+pub null_units_optional : (k : Kind) (p : Presence) (b : List ℕ) → SpellsUnits k p b Null → p ≡ Optional
 null_units_optional k Mandatory b h = absurd h
 null_units_optional k Optional b h = refl
 
