@@ -7,6 +7,7 @@ pub mod NoMemory
 pub mod FieldsGoOn
 pub mod ValuesWithin
 pub mod FieldsWithin
+pub mod Refused
 pub mod CallSteps
 pub mod ReadFields
 pub mod BaseSteps

@@ -7,6 +7,7 @@ pub mod Fields
 pub mod Within
 pub mod Best
 pub mod Faults
+pub mod Refusals
 pub mod FieldReading
 pub mod Calls
 pub mod Found
