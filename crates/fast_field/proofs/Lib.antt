@@ -8,6 +8,7 @@ pub mod FieldsGoOn
 pub mod ValuesWithin
 pub mod FieldsWithin
 pub mod Refused
+pub mod StandingForms
 pub mod CallSteps
 pub mod ReadFields
 pub mod BaseSteps
