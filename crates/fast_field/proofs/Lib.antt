@@ -9,6 +9,7 @@ pub mod ValuesWithin
 pub mod FieldsWithin
 pub mod Refused
 pub mod StandingForms
+pub mod BestDeltas
 pub mod CallSteps
 pub mod ReadFields
 pub mod BaseSteps

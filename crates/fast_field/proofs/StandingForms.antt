@@ -77,7 +77,7 @@ null_units_stand k = stands_of IsVectorNullable _ _ vector_nullable_sizes Null t
 
 -- ---- pairs of signed numbers
 
-pair_stands : (p : Presence) (e m : ℤ) → magnitude e < 2 ^ 68 → magnitude m < 2 ^ 68 → (b : List ℕ) × SpellsPair p b e m × ((other : List ℕ) → SpellsPair p other e m → length b ≤ length other)
+pub pair_stands : (p : Presence) (e m : ℤ) → magnitude e < 2 ^ 68 → magnitude m < 2 ^ 68 → (b : List ℕ) × SpellsPair p b e m × ((other : List ℕ) → SpellsPair p other e m → length b ≤ length other)
 pair_stands p e m small_e small_m =
     let first = signed_stands p e small_e in
     let second = signed_stands Mandatory m small_m in (
@@ -181,7 +181,7 @@ whole_string k p v u h =
       },
     )
 
-exponent_small : (e : ℤ) → IsTrue (exponent_in_range e) → magnitude e < 2 ^ 64
+pub exponent_small : (e : ℤ) → IsTrue (exponent_in_range e) → magnitude e < 2 ^ 64
 exponent_small e h = signed_small e 62 63 h (omega arith) (omega arith)
 
 whole_decimal : (p : Presence) (v : Scalar) → IsOfType kind.Decimal v → Stands (SpelledDecimal p) (Some v)
