@@ -4,6 +4,15 @@ pub mod TypeRows
 pub mod LimitRows
 pub mod LongRows
 pub mod NoMemory
+pub mod FieldsGoOn
+pub mod ValuesWithin
+pub mod FieldsWithin
+pub mod Refused
+pub mod StandingForms
+pub mod BestDeltas
+pub mod CallSteps
+pub mod ReadFields
+pub mod BaseSteps
 pub mod PartsOfSets
 pub mod BestForms
 pub mod WorkedBest

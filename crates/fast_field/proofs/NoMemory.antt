@@ -32,18 +32,18 @@ use Rattle.fast_field.specs.FieldReading.{in_field, check, as_value, unless_null
 
 -- ---- steps
 
-abbrev IsOther : {A F : Type 0} → F → Result A F → Type 0
+abbrev pub IsOther : {A F : Type 0} → F → Result A F → Type 0
 IsOther f r = r ≡ Err f → ⊥
 
-other_then : {A B F : Type 0} (f : F) (r : Result A F) (k : A → Result B F) → IsOther f r → ((x : A) → IsOther f (k x)) → IsOther f (r >>= k)
+pub other_then : {A B F : Type 0} (f : F) (r : Result A F) (k : A → Result B F) → IsOther f r → ((x : A) → IsOther f (k x)) → IsOther f (r >>= k)
 other_then f (Ok x) k h l e = l x e
 other_then f (Err d) k h l e = h cc
 
-other_if : {A F : Type 0} (f : F) (t : Bool) (r s : Result A F) → IsOther f r → IsOther f s → IsOther f (if t then r else s)
+pub other_if : {A F : Type 0} (f : F) (t : Bool) (r s : Result A F) → IsOther f r → IsOther f s → IsOther f (if t then r else s)
 other_if f true r s h l e = h e
 other_if f false r s h l e = l e
 
-done : {A F : Type 0} (f : F) (x : A) → IsOther f (Ok x)
+pub done : {A F : Type 0} (f : F) (x : A) → IsOther f (Ok x)
 done f x e = absurd cc
 
 -- ---- forms of bytes

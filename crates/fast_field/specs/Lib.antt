@@ -4,6 +4,11 @@ pub mod Bases
 pub mod Spelled
 pub mod Deltas
 pub mod Fields
+pub mod Within
 pub mod Best
 pub mod Faults
+pub mod Refusals
 pub mod FieldReading
+pub mod Calls
+pub mod Found
+pub mod Removals

@@ -1,5 +1,11 @@
 //! Why a field cannot be read, and why a value of it cannot be written.
 
+ghost use Rattle.std.specs.Prelude.{◌≡◌};
+ghost use Rattle.fast_field.specs.Faults.{field_fault};
+ghost use Rattle.fast_field.specs.declared.fault.FieldFault.TheVariants.{Memory};
+
+use fast_wire::WireFault;
+use std::alloc::AllocError;
 use thiserror::Error;
 
 /// Why a field cannot be read. The numbers are those of FAST 1.1, Error Handling.
@@ -35,6 +41,27 @@ pub enum FieldFault {
     /// Memory was refused.
     #[error("Memory")]
     Memory,
+}
+
+impl From<WireFault> for FieldFault {
+    ghost from_gives = { λ wire fault. fault ≡ field_fault wire };
+
+    fn from(fault: WireFault) -> FieldFault {
+        match fault {
+            WireFault::NeedMore => FieldFault::NeedMore,
+            WireFault::TooLong | WireFault::Range => FieldFault::Limit,
+            WireFault::NotUtf8 => FieldFault::R2,
+            WireFault::Memory => FieldFault::Memory,
+        }
+    }
+}
+
+impl From<AllocError> for FieldFault {
+    ghost from_gives = { λ refused fault. fault ≡ Memory };
+
+    fn from(_refused: AllocError) -> FieldFault {
+        FieldFault::Memory
+    }
 }
 
 /// Why a value of a field cannot be written. The numbers are those of FAST 1.1, Error Handling.

@@ -2,13 +2,15 @@
 
 ghost use Rattle.std.specs.Prelude.{◌≡◌, ℕ, ◌++◌, Bool, List, Option};
 ghost use Rattle.std.specs.List.{AllByRecursion};
-ghost use Rattle.fast_wire.specs.Reader.{IsBytes, IsReader};
+ghost use Rattle.fast_wire.specs.Reader.{GoesOn, IsBytes, IsReader};
 ghost use Rattle.fast_template.specs.TemplateSets.{IsSound, TemplateList, templates_in};
 ghost use Rattle.fast_template.specs.declared.resolved.FieldPart.{FieldPart};
 ghost use Rattle.fast_template.specs.declared.scalar.Scalar.{Scalar};
 ghost use Rattle.fast_dictionary.specs.declared.entry.Entry.{Entry};
 ghost use Rattle.fast_field.specs.Parts.{EachPartIn, HasDefault, IsBitOf, IsFieldPart};
+ghost use Rattle.fast_field.specs.Bases.{next};
 ghost use Rattle.fast_field.specs.Fields.{Form};
+ghost use Rattle.fast_field.specs.Within.{HoldsScalar, IsFieldValue};
 ghost use Rattle.fast_field.specs.FieldReading.{field_at, IsFieldFault};
 
 use crate::fault::FieldFault;
@@ -16,6 +18,11 @@ use crate::fault::FieldFault;
 /// Every field is read, whatever its operator.
 pub fn fields_are_read()
     ensures { (i : FieldPart) (e : Entry) (bit : Bool) → IsBitOf i bit → HasDefault i → IsReader FieldFault.NeedMore (field_at i e bit) (Form i e bit) }
+{}
+
+/// What is read of a field is read whatever follows.
+pub fn fields_go_on()
+    ensures { (i : FieldPart) (e : Entry) (bit : Bool) → GoesOn (field_at i e bit) }
 {}
 
 /// At most one form begins a list, and it has one value.
@@ -46,4 +53,11 @@ pub fn no_fault_is_want_of_memory()
 pub fn parts_of_sets_are_field_parts()
     ensures parts { (set : TemplateList) → IsSound set → AllByRecursion (λ t. EachPartIn IsFieldPart t.members) (templates_in set) }
     ensures defaults { (i : FieldPart) → IsFieldPart i → HasDefault i }
+{}
+
+/// The value of a form is one that the field can have: of its type and within it, and within the limits of its part.
+/// So is the entry that it leaves; so entries stay within their types along a stream.
+pub fn values_are_within()
+    ensures values { (i : FieldPart) (e : Entry) (bit : Bool) (b : List ℕ) (v : Option Scalar) → IsFieldPart i → HoldsScalar e → Form i e bit b v → IsFieldValue i v }
+    ensures entries { (i : FieldPart) (e : Entry) (v : Option Scalar) → HoldsScalar e → IsFieldValue i v → HoldsScalar (next i e v) }
 {}

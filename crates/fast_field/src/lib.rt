@@ -1,14 +1,29 @@
 //! What one instruction has in a stream: its forms, the entry that it leaves, and how it is read.
 //!
 //! A field is an instruction of a template (`FieldPart` of `fast_template`) on an entry of a dictionary.
-//! The definitions stand in `specs/`: the forms that spell a value and the entry afterwards (`Fields`), the
-//! form that a writer chooses (`Best`), and the function that reads a field from the front of a list and
-//! answers its first fault (`FieldReading`). The module [`laws`] ties forms and reading together.
+//! [`read_field`] reads one and answers its value, the entry afterwards and the place after it. [`read_in_place`] is
+//! for callers that keep the entries: it changes the entry where it lies, and copies no value. [`find_field`] changes
+//! nothing. The definitions stand in `specs/`: the forms that spell a value (`Fields`, over `Spelled`, `Bases` and
+//! `Deltas`), the form that a writer chooses (`Best`), and the function that reads a field from the front of a list
+//! and answers its first fault (`FieldReading`). The module [`laws`] ties forms and reading together.
 #![tactic(auto)]
 
+mod afterwards;
+mod base;
+mod delta;
 mod fault;
+mod found;
 pub mod laws;
 mod plan;
+mod read;
+mod string;
+mod tail;
+#[cfg(test)]
+mod tests;
+mod whole;
 
+pub use afterwards::next_entry;
 pub use fault::{FieldFault, FieldRefusal};
+pub use found::Found;
 pub use plan::Plan;
+pub use read::{find_field, read_field, read_in_place};

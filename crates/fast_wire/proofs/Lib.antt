@@ -1,4 +1,5 @@
 pub mod Entities
+pub mod Lanes
 pub mod Numbers
 pub mod Readers
 pub mod Readings

@@ -37,3 +37,9 @@ pub record IsFirstStop (bytes : List ℕ) (i : ℕ) : Type 0 where
   pub within : i < length bytes
   pub stop : 128 ≤ slice_index bytes i
   pub before : (k : ℕ) → k < i → slice_index bytes k < 128
+
+-- r of the 16 bytes from at on come before the first with its high bit set
+pub record IsRun (bytes : List ℕ) (at r : ℕ) : Type 0 where
+  pub within : r ≤ 16
+  pub before : (k : ℕ) → at ≤ k → k < at + r → slice_index bytes k < 128
+  pub stop : r < 16 → 128 ≤ slice_index bytes (at + r)

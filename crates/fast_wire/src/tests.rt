@@ -377,14 +377,22 @@ fn map_limits(rt: HostRuntime) -> Result<(), Fail> {
     Ok(())
 }
 
+/// Every length up to 64: with no stop bit, and with the first at each index and the bytes after it all one
+/// byte without it, or with it.
 #[test]
 fn stop_bits(rt: HostRuntime) -> Result<(), Fail> {
-    let mut bytes = [0u8; 40];
-    assert_eq!(rt; find_stop(&bytes), None);
-    bytes[37] = 0x80;
-    assert_eq!(rt; find_stop(&bytes), Some(37));
-    bytes[17] = 0xff;
-    assert_eq!(rt; find_stop(&bytes), Some(17));
+    for length in 0..=64 {
+        let mut bytes = [0x7f; 64];
+        assert_eq!(rt; find_stop(&bytes[..length]), None);
+        for stop in 0..length {
+            for after in [0x00, 0xff] {
+                bytes[stop..].fill(after);
+                bytes[stop] = 0x80;
+                assert_eq!(rt; find_stop(&bytes[..length]), Some(stop));
+            }
+            bytes.fill(0x7f);
+        }
+    }
     Ok(())
 }
 

@@ -1,0 +1,92 @@
+-- The best forms of deltas of numbers, and of NULL.
+use Rattle.std.proofs.Common.{◌≡◌, ℕ, ◌+◌, ◌-◌, ◌*◌, ◌^◌, ◌<◌, ◌≤◌, Bool, true, false, List, [], ◌++◌, length, refl, sym, ap, subst, ◌∙◌, arith, Ok, inl, inr, ◌⊎◌}
+use Rattle.std.specs.Prelude.{ℤ, pos, negsuc, ◌+ℤ◌, ◌-ℤ◌, ◌<ℤ◌, Option, Some, None, IsTrue}
+use Rattle.std.proofs.lemmas.Int.{ints}
+use Rattle.fast_wire.specs.Integer.{magnitude}
+use Rattle.fast_wire.specs.declared.nullable.Nullable.TheVariants.{Null, Value}
+use Rattle.fast_template.specs.Scalar.{is_integer, in_range, of_integer}
+use Rattle.fast_template.specs.declared.kind.Kind.{Kind}
+use Rattle.fast_template.specs.declared.kind.Kind.TheVariants as kind
+use Rattle.fast_template.specs.declared.kind.Presence.{Presence}
+use Rattle.fast_template.specs.declared.scalar.Scalar.{Scalar}
+use Rattle.fast_template.specs.declared.scalar.Scalar.TheVariants.{Decimal}
+use Rattle.fast_field.specs.Values.{integer_of, exponent_of, mantissa_of}
+use Rattle.fast_field.specs.Spelled.{SpellsInteger, SpellsPair}
+use Rattle.fast_field.specs.Deltas.{Cut, uncut, SpellsDelta, SpellsDeltas}
+use Rattle.fast_field.specs.Best.{NoLater}
+use Rattle.fast_field.proofs.BestForms.{at_end_first}
+use Rattle.fast_field.proofs.ValuesWithin.{IsOfType}
+use Rattle.fast_field.proofs.StandingForms.{number_of, IsNumber, number_is, range_small, signed_stands, pair_stands, exponent_small}
+
+-- the first of forms under bit 1
+pub record First (Forms : Cut → List ℕ → Type 0) : Type 0 where
+  pub cut : Cut
+  pub bytes : List ℕ
+  pub form : Forms cut bytes
+  pub first : (c : Cut) (b : List ℕ) → Forms c b → NoLater true (length bytes) cut true (length b) c
+
+-- where nothing is cut the shortest is the first
+pub shortest_is_first : (Forms : Cut → List ℕ → Type 0) (b : List ℕ) → Forms uncut b → ((c : Cut) (o : List ℕ) → Forms c o → (c ≡ uncut) × (length b ≤ length o)) → First Forms
+shortest_is_first Forms b form least = record {
+  cut = uncut;
+  bytes = b;
+  form = form;
+  first = λ c o h. let l = least c o h in rw l.0 (at_end_first (length b) (length o) 0 uncut l.1 (λ same. omega arith));
+}
+
+-- ---- differences
+
+as_order : (z : ℤ) → magnitude z < 2 ^ 64 → (negsuc (2 ^ 64) <ℤ z) × (z <ℤ pos (2 ^ 64))
+as_order (pos n) h = (omega (arith, ints), omega (arith, ints, h))
+as_order (negsuc n) h = (omega (arith, ints, h), omega (arith, ints))
+
+as_magnitude : (z : ℤ) → negsuc (2 ^ 66) <ℤ z → z <ℤ pos (2 ^ 66) → magnitude z < 2 ^ 68
+as_magnitude (pos n) low high = omega (arith, ints, high)
+as_magnitude (negsuc n) low high = omega (arith, ints, low)
+
+difference_small : (a c : ℤ) → magnitude a < 2 ^ 64 → magnitude c < 2 ^ 64 → magnitude (a -ℤ c) < 2 ^ 68
+difference_small a c h l =
+    let x = as_order a h in
+    let y = as_order c l in
+    as_magnitude (a -ℤ c) (omega (arith, ints, x.0, x.1, y.0, y.1)) (omega (arith, ints, x.0, x.1, y.0, y.1))
+
+back_again : (a c : ℤ) → c +ℤ (a -ℤ c) ≡ a
+back_again a c = omega (arith, ints)
+
+one_difference : (a c d : ℤ) → c +ℤ d ≡ a → d ≡ a -ℤ c
+one_difference a c d e = omega (arith, ints, e)
+
+-- ---- integers
+
+pub number_delta_first : (k : Kind) (p : Presence) (base v : Scalar) → IsTrue (is_integer k) → IsOfType k base → IsOfType k v → First (λ c b. SpellsDelta k p base c b v)
+number_delta_first k p base v i h l =
+    let n = number_is k v i l in
+    let m = number_is k base i h in
+    let a = integer_of v in
+    let c = integer_of base in
+    let s = signed_stands p (a -ℤ c) (difference_small a c (range_small k a i n.range) (range_small k c i m.range)) in
+    shortest_is_first (λ c b. SpellsDelta k p base c b v) s.0
+    (record { delta = a -ℤ c; form = s.1.form; range = rw (back_again a c) n.range; value = rw (back_again a c) n.made; cut_is = refl })
+    (λ cut o d.
+    let sum : c +ℤ d.delta ≡ a = sym (number_of k (c +ℤ d.delta) i d.range) ∙ ap integer_of (sym d.value) in
+    (d.cut_is, s.1.least o (subst (λ (z : ℤ). SpellsInteger false p o (Value z)) (one_difference a c d.delta sum) d.form)))
+
+-- ---- decimals
+
+decimal_small : (v : Scalar) → IsOfType kind.Decimal v → (magnitude (exponent_of v) < 2 ^ 64) × (magnitude (mantissa_of v) < 2 ^ 64)
+decimal_small (Decimal e m) h = (exponent_small e h.1.0, range_small kind.Int64 m refl h.1.1)
+decimal_small v h = let e = h.0 in absurd cc
+
+pub decimal_delta_first : (p : Presence) (base v : Scalar) → IsOfType kind.Decimal base → IsOfType kind.Decimal v → First (λ c b. SpellsDeltas p base c b v)
+decimal_delta_first p base (Decimal e m) h l =
+    let small = decimal_small base h in
+    let x = exponent_of base in
+    let y = mantissa_of base in
+    let s = pair_stands p (e -ℤ x) (m -ℤ y) (difference_small e x (exponent_small e l.1.0) small.0) (difference_small m y (range_small kind.Int64 m refl l.1.1) small.1) in
+    shortest_is_first (λ c b. SpellsDeltas p base c b (Decimal e m)) s.0
+    (record { exponent_delta = e -ℤ x; mantissa_delta = m -ℤ y; form = s.1; value = rw (back_again e x, back_again m y) (l.1.0, l.1.1, refl); cut_is = refl })
+    (λ cut o d.
+    let same_e : d.exponent_delta ≡ e -ℤ x = one_difference e x d.exponent_delta (sym (ap exponent_of d.value.2)) in
+    let same_m : d.mantissa_delta ≡ m -ℤ y = one_difference m y d.mantissa_delta (sym (ap mantissa_of d.value.2)) in
+    (d.cut_is, s.2 o (subst (λ (z : ℤ). SpellsPair p o z (m -ℤ y)) same_e (subst (λ (z : ℤ). SpellsPair p o d.exponent_delta z) same_m d.form))))
+decimal_delta_first p base v h l = let e = l.0 in absurd cc

@@ -1,0 +1,242 @@
+-- The value of a form is within its type, and so is the entry afterwards.
+use Rattle.std.proofs.Common.{◌≡◌, ℕ, zero, suc, ◌+◌, ◌-◌, ◌^◌, ◌<◌, ◌≤◌, Bool, true, false, List, [], ◌∷◌, ◌++◌, length, take, drop, refl, sym, ap, subst, ◌∙◌, arith, Ok, Err, Result}
+use Rattle.std.specs.Prelude.{ℤ, pos, negsuc, ◌+ℤ◌, int_lt, nat_le, nat_lt, ◌&&◌, Option, Some, None, IsTrue, IsSome, IfSome, IsUtf8, unwrap_or, if◌then◌else◌}
+use Rattle.std.specs.Str.{is_utf8, chars}
+use Rattle.std.specs.List.{AllByRecursion}
+use Rattle.std.proofs.lemmas.Bool.Decides.{nat_tests}
+use Rattle.std.proofs.lemmas.Int.{ints}
+use Rattle.std.proofs.lemmas.Str.{IsUtf8-from_is_utf8}
+use Rattle.fast_wire.proofs.Readers.{ok_is}
+use Rattle.fast_template.specs.Scalar.{is_of, is_integer, in_range, least_of, greatest_of, kind_of, of_integer, IsScalar}
+use Rattle.fast_template.specs.TemplateSets.{applies, IsInitial}
+use Rattle.fast_template.specs.declared.kind.Kind.{Kind}
+use Rattle.fast_template.specs.declared.kind.Kind.TheVariants as kind
+use Rattle.fast_template.specs.declared.kind.Operator.{Operator}
+use Rattle.fast_template.specs.declared.kind.Operator.TheVariants as operator
+use Rattle.fast_template.specs.declared.kind.Presence.{Presence}
+use Rattle.fast_template.specs.declared.kind.Presence.TheVariants.{Mandatory, Optional}
+use Rattle.fast_template.specs.declared.resolved.FieldPart.{FieldPart}
+use Rattle.fast_template.specs.declared.scalar.Scalar.{Scalar}
+use Rattle.fast_template.specs.declared.scalar.Scalar.TheVariants.{U32, I32, U64, I64, Decimal, Ascii, Unicode, Bytes}
+use Rattle.fast_dictionary.specs.declared.entry.Entry.{Entry}
+use Rattle.fast_dictionary.specs.declared.entry.Entry.TheVariants.{Undefined, Empty, Assigned}
+use Rattle.fast_field.specs.declared.fault.FieldFault.{FieldFault}
+use Rattle.fast_field.specs.declared.fault.FieldFault.TheVariants as fault
+use Rattle.fast_field.specs.Values.{units_of, integer_of, increased, default_of}
+use Rattle.fast_field.specs.Parts.{IsFieldPart}
+use Rattle.fast_field.specs.Bases.{kept_of, start_of, delta_base, tail_base, absent_or, initial_or, repeated, predicted, next_of, next, written_entry, delta_entry}
+use Rattle.fast_field.specs.Deltas.{Cut, put_together, ended_by, SpellsCut, DeltaValue, DeltaForm, TailForm}
+use Rattle.fast_field.specs.Fields.{InitialOrAbsent, FormOf, Form}
+use Rattle.fast_field.specs.Within.{HoldsScalar, IsOfField, IsFieldValue}
+use Rattle.fast_field.proofs.SpelledForms.{if_ok}
+use Rattle.fast_field.proofs.BaseSteps.{is_of-kind}
+use Rattle.fast_field.proofs.ValuesWithin.{both, IsOfType, IsOfTypeOr, IsString, IsUnitKind, unit_limit, number_within, string_within, units_of_string, spelled_within, part_within, units_within, null_optional, null_units_optional, all_append, all_take, all_drop}
+
+-- ---- what there is without an entry
+
+empty_text : IsUtf8 []
+unfolding is_utf8 chars lib.Utf8.encode
+empty_text = IsUtf8-from_is_utf8 [] refl
+
+default_within : (k : Kind) → IsOfType k (default_of k)
+default_within kind.UInt32 = (refl, omega arith)
+default_within kind.Int32 = (refl, refl)
+default_within kind.UInt64 = (refl, omega arith)
+default_within kind.Int64 = (refl, refl)
+default_within kind.Decimal = (refl, (refl, refl))
+default_within kind.Ascii = (refl, (omega arith, tt))
+default_within kind.Unicode = (refl, (omega arith, tt, empty_text))
+default_within kind.Bytes = (refl, (omega arith, tt))
+
+initial_within : (i : FieldPart) (o : Option Scalar) (v : Scalar) → IfSome o (IsInitial i) → o ≡ Some v → IsOfType i.kind v
+initial_within i None v h e = absurd cc
+initial_within i (Some w) v h e =
+    let same : w ≡ v = ap (λ (x : Option Scalar). unwrap_or x w) e in
+    subst (λ (x : Scalar). IsOfType i.kind x) same (h.0, h.2)
+
+start_within : (i : FieldPart) (o : Option Scalar) → IfSome o (IsInitial i) → IsOfType i.kind (unwrap_or o (default_of i.kind))
+start_within i None h = default_within i.kind
+start_within i (Some v) h = (h.0, h.2)
+
+kept_within : (i : FieldPart) (v base : Scalar) → IsScalar v → kept_of i v ≡ Ok base → IsOfType i.kind base
+kept_within i v base h e = let w = if_ok (is_of i.kind v) v base fault.D4 e in subst (λ (x : Scalar). IsOfType i.kind x) w.1 (w.0, h)
+
+-- ---- bases
+
+pub delta_base_within : (i : FieldPart) (e : Entry) (base : Scalar) → IsFieldPart i → HoldsScalar e → delta_base i e ≡ Ok base → IsOfType i.kind base
+delta_base_within i Undefined base is h e = subst (λ (x : Scalar). IsOfType i.kind x) (ok_is {F = FieldFault} (start_of i) base e) (start_within i i.initial is.typed.initial_fits)
+delta_base_within i Empty base is h e = absurd cc
+delta_base_within i (Assigned v) base is h e = kept_within i v base h e
+
+pub tail_base_within : (i : FieldPart) (e : Entry) (base : Scalar) → IsFieldPart i → HoldsScalar e → tail_base i e ≡ Ok base → IsOfType i.kind base
+tail_base_within i Undefined base is h e = subst (λ (x : Scalar). IsOfType i.kind x) (ok_is {F = FieldFault} (start_of i) base e) (start_within i i.initial is.typed.initial_fits)
+tail_base_within i Empty base is h e = subst (λ (x : Scalar). IsOfType i.kind x) (ok_is {F = FieldFault} (start_of i) base e) (start_within i i.initial is.typed.initial_fits)
+tail_base_within i (Assigned v) base is h e = kept_within i v base h e
+
+-- ---- increment
+
+is_le : (m n : ℕ) → m ≤ n → nat_le m n ≡ true
+is_le m n h = grind (arith, nat_tests)
+
+is_lt : (m n : ℕ) → nat_lt m n ≡ true → m + 1 ≤ n
+is_lt m n h = grind (arith, nat_tests)
+
+and_true : (a b : Bool) → a ≡ true → b ≡ true → (a && b) ≡ true
+and_true a b h l = rw (h, l) refl
+
+le_is : (m n : ℕ) → nat_le m n ≡ true → m ≤ n
+le_is m n h = grind (arith, nat_tests)
+
+one_up : (n : ℕ) → negsuc (suc n) +ℤ pos 1 ≡ negsuc n
+one_up n = omega (arith, ints)
+
+next_in_range : (k : Kind) (z : ℤ) → IsTrue (is_integer k) → IsTrue (in_range k z) → int_lt z (greatest_of k) ≡ true → IsTrue (in_range k (z +ℤ pos 1))
+next_in_range kind.UInt32 (pos n) i h l = and_true _ _ (is_le 0 (n + 1) (omega arith)) (is_le (n + 1) 4294967295 (is_lt n 4294967295 l))
+next_in_range kind.UInt64 (pos n) i h l = and_true _ _ (is_le 0 (n + 1) (omega arith)) (is_le (n + 1) 18446744073709551615 (is_lt n 18446744073709551615 l))
+next_in_range kind.Int32 (pos n) i h l = is_le (n + 1) 2147483647 (is_lt n 2147483647 l)
+next_in_range kind.Int64 (pos n) i h l = is_le (n + 1) 9223372036854775807 (is_lt n 9223372036854775807 l)
+next_in_range kind.UInt32 (negsuc n) i h l = absurd cc
+next_in_range kind.UInt64 (negsuc n) i h l = absurd cc
+next_in_range kind.Int32 (negsuc zero) i h l = refl
+next_in_range kind.Int64 (negsuc zero) i h l = refl
+next_in_range kind.Int32 (negsuc (suc n)) i h l = let w = both (nat_le (suc n) 2147483647) true h in rw (one_up n) (and_true _ _ (is_le n 2147483647 (omega (arith, le_is (suc n) 2147483647 w.0))) refl)
+next_in_range kind.Int64 (negsuc (suc n)) i h l = let w = both (nat_le (suc n) 9223372036854775807) true h in rw (one_up n) (and_true _ _ (is_le n 9223372036854775807 (omega (arith, le_is (suc n) 9223372036854775807 w.0))) refl)
+next_in_range k z i h l = absurd cc
+
+one_more_within : (k : Kind) (z : ℤ) (t : Bool) → IsTrue (is_integer k) → IsTrue (in_range k z) → int_lt z (greatest_of k) ≡ t → IsOfType k (if t then of_integer k (z +ℤ pos 1) else of_integer k (least_of k))
+one_more_within k z true i h l = number_within k (z +ℤ pos 1) i (next_in_range k z i h l)
+one_more_within kind.UInt32 z false i h l = (refl, omega arith)
+one_more_within kind.Int32 z false i h l = (refl, refl)
+one_more_within kind.UInt64 z false i h l = (refl, omega arith)
+one_more_within kind.Int64 z false i h l = (refl, refl)
+one_more_within k z false i h l = absurd cc
+
+uint_in_range : (n m : ℕ) → n < m + 1 → (nat_le 0 n && nat_le n m) ≡ true
+uint_in_range n m h = and_true _ _ (is_le 0 n (omega arith)) (is_le n m (omega arith))
+
+pub increased_within : (v : Scalar) → IsTrue (is_integer (kind_of v)) → IsScalar v → IsOfType (kind_of v) (increased v)
+increased_within (U32 n) i h = one_more_within kind.UInt32 (pos n) (int_lt (pos n) (pos 4294967295)) refl (uint_in_range n 4294967295 h) refl
+increased_within (U64 n) i h = one_more_within kind.UInt64 (pos n) (int_lt (pos n) (pos 18446744073709551615)) refl (uint_in_range n 18446744073709551615 h) refl
+increased_within (I32 z) i h = one_more_within kind.Int32 z (int_lt z (pos 2147483647)) refl h refl
+increased_within (I64 z) i h = one_more_within kind.Int64 z (int_lt z (pos 9223372036854775807)) refl h refl
+increased_within v i h = absurd cc
+
+-- ---- what bit 0 gives
+
+repeated_within : (o : Operator) (k : Kind) (v : Scalar) → IsTrue (applies o k) → IsOfType k v → IsOfType k (repeated o v)
+repeated_within operator.Increment k v fits h =
+    let same : kind_of v ≡ k = is_of-kind k v h.0 in
+    subst (λ (x : Kind). IsOfType x (increased v)) same (increased_within v (rw same fits) h.1)
+repeated_within o k v fits h = h
+
+absent_within : (k : Kind) (p : Presence) (f : FieldFault) (v : Option Scalar) → absent_or f p ≡ Ok v → IsOfTypeOr k p v
+absent_within k Mandatory f v e = absurd cc
+absent_within k Optional f v e = subst (λ (x : Option Scalar). IsOfTypeOr k Optional x) (ok_is {F = FieldFault} None v e) refl
+
+first_within : (i : FieldPart) (o v : Option Scalar) → IfSome o (IsInitial i) → initial_or fault.D5 i o ≡ Ok v → IsOfTypeOr i.kind i.presence v
+first_within i None v h e = absent_within i.kind i.presence fault.D5 v e
+first_within i (Some w) v h e = subst (λ (x : Option Scalar). IsOfTypeOr i.kind i.presence x) (ok_is {F = FieldFault} (Some w) v e) (h.0, h.2)
+
+predicted_within : (i : FieldPart) (e : Entry) (v : Option Scalar) → IsFieldPart i → HoldsScalar e → predicted i e ≡ Ok v → IsOfTypeOr i.kind i.presence v
+predicted_within i Undefined v is h e = first_within i i.initial v is.typed.initial_fits e
+predicted_within i Empty v is h e = absent_within i.kind i.presence fault.D6 v e
+predicted_within i (Assigned w) v is h e =
+    let t = if_ok (is_of i.kind w) (Some (repeated i.operator w)) v fault.D4 e in
+    subst (λ (x : Option Scalar). IsOfTypeOr i.kind i.presence x) t.1 (repeated_within i.operator i.kind w is.typed.operator_applies (t.0, h))
+
+initial_of_type : (i : FieldPart) (o v : Option Scalar) → IfSome o (IsInitial i) → IsSome o → v ≡ o → IsOfTypeOr i.kind i.presence v
+initial_of_type i None v h some e = absurd cc
+initial_of_type i (Some w) v h some e = rw e (h.0, h.2)
+
+left_out_within : (i : FieldPart) (v : Option Scalar) → IfSome i.initial (IsInitial i) → InitialOrAbsent i v → IsOfTypeOr i.kind i.presence v
+left_out_within i None h e = e.1
+left_out_within i (Some v) h e = initial_within i i.initial v h e
+
+-- ---- deltas and tails
+
+put_within : (P : ℕ → Type 0) (removal : ℤ) (base part : List ℕ) → AllByRecursion P base → AllByRecursion P part → AllByRecursion P (put_together removal base part)
+put_within P (pos n) base part h l = all_append P (take (length base - n) base) part (all_take P (length base - n) base h) l
+put_within P (negsuc n) base part h l = all_append P part (drop n base) l (all_drop P n base h)
+
+cut_within : (k : Kind) (p : Presence) (base : Scalar) (cut : Cut) (b : List ℕ) (v : Scalar) → IsUnitKind k → IsOfType k base → SpellsCut k p base cut b v → IsOfType k v
+cut_within k p base cut b v u h c =
+    let units = units_of_string k base u h in
+    let part = part_within k c.back c.new_part c.part_form in
+    string_within k (put_together c.removal (units_of base) c.new_part) v u c.value.1 (c.value.0, put_within (λ x. x < unit_limit k) c.removal (units_of base) c.new_part units.1 part.1)
+
+delta_within : (k : Kind) (p : Presence) (base : Scalar) (cut : Cut) (b : List ℕ) (v : Scalar) → IsOfType k base → DeltaValue k p base cut b v → IsOfType k v
+delta_within kind.UInt32 p base cut b v h d = rw d.value (number_within kind.UInt32 (integer_of base +ℤ d.delta) refl d.range)
+delta_within kind.Int32 p base cut b v h d = rw d.value (number_within kind.Int32 (integer_of base +ℤ d.delta) refl d.range)
+delta_within kind.UInt64 p base cut b v h d = rw d.value (number_within kind.UInt64 (integer_of base +ℤ d.delta) refl d.range)
+delta_within kind.Int64 p base cut b v h d = rw d.value (number_within kind.Int64 (integer_of base +ℤ d.delta) refl d.range)
+delta_within kind.Decimal p base cut b v h d = rw d.value.2 (refl, (d.value.0, d.value.1))
+delta_within kind.Ascii p base cut b v h d = cut_within kind.Ascii p base cut b v tt h d
+delta_within kind.Unicode p base cut b v h d = cut_within kind.Unicode p base cut b v tt h d
+delta_within kind.Bytes p base cut b v h d = cut_within kind.Bytes p base cut b v tt h d
+
+delta_form_within : (i : FieldPart) (e : Entry) (cut : Cut) (b : List ℕ) (v : Option Scalar) → IsFieldPart i → HoldsScalar e → DeltaForm i e cut b v → IsOfTypeOr i.kind i.presence v
+delta_form_within i e cut b None is h d = null_optional false i.presence b d.1
+delta_form_within i e cut b (Some v) is h d = delta_within i.kind i.presence d.0 cut b v (delta_base_within i e d.0 is h d.1) d.2
+
+unit_kind : (k : Kind) → IsTrue (applies operator.Tail k) → IsUnitKind k
+unit_kind kind.Ascii h = tt
+unit_kind kind.Unicode h = tt
+unit_kind kind.Bytes h = tt
+unit_kind k h = absurd cc
+
+tail_form_within : (i : FieldPart) (e : Entry) (cut : Cut) (b : List ℕ) (v : Option Scalar) → IsFieldPart i → HoldsScalar e → IsTrue (applies operator.Tail i.kind) → TailForm i e cut b v → IsOfTypeOr i.kind i.presence v
+tail_form_within i e cut b None is h fits t = null_units_optional i.kind i.presence b t.1
+tail_form_within i e cut b (Some v) is h fits t =
+    let u = unit_kind i.kind fits in
+    let base = units_of_string i.kind t.0 u (tail_base_within i e t.0 is h t.1) in
+    let tail = units_within i.kind i.presence b t.2.tail t.2.tail_form in
+    let P : ℕ → Type 0 = λ x. x < unit_limit i.kind in
+    let kept = take (length (units_of t.0) - length t.2.tail) (units_of t.0) in
+    string_within i.kind (ended_by (units_of t.0) t.2.tail) v u t.2.value.1 (t.2.value.0, all_append P kept t.2.tail (all_take P (length (units_of t.0) - length t.2.tail) (units_of t.0) base.1) tail.1)
+
+-- ---- the table
+
+row_within : (o : Operator) (i : FieldPart) (e : Entry) (bit : Bool) (cut : Cut) (b : List ℕ) (v : Option Scalar) → IsFieldPart i → HoldsScalar e → i.operator ≡ o → FormOf o i e bit cut b v → IsOfTypeOr i.kind i.presence v
+row_within operator.Plain i e false cut b v is h o f = absurd f
+row_within operator.Plain i e true cut b v is h o f = spelled_within i.kind i.presence b v f.1
+row_within operator.Constant i e false cut b v is h o f = rw f.3 f.2
+row_within operator.Constant i e true cut b v is h o f = initial_of_type i i.initial v is.typed.initial_fits (is.typed.constant_has_value o) f.2
+row_within operator.Default i e false cut b v is h o f = left_out_within i v is.typed.initial_fits f.2
+row_within operator.Default i e true cut b v is h o f = spelled_within i.kind i.presence b v f.1
+row_within operator.Copy i e false cut b v is h o f = predicted_within i e v is h f.2
+row_within operator.Copy i e true cut b v is h o f = spelled_within i.kind i.presence b v f.1
+row_within operator.Increment i e false cut b v is h o f = predicted_within i e v is h f.2
+row_within operator.Increment i e true cut b v is h o f = spelled_within i.kind i.presence b v f.1
+row_within operator.Delta i e false cut b v is h o f = absurd f
+row_within operator.Delta i e true cut b v is h o f = delta_form_within i e cut b v is h f
+row_within operator.Tail i e false cut b v is h o f = predicted_within i e v is h f.2
+row_within operator.Tail i e true cut b v is h o f = tail_form_within i e cut b v is h (subst (λ (x : Operator). IsTrue (applies x i.kind)) o is.typed.operator_applies) f
+
+of_field : (i : FieldPart) (v : Option Scalar) → IsOfTypeOr i.kind i.presence v → IsOfField i v
+of_field i None h = h
+of_field i (Some v) h = h
+
+pub values_within : (i : FieldPart) (e : Entry) (bit : Bool) (b : List ℕ) (v : Option Scalar) → IsFieldPart i → HoldsScalar e → Form i e bit b v → IsFieldValue i v
+values_within i e bit b v is h f = record { of_field = of_field i v (row_within i.operator i e bit f.0 b v is h refl f.1.row); within = f.1.within }
+
+-- ---- the entry afterwards
+
+written_holds : (i : FieldPart) (v : Option Scalar) → IsOfField i v → HoldsScalar (written_entry v)
+written_holds i None h = tt
+written_holds i (Some v) h = h.1
+
+delta_holds : (i : FieldPart) (e : Entry) (v : Option Scalar) → HoldsScalar e → IsOfField i v → HoldsScalar (delta_entry e v)
+delta_holds i e None k h = k
+delta_holds i e (Some v) k h = h.1
+
+next_holds : (o : Operator) (i : FieldPart) (e : Entry) (v : Option Scalar) → HoldsScalar e → IsOfField i v → HoldsScalar (next_of o e v)
+next_holds operator.Plain i e v k h = k
+next_holds operator.Constant i e v k h = k
+next_holds operator.Default i e v k h = k
+next_holds operator.Copy i e v k h = written_holds i v h
+next_holds operator.Increment i e v k h = written_holds i v h
+next_holds operator.Delta i e v k h = delta_holds i e v k h
+next_holds operator.Tail i e v k h = written_holds i v h
+
+pub entries_within : (i : FieldPart) (e : Entry) (v : Option Scalar) → HoldsScalar e → IsFieldValue i v → HoldsScalar (next i e v)
+entries_within i e v k h = next_holds i.operator i e v k h.of_field

@@ -1,0 +1,147 @@
+-- What is refused has no form.
+use Rattle.std.proofs.Common.{◌≡◌, ℕ, ◌+◌, ◌-◌, ◌<◌, ◌≤◌, Bool, true, false, List, [], ◌∷◌, ◌++◌, length, take, drop, refl, sym, ap, subst, ◌∙◌, arith, Ok, Err, Result, length-append, length-take}
+use Rattle.std.specs.Prelude.{ℤ, pos, negsuc, int_lt, int_le, nat_lt, nat_le, ◌&&◌, not, Option, Some, None, IsTrue, unwrap_or, if◌then◌else◌}
+use Rattle.std.specs.List.{AllByRecursion}
+use Rattle.std.proofs.lemmas.Bool.Decides.{nat_tests}
+use Rattle.fast_wire.proofs.Readers.{ok_is}
+use Rattle.fast_template.specs.Scalar.{is_of, exponent_in_range, scalar_eq-same, IsScalar}
+use Rattle.fast_template.specs.contracts.scalar.ScalarPartialEq.TheImpl as scalar_eq
+use Rattle.fast_template.specs.declared.kind.Kind.{Kind}
+use Rattle.fast_template.specs.declared.kind.Kind.TheVariants as kind
+use Rattle.fast_template.specs.declared.kind.Operator.{Operator}
+use Rattle.fast_template.specs.declared.kind.Operator.TheVariants as operator
+use Rattle.fast_template.specs.declared.kind.Part.{Part}
+use Rattle.fast_template.specs.declared.kind.Part.TheVariants as part
+use Rattle.fast_template.specs.declared.kind.Presence.{Presence}
+use Rattle.fast_template.specs.declared.kind.Presence.TheVariants.{Mandatory, Optional}
+use Rattle.fast_template.specs.declared.resolved.FieldPart.{FieldPart}
+use Rattle.fast_template.specs.declared.scalar.Scalar.{Scalar}
+use Rattle.fast_template.specs.declared.scalar.Scalar.TheVariants.{U32, I32, U64, I64, Decimal, Ascii, Unicode, Bytes}
+use Rattle.fast_dictionary.specs.declared.entry.Entry.{Entry}
+use Rattle.fast_dictionary.specs.declared.entry.Entry.TheVariants.{Undefined, Empty, Assigned}
+use Rattle.fast_field.specs.declared.fault.FieldFault.{FieldFault}
+use Rattle.fast_field.specs.declared.fault.FieldFault.TheVariants as fault
+use Rattle.fast_field.specs.declared.fault.FieldRefusal.{FieldRefusal}
+use Rattle.fast_field.specs.declared.fault.FieldRefusal.TheVariants as refusal
+use Rattle.fast_field.specs.Values.{integer_of, units_of, of_units, default_of}
+use Rattle.fast_field.specs.Parts.{IsFieldPart}
+use Rattle.fast_field.specs.Bases.{start_of, absent_or, initial_or, repeated, delta_base, tail_base, predicted}
+use Rattle.fast_field.specs.Spelled.{IsOfUnits}
+use Rattle.fast_field.specs.Deltas.{Cut, ended_by}
+use Rattle.fast_field.specs.Fields.{FormOf, Form, IsWithin, within_part}
+use Rattle.fast_field.specs.Within.{HoldsScalar, IsOfField, IsFieldValue}
+use Rattle.fast_field.specs.Refusals.{are_characters, has_characters, has_too_many, is_far, other_than_constant, constant_refusal, delta_refusal, tail_refusal, operator_refusal, absent_refusal, value_refusal, refusal_of}
+use Rattle.fast_field.proofs.SpelledForms.{if_ok}
+use Rattle.fast_field.proofs.FieldsWithin.{values_within}
+
+-- ---- values
+
+all_characters : (s : List ℕ) → AllByRecursion (λ c. c < 128) s → are_characters s ≡ true
+all_characters [] h = refl
+all_characters (c ∷ s) h = let le = h.0 in let t : nat_lt c 128 ≡ true = grind (arith, nat_tests) in rw (t, all_characters s h.1) refl
+
+characters_there : (v : Scalar) → IsScalar v → has_characters v ≡ true
+characters_there (Ascii s) h = all_characters s h.1
+characters_there v h = refl
+
+few : (v : Scalar) → IsScalar v → length (units_of v) ≤ 65535
+few (Ascii s) h = h.0
+few (Unicode s) h = h.0
+few (Bytes s) h = h.0
+few v h = omega arith
+
+not_more : (n : ℕ) → n ≤ 65535 → nat_lt 65535 n ≡ false
+not_more n h = grind (arith, nat_tests)
+
+few_elements : (z : ℤ) → int_le z (pos 65535) ≡ true → int_lt (pos 65535) z ≡ false
+few_elements (pos n) h = let le = h in grind (arith, nat_tests)
+few_elements (negsuc n) h = refl
+
+few_enough : (p : Part) (v : Scalar) → IsScalar v → IsTrue (within_part p v) → has_too_many p v ≡ false
+few_enough part.Length v h w = few_elements (integer_of v) w
+few_enough part.Whole v h w = not_more (length (units_of v)) (few v h)
+few_enough part.Exponent v h w = not_more (length (units_of v)) (few v h)
+few_enough part.Mantissa v h w = not_more (length (units_of v)) (few v h)
+
+near : (p : Part) (v : Scalar) → IsScalar v → IsTrue (within_part p v) → is_far p v ≡ false
+near part.Exponent v h w = rw w refl
+near p (Decimal e m) h w = rw h.0 refl
+near p v h w = refl
+
+-- ---- by operator
+
+constant_same : (p : Part) (o : Option Scalar) (v : Scalar) → Some v ≡ o → constant_refusal p o v ≡ None
+constant_same p None v e = absurd cc
+constant_same p (Some w) v e =
+    let same : v ≡ w = ap (λ (x : Option Scalar). unwrap_or x v) e in
+    let t : (scalar_eq.eq-value).it v w ≡ true = subst (λ (x : Scalar). (scalar_eq.eq-value).it v x ≡ true) same (scalar_eq-same v) in
+    rw t refl
+
+units_of-of_units : (k : Kind) (s : List ℕ) → units_of (of_units k s) ≡ s
+units_of-of_units kind.Ascii s = refl
+units_of-of_units kind.Unicode s = refl
+units_of-of_units k s = refl
+
+pub units_are : (k : Kind) (s : List ℕ) (v : Scalar) → IsOfUnits k s v → units_of v ≡ s
+units_are kind.Unicode s v h = rw h.1 refl
+units_are k s v h = rw h (units_of-of_units k s)
+
+not_less : (m n : ℕ) → n ≤ m → nat_lt m n ≡ false
+not_less m n h = grind (arith, nat_tests)
+
+as_long : (base v : Scalar) → length (units_of base) ≤ length (units_of v) → tail_refusal (Ok base) v ≡ None
+as_long base v h = let t : nat_lt (length (units_of v)) (length (units_of base)) ≡ false = not_less (length (units_of v)) (length (units_of base)) h in rw t refl
+
+pub ended_is_longer : (base tail : List ℕ) → length base ≤ length (ended_by base tail)
+ended_is_longer base tail = omega (arith, length-append (take (length base - length tail) base) tail, length-take (length base - length tail) base)
+
+tail_same : (i : FieldPart) (e : Entry) (v : Scalar) → predicted i e ≡ Ok (Some v) → i.operator ≡ operator.Tail → tail_refusal (tail_base i e) v ≡ None
+tail_same i Undefined v h o = first i.initial h
+  where
+    first : (x : Option Scalar) → initial_or fault.D5 i x ≡ Ok (Some v) → tail_refusal (Ok (unwrap_or x (default_of i.kind))) v ≡ None
+    first None h = absent i.presence h
+      where
+        absent : (p : Presence) → absent_or fault.D5 p ≡ Ok (Some v) → tail_refusal (Ok (default_of i.kind)) v ≡ None
+        absent Mandatory h = absurd cc
+        absent Optional h = absurd (let w = ok_is {F = FieldFault} None (Some v) h in cc)
+    first (Some w) h =
+        let same : w ≡ v = ap (λ (x : Option Scalar). unwrap_or x v) (ok_is {F = FieldFault} (Some w) (Some v) h) in
+        as_long w v (rw same (omega arith))
+tail_same i Empty v h o = absent i.presence h
+  where
+    absent : (p : Presence) → absent_or fault.D6 p ≡ Ok (Some v) → tail_refusal (Ok (start_of i)) v ≡ None
+    absent Mandatory h = absurd cc
+    absent Optional h = absurd (let w = ok_is {F = FieldFault} None (Some v) h in cc)
+tail_same i (Assigned w) v h o =
+    let t = if_ok (is_of i.kind w) (Some (repeated i.operator w)) (Some v) fault.D4 h in
+    let same : repeated i.operator w ≡ v = ap (λ (x : Option Scalar). unwrap_or x v) t.1 in
+    let kept : w ≡ v = subst (λ (x : Operator). repeated x w ≡ v) o same in
+    rw t.0 (as_long w v (rw kept (omega arith)))
+
+form_not_refused : (o : Operator) (i : FieldPart) (e : Entry) (bit : Bool) (cut : Cut) (b : List ℕ) (v : Scalar) → i.operator ≡ o → FormOf o i e bit cut b (Some v) → operator_refusal o i e v ≡ None
+form_not_refused operator.Constant i e false cut b v o f = let w = f.3 in absurd cc
+form_not_refused operator.Constant i e true cut b v o f = constant_same i.part i.initial v f.2
+form_not_refused operator.Delta i e false cut b v o f = absurd f
+form_not_refused operator.Delta i e true cut b v o f = rw f.1 refl
+form_not_refused operator.Tail i e false cut b v o f = tail_same i e v f.2 o
+form_not_refused operator.Tail i e true cut b v o f =
+    let units = units_are i.kind (ended_by (units_of f.0) f.2.tail) v f.2.value.1 in
+    rw f.1 (as_long f.0 v (rw units (ended_is_longer (units_of f.0) f.2.tail)))
+form_not_refused operator.Plain i e bit cut b v o f = refl
+form_not_refused operator.Default i e bit cut b v o f = refl
+form_not_refused operator.Copy i e bit cut b v o f = refl
+form_not_refused operator.Increment i e bit cut b v o f = refl
+
+-- ---- the first of all
+
+value_not_refused : (i : FieldPart) (e : Entry) (v : Scalar) → IsFieldValue i (Some v) → operator_refusal i.operator i e v ≡ None → value_refusal i e v ≡ None
+unfolding value_refusal
+value_not_refused i e v h o = rw (h.of_field.0, characters_there v h.of_field.1, few_enough i.part v h.of_field.1 h.within, near i.part v h.of_field.1 h.within) o
+
+pub not_refused : (i : FieldPart) (e : Entry) (bit : Bool) (b : List ℕ) (v : Option Scalar) → IsFieldPart i → HoldsScalar e → Form i e bit b v → refusal_of i e v ≡ None
+not_refused i e bit b None is h f = let w = values_within i e bit b None is h f in rw w.of_field refl
+not_refused i e bit b (Some v) is h f = value_not_refused i e v (values_within i e bit b (Some v) is h f) (form_not_refused i.operator i e bit f.0 b v refl f.1.row)
+
+-- what is refused has no form
+pub refused_has_none : (i : FieldPart) (e : Entry) (v : Option Scalar) (r : FieldRefusal) → IsFieldPart i → HoldsScalar e → refusal_of i e v ≡ Some r → (bit : Bool) (b : List ℕ) → Form i e bit b v → ⊥
+refused_has_none i e v r is h e' bit b f = let w = not_refused i e bit b v is h f in absurd cc

@@ -1,0 +1,219 @@
+-- Each value of a type has a shortest form that stands whole.
+use Rattle.std.proofs.Common.{◌≡◌, ℕ, zero, suc, ◌+◌, ◌-◌, ◌*◌, ◌^◌, ◌<◌, ◌≤◌, Bool, true, false, List, [], ◌∷◌, ◌++◌, length, take, drop, refl, sym, ap, subst, ◌∙◌, arith, Ok, Err, Result, All, length-append, lit<}
+use Rattle.std.specs.Prelude.{ℤ, pos, negsuc, ◌+ℤ◌, nat_abs, nat_le, int_le, ◌&&◌, Option, Some, None, IsTrue, IsUtf8}
+use Rattle.std.specs.List.{AllByRecursion}
+use Rattle.std.proofs.lemmas.Int.{ints}
+use Rattle.std.proofs.lemmas.Bool.Decides.{nat_tests}
+use Rattle.std.proofs.lemmas.List.Elements.{All-from_recursion}
+use Rattle.fast_wire.specs.Ascii.{IsAscii, IsAsciiNullable, IsAsciiText}
+use Rattle.fast_wire.specs.Integer.{IsUnsigned, IsSigned, magnitude}
+use Rattle.fast_wire.specs.Nullable.{IsUnsignedNullable, IsSignedNullable, IsNullOr, sent_signed}
+use Rattle.fast_wire.specs.Sizes.{HasSizes, CanBeSigned}
+use Rattle.fast_wire.specs.Vector.{IsVector, IsVectorNullable}
+use Rattle.fast_wire.specs.Writing.{IsShortest}
+use Rattle.fast_wire.specs.declared.nullable.Nullable.{Nullable}
+use Rattle.fast_wire.specs.declared.nullable.Nullable.TheVariants.{Null, Value}
+use Rattle.fast_wire.proofs.FormSizes.{unsigned_sizes, signed_sizes, unsigned_nullable_sizes, signed_nullable_sizes, ascii_sizes, ascii_nullable_sizes, vector_sizes, vector_nullable_sizes}
+use Rattle.fast_template.specs.Scalar.{is_of, is_integer, in_range, exponent_in_range, of_integer, IsScalar}
+use Rattle.fast_template.specs.declared.kind.Kind.{Kind}
+use Rattle.fast_template.specs.declared.kind.Kind.TheVariants as kind
+use Rattle.fast_template.specs.declared.kind.Presence.{Presence}
+use Rattle.fast_template.specs.declared.kind.Presence.TheVariants.{Mandatory, Optional}
+use Rattle.fast_template.specs.declared.scalar.Scalar.{Scalar}
+use Rattle.fast_template.specs.declared.scalar.Scalar.TheVariants.{U32, I32, U64, I64, Decimal, Ascii, Unicode, Bytes}
+use Rattle.fast_field.specs.Values.{is_unsigned, integer_of, exponent_of, mantissa_of, units_of, of_units}
+use Rattle.fast_field.specs.Spelled.{SpellsInteger, SpellsPart, SpellsUnits, SpellsNumber, SpellsString, SpellsPair, SpellsDecimal, IsOfUnits, SpelledNumber, SpelledString, SpelledDecimal, Spelled}
+use Rattle.fast_field.proofs.Refused.{units_are}
+use Rattle.fast_field.proofs.ValuesWithin.{both, IsOfType, IsString, IsUnitKind, unit_limit, units_of_string}
+
+-- a shortest form stands
+abbrev pub Stands : {V : Type 0} → (List ℕ → V → Type 0) → V → Type 0
+Stands Form v = (b : List ℕ) × IsShortest Form b v
+
+pub stands_of : {V : Type 0} (Form : List ℕ → V → Type 0) (Can : V → Type 0) (size : V → ℕ) → HasSizes Form Can size → (v : V) → Can v → Stands Form v
+stands_of Form Can size is v can =
+    let s = is.stands v can in
+    (s.0, record { form = s.1; least = λ other h. omega (arith, s.2, is.least other v h) })
+
+-- the same form of another value
+stands_as : {V W : Type 0} (Form : List ℕ → V → Type 0) (Other : List ℕ → W → Type 0) (v : V) (w : W) → ((b : List ℕ) → Form b v → Other b w) → ((b : List ℕ) → Other b w → Form b v) → Stands Form v → Stands Other w
+stands_as Form Other v w to from s = (s.0, record { form = to s.0 s.1.form; least = λ other h. s.1.least other (from other h) })
+
+-- ---- integers
+
+unsigned_stands : (p : Presence) (n : ℕ) → n < 2 ^ 64 → Stands (SpellsInteger true p) (Value (pos n))
+unsigned_stands Mandatory n lt = stands_as IsUnsigned (SpellsInteger true Mandatory) n (Value (pos n)) (λ b h. h) (λ b h. h) (stands_of IsUnsigned _ _ unsigned_sizes n (omega arith))
+unsigned_stands Optional n lt = stands_as IsUnsignedNullable (SpellsInteger true Optional) (Value n) (Value (pos n)) (λ b h. h) (λ b h. h) (stands_of IsUnsignedNullable _ _ unsigned_nullable_sizes (Value n) (omega arith))
+
+nullable_magnitude : (z : ℤ) → magnitude z < 2 ^ 68 → magnitude (sent_signed (Value z)) < 64 * 128 ^ 9
+nullable_magnitude (pos n) lt = omega arith
+nullable_magnitude (negsuc n) lt = omega arith
+
+pub signed_stands : (p : Presence) (z : ℤ) → magnitude z < 2 ^ 68 → Stands (SpellsInteger false p) (Value z)
+signed_stands Mandatory z lt = stands_as IsSigned (SpellsInteger false Mandatory) z (Value z) (λ b h. h) (λ b h. h) (stands_of IsSigned _ _ signed_sizes z (omega arith))
+signed_stands Optional z lt = stands_as IsSignedNullable (SpellsInteger false Optional) (Value z) (Value z) (λ b h. h) (λ b h. h) (stands_of IsSignedNullable _ _ signed_nullable_sizes (Value z) (nullable_magnitude z lt))
+
+pub null_stands : (u : Bool) → Stands (SpellsInteger u Optional) Null
+null_stands true = stands_as IsUnsignedNullable (SpellsInteger true Optional) Null Null (λ b h. h) (λ b h. h) (stands_of IsUnsignedNullable _ _ unsigned_nullable_sizes Null (omega arith))
+null_stands false = stands_as IsSignedNullable (SpellsInteger false Optional) Null Null (λ b h. h) (λ b h. h) (stands_of IsSignedNullable _ _ signed_nullable_sizes Null (omega arith))
+
+-- ---- strings
+
+text_of : (s : List ℕ) → (length s ≤ 65535) × AllByRecursion (λ c. c < 128) s → IsAsciiText s
+text_of s h = (All-from_recursion (λ c. c < 128) s h.1, h.0)
+
+pub part_stands : (k : Kind) (s : List ℕ) → IsString k s → Stands (SpellsPart k) s
+part_stands kind.Ascii s h = stands_of IsAscii _ _ ascii_sizes s (text_of s h)
+part_stands k s h = stands_of IsVector _ _ vector_sizes s (h.1, h.0)
+
+pub units_stand : (k : Kind) (p : Presence) (s : List ℕ) → IsString k s → Stands (SpellsUnits k p) (Value s)
+units_stand k Mandatory s h = stands_as (SpellsPart k) (SpellsUnits k Mandatory) s (Value s) (λ b h. h) (λ b h. h) (part_stands k s h)
+units_stand kind.Ascii Optional s h = stands_of IsAsciiNullable _ _ ascii_nullable_sizes (Value s) (text_of s h)
+units_stand k Optional s h = stands_of IsVectorNullable _ _ vector_nullable_sizes (Value s) (h.1, h.0)
+
+pub null_units_stand : (k : Kind) → Stands (SpellsUnits k Optional) Null
+null_units_stand kind.Ascii = stands_of IsAsciiNullable _ _ ascii_nullable_sizes Null tt
+null_units_stand k = stands_of IsVectorNullable _ _ vector_nullable_sizes Null tt
+
+-- ---- pairs of signed numbers
+
+pub pair_stands : (p : Presence) (e m : ℤ) → magnitude e < 2 ^ 68 → magnitude m < 2 ^ 68 → (b : List ℕ) × SpellsPair p b e m × ((other : List ℕ) → SpellsPair p other e m → length b ≤ length other)
+pair_stands p e m small_e small_m =
+    let first = signed_stands p e small_e in
+    let second = signed_stands Mandatory m small_m in (
+      first.0 ++ second.0,
+      record { front = first.0; back = second.0; parts = refl; exponent_form = first.1.form; mantissa_form = second.1.form },
+      λ other h. omega (arith, length-append first.0 second.0, ap length h.parts, length-append h.front h.back, first.1.least h.front h.exponent_form, second.1.least h.back h.mantissa_form),
+    )
+
+-- ---- numbers of a type
+
+le_is : (m n : ℕ) → nat_le m n ≡ true → m ≤ n
+le_is m n h = grind (arith, nat_tests)
+
+-- the number of a value of an integer type is the one that it was made of
+pub number_of : (k : Kind) (z : ℤ) → IsTrue (is_integer k) → IsTrue (in_range k z) → integer_of (of_integer k z) ≡ z
+number_of kind.UInt32 (pos n) i h = refl
+number_of kind.UInt64 (pos n) i h = refl
+number_of kind.UInt32 (negsuc n) i h = absurd cc
+number_of kind.UInt64 (negsuc n) i h = absurd cc
+number_of kind.Int32 z i h = refl
+number_of kind.Int64 z i h = refl
+number_of k z i h = absurd cc
+
+-- a value of an integer type is made of its number, which is in range
+is_le : (m n : ℕ) → m ≤ n → nat_le m n ≡ true
+is_le m n h = grind (arith, nat_tests)
+
+uint_range : (n m : ℕ) → n < m + 1 → (nat_le 0 n && nat_le n m) ≡ true
+uint_range n m h = let a : nat_le 0 n ≡ true = is_le 0 n (omega arith) in let c : nat_le n m ≡ true = is_le n m (omega arith) in rw (a, c) refl
+
+pub record IsNumber (k : Kind) (v : Scalar) : Type 0 where
+  pub made : v ≡ of_integer k (integer_of v)
+  pub range : IsTrue (in_range k (integer_of v))
+
+pub number_is : (k : Kind) (v : Scalar) → IsTrue (is_integer k) → IsOfType k v → IsNumber k v
+number_is kind.UInt32 (U32 n) i h = record { made = refl; range = uint_range n 4294967295 h.1 }
+number_is kind.UInt64 (U64 n) i h = record { made = refl; range = uint_range n 18446744073709551615 h.1 }
+number_is kind.Int32 (I32 z) i h = record { made = refl; range = h.1 }
+number_is kind.Int64 (I64 z) i h = record { made = refl; range = h.1 }
+number_is kind.UInt32 v i h = let e = h.0 in absurd cc
+number_is kind.UInt64 v i h = let e = h.0 in absurd cc
+number_is kind.Int32 v i h = let e = h.0 in absurd cc
+number_is kind.Int64 v i h = let e = h.0 in absurd cc
+number_is k v i h = absurd cc
+
+signed_small : (z : ℤ) (m n : ℕ) → (int_le (negsuc m) z && int_le z (pos n)) ≡ true → m < 2 ^ 64 → n < 2 ^ 64 → magnitude z < 2 ^ 64
+signed_small (pos a) m n h low high = let w = both true (nat_le a n) h in omega (arith, le_is a n w.1)
+signed_small (negsuc a) m n h low high = let w = both (nat_le a m) true h in omega (arith, le_is a m w.0)
+
+unsigned_small : (z : ℤ) (n : ℕ) → (int_le (pos 0) z && int_le z (pos n)) ≡ true → n < 2 ^ 64 → magnitude z < 2 ^ 64
+unsigned_small (pos a) n h high = let w = both (nat_le 0 a) (nat_le a n) h in omega (arith, le_is a n w.1)
+unsigned_small (negsuc a) n h high = absurd cc
+
+pub range_small : (k : Kind) (z : ℤ) → IsTrue (is_integer k) → IsTrue (in_range k z) → magnitude z < 2 ^ 64
+range_small kind.UInt32 z i h = unsigned_small z 4294967295 h (omega arith)
+range_small kind.UInt64 z i h = unsigned_small z 18446744073709551615 h (omega arith)
+range_small kind.Int32 z i h = signed_small z 2147483647 2147483647 h (omega arith) (omega arith)
+range_small kind.Int64 z i h = signed_small z 9223372036854775807 9223372036854775807 h (omega arith) (omega arith)
+range_small k z i h = absurd cc
+
+-- ---- what stands whole
+
+number_stands : (k : Kind) (p : Presence) (z : ℤ) → IsTrue (is_integer k) → IsTrue (in_range k z) → Stands (SpellsInteger (is_unsigned k) p) (Value z)
+number_stands kind.UInt32 p (pos n) i h = unsigned_stands p n (omega (arith, range_small kind.UInt32 (pos n) i h))
+number_stands kind.UInt64 p (pos n) i h = unsigned_stands p n (omega (arith, range_small kind.UInt64 (pos n) i h))
+number_stands kind.UInt32 p (negsuc n) i h = absurd cc
+number_stands kind.UInt64 p (negsuc n) i h = absurd cc
+number_stands kind.Int32 p z i h = signed_stands p z (omega (arith, range_small kind.Int32 z i h))
+number_stands kind.Int64 p z i h = signed_stands p z (omega (arith, range_small kind.Int64 z i h))
+number_stands k p z i h = absurd cc
+
+whole_number : (k : Kind) (p : Presence) (v : Scalar) → IsTrue (is_integer k) → IsOfType k v → Stands (SpelledNumber k p) (Some v)
+whole_number k p v i h =
+    let n = number_is k v i h in
+    let s = number_stands k p (integer_of v) i n.range in (
+      s.0,
+      record {
+        form = record { number = integer_of v; form = s.1.form; range = n.range; value = n.made };
+        least = λ other o.
+            let same : o.number ≡ integer_of v = sym (number_of k o.number i o.range) ∙ ap integer_of (sym o.value) in
+            s.1.least other (subst (λ (z : ℤ). SpellsInteger (is_unsigned k) p other (Value z)) same o.form);
+      },
+    )
+
+of_units_is : (k : Kind) (v : Scalar) → IsUnitKind k → IsOfType k v → IsOfUnits k (units_of v) v
+of_units_is kind.Ascii (Ascii s) u h = refl
+of_units_is kind.Unicode (Unicode s) u h = (h.1.2, refl)
+of_units_is kind.Bytes (Bytes s) u h = refl
+of_units_is kind.Ascii v u h = let e = h.0 in absurd cc
+of_units_is kind.Unicode v u h = let e = h.0 in absurd cc
+of_units_is kind.Bytes v u h = let e = h.0 in absurd cc
+of_units_is k v u h = absurd u
+
+whole_string : (k : Kind) (p : Presence) (v : Scalar) → IsUnitKind k → IsOfType k v → Stands (SpelledString k p) (Some v)
+whole_string k p v u h =
+    let s = units_stand k p (units_of v) (units_of_string k v u h) in (
+      s.0,
+      record {
+        form = record { string = units_of v; form = s.1.form; value = of_units_is k v u h };
+        least = λ other o. s.1.least other (subst (λ (x : List ℕ). SpellsUnits k p other (Value x)) (sym (units_are k o.string v o.value)) o.form);
+      },
+    )
+
+pub exponent_small : (e : ℤ) → IsTrue (exponent_in_range e) → magnitude e < 2 ^ 64
+exponent_small e h = signed_small e 62 63 h (omega arith) (omega arith)
+
+whole_decimal : (p : Presence) (v : Scalar) → IsOfType kind.Decimal v → Stands (SpelledDecimal p) (Some v)
+whole_decimal p (Decimal e m) h =
+    let s = pair_stands p e m (omega (arith, exponent_small e h.1.0)) (omega (arith, range_small kind.Int64 m refl h.1.1)) in (
+      s.0,
+      record {
+        form = record { exponent = e; mantissa = m; form = s.1; value = (h.1.0, h.1.1, refl) };
+        least = λ other o.
+            let same_e : o.exponent ≡ e = sym (ap exponent_of o.value.2) in
+            let same_m : o.mantissa ≡ m = sym (ap mantissa_of o.value.2) in
+            s.2 other (subst (λ (x : ℤ). SpellsPair p other x m) same_e (subst (λ (x : ℤ). SpellsPair p other o.exponent x) same_m o.form));
+      },
+    )
+whole_decimal p v h = let e = h.0 in absurd cc
+
+pub whole_stands : (k : Kind) (p : Presence) (v : Scalar) → IsOfType k v → Stands (Spelled k p) (Some v)
+whole_stands kind.UInt32 p v h = whole_number kind.UInt32 p v refl h
+whole_stands kind.Int32 p v h = whole_number kind.Int32 p v refl h
+whole_stands kind.UInt64 p v h = whole_number kind.UInt64 p v refl h
+whole_stands kind.Int64 p v h = whole_number kind.Int64 p v refl h
+whole_stands kind.Decimal p v h = whole_decimal p v h
+whole_stands kind.Ascii p v h = whole_string kind.Ascii p v tt h
+whole_stands kind.Unicode p v h = whole_string kind.Unicode p v tt h
+whole_stands kind.Bytes p v h = whole_string kind.Bytes p v tt h
+
+pub null_whole_stands : (k : Kind) → Stands (Spelled k Optional) None
+null_whole_stands kind.UInt32 = stands_as (SpellsInteger true Optional) (Spelled kind.UInt32 Optional) Null None (λ b h. h) (λ b h. h) (null_stands true)
+null_whole_stands kind.Int32 = stands_as (SpellsInteger false Optional) (Spelled kind.Int32 Optional) Null None (λ b h. h) (λ b h. h) (null_stands false)
+null_whole_stands kind.UInt64 = stands_as (SpellsInteger true Optional) (Spelled kind.UInt64 Optional) Null None (λ b h. h) (λ b h. h) (null_stands true)
+null_whole_stands kind.Int64 = stands_as (SpellsInteger false Optional) (Spelled kind.Int64 Optional) Null None (λ b h. h) (λ b h. h) (null_stands false)
+null_whole_stands kind.Decimal = stands_as (SpellsInteger false Optional) (Spelled kind.Decimal Optional) Null None (λ b h. h) (λ b h. h) (null_stands false)
+null_whole_stands kind.Ascii = stands_as (SpellsUnits kind.Ascii Optional) (Spelled kind.Ascii Optional) Null None (λ b h. h) (λ b h. h) (null_units_stand kind.Ascii)
+null_whole_stands kind.Unicode = stands_as (SpellsUnits kind.Unicode Optional) (Spelled kind.Unicode Optional) Null None (λ b h. h) (λ b h. h) (null_units_stand kind.Unicode)
+null_whole_stands kind.Bytes = stands_as (SpellsUnits kind.Bytes Optional) (Spelled kind.Bytes Optional) Null None (λ b h. h) (λ b h. h) (null_units_stand kind.Bytes)

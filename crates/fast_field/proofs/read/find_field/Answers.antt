@@ -1,0 +1,12 @@
+use Rattle.fast_dictionary.specs.Dictionary.{entry_of}
+use Rattle.fast_field.specs.FieldReading.{field_at}
+use Rattle.fast_field.specs.Found.{value_found}
+use Rattle.fast_field.proofs.FieldsGoOn.{field_goes}
+use Rattle.fast_field.proofs.ReadFields.{call_goes}
+use Rattle.fast_field.proofs.read.find_field.Goals as goal
+
+pub returns-clause-goes : goal.returns-clause-goes
+returns-clause-goes c =
+    let i = c.args.instr.now in
+    let e = entry_of c.args.kept in
+    call_goes (field_at i e c.args.bit) (field_goes i e c.args.bit) c.args.bytes.now c.args.at (λ x. value_found i e x.0) (λ x. x.1) c.read_checked.result c.read_checked.ensures.gives

@@ -1,0 +1,17 @@
+-- What a call answered, against what reading gives. (Own.)
+use Rattle.std.specs.Prelude.{◌≡◌, ◌^◌, ℤ, pos, negsuc, ◌<ℤ◌, Result, Ok, Err}
+use Rattle.fast_field.specs.declared.fault.FieldFault.{FieldFault}
+use Rattle.fast_field.specs.declared.fault.FieldFault.TheVariants as fault
+
+-- a call that takes no memory answered, seen by view, what reading gives
+abbrev pub Answers : {F X Y : Type 0} → (X → Y) → Result X F → Result Y F → Type 0
+Answers view (Ok x) read = read ≡ Ok (view x)
+Answers view (Err e) read = read ≡ Err e
+
+-- memory was refused, where no more bytes are needed
+abbrev pub OrRefused : {Y : Type 0} → Result Y FieldFault → FieldFault → Type 0
+OrRefused read e = (e ≡ fault.Memory) × (read ≡ Err fault.NeedMore → ⊥)
+
+-- what ten bytes can spell, with a sign or with none
+abbrev pub IsSentRange : ℤ → Type 0
+IsSentRange z = (negsuc (2 ^ 70) <ℤ z) × (z <ℤ pos (2 ^ 70))

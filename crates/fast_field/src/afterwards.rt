@@ -1,0 +1,91 @@
+//! The entry afterwards: FAST 1.1, Field Operators, Dictionaries and Previous Values.
+
+ghost use Rattle.std.specs.Prelude.{◌≡◌, IfOk, OnErr};
+ghost use Rattle.std.specs.Option.{option_copied};
+ghost use Rattle.fast_dictionary.specs.Dictionary.{entry_of};
+ghost use Rattle.fast_field.specs.Bases.{delta_entry, next};
+ghost use Rattle.fast_field.specs.Found.{CanLie, IsLeftOut, value_found};
+
+use crate::found::Found;
+use fast_dictionary::{Entry, EntryRef};
+use fast_template::{FieldPart, Operator, Scalar};
+use std::alloc::{AllocError, Global};
+
+/// The entry that a value of a field leaves, read or written.
+///
+/// # Errors
+///
+/// Where memory is refused for the copy of a string or a vector.
+pub fn next_entry(
+    alloc: Global,
+    instr: &FieldPart,
+    kept: EntryRef,
+    value: Option<&Scalar>,
+) -> Result<Entry, AllocError>
+    ensures { IfOk result (λ entry. entry ≡ next instr.now (entry_of kept.entry) (option_copied value.entry)) }
+{
+    match instr.operator {
+        Operator::Plain | Operator::Constant | Operator::Default => kept.copy(alloc),
+        Operator::Copy | Operator::Increment | Operator::Tail => match value {
+            None => Ok(Entry::Empty),
+            Some(value) => Ok(Entry::Assigned(value.copy(alloc)?)),
+        },
+        Operator::Delta => match value {
+            None => kept.copy(alloc),
+            Some(value) => Ok(Entry::Assigned(value.copy(alloc)?)),
+        },
+    }
+}
+
+/// Puts a value where it is kept, and answers where it lies then: a value of its own is moved into the entry, an
+/// initial one is copied, and one that is there stays. An absent one is passed to the caller.
+fn assign(
+    alloc: Global,
+    instr: &FieldPart,
+    entry: &mut Entry,
+    found: Found,
+) -> Result<Found, AllocError>
+    requires { CanLie entry.old found }
+    ensures value { IfOk result (λ f. value_found instr.now entry.new f ≡ value_found instr.now entry.old found) }
+    ensures entry { IfOk result (λ f. entry.new ≡ delta_entry entry.old (value_found instr.now entry.old found)) }
+    ensures absent { IfOk result (λ f. IsLeftOut f (value_found instr.now entry.old found)) }
+    ensures unchanged { OnErr result (entry.new ≡ entry.old) }
+{
+    let value = match found {
+        Found::Absent => return Ok(Found::Absent),
+        Found::Initial => match &instr.initial {
+            None => return Ok(Found::Absent),
+            Some(value) => value.copy(alloc)?,
+        },
+        Found::Kept => return Ok(Found::Kept),
+        Found::Value(value) => value,
+    };
+    *entry = Entry::Assigned(value);
+    Ok(Found::Kept)
+}
+
+/// Makes an entry the one that a value leaves, and answers where the value lies then. An entry that the operator
+/// leaves is not touched. Memory only for the copy of an initial value; the entry is then as it was.
+pub(crate) fn settle(
+    alloc: Global,
+    instr: &FieldPart,
+    entry: &mut Entry,
+    found: Found,
+) -> Result<Found, AllocError>
+    requires { CanLie entry.old found }
+    ensures value { IfOk result (λ f. value_found instr.now entry.new f ≡ value_found instr.now entry.old found) }
+    ensures entry { IfOk result (λ f. entry.new ≡ next instr.now entry.old (value_found instr.now entry.old found)) }
+    ensures unchanged { OnErr result (entry.new ≡ entry.old) }
+{
+    match instr.operator {
+        Operator::Plain | Operator::Constant | Operator::Default => Ok(found),
+        Operator::Delta => assign(alloc, instr, entry, found),
+        Operator::Copy | Operator::Increment | Operator::Tail => {
+            let found = assign(alloc, instr, entry, found)?;
+            if let Found::Absent = found {
+                *entry = Entry::Empty;
+            }
+            Ok(found)
+        }
+    }
+}

@@ -1,0 +1,211 @@
+//! Deltas: FAST 1.1, Field Operators, Delta Operator.
+
+ghost use Rattle.std.specs.Prelude.{◌≡◌, ◌^◌, ◌≤◌, ◌<ℤ◌, ◌+ℤ◌, pos, negsuc, true, false, length, drop, IfNone, IfOk, IfSome, IsTrue};
+ghost use Rattle.fast_dictionary.specs.Dictionary.{entry_of};
+ghost use Rattle.fast_template.specs.Scalar.{in_range, is_integer};
+ghost use Rattle.fast_template.specs.declared.kind.Kind.TheVariants as kind;
+ghost use Rattle.fast_wire.specs.Reading.{Gives};
+ghost use Rattle.fast_field.specs.Calls.{Answers, IsSentRange, OrRefused};
+ghost use Rattle.fast_field.specs.FieldReading.{decimal_delta_at, delta_at, integer_delta_at, integer_sum, mantissa_delta_behind, new_part_behind, unit_delta_at};
+ghost use Rattle.fast_field.specs.Removals.{length_of};
+
+use crate::base::{base_decimal, base_number, base_of_delta, base_units};
+use crate::fault::FieldFault;
+use crate::string::joined;
+use crate::whole::{exponent_within, mantissa_within, read_integer, read_part, value_of_integer};
+use fast_dictionary::EntryRef;
+use fast_template::{FieldPart, Kind, Scalar};
+use fast_wire::Nullable;
+use std::alloc::Global;
+
+/// The number that a delta makes of one of at most 64 bits.
+fn added(base: i128, delta: i128) -> i128
+    requires above { negsuc (2 ^ 64) <ℤ base }
+    requires below { base <ℤ pos (2 ^ 64) }
+    requires range { IsSentRange delta }
+    ensures { result ≡ base +ℤ delta }
+{
+    base + delta
+}
+
+/// What a base and a delta make.
+#[tactic(auto, using(crate::proofs::CallSteps::call_steps), unfolding(crate::specs::FieldReading::integer_sum))]
+fn sum(instr: &FieldPart, kept: EntryRef, delta: i128) -> Result<Scalar, FieldFault>
+    requires kind { IsTrue (is_integer instr.now.kind) }
+    requires range { IsSentRange delta }
+    ensures { Answers (λ v. v) result (integer_sum instr.now (entry_of kept.entry) delta) }
+{
+    let base = base_number(base_of_delta(instr, kept)?);
+    value_of_integer(instr.part, instr.kind, added(base, delta))
+}
+
+/// Reads what is added to an integer, and answers the sum.
+#[tactic(auto, using(crate::proofs::CallSteps::call_steps), unfolding(crate::specs::FieldReading::integer_delta_at))]
+fn read_integer_delta(
+    instr: &FieldPart,
+    kept: EntryRef,
+    bytes: &[u8],
+    at: usize,
+) -> Result<(Option<Scalar>, usize), FieldFault>
+    requires place { at ≤ length bytes.now }
+    requires kind { IsTrue (is_integer instr.now.kind) }
+    ensures place { IfOk result (λ x. (at ≤ x.1) × (x.1 ≤ length bytes.now)) }
+    ensures gives { Answers (λ x. (x.0, drop x.1 bytes.now)) result (integer_delta_at instr.now (entry_of kept.entry) (drop at bytes.now)) }
+{
+    let (delta, next) = read_integer(false, instr.presence, bytes, at)?;
+    match delta {
+        Nullable::Null => Ok((None, next)),
+        Nullable::Value(delta) => Ok((Some(sum(instr, kept, delta)?), next)),
+    }
+}
+
+/// Reads what is added to a mantissa, behind an exponent, and answers the decimal.
+#[tactic(auto, using(crate::proofs::CallSteps::call_steps), unfolding(crate::specs::FieldReading::mantissa_delta_behind, crate::specs::FieldReading::decimal_value))]
+fn read_mantissa_delta(
+    exponent: i128,
+    base: i64,
+    bytes: &[u8],
+    at: usize,
+) -> Result<(Option<Scalar>, usize), FieldFault>
+    requires { at ≤ length bytes.now }
+    ensures place { IfOk result (λ x. (at ≤ x.1) × (x.1 ≤ length bytes.now)) }
+    ensures gives { Answers (λ x. (x.0, drop x.1 bytes.now)) result (mantissa_delta_behind exponent base (drop at bytes.now)) }
+{
+    let Some(exponent) = exponent_within(exponent) else {
+        return Err(FieldFault::R1);
+    };
+    let (delta, next) = fast_wire::read_signed(bytes, at)?;
+    match mantissa_within(added(i128::from(base), delta)) {
+        Some(mantissa) => Ok((Some(Scalar::Decimal { exponent, mantissa }), next)),
+        None => Err(FieldFault::R1),
+    }
+}
+
+/// Reads what is added to an exponent and to a mantissa, and answers the decimal.
+#[tactic(auto, using(crate::proofs::CallSteps::call_steps), unfolding(crate::specs::FieldReading::decimal_delta_at))]
+fn read_decimal_delta(
+    instr: &FieldPart,
+    kept: EntryRef,
+    bytes: &[u8],
+    at: usize,
+) -> Result<(Option<Scalar>, usize), FieldFault>
+    requires { at ≤ length bytes.now }
+    ensures place { IfOk result (λ x. (at ≤ x.1) × (x.1 ≤ length bytes.now)) }
+    ensures gives { Answers (λ x. (x.0, drop x.1 bytes.now)) result (decimal_delta_at instr.now (entry_of kept.entry) (drop at bytes.now)) }
+{
+    let (delta, next) = read_integer(false, instr.presence, bytes, at)?;
+    match delta {
+        Nullable::Null => Ok((None, next)),
+        Nullable::Value(delta) => {
+            let (exponent, mantissa) = base_decimal(base_of_delta(instr, kept)?);
+            let exponent = added(i128::from(exponent), delta);
+            read_mantissa_delta(exponent, mantissa, bytes, next)
+        }
+    }
+}
+
+/// What a string or vector delta removes of its base.
+#[derive(Clone, Copy, Debug, PartialEq, Eq, Drop)]
+pub(crate) enum Removal {
+    /// So many units at the end.
+    AtEnd(usize),
+    /// So many units in front.
+    InFront(usize),
+}
+
+/// What a subtraction length removes; of a number that is no int32, nothing is said.
+fn removal_of(length: i128) -> Option<Removal>
+    ensures some { IfSome result (λ r. (length ≡ length_of r) × (in_range kind.Int32 length ≡ true)) }
+    ensures none { IfNone result (in_range kind.Int32 length ≡ false) }
+{
+    let length = i32::try_from(length).ok()?;
+    if length >= 0 {
+        Some(Removal::AtEnd(length as usize))
+    } else {
+        Some(Removal::InFront((-1 - length) as usize))
+    }
+}
+
+/// Reads a new part, and puts it where units were removed.
+#[tactic(auto, using(crate::proofs::CallSteps::call_steps), unfolding(crate::specs::FieldReading::new_part_behind))]
+fn read_new_part(
+    alloc: Global,
+    kind: Kind,
+    removal: Removal,
+    base: &[u8],
+    bytes: &[u8],
+    at: usize,
+) -> Result<(Option<Scalar>, usize), FieldFault>
+    requires { at ≤ length bytes.now }
+    ensures place { IfOk result (λ x. (at ≤ x.1) × (x.1 ≤ length bytes.now)) }
+    ensures gives { Gives OrRefused (λ x. (x.0, drop x.1 bytes.now)) result (new_part_behind kind (length_of removal) base.now (drop at bytes.now)) }
+{
+    match removal {
+        Removal::AtEnd(removed) => {
+            if removed > base.len() {
+                return Err(FieldFault::D7);
+            }
+            let (part, next) = read_part(alloc, kind, bytes, at)?;
+            let value = joined(alloc, kind, &base[..base.len() - removed], &part)?;
+            Ok((Some(value), next))
+        }
+        Removal::InFront(removed) => {
+            if removed > base.len() {
+                return Err(FieldFault::D7);
+            }
+            let (part, next) = read_part(alloc, kind, bytes, at)?;
+            let value = joined(alloc, kind, &part, &base[removed..])?;
+            Ok((Some(value), next))
+        }
+    }
+}
+
+/// Reads a string or vector by its difference from the base.
+#[tactic(auto, using(crate::proofs::CallSteps::call_steps), unfolding(crate::specs::FieldReading::unit_delta_at))]
+fn read_unit_delta(
+    alloc: Global,
+    instr: &FieldPart,
+    kept: EntryRef,
+    bytes: &[u8],
+    at: usize,
+) -> Result<(Option<Scalar>, usize), FieldFault>
+    requires { at ≤ length bytes.now }
+    ensures place { IfOk result (λ x. (at ≤ x.1) × (x.1 ≤ length bytes.now)) }
+    ensures gives { Gives OrRefused (λ x. (x.0, drop x.1 bytes.now)) result (unit_delta_at instr.now (entry_of kept.entry) (drop at bytes.now)) }
+{
+    let (length, next) = read_integer(false, instr.presence, bytes, at)?;
+    match length {
+        Nullable::Null => Ok((None, next)),
+        Nullable::Value(length) => {
+            let Some(removal) = removal_of(length) else {
+                return Err(FieldFault::D7);
+            };
+            let base = base_units(base_of_delta(instr, kept)?);
+            read_new_part(alloc, instr.kind, removal, base, bytes, next)
+        }
+    }
+}
+
+/// Reads a delta, and answers the value that it makes and the place after it. Memory only for strings and vectors.
+#[tactic(auto, unfolding(crate::specs::FieldReading::delta_at))]
+pub(crate) fn read_delta(
+    alloc: Global,
+    instr: &FieldPart,
+    kept: EntryRef,
+    bytes: &[u8],
+    at: usize,
+) -> Result<(Option<Scalar>, usize), FieldFault>
+    requires { at ≤ length bytes.now }
+    ensures place { IfOk result (λ x. (at ≤ x.1) × (x.1 ≤ length bytes.now)) }
+    ensures gives { Gives OrRefused (λ x. (x.0, drop x.1 bytes.now)) result (delta_at instr.now.kind instr.now (entry_of kept.entry) (drop at bytes.now)) }
+{
+    match instr.kind {
+        Kind::UInt32 | Kind::Int32 | Kind::UInt64 | Kind::Int64 => {
+            read_integer_delta(instr, kept, bytes, at)
+        }
+        Kind::Decimal => read_decimal_delta(instr, kept, bytes, at),
+        Kind::Ascii | Kind::Unicode | Kind::Bytes => {
+            read_unit_delta(alloc, instr, kept, bytes, at)
+        }
+    }
+}
