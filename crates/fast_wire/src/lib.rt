@@ -13,6 +13,7 @@ mod integer;
 pub mod laws;
 mod nullable;
 mod presence_map;
+mod short_integer;
 mod stop_bit;
 #[cfg(test)]
 mod tests;
@@ -32,6 +33,7 @@ pub use nullable::{
     size_unsigned_nullable, write_signed_nullable, write_unsigned_nullable,
 };
 pub use presence_map::{Bits, read_map, write_map};
+pub use short_integer::{read_i64, read_i64_nullable, read_u64, read_u64_nullable};
 pub use stop_bit::find_stop;
 pub use text::check_text;
 pub use vector::{
