@@ -66,7 +66,8 @@ abbrev pub OrMemory : {Y : Type 0} → Result Y WireFault → WireFault → Type
 OrMemory read e = (e ≡ fault.Memory) × IsOk read
 
 -- or since a value stands there that does not fit the answer's type
-abbrev pub OrOutside : {V : Type 0} → (V → Type 0) → Result (V × List ℕ) WireFault → WireFault → Type 0
+abbrev pub OrOutside : {V : Type 0} → (V → Type 0) → Result (V × List ℕ) WireFault → WireFault
+    → Type 0
 OrOutside {V} Fits read e =
     (e ≡ fault.Range) × (v : V) × (rest : List ℕ) × (read ≡ Ok (v, rest)) × (Fits v → ⊥)
 

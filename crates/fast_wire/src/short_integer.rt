@@ -84,7 +84,8 @@ fn received(sent: u64) -> Nullable<u64>
 pub fn read_u64_nullable(bytes: &[u8], at: usize) -> Result<(Nullable<u64>, usize), WireFault>
     requires { at ≤ length bytes.now }
     ensures place { IfOk result (λ x. (at < x.1) × (x.1 ≤ length bytes.now)) }
-    ensures gives { GivesAt (OrOutside (IsNullOr FitsU64)) unsigned_nullable_at (λ v. v) bytes.now at result }
+    ensures gives { GivesAt (OrOutside (IsNullOr FitsU64)) unsigned_nullable_at (λ v. v)
+        bytes.now at result }
 {
     if at < bytes.len() && bytes[at] >= STOP_BIT {
         return Ok((received(u64::from(bytes[at] % 128)), at + 1));
@@ -100,7 +101,8 @@ pub fn read_u64_nullable(bytes: &[u8], at: usize) -> Result<(Nullable<u64>, usiz
 fn read_long_nullable(bytes: &[u8], at: usize) -> Result<(Nullable<u64>, usize), WireFault>
     requires { at ≤ length bytes.now }
     ensures place { IfOk result (λ x. (at < x.1) × (x.1 ≤ length bytes.now)) }
-    ensures gives { GivesAt (OrOutside (IsNullOr FitsU64)) unsigned_nullable_at (λ v. v) bytes.now at result }
+    ensures gives { GivesAt (OrOutside (IsNullOr FitsU64)) unsigned_nullable_at (λ v. v)
+        bytes.now at result }
 {
     let (value, next) = read_unsigned_nullable(bytes, at)?;
     let Nullable::Value(value) = value else {
@@ -179,7 +181,8 @@ fn received_signed(sent: i64) -> Nullable<i64>
 pub fn read_i64_nullable(bytes: &[u8], at: usize) -> Result<(Nullable<i64>, usize), WireFault>
     requires { at ≤ length bytes.now }
     ensures place { IfOk result (λ x. (at < x.1) × (x.1 ≤ length bytes.now)) }
-    ensures gives { GivesAt (OrOutside (IsNullOr FitsI64)) signed_nullable_at (λ v. v) bytes.now at result }
+    ensures gives { GivesAt (OrOutside (IsNullOr FitsI64)) signed_nullable_at (λ v. v)
+        bytes.now at result }
 {
     if at < bytes.len() && bytes[at] >= STOP_BIT {
         let group = bytes[at] % 128;
@@ -202,7 +205,8 @@ pub fn read_i64_nullable(bytes: &[u8], at: usize) -> Result<(Nullable<i64>, usiz
 fn read_long_signed_nullable(bytes: &[u8], at: usize) -> Result<(Nullable<i64>, usize), WireFault>
     requires { at ≤ length bytes.now }
     ensures place { IfOk result (λ x. (at < x.1) × (x.1 ≤ length bytes.now)) }
-    ensures gives { GivesAt (OrOutside (IsNullOr FitsI64)) signed_nullable_at (λ v. v) bytes.now at result }
+    ensures gives { GivesAt (OrOutside (IsNullOr FitsI64)) signed_nullable_at (λ v. v)
+        bytes.now at result }
 {
     let (value, next) = read_signed_nullable(bytes, at)?;
     let Nullable::Value(value) = value else {

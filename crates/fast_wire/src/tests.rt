@@ -178,6 +178,43 @@ fn signed_nullable_vectors(rt: HostRuntime) -> Result<(), Fail> {
     Ok(())
 }
 
+/// Where texts and vectors stand, and a vector that is filled again.
+#[test]
+fn spans(rt: HostRuntime) -> Result<(), Fail> {
+    let empty = Span { start: 1, end: 1 };
+    assert_eq!(rt; find_ascii(&[0x80], 0)?, (empty, 1));
+    assert_eq!(rt;
+        find_ascii(&[0x00, 0xc1], 0)?,
+        (Span { start: 1, end: 2 }, 2)
+    );
+    assert_eq!(rt;
+        find_ascii(&[0x48, 0x65, 0xf9, 0x80], 0)?,
+        (Span { start: 0, end: 3 }, 3)
+    );
+    assert_eq!(rt; find_ascii(b"Hey", 0), Err(WireFault::NeedMore));
+    assert_eq!(rt; find_ascii_nullable(&[0x80], 0)?, (Nullable::Null, 1));
+    let letter = Nullable::Value(Span { start: 1, end: 2 });
+    assert_eq!(rt; find_ascii_nullable(&[0x00, 0xc1], 0)?, (letter, 2));
+    assert_eq!(rt;
+        find_vector(&[0x82, 0xc3, 0xa9], 0)?,
+        (Span { start: 1, end: 3 }, 3)
+    );
+    assert_eq!(rt; find_vector(&[0x83, 0xc3], 0), Err(WireFault::NeedMore));
+    assert_eq!(rt; find_vector_nullable(&[0x80], 0)?, (Nullable::Null, 1));
+    assert_eq!(rt; find_vector_nullable(&[0x82, 0x41], 0)?, (letter, 2));
+    let mut text = Vec::new(rt.alloc());
+    for (tail, characters) in [
+        ([0x48, 0x65, 0xf9].as_slice(), b"Hey".as_slice()),
+        (&[0xc1], b"A"),
+        (&[], b""),
+        (&[0x48, 0xe9], b"Hi"),
+    ] {
+        fill_characters(tail, &mut text)?;
+        assert_eq!(rt; text.as_slice(), characters);
+    }
+    Ok(())
+}
+
 /// The readers in 64 bits answer what the others do, at one byte, at nine, and beyond.
 #[test]
 fn short_integers(rt: HostRuntime) -> Result<(), Fail> {
