@@ -1,13 +1,14 @@
 -- ASCII strings: the groups behind a preamble, and the shortest forms.
-use Rattle.std.proofs.Common.{◌≡◌, ℕ, zero, suc, ◌+◌, ◌-◌, ◌%◌, ◌<◌, ◌≤◌, List, [], ◌∷◌, ◌++◌, length, get_or, set, min, take, drop, refl, sym, ap, ap₂, subst, ◌∙◌, arith, inl, inr, append_assoc, length-drop, slice_range, get_or-take, get_or-drop}
+use Rattle.std.proofs.Common.{◌≡◌, ℕ, zero, suc, ◌+◌, ◌-◌, ◌%◌, ◌<◌, ◌≤◌, List, [], ◌∷◌, ◌++◌, length, get_or, set, min, take, drop, refl, sym, ap, ap₂, subst, ◌∙◌, arith, inl, inr, append_assoc, length-drop, slice_range, get_or-take, get_or-drop, length-take, drop-drop}
 use Rattle.std.specs.Prelude.{All, replicate}
 use Rattle.std.proofs.lemmas.Bool.{cases_lt}
-use Rattle.std.proofs.lemmas.List.{length-map, length-append, get_or_default}
+use Rattle.std.proofs.lemmas.List.{drop-take, length-map, length-append, get_or_default}
 use Rattle.std.proofs.lemmas.List.Elements.{All-get_or}
 use Rattle.fast_wire.specs.Entity.{IsEntity, groups}
 use Rattle.fast_wire.specs.Ascii.{SpellsAscii, SpellsAsciiNullable, IsAscii, IsAsciiNullable, IsAsciiText}
 use Rattle.fast_wire.specs.Nullable.{units}
 use Rattle.fast_wire.specs.Reading.{characters, nullable_characters}
+use Rattle.fast_wire.specs.Spans.{IsTail}
 use Rattle.fast_wire.specs.Spellings.{behind_zeros, preamble_for, stopped, string_of}
 use Rattle.fast_wire.specs.Writing.{IsShortest}
 use Rattle.fast_wire.proofs.UnsignedForms.{entity_some}
@@ -331,3 +332,26 @@ pub first_byte : (bytes : List ℕ) (at next : ℕ) → at < next → get_or (sl
 first_byte bytes at next h =
     let on : at + 0 ≡ at = omega arith in
     rw (get_or-take (next - at) (drop at bytes) 0 0 (omega arith), get_or-drop at bytes 0 0, on) refl
+
+-- the last bytes of an entity
+pub entity_tail : (xs : List ℕ) (i : ℕ) → IsEntity xs → IsTail (drop i xs)
+entity_tail [] i h = absurd h
+entity_tail (x ∷ xs) zero h = inr h
+entity_tail (x ∷ []) (suc zero) h = inl refl
+entity_tail (x ∷ []) (suc (suc i)) h = inl refl
+entity_tail (x ∷ y ∷ ys) (suc i) h = entity_tail (y ∷ ys) i h.1
+
+pub slice_behind : (bytes : List ℕ) (at next z : ℕ) → z ≤ length (slice_range bytes at next) → slice_range bytes (at + z) next ≡ drop z (slice_range bytes at next)
+slice_behind bytes at next z within =
+    let m = next - (at + z) in
+    let sum : next - at ≡ z + m = omega (arith, length-take (next - at) (drop at bytes)) in
+    sym (ap (λ n. drop z (take n (drop at bytes))) sum ∙ drop-take z m (drop at bytes) ∙ ap (take m) (drop-drop z at bytes))
+
+-- the characters of such bytes, where the stop bit was taken off the last
+pub tail_text : (items tail : List ℕ) (size x : ℕ) → IsTail tail → items ≡ tail → 0 < length items → size ≡ length items → x ≡ get_or items (size - 1) x → set items (size - 1) (x % 128) ≡ groups tail
+tail_text items tail size x (inl none) copied some long read = absurd (omega (arith, ap length (copied ∙ none)))
+tail_text items tail size x (inr h) copied some long read = written_tail items tail 0 size x h copied some long read
+
+pub none_there : (xs : List ℕ) → length xs ≡ 0 → xs ≡ []
+none_there [] h = refl
+none_there (x ∷ xs) h = absurd (omega arith)

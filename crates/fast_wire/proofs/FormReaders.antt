@@ -1,11 +1,11 @@
 -- The functions that read an entity, an unsigned integer and a presence map read their forms, and no more.
-use Rattle.std.proofs.Common.{◌≡◌, ℕ, zero, suc, ◌+◌, ◌-◌, ◌<◌, ◌≤◌, Bool, true, false, cond, List, [], ◌∷◌, ◌++◌, length, take, drop, slice_range, Result, Ok, Err, refl, sym, ap, subst, ◌∙◌, arith, length-drop, length-take, take-append-drop, drop-drop, min, inl, inr, ◌⊎◌}
+use Rattle.std.proofs.Common.{◌≡◌, ℕ, zero, suc, ◌+◌, ◌-◌, ◌<◌, ◌≤◌, Bool, true, false, cond, List, [], ◌∷◌, ◌++◌, length, take, drop, slice_range, Result, Ok, Err, refl, sym, ap, subst, ◌∙◌, arith, length-drop, length-take, take-append-drop, drop-drop, min, inl, inr}
 use Rattle.std.proofs.Math.Seq.{take-length}
-use Rattle.std.specs.Prelude.{nat_le, nat_lt, ◌%◌, IsOk}
+use Rattle.std.specs.Prelude.{nat_le, nat_lt, ◌%◌}
 use Rattle.fast_wire.specs.Entity.{IsEntity, IsEntityWithin, IsSpelled, HasNoStop, groups}
 use Rattle.fast_wire.specs.Integer.{IsUnsigned, IsSigned, unsigned_of, signed_of}
 use Rattle.fast_wire.specs.PresenceMap.{IsWholeMap, bits_of}
-use Rattle.fast_wire.specs.Reading.{◌>>=◌, EntityFault, Fails, NothingElse, OrMemory, within_limit, characters, nullable_characters, entity_at, unsigned_at, signed_at, ascii_at, ascii_nullable_at, map_at}
+use Rattle.fast_wire.specs.Reading.{◌>>=◌, EntityFault, Fails, NothingElse, within_limit, characters, nullable_characters, entity_at, unsigned_at, signed_at, ascii_at, ascii_nullable_at, map_at}
 use Rattle.fast_wire.specs.Reader.{IsBytes, Takes, IsReader}
 use Rattle.fast_wire.specs.declared.fault.WireFault.{WireFault}
 use Rattle.fast_wire.specs.declared.fault.WireFault.TheVariants as fault
@@ -193,15 +193,6 @@ pub fails_then : {A B F : Type 0} (Else : Result B F → F → Type 0) (e : F) (
 fails_then Else e r k (inl h) = inl (rw h refl)
 fails_then Else e r k (inr h) = absurd h
 
--- where memory was refused, a value that is made of what is read would have been given
-pub or_memory_map : {A B : Type 0} (e : WireFault) (r : Result A WireFault) (g : A → B) → Fails OrMemory e r → Fails OrMemory e (r >>= λ x. Ok (g x))
-or_memory_map e r g (inl h) = inl (rw h refl)
-or_memory_map e (Ok x) g (inr h) = inr (h.0, refl)
-or_memory_map e (Err d) g (inr h) = let no = h.1 in absurd cc
-
-pub is_ok : {A F : Type 0} (r : Result A F) (x : A) → r ≡ Ok x → IsOk r
-is_ok r x h = rw h refl
-
 -- ---- ASCII strings
 
 pub within_ok : {V : Type 0} (size : V → ℕ) (s : V) → size s ≤ 65535 → within_limit size s ≡ Ok s
@@ -248,7 +239,6 @@ pub string_given : {V : Type 0} (size : V → ℕ) (value : List ℕ → V) (byt
     → string_at size value bytes ≡ Ok (v, rest)
 string_given size value bytes e rest v h is few = rw (h, is, within_ok size v few) refl
 
-pub string_refused : {V : Type 0} (size : V → ℕ) (value : List ℕ → V) (bytes e rest : List ℕ) (f : WireFault) → entity_at 65540 bytes ≡ Ok (e, rest)
-    → ((f ≡ fault.Memory) × (size (value e) ≤ 65535)) ⊎ ((f ≡ fault.TooLong) × (65535 < size (value e))) → Fails OrMemory f (string_at size value bytes)
-string_refused size value bytes e rest f h (inl m) = inr (m.0, is_ok (string_at size value bytes) (value e, rest) (string_given size value bytes e rest (value e) h refl m.1))
-string_refused size value bytes e rest f h (inr t) = inl (rw (t.0, h, within_err size (value e) t.1) refl)
+pub string_too_long : {V : Type 0} (size : V → ℕ) (value : List ℕ → V) (bytes e rest : List ℕ) (f : WireFault) → entity_at 65540 bytes ≡ Ok (e, rest) → f ≡ fault.TooLong → 65535 < size (value e)
+    → Fails NothingElse f (string_at size value bytes)
+string_too_long size value bytes e rest f h t long = inl (rw (t, h, within_err size (value e) long) refl)

@@ -20,3 +20,4 @@ pub mod FormSizes
 pub mod GoingOn
 pub mod Calls
 pub mod Written
+pub mod ShortIntegers

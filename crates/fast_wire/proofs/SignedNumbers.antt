@@ -18,7 +18,7 @@ pub small_fits : (u : ℕ) → u ≤ 2 ^ 70 → SFits w128 (pos u)
 small_fits u h = record { sfits = omega arith }
 
 -- the first group says the sign
-sign_is : (xs : List ℕ) → 0 < length xs → is_negative (groups xs) ≡ nat_le 64 (get_or xs 0 0 % 128)
+pub sign_is : (xs : List ℕ) → 0 < length xs → is_negative (groups xs) ≡ nat_le 64 (get_or xs 0 0 % 128)
 sign_is [] h = absurd (omega arith)
 sign_is (x ∷ xs) h = refl
 

@@ -1,6 +1,6 @@
 -- Byte vectors: how they are read, and the shortest forms.
-use Rattle.std.proofs.Common.{◌≡◌, ℕ, zero, suc, ◌+◌, ◌<◌, ◌≤◌, true, false, List, [], ◌∷◌, ◌++◌, length, take, drop, Ok, Err, refl, sym, ap, subst, ◌∙◌, arith, inl, inr, take-append-drop, length-append, length-take, length-drop, append-nil}
-use Rattle.std.specs.Prelude.{nat_lt, IsOk}
+use Rattle.std.proofs.Common.{◌≡◌, ℕ, zero, suc, ◌+◌, ◌<◌, ◌≤◌, true, false, List, [], ◌∷◌, ◌++◌, length, take, drop, Ok, Err, refl, sym, ap, subst, ◌∙◌, arith, inl, inr, take-append-drop, length-append, length-take, append-nil}
+use Rattle.std.specs.Prelude.{nat_lt}
 use Rattle.std.proofs.lemmas.Bool.{cases_lt}
 use Rattle.std.proofs.lemmas.Bool.Decides.{nat_tests}
 use Rattle.std.proofs.lemmas.List.{take_at, drop_at}
@@ -39,10 +39,6 @@ unfolding bytes_at
 bytes_ok n bytes few h =
     let t : nat_lt 65535 n ≡ false = grind (arith, nat_tests) in
     let u : nat_lt (length bytes) n ≡ false = grind (arith, nat_tests) in rw (t, u) refl
-
--- so a call that was refused their copy
-pub bytes_there : (n start : ℕ) (bytes : List ℕ) → start + n ≤ length bytes → n ≤ 65535 → IsOk (bytes_at n (drop start bytes))
-bytes_there n start bytes within few = rw (bytes_ok n (drop start bytes) few (omega (arith, length-drop start bytes))) refl
 
 bytes_drop : (n : ℕ) (bytes : List ℕ) → IsBytes bytes → IsBytes (drop n bytes)
 bytes_drop zero bytes h = h

@@ -9,3 +9,4 @@ pub mod Reader
 pub mod Writing
 pub mod Sizes
 pub mod Spellings
+pub mod Spans

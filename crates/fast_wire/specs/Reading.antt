@@ -1,7 +1,7 @@
 -- Reading forms from the front of a list: the value and the bytes after it, or the first fault.
-use Rattle.std.specs.Prelude.{◌≡◌, ℕ, zero, suc, ◌+◌, ◌-◌, ◌<◌, ◌≤◌, ◌⊎◌, ℤ, Bool, nat_le, nat_lt, if◌then◌else◌, List, [], ◌∷◌, length, take, drop, slice_range, Result, Ok, Err, IsOk, IfOk, MatchResult}
+use Rattle.std.specs.Prelude.{◌≡◌, ℕ, zero, suc, ◌+◌, ◌-◌, ◌^◌, ◌<◌, ◌≤◌, ◌⊎◌, ℤ, Bool, nat_le, nat_lt, if◌then◌else◌, List, [], ◌∷◌, length, take, drop, slice_range, Result, Ok, Err, IsOk, IfOk, MatchResult}
 use Rattle.fast_wire.specs.Entity.{HasNoStop, groups}
-use Rattle.fast_wire.specs.Integer.{unsigned_of, signed_of}
+use Rattle.fast_wire.specs.Integer.{magnitude, unsigned_of, signed_of}
 use Rattle.fast_wire.specs.Nullable.{received_unsigned, received_signed, units}
 use Rattle.fast_wire.specs.PresenceMap.{bits_of}
 use Rattle.fast_wire.specs.declared.nullable.Nullable.{Nullable}
@@ -64,6 +64,18 @@ NothingElse read e = ⊥
 
 abbrev pub OrMemory : {Y : Type 0} → Result Y WireFault → WireFault → Type 0
 OrMemory read e = (e ≡ fault.Memory) × IsOk read
+
+-- or since a value stands there that does not fit the answer's type
+abbrev pub OrOutside : {V : Type 0} → (V → Type 0) → Result (V × List ℕ) WireFault → WireFault
+    → Type 0
+OrOutside {V} Fits read e =
+    (e ≡ fault.Range) × (v : V) × (rest : List ℕ) × (read ≡ Ok (v, rest)) × (Fits v → ⊥)
+
+abbrev pub FitsU64 : ℕ → Type 0
+FitsU64 v = v < 2 ^ 64
+
+abbrev pub FitsI64 : ℤ → Type 0
+FitsI64 v = magnitude v < 2 ^ 63
 
 -- a call that failed did so as reading does, or for another reason
 abbrev pub Fails : {F Y : Type 0} → (Result Y F → F → Type 0) → F → Result Y F → Type 0

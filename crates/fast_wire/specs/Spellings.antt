@@ -1,7 +1,8 @@
 -- The shortest forms, made: what the writers append. No public clause names these.
-use Rattle.std.specs.Prelude.{◌≡◌, ℕ, ℤ, ◌+◌, ◌-◌, ◌*◌, ◌/◌, ◌%◌, ◌^◌, ◌<◌, ◌≤◌, List, [], ◌∷◌, ◌++◌, length, replicate, Bool, true, false, Result, OnOk, IfErr, Vec, vec_len, vec_capacity}
+use Rattle.std.specs.Prelude.{◌≡◌, ℕ, ℤ, ◌+◌, ◌-◌, ◌*◌, ◌/◌, ◌%◌, ◌^◌, ◌<◌, ◌≤◌, List, [], ◌∷◌, ◌++◌, length, replicate, slice_range, Bool, true, false, Result, OnOk, IfErr, Vec, vec_len, vec_capacity}
 use Rattle.std.specs.declared.alloc.Global.{Global}
-use Rattle.fast_wire.specs.Integer.{magnitude}
+use Rattle.fast_wire.specs.Entity.{IsEntity}
+use Rattle.fast_wire.specs.Integer.{magnitude, unsigned_of}
 use Rattle.fast_wire.specs.PresenceMap.{bit_at}
 use Rattle.fast_wire.specs.declared.fault.WireFault.{WireFault}
 use Rattle.fast_wire.specs.declared.fault.WireFault.TheVariants as fault
@@ -80,3 +81,11 @@ pub record Appends (bytes : List ℕ) (old new : Vec ℕ Global)
   pub ok : OnOk r (new.items ≡ old.items ++ bytes)
   pub err : IfErr r (λ e. (e ≡ fault.Memory) × (new.items ≡ old.items)
       × (vec_capacity old < vec_len old + length bytes))
+
+-- an entity of at most nine bytes stands there, and spells v
+pub record IsShort (bytes : List ℕ) (at v next : ℕ) : Type 0 where
+  pub after : at < next
+  pub within : next ≤ length bytes
+  pub short : next ≤ at + 9
+  pub entity : IsEntity (slice_range bytes at next)
+  pub value : v ≡ unsigned_of (slice_range bytes at next)

@@ -1,17 +1,19 @@
 //! ASCII strings: FAST 1.1, Transfer Encoding, ASCII String Representation.
 
-ghost use Rattle.std.specs.Prelude.{◌≡◌, ℕ, ◌+◌, ◌<◌, ◌≤◌, List, ◌++◌, length, drop, All, IfErr, IfOk, MatchResult, OnOk, OnErr, IsErrOf, ◌↔◌, ◌⊎◌};
+ghost use Rattle.std.specs.Prelude.{◌≡◌, ℕ, ◌+◌, ◌<◌, ◌≤◌, List, ◌++◌, length, drop, slice_range, All, IfErr, IfOk, MatchResult, OnOk, OnErr, IsErrOf, vec_capacity, ◌↔◌, ◌⊎◌};
 ghost use Rattle.fast_wire.specs.Entity.{IsEntity, groups};
 ghost use Rattle.fast_wire.specs.Ascii.{IsAscii, IsAsciiEntity, IsAsciiEntityNullable, IsAsciiNullable, IsAsciiText};
 ghost use Rattle.fast_wire.specs.Nullable.{IsNullOr, borrowed, items_of, units};
-ghost use Rattle.fast_wire.specs.Reading.{AsciiFault, GivesAt, OrMemory, Reads, ascii_at, ascii_nullable_at, IsReadAt};
+ghost use Rattle.fast_wire.specs.Reading.{NothingElse, AsciiFault, GivesAt, OrMemory, Reads, ascii_at, ascii_nullable_at, IsReadAt};
 ghost use Rattle.fast_wire.specs.Sizes.{ascii_size, ascii_nullable_size};
+ghost use Rattle.fast_wire.specs.Spans.{IsBetween, IsTail, bytes_in, nullable_in, text_in};
 ghost use Rattle.fast_wire.specs.Spellings.{behind_zeros, preamble_for, string_of, Appends};
 ghost use Rattle.fast_wire.specs.Writing.{IsShortestSize, Writes, NoText};
 ghost use Rattle.fast_wire.specs.declared.nullable.Nullable.{Nullable};
 
 use crate::fault::WireFault;
 use crate::nullable::Nullable;
+use crate::span::Span;
 use crate::stop_bit::{STOP_BIT, entity_end, find_stop};
 use std::alloc::Global;
 
@@ -47,23 +49,86 @@ fn zero_groups(entity: &[u8], most: usize) -> usize
     end
 }
 
-/// The characters of an entity behind at most `most` groups of 0, copied once. TooLong: there are too many.
-fn characters(alloc: Global, entity: &[u8], most: usize) -> Result<Vec<u8>, WireFault>
-    requires { IsEntity entity.now }
-    ensures ok { IfOk result (λ text. (text.items ≡ behind_zeros most (groups entity.now))
-        × (length text.items ≤ 65535)) }
-    ensures err { IfErr result (λ e. let count = length (behind_zeros most (groups entity.now)) in
-        ((e ≡ WireFault.Memory) × (count ≤ 65535)) ⊎ ((e ≡ WireFault.TooLong) × (65535 < count))) }
+/// Where the string of the entity from `at` to `next` stands, behind at most `most` groups of 0. TooLong: it
+/// has too many characters.
+fn text_span(bytes: &[u8], at: usize, next: usize, most: usize) -> Result<Span, WireFault>
+    requires place { next ≤ length bytes.now }
+    requires entity { IsEntity (slice_range bytes.now at next) }
+    ensures place { IfOk result (λ s. IsBetween at next s × (s.end ≡ next)) }
+    ensures tail { IfOk result (λ s. IsTail (bytes_in bytes.now s)) }
+    ensures ok { IfOk result (λ s. let text = text_in bytes.now s in
+        (text ≡ behind_zeros most (groups (slice_range bytes.now at next)))
+        × (length text ≤ 65535)) }
+    ensures err { IfErr result (λ e. (e ≡ WireFault.TooLong)
+        × (65535 < length (behind_zeros most (groups (slice_range bytes.now at next))))) }
 {
-    let spelled = &entity[zero_groups(entity, most)..];
-    if spelled.len() > CHARACTER_LIMIT {
+    let start = at + zero_groups(&bytes[at..next], most);
+    if next - start > CHARACTER_LIMIT {
         return Err(WireFault::TooLong);
     }
-    let mut text = Vec::from_slice(alloc, spelled)?;
+    Ok(Span { start, end: next })
+}
+
+/// Finds the ASCII string that begins at `at`, as `read_ascii` reads it: where its text stands, and the place
+/// after it. It takes no memory.
+pub fn find_ascii(bytes: &[u8], at: usize) -> Result<(Span, usize), WireFault>
+    requires { at ≤ length bytes.now }
+    ensures place { IfOk result (λ x. (at < x.1) × (x.1 ≤ length bytes.now)) }
+    ensures between { IfOk result (λ x. IsBetween at x.1 x.0) }
+    ensures tail { IfOk result (λ x. IsTail (bytes_in bytes.now x.0)) }
+    ensures gives { GivesAt NothingElse ascii_at (text_in bytes.now) bytes.now at result }
+{
+    let next = entity_end(bytes, at, ENTITY_LIMIT)?;
+    let span = text_span(bytes, at, next, PREAMBLE)?;
+    Ok((span, next))
+}
+
+/// Finds the nullable ASCII string that begins at `at`, as `read_ascii_nullable` reads it: where its text
+/// stands, and the place after it. It takes no memory.
+pub fn find_ascii_nullable(bytes: &[u8], at: usize) -> Result<(Nullable<Span>, usize), WireFault>
+    requires { at ≤ length bytes.now }
+    ensures place { IfOk result (λ x. (at < x.1) × (x.1 ≤ length bytes.now)) }
+    ensures between { IfOk result (λ x. IsNullOr (IsBetween at x.1) x.0) }
+    ensures tail { IfOk result (λ x. IsNullOr (λ s. IsTail (bytes_in bytes.now s)) x.0) }
+    ensures gives { GivesAt NothingElse ascii_nullable_at (nullable_in (text_in bytes.now))
+        bytes.now at result }
+{
+    let next = entity_end(bytes, at, ENTITY_LIMIT)?;
+    if bytes[at] == NULL {
+        return Ok((Nullable::Null, next));
+    }
+    let span = text_span(bytes, at, next, NULLABLE_PREAMBLE)?;
+    Ok((Nullable::Value(span), next))
+}
+
+/// Makes a vector hold the characters of the last bytes of an entity, without the stop bit, in place of what it
+/// held. Memory: the one growth was refused, and what it held stays.
+pub fn fill_characters(tail: &[u8], text: &mut Vec<u8>) -> Result<(), WireFault>
+    requires { IsTail tail.now }
+    ensures ok { OnOk result (text.new.items ≡ groups tail.now) }
+    ensures err { IfErr result (λ e. (e ≡ WireFault.Memory) × (text.new.items ≡ text.old.items)
+        × (vec_capacity text.old < length tail.now)) }
+{
+    if tail.len() > text.len() {
+        text.reserve(tail.len() - text.len())?;
+    }
+    text.clear();
+    text.extend_from_slice(tail).unwrap();
     if !text.is_empty() {
         let last = text.len() - 1;
         text[last] %= 128;
     }
+    Ok(())
+}
+
+/// The characters of the last bytes of an entity, copied once, without the stop bit.
+fn characters(alloc: Global, tail: &[u8]) -> Result<Vec<u8>, WireFault>
+    requires { IsTail tail.now }
+    ensures ok { IfOk result (λ text. text.items ≡ groups tail.now) }
+    ensures err { IfErr result (λ e. e ≡ WireFault.Memory) }
+{
+    let mut text = Vec::new(alloc);
+    fill_characters(tail, &mut text)?;
     Ok(text)
 }
 
@@ -85,8 +150,8 @@ fn ascii_from(alloc: Global, bytes: &[u8], at: usize) -> Result<(Vec<u8>, usize)
     ensures place { IfOk result (λ x. (at < x.1) × (x.1 ≤ length bytes.now)) }
     ensures gives { GivesAt OrMemory ascii_at (λ v. v.items) bytes.now at result }
 {
-    let next = entity_end(bytes, at, ENTITY_LIMIT)?;
-    let text = characters(alloc, &bytes[at..next], PREAMBLE)?;
+    let (span, next) = find_ascii(bytes, at)?;
+    let text = characters(alloc, &bytes[span.start..span.end])?;
     Ok((text, next))
 }
 
@@ -114,11 +179,11 @@ fn ascii_nullable_from(
     ensures place { IfOk result (λ x. (at < x.1) × (x.1 ≤ length bytes.now)) }
     ensures gives { GivesAt OrMemory ascii_nullable_at items_of bytes.now at result }
 {
-    let next = entity_end(bytes, at, ENTITY_LIMIT)?;
-    if bytes[at] == NULL {
+    let (span, next) = find_ascii_nullable(bytes, at)?;
+    let Nullable::Value(span) = span else {
         return Ok((Nullable::Null, next));
-    }
-    let text = characters(alloc, &bytes[at..next], NULLABLE_PREAMBLE)?;
+    };
+    let text = characters(alloc, &bytes[span.start..span.end])?;
     Ok((Nullable::Value(text), next))
 }
 

@@ -13,6 +13,8 @@ mod integer;
 pub mod laws;
 mod nullable;
 mod presence_map;
+mod short_integer;
+mod span;
 mod stop_bit;
 #[cfg(test)]
 mod tests;
@@ -20,8 +22,8 @@ mod text;
 mod vector;
 
 pub use ascii::{
-    read_ascii, read_ascii_nullable, size_ascii, size_ascii_nullable, write_ascii,
-    write_ascii_nullable,
+    fill_characters, find_ascii, find_ascii_nullable, read_ascii, read_ascii_nullable, size_ascii,
+    size_ascii_nullable, write_ascii, write_ascii_nullable,
 };
 pub use fault::WireFault;
 pub use integer::{
@@ -32,9 +34,11 @@ pub use nullable::{
     size_unsigned_nullable, write_signed_nullable, write_unsigned_nullable,
 };
 pub use presence_map::{Bits, read_map, write_map};
+pub use short_integer::{read_i64, read_i64_nullable, read_u64, read_u64_nullable};
+pub use span::Span;
 pub use stop_bit::find_stop;
 pub use text::check_text;
 pub use vector::{
-    read_vector, read_vector_nullable, size_vector, size_vector_nullable, write_vector,
-    write_vector_nullable,
+    find_vector, find_vector_nullable, read_vector, read_vector_nullable, size_vector,
+    size_vector_nullable, write_vector, write_vector_nullable,
 };

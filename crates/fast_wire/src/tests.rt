@@ -178,6 +178,106 @@ fn signed_nullable_vectors(rt: HostRuntime) -> Result<(), Fail> {
     Ok(())
 }
 
+/// Where texts and vectors stand, and a vector that is filled again.
+#[test]
+fn spans(rt: HostRuntime) -> Result<(), Fail> {
+    let empty = Span { start: 1, end: 1 };
+    assert_eq!(rt; find_ascii(&[0x80], 0)?, (empty, 1));
+    assert_eq!(rt;
+        find_ascii(&[0x00, 0xc1], 0)?,
+        (Span { start: 1, end: 2 }, 2)
+    );
+    assert_eq!(rt;
+        find_ascii(&[0x48, 0x65, 0xf9, 0x80], 0)?,
+        (Span { start: 0, end: 3 }, 3)
+    );
+    assert_eq!(rt; find_ascii(b"Hey", 0), Err(WireFault::NeedMore));
+    assert_eq!(rt; find_ascii_nullable(&[0x80], 0)?, (Nullable::Null, 1));
+    let letter = Nullable::Value(Span { start: 1, end: 2 });
+    assert_eq!(rt; find_ascii_nullable(&[0x00, 0xc1], 0)?, (letter, 2));
+    assert_eq!(rt;
+        find_vector(&[0x82, 0xc3, 0xa9], 0)?,
+        (Span { start: 1, end: 3 }, 3)
+    );
+    assert_eq!(rt; find_vector(&[0x83, 0xc3], 0), Err(WireFault::NeedMore));
+    assert_eq!(rt; find_vector_nullable(&[0x80], 0)?, (Nullable::Null, 1));
+    assert_eq!(rt; find_vector_nullable(&[0x82, 0x41], 0)?, (letter, 2));
+    let mut text = Vec::new(rt.alloc());
+    for (tail, characters) in [
+        ([0x48, 0x65, 0xf9].as_slice(), b"Hey".as_slice()),
+        (&[0xc1], b"A"),
+        (&[], b""),
+        (&[0x48, 0xe9], b"Hi"),
+    ] {
+        fill_characters(tail, &mut text)?;
+        assert_eq!(rt; text.as_slice(), characters);
+    }
+    Ok(())
+}
+
+/// The readers in 64 bits answer what the others do, at one byte, at nine, and beyond.
+#[test]
+fn short_integers(rt: HostRuntime) -> Result<(), Fail> {
+    let widest = [0x01, 0x7f, 0x7f, 0x7f, 0x7f, 0x7f, 0x7f, 0x7f, 0x7f, 0xff];
+    let unsigned: [(u64, &[u8]); 4] = [
+        (0, &[0x80]),
+        (942_755, &[0x39, 0x45, 0xa3]),
+        (
+            (1 << 63) - 1,
+            &[0x7f, 0x7f, 0x7f, 0x7f, 0x7f, 0x7f, 0x7f, 0x7f, 0xff],
+        ),
+        (u64::MAX, &widest),
+    ];
+    for (value, bytes) in unsigned {
+        assert_eq!(rt; read_u64(bytes, 0)?, (value, bytes.len()));
+    }
+    let signed: [(i64, &[u8]); 6] = [
+        (2, &[0x82]),
+        (-1, &[0xff]),
+        (-942_755, &[0x46, 0x3a, 0xdd]),
+        (
+            (1 << 62) - 1,
+            &[0x3f, 0x7f, 0x7f, 0x7f, 0x7f, 0x7f, 0x7f, 0x7f, 0xff],
+        ),
+        (
+            -(1 << 62),
+            &[0x40, 0x00, 0x00, 0x00, 0x00, 0x00, 0x00, 0x00, 0x80],
+        ),
+        (
+            i64::MIN,
+            &[0x7f, 0x00, 0x00, 0x00, 0x00, 0x00, 0x00, 0x00, 0x00, 0x80],
+        ),
+    ];
+    for (value, bytes) in signed {
+        assert_eq!(rt; read_i64(bytes, 0)?, (value, bytes.len()));
+    }
+    assert_eq!(rt; read_u64_nullable(&[0x80], 0)?, (Nullable::Null, 1));
+    assert_eq!(rt; read_u64_nullable(&[0x00, 0x80], 0)?, (Nullable::Null, 2));
+    assert_eq!(rt;
+        read_u64_nullable(
+            &[0x02, 0x00, 0x00, 0x00, 0x00, 0x00, 0x00, 0x00, 0x00, 0x80],
+            0
+        )?,
+        (Nullable::Value(u64::MAX), 10)
+    );
+    assert_eq!(rt; read_i64_nullable(&[0x80], 0)?, (Nullable::Null, 1));
+    assert_eq!(rt; read_i64_nullable(&[0xc0], 0)?, (Nullable::Value(-64), 1));
+    assert_eq!(rt;
+        read_i64_nullable(&[0x00, 0xc0], 0)?,
+        (Nullable::Value(63), 2)
+    );
+    let beyond = [0x02, 0x00, 0x00, 0x00, 0x00, 0x00, 0x00, 0x00, 0x00, 0x81];
+    assert_eq!(rt; read_u64(&beyond, 0), Err(WireFault::Range));
+    assert_eq!(rt; read_u64_nullable(&beyond, 0), Err(WireFault::Range));
+    assert_eq!(rt; read_i64(&widest, 0), Err(WireFault::Range));
+    assert_eq!(rt; read_i64_nullable(&widest, 0), Err(WireFault::Range));
+    assert_eq!(rt; read_u64(&[0x00; 9], 0), Err(WireFault::NeedMore));
+    assert_eq!(rt; read_i64(&[0x00; 10], 0), Err(WireFault::TooLong));
+    assert_eq!(rt; read_u64_nullable(&[], 0), Err(WireFault::NeedMore));
+    assert_eq!(rt; read_i64_nullable(&[0x7f], 0), Err(WireFault::NeedMore));
+    Ok(())
+}
+
 #[test]
 fn ascii_vectors(rt: HostRuntime) -> Result<(), Fail> {
     let vectors: [(&[u8], &[u8]); 4] = [

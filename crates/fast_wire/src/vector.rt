@@ -4,8 +4,9 @@ ghost use Rattle.std.specs.Prelude.{◌≡◌, ℕ, ◌+◌, ◌-◌, ◌<◌, �
 ghost use Rattle.fast_wire.specs.Integer.{IsUnsigned};
 ghost use Rattle.fast_wire.specs.Nullable.{borrowed, items_of, units, IsNullOr};
 ghost use Rattle.fast_wire.specs.Reader.{IsBytes};
-ghost use Rattle.fast_wire.specs.Reading.{GivesAt, OrMemory, LengthFault, Reads, VectorFault, bytes_at, vector_at, vector_nullable_at, IsReadAt};
+ghost use Rattle.fast_wire.specs.Reading.{Gives, NothingElse, GivesAt, OrMemory, LengthFault, Reads, VectorFault, bytes_at, vector_at, vector_nullable_at, IsReadAt};
 ghost use Rattle.fast_wire.specs.Sizes.{vector_size, vector_nullable_size, CanBeVector};
+ghost use Rattle.fast_wire.specs.Spans.{IsBetween, bytes_in, nullable_in};
 ghost use Rattle.fast_wire.specs.Spellings.{IsLeastSize, entity_of, Appends};
 ghost use Rattle.fast_wire.specs.Vector.{IsLengthNullable, IsVector, IsVectorNullable};
 ghost use Rattle.fast_wire.specs.Writing.{IsShortestSize, Writes, TooManyBytes};
@@ -14,22 +15,20 @@ ghost use Rattle.fast_wire.specs.declared.nullable.Nullable.{Nullable};
 use crate::fault::WireFault;
 use crate::integer::{append_entity, least_size, push_entity, read_unsigned};
 use crate::nullable::{Nullable, read_unsigned_nullable};
+use crate::span::Span;
 use std::alloc::Global;
 
 /// The most bytes of a vector.
 const BYTE_LIMIT: usize = 65_535;
 
-/// So many bytes from `start` on, copied once, and the place after them. TooLong: there are more than 65,535,
-/// whatever follows. NeedMore: the bytes end before. Memory: the one copy was refused.
-fn bytes_from(
-    alloc: Global,
-    bytes: &[u8],
-    start: usize,
-    count: u128,
-) -> Result<(Vec<u8>, usize), WireFault>
+/// Where so many bytes from `start` on stand. TooLong: there are more than 65,535, whatever follows. NeedMore:
+/// the bytes end before.
+fn span_from(bytes: &[u8], start: usize, count: u128) -> Result<Span, WireFault>
     requires { start ≤ length bytes.now }
-    ensures place { IfOk result (λ x. (start ≤ x.1) × (x.1 ≤ length bytes.now)) }
-    ensures gives { GivesAt OrMemory (bytes_at count) (λ v. v.items) bytes.now start result }
+    ensures place { IfOk result (λ s. (s.start ≡ start) × (start ≤ s.end)
+        × (s.end ≤ length bytes.now)) }
+    ensures gives { Gives NothingElse (λ s. (bytes_in bytes.now s, drop s.end bytes.now)) result
+        (bytes_at count (drop start bytes.now)) }
 {
     if count > BYTE_LIMIT as u128 {
         return Err(WireFault::TooLong);
@@ -38,9 +37,42 @@ fn bytes_from(
     if bytes.len() - start < count {
         return Err(WireFault::NeedMore);
     }
-    let next = start + count;
-    let items = Vec::from_slice(alloc, &bytes[start..next])?;
-    Ok((items, next))
+    Ok(Span {
+        start,
+        end: start + count,
+    })
+}
+
+/// Finds the byte vector that begins at `at`, as `read_vector` reads it: where its bytes stand, and the place
+/// after it. It takes no memory.
+pub fn find_vector(bytes: &[u8], at: usize) -> Result<(Span, usize), WireFault>
+    requires { at ≤ length bytes.now }
+    ensures place { IfOk result (λ x. (at < x.1) × (x.1 ≤ length bytes.now)) }
+    ensures between { IfOk result (λ x. IsBetween at x.1 x.0) }
+    ensures gives { GivesAt NothingElse vector_at (bytes_in bytes.now) bytes.now at result }
+{
+    let (count, start) = read_unsigned(bytes, at)?;
+    let span = span_from(bytes, start, count)?;
+    let next = span.end;
+    Ok((span, next))
+}
+
+/// Finds the nullable byte vector that begins at `at`, as `read_vector_nullable` reads it: where its bytes
+/// stand, and the place after it. It takes no memory.
+pub fn find_vector_nullable(bytes: &[u8], at: usize) -> Result<(Nullable<Span>, usize), WireFault>
+    requires { at ≤ length bytes.now }
+    ensures place { IfOk result (λ x. (at < x.1) × (x.1 ≤ length bytes.now)) }
+    ensures between { IfOk result (λ x. IsNullOr (IsBetween at x.1) x.0) }
+    ensures gives { GivesAt NothingElse vector_nullable_at (nullable_in (bytes_in bytes.now))
+        bytes.now at result }
+{
+    let (count, start) = read_unsigned_nullable(bytes, at)?;
+    let Nullable::Value(count) = count else {
+        return Ok((Nullable::Null, start));
+    };
+    let span = span_from(bytes, start, count)?;
+    let next = span.end;
+    Ok((Nullable::Value(span), next))
 }
 
 /// Reads a byte vector that begins at `at`, a length of at most ten bytes and at most 65,535 bytes, and
@@ -61,8 +93,9 @@ fn vector_from(alloc: Global, bytes: &[u8], at: usize) -> Result<(Vec<u8>, usize
     ensures place { IfOk result (λ x. (at < x.1) × (x.1 ≤ length bytes.now)) }
     ensures gives { GivesAt OrMemory vector_at (λ v. v.items) bytes.now at result }
 {
-    let (count, start) = read_unsigned(bytes, at)?;
-    bytes_from(alloc, bytes, start, count)
+    let (span, next) = find_vector(bytes, at)?;
+    let items = Vec::from_slice(alloc, &bytes[span.start..span.end])?;
+    Ok((items, next))
 }
 
 /// Reads a nullable byte vector that begins at `at`, as `read_vector`: its length is nullable, and a NULL
@@ -89,14 +122,12 @@ fn vector_nullable_from(
     ensures place { IfOk result (λ x. (at < x.1) × (x.1 ≤ length bytes.now)) }
     ensures gives { GivesAt OrMemory vector_nullable_at items_of bytes.now at result }
 {
-    let (count, start) = read_unsigned_nullable(bytes, at)?;
-    match count {
-        Nullable::Null => Ok((Nullable::Null, start)),
-        Nullable::Value(count) => {
-            let (items, next) = bytes_from(alloc, bytes, start, count)?;
-            Ok((Nullable::Value(items), next))
-        }
-    }
+    let (span, next) = find_vector_nullable(bytes, at)?;
+    let Nullable::Value(span) = span else {
+        return Ok((Nullable::Null, next));
+    };
+    let items = Vec::from_slice(alloc, &bytes[span.start..span.end])?;
+    Ok((Nullable::Value(items), next))
 }
 
 /// Appends the shortest entity of what is sent for a length and then the bytes, or nothing.
