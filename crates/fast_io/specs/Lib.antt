@@ -1,3 +1,4 @@
 pub mod Counts
 pub mod Traffic
 pub mod Counted
+pub mod Scripts

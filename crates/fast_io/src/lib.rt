@@ -8,9 +8,11 @@
 mod counted;
 mod input;
 mod output;
+mod script;
 #[cfg(test)]
 mod tests;
 
 pub use counted::Counted;
 pub use input::{ByteInput, Failed};
 pub use output::ByteOutput;
+pub use script::{ScriptInput, ScriptOutput};

@@ -1,45 +1,8 @@
 //! What no clause says: that calls succeed over real devices, and the `&mut` and `Counted` forms in use.
 
-use crate::{ByteInput, ByteOutput, Counted, Failed};
-use std::io::{self, Read, Write};
+use crate::{ByteInput, ByteOutput, Counted, Failed, ScriptInput, ScriptOutput};
+use std::io::{Read, Write};
 use std::test::Fail;
-
-/// Gives one byte a call, and fails at its call number `fails`.
-#[derive(Drop)]
-struct OneByOne<'a> {
-    rest: &'a [u8],
-    calls: u64,
-    fails: u64,
-}
-
-impl Read for OneByOne<'_> {
-    fn read(&mut self, buf: &mut [u8]) -> io::Result<usize> {
-        self.calls = self.calls.saturating_add(1);
-        if self.calls == self.fails {
-            return Err(io::Error::from(io::ErrorKind::Other));
-        }
-        let len = buf.len().min(1);
-        self.rest.read(&mut buf[..len])
-    }
-}
-
-/// Takes `room` bytes, and then none.
-#[derive(Drop)]
-struct Narrow {
-    room: usize,
-}
-
-impl Write for Narrow {
-    fn write(&mut self, bytes: &[u8]) -> io::Result<usize> {
-        let count = bytes.len().min(self.room);
-        self.room -= count;
-        Ok(count)
-    }
-
-    fn flush(&mut self) -> io::Result<()> {
-        Err(io::Error::from(io::ErrorKind::Other))
-    }
-}
 
 /// The answers of four calls.
 fn four_pulls<R: ByteInput>(reader: &mut R) -> [Result<usize, Failed>; 4] {
@@ -63,11 +26,7 @@ fn push_and_flush<W: ByteOutput>(
 fn pulls(rt: HostRuntime) -> Result<(), Fail> {
     let mut whole = Counted::new(b"abcde".as_slice());
     assert_eq!(rt; four_pulls(&mut &mut whole), [Ok(3), Ok(2), Ok(0), Ok(0)]);
-    let mut slow = Counted::new(OneByOne {
-        rest: b"ab",
-        calls: 0,
-        fails: 2,
-    });
+    let mut slow = Counted::new(ScriptInput::new(b"ab", 1, 2));
     assert_eq!(rt; four_pulls(&mut slow), [Ok(1), Err(Failed), Ok(1), Ok(0)]);
     assert_eq!(rt; slow.pull(&mut []), Ok(0));
     Ok(())
@@ -77,12 +36,33 @@ fn pulls(rt: HostRuntime) -> Result<(), Fail> {
 fn pushes(rt: HostRuntime) -> Result<(), Fail> {
     let mut whole = Counted::new(Vec::new(rt.alloc()));
     assert_eq!(rt; push_and_flush(&mut &mut whole, b"abc"), (Ok(3), Ok(())));
-    let mut narrow = Counted::new(Narrow { room: 2 });
+    let mut narrow = Counted::new(ScriptOutput::new(rt.alloc(), 2, true, true));
     assert_eq!(rt; push_and_flush(&mut narrow, b"abc"), (Ok(2), Err(Failed)));
     assert_eq!(rt;
         push_and_flush(&mut narrow, b"c"),
         (Err(Failed), Err(Failed))
     );
     assert_eq!(rt; narrow.push(b""), Ok(0));
+    Ok(())
+}
+
+#[test]
+fn scripts_fail_where_they_say(rt: HostRuntime) -> Result<(), Fail> {
+    let mut buf = [0u8; 3];
+    let mut input = ScriptInput::new(b"abcde", 2, 2);
+    assert!(rt; input.read(&mut buf).is_ok_and(|count| count == 2));
+    assert_eq!(rt; &buf, b"ab\0");
+    assert!(rt; input.read(&mut buf).is_err());
+    assert!(rt; input.read(&mut buf[..1]).is_ok_and(|count| count == 1));
+    assert_eq!(rt; &buf, b"cb\0");
+    let mut output = ScriptOutput::new(rt.alloc(), 2, false, false);
+    assert!(rt; output.write(b"abc").is_ok_and(|count| count == 2));
+    assert!(rt; output.write(b"c").is_err());
+    assert!(rt; output.write(b"").is_ok_and(|count| count == 0));
+    assert!(rt; output.flush().is_ok());
+    assert_eq!(rt; output.bytes(), b"ab".as_slice());
+    let mut zero = ScriptOutput::new(rt.alloc(), 0, true, true);
+    assert!(rt; zero.write(b"c").is_ok_and(|count| count == 0));
+    assert!(rt; zero.flush().is_err());
     Ok(())
 }
