@@ -21,3 +21,4 @@ pub mod GoingOn
 pub mod Calls
 pub mod Written
 pub mod ShortIntegers
+pub mod WordBits

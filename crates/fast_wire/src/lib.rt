@@ -8,6 +8,7 @@
 #![tactic(auto)]
 
 mod ascii;
+mod bits;
 mod fault;
 mod integer;
 pub mod laws;

@@ -18,7 +18,7 @@ const SHORT_LIMIT: usize = 9;
 
 /// The entity of at most nine bytes that begins at `at`: its number and the place after it. None: there is no
 /// such entity.
-fn short_entity(bytes: &[u8], at: usize) -> Option<(u64, usize)>
+pub(crate) fn short_entity(bytes: &[u8], at: usize) -> Option<(u64, usize)>
     requires { at ≤ length bytes.now }
     ensures { MatchOption result (HasNoStop (take 9 (drop at bytes.now)))
         (λ x. IsShort bytes.now at x.0 x.1) }

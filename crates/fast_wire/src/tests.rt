@@ -178,6 +178,31 @@ fn signed_nullable_vectors(rt: HostRuntime) -> Result<(), Fail> {
     Ok(())
 }
 
+/// A map of nine bytes, whose bits stand in one word, and one of ten.
+#[test]
+fn wide_maps(rt: HostRuntime) -> Result<(), Fail> {
+    let map = [0x41, 0x00, 0x7f, 0x02, 0x00, 0x00, 0x00, 0x01, 0x20, 0xc1];
+    for size in [9, 10] {
+        let mut bytes = map;
+        bytes[size - 1] |= 0x80;
+        let read = match read_map(rt.alloc(), &bytes, 0) {
+            Err(WireFault::Memory) => read_map(rt.alloc(), &bytes, 0),
+            read => read,
+        };
+        let (mut bits, next) = read?;
+        assert_eq!(rt; next, size);
+        for byte in &bytes[..size] {
+            for shift in (0..7).rev() {
+                let set = (*byte >> shift) % 2 == 1;
+                assert!(rt; bits.first() == set && (bits.left_set() || !set));
+                assert_eq!(rt; bits.take(), set);
+            }
+        }
+        assert!(rt; !bits.left_set() && !bits.take());
+    }
+    Ok(())
+}
+
 /// Where texts and vectors stand, and a vector that is filled again.
 #[test]
 fn spans(rt: HostRuntime) -> Result<(), Fail> {
