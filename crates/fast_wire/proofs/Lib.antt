@@ -22,3 +22,4 @@ pub mod Calls
 pub mod Written
 pub mod ShortIntegers
 pub mod WordBits
+pub mod Rows

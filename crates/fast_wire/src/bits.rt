@@ -34,7 +34,7 @@ impl ShortBits {
     pub(crate) fn is_empty(&self) -> bool
         ensures { IsTrue result ↔ (self.now ≡ []) }
     {
-        self.left == 0
+        self.left < 1
     }
 
     /// The next bit, or false past the end.
