@@ -1,5 +1,5 @@
 -- Rows that hold the definitions in place, where no contract would see a narrower one.
-use Rattle.std.proofs.Common.{ℕ, pos, negsuc, ◌^◌, ◌-◌, arith}
+use Rattle.std.proofs.Common.{pos, negsuc, ◌^◌, ◌-◌, arith}
 use Rattle.fast_wire.specs.Reading.{FitsI64, FitsU64}
 
 -- the numbers that 64 bits hold, at their ends
