@@ -21,3 +21,5 @@ pub mod GoingOn
 pub mod Calls
 pub mod Written
 pub mod ShortIntegers
+pub mod WordBits
+pub mod Rows

@@ -1,20 +1,25 @@
 -- What a call that appends a form leaves, from what it appended.
 use Rattle.std.proofs.Common.{◌≡◌, ℕ, ℤ, ◌+◌, ◌^◌, ◌<◌, ◌≤◌, ◌++◌, List, [], length, Bool, Result, Ok, Err, Vec, Global, refl, sym, ap, subst, arith, inl, inr}
+use Rattle.std.specs.Int.{w64}
+use Rattle.std.specs.Prelude.{pos, negsuc}
+use mir.Val.{SFits}
+use Rattle.std.proofs.lemmas.Int.{ints}
 use Rattle.fast_wire.specs.Ascii.{IsAscii, IsAsciiNullable, IsAsciiText}
-use Rattle.fast_wire.specs.Integer.{IsSigned, magnitude}
-use Rattle.fast_wire.specs.Nullable.{IsSignedNullable, sent_signed}
+use Rattle.fast_wire.specs.Integer.{IsSigned, IsUnsigned, magnitude}
+use Rattle.fast_wire.specs.Nullable.{IsSignedNullable, IsUnsignedNullable, sent_signed, sent_unsigned}
 use Rattle.fast_wire.specs.PresenceMap.{IsMap}
 use Rattle.fast_wire.specs.Sizes.{CanBeSigned, CanBeSignedNullable, CanBeVector}
-use Rattle.fast_wire.specs.Spellings.{Appends, IsLeastSize, IsMapSize, IsUsed, entity_of, map_of, preamble_for, string_of}
+use Rattle.fast_wire.specs.Spellings.{Appends, IsOneGroup, IsLeastSignedSize, IsLeastSize, IsMapSize, IsUsed, entity_of, map_of, preamble_for, string_of}
 use Rattle.fast_wire.specs.Vector.{IsVector, IsVectorNullable}
-use Rattle.fast_wire.specs.Writing.{IsShortest, NoText, OutOfRange, TooManyBits, TooManyBytes, Writes}
+use Rattle.fast_wire.specs.Writing.{IsShortest, NeverRefused, NoText, OutOfRange, TooManyBits, TooManyBytes, Writes}
 use Rattle.fast_wire.specs.declared.fault.WireFault.{WireFault}
 use Rattle.fast_wire.specs.declared.nullable.Nullable.{Nullable}
 use Rattle.fast_wire.specs.declared.nullable.Nullable.TheVariants.{Null, Value}
 use Rattle.fast_wire.proofs.AsciiForms.{ascii_null_shortest, ascii_nullable_shortest, ascii_shortest}
 use Rattle.fast_wire.proofs.MapForms.{map_shortest, used_none}
 use Rattle.fast_wire.proofs.NullableForms.{sent_is}
-use Rattle.fast_wire.proofs.SignedForms.{signed_most}
+use Rattle.fast_wire.proofs.SignedForms.{lift, signed_most, signed_shortest}
+use Rattle.fast_wire.proofs.UnsignedForms.{entity_shortest}
 use Rattle.fast_wire.proofs.VectorForms.{vector_null_shortest, vector_nullable_shortest, vector_shortest}
 
 -- a shortest form was appended, or nothing
@@ -121,3 +126,52 @@ sent_written old new v z r small large h =
       ];
       unchanged = h.unchanged;
     }
+
+-- ---- in 64 bits
+
+-- a value that has a form is not refused
+pub not_refused : {V : Type 0} (Form : List ℕ → V → Type 0) (Refused : V → WireFault → Type 0) (old new : Vec ℕ Global) (v : V) (r : Result (Unit {0}) WireFault)
+    → ((e : WireFault) → Refused v e → ⊥) → Writes Form Refused old new v r → Writes Form NeverRefused old new v r
+not_refused Form Refused old new v (Ok x) none h = record { ok = h.ok; refused = λ e f. absurd f; err = h.err; unchanged = h.unchanged }
+not_refused Form Refused old new v (Err d) none h =
+    record { ok = h.ok; refused = λ e f. absurd f; err = elim h.err [ inl f ↦ absurd (none d f) | inr m ↦ inr m ]; unchanged = h.unchanged }
+
+byte_least : (v : ℕ) → v < 128 → IsLeastSize v 1
+byte_least v h = (omega arith, omega arith, omega arith, λ k. absurd (omega arith))
+
+pub byte_appended : (old new : Vec ℕ Global) (v : ℕ) (r : Result (Unit {0}) WireFault) → v < 128 → Appends (entity_of 1 v) old new r → Writes IsUnsigned NeverRefused old new v r
+byte_appended old new v r h a = appended IsUnsigned NeverRefused old new v (entity_of 1 v) r (entity_shortest v 1 (byte_least v h)) (λ e f. f) a
+
+pub byte_nullable_appended : (old new : Vec ℕ Global) (v : Nullable ℕ) (r : Result (Unit {0}) WireFault) → sent_unsigned v < 128 → Appends (entity_of 1 (sent_unsigned v)) old new r
+    → Writes IsUnsignedNullable NeverRefused old new v r
+byte_nullable_appended old new v r h a =
+    let short = entity_shortest (sent_unsigned v) 1 (byte_least (sent_unsigned v) h) in
+    appended IsUnsignedNullable NeverRefused old new v (entity_of 1 (sent_unsigned v)) r (record { form = short.form; least = short.least }) (λ e f. f) a
+
+signed_byte_least : (v : ℤ) → magnitude v < 64 → IsLeastSignedSize v 1
+signed_byte_least v h = (omega arith, omega arith, omega arith, λ k. absurd (omega arith))
+
+pub signed_byte_appended : (old new : Vec ℕ Global) (v : ℤ) (b : ℕ) (r : Result (Unit {0}) WireFault) → magnitude v < 64 → b ≡ lift 1 v → Appends (entity_of 1 b) old new r → Writes IsSigned NeverRefused old new v r
+signed_byte_appended old new v b r h e a = appended IsSigned NeverRefused old new v (entity_of 1 b) r (rw e (signed_shortest v 1 (signed_byte_least v h))) (λ e f. f) a
+
+pub signed_byte_nullable_appended : (old new : Vec ℕ Global) (v : Nullable ℤ) (b : ℕ) (r : Result (Unit {0}) WireFault) → magnitude (sent_signed v) < 64 → b ≡ lift 1 (sent_signed v) → Appends (entity_of 1 b) old new r
+    → Writes IsSignedNullable NeverRefused old new v r
+signed_byte_nullable_appended old new v b r h e a =
+    let short = signed_shortest (sent_signed v) 1 (signed_byte_least (sent_signed v) h) in
+    let bytes : IsShortest IsSigned (entity_of 1 b) (sent_signed v) = rw e short in
+    appended IsSignedNullable NeverRefused old new v (entity_of 1 b) r (record { form = bytes.form; least = bytes.least }) (λ e f. f) a
+
+pub lift_is : (v : ℤ) (g : ℕ) → IsOneGroup v g → g ≡ lift 1 v
+lift_is (pos a) g h = elim h.same [ inl e ↦ omega (arith, ints) | inr e ↦ let low = h.below in absurd (omega (arith, ints)) ]
+lift_is (negsuc a) g h = elim h.same [ inl e ↦ absurd (omega (arith, ints)) | inr e ↦ omega (arith, ints) ]
+
+fits_can : (v : ℤ) → SFits w64 v → CanBeSigned v
+fits_can (pos a) h = let s = h.sfits in omega (arith, ints)
+fits_can (negsuc a) h = let s = h.sfits in omega (arith, ints)
+
+pub short_can : (v : ℤ) (e : WireFault) → SFits w64 v → OutOfRange CanBeSigned v e → ⊥
+short_can v e h f = f.1 (fits_can v h)
+
+pub short_nullable_can : (v : ℤ) (e : WireFault) → SFits w64 v → OutOfRange CanBeSignedNullable (Value v) e → ⊥
+short_nullable_can (pos a) e h f = let s = h.sfits in f.1 (omega (arith, ints))
+short_nullable_can (negsuc a) e h f = let s = h.sfits in f.1 (omega (arith, ints))

@@ -1,6 +1,6 @@
 -- FAST 1.1, Transfer Encoding, Presence Map: the bits of an entity's groups, the most significant bit of a
 -- group first.
-use Rattle.std.specs.Prelude.{◌≡◌, ℕ, ◌/◌, ◌%◌, Bool, true, false, nat_eq, List, [], ◌∷◌, slice_index_or}
+use Rattle.std.specs.Prelude.{◌≡◌, ℕ, zero, suc, ◌^◌, ◌/◌, ◌%◌, Bool, true, false, nat_eq, List, [], ◌∷◌, slice_index_or}
 use Rattle.std.specs.List.{flat_map}
 use Rattle.fast_wire.specs.Entity.{IsSpelled, groups}
 
@@ -39,3 +39,8 @@ IsWholeMap bytes bits = IsSpelled 256 (λ b bits. bits ≡ bits_of (groups b)) b
 -- some bit is 1
 abbrev pub HasSetBit : List Bool → Type 0
 HasSetBit bits = (i : ℕ) × (bit_at bits i ≡ true)
+
+-- the last n bits of a word
+abbrev pub word_bits : ℕ → ℕ → List Bool
+word_bits zero w = []
+word_bits (suc n) w = nat_eq (w / 2 ^ n % 2) 1 ∷ word_bits n w

@@ -1,5 +1,5 @@
 -- The shortest forms, made: what the writers append. No public clause names these.
-use Rattle.std.specs.Prelude.{◌≡◌, ℕ, ℤ, ◌+◌, ◌-◌, ◌*◌, ◌/◌, ◌%◌, ◌^◌, ◌<◌, ◌≤◌, List, [], ◌∷◌, ◌++◌, length, replicate, slice_range, Bool, true, false, Result, OnOk, IfErr, Vec, vec_len, vec_capacity}
+use Rattle.std.specs.Prelude.{◌≡◌, ◌⊎◌, ℕ, ℤ, pos, ◌+ℤ◌, ◌+◌, ◌-◌, ◌*◌, ◌/◌, ◌%◌, ◌^◌, ◌<◌, ◌≤◌, List, [], ◌∷◌, ◌++◌, length, replicate, slice_range, Bool, true, false, Result, OnOk, IfErr, Vec, vec_len, vec_capacity}
 use Rattle.std.specs.declared.alloc.Global.{Global}
 use Rattle.fast_wire.specs.Entity.{IsEntity}
 use Rattle.fast_wire.specs.Integer.{magnitude, unsigned_of}
@@ -89,3 +89,9 @@ pub record IsShort (bytes : List ℕ) (at v next : ℕ) : Type 0 where
   pub short : next ≤ at + 9
   pub entity : IsEntity (slice_range bytes at next)
   pub value : v ≡ unsigned_of (slice_range bytes at next)
+
+-- one group holds the signed number v, and it is g
+pub record IsOneGroup (v : ℤ) (g : ℕ) : Type 0 where
+  pub small : magnitude v < 64
+  pub below : g < 128
+  pub same : (pos g ≡ v) ⊎ (pos g ≡ v +ℤ pos 128)

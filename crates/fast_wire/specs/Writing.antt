@@ -37,6 +37,10 @@ pub record Writes {V : Type 0} (Form : List ℕ → V → Type 0) (Refused : V �
   -- what was refused appended nothing
   pub unchanged : OnErr r (new.items ≡ old.items)
 
+-- every value has a form
+abbrev pub NeverRefused : {V : Type 0} → V → WireFault → Type 0
+NeverRefused v e = ⊥
+
 -- the value is none that can have a form
 abbrev pub OutOfRange : {V : Type 0} → (V → Type 0) → V → WireFault → Type 0
 OutOfRange Can v e = (e ≡ fault.Range) × (Can v → ⊥)

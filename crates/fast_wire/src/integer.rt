@@ -134,11 +134,11 @@ pub fn read_signed(bytes: &[u8], at: usize) -> Result<(i128, usize), WireFault>
     ensures { IsReadAt NothingElse signed_at IsSigned CanBeSigned
         (EntityFault 10) (λ v. v) bytes.now at result }
 {
-    signed_from(bytes, at)
+    complement_from(bytes, at)
 }
 
 /// The signed number that stands at `at`, and the place after it.
-fn signed_from(bytes: &[u8], at: usize) -> Result<(i128, usize), WireFault>
+fn complement_from(bytes: &[u8], at: usize) -> Result<(i128, usize), WireFault>
     requires { at ≤ length bytes.now }
     ensures place { IfOk result (λ x. (at < x.1) × (x.1 ≤ length bytes.now)) }
     ensures gives { GivesAt NothingElse signed_at (λ v. v) bytes.now at result }

@@ -8,6 +8,7 @@
 #![tactic(auto)]
 
 mod ascii;
+mod bits;
 mod fault;
 mod integer;
 pub mod laws;
@@ -34,7 +35,10 @@ pub use nullable::{
     size_unsigned_nullable, write_signed_nullable, write_unsigned_nullable,
 };
 pub use presence_map::{Bits, read_map, write_map};
-pub use short_integer::{read_i64, read_i64_nullable, read_u64, read_u64_nullable};
+pub use short_integer::{
+    read_i64, read_i64_nullable, read_u64, read_u64_nullable, write_i64, write_i64_nullable,
+    write_u64, write_u64_nullable,
+};
 pub use span::Span;
 pub use stop_bit::find_stop;
 pub use text::check_text;

@@ -105,11 +105,11 @@ pub fn read_signed_nullable(bytes: &[u8], at: usize) -> Result<(Nullable<i128>, 
     ensures { IsReadAt NothingElse signed_nullable_at IsSignedNullable CanBeSignedNullable
         (EntityFault 10) (λ v. v) bytes.now at result }
 {
-    signed_nullable_from(bytes, at)
+    complement_nullable_from(bytes, at)
 }
 
 /// The nullable signed number that stands at `at`, and the place after it.
-fn signed_nullable_from(bytes: &[u8], at: usize) -> Result<(Nullable<i128>, usize), WireFault>
+fn complement_nullable_from(bytes: &[u8], at: usize) -> Result<(Nullable<i128>, usize), WireFault>
     requires { at ≤ length bytes.now }
     ensures place { IfOk result (λ x. (at < x.1) × (x.1 ≤ length bytes.now)) }
     ensures gives { GivesAt NothingElse signed_nullable_at (λ v. v) bytes.now at result }

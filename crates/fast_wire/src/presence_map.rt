@@ -8,7 +8,9 @@ ghost use Rattle.fast_wire.specs.Writing.{Writes, TooManyBits};
 ghost use Rattle.fast_wire.specs.PresenceMap.{bits_of, bit_at, next_bit, later_bits, IsMap, HasSetBit, IsWholeMap};
 ghost use Rattle.fast_wire.specs.Spellings.{bit_number, group_from, map_of, IsUsed, IsMapSize, Appends};
 
+use crate::bits::{LongBits, ShortBits};
 use crate::fault::WireFault;
+use crate::short_integer::short_entity;
 use crate::stop_bit::{STOP_BIT, entity_end};
 use std::alloc::Global;
 use std::marker::Model;
@@ -17,28 +19,17 @@ use std::marker::Model;
 const MAP_LIMIT: usize = 256;
 
 /// The bits of a presence map that are not yet taken, the most significant of a group first. Past their end
-/// every bit is 0.
+/// every bit is 0. Those of a map of at most nine bytes stand in one word, those of a longer one in a copy.
 #[derive(Drop)]
 pub struct Bits {
-    bytes: Vec<u8>,
-    place: usize,
+    short: ShortBits,
+    long: LongBits,
 }
 
 impl Model for Bits {
     ghost Value = { List Bool };
 
-    ghost view = { λ b. drop b.place (bits_of (groups b.bytes.items)) };
-
-    ghost invariant = { λ b. (length b.bytes.items ≤ 256) × (b.place ≤ 7 * length b.bytes.items) };
-}
-
-/// Bit `i` of the groups of these bytes.
-fn group_bit(bytes: &[u8], i: usize) -> bool
-    requires { i < 7 * length bytes.now }
-    ensures { result ≡ bit_at (bits_of (groups bytes.now)) i }
-{
-    let group = bytes[i / 7] % 128;
-    (group >> (6 - i % 7)) % 2 == 1
+    ghost view = { λ b. b.short ++ b.long };
 }
 
 impl Bits {
@@ -46,20 +37,20 @@ impl Bits {
     pub fn none(alloc: Global) -> Bits
         ensures { result ≡ [] }
     {
-        Bits {
-            bytes: Vec::new(alloc),
-            place: 0,
-        }
+        let short = ShortBits::new(0, 0);
+        let long = LongBits::new(Vec::new(alloc));
+        Bits { short, long }
     }
 
     /// The next bit, or false past the end; it stays the next. It takes no memory.
     pub fn first(&self) -> bool
         ensures { result ≡ next_bit self.now }
     {
-        if self.place == 7 * self.bytes.len() {
-            return false;
+        if self.short.is_empty() {
+            self.long.first()
+        } else {
+            self.short.first()
         }
-        group_bit(&self.bytes, self.place)
     }
 
     /// The next bit, or false past the end. It takes no memory.
@@ -67,29 +58,24 @@ impl Bits {
         ensures bit { result ≡ next_bit self.old }
         ensures rest { self.new ≡ later_bits self.old }
     {
-        let bit = self.first();
-        if self.place < 7 * self.bytes.len() {
-            self.place += 1;
+        if self.short.is_empty() {
+            self.long.take()
+        } else {
+            self.short.take()
         }
-        bit
     }
 
     /// Whether a bit that is not yet taken is 1. It takes no memory.
     pub fn left_set(&self) -> bool
         ensures { IsTrue result ↔ HasSetBit self.now }
     {
-        for i in self.place..7 * self.bytes.len() {
-            if group_bit(&self.bytes, i) {
-                return true;
-            }
-        }
-        false
+        self.short.left_set() || self.long.left_set()
     }
 }
 
 /// Reads a presence map of at most 256 bytes that begins at `at`, and answers its bits with the place after
 /// it. NeedMore: the bytes end, fewer than 256, with no stop bit. TooLong: the first 256 have none. Memory:
-/// the copy of the map was refused.
+/// the copy of a map of more than nine bytes was refused.
 pub fn read_map(alloc: Global, bytes: &[u8], at: usize) -> Result<(Bits, usize), WireFault>
     requires { at ≤ length bytes.now }
     ensures { IsReadAt OrMemory map_at IsWholeMap CanBeMap
@@ -104,9 +90,20 @@ fn map_from(alloc: Global, bytes: &[u8], at: usize) -> Result<(Bits, usize), Wir
     ensures place { IfOk result (λ x. (at < x.1) × (x.1 ≤ length bytes.now)) }
     ensures gives { GivesAt OrMemory map_at (λ v. v) bytes.now at result }
 {
+    if let Some((word, next)) = short_entity(bytes, at) {
+        let bits = Bits {
+            short: ShortBits::new(word, 7 * (next - at)),
+            long: LongBits::new(Vec::new(alloc)),
+        };
+        return Ok((bits, next));
+    }
     let next = entity_end(bytes, at, MAP_LIMIT)?;
-    let bytes = Vec::from_slice(alloc, &bytes[at..next])?;
-    Ok((Bits { bytes, place: 0 }, next))
+    let groups = Vec::from_slice(alloc, &bytes[at..next])?;
+    let bits = Bits {
+        short: ShortBits::new(0, 0),
+        long: LongBits::new(groups),
+    };
+    Ok((bits, next))
 }
 
 /// One more than the index of the last 1, or 0.

@@ -1,16 +1,21 @@
 //! Integers in 64 bits: entities of at most nine bytes in one register, the first byte of an entity of one byte
 //! inline, and the longer ones by the readers of `integer` and `nullable`.
 
-ghost use Rattle.std.specs.Prelude.{◌≡◌, ℕ, pos, ◌-ℤ◌, ◌+◌, ◌^◌, ◌<◌, ◌≤◌, length, drop, take, IfOk, MatchOption, if◌then◌else◌};
+ghost use Rattle.std.specs.Prelude.{◌≡◌, ℕ, pos, ◌-ℤ◌, ◌+◌, ◌^◌, ◌<◌, ◌≤◌, length, drop, take, IfOk, IfSome, MatchOption, if◌then◌else◌};
 ghost use Rattle.fast_wire.specs.Entity.{HasNoStop};
-ghost use Rattle.fast_wire.specs.Nullable.{IsNullOr, received_unsigned};
+ghost use Rattle.fast_wire.specs.Nullable.{IsNullOr, IsSignedNullable, IsUnsignedNullable, received_unsigned, sent_signed};
 ghost use Rattle.fast_wire.specs.Nullable as nullable;
 ghost use Rattle.fast_wire.specs.Reading.{FitsI64, FitsU64, GivesAt, OrOutside, signed_at, signed_nullable_at, unsigned_at, unsigned_nullable_at};
-ghost use Rattle.fast_wire.specs.Spellings.{IsShort};
+ghost use Rattle.fast_wire.specs.Spellings.{Appends, IsOneGroup, IsShort, entity_of};
+ghost use Rattle.fast_wire.specs.Integer.{IsSigned, IsUnsigned, magnitude};
+ghost use Rattle.fast_wire.specs.Writing.{NeverRefused, Writes};
 
 use crate::fault::WireFault;
-use crate::integer::{read_signed, read_unsigned};
-use crate::nullable::{Nullable, read_signed_nullable, read_unsigned_nullable};
+use crate::integer::{read_signed, read_unsigned, write_signed, write_unsigned};
+use crate::nullable::{
+    Nullable, read_signed_nullable, read_unsigned_nullable, write_signed_nullable,
+    write_unsigned_nullable,
+};
 use crate::stop_bit::STOP_BIT;
 
 /// The most bytes of an entity whose number is put together in 64 bits.
@@ -18,7 +23,7 @@ const SHORT_LIMIT: usize = 9;
 
 /// The entity of at most nine bytes that begins at `at`: its number and the place after it. None: there is no
 /// such entity.
-fn short_entity(bytes: &[u8], at: usize) -> Option<(u64, usize)>
+pub(crate) fn short_entity(bytes: &[u8], at: usize) -> Option<(u64, usize)>
     requires { at ≤ length bytes.now }
     ensures { MatchOption result (HasNoStop (take 9 (drop at bytes.now)))
         (λ x. IsShort bytes.now at x.0 x.1) }
@@ -215,5 +220,97 @@ fn read_long_signed_nullable(bytes: &[u8], at: usize) -> Result<(Nullable<i64>, 
     match i64::try_from(value) {
         Ok(value) => Ok((Nullable::Value(value), next)),
         Err(_) => Err(WireFault::Range),
+    }
+}
+
+/// Appends an entity of one byte, or nothing.
+#[inline]
+fn append_byte(group: u8, out: &mut Vec<u8>) -> Result<(), WireFault>
+    requires { group < 128 }
+    ensures { Appends (entity_of 1 group) out.old out.new result }
+{
+    out.reserve(1)?;
+    out.push(group + STOP_BIT).unwrap();
+    Ok(())
+}
+
+/// Appends the shortest form of a number in 64 bits, or answers and appends nothing. Memory: the one growth was
+/// refused.
+#[inline]
+pub fn write_u64(value: u64, out: &mut Vec<u8>) -> Result<(), WireFault>
+    ensures { Writes IsUnsigned NeverRefused out.old out.new value result }
+{
+    if value < 128 {
+        return append_byte(value as u8, out);
+    }
+    write_unsigned(u128::from(value), out)
+}
+
+/// Appends the shortest form of a nullable number in 64 bits, or answers and appends nothing. Memory: the one
+/// growth was refused.
+#[inline]
+pub fn write_u64_nullable(value: Nullable<u64>, out: &mut Vec<u8>) -> Result<(), WireFault>
+    ensures { Writes IsUnsignedNullable NeverRefused out.old out.new value result }
+{
+    let Nullable::Value(value) = value else {
+        return append_byte(0, out);
+    };
+    if value < 127 {
+        return append_byte(value as u8 + 1, out);
+    }
+    write_unsigned_nullable(Nullable::Value(u128::from(value)), out)
+}
+
+/// The group of a signed number that one group holds.
+#[inline]
+fn one_group(value: i64) -> Option<u8>
+    ensures { IfSome result (IsOneGroup value) }
+{
+    if value >= 64 || value < -64 {
+        return None;
+    }
+    if value < 0 {
+        Some((value + 128) as u8)
+    } else {
+        Some(value as u8)
+    }
+}
+
+/// Appends the shortest form of a signed number in 64 bits, or answers and appends nothing. Memory: the one
+/// growth was refused.
+#[inline]
+pub fn write_i64(value: i64, out: &mut Vec<u8>) -> Result<(), WireFault>
+    ensures { Writes IsSigned NeverRefused out.old out.new value result }
+{
+    match one_group(value) {
+        Some(group) => append_byte(group, out),
+        None => write_signed(i128::from(value), out),
+    }
+}
+
+/// What is sent for a signed number. The largest stands for the one after it.
+#[inline]
+fn signed_sent(value: i64) -> i64
+    ensures { magnitude result < 64 → result ≡ sent_signed (Nullable.Value value) }
+{
+    if value < 0 {
+        value
+    } else {
+        value.saturating_add(1)
+    }
+}
+
+/// Appends the shortest form of a nullable signed number in 64 bits, or answers and appends nothing. Memory: the
+/// one growth was refused.
+#[inline]
+pub fn write_i64_nullable(value: Nullable<i64>, out: &mut Vec<u8>) -> Result<(), WireFault>
+    ensures { Writes IsSignedNullable NeverRefused out.old out.new value result }
+{
+    let Nullable::Value(value) = value else {
+        return append_byte(0, out);
+    };
+    match one_group(signed_sent(value)) {
+        Some(group) => append_byte(group, out),
+        None => write_signed_nullable(Nullable::Value(i128::from(value)), out),
     }
 }

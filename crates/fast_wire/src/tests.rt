@@ -178,6 +178,75 @@ fn signed_nullable_vectors(rt: HostRuntime) -> Result<(), Fail> {
     Ok(())
 }
 
+/// The writers in 64 bits append what the others do.
+#[test]
+fn short_forms(rt: HostRuntime) -> Result<(), Fail> {
+    let mut out = Vec::new(rt.alloc());
+    for value in [0, 127, 128, 942_755, u64::MAX] {
+        write_u64(value, &mut out)?;
+        write_u64_nullable(Nullable::Value(value), &mut out)?;
+    }
+    for value in [0, 62, 63, 64, -1, -64, -65, -942_755, i64::MAX, i64::MIN] {
+        write_i64(value, &mut out)?;
+        write_i64_nullable(Nullable::Value(value), &mut out)?;
+    }
+    write_u64_nullable(Nullable::Null, &mut out)?;
+    write_i64_nullable(Nullable::Null, &mut out)?;
+    let mut wide = Vec::new(rt.alloc());
+    for value in [0, 127, 128, 942_755, u128::from(u64::MAX)] {
+        write_unsigned(value, &mut wide)?;
+        write_unsigned_nullable(Nullable::Value(value), &mut wide)?;
+    }
+    for value in [
+        0,
+        62,
+        63,
+        64,
+        -1,
+        -64,
+        -65,
+        -942_755,
+        i128::from(i64::MAX),
+        i128::from(i64::MIN),
+    ] {
+        write_signed(value, &mut wide)?;
+        write_signed_nullable(Nullable::Value(value), &mut wide)?;
+    }
+    wide.extend_from_slice(&[0x80, 0x80])?;
+    assert_eq!(rt; out.as_slice(), wide.as_slice());
+    out.clear();
+    write_i64(-1, &mut out)?;
+    write_i64_nullable(Nullable::Value(62), &mut out)?;
+    write_u64_nullable(Nullable::Value(126), &mut out)?;
+    assert_eq!(rt; out.as_slice(), [0xff, 0xbf, 0xff].as_slice());
+    Ok(())
+}
+
+/// A map of nine bytes, whose bits stand in one word, and one of ten.
+#[test]
+fn wide_maps(rt: HostRuntime) -> Result<(), Fail> {
+    let map = [0x41, 0x00, 0x7f, 0x02, 0x00, 0x00, 0x00, 0x01, 0x20, 0xc1];
+    for size in [9, 10] {
+        let mut bytes = map;
+        bytes[size - 1] |= 0x80;
+        let read = match read_map(rt.alloc(), &bytes, 0) {
+            Err(WireFault::Memory) => read_map(rt.alloc(), &bytes, 0),
+            read => read,
+        };
+        let (mut bits, next) = read?;
+        assert_eq!(rt; next, size);
+        for byte in &bytes[..size] {
+            for shift in (0..7).rev() {
+                let set = (*byte >> shift) % 2 == 1;
+                assert!(rt; bits.first() == set && (bits.left_set() || !set));
+                assert_eq!(rt; bits.take(), set);
+            }
+        }
+        assert!(rt; !bits.left_set() && !bits.take());
+    }
+    Ok(())
+}
+
 /// Where texts and vectors stand, and a vector that is filled again.
 #[test]
 fn spans(rt: HostRuntime) -> Result<(), Fail> {
@@ -534,6 +603,10 @@ macro_rules! taken {
 fn refused_growths(rt: HostRuntime) -> Result<(), Fail> {
     written!(rt, [0x39, 0x45, 0xa3], out => write_unsigned(942_755, &mut out));
     written!(rt, [0x39, 0x45, 0xa3], out => write_signed(942_755, &mut out));
+    written!(rt, [0x82], out => write_u64(2, &mut out));
+    written!(rt, [0xfe], out => write_i64(-2, &mut out));
+    written!(rt, [0x83], out => write_u64_nullable(Nullable::Value(2), &mut out));
+    written!(rt, [0x80], out => write_i64_nullable(Nullable::Null, &mut out));
     written!(rt, [0x81], out => write_unsigned_nullable(Nullable::Value(0), &mut out));
     written!(rt, [0x39, 0x45, 0xa4], out => write_signed_nullable(Nullable::Value(942_755), &mut out));
     written!(rt, [0x00, 0x00, 0xc1], out => write_ascii(b"\0A", &mut out));

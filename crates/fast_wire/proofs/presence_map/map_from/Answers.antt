@@ -1,10 +1,15 @@
-use Rattle.std.proofs.Common.{drop, Ok, refl, inr}
+use Rattle.std.proofs.Common.{drop, append-nil, Ok, refl, inr}
 use Rattle.std.proofs.lemmas.Result.{err_from_is_err_and}
 use Rattle.fast_wire.specs.Entity.{groups}
 use Rattle.fast_wire.specs.PresenceMap.{bits_of}
 use Rattle.fast_wire.specs.Reading.{OrMemory, map_at, entity_at}
 use Rattle.fast_wire.proofs.FormReaders.{fails_then}
+use Rattle.fast_wire.proofs.WordBits.{short_map}
 use Rattle.fast_wire.proofs.presence_map.map_from.Goals as goal
+
+pub returns-in-Some-clause-gives : goal.returns-in-Some-clause-gives
+returns-in-Some-clause-gives c =
+    rw (c.new.ensures, c.new-in-Some-2.ensures, c.new-in-Some.ensures.items, append-nil) (short_map c.args.bytes.now c.args.at c.in-Some.word c.in-Some.next c.in-Some.ensures)
 
 pub returns-in_err-next-clause-gives : goal.returns-in_err-next-clause-gives
 unfolding map_at
@@ -14,10 +19,10 @@ returns-in_err-next-clause-gives c =
 
 pub returns-clause-gives : goal.returns-clause-gives
 unfolding map_at
-returns-clause-gives c = rw (c.in_ok-next.ensures.gives, c.in_ok-bytes.ensures.items) refl
+returns-clause-gives c = rw (c.in_ok-next.ensures.gives, c.new-2.ensures, c.new-3.ensures, c.in_ok-groups.ensures.items) refl
 
-pub returns-in_err-bytes-clause-gives : goal.returns-in_err-bytes-clause-gives
+pub returns-in_err-groups-clause-gives : goal.returns-in_err-groups-clause-gives
 unfolding map_at
-returns-in_err-bytes-clause-gives c =
-    let p = err_from_is_err_and c.from_residual-in_err-bytes.result c.from_residual-in_err-bytes.ensures.1 in
+returns-in_err-groups-clause-gives c =
+    let p = err_from_is_err_and c.from_residual-in_err-groups.result c.from_residual-in_err-groups.ensures.1 in
     rw (p.1, p.2) (inr (refl, rw c.in_ok-next.ensures.gives refl))

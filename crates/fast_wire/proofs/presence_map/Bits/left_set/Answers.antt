@@ -1,15 +1,14 @@
-use Rattle.std.proofs.Common.{sym, refl, arith, ◌≡◌, true}
-use Rattle.fast_wire.specs.Entity.{groups}
-use Rattle.fast_wire.specs.PresenceMap.{bits_of, bit_at}
+use Rattle.std.proofs.Common.{◌∙◌, sym, inl, inr}
 use Rattle.std.proofs.lemmas.Bool.{false≢true}
-use Rattle.fast_wire.proofs.MapBits.{left_here, left_none}
+use Rattle.fast_wire.proofs.WordBits.{set_back, set_either}
 use Rattle.fast_wire.proofs.presence_map.Bits.left_set.Goals as goal
 
-pub returns-then-group_bit : goal.returns-then-group_bit
-returns-then-group_bit c =
-    let set : bit_at (bits_of (groups c.self.inside.bytes.items)) c.loop-i.i ≡ true = rw (← c.deref.ensures.value) (sym c.if-group_bit.ensures) in
-    (λ t. rw (← c.self.view_is) (left_here (bits_of (groups c.self.inside.bytes.items)) c.self.inside.place c.loop-i.i c.loop-i.auto.i set), λ h. refl)
-
-pub returns : goal.returns
-returns c =
-    (λ t. absurd (false≢true t), λ h. absurd (left_none c.self.inside.bytes.items c.self.inside.place c.loop-i.i (omega arith) c.loop-i.invariant (rw c.self.view_is h)))
+pub returns-else-left_set : goal.returns-else-left_set
+returns-else-left_set c =
+    let short = c.self.inside.short in let long = c.self.inside.long in (
+      λ t. rw (← c.self.view_is) (set_back short long (c.left_set-else-left_set.ensures.0 t)),
+      λ h. elim (set_either short long (rw c.self.view_is h)) [
+        | inl s ↦ absurd (false≢true (sym c.if-left_set.false ∙ c.left_set.ensures.1 s))
+        | inr l ↦ c.left_set-else-left_set.ensures.1 l
+      ],
+    )

@@ -6,7 +6,7 @@ use Rattle.fast_wire.specs.Nullable.{received_signed}
 use Rattle.fast_wire.specs.Reading.{NothingElse, signed_at, signed_nullable_at}
 use Rattle.fast_wire.proofs.FormReaders.{fails_then}
 use Rattle.fast_wire.proofs.SignedForms.{signed_fit}
-use Rattle.fast_wire.proofs.nullable.signed_nullable_from.Goals as goal
+use Rattle.fast_wire.proofs.nullable.complement_nullable_from.Goals as goal
 
 pub returns-in_err-sent-clause-gives : goal.returns-in_err-sent-clause-gives
 unfolding signed_nullable_at

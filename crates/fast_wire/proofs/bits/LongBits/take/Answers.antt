@@ -2,7 +2,7 @@ use Rattle.std.proofs.Common.{◌≡◌, ◌∙◌, [], sym, ap, refl, arith}
 use Rattle.fast_wire.specs.Entity.{groups}
 use Rattle.fast_wire.specs.PresenceMap.{bits_of, later_bits}
 use Rattle.fast_wire.proofs.MapBits.{none_left, later_left}
-use Rattle.fast_wire.proofs.presence_map.Bits.take.Goals as goal
+use Rattle.fast_wire.proofs.bits.LongBits.take.Goals as goal
 
 pub returns-then-self-len-clause-rest : goal.returns-then-self-len-clause-rest
 returns-then-self-len-clause-rest c =

@@ -1,6 +1,6 @@
 use Rattle.std.proofs.Common.{◌≡◌, ◌∙◌, [], sym, refl, arith}
 use Rattle.fast_wire.proofs.MapBits.{none_left}
-use Rattle.fast_wire.proofs.presence_map.Bits.first.Goals as goal
+use Rattle.fast_wire.proofs.bits.LongBits.first.Goals as goal
 
 pub returns-then-self-len : goal.returns-then-self-len
 returns-then-self-len c =

@@ -6,7 +6,7 @@ use Rattle.std.proofs.lemmas.Result.{err_from_is_err_and}
 use Rattle.fast_wire.specs.Integer.{signed_of}
 use Rattle.fast_wire.specs.Reading.{NothingElse, signed_at, entity_at}
 use Rattle.fast_wire.proofs.FormReaders.{fails_then}
-use Rattle.fast_wire.proofs.integer.signed_from.Goals as goal
+use Rattle.fast_wire.proofs.integer.complement_from.Goals as goal
 
 pub returns-in_err-end-clause-gives : goal.returns-in_err-end-clause-gives
 unfolding signed_at

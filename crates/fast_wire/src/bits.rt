@@ -1,0 +1,136 @@
+//! The bits of a presence map, in one word or in a copy of its groups.
+
+ghost use Rattle.std.specs.Prelude.{◌≡◌, ◌≤◌, ◌<◌, ◌*◌, ◌↔◌, Bool, List, [], length, drop, IsTrue};
+ghost use Rattle.fast_wire.specs.Entity.{groups};
+ghost use Rattle.fast_wire.specs.PresenceMap.{bits_of, bit_at, next_bit, later_bits, word_bits, HasSetBit};
+
+use std::marker::Model;
+
+/// The last bits of a word, the most significant first.
+#[derive(Drop)]
+pub(crate) struct ShortBits {
+    word: u64,
+    left: usize,
+}
+
+impl Model for ShortBits {
+    ghost Value = { List Bool };
+
+    ghost view = { λ b. word_bits b.left b.word };
+
+    ghost invariant = { λ b. b.left ≤ 63 };
+}
+
+impl ShortBits {
+    /// The last `left` bits of a word.
+    pub(crate) fn new(word: u64, left: usize) -> ShortBits
+        requires { left ≤ 63 }
+        ensures { result ≡ word_bits left word }
+    {
+        ShortBits { word, left }
+    }
+
+    /// Whether no bit is left.
+    pub(crate) fn is_empty(&self) -> bool
+        ensures { IsTrue result ↔ (self.now ≡ []) }
+    {
+        self.left < 1
+    }
+
+    /// The next bit, or false past the end.
+    pub(crate) fn first(&self) -> bool
+        ensures { result ≡ next_bit self.now }
+    {
+        if self.left == 0 {
+            return false;
+        }
+        (self.word >> (self.left - 1)) % 2 == 1
+    }
+
+    /// The next bit, or false past the end, which is taken.
+    pub(crate) fn take(&mut self) -> bool
+        ensures bit { result ≡ next_bit self.old }
+        ensures rest { self.new ≡ later_bits self.old }
+    {
+        let bit = self.first();
+        if self.left > 0 {
+            self.left -= 1;
+        }
+        bit
+    }
+
+    /// Whether a bit that is left is 1.
+    pub(crate) fn left_set(&self) -> bool
+        ensures { IsTrue result ↔ HasSetBit self.now }
+    {
+        self.word % (1 << self.left) != 0
+    }
+}
+
+/// The bits of groups from a place on.
+#[derive(Drop)]
+pub(crate) struct LongBits {
+    bytes: Vec<u8>,
+    place: usize,
+}
+
+impl Model for LongBits {
+    ghost Value = { List Bool };
+
+    ghost view = { λ b. drop b.place (bits_of (groups b.bytes.items)) };
+
+    ghost invariant = { λ b. (length b.bytes.items ≤ 256) × (b.place ≤ 7 * length b.bytes.items) };
+}
+
+/// Bit `i` of the groups of these bytes.
+fn group_bit(bytes: &[u8], i: usize) -> bool
+    requires { i < 7 * length bytes.now }
+    ensures { result ≡ bit_at (bits_of (groups bytes.now)) i }
+{
+    let group = bytes[i / 7] % 128;
+    (group >> (6 - i % 7)) % 2 == 1
+}
+
+impl LongBits {
+    /// All bits of these groups.
+    pub(crate) fn new(bytes: Vec<u8>) -> LongBits
+        requires { length bytes.items ≤ 256 }
+        ensures { result ≡ bits_of (groups bytes.items) }
+    {
+        LongBits { bytes, place: 0 }
+    }
+
+    /// The next bit, or false past the end; it stays the next.
+    pub(crate) fn first(&self) -> bool
+        ensures { result ≡ next_bit self.now }
+    {
+        if self.place == 7 * self.bytes.len() {
+            return false;
+        }
+        group_bit(&self.bytes, self.place)
+    }
+
+    /// The next bit, or false past the end.
+    pub(crate) fn take(&mut self) -> bool
+        ensures bit { result ≡ next_bit self.old }
+        ensures rest { self.new ≡ later_bits self.old }
+    {
+        let bit = self.first();
+        if self.place < 7 * self.bytes.len() {
+            self.place += 1;
+        }
+        bit
+    }
+
+    /// Whether a bit that is not yet taken is 1.
+    pub(crate) fn left_set(&self) -> bool
+        ensures { IsTrue result ↔ HasSetBit self.now }
+    {
+        for i in self.place..7 * self.bytes.len() {
+            if group_bit(&self.bytes, i) {
+                return true;
+            }
+        }
+        false
+    }
+}
