@@ -15,7 +15,7 @@ use Rattle.fast_template.specs.declared.key.Scope.TheVariants.{Global, Template,
 use Rattle.fast_template.specs.declared.key.Key.{Key}
 use Rattle.fast_template.specs.Scalar.{kind_of, is_of, is_integer, least_of, greatest_of, in_range, exponent_in_range, of_integer, IsScalar}
 use Rattle.fast_template.specs.InitialValues.{is_digit, hex_digit_of, is_short, value_of_text}
-use Rattle.fast_template.specs.Key.{key_cmp}
+use Rattle.fast_template.specs.Key.{part_number, scope_numbers, key_cmp}
 
 -- ---- types
 
@@ -147,6 +147,12 @@ hex_texts : texts Whole kind.Bytes (codes "F0" ∷ codes "g0" ∷ codes "0g" ∷
 hex_texts = refl
 
 -- ---- the order of keys
+
+numbers_of_scopes : map scope_numbers (Global ∷ Template 7 ∷ Typed (codes "A") ∷ User (codes "A") ∷ []) ≡ (0 ∷ []) ∷ (1 ∷ 7 ∷ []) ∷ (2 ∷ codes "A") ∷ (3 ∷ codes "A") ∷ []
+numbers_of_scopes = refl
+
+numbers_of_parts : map part_number (Whole ∷ Exponent ∷ Mantissa ∷ Length ∷ []) ≡ 0 ∷ 1 ∷ 2 ∷ 3 ∷ []
+numbers_of_parts = refl
 
 abbrev key : ℕ → Scope → List ℕ → Part → Key
 key slot scope name part = record { slot = slot; scope = scope; name = name; part = part }

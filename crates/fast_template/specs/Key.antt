@@ -65,14 +65,11 @@ part_numbered-part_number Exponent = refl
 part_numbered-part_number Mantissa = refl
 part_numbered-part_number Length = refl
 
-abbrev first_number : List ℕ → ℕ
-first_number [] = 0
-first_number (n ∷ ns) = n
-
 abbrev scope_numbered : List ℕ → Scope
 scope_numbered [] = Global
 scope_numbered (zero ∷ ns) = Global
-scope_numbered (suc zero ∷ ns) = Template (first_number ns)
+scope_numbered (suc zero ∷ []) = Global
+scope_numbered (suc zero ∷ place ∷ ns) = Template place
 scope_numbered (suc (suc zero) ∷ ns) = Typed ns
 scope_numbered (suc (suc (suc n)) ∷ ns) = User ns
 
