@@ -10,6 +10,9 @@ pub mod FieldsWithin
 pub mod Refused
 pub mod StandingForms
 pub mod BestDeltas
+pub mod Agreeing
+pub mod Least
+pub mod BestCuts
 pub mod CallSteps
 pub mod ReadFields
 pub mod BaseSteps

@@ -162,7 +162,7 @@ whole_number k p v i h =
       },
     )
 
-of_units_is : (k : Kind) (v : Scalar) → IsUnitKind k → IsOfType k v → IsOfUnits k (units_of v) v
+pub of_units_is : (k : Kind) (v : Scalar) → IsUnitKind k → IsOfType k v → IsOfUnits k (units_of v) v
 of_units_is kind.Ascii (Ascii s) u h = refl
 of_units_is kind.Unicode (Unicode s) u h = (h.1.2, refl)
 of_units_is kind.Bytes (Bytes s) u h = refl

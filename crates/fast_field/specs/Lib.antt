@@ -12,3 +12,4 @@ pub mod FieldReading
 pub mod Calls
 pub mod Found
 pub mod Removals
+pub mod CommonParts
