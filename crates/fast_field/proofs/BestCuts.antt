@@ -5,11 +5,14 @@ use Rattle.std.specs.Prelude.{ℤ, pos, negsuc, nat_le, int_le, ◌&&◌, IsTrue
 use Rattle.std.specs.List.{AllByRecursion}
 use Rattle.std.proofs.lemmas.Bool.{cases_lt, cases_eq}
 use Rattle.std.proofs.lemmas.Bool.Decides.{nat_tests}
-use Rattle.fast_wire.specs.Integer.{magnitude}
+use Rattle.fast_wire.specs.Ascii.{IsAscii}
+use Rattle.fast_wire.specs.Integer.{IsSigned, magnitude}
+use Rattle.fast_wire.specs.Nullable.{IsSignedNullable}
+use Rattle.fast_wire.specs.Vector.{IsVector}
 use Rattle.fast_wire.specs.Sizes.{HasSizes, signed_size, signed_nullable_size, ascii_size, vector_size, unsigned_size}
 use Rattle.fast_wire.specs.Writing.{IsShortest}
 use Rattle.fast_wire.specs.declared.nullable.Nullable.TheVariants.{Null, Value}
-use Rattle.fast_wire.proofs.FormSizes.{signed_sizes, signed_nullable_sizes, ascii_sizes, vector_sizes, signed_grow, signed_nullable_grow}
+use Rattle.fast_wire.proofs.FormSizes.{signed_sizes, signed_nullable_sizes, ascii_sizes, vector_sizes, signed_grow, signed_nullable_grow, shortest_size}
 use Rattle.fast_wire.proofs.Sizes.{unsigned_size-grows}
 use Rattle.fast_template.specs.Scalar.{in_range}
 use Rattle.fast_template.specs.declared.kind.Kind.{Kind}
@@ -131,3 +134,86 @@ module _ (k : Kind) (p : Presence) (base v : List ℕ) (n m : ℕ) (prefix : IsL
 
   pub best_in_front : front_size < end_size → IsBestCut k p base v (negsuc (length base - m)) (take (length v - m) v)
   best_in_front lt = record { few = omega arith; made = rw suffix.common (sym (take-append-drop (length v - m) v)); first = first_front lt }
+
+-- ---- its form
+
+length_stands : (p : Presence) (z : ℤ) → magnitude z < 2 ^ 68 → (b : List ℕ) × SpellsInteger false p b (Value z) × (length b ≡ length_size p z)
+length_stands Mandatory z lt = let s = signed_stands Mandatory z lt in (s.0, s.1.form, shortest_size IsSigned _ signed_size signed_sizes s.0 z (record { form = s.1.form; least = s.1.least }))
+length_stands Optional z lt = let s = signed_stands Optional z lt in (s.0, s.1.form, shortest_size IsSignedNullable _ signed_nullable_size signed_nullable_sizes s.0 (Value z) (record { form = s.1.form; least = s.1.least }))
+
+new_part_stands : (k : Kind) (s : List ℕ) → IsString k s → (b : List ℕ) × SpellsPart k b s × (length b ≡ part_size k s)
+new_part_stands kind.Ascii s h = let t = part_stands kind.Ascii s h in (t.0, t.1.form, shortest_size IsAscii _ ascii_size ascii_sizes t.0 s (record { form = t.1.form; least = t.1.least }))
+new_part_stands k s h = let t = part_stands k s h in (t.0, t.1.form, shortest_size IsVector _ vector_size vector_sizes t.0 s (record { form = t.1.form; least = t.1.least }))
+
+no_later : (m n m' n' : ℕ) (z z' : ℤ) (a a' : ℕ) → n ≡ m → m' ≤ n' → CutNoLater m z a m' z' a' → NoLater true n (record { side = side_of z; part = a }) true n' (record { side = side_of z'; part = a' })
+no_later m n m' n' z z' a a' e le (inl lt) = inr (refl, inl (omega arith))
+no_later m n m' n' z z' a a' e le (inr h) = elim (cases_lt n n') [
+  | inl lt ↦ inr (refl, inl lt)
+  | inr ge ↦ inr (refl, inr (let same = h.0 in omega arith, h.1))
+]
+
+le_true : (m n : ℕ) → m ≤ n → nat_le m n ≡ true
+le_true m n h = grind (arith, nat_tests)
+
+and_true : (a b : Bool) → a ≡ true → b ≡ true → (a && b) ≡ true
+and_true a b h l = rw (h, l) refl
+
+removal_fits : (z : ℤ) → removed_of z ≤ 65535 → (magnitude z < 2 ^ 68) × IsTrue (in_range kind.Int32 z)
+removal_fits (pos n) h = (omega arith, le_true n 2147483647 (omega arith))
+removal_fits (negsuc n) h = (omega arith, and_true (nat_le n 2147483647) true (le_true n 2147483647 (omega arith)) refl)
+
+of_few : (k : Kind) (s : List ℕ) (v : Scalar) → IsOfUnits k (units_of v) v → length (units_of v) ≤ 65535 → units_of v ≡ s → IsOfFewUnits k s v
+of_few k s v h le e = subst (λ (x : List ℕ). IsOfFewUnits k x v) e (le, h)
+
+-- the bytes of the best cut come before all other forms
+pub cut_is_first : (k : Kind) (p : Presence) (base v : Scalar) (removal : ℤ) (part : List ℕ) → IsUnitKind k → IsOfType k base → IsOfType k v → IsString k part → IsBestCut k p (units_of base) (units_of v) removal part
+    → First (λ c b. SpellsCut k p base c b v)
+cut_is_first k p base v removal part u h l fits best =
+    let few_base = units_of_string k base u h in
+    let few_value = units_of_string k v u l in
+    let range = removal_fits removal (omega (arith, best.few, few_base.0)) in
+    let first = length_stands p removal range.0 in
+    let second = new_part_stands k part fits in
+    let size : length (first.0 ++ second.0) ≡ length_size p removal + part_size k part = omega (arith, length-append first.0 second.0, first.2, second.2) in
+    record {
+      cut = record { side = side_of removal; part = length part };
+      bytes = first.0 ++ second.0;
+      form = record {
+        removal = removal;
+        new_part = part;
+        front = first.0;
+        back = second.0;
+        parts = refl;
+        removal_form = first.1;
+        is_int32 = range.1;
+        there = best.few;
+        part_form = second.1;
+        value = of_few k (put_together removal (units_of base) part) v (of_units_is k v u l) few_value.0 best.made;
+        cut_is = refl;
+      };
+      first = λ c b other.
+          let made = units_are k (put_together other.removal (units_of base) other.new_part) v other.value.1 in
+          let later = best.first other.removal other.new_part other.there made in
+          rw other.cut_is (no_later (length_size p removal + part_size k part) (length (first.0 ++ second.0)) (length_size p other.removal + part_size k other.new_part) (length b) removal other.removal (length part) (length other.new_part) size (cut_least k p base c b v other) later);
+    }
+
+drop_fits : (k : Kind) (n : ℕ) (s : List ℕ) → IsString k s → IsString k (drop n s)
+drop_fits k n s h = let less = h.0 in (omega (arith, length-drop n s), all_drop (λ x. x < unit_limit k) n s h.1)
+
+take_fits : (k : Kind) (n : ℕ) (s : List ℕ) → IsString k s → IsString k (take n s)
+take_fits k n s h = let less = h.0 in (omega (arith, length-take n s), all_take (λ x. x < unit_limit k) n s h.1)
+
+-- each value has one on each base
+pub string_delta_first : (k : Kind) (p : Presence) (base v : Scalar) → IsUnitKind k → IsOfType k base → IsOfType k v → First (λ c b. SpellsCut k p base c b v)
+string_delta_first k p base v u h l =
+    let s = units_of base in
+    let t = units_of v in
+    let fits = units_of_string k v u l in
+    let prefix = longest_prefix s t in
+    let suffix = longest_suffix s t in
+    let at_the_end = length_size p (pos (length s - prefix.0)) + part_size k (drop prefix.0 t) in
+    let in_the_front = length_size p (negsuc (length s - suffix.0)) + part_size k (take (length t - suffix.0) t) in
+    elim (cases_lt in_the_front at_the_end) [
+      | inl lt ↦ cut_is_first k p base v (negsuc (length s - suffix.0)) (take (length t - suffix.0) t) u h l (take_fits k (length t - suffix.0) t fits) (best_in_front k p s t prefix.0 suffix.0 prefix.1 suffix.1 lt)
+      | inr ge ↦ cut_is_first k p base v (pos (length s - prefix.0)) (drop prefix.0 t) u h l (drop_fits k prefix.0 t fits) (best_at_end k p s t prefix.0 suffix.0 prefix.1 suffix.1 ge)
+    ]
