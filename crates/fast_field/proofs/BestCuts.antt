@@ -47,7 +47,7 @@ lengths : (p : Presence) → IsLengthCost (length_size p)
 lengths Mandatory = record { at_end = λ m n le. signed_grow (pos m) (pos n) le; in_front = λ m n le. signed_grow (negsuc m) (negsuc n) le }
 lengths Optional = record { at_end = λ m n le. signed_nullable_grow (pos m) (pos n) le; in_front = λ m n le. signed_nullable_grow (negsuc m) (negsuc n) le }
 
-parts : (k : Kind) → IsPartCost (part_size k)
+pub parts : (k : Kind) → IsPartCost (part_size k)
 parts kind.Ascii = ascii_parts
 parts k = vector_parts unsigned_size unsigned_size-grows
 
@@ -55,7 +55,7 @@ length_least : (p : Presence) (z : ℤ) (b : List ℕ) → SpellsInteger false p
 length_least Mandatory z b h = signed_sizes.least b z h
 length_least Optional z b h = signed_nullable_sizes.least b (Value z) h
 
-part_least : (k : Kind) (s b : List ℕ) → SpellsPart k b s → part_size k s ≤ length b
+pub part_least : (k : Kind) (s b : List ℕ) → SpellsPart k b s → part_size k s ≤ length b
 part_least kind.Ascii s b h = ascii_sizes.least b s h
 part_least k s b h = vector_sizes.least b s h
 
@@ -141,7 +141,7 @@ length_stands : (p : Presence) (z : ℤ) → magnitude z < 2 ^ 68 → (b : List 
 length_stands Mandatory z lt = let s = signed_stands Mandatory z lt in (s.0, s.1.form, shortest_size IsSigned _ signed_size signed_sizes s.0 z (record { form = s.1.form; least = s.1.least }))
 length_stands Optional z lt = let s = signed_stands Optional z lt in (s.0, s.1.form, shortest_size IsSignedNullable _ signed_nullable_size signed_nullable_sizes s.0 (Value z) (record { form = s.1.form; least = s.1.least }))
 
-new_part_stands : (k : Kind) (s : List ℕ) → IsString k s → (b : List ℕ) × SpellsPart k b s × (length b ≡ part_size k s)
+pub new_part_stands : (k : Kind) (s : List ℕ) → IsString k s → (b : List ℕ) × SpellsPart k b s × (length b ≡ part_size k s)
 new_part_stands kind.Ascii s h = let t = part_stands kind.Ascii s h in (t.0, t.1.form, shortest_size IsAscii _ ascii_size ascii_sizes t.0 s (record { form = t.1.form; least = t.1.least }))
 new_part_stands k s h = let t = part_stands k s h in (t.0, t.1.form, shortest_size IsVector _ vector_size vector_sizes t.0 s (record { form = t.1.form; least = t.1.least }))
 
@@ -162,7 +162,7 @@ removal_fits : (z : ℤ) → removed_of z ≤ 65535 → (magnitude z < 2 ^ 68) �
 removal_fits (pos n) h = (omega arith, le_true n 2147483647 (omega arith))
 removal_fits (negsuc n) h = (omega arith, and_true (nat_le n 2147483647) true (le_true n 2147483647 (omega arith)) refl)
 
-of_few : (k : Kind) (s : List ℕ) (v : Scalar) → IsOfUnits k (units_of v) v → length (units_of v) ≤ 65535 → units_of v ≡ s → IsOfFewUnits k s v
+pub of_few : (k : Kind) (s : List ℕ) (v : Scalar) → IsOfUnits k (units_of v) v → length (units_of v) ≤ 65535 → units_of v ≡ s → IsOfFewUnits k s v
 of_few k s v h le e = subst (λ (x : List ℕ). IsOfFewUnits k x v) e (le, h)
 
 -- the bytes of the best cut come before all other forms
@@ -197,7 +197,7 @@ cut_is_first k p base v removal part u h l fits best =
           rw other.cut_is (no_later (length_size p removal + part_size k part) (length (first.0 ++ second.0)) (length_size p other.removal + part_size k other.new_part) (length b) removal other.removal (length part) (length other.new_part) size (cut_least k p base c b v other) later);
     }
 
-drop_fits : (k : Kind) (n : ℕ) (s : List ℕ) → IsString k s → IsString k (drop n s)
+pub drop_fits : (k : Kind) (n : ℕ) (s : List ℕ) → IsString k s → IsString k (drop n s)
 drop_fits k n s h = let less = h.0 in (omega (arith, length-drop n s), all_drop (λ x. x < unit_limit k) n s h.1)
 
 take_fits : (k : Kind) (n : ℕ) (s : List ℕ) → IsString k s → IsString k (take n s)

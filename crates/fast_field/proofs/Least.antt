@@ -144,7 +144,7 @@ preamble-cases (suc c ∷ s) = inl refl
 abbrev pub NoWorse : ℕ → ℕ → ℕ → ℕ → Type 0
 NoWorse m part m' part' = (m < m') ⊎ ((m ≡ m') × (part ≤ part'))
 
-abbrev tail_cost : List ℕ → ℕ → ℕ
+abbrev pub tail_cost : List ℕ → ℕ → ℕ
 tail_cost v j = (length v - j) + preamble (drop j v)
 
 no_worse : (m part m' part' : ℕ) → m ≤ m' → (m ≡ m' → part ≤ part') → NoWorse m part m' part'

@@ -13,6 +13,7 @@ pub mod BestDeltas
 pub mod Agreeing
 pub mod Least
 pub mod BestCuts
+pub mod BestTails
 pub mod CallSteps
 pub mod ReadFields
 pub mod BaseSteps
