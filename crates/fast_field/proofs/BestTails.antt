@@ -118,3 +118,42 @@ nullable_size_is (suc c ∷ s) = omega arith
 
 cost_is : (v : List ℕ) (j : ℕ) → ascii_nullable_size (Value (drop j v)) ≡ tail_cost v j
 cost_is v j = nullable_size_is (drop j v) ∙ ap (λ (m : ℕ). m + preamble (drop j v)) (length-drop j v)
+
+abbrev NullableBest : List ℕ → ℕ → ℕ → Type 0
+NullableBest v j i = NoWorse (ascii_nullable_size (Value (drop j v))) (length v - j) (ascii_nullable_size (Value (drop i v))) (length v - i)
+
+as_cost : (v : List ℕ) (j i : ℕ) → NoWorse (tail_cost v j) (length v - j) (tail_cost v i) (length v - i) → NullableBest v j i
+as_cost v j i h = rw (cost_is v j, cost_is v i) h
+
+-- one place behind the common front, from which no other tail is better
+nullable_place : (v : List ℕ) (n : ℕ) → n ≤ length v → (j : ℕ) × (j ≤ n) × ((i : ℕ) → i ≤ n → NullableBest v j i)
+nullable_place v zero le = (0, omega arith, λ i small. let none : i ≡ 0 = omega arith in rw none (inr (refl, omega arith)))
+nullable_place v (suc n) le = elim (preamble-cases (drop (suc n) v)) [
+  | inl none ↦ (suc n, omega arith, λ i small. as_cost v (suc n) i (shortest_tail v (suc n) i le small none))
+  | inr two ↦ elim (preamble-cases (drop n v)) [
+    | inl none ↦ (n, omega arith, λ i small. as_cost v n i (one_more v n i le small two none))
+    | inr twice ↦ (suc n, omega arith, λ i small. as_cost v (suc n) i (still_shortest v n i le small two twice))
+  ]
+]
+
+vector_nullable_parts : IsPartCost (λ s. vector_nullable_size (Value s))
+vector_nullable_parts = vector_parts (λ n. unsigned_size (n + 1)) (λ m n le. unsigned_size-grows (m + 1) (n + 1) (omega arith))
+
+-- a value as long as its base
+cut_tail : (k : Kind) (p : Presence) (base v : List ℕ) → length v ≡ length base → (t : List ℕ) × ((j : ℕ) × (t ≡ drop j v)) × IsBestTail k p base v t
+cut_tail k Mandatory base v same = let n = longest_prefix base v in (drop n.0 v, (n.0, refl), shortest k Mandatory base v n.0 n.1 same (parts k))
+cut_tail kind.Ascii Optional base v same =
+    let n = longest_prefix base v in
+    let j = nullable_place v n.0 n.1.in_b in (drop j.0 v, (j.0, refl), best_behind kind.Ascii Optional base v n.0 n.1 same j.0 j.1 j.2)
+cut_tail k Optional base v same = let n = longest_prefix base v in (drop n.0 v, (n.0, refl), shortest k Optional base v n.0 n.1 same vector_nullable_parts)
+
+-- each value that is no shorter than its base has one
+pub tail_first : (k : Kind) (p : Presence) (base v : Scalar) → IsUnitKind k → IsOfType k v → length (units_of base) ≤ length (units_of v) → First (λ c b. SpellsTail k p base c b v)
+tail_first k p base v u l le =
+    let fits = units_of_string k v u l in
+    elim (cases_lt (length (units_of base)) (length (units_of v))) [
+      | inl lt ↦ tail_is_first k p base v (units_of v) u l fits (longer_tail k p (units_of base) (units_of v) lt)
+      | inr ge ↦
+          let t = cut_tail k p (units_of base) (units_of v) (omega arith) in
+          tail_is_first k p base v t.0 u l (rw t.1.1 (drop_fits k t.1.0 (units_of v) fits)) t.2
+    ]
