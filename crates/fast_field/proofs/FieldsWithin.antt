@@ -178,7 +178,7 @@ delta_form_within : (i : FieldPart) (e : Entry) (cut : Cut) (b : List ℕ) (v : 
 delta_form_within i e cut b None is h d = null_optional false i.presence b d.1
 delta_form_within i e cut b (Some v) is h d = delta_within i.kind i.presence d.0 cut b v (delta_base_within i e d.0 is h d.1) d.2
 
-unit_kind : (k : Kind) → IsTrue (applies operator.Tail k) → IsUnitKind k
+pub unit_kind : (k : Kind) → IsTrue (applies operator.Tail k) → IsUnitKind k
 unit_kind kind.Ascii h = tt
 unit_kind kind.Unicode h = tt
 unit_kind kind.Bytes h = tt

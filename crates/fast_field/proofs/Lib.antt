@@ -14,6 +14,7 @@ pub mod Agreeing
 pub mod Least
 pub mod BestCuts
 pub mod BestTails
+pub mod BestValues
 pub mod CallSteps
 pub mod ReadFields
 pub mod BaseSteps

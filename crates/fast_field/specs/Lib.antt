@@ -8,6 +8,7 @@ pub mod Within
 pub mod Best
 pub mod Faults
 pub mod Refusals
+pub mod Planning
 pub mod FieldReading
 pub mod Calls
 pub mod Found
