@@ -30,11 +30,11 @@ use Rattle.fast_field.specs.Bases.{delta_base, tail_base, predicted}
 use Rattle.fast_field.specs.Spelled.{SpellsInteger, SpellsUnits, Spelled}
 use Rattle.fast_field.specs.Deltas.{Cut, uncut, SpellsTail, DeltaValue, DeltaForm, TailForm}
 use Rattle.fast_field.specs.Fields.{InitialOrAbsent, FormOf, FormBy, Form, IsWithin, within_part}
-use Rattle.fast_field.specs.Within.{HoldsScalar, IsOfField, IsFieldValue}
-use Rattle.fast_field.specs.Best.{NoLater, IsBest}
+use Rattle.fast_field.specs.Within.{HasRange, HasRangeOr, HoldsScalar, IsOfField, IsFieldValue}
+use Rattle.fast_field.specs.Best.{bit_rank, NoLater, IsBest}
 use Rattle.fast_field.specs.Planning.{is_optional, is_same, gives_same, default_gives, constant_gives, left_out_of}
-use Rattle.fast_field.specs.Refusals.{constant_refusal, delta_refusal, tail_refusal, operator_refusal, refusal_of}
-use Rattle.fast_field.proofs.BestForms.{bit_zero_is_best}
+use Rattle.fast_field.specs.Refusals.{are_characters, has_characters, has_too_many, is_far, other_than_constant, constant_refusal, delta_refusal, tail_refusal, operator_refusal, absent_refusal, value_refusal, refusal_of}
+use Rattle.fast_field.proofs.BestForms.{bit_zero_row, bit_zero_is_best}
 use Rattle.fast_field.proofs.BestDeltas.{First, shortest_is_first, number_delta_first, decimal_delta_first}
 use Rattle.fast_field.proofs.BestCuts.{string_delta_first}
 use Rattle.fast_field.proofs.BestTails.{tail_first}
@@ -156,3 +156,201 @@ tail_form_first i e (Some v) is fits l none =
     (λ c b f. (base.0, base.1, f))
     (λ c b f. let same : f.0 ≡ base.0 = ok_is {F = FieldFault} f.0 base.0 (sym f.1 ∙ base.1) in subst (λ (x : Scalar). SpellsTail i.kind i.presence x c b v) same f.2)
     (tail_first i.kind i.presence base.0 v (unit_kind i.kind fits) l base.2)
+
+-- ---- what is not refused is within its type
+
+if_none : (t : Bool) (r : FieldRefusal) (x : Option FieldRefusal) → (if t then Some r else x) ≡ None → (t ≡ false) × (x ≡ None)
+if_none true r x e = absurd cc
+if_none false r x e = (refl, e)
+
+not_false : (t : Bool) → not t ≡ false → t ≡ true
+not_false true e = refl
+not_false false e = absurd cc
+
+both : (a b : Bool) → (a && b) ≡ true → (a ≡ true) × (b ≡ true)
+both true true e = (refl, refl)
+both true false e = absurd cc
+both false b e = absurd cc
+
+record Unrefused (i : FieldPart) (e : Entry) (v : Scalar) : Type 0 where
+  pub of_kind : IsTrue (is_of i.kind v)
+  pub characters : has_characters v ≡ true
+  pub few : has_too_many i.part v ≡ false
+  pub near : is_far i.part v ≡ false
+  pub rest : operator_refusal i.operator i e v ≡ None
+
+unrefused : (i : FieldPart) (e : Entry) (v : Scalar) → value_refusal i e v ≡ None → Unrefused i e v
+unfolding value_refusal
+unrefused i e v h =
+    let x = if_none (not (is_of i.kind v && has_characters v)) refusal.Mismatch _ h in
+    let y = if_none (has_too_many i.part v) refusal.Limit _ x.1 in
+    let z = if_none (is_far i.part v) refusal.R1 _ y.1 in
+    let w = both (is_of i.kind v) (has_characters v) (not_false (is_of i.kind v && has_characters v) x.0) in
+    record { of_kind = w.0; characters = w.1; few = y.0; near = z.0; rest = z.1 }
+
+are_all : (s : List ℕ) → are_characters s ≡ true → AllByRecursion (λ c. c < 128) s
+are_all [] h = tt
+are_all (c ∷ s) h = let w = both (nat_lt c 128) (are_characters s) h in let t = w.0 in (grind (arith, nat_tests), are_all s w.1)
+
+no_more : (n : ℕ) → nat_lt 65535 n ≡ false → n ≤ 65535
+no_more n h = grind (arith, nat_tests)
+
+few_elements : (z : ℤ) → int_lt (pos 65535) z ≡ false → int_le z (pos 65535) ≡ true
+few_elements (pos n) h = let le = no_more n h in grind (arith, nat_tests)
+few_elements (negsuc n) h = refl
+
+within_limit : (p : Part) (v : Scalar) → has_too_many p v ≡ false → is_far p v ≡ false → IsTrue (within_part p v)
+within_limit part.Exponent v few near = not_false (exponent_in_range (integer_of v)) near
+within_limit part.Length v few near = few_elements (integer_of v) few
+within_limit part.Whole v few near = refl
+within_limit part.Mantissa v few near = refl
+
+few_units : (p : Part) (k : Kind) (v : Scalar) → IsKindOfPart p k → IsTrue (is_of k v) → has_too_many p v ≡ false → length (units_of v) ≤ 65535
+few_units part.Whole k v of_part h few = no_more (length (units_of v)) few
+few_units part.Exponent k v of_part h few = no_more (length (units_of v)) few
+few_units part.Mantissa k v of_part h few = no_more (length (units_of v)) few
+few_units part.Length k v of_part h few = no_units v (subst (λ (x : Kind). IsTrue (is_of x v)) of_part h)
+  where
+    no_units : (v : Scalar) → IsTrue (is_of kind.UInt32 v) → length (units_of v) ≤ 65535
+    no_units (U32 n) h = omega arith
+    no_units v h = absurd cc
+
+near_decimal : (p : Part) (k : Kind) (e m : ℤ) → IsKindOfPart p k → IsTrue (is_of k (Decimal e m)) → is_far p (Decimal e m) ≡ false → IsTrue (exponent_in_range e)
+near_decimal part.Whole k e m of_part h near = not_false (exponent_in_range e) near
+near_decimal part.Mantissa k e m of_part h near = not_false (exponent_in_range e) near
+near_decimal part.Length k e m of_part h near = not_false (exponent_in_range e) near
+near_decimal part.Exponent k e m of_part h near = absurd (let w : false ≡ true = subst (λ (x : Kind). is_of x (Decimal e m) ≡ true) of_part h in cc)
+
+scalar_within : (i : FieldPart) (e : Entry) (v : Scalar) → IsFieldPart i → HasRange v → Unrefused i e v → IsScalar v
+scalar_within i e (U32 n) is h u = h
+scalar_within i e (I32 z) is h u = h
+scalar_within i e (U64 n) is h u = h
+scalar_within i e (I64 z) is h u = h
+scalar_within i e (Decimal x m) is h u = (near_decimal i.part i.kind x m is.kind_of_part u.of_kind u.near, h.1)
+scalar_within i e (Ascii s) is h u = (few_units i.part i.kind (Ascii s) is.kind_of_part u.of_kind u.few, are_all s u.characters)
+scalar_within i e (Unicode s) is h u = (few_units i.part i.kind (Unicode s) is.kind_of_part u.of_kind u.few, h.0, h.1)
+scalar_within i e (Bytes s) is h u = (few_units i.part i.kind (Bytes s) is.kind_of_part u.of_kind u.few, h)
+
+absent_optional : (p : Presence) → absent_refusal p ≡ None → p ≡ Optional
+absent_optional Mandatory h = absurd cc
+absent_optional Optional h = refl
+
+field_value : (i : FieldPart) (e : Entry) (v : Option Scalar) → IsFieldPart i → HasRangeOr v → refusal_of i e v ≡ None → IsFieldValue i v
+field_value i e None is h none = record { of_field = absent_optional i.presence none; within = tt }
+field_value i e (Some v) is h none = let u = unrefused i e v none in record { of_field = (u.of_kind, scalar_within i e v is h u); within = within_limit i.part v u.few u.near }
+
+-- ---- all operators
+
+constant_is : (p : Part) (o : Option Scalar) (v : Scalar) → constant_refusal p o v ≡ None → Some v ≡ o
+constant_is p None v e = absurd cc
+constant_is p (Some w) v e = same ((scalar_eq.eq-value).it v w) refl e
+  where
+    same : (t : Bool) → (scalar_eq.eq-value).it v w ≡ t → (if t then None else Some (other_than_constant p)) ≡ None → Some v ≡ Some w
+    same true h e = ap (λ (x : Scalar). Some x) (scalar_eq-exact v w h)
+    same false h e = absurd cc
+
+constant_first : (i : FieldPart) (e : Entry) (v : Scalar) → Some v ≡ i.initial → First (λ c b. FormOf operator.Constant i e true c b (Some v))
+constant_first i e v is = shortest_is_first (λ c b. FormOf operator.Constant i e true c b (Some v)) [] (refl, refl, is) (λ c o f. (f.0, omega arith))
+
+-- under bit 1, where bit 0 does not give the value
+under_one : (o : Operator) (i : FieldPart) (e : Entry) (v : Option Scalar) → i.operator ≡ o → IsFieldPart i → HoldsScalar e → IsOfField i v → ((w : Scalar) → v ≡ Some w → operator_refusal o i e w ≡ None) → left_out_of o i e v ≡ false
+    → First (λ c b. FormOf o i e true c b v)
+under_one operator.Plain i e v o is h l none out = value_first i v l
+under_one operator.Default i e v o is h l none out = value_first i v l
+under_one operator.Copy i e v o is h l none out = value_first i v l
+under_one operator.Increment i e v o is h l none out = value_first i v l
+under_one operator.Constant i e None o is h l none out = absurd (let w : constant_gives i.presence None ≡ true = rw l refl in cc)
+under_one operator.Constant i e (Some v) o is h l none out = constant_first i e v (constant_is i.part i.initial v (none v refl))
+under_one operator.Delta i e v o is h l none out = delta_first i e v is h l none
+under_one operator.Tail i e v o is h l none out = tail_form_first i e v is (subst (λ (x : Operator). IsTrue (applies x i.kind)) o is.typed.operator_applies) l none
+
+best_under_one : (i : FieldPart) (e : Entry) (v : Option Scalar) → IsWithin i.part v → First (λ c b. FormOf i.operator i e true c b v) → left_out_of i.operator i e v ≡ false → (bit : Bool) × (b : List ℕ) × IsBest i e bit b v
+best_under_one i e v within f out = (
+  true,
+  f.bytes,
+  record {
+    cut = f.cut;
+    form = record { row = f.form; within = within };
+    first = λ bit c b h. later bit c b h;
+  },
+)
+  where
+    later : (bit : Bool) (c : Cut) (b : List ℕ) → FormBy i e bit c b v → NoLater true (length f.bytes) f.cut bit (length b) c
+    later true c b h = f.first c b h.row
+    later false c b h = absurd (let w = can_be_left_out i.operator i e c b v h.row in cc)
+
+best_by : (i : FieldPart) (e : Entry) (v : Option Scalar) (t : Bool) → left_out_of i.operator i e v ≡ t → IsFieldPart i → HoldsScalar e → IsFieldValue i v → ((w : Scalar) → v ≡ Some w → operator_refusal i.operator i e w ≡ None) → (bit : Bool) × (b : List ℕ) × IsBest i e bit b v
+best_by i e v true out is h l none = (false, [], bit_zero_is_best i e v (record { row = left_out i.operator i e v out; within = l.within }))
+best_by i e v false out is h l none = best_under_one i e v l.within (under_one i.operator i e v refl is h l.of_field none out) out
+
+operator_allows : (i : FieldPart) (e : Entry) (v : Option Scalar) → refusal_of i e v ≡ None → (w : Scalar) → v ≡ Some w → operator_refusal i.operator i e w ≡ None
+operator_allows i e v none w is = (unrefused i e w (subst (λ (x : Option Scalar). refusal_of i e x ≡ None) is none)).rest
+
+-- a value that is not refused has a best form
+pub best_stands : (i : FieldPart) (e : Entry) (v : Option Scalar) → IsFieldPart i → HoldsScalar e → HasRangeOr v → refusal_of i e v ≡ None → (bit : Bool) × (b : List ℕ) × IsBest i e bit b v
+best_stands i e v is h r none = best_by i e v (left_out_of i.operator i e v) refl is h (field_value i e v is r none) (operator_allows i e v none)
+
+-- ---- what has a form has a best one
+
+at_most : (m n : ℕ) → nat_le m n ≡ true → m ≤ n
+at_most m n h = grind (arith, nat_tests)
+
+is_at_most : (m n : ℕ) → m ≤ n → nat_le m n ≡ true
+is_at_most m n h = grind (arith, nat_tests)
+
+wide : (z : ℤ) → IsTrue (exponent_in_range z) → IsTrue (in_range kind.Int32 z)
+wide (pos n) h = let le = at_most n 63 h in is_at_most n 2147483647 (omega arith)
+wide (negsuc n) h =
+    let le = at_most n 62 (both (nat_le n 62) true h).0 in
+    let t : nat_le n 2147483647 ≡ true = is_at_most n 2147483647 (omega arith) in
+    rw t refl
+
+range_of_scalar : (v : Scalar) → IsScalar v → HasRange v
+range_of_scalar (U32 n) h = h
+range_of_scalar (I32 z) h = h
+range_of_scalar (U64 n) h = h
+range_of_scalar (I64 z) h = h
+range_of_scalar (Decimal e m) h = (wide e h.0, h.1)
+range_of_scalar (Ascii s) h = small s h.1
+  where
+    small : (s : List ℕ) → AllByRecursion (λ c. c < 128) s → AllByRecursion (λ c. c < 256) s
+    small [] h = tt
+    small (c ∷ s) h = let lt = h.0 in (omega arith, small s h.1)
+range_of_scalar (Unicode s) h = (h.1, h.2)
+range_of_scalar (Bytes s) h = h.1
+
+range_of_value : (i : FieldPart) (v : Option Scalar) → IsFieldValue i v → HasRangeOr v
+range_of_value i None h = tt
+range_of_value i (Some v) h = range_of_scalar v h.of_field.1
+
+pub form_has_best : (i : FieldPart) (e : Entry) (bit : Bool) (b : List ℕ) (v : Option Scalar) → IsFieldPart i → HoldsScalar e → Form i e bit b v → (bit : Bool) × (b : List ℕ) × IsBest i e bit b v
+form_has_best i e bit b v is h f = best_stands i e v is h (range_of_value i v (values_within i e bit b v is h f)) (not_refused i e bit b v is h f)
+
+-- ---- no form is shorter
+
+bit_no_later : (bit bit' : Bool) (n n' : ℕ) (c c' : Cut) → NoLater bit n c bit' n' c' → bit' ≡ false → bit ≡ false
+bit_no_later false bit' n n' c c' h e = refl
+bit_no_later true true n n' c c' h e = e
+bit_no_later true false n n' c c' (inl lt) e = absurd (omega (arith, lt))
+bit_no_later true false n n' c c' (inr h) e = h.0
+
+size_no_later : (bit bit' : Bool) (n n' : ℕ) (c c' : Cut) → (bit ≡ false → n ≡ 0) → NoLater bit n c bit' n' c' → n ≤ n'
+size_no_later bit bit' n n' c c' empty (inl lt) = earlier bit bit' lt empty
+  where
+    earlier : (bit bit' : Bool) → bit_rank bit < bit_rank bit' → (bit ≡ false → n ≡ 0) → n ≤ n'
+    earlier false bit' lt empty = let none = empty refl in omega arith
+    earlier true true lt empty = absurd (omega (arith, lt))
+    earlier true false lt empty = absurd (omega (arith, lt))
+size_no_later bit bit' n n' c c' empty (inr h) = elim h.1 [
+  | inl lt ↦ omega (arith, lt)
+  | inr same ↦ let e = same.0 in omega arith
+]
+
+no_bytes : (i : FieldPart) (e : Entry) (bit : Bool) (cut : Cut) (b : List ℕ) (v : Option Scalar) → FormOf i.operator i e bit cut b v → bit ≡ false → length b ≡ 0
+no_bytes i e false cut b v f is = rw (bit_zero_row i.operator i e cut b v f).1 refl
+no_bytes i e true cut b v f is = absurd cc
+
+pub none_shorter : (i : FieldPart) (e : Entry) (bit other : Bool) (b c : List ℕ) (v : Option Scalar) → IsBest i e bit b v → Form i e other c v → (other ≡ false → bit ≡ false) × (length b ≤ length c)
+none_shorter i e bit other b c v best f =
+    let later = best.first other f.0 c f.1 in
+    (bit_no_later bit other (length b) (length c) best.cut f.0 later, size_no_later bit other (length b) (length c) best.cut f.0 (no_bytes i e bit best.cut b v best.form.row) later)
