@@ -1,5 +1,5 @@
 -- Counting how far two lists agree.
-use Rattle.std.proofs.Common.{◌≡◌, ℕ, suc, ◌+◌, ◌-◌, ◌<◌, ◌≤◌, List, [], ◌∷◌, ◌++◌, length, take, drop, get_or, refl, sym, ap, subst, ◌∙◌, arith, inl, inr, min}
+use Rattle.std.proofs.Common.{◌≡◌, ℕ, ◌+◌, ◌-◌, ◌<◌, ◌≤◌, List, length, take, drop, get_or, refl, sym, ap, ◌∙◌, arith, inl, inr, min}
 use Rattle.std.proofs.lemmas.List.{get_or-take, get_or-drop, drop_more, take_more}
 use Rattle.std.proofs.Math.Seq.{drop-length}
 use Rattle.std.proofs.lemmas.Bool.{cases_lt}
@@ -17,7 +17,7 @@ prefix_stops a b i in_a in_b differ so_far = record {
   longest = λ j ja jb e. elim (cases_lt i j) [
     | inl lt ↦ absurd (differ (sym (get_or-take j a i 0 lt) ∙ ap (λ (s : List ℕ). get_or s i 0) e ∙ get_or-take j b i 0 lt))
     | inr ge ↦ ge
-    ];
+  ];
 }
 
 pub prefix_ends : (a b : List ℕ) (i : ℕ) → min (length a) (length b) ≤ i → i ≤ min (length a) (length b) → take i a ≡ take i b → IsLongestPrefix a b i
@@ -45,13 +45,13 @@ suffix_stops a b i in_a in_b differ so_far = record {
   common = so_far;
   longest = λ j ja jb e. elim (cases_lt i j) [
     | inl lt ↦
-      let pa : length a - j + (j - 1 - i) ≡ length a - 1 - i = omega arith in
-      let pb : length b - j + (j - 1 - i) ≡ length b - 1 - i = omega arith in
-      let ea : get_or (drop (length a - j) a) (j - 1 - i) 0 ≡ get_or a (length a - 1 - i) 0 = get_or-drop (length a - j) a (j - 1 - i) 0 ∙ ap (λ (m : ℕ). get_or a m 0) pa in
-      let eb : get_or (drop (length b - j) b) (j - 1 - i) 0 ≡ get_or b (length b - 1 - i) 0 = get_or-drop (length b - j) b (j - 1 - i) 0 ∙ ap (λ (m : ℕ). get_or b m 0) pb in
-      absurd (differ (sym ea ∙ ap (λ (s : List ℕ). get_or s (j - 1 - i) 0) e ∙ eb))
+        let pa : length a - j + (j - 1 - i) ≡ length a - 1 - i = omega arith in
+        let pb : length b - j + (j - 1 - i) ≡ length b - 1 - i = omega arith in
+        let ea : get_or (drop (length a - j) a) (j - 1 - i) 0 ≡ get_or a (length a - 1 - i) 0 = get_or-drop (length a - j) a (j - 1 - i) 0 ∙ ap (λ (m : ℕ). get_or a m 0) pa in
+        let eb : get_or (drop (length b - j) b) (j - 1 - i) 0 ≡ get_or b (length b - 1 - i) 0 = get_or-drop (length b - j) b (j - 1 - i) 0 ∙ ap (λ (m : ℕ). get_or b m 0) pb in
+        absurd (differ (sym ea ∙ ap (λ (s : List ℕ). get_or s (j - 1 - i) 0) e ∙ eb))
     | inr ge ↦ ge
-    ];
+  ];
 }
 
 pub suffix_ends : (a b : List ℕ) (i : ℕ) → min (length a) (length b) ≤ i → i ≤ min (length a) (length b) → drop (length a - i) a ≡ drop (length b - i) b → IsLongestSuffix a b i

@@ -1,17 +1,15 @@
 -- The best delta of a string or vector: the longest common prefix with removal at the end, or the longest common suffix
 -- with removal in front.
-use Rattle.std.proofs.Common.{◌≡◌, ℕ, zero, suc, ◌+◌, ◌-◌, ◌*◌, ◌^◌, ◌<◌, ◌≤◌, Bool, true, false, List, [], ◌∷◌, ◌++◌, length, take, drop, get_or, min, refl, sym, ap, subst, ◌∙◌, arith, inl, inr, ◌⊎◌, Ok, length-append, length-take, length-drop, take-append-drop, lit<}
-use Rattle.std.specs.Prelude.{ℤ, pos, negsuc, nat_le, int_le, ◌&&◌, IsTrue}
-use Rattle.std.specs.List.{AllByRecursion}
+use Rattle.std.proofs.Common.{◌≡◌, ℕ, zero, suc, ◌+◌, ◌-◌, ◌^◌, ◌<◌, ◌≤◌, Bool, true, false, List, ◌++◌, length, take, drop, get_or, min, refl, sym, ap, subst, arith, inl, inr, ◌⊎◌, length-append, length-take, length-drop, take-append-drop}
+use Rattle.std.specs.Prelude.{ℤ, pos, negsuc, nat_le, ◌&&◌, IsTrue}
 use Rattle.std.proofs.lemmas.Bool.{cases_lt, cases_eq}
 use Rattle.std.proofs.lemmas.Bool.Decides.{nat_tests}
 use Rattle.fast_wire.specs.Ascii.{IsAscii}
 use Rattle.fast_wire.specs.Integer.{IsSigned, magnitude}
 use Rattle.fast_wire.specs.Nullable.{IsSignedNullable}
 use Rattle.fast_wire.specs.Vector.{IsVector}
-use Rattle.fast_wire.specs.Sizes.{HasSizes, signed_size, signed_nullable_size, ascii_size, vector_size, unsigned_size}
-use Rattle.fast_wire.specs.Writing.{IsShortest}
-use Rattle.fast_wire.specs.declared.nullable.Nullable.TheVariants.{Null, Value}
+use Rattle.fast_wire.specs.Sizes.{signed_size, signed_nullable_size, ascii_size, vector_size, unsigned_size}
+use Rattle.fast_wire.specs.declared.nullable.Nullable.TheVariants.{Value}
 use Rattle.fast_wire.proofs.FormSizes.{signed_sizes, signed_nullable_sizes, ascii_sizes, vector_sizes, signed_grow, signed_nullable_grow, shortest_size}
 use Rattle.fast_wire.proofs.Sizes.{unsigned_size-grows}
 use Rattle.fast_template.specs.Scalar.{in_range}
@@ -22,12 +20,11 @@ use Rattle.fast_template.specs.declared.kind.Presence.TheVariants.{Mandatory, Op
 use Rattle.fast_template.specs.declared.scalar.Scalar.{Scalar}
 use Rattle.fast_field.specs.Values.{units_of}
 use Rattle.fast_field.specs.Spelled.{SpellsInteger, SpellsPart, IsOfUnits}
-use Rattle.fast_field.specs.Deltas.{Side, at_end, in_front, Cut, removed_of, side_of, put_together, IsOfFewUnits, SpellsCut}
+use Rattle.fast_field.specs.Deltas.{Cut, removed_of, side_of, put_together, IsOfFewUnits, SpellsCut}
 use Rattle.fast_field.specs.Best.{NoLater, side_rank}
 use Rattle.fast_field.specs.CommonParts.{IsLongestPrefix, IsLongestSuffix}
 use Rattle.fast_field.proofs.Agreeing.{prefix_more, prefix_stops, prefix_ends, suffix_none, suffix_more, suffix_stops, suffix_ends}
 use Rattle.fast_field.proofs.Least.{IsPartCost, IsLengthCost, end_is_least, front_is_least, ascii_parts, vector_parts}
-use Rattle.fast_field.proofs.BestForms.{shorter_first, at_end_first, in_front_first}
 use Rattle.fast_field.proofs.BestDeltas.{First}
 use Rattle.fast_field.proofs.Refused.{units_are}
 use Rattle.fast_field.proofs.ValuesWithin.{IsOfType, IsString, IsUnitKind, unit_limit, units_of_string, all_take, all_drop}
@@ -100,7 +97,7 @@ pub record IsBestCut (k : Kind) (p : Presence) (base v : List ℕ) (removal : �
       → CutNoLater (length_size p removal + part_size k part) removal (length part) (length_size p z + part_size k q) z (length q)
 
 not_equal_first : (m m' : ℕ) (P : Type 0) → m ≤ m' → P → (m < m') ⊎ ((m ≡ m') × P)
-not_equal_first m m' P le q = elim (cases_lt m m') [ | inl lt ↦ inl lt | inr ge ↦ let e : m ≡ m' = omega arith in inr (e, q) ]
+not_equal_first m m' P le q = elim (cases_lt m m') [ inl lt ↦ inl lt | inr ge ↦ let e : m ≡ m' = omega arith in inr (e, q) ]
 
 module _ (k : Kind) (p : Presence) (base v : List ℕ) (n m : ℕ) (prefix : IsLongestPrefix base v n) (suffix : IsLongestSuffix base v m) where
   abbrev end_size : ℕ

@@ -1,11 +1,11 @@
 -- The best tail: the shortest, but in the nullable form of ASCII one unit more where that saves a preamble.
-use Rattle.std.proofs.Common.{◌≡◌, ℕ, zero, suc, ◌+◌, ◌-◌, ◌^◌, ◌<◌, ◌≤◌, Bool, true, false, List, [], ◌∷◌, ◌++◌, length, take, drop, refl, sym, ap, subst, ◌∙◌, arith, inl, inr, ◌⊎◌, length-append, length-take, length-drop, take-append-drop, drop-drop}
+use Rattle.std.proofs.Common.{◌≡◌, ℕ, zero, suc, ◌+◌, ◌-◌, ◌<◌, ◌≤◌, List, [], ◌∷◌, length, take, drop, refl, sym, ap, subst, ◌∙◌, arith, inl, inr, length-drop, take-append-drop, drop-drop}
 use Rattle.std.proofs.lemmas.Bool.{cases_lt}
 use Rattle.std.proofs.lemmas.List.{take-take}
 use Rattle.fast_wire.specs.Ascii.{IsAsciiNullable}
 use Rattle.fast_wire.specs.Vector.{IsVectorNullable}
-use Rattle.fast_wire.specs.Sizes.{ascii_size, ascii_nullable_size, vector_size, vector_nullable_size, unsigned_size}
-use Rattle.fast_wire.specs.declared.nullable.Nullable.TheVariants.{Null, Value}
+use Rattle.fast_wire.specs.Sizes.{ascii_nullable_size, vector_nullable_size, unsigned_size}
+use Rattle.fast_wire.specs.declared.nullable.Nullable.TheVariants.{Value}
 use Rattle.fast_wire.proofs.FormSizes.{ascii_nullable_sizes, vector_nullable_sizes, shortest_size}
 use Rattle.fast_wire.proofs.Sizes.{unsigned_size-grows}
 use Rattle.fast_template.specs.declared.kind.Kind.{Kind}
@@ -14,7 +14,7 @@ use Rattle.fast_template.specs.declared.kind.Presence.{Presence}
 use Rattle.fast_template.specs.declared.kind.Presence.TheVariants.{Mandatory, Optional}
 use Rattle.fast_template.specs.declared.scalar.Scalar.{Scalar}
 use Rattle.fast_field.specs.Values.{units_of}
-use Rattle.fast_field.specs.Spelled.{SpellsUnits, SpellsPart}
+use Rattle.fast_field.specs.Spelled.{SpellsUnits}
 use Rattle.fast_field.specs.Deltas.{at_end, Cut, ended_by, SpellsTail}
 use Rattle.fast_field.specs.CommonParts.{IsLongestPrefix}
 use Rattle.fast_field.proofs.BestForms.{at_end_first}
@@ -71,7 +71,7 @@ tail_is_first k p base v tail u l fits best =
 -- ---- which tail that is
 
 no_worse_by : (m part m' part' : ℕ) → m ≤ m' → part ≤ part' → NoWorse m part m' part'
-no_worse_by m part m' part' le less = elim (cases_lt m m') [ | inl lt ↦ inl lt | inr ge ↦ let e : m ≡ m' = omega arith in inr (e, less) ]
+no_worse_by m part m' part' le less = elim (cases_lt m m') [ inl lt ↦ inl lt | inr ge ↦ let e : m ≡ m' = omega arith in inr (e, less) ]
 
 -- the one of a longer value is the whole of it
 longer_tail : (k : Kind) (p : Presence) (base v : List ℕ) → length base < length v → IsBestTail k p base v v

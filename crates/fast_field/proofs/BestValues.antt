@@ -1,11 +1,11 @@
 -- Each value that is not refused has a best form.
-use Rattle.std.proofs.Common.{◌≡◌, ℕ, ◌+◌, ◌-◌, ◌^◌, ◌<◌, ◌≤◌, Bool, true, false, List, [], ◌∷◌, length, refl, sym, ap, subst, ◌∙◌, arith, Ok, Err, Result, inl, inr, ◌⊎◌}
-use Rattle.std.specs.Prelude.{ℤ, pos, negsuc, int_lt, int_le, nat_lt, nat_le, ◌&&◌, not, Option, Some, None, IsTrue, IsUtf8, unwrap_or, if◌then◌else◌}
+use Rattle.std.proofs.Common.{◌≡◌, ℕ, ◌<◌, ◌≤◌, Bool, true, false, List, [], ◌∷◌, length, refl, sym, ap, subst, ◌∙◌, arith, Ok, Err, Result, inl, inr}
+use Rattle.std.specs.Prelude.{ℤ, pos, negsuc, int_lt, int_le, nat_lt, nat_le, ◌&&◌, not, Option, Some, None, IsTrue, if◌then◌else◌}
 use Rattle.std.specs.List.{AllByRecursion}
 use Rattle.std.proofs.lemmas.Bool.Decides.{nat_tests}
 use Rattle.fast_wire.proofs.Readers.{ok_is}
-use Rattle.fast_wire.specs.declared.nullable.Nullable.TheVariants.{Null, Value}
-use Rattle.fast_template.specs.Scalar.{is_of, is_integer, in_range, exponent_in_range, scalar_eq-exact, scalar_eq-same, IsScalar}
+use Rattle.fast_wire.specs.declared.nullable.Nullable.TheVariants.{Null}
+use Rattle.fast_template.specs.Scalar.{is_of, in_range, exponent_in_range, scalar_eq-exact, scalar_eq-same, IsScalar}
 use Rattle.fast_template.specs.TemplateSets.{applies}
 use Rattle.fast_template.specs.contracts.scalar.ScalarPartialEq.TheImpl as scalar_eq
 use Rattle.fast_template.specs.declared.kind.Kind.{Kind}
@@ -21,7 +21,6 @@ use Rattle.fast_template.specs.declared.scalar.Scalar.{Scalar}
 use Rattle.fast_template.specs.declared.scalar.Scalar.TheVariants.{U32, I32, U64, I64, Decimal, Ascii, Unicode, Bytes}
 use Rattle.fast_dictionary.specs.declared.entry.Entry.{Entry}
 use Rattle.fast_field.specs.declared.fault.FieldFault.{FieldFault}
-use Rattle.fast_field.specs.declared.fault.FieldFault.TheVariants as fault
 use Rattle.fast_field.specs.declared.fault.FieldRefusal.{FieldRefusal}
 use Rattle.fast_field.specs.declared.fault.FieldRefusal.TheVariants as refusal
 use Rattle.fast_field.specs.Values.{integer_of, units_of}
@@ -38,10 +37,10 @@ use Rattle.fast_field.proofs.BestForms.{bit_zero_row, bit_zero_is_best}
 use Rattle.fast_field.proofs.BestDeltas.{First, shortest_is_first, number_delta_first, decimal_delta_first}
 use Rattle.fast_field.proofs.BestCuts.{string_delta_first}
 use Rattle.fast_field.proofs.BestTails.{tail_first}
-use Rattle.fast_field.proofs.FieldsWithin.{delta_base_within, tail_base_within, unit_kind, values_within}
+use Rattle.fast_field.proofs.FieldsWithin.{delta_base_within, unit_kind, values_within}
 use Rattle.fast_field.proofs.Refused.{not_refused}
 use Rattle.fast_field.proofs.StandingForms.{Stands, whole_stands, null_whole_stands, null_stands, null_units_stand}
-use Rattle.fast_field.proofs.ValuesWithin.{IsOfType, IsUnitKind}
+use Rattle.fast_field.proofs.ValuesWithin.{IsOfType}
 
 -- ---- bit 0
 

@@ -1,9 +1,9 @@
 -- Why the longest common part gives the shortest spelling of a delta or a tail.
-use Rattle.std.proofs.Common.{◌≡◌, ℕ, zero, suc, ◌+◌, ◌-◌, ◌<◌, ◌≤◌, List, [], ◌∷◌, ◌++◌, length, take, drop, refl, sym, ap, subst, ◌∙◌, arith, inl, inr}
+use Rattle.std.proofs.Common.{◌≡◌, ℕ, zero, suc, ◌+◌, ◌-◌, ◌<◌, ◌≤◌, List, [], ◌∷◌, ◌++◌, length, take, drop, refl, sym, ap, ◌∙◌, arith, inl, inr}
 use Rattle.std.specs.Prelude.{ℤ, pos, negsuc, ◌⊎◌}
-use Rattle.std.proofs.lemmas.List.{take_at, drop_at, take-append-le, take-append-drop, length-append, length-take, length-drop}
+use Rattle.std.proofs.lemmas.List.{take_at, drop_at, take-append-le, length-append, length-take, length-drop}
 use Rattle.std.proofs.Math.Seq.{drop-append-add}
-use Rattle.std.proofs.lemmas.Bool.{cases_lt, cases_eq}
+use Rattle.std.proofs.lemmas.Bool.{cases_lt}
 use Rattle.fast_wire.specs.Sizes.{ascii_size}
 use Rattle.fast_field.specs.CommonParts.{IsLongestPrefix, IsLongestSuffix}
 use Rattle.fast_field.specs.Deltas.{ended_by}
@@ -124,9 +124,9 @@ tail_is base v t n is e =
     let back : drop (length v - length t) v ≡ t = ap (λ (m : ℕ). drop m v) at ∙ ap (drop (length keep)) e ∙ drop_at keep t (length keep) refl in
     let whole : length base < length v → t ≡ v = λ h. let none : length v - length t ≡ 0 = omega arith in sym back ∙ ap (λ (m : ℕ). drop m v) none in
     let cut : length v ≡ length base → (length t ≤ length v) × (length v - length t ≤ n) × (t ≡ drop (length v - length t) v) =
-      λ h.
-        let kept : keep ≡ take (length v - length t) base = ap (λ (m : ℕ). take m base) (omega arith) in
-        (omega arith, is.longest (length v - length t) (omega arith) (omega arith) (sym kept ∙ sym front), sym back) in
+    λ h.
+    let kept : keep ≡ take (length v - length t) base = ap (λ (m : ℕ). take m base) (omega arith) in
+    (omega arith, is.longest (length v - length t) (omega arith) (omega arith) (sym kept ∙ sym front), sym back) in
     (omega arith, whole, cut)
 
 -- Nullable ASCII: two bytes more where there is no character or the first is NUL. So a shorter tail may take more bytes than a longer one.
@@ -148,7 +148,7 @@ abbrev pub tail_cost : List ℕ → ℕ → ℕ
 tail_cost v j = (length v - j) + preamble (drop j v)
 
 no_worse : (m part m' part' : ℕ) → m ≤ m' → (m ≡ m' → part ≤ part') → NoWorse m part m' part'
-no_worse m part m' part' le h = elim (cases_lt m m') [ | inl lt ↦ inl lt | inr ge ↦ let e : m ≡ m' = omega arith in inr (e, h e) ]
+no_worse m part m' part' le h = elim (cases_lt m m') [ inl lt ↦ inl lt | inr ge ↦ let e : m ≡ m' = omega arith in inr (e, h e) ]
 
 -- where the shortest tail needs no preamble it is the best
 pub shortest_tail : (v : List ℕ) (n j : ℕ) → n ≤ length v → j ≤ n → preamble (drop n v) ≡ 0 → NoWorse (tail_cost v n) (length v - n) (tail_cost v j) (length v - j)
@@ -159,9 +159,9 @@ pub one_more : (v : List ℕ) (n j : ℕ) → suc n ≤ length v → j ≤ suc n
 one_more v n j in_v le two none =
     elim (cases_lt n j) [
       | inl lt ↦
-        let at : j ≡ suc n = omega arith in
-        let cost : preamble (drop j v) ≡ 2 = rw at two in
-        no_worse _ _ _ _ (omega arith) (λ e. omega arith)
+          let at : j ≡ suc n = omega arith in
+          let cost : preamble (drop j v) ≡ 2 = rw at two in
+          no_worse _ _ _ _ (omega arith) (λ e. omega arith)
       | inr ge ↦ no_worse _ _ _ _ (omega arith) (λ e. omega arith)
     ]
 
@@ -170,14 +170,14 @@ pub still_shortest : (v : List ℕ) (n j : ℕ) → suc n ≤ length v → j ≤
 still_shortest v n j in_v le two twice =
     elim (cases_lt n j) [
       | inl lt ↦
-        let at : j ≡ suc n = omega arith in
-        let cost : preamble (drop j v) ≡ 2 = rw at two in
-        no_worse _ _ _ _ (omega arith) (λ e. omega arith)
+          let at : j ≡ suc n = omega arith in
+          let cost : preamble (drop j v) ≡ 2 = rw at two in
+          no_worse _ _ _ _ (omega arith) (λ e. omega arith)
       | inr ge ↦ elim (cases_lt j n) [
         | inl lt ↦ no_worse _ _ _ _ (omega arith) (λ e. omega arith)
         | inr more ↦
-          let at : j ≡ n = omega arith in
-          let cost : preamble (drop j v) ≡ 2 = rw at twice in
-          no_worse _ _ _ _ (omega arith) (λ e. omega arith)
-        ]
+            let at : j ≡ n = omega arith in
+            let cost : preamble (drop j v) ≡ 2 = rw at twice in
+            no_worse _ _ _ _ (omega arith) (λ e. omega arith)
+      ]
     ]

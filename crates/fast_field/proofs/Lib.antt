@@ -3,6 +3,7 @@ pub mod WorkedRows
 pub mod TypeRows
 pub mod LimitRows
 pub mod LongRows
+pub mod RefusalRows
 pub mod NoMemory
 pub mod FieldsGoOn
 pub mod ValuesWithin
