@@ -48,7 +48,7 @@ pub parts : (k : Kind) → IsPartCost (part_size k)
 parts kind.Ascii = ascii_parts
 parts k = vector_parts unsigned_size unsigned_size-grows
 
-length_least : (p : Presence) (z : ℤ) (b : List ℕ) → SpellsInteger false p b (Value z) → length_size p z ≤ length b
+pub length_least : (p : Presence) (z : ℤ) (b : List ℕ) → SpellsInteger false p b (Value z) → length_size p z ≤ length b
 length_least Mandatory z b h = signed_sizes.least b z h
 length_least Optional z b h = signed_nullable_sizes.least b (Value z) h
 

@@ -53,7 +53,7 @@ difference_small a c h l =
 back_again : (a c : ℤ) → c +ℤ (a -ℤ c) ≡ a
 back_again a c = omega (arith, ints)
 
-one_difference : (a c d : ℤ) → c +ℤ d ≡ a → d ≡ a -ℤ c
+pub one_difference : (a c d : ℤ) → c +ℤ d ≡ a → d ≡ a -ℤ c
 one_difference a c d e = omega (arith, ints, e)
 
 -- ---- integers

@@ -16,6 +16,7 @@ pub mod Least
 pub mod BestCuts
 pub mod BestTails
 pub mod BestValues
+pub mod OneBest
 pub mod CallSteps
 pub mod ReadFields
 pub mod BaseSteps

@@ -1,0 +1,143 @@
+-- A value has one best form.
+use Rattle.std.proofs.Common.{◌≡◌, ℕ, zero, suc, ◌+◌, ◌-◌, ◌^◌, ◌<◌, ◌≤◌, Bool, true, false, List, [], ◌∷◌, ◌++◌, length, take, drop, refl, sym, ap, subst, ◌∙◌, arith, Ok, Err, Result, inl, inr, ◌⊎◌, length-append, length-take, length-drop}
+use Rattle.std.specs.Prelude.{ℤ, pos, negsuc, ◌+ℤ◌, ◌-ℤ◌, Option, Some, None, IsTrue}
+use Rattle.std.proofs.lemmas.Int.{ints}
+use Rattle.std.proofs.lemmas.List.{take_at, drop_at}
+use Rattle.fast_wire.specs.Integer.{IsSigned}
+use Rattle.fast_wire.specs.Nullable.{IsUnsignedNullable, IsSignedNullable}
+use Rattle.fast_wire.specs.Ascii.{IsAscii, IsAsciiNullable}
+use Rattle.fast_wire.specs.Vector.{IsVector, IsVectorNullable}
+use Rattle.fast_wire.specs.declared.nullable.Nullable.{Nullable}
+use Rattle.fast_wire.specs.declared.nullable.Nullable.TheVariants.{Null, Value}
+use Rattle.fast_wire.proofs.FormSizes.{unsigned_sizes, signed_sizes, unsigned_nullable_sizes, signed_nullable_sizes, ascii_sizes, ascii_nullable_sizes, vector_sizes, vector_nullable_sizes}
+use Rattle.fast_wire.proofs.Readers.{ok_is}
+use Rattle.fast_template.specs.Scalar.{is_integer}
+use Rattle.fast_template.specs.declared.kind.Kind.{Kind}
+use Rattle.fast_template.specs.declared.kind.Kind.TheVariants as kind
+use Rattle.fast_template.specs.declared.kind.Operator.{Operator}
+use Rattle.fast_template.specs.declared.kind.Operator.TheVariants as operator
+use Rattle.fast_template.specs.declared.kind.Presence.{Presence}
+use Rattle.fast_template.specs.declared.kind.Presence.TheVariants.{Mandatory, Optional}
+use Rattle.fast_template.specs.declared.resolved.FieldPart.{FieldPart}
+use Rattle.fast_template.specs.declared.scalar.Scalar.{Scalar}
+use Rattle.fast_dictionary.specs.declared.entry.Entry.{Entry}
+use Rattle.fast_field.specs.declared.fault.FieldFault.{FieldFault}
+use Rattle.fast_field.specs.Values.{is_unsigned, integer_of, exponent_of, mantissa_of, units_of}
+use Rattle.fast_field.specs.Parts.{IsFieldPart}
+use Rattle.fast_field.specs.Spelled.{SpellsInteger, SpellsPart, SpellsUnits, SpellsPair, SpelledNumber, SpelledString, SpelledDecimal, Spelled}
+use Rattle.fast_field.specs.Deltas.{Side, at_end, in_front, Cut, uncut, removed_of, side_of, put_together, ended_by, SpellsCut, SpellsDelta, SpellsDeltas, SpellsTail, DeltaValue, DeltaForm, TailForm}
+use Rattle.fast_field.specs.Fields.{FormOf, FormBy, Form}
+use Rattle.fast_field.specs.Best.{bit_rank, side_rank, NoLater, IsBest}
+use Rattle.fast_field.proofs.BestForms.{bit_zero_row}
+use Rattle.fast_field.proofs.BestCuts.{length_size, part_size, length_least, part_least}
+use Rattle.fast_field.proofs.BestDeltas.{one_difference}
+use Rattle.fast_field.proofs.Refused.{units_are}
+use Rattle.fast_field.proofs.StandingForms.{number_of}
+
+-- ---- the same number of bytes: the same bytes
+
+one_integer : (u : Bool) (p : Presence) (z : Nullable ℤ) (b c : List ℕ) → SpellsInteger u p b z → SpellsInteger u p c z → length b ≡ length c → b ≡ c
+one_integer true Mandatory (Value (pos n)) b c h l e = unsigned_sizes.one b c n h l e
+one_integer true Optional (Value (pos n)) b c h l e = unsigned_nullable_sizes.one b c (Value n) h l e
+one_integer true Optional Null b c h l e = unsigned_nullable_sizes.one b c Null h l e
+one_integer false Mandatory (Value z) b c h l e = signed_sizes.one b c z h l e
+one_integer false Optional z b c h l e = signed_nullable_sizes.one b c z h l e
+one_integer true Mandatory Null b c h l e = absurd h
+one_integer true Mandatory (Value (negsuc n)) b c h l e = absurd h
+one_integer true Optional (Value (negsuc n)) b c h l e = absurd h
+one_integer false Mandatory Null b c h l e = absurd h
+
+one_part : (k : Kind) (s b c : List ℕ) → SpellsPart k b s → SpellsPart k c s → length b ≡ length c → b ≡ c
+one_part kind.Ascii s b c h l e = ascii_sizes.one b c s h l e
+one_part k s b c h l e = vector_sizes.one b c s h l e
+
+one_units : (k : Kind) (p : Presence) (s : Nullable (List ℕ)) (b c : List ℕ) → SpellsUnits k p b s → SpellsUnits k p c s → length b ≡ length c → b ≡ c
+one_units k Mandatory (Value s) b c h l e = one_part k s b c h l e
+one_units k Mandatory Null b c h l e = absurd h
+one_units kind.Ascii Optional s b c h l e = ascii_nullable_sizes.one b c s h l e
+one_units k Optional s b c h l e = vector_nullable_sizes.one b c s h l e
+
+-- ---- two parts, of which no others together are shorter
+
+abbrev Least : (List ℕ → Type 0) → List ℕ → Type 0
+Least Form b = (o : List ℕ) → Form o → length b ≤ length o
+
+one_of_two : (First Second : List ℕ → Type 0) (f g f' g' : List ℕ) → First f → Second g → First f' → Second g'
+    → ((x y : List ℕ) → First x → First y → length x ≡ length y → x ≡ y) → ((x y : List ℕ) → Second x → Second y → length x ≡ length y → x ≡ y)
+    → ((x y : List ℕ) → First x → Second y → length (f ++ g) ≤ length (x ++ y)) → ((x y : List ℕ) → First x → Second y → length (f' ++ g') ≤ length (x ++ y))
+    → f ++ g ≡ f' ++ g'
+one_of_two First Second f g f' g' hf hg hf' hg' one two least least' =
+    let a = least f' g hf' hg in
+    let b = least f g' hf hg' in
+    let c = least' f g' hf hg' in
+    let d = least' f' g hf' hg in
+    let fronts : f ≡ f' = one f f' hf hf' (omega (arith, a, c, length-append f g, length-append f' g, length-append f g', length-append f' g')) in
+    let backs : g ≡ g' = two g g' hg hg' (omega (arith, b, d, length-append f g, length-append f' g, length-append f g', length-append f' g')) in
+    rw (fronts, backs) refl
+
+one_pair : (p : Presence) (e m : ℤ) (b c : List ℕ) → SpellsPair p b e m → SpellsPair p c e m → Least (λ o. SpellsPair p o e m) b → Least (λ o. SpellsPair p o e m) c → b ≡ c
+one_pair p e m b c h l least least' =
+    h.parts
+    ∙ one_of_two (λ x. SpellsInteger false p x (Value e)) (λ y. IsSigned y m) h.front h.back l.front l.back h.exponent_form h.mantissa_form l.exponent_form l.mantissa_form
+    (λ x y s t same. one_integer false p (Value e) x y s t same)
+    (λ x y s t same. signed_sizes.one x y m s t same)
+    (λ x y s t. subst (λ (z : List ℕ). length z ≤ length (x ++ y)) h.parts (least (x ++ y) (record { front = x; back = y; parts = refl; exponent_form = s; mantissa_form = t })))
+    (λ x y s t. subst (λ (z : List ℕ). length z ≤ length (x ++ y)) l.parts (least' (x ++ y) (record { front = x; back = y; parts = refl; exponent_form = s; mantissa_form = t })))
+    ∙ sym l.parts
+
+-- ---- what stands whole
+
+one_number : (k : Kind) (p : Presence) (v : Option Scalar) (b c : List ℕ) → IsTrue (is_integer k) → SpelledNumber k p b v → SpelledNumber k p c v → length b ≡ length c → b ≡ c
+one_number k p None b c i h l e = one_integer (is_unsigned k) p Null b c h l e
+one_number k p (Some v) b c i h l e =
+    let same : h.number ≡ l.number = sym (number_of k h.number i h.range) ∙ ap integer_of (sym h.value ∙ l.value) ∙ number_of k l.number i l.range in
+    one_integer (is_unsigned k) p (Value l.number) b c (subst (λ (z : ℤ). SpellsInteger (is_unsigned k) p b (Value z)) same h.form) l.form e
+
+one_string : (k : Kind) (p : Presence) (v : Option Scalar) (b c : List ℕ) → SpelledString k p b v → SpelledString k p c v → length b ≡ length c → b ≡ c
+one_string k p None b c h l e = one_units k p Null b c h l e
+one_string k p (Some v) b c h l e =
+    let same : h.string ≡ l.string = sym (units_are k h.string v h.value) ∙ units_are k l.string v l.value in
+    one_units k p (Value l.string) b c (subst (λ (z : List ℕ). SpellsUnits k p b (Value z)) same h.form) l.form e
+
+one_decimal : (p : Presence) (v : Option Scalar) (b c : List ℕ) → SpelledDecimal p b v → SpelledDecimal p c v → length b ≡ length c → Least (λ o. SpelledDecimal p o v) b → Least (λ o. SpelledDecimal p o v) c → b ≡ c
+one_decimal p None b c h l e least least' = one_integer false p Null b c h l e
+one_decimal p (Some v) b c h l e least least' =
+    let made = sym h.value.2 ∙ l.value.2 in
+    let same_e : h.exponent ≡ l.exponent = ap exponent_of made in
+    let same_m : h.mantissa ≡ l.mantissa = ap mantissa_of made in
+    let pair = subst (λ (x : ℤ). SpellsPair p b x l.mantissa) same_e (subst (λ (x : ℤ). SpellsPair p b h.exponent x) same_m h.form) in
+    one_pair p l.exponent l.mantissa b c pair l.form
+    (λ o q. least o (record { exponent = l.exponent; mantissa = l.mantissa; form = q; value = l.value }))
+    (λ o q. least' o (record { exponent = l.exponent; mantissa = l.mantissa; form = q; value = l.value }))
+
+one_spelled : (k : Kind) (p : Presence) (v : Option Scalar) (b c : List ℕ) → Spelled k p b v → Spelled k p c v → length b ≡ length c → Least (λ o. Spelled k p o v) b → Least (λ o. Spelled k p o v) c → b ≡ c
+one_spelled kind.Decimal p v b c h l e least least' = one_decimal p v b c h l e least least'
+one_spelled kind.Ascii p v b c h l e least least' = one_string kind.Ascii p v b c h l e
+one_spelled kind.Unicode p v b c h l e least least' = one_string kind.Unicode p v b c h l e
+one_spelled kind.Bytes p v b c h l e least least' = one_string kind.Bytes p v b c h l e
+one_spelled kind.UInt32 p v b c h l e least least' = one_number kind.UInt32 p v b c refl h l e
+one_spelled kind.Int32 p v b c h l e least least' = one_number kind.Int32 p v b c refl h l e
+one_spelled kind.UInt64 p v b c h l e least least' = one_number kind.UInt64 p v b c refl h l e
+one_spelled kind.Int64 p v b c h l e least least' = one_number kind.Int64 p v b c refl h l e
+
+-- ---- deltas
+
+one_addend : (a c d : ℤ) → a +ℤ c ≡ a +ℤ d → c ≡ d
+one_addend a c d e = omega (arith, ints, e)
+
+one_delta : (k : Kind) (p : Presence) (base : Scalar) (x y : Cut) (b c : List ℕ) (v : Scalar) → IsTrue (is_integer k) → SpellsDelta k p base x b v → SpellsDelta k p base y c v → length b ≡ length c → b ≡ c
+one_delta k p base x y b c v i h l e =
+    let sums : integer_of base +ℤ h.delta ≡ integer_of base +ℤ l.delta = sym (number_of k (integer_of base +ℤ h.delta) i h.range) ∙ ap integer_of (sym h.value ∙ l.value) ∙ number_of k (integer_of base +ℤ l.delta) i l.range in
+    let same : h.delta ≡ l.delta = one_addend (integer_of base) h.delta l.delta sums in
+    one_integer false p (Value l.delta) b c (subst (λ (z : ℤ). SpellsInteger false p b (Value z)) same h.form) l.form e
+
+one_decimal_delta : (p : Presence) (base : Scalar) (x y : Cut) (b c : List ℕ) (v : Scalar) → SpellsDeltas p base x b v → SpellsDeltas p base y c v
+    → ((cut : Cut) → Least (λ o. SpellsDeltas p base cut o v) b) → ((cut : Cut) → Least (λ o. SpellsDeltas p base cut o v) c) → b ≡ c
+one_decimal_delta p base x y b c v h l least least' =
+    let made = sym h.value.2 ∙ l.value.2 in
+    let same_e : h.exponent_delta ≡ l.exponent_delta = one_addend (exponent_of base) h.exponent_delta l.exponent_delta (ap exponent_of made) in
+    let same_m : h.mantissa_delta ≡ l.mantissa_delta = one_addend (mantissa_of base) h.mantissa_delta l.mantissa_delta (ap mantissa_of made) in
+    let pair = subst (λ (z : ℤ). SpellsPair p b z l.mantissa_delta) same_e (subst (λ (z : ℤ). SpellsPair p b h.exponent_delta z) same_m h.form) in
+    one_pair p l.exponent_delta l.mantissa_delta b c pair l.form
+    (λ o q. least uncut o (record { exponent_delta = l.exponent_delta; mantissa_delta = l.mantissa_delta; form = q; value = l.value; cut_is = refl }))
+    (λ o q. least' uncut o (record { exponent_delta = l.exponent_delta; mantissa_delta = l.mantissa_delta; form = q; value = l.value; cut_is = refl }))
