@@ -141,3 +141,69 @@ one_decimal_delta p base x y b c v h l least least' =
     one_pair p l.exponent_delta l.mantissa_delta b c pair l.form
     (λ o q. least uncut o (record { exponent_delta = l.exponent_delta; mantissa_delta = l.mantissa_delta; form = q; value = l.value; cut_is = refl }))
     (λ o q. least' uncut o (record { exponent_delta = l.exponent_delta; mantissa_delta = l.mantissa_delta; form = q; value = l.value; cut_is = refl }))
+
+-- ---- strings
+
+sides : at_end ≡ in_front → ⊥
+sides e = omega (arith, ap side_rank e)
+
+behind : (keep keep' part part' : List ℕ) → length keep ≡ length keep' → keep ++ part ≡ keep' ++ part' → part ≡ part'
+behind keep keep' part part' same e = sym (drop_at keep part (length keep) refl) ∙ ap (drop (length keep)) e ∙ drop_at keep' part' (length keep) (sym same)
+
+in_front_of : (part part' keep keep' : List ℕ) → length part ≡ length part' → part ++ keep ≡ part' ++ keep' → part ≡ part'
+in_front_of part part' keep keep' same e = sym (take_at part keep (length part) refl) ∙ ap (take (length part)) e ∙ take_at part' keep' (length part) (sym same)
+
+-- a value, the side and the number of new units say what was removed and what is new
+one_removal : (z z' : ℤ) (base part part' : List ℕ) → side_of z ≡ side_of z' → length part ≡ length part' → removed_of z ≤ length base → removed_of z' ≤ length base → put_together z base part ≡ put_together z' base part' → (z ≡ z') × (part ≡ part')
+one_removal (pos n) (pos n') base part part' side same few few' e =
+    let keep = take (length base - n) base in
+    let keep' = take (length base - n') base in
+    let lengths : length keep + length part ≡ length keep' + length part' = sym (length-append keep part) ∙ ap length e ∙ length-append keep' part' in
+    let count : n ≡ n' = omega (arith, lengths, length-take (length base - n) base, length-take (length base - n') base) in
+    let kept : length keep ≡ length keep' = omega arith in
+    (ap (λ (m : ℕ). pos m) count, behind keep keep' part part' kept e)
+one_removal (negsuc n) (negsuc n') base part part' side same few few' e =
+    let keep = drop n base in
+    let keep' = drop n' base in
+    let lengths : length part + length keep ≡ length part' + length keep' = sym (length-append part keep) ∙ ap length e ∙ length-append part' keep' in
+    let count : n ≡ n' = omega (arith, lengths, length-drop n base, length-drop n' base) in
+    (ap (λ (m : ℕ). negsuc m) count, in_front_of part part' keep keep' same e)
+one_removal (pos n) (negsuc n') base part part' side same few few' e = absurd (sides side)
+one_removal (negsuc n) (pos n') base part part' side same few few' e = absurd (sides (sym side))
+
+one_cut : (k : Kind) (p : Presence) (base : Scalar) (x y : Cut) (b c : List ℕ) (v : Scalar) → SpellsCut k p base x b v → SpellsCut k p base y c v → x ≡ y
+    → ((cut : Cut) → Least (λ o. SpellsCut k p base cut o v) b) → ((cut : Cut) → Least (λ o. SpellsCut k p base cut o v) c) → b ≡ c
+one_cut k p base x y b c v h l cuts least least' =
+    let cut = sym h.cut_is ∙ cuts ∙ l.cut_is in
+    let made : put_together h.removal (units_of base) h.new_part ≡ put_together l.removal (units_of base) l.new_part =
+      sym (units_are k (put_together h.removal (units_of base) h.new_part) v h.value.1) ∙ units_are k (put_together l.removal (units_of base) l.new_part) v l.value.1 in
+    let same = one_removal h.removal l.removal (units_of base) h.new_part l.new_part (ap (λ (z : Cut). z.side) cut) (ap (λ (z : Cut). z.part) cut) h.there l.there made in
+    let front = subst (λ (z : ℤ). SpellsInteger false p h.front (Value z)) same.0 h.removal_form in
+    let back = subst (λ (z : List ℕ). SpellsPart k h.back z) same.1 h.part_form in
+    h.parts
+    ∙ one_of_two (λ f. SpellsInteger false p f (Value l.removal)) (λ g. SpellsPart k g l.new_part) h.front h.back l.front l.back front back l.removal_form l.part_form
+    (λ f g s t e. one_integer false p (Value l.removal) f g s t e)
+    (λ f g s t e. one_part k l.new_part f g s t e)
+    (λ f g s t. subst (λ (z : List ℕ). length z ≤ length (f ++ g)) h.parts (least y (f ++ g) (record { removal = l.removal; new_part = l.new_part; front = f; back = g; parts = refl; removal_form = s; is_int32 = l.is_int32; there = l.there; part_form = t; value = l.value; cut_is = l.cut_is })))
+    (λ f g s t. subst (λ (z : List ℕ). length z ≤ length (f ++ g)) l.parts (least' y (f ++ g) (record { removal = l.removal; new_part = l.new_part; front = f; back = g; parts = refl; removal_form = s; is_int32 = l.is_int32; there = l.there; part_form = t; value = l.value; cut_is = l.cut_is })))
+    ∙ sym l.parts
+
+one_delta_value : (k : Kind) (p : Presence) (base : Scalar) (x y : Cut) (b c : List ℕ) (v : Scalar) → DeltaValue k p base x b v → DeltaValue k p base y c v → x ≡ y → length b ≡ length c
+    → ((cut : Cut) → Least (λ o. DeltaValue k p base cut o v) b) → ((cut : Cut) → Least (λ o. DeltaValue k p base cut o v) c) → b ≡ c
+one_delta_value kind.Decimal p base x y b c v h l cuts e least least' = one_decimal_delta p base x y b c v h l least least'
+one_delta_value kind.Ascii p base x y b c v h l cuts e least least' = one_cut kind.Ascii p base x y b c v h l cuts least least'
+one_delta_value kind.Unicode p base x y b c v h l cuts e least least' = one_cut kind.Unicode p base x y b c v h l cuts least least'
+one_delta_value kind.Bytes p base x y b c v h l cuts e least least' = one_cut kind.Bytes p base x y b c v h l cuts least least'
+one_delta_value kind.UInt32 p base x y b c v h l cuts e least least' = one_delta kind.UInt32 p base x y b c v refl h l e
+one_delta_value kind.Int32 p base x y b c v h l cuts e least least' = one_delta kind.Int32 p base x y b c v refl h l e
+one_delta_value kind.UInt64 p base x y b c v h l cuts e least least' = one_delta kind.UInt64 p base x y b c v refl h l e
+one_delta_value kind.Int64 p base x y b c v h l cuts e least least' = one_delta kind.Int64 p base x y b c v refl h l e
+
+one_tail : (k : Kind) (p : Presence) (base : Scalar) (x y : Cut) (b c : List ℕ) (v : Scalar) → SpellsTail k p base x b v → SpellsTail k p base y c v → x ≡ y → length b ≡ length c → b ≡ c
+one_tail k p base x y b c v h l cuts e =
+    let cut = sym h.cut_is ∙ cuts ∙ l.cut_is in
+    let same : length h.tail ≡ length l.tail = ap (λ (z : Cut). z.part) cut in
+    let made : ended_by (units_of base) h.tail ≡ ended_by (units_of base) l.tail = sym (units_are k (ended_by (units_of base) h.tail) v h.value.1) ∙ units_are k (ended_by (units_of base) l.tail) v l.value.1 in
+    let kept : length (take (length (units_of base) - length h.tail) (units_of base)) ≡ length (take (length (units_of base) - length l.tail) (units_of base)) = ap (λ (m : ℕ). length (take (length (units_of base) - m) (units_of base))) same in
+    let tails : h.tail ≡ l.tail = behind (take (length (units_of base) - length h.tail) (units_of base)) (take (length (units_of base) - length l.tail) (units_of base)) h.tail l.tail kept made in
+    one_units k p (Value l.tail) b c (subst (λ (z : List ℕ). SpellsUnits k p b (Value z)) tails h.tail_form) l.tail_form e
