@@ -32,6 +32,7 @@ use Rattle.fast_field.proofs.BestForms.{bit_zero_row}
 use Rattle.fast_field.proofs.BestCuts.{length_size, part_size, length_least, part_least}
 use Rattle.fast_field.proofs.BestDeltas.{one_difference}
 use Rattle.fast_field.proofs.Refused.{units_are}
+use Rattle.fast_field.proofs.BestValues.{none_shorter}
 use Rattle.fast_field.proofs.StandingForms.{number_of}
 
 -- ---- the same number of bytes: the same bytes
@@ -207,3 +208,79 @@ one_tail k p base x y b c v h l cuts e =
     let kept : length (take (length (units_of base) - length h.tail) (units_of base)) ≡ length (take (length (units_of base) - length l.tail) (units_of base)) = ap (λ (m : ℕ). length (take (length (units_of base) - m) (units_of base))) same in
     let tails : h.tail ≡ l.tail = behind (take (length (units_of base) - length h.tail) (units_of base)) (take (length (units_of base) - length l.tail) (units_of base)) h.tail l.tail kept made in
     one_units k p (Value l.tail) b c (subst (λ (z : List ℕ). SpellsUnits k p b (Value z)) tails h.tail_form) l.tail_form e
+
+-- ---- the table
+
+one_row : (o : Operator) (i : FieldPart) (e : Entry) (x y : Cut) (b c : List ℕ) (v : Option Scalar) → FormOf o i e true x b v → FormOf o i e true y c v → x ≡ y → length b ≡ length c
+    → ((cut : Cut) → Least (λ t. FormOf o i e true cut t v) b) → ((cut : Cut) → Least (λ t. FormOf o i e true cut t v) c) → b ≡ c
+one_row operator.Plain i e x y b c v f g cuts same least least' = one_spelled i.kind i.presence v b c f.1 g.1 same (λ t h. least uncut t (refl, h)) (λ t h. least' uncut t (refl, h))
+one_row operator.Default i e x y b c v f g cuts same least least' = one_spelled i.kind i.presence v b c f.1 g.1 same (λ t h. least uncut t (refl, h)) (λ t h. least' uncut t (refl, h))
+one_row operator.Copy i e x y b c v f g cuts same least least' = one_spelled i.kind i.presence v b c f.1 g.1 same (λ t h. least uncut t (refl, h)) (λ t h. least' uncut t (refl, h))
+one_row operator.Increment i e x y b c v f g cuts same least least' = one_spelled i.kind i.presence v b c f.1 g.1 same (λ t h. least uncut t (refl, h)) (λ t h. least' uncut t (refl, h))
+one_row operator.Constant i e x y b c v f g cuts same least least' = f.1 ∙ sym g.1
+one_row operator.Delta i e x y b c None f g cuts same least least' = one_integer false i.presence Null b c f.1 g.1 same
+one_row operator.Delta i e x y b c (Some v) f g cuts same least least' =
+    let base : f.0 ≡ g.0 = ok_is {F = FieldFault} f.0 g.0 (sym f.1 ∙ g.1) in
+    one_delta_value i.kind i.presence g.0 x y b c v (subst (λ (z : Scalar). DeltaValue i.kind i.presence z x b v) base f.2) g.2 cuts same (λ cut t h. least cut t (g.0, g.1, h)) (λ cut t h. least' cut t (g.0, g.1, h))
+one_row operator.Tail i e x y b c None f g cuts same least least' = one_units i.kind i.presence Null b c f.1 g.1 same
+one_row operator.Tail i e x y b c (Some v) f g cuts same least least' =
+    let base : f.0 ≡ g.0 = ok_is {F = FieldFault} f.0 g.0 (sym f.1 ∙ g.1) in
+    one_tail i.kind i.presence g.0 x y b c v (subst (λ (z : Scalar). SpellsTail i.kind i.presence z x b v) base f.2) g.2 cuts same
+
+-- ---- two that come before each other
+
+rank_le : (bit bit' : Bool) (n n' : ℕ) (c c' : Cut) → NoLater bit n c bit' n' c' → bit_rank bit ≤ bit_rank bit'
+rank_le bit bit' n n' c c' (inl lt) = omega (arith, lt)
+rank_le bit bit' n n' c c' (inr h) = omega (arith, ap bit_rank h.0)
+
+size_le : (bit bit' : Bool) (n n' : ℕ) (c c' : Cut) → bit ≡ bit' → NoLater bit n c bit' n' c' → n ≤ n'
+size_le bit bit' n n' c c' e (inl lt) = absurd (omega (arith, lt, ap bit_rank e))
+size_le bit bit' n n' c c' e (inr h) = elim h.1 [ inl lt ↦ omega (arith, lt) | inr l ↦ let s = l.0 in omega arith ]
+
+cut_le : (bit bit' : Bool) (n n' : ℕ) (c c' : Cut) → bit ≡ bit' → n ≡ n' → NoLater bit n c bit' n' c' → (side_rank c.side < side_rank c'.side) ⊎ ((c.side ≡ c'.side) × (c.part ≤ c'.part))
+cut_le bit bit' n n' c c' e s (inl lt) = absurd (omega (arith, lt, ap bit_rank e))
+cut_le bit bit' n n' c c' e s (inr h) = elim h.1 [ inl lt ↦ absurd (omega (arith, lt)) | inr l ↦ l.1 ]
+
+bits_same : (bit bit' : Bool) → bit_rank bit ≤ bit_rank bit' → bit_rank bit' ≤ bit_rank bit → bit ≡ bit'
+bits_same false false h l = refl
+bits_same true true h l = refl
+bits_same false true h l = absurd (omega (arith, l))
+bits_same true false h l = absurd (omega (arith, h))
+
+cut_of : Side → ℕ → Cut
+cut_of side part = record { side = side; part = part }
+
+cut_is : (c : Cut) → cut_of c.side c.part ≡ c
+unfolding cut_of
+cut_is c = refl
+
+cuts_same : (c c' : Cut) → ((side_rank c.side < side_rank c'.side) ⊎ ((c.side ≡ c'.side) × (c.part ≤ c'.part))) → ((side_rank c'.side < side_rank c.side) ⊎ ((c'.side ≡ c.side) × (c'.part ≤ c.part))) → c ≡ c'
+cuts_same c c' (inl lt) (inl lt') = absurd (omega (arith, lt, lt'))
+cuts_same c c' (inl lt) (inr h) = absurd (omega (arith, lt, ap side_rank h.0))
+cuts_same c c' (inr h) (inl lt) = absurd (omega (arith, lt, ap side_rank h.0))
+cuts_same c c' (inr h) (inr l) =
+    let less = h.1 in
+    let more = l.1 in
+    let parts : c.part ≡ c'.part = omega arith in
+    sym (cut_is c) ∙ ap (λ (s : Side). cut_of s c.part) h.0 ∙ ap (λ (n : ℕ). cut_of c'.side n) parts ∙ cut_is c'
+
+by_bit : (bit : Bool) (i : FieldPart) (e : Entry) (x y : Cut) (b c : List ℕ) (v : Option Scalar) → FormBy i e bit x b v → FormBy i e bit y c v → x ≡ y → length b ≡ length c
+    → ((cut : Cut) → Least (λ t. FormOf i.operator i e true cut t v) b) → ((cut : Cut) → Least (λ t. FormOf i.operator i e true cut t v) c) → b ≡ c
+by_bit false i e x y b c v f g cuts same least least' = (bit_zero_row i.operator i e x b v f.row).1 ∙ sym (bit_zero_row i.operator i e y c v g.row).1
+by_bit true i e x y b c v f g cuts same least least' = one_row i.operator i e x y b c v f.row g.row cuts same least least'
+
+pub best_is_one : (i : FieldPart) (e : Entry) (bit other : Bool) (b c : List ℕ) (v : Option Scalar) → IsBest i e bit b v → IsBest i e other c v → (bit ≡ other) × (b ≡ c)
+best_is_one i e bit other b c v f g =
+    let h = f.first other g.cut c g.form in
+    let l = g.first bit f.cut b f.form in
+    let bits = bits_same bit other (rank_le bit other (length b) (length c) f.cut g.cut h) (rank_le other bit (length c) (length b) g.cut f.cut l) in
+    let less = size_le bit other (length b) (length c) f.cut g.cut bits h in
+    let more = size_le other bit (length c) (length b) g.cut f.cut (sym bits) l in
+    let sizes : length b ≡ length c = omega arith in
+    let cuts = cuts_same f.cut g.cut (cut_le bit other (length b) (length c) f.cut g.cut bits sizes h) (cut_le other bit (length c) (length b) g.cut f.cut (sym bits) (sym sizes) l) in
+    (
+      bits,
+      by_bit other i e f.cut g.cut b c v (subst (λ (x : Bool). FormBy i e x f.cut b v) bits f.form) g.form cuts sizes
+      (λ cut t r. (none_shorter i e bit true b t v f (cut, record { row = r; within = f.form.within })).1)
+      (λ cut t r. (none_shorter i e other true c t v g (cut, record { row = r; within = g.form.within })).1),
+    )

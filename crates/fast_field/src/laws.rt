@@ -73,10 +73,12 @@ pub fn refusals_are_exact()
         → refusal_of i e v ≡ None → (bit : Bool) × (b : List ℕ) × IsBest i e bit b v }
 {}
 
-/// A value that has a form has a best one.
-pub fn values_have_best_forms()
-    ensures { (i : FieldPart) (e : Entry) (bit : Bool) (b : List ℕ) (v : Option Scalar) → IsFieldPart i → HoldsScalar e → Form i e bit b v
+/// A value that has a form has a best one, and one only.
+pub fn values_have_one_best_form()
+    ensures some { (i : FieldPart) (e : Entry) (bit : Bool) (b : List ℕ) (v : Option Scalar) → IsFieldPart i → HoldsScalar e → Form i e bit b v
         → (best : Bool) × (c : List ℕ) × IsBest i e best c v }
+    ensures one { (i : FieldPart) (e : Entry) (bit other : Bool) (b c : List ℕ) (v : Option Scalar) → IsBest i e bit b v → IsBest i e other c v
+        → (bit ≡ other) × (b ≡ c) }
 {}
 
 /// No form of a value has fewer bytes than its best one, and none has bit 0 where that has bit 1.
