@@ -1,12 +1,9 @@
 -- A value has one best form.
-use Rattle.std.proofs.Common.{◌≡◌, ℕ, zero, suc, ◌+◌, ◌-◌, ◌^◌, ◌<◌, ◌≤◌, Bool, true, false, List, [], ◌∷◌, ◌++◌, length, take, drop, refl, sym, ap, subst, ◌∙◌, arith, Ok, Err, Result, inl, inr, ◌⊎◌, length-append, length-take, length-drop}
-use Rattle.std.specs.Prelude.{ℤ, pos, negsuc, ◌+ℤ◌, ◌-ℤ◌, Option, Some, None, IsTrue}
+use Rattle.std.proofs.Common.{◌≡◌, ℕ, ◌+◌, ◌-◌, ◌<◌, ◌≤◌, Bool, true, false, List, [], ◌∷◌, ◌++◌, length, take, drop, refl, sym, ap, subst, ◌∙◌, arith, inl, inr, ◌⊎◌, length-append, length-take, length-drop}
+use Rattle.std.specs.Prelude.{ℤ, pos, negsuc, ◌+ℤ◌, Option, Some, None, IsTrue}
 use Rattle.std.proofs.lemmas.Int.{ints}
 use Rattle.std.proofs.lemmas.List.{take_at, drop_at}
 use Rattle.fast_wire.specs.Integer.{IsSigned}
-use Rattle.fast_wire.specs.Nullable.{IsUnsignedNullable, IsSignedNullable}
-use Rattle.fast_wire.specs.Ascii.{IsAscii, IsAsciiNullable}
-use Rattle.fast_wire.specs.Vector.{IsVector, IsVectorNullable}
 use Rattle.fast_wire.specs.declared.nullable.Nullable.{Nullable}
 use Rattle.fast_wire.specs.declared.nullable.Nullable.TheVariants.{Null, Value}
 use Rattle.fast_wire.proofs.FormSizes.{unsigned_sizes, signed_sizes, unsigned_nullable_sizes, signed_nullable_sizes, ascii_sizes, ascii_nullable_sizes, vector_sizes, vector_nullable_sizes}
@@ -23,14 +20,11 @@ use Rattle.fast_template.specs.declared.scalar.Scalar.{Scalar}
 use Rattle.fast_dictionary.specs.declared.entry.Entry.{Entry}
 use Rattle.fast_field.specs.declared.fault.FieldFault.{FieldFault}
 use Rattle.fast_field.specs.Values.{is_unsigned, integer_of, exponent_of, mantissa_of, units_of}
-use Rattle.fast_field.specs.Parts.{IsFieldPart}
 use Rattle.fast_field.specs.Spelled.{SpellsInteger, SpellsPart, SpellsUnits, SpellsPair, SpelledNumber, SpelledString, SpelledDecimal, Spelled}
-use Rattle.fast_field.specs.Deltas.{Side, at_end, in_front, Cut, uncut, removed_of, side_of, put_together, ended_by, SpellsCut, SpellsDelta, SpellsDeltas, SpellsTail, DeltaValue, DeltaForm, TailForm}
+use Rattle.fast_field.specs.Deltas.{Side, at_end, in_front, Cut, uncut, removed_of, side_of, put_together, ended_by, SpellsCut, SpellsDelta, SpellsDeltas, SpellsTail, DeltaValue}
 use Rattle.fast_field.specs.Fields.{FormOf, FormBy, Form}
-use Rattle.fast_field.specs.Best.{bit_rank, side_rank, NoLater, IsBest}
+use Rattle.fast_field.specs.Best.{bit_rank, side_rank, NoLater, IsBest, CutsNothing}
 use Rattle.fast_field.proofs.BestForms.{bit_zero_row}
-use Rattle.fast_field.proofs.BestCuts.{length_size, part_size, length_least, part_least}
-use Rattle.fast_field.proofs.BestDeltas.{one_difference}
 use Rattle.fast_field.proofs.Refused.{units_are}
 use Rattle.fast_field.proofs.BestValues.{none_shorter}
 use Rattle.fast_field.proofs.StandingForms.{number_of}
@@ -177,7 +171,7 @@ one_cut : (k : Kind) (p : Presence) (base : Scalar) (x y : Cut) (b c : List ℕ)
 one_cut k p base x y b c v h l cuts least least' =
     let cut = sym h.cut_is ∙ cuts ∙ l.cut_is in
     let made : put_together h.removal (units_of base) h.new_part ≡ put_together l.removal (units_of base) l.new_part =
-      sym (units_are k (put_together h.removal (units_of base) h.new_part) v h.value.1) ∙ units_are k (put_together l.removal (units_of base) l.new_part) v l.value.1 in
+    sym (units_are k (put_together h.removal (units_of base) h.new_part) v h.value.1) ∙ units_are k (put_together l.removal (units_of base) l.new_part) v l.value.1 in
     let same = one_removal h.removal l.removal (units_of base) h.new_part l.new_part (ap (λ (z : Cut). z.side) cut) (ap (λ (z : Cut). z.part) cut) h.there l.there made in
     let front = subst (λ (z : ℤ). SpellsInteger false p h.front (Value z)) same.0 h.removal_form in
     let back = subst (λ (z : List ℕ). SpellsPart k h.back z) same.1 h.part_form in
@@ -277,10 +271,55 @@ best_is_one i e bit other b c v f g =
     let less = size_le bit other (length b) (length c) f.cut g.cut bits h in
     let more = size_le other bit (length c) (length b) g.cut f.cut (sym bits) l in
     let sizes : length b ≡ length c = omega arith in
-    let cuts = cuts_same f.cut g.cut (cut_le bit other (length b) (length c) f.cut g.cut bits sizes h) (cut_le other bit (length c) (length b) g.cut f.cut (sym bits) (sym sizes) l) in
-    (
+    let cuts = cuts_same f.cut g.cut (cut_le bit other (length b) (length c) f.cut g.cut bits sizes h) (cut_le other bit (length c) (length b) g.cut f.cut (sym bits) (sym sizes) l) in (
       bits,
       by_bit other i e f.cut g.cut b c v (subst (λ (x : Bool). FormBy i e x f.cut b v) bits f.form) g.form cuts sizes
-      (λ cut t r. (none_shorter i e bit true b t v f (cut, record { row = r; within = f.form.within })).1)
-      (λ cut t r. (none_shorter i e other true c t v g (cut, record { row = r; within = g.form.within })).1),
+          (λ cut t r. (none_shorter i e bit true b t v f (cut, record { row = r; within = f.form.within })).1)
+          (λ cut t r. (none_shorter i e other true c t v g (cut, record { row = r; within = g.form.within })).1),
     )
+
+-- ---- and where nothing is cut, one of the shortest is the same bytes
+
+delta_uncut : (k : Kind) (p : Presence) (base : Scalar) (x : Cut) (b : List ℕ) (v : Scalar) → CutsNothing operator.Delta k → DeltaValue k p base x b v → x ≡ uncut
+delta_uncut kind.UInt32 p base x b v n h = h.cut_is
+delta_uncut kind.Int32 p base x b v n h = h.cut_is
+delta_uncut kind.UInt64 p base x b v n h = h.cut_is
+delta_uncut kind.Int64 p base x b v n h = h.cut_is
+delta_uncut kind.Decimal p base x b v n h = h.cut_is
+delta_uncut k p base x b v n h = absurd n
+
+forms_uncut : (o : Operator) (i : FieldPart) (e : Entry) (bit : Bool) (x : Cut) (b : List ℕ) (v : Option Scalar) → CutsNothing o i.kind → FormOf o i e bit x b v → x ≡ uncut
+forms_uncut operator.Plain i e true x b v n f = f.0
+forms_uncut operator.Plain i e false x b v n f = absurd f
+forms_uncut operator.Constant i e true x b v n f = f.0
+forms_uncut operator.Constant i e false x b v n f = f.0
+forms_uncut operator.Default i e true x b v n f = f.0
+forms_uncut operator.Default i e false x b v n f = f.0
+forms_uncut operator.Copy i e true x b v n f = f.0
+forms_uncut operator.Copy i e false x b v n f = f.0
+forms_uncut operator.Increment i e true x b v n f = f.0
+forms_uncut operator.Increment i e false x b v n f = f.0
+forms_uncut operator.Delta i e true x b None n f = f.0
+forms_uncut operator.Delta i e true x b (Some v) n f = delta_uncut i.kind i.presence f.0 x b v n f.2
+forms_uncut operator.Delta i e false x b v n f = absurd f
+forms_uncut operator.Tail i e bit x b v n f = absurd n
+
+none_of : (b : List ℕ) → length b ≡ 0 → b ≡ []
+none_of [] e = refl
+none_of (n ∷ b) e = absurd (omega (arith, e))
+
+as_short : (bit other : Bool) (i : FieldPart) (e : Entry) (b c : List ℕ) (v : Option Scalar) (f : IsBest i e bit b v) (g : Form i e other c v) → CutsNothing i.operator i.kind → length b ≡ length c → b ≡ c
+as_short bit false i e b c v f g n same =
+    let empty = (bit_zero_row i.operator i e g.0 c v g.1.row).1 in
+    none_of b (same ∙ ap length empty) ∙ sym empty
+as_short false true i e b c v f g n same =
+    let empty = (bit_zero_row i.operator i e f.cut b v f.form.row).1 in
+    empty ∙ sym (none_of c (sym same ∙ ap length empty))
+as_short true true i e b c v f g n same =
+    let cuts = forms_uncut i.operator i e true f.cut b v n f.form.row ∙ sym (forms_uncut i.operator i e true g.0 c v n g.1.row) in
+    by_bit true i e f.cut g.0 b c v f.form g.1 cuts same
+    (λ cut t r. (none_shorter i e true true b t v f (cut, record { row = r; within = f.form.within })).1)
+    (λ cut t r. subst (λ (m : ℕ). m ≤ length t) same (none_shorter i e true true b t v f (cut, record { row = r; within = f.form.within })).1)
+
+pub shortest_are_one : (i : FieldPart) (e : Entry) (bit other : Bool) (b c : List ℕ) (v : Option Scalar) → CutsNothing i.operator i.kind → IsBest i e bit b v → Form i e other c v → length b ≡ length c → b ≡ c
+shortest_are_one i e bit other b c v n f g same = as_short bit other i e b c v f g n same

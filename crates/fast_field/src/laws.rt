@@ -11,7 +11,7 @@ ghost use Rattle.fast_field.specs.Parts.{EachPartIn, HasDefault, IsBitOf, IsFiel
 ghost use Rattle.fast_field.specs.Bases.{next};
 ghost use Rattle.fast_field.specs.Fields.{Form};
 ghost use Rattle.fast_field.specs.Within.{HasRangeOr, HoldsScalar, IsFieldValue};
-ghost use Rattle.fast_field.specs.Best.{IsBest};
+ghost use Rattle.fast_field.specs.Best.{CutsNothing, IsBest};
 ghost use Rattle.fast_field.specs.Refusals.{refusal_of};
 ghost use Rattle.fast_field.specs.FieldReading.{field_at, IsFieldFault};
 
@@ -81,8 +81,11 @@ pub fn values_have_one_best_form()
         → (bit ≡ other) × (b ≡ c) }
 {}
 
-/// No form of a value has fewer bytes than its best one, and none has bit 0 where that has bit 1.
+/// No form of a value has fewer bytes than its best one, and none has bit 0 where that has bit 1. One that is as long
+/// is the same bytes, save of a tail and of a delta of a string or vector.
 pub fn no_form_is_shorter()
-    ensures { (i : FieldPart) (e : Entry) (bit other : Bool) (b c : List ℕ) (v : Option Scalar) → IsBest i e bit b v → Form i e other c v
+    ensures least { (i : FieldPart) (e : Entry) (bit other : Bool) (b c : List ℕ) (v : Option Scalar) → IsBest i e bit b v → Form i e other c v
         → (other ≡ false → bit ≡ false) × (length b ≤ length c) }
+    ensures same { (i : FieldPart) (e : Entry) (bit other : Bool) (b c : List ℕ) (v : Option Scalar) → CutsNothing i.operator i.kind
+        → IsBest i e bit b v → Form i e other c v → length b ≡ length c → b ≡ c }
 {}
