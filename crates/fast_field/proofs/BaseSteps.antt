@@ -1,5 +1,5 @@
 -- What an entry gives, as calls find it.
-use Rattle.std.proofs.Common.{◌≡◌, Bool, true, List, [], pos, refl}
+use Rattle.std.proofs.Common.{◌≡◌, true, [], pos, refl}
 use Rattle.fast_template.specs.Scalar.{is_of, kind_of}
 use Rattle.fast_template.specs.declared.kind.Kind.{Kind}
 use Rattle.fast_template.specs.declared.kind.Kind.TheVariants as kind

@@ -1,10 +1,10 @@
 -- The best forms of deltas of numbers, and of NULL.
-use Rattle.std.proofs.Common.{◌≡◌, ℕ, ◌+◌, ◌-◌, ◌*◌, ◌^◌, ◌<◌, ◌≤◌, Bool, true, false, List, [], ◌++◌, length, refl, sym, ap, subst, ◌∙◌, arith, Ok, inl, inr, ◌⊎◌}
-use Rattle.std.specs.Prelude.{ℤ, pos, negsuc, ◌+ℤ◌, ◌-ℤ◌, ◌<ℤ◌, Option, Some, None, IsTrue}
+use Rattle.std.proofs.Common.{◌≡◌, ℕ, ◌^◌, ◌<◌, ◌≤◌, true, false, List, length, refl, sym, ap, subst, ◌∙◌, arith}
+use Rattle.std.specs.Prelude.{ℤ, pos, negsuc, ◌+ℤ◌, ◌-ℤ◌, ◌<ℤ◌, IsTrue}
 use Rattle.std.proofs.lemmas.Int.{ints}
 use Rattle.fast_wire.specs.Integer.{magnitude}
-use Rattle.fast_wire.specs.declared.nullable.Nullable.TheVariants.{Null, Value}
-use Rattle.fast_template.specs.Scalar.{is_integer, in_range, of_integer}
+use Rattle.fast_wire.specs.declared.nullable.Nullable.TheVariants.{Value}
+use Rattle.fast_template.specs.Scalar.{is_integer}
 use Rattle.fast_template.specs.declared.kind.Kind.{Kind}
 use Rattle.fast_template.specs.declared.kind.Kind.TheVariants as kind
 use Rattle.fast_template.specs.declared.kind.Presence.{Presence}
@@ -16,7 +16,7 @@ use Rattle.fast_field.specs.Deltas.{Cut, uncut, SpellsDelta, SpellsDeltas}
 use Rattle.fast_field.specs.Best.{NoLater}
 use Rattle.fast_field.proofs.BestForms.{at_end_first}
 use Rattle.fast_field.proofs.ValuesWithin.{IsOfType}
-use Rattle.fast_field.proofs.StandingForms.{number_of, IsNumber, number_is, range_small, signed_stands, pair_stands, exponent_small}
+use Rattle.fast_field.proofs.StandingForms.{number_of, number_is, range_small, signed_stands, pair_stands, exponent_small}
 
 -- the first of forms under bit 1
 pub record First (Forms : Cut → List ℕ → Type 0) : Type 0 where
@@ -53,7 +53,7 @@ difference_small a c h l =
 back_again : (a c : ℤ) → c +ℤ (a -ℤ c) ≡ a
 back_again a c = omega (arith, ints)
 
-one_difference : (a c d : ℤ) → c +ℤ d ≡ a → d ≡ a -ℤ c
+pub one_difference : (a c d : ℤ) → c +ℤ d ≡ a → d ≡ a -ℤ c
 one_difference a c d e = omega (arith, ints, e)
 
 -- ---- integers

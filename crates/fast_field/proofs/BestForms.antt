@@ -18,7 +18,7 @@ use Rattle.fast_field.specs.Best.{NoLater, IsBest, side_rank}
 
 -- ---- bit 0
 
-bit_zero_row : (o : Operator) (i : FieldPart) (e : Entry) (cut : Cut) (b : List ℕ) (v : Option Scalar) → FormOf o i e false cut b v → (cut ≡ uncut) × (b ≡ [])
+pub bit_zero_row : (o : Operator) (i : FieldPart) (e : Entry) (cut : Cut) (b : List ℕ) (v : Option Scalar) → FormOf o i e false cut b v → (cut ≡ uncut) × (b ≡ [])
 bit_zero_row operator.Plain i e cut b v h = absurd h
 bit_zero_row operator.Constant i e cut b v h = (h.0, h.1)
 bit_zero_row operator.Default i e cut b v h = (h.0, h.1)

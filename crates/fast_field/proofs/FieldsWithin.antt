@@ -1,5 +1,5 @@
 -- The value of a form is within its type, and so is the entry afterwards.
-use Rattle.std.proofs.Common.{◌≡◌, ℕ, zero, suc, ◌+◌, ◌-◌, ◌^◌, ◌<◌, ◌≤◌, Bool, true, false, List, [], ◌∷◌, ◌++◌, length, take, drop, refl, sym, ap, subst, ◌∙◌, arith, Ok, Err, Result}
+use Rattle.std.proofs.Common.{◌≡◌, ℕ, zero, suc, ◌+◌, ◌-◌, ◌<◌, ◌≤◌, Bool, true, false, List, [], length, take, drop, refl, ap, subst, arith, Ok}
 use Rattle.std.specs.Prelude.{ℤ, pos, negsuc, ◌+ℤ◌, int_lt, nat_le, nat_lt, ◌&&◌, Option, Some, None, IsTrue, IsSome, IfSome, IsUtf8, unwrap_or, if◌then◌else◌}
 use Rattle.std.specs.Str.{is_utf8, chars}
 use Rattle.std.specs.List.{AllByRecursion}
@@ -17,7 +17,7 @@ use Rattle.fast_template.specs.declared.kind.Presence.{Presence}
 use Rattle.fast_template.specs.declared.kind.Presence.TheVariants.{Mandatory, Optional}
 use Rattle.fast_template.specs.declared.resolved.FieldPart.{FieldPart}
 use Rattle.fast_template.specs.declared.scalar.Scalar.{Scalar}
-use Rattle.fast_template.specs.declared.scalar.Scalar.TheVariants.{U32, I32, U64, I64, Decimal, Ascii, Unicode, Bytes}
+use Rattle.fast_template.specs.declared.scalar.Scalar.TheVariants.{U32, I32, U64, I64}
 use Rattle.fast_dictionary.specs.declared.entry.Entry.{Entry}
 use Rattle.fast_dictionary.specs.declared.entry.Entry.TheVariants.{Undefined, Empty, Assigned}
 use Rattle.fast_field.specs.declared.fault.FieldFault.{FieldFault}
@@ -30,7 +30,7 @@ use Rattle.fast_field.specs.Fields.{InitialOrAbsent, FormOf, Form}
 use Rattle.fast_field.specs.Within.{HoldsScalar, IsOfField, IsFieldValue}
 use Rattle.fast_field.proofs.SpelledForms.{if_ok}
 use Rattle.fast_field.proofs.BaseSteps.{is_of-kind}
-use Rattle.fast_field.proofs.ValuesWithin.{both, IsOfType, IsOfTypeOr, IsString, IsUnitKind, unit_limit, number_within, string_within, units_of_string, spelled_within, part_within, units_within, null_optional, null_units_optional, all_append, all_take, all_drop}
+use Rattle.fast_field.proofs.ValuesWithin.{both, IsOfType, IsOfTypeOr, IsUnitKind, unit_limit, number_within, string_within, units_of_string, spelled_within, part_within, units_within, null_optional, null_units_optional, all_append, all_take, all_drop}
 
 -- ---- what there is without an entry
 
@@ -178,7 +178,7 @@ delta_form_within : (i : FieldPart) (e : Entry) (cut : Cut) (b : List ℕ) (v : 
 delta_form_within i e cut b None is h d = null_optional false i.presence b d.1
 delta_form_within i e cut b (Some v) is h d = delta_within i.kind i.presence d.0 cut b v (delta_base_within i e d.0 is h d.1) d.2
 
-unit_kind : (k : Kind) → IsTrue (applies operator.Tail k) → IsUnitKind k
+pub unit_kind : (k : Kind) → IsTrue (applies operator.Tail k) → IsUnitKind k
 unit_kind kind.Ascii h = tt
 unit_kind kind.Unicode h = tt
 unit_kind kind.Bytes h = tt

@@ -3,6 +3,7 @@ pub mod WorkedRows
 pub mod TypeRows
 pub mod LimitRows
 pub mod LongRows
+pub mod RefusalRows
 pub mod NoMemory
 pub mod FieldsGoOn
 pub mod ValuesWithin
@@ -10,6 +11,12 @@ pub mod FieldsWithin
 pub mod Refused
 pub mod StandingForms
 pub mod BestDeltas
+pub mod Agreeing
+pub mod Least
+pub mod BestCuts
+pub mod BestTails
+pub mod BestValues
+pub mod OneBest
 pub mod CallSteps
 pub mod ReadFields
 pub mod BaseSteps

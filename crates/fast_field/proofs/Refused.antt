@@ -1,10 +1,10 @@
 -- What is refused has no form.
-use Rattle.std.proofs.Common.{◌≡◌, ℕ, ◌+◌, ◌-◌, ◌<◌, ◌≤◌, Bool, true, false, List, [], ◌∷◌, ◌++◌, length, take, drop, refl, sym, ap, subst, ◌∙◌, arith, Ok, Err, Result, length-append, length-take}
-use Rattle.std.specs.Prelude.{ℤ, pos, negsuc, int_lt, int_le, nat_lt, nat_le, ◌&&◌, not, Option, Some, None, IsTrue, unwrap_or, if◌then◌else◌}
+use Rattle.std.proofs.Common.{◌≡◌, ℕ, ◌-◌, ◌<◌, ◌≤◌, Bool, true, false, List, [], ◌∷◌, length, take, refl, ap, subst, arith, Ok, length-append, length-take}
+use Rattle.std.specs.Prelude.{ℤ, pos, negsuc, int_lt, int_le, nat_lt, Option, Some, None, IsTrue, unwrap_or}
 use Rattle.std.specs.List.{AllByRecursion}
 use Rattle.std.proofs.lemmas.Bool.Decides.{nat_tests}
 use Rattle.fast_wire.proofs.Readers.{ok_is}
-use Rattle.fast_template.specs.Scalar.{is_of, exponent_in_range, scalar_eq-same, IsScalar}
+use Rattle.fast_template.specs.Scalar.{is_of, scalar_eq-same, IsScalar}
 use Rattle.fast_template.specs.contracts.scalar.ScalarPartialEq.TheImpl as scalar_eq
 use Rattle.fast_template.specs.declared.kind.Kind.{Kind}
 use Rattle.fast_template.specs.declared.kind.Kind.TheVariants as kind
@@ -16,21 +16,20 @@ use Rattle.fast_template.specs.declared.kind.Presence.{Presence}
 use Rattle.fast_template.specs.declared.kind.Presence.TheVariants.{Mandatory, Optional}
 use Rattle.fast_template.specs.declared.resolved.FieldPart.{FieldPart}
 use Rattle.fast_template.specs.declared.scalar.Scalar.{Scalar}
-use Rattle.fast_template.specs.declared.scalar.Scalar.TheVariants.{U32, I32, U64, I64, Decimal, Ascii, Unicode, Bytes}
+use Rattle.fast_template.specs.declared.scalar.Scalar.TheVariants.{Decimal, Ascii, Unicode, Bytes}
 use Rattle.fast_dictionary.specs.declared.entry.Entry.{Entry}
 use Rattle.fast_dictionary.specs.declared.entry.Entry.TheVariants.{Undefined, Empty, Assigned}
 use Rattle.fast_field.specs.declared.fault.FieldFault.{FieldFault}
 use Rattle.fast_field.specs.declared.fault.FieldFault.TheVariants as fault
 use Rattle.fast_field.specs.declared.fault.FieldRefusal.{FieldRefusal}
-use Rattle.fast_field.specs.declared.fault.FieldRefusal.TheVariants as refusal
 use Rattle.fast_field.specs.Values.{integer_of, units_of, of_units, default_of}
 use Rattle.fast_field.specs.Parts.{IsFieldPart}
-use Rattle.fast_field.specs.Bases.{start_of, absent_or, initial_or, repeated, delta_base, tail_base, predicted}
+use Rattle.fast_field.specs.Bases.{start_of, absent_or, initial_or, repeated, tail_base, predicted}
 use Rattle.fast_field.specs.Spelled.{IsOfUnits}
 use Rattle.fast_field.specs.Deltas.{Cut, ended_by}
-use Rattle.fast_field.specs.Fields.{FormOf, Form, IsWithin, within_part}
-use Rattle.fast_field.specs.Within.{HoldsScalar, IsOfField, IsFieldValue}
-use Rattle.fast_field.specs.Refusals.{are_characters, has_characters, has_too_many, is_far, other_than_constant, constant_refusal, delta_refusal, tail_refusal, operator_refusal, absent_refusal, value_refusal, refusal_of}
+use Rattle.fast_field.specs.Fields.{FormOf, Form, within_part}
+use Rattle.fast_field.specs.Within.{HoldsScalar, IsFieldValue}
+use Rattle.fast_field.specs.Refusals.{are_characters, has_characters, has_too_many, is_far, constant_refusal, tail_refusal, operator_refusal, value_refusal, refusal_of}
 use Rattle.fast_field.proofs.SpelledForms.{if_ok}
 use Rattle.fast_field.proofs.FieldsWithin.{values_within}
 

@@ -1,30 +1,28 @@
 -- Each value of a type has a shortest form that stands whole.
-use Rattle.std.proofs.Common.{◌≡◌, ℕ, zero, suc, ◌+◌, ◌-◌, ◌*◌, ◌^◌, ◌<◌, ◌≤◌, Bool, true, false, List, [], ◌∷◌, ◌++◌, length, take, drop, refl, sym, ap, subst, ◌∙◌, arith, Ok, Err, Result, All, length-append, lit<}
-use Rattle.std.specs.Prelude.{ℤ, pos, negsuc, ◌+ℤ◌, nat_abs, nat_le, int_le, ◌&&◌, Option, Some, None, IsTrue, IsUtf8}
+use Rattle.std.proofs.Common.{◌≡◌, ℕ, ◌+◌, ◌*◌, ◌^◌, ◌<◌, ◌≤◌, Bool, true, false, List, ◌++◌, length, refl, sym, ap, subst, ◌∙◌, arith, length-append}
+use Rattle.std.specs.Prelude.{ℤ, pos, negsuc, nat_le, int_le, ◌&&◌, Some, None, IsTrue}
 use Rattle.std.specs.List.{AllByRecursion}
-use Rattle.std.proofs.lemmas.Int.{ints}
 use Rattle.std.proofs.lemmas.Bool.Decides.{nat_tests}
 use Rattle.std.proofs.lemmas.List.Elements.{All-from_recursion}
 use Rattle.fast_wire.specs.Ascii.{IsAscii, IsAsciiNullable, IsAsciiText}
 use Rattle.fast_wire.specs.Integer.{IsUnsigned, IsSigned, magnitude}
-use Rattle.fast_wire.specs.Nullable.{IsUnsignedNullable, IsSignedNullable, IsNullOr, sent_signed}
-use Rattle.fast_wire.specs.Sizes.{HasSizes, CanBeSigned}
+use Rattle.fast_wire.specs.Nullable.{IsUnsignedNullable, IsSignedNullable, sent_signed}
+use Rattle.fast_wire.specs.Sizes.{HasSizes}
 use Rattle.fast_wire.specs.Vector.{IsVector, IsVectorNullable}
 use Rattle.fast_wire.specs.Writing.{IsShortest}
-use Rattle.fast_wire.specs.declared.nullable.Nullable.{Nullable}
 use Rattle.fast_wire.specs.declared.nullable.Nullable.TheVariants.{Null, Value}
 use Rattle.fast_wire.proofs.FormSizes.{unsigned_sizes, signed_sizes, unsigned_nullable_sizes, signed_nullable_sizes, ascii_sizes, ascii_nullable_sizes, vector_sizes, vector_nullable_sizes}
-use Rattle.fast_template.specs.Scalar.{is_of, is_integer, in_range, exponent_in_range, of_integer, IsScalar}
+use Rattle.fast_template.specs.Scalar.{is_integer, in_range, exponent_in_range, of_integer}
 use Rattle.fast_template.specs.declared.kind.Kind.{Kind}
 use Rattle.fast_template.specs.declared.kind.Kind.TheVariants as kind
 use Rattle.fast_template.specs.declared.kind.Presence.{Presence}
 use Rattle.fast_template.specs.declared.kind.Presence.TheVariants.{Mandatory, Optional}
 use Rattle.fast_template.specs.declared.scalar.Scalar.{Scalar}
 use Rattle.fast_template.specs.declared.scalar.Scalar.TheVariants.{U32, I32, U64, I64, Decimal, Ascii, Unicode, Bytes}
-use Rattle.fast_field.specs.Values.{is_unsigned, integer_of, exponent_of, mantissa_of, units_of, of_units}
-use Rattle.fast_field.specs.Spelled.{SpellsInteger, SpellsPart, SpellsUnits, SpellsNumber, SpellsString, SpellsPair, SpellsDecimal, IsOfUnits, SpelledNumber, SpelledString, SpelledDecimal, Spelled}
+use Rattle.fast_field.specs.Values.{is_unsigned, integer_of, exponent_of, mantissa_of, units_of}
+use Rattle.fast_field.specs.Spelled.{SpellsInteger, SpellsPart, SpellsUnits, SpellsPair, IsOfUnits, SpelledNumber, SpelledString, SpelledDecimal, Spelled}
 use Rattle.fast_field.proofs.Refused.{units_are}
-use Rattle.fast_field.proofs.ValuesWithin.{both, IsOfType, IsString, IsUnitKind, unit_limit, units_of_string}
+use Rattle.fast_field.proofs.ValuesWithin.{both, IsOfType, IsString, IsUnitKind, units_of_string}
 
 -- a shortest form stands
 abbrev pub Stands : {V : Type 0} → (List ℕ → V → Type 0) → V → Type 0
@@ -162,7 +160,7 @@ whole_number k p v i h =
       },
     )
 
-of_units_is : (k : Kind) (v : Scalar) → IsUnitKind k → IsOfType k v → IsOfUnits k (units_of v) v
+pub of_units_is : (k : Kind) (v : Scalar) → IsUnitKind k → IsOfType k v → IsOfUnits k (units_of v) v
 of_units_is kind.Ascii (Ascii s) u h = refl
 of_units_is kind.Unicode (Unicode s) u h = (h.1.2, refl)
 of_units_is kind.Bytes (Bytes s) u h = refl

@@ -1,22 +1,19 @@
 -- What is spelled is a value within its type.
-use Rattle.std.proofs.Common.{◌≡◌, ℕ, ◌+◌, ◌-◌, ◌^◌, ◌<◌, ◌≤◌, Bool, true, false, List, [], ◌∷◌, ◌++◌, length, take, drop, zero, suc, refl, sym, ap, subst, ◌∙◌, arith, Ok, Err, Result, All, ◌⊎◌, inl, inr}
-use Rattle.std.specs.Prelude.{ℤ, pos, negsuc, ◌+ℤ◌, nat_abs, nat_le, int_le, int_lt, Option, Some, None, IsTrue, IsSome, IfSome, IsUtf8, ◌&&◌, if◌then◌else◌}
+use Rattle.std.proofs.Common.{◌≡◌, ℕ, ◌<◌, ◌≤◌, Bool, true, false, List, [], ◌∷◌, ◌++◌, length, take, drop, zero, suc, refl, arith}
+use Rattle.std.specs.Prelude.{ℤ, pos, negsuc, nat_le, int_le, Option, Some, None, IsTrue, ◌&&◌}
 use Rattle.std.specs.List.{AllByRecursion}
 use Rattle.std.proofs.lemmas.Bool.Decides.{nat_tests}
 use Rattle.std.proofs.lemmas.List.Elements.{recursion_from_All}
-use Rattle.fast_wire.specs.Ascii.{IsAscii, IsAsciiNullable}
-use Rattle.fast_wire.specs.Vector.{IsVector, IsVectorNullable}
-use Rattle.fast_wire.specs.declared.nullable.Nullable.{Nullable}
 use Rattle.fast_wire.specs.declared.nullable.Nullable.TheVariants.{Null, Value}
 use Rattle.fast_wire.proofs.FormSizes.{ascii_sizes, ascii_nullable_sizes}
-use Rattle.fast_template.specs.Scalar.{is_of, is_integer, in_range, least_of, greatest_of, kind_of, exponent_in_range, of_integer, IsScalar}
+use Rattle.fast_template.specs.Scalar.{is_of, is_integer, in_range, of_integer, IsScalar}
 use Rattle.fast_template.specs.declared.kind.Kind.{Kind}
 use Rattle.fast_template.specs.declared.kind.Kind.TheVariants as kind
 use Rattle.fast_template.specs.declared.kind.Presence.{Presence}
 use Rattle.fast_template.specs.declared.kind.Presence.TheVariants.{Mandatory, Optional}
 use Rattle.fast_template.specs.declared.scalar.Scalar.{Scalar}
-use Rattle.fast_template.specs.declared.scalar.Scalar.TheVariants.{U32, I32, U64, I64, Decimal, Ascii, Unicode, Bytes}
-use Rattle.fast_field.specs.Values.{is_unsigned, units_of, of_units, integer_of, increased, default_of}
+use Rattle.fast_template.specs.declared.scalar.Scalar.TheVariants.{Ascii, Unicode, Bytes}
+use Rattle.fast_field.specs.Values.{is_unsigned, units_of}
 use Rattle.fast_field.specs.Spelled.{SpellsInteger, SpellsPart, SpellsUnits, IsOfUnits, SpelledNumber, SpelledString, SpelledDecimal, Spelled}
 
 -- a value of a type, within it

@@ -1,5 +1,9 @@
 -- The form that a writer chooses. (Own: FAST 1.1 leaves the choice to the writer.)
 use Rattle.std.specs.Prelude.{◌≡◌, ℕ, ◌<◌, ◌≤◌, Bool, true, false, List, length, Option, ◌⊎◌}
+use Rattle.fast_template.specs.declared.kind.Kind.{Kind}
+use Rattle.fast_template.specs.declared.kind.Kind.TheVariants as kind
+use Rattle.fast_template.specs.declared.kind.Operator.{Operator}
+use Rattle.fast_template.specs.declared.kind.Operator.TheVariants as operator
 use Rattle.fast_template.specs.declared.resolved.FieldPart.{FieldPart}
 use Rattle.fast_template.specs.declared.scalar.Scalar.{Scalar}
 use Rattle.fast_dictionary.specs.declared.entry.Entry.{Entry}
@@ -28,3 +32,11 @@ pub record IsBest (i : FieldPart) (e : Entry) (bit : Bool) (b : List ℕ) (v : O
   pub cut : Cut
   pub form : FormBy i e bit cut b v
   pub first : (bit' : Bool) (cut' : Cut) (b' : List ℕ) → FormBy i e bit' cut' b' v → NoLater bit (length b) cut bit' (length b') cut'
+
+-- no form of such a field cuts a base: it is no tail, and no delta of a string or vector
+abbrev pub CutsNothing : Operator → Kind → Type 0
+CutsNothing operator.Tail k = ⊥
+CutsNothing operator.Delta kind.Ascii = ⊥
+CutsNothing operator.Delta kind.Unicode = ⊥
+CutsNothing operator.Delta kind.Bytes = ⊥
+CutsNothing o k = Unit {0}

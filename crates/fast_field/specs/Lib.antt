@@ -8,7 +8,9 @@ pub mod Within
 pub mod Best
 pub mod Faults
 pub mod Refusals
+pub mod Planning
 pub mod FieldReading
 pub mod Calls
 pub mod Found
 pub mod Removals
+pub mod CommonParts

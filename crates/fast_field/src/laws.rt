@@ -1,6 +1,6 @@
 //! Laws of the forms of fields, each the contract of a function that does nothing.
 
-ghost use Rattle.std.specs.Prelude.{◌≡◌, ℕ, ◌++◌, Bool, List, Option};
+ghost use Rattle.std.specs.Prelude.{◌≡◌, ℕ, ◌≤◌, ◌++◌, Bool, false, List, length, Option, Some, None};
 ghost use Rattle.std.specs.List.{AllByRecursion};
 ghost use Rattle.fast_wire.specs.Reader.{GoesOn, IsBytes, IsReader};
 ghost use Rattle.fast_template.specs.TemplateSets.{IsSound, TemplateList, templates_in};
@@ -10,10 +10,12 @@ ghost use Rattle.fast_dictionary.specs.declared.entry.Entry.{Entry};
 ghost use Rattle.fast_field.specs.Parts.{EachPartIn, HasDefault, IsBitOf, IsFieldPart};
 ghost use Rattle.fast_field.specs.Bases.{next};
 ghost use Rattle.fast_field.specs.Fields.{Form};
-ghost use Rattle.fast_field.specs.Within.{HoldsScalar, IsFieldValue};
+ghost use Rattle.fast_field.specs.Within.{HasRangeOr, HoldsScalar, IsFieldValue};
+ghost use Rattle.fast_field.specs.Best.{CutsNothing, IsBest};
+ghost use Rattle.fast_field.specs.Refusals.{refusal_of};
 ghost use Rattle.fast_field.specs.FieldReading.{field_at, IsFieldFault};
 
-use crate::fault::FieldFault;
+use crate::fault::{FieldFault, FieldRefusal};
 
 /// Every field is read, whatever its operator.
 pub fn fields_are_read()
@@ -60,4 +62,30 @@ pub fn parts_of_sets_are_field_parts()
 pub fn values_are_within()
     ensures values { (i : FieldPart) (e : Entry) (bit : Bool) (b : List ℕ) (v : Option Scalar) → IsFieldPart i → HoldsScalar e → Form i e bit b v → IsFieldValue i v }
     ensures entries { (i : FieldPart) (e : Entry) (v : Option Scalar) → HoldsScalar e → IsFieldValue i v → HoldsScalar (next i e v) }
+{}
+
+/// A value is refused exactly where it has no form: what `refusal_of` refuses has none, and what it does not refuse
+/// has a best one. (That the value is what its type says, its number in range and its text UTF-8, is a premise.)
+pub fn refusals_are_exact()
+    ensures refused { (i : FieldPart) (e : Entry) (v : Option Scalar) (r : FieldRefusal) → IsFieldPart i → HoldsScalar e
+        → refusal_of i e v ≡ Some r → (bit : Bool) (b : List ℕ) → Form i e bit b v → ⊥ }
+    ensures allowed { (i : FieldPart) (e : Entry) (v : Option Scalar) → IsFieldPart i → HoldsScalar e → HasRangeOr v
+        → refusal_of i e v ≡ None → (bit : Bool) × (b : List ℕ) × IsBest i e bit b v }
+{}
+
+/// A value that has a form has a best one, and one only.
+pub fn values_have_one_best_form()
+    ensures some { (i : FieldPart) (e : Entry) (bit : Bool) (b : List ℕ) (v : Option Scalar) → IsFieldPart i → HoldsScalar e → Form i e bit b v
+        → (best : Bool) × (c : List ℕ) × IsBest i e best c v }
+    ensures one { (i : FieldPart) (e : Entry) (bit other : Bool) (b c : List ℕ) (v : Option Scalar) → IsBest i e bit b v → IsBest i e other c v
+        → (bit ≡ other) × (b ≡ c) }
+{}
+
+/// No form of a value has fewer bytes than its best one, and none has bit 0 where that has bit 1. One that is as long
+/// is the same bytes, save of a tail and of a delta of a string or vector.
+pub fn no_form_is_shorter()
+    ensures least { (i : FieldPart) (e : Entry) (bit other : Bool) (b c : List ℕ) (v : Option Scalar) → IsBest i e bit b v → Form i e other c v
+        → (other ≡ false → bit ≡ false) × (length b ≤ length c) }
+    ensures same { (i : FieldPart) (e : Entry) (bit other : Bool) (b c : List ℕ) (v : Option Scalar) → CutsNothing i.operator i.kind
+        → IsBest i e bit b v → Form i e other c v → length b ≡ length c → b ≡ c }
 {}

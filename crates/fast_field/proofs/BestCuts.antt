@@ -1,0 +1,216 @@
+-- The best delta of a string or vector: the longest common prefix with removal at the end, or the longest common suffix
+-- with removal in front.
+use Rattle.std.proofs.Common.{◌≡◌, ℕ, zero, suc, ◌+◌, ◌-◌, ◌^◌, ◌<◌, ◌≤◌, Bool, true, false, List, ◌++◌, length, take, drop, get_or, min, refl, sym, ap, subst, arith, inl, inr, ◌⊎◌, length-append, length-take, length-drop, take-append-drop}
+use Rattle.std.specs.Prelude.{ℤ, pos, negsuc, nat_le, ◌&&◌, IsTrue}
+use Rattle.std.proofs.lemmas.Bool.{cases_lt, cases_eq}
+use Rattle.std.proofs.lemmas.Bool.Decides.{nat_tests}
+use Rattle.fast_wire.specs.Ascii.{IsAscii}
+use Rattle.fast_wire.specs.Integer.{IsSigned, magnitude}
+use Rattle.fast_wire.specs.Nullable.{IsSignedNullable}
+use Rattle.fast_wire.specs.Vector.{IsVector}
+use Rattle.fast_wire.specs.Sizes.{signed_size, signed_nullable_size, ascii_size, vector_size, unsigned_size}
+use Rattle.fast_wire.specs.declared.nullable.Nullable.TheVariants.{Value}
+use Rattle.fast_wire.proofs.FormSizes.{signed_sizes, signed_nullable_sizes, ascii_sizes, vector_sizes, signed_grow, signed_nullable_grow, shortest_size}
+use Rattle.fast_wire.proofs.Sizes.{unsigned_size-grows}
+use Rattle.fast_template.specs.Scalar.{in_range}
+use Rattle.fast_template.specs.declared.kind.Kind.{Kind}
+use Rattle.fast_template.specs.declared.kind.Kind.TheVariants as kind
+use Rattle.fast_template.specs.declared.kind.Presence.{Presence}
+use Rattle.fast_template.specs.declared.kind.Presence.TheVariants.{Mandatory, Optional}
+use Rattle.fast_template.specs.declared.scalar.Scalar.{Scalar}
+use Rattle.fast_field.specs.Values.{units_of}
+use Rattle.fast_field.specs.Spelled.{SpellsInteger, SpellsPart, IsOfUnits}
+use Rattle.fast_field.specs.Deltas.{Cut, removed_of, side_of, put_together, IsOfFewUnits, SpellsCut}
+use Rattle.fast_field.specs.Best.{NoLater, side_rank}
+use Rattle.fast_field.specs.CommonParts.{IsLongestPrefix, IsLongestSuffix}
+use Rattle.fast_field.proofs.Agreeing.{prefix_more, prefix_stops, prefix_ends, suffix_none, suffix_more, suffix_stops, suffix_ends}
+use Rattle.fast_field.proofs.Least.{IsPartCost, IsLengthCost, end_is_least, front_is_least, ascii_parts, vector_parts}
+use Rattle.fast_field.proofs.BestDeltas.{First}
+use Rattle.fast_field.proofs.Refused.{units_are}
+use Rattle.fast_field.proofs.ValuesWithin.{IsOfType, IsString, IsUnitKind, unit_limit, units_of_string, all_take, all_drop}
+use Rattle.fast_field.proofs.StandingForms.{signed_stands, part_stands, of_units_is}
+
+-- ---- sizes
+
+abbrev pub length_size : Presence → ℤ → ℕ
+length_size Mandatory z = signed_size z
+length_size Optional z = signed_nullable_size (Value z)
+
+abbrev pub part_size : Kind → List ℕ → ℕ
+part_size kind.Ascii s = ascii_size s
+part_size k s = vector_size s
+
+lengths : (p : Presence) → IsLengthCost (length_size p)
+lengths Mandatory = record { at_end = λ m n le. signed_grow (pos m) (pos n) le; in_front = λ m n le. signed_grow (negsuc m) (negsuc n) le }
+lengths Optional = record { at_end = λ m n le. signed_nullable_grow (pos m) (pos n) le; in_front = λ m n le. signed_nullable_grow (negsuc m) (negsuc n) le }
+
+pub parts : (k : Kind) → IsPartCost (part_size k)
+parts kind.Ascii = ascii_parts
+parts k = vector_parts unsigned_size unsigned_size-grows
+
+pub length_least : (p : Presence) (z : ℤ) (b : List ℕ) → SpellsInteger false p b (Value z) → length_size p z ≤ length b
+length_least Mandatory z b h = signed_sizes.least b z h
+length_least Optional z b h = signed_nullable_sizes.least b (Value z) h
+
+pub part_least : (k : Kind) (s b : List ℕ) → SpellsPart k b s → part_size k s ≤ length b
+part_least kind.Ascii s b h = ascii_sizes.least b s h
+part_least k s b h = vector_sizes.least b s h
+
+-- no form of a cut has fewer bytes than its two parts
+cut_least : (k : Kind) (p : Presence) (base : Scalar) (cut : Cut) (b : List ℕ) (v : Scalar) (h : SpellsCut k p base cut b v) → length_size p h.removal + part_size k h.new_part ≤ length b
+cut_least k p base cut b v h =
+    omega (arith, ap length h.parts, length-append h.front h.back, length_least p h.removal h.front h.removal_form, part_least k h.new_part h.back h.part_form)
+
+-- ---- how far two lists agree
+
+prefix_from : (a b : List ℕ) (fuel i : ℕ) → i + fuel ≡ min (length a) (length b) → take i a ≡ take i b → (n : ℕ) × IsLongestPrefix a b n
+prefix_from a b zero i e so_far = (i, prefix_ends a b i (omega arith) (omega arith) so_far)
+prefix_from a b (suc fuel) i e so_far = elim (cases_eq (get_or a i 0) (get_or b i 0)) [
+  | inl same ↦ prefix_from a b fuel (i + 1) (omega arith) (prefix_more a b i (omega arith) (omega arith) same so_far)
+  | inr differ ↦ (i, prefix_stops a b i (omega arith) (omega arith) differ so_far)
+]
+
+pub longest_prefix : (a b : List ℕ) → (n : ℕ) × IsLongestPrefix a b n
+longest_prefix a b = prefix_from a b (min (length a) (length b)) 0 (omega arith) refl
+
+suffix_from : (a b : List ℕ) (fuel i : ℕ) → i + fuel ≡ min (length a) (length b) → drop (length a - i) a ≡ drop (length b - i) b → (n : ℕ) × IsLongestSuffix a b n
+suffix_from a b zero i e so_far = (i, suffix_ends a b i (omega arith) (omega arith) so_far)
+suffix_from a b (suc fuel) i e so_far = elim (cases_eq (get_or a (length a - 1 - i) 0) (get_or b (length b - 1 - i) 0)) [
+  | inl same ↦ suffix_from a b fuel (i + 1) (omega arith) (suffix_more a b i (omega arith) (omega arith) same so_far)
+  | inr differ ↦ (i, suffix_stops a b i (omega arith) (omega arith) differ so_far)
+]
+
+pub longest_suffix : (a b : List ℕ) → (n : ℕ) × IsLongestSuffix a b n
+longest_suffix a b = suffix_from a b (min (length a) (length b)) 0 (omega arith) (suffix_none a b)
+
+-- ---- the better of the two
+
+-- no later: fewer bytes, or as many and the earlier side, or the same side and no longer a new part
+abbrev CutNoLater : ℕ → ℤ → ℕ → ℕ → ℤ → ℕ → Type 0
+CutNoLater m z part m' z' part' = (m < m') ⊎ ((m ≡ m') × ((side_rank (side_of z) < side_rank (side_of z')) ⊎ ((side_of z ≡ side_of z') × (part ≤ part'))))
+
+-- the cut of a value that comes before all others
+pub record IsBestCut (k : Kind) (p : Presence) (base v : List ℕ) (removal : ℤ) (part : List ℕ) : Type 0 where
+  pub few : removed_of removal ≤ length base
+  pub made : v ≡ put_together removal base part
+  pub first : (z : ℤ) (q : List ℕ) → removed_of z ≤ length base → v ≡ put_together z base q
+      → CutNoLater (length_size p removal + part_size k part) removal (length part) (length_size p z + part_size k q) z (length q)
+
+not_equal_first : (m m' : ℕ) (P : Type 0) → m ≤ m' → P → (m < m') ⊎ ((m ≡ m') × P)
+not_equal_first m m' P le q = elim (cases_lt m m') [ inl lt ↦ inl lt | inr ge ↦ let e : m ≡ m' = omega arith in inr (e, q) ]
+
+module _ (k : Kind) (p : Presence) (base v : List ℕ) (n m : ℕ) (prefix : IsLongestPrefix base v n) (suffix : IsLongestSuffix base v m) where
+  abbrev end_size : ℕ
+  end_size = length_size p (pos (length base - n)) + part_size k (drop n v)
+
+  abbrev front_size : ℕ
+  front_size = length_size p (negsuc (length base - m)) + part_size k (take (length v - m) v)
+
+  first_end : end_size ≤ front_size → (z : ℤ) (q : List ℕ) → removed_of z ≤ length base → v ≡ put_together z base q
+      → CutNoLater end_size (pos (length base - n)) (length (drop n v)) (length_size p z + part_size k q) z (length q)
+  first_end le (pos r) q there e =
+      let h = end_is_least (length_size p) (part_size k) base v q n r (lengths p) (parts k) prefix there e in
+      not_equal_first _ _ _ h.0 (inr (refl, h.1))
+  first_end le (negsuc r) q there e =
+      let h = front_is_least (length_size p) (part_size k) base v q m r (lengths p) (parts k) suffix there e in
+      not_equal_first _ _ _ (omega (arith, h.0, le)) (inl (omega arith))
+
+  first_front : front_size < end_size → (z : ℤ) (q : List ℕ) → removed_of z ≤ length base → v ≡ put_together z base q
+      → CutNoLater front_size (negsuc (length base - m)) (length (take (length v - m) v)) (length_size p z + part_size k q) z (length q)
+  first_front lt (pos r) q there e =
+      let h = end_is_least (length_size p) (part_size k) base v q n r (lengths p) (parts k) prefix there e in
+      inl (omega (arith, h.0, lt))
+  first_front lt (negsuc r) q there e =
+      let h = front_is_least (length_size p) (part_size k) base v q m r (lengths p) (parts k) suffix there e in
+      not_equal_first _ _ _ h.0 (inr (refl, h.1))
+
+  pub best_at_end : end_size ≤ front_size → IsBestCut k p base v (pos (length base - n)) (drop n v)
+  best_at_end le =
+      let kept : length base - (length base - n) ≡ n = let in_a = prefix.in_a in omega arith in
+      record { few = omega arith; made = rw (kept, prefix.common) (sym (take-append-drop n v)); first = first_end le }
+
+  pub best_in_front : front_size < end_size → IsBestCut k p base v (negsuc (length base - m)) (take (length v - m) v)
+  best_in_front lt = record { few = omega arith; made = rw suffix.common (sym (take-append-drop (length v - m) v)); first = first_front lt }
+
+-- ---- its form
+
+length_stands : (p : Presence) (z : ℤ) → magnitude z < 2 ^ 68 → (b : List ℕ) × SpellsInteger false p b (Value z) × (length b ≡ length_size p z)
+length_stands Mandatory z lt = let s = signed_stands Mandatory z lt in (s.0, s.1.form, shortest_size IsSigned _ signed_size signed_sizes s.0 z (record { form = s.1.form; least = s.1.least }))
+length_stands Optional z lt = let s = signed_stands Optional z lt in (s.0, s.1.form, shortest_size IsSignedNullable _ signed_nullable_size signed_nullable_sizes s.0 (Value z) (record { form = s.1.form; least = s.1.least }))
+
+pub new_part_stands : (k : Kind) (s : List ℕ) → IsString k s → (b : List ℕ) × SpellsPart k b s × (length b ≡ part_size k s)
+new_part_stands kind.Ascii s h = let t = part_stands kind.Ascii s h in (t.0, t.1.form, shortest_size IsAscii _ ascii_size ascii_sizes t.0 s (record { form = t.1.form; least = t.1.least }))
+new_part_stands k s h = let t = part_stands k s h in (t.0, t.1.form, shortest_size IsVector _ vector_size vector_sizes t.0 s (record { form = t.1.form; least = t.1.least }))
+
+no_later : (m n m' n' : ℕ) (z z' : ℤ) (a a' : ℕ) → n ≡ m → m' ≤ n' → CutNoLater m z a m' z' a' → NoLater true n (record { side = side_of z; part = a }) true n' (record { side = side_of z'; part = a' })
+no_later m n m' n' z z' a a' e le (inl lt) = inr (refl, inl (omega arith))
+no_later m n m' n' z z' a a' e le (inr h) = elim (cases_lt n n') [
+  | inl lt ↦ inr (refl, inl lt)
+  | inr ge ↦ inr (refl, inr (let same = h.0 in omega arith, h.1))
+]
+
+le_true : (m n : ℕ) → m ≤ n → nat_le m n ≡ true
+le_true m n h = grind (arith, nat_tests)
+
+and_true : (a b : Bool) → a ≡ true → b ≡ true → (a && b) ≡ true
+and_true a b h l = rw (h, l) refl
+
+removal_fits : (z : ℤ) → removed_of z ≤ 65535 → (magnitude z < 2 ^ 68) × IsTrue (in_range kind.Int32 z)
+removal_fits (pos n) h = (omega arith, le_true n 2147483647 (omega arith))
+removal_fits (negsuc n) h = (omega arith, and_true (nat_le n 2147483647) true (le_true n 2147483647 (omega arith)) refl)
+
+pub of_few : (k : Kind) (s : List ℕ) (v : Scalar) → IsOfUnits k (units_of v) v → length (units_of v) ≤ 65535 → units_of v ≡ s → IsOfFewUnits k s v
+of_few k s v h le e = subst (λ (x : List ℕ). IsOfFewUnits k x v) e (le, h)
+
+-- the bytes of the best cut come before all other forms
+pub cut_is_first : (k : Kind) (p : Presence) (base v : Scalar) (removal : ℤ) (part : List ℕ) → IsUnitKind k → IsOfType k base → IsOfType k v → IsString k part → IsBestCut k p (units_of base) (units_of v) removal part
+    → First (λ c b. SpellsCut k p base c b v)
+cut_is_first k p base v removal part u h l fits best =
+    let few_base = units_of_string k base u h in
+    let few_value = units_of_string k v u l in
+    let range = removal_fits removal (omega (arith, best.few, few_base.0)) in
+    let first = length_stands p removal range.0 in
+    let second = new_part_stands k part fits in
+    let size : length (first.0 ++ second.0) ≡ length_size p removal + part_size k part = omega (arith, length-append first.0 second.0, first.2, second.2) in
+    record {
+      cut = record { side = side_of removal; part = length part };
+      bytes = first.0 ++ second.0;
+      form = record {
+        removal = removal;
+        new_part = part;
+        front = first.0;
+        back = second.0;
+        parts = refl;
+        removal_form = first.1;
+        is_int32 = range.1;
+        there = best.few;
+        part_form = second.1;
+        value = of_few k (put_together removal (units_of base) part) v (of_units_is k v u l) few_value.0 best.made;
+        cut_is = refl;
+      };
+      first = λ c b other.
+          let made = units_are k (put_together other.removal (units_of base) other.new_part) v other.value.1 in
+          let later = best.first other.removal other.new_part other.there made in
+          rw other.cut_is (no_later (length_size p removal + part_size k part) (length (first.0 ++ second.0)) (length_size p other.removal + part_size k other.new_part) (length b) removal other.removal (length part) (length other.new_part) size (cut_least k p base c b v other) later);
+    }
+
+pub drop_fits : (k : Kind) (n : ℕ) (s : List ℕ) → IsString k s → IsString k (drop n s)
+drop_fits k n s h = let less = h.0 in (omega (arith, length-drop n s), all_drop (λ x. x < unit_limit k) n s h.1)
+
+take_fits : (k : Kind) (n : ℕ) (s : List ℕ) → IsString k s → IsString k (take n s)
+take_fits k n s h = let less = h.0 in (omega (arith, length-take n s), all_take (λ x. x < unit_limit k) n s h.1)
+
+-- each value has one on each base
+pub string_delta_first : (k : Kind) (p : Presence) (base v : Scalar) → IsUnitKind k → IsOfType k base → IsOfType k v → First (λ c b. SpellsCut k p base c b v)
+string_delta_first k p base v u h l =
+    let s = units_of base in
+    let t = units_of v in
+    let fits = units_of_string k v u l in
+    let prefix = longest_prefix s t in
+    let suffix = longest_suffix s t in
+    let at_the_end = length_size p (pos (length s - prefix.0)) + part_size k (drop prefix.0 t) in
+    let in_the_front = length_size p (negsuc (length s - suffix.0)) + part_size k (take (length t - suffix.0) t) in
+    elim (cases_lt in_the_front at_the_end) [
+      | inl lt ↦ cut_is_first k p base v (negsuc (length s - suffix.0)) (take (length t - suffix.0) t) u h l (take_fits k (length t - suffix.0) t fits) (best_in_front k p s t prefix.0 suffix.0 prefix.1 suffix.1 lt)
+      | inr ge ↦ cut_is_first k p base v (pos (length s - prefix.0)) (drop prefix.0 t) u h l (drop_fits k prefix.0 t fits) (best_at_end k p s t prefix.0 suffix.0 prefix.1 suffix.1 ge)
+    ]

@@ -1,0 +1,159 @@
+-- The best tail: the shortest, but in the nullable form of ASCII one unit more where that saves a preamble.
+use Rattle.std.proofs.Common.{◌≡◌, ℕ, zero, suc, ◌+◌, ◌-◌, ◌<◌, ◌≤◌, List, [], ◌∷◌, length, take, drop, refl, sym, ap, subst, ◌∙◌, arith, inl, inr, length-drop, take-append-drop, drop-drop}
+use Rattle.std.proofs.lemmas.Bool.{cases_lt}
+use Rattle.std.proofs.lemmas.List.{take-take}
+use Rattle.fast_wire.specs.Ascii.{IsAsciiNullable}
+use Rattle.fast_wire.specs.Vector.{IsVectorNullable}
+use Rattle.fast_wire.specs.Sizes.{ascii_nullable_size, vector_nullable_size, unsigned_size}
+use Rattle.fast_wire.specs.declared.nullable.Nullable.TheVariants.{Value}
+use Rattle.fast_wire.proofs.FormSizes.{ascii_nullable_sizes, vector_nullable_sizes, shortest_size}
+use Rattle.fast_wire.proofs.Sizes.{unsigned_size-grows}
+use Rattle.fast_template.specs.declared.kind.Kind.{Kind}
+use Rattle.fast_template.specs.declared.kind.Kind.TheVariants as kind
+use Rattle.fast_template.specs.declared.kind.Presence.{Presence}
+use Rattle.fast_template.specs.declared.kind.Presence.TheVariants.{Mandatory, Optional}
+use Rattle.fast_template.specs.declared.scalar.Scalar.{Scalar}
+use Rattle.fast_field.specs.Values.{units_of}
+use Rattle.fast_field.specs.Spelled.{SpellsUnits}
+use Rattle.fast_field.specs.Deltas.{at_end, Cut, ended_by, SpellsTail}
+use Rattle.fast_field.specs.CommonParts.{IsLongestPrefix}
+use Rattle.fast_field.proofs.BestForms.{at_end_first}
+use Rattle.fast_field.proofs.BestDeltas.{First}
+use Rattle.fast_field.proofs.BestCuts.{part_size, part_least, new_part_stands, parts, longest_prefix, of_few, drop_fits}
+use Rattle.fast_field.proofs.Least.{IsPartCost, vector_parts, tail_is, preamble, preamble-cases, NoWorse, tail_cost, shortest_tail, one_more, still_shortest}
+use Rattle.fast_field.proofs.Refused.{units_are}
+use Rattle.fast_field.proofs.ValuesWithin.{IsOfType, IsString, IsUnitKind, units_of_string}
+use Rattle.fast_field.proofs.StandingForms.{units_stand, of_units_is}
+
+-- ---- sizes
+
+abbrev pub tail_size : Kind → Presence → List ℕ → ℕ
+tail_size k Mandatory s = part_size k s
+tail_size kind.Ascii Optional s = ascii_nullable_size (Value s)
+tail_size k Optional s = vector_nullable_size (Value s)
+
+tail_least : (k : Kind) (p : Presence) (s b : List ℕ) → SpellsUnits k p b (Value s) → tail_size k p s ≤ length b
+tail_least k Mandatory s b h = part_least k s b h
+tail_least kind.Ascii Optional s b h = ascii_nullable_sizes.least b (Value s) h
+tail_least k Optional s b h = vector_nullable_sizes.least b (Value s) h
+
+tail_stands : (k : Kind) (p : Presence) (s : List ℕ) → IsString k s → (b : List ℕ) × SpellsUnits k p b (Value s) × (length b ≡ tail_size k p s)
+tail_stands k Mandatory s h = new_part_stands k s h
+tail_stands kind.Ascii Optional s h = let t = units_stand kind.Ascii Optional s h in (t.0, t.1.form, shortest_size IsAsciiNullable _ ascii_nullable_size ascii_nullable_sizes t.0 (Value s) (record { form = t.1.form; least = t.1.least }))
+tail_stands k Optional s h = let t = units_stand k Optional s h in (t.0, t.1.form, shortest_size IsVectorNullable _ vector_nullable_size vector_nullable_sizes t.0 (Value s) (record { form = t.1.form; least = t.1.least }))
+
+-- ---- the tail that comes first
+
+-- a tail of a value, and no other is better
+pub record IsBestTail (k : Kind) (p : Presence) (base v tail : List ℕ) : Type 0 where
+  pub made : v ≡ ended_by base tail
+  pub first : (t : List ℕ) → v ≡ ended_by base t → NoWorse (tail_size k p tail) (length tail) (tail_size k p t) (length t)
+
+worse_first : (m n m' n' part : ℕ) (c : Cut) → n ≡ m → m' ≤ n' → NoWorse m part m' c.part → (n ≤ n') × (n ≡ n' → part ≤ c.part)
+worse_first m n m' n' part c e le (inl lt) = (omega arith, λ same. absurd (omega arith))
+worse_first m n m' n' part c e le (inr h) = let same_size = h.0 in (omega arith, λ same. h.1)
+
+pub tail_is_first : (k : Kind) (p : Presence) (base v : Scalar) (tail : List ℕ) → IsUnitKind k → IsOfType k v → IsString k tail → IsBestTail k p (units_of base) (units_of v) tail → First (λ c b. SpellsTail k p base c b v)
+tail_is_first k p base v tail u l fits best =
+    let few = units_of_string k v u l in
+    let s = tail_stands k p tail fits in
+    record {
+      cut = record { side = at_end; part = length tail };
+      bytes = s.0;
+      form = record { tail = tail; tail_form = s.1; value = of_few k (ended_by (units_of base) tail) v (of_units_is k v u l) few.0 best.made; cut_is = refl };
+      first = λ c b other.
+          let made = units_are k (ended_by (units_of base) other.tail) v other.value.1 in
+          let least = tail_least k p other.tail b other.tail_form in
+          let w = worse_first (tail_size k p tail) (length s.0) (tail_size k p other.tail) (length b) (length tail) (record { side = at_end; part = length other.tail }) s.2 least (best.first other.tail made) in
+          rw other.cut_is (at_end_first (length s.0) (length b) (length tail) (record { side = at_end; part = length other.tail }) w.0 w.1);
+    }
+
+-- ---- which tail that is
+
+no_worse_by : (m part m' part' : ℕ) → m ≤ m' → part ≤ part' → NoWorse m part m' part'
+no_worse_by m part m' part' le less = elim (cases_lt m m') [ inl lt ↦ inl lt | inr ge ↦ let e : m ≡ m' = omega arith in inr (e, less) ]
+
+-- the one of a longer value is the whole of it
+longer_tail : (k : Kind) (p : Presence) (base v : List ℕ) → length base < length v → IsBestTail k p base v v
+longer_tail k p base v lt =
+    let prefix = longest_prefix base v in
+    let none : length base - length v ≡ 0 = omega arith in
+    record { made = rw none refl; first = λ t e. let same = (tail_is base v t prefix.0 prefix.1 e).1 lt in rw same (inr (refl, omega arith)) }
+
+module _ (k : Kind) (p : Presence) (base v : List ℕ) (n : ℕ) (prefix : IsLongestPrefix base v n) (same : length v ≡ length base) where
+  keeps : (j : ℕ) → j ≤ n → v ≡ ended_by base (drop j v)
+  keeps j le =
+      let in_v = prefix.in_b in
+      let kept : length base - length (drop j v) ≡ j = omega (arith, length-drop j v) in
+      let front : take j base ≡ take j v = sym (take-take j n base le) ∙ ap (take j) prefix.common ∙ take-take j n v le in
+      rw (kept, front) (sym (take-append-drop j v))
+
+  -- a tail behind a common front, if none behind another is better
+  best_behind : (j : ℕ) → j ≤ n → ((i : ℕ) → i ≤ n → NoWorse (tail_size k p (drop j v)) (length v - j) (tail_size k p (drop i v)) (length v - i)) → IsBestTail k p base v (drop j v)
+  best_behind j le best = record {
+    made = keeps j le;
+    first = λ t e.
+        let w = (tail_is base v t n prefix e).2 same in
+        let size : length t ≡ length v - (length v - length t) = let short = w.0 in omega arith in
+        subst (λ (x : List ℕ). NoWorse (tail_size k p (drop j v)) (length (drop j v)) (tail_size k p x) (length t)) (sym w.2)
+        (rw (length-drop j v) (subst (λ (m : ℕ). NoWorse (tail_size k p (drop j v)) (length v - j) (tail_size k p (drop (length v - length t) v)) m) (sym size) (best (length v - length t) w.1)));
+  }
+
+  -- where fewer units never take more bytes, the shortest
+  shortest : IsPartCost (tail_size k p) → IsBestTail k p base v (drop n v)
+  shortest cost =
+      best_behind n (omega arith)
+      (λ i le.
+      let in_v = prefix.in_b in
+      let on : i + (n - i) ≡ n = omega arith in
+      let more : drop (n - i) (drop i v) ≡ drop n v = drop-drop (n - i) i v ∙ ap (λ (m : ℕ). drop m v) on in
+      let fewer : tail_size k p (drop n v) ≤ tail_size k p (drop i v) = rw (← more) (cost.on_drop (n - i) (drop i v)) in
+      no_worse_by _ _ _ _ fewer (omega arith))
+
+-- in the nullable form of ASCII
+nullable_size_is : (s : List ℕ) → ascii_nullable_size (Value s) ≡ length s + preamble s
+nullable_size_is [] = refl
+nullable_size_is (zero ∷ s) = omega arith
+nullable_size_is (suc c ∷ s) = omega arith
+
+cost_is : (v : List ℕ) (j : ℕ) → ascii_nullable_size (Value (drop j v)) ≡ tail_cost v j
+cost_is v j = nullable_size_is (drop j v) ∙ ap (λ (m : ℕ). m + preamble (drop j v)) (length-drop j v)
+
+abbrev NullableBest : List ℕ → ℕ → ℕ → Type 0
+NullableBest v j i = NoWorse (ascii_nullable_size (Value (drop j v))) (length v - j) (ascii_nullable_size (Value (drop i v))) (length v - i)
+
+as_cost : (v : List ℕ) (j i : ℕ) → NoWorse (tail_cost v j) (length v - j) (tail_cost v i) (length v - i) → NullableBest v j i
+as_cost v j i h = rw (cost_is v j, cost_is v i) h
+
+-- one place behind the common front, from which no other tail is better
+nullable_place : (v : List ℕ) (n : ℕ) → n ≤ length v → (j : ℕ) × (j ≤ n) × ((i : ℕ) → i ≤ n → NullableBest v j i)
+nullable_place v zero le = (0, omega arith, λ i small. let none : i ≡ 0 = omega arith in rw none (inr (refl, omega arith)))
+nullable_place v (suc n) le = elim (preamble-cases (drop (suc n) v)) [
+  | inl none ↦ (suc n, omega arith, λ i small. as_cost v (suc n) i (shortest_tail v (suc n) i le small none))
+  | inr two ↦ elim (preamble-cases (drop n v)) [
+    | inl none ↦ (n, omega arith, λ i small. as_cost v n i (one_more v n i le small two none))
+    | inr twice ↦ (suc n, omega arith, λ i small. as_cost v (suc n) i (still_shortest v n i le small two twice))
+  ]
+]
+
+vector_nullable_parts : IsPartCost (λ s. vector_nullable_size (Value s))
+vector_nullable_parts = vector_parts (λ n. unsigned_size (n + 1)) (λ m n le. unsigned_size-grows (m + 1) (n + 1) (omega arith))
+
+-- a value as long as its base
+cut_tail : (k : Kind) (p : Presence) (base v : List ℕ) → length v ≡ length base → (t : List ℕ) × ((j : ℕ) × (t ≡ drop j v)) × IsBestTail k p base v t
+cut_tail k Mandatory base v same = let n = longest_prefix base v in (drop n.0 v, (n.0, refl), shortest k Mandatory base v n.0 n.1 same (parts k))
+cut_tail kind.Ascii Optional base v same =
+    let n = longest_prefix base v in
+    let j = nullable_place v n.0 n.1.in_b in (drop j.0 v, (j.0, refl), best_behind kind.Ascii Optional base v n.0 n.1 same j.0 j.1 j.2)
+cut_tail k Optional base v same = let n = longest_prefix base v in (drop n.0 v, (n.0, refl), shortest k Optional base v n.0 n.1 same vector_nullable_parts)
+
+-- each value that is no shorter than its base has one
+pub tail_first : (k : Kind) (p : Presence) (base v : Scalar) → IsUnitKind k → IsOfType k v → length (units_of base) ≤ length (units_of v) → First (λ c b. SpellsTail k p base c b v)
+tail_first k p base v u l le =
+    let fits = units_of_string k v u l in
+    elim (cases_lt (length (units_of base)) (length (units_of v))) [
+      | inl lt ↦ tail_is_first k p base v (units_of v) u l fits (longer_tail k p (units_of base) (units_of v) lt)
+      | inr ge ↦
+          let t = cut_tail k p (units_of base) (units_of v) (omega arith) in
+          tail_is_first k p base v t.0 u l (rw t.1.1 (drop_fits k t.1.0 (units_of v) fits)) t.2
+    ]

@@ -1,0 +1,355 @@
+-- Each value that is not refused has a best form.
+use Rattle.std.proofs.Common.{◌≡◌, ℕ, ◌<◌, ◌≤◌, Bool, true, false, List, [], ◌∷◌, length, refl, sym, ap, subst, ◌∙◌, arith, Ok, Err, Result, inl, inr}
+use Rattle.std.specs.Prelude.{ℤ, pos, negsuc, int_lt, int_le, nat_lt, nat_le, ◌&&◌, not, Option, Some, None, IsTrue, if◌then◌else◌}
+use Rattle.std.specs.List.{AllByRecursion}
+use Rattle.std.proofs.lemmas.Bool.Decides.{nat_tests}
+use Rattle.fast_wire.proofs.Readers.{ok_is}
+use Rattle.fast_wire.specs.declared.nullable.Nullable.TheVariants.{Null}
+use Rattle.fast_template.specs.Scalar.{is_of, in_range, exponent_in_range, scalar_eq-exact, scalar_eq-same, IsScalar}
+use Rattle.fast_template.specs.TemplateSets.{applies}
+use Rattle.fast_template.specs.contracts.scalar.ScalarPartialEq.TheImpl as scalar_eq
+use Rattle.fast_template.specs.declared.kind.Kind.{Kind}
+use Rattle.fast_template.specs.declared.kind.Kind.TheVariants as kind
+use Rattle.fast_template.specs.declared.kind.Operator.{Operator}
+use Rattle.fast_template.specs.declared.kind.Operator.TheVariants as operator
+use Rattle.fast_template.specs.declared.kind.Part.{Part}
+use Rattle.fast_template.specs.declared.kind.Part.TheVariants as part
+use Rattle.fast_template.specs.declared.kind.Presence.{Presence}
+use Rattle.fast_template.specs.declared.kind.Presence.TheVariants.{Mandatory, Optional}
+use Rattle.fast_template.specs.declared.resolved.FieldPart.{FieldPart}
+use Rattle.fast_template.specs.declared.scalar.Scalar.{Scalar}
+use Rattle.fast_template.specs.declared.scalar.Scalar.TheVariants.{U32, I32, U64, I64, Decimal, Ascii, Unicode, Bytes}
+use Rattle.fast_dictionary.specs.declared.entry.Entry.{Entry}
+use Rattle.fast_field.specs.declared.fault.FieldFault.{FieldFault}
+use Rattle.fast_field.specs.declared.fault.FieldRefusal.{FieldRefusal}
+use Rattle.fast_field.specs.declared.fault.FieldRefusal.TheVariants as refusal
+use Rattle.fast_field.specs.Values.{integer_of, units_of}
+use Rattle.fast_field.specs.Parts.{IsFieldPart, IsKindOfPart}
+use Rattle.fast_field.specs.Bases.{delta_base, tail_base, predicted}
+use Rattle.fast_field.specs.Spelled.{SpellsInteger, SpellsUnits, Spelled}
+use Rattle.fast_field.specs.Deltas.{Cut, uncut, SpellsTail, DeltaValue, DeltaForm, TailForm}
+use Rattle.fast_field.specs.Fields.{InitialOrAbsent, FormOf, FormBy, Form, IsWithin, within_part}
+use Rattle.fast_field.specs.Within.{HasRange, HasRangeOr, HoldsScalar, IsOfField, IsFieldValue}
+use Rattle.fast_field.specs.Best.{bit_rank, NoLater, IsBest}
+use Rattle.fast_field.specs.Planning.{is_optional, is_same, gives_same, default_gives, constant_gives, left_out_of}
+use Rattle.fast_field.specs.Refusals.{are_characters, has_characters, has_too_many, is_far, other_than_constant, constant_refusal, delta_refusal, tail_refusal, operator_refusal, absent_refusal, value_refusal, refusal_of}
+use Rattle.fast_field.proofs.BestForms.{bit_zero_row, bit_zero_is_best}
+use Rattle.fast_field.proofs.BestDeltas.{First, shortest_is_first, number_delta_first, decimal_delta_first}
+use Rattle.fast_field.proofs.BestCuts.{string_delta_first}
+use Rattle.fast_field.proofs.BestTails.{tail_first}
+use Rattle.fast_field.proofs.FieldsWithin.{delta_base_within, unit_kind, values_within}
+use Rattle.fast_field.proofs.Refused.{not_refused}
+use Rattle.fast_field.proofs.StandingForms.{Stands, whole_stands, null_whole_stands, null_stands, null_units_stand}
+use Rattle.fast_field.proofs.ValuesWithin.{IsOfType}
+
+-- ---- bit 0
+
+optional : (p : Presence) → is_optional p ≡ true → p ≡ Optional
+optional Mandatory e = absurd cc
+optional Optional e = refl
+
+same_is : (v w : Option Scalar) → is_same v w ≡ true → v ≡ w
+same_is None None e = refl
+same_is (Some v) (Some w) e = ap (λ (x : Scalar). Some x) (scalar_eq-exact v w e)
+same_is None (Some w) e = absurd cc
+same_is (Some v) None e = absurd cc
+
+is_same-itself : (v : Option Scalar) → is_same v v ≡ true
+is_same-itself None = refl
+is_same-itself (Some v) = scalar_eq-same v
+
+abbrev done : {A : Type 0} → A → Result A FieldFault
+done x = Ok x
+
+given : (r : Result (Option Scalar) FieldFault) (v : Option Scalar) → gives_same r v ≡ true → r ≡ Ok v
+given (Ok w) v e = ap (λ (x : Option Scalar). done x) (same_is w v e)
+given (Err f) v e = absurd cc
+
+gives : (r : Result (Option Scalar) FieldFault) (v : Option Scalar) → r ≡ Ok v → gives_same r v ≡ true
+gives r v e = rw e (is_same-itself v)
+
+default_given : (i : FieldPart) (o v : Option Scalar) → i.initial ≡ o → default_gives i.presence o v ≡ true → InitialOrAbsent i v
+default_given i None None is e = (is, optional i.presence e)
+default_given i (Some w) (Some v) is e = is ∙ same_is (Some w) (Some v) e
+default_given i None (Some v) is e = absurd cc
+default_given i (Some w) None is e = absurd cc
+
+gives_default : (i : FieldPart) (v : Option Scalar) → InitialOrAbsent i v → default_gives i.presence i.initial v ≡ true
+gives_default i None h = rw (h.0, h.1) refl
+gives_default i (Some v) h = rw h (scalar_eq-same v)
+
+constant_given : (i : FieldPart) (v : Option Scalar) → constant_gives i.presence v ≡ true → (i.presence ≡ Optional) × (v ≡ None)
+constant_given i None e = (optional i.presence e, refl)
+constant_given i (Some v) e = absurd cc
+
+pub left_out : (o : Operator) (i : FieldPart) (e : Entry) (v : Option Scalar) → left_out_of o i e v ≡ true → FormOf o i e false uncut [] v
+left_out operator.Plain i e v h = absurd cc
+left_out operator.Constant i e v h = let w = constant_given i v h in (refl, refl, w.0, w.1)
+left_out operator.Default i e v h = (refl, refl, default_given i i.initial v refl h)
+left_out operator.Copy i e v h = (refl, refl, given (predicted i e) v h)
+left_out operator.Increment i e v h = (refl, refl, given (predicted i e) v h)
+left_out operator.Delta i e v h = absurd cc
+left_out operator.Tail i e v h = (refl, refl, given (predicted i e) v h)
+
+pub can_be_left_out : (o : Operator) (i : FieldPart) (e : Entry) (cut : Cut) (b : List ℕ) (v : Option Scalar) → FormOf o i e false cut b v → left_out_of o i e v ≡ true
+can_be_left_out operator.Plain i e cut b v f = absurd f
+can_be_left_out operator.Constant i e cut b v f = rw (f.3, f.2) refl
+can_be_left_out operator.Default i e cut b v f = gives_default i v f.2
+can_be_left_out operator.Copy i e cut b v f = gives (predicted i e) v f.2
+can_be_left_out operator.Increment i e cut b v f = gives (predicted i e) v f.2
+can_be_left_out operator.Delta i e cut b v f = absurd f
+can_be_left_out operator.Tail i e cut b v f = gives (predicted i e) v f.2
+
+-- ---- bit 1
+
+pub first_as : (F G : Cut → List ℕ → Type 0) → ((c : Cut) (b : List ℕ) → F c b → G c b) → ((c : Cut) (b : List ℕ) → G c b → F c b) → First F → First G
+first_as F G to from f = record { cut = f.cut; bytes = f.bytes; form = to f.cut f.bytes f.form; first = λ c b h. f.first c b (from c b h) }
+
+whole_first : (k : Kind) (p : Presence) (v : Option Scalar) → Stands (Spelled k p) v → First (λ c b. (c ≡ uncut) × Spelled k p b v)
+whole_first k p v s = shortest_is_first (λ c b. (c ≡ uncut) × Spelled k p b v) s.0 (refl, s.1.form) (λ c o h. (h.0, s.1.least o h.1))
+
+value_first : (i : FieldPart) (v : Option Scalar) → IsOfField i v → First (λ c b. (c ≡ uncut) × Spelled i.kind i.presence b v)
+value_first i None h = subst (λ (p : Presence). First (λ c b. (c ≡ uncut) × Spelled i.kind p b None)) (sym h) (whole_first i.kind Optional None (null_whole_stands i.kind))
+value_first i (Some v) h = whole_first i.kind i.presence (Some v) (whole_stands i.kind i.presence v h)
+
+delta_value_first : (k : Kind) (p : Presence) (base v : Scalar) → IsOfType k base → IsOfType k v → First (λ c b. DeltaValue k p base c b v)
+delta_value_first kind.UInt32 p base v h l = number_delta_first kind.UInt32 p base v refl h l
+delta_value_first kind.Int32 p base v h l = number_delta_first kind.Int32 p base v refl h l
+delta_value_first kind.UInt64 p base v h l = number_delta_first kind.UInt64 p base v refl h l
+delta_value_first kind.Int64 p base v h l = number_delta_first kind.Int64 p base v refl h l
+delta_value_first kind.Decimal p base v h l = decimal_delta_first p base v h l
+delta_value_first kind.Ascii p base v h l = string_delta_first kind.Ascii p base v tt h l
+delta_value_first kind.Unicode p base v h l = string_delta_first kind.Unicode p base v tt h l
+delta_value_first kind.Bytes p base v h l = string_delta_first kind.Bytes p base v tt h l
+
+has_base : (r : Result Scalar FieldFault) → delta_refusal r ≡ None → (base : Scalar) × (r ≡ Ok base)
+has_base (Ok base) e = (base, refl)
+has_base (Err f) e = absurd cc
+
+delta_first : (i : FieldPart) (e : Entry) (v : Option Scalar) → IsFieldPart i → HoldsScalar e → IsOfField i v → ((w : Scalar) → v ≡ Some w → delta_refusal (delta_base i e) ≡ None) → First (λ c b. DeltaForm i e c b v)
+delta_first i e None is h l none =
+    let s = subst (λ (p : Presence). Stands (SpellsInteger false p) Null) (sym l) (null_stands false) in
+    shortest_is_first (λ c b. DeltaForm i e c b None) s.0 (refl, s.1.form) (λ c o f. (f.0, s.1.least o f.1))
+delta_first i e (Some v) is h l none =
+    let base = has_base (delta_base i e) (none v refl) in
+    first_as (λ c b. DeltaValue i.kind i.presence base.0 c b v) (λ c b. DeltaForm i e c b (Some v))
+    (λ c b f. (base.0, base.1, f))
+    (λ c b f. let same : f.0 ≡ base.0 = ok_is {F = FieldFault} f.0 base.0 (sym f.1 ∙ base.1) in subst (λ (x : Scalar). DeltaValue i.kind i.presence x c b v) same f.2)
+    (delta_value_first i.kind i.presence base.0 v (delta_base_within i e base.0 is h base.1) l)
+
+long_enough : (r : Result Scalar FieldFault) (v : Scalar) → tail_refusal r v ≡ None → (base : Scalar) × (r ≡ Ok base) × (length (units_of base) ≤ length (units_of v))
+long_enough (Ok base) v e = (base, refl, not_short (nat_lt (length (units_of v)) (length (units_of base))) refl e)
+  where
+    not_short : (t : Bool) → nat_lt (length (units_of v)) (length (units_of base)) ≡ t → (if t then Some refusal.TooShort else None) ≡ None → length (units_of base) ≤ length (units_of v)
+    not_short true h e = absurd cc
+    not_short false h e = grind (arith, nat_tests)
+long_enough (Err f) v e = absurd cc
+
+tail_form_first : (i : FieldPart) (e : Entry) (v : Option Scalar) → IsFieldPart i → IsTrue (applies operator.Tail i.kind) → IsOfField i v → ((w : Scalar) → v ≡ Some w → tail_refusal (tail_base i e) w ≡ None) → First (λ c b. TailForm i e c b v)
+tail_form_first i e None is fits l none =
+    let s = subst (λ (p : Presence). Stands (SpellsUnits i.kind p) Null) (sym l) (null_units_stand i.kind) in
+    shortest_is_first (λ c b. TailForm i e c b None) s.0 (refl, s.1.form) (λ c o f. (f.0, s.1.least o f.1))
+tail_form_first i e (Some v) is fits l none =
+    let base = long_enough (tail_base i e) v (none v refl) in
+    first_as (λ c b. SpellsTail i.kind i.presence base.0 c b v) (λ c b. TailForm i e c b (Some v))
+    (λ c b f. (base.0, base.1, f))
+    (λ c b f. let same : f.0 ≡ base.0 = ok_is {F = FieldFault} f.0 base.0 (sym f.1 ∙ base.1) in subst (λ (x : Scalar). SpellsTail i.kind i.presence x c b v) same f.2)
+    (tail_first i.kind i.presence base.0 v (unit_kind i.kind fits) l base.2)
+
+-- ---- what is not refused is within its type
+
+if_none : (t : Bool) (r : FieldRefusal) (x : Option FieldRefusal) → (if t then Some r else x) ≡ None → (t ≡ false) × (x ≡ None)
+if_none true r x e = absurd cc
+if_none false r x e = (refl, e)
+
+not_false : (t : Bool) → not t ≡ false → t ≡ true
+not_false true e = refl
+not_false false e = absurd cc
+
+both : (a b : Bool) → (a && b) ≡ true → (a ≡ true) × (b ≡ true)
+both true true e = (refl, refl)
+both true false e = absurd cc
+both false b e = absurd cc
+
+record Unrefused (i : FieldPart) (e : Entry) (v : Scalar) : Type 0 where
+  pub of_kind : IsTrue (is_of i.kind v)
+  pub characters : has_characters v ≡ true
+  pub few : has_too_many i.part v ≡ false
+  pub near : is_far i.part v ≡ false
+  pub rest : operator_refusal i.operator i e v ≡ None
+
+unrefused : (i : FieldPart) (e : Entry) (v : Scalar) → value_refusal i e v ≡ None → Unrefused i e v
+unfolding value_refusal
+unrefused i e v h =
+    let x = if_none (not (is_of i.kind v && has_characters v)) refusal.Mismatch _ h in
+    let y = if_none (has_too_many i.part v) refusal.Limit _ x.1 in
+    let z = if_none (is_far i.part v) refusal.R1 _ y.1 in
+    let w = both (is_of i.kind v) (has_characters v) (not_false (is_of i.kind v && has_characters v) x.0) in
+    record { of_kind = w.0; characters = w.1; few = y.0; near = z.0; rest = z.1 }
+
+are_all : (s : List ℕ) → are_characters s ≡ true → AllByRecursion (λ c. c < 128) s
+are_all [] h = tt
+are_all (c ∷ s) h = let w = both (nat_lt c 128) (are_characters s) h in let t = w.0 in (grind (arith, nat_tests), are_all s w.1)
+
+no_more : (n : ℕ) → nat_lt 65535 n ≡ false → n ≤ 65535
+no_more n h = grind (arith, nat_tests)
+
+few_elements : (z : ℤ) → int_lt (pos 65535) z ≡ false → int_le z (pos 65535) ≡ true
+few_elements (pos n) h = let le = no_more n h in grind (arith, nat_tests)
+few_elements (negsuc n) h = refl
+
+within_limit : (p : Part) (v : Scalar) → has_too_many p v ≡ false → is_far p v ≡ false → IsTrue (within_part p v)
+within_limit part.Exponent v few near = not_false (exponent_in_range (integer_of v)) near
+within_limit part.Length v few near = few_elements (integer_of v) few
+within_limit part.Whole v few near = refl
+within_limit part.Mantissa v few near = refl
+
+few_units : (p : Part) (k : Kind) (v : Scalar) → IsKindOfPart p k → IsTrue (is_of k v) → has_too_many p v ≡ false → length (units_of v) ≤ 65535
+few_units part.Whole k v of_part h few = no_more (length (units_of v)) few
+few_units part.Exponent k v of_part h few = no_more (length (units_of v)) few
+few_units part.Mantissa k v of_part h few = no_more (length (units_of v)) few
+few_units part.Length k v of_part h few = no_units v (subst (λ (x : Kind). IsTrue (is_of x v)) of_part h)
+  where
+    no_units : (v : Scalar) → IsTrue (is_of kind.UInt32 v) → length (units_of v) ≤ 65535
+    no_units (U32 n) h = omega arith
+    no_units v h = absurd cc
+
+near_decimal : (p : Part) (k : Kind) (e m : ℤ) → IsKindOfPart p k → IsTrue (is_of k (Decimal e m)) → is_far p (Decimal e m) ≡ false → IsTrue (exponent_in_range e)
+near_decimal part.Whole k e m of_part h near = not_false (exponent_in_range e) near
+near_decimal part.Mantissa k e m of_part h near = not_false (exponent_in_range e) near
+near_decimal part.Length k e m of_part h near = not_false (exponent_in_range e) near
+near_decimal part.Exponent k e m of_part h near = absurd (let w : false ≡ true = subst (λ (x : Kind). is_of x (Decimal e m) ≡ true) of_part h in cc)
+
+scalar_within : (i : FieldPart) (e : Entry) (v : Scalar) → IsFieldPart i → HasRange v → Unrefused i e v → IsScalar v
+scalar_within i e (U32 n) is h u = h
+scalar_within i e (I32 z) is h u = h
+scalar_within i e (U64 n) is h u = h
+scalar_within i e (I64 z) is h u = h
+scalar_within i e (Decimal x m) is h u = (near_decimal i.part i.kind x m is.kind_of_part u.of_kind u.near, h.1)
+scalar_within i e (Ascii s) is h u = (few_units i.part i.kind (Ascii s) is.kind_of_part u.of_kind u.few, are_all s u.characters)
+scalar_within i e (Unicode s) is h u = (few_units i.part i.kind (Unicode s) is.kind_of_part u.of_kind u.few, h.0, h.1)
+scalar_within i e (Bytes s) is h u = (few_units i.part i.kind (Bytes s) is.kind_of_part u.of_kind u.few, h)
+
+absent_optional : (p : Presence) → absent_refusal p ≡ None → p ≡ Optional
+absent_optional Mandatory h = absurd cc
+absent_optional Optional h = refl
+
+field_value : (i : FieldPart) (e : Entry) (v : Option Scalar) → IsFieldPart i → HasRangeOr v → refusal_of i e v ≡ None → IsFieldValue i v
+field_value i e None is h none = record { of_field = absent_optional i.presence none; within = tt }
+field_value i e (Some v) is h none = let u = unrefused i e v none in record { of_field = (u.of_kind, scalar_within i e v is h u); within = within_limit i.part v u.few u.near }
+
+-- ---- all operators
+
+constant_is : (p : Part) (o : Option Scalar) (v : Scalar) → constant_refusal p o v ≡ None → Some v ≡ o
+constant_is p None v e = absurd cc
+constant_is p (Some w) v e = same ((scalar_eq.eq-value).it v w) refl e
+  where
+    same : (t : Bool) → (scalar_eq.eq-value).it v w ≡ t → (if t then None else Some (other_than_constant p)) ≡ None → Some v ≡ Some w
+    same true h e = ap (λ (x : Scalar). Some x) (scalar_eq-exact v w h)
+    same false h e = absurd cc
+
+constant_first : (i : FieldPart) (e : Entry) (v : Scalar) → Some v ≡ i.initial → First (λ c b. FormOf operator.Constant i e true c b (Some v))
+constant_first i e v is = shortest_is_first (λ c b. FormOf operator.Constant i e true c b (Some v)) [] (refl, refl, is) (λ c o f. (f.0, omega arith))
+
+-- under bit 1, where bit 0 does not give the value
+under_one : (o : Operator) (i : FieldPart) (e : Entry) (v : Option Scalar) → i.operator ≡ o → IsFieldPart i → HoldsScalar e → IsOfField i v → ((w : Scalar) → v ≡ Some w → operator_refusal o i e w ≡ None) → left_out_of o i e v ≡ false
+    → First (λ c b. FormOf o i e true c b v)
+under_one operator.Plain i e v o is h l none out = value_first i v l
+under_one operator.Default i e v o is h l none out = value_first i v l
+under_one operator.Copy i e v o is h l none out = value_first i v l
+under_one operator.Increment i e v o is h l none out = value_first i v l
+under_one operator.Constant i e None o is h l none out = absurd (let w : constant_gives i.presence None ≡ true = rw l refl in cc)
+under_one operator.Constant i e (Some v) o is h l none out = constant_first i e v (constant_is i.part i.initial v (none v refl))
+under_one operator.Delta i e v o is h l none out = delta_first i e v is h l none
+under_one operator.Tail i e v o is h l none out = tail_form_first i e v is (subst (λ (x : Operator). IsTrue (applies x i.kind)) o is.typed.operator_applies) l none
+
+best_under_one : (i : FieldPart) (e : Entry) (v : Option Scalar) → IsWithin i.part v → First (λ c b. FormOf i.operator i e true c b v) → left_out_of i.operator i e v ≡ false → (bit : Bool) × (b : List ℕ) × IsBest i e bit b v
+best_under_one i e v within f out = (
+  true,
+  f.bytes,
+  record {
+    cut = f.cut;
+    form = record { row = f.form; within = within };
+    first = λ bit c b h. later bit c b h;
+  },
+)
+  where
+    later : (bit : Bool) (c : Cut) (b : List ℕ) → FormBy i e bit c b v → NoLater true (length f.bytes) f.cut bit (length b) c
+    later true c b h = f.first c b h.row
+    later false c b h = absurd (let w = can_be_left_out i.operator i e c b v h.row in cc)
+
+best_by : (i : FieldPart) (e : Entry) (v : Option Scalar) (t : Bool) → left_out_of i.operator i e v ≡ t → IsFieldPart i → HoldsScalar e → IsFieldValue i v → ((w : Scalar) → v ≡ Some w → operator_refusal i.operator i e w ≡ None) → (bit : Bool) × (b : List ℕ) × IsBest i e bit b v
+best_by i e v true out is h l none = (false, [], bit_zero_is_best i e v (record { row = left_out i.operator i e v out; within = l.within }))
+best_by i e v false out is h l none = best_under_one i e v l.within (under_one i.operator i e v refl is h l.of_field none out) out
+
+operator_allows : (i : FieldPart) (e : Entry) (v : Option Scalar) → refusal_of i e v ≡ None → (w : Scalar) → v ≡ Some w → operator_refusal i.operator i e w ≡ None
+operator_allows i e v none w is = (unrefused i e w (subst (λ (x : Option Scalar). refusal_of i e x ≡ None) is none)).rest
+
+-- a value that is not refused has a best form
+pub best_stands : (i : FieldPart) (e : Entry) (v : Option Scalar) → IsFieldPart i → HoldsScalar e → HasRangeOr v → refusal_of i e v ≡ None → (bit : Bool) × (b : List ℕ) × IsBest i e bit b v
+best_stands i e v is h r none = best_by i e v (left_out_of i.operator i e v) refl is h (field_value i e v is r none) (operator_allows i e v none)
+
+-- ---- what has a form has a best one
+
+at_most : (m n : ℕ) → nat_le m n ≡ true → m ≤ n
+at_most m n h = grind (arith, nat_tests)
+
+is_at_most : (m n : ℕ) → m ≤ n → nat_le m n ≡ true
+is_at_most m n h = grind (arith, nat_tests)
+
+wide : (z : ℤ) → IsTrue (exponent_in_range z) → IsTrue (in_range kind.Int32 z)
+wide (pos n) h = let le = at_most n 63 h in is_at_most n 2147483647 (omega arith)
+wide (negsuc n) h =
+    let le = at_most n 62 (both (nat_le n 62) true h).0 in
+    let t : nat_le n 2147483647 ≡ true = is_at_most n 2147483647 (omega arith) in
+    rw t refl
+
+range_of_scalar : (v : Scalar) → IsScalar v → HasRange v
+range_of_scalar (U32 n) h = h
+range_of_scalar (I32 z) h = h
+range_of_scalar (U64 n) h = h
+range_of_scalar (I64 z) h = h
+range_of_scalar (Decimal e m) h = (wide e h.0, h.1)
+range_of_scalar (Ascii s) h = small s h.1
+  where
+    small : (s : List ℕ) → AllByRecursion (λ c. c < 128) s → AllByRecursion (λ c. c < 256) s
+    small [] h = tt
+    small (c ∷ s) h = let lt = h.0 in (omega arith, small s h.1)
+range_of_scalar (Unicode s) h = (h.1, h.2)
+range_of_scalar (Bytes s) h = h.1
+
+range_of_value : (i : FieldPart) (v : Option Scalar) → IsFieldValue i v → HasRangeOr v
+range_of_value i None h = tt
+range_of_value i (Some v) h = range_of_scalar v h.of_field.1
+
+pub form_has_best : (i : FieldPart) (e : Entry) (bit : Bool) (b : List ℕ) (v : Option Scalar) → IsFieldPart i → HoldsScalar e → Form i e bit b v → (bit : Bool) × (b : List ℕ) × IsBest i e bit b v
+form_has_best i e bit b v is h f = best_stands i e v is h (range_of_value i v (values_within i e bit b v is h f)) (not_refused i e bit b v is h f)
+
+-- ---- no form is shorter
+
+bit_no_later : (bit bit' : Bool) (n n' : ℕ) (c c' : Cut) → NoLater bit n c bit' n' c' → bit' ≡ false → bit ≡ false
+bit_no_later false bit' n n' c c' h e = refl
+bit_no_later true true n n' c c' h e = e
+bit_no_later true false n n' c c' (inl lt) e = absurd (omega (arith, lt))
+bit_no_later true false n n' c c' (inr h) e = h.0
+
+size_no_later : (bit bit' : Bool) (n n' : ℕ) (c c' : Cut) → (bit ≡ false → n ≡ 0) → NoLater bit n c bit' n' c' → n ≤ n'
+size_no_later bit bit' n n' c c' empty (inl lt) = earlier bit bit' lt empty
+  where
+    earlier : (bit bit' : Bool) → bit_rank bit < bit_rank bit' → (bit ≡ false → n ≡ 0) → n ≤ n'
+    earlier false bit' lt empty = let none = empty refl in omega arith
+    earlier true true lt empty = absurd (omega (arith, lt))
+    earlier true false lt empty = absurd (omega (arith, lt))
+size_no_later bit bit' n n' c c' empty (inr h) = elim h.1 [
+  | inl lt ↦ omega (arith, lt)
+  | inr same ↦ let e = same.0 in omega arith
+]
+
+no_bytes : (i : FieldPart) (e : Entry) (bit : Bool) (cut : Cut) (b : List ℕ) (v : Option Scalar) → FormOf i.operator i e bit cut b v → bit ≡ false → length b ≡ 0
+no_bytes i e false cut b v f is = rw (bit_zero_row i.operator i e cut b v f).1 refl
+no_bytes i e true cut b v f is = absurd cc
+
+pub none_shorter : (i : FieldPart) (e : Entry) (bit other : Bool) (b c : List ℕ) (v : Option Scalar) → IsBest i e bit b v → Form i e other c v → (other ≡ false → bit ≡ false) × (length b ≤ length c)
+none_shorter i e bit other b c v best f =
+    let later = best.first other f.0 c f.1 in
+    (bit_no_later bit other (length b) (length c) best.cut f.0 later, size_no_later bit other (length b) (length c) best.cut f.0 (no_bytes i e bit best.cut b v best.form.row) later)
