@@ -52,7 +52,8 @@ repeated o v = v
 abbrev pub predicted : FieldPart → Entry → Result (Option Scalar) FieldFault
 predicted i Undefined = initial_or fault.D5 i i.initial
 predicted i Empty = absent_or fault.D6 i.presence
-predicted i (Assigned v) = if is_of i.kind v then Ok (Some (repeated i.operator v)) else Err fault.D4
+predicted i (Assigned v) =
+    if is_of i.kind v then Ok (Some (repeated i.operator v)) else Err fault.D4
 
 -- ---- The entry afterwards: it follows from the value, and not from how that was spelled.
 

@@ -28,10 +28,12 @@ NoLater bit n c bit' n' c' =
     ⊎ ((c.side ≡ c'.side) × (c.part ≤ c'.part))))))
 
 -- under this bit the bytes are a form of the value, and no other form of it comes before
-pub record IsBest (i : FieldPart) (e : Entry) (bit : Bool) (b : List ℕ) (v : Option Scalar) : Type 0 where
+pub record IsBest (i : FieldPart) (e : Entry) (bit : Bool) (b : List ℕ)
+    (v : Option Scalar) : Type 0 where
   pub cut : Cut
   pub form : FormBy i e bit cut b v
-  pub first : (bit' : Bool) (cut' : Cut) (b' : List ℕ) → FormBy i e bit' cut' b' v → NoLater bit (length b) cut bit' (length b') cut'
+  pub first : (bit' : Bool) (cut' : Cut) (b' : List ℕ) → FormBy i e bit' cut' b' v
+      → NoLater bit (length b) cut bit' (length b') cut'
 
 -- no form of such a field cuts a base: it is no tail, and no delta of a string or vector
 abbrev pub CutsNothing : Operator → Kind → Type 0

@@ -1,5 +1,5 @@
 -- What a call answered, against what reading gives. (Own.)
-use Rattle.std.specs.Prelude.{◌≡◌, ◌^◌, ℤ, pos, negsuc, ◌<ℤ◌, Result, Ok, Err}
+use Rattle.std.specs.Prelude.{◌≡◌, ℕ, ◌^◌, ℤ, pos, negsuc, ◌<ℤ◌, List, drop, Result, Ok, Err}
 use Rattle.fast_field.specs.declared.fault.FieldFault.{FieldFault}
 use Rattle.fast_field.specs.declared.fault.FieldFault.TheVariants as fault
 
@@ -7,6 +7,12 @@ use Rattle.fast_field.specs.declared.fault.FieldFault.TheVariants as fault
 abbrev pub Answers : {F X Y : Type 0} → (X → Y) → Result X F → Result Y F → Type 0
 Answers view (Ok x) read = read ≡ Ok (view x)
 Answers view (Err e) read = read ≡ Err e
+
+-- the same of a call that reads at a place, and answers a value and the place after it
+abbrev pub AnswersAt : {X V F : Type 0} → (List ℕ → Result (V × List ℕ) F) → (X → V)
+    → List ℕ → ℕ → Result (X × ℕ) F → Type 0
+AnswersAt read view bytes at r =
+    Answers (λ x. (view x.0, drop x.1 bytes)) r (read (drop at bytes))
 
 -- memory was refused, where no more bytes are needed
 abbrev pub OrRefused : {Y : Type 0} → Result Y FieldFault → FieldFault → Type 0

@@ -11,4 +11,5 @@ pub record IsLongestSuffix (a b : List ℕ) (n : ℕ) : Type 0 where
   pub in_a : n ≤ length a
   pub in_b : n ≤ length b
   pub common : drop (length a - n) a ≡ drop (length b - n) b
-  pub longest : (j : ℕ) → j ≤ length a → j ≤ length b → drop (length a - j) a ≡ drop (length b - j) b → j ≤ n
+  pub longest : (j : ℕ) → j ≤ length a → j ≤ length b
+      → drop (length a - j) a ≡ drop (length b - j) b → j ≤ n

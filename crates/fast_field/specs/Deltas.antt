@@ -49,7 +49,8 @@ abbrev pub IsOfFewUnits : Kind → List ℕ → Scalar → Type 0
 IsOfFewUnits k s v = (length s ≤ 65535) × IsOfUnits k s v
 
 -- a string or vector: a subtraction length, which is an int32, in the form of a presence, followed by a new part
-pub record SpellsCut (k : Kind) (p : Presence) (base : Scalar) (cut : Cut) (b : List ℕ) (v : Scalar) : Type 0 where
+pub record SpellsCut (k : Kind) (p : Presence) (base : Scalar) (cut : Cut) (b : List ℕ)
+    (v : Scalar) : Type 0 where
   pub removal : ℤ
   pub new_part : List ℕ
   pub front : List ℕ
@@ -63,7 +64,8 @@ pub record SpellsCut (k : Kind) (p : Presence) (base : Scalar) (cut : Cut) (b : 
   pub cut_is : cut ≡ record { side = side_of removal; part = length new_part }
 
 -- an integer: what is added to the base; it has no range but that of its ten bytes
-pub record SpellsDelta (k : Kind) (p : Presence) (base : Scalar) (cut : Cut) (b : List ℕ) (v : Scalar) : Type 0 where
+pub record SpellsDelta (k : Kind) (p : Presence) (base : Scalar) (cut : Cut) (b : List ℕ)
+    (v : Scalar) : Type 0 where
   pub delta : ℤ
   pub form : SpellsInteger false p b (Value delta)
   pub range : IsTrue (in_range k (integer_of base +ℤ delta))
@@ -71,7 +73,8 @@ pub record SpellsDelta (k : Kind) (p : Presence) (base : Scalar) (cut : Cut) (b 
   pub cut_is : cut ≡ uncut
 
 -- a decimal: a delta of the exponent in the form of a presence, followed by one of the mantissa
-pub record SpellsDeltas (p : Presence) (base : Scalar) (cut : Cut) (b : List ℕ) (v : Scalar) : Type 0 where
+pub record SpellsDeltas (p : Presence) (base : Scalar) (cut : Cut) (b : List ℕ)
+    (v : Scalar) : Type 0 where
   pub exponent_delta : ℤ
   pub mantissa_delta : ℤ
   pub form : SpellsPair p b exponent_delta mantissa_delta
@@ -88,7 +91,9 @@ DeltaValue k p base c b v = SpellsDelta k p base c b v
 
 -- NULL, alone, is absent on every entry, and asks for no base; of a string it is the subtraction length's
 abbrev pub DeltaForm : FieldPart → Entry → Cut → List ℕ → Option Scalar → Type 0
-DeltaForm i e c = OrNull (λ b. (c ≡ uncut) × SpellsInteger false i.presence b Null) (λ b v. (base : Scalar) × (delta_base i e ≡ Ok base) × DeltaValue i.kind i.presence base c b v)
+DeltaForm i e c = OrNull
+    (λ b. (c ≡ uncut) × SpellsInteger false i.presence b Null)
+    (λ b v. (base : Scalar) × (delta_base i e ≡ Ok base) × DeltaValue i.kind i.presence base c b v)
 
 -- ---- Tails. FAST 1.1, Field Operators, Tail Operator.
 
@@ -96,7 +101,8 @@ DeltaForm i e c = OrNull (λ b. (c ≡ uncut) × SpellsInteger false i.presence 
 abbrev pub ended_by : List ℕ → List ℕ → List ℕ
 ended_by base tail = take (length base - length tail) base ++ tail
 
-pub record SpellsTail (k : Kind) (p : Presence) (base : Scalar) (cut : Cut) (b : List ℕ) (v : Scalar) : Type 0 where
+pub record SpellsTail (k : Kind) (p : Presence) (base : Scalar) (cut : Cut) (b : List ℕ)
+    (v : Scalar) : Type 0 where
   pub tail : List ℕ
   pub tail_form : SpellsUnits k p b (Value tail)
   pub value : IsOfFewUnits k (ended_by (units_of base) tail) v
@@ -104,4 +110,6 @@ pub record SpellsTail (k : Kind) (p : Presence) (base : Scalar) (cut : Cut) (b :
 
 -- NULL is absent on every entry, and asks for no base
 abbrev pub TailForm : FieldPart → Entry → Cut → List ℕ → Option Scalar → Type 0
-TailForm i e c = OrNull (λ b. (c ≡ uncut) × SpellsUnits i.kind i.presence b Null) (λ b v. (base : Scalar) × (tail_base i e ≡ Ok base) × SpellsTail i.kind i.presence base c b v)
+TailForm i e c = OrNull
+    (λ b. (c ≡ uncut) × SpellsUnits i.kind i.presence b Null)
+    (λ b v. (base : Scalar) × (tail_base i e ≡ Ok base) × SpellsTail i.kind i.presence base c b v)

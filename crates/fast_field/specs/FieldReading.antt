@@ -46,7 +46,8 @@ signless (Value n) = Value (pos n)
 -- an integer, with no sign where the first argument is true
 unfoldable pub integer_at : Bool → Presence → List ℕ → Result (Nullable ℤ × List ℕ) FieldFault
 integer_at true Mandatory bytes = in_field (unsigned_at bytes) >>= λ x. Ok (Value (pos x.0), x.1)
-integer_at true Optional bytes = in_field (unsigned_nullable_at bytes) >>= λ x. Ok (signless x.0, x.1)
+integer_at true Optional bytes =
+    in_field (unsigned_nullable_at bytes) >>= λ x. Ok (signless x.0, x.1)
 integer_at false Mandatory bytes = in_field (signed_at bytes) >>= λ x. Ok (Value x.0, x.1)
 integer_at false Optional bytes = in_field (signed_nullable_at bytes)
 
@@ -85,7 +86,9 @@ unfoldable pub limited_value : Kind → List ℕ → Result Scalar FieldFault
 limited_value k s = if nat_lt 65535 (length s) then Err fault.Limit else unit_value k s
 
 -- NULL ends a reading, and the value is absent
-abbrev pub unless_null : {A : Type 0} → Nullable A × List ℕ → (A → List ℕ → Result (Option Scalar × List ℕ) FieldFault) → Result (Option Scalar × List ℕ) FieldFault
+abbrev pub unless_null : {A : Type 0} → Nullable A × List ℕ
+    → (A → List ℕ → Result (Option Scalar × List ℕ) FieldFault)
+    → Result (Option Scalar × List ℕ) FieldFault
 unless_null (Null, rest) f = Ok (None, rest)
 unless_null (Value x, rest) f = f x rest
 
@@ -94,7 +97,8 @@ as_value r rest = r >>= λ v. Ok (Some v, rest)
 
 -- ---- What stands whole
 
-unfoldable pub integer_spelled_at : Part → Kind → Presence → List ℕ → Result (Option Scalar × List ℕ) FieldFault
+unfoldable pub integer_spelled_at : Part → Kind → Presence → List ℕ
+    → Result (Option Scalar × List ℕ) FieldFault
 integer_spelled_at pt k p bytes = do
   z ← integer_at (is_unsigned k) p bytes
   unless_null z (λ z. as_value (integer_value pt k z))
@@ -110,12 +114,14 @@ decimal_spelled_at p bytes = do
   e ← integer_at false p bytes
   unless_null e mantissa_behind
 
-unfoldable pub units_spelled_at : Kind → Presence → List ℕ → Result (Option Scalar × List ℕ) FieldFault
+unfoldable pub units_spelled_at : Kind → Presence → List ℕ
+    → Result (Option Scalar × List ℕ) FieldFault
 units_spelled_at k p bytes = do
   s ← units_at k p bytes
   unless_null s (λ s. as_value (unit_value k s))
 
-unfoldable pub spelled_at : Part → Kind → Presence → List ℕ → Result (Option Scalar × List ℕ) FieldFault
+unfoldable pub spelled_at : Part → Kind → Presence → List ℕ
+    → Result (Option Scalar × List ℕ) FieldFault
 spelled_at pt kind.Decimal p bytes = decimal_spelled_at p bytes
 spelled_at pt kind.Ascii p bytes = units_spelled_at kind.Ascii p bytes
 spelled_at pt kind.Unicode p bytes = units_spelled_at kind.Unicode p bytes
@@ -129,7 +135,8 @@ integer_sum i e d = do
   base ← delta_base i e
   integer_value i.part i.kind (integer_of base +ℤ d)
 
-unfoldable pub integer_delta_at : FieldPart → Entry → List ℕ → Result (Option Scalar × List ℕ) FieldFault
+unfoldable pub integer_delta_at : FieldPart → Entry → List ℕ
+    → Result (Option Scalar × List ℕ) FieldFault
 integer_delta_at i e bytes = do
   d ← integer_at false i.presence bytes
   unless_null d (λ d. as_value (integer_sum i e d))
@@ -140,20 +147,23 @@ mantissa_delta_behind e base rest = do
   d ← in_field (signed_at rest)
   as_value (decimal_value e (base +ℤ d.0)) d.1
 
-unfoldable pub decimal_delta_at : FieldPart → Entry → List ℕ → Result (Option Scalar × List ℕ) FieldFault
+unfoldable pub decimal_delta_at : FieldPart → Entry → List ℕ
+    → Result (Option Scalar × List ℕ) FieldFault
 decimal_delta_at i e bytes = do
   d ← integer_at false i.presence bytes
   unless_null d (λ d rest. do
     base ← delta_base i e
     mantissa_delta_behind (exponent_of base +ℤ d) (mantissa_of base) rest)
 
-unfoldable pub new_part_behind : Kind → ℤ → List ℕ → List ℕ → Result (Option Scalar × List ℕ) FieldFault
+unfoldable pub new_part_behind : Kind → ℤ → List ℕ → List ℕ
+    → Result (Option Scalar × List ℕ) FieldFault
 new_part_behind k removal base rest = do
   there ← check (nat_le (removed_of removal) (length base)) fault.D7
   s ← part_at k rest
   as_value (limited_value k (put_together removal base s.0)) s.1
 
-unfoldable pub unit_delta_at : FieldPart → Entry → List ℕ → Result (Option Scalar × List ℕ) FieldFault
+unfoldable pub unit_delta_at : FieldPart → Entry → List ℕ
+    → Result (Option Scalar × List ℕ) FieldFault
 unit_delta_at i e bytes = do
   removal ← integer_at false i.presence bytes
   unless_null removal (λ removal rest. do
@@ -161,7 +171,8 @@ unit_delta_at i e bytes = do
     base ← delta_base i e
     new_part_behind i.kind removal (units_of base) rest)
 
-unfoldable pub delta_at : Kind → FieldPart → Entry → List ℕ → Result (Option Scalar × List ℕ) FieldFault
+unfoldable pub delta_at : Kind → FieldPart → Entry → List ℕ
+    → Result (Option Scalar × List ℕ) FieldFault
 delta_at kind.Decimal i e bytes = decimal_delta_at i e bytes
 delta_at kind.Ascii i e bytes = unit_delta_at i e bytes
 delta_at kind.Unicode i e bytes = unit_delta_at i e bytes
@@ -185,10 +196,12 @@ tail_at i e bytes = do
 unfoldable pub whole_at : FieldPart → List ℕ → Result (Option Scalar × List ℕ) FieldFault
 whole_at i bytes = spelled_at i.part i.kind i.presence bytes
 
-unfoldable pub predicted_at : FieldPart → Entry → List ℕ → Result (Option Scalar × List ℕ) FieldFault
+unfoldable pub predicted_at : FieldPart → Entry → List ℕ
+    → Result (Option Scalar × List ℕ) FieldFault
 predicted_at i e bytes = predicted i e >>= λ v. Ok (v, bytes)
 
-unfoldable pub row_at : Operator → FieldPart → Entry → Bool → List ℕ → Result (Option Scalar × List ℕ) FieldFault
+unfoldable pub row_at : Operator → FieldPart → Entry → Bool → List ℕ
+    → Result (Option Scalar × List ℕ) FieldFault
 row_at operator.Plain i e bit bytes = whole_at i bytes
 row_at operator.Constant i e false bytes = Ok (None, bytes)
 row_at operator.Constant i e true bytes = Ok (i.initial, bytes)
@@ -205,12 +218,15 @@ row_at operator.Tail i e true bytes = tail_at i e bytes
 -- an exponent and a length are checked once more, also where bit 0 gave them
 unfoldable pub part_checked : Part → Option Scalar → Result (Option Scalar) FieldFault
 part_checked p None = Ok None
-part_checked part.Exponent (Some v) = if within_part part.Exponent v then Ok (Some v) else Err fault.R1
-part_checked part.Length (Some v) = if within_part part.Length v then Ok (Some v) else Err fault.Limit
+part_checked part.Exponent (Some v) =
+    if within_part part.Exponent v then Ok (Some v) else Err fault.R1
+part_checked part.Length (Some v) =
+    if within_part part.Length v then Ok (Some v) else Err fault.Limit
 part_checked p (Some v) = Ok (Some v)
 
 -- the value and the bytes after it, or the first fault; want of memory is no fault of the bytes
-unfoldable pub field_at : FieldPart → Entry → Bool → List ℕ → Result (Option Scalar × List ℕ) FieldFault
+unfoldable pub field_at : FieldPart → Entry → Bool → List ℕ
+    → Result (Option Scalar × List ℕ) FieldFault
 field_at i e bit bytes = do
   x ← row_at i.operator i e bit bytes
   v ← part_checked i.part x.0

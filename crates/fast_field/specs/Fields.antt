@@ -23,7 +23,8 @@ InitialOrAbsent i None = (i.initial ≡ None) × (i.presence ≡ Optional)
 abbrev pub FormOf : Operator → FieldPart → Entry → Bool → Cut → List ℕ → Option Scalar → Type 0
 FormOf operator.Plain i e false c b v = ⊥
 FormOf operator.Plain i e true c b v = (c ≡ uncut) × Spelled i.kind i.presence b v
-FormOf operator.Constant i e false c b v = (c ≡ uncut) × (b ≡ []) × (i.presence ≡ Optional) × (v ≡ None)
+FormOf operator.Constant i e false c b v = (c ≡ uncut) × (b ≡ []) × (i.presence ≡ Optional)
+    × (v ≡ None)
 FormOf operator.Constant i e true c b v = (c ≡ uncut) × (b ≡ []) × (v ≡ i.initial)
 FormOf operator.Default i e false c b v = (c ≡ uncut) × (b ≡ []) × InitialOrAbsent i v
 FormOf operator.Default i e true c b v = (c ≡ uncut) × Spelled i.kind i.presence b v
@@ -46,7 +47,8 @@ abbrev pub IsWithin : Part → Option Scalar → Type 0
 IsWithin p None = Unit {0}
 IsWithin p (Some v) = IsTrue (within_part p v)
 
-pub record FormBy (i : FieldPart) (e : Entry) (bit : Bool) (cut : Cut) (b : List ℕ) (v : Option Scalar) : Type 0 where
+pub record FormBy (i : FieldPart) (e : Entry) (bit : Bool) (cut : Cut) (b : List ℕ)
+    (v : Option Scalar) : Type 0 where
   pub row : FormOf i.operator i e bit cut b v
   pub within : IsWithin i.part v
 

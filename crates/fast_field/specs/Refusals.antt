@@ -50,7 +50,8 @@ other_than_constant p = refusal.NotConstant
 
 abbrev pub constant_refusal : Part → Option Scalar → Scalar → Option FieldRefusal
 constant_refusal p None v = Some (other_than_constant p)
-constant_refusal p (Some w) v = if (scalar_eq.eq-value).it v w then None else Some (other_than_constant p)
+constant_refusal p (Some w) v =
+    if (scalar_eq.eq-value).it v w then None else Some (other_than_constant p)
 
 -- no base
 abbrev pub base_refusal : FieldFault → FieldRefusal
@@ -63,7 +64,8 @@ delta_refusal (Err f) = Some (base_refusal f)
 
 -- no base, or a value that is shorter than it
 abbrev pub tail_refusal : Result Scalar FieldFault → Scalar → Option FieldRefusal
-tail_refusal (Ok base) v = if nat_lt (length (units_of v)) (length (units_of base)) then Some refusal.TooShort else None
+tail_refusal (Ok base) v =
+    if nat_lt (length (units_of v)) (length (units_of base)) then Some refusal.TooShort else None
 tail_refusal (Err f) v = Some (base_refusal f)
 
 abbrev pub operator_refusal : Operator → FieldPart → Entry → Scalar → Option FieldRefusal

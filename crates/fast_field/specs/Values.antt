@@ -52,4 +52,6 @@ default_of k = of_integer k (pos 0)
 
 -- FAST 1.1, Field Operators, Increment Operator: one more; after the greatest number the least (own)
 abbrev pub increased : Scalar → Scalar
-increased v = if int_lt (integer_of v) (greatest_of (kind_of v)) then of_integer (kind_of v) (integer_of v +ℤ pos 1) else of_integer (kind_of v) (least_of (kind_of v))
+increased v =
+    if int_lt (integer_of v) (greatest_of (kind_of v)) then of_integer (kind_of v)
+    (integer_of v +ℤ pos 1) else of_integer (kind_of v) (least_of (kind_of v))

@@ -18,7 +18,8 @@ HasRange (U32 n) = n < 2 ^ 32
 HasRange (I32 z) = IsTrue (in_range kind.Int32 z)
 HasRange (U64 n) = n < 2 ^ 64
 HasRange (I64 z) = IsTrue (in_range kind.Int64 z)
-HasRange (Decimal exponent mantissa) = IsTrue (in_range kind.Int32 exponent) × IsTrue (in_range kind.Int64 mantissa)
+HasRange (Decimal exponent mantissa) = IsTrue (in_range kind.Int32 exponent)
+    × IsTrue (in_range kind.Int64 mantissa)
 HasRange (Ascii s) = AllByRecursion (λ c. c < 256) s
 HasRange (Unicode s) = AllByRecursion (λ c. c < 256) s × IsUtf8 s
 HasRange (Bytes s) = AllByRecursion (λ c. c < 256) s

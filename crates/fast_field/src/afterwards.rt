@@ -22,7 +22,8 @@ pub fn next_entry(
     kept: EntryRef,
     value: Option<&Scalar>,
 ) -> Result<Entry, AllocError>
-    ensures { IfOk result (λ entry. entry ≡ next instr.now (entry_of kept.entry) (option_copied value.entry)) }
+    ensures { IfOk result (λ entry. entry
+        ≡ next instr.now (entry_of kept.entry) (option_copied value.entry)) }
 {
     match instr.operator {
         Operator::Plain | Operator::Constant | Operator::Default => kept.copy(alloc),
@@ -46,8 +47,10 @@ fn assign(
     found: Found,
 ) -> Result<Found, AllocError>
     requires { CanLie entry.old found }
-    ensures value { IfOk result (λ f. value_found instr.now entry.new f ≡ value_found instr.now entry.old found) }
-    ensures entry { IfOk result (λ f. entry.new ≡ delta_entry entry.old (value_found instr.now entry.old found)) }
+    ensures value { IfOk result (λ f. value_found instr.now entry.new f
+        ≡ value_found instr.now entry.old found) }
+    ensures entry { IfOk result (λ f. entry.new
+        ≡ delta_entry entry.old (value_found instr.now entry.old found)) }
     ensures absent { IfOk result (λ f. IsLeftOut f (value_found instr.now entry.old found)) }
     ensures unchanged { OnErr result (entry.new ≡ entry.old) }
 {
@@ -73,8 +76,10 @@ pub(crate) fn settle(
     found: Found,
 ) -> Result<Found, AllocError>
     requires { CanLie entry.old found }
-    ensures value { IfOk result (λ f. value_found instr.now entry.new f ≡ value_found instr.now entry.old found) }
-    ensures entry { IfOk result (λ f. entry.new ≡ next instr.now entry.old (value_found instr.now entry.old found)) }
+    ensures value { IfOk result (λ f. value_found instr.now entry.new f
+        ≡ value_found instr.now entry.old found) }
+    ensures entry { IfOk result (λ f. entry.new
+        ≡ next instr.now entry.old (value_found instr.now entry.old found)) }
     ensures unchanged { OnErr result (entry.new ≡ entry.old) }
 {
     match instr.operator {

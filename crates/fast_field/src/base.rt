@@ -78,7 +78,8 @@ fn one_more(value: &Scalar) -> Scalar
 #[tactic(auto, using(crate::proofs::BaseSteps::base_steps))]
 pub(crate) fn predicted_value(instr: &FieldPart, kept: EntryRef) -> Result<Found, FieldFault>
     ensures lies { IfOk result (CanLie (entry_of kept.entry)) }
-    ensures gives { Answers (value_found instr.now (entry_of kept.entry)) result (predicted instr.now (entry_of kept.entry)) }
+    ensures gives { Answers (value_found instr.now (entry_of kept.entry))
+        result (predicted instr.now (entry_of kept.entry)) }
 {
     match kept {
         EntryRef::Undefined => match instr.initial {
@@ -109,7 +110,8 @@ pub(crate) fn base_of_delta<'a>(
     instr: &'a FieldPart,
     kept: EntryRef<'a>,
 ) -> Result<Option<&'a Scalar>, FieldFault>
-    ensures { Answers (λ base. base_or_default instr.now.kind (option_copied base)) result (delta_base instr.now (entry_of kept.entry)) }
+    ensures { Answers (λ base. base_or_default instr.now.kind (option_copied base))
+        result (delta_base instr.now (entry_of kept.entry)) }
 {
     match kept {
         EntryRef::Undefined => Ok(instr.initial.as_ref()),
@@ -129,7 +131,8 @@ pub(crate) fn base_of_tail<'a>(
     instr: &'a FieldPart,
     kept: EntryRef<'a>,
 ) -> Result<Option<&'a Scalar>, FieldFault>
-    ensures { Answers (λ base. base_or_default instr.now.kind (option_copied base)) result (tail_base instr.now (entry_of kept.entry)) }
+    ensures { Answers (λ base. base_or_default instr.now.kind (option_copied base))
+        result (tail_base instr.now (entry_of kept.entry)) }
 {
     match kept {
         EntryRef::Undefined | EntryRef::Empty => Ok(instr.initial.as_ref()),
@@ -146,7 +149,8 @@ pub(crate) fn base_of_tail<'a>(
 /// The number of a base.
 #[tactic(auto, using(crate::proofs::BaseSteps::base_steps))]
 pub(crate) fn base_number(base: Option<&Scalar>) -> i128
-    ensures value { (k : kind.Kind) → result ≡ integer_of (base_or_default k (option_copied base.entry)) }
+    ensures value { (k : kind.Kind)
+        → result ≡ integer_of (base_or_default k (option_copied base.entry)) }
     ensures above { negsuc (2 ^ 64) <ℤ result }
     ensures below { result <ℤ pos (2 ^ 64) }
 {
@@ -159,7 +163,8 @@ pub(crate) fn base_number(base: Option<&Scalar>) -> i128
 /// The units of a base.
 #[tactic(auto, using(crate::proofs::BaseSteps::base_steps))]
 pub(crate) fn base_units(base: Option<&Scalar>) -> &[u8]
-    ensures { (k : kind.Kind) → result.now ≡ units_of (base_or_default k (option_copied base.entry)) }
+    ensures { (k : kind.Kind)
+        → result.now ≡ units_of (base_or_default k (option_copied base.entry)) }
 {
     match base {
         Some(value) => units(value),
@@ -170,8 +175,10 @@ pub(crate) fn base_units(base: Option<&Scalar>) -> &[u8]
 /// The exponent and the mantissa of a base.
 #[tactic(auto, using(crate::proofs::BaseSteps::base_steps))]
 pub(crate) fn base_decimal(base: Option<&Scalar>) -> (i32, i64)
-    ensures exponent { (k : kind.Kind) → result.0 ≡ exponent_of (base_or_default k (option_copied base.entry)) }
-    ensures mantissa { (k : kind.Kind) → result.1 ≡ mantissa_of (base_or_default k (option_copied base.entry)) }
+    ensures exponent { (k : kind.Kind)
+        → result.0 ≡ exponent_of (base_or_default k (option_copied base.entry)) }
+    ensures mantissa { (k : kind.Kind)
+        → result.1 ≡ mantissa_of (base_or_default k (option_copied base.entry)) }
 {
     match base {
         Some(Scalar::Decimal { exponent, mantissa }) => (*exponent, *mantissa),

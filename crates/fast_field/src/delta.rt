@@ -4,8 +4,8 @@ ghost use Rattle.std.specs.Prelude.{◌≡◌, ◌^◌, ◌≤◌, ◌<ℤ◌, �
 ghost use Rattle.fast_dictionary.specs.Dictionary.{entry_of};
 ghost use Rattle.fast_template.specs.Scalar.{in_range, is_integer};
 ghost use Rattle.fast_template.specs.declared.kind.Kind.TheVariants as kind;
-ghost use Rattle.fast_wire.specs.Reading.{Gives};
-ghost use Rattle.fast_field.specs.Calls.{Answers, IsSentRange, OrRefused};
+ghost use Rattle.fast_wire.specs.Reading.{GivesAt};
+ghost use Rattle.fast_field.specs.Calls.{Answers, AnswersAt, IsSentRange, OrRefused};
 ghost use Rattle.fast_field.specs.FieldReading.{decimal_delta_at, delta_at, integer_delta_at, integer_sum, mantissa_delta_behind, new_part_behind, unit_delta_at};
 ghost use Rattle.fast_field.specs.Removals.{length_of};
 
@@ -50,7 +50,8 @@ fn read_integer_delta(
     requires place { at ≤ length bytes.now }
     requires kind { IsTrue (is_integer instr.now.kind) }
     ensures place { IfOk result (λ x. (at ≤ x.1) × (x.1 ≤ length bytes.now)) }
-    ensures gives { Answers (λ x. (x.0, drop x.1 bytes.now)) result (integer_delta_at instr.now (entry_of kept.entry) (drop at bytes.now)) }
+    ensures gives { AnswersAt (integer_delta_at instr.now (entry_of kept.entry))
+        (λ v. v) bytes.now at result }
 {
     let (delta, next) = read_integer(false, instr.presence, bytes, at)?;
     match delta {
@@ -69,7 +70,7 @@ fn read_mantissa_delta(
 ) -> Result<(Option<Scalar>, usize), FieldFault>
     requires { at ≤ length bytes.now }
     ensures place { IfOk result (λ x. (at ≤ x.1) × (x.1 ≤ length bytes.now)) }
-    ensures gives { Answers (λ x. (x.0, drop x.1 bytes.now)) result (mantissa_delta_behind exponent base (drop at bytes.now)) }
+    ensures gives { AnswersAt (mantissa_delta_behind exponent base) (λ v. v) bytes.now at result }
 {
     let Some(exponent) = exponent_within(exponent) else {
         return Err(FieldFault::R1);
@@ -91,7 +92,8 @@ fn read_decimal_delta(
 ) -> Result<(Option<Scalar>, usize), FieldFault>
     requires { at ≤ length bytes.now }
     ensures place { IfOk result (λ x. (at ≤ x.1) × (x.1 ≤ length bytes.now)) }
-    ensures gives { Answers (λ x. (x.0, drop x.1 bytes.now)) result (decimal_delta_at instr.now (entry_of kept.entry) (drop at bytes.now)) }
+    ensures gives { AnswersAt (decimal_delta_at instr.now (entry_of kept.entry))
+        (λ v. v) bytes.now at result }
 {
     let (delta, next) = read_integer(false, instr.presence, bytes, at)?;
     match delta {
@@ -115,7 +117,8 @@ pub(crate) enum Removal {
 
 /// What a subtraction length removes; of a number that is no int32, nothing is said.
 fn removal_of(length: i128) -> Option<Removal>
-    ensures some { IfSome result (λ r. (length ≡ length_of r) × (in_range kind.Int32 length ≡ true)) }
+    ensures some { IfSome result (λ r. (length ≡ length_of r)
+        × (in_range kind.Int32 length ≡ true)) }
     ensures none { IfNone result (in_range kind.Int32 length ≡ false) }
 {
     let length = i32::try_from(length).ok()?;
@@ -138,7 +141,8 @@ fn read_new_part(
 ) -> Result<(Option<Scalar>, usize), FieldFault>
     requires { at ≤ length bytes.now }
     ensures place { IfOk result (λ x. (at ≤ x.1) × (x.1 ≤ length bytes.now)) }
-    ensures gives { Gives OrRefused (λ x. (x.0, drop x.1 bytes.now)) result (new_part_behind kind (length_of removal) base.now (drop at bytes.now)) }
+    ensures gives { GivesAt OrRefused (new_part_behind kind (length_of removal) base.now)
+        (λ v. v) bytes.now at result }
 {
     match removal {
         Removal::AtEnd(removed) => {
@@ -171,7 +175,8 @@ fn read_unit_delta(
 ) -> Result<(Option<Scalar>, usize), FieldFault>
     requires { at ≤ length bytes.now }
     ensures place { IfOk result (λ x. (at ≤ x.1) × (x.1 ≤ length bytes.now)) }
-    ensures gives { Gives OrRefused (λ x. (x.0, drop x.1 bytes.now)) result (unit_delta_at instr.now (entry_of kept.entry) (drop at bytes.now)) }
+    ensures gives { GivesAt OrRefused (unit_delta_at instr.now (entry_of kept.entry))
+        (λ v. v) bytes.now at result }
 {
     let (length, next) = read_integer(false, instr.presence, bytes, at)?;
     match length {
@@ -197,7 +202,8 @@ pub(crate) fn read_delta(
 ) -> Result<(Option<Scalar>, usize), FieldFault>
     requires { at ≤ length bytes.now }
     ensures place { IfOk result (λ x. (at ≤ x.1) × (x.1 ≤ length bytes.now)) }
-    ensures gives { Gives OrRefused (λ x. (x.0, drop x.1 bytes.now)) result (delta_at instr.now.kind instr.now (entry_of kept.entry) (drop at bytes.now)) }
+    ensures gives { GivesAt OrRefused (delta_at instr.now.kind instr.now (entry_of kept.entry))
+        (λ v. v) bytes.now at result }
 {
     match instr.kind {
         Kind::UInt32 | Kind::Int32 | Kind::UInt64 | Kind::Int64 => {

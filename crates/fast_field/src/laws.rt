@@ -19,7 +19,8 @@ use crate::fault::{FieldFault, FieldRefusal};
 
 /// Every field is read, whatever its operator.
 pub fn fields_are_read()
-    ensures { (i : FieldPart) (e : Entry) (bit : Bool) → IsBitOf i bit → HasDefault i → IsReader FieldFault.NeedMore (field_at i e bit) (Form i e bit) }
+    ensures { (i : FieldPart) (e : Entry) (bit : Bool) → IsBitOf i bit → HasDefault i
+        → IsReader FieldFault.NeedMore (field_at i e bit) (Form i e bit) }
 {}
 
 /// What is read of a field is read whatever follows.
@@ -30,62 +31,75 @@ pub fn fields_go_on()
 /// At most one form begins a list, and it has one value.
 pub fn one_form_begins_a_list()
     ensures { (i : FieldPart) (e : Entry) (bit : Bool) → IsBitOf i bit → HasDefault i
-        → (b c rest others : List ℕ) (v w : Option Scalar) → Form i e bit b v → Form i e bit c w → b ++ rest ≡ c ++ others → (v ≡ w) × (rest ≡ others) }
+        → (b c rest others : List ℕ) (v w : Option Scalar) → Form i e bit b v → Form i e bit c w
+        → b ++ rest ≡ c ++ others → (v ≡ w) × (rest ≡ others) }
 {}
 
 /// Where a field has a first fault, no form begins the list.
 pub fn no_form_begins_at_a_fault()
     ensures { (i : FieldPart) (e : Entry) (bit : Bool) → IsBitOf i bit → HasDefault i
-        → (bytes b rest : List ℕ) (v : Option Scalar) (f : FieldFault) → IsFieldFault i e bit bytes f → bytes ≡ b ++ rest → Form i e bit b v → ⊥ }
+        → (bytes b rest : List ℕ) (v : Option Scalar) (f : FieldFault)
+        → IsFieldFault i e bit bytes f → bytes ≡ b ++ rest → Form i e bit b v → ⊥ }
 {}
 
 /// Where no form begins a list of bytes, the field has a first fault.
 pub fn a_fault_where_no_form_begins()
     ensures { (i : FieldPart) (e : Entry) (bit : Bool) → IsBitOf i bit → HasDefault i
-        → (bytes : List ℕ) → IsBytes bytes → ((b rest : List ℕ) (v : Option Scalar) → bytes ≡ b ++ rest → Form i e bit b v → ⊥)
+        → (bytes : List ℕ) → IsBytes bytes → ((b rest : List ℕ) (v : Option Scalar)
+        → bytes ≡ b ++ rest → Form i e bit b v → ⊥)
         → (f : FieldFault) × IsFieldFault i e bit bytes f }
 {}
 
 /// Want of memory is no fault of the bytes.
 pub fn no_fault_is_want_of_memory()
-    ensures { (i : FieldPart) (e : Entry) (bit : Bool) (bytes : List ℕ) → IsFieldFault i e bit bytes FieldFault.Memory → ⊥ }
+    ensures { (i : FieldPart) (e : Entry) (bit : Bool) (bytes : List ℕ)
+        → IsFieldFault i e bit bytes FieldFault.Memory → ⊥ }
 {}
 
 /// Each part of a sound set of templates is a field part; so a mandatory default has an initial value.
 pub fn parts_of_sets_are_field_parts()
-    ensures parts { (set : TemplateList) → IsSound set → AllByRecursion (λ t. EachPartIn IsFieldPart t.members) (templates_in set) }
+    ensures parts { (set : TemplateList) → IsSound set
+        → AllByRecursion (λ t. EachPartIn IsFieldPart t.members) (templates_in set) }
     ensures defaults { (i : FieldPart) → IsFieldPart i → HasDefault i }
 {}
 
 /// The value of a form is one that the field can have: of its type and within it, and within the limits of its part.
 /// So is the entry that it leaves; so entries stay within their types along a stream.
 pub fn values_are_within()
-    ensures values { (i : FieldPart) (e : Entry) (bit : Bool) (b : List ℕ) (v : Option Scalar) → IsFieldPart i → HoldsScalar e → Form i e bit b v → IsFieldValue i v }
-    ensures entries { (i : FieldPart) (e : Entry) (v : Option Scalar) → HoldsScalar e → IsFieldValue i v → HoldsScalar (next i e v) }
+    ensures values { (i : FieldPart) (e : Entry) (bit : Bool) (b : List ℕ) (v : Option Scalar)
+        → IsFieldPart i → HoldsScalar e → Form i e bit b v → IsFieldValue i v }
+    ensures entries { (i : FieldPart) (e : Entry) (v : Option Scalar) → HoldsScalar e
+        → IsFieldValue i v → HoldsScalar (next i e v) }
 {}
 
 /// A value is refused exactly where it has no form: what `refusal_of` refuses has none, and what it does not refuse
 /// has a best one. (That the value is what its type says, its number in range and its text UTF-8, is a premise.)
 pub fn refusals_are_exact()
-    ensures refused { (i : FieldPart) (e : Entry) (v : Option Scalar) (r : FieldRefusal) → IsFieldPart i → HoldsScalar e
+    ensures refused { (i : FieldPart) (e : Entry) (v : Option Scalar) (r : FieldRefusal)
+        → IsFieldPart i → HoldsScalar e
         → refusal_of i e v ≡ Some r → (bit : Bool) (b : List ℕ) → Form i e bit b v → ⊥ }
-    ensures allowed { (i : FieldPart) (e : Entry) (v : Option Scalar) → IsFieldPart i → HoldsScalar e → HasRangeOr v
+    ensures allowed { (i : FieldPart) (e : Entry) (v : Option Scalar) → IsFieldPart i
+        → HoldsScalar e → HasRangeOr v
         → refusal_of i e v ≡ None → (bit : Bool) × (b : List ℕ) × IsBest i e bit b v }
 {}
 
 /// A value that has a form has a best one, and one only.
 pub fn values_have_one_best_form()
-    ensures some { (i : FieldPart) (e : Entry) (bit : Bool) (b : List ℕ) (v : Option Scalar) → IsFieldPart i → HoldsScalar e → Form i e bit b v
+    ensures some { (i : FieldPart) (e : Entry) (bit : Bool) (b : List ℕ) (v : Option Scalar)
+        → IsFieldPart i → HoldsScalar e → Form i e bit b v
         → (best : Bool) × (c : List ℕ) × IsBest i e best c v }
-    ensures one { (i : FieldPart) (e : Entry) (bit other : Bool) (b c : List ℕ) (v : Option Scalar) → IsBest i e bit b v → IsBest i e other c v
+    ensures one { (i : FieldPart) (e : Entry) (bit other : Bool) (b c : List ℕ)
+        (v : Option Scalar) → IsBest i e bit b v → IsBest i e other c v
         → (bit ≡ other) × (b ≡ c) }
 {}
 
 /// No form of a value has fewer bytes than its best one, and none has bit 0 where that has bit 1. One that is as long
 /// is the same bytes, save of a tail and of a delta of a string or vector.
 pub fn no_form_is_shorter()
-    ensures least { (i : FieldPart) (e : Entry) (bit other : Bool) (b c : List ℕ) (v : Option Scalar) → IsBest i e bit b v → Form i e other c v
+    ensures least { (i : FieldPart) (e : Entry) (bit other : Bool) (b c : List ℕ)
+        (v : Option Scalar) → IsBest i e bit b v → Form i e other c v
         → (other ≡ false → bit ≡ false) × (length b ≤ length c) }
-    ensures same { (i : FieldPart) (e : Entry) (bit other : Bool) (b c : List ℕ) (v : Option Scalar) → CutsNothing i.operator i.kind
+    ensures same { (i : FieldPart) (e : Entry) (bit other : Bool) (b c : List ℕ)
+        (v : Option Scalar) → CutsNothing i.operator i.kind
         → IsBest i e bit b v → Form i e other c v → length b ≡ length c → b ≡ c }
 {}

@@ -3,7 +3,7 @@
 ghost use Rattle.std.specs.Prelude.{◌≡◌, ℕ, ◌≤◌, List, ◌++◌, length, drop, Option, Ok, ◌⊎◌, IfOk, MatchResult, OnErr};
 ghost use Rattle.fast_dictionary.specs.Dictionary.{entry_of};
 ghost use Rattle.fast_template.specs.declared.scalar.Scalar as scalar;
-ghost use Rattle.fast_wire.specs.Reading.{Gives, Reads};
+ghost use Rattle.fast_wire.specs.Reading.{Gives, GivesAt, Reads};
 ghost use Rattle.fast_field.specs.Bases.{next};
 ghost use Rattle.fast_field.specs.Calls.{Answers, OrRefused};
 ghost use Rattle.fast_field.specs.FieldReading.{IsFieldFault, field_at, part_checked, row_at};
@@ -38,7 +38,9 @@ fn read_row(
     requires { at ≤ length bytes.now }
     ensures place { IfOk result (λ x. (at ≤ x.1) × (x.1 ≤ length bytes.now)) }
     ensures lies { IfOk result (λ x. CanLie (entry_of kept.entry) x.0) }
-    ensures gives { Gives OrRefused (λ x. (value_found instr.now (entry_of kept.entry) x.0, drop x.1 bytes.now)) result (row_at instr.now.operator instr.now (entry_of kept.entry) bit (drop at bytes.now)) }
+    ensures gives { GivesAt OrRefused
+        (row_at instr.now.operator instr.now (entry_of kept.entry) bit)
+        (value_found instr.now (entry_of kept.entry)) bytes.now at result }
 {
     match instr.operator {
         Operator::Constant => {
@@ -74,7 +76,8 @@ fn read_row(
 /// The limits of an exponent and of a length.
 #[tactic(auto, unfolding(crate::specs::FieldReading::part_checked))]
 fn check_part(instr: &FieldPart, kept: EntryRef, found: &Found) -> Result<(), FieldFault>
-    ensures { Answers (λ _. value_found instr.now (entry_of kept.entry) found.now) result (part_checked instr.now.part (value_found instr.now (entry_of kept.entry) found.now)) }
+    ensures { Answers (λ _. value_found instr.now (entry_of kept.entry) found.now) result
+        (part_checked instr.now.part (value_found instr.now (entry_of kept.entry) found.now)) }
 {
     let Some(value) = found.value(instr, kept) else {
         return Ok(());
@@ -108,7 +111,8 @@ fn read_checked(
     requires { at ≤ length bytes.now }
     ensures place { IfOk result (λ x. (at ≤ x.1) × (x.1 ≤ length bytes.now)) }
     ensures lies { IfOk result (λ x. CanLie (entry_of kept.entry) x.0) }
-    ensures gives { Gives OrRefused (λ x. (value_found instr.now (entry_of kept.entry) x.0, drop x.1 bytes.now)) result (field_at instr.now (entry_of kept.entry) bit (drop at bytes.now)) }
+    ensures gives { GivesAt OrRefused (field_at instr.now (entry_of kept.entry) bit)
+        (value_found instr.now (entry_of kept.entry)) bytes.now at result }
 {
     let (found, next) = read_row(alloc, instr, kept, bit, bytes, at)?;
     check_part(instr, kept, &found)?;
@@ -133,9 +137,12 @@ pub fn find_field(
     requires { at ≤ length bytes.now }
     ensures place { IfOk result (λ x. (at ≤ x.1) × (x.1 ≤ length bytes.now)) }
     ensures lies { IfOk result (λ x. CanLie (entry_of kept.entry) x.0) }
-    ensures gives { Gives OrRefused (λ x. (value_found instr.now (entry_of kept.entry) x.0, drop x.1 bytes.now)) result (field_at instr.now (entry_of kept.entry) bit (drop at bytes.now)) }
+    ensures gives { GivesAt OrRefused (field_at instr.now (entry_of kept.entry) bit)
+        (value_found instr.now (entry_of kept.entry)) bytes.now at result }
     // what is read is read whatever follows
-    ensures goes { IfOk result (λ x. (more : List ℕ) → field_at instr.now (entry_of kept.entry) bit (drop at bytes.now ++ more) ≡ Ok (value_found instr.now (entry_of kept.entry) x.0, drop x.1 bytes.now ++ more)) }
+    ensures goes { IfOk result (λ x. (more : List ℕ)
+        → field_at instr.now (entry_of kept.entry) bit (drop at bytes.now ++ more)
+        ≡ Ok (value_found instr.now (entry_of kept.entry) x.0, drop x.1 bytes.now ++ more)) }
 {
     read_checked(alloc, instr, kept, bit, bytes, at)
 }
@@ -156,10 +163,14 @@ pub fn read_in_place(
 ) -> Result<(Found, usize), FieldFault>
     requires { at ≤ length bytes.now }
     ensures place { IfOk result (λ x. (at ≤ x.1) × (x.1 ≤ length bytes.now)) }
-    ensures entry { IfOk result (λ x. entry.new ≡ next instr.now entry.old (value_found instr.now entry.new x.0)) }
+    ensures entry { IfOk result (λ x. entry.new
+        ≡ next instr.now entry.old (value_found instr.now entry.new x.0)) }
     ensures unchanged { OnErr result (entry.new ≡ entry.old) }
-    ensures gives { Gives OrRefused (λ x. (value_found instr.now entry.new x.0, drop x.1 bytes.now)) result (field_at instr.now entry.old bit (drop at bytes.now)) }
-    ensures goes { IfOk result (λ x. (more : List ℕ) → field_at instr.now entry.old bit (drop at bytes.now ++ more) ≡ Ok (value_found instr.now entry.new x.0, drop x.1 bytes.now ++ more)) }
+    ensures gives { GivesAt OrRefused (field_at instr.now entry.old bit)
+        (value_found instr.now entry.new) bytes.now at result }
+    ensures goes { IfOk result (λ x. (more : List ℕ)
+        → field_at instr.now entry.old bit (drop at bytes.now ++ more)
+        ≡ Ok (value_found instr.now entry.new x.0, drop x.1 bytes.now ++ more)) }
 {
     let (found, next) = find_field(alloc, instr, entry.view(), bit, bytes, at)?;
     let found = settle(alloc, instr, entry, found)?;
@@ -178,7 +189,8 @@ fn read_copied(
     requires { at ≤ length bytes.now }
     ensures place { IfOk result (λ x. (at ≤ x.2) × (x.2 ≤ length bytes.now)) }
     ensures entry { IfOk result (λ x. x.1 ≡ next instr.now (entry_of kept.entry) x.0) }
-    ensures gives { Gives OrRefused (λ x. (x.0, drop x.2 bytes.now)) result (field_at instr.now (entry_of kept.entry) bit (drop at bytes.now)) }
+    ensures gives { Gives OrRefused (λ x. (x.0, drop x.2 bytes.now))
+        result (field_at instr.now (entry_of kept.entry) bit (drop at bytes.now)) }
 {
     let (found, place) = find_field(alloc, instr, kept, bit, bytes, at)?;
     let entry = next_entry(alloc, instr, kept, found.value(instr, kept))?;
@@ -205,18 +217,27 @@ pub fn read_field(
     ensures place { IfOk result (λ x. (at ≤ x.2) × (x.2 ≤ length bytes.now)) }
     // what is read is a form of the value, and a refusal is the first fault, or memory's; a field without a bit is
     // read with bit true, and a mandatory default has an initial value
-    ensures answer { IsBitOf instr.now bit → HasDefault instr.now → MatchResult result (λ x. Reads (Form instr.now (entry_of kept.entry) bit) bytes.now at (x.0, x.2))
+    ensures answer { IsBitOf instr.now bit → HasDefault instr.now
+        → MatchResult result (λ x. Reads (Form instr.now (entry_of kept.entry) bit) bytes.now at
+        (x.0, x.2))
         (λ f. IsFieldFault instr.now (entry_of kept.entry) bit (drop at bytes.now) f
-        ⊎ ((f ≡ FieldFault.Memory) × (IsFieldFault instr.now (entry_of kept.entry) bit (drop at bytes.now) FieldFault.NeedMore → ⊥))) }
+        ⊎ ((f ≡ FieldFault.Memory)
+        × (IsFieldFault instr.now (entry_of kept.entry) bit
+        (drop at bytes.now) FieldFault.NeedMore → ⊥))) }
     // what is a form of a value is read, unless memory is refused
-    ensures only { IsBitOf instr.now bit → HasDefault instr.now → (next : ℕ) (value : Option scalar.Scalar) → Reads (Form instr.now (entry_of kept.entry) bit) bytes.now at (value, next)
+    ensures only { IsBitOf instr.now bit → HasDefault instr.now
+        → (next : ℕ) (value : Option scalar.Scalar)
+        → Reads (Form instr.now (entry_of kept.entry) bit) bytes.now at (value, next)
         → MatchResult result (λ x. (x.0 ≡ value) × (x.2 ≡ next)) (λ f. f ≡ FieldFault.Memory) }
     // the entry afterwards follows from the value
     ensures entry { IfOk result (λ x. x.1 ≡ next instr.now (entry_of kept.entry) x.0) }
     // the same by the function that reads the front of a list
-    ensures gives { Gives OrRefused (λ x. (x.0, drop x.2 bytes.now)) result (field_at instr.now (entry_of kept.entry) bit (drop at bytes.now)) }
+    ensures gives { Gives OrRefused (λ x. (x.0, drop x.2 bytes.now))
+        result (field_at instr.now (entry_of kept.entry) bit (drop at bytes.now)) }
     // and whatever follows
-    ensures goes { IfOk result (λ x. (more : List ℕ) → field_at instr.now (entry_of kept.entry) bit (drop at bytes.now ++ more) ≡ Ok (x.0, drop x.2 bytes.now ++ more)) }
+    ensures goes { IfOk result (λ x. (more : List ℕ)
+        → field_at instr.now (entry_of kept.entry) bit (drop at bytes.now ++ more)
+        ≡ Ok (x.0, drop x.2 bytes.now ++ more)) }
 {
     read_copied(alloc, instr, kept, bit, bytes, at)
 }

@@ -2,7 +2,7 @@
 
 ghost use Rattle.std.specs.Prelude.{◌≤◌, length, drop, IfOk};
 ghost use Rattle.fast_dictionary.specs.Dictionary.{entry_of};
-ghost use Rattle.fast_wire.specs.Reading.{Gives};
+ghost use Rattle.fast_wire.specs.Reading.{Gives, GivesAt};
 ghost use Rattle.fast_field.specs.Calls.{OrRefused};
 ghost use Rattle.fast_field.specs.FieldReading.{ended_value, tail_at};
 
@@ -23,7 +23,8 @@ fn ended(
     kept: EntryRef,
     tail: &[u8],
 ) -> Result<Scalar, FieldFault>
-    ensures { Gives OrRefused (λ v. v) result (ended_value instr.now (entry_of kept.entry) tail.now) }
+    ensures { Gives OrRefused (λ v. v)
+        result (ended_value instr.now (entry_of kept.entry) tail.now) }
 {
     let base = base_units(base_of_tail(instr, kept)?);
     let left = base.len().saturating_sub(tail.len());
@@ -41,7 +42,8 @@ pub(crate) fn read_tail(
 ) -> Result<(Option<Scalar>, usize), FieldFault>
     requires { at ≤ length bytes.now }
     ensures place { IfOk result (λ x. (at ≤ x.1) × (x.1 ≤ length bytes.now)) }
-    ensures gives { Gives OrRefused (λ x. (x.0, drop x.1 bytes.now)) result (tail_at instr.now (entry_of kept.entry) (drop at bytes.now)) }
+    ensures gives { GivesAt OrRefused (tail_at instr.now (entry_of kept.entry))
+        (λ v. v) bytes.now at result }
 {
     let (tail, next) = read_units(alloc, instr.kind, instr.presence, bytes, at)?;
     match tail {

@@ -2,10 +2,10 @@
 
 ghost use Rattle.std.specs.Prelude.{◌≡◌, ◌≤◌, ◌<◌, true, false, length, drop, IfNone, IfOk, IfSome, IsTrue};
 ghost use Rattle.fast_wire.specs.Nullable.{IsNullOr, items_of};
-ghost use Rattle.fast_wire.specs.Reading.{Gives};
+ghost use Rattle.fast_wire.specs.Reading.{GivesAt};
 ghost use Rattle.fast_template.specs.Scalar.{exponent_in_range, in_range, is_integer};
 ghost use Rattle.fast_template.specs.declared.kind.Kind.TheVariants as kind;
-ghost use Rattle.fast_field.specs.Calls.{Answers, IsSentRange, OrRefused};
+ghost use Rattle.fast_field.specs.Calls.{Answers, AnswersAt, IsSentRange, OrRefused};
 ghost use Rattle.fast_field.specs.FieldReading.{decimal_spelled_at, integer_at, integer_spelled_at, integer_value, mantissa_behind, part_at, range_fault, spelled_at, unit_value, units_at, units_spelled_at};
 
 use crate::fault::FieldFault;
@@ -24,7 +24,7 @@ pub(crate) fn read_integer(
     requires { at ≤ length bytes.now }
     ensures place { IfOk result (λ x. (at < x.1) × (x.1 ≤ length bytes.now)) }
     ensures range { IfOk result (λ x. IsNullOr IsSentRange x.0) }
-    ensures gives { Answers (λ x. (x.0, drop x.1 bytes.now)) result (integer_at unsigned presence (drop at bytes.now)) }
+    ensures gives { AnswersAt (integer_at unsigned presence) (λ v. v) bytes.now at result }
 {
     if unsigned {
         match presence {
@@ -61,7 +61,7 @@ pub(crate) fn read_part(
 ) -> Result<(Vec<u8>, usize), FieldFault>
     requires { at ≤ length bytes.now }
     ensures place { IfOk result (λ x. (at < x.1) × (x.1 ≤ length bytes.now)) }
-    ensures gives { Gives OrRefused (λ x. (x.0.items, drop x.1 bytes.now)) result (part_at kind (drop at bytes.now)) }
+    ensures gives { GivesAt OrRefused (part_at kind) (λ v. v.items) bytes.now at result }
 {
     match kind {
         Kind::Ascii => Ok(fast_wire::read_ascii(alloc, bytes, at)?),
@@ -80,7 +80,7 @@ pub(crate) fn read_units(
 ) -> Result<(Nullable<Vec<u8>>, usize), FieldFault>
     requires { at ≤ length bytes.now }
     ensures place { IfOk result (λ x. (at < x.1) × (x.1 ≤ length bytes.now)) }
-    ensures gives { Gives OrRefused (λ x. (items_of x.0, drop x.1 bytes.now)) result (units_at kind presence (drop at bytes.now)) }
+    ensures gives { GivesAt OrRefused (units_at kind presence) items_of bytes.now at result }
 {
     match presence {
         Presence::Mandatory => {
@@ -176,7 +176,7 @@ fn read_mantissa(
 ) -> Result<(Option<Scalar>, usize), FieldFault>
     requires { at ≤ length bytes.now }
     ensures place { IfOk result (λ x. (at ≤ x.1) × (x.1 ≤ length bytes.now)) }
-    ensures gives { Answers (λ x. (x.0, drop x.1 bytes.now)) result (mantissa_behind exponent (drop at bytes.now)) }
+    ensures gives { AnswersAt (mantissa_behind exponent) (λ v. v) bytes.now at result }
 {
     let Some(exponent) = exponent_within(exponent) else {
         return Err(FieldFault::R1);
@@ -197,7 +197,7 @@ fn read_decimal(
 ) -> Result<(Option<Scalar>, usize), FieldFault>
     requires { at ≤ length bytes.now }
     ensures place { IfOk result (λ x. (at ≤ x.1) × (x.1 ≤ length bytes.now)) }
-    ensures gives { Answers (λ x. (x.0, drop x.1 bytes.now)) result (decimal_spelled_at presence (drop at bytes.now)) }
+    ensures gives { AnswersAt (decimal_spelled_at presence) (λ v. v) bytes.now at result }
 {
     let (exponent, next) = read_integer(false, presence, bytes, at)?;
     match exponent {
@@ -218,7 +218,7 @@ fn read_number(
     requires place { at ≤ length bytes.now }
     requires kind { IsTrue (is_integer kind) }
     ensures place { IfOk result (λ x. (at ≤ x.1) × (x.1 ≤ length bytes.now)) }
-    ensures gives { Answers (λ x. (x.0, drop x.1 bytes.now)) result (integer_spelled_at part kind presence (drop at bytes.now)) }
+    ensures gives { AnswersAt (integer_spelled_at part kind presence) (λ v. v) bytes.now at result }
 {
     let unsigned = matches!(kind, Kind::UInt32 | Kind::UInt64);
     let (number, next) = read_integer(unsigned, presence, bytes, at)?;
@@ -239,7 +239,8 @@ fn read_string(
 ) -> Result<(Option<Scalar>, usize), FieldFault>
     requires { at ≤ length bytes.now }
     ensures place { IfOk result (λ x. (at ≤ x.1) × (x.1 ≤ length bytes.now)) }
-    ensures gives { Gives OrRefused (λ x. (x.0, drop x.1 bytes.now)) result (units_spelled_at kind presence (drop at bytes.now)) }
+    ensures gives { GivesAt OrRefused (units_spelled_at kind presence)
+        (λ v. v) bytes.now at result }
 {
     let (units, next) = read_units(alloc, kind, presence, bytes, at)?;
     match units {
@@ -260,7 +261,7 @@ pub(crate) fn read_whole(
 ) -> Result<(Option<Scalar>, usize), FieldFault>
     requires { at ≤ length bytes.now }
     ensures place { IfOk result (λ x. (at ≤ x.1) × (x.1 ≤ length bytes.now)) }
-    ensures gives { Gives OrRefused (λ x. (x.0, drop x.1 bytes.now)) result (spelled_at part kind presence (drop at bytes.now)) }
+    ensures gives { GivesAt OrRefused (spelled_at part kind presence) (λ v. v) bytes.now at result }
 {
     match kind {
         Kind::UInt32 | Kind::Int32 | Kind::UInt64 | Kind::Int64 => {
