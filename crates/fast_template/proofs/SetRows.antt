@@ -15,11 +15,11 @@ use Rattle.fast_template.specs.declared.scalar.Scalar.TheVariants as value
 use Rattle.fast_template.specs.declared.key.Scope.TheVariants.{Global}
 use Rattle.fast_template.specs.declared.key.Key.{Key}
 use Rattle.fast_template.specs.declared.resolved.FieldPart.{FieldPart}
-use Rattle.fast_template.specs.Written.{WrittenTemplate}
-use Rattle.fast_template.specs.Resolved.{Instruction, Instructions, whole_field, field_in_parts, group_of, sequence_of, instructions_of, no_instructions, Resolved, takes_bit, size_of, depth_of, keys_of, numbered, with_keys}
+use Rattle.fast_template.specs.Written.{WrittenOperation, written_field, written_parts, written_group, written_sequence, written_list, WrittenTemplate}
+use Rattle.fast_template.specs.Resolved.{Instruction, Instructions, whole_field, field_in_parts, group_of, sequence_of, instructions_of, no_instructions, then_instruction, Resolved, takes_bit, size_of, depth_of, keys_of, numbered, with_keys}
 use Rattle.fast_template.specs.FlatLists.{context_of, flat_list, AreFlatLists, AreResolved}
 use Rattle.fast_template.specs.TemplateSets.{applies, is_in_part, HasSlots, identifier_key, keys_of_all, size_of_all, AreSound}
-use Rattle.fast_template.proofs.WorkedTemplates.{common, grp}
+use Rattle.fast_template.proofs.WorkedTemplates.{nothing_around, common, grp}
 
 -- ---- the types that operators apply to
 
@@ -104,6 +104,10 @@ bits_are = refl
 
 -- ---- slots
 
+-- The identifier's key is global, with no name, and has the first slot.
+identifier_is : identifier_key ≡ record { slot = 0; scope = Global; name = []; part = part.Whole }
+identifier_is = refl
+
 abbrev called : ℕ → List ℕ → Key
 called slot name = record { slot = slot; scope = Global; name = name; part = part.Whole }
 
@@ -134,6 +138,30 @@ has_slots : (templates : List Resolved) (slots : ℕ) → AreSound templates slo
 has_slots templates slots sound = sound.slotted
 
 -- ---- what is written and what it is resolved to
+
+abbrev copied : WrittenOperation
+copied = record { operator = operator.Copy; initial = None; dictionary = None; key = None }
+
+-- A flat list has no numbers yet: each is 0.
+abbrev unnumbered : List Instruction → List ℕ
+unnumbered [] = []
+unnumbered (whole_field name number presence whole ∷ is) = number ∷ whole.number ∷ unnumbered is
+unnumbered (field_in_parts name number presence exponent mantissa ∷ is) = number ∷ exponent.number ∷ mantissa.number ∷ unnumbered is
+unnumbered (group_of name number presence members ∷ is) = number ∷ unnumbered is
+unnumbered (sequence_of name number presence length members ∷ is) = number ∷ length.number ∷ unnumbered is
+
+abbrev ones_of : Instructions → List Instruction
+ones_of no_instructions = []
+ones_of (then_instruction i is) = i ∷ ones_of is
+
+none_numbered : unnumbered (ones_of (flat_list (λ other. no_instructions) (context_of 1 common) (written_list (
+    written_field (codes "A") kind.UInt32 Mandatory copied
+    ∷ written_parts (codes "B") Mandatory copied copied
+    ∷ written_group (codes "C") Mandatory nothing_around (written_list [])
+    ∷ written_sequence (codes "D") Mandatory nothing_around None copied (written_list [])
+    ∷ []))))
+    ≡ 0 ∷ 0 ∷ 0 ∷ 0 ∷ 0 ∷ 0 ∷ 0 ∷ 0 ∷ []
+none_numbered = refl
 
 abbrev pair : List WrittenTemplate
 pair = common ∷ grp ∷ []
