@@ -101,11 +101,6 @@ below_zero n v few low =
     let sum : v + suc d ≡ 128 ^ n = omega arith in
     rw (to_z_pos w64 d small, less_one d) (to_z-of_z w64 (negsuc d) (below_fits d small) ∙ minus_is v (128 ^ n) d sum)
 
-pub below_fit : (n v d : ℕ) → n ≤ 9 → d ≡ 128 ^ n - 1 - v → v < 128 ^ n → SFits w64 (negsuc 0 -ℤ to_z w64 d)
-below_fit n v d few e low =
-    let small : d < 2 ^ 63 = omega (arith, pow_nine n few) in
-    rw (to_z_pos w64 d small, less_one d) (below_fits d small)
-
 -- what reading gives where a signed one stands
 pub short_signed_given : (bytes : List ℕ) (at v next : ℕ) → IsShort bytes at v next
     → signed_at (drop at bytes) ≡ Ok ((if nat_le 64 (get_or bytes at 0 % 128) then pos v -ℤ pos (128 ^ (next - at)) else pos v), drop next bytes)

@@ -36,9 +36,6 @@ set_either (x ∷ xs) ys (suc i, e) = elim (set_either xs ys (i, e)) [ inl t ↦
 one_more : (n w : ℕ) → w % 2 ^ (1 + n) ≡ w / 2 ^ n % 2 * 2 ^ n + w % 2 ^ n
 one_more n w = mod-pow-add w 1 n
 
-bit_set : (n w : ℕ) → w / 2 ^ n % 2 ≡ 1 → nat_eq (w / 2 ^ n % 2) 1 ≡ true
-bit_set n w e = rw e refl
-
 set_by : (n w b : ℕ) → w / 2 ^ n % 2 ≡ b → ((w % 2 ^ n ≡ 0 → ⊥) → HasSetBit (word_bits n w)) → (w % 2 ^ suc n ≡ 0 → ⊥) → HasSetBit (word_bits (suc n) w)
 set_by n w zero e below h =
     let more : 1 + n ≡ suc n = omega arith in

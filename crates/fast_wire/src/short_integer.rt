@@ -1,5 +1,5 @@
-//! Integers in 64 bits: entities of at most nine bytes in one register, the first byte of an entity of one byte
-//! inline, and the longer ones by the readers of `integer` and `nullable`.
+//! Integers in 64 bits: an entity of one byte is read and written inline, one of at most nine is read in one
+//! register, and the rest is done by `integer` and `nullable`.
 
 ghost use Rattle.std.specs.Prelude.{◌≡◌, ℕ, pos, ◌-ℤ◌, ◌+◌, ◌^◌, ◌<◌, ◌≤◌, length, drop, take, IfOk, IfSome, MatchOption, if◌then◌else◌};
 ghost use Rattle.fast_wire.specs.Entity.{HasNoStop};

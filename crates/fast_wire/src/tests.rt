@@ -236,8 +236,8 @@ fn wide_maps(rt: HostRuntime) -> Result<(), Fail> {
         let (mut bits, next) = read?;
         assert_eq!(rt; next, size);
         for byte in &bytes[..size] {
-            for shift in (0..7).rev() {
-                let set = (*byte >> shift) % 2 == 1;
+            for mask in [64, 32, 16, 8, 4, 2, 1] {
+                let set = *byte & mask != 0;
                 assert!(rt; bits.first() == set && (bits.left_set() || !set));
                 assert_eq!(rt; bits.take(), set);
             }
@@ -580,8 +580,8 @@ macro_rules! written {
             assert_eq!($rt; $out.as_slice(), FRONT.as_slice());
             $call?;
         }
-        assert_eq!($rt; &$out[..FRONT.len()], FRONT.as_slice());
-        assert_eq!($rt; &$out[FRONT.len()..], $bytes.as_slice());
+        assert!($rt; $out.starts_with(&FRONT) && $out.ends_with($bytes.as_slice()));
+        assert_eq!($rt; $out.len(), FRONT.len() + $bytes.len());
     };
 }
 
@@ -603,20 +603,42 @@ macro_rules! taken {
 fn refused_growths(rt: HostRuntime) -> Result<(), Fail> {
     written!(rt, [0x39, 0x45, 0xa3], out => write_unsigned(942_755, &mut out));
     written!(rt, [0x39, 0x45, 0xa3], out => write_signed(942_755, &mut out));
+    written!(rt, [0x83], out => write_unsigned_nullable(Nullable::Value(2), &mut out));
+    written!(rt, [0xfe], out => write_signed_nullable(Nullable::Value(-2), &mut out));
+    Ok(())
+}
+
+#[test]
+fn refused_growths_in_64_bits(rt: HostRuntime) -> Result<(), Fail> {
     written!(rt, [0x82], out => write_u64(2, &mut out));
     written!(rt, [0xfe], out => write_i64(-2, &mut out));
     written!(rt, [0x83], out => write_u64_nullable(Nullable::Value(2), &mut out));
     written!(rt, [0x80], out => write_i64_nullable(Nullable::Null, &mut out));
-    written!(rt, [0x81], out => write_unsigned_nullable(Nullable::Value(0), &mut out));
-    written!(rt, [0x39, 0x45, 0xa4], out => write_signed_nullable(Nullable::Value(942_755), &mut out));
+    Ok(())
+}
+
+#[test]
+fn refused_growths_of_strings(rt: HostRuntime) -> Result<(), Fail> {
+    written!(rt, [0x48, 0x65, 0xf9], out => write_ascii(b"Hey", &mut out));
     written!(rt, [0x00, 0x00, 0xc1], out => write_ascii(b"\0A", &mut out));
     written!(rt, [0x00, 0x80], out => write_ascii_nullable(Nullable::Value(b""), &mut out));
-    written!(rt, [0x82, 0xc3, 0xa9], out => write_vector(&[0xc3, 0xa9], &mut out));
-    written!(rt, [0x83, 0xc3, 0xa9], out => write_vector_nullable(Nullable::Value(&[0xc3, 0xa9]), &mut out));
-    written!(rt, [0x80], out => write_vector_nullable(Nullable::Null, &mut out));
     written!(rt, [0x80], out => write_ascii_nullable(Nullable::Null, &mut out));
-    written!(rt, [0x48, 0x65, 0xf9], out => write_ascii(b"Hey", &mut out));
-    written!(rt, [0x00, 0xc0], out => write_map(&[false, false, false, false, false, false, false, true], &mut out));
+    Ok(())
+}
+
+#[test]
+fn refused_growths_of_vectors(rt: HostRuntime) -> Result<(), Fail> {
+    let vector = Nullable::Value([0xc3, 0xa9].as_slice());
+    written!(rt, [0x82, 0xc3, 0xa9], out => write_vector(&[0xc3, 0xa9], &mut out));
+    written!(rt, [0x83, 0xc3, 0xa9], out => write_vector_nullable(vector, &mut out));
+    written!(rt, [0x80], out => write_vector_nullable(Nullable::Null, &mut out));
+    Ok(())
+}
+
+#[test]
+fn refused_growths_of_maps(rt: HostRuntime) -> Result<(), Fail> {
+    let eight = [false, false, false, false, false, false, false, true];
+    written!(rt, [0x00, 0xc0], out => write_map(&eight, &mut out));
     written!(rt, [0xf0], out => write_map(&[true, true, true], &mut out));
     Ok(())
 }
