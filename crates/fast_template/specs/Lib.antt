@@ -7,3 +7,4 @@ pub mod FlatLists
 pub mod TemplateSets
 pub mod Places
 pub mod LoadChecks
+pub mod Walks

@@ -16,6 +16,7 @@ mod set;
 #[cfg(test)]
 mod tests;
 mod unicode_text;
+mod walk;
 mod written;
 
 pub use bits::{has_map, needs_bit, part_needs_bit};
