@@ -2,9 +2,10 @@
 -- Own: the numbers of instructions in faults, and that a number past 4,294,967,295 is given as that.
 use Rattle.std.specs.Prelude.{ℕ, ◌+◌, min, List, [], ◌∷◌, Option, Some, None}
 use Rattle.fast_template.specs.declared.fault.LoadCause.{LoadCause}
+use Rattle.fast_template.specs.declared.fault.LoadFault.{LoadFault}
 use Rattle.fast_template.specs.declared.walk.Walked.{Walked}
 use Rattle.fast_template.specs.declared.walk.Walked.TheVariants.{Next, Fault}
-use Rattle.fast_template.specs.Written.{WrittenInstruction, WrittenInstructions, written_field, written_parts, written_group, written_sequence, written_reference, no_written, then_written}
+use Rattle.fast_template.specs.Written.{WrittenInstruction, WrittenInstructions, written_field, written_parts, written_group, written_sequence, written_reference, no_written, then_written, WrittenTemplate}
 
 -- the number after one
 abbrev pub next_number : ℕ → ℕ
@@ -30,3 +31,19 @@ abbrev mutual
   pub walk : (WrittenInstruction → Option LoadCause) → WrittenInstructions → ℕ → Walked
   walk judge no_written n = Next n
   walk judge (then_written i is) n = and_then (walk_one judge i n) (walk judge is)
+
+-- ---- templates one after another, each before its instructions
+
+abbrev pub after_walk : Walked → ℕ → Option LoadFault → Option LoadFault
+after_walk (Next n) t others = others
+after_walk (Fault cause n) t others = Some (record { cause = cause; template = t; instruction = n })
+
+abbrev pub after_template : Option LoadCause → ℕ → Option LoadFault → Option LoadFault
+after_template None t others = others
+after_template (Some cause) t others = Some (record { cause = cause; template = t; instruction = 0 })
+
+-- the first fault of templates that are numbered from t on
+abbrev pub first_at_fault : (WrittenTemplate → Option LoadCause) → (WrittenInstruction → Option LoadCause) → List WrittenTemplate → ℕ → Option LoadFault
+first_at_fault of_template of_instruction [] t = None
+first_at_fault of_template of_instruction (w ∷ ws) t =
+    after_template (of_template w) t (after_walk (walk of_instruction w.members 1) t (first_at_fault of_template of_instruction ws (t + 1)))

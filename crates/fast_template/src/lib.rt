@@ -10,6 +10,7 @@ mod fault;
 mod key;
 mod kind;
 pub mod laws;
+mod names;
 mod resolved;
 mod scalar;
 mod set;

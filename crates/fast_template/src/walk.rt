@@ -1,17 +1,23 @@
 //! Instructions one after another, until one is at fault.
 
-ghost use Rattle.std.specs.Prelude.{◌≡◌, IfOk, Option, map};
+ghost use Rattle.std.specs.Prelude.{◌≡◌, ◌≤◌, IfOk, Option, length, map};
 ghost use Rattle.fast_template.specs.declared.fault.LoadCause as cause_type;
-ghost use Rattle.fast_template.specs.Written.{WrittenInstruction, written_list, written_of};
-ghost use Rattle.fast_template.specs.Walks.{judged, walk as walk_of, walk_one as walk_one_of};
+ghost use Rattle.fast_template.specs.Written.{WrittenInstruction, WrittenTemplate, written_list, written_of, written_template_of};
+ghost use Rattle.fast_template.specs.Walks.{first_at_fault as first_at_fault_of, walk as walk_of, walk_one as walk_one_of};
 
-use crate::fault::LoadCause;
-use crate::written::Instruction;
+use crate::fault::{LoadCause, LoadFault};
+use crate::written::{Instruction, Template};
 use std::alloc::AllocError;
 
-/// What is judged of each instruction by itself.
+/// What is judged of each template and of each instruction by itself.
 pub(crate) trait Judge {
+    ghost judges_template: { Self → WrittenTemplate → Option cause_type.LoadCause };
+
     ghost judges: { Self → WrittenInstruction → Option cause_type.LoadCause };
+
+    /// The cause of a template's own fault, if it has one.
+    fn judge_template(&self, template: &Template) -> Option<LoadCause>
+        ensures { result ≡ judges_template self.now (written_template_of template.now) };
 
     /// The cause of its fault, if it has one.
     ///
@@ -29,6 +35,43 @@ pub(crate) enum Walked {
     Next(u32),
     /// The first that was, and its number.
     Fault(LoadCause, u32),
+}
+
+/// The first fault of templates, each judged before its instructions.
+///
+/// # Errors
+///
+/// Where memory is refused.
+pub(crate) fn first_at_fault<J: Judge>(
+    templates: &[Template],
+    judge: &J,
+) -> Result<Option<LoadFault>, AllocError>
+    requires { length templates.now ≤ 65535 }
+    ensures { IfOk result (λ fault. fault ≡ first_at_fault_of (J.judges_template judge.now)
+        (J.judges judge.now) (map written_template_of templates.now) 1) }
+{
+    let mut place: u32 = 1;
+    for template in templates {
+        if let Some(cause) = judge.judge_template(template) {
+            return Ok(Some(fault_at(cause, place, 0)));
+        }
+        if let Walked::Fault(cause, number) = walk(&template.members, judge, 1)? {
+            return Ok(Some(fault_at(cause, place, number)));
+        }
+        place += 1;
+    }
+    Ok(None)
+}
+
+// A fault and its place.
+fn fault_at(cause: LoadCause, template: u32, instruction: u32) -> LoadFault
+    ensures { result ≡ record { cause = cause; template = template; instruction = instruction } }
+{
+    LoadFault {
+        cause,
+        template,
+        instruction,
+    }
 }
 
 /// Judges instructions depth first, a group or sequence before its members, until one is at fault.
