@@ -1,4 +1,5 @@
 pub mod Maps
+pub mod NumberLaws
 pub mod WalkLaws
 pub mod Slots
 pub mod WorkedTemplates

@@ -8,3 +8,4 @@ pub mod TemplateSets
 pub mod Places
 pub mod LoadChecks
 pub mod Walks
+pub mod Numbers

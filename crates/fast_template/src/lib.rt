@@ -7,6 +7,7 @@
 
 mod bits;
 mod fault;
+mod initial;
 mod key;
 mod kind;
 pub mod laws;
