@@ -1,4 +1,5 @@
 pub mod Maps
+pub mod HexTexts
 pub mod NumberLaws
 pub mod WalkLaws
 pub mod Slots

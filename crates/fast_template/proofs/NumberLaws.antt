@@ -7,8 +7,9 @@ use Rattle.fast_template.specs.declared.kind.Kind.TheVariants as kind
 use Rattle.fast_template.specs.declared.kind.Part.{Part}
 use Rattle.fast_template.specs.declared.kind.Part.TheVariants as part
 use Rattle.fast_template.specs.declared.scalar.Scalar.{Scalar}
+use Rattle.fast_template.specs.declared.scalar.Scalar.TheVariants.{Decimal}
 use Rattle.fast_template.specs.Scalar.{in_range, exponent_in_range, of_integer}
-use Rattle.fast_template.specs.InitialValues.{where_so, in_range_of, integer_of, integer_value}
+use Rattle.fast_template.specs.InitialValues.{where_so, in_range_of, integer_of, integer_value, decimal_value}
 use Rattle.fast_template.specs.Numbers.{small_integer}
 
 abbrev step : ℕ → ℕ → ℕ
@@ -102,3 +103,18 @@ in_type part.Exponent k (negsuc n) of e = ap (λ j. in_range j (negsuc n)) (of r
 in_type part.Whole k z of e = e
 in_type part.Mantissa k z of e = e
 in_type part.Length k z of e = e
+
+-- ---- decimals
+
+pub decimal_none_mantissa : (o q : Option ℤ) → None ≡ option_and_then small o → decimal_value o q ≡ None
+decimal_none_mantissa None q e = refl
+decimal_none_mantissa (Some y) None e = refl
+decimal_none_mantissa (Some y) (Some x) e = outside (nat_lt (nat_abs y) (2 ^ 64)) (in_range kind.Int64 y && exponent_in_range x) y (Decimal x y) (λ both. in_kind kind.Int64 y (first_of _ (exponent_in_range x) both)) e
+
+pub decimal_none_exponent : (o q : Option ℤ) → None ≡ option_and_then small q → decimal_value o q ≡ None
+decimal_none_exponent None q e = refl
+decimal_none_exponent (Some y) None e = refl
+decimal_none_exponent (Some y) (Some x) e = outside (nat_lt (nat_abs x) (2 ^ 64)) (in_range kind.Int64 y && exponent_in_range x) x (Decimal x y) (λ both. in_exponents x (second_of (in_range kind.Int64 y) (exponent_in_range x) both)) e
+
+pub decimal_some : (o q : Option ℤ) (m x : ℤ) → Some m ≡ option_and_then small o → Some x ≡ option_and_then small q → decimal_value o q ≡ where_so (in_range kind.Int64 m && exponent_in_range x) (Decimal x m)
+decimal_some o q m x e f = λ i. decimal_value (small_some o m e i) (small_some q x f i)
