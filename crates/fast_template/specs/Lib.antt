@@ -9,3 +9,4 @@ pub mod Places
 pub mod LoadChecks
 pub mod Walks
 pub mod Numbers
+pub mod PartCauses

@@ -12,6 +12,7 @@ mod key;
 mod kind;
 pub mod laws;
 mod names;
+mod operators;
 mod resolved;
 mod scalar;
 mod set;
