@@ -10,3 +10,4 @@ pub mod LoadChecks
 pub mod Walks
 pub mod Numbers
 pub mod PartCauses
+pub mod Phases

@@ -1,13 +1,14 @@
 //! Whether the names of templates are names.
 
-ghost use Rattle.std.specs.Prelude.{◌≡◌, ◌&&◌, nat_le, Some, None, if◌then◌else◌, option_map, option_to_list, string_bytes};
+ghost use Rattle.std.specs.Prelude.{◌≡◌, ◌≤◌, ◌⊎◌, ◌&&◌, MatchResult, length, map, nat_le, Some, None, if◌then◌else◌, option_map, option_to_list, string_bytes};
 ghost use Rattle.std.specs.List.{list_all};
 ghost use Rattle.fast_template.specs.declared.fault.LoadCause.TheVariants.{S1};
-ghost use Rattle.fast_template.specs.LoadChecks.{is_name as is_name_of, names_beside, names_in, names_of};
+ghost use Rattle.fast_template.specs.LoadChecks.{is_name as is_name_of, names_beside, names_in, names_of, want_of_memory};
+ghost use Rattle.fast_template.specs.Phases.{IsFirstOf, Passes};
 ghost use Rattle.fast_template.specs.Written.{operation_of, written_of, written_template_of};
 
-use crate::fault::LoadCause;
-use crate::walk::Judge;
+use crate::fault::{LoadCause, LoadFault};
+use crate::walk::{Judge, first_at_fault, want_of_memory};
 use crate::written::{Instruction, Operation, Template};
 use std::alloc::AllocError;
 
@@ -33,6 +34,23 @@ impl Judge for Names {
         } else {
             Ok(Some(LoadCause::S1))
         }
+    }
+}
+
+/// The first fault of names.
+///
+/// # Errors
+///
+/// That fault. No memory is asked for.
+pub(crate) fn check_names(templates: &[Template]) -> Result<(), LoadFault>
+    requires { length templates.now ≤ 65535 }
+    ensures { MatchResult result (λ passed. Passes (map written_template_of templates.now) 1)
+        (λ fault. IsFirstOf (map written_template_of templates.now) 1 fault ⊎ (fault ≡ want_of_memory)) }
+{
+    match first_at_fault(templates, &Names) {
+        Ok(None) => Ok(()),
+        Ok(Some(fault)) => Err(fault),
+        Err(AllocError) => Err(want_of_memory()),
     }
 }
 

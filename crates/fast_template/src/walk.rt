@@ -3,6 +3,7 @@
 ghost use Rattle.std.specs.Prelude.{◌≡◌, ◌≤◌, IfOk, Option, length, map};
 ghost use Rattle.fast_template.specs.declared.fault.LoadCause as cause_type;
 ghost use Rattle.fast_template.specs.Written.{WrittenInstruction, WrittenTemplate, written_list, written_of, written_template_of};
+ghost use Rattle.fast_template.specs.LoadChecks.{want_of_memory as want_of_memory_of};
 ghost use Rattle.fast_template.specs.Walks.{first_at_fault as first_at_fault_of, walk as walk_of, walk_one as walk_one_of};
 
 use crate::fault::{LoadCause, LoadFault};
@@ -61,6 +62,13 @@ pub(crate) fn first_at_fault<J: Judge>(
         place += 1;
     }
     Ok(None)
+}
+
+/// The fault of a load whose memory was refused.
+pub(crate) fn want_of_memory() -> LoadFault
+    ensures { result ≡ want_of_memory_of }
+{
+    fault_at(LoadCause::Memory, 0, 0)
 }
 
 // A fault and its place.
