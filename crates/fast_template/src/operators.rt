@@ -1,20 +1,23 @@
 //! Whether operators apply to their types, and have the initial values that they need.
 
-ghost use Rattle.std.specs.Prelude.{◌≡◌, IfOk, None};
+ghost use Rattle.std.specs.Prelude.{◌≡◌, ◌≤◌, ◌⊎◌, IfOk, MatchResult, None, length, map};
+ghost use Rattle.fast_template.specs.LoadChecks.{want_of_memory};
+ghost use Rattle.fast_template.specs.Phases.{IsFirstOf, Passes};
 ghost use Rattle.fast_template.specs.declared.kind.Kind.TheVariants.{Int32};
 ghost use Rattle.fast_template.specs.declared.kind.Part.TheVariants.{Exponent};
 ghost use Rattle.fast_template.specs.PartCauses.{missing_value as missing_value_of, part_cause, parts_cause};
 ghost use Rattle.fast_template.specs.TemplateSets.{applies as applies_to};
-ghost use Rattle.fast_template.specs.Written.{operation_of, parts_of};
+ghost use Rattle.fast_template.specs.Written.{operation_of, parts_of, written_template_of};
 
-use crate::fault::LoadCause;
+use crate::fault::{LoadCause, LoadFault};
 use crate::initial::value_of_text;
 use crate::kind::{Kind, Operator, Part, Presence};
-use crate::walk::Judge;
+use crate::walk::{Judge, first_at_fault, want_of_memory};
 use crate::written::{Instruction, Operation, Template};
 use std::alloc::{AllocError, Global};
 
 /// Judges operators and initial values, an exponent before its mantissa.
+#[derive(Drop)]
 pub(crate) struct Operators {
     pub(crate) alloc: Global,
 }
@@ -56,6 +59,23 @@ impl Judge for Operators {
             } => cause_of_part(self.alloc, Part::Length, Kind::UInt32, *presence, length),
             Instruction::Group { .. } | Instruction::Reference { .. } => Ok(None),
         }
+    }
+}
+
+/// The first fault of operators and initial values.
+///
+/// # Errors
+///
+/// That fault, or want of memory.
+pub(crate) fn check_operators(alloc: Global, templates: &[Template]) -> Result<(), LoadFault>
+    requires { length templates.now ≤ 65535 }
+    ensures { MatchResult result (λ passed. Passes (map written_template_of templates.now) 3)
+        (λ fault. IsFirstOf (map written_template_of templates.now) 3 fault ⊎ (fault ≡ want_of_memory)) }
+{
+    match first_at_fault(templates, &Operators { alloc }) {
+        Ok(None) => Ok(()),
+        Ok(Some(fault)) => Err(fault),
+        Err(AllocError) => Err(want_of_memory()),
     }
 }
 
