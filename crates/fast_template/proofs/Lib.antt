@@ -1,4 +1,5 @@
 pub mod Maps
+pub mod Places
 pub mod OperatorPhase
 pub mod NamePhase
 pub mod HexTexts

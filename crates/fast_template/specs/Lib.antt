@@ -11,3 +11,4 @@ pub mod Walks
 pub mod Numbers
 pub mod PartCauses
 pub mod Phases
+pub mod Duplicates

@@ -71,8 +71,8 @@ pub(crate) fn want_of_memory() -> LoadFault
     fault_at(LoadCause::Memory, 0, 0)
 }
 
-// A fault and its place.
-fn fault_at(cause: LoadCause, template: u32, instruction: u32) -> LoadFault
+/// A fault and its place.
+pub(crate) fn fault_at(cause: LoadCause, template: u32, instruction: u32) -> LoadFault
     ensures { result ≡ record { cause = cause; template = template; instruction = instruction } }
 {
     LoadFault {
