@@ -30,7 +30,7 @@ found_by true o j e = inl (refl, sym (same_some 0 j e))
 found_by false None j e = absurd (cc e)
 found_by false (Some m) j e = inr (m, refl, sym (same_some (suc m) j e))
 
-Found : (WrittenTemplate → Bool) → List WrittenTemplate → ℕ → Type 0
+unfoldable pub Found : (WrittenTemplate → Bool) → List WrittenTemplate → ℕ → Type 0
 Found test ts j = (v : WrittenTemplate) × (slice_get ts j ≡ Some v) × (test v ≡ true)
 
 found_at : (test : WrittenTemplate → Bool) (t : WrittenTemplate) (ts : List WrittenTemplate) (j : ℕ) → ((test t ≡ true) × (j ≡ 0)) ⊎ ((m : ℕ) × (place_where test ts ≡ Some m) × (j ≡ suc m)) → ((m : ℕ) → place_where test ts ≡ Some m → Found test ts m) → Found test (t ∷ ts) j
@@ -38,7 +38,7 @@ unfolding Found
 found_at test t ts j (inl here) go = (t, ap (slice_get (t ∷ ts)) here.1, here.0)
 found_at test t ts j (inr later) go = let f = go later.0 later.1 in (f.0, ap (slice_get (t ∷ ts)) later.2 ∙ f.1, f.2)
 
-found : (test : WrittenTemplate → Bool) (ts : List WrittenTemplate) (j : ℕ) → place_where test ts ≡ Some j → Found test ts j
+pub found : (test : WrittenTemplate → Bool) (ts : List WrittenTemplate) (j : ℕ) → place_where test ts ≡ Some j → Found test ts j
 found test [] j e = absurd (cc e)
 found test (t ∷ ts) j e = found_at test t ts j (found_by (test t) (place_where test ts) j e) (found test ts)
 
@@ -48,7 +48,7 @@ placed_by true o some = (0, refl)
 placed_by false o (inl e) = absurd (true≢false (sym e))
 placed_by false o (inr some) = (suc some.0, ap (option_map suc) some.1)
 
-placed : (test : WrittenTemplate → Bool) (ts : List WrittenTemplate) (j : ℕ) (v : WrittenTemplate) → slice_get ts j ≡ Some v → test v ≡ true → (m : ℕ) × (place_where test ts ≡ Some m)
+pub placed : (test : WrittenTemplate → Bool) (ts : List WrittenTemplate) (j : ℕ) (v : WrittenTemplate) → slice_get ts j ≡ Some v → test v ≡ true → (m : ℕ) × (place_where test ts ≡ Some m)
 placed test [] j v there e = absurd (cc there)
 placed test (t ∷ ts) zero v there e = placed_by (test t) (place_where test ts) (inl (ap test (same_some t v there) ∙ e))
 placed test (t ∷ ts) (suc j) v there e = placed_by (test t) (place_where test ts) (inr (placed test ts j v there e))

@@ -58,7 +58,7 @@ then_less Less e = refl
 then_less Equal e = e
 then_less Greater e = e
 
-earlier_or_here : (a b c d : ℕ) (o : Ordering) → nat_cmp a c ≡ o → slice_cmp nat_cmp (a ∷ b ∷ []) (c ∷ d ∷ []) ≡ Less → (a < c) ⊎ ((a ≡ c) × (b < d))
+pub earlier_or_here : (a b c d : ℕ) (o : Ordering) → nat_cmp a c ≡ o → slice_cmp nat_cmp (a ∷ b ∷ []) (c ∷ d ∷ []) ≡ Less → (a < c) ⊎ ((a ≡ c) × (b < d))
 earlier_or_here a b c d Less is less = inl (ranked a c Less (sym is))
 earlier_or_here a b c d Equal is less =
     let behind : ordering_then (nat_cmp b d) Equal ≡ Less = sym (ap (λ r. ordering_then r (ordering_then (nat_cmp b d) Equal)) is) ∙ less in

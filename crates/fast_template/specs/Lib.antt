@@ -12,3 +12,4 @@ pub mod Numbers
 pub mod PartCauses
 pub mod Phases
 pub mod Duplicates
+pub mod References

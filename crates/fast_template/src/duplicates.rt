@@ -1,25 +1,45 @@
 //! Templates that repeat a name or an identifier.
 
-ghost use Rattle.std.specs.Prelude.{◌≡◌, ◌≤◌, IfOk, MatchResult, None, Ok, Some, [], false, is_some, length, map};
+ghost use Rattle.std.specs.Prelude.{◌≡◌, ◌≤◌, ◌⊎◌, IfOk, MatchResult, None, Ok, Some, [], false, is_some, length, map};
 ghost use Rattle.std.specs.BTreeMap.{Updates, get};
 ghost use Rattle.std.specs.Cmp.Lexicographic.{slice_cmp};
 ghost use Rattle.std.specs.Ordering.{nat_cmp};
 ghost use Rattle.fast_template.specs.Duplicates.{EntersId, NamesLead, first_duplicate, has_entry};
+ghost use Rattle.fast_template.specs.LoadChecks.{want_of_memory as want_of_memory_of};
+ghost use Rattle.fast_template.specs.Phases.{IsFirstOf, Passes};
 ghost use Rattle.fast_template.specs.Written.{written_template_of};
 
 use crate::fault::{LoadCause, LoadFault};
 use crate::key::Name;
-use crate::walk::fault_at;
+use crate::walk::{fault_at, want_of_memory};
 use crate::written::Template;
 use std::alloc::{AllocError, Global};
 use std::collections::BTreeMap;
 
-/// Where the name of each template stands, or the first template that repeats a name or an identifier.
+/// Where the name of each template stands.
 ///
 /// # Errors
 ///
-/// Where memory is refused.
-pub(crate) fn index_names(
+/// The first fault of names or identifiers that are repeated, or want of memory.
+pub(crate) fn check_duplicates(
+    alloc: Global,
+    templates: &[Template],
+) -> Result<BTreeMap<Name, u32>, LoadFault>
+    requires { length templates.now ≤ 65535 }
+    ensures { MatchResult result
+        (λ names. Passes (map written_template_of templates.now) 2
+            × NamesLead names (map written_template_of templates.now))
+        (λ fault. IsFirstOf (map written_template_of templates.now) 2 fault ⊎ (fault ≡ want_of_memory_of)) }
+{
+    match index_names(alloc, templates) {
+        Ok(Ok(names)) => Ok(names),
+        Ok(Err(fault)) => Err(fault),
+        Err(AllocError) => Err(want_of_memory()),
+    }
+}
+
+// Where the name of each template stands, or the first template that repeats a name or an identifier.
+fn index_names(
     alloc: Global,
     templates: &[Template],
 ) -> Result<Result<BTreeMap<Name, u32>, LoadFault>, AllocError>

@@ -14,6 +14,7 @@ mod kind;
 pub mod laws;
 mod names;
 mod operators;
+mod references;
 mod resolved;
 mod scalar;
 mod set;
