@@ -1,4 +1,5 @@
 pub mod Maps
+pub mod PhaseOrder
 pub mod ReferencePhase
 pub mod DuplicatePhase
 pub mod Places

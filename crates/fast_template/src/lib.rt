@@ -6,6 +6,7 @@
 #![tactic(auto)]
 
 mod bits;
+mod checks;
 mod duplicates;
 mod fault;
 mod initial;
