@@ -13,3 +13,4 @@ pub mod PartCauses
 pub mod Phases
 pub mod Duplicates
 pub mod References
+pub mod Surroundings

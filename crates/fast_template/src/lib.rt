@@ -19,6 +19,7 @@ mod references;
 mod resolved;
 mod scalar;
 mod set;
+mod surroundings;
 #[cfg(test)]
 mod tests;
 mod unicode_text;
