@@ -9,6 +9,7 @@ mod bits;
 mod checks;
 mod duplicates;
 mod fault;
+mod flat_lists;
 mod initial;
 mod key;
 mod kind;
