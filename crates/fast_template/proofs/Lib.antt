@@ -1,4 +1,13 @@
 pub mod Maps
+pub mod PhaseOrder
+pub mod ReferencePhase
+pub mod DuplicatePhase
+pub mod Places
+pub mod OperatorPhase
+pub mod NamePhase
+pub mod HexTexts
+pub mod NumberLaws
+pub mod WalkLaws
 pub mod Slots
 pub mod WorkedTemplates
 pub mod WorkedRows

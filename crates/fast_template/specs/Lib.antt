@@ -7,3 +7,10 @@ pub mod FlatLists
 pub mod TemplateSets
 pub mod Places
 pub mod LoadChecks
+pub mod Walks
+pub mod Numbers
+pub mod PartCauses
+pub mod Phases
+pub mod Duplicates
+pub mod References
+pub mod Surroundings

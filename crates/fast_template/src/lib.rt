@@ -6,16 +6,25 @@
 #![tactic(auto)]
 
 mod bits;
+mod checks;
+mod duplicates;
 mod fault;
+mod flat_lists;
+mod initial;
 mod key;
 mod kind;
 pub mod laws;
+mod names;
+mod operators;
+mod references;
 mod resolved;
 mod scalar;
 mod set;
+mod surroundings;
 #[cfg(test)]
 mod tests;
 mod unicode_text;
+mod walk;
 mod written;
 
 pub use bits::{has_map, needs_bit, part_needs_bit};

@@ -1,0 +1,18 @@
+use Rattle.std.proofs.Common.{◌≡◌, ◌≤◌, ◌<◌, inl, length, map, List, ℕ, subst, sym, rules}
+use Rattle.std.proofs.lemmas.List.{length-map}
+use Rattle.fast_template.specs.Written.{WrittenTemplate, written_template_of}
+use Rattle.fast_template.specs.LoadChecks.{IsFirstFault, want_of_memory}
+use Rattle.fast_template.proofs.PhaseOrder.{templates_fault, templates_pass, none_before_first, and_this, either}
+use Rattle.fast_template.proofs.checks.check_written.Goals as goal
+
+pub returns-then-templates-gt65535 : goal.returns-then-templates-gt65535
+returns-then-templates-gt65535 c =
+    let ts : List WrittenTemplate = map written_template_of c.args.templates.now in
+    let many : 65535 < length ts = subst (λ n. 65535 < n) (sym (length-map c.args.templates.now written_template_of)) c.if-templates-gt65535.true in
+    inl (subst (IsFirstFault ts) (sym c.fault_at.ensures) (templates_fault ts many))
+
+pub returns-in-Err-check_duplicates : goal.returns-in-Err-check_duplicates
+returns-in-Err-check_duplicates c =
+    let ts : List WrittenTemplate = map written_template_of c.args.templates.now in
+    let few : length ts ≤ 65535 = subst (λ n. n ≤ 65535) (sym (length-map c.args.templates.now written_template_of)) c.if-templates-gt65535.false in
+    either ts 2 c.in-Err-check_duplicates.fault want_of_memory (and_this ts 1 (and_this ts 0 (none_before_first ts) (templates_pass ts few)) c.in-Ok.ensures) c.in-Err-check_duplicates.ensures

@@ -1,0 +1,13 @@
+use Rattle.std.proofs.Common.{◌≡◌, ◌==◌, rules, Some, sym, ◌∙◌}
+use Rattle.std.specs.List.{before_first, after_first}
+use Rattle.fast_template.specs.InitialValues.{integer_of}
+use Rattle.fast_template.specs.Numbers.{small_integer}
+use Rattle.fast_template.proofs.NumberLaws.{decimal_some}
+use Rattle.fast_template.proofs.initial.decimal.Goals as goal
+
+pub returns : goal.returns
+returns c =
+    let mantissa : Some c.in-Some.mantissa ≡ small_integer (before_first (λ x. x == 101) c.args.text.now) = search rules in
+    let exponent : Some c.in-Some-integer.exponent ≡ small_integer (after_first (λ x. x == 101) c.args.text.now) = search rules in
+    let told = decimal_some (integer_of (before_first (λ x. x == 101) c.args.text.now)) (integer_of (after_first (λ x. x == 101) c.args.text.now)) c.in-Some.mantissa c.in-Some-integer.exponent mantissa exponent in
+    search rules
