@@ -16,6 +16,7 @@ mod found;
 pub mod laws;
 mod plan;
 mod read;
+mod refuse;
 mod string;
 mod tail;
 #[cfg(test)]
