@@ -10,9 +10,11 @@
 
 mod afterwards;
 mod base;
+mod cut;
 mod delta;
 mod fault;
 mod found;
+mod left_out;
 pub mod laws;
 mod plan;
 mod read;
