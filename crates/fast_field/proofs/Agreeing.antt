@@ -56,3 +56,5 @@ suffix_stops a b i in_a in_b differ so_far = record {
 
 pub suffix_ends : (a b : List ℕ) (i : ℕ) → min (length a) (length b) ≤ i → i ≤ min (length a) (length b) → drop (length a - i) a ≡ drop (length b - i) b → IsLongestSuffix a b i
 suffix_ends a b i le ge so_far = record { in_a = omega arith; in_b = omega arith; common = so_far; longest = λ j ja jb e. omega arith }
+
+pub ruleset agreeing = (prefix_more, prefix_stops, prefix_ends, suffix_none, suffix_more, suffix_ends)

@@ -17,6 +17,7 @@ pub mod BestCuts
 pub mod BestTails
 pub mod BestValues
 pub mod OneBest
+pub mod RefusalSteps
 pub mod CallSteps
 pub mod ReadFields
 pub mod BaseSteps

@@ -1,5 +1,5 @@
 -- What a call answered, against what reading gives. (Own.)
-use Rattle.std.specs.Prelude.{◌≡◌, ℕ, ◌^◌, ℤ, pos, negsuc, ◌<ℤ◌, List, drop, Result, Ok, Err}
+use Rattle.std.specs.Prelude.{◌≡◌, ℕ, ◌^◌, ℤ, pos, negsuc, ◌<ℤ◌, List, drop, Option, Some, None, Result, Ok, Err}
 use Rattle.fast_field.specs.declared.fault.FieldFault.{FieldFault}
 use Rattle.fast_field.specs.declared.fault.FieldFault.TheVariants as fault
 
@@ -21,3 +21,8 @@ OrRefused read e = (e ≡ fault.Memory) × (read ≡ Err fault.NeedMore → ⊥)
 -- what ten bytes can spell, with a sign or with none
 abbrev pub IsSentRange : ℤ → Type 0
 IsSentRange z = (negsuc (2 ^ 70) <ℤ z) × (z <ℤ pos (2 ^ 70))
+
+-- a call that judges a value refused it for this reason, or there was none
+abbrev pub Judges : {F : Type 0} → Option F → Result (Unit {0}) F → Type 0
+Judges reason (Ok x) = reason ≡ None
+Judges reason (Err f) = reason ≡ Some f

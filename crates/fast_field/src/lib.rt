@@ -10,12 +10,15 @@
 
 mod afterwards;
 mod base;
+mod cut;
 mod delta;
 mod fault;
 mod found;
+mod left_out;
 pub mod laws;
 mod plan;
 mod read;
+mod refuse;
 mod string;
 mod tail;
 #[cfg(test)]

@@ -1,0 +1,59 @@
+//! Whether bit 0 of the presence map gives a value: FAST 1.1, Field Operators.
+
+ghost use Rattle.std.specs.Prelude.{◌≡◌};
+ghost use Rattle.std.specs.Option.{option_copied};
+ghost use Rattle.fast_dictionary.specs.Dictionary.{entry_of};
+ghost use Rattle.fast_field.specs.Bases.{predicted};
+ghost use Rattle.fast_field.specs.Planning.{constant_gives, default_gives, gives_same, is_optional, is_same, left_out_of};
+
+use crate::base::predicted_value;
+use fast_dictionary::EntryRef;
+use fast_template::{FieldPart, Operator, Presence, Scalar};
+
+/// Whether two fields are both absent, or have the same value.
+fn are_same(value: Option<&Scalar>, other: Option<&Scalar>) -> bool
+    ensures { result ≡ is_same (option_copied value.entry) (option_copied other.entry) }
+{
+    match value {
+        None => other.is_none(),
+        Some(value) => match other {
+            None => false,
+            Some(other) => *value == *other,
+        },
+    }
+}
+
+/// Whether a field may be absent.
+fn may_be_absent(presence: Presence) -> bool
+    ensures { result ≡ is_optional presence }
+{
+    match presence {
+        Presence::Mandatory => false,
+        Presence::Optional => true,
+    }
+}
+
+/// Whether bit 0 of copy, increment and tail gives a value.
+fn is_predicted(instr: &FieldPart, kept: EntryRef, value: Option<&Scalar>) -> bool
+    ensures { result ≡ gives_same (predicted instr.now (entry_of kept.entry)) (option_copied value.entry) }
+{
+    match predicted_value(instr, kept) {
+        Ok(found) => are_same(found.value(instr, kept), value),
+        Err(_) => false,
+    }
+}
+
+/// Whether bit 0 gives a value.
+pub(crate) fn is_left_out(instr: &FieldPart, kept: EntryRef, value: Option<&Scalar>) -> bool
+    ensures { result ≡ left_out_of instr.now.operator instr.now (entry_of kept.entry) (option_copied value.entry) }
+{
+    match instr.operator {
+        Operator::Plain | Operator::Delta => false,
+        Operator::Constant => value.is_none() && may_be_absent(instr.presence),
+        Operator::Default => match (&instr.initial, value) {
+            (None, None) => may_be_absent(instr.presence),
+            (initial, value) => are_same(initial.as_ref(), value),
+        },
+        Operator::Copy | Operator::Increment | Operator::Tail => is_predicted(instr, kept, value),
+    }
+}
