@@ -1,6 +1,5 @@
 //! The delta of a string or vector that has the fewest bytes: (own) FAST 1.1 leaves the choice to the writer.
 
-
 ghost use Rattle.fast_field.specs.CommonParts.{IsLongestPrefix, IsLongestSuffix};
 
 /// How many units two lists have in common at their front.

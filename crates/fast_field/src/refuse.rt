@@ -121,11 +121,7 @@ fn judge_tail(instr: &FieldPart, kept: EntryRef, value: &Scalar) -> Result<(), F
 
 /// The first reason why a value that is there cannot be written.
 #[tactic(auto, unfolding(crate::specs::Refusals::value_refusal))]
-fn judge_value(
-    instr: &FieldPart,
-    kept: EntryRef,
-    value: &Scalar,
-) -> Result<(), FieldRefusal>
+fn judge_value(instr: &FieldPart, kept: EntryRef, value: &Scalar) -> Result<(), FieldRefusal>
     ensures { Judges (value_refusal instr.now (entry_of kept.entry) value.now) result }
 {
     if !is_of_kind(instr.kind, value) || !is_spellable(value) {

@@ -34,8 +34,8 @@ ordered false false false x y z not_u not_l = refl
 
 same_digit : (c : ℕ) → hex_digit_value c ≡ hex_digit_of c
 same_digit c = ordered (is_digit c) (nat_le 65 c && nat_le c 70) (nat_le 97 c && nat_le c 102) (c - 48) (c - 55) (c - 87)
-  (λ d u. let below : c ≤ 57 = leb-true c 57 (second_of (nat_le 48 c) (nat_le c 57) d) in let above : 65 ≤ c = leb-true 65 c (first_of (nat_le 65 c) (nat_le c 70) u) in absurd (omega (arith, below, above)))
-  (λ d l. let below : c ≤ 57 = leb-true c 57 (second_of (nat_le 48 c) (nat_le c 57) d) in let above : 97 ≤ c = leb-true 97 c (first_of (nat_le 97 c) (nat_le c 102) l) in absurd (omega (arith, below, above)))
+    (λ d u. let below : c ≤ 57 = leb-true c 57 (second_of (nat_le 48 c) (nat_le c 57) d) in let above : 65 ≤ c = leb-true 65 c (first_of (nat_le 65 c) (nat_le c 70) u) in absurd (omega (arith, below, above)))
+    (λ d l. let below : c ≤ 57 = leb-true c 57 (second_of (nat_le 48 c) (nat_le c 57) d) in let above : 97 ≤ c = leb-true 97 c (first_of (nat_le 97 c) (nat_le c 102) l) in absurd (omega (arith, below, above)))
 
 pairs : (h l : Option ℕ) (high low i : ℕ) (rest : Result (List ℕ) FromHexError)
     → good ((digit_or_error high i h >>= λ x. (digit_or_error low (i + 1) l >>= λ y. Ok (x * 16 + y))) >>= λ byte. (rest >>= λ bytes. Ok (byte ∷ bytes)))

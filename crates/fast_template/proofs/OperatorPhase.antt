@@ -217,8 +217,7 @@ same_some x y e = ap (λ o. option_map_or (λ v. v) o x) e
 -- ---- nothing of the phase fails before the first cause
 
 module _ (ts : List WrittenTemplate) (fault : LoadFault) (f : IsFirstPlace nothing_of of_parts ts 1 fault) (n : ℕ) (numbered : f.number ≡ suc n)
-  (w : WrittenTemplate) (x : WrittenInstruction) (w_there : slice_get ts f.place ≡ Some w) (x_there : slice_get (listed w.members) n ≡ Some x) (g : IsFirstPart (parts_of x) f.cause) where
-
+    (w : WrittenTemplate) (x : WrittenInstruction) (w_there : slice_get ts f.place ≡ Some w) (x_there : slice_get (listed w.members) n ≡ Some x) (g : IsFirstPart (parts_of x) f.cause) where
   same_rank : (p : WrittenPart) (d : LoadCause) → p ≡ g.one → CauseUpTo (rank_of d) p → (rank_of d < rank_of f.cause) ⊎ ((rank_of d ≡ rank_of f.cause) × (slice_cmp nat_cmp [] [] ≡ Less)) → ⊥
   unfolding CauseUpTo
   same_rank p d same (c, e, low) (inl less) =

@@ -28,7 +28,7 @@ pub(crate) fn check_written(
 ) -> Result<BTreeMap<Name, u32>, LoadFault>
     ensures { MatchResult result
         (λ names. ((phase : ℕ) → phase < 5 → Passes (map written_template_of templates.now) phase)
-            × NamesLead names (map written_template_of templates.now))
+        × NamesLead names (map written_template_of templates.now))
         (λ fault. IsFirstFault (map written_template_of templates.now) fault ⊎ (fault ≡ want_of_memory)) }
 {
     if templates.len() > 65_535 {

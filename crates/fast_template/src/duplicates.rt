@@ -28,7 +28,7 @@ pub(crate) fn check_duplicates(
     requires { length templates.now ≤ 65535 }
     ensures { MatchResult result
         (λ names. Passes (map written_template_of templates.now) 2
-            × NamesLead names (map written_template_of templates.now))
+        × NamesLead names (map written_template_of templates.now))
         (λ fault. IsFirstOf (map written_template_of templates.now) 2 fault ⊎ (fault ≡ want_of_memory_of)) }
 {
     match index_names(alloc, templates) {
@@ -46,7 +46,7 @@ fn index_names(
     requires { length templates.now ≤ 65535 }
     ensures { IfOk result (λ answer. MatchResult answer
         (λ names. (first_duplicate [] (map written_template_of templates.now) 1 ≡ None)
-            × NamesLead names (map written_template_of templates.now))
+        × NamesLead names (map written_template_of templates.now))
         (λ fault. first_duplicate [] (map written_template_of templates.now) 1 ≡ Some fault)) }
 {
     let mut names = BTreeMap::new(alloc);
@@ -66,11 +66,7 @@ fn index_names(
 }
 
 // Enters the place of a name, or answers that it has one.
-fn enter_name(
-    names: &mut BTreeMap<Name, u32>,
-    name: Name,
-    place: u32,
-) -> Result<bool, AllocError>
+fn enter_name(names: &mut BTreeMap<Name, u32>, name: Name, place: u32) -> Result<bool, AllocError>
     ensures repeats { IfOk result (λ repeats. repeats ≡ is_some (get (slice_cmp nat_cmp) names.old name)) }
     ensures updates { result ≡ Ok false → Updates (slice_cmp nat_cmp) names.old names.new name (Some place) }
 {
@@ -82,11 +78,7 @@ fn enter_name(
 }
 
 // Enters the place of an identifier, where there is one, or answers that it has one.
-fn enter_id(
-    ids: &mut BTreeMap<u32, u32>,
-    id: Option<u32>,
-    place: u32,
-) -> Result<bool, AllocError>
+fn enter_id(ids: &mut BTreeMap<u32, u32>, id: Option<u32>, place: u32) -> Result<bool, AllocError>
     ensures repeats { IfOk result (λ repeats. repeats ≡ has_entry ids.old id) }
     ensures updates { result ≡ Ok false → EntersId ids.old ids.new id place }
 {

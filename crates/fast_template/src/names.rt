@@ -58,7 +58,9 @@ pub(crate) fn check_names(templates: &[Template]) -> Result<(), LoadFault>
 fn template_is_named(template: &Template) -> bool
     ensures { result ≡ list_all is_name_of (names_of (written_template_of template.now)) }
 {
-    is_name(&template.name) && is_name_or_none(&template.dictionary) && is_name_or_none(&template.type_ref)
+    is_name(&template.name)
+        && is_name_or_none(&template.dictionary)
+        && is_name_or_none(&template.type_ref)
 }
 
 // Whether the names that an instruction itself has are names.
@@ -67,7 +69,9 @@ fn is_named(instruction: &Instruction) -> bool
 {
     match instruction {
         Instruction::Field {
-            name, operation, ..
+            name,
+            operation,
+            ..
         } => is_name(name) && is_named_beside(operation),
         Instruction::Parts {
             name,

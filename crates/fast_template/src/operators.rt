@@ -44,7 +44,13 @@ impl Judge for Operators {
                 exponent,
                 mantissa,
                 ..
-            } => match cause_of_part(self.alloc, Part::Exponent, Kind::Int32, *presence, exponent)? {
+            } => match cause_of_part(
+                self.alloc,
+                Part::Exponent,
+                Kind::Int32,
+                *presence,
+                exponent,
+            )? {
                 Some(cause) => Ok(Some(cause)),
                 None => cause_of_part(
                     self.alloc,
@@ -55,7 +61,9 @@ impl Judge for Operators {
                 ),
             },
             Instruction::Sequence {
-                presence, length, ..
+                presence,
+                length,
+                ..
             } => cause_of_part(self.alloc, Part::Length, Kind::UInt32, *presence, length),
             Instruction::Group { .. } | Instruction::Reference { .. } => Ok(None),
         }
@@ -88,8 +96,12 @@ fn cause_of_part(
     operation: &Operation,
 ) -> Result<Option<LoadCause>, AllocError>
     requires { part ≡ Exponent → kind ≡ Int32 }
-    ensures { IfOk result (λ cause. cause ≡ part_cause (record { part = part; kind = kind;
-        presence = presence; operation = operation_of operation.now })) }
+    ensures { IfOk result (λ cause. cause ≡ part_cause (record {
+      part = part;
+      kind = kind;
+      presence = presence;
+      operation = operation_of operation.now;
+    })) }
 {
     if !applies(operation.operator, kind) {
         return Ok(Some(LoadCause::S2));

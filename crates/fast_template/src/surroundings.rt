@@ -30,8 +30,10 @@ pub(crate) fn inside<'a>(
     type_ref: &'a Option<String>,
 ) -> Around<'a>
     ensures { context_in result ≡ inside_of (context_in around.entry)
-        (record { dictionary = option_map string_bytes dictionary.now;
-            type_ref = option_map string_bytes type_ref.now }) }
+        (record {
+          dictionary = option_map string_bytes dictionary.now;
+          type_ref = option_map string_bytes type_ref.now;
+        }) }
 {
     Around {
         template: around.template,
@@ -76,11 +78,7 @@ fn name_of(alloc: Global, text: &str) -> Result<Name, AllocError>
 }
 
 // The dictionary of an operator: its own, or else that around it, or else `global`.
-fn scope_of(
-    alloc: Global,
-    around: Around<'_>,
-    operation: &Operation,
-) -> Result<Scope, AllocError>
+fn scope_of(alloc: Global, around: Around<'_>, operation: &Operation) -> Result<Scope, AllocError>
     ensures { IfOk result (λ scope. scope ≡ scope_of_operation (context_in around.entry) (operation_of operation.now)) }
 {
     match own_or(&operation.dictionary, around.dictionary) {

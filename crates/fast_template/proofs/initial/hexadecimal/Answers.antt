@@ -18,7 +18,6 @@ returns-else-len-le65535 c =
     let long : is_short c.in-Ok.bytes.items ≡ false = search rules in
     sym (ap (option_and_then (λ bytes. where_so (is_short bytes) (Bytes bytes))) bytes_are ∙ ap (λ b. where_so b (Bytes c.in-Ok.bytes.items)) long)
 
-
 pub returns-in-InvalidHexCharacter : goal.returns-in-InvalidHexCharacter
 returns-in-InvalidHexCharacter c =
     let none : hex_bytes_of c.args.text.now ≡ None = ap hex_bytes_of (sym c.as_bytes.ensures.value) ∙ refused c.as_bytes.result.now c.in-Err.error (λ e. absurd (cc (sym e ∙ c.in-InvalidHexCharacter.is))) c.in-Err.ensures.err in
