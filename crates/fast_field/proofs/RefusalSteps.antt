@@ -1,6 +1,6 @@
 -- How calls judge a value.
-use Rattle.std.proofs.Common.{◌≡◌, ℕ, zero, suc, ◌+◌, ◌<◌, ◌≤◌, Bool, true, false, List, [], ◌∷◌, length, get_or, refl, arith, ◌↔◌}
-use Rattle.std.specs.Prelude.{nat_lt, ◌&&◌, EachIndex, IsTrue, slice_index}
+use Rattle.std.proofs.Common.{◌≡◌, ℕ, zero, suc, ◌<◌, Bool, true, false, List, [], ◌∷◌, length, get_or, refl, arith, ◌↔◌}
+use Rattle.std.specs.Prelude.{nat_lt, EachIndex, IsTrue, slice_index}
 use Rattle.std.proofs.lemmas.Bool.Decides.{nat_tests}
 use Rattle.fast_field.specs.Refusals.{are_characters}
 use Rattle.fast_field.proofs.ValuesWithin.{both}

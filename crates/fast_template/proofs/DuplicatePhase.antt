@@ -1,5 +1,5 @@
 -- The phase of duplicates, from the first template that repeats something.
-use Rattle.std.proofs.Common.{◌≡◌, ◌≢◌, ◌≤◌, ◌<◌, ◌+◌, ◌==◌, ℕ, zero, suc, List, [], ◌∷◌, ◌++◌, length, take, min, if◌then◌else◌, nat_eq, Option, Some, None, option_map, is_some, Bool, true, false, ◌⊎◌, inl, inr, refl, sym, ap, subst, ◌∙◌, append-nil, append_assoc, lit≤, arith, true≢false}
+use Rattle.std.proofs.Common.{◌≡◌, ◌≤◌, ◌<◌, ◌+◌, ℕ, zero, suc, List, [], ◌∷◌, ◌++◌, length, take, min, if◌then◌else◌, nat_eq, Option, Some, None, option_map, is_some, Bool, true, false, ◌⊎◌, inl, inr, refl, sym, ap, subst, ◌∙◌, append-nil, append_assoc, lit≤, arith, true≢false}
 use Rattle.std.specs.Prelude.{slice_get, IsSome}
 use Rattle.std.specs.Option.{option_map_or}
 use Rattle.std.specs.Ordering.{nat_cmp, ordering_then}
@@ -12,7 +12,7 @@ use Rattle.fast_template.specs.declared.fault.LoadCause.TheVariants.{DuplicateNa
 use Rattle.fast_template.specs.declared.fault.LoadFault.{LoadFault}
 use Rattle.fast_template.specs.Written.{WrittenTemplate}
 use Rattle.fast_template.specs.TemplateSets.{has_id}
-use Rattle.fast_template.specs.LoadChecks.{Check, few_templates, names_well_made, name_new, id_new, operator_allowed, constant_has_value, default_has_value, value_spelled, reference_known, off_cycles, nests_little, sum_small, Fails, Before, turn_of, fault_of}
+use Rattle.fast_template.specs.LoadChecks.{Check, few_templates, names_well_made, name_new, id_new, operator_allowed, constant_has_value, default_has_value, value_spelled, reference_known, off_cycles, nests_little, sum_small, Fails, Before}
 use Rattle.fast_template.specs.Walks.{after_template}
 use Rattle.fast_template.specs.Duplicates.{place_where, place_named, place_of_id, repeats_id, duplicate_of, first_duplicate}
 use Rattle.fast_template.specs.Phases.{phase_of, Passes, IsFirstOf}

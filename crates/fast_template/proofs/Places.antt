@@ -1,7 +1,7 @@
 -- Maps that lead to the first template of a name or of an identifier.
-use Rattle.std.proofs.Common.{◌≡◌, ◌<◌, ◌+◌, ◌==◌, map, take, drop, get_or, string_bytes, length-take-le, ℕ, zero, suc, List, [], ◌∷◌, ◌++◌, length, cond, if◌then◌else◌, nat_eq, Option, Some, None, option_map, is_some, Bool, true, false, refl, sym, ap, subst, ◌∙◌, arith, true≢false}
+use Rattle.std.proofs.Common.{◌≡◌, ◌<◌, ◌+◌, ◌==◌, map, take, drop, get_or, string_bytes, length-take-le, ℕ, suc, List, [], ◌∷◌, ◌++◌, length, cond, if◌then◌else◌, nat_eq, Option, Some, None, option_map, is_some, Bool, true, false, refl, sym, ap, subst, ◌∙◌, arith, true≢false}
 use Rattle.std.specs.Option.{option_or}
-use Rattle.std.specs.Ordering.{nat_cmp, is_eq}
+use Rattle.std.specs.Ordering.{nat_cmp}
 use Rattle.std.specs.Cmp.{unsigned_ties, unsigned_Decides}
 use Rattle.std.specs.Cmp.Lexicographic.{pointwise, slice_cmp, texts_ties, same_text}
 use Rattle.std.specs.BTreeMap.{BTreeMap, Updates, get}

@@ -1,5 +1,5 @@
 -- What stands around an instruction, as the program hands it on.
-use Rattle.std.specs.Prelude.{ℕ, List, Option, option_map}
+use Rattle.std.specs.Prelude.{option_map}
 use Rattle.fast_template.specs.declared.surroundings.Around.{Around}
 use Rattle.fast_template.specs.FlatLists.{Context}
 

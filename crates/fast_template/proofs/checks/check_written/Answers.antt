@@ -1,4 +1,4 @@
-use Rattle.std.proofs.Common.{◌≡◌, ◌≤◌, ◌<◌, inl, length, map, List, ℕ, subst, sym, rules}
+use Rattle.std.proofs.Common.{◌≤◌, ◌<◌, inl, length, map, List, subst, sym}
 use Rattle.std.proofs.lemmas.List.{length-map}
 use Rattle.fast_template.specs.Written.{WrittenTemplate, written_template_of}
 use Rattle.fast_template.specs.LoadChecks.{IsFirstFault, want_of_memory}

@@ -1,4 +1,4 @@
-use Rattle.std.proofs.Common.{◌≡◌, ◌≤◌, ◌^◌, ◌+◌, ◌*◌, ◌-◌, ℕ, min, fold, drop}
+use Rattle.std.proofs.Common.{◌≡◌, ◌≤◌, ◌^◌, ◌+◌, ◌*◌, ◌-◌, min, fold, drop}
 use Rattle.fast_template.proofs.initial.capped_number.Given as goal
 
 abbrev pub invariant-loop-digit : goal.invariant-loop-digit

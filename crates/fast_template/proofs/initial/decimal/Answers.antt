@@ -1,4 +1,4 @@
-use Rattle.std.proofs.Common.{◌≡◌, ◌==◌, rules, Some, sym, ◌∙◌}
+use Rattle.std.proofs.Common.{◌≡◌, ◌==◌, rules, Some}
 use Rattle.std.specs.List.{before_first, after_first}
 use Rattle.fast_template.specs.InitialValues.{integer_of}
 use Rattle.fast_template.specs.Numbers.{small_integer}

@@ -1,4 +1,4 @@
-use Rattle.std.proofs.Common.{◌≡◌, ◌≤◌, rules, inl, length, map, List, Some, None, ℕ, subst, sym, ◌∙◌}
+use Rattle.std.proofs.Common.{◌≡◌, ◌≤◌, rules, inl, length, map, List, Some, None, subst, sym}
 use Rattle.std.proofs.lemmas.List.{length-map}
 use Rattle.fast_template.specs.Written.{WrittenTemplate, written_template_of}
 use Rattle.fast_template.specs.Walks.{first_at_fault}
