@@ -1,0 +1,29 @@
+use crate::message::{Message, Node};
+use fast_template::{ByteString, Scalar};
+use std::alloc::{AllocError, Global};
+
+// Two elements, of which the first has a text of this many bytes, in vectors with this much room.
+fn message(alloc: Global, length: usize, room: usize) -> Result<Message, AllocError> {
+    let mut text = Vec::with_capacity(alloc, length + room)?;
+    text.resize(length, 0x41)?;
+    let mut first = Vec::with_capacity(alloc, 2 + room)?;
+    first.push(Node::Value(Scalar::Ascii(ByteString::from_vec(text))))?;
+    first.push(Node::Absent)?;
+    let second = vec![in alloc; Node::Group(Vec::new(alloc)), Node::Value(Scalar::U32(7))]?;
+    let mut elements = Vec::with_capacity(alloc, 2 + room)?;
+    elements.push(first)?;
+    elements.push(second)?;
+    Ok(Message {
+        template: 1,
+        fields: vec![in alloc; Node::Sequence(elements)]?,
+    })
+}
+
+#[test]
+fn messages_are_equal_by_their_contents(rt: HostRuntime) -> Result<(), AllocError> {
+    let alloc = rt.alloc();
+    let one = message(alloc, 3, 0)?;
+    assert_eq!(rt; &one, &message(alloc, 3, 9)?);
+    assert_ne!(rt; &one, &message(alloc, 4, 0)?);
+    Ok(())
+}
