@@ -1,4 +1,6 @@
 pub mod Maps
+pub mod Rewritten
+pub mod Numbering
 pub mod PhaseOrder
 pub mod ReferencePhase
 pub mod DuplicatePhase

@@ -15,6 +15,7 @@ mod key;
 mod kind;
 pub mod laws;
 mod names;
+mod numbers;
 mod operators;
 mod references;
 mod resolved;
