@@ -1,6 +1,7 @@
 pub mod Maps
 pub mod Rewritten
 pub mod Numbering
+pub mod Slotting
 pub mod PhaseOrder
 pub mod ReferencePhase
 pub mod DuplicatePhase
@@ -10,7 +11,7 @@ pub mod NamePhase
 pub mod HexTexts
 pub mod NumberLaws
 pub mod WalkLaws
-pub mod Slots
+pub mod SlotLaws
 pub mod WorkedTemplates
 pub mod WorkedRows
 pub mod OneFault

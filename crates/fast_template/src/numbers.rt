@@ -43,7 +43,9 @@ fn number_one(flat: &mut Flat, own: u32) -> u32
             own + 1
         }
         Flat::Group {
-            number, members, ..
+            number,
+            members,
+            ..
         } => {
             *number = own;
             number_all(members, own + 1)

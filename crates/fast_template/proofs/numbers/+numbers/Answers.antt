@@ -12,10 +12,11 @@ number_all-loop-flat-preserved t c =
     let d = c.flat-item.result in
     let lt : i < length flats = omega arith in
     let numbered_is = c.number_one-next.ensures.numbered in
-    let next_is = c.number_one-next.ensures.next in
-    (unvisited_more flats _ i f c.loop-flat.invariant.0,
-    ap (partly _ _) next_is ∙ one_more flats i c.loop-flat.next f d lt numbered_is ∙ c.loop-flat.invariant.1,
-    omega (arith, next_is, left flats i f d lt, c.loop-flat.invariant.2))
+    let next_is = c.number_one-next.ensures.next in (
+      unvisited_more flats _ i f c.loop-flat.invariant.0,
+      ap (partly _ _) next_is ∙ one_more flats i c.loop-flat.next f d lt numbered_is ∙ c.loop-flat.invariant.1,
+      omega (arith, next_is, left flats i f d lt, c.loop-flat.invariant.2),
+    )
 
 pub number_all-returns-clause-numbered : goal.number_all-returns-clause-numbered
 number_all-returns-clause-numbered t c =
