@@ -2,6 +2,7 @@ pub mod Maps
 pub mod Rewritten
 pub mod Numbering
 pub mod Slotting
+pub mod Settling
 pub mod PhaseOrder
 pub mod ReferencePhase
 pub mod DuplicatePhase

@@ -21,6 +21,7 @@ mod references;
 mod resolved;
 mod scalar;
 mod set;
+mod settle;
 mod slots;
 mod surroundings;
 #[cfg(test)]

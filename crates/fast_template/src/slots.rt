@@ -32,8 +32,12 @@ pub(crate) fn first_slots(alloc: Global) -> Result<BTreeMap<Key, u32>, AllocErro
     Ok(slots)
 }
 
-// The slot after those that are taken. No machine has the memory for keys past its range.
-fn next_slot(slots: &BTreeMap<Key, u32>) -> Result<u32, AllocError>
+/// The slot after those that are taken: how many are.
+///
+/// # Errors
+///
+/// Past 32 bits: no machine has the memory for so many keys.
+pub(crate) fn next_slot(slots: &BTreeMap<Key, u32>) -> Result<u32, AllocError>
     ensures { IfOk result (λ slot. slot ≡ btree_map_len slots.now) }
 {
     match u32::try_from(slots.len()) {
