@@ -3,6 +3,7 @@ pub mod Rewritten
 pub mod Numbering
 pub mod Slotting
 pub mod Settling
+pub mod SettledSound
 pub mod PhaseOrder
 pub mod ReferencePhase
 pub mod DuplicatePhase
