@@ -4,6 +4,9 @@ pub mod Numbering
 pub mod Slotting
 pub mod Settling
 pub mod SettledSound
+pub mod InitialFits
+pub mod TypedLists
+pub mod WrittenTexts
 pub mod PhaseOrder
 pub mod ReferencePhase
 pub mod DuplicatePhase

@@ -6,7 +6,7 @@ use Rattle.fast_template.specs.declared.kind.Part.{Part}
 use Rattle.fast_template.specs.declared.kind.Presence.{Presence}
 use Rattle.fast_template.specs.declared.resolved.FieldPart.{FieldPart}
 use Rattle.fast_template.specs.Resolved.{Instruction, Instructions, whole_field, field_in_parts, group_of, sequence_of, no_instructions, then_instruction, size_of, size_of_one, depth_of, depth_of_one, numbered, numbered_one, with_key, with_keys, with_keys_of_one}
-use Rattle.fast_template.specs.TemplateSets.{IsTyped, IsPartOf, HasTypedParts, HaveTypedParts, IsNumbered}
+use Rattle.fast_template.specs.TemplateSets.{IsPartOf, HasTypedParts, HaveTypedParts, IsNumbered}
 
 -- a part's own number and key are no part of what makes it typed
 renumbered : (part : Part) (kind : Kind) (presence : Presence) (n : ℕ) (p : FieldPart) → IsPartOf part kind presence p → IsPartOf part kind presence (record p { number = n })
