@@ -17,6 +17,7 @@ pub mod laws;
 mod names;
 mod numbers;
 mod operators;
+mod profile;
 mod references;
 mod resolved;
 mod scalar;
