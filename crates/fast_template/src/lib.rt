@@ -11,6 +11,7 @@ mod duplicates;
 mod fault;
 mod flat_lists;
 mod initial;
+mod json;
 mod key;
 mod kind;
 pub mod laws;

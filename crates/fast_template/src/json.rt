@@ -1,0 +1,295 @@
+//! Templates from the data of a template text.
+
+ghost use Rattle.std.specs.Prelude.{◌≡◌, IfOk, option_and_then, option_map, string_bytes};
+ghost use Rattle.serde_json.specs.View.{view};
+ghost use Rattle.fast_template.specs.JsonTemplates.{charset_in, charset_named, decimal_in, field_in, form_in, form_named, has as has_of, leaf_in, length_name_in, name_in, operation_in, operator_named as operator_named_of, part_in, parts_in, plain, presence_in, presence_named, row_of_form as row_of_form_of, says_more as says_more_of, text_at as text_at_of};
+ghost use Rattle.fast_template.specs.Written.{operation_of, written_of};
+
+use crate::kind::{Kind, Operator, Presence};
+use crate::profile::{Row, Word, fits, text_of_word};
+use crate::written::{Instruction, Operation};
+use serde_json::Value;
+use std::alloc::{AllocError, Global};
+
+/// What an instruction's `kind` says.
+#[derive(Clone, Copy)]
+pub(crate) enum Form {
+    Int32,
+    UInt32,
+    Int64,
+    UInt64,
+    Decimal,
+    Text,
+    Bytes,
+    Group,
+    Sequence,
+    Reference,
+}
+
+fn text_at<'a>(object: &'a Value, word: Word) -> Option<&'a str>
+    ensures { option_map (λ s. s.now) result ≡ text_at_of word (view object.now) }
+{
+    object.get(text_of_word(word)).and_then(Value::as_str)
+}
+
+fn has(object: &Value, word: Word) -> bool
+    ensures { result ≡ has_of word (view object.now) }
+{
+    object.get(text_of_word(word)).is_some()
+}
+
+fn string_at(alloc: Global, object: &Value, word: Word) -> Result<Option<String>, AllocError>
+    ensures { IfOk result (λ o. option_map string_bytes o ≡ text_at_of word (view object.now)) }
+{
+    match text_at(object, word) {
+        Some(text) => Ok(Some(String::from_str(alloc, text)?)),
+        None => Ok(None),
+    }
+}
+
+fn name_at(alloc: Global, object: &Value) -> Result<String, AllocError>
+    ensures { IfOk result (λ name. string_bytes name ≡ name_in (view object.now)) }
+{
+    match text_at(object, Word::Name) {
+        Some(name) => String::from_str(alloc, name),
+        None => Ok(String::new(alloc)),
+    }
+}
+
+fn form_of_kind(text: &str) -> Option<Form>
+    ensures { result ≡ form_named text.now }
+{
+    match text {
+        "int32" => Some(Form::Int32),
+        "uInt32" => Some(Form::UInt32),
+        "int64" => Some(Form::Int64),
+        "uInt64" => Some(Form::UInt64),
+        "decimal" => Some(Form::Decimal),
+        "string" => Some(Form::Text),
+        "byteVector" => Some(Form::Bytes),
+        "group" => Some(Form::Group),
+        "sequence" => Some(Form::Sequence),
+        "templateRef" => Some(Form::Reference),
+        _ => None,
+    }
+}
+
+fn form_at(object: &Value) -> Option<Form>
+    ensures { result ≡ form_in (view object.now) }
+{
+    match text_at(object, Word::Kind) {
+        Some(text) => form_of_kind(text),
+        None => None,
+    }
+}
+
+fn presence_of_word(text: &str) -> Option<Presence>
+    ensures { result ≡ presence_named text.now }
+{
+    match text {
+        "mandatory" => Some(Presence::Mandatory),
+        "optional" => Some(Presence::Optional),
+        _ => None,
+    }
+}
+
+fn presence_at(object: &Value) -> Option<Presence>
+    ensures { result ≡ presence_in (view object.now) }
+{
+    match text_at(object, Word::Presence) {
+        Some(text) => presence_of_word(text),
+        None => Some(Presence::Mandatory),
+    }
+}
+
+fn kind_of_charset(text: &str) -> Option<Kind>
+    ensures { result ≡ charset_named text.now }
+{
+    match text {
+        "ascii" => Some(Kind::Ascii),
+        "unicode" => Some(Kind::Unicode),
+        _ => None,
+    }
+}
+
+fn charset_at(object: &Value) -> Option<Kind>
+    ensures { result ≡ charset_in (view object.now) }
+{
+    match text_at(object, Word::Charset) {
+        Some(text) => kind_of_charset(text),
+        None => Some(Kind::Ascii),
+    }
+}
+
+fn operator_named(text: &str) -> Option<Operator>
+    ensures { result ≡ operator_named_of text.now }
+{
+    match text {
+        "constant" => Some(Operator::Constant),
+        "default" => Some(Operator::Default),
+        "copy" => Some(Operator::Copy),
+        "increment" => Some(Operator::Increment),
+        "delta" => Some(Operator::Delta),
+        "tail" => Some(Operator::Tail),
+        _ => None,
+    }
+}
+
+fn says_more(object: &Value) -> bool
+    ensures { result ≡ says_more_of (view object.now) }
+{
+    has(object, Word::Value) || has(object, Word::Dictionary) || has(object, Word::Key)
+}
+
+fn plain_operation() -> Operation
+    ensures { operation_of result ≡ plain }
+{
+    Operation {
+        operator: Operator::Plain,
+        initial: None,
+        dictionary: None,
+        key: None,
+    }
+}
+
+fn operation_at(alloc: Global, object: &Value) -> Result<Option<Operation>, AllocError>
+    ensures { IfOk result (λ o. option_map operation_of o ≡ operation_in (view object.now)) }
+{
+    let Some(text) = text_at(object, Word::Operator) else {
+        return if says_more(object) {
+            Ok(None)
+        } else {
+            Ok(Some(plain_operation()))
+        };
+    };
+    match operator_named(text) {
+        Some(operator) => Ok(Some(Operation {
+            operator,
+            initial: string_at(alloc, object, Word::Value)?,
+            dictionary: string_at(alloc, object, Word::Dictionary)?,
+            key: string_at(alloc, object, Word::Key)?,
+        })),
+        None => Ok(None),
+    }
+}
+
+// The operator of a part that is an object of its own.
+fn part_at(
+    alloc: Global,
+    row: Row,
+    word: Word,
+    object: &Value,
+) -> Result<Option<Operation>, AllocError>
+    ensures { IfOk result (λ o. option_map operation_of o ≡ part_in row word (view object.now)) }
+{
+    match object.get(text_of_word(word)) {
+        Some(inner) => {
+            if fits(row, inner) {
+                operation_at(alloc, inner)
+            } else {
+                Ok(None)
+            }
+        }
+        None => Ok(Some(plain_operation())),
+    }
+}
+
+fn length_name_at(alloc: Global, object: &Value) -> Result<Option<String>, AllocError>
+    ensures { IfOk result (λ o. option_map string_bytes o ≡ length_name_in (view object.now)) }
+{
+    match object.get(text_of_word(Word::Length)) {
+        Some(length) => string_at(alloc, length, Word::Name),
+        None => Ok(None),
+    }
+}
+
+fn field_at(alloc: Global, kind: Kind, object: &Value) -> Result<Option<Instruction>, AllocError>
+    ensures { IfOk result (λ o. option_map written_of o ≡ field_in kind (view object.now)) }
+{
+    let Some(presence) = presence_at(object) else {
+        return Ok(None);
+    };
+    match operation_at(alloc, object)? {
+        Some(operation) => Ok(Some(Instruction::Field {
+            name: name_at(alloc, object)?,
+            kind,
+            presence,
+            operation,
+        })),
+        None => Ok(None),
+    }
+}
+
+fn parts_at(alloc: Global, object: &Value) -> Result<Option<Instruction>, AllocError>
+    ensures { IfOk result (λ o. option_map written_of o ≡ parts_in (view object.now)) }
+{
+    if has(object, Word::Operator) || says_more(object) {
+        return Ok(None);
+    }
+    let Some(presence) = presence_at(object) else {
+        return Ok(None);
+    };
+    let Some(exponent) = part_at(alloc, Row::Part, Word::Exponent, object)? else {
+        return Ok(None);
+    };
+    match part_at(alloc, Row::Part, Word::Mantissa, object)? {
+        Some(mantissa) => Ok(Some(Instruction::Parts {
+            name: name_at(alloc, object)?,
+            presence,
+            exponent,
+            mantissa,
+        })),
+        None => Ok(None),
+    }
+}
+
+fn decimal_at(alloc: Global, object: &Value) -> Result<Option<Instruction>, AllocError>
+    ensures { IfOk result (λ o. option_map written_of o ≡ decimal_in (view object.now)) }
+{
+    if has(object, Word::Exponent) || has(object, Word::Mantissa) {
+        parts_at(alloc, object)
+    } else {
+        field_at(alloc, Kind::Decimal, object)
+    }
+}
+
+fn text_field_at(alloc: Global, object: &Value) -> Result<Option<Instruction>, AllocError>
+    ensures { IfOk result (λ o. option_map written_of o ≡ option_and_then (λ k. field_in k (view object.now)) (charset_in (view object.now))) }
+{
+    match charset_at(object) {
+        Some(kind) => field_at(alloc, kind, object),
+        None => Ok(None),
+    }
+}
+
+// An instruction that has no members.
+fn leaf_at(alloc: Global, form: Form, object: &Value) -> Result<Option<Instruction>, AllocError>
+    ensures { IfOk result (λ o. option_map written_of o ≡ leaf_in form (view object.now)) }
+{
+    match form {
+        Form::Int32 => field_at(alloc, Kind::Int32, object),
+        Form::UInt32 => field_at(alloc, Kind::UInt32, object),
+        Form::Int64 => field_at(alloc, Kind::Int64, object),
+        Form::UInt64 => field_at(alloc, Kind::UInt64, object),
+        Form::Decimal => decimal_at(alloc, object),
+        Form::Text => text_field_at(alloc, object),
+        Form::Bytes => field_at(alloc, Kind::Bytes, object),
+        Form::Reference => Ok(Some(Instruction::Reference {
+            name: name_at(alloc, object)?,
+        })),
+        Form::Group | Form::Sequence => Ok(None),
+    }
+}
+
+fn row_of_form(form: Form) -> Row
+    ensures { result ≡ row_of_form_of form }
+{
+    match form {
+        Form::Text => Row::Text,
+        Form::Decimal => Row::Decimal,
+        Form::Group => Row::Group,
+        Form::Sequence => Row::Sequence,
+        Form::Reference => Row::Reference,
+        Form::Int32 | Form::UInt32 | Form::Int64 | Form::UInt64 | Form::Bytes => Row::Field,
+    }
+}
