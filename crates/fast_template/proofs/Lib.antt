@@ -6,6 +6,7 @@ pub mod Settling
 pub mod SettledSound
 pub mod InitialFits
 pub mod TypedLists
+pub mod JsonReading
 pub mod BareLists
 pub mod WrittenTexts
 pub mod PhaseOrder

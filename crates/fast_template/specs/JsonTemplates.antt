@@ -1,11 +1,11 @@
 -- The templates that a template text stands for, or the place where its shape is at fault.
 -- Own: FAST 1.1, Appendix 3, Template Definition Schemas, has the same in XML.
-use Rattle.std.specs.Prelude.{ℕ, ◌||◌, nat_eq, Bool, List, [], codes, if◌then◌else◌, is_some, Option, Some, None, unwrap_or, option_map, option_and_then, Result, Ok, Err}
-use Rattle.std.specs.Option.{option_map_or}
+use Rattle.std.specs.Prelude.{◌∷◌, ◌+◌, ◌&&◌, ℕ, ◌||◌, nat_eq, Bool, List, [], codes, if◌then◌else◌, is_some, Option, Some, None, unwrap_or, option_map, option_and_then, Result, Ok, Err, ◌≡◌, option_to_list}
+use Rattle.std.specs.Option.{option_map_or, option_or}
 use Rattle.std.specs.Ordering.{nat_cmp, match_ordering}
 use Rattle.std.specs.Cmp.Lexicographic.{pointwise, slice_cmp}
 use Rattle.serde_json.specs.Data.{Data, array, object, Items, no_items, item, Members, no_members, member}
-use Rattle.serde_json.specs.Find.{get, as_str}
+use Rattle.serde_json.specs.Find.{get, as_str, as_number, as_u64}
 use Rattle.fast_template.specs.declared.kind.Kind.{Kind}
 use Rattle.fast_template.specs.declared.kind.Kind.TheVariants as kind
 use Rattle.fast_template.specs.declared.kind.Presence.{Presence}
@@ -18,9 +18,15 @@ use Rattle.fast_template.specs.declared.profile.Row.{Row}
 use Rattle.fast_template.specs.declared.profile.Row.TheVariants as row
 use Rattle.fast_template.specs.declared.json.Form.{Form}
 use Rattle.fast_template.specs.declared.json.Form.TheVariants as form
+use Rattle.fast_template.specs.declared.json.Unread.{Unread}
+use Rattle.fast_template.specs.declared.json.Unread.TheVariants as unread
+use Rattle.fast_template.specs.Written.{WrittenTemplate, WrittenOperation, Surroundings, WrittenInstruction, WrittenInstructions, written_field, written_parts, written_group, written_sequence, written_reference, no_written, then_written}
+use Rattle.fast_template.specs.LoadChecks.{is_name, fault_at}
+use Rattle.fast_template.specs.declared.fault.LoadCause.TheVariants as cause
+use Rattle.fast_template.specs.declared.fault.LoadFault.{LoadFault}
+use Rattle.std.specs.List.{list_all}
 use Rattle.fast_template.specs.Profile.{word_text, fits}
 use Rattle.fast_template.specs.Walks.{next_number}
-use Rattle.fast_template.specs.Written.{WrittenOperation, Surroundings, WrittenInstruction, WrittenInstructions, written_field, written_parts, written_group, written_sequence, written_reference, no_written, then_written}
 
 -- ---- what stands under a key
 
@@ -173,12 +179,13 @@ of_form f d n inside = leaf n (leaf_in f d)
 abbrev pub one_of : Data → ℕ → Read WrittenInstructions → Read WrittenInstruction
 one_of d n inside = option_map_or (λ f. if fits (row_of_form f) d then of_form f d n inside else Err n) (form_in d) (Err n)
 
+abbrev pub before_others : WrittenInstruction → Read WrittenInstructions → Read WrittenInstructions
+before_others i (Err n) = Err n
+before_others i (Ok q) = Ok (then_written i q.0, q.1)
+
 abbrev pub then_others : Read WrittenInstruction → (ℕ → Read WrittenInstructions) → Read WrittenInstructions
 then_others (Err n) others = Err n
-then_others (Ok p) others = before_others p.0 (others p.1) where
-  before_others : WrittenInstruction → Read WrittenInstructions → Read WrittenInstructions
-  before_others i (Err n) = Err n
-  before_others i (Ok q) = Ok (then_written i q.0, q.1)
+then_others (Ok p) others = before_others p.0 (others p.1)
 
 abbrev mutual
   pub read_one : Data → ℕ → Read WrittenInstruction
@@ -197,3 +204,48 @@ abbrev mutual
   pub read_items : Items → ℕ → Read WrittenInstructions
   read_items no_items n = Ok (no_written, n)
   read_items (item d ds) n = then_others (read_one d n) (read_items ds)
+
+-- ---- templates
+
+-- what stands under the key of instructions, where it stands
+abbrev pub members_in : Data → ℕ → Read WrittenInstructions
+members_in d n = option_map_or (λ e. read_all e n) (get (word_text word.Instructions) d) (Ok (no_written, n))
+
+abbrev pub id_in : Data → Option ℕ
+id_in d = option_and_then as_u64 (option_and_then as_number (get (word_text word.Id) d))
+
+-- a dictionary of the text is put on each template that names none
+abbrev pub template_of_members : Option (List ℕ) → Data → Read WrittenInstructions → Result WrittenTemplate ℕ
+template_of_members default d (Err n) = Err n
+template_of_members default d (Ok p) =
+    Ok (record { name = name_in d; id = id_in d; around = record { dictionary = option_or (text_at word.Dictionary d) default; type_ref = text_at word.TypeRef d }; members = p.0 })
+
+abbrev pub read_template : Option (List ℕ) → Data → Result WrittenTemplate ℕ
+read_template default d = if fits row.Template d then template_of_members default d (members_in d 1) else Err 0
+
+abbrev pub then_templates : ℕ → Result WrittenTemplate ℕ → Result (List WrittenTemplate) LoadFault → Result (List WrittenTemplate) LoadFault
+then_templates t (Err i) others = Err (fault_at cause.S1 t i)
+then_templates t (Ok w) (Err fault) = Err fault
+then_templates t (Ok w) (Ok ws) = Ok (w ∷ ws)
+
+-- the templates of a list, which are numbered from t on
+abbrev pub read_templates : Option (List ℕ) → Items → ℕ → Result (List WrittenTemplate) LoadFault
+read_templates default no_items t = Ok []
+read_templates default (item d ds) t = then_templates t (read_template default d) (read_templates default ds (t + 1))
+
+abbrev pub templates_under : Option (List ℕ) → Option Data → Result (List WrittenTemplate) LoadFault
+templates_under default (Some (array ds)) = read_templates default ds 1
+templates_under default d = Err (fault_at cause.S1 0 0)
+
+-- The templates of a text's data: of the text as a whole its object's shape and the name of its dictionary come first.
+abbrev pub templates_of : Data → Result (List WrittenTemplate) LoadFault
+templates_of d =
+    if fits row.Top d && list_all is_name (option_to_list (text_at word.Dictionary d)) then templates_under (text_at word.Dictionary d) (get (word_text word.Templates) d)
+    else Err (fault_at cause.S1 0 0)
+
+-- ---- what a reader in a program answers: the same, or want of memory
+
+abbrev pub ReadsAs : {A B : Type 0} → (A → B) → Result (A × ℕ) Unread → Read B → Type 0
+ReadsAs f (Ok p) spec = spec ≡ Ok (f p.0, p.1)
+ReadsAs f (Err (unread.At n)) spec = spec ≡ Err n
+ReadsAs f (Err unread.Memory) spec = Unit {0}

@@ -1,9 +1,11 @@
 //! Templates from the data of a template text.
 
-ghost use Rattle.std.specs.Prelude.{◌≡◌, IfOk, option_and_then, option_map, string_bytes};
-ghost use Rattle.serde_json.specs.View.{view};
-ghost use Rattle.fast_template.specs.JsonTemplates.{charset_in, charset_named, decimal_in, field_in, form_in, form_named, has as has_of, leaf_in, length_name_in, name_in, operation_in, operator_named as operator_named_of, part_in, parts_in, plain, presence_in, presence_named, row_of_form as row_of_form_of, says_more as says_more_of, text_at as text_at_of};
-ghost use Rattle.fast_template.specs.Written.{operation_of, written_of};
+ghost use Rattle.std.specs.Prelude.{◌≡◌, IfOk, map, option_and_then, option_map, string_bytes};
+ghost use Rattle.serde_json.specs.View.{items_view, view};
+ghost use Rattle.fast_template.specs.JsonTemplates.{ReadsAs, around_in, group_in, members_in, read_all as read_all_of, read_items, one_of, sequence_in, charset_in, charset_named, decimal_in, field_in, form_in, form_named, has as has_of, leaf_in, length_name_in, name_in, operation_in, operator_named as operator_named_of, part_in, parts_in, plain, presence_in, presence_named, row_of_form as row_of_form_of, says_more as says_more_of, text_at as text_at_of};
+ghost use Rattle.fast_template.specs.Walks.{next_number as next_number_of};
+ghost use Rattle.fast_template.specs.Written.{operation_of, written_group, written_list, written_of, written_sequence};
+ghost use Rattle.fast_template.specs.declared.json.Unread.TheVariants as unread_variants;
 
 use crate::kind::{Kind, Operator, Presence};
 use crate::profile::{Row, Word, fits, text_of_word};
@@ -24,6 +26,23 @@ pub(crate) enum Form {
     Group,
     Sequence,
     Reference,
+}
+
+/// Why an instruction was not read.
+#[derive(Clone, Copy)]
+pub(crate) enum Unread {
+    /// The shape of the instruction with this number is at fault.
+    At(u32),
+    /// Memory was refused.
+    Memory,
+}
+
+impl From<AllocError> for Unread {
+    ghost from_gives = { λ error unread. unread ≡ unread_variants.Memory };
+
+    fn from(_: AllocError) -> Unread {
+        Unread::Memory
+    }
 }
 
 fn text_at<'a>(object: &'a Value, word: Word) -> Option<&'a str>
@@ -292,4 +311,143 @@ fn row_of_form(form: Form) -> Row
         Form::Reference => Row::Reference,
         Form::Int32 | Form::UInt32 | Form::Int64 | Form::UInt64 | Form::Bytes => Row::Field,
     }
+}
+
+fn next_number(number: u32) -> u32
+    ensures { result ≡ next_number_of number }
+{
+    number.saturating_add(1)
+}
+
+fn group_of(
+    alloc: Global,
+    object: &Value,
+    presence: Presence,
+    members: Vec<Instruction>,
+) -> Result<Instruction, AllocError>
+    ensures { IfOk result (λ group. written_of group ≡ written_group (name_in (view object.now)) presence
+        (around_in (view object.now)) (written_list (map written_of members.items))) }
+{
+    Ok(Instruction::Group {
+        name: name_at(alloc, object)?,
+        presence,
+        dictionary: string_at(alloc, object, Word::Dictionary)?,
+        type_ref: string_at(alloc, object, Word::TypeRef)?,
+        members,
+    })
+}
+
+fn sequence_of(
+    alloc: Global,
+    object: &Value,
+    presence: Presence,
+    length: Operation,
+    members: Vec<Instruction>,
+) -> Result<Instruction, AllocError>
+    ensures { IfOk result (λ sequence. written_of sequence ≡ written_sequence (name_in (view object.now)) presence
+        (around_in (view object.now)) (length_name_in (view object.now)) (operation_of length)
+        (written_list (map written_of members.items))) }
+{
+    Ok(Instruction::Sequence {
+        name: name_at(alloc, object)?,
+        presence,
+        dictionary: string_at(alloc, object, Word::Dictionary)?,
+        type_ref: string_at(alloc, object, Word::TypeRef)?,
+        length_name: length_name_at(alloc, object)?,
+        length,
+        members,
+    })
+}
+
+#[cycle(reads)]
+fn read_group(alloc: Global, object: &Value, number: u32) -> Result<(Instruction, u32), Unread>
+    ensures { ReadsAs written_of result (group_in (view object.now) number (members_in (view object.now) (next_number_of number))) }
+{
+    let Some(presence) = presence_at(object) else {
+        return Err(Unread::At(number));
+    };
+    let (members, next) = read_members(alloc, object, next_number(number))?;
+    let group = group_of(alloc, object, presence, members)?;
+    Ok((group, next))
+}
+
+#[cycle(reads)]
+fn read_sequence(alloc: Global, object: &Value, number: u32) -> Result<(Instruction, u32), Unread>
+    ensures { ReadsAs written_of result (sequence_in (view object.now) number (members_in (view object.now) (next_number_of number))) }
+{
+    let Some(presence) = presence_at(object) else {
+        return Err(Unread::At(number));
+    };
+    let Some(length) = part_at(alloc, Row::Length, Word::Length, object)? else {
+        return Err(Unread::At(number));
+    };
+    let (members, next) = read_members(alloc, object, next_number(number))?;
+    let sequence = sequence_of(alloc, object, presence, length, members)?;
+    Ok((sequence, next))
+}
+
+#[cycle(reads)]
+fn read_one(alloc: Global, value: &Value, number: u32) -> Result<(Instruction, u32), Unread>
+    ensures { ReadsAs written_of result (one_of (view value.now) number (members_in (view value.now) (next_number_of number))) }
+{
+    let Some(form) = form_at(value) else {
+        return Err(Unread::At(number));
+    };
+    if !fits(row_of_form(form), value) {
+        return Err(Unread::At(number));
+    }
+    match form {
+        Form::Group => read_group(alloc, value, number),
+        Form::Sequence => read_sequence(alloc, value, number),
+        form => match leaf_at(alloc, form, value)? {
+            Some(instruction) => Ok((instruction, next_number(number))),
+            None => Err(Unread::At(number)),
+        },
+    }
+}
+
+// The instructions that stand in an object, numbered from one on, and the number after them.
+#[cycle(reads)]
+fn read_members(
+    alloc: Global,
+    object: &Value,
+    number: u32,
+) -> Result<(Vec<Instruction>, u32), Unread>
+    ensures { ReadsAs (λ instructions. written_list (map written_of instructions.items)) result (members_in (view object.now) number) }
+{
+    match object {
+        Value::Object(members) => match members.get(text_of_word(Word::Instructions)) {
+            Some(list) => read_all(alloc, list, number),
+            None => Ok((Vec::new(alloc), number)),
+        },
+        _ => Ok((Vec::new(alloc), number)),
+    }
+}
+
+#[cycle(reads)]
+fn read_all(alloc: Global, list: &Value, number: u32) -> Result<(Vec<Instruction>, u32), Unread>
+    ensures { ReadsAs (λ instructions. written_list (map written_of instructions.items)) result (read_all_of (view list.now) number) }
+{
+    match list {
+        Value::Array(values) => read_values(alloc, values, number),
+        _ => Ok((Vec::new(alloc), number)),
+    }
+}
+
+#[cycle(reads)]
+fn read_values(
+    alloc: Global,
+    values: &[Value],
+    number: u32,
+) -> Result<(Vec<Instruction>, u32), Unread>
+    ensures { ReadsAs (λ instructions. written_list (map written_of instructions.items)) result (read_items (items_view values.now) number) }
+{
+    let mut instructions = Vec::new(alloc);
+    let mut next = number;
+    for value in values {
+        let (instruction, following) = read_one(alloc, value, next)?;
+        instructions.push(instruction).map_err(AllocError::from)?;
+        next = following;
+    }
+    Ok((instructions, next))
 }
