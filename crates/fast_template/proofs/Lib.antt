@@ -20,3 +20,6 @@ pub mod WorkedSet
 pub mod ScalarRows
 pub mod CheckRows
 pub mod SetRows
+pub mod SearchSteps
+pub mod SearchGroups
+pub mod SearchTurns

@@ -14,3 +14,5 @@ pub mod Phases
 pub mod Duplicates
 pub mod References
 pub mod Surroundings
+pub mod Order
+pub mod Search

@@ -16,6 +16,7 @@ mod kind;
 pub mod laws;
 mod names;
 mod operators;
+mod order;
 mod references;
 mod resolved;
 mod scalar;
