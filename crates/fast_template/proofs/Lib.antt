@@ -23,3 +23,9 @@ pub mod SetRows
 pub mod SearchSteps
 pub mod SearchGroups
 pub mod SearchTurns
+pub mod LinkLaws
+pub mod FlatLaws
+pub mod LinkOrder
+pub mod ExtentLaws
+pub mod Flattening
+pub mod LimitPhase

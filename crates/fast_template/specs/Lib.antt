@@ -16,3 +16,6 @@ pub mod References
 pub mod Surroundings
 pub mod Order
 pub mod Search
+pub mod Links
+pub mod Extents
+pub mod NamedLists

@@ -8,12 +8,14 @@
 mod bits;
 mod checks;
 mod duplicates;
+mod extents;
 mod fault;
 mod flat_lists;
 mod initial;
 mod key;
 mod kind;
 pub mod laws;
+mod links;
 mod names;
 mod operators;
 mod order;
