@@ -9,3 +9,4 @@ pub mod MessageReaders
 pub mod StreamReaders
 pub mod Leaves
 mod SameNodes
+mod EqualNodes

@@ -3,7 +3,7 @@ use Rattle.std.proofs.Common.{◌≡◌, List, [], ◌∷◌, map, refl}
 use Rattle.fast_decoder.specs.declared.message.Node.TheOpen.{Node-F}
 use Rattle.fast_decoder.specs.Nodes.{Item, items_of, elements_of, node_step, AreAlike}
 
-items_same : (ns ms : List Item) → items_of ns ≡ items_of ms → ns ≡ ms
+pub items_same : (ns ms : List Item) → items_of ns ≡ items_of ms → ns ≡ ms
 items_same [] [] e = refl
 items_same [] (m ∷ ms) e = absurd cc
 items_same (n ∷ ns) [] e = absurd cc

@@ -1,5 +1,6 @@
 //! Laws of what a stream carries, each the contract of a function that does nothing.
 
+ghost use Rattle.std.specs.Bool.{Decides};
 ghost use Rattle.std.specs.Prelude.{◌≡◌, ◌≢◌, ◌⊎◌, ◌++◌, ℕ, List, Option, Some, None, drop, false};
 ghost use Rattle.fast_wire.specs.Reader.{IsBytes};
 ghost use Rattle.fast_template.specs.Resolved.{Instructions, Resolved, has_map};
@@ -8,8 +9,10 @@ ghost use Rattle.fast_dictionary.specs.Dictionary.{Dictionary};
 ghost use Rattle.fast_decoder.specs.declared.fault.Cause.{Cause};
 ghost use Rattle.fast_decoder.specs.declared.fault.Fault.{Fault};
 ghost use Rattle.fast_decoder.specs.declared.place.Place.{Place};
+ghost use Rattle.fast_decoder.specs.contracts.message.MessagePartialEq.TheImpl as message_eq;
+ghost use Rattle.fast_decoder.specs.declared.message.Message.{Message};
 ghost use Rattle.fast_decoder.specs.declared.message.Node.TheOpen.{Node-F};
-ghost use Rattle.fast_decoder.specs.Nodes.{AreAlike, Item, Items, Content, node_step, nodes_in};
+ghost use Rattle.fast_decoder.specs.Nodes.{AreAlike, Item, Items, Content, content_of, node_step, nodes_in};
 ghost use Rattle.fast_decoder.specs.Bits.{takes};
 ghost use Rattle.fast_decoder.specs.Bodies.{State};
 ghost use Rattle.fast_decoder.specs.Streams.{Body, Carries, CarriesFrom};
@@ -92,8 +95,9 @@ pub fn bits_are_taken()
         → takes members items ≡ 0 }
 {}
 
-/// What contracts see of a message's nodes is faithful, level by level: nodes that are seen as the same are the same
-/// but for where they lie in memory.
+/// What contracts see of a message is faithful: `==` of two messages is true exactly if their contents are the same,
+/// and level by level nodes that are seen as the same are the same but for where they lie in memory.
 pub fn contents_are_faithful()
-    ensures { (a b : Node-F Item) → node_step a ≡ node_step b → AreAlike a b }
+    ensures equal { (a b : Message) → Decides ((message_eq.eq-value).it a b) (content_of a ≡ content_of b) }
+    ensures alike { (a b : Node-F Item) → node_step a ≡ node_step b → AreAlike a b }
 {}

@@ -10,6 +10,8 @@ mod fault;
 pub mod laws;
 mod message;
 mod place;
+#[cfg(test)]
+mod tests;
 
 pub use fault::{Cause, Fault};
 pub use message::{Message, Node};

@@ -1,4 +1,13 @@
 pub mod Maps
+pub mod Rewritten
+pub mod Numbering
+pub mod Slotting
+pub mod Settling
+pub mod SettledSound
+pub mod InitialFits
+pub mod TypedLists
+pub mod BareLists
+pub mod WrittenTexts
 pub mod PhaseOrder
 pub mod ReferencePhase
 pub mod DuplicatePhase
@@ -8,7 +17,7 @@ pub mod NamePhase
 pub mod HexTexts
 pub mod NumberLaws
 pub mod WalkLaws
-pub mod Slots
+pub mod SlotLaws
 pub mod WorkedTemplates
 pub mod WorkedRows
 pub mod OneFault

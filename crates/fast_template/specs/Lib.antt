@@ -11,6 +11,7 @@ pub mod Walks
 pub mod Numbers
 pub mod PartCauses
 pub mod Phases
+pub mod Slots
 pub mod Duplicates
 pub mod References
 pub mod Surroundings

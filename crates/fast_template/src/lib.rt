@@ -17,12 +17,15 @@ mod kind;
 pub mod laws;
 mod links;
 mod names;
+mod numbers;
 mod operators;
 mod order;
 mod references;
 mod resolved;
 mod scalar;
 mod set;
+mod settle;
+mod slots;
 mod surroundings;
 #[cfg(test)]
 mod tests;
