@@ -38,3 +38,5 @@ pub mod LinkOrder
 pub mod ExtentLaws
 pub mod Flattening
 pub mod LimitPhase
+pub mod IdPlaceLaws
+pub mod Building

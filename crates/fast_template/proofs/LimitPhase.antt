@@ -1,6 +1,6 @@
 -- The phase of limits, from the extents of flat lists; and that there are flat lists.
 use Rattle.std.proofs.Common.{◌≡◌, ◌≢◌, ◌≤◌, ◌<◌, ◌+◌, ℕ, zero, suc, List, [], ◌∷◌, length, get_or, take, min, nat_eq, nat_lt, if◌then◌else◌, option_map, Option, Some, None, Bool, true, false, ◌⊎◌, inl, inr, refl, sym, ap, subst, ◌∙◌, arith}
-use Rattle.std.specs.Prelude.{slice_get}
+use Rattle.std.specs.Prelude.{slice_get, MatchOption}
 use Rattle.std.specs.Option.{option_map_or}
 use Rattle.std.specs.Ordering.{nat_cmp, ordering_then}
 use Rattle.std.specs.Cmp.{ranked, unsigned_Decides}
@@ -371,3 +371,8 @@ module _ (ts : List WrittenTemplate) (es : List Extent) (len : length es ≡ len
 
   pub limits_fault : (fault : LoadFault) → length ts ≤ 65535 → ((stands : List ℕ → Instructions) × AreFlatLists ts stands) → too_large es 1 0 ≡ Some fault → IsFirstOf ts 6 fault
   limits_fault fault few lists e = let st = stops es 1 0 fault (omega arith) e in first_limit fault st few lists.0 lists.1 st.why
+
+-- what the code answers
+pub limit_is : (ts : List WrittenTemplate) (es : List Extent) → length es ≡ length ts → ((stands : List ℕ → Instructions) → AreFlatLists ts stands → AreExtents stands ts es) → length ts ≤ 65535 → ((stands : List ℕ → Instructions) × AreFlatLists ts stands) → (o : Option LoadFault) → o ≡ too_large es 1 0 → MatchOption o (Passes ts 6) (λ fault. IsFirstOf ts 6 fault)
+limit_is ts es len extents few lists None is = limits_pass ts es len extents (sym is)
+limit_is ts es len extents few lists (Some fault) is = limits_fault ts es len extents fault few lists (sym is)

@@ -61,7 +61,7 @@ mutual
   listed_one_to (written_reference n) zero name e = (0, cc (e))
   listed_one_to (written_reference n) (suc k) name e = absurd (cc e)
 
-  listed_to : (is : WrittenInstructions) (k : ℕ) (name : List ℕ) → slice_get (listed is) k ≡ Some (written_reference name) → (j : ℕ) × (slice_get (references_in is) j ≡ Some name)
+  pub listed_to : (is : WrittenInstructions) (k : ℕ) (name : List ℕ) → slice_get (listed is) k ≡ Some (written_reference name) → (j : ℕ) × (slice_get (references_in is) j ≡ Some name)
   listed_to no_written k name e = absurd (cc e)
   listed_to (then_written i is) k name e = elim (at_append (listed_one i) (listed is) k (written_reference name) e) [
     | inl a ↦ let r = listed_one_to i k name a in (r.0, at_old (references_in_one i) (references_in is) r.0 name r.1)

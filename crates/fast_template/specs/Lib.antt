@@ -20,3 +20,4 @@ pub mod Search
 pub mod Links
 pub mod Extents
 pub mod NamedLists
+pub mod IdPlaces

@@ -6,11 +6,13 @@
 #![tactic(auto)]
 
 mod bits;
+mod build;
 mod checks;
 mod duplicates;
 mod extents;
 mod fault;
 mod flat_lists;
+mod id_places;
 mod initial;
 mod key;
 mod kind;
