@@ -30,3 +30,14 @@ pub mod WorkedSet
 pub mod ScalarRows
 pub mod CheckRows
 pub mod SetRows
+pub mod SearchSteps
+pub mod SearchGroups
+pub mod SearchTurns
+pub mod LinkLaws
+pub mod FlatLaws
+pub mod LinkOrder
+pub mod ExtentLaws
+pub mod Flattening
+pub mod LimitPhase
+pub mod IdPlaceLaws
+pub mod Building

@@ -17,3 +17,9 @@ pub mod Slots
 pub mod Duplicates
 pub mod References
 pub mod Surroundings
+pub mod Order
+pub mod Search
+pub mod Links
+pub mod Extents
+pub mod NamedLists
+pub mod IdPlaces

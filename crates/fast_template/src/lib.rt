@@ -6,18 +6,23 @@
 #![tactic(auto)]
 
 mod bits;
+mod build;
 mod checks;
 mod duplicates;
+mod extents;
 mod fault;
 mod flat_lists;
+mod id_places;
 mod initial;
 mod json;
 mod key;
 mod kind;
 pub mod laws;
+mod links;
 mod names;
 mod numbers;
 mod operators;
+mod order;
 mod profile;
 mod references;
 mod resolved;

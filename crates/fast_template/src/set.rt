@@ -35,7 +35,27 @@ impl Model for TemplateSet {
 }
 
 impl TemplateSet {
-    ghost use Rattle.fast_template.specs.TemplateSets.{IsSound};
+    ghost use Rattle.std.specs.Prelude.{map};
+    ghost use Rattle.fast_template.specs.Places.{FindsAll};
+    ghost use Rattle.fast_template.specs.Resolved.{resolved_of};
+    ghost use Rattle.fast_template.specs.TemplateSets.{AreSound, IsSound};
+
+    /// A set of these templates, with so many slots and the places of their identifiers.
+    pub(crate) fn of(
+        templates: Vec<FlatTemplate>,
+        slots: u32,
+        places: HashMap<u32, u32>,
+    ) -> TemplateSet
+        requires sound { AreSound (map resolved_of templates.items) slots }
+        requires places { FindsAll places templates.items }
+        ensures { result ≡ record { templates = templates.items; slots = slots } }
+    {
+        TemplateSet {
+            templates,
+            slots,
+            places,
+        }
+    }
 
     /// The template of an identifier.
     pub fn find(&self, id: u32) -> Option<&FlatTemplate>

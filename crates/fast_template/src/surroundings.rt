@@ -4,15 +4,15 @@ ghost use Rattle.std.specs.Prelude.{◌≡◌, IfOk, option_map, string_bytes};
 ghost use Rattle.std.specs.Option.{option_or};
 ghost use Rattle.fast_template.specs.declared.kind.Kind.TheVariants.{Int32};
 ghost use Rattle.fast_template.specs.declared.kind.Part.TheVariants.{Exponent};
-ghost use Rattle.fast_template.specs.FlatLists.{Context, inside as inside_of, key_of as key_of_operation, part_of as part_of_operation, scope_named as scope_of_name, scope_of as scope_of_operation};
+ghost use Rattle.fast_template.specs.FlatLists.{Context, context_of, inside as inside_of, key_of as key_of_operation, part_of as part_of_operation, scope_named as scope_of_name, scope_of as scope_of_operation};
 ghost use Rattle.fast_template.specs.Surroundings.{context_in};
-ghost use Rattle.fast_template.specs.Written.{operation_of};
+ghost use Rattle.fast_template.specs.Written.{operation_of, written_template_of};
 
 use crate::initial::value_of_text;
 use crate::key::{Key, Name, Scope};
 use crate::kind::{Kind, Part, Presence};
 use crate::resolved::FieldPart;
-use crate::written::Operation;
+use crate::written::{Operation, Template};
 use std::alloc::{AllocError, Global};
 
 /// In which template an instruction was written, and what the elements around it name.
@@ -21,6 +21,26 @@ pub(crate) struct Around<'a> {
     pub(crate) template: u32,
     pub(crate) dictionary: Option<&'a str>,
     pub(crate) type_ref: Option<&'a str>,
+}
+
+/// Directly in a template, which is counted from 1.
+pub(crate) fn directly_in(template: &Template, number: u32) -> Around<'_>
+    ensures { context_in result ≡ context_of number (written_template_of template.now) }
+{
+    Around {
+        template: number,
+        dictionary: own(&template.dictionary),
+        type_ref: own(&template.type_ref),
+    }
+}
+
+fn own(name: &Option<String>) -> Option<&str>
+    ensures { option_map (λ s. s.now) result ≡ option_map string_bytes name.now }
+{
+    match name {
+        Some(name) => Some(name.as_str()),
+        None => None,
+    }
 }
 
 /// What is around the members of an element: the innermost element's names hold.
@@ -71,7 +91,12 @@ fn scope_named(alloc: Global, around: Around<'_>, name: &str) -> Result<Scope, A
     Ok(Scope::User(name_of(alloc, name)?))
 }
 
-fn name_of(alloc: Global, text: &str) -> Result<Name, AllocError>
+/// A text as a name.
+///
+/// # Errors
+///
+/// Where memory is refused.
+pub(crate) fn name_of(alloc: Global, text: &str) -> Result<Name, AllocError>
     ensures { IfOk result (λ name. name ≡ text.now) }
 {
     Ok(Name::from_string(String::from_str(alloc, text)?))
