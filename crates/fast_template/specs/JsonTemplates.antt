@@ -1,6 +1,6 @@
 -- The templates that a template text stands for, or the place where its shape is at fault.
 -- Own: FAST 1.1, Appendix 3, Template Definition Schemas, has the same in XML.
-use Rattle.std.specs.Prelude.{◌∷◌, ◌+◌, ◌&&◌, ℕ, ◌||◌, nat_eq, Bool, List, [], codes, if◌then◌else◌, is_some, Option, Some, None, unwrap_or, option_map, option_and_then, Result, Ok, Err, ◌≡◌, option_to_list}
+use Rattle.std.specs.Prelude.{nat_lt, ◌^◌, ◌∷◌, ◌+◌, ◌&&◌, ℕ, ◌||◌, nat_eq, Bool, List, [], codes, if◌then◌else◌, is_some, Option, Some, None, unwrap_or, option_map, option_and_then, Result, Ok, Err, ◌≡◌, option_to_list}
 use Rattle.std.specs.Option.{option_map_or, option_or}
 use Rattle.std.specs.Ordering.{nat_cmp, match_ordering}
 use Rattle.std.specs.Cmp.Lexicographic.{pointwise, slice_cmp}
@@ -18,6 +18,8 @@ use Rattle.fast_template.specs.declared.profile.Row.{Row}
 use Rattle.fast_template.specs.declared.profile.Row.TheVariants as row
 use Rattle.fast_template.specs.declared.json.Form.{Form}
 use Rattle.fast_template.specs.declared.json.Form.TheVariants as form
+use Rattle.fast_template.specs.Written.{written_template_of}
+use Rattle.fast_template.specs.declared.written.Template.{Template}
 use Rattle.fast_template.specs.declared.json.Unread.{Unread}
 use Rattle.fast_template.specs.declared.json.Unread.TheVariants as unread
 use Rattle.fast_template.specs.Written.{WrittenTemplate, WrittenOperation, Surroundings, WrittenInstruction, WrittenInstructions, written_field, written_parts, written_group, written_sequence, written_reference, no_written, then_written}
@@ -211,14 +213,21 @@ abbrev mutual
 abbrev pub members_in : Data → ℕ → Read WrittenInstructions
 members_in d n = option_map_or (λ e. read_all e n) (get (word_text word.Instructions) d) (Ok (no_written, n))
 
+abbrev pub id_of : Option ℕ → Option ℕ
+id_of None = None
+id_of (Some n) = if nat_lt n (2 ^ 32) then Some n else None
+
 abbrev pub id_in : Data → Option ℕ
-id_in d = option_and_then as_u64 (option_and_then as_number (get (word_text word.Id) d))
+id_in d = id_of (option_and_then as_u64 (option_and_then as_number (get (word_text word.Id) d)))
 
 -- a dictionary of the text is put on each template that names none
+abbrev pub template_with : Option (List ℕ) → Data → WrittenInstructions → WrittenTemplate
+template_with default d members =
+    record { name = name_in d; id = id_in d; around = record { dictionary = option_or (text_at word.Dictionary d) default; type_ref = text_at word.TypeRef d }; members = members }
+
 abbrev pub template_of_members : Option (List ℕ) → Data → Read WrittenInstructions → Result WrittenTemplate ℕ
 template_of_members default d (Err n) = Err n
-template_of_members default d (Ok p) =
-    Ok (record { name = name_in d; id = id_in d; around = record { dictionary = option_or (text_at word.Dictionary d) default; type_ref = text_at word.TypeRef d }; members = p.0 })
+template_of_members default d (Ok p) = Ok (template_with default d p.0)
 
 abbrev pub read_template : Option (List ℕ) → Data → Result WrittenTemplate ℕ
 read_template default d = if fits row.Template d then template_of_members default d (members_in d 1) else Err 0
@@ -249,3 +258,8 @@ abbrev pub ReadsAs : {A B : Type 0} → (A → B) → Result (A × ℕ) Unread �
 ReadsAs f (Ok p) spec = spec ≡ Ok (f p.0, p.1)
 ReadsAs f (Err (unread.At n)) spec = spec ≡ Err n
 ReadsAs f (Err unread.Memory) spec = Unit {0}
+
+abbrev pub ReadsTemplate : Result Template Unread → Result WrittenTemplate ℕ → Type 0
+ReadsTemplate (Ok template) spec = spec ≡ Ok (written_template_of template)
+ReadsTemplate (Err (unread.At n)) spec = spec ≡ Err n
+ReadsTemplate (Err unread.Memory) spec = Unit {0}

@@ -2,14 +2,16 @@
 
 ghost use Rattle.std.specs.Prelude.{◌≡◌, IfOk, map, option_and_then, option_map, string_bytes};
 ghost use Rattle.serde_json.specs.View.{items_view, view};
-ghost use Rattle.fast_template.specs.JsonTemplates.{ReadsAs, around_in, group_in, members_in, read_all as read_all_of, read_items, one_of, sequence_in, charset_in, charset_named, decimal_in, field_in, form_in, form_named, has as has_of, leaf_in, length_name_in, name_in, operation_in, operator_named as operator_named_of, part_in, parts_in, plain, presence_in, presence_named, row_of_form as row_of_form_of, says_more as says_more_of, text_at as text_at_of};
+ghost use Rattle.fast_template.specs.JsonTemplates.{ReadsAs, ReadsTemplate, id_in, read_template as read_template_of, template_with, around_in, group_in, members_in, read_all as read_all_of, read_items, one_of, sequence_in, charset_in, charset_named, decimal_in, field_in, form_in, form_named, has as has_of, leaf_in, length_name_in, name_in, operation_in, operator_named as operator_named_of, part_in, parts_in, plain, presence_in, presence_named, row_of_form as row_of_form_of, says_more as says_more_of, text_at as text_at_of};
+ghost use Rattle.std.specs.Option.{option_or};
+ghost use Rattle.fast_template.specs.declared.profile.Word.TheVariants as word_variants;
 ghost use Rattle.fast_template.specs.Walks.{next_number as next_number_of};
-ghost use Rattle.fast_template.specs.Written.{operation_of, written_group, written_list, written_of, written_sequence};
+ghost use Rattle.fast_template.specs.Written.{operation_of, written_group, written_list, written_of, written_sequence, written_template_of};
 ghost use Rattle.fast_template.specs.declared.json.Unread.TheVariants as unread_variants;
 
 use crate::kind::{Kind, Operator, Presence};
 use crate::profile::{Row, Word, fits, text_of_word};
-use crate::written::{Instruction, Operation};
+use crate::written::{Instruction, Operation, Template};
 use serde_json::Value;
 use std::alloc::{AllocError, Global};
 
@@ -450,4 +452,56 @@ fn read_values(
         next = following;
     }
     Ok((instructions, next))
+}
+
+fn id_at(object: &Value) -> Option<u32>
+    ensures { result ≡ id_in (view object.now) }
+{
+    match object.get(text_of_word(Word::Id)).and_then(Value::as_u64) {
+        Some(id) if id < 4_294_967_296 => Some(id as u32),
+        _ => None,
+    }
+}
+
+// The dictionary of a template, or else that of the text.
+fn dictionary_or(
+    alloc: Global,
+    object: &Value,
+    default: Option<&str>,
+) -> Result<Option<String>, AllocError>
+    ensures { IfOk result (λ o. option_map string_bytes o
+        ≡ option_or (text_at_of word_variants.Dictionary (view object.now)) (option_map (λ s. s.now) default.entry)) }
+{
+    match text_at(object, Word::Dictionary).or(default) {
+        Some(name) => Ok(Some(String::from_str(alloc, name)?)),
+        None => Ok(None),
+    }
+}
+
+fn template_of(
+    alloc: Global,
+    object: &Value,
+    default: Option<&str>,
+    members: Vec<Instruction>,
+) -> Result<Template, AllocError>
+    ensures { IfOk result (λ template. written_template_of template ≡ template_with (option_map (λ s. s.now) default.entry)
+        (view object.now) (written_list (map written_of members.items))) }
+{
+    Ok(Template {
+        name: name_at(alloc, object)?,
+        id: id_at(object),
+        dictionary: dictionary_or(alloc, object, default)?,
+        type_ref: string_at(alloc, object, Word::TypeRef)?,
+        members,
+    })
+}
+
+fn read_template(alloc: Global, value: &Value, default: Option<&str>) -> Result<Template, Unread>
+    ensures { ReadsTemplate result (read_template_of (option_map (λ s. s.now) default.entry) (view value.now)) }
+{
+    if !fits(Row::Template, value) {
+        return Err(Unread::At(0));
+    }
+    let (members, _) = read_members(alloc, value, 1)?;
+    Ok(template_of(alloc, value, default, members)?)
 }
