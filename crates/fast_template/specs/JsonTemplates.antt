@@ -1,6 +1,9 @@
 -- The templates that a template text stands for, or the place where its shape is at fault.
 -- Own: FAST 1.1, Appendix 3, Template Definition Schemas, has the same in XML.
-use Rattle.std.specs.Prelude.{nat_lt, ◌^◌, ◌∷◌, ◌+◌, ◌&&◌, ℕ, ◌||◌, nat_eq, Bool, List, [], codes, if◌then◌else◌, is_some, Option, Some, None, unwrap_or, option_map, option_and_then, Result, Ok, Err, ◌≡◌, option_to_list}
+use Rattle.std.specs.declared.alloc.Global.{Global}
+use Rattle.std.specs.declared.vec.Vec.{Vec}
+use Rattle.fast_template.specs.LoadChecks.{want_of_memory}
+use Rattle.std.specs.Prelude.{◌⊎◌, map, nat_lt, ◌^◌, ◌∷◌, ◌+◌, ◌&&◌, ℕ, ◌||◌, nat_eq, Bool, List, [], codes, if◌then◌else◌, is_some, Option, Some, None, unwrap_or, option_map, option_and_then, Result, Ok, Err, ◌≡◌, option_to_list}
 use Rattle.std.specs.Option.{option_map_or, option_or}
 use Rattle.std.specs.Ordering.{nat_cmp, match_ordering}
 use Rattle.std.specs.Cmp.Lexicographic.{pointwise, slice_cmp}
@@ -263,3 +266,11 @@ abbrev pub ReadsTemplate : Result Template Unread → Result WrittenTemplate ℕ
 ReadsTemplate (Ok template) spec = spec ≡ Ok (written_template_of template)
 ReadsTemplate (Err (unread.At n)) spec = spec ≡ Err n
 ReadsTemplate (Err unread.Memory) spec = Unit {0}
+
+abbrev pub ReadsTemplates : Result (Vec Template Global) LoadFault → Result (List WrittenTemplate) LoadFault → Type 0
+ReadsTemplates (Ok templates) spec = spec ≡ Ok (map written_template_of templates.items)
+ReadsTemplates (Err fault) spec = (spec ≡ Err fault) ⊎ (fault ≡ want_of_memory)
+
+abbrev pub fault_of_unread : Unread → ℕ → LoadFault
+fault_of_unread (unread.At n) t = record { cause = cause.S1; template = t; instruction = n }
+fault_of_unread unread.Memory t = want_of_memory

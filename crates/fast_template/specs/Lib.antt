@@ -10,6 +10,7 @@ pub mod LoadChecks
 pub mod Walks
 pub mod Numbers
 pub mod PartCauses
+pub mod JsonLoads
 pub mod JsonTemplates
 pub mod Phases
 pub mod Profile

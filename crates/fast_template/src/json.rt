@@ -1,16 +1,21 @@
 //! Templates from the data of a template text.
 
-ghost use Rattle.std.specs.Prelude.{◌≡◌, IfOk, map, option_and_then, option_map, string_bytes};
+ghost use Rattle.std.specs.Prelude.{◌≡◌, IfOk, map, option_and_then, option_map, option_to_list, string_bytes};
 ghost use Rattle.serde_json.specs.View.{items_view, view};
-ghost use Rattle.fast_template.specs.JsonTemplates.{ReadsAs, ReadsTemplate, id_in, read_template as read_template_of, template_with, around_in, group_in, members_in, read_all as read_all_of, read_items, one_of, sequence_in, charset_in, charset_named, decimal_in, field_in, form_in, form_named, has as has_of, leaf_in, length_name_in, name_in, operation_in, operator_named as operator_named_of, part_in, parts_in, plain, presence_in, presence_named, row_of_form as row_of_form_of, says_more as says_more_of, text_at as text_at_of};
+ghost use Rattle.fast_template.specs.JsonTemplates.{ReadsAs, ReadsTemplate, ReadsTemplates, fault_of_unread, read_templates as read_templates_of, templates_of, templates_under, id_in, read_template as read_template_of, template_with, around_in, group_in, members_in, read_all as read_all_of, read_items, one_of, sequence_in, charset_in, charset_named, decimal_in, field_in, form_in, form_named, has as has_of, leaf_in, length_name_in, name_in, operation_in, operator_named as operator_named_of, part_in, parts_in, plain, presence_in, presence_named, row_of_form as row_of_form_of, says_more as says_more_of, text_at as text_at_of};
+ghost use Rattle.std.specs.List.{list_all};
 ghost use Rattle.std.specs.Option.{option_or};
+ghost use Rattle.fast_template.specs.LoadChecks.{is_name as is_name_of};
 ghost use Rattle.fast_template.specs.declared.profile.Word.TheVariants as word_variants;
 ghost use Rattle.fast_template.specs.Walks.{next_number as next_number_of};
 ghost use Rattle.fast_template.specs.Written.{operation_of, written_group, written_list, written_of, written_sequence, written_template_of};
 ghost use Rattle.fast_template.specs.declared.json.Unread.TheVariants as unread_variants;
 
+use crate::fault::{LoadCause, LoadFault};
 use crate::kind::{Kind, Operator, Presence};
+use crate::names::is_name;
 use crate::profile::{Row, Word, fits, text_of_word};
+use crate::walk::{fault_at, want_of_memory};
 use crate::written::{Instruction, Operation, Template};
 use serde_json::Value;
 use std::alloc::{AllocError, Global};
@@ -504,4 +509,78 @@ fn read_template(alloc: Global, value: &Value, default: Option<&str>) -> Result<
     }
     let (members, _) = read_members(alloc, value, 1)?;
     Ok(template_of(alloc, value, default, members)?)
+}
+
+// The fault of a template that was not read.
+fn fault_in(unread: Unread, place: u32) -> LoadFault
+    ensures { result ≡ fault_of_unread unread place }
+{
+    match unread {
+        Unread::At(number) => fault_at(LoadCause::S1, place, number),
+        Unread::Memory => want_of_memory(),
+    }
+}
+
+fn read_templates(
+    alloc: Global,
+    values: &[Value],
+    default: Option<&str>,
+) -> Result<Vec<Template>, LoadFault>
+    ensures { ReadsTemplates result
+        (read_templates_of (option_map (λ s. s.now) default.entry) (items_view values.now) 1) }
+{
+    let mut templates = Vec::new(alloc);
+    let mut place: u32 = 1;
+    for value in values {
+        let template = match read_template(alloc, value, default) {
+            Ok(template) => template,
+            Err(unread) => return Err(fault_in(unread, place)),
+        };
+        if templates.push(template).is_err() {
+            return Err(want_of_memory());
+        }
+        place = next_number(place);
+    }
+    Ok(templates)
+}
+
+fn read_list(
+    alloc: Global,
+    list: Option<&Value>,
+    default: Option<&str>,
+) -> Result<Vec<Template>, LoadFault>
+    ensures { ReadsTemplates result
+        (templates_under (option_map (λ s. s.now) default.entry) (option_map (λ v. view v.now) list.entry)) }
+{
+    match list {
+        Some(Value::Array(values)) => read_templates(alloc, values, default),
+        _ => Err(fault_at(LoadCause::S1, 0, 0)),
+    }
+}
+
+/// The templates that a template text's data stands for.
+///
+/// # Errors
+///
+/// S1 with its place, where the shape of the text, of a template or of an instruction is at fault; or want of memory.
+pub(crate) fn templates_in_data(alloc: Global, data: &Value) -> Result<Vec<Template>, LoadFault>
+    ensures { ReadsTemplates result (templates_of (view data.now)) }
+{
+    if !fits(Row::Top, data) {
+        return Err(fault_at(LoadCause::S1, 0, 0));
+    }
+    let default = text_at(data, Word::Dictionary);
+    if !is_name_or_none(default) {
+        return Err(fault_at(LoadCause::S1, 0, 0));
+    }
+    read_list(alloc, data.get(text_of_word(Word::Templates)), default)
+}
+
+fn is_name_or_none(name: Option<&str>) -> bool
+    ensures { result ≡ list_all is_name_of (option_to_list (option_map (λ s. s.now) name.entry)) }
+{
+    match name {
+        Some(name) => is_name(name),
+        None => true,
+    }
 }

@@ -12,6 +12,7 @@ mod duplicates;
 mod extents;
 mod fault;
 mod flat_lists;
+mod from_json;
 mod id_places;
 mod initial;
 mod json;

@@ -119,7 +119,8 @@ fn is_name_or_none(text: &Option<String>) -> bool
     }
 }
 
-fn is_name(text: &str) -> bool
+/// Whether a text is a name: 1 to 255 bytes from `!` to `~`.
+pub(crate) fn is_name(text: &str) -> bool
     ensures { result ≡ is_name_of text.now }
 {
     let bytes = text.as_bytes();
