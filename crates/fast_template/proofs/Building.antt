@@ -1,5 +1,5 @@
 -- A set that is built from templates that no check fails.
-use Rattle.std.proofs.Common.{◌≡◌, ◌≢◌, ◌≤◌, ◌<◌, ◌+◌, ℕ, zero, suc, List, [], ◌∷◌, ◌++◌, length, get_or, map, take, drop, option_map, Option, Some, None, ◌⊎◌, inl, inr, refl, sym, ap, ap₂, subst, ◌∙◌, arith}
+use Rattle.std.proofs.Common.{◌≡◌, ◌≤◌, ◌<◌, ◌+◌, ℕ, zero, suc, List, [], ◌∷◌, ◌++◌, length, map, take, drop, option_map, Option, Some, None, ◌⊎◌, inl, inr, refl, sym, ap, ap₂, subst, ◌∙◌, arith}
 use Rattle.std.specs.Prelude.{slice_get, slice_index_or, AllPairs, Contains, IsSome}
 use Rattle.std.specs.List.{AllByRecursion, AllZip}
 use Rattle.std.proofs.lemmas.Option.{slice_get_within, slice_get-get_or, slice_get-map}
@@ -8,13 +8,13 @@ use Rattle.fast_template.specs.declared.key.Key.{Key}
 use Rattle.fast_template.specs.declared.resolved.FlatTemplate.{FlatTemplate}
 use Rattle.fast_template.specs.declared.written.Template.{Template}
 use Rattle.fast_template.specs.Written.{WrittenInstruction, WrittenInstructions, written_field, written_parts, written_group, written_sequence, written_reference, no_written, then_written, WrittenTemplate, written_template_of, listed}
-use Rattle.fast_template.specs.Resolved.{Instructions, Resolved, resolved_of, list_of, size_of, depth_of, keys_of, numbered, with_keys}
+use Rattle.fast_template.specs.Resolved.{Instructions, Resolved, resolved_of, size_of, depth_of, keys_of, numbered, with_keys}
 use Rattle.fast_template.specs.FlatLists.{AreFlatLists, Resolves, AreResolved}
 use Rattle.fast_template.specs.TemplateSets.{HaveTypedParts, IsNumbered, Differ, AreSound, HasSlots, identifier_key, keys_of_all, size_of_all}
 use Rattle.fast_template.specs.LoadChecks.{Check, few_templates, names_well_made, name_new, id_new, operator_allowed, constant_has_value, default_has_value, value_spelled, reference_known, off_cycles, nests_little, sum_small, IsInstructionAt, IsAccepted, size_up_to, Fails}
 use Rattle.fast_template.specs.Phases.{phase_of, Passes}
 use Rattle.fast_template.specs.Links.{EachReference, EachReferenceOne, IsBehind, IsBuildOrder, references_in, references_in_one}
-use Rattle.fast_template.specs.NamedLists.{AreFlattened, heading, heading_of}
+use Rattle.fast_template.specs.NamedLists.{AreFlattened}
 use Rattle.fast_template.specs.Slots.{settled, AreSettled}
 use Rattle.fast_template.proofs.SearchSteps.{at_append}
 use Rattle.fast_template.proofs.LinkOrder.{named_there, listed_to}

@@ -1,16 +1,15 @@
 -- Extents are those of flat lists, up to where their counts stop.
-use Rattle.std.proofs.Common.{◌≡◌, ◌≢◌, ◌≤◌, ◌<◌, ◌+◌, ℕ, zero, suc, List, [], ◌∷◌, length, map, min, max, nat_lt, set, option_and_then, Option, Some, None, Bool, true, false, ◌⊎◌, inl, inr, refl, sym, ap, ap₂, subst, ◌∙◌, arith}
+use Rattle.std.proofs.Common.{◌≡◌, ◌≤◌, ◌<◌, ◌+◌, ℕ, List, length, max, set, option_and_then, Some, inl, inr, refl, sym, ap, subst, ◌∙◌, arith}
 use Rattle.std.specs.Prelude.{slice_get}
 use Rattle.std.specs.Option.{option_map_or}
 use Rattle.std.specs.BTreeMap.{BTreeMap}
-use Rattle.std.proofs.lemmas.Bool.{cases_eq, cases_lt}
+use Rattle.std.proofs.lemmas.Bool.{cases_lt}
 use Rattle.std.proofs.lemmas.Option.{slice_get_within, slice_get-get_or}
-use Rattle.std.proofs.lemmas.List.{length-set}
 use Rattle.fast_template.specs.declared.extents.Extent.{Extent}
 use Rattle.fast_template.specs.Written.{WrittenInstruction, WrittenInstructions, written_field, written_parts, written_group, written_sequence, written_reference, no_written, then_written, WrittenTemplate}
-use Rattle.fast_template.specs.Resolved.{Instructions, no_instructions, then_instruction, joined, size_of, size_of_one, depth_of, depth_of_one}
+use Rattle.fast_template.specs.Resolved.{Instructions, no_instructions, then_instruction, joined, size_of, depth_of}
 use Rattle.fast_template.specs.FlatLists.{Context, context_of, inside, flat_one, flat_list, AreFlatLists}
-use Rattle.fast_template.specs.Duplicates.{NamesLead, place_named}
+use Rattle.fast_template.specs.Duplicates.{NamesLead}
 use Rattle.fast_template.specs.Links.{EachReference, EachReferenceOne, IsBehind, IsBuildOrder, place_in}
 use Rattle.fast_template.specs.Extents.{size_with, size_with_one, depth_with, depth_with_one, stopped_size, stopped_depth, extent_named, size_named, depth_named, IsExtentOf}
 use Rattle.fast_template.proofs.SearchSteps.{at_set, at_set_same}

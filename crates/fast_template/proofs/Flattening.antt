@@ -1,19 +1,19 @@
 -- Flat lists, in the order of references.
-use Rattle.std.proofs.Common.{◌≡◌, ◌≢◌, ◌≤◌, ◌<◌, ◌+◌, ℕ, zero, suc, List, [], ◌∷◌, length, get_or, map, set, option_map, Option, Some, None, Vec, ◌⊎◌, inl, inr, refl, sym, ap, subst, ◌∙◌, arith}
+use Rattle.std.proofs.Common.{◌≡◌, ◌≢◌, ◌≤◌, ◌<◌, ◌+◌, ℕ, List, length, get_or, map, set, option_map, Option, Some, None, ◌⊎◌, inl, inr, refl, sym, ap, ◌∙◌, arith}
 use Rattle.std.specs.Prelude.{slice_get}
 use Rattle.std.specs.Option.{option_map_or}
 use Rattle.std.specs.BTreeMap.{BTreeMap}
 use Rattle.std.proofs.lemmas.Bool.{cases_lt}
 use Rattle.std.proofs.lemmas.Option.{slice_get_within, slice_get-map}
-use Rattle.std.proofs.lemmas.List.{length-map, length-set, map-set, set-get_or, get_or-map}
+use Rattle.std.proofs.lemmas.List.{length-map, map-set, set-get_or, get_or-map}
 use Rattle.fast_template.specs.declared.resolved.FlatTemplate.{FlatTemplate}
 use Rattle.fast_template.specs.declared.written.Template.{Template}
 use Rattle.fast_template.specs.Written.{WrittenTemplate, written_template_of}
 use Rattle.fast_template.specs.Resolved.{Instructions, no_instructions, list_of}
-use Rattle.fast_template.specs.FlatLists.{Context, context_of, flat_list, AreFlatLists}
-use Rattle.fast_template.specs.Duplicates.{NamesLead, place_named}
-use Rattle.fast_template.specs.Links.{EachReference, IsBehind, IsBuildOrder, place_in}
-use Rattle.fast_template.specs.NamedLists.{list_at, list_named, Heading, heading, heading_of, AreFlattened}
+use Rattle.fast_template.specs.FlatLists.{context_of, flat_list, AreFlatLists}
+use Rattle.fast_template.specs.Duplicates.{NamesLead}
+use Rattle.fast_template.specs.Links.{IsBehind, IsBuildOrder}
+use Rattle.fast_template.specs.NamedLists.{list_at, list_named, heading, heading_of, AreFlattened}
 use Rattle.fast_template.proofs.SearchSteps.{at_set, at_set_same, at_set_other}
 use Rattle.fast_template.proofs.LinkOrder.{named_there}
 use Rattle.fast_template.proofs.Solutions.{same_list}

@@ -1,12 +1,9 @@
 -- The phase of limits, from the extents of flat lists; and that there are flat lists.
-use Rattle.std.proofs.Common.{◌≡◌, ◌≢◌, ◌≤◌, ◌<◌, ◌+◌, ℕ, zero, suc, List, [], ◌∷◌, length, get_or, take, min, nat_eq, nat_lt, if◌then◌else◌, option_map, Option, Some, None, Bool, true, false, ◌⊎◌, inl, inr, refl, sym, ap, subst, ◌∙◌, arith}
+use Rattle.std.proofs.Common.{◌≡◌, ◌≤◌, ◌<◌, ◌+◌, ℕ, zero, suc, List, [], ◌∷◌, length, get_or, take, min, nat_eq, nat_lt, if◌then◌else◌, option_map, Option, Some, None, Bool, true, false, ◌⊎◌, inl, inr, refl, sym, ap, subst, ◌∙◌, arith}
 use Rattle.std.specs.Prelude.{slice_get, MatchOption}
 use Rattle.std.specs.Option.{option_map_or}
-use Rattle.std.specs.Ordering.{nat_cmp, ordering_then}
-use Rattle.std.specs.Cmp.{ranked, unsigned_Decides}
-use Rattle.std.specs.Cmp.Lexicographic.{pointwise, slice_cmp, nat_list_eq_equiv, same_text}
-use Rattle.std.specs.declared.cmp.Ordering.{Ordering}
-use Rattle.std.specs.declared.cmp.Ordering.TheVariants.{Less, Equal, Greater}
+use Rattle.std.specs.Cmp.{unsigned_Decides}
+use Rattle.std.specs.Cmp.Lexicographic.{pointwise}
 use Rattle.std.proofs.lemmas.Bool.{ltb-true, ltb-false}
 use Rattle.std.proofs.lemmas.Option.{slice_get_within, slice_get-get_or, slice_get_cases}
 use Rattle.fast_template.specs.declared.extents.Extent.{Extent}
@@ -14,14 +11,14 @@ use Rattle.fast_template.specs.declared.fault.LoadFault.{LoadFault}
 use Rattle.fast_template.specs.declared.fault.LoadCause.{LoadCause}
 use Rattle.fast_template.specs.declared.fault.LoadCause.TheVariants.{TooDeep, TooMany}
 use Rattle.fast_template.specs.Written.{WrittenTemplate}
-use Rattle.fast_template.specs.Resolved.{Instructions, size_of, depth_of}
+use Rattle.fast_template.specs.Resolved.{Instructions, depth_of}
 use Rattle.fast_template.specs.FlatLists.{AreFlatLists}
 use Rattle.fast_template.specs.LoadChecks.{Check, few_templates, names_well_made, name_new, id_new, operator_allowed, constant_has_value, default_has_value, value_spelled, reference_known, off_cycles, nests_little, sum_small, size_up_to, Fails, Before}
 use Rattle.fast_template.specs.Phases.{phase_of, Passes, IsFirstOf}
 use Rattle.fast_template.specs.Duplicates.{place_named}
-use Rattle.fast_template.specs.Links.{EachReference, IsBehind, IsBuildOrder}
+use Rattle.fast_template.specs.Links.{IsBehind, IsBuildOrder}
 use Rattle.fast_template.specs.Extents.{IsExtentOf, too_large}
-use Rattle.fast_template.proofs.LinkOrder.{named_here, named_there}
+use Rattle.fast_template.proofs.LinkOrder.{named_here}
 use Rattle.fast_template.proofs.ExtentLaws.{each_so}
 use Rattle.fast_template.proofs.NamePhase.{earlier_or_here}
 use Rattle.fast_template.proofs.Solutions.{located, lists_in, solves, LeadDown, AreFound}

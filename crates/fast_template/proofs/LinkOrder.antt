@@ -1,5 +1,5 @@
 -- References by name and by place are one, and so are their cycles and orders.
-use Rattle.std.proofs.Common.{◌≡◌, ◌≢◌, ◌≤◌, ◌<◌, ◌+◌, ℕ, zero, suc, List, [], ◌∷◌, ◌++◌, length, get_or, map, min, nat_eq, option_to_list, option_map, Option, Some, None, Vec, Bool, true, false, ◌⊎◌, inl, inr, refl, sym, ap, subst, ◌∙◌, arith}
+use Rattle.std.proofs.Common.{◌≡◌, ◌≢◌, ◌≤◌, ◌<◌, ◌+◌, ℕ, zero, suc, List, [], ◌∷◌, length, get_or, map, min, nat_eq, option_to_list, option_map, Option, Some, None, Vec, ◌⊎◌, inl, inr, refl, sym, ap, subst, ◌∙◌, arith}
 use Rattle.std.specs.Prelude.{slice_get}
 use Rattle.std.specs.Ordering.{nat_cmp, ordering_then}
 use Rattle.std.specs.Cmp.{ranked}
@@ -15,9 +15,9 @@ use Rattle.fast_template.specs.declared.fault.LoadCause.TheVariants.{Cycle}
 use Rattle.fast_template.specs.declared.fault.LoadFault.{LoadFault}
 use Rattle.fast_template.specs.declared.written.Template.{Template}
 use Rattle.fast_template.specs.Written.{WrittenInstruction, WrittenInstructions, written_field, written_parts, written_group, written_sequence, written_reference, no_written, then_written, WrittenTemplate, written_template_of, listed, listed_one}
-use Rattle.fast_template.specs.LoadChecks.{Check, few_templates, names_well_made, name_new, id_new, operator_allowed, constant_has_value, default_has_value, value_spelled, reference_known, off_cycles, nests_little, sum_small, IsTemplateAt, IsInstructionAt, Fails, Before, Refers, Leads, directly, onwards}
+use Rattle.fast_template.specs.LoadChecks.{Check, few_templates, names_well_made, name_new, id_new, operator_allowed, constant_has_value, default_has_value, value_spelled, reference_known, off_cycles, nests_little, sum_small, IsTemplateAt, Fails, Before, Refers, Leads, directly, onwards}
 use Rattle.fast_template.specs.Phases.{phase_of, Passes, IsFirstOf}
-use Rattle.fast_template.specs.Duplicates.{place_named, place_where, NamesLead}
+use Rattle.fast_template.specs.Duplicates.{place_named, NamesLead}
 use Rattle.fast_template.specs.Order.{IsReference, AreWithin, Reaches, one, further, IsOrder, IsFirstOnCycle}
 use Rattle.fast_template.specs.Links.{references_in, references_in_one, places_of, place_in, EachReference, EachReferenceOne, IsBehind, IsBuildOrder}
 use Rattle.fast_template.proofs.DuplicatePhase.{Found, found, placed}

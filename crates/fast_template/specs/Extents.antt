@@ -6,7 +6,7 @@ use Rattle.fast_template.specs.declared.fault.LoadFault.{LoadFault}
 use Rattle.std.specs.Option.{option_map_or}
 use Rattle.std.specs.BTreeMap.{BTreeMap}
 use Rattle.fast_template.specs.declared.extents.Extent.{Extent}
-use Rattle.fast_template.specs.Written.{WrittenInstruction, WrittenInstructions, written_field, written_parts, written_group, written_sequence, written_reference, no_written, then_written, WrittenTemplate}
+use Rattle.fast_template.specs.Written.{WrittenInstruction, WrittenInstructions, written_field, written_parts, written_group, written_sequence, written_reference, no_written, then_written}
 use Rattle.fast_template.specs.Resolved.{Instructions, size_of, depth_of}
 use Rattle.fast_template.specs.Links.{place_in}
 

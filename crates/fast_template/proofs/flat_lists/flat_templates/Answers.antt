@@ -1,4 +1,4 @@
-use Rattle.std.proofs.Common.{◌≡◌, ◌<◌, ◌+◌, ℕ, List, map, length, get_or, option_map, Some, refl, sym, ap, subst, arith, ◌∙◌}
+use Rattle.std.proofs.Common.{◌≡◌, ◌<◌, ◌+◌, ℕ, List, map, length, option_map, Some, refl, sym, ap, subst, ◌∙◌}
 use Rattle.std.specs.Prelude.{slice_get, slice_index_or}
 use Rattle.std.proofs.lemmas.Option.{slice_get-get_or, slice_get_read, slice_get-map}
 use Rattle.std.proofs.lemmas.List.{length-map}
@@ -10,7 +10,6 @@ use Rattle.fast_template.specs.FlatLists.{AreFlatLists, context_of, flat_list}
 use Rattle.fast_template.specs.NamedLists.{list_named}
 use Rattle.fast_template.specs.Surroundings.{context_in}
 use Rattle.fast_template.proofs.Flattening.{list_is, lists_more, flattened, headings_kept, headings_len}
-use Rattle.fast_template.proofs.LimitPhase.{limits_pass, limits_fault, there_are_lists}
 use Rattle.fast_template.proofs.flat_lists.flat_templates.Goals as goal
 
 pub loop-place-preserved : goal.loop-place-preserved

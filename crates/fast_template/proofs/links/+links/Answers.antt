@@ -1,4 +1,4 @@
-use Rattle.fast_template.specs.Links.{place_in, places_of, references_in}
+use Rattle.fast_template.specs.Links.{place_in}
 use Rattle.fast_template.proofs.LinkLaws.{link_more}
 use Rattle.fast_template.proofs.links.+links.Goals as goal
 

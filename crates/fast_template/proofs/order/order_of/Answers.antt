@@ -1,4 +1,3 @@
-use Rattle.std.proofs.Common.{subst}
 use Rattle.fast_template.specs.Search.{state_of}
 use Rattle.fast_template.proofs.SearchGroups.{order_is, first_is}
 use Rattle.fast_template.proofs.order.order_of.Goals as goal

@@ -1,8 +1,7 @@
-use Rattle.std.proofs.Common.{◌≡◌, ◌<◌, ◌+◌, ◌∷◌, ◌++◌, [], List, ℕ, length, Some, arith, sym, ap, ◌∙◌, subst, refl, rules, get_or}
+use Rattle.std.proofs.Common.{◌≡◌, ◌<◌, ◌+◌, List, ℕ, length, Some, arith, ap, ◌∙◌, refl, rules, get_or}
 use Rattle.std.specs.Prelude.{slice_get}
 use Rattle.std.proofs.lemmas.Option.{slice_get_read}
-use Rattle.fast_template.specs.Order.{IsReference}
-use Rattle.fast_template.specs.Search.{State, state_of, entered, visiting, Stands, IsDone}
+use Rattle.fast_template.specs.Search.{State, state_of, entered, visiting}
 use Rattle.fast_template.specs.declared.order.Visit.{Visit}
 use Rattle.fast_template.specs.declared.order.Mark.{Mark}
 use Rattle.fast_template.specs.declared.order.Mark.TheVariants as mark

@@ -1,4 +1,4 @@
-use Rattle.std.proofs.Common.{◌≡◌, ◌<◌, ◌-◌, length, Some, arith, sym, ap, ◌∙◌, subst, true, false, rules, inl}
+use Rattle.std.proofs.Common.{◌≡◌, ◌<◌, ◌-◌, length, Some, arith, sym, ◌∙◌, subst, true, rules}
 use Rattle.std.specs.Prelude.{slice_get}
 use Rattle.fast_template.specs.Search.{State, state_of}
 use Rattle.fast_template.proofs.SearchGroups.{IsJudged}

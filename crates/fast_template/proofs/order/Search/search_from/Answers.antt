@@ -1,9 +1,8 @@
-use Rattle.std.proofs.Common.{◌≡◌, ◌<◌, List, ℕ, length, Some, arith, sym, ap, ◌∙◌, refl, get_or}
+use Rattle.std.proofs.Common.{◌≡◌, ◌<◌, List, ℕ, length, Some, sym, ap, ◌∙◌, get_or}
 use Rattle.std.specs.Prelude.{slice_get}
 use Rattle.std.proofs.lemmas.Option.{slice_get_read}
 use Rattle.fast_template.specs.Search.{State, state_of}
 use Rattle.fast_template.specs.declared.order.Mark.{Mark}
-use Rattle.fast_template.specs.declared.order.Mark.TheVariants as mark
 use Rattle.fast_template.proofs.SearchGroups.{done_at_rest}
 use Rattle.fast_template.proofs.SearchTurns.{root_opened, root_done, root_seen}
 use Rattle.fast_template.proofs.order.Search.search_from.Goals as goal
