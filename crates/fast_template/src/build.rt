@@ -24,18 +24,20 @@ use std::alloc::{AllocError, Global};
 use std::collections::BTreeMap;
 
 impl TemplateSet {
-    /// Resolves templates: each reference becomes the instructions of the template that it names, each name a key
-    /// with its slot, each initial value a value, and instructions get their numbers.
+    /// Resolves templates: each reference becomes the instructions of the template that it names,
+    /// each name a key with its slot, each initial value a value, and instructions get their
+    /// numbers.
     ///
     /// # Errors
     ///
-    /// The first check of a load that fails, with its template and instruction; or, where memory is refused, want
-    /// of memory, whichever step asked for it.
+    /// The first check of a load that fails, with its template and instruction; or, where memory is
+    /// refused, want of memory, whichever step asked for it.
     pub fn build(alloc: Global, templates: Vec<Template>) -> Result<TemplateSet, LoadFault>
         ensures { MatchResult result
             (λ set. IsAccepted (map written_template_of templates.items)
             × AreResolved (map written_template_of templates.items) (templates_in set))
-            (λ fault. IsFirstFault (map written_template_of templates.items) fault ⊎ (fault ≡ want_of_memory_of)) }
+            (λ fault. IsFirstFault (map written_template_of templates.items) fault ⊎ (fault
+            ≡ want_of_memory_of)) }
     {
         let names = check_written(alloc, &templates)?;
         match resolve(alloc, &templates, &names) {
@@ -53,7 +55,8 @@ fn resolve(
     names: &BTreeMap<Name, u32>,
 ) -> Result<Result<TemplateSet, LoadFault>, AllocError>
     requires lead { NamesLead names.now (map written_template_of templates.now) }
-    requires passed { (phase : ℕ) → phase < 5 → Passes (map written_template_of templates.now) phase }
+    requires passed { (phase : ℕ) → phase < 5 → Passes
+        (map written_template_of templates.now) phase }
     ensures { IfOk result (λ answer. MatchResult answer
         (λ set. IsAccepted (map written_template_of templates.now)
         × AreResolved (map written_template_of templates.now) (templates_in set))
@@ -65,14 +68,16 @@ fn resolve(
     }
 }
 
-// An order in which the lists of templates can be put together, if they are within the limits; or the first fault.
+// An order in which the lists of templates can be put together, if they are within the limits; or
+// the first fault.
 fn order_within_limits(
     alloc: Global,
     templates: &[Template],
     names: &BTreeMap<Name, u32>,
 ) -> Result<Result<Vec<usize>, LoadFault>, AllocError>
     requires lead { NamesLead names.now (map written_template_of templates.now) }
-    requires passed { (phase : ℕ) → phase < 5 → Passes (map written_template_of templates.now) phase }
+    requires passed { (phase : ℕ) → phase < 5 → Passes
+        (map written_template_of templates.now) phase }
     ensures { IfOk result (λ answer. MatchResult answer
         (λ order. IsBuildOrder (map written_template_of templates.now) order.items
         × Passes (map written_template_of templates.now) 5
@@ -120,7 +125,8 @@ fn set_of(
     requires operators { Passes (map written_template_of templates.now) 3 }
     requires limits { Passes (map written_template_of templates.now) 6 }
     requires in_order { IsBuildOrder (map written_template_of templates.now) order.now }
-    ensures { IfOk result (λ set. AreResolved (map written_template_of templates.now) (templates_in set)) }
+    ensures { IfOk result (λ set. AreResolved (map written_template_of templates.now)
+        (templates_in set)) }
 {
     let mut flats = flat_templates(alloc, templates, names, order)?;
     let slots = settle(&mut flats, alloc)?;

@@ -19,7 +19,8 @@ use std::collections::BTreeMap;
 /// The size and depth of a list of instructions.
 #[derive(Clone, Copy)]
 pub(crate) struct Extent {
-    /// How many instructions, those inside groups and sequences too; 65,536 for any number past 65,535.
+    /// How many instructions, those inside groups and sequences too; 65,536 for any number past
+    /// 65,535.
     pub(crate) size: u32,
     /// In how many levels groups and sequences nest; 9 for any number past 8.
     pub(crate) depth: u32,
@@ -73,7 +74,8 @@ pub(crate) fn extents_of(
     ensures extents { IfOk result (λ extents. (stands : List ℕ → Instructions)
         → AreFlatLists (map written_template_of templates.now) stands
         → (a : ℕ) (w : WrittenTemplate) (e : extent_type.Extent)
-        → slice_get (map written_template_of templates.now) a ≡ Some w → slice_get extents.items a ≡ Some e
+        → slice_get (map written_template_of templates.now) a ≡ Some w
+        → slice_get extents.items a ≡ Some e
         → IsExtentOf (stands w.name) e) }
 {
     let mut extents = vec![in alloc; Extent::empty(); templates.len()]?;
@@ -84,7 +86,8 @@ pub(crate) fn extents_of(
     Ok(extents)
 }
 
-/// The first template whose flat list nests too deep, or with which the lists have too many instructions.
+/// The first template whose flat list nests too deep, or with which the lists have too many
+/// instructions.
 pub(crate) fn first_too_large(extents: &[Extent]) -> Option<LoadFault>
     requires { length extents.now ≤ 65535 }
     ensures { result ≡ too_large extents.now 1 0 }
@@ -111,8 +114,10 @@ fn extent_of_all(
     extents: &[Extent],
     alloc: Global,
 ) -> Result<Extent, AllocError>
-    ensures size { IfOk result (λ e. e.size ≡ stopped_size (size_with (size_named names.now extents.now) (written_list (map written_of members.now)))) }
-    ensures depth { IfOk result (λ e. e.depth ≡ stopped_depth (depth_with (depth_named names.now extents.now) (written_list (map written_of members.now)))) }
+    ensures size { IfOk result (λ e. e.size ≡ stopped_size (size_with
+        (size_named names.now extents.now) (written_list (map written_of members.now)))) }
+    ensures depth { IfOk result (λ e. e.depth ≡ stopped_depth (depth_with
+        (depth_named names.now extents.now) (written_list (map written_of members.now)))) }
 {
     let mut extent = Extent::empty();
     for member in members {
@@ -128,8 +133,10 @@ fn extent_of_one(
     extents: &[Extent],
     alloc: Global,
 ) -> Result<Extent, AllocError>
-    ensures size { IfOk result (λ e. stopped_size e.size ≡ stopped_size (size_with_one (size_named names.now extents.now) (written_of member.now))) }
-    ensures depth { IfOk result (λ e. stopped_depth e.depth ≡ stopped_depth (depth_with_one (depth_named names.now extents.now) (written_of member.now))) }
+    ensures size { IfOk result (λ e. stopped_size e.size ≡ stopped_size (size_with_one
+        (size_named names.now extents.now) (written_of member.now))) }
+    ensures depth { IfOk result (λ e. stopped_depth e.depth ≡ stopped_depth (depth_with_one
+        (depth_named names.now extents.now) (written_of member.now))) }
 {
     match member {
         Instruction::Field { .. } | Instruction::Parts { .. } => Ok(Extent { size: 1, depth: 0 }),

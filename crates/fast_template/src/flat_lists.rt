@@ -17,7 +17,8 @@ use crate::written::{Instruction, Operation, Template};
 use std::alloc::{AllocError, Global};
 use std::collections::BTreeMap;
 
-/// The templates as written, each with its flat list: keys have no slot yet, and instructions no number.
+/// The templates as written, each with its flat list: keys have no slot yet, and instructions no
+/// number.
 ///
 /// # Errors
 ///
@@ -31,7 +32,8 @@ pub(crate) fn flat_templates(
     requires few { length templates.now ≤ 65535 }
     requires lead { NamesLead names.now (map written_template_of templates.now) }
     requires in_order { IsBuildOrder (map written_template_of templates.now) order.now }
-    ensures { IfOk result (λ flats. AreFlattened (map written_template_of templates.now) flats.items) }
+    ensures { IfOk result (λ flats. AreFlattened
+        (map written_template_of templates.now) flats.items) }
 {
     let mut flats = without_members(alloc, templates)?;
     for place in order {
@@ -53,7 +55,8 @@ pub(crate) fn flat_templates(
 
 // The names and identifiers of templates.
 fn without_members(alloc: Global, templates: &[Template]) -> Result<Vec<FlatTemplate>, AllocError>
-    ensures { IfOk result (λ flats. map heading_of flats.items ≡ map (λ t. heading (written_template_of t)) templates.now) }
+    ensures { IfOk result (λ flats. map heading_of flats.items
+        ≡ map (λ t. heading (written_template_of t)) templates.now) }
 {
     let mut flats = Vec::with_capacity(alloc, templates.len())?;
     for template in templates {
@@ -82,7 +85,8 @@ pub(crate) fn append_all(
     flats: &mut Vec<Flat>,
 ) -> Result<(), AllocError>
     ensures { OnOk result (list_of flats.new.items ≡ joined (list_of flats.old.items)
-        (flat_list (list_named names.now lists.now) (context_in around.entry) (written_list (map written_of members.now)))) }
+        (flat_list (list_named names.now lists.now) (context_in around.entry) (written_list
+        (map written_of members.now)))) }
 {
     for member in members {
         append_one(member, around, names, lists, alloc, flats)?;
@@ -101,7 +105,8 @@ fn append_one(
     flats: &mut Vec<Flat>,
 ) -> Result<(), AllocError>
     ensures { OnOk result (list_of flats.new.items ≡ joined (list_of flats.old.items)
-        (flat_one (list_named names.now lists.now) (context_in around.entry) (written_of member.now))) }
+        (flat_one (list_named names.now lists.now) (context_in around.entry)
+        (written_of member.now))) }
 {
     match member {
         Instruction::Field {
@@ -168,7 +173,8 @@ fn append_named(
     alloc: Global,
     flats: &mut Vec<Flat>,
 ) -> Result<(), AllocError>
-    ensures { OnOk result (list_of flats.new.items ≡ joined (list_of flats.old.items) (list_named names.now lists.now name.now)) }
+    ensures { OnOk result (list_of flats.new.items ≡ joined (list_of flats.old.items)
+        (list_named names.now lists.now name.now)) }
 {
     let name = name_of(alloc, name)?;
     match names.get(&name) {
@@ -184,7 +190,8 @@ fn append_placed(
     alloc: Global,
     flats: &mut Vec<Flat>,
 ) -> Result<(), AllocError>
-    ensures { OnOk result (list_of flats.new.items ≡ joined (list_of flats.old.items) (list_at lists.now place)) }
+    ensures { OnOk result (list_of flats.new.items ≡ joined (list_of flats.old.items)
+        (list_at lists.now place)) }
 {
     match lists.get(place) {
         Some(template) => append_copies(&template.members, alloc, flats),
@@ -194,7 +201,8 @@ fn append_placed(
 
 #[tactic(auto, using(crate::proofs::FlatLaws::list_of_append))]
 fn append_copies(list: &[Flat], alloc: Global, flats: &mut Vec<Flat>) -> Result<(), AllocError>
-    ensures { OnOk result (list_of flats.new.items ≡ joined (list_of flats.old.items) (list_of list.now)) }
+    ensures { OnOk result (list_of flats.new.items ≡ joined (list_of flats.old.items)
+        (list_of list.now)) }
 {
     let mut copies = copy_all(list, alloc)?;
     flats.append(&mut copies)?;
@@ -210,7 +218,8 @@ fn field_flat(
     operation: &Operation,
 ) -> Result<Flat, AllocError>
     ensures { IfOk result (λ flat. instruction_of flat ≡ whole_field name.now 0 presence
-        (field_part (context_in around.entry) name.now kind presence (operation_of operation.now))) }
+        (field_part (context_in around.entry) name.now kind presence
+        (operation_of operation.now))) }
 {
     let key = key_of(alloc, around, operation, name, Part::Whole)?;
     Ok(Flat::Field {
@@ -264,7 +273,8 @@ fn group_flat(
     presence: Presence,
     members: Vec<Flat>,
 ) -> Result<Flat, AllocError>
-    ensures { IfOk result (λ flat. instruction_of flat ≡ group_of name.now 0 presence (list_of members.items)) }
+    ensures { IfOk result (λ flat. instruction_of flat ≡ group_of name.now 0 presence
+        (list_of members.items)) }
 {
     Ok(Flat::Group {
         name: name_of(alloc, name)?,
@@ -281,7 +291,8 @@ fn sequence_flat(
     length: FieldPart,
     members: Vec<Flat>,
 ) -> Result<Flat, AllocError>
-    ensures { IfOk result (λ flat. instruction_of flat ≡ sequence_of name.now 0 presence length (list_of members.items)) }
+    ensures { IfOk result (λ flat. instruction_of flat ≡ sequence_of name.now 0 presence length
+        (list_of members.items)) }
 {
     Ok(Flat::Sequence {
         name: name_of(alloc, name)?,
@@ -404,7 +415,8 @@ fn copy_one(flat: &Flat, alloc: Global) -> Result<Flat, AllocError>
 // The same instructions once more.
 #[cycle(copies)]
 fn copy_all(flats: &[Flat], alloc: Global) -> Result<Vec<Flat>, AllocError>
-    ensures { IfOk result (λ others. map instruction_of others.items ≡ map instruction_of flats.now) }
+    ensures { IfOk result (λ others. map instruction_of others.items
+        ≡ map instruction_of flats.now) }
 {
     let mut others = Vec::with_capacity(alloc, flats.len())?;
     for flat in flats {

@@ -57,7 +57,7 @@ fn ascii(alloc: Global, text: &str) -> Result<Option<Scalar>, AllocError>
 fn are_ascii(bytes: &[u8]) -> bool
     ensures { result ≡ list_all (λ c. nat_lt c 128) bytes.now }
 {
-    bytes.iter().all(|c| *c < 128)
+    bytes.iter().all(|c| c.is_ascii())
 }
 
 // A text, where it has at most 65,535 bytes.
@@ -231,7 +231,7 @@ fn number(text: &[u8]) -> Option<u128>
 fn are_digits(text: &[u8]) -> bool
     ensures { result ≡ list_all is_digit text.now }
 {
-    text.iter().all(|c| 48 <= *c && *c <= 57)
+    text.iter().all(|c| c.is_ascii_digit())
 }
 
 // The number of these digits, or 2^64 where it is greater.

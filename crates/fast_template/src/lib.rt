@@ -7,6 +7,8 @@
 
 mod bits;
 mod build;
+#[cfg(test)]
+mod build_tests;
 mod checks;
 mod duplicates;
 mod extents;

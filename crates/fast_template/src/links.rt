@@ -26,7 +26,8 @@ pub(crate) fn links_of(
     names: &BTreeMap<Name, u32>,
 ) -> Result<Vec<Vec<usize>>, AllocError>
     ensures { IfOk result (λ rows. map (λ row. row.items) rows.items
-        ≡ map (λ t. places_of (place_in names.now) (references_in (written_template_of t).members)) templates.now) }
+        ≡ map (λ t. places_of (place_in names.now) (references_in
+        (written_template_of t).members)) templates.now) }
 {
     let mut rows = Vec::with_capacity(alloc, templates.len())?;
     for template in templates {
@@ -45,7 +46,8 @@ fn link_all(
     alloc: Global,
     row: &mut Vec<usize>,
 ) -> Result<(), AllocError>
-    ensures { OnOk result (row.new.items ≡ row.old.items ++ places_of (place_in names.now) (references_in (written_list (map written_of members.now)))) }
+    ensures { OnOk result (row.new.items ≡ row.old.items ++ places_of (place_in names.now)
+        (references_in (written_list (map written_of members.now)))) }
 {
     for member in members {
         link_one(member, names, alloc, row)?;
@@ -60,7 +62,8 @@ fn link_one(
     alloc: Global,
     row: &mut Vec<usize>,
 ) -> Result<(), AllocError>
-    ensures { OnOk result (row.new.items ≡ row.old.items ++ places_of (place_in names.now) (references_in_one (written_of member.now))) }
+    ensures { OnOk result (row.new.items ≡ row.old.items ++ places_of (place_in names.now)
+        (references_in_one (written_of member.now))) }
 {
     match member {
         Instruction::Group { members, .. } => link_all(members, names, alloc, row),
@@ -76,8 +79,8 @@ fn link_one(
     }
 }
 
-/// The places of templates in an order in which each stands behind those that it refers to, or the fault of the
-/// first template that lies on a cycle.
+/// The places of templates in an order in which each stands behind those that it refers to, or the
+/// fault of the first template that lies on a cycle.
 ///
 /// # Errors
 ///

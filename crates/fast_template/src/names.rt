@@ -131,5 +131,5 @@ pub(crate) fn is_name(text: &str) -> bool
 fn are_printed(bytes: &[u8]) -> bool
     ensures { result ≡ list_all (λ c. nat_le 33 c && nat_le c 126) bytes.now }
 {
-    bytes.iter().all(|c| 33 <= *c && *c <= 126)
+    bytes.iter().all(|c| c.is_ascii_graphic())
 }

@@ -30,8 +30,8 @@ pub(crate) struct Visit {
 
 /// A search depth first along references.
 ///
-/// What is open stands in groups, each of which lies on cycles of its own if it has more than one; a group is done
-/// once nothing in it leads out of it but to what is done.
+/// What is open stands in groups, each of which lies on cycles of its own if it has more than one;
+/// a group is done once nothing in it leads out of it but to what is done.
 #[derive(Drop)]
 pub(crate) struct Search {
     marks: Vec<Mark>,
@@ -43,7 +43,8 @@ pub(crate) struct Search {
     order: Vec<usize>,
 }
 
-/// An order in which each template stands behind those that it refers to, or the first that lies on a cycle.
+/// An order in which each template stands behind those that it refers to, or the first that lies on
+/// a cycle.
 ///
 /// # Errors
 ///
@@ -68,7 +69,8 @@ pub(crate) fn order_of(
 fn first_on_cycle(marks: &[Mark]) -> Option<usize>
     ensures { MatchOption result
         ((t : ℕ) → ¬ (slice_get marks.now t ≡ Some (mark.Done true)))
-        (λ t. (slice_get marks.now t ≡ Some (mark.Done true)) × ((u : ℕ) → u < t → ¬ (slice_get marks.now u ≡ Some (mark.Done true)))) }
+        (λ t. (slice_get marks.now t ≡ Some (mark.Done true)) × ((u : ℕ) → u < t
+        → ¬ (slice_get marks.now u ≡ Some (mark.Done true)))) }
 {
     for node in 0..marks.len() {
         if let Mark::Done(true) = marks[node] {
@@ -134,7 +136,8 @@ impl Search {
     fn go_on(&mut self, references: &[Vec<usize>], visit: Visit) -> Result<(), AllocError>
         requires within { AreWithin references.now }
         requires stands { Stands references.now (visiting (state_of self.old) visit) None }
-        ensures { OnOk result (Advances references.now (visiting (state_of self.old) visit) (state_of self.new)) }
+        ensures { OnOk result (Advances references.now (visiting (state_of self.old) visit)
+            (state_of self.new)) }
     {
         match reference(references, visit.node, visit.next) {
             Some(other) => {
@@ -176,7 +179,8 @@ impl Search {
         requires within { AreWithin references.now }
         requires stands { Stands references.now (visiting (state_of self.old) visit) None }
         requires followed { (k w : ℕ) → IsReference references.now visit.node k w → k < visit.next }
-        ensures { OnOk result (Advances references.now (visiting (state_of self.old) visit) (state_of self.new)) }
+        ensures { OnOk result (Advances references.now (visiting (state_of self.old) visit)
+            (state_of self.new)) }
     {
         if is_last(&self.starts, visit.place) {
             let on_cycle = visit.place < self.opened.len() - 1
@@ -189,7 +193,8 @@ impl Search {
     // Closes the last group.
     fn close(&mut self, start: usize, on_cycle: bool) -> Result<(), AllocError>
         requires start_within { start ≤ length self.old.opened.items }
-        requires marked { (i v : ℕ) → slice_get self.old.opened.items i ≡ Some v → v < length self.old.marks.items }
+        requires marked { (i v : ℕ) → slice_get self.old.opened.items i ≡ Some v
+            → v < length self.old.marks.items }
         ensures { OnOk result (state_of self.new ≡ closed start on_cycle (state_of self.old)) }
     {
         self.starts.pop();
@@ -221,9 +226,12 @@ fn mark_all(marks: &mut [Mark], nodes: &[usize], mark: Mark)
 
 // Takes the starts that lie above a place off.
 fn drop_above(starts: &mut Vec<usize>, place: usize)
-    requires { (p q b c : ℕ) → slice_get starts.old.items p ≡ Some b → slice_get starts.old.items q ≡ Some c → p < q → b < c }
-    ensures rest { (p b : ℕ) → slice_get starts.new.items p ≡ Some b → (slice_get starts.old.items p ≡ Some b) × (b ≤ place) }
-    ensures gone { (p b : ℕ) → slice_get starts.old.items p ≡ Some b → (slice_get starts.new.items p ≡ Some b) ⊎ (place < b) }
+    requires { (p q b c : ℕ) → slice_get starts.old.items p ≡ Some b
+        → slice_get starts.old.items q ≡ Some c → p < q → b < c }
+    ensures rest { (p b : ℕ) → slice_get starts.new.items p ≡ Some b
+        → (slice_get starts.old.items p ≡ Some b) × (b ≤ place) }
+    ensures gone { (p b : ℕ) → slice_get starts.old.items p ≡ Some b
+        → (slice_get starts.new.items p ≡ Some b) ⊎ (place < b) }
 {
     while let Some(start) = starts.last() {
         if *start <= place {
@@ -273,7 +281,8 @@ fn has_place(places: &[usize], place: usize) -> bool
 // The references of a template.
 fn row_of(references: &[Vec<usize>], node: usize) -> &[usize]
     requires { node < length references.now }
-    ensures { (row : Vec ℕ Global) × (slice_get references.now node ≡ Some row) × (row.items ≡ result.now) }
+    ensures { (row : Vec ℕ Global) × (slice_get references.now node ≡ Some row) × (row.items
+        ≡ result.now) }
 {
     &references[node]
 }

@@ -9,7 +9,8 @@ use std::marker::Model;
 
 /// Resolved templates.
 ///
-/// Each set is free of references, typed, numbered and within the limits, and has a slot for each key.
+/// Each set is free of references, typed, numbered and within the limits, and has a slot for each
+/// key.
 #[derive(Debug, Drop)]
 pub struct TemplateSet {
     templates: Vec<FlatTemplate>,
@@ -70,7 +71,8 @@ impl TemplateSet {
 
     /// The name of the template of an identifier.
     pub fn name(&self, id: u32) -> Option<&str>
-        ensures value { option_map (λ s. s.now) result ≡ option_map (λ t. t.name) (template_of id self.now) }
+        ensures value { option_map (λ s. s.now) result ≡ option_map (λ t. t.name)
+            (template_of id self.now) }
         ensures sound { IsSound self.now }
     {
         match self.find(id) {
