@@ -18,6 +18,8 @@ mod from_json;
 mod id_places;
 mod initial;
 mod json;
+#[cfg(test)]
+mod json_tests;
 mod key;
 mod kind;
 pub mod laws;
