@@ -1,8 +1,9 @@
 //! The entry afterwards: FAST 1.1, Field Operators, Dictionaries and Previous Values.
 
-ghost use Rattle.std.specs.Prelude.{◌≡◌, IfOk, OnErr};
+ghost use Rattle.std.specs.Prelude.{◌≡◌, IfOk, OnErr, unwrap_or};
 ghost use Rattle.std.specs.Option.{option_copied};
 ghost use Rattle.fast_dictionary.specs.Dictionary.{entry_of};
+ghost use Rattle.fast_dictionary.specs.declared.entry.Entry as entry;
 ghost use Rattle.fast_field.specs.Bases.{delta_entry, next};
 ghost use Rattle.fast_field.specs.Found.{CanLie, IsLeftOut, value_found};
 
@@ -10,6 +11,28 @@ use crate::found::Found;
 use fast_dictionary::{Entry, EntryRef};
 use fast_template::{FieldPart, Operator, Scalar};
 use std::alloc::{AllocError, Global};
+
+/// The entry that a value leaves, none where that is the one that is there.
+pub(crate) fn next_if_changed(
+    alloc: Global,
+    instr: &FieldPart,
+    value: Option<&Scalar>,
+) -> Result<Option<Entry>, AllocError>
+    ensures { IfOk result (λ changed. (e : entry.Entry)
+        → unwrap_or changed e ≡ next instr.now e (option_copied value.entry)) }
+{
+    match instr.operator {
+        Operator::Plain | Operator::Constant | Operator::Default => Ok(None),
+        Operator::Copy | Operator::Increment | Operator::Tail => match value {
+            None => Ok(Some(Entry::Empty)),
+            Some(value) => Ok(Some(Entry::Assigned(value.copy(alloc)?))),
+        },
+        Operator::Delta => match value {
+            None => Ok(None),
+            Some(value) => Ok(Some(Entry::Assigned(value.copy(alloc)?))),
+        },
+    }
+}
 
 /// The entry that a value of a field leaves, read or written.
 ///
@@ -25,16 +48,9 @@ pub fn next_entry(
     ensures { IfOk result (λ entry. entry
         ≡ next instr.now (entry_of kept.entry) (option_copied value.entry)) }
 {
-    match instr.operator {
-        Operator::Plain | Operator::Constant | Operator::Default => kept.copy(alloc),
-        Operator::Copy | Operator::Increment | Operator::Tail => match value {
-            None => Ok(Entry::Empty),
-            Some(value) => Ok(Entry::Assigned(value.copy(alloc)?)),
-        },
-        Operator::Delta => match value {
-            None => kept.copy(alloc),
-            Some(value) => Ok(Entry::Assigned(value.copy(alloc)?)),
-        },
+    match next_if_changed(alloc, instr, value)? {
+        Some(changed) => Ok(changed),
+        None => kept.copy(alloc),
     }
 }
 

@@ -16,6 +16,7 @@ mod fault;
 mod found;
 pub mod laws;
 mod left_out;
+mod pieces;
 mod plan;
 mod read;
 mod refuse;
@@ -24,9 +25,11 @@ mod tail;
 #[cfg(test)]
 mod tests;
 mod whole;
+mod write;
 
 pub use afterwards::next_entry;
 pub use fault::{FieldFault, FieldRefusal};
 pub use found::Found;
-pub use plan::Plan;
+pub use plan::{Plan, plan_field};
 pub use read::{find_field, read_field, read_in_place};
+pub use write::{write_field, write_in_place};
