@@ -26,10 +26,12 @@ mod tail;
 mod tests;
 mod whole;
 mod write;
+#[cfg(test)]
+mod write_tests;
 
 pub use afterwards::next_entry;
 pub use fault::{FieldFault, FieldRefusal};
 pub use found::Found;
 pub use plan::{Plan, plan_field};
 pub use read::{find_field, read_field, read_in_place};
-pub use write::{write_field, write_in_place};
+pub use write::{write_field, write_found, write_in_place};

@@ -1,6 +1,6 @@
 //! The form that a writer chooses, before it is written.
 
-ghost use Rattle.std.specs.Prelude.{◌≡◌, ◌≤◌, ℕ, Bool, false, List, length, None, Some, Ok, IfOk, MatchResult};
+ghost use Rattle.std.specs.Prelude.{◌≡◌, ◌≤◌, ℕ, Bool, true, false, List, length, None, Some, Ok, IfOk, MatchResult};
 ghost use Rattle.std.specs.Option.{option_copied};
 ghost use Rattle.fast_wire.specs.Reader.{IsBytes};
 ghost use Rattle.fast_dictionary.specs.Dictionary.{entry_of};
@@ -9,6 +9,7 @@ ghost use Rattle.fast_field.specs.Bases.{delta_base};
 ghost use Rattle.fast_field.specs.Chosen.{CanBePieces, CanBeUnits, IsMadeOf, ShortestPieces};
 ghost use Rattle.fast_field.specs.Fields.{Form};
 ghost use Rattle.fast_field.specs.Parts.{IsFieldPart};
+ghost use Rattle.fast_field.specs.Planning.{left_out_of};
 ghost use Rattle.fast_field.specs.Refusals.{operator_refusal, refusal_of};
 ghost use Rattle.fast_field.specs.Values.{units_of};
 ghost use Rattle.fast_field.specs.Within.{HasRange, HasRangeOr, HoldsScalar};
@@ -115,6 +116,8 @@ pub(crate) fn choose<'a>(
     ensures judged { MatchResult result
         (λ _. refusal_of instr.now (entry_of kept.entry) (option_copied value.entry) ≡ None)
         (λ f. refusal_of instr.now (entry_of kept.entry) (option_copied value.entry) ≡ Some f) }
+    ensures left_out { IfOk result (λ x. x.0 ≡ false → left_out_of instr.now.operator instr.now
+        (entry_of kept.entry) (option_copied value.entry) ≡ true) }
 {
     judge(instr, kept, value)?;
     tell_range(value);

@@ -5,6 +5,7 @@ ghost use Rattle.fast_wire.specs.Nullable.{IsNullOr, items_of};
 ghost use Rattle.fast_wire.specs.Reading.{GivesAt};
 ghost use Rattle.fast_template.specs.Scalar.{exponent_in_range, in_range, is_integer};
 ghost use Rattle.fast_template.specs.declared.kind.Kind.TheVariants as kind;
+ghost use Rattle.fast_template.specs.declared.kind.Presence.TheVariants.{Mandatory, Optional};
 ghost use Rattle.fast_field.specs.Calls.{Answers, AnswersAt, IsSentRange, OrRefused};
 ghost use Rattle.fast_field.specs.Chosen.{AppendsOne, CanBeUnits, CanBeWhole, HasSize, IsSmall, ShortestPair, ShortestPart, ShortestSigned, ShortestUnits, ShortestUnsigned, ShortestWhole, length_size, part_size, tail_size};
 ghost use Rattle.fast_field.specs.FieldReading.{decimal_spelled_at, integer_at, integer_spelled_at, integer_value, mantissa_behind, part_at, range_fault, spelled_at, unit_value, units_at, units_spelled_at};
@@ -13,6 +14,80 @@ use crate::fault::FieldFault;
 use fast_template::{ByteString, Kind, Part, Presence, Scalar, UnicodeText};
 use fast_wire::{Nullable, WireFault};
 use std::alloc::Global;
+
+/// A number without a sign; one that has more than 64 bits is read once more.
+#[tactic(auto, using(crate::proofs::CallSteps::call_steps), unfolding(crate::specs::FieldReading::integer_at))]
+fn read_unsigned(bytes: &[u8], at: usize) -> Result<(Nullable<i128>, usize), FieldFault>
+    requires { at ≤ length bytes.now }
+    ensures place { IfOk result (λ x. (at < x.1) × (x.1 ≤ length bytes.now)) }
+    ensures range { IfOk result (λ x. IsNullOr IsSentRange x.0) }
+    ensures gives { AnswersAt (integer_at true Mandatory) (λ v. v) bytes.now at result }
+{
+    match fast_wire::read_u64(bytes, at) {
+        Ok((number, next)) => Ok((Nullable::Value(i128::from(number)), next)),
+        Err(WireFault::Range) => {
+            let (number, next) = fast_wire::read_unsigned(bytes, at)?;
+            Ok((Nullable::Value(number as i128), next))
+        }
+        Err(fault) => Err(FieldFault::from(fault)),
+    }
+}
+
+/// The same in the nullable form.
+#[tactic(auto, using(crate::proofs::CallSteps::call_steps), unfolding(crate::specs::FieldReading::integer_at))]
+fn read_unsigned_nullable(bytes: &[u8], at: usize) -> Result<(Nullable<i128>, usize), FieldFault>
+    requires { at ≤ length bytes.now }
+    ensures place { IfOk result (λ x. (at < x.1) × (x.1 ≤ length bytes.now)) }
+    ensures range { IfOk result (λ x. IsNullOr IsSentRange x.0) }
+    ensures gives { AnswersAt (integer_at true Optional) (λ v. v) bytes.now at result }
+{
+    match fast_wire::read_u64_nullable(bytes, at) {
+        Ok((Nullable::Null, next)) => Ok((Nullable::Null, next)),
+        Ok((Nullable::Value(number), next)) => { Ok((Nullable::Value(i128::from(number)), next)) }
+        Err(WireFault::Range) => {
+            let (number, next) = fast_wire::read_unsigned_nullable(bytes, at)?;
+            match number {
+                Nullable::Null => Ok((Nullable::Null, next)),
+                Nullable::Value(number) => Ok((Nullable::Value(number as i128), next)),
+            }
+        }
+        Err(fault) => Err(FieldFault::from(fault)),
+    }
+}
+
+/// A number with a sign; one that has more than 64 bits is read once more.
+#[tactic(auto, using(crate::proofs::CallSteps::call_steps), unfolding(crate::specs::FieldReading::integer_at))]
+fn read_signed(bytes: &[u8], at: usize) -> Result<(Nullable<i128>, usize), FieldFault>
+    requires { at ≤ length bytes.now }
+    ensures place { IfOk result (λ x. (at < x.1) × (x.1 ≤ length bytes.now)) }
+    ensures range { IfOk result (λ x. IsNullOr IsSentRange x.0) }
+    ensures gives { AnswersAt (integer_at false Mandatory) (λ v. v) bytes.now at result }
+{
+    match fast_wire::read_i64(bytes, at) {
+        Ok((number, next)) => Ok((Nullable::Value(i128::from(number)), next)),
+        Err(WireFault::Range) => {
+            let (number, next) = fast_wire::read_signed(bytes, at)?;
+            Ok((Nullable::Value(number), next))
+        }
+        Err(fault) => Err(FieldFault::from(fault)),
+    }
+}
+
+/// The same in the nullable form.
+#[tactic(auto, using(crate::proofs::CallSteps::call_steps), unfolding(crate::specs::FieldReading::integer_at))]
+fn read_signed_nullable(bytes: &[u8], at: usize) -> Result<(Nullable<i128>, usize), FieldFault>
+    requires { at ≤ length bytes.now }
+    ensures place { IfOk result (λ x. (at < x.1) × (x.1 ≤ length bytes.now)) }
+    ensures range { IfOk result (λ x. IsNullOr IsSentRange x.0) }
+    ensures gives { AnswersAt (integer_at false Optional) (λ v. v) bytes.now at result }
+{
+    match fast_wire::read_i64_nullable(bytes, at) {
+        Ok((Nullable::Null, next)) => Ok((Nullable::Null, next)),
+        Ok((Nullable::Value(number), next)) => { Ok((Nullable::Value(i128::from(number)), next)) }
+        Err(WireFault::Range) => Ok(fast_wire::read_signed_nullable(bytes, at)?),
+        Err(fault) => Err(FieldFault::from(fault)),
+    }
+}
 
 /// An integer in the form of a presence, with no sign where `unsigned` is true.
 #[tactic(auto, using(crate::proofs::CallSteps::call_steps), unfolding(crate::specs::FieldReading::integer_at))]
@@ -27,28 +102,11 @@ pub(crate) fn read_integer(
     ensures range { IfOk result (λ x. IsNullOr IsSentRange x.0) }
     ensures gives { AnswersAt (integer_at unsigned presence) (λ v. v) bytes.now at result }
 {
-    if unsigned {
-        match presence {
-            Presence::Mandatory => {
-                let (number, next) = fast_wire::read_unsigned(bytes, at)?;
-                Ok((Nullable::Value(number as i128), next))
-            }
-            Presence::Optional => {
-                let (number, next) = fast_wire::read_unsigned_nullable(bytes, at)?;
-                match number {
-                    Nullable::Null => Ok((Nullable::Null, next)),
-                    Nullable::Value(number) => Ok((Nullable::Value(number as i128), next)),
-                }
-            }
-        }
-    } else {
-        match presence {
-            Presence::Mandatory => {
-                let (number, next) = fast_wire::read_signed(bytes, at)?;
-                Ok((Nullable::Value(number), next))
-            }
-            Presence::Optional => Ok(fast_wire::read_signed_nullable(bytes, at)?),
-        }
+    match (unsigned, presence) {
+        (true, Presence::Mandatory) => read_unsigned(bytes, at),
+        (true, Presence::Optional) => read_unsigned_nullable(bytes, at),
+        (false, Presence::Mandatory) => read_signed(bytes, at),
+        (false, Presence::Optional) => read_signed_nullable(bytes, at),
     }
 }
 
@@ -321,9 +379,15 @@ pub(crate) fn write_signed(
     requires { IsSmall number }
     ensures { AppendsOne (ShortestSigned presence number) out.old.items out.new.items result }
 {
-    match presence {
-        Presence::Mandatory => fast_wire::write_signed(number, out),
-        Presence::Optional => fast_wire::write_signed_nullable(Nullable::Value(number), out),
+    match i64::try_from(number) {
+        Ok(number) => match presence {
+            Presence::Mandatory => fast_wire::write_i64(number, out),
+            Presence::Optional => fast_wire::write_i64_nullable(Nullable::Value(number), out),
+        },
+        Err(_) => match presence {
+            Presence::Mandatory => fast_wire::write_signed(number, out),
+            Presence::Optional => fast_wire::write_signed_nullable(Nullable::Value(number), out),
+        },
     }
 }
 

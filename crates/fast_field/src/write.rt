@@ -5,13 +5,15 @@ ghost use Rattle.std.specs.Option.{option_copied};
 ghost use Rattle.fast_dictionary.specs.Dictionary.{entry_of};
 ghost use Rattle.fast_field.specs.Bases.{next};
 ghost use Rattle.fast_field.specs.Chosen.{CanBePieces, ShortestPieces};
+ghost use Rattle.fast_field.specs.Found.{CanLie, value_found};
 ghost use Rattle.fast_field.specs.Parts.{IsFieldPart};
 ghost use Rattle.fast_field.specs.Refusals.{refusal_of};
 ghost use Rattle.fast_field.specs.Within.{HoldsScalar};
 ghost use Rattle.fast_field.specs.Written.{AppendsBest, IsRefusal};
 
-use crate::afterwards::next_if_changed;
+use crate::afterwards::{next_unless_repeated, settle};
 use crate::fault::FieldRefusal;
+use crate::found::Found;
 use crate::pieces::{Pieces, write_pieces};
 use crate::plan::choose;
 use fast_dictionary::{Entry, EntryRef};
@@ -108,10 +110,50 @@ pub fn write_in_place(
     ensures kept { OnErr result (entry.new ≡ entry.old) }
 {
     let (bit, pieces) = choose(instr, entry.view(), value)?;
-    let changed = next_if_changed(alloc, instr, value)?;
+    let changed = next_unless_repeated(alloc, instr, entry.view(), bit, value)?;
     append(instr, pieces, out)?;
     if let Some(changed) = changed {
         *entry = changed;
     }
     Ok(bit)
+}
+
+/// As `write_in_place`, of a value that `find_field` found on this entry: one of its own is moved into the entry and
+/// not copied. Answers where the value lies then, and the bit of its best form.
+///
+/// # Errors
+///
+/// As `write_in_place`; Memory: an initial value was to be copied.
+pub fn write_found(
+    alloc: Global,
+    instr: &FieldPart,
+    entry: &mut Entry,
+    found: Found,
+    out: &mut Vec<u8>,
+) -> Result<(Found, bool), FieldRefusal>
+    requires part { IsFieldPart instr.now }
+    requires entry { HoldsScalar entry.old }
+    requires lies { CanLie entry.old found }
+    ensures best { IfOk result (λ x. AppendsBest instr.now entry.old
+        (value_found instr.now entry.old found) x.1 out.old.items out.new.items) }
+    ensures value { IfOk result (λ x. value_found instr.now entry.new x.0
+        ≡ value_found instr.now entry.old found) }
+    ensures entry { OnOk result (entry.new
+        ≡ next instr.now entry.old (value_found instr.now entry.old found)) }
+    ensures allowed { OnOk result
+        (refusal_of instr.now entry.old (value_found instr.now entry.old found) ≡ None) }
+    ensures refused { IfErr result
+        (IsRefusal instr.now entry.old (value_found instr.now entry.old found)) }
+    ensures unchanged { OnErr result (out.new.items ≡ out.old.items) }
+    ensures kept { OnErr result (entry.new ≡ entry.old) }
+{
+    let start = out.len();
+    let bit = append_best(instr, entry.view(), found.value(instr, entry.view()), out)?;
+    match settle(alloc, instr, entry, found) {
+        Ok(found) => Ok((found, bit)),
+        Err(_) => {
+            out.truncate(start);
+            Err(FieldRefusal::Memory)
+        }
+    }
 }
