@@ -23,7 +23,7 @@ use crate::fault::FieldFault;
 use crate::pieces::Pieces;
 use crate::string::joined;
 use crate::whole::{
-    exponent_within, mantissa_within, read_integer, read_part, size_part, size_signed,
+    exponent_within, mantissa_within, read_integer, read_part, read_signed, size_part, size_signed,
     value_of_integer, write_part, write_signed,
 };
 use fast_dictionary::EntryRef;
@@ -88,7 +88,7 @@ fn read_mantissa_delta(
     let Some(exponent) = exponent_within(exponent) else {
         return Err(FieldFault::R1);
     };
-    let (delta, next) = fast_wire::read_signed(bytes, at)?;
+    let (delta, next) = read_signed(bytes, at)?;
     match mantissa_within(added(i128::from(base), delta)) {
         Some(mantissa) => Ok((Some(Scalar::Decimal { exponent, mantissa }), next)),
         None => Err(FieldFault::R1),

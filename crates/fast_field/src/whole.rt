@@ -2,13 +2,13 @@
 
 ghost use Rattle.std.specs.Prelude.{◌≡◌, ◌≤◌, ◌<◌, true, false, length, drop, IfNone, IfOk, IfSome, IsTrue};
 ghost use Rattle.fast_wire.specs.Nullable.{IsNullOr, items_of};
-ghost use Rattle.fast_wire.specs.Reading.{GivesAt};
+ghost use Rattle.fast_wire.specs.Reading.{GivesAt, signed_at};
 ghost use Rattle.fast_template.specs.Scalar.{exponent_in_range, in_range, is_integer};
 ghost use Rattle.fast_template.specs.declared.kind.Kind.TheVariants as kind;
 ghost use Rattle.fast_template.specs.declared.kind.Presence.TheVariants.{Mandatory, Optional};
 ghost use Rattle.fast_field.specs.Calls.{Answers, AnswersAt, IsSentRange, OrRefused};
 ghost use Rattle.fast_field.specs.Chosen.{AppendsOne, CanBeUnits, CanBeWhole, HasSize, IsSmall, ShortestPair, ShortestPart, ShortestSigned, ShortestUnits, ShortestUnsigned, ShortestWhole, length_size, part_size, tail_size};
-ghost use Rattle.fast_field.specs.FieldReading.{decimal_spelled_at, integer_at, integer_spelled_at, integer_value, mantissa_behind, part_at, range_fault, spelled_at, unit_value, units_at, units_spelled_at};
+ghost use Rattle.fast_field.specs.FieldReading.{decimal_spelled_at, in_field, integer_at, integer_spelled_at, integer_value, mantissa_behind, part_at, range_fault, spelled_at, unit_value, units_at, units_spelled_at};
 
 use crate::fault::FieldFault;
 use fast_template::{ByteString, Kind, Part, Presence, Scalar, UnicodeText};
@@ -57,18 +57,15 @@ fn read_unsigned_nullable(bytes: &[u8], at: usize) -> Result<(Nullable<i128>, us
 
 /// A number with a sign; one that has more than 64 bits is read once more.
 #[tactic(auto, using(crate::proofs::CallSteps::call_steps), unfolding(crate::specs::FieldReading::integer_at))]
-fn read_signed(bytes: &[u8], at: usize) -> Result<(Nullable<i128>, usize), FieldFault>
+pub(crate) fn read_signed(bytes: &[u8], at: usize) -> Result<(i128, usize), FieldFault>
     requires { at ≤ length bytes.now }
     ensures place { IfOk result (λ x. (at < x.1) × (x.1 ≤ length bytes.now)) }
-    ensures range { IfOk result (λ x. IsNullOr IsSentRange x.0) }
-    ensures gives { AnswersAt (integer_at false Mandatory) (λ v. v) bytes.now at result }
+    ensures range { IfOk result (λ x. IsSentRange x.0) }
+    ensures gives { AnswersAt (λ bytes. in_field (signed_at bytes)) (λ v. v) bytes.now at result }
 {
     match fast_wire::read_i64(bytes, at) {
-        Ok((number, next)) => Ok((Nullable::Value(i128::from(number)), next)),
-        Err(WireFault::Range) => {
-            let (number, next) = fast_wire::read_signed(bytes, at)?;
-            Ok((Nullable::Value(number), next))
-        }
+        Ok((number, next)) => Ok((i128::from(number), next)),
+        Err(WireFault::Range) => Ok(fast_wire::read_signed(bytes, at)?),
         Err(fault) => Err(FieldFault::from(fault)),
     }
 }
@@ -105,7 +102,10 @@ pub(crate) fn read_integer(
     match (unsigned, presence) {
         (true, Presence::Mandatory) => read_unsigned(bytes, at),
         (true, Presence::Optional) => read_unsigned_nullable(bytes, at),
-        (false, Presence::Mandatory) => read_signed(bytes, at),
+        (false, Presence::Mandatory) => {
+            let (number, next) = read_signed(bytes, at)?;
+            Ok((Nullable::Value(number), next))
+        }
         (false, Presence::Optional) => read_signed_nullable(bytes, at),
     }
 }
@@ -240,7 +240,7 @@ fn read_mantissa(
     let Some(exponent) = exponent_within(exponent) else {
         return Err(FieldFault::R1);
     };
-    let (mantissa, next) = fast_wire::read_signed(bytes, at)?;
+    let (mantissa, next) = read_signed(bytes, at)?;
     match mantissa_within(mantissa) {
         Some(mantissa) => Ok((Some(Scalar::Decimal { exponent, mantissa }), next)),
         None => Err(FieldFault::R1),
