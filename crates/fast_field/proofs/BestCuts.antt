@@ -4,13 +4,10 @@ use Rattle.std.proofs.Common.{◌≡◌, ℕ, zero, suc, ◌+◌, ◌-◌, ◌^�
 use Rattle.std.specs.Prelude.{ℤ, pos, negsuc, nat_le, ◌&&◌, IsTrue}
 use Rattle.std.proofs.lemmas.Bool.{cases_lt, cases_eq}
 use Rattle.std.proofs.lemmas.Bool.Decides.{nat_tests}
-use Rattle.fast_wire.specs.Ascii.{IsAscii}
-use Rattle.fast_wire.specs.Integer.{IsSigned, magnitude}
-use Rattle.fast_wire.specs.Nullable.{IsSignedNullable}
-use Rattle.fast_wire.specs.Vector.{IsVector}
-use Rattle.fast_wire.specs.Sizes.{signed_size, signed_nullable_size, ascii_size, vector_size, unsigned_size}
+use Rattle.fast_wire.specs.Integer.{magnitude}
+use Rattle.fast_wire.specs.Sizes.{unsigned_size}
 use Rattle.fast_wire.specs.declared.nullable.Nullable.TheVariants.{Value}
-use Rattle.fast_wire.proofs.FormSizes.{signed_sizes, signed_nullable_sizes, ascii_sizes, vector_sizes, signed_grow, signed_nullable_grow, shortest_size}
+use Rattle.fast_wire.proofs.FormSizes.{signed_sizes, signed_nullable_sizes, ascii_sizes, vector_sizes, signed_grow, signed_nullable_grow}
 use Rattle.fast_wire.proofs.Sizes.{unsigned_size-grows}
 use Rattle.fast_template.specs.Scalar.{in_range}
 use Rattle.fast_template.specs.declared.kind.Kind.{Kind}
@@ -18,27 +15,21 @@ use Rattle.fast_template.specs.declared.kind.Kind.TheVariants as kind
 use Rattle.fast_template.specs.declared.kind.Presence.{Presence}
 use Rattle.fast_template.specs.declared.kind.Presence.TheVariants.{Mandatory, Optional}
 use Rattle.fast_template.specs.declared.scalar.Scalar.{Scalar}
-use Rattle.fast_field.specs.Values.{units_of}
+use Rattle.fast_field.specs.Values.{units_of, IsUnitKind}
 use Rattle.fast_field.specs.Spelled.{SpellsInteger, SpellsPart, IsOfUnits}
 use Rattle.fast_field.specs.Deltas.{Cut, removed_of, side_of, put_together, IsOfFewUnits, SpellsCut}
-use Rattle.fast_field.specs.Best.{NoLater, side_rank}
+use Rattle.fast_field.specs.Best.{NoLater}
 use Rattle.fast_field.specs.CommonParts.{IsLongestPrefix, IsLongestSuffix}
 use Rattle.fast_field.proofs.Agreeing.{prefix_more, prefix_stops, prefix_ends, suffix_none, suffix_more, suffix_stops, suffix_ends}
 use Rattle.fast_field.proofs.Least.{IsPartCost, IsLengthCost, end_is_least, front_is_least, ascii_parts, vector_parts}
-use Rattle.fast_field.proofs.BestDeltas.{First}
+use Rattle.fast_field.specs.Chosen.{ShortestSigned, ShortestPart, Both, length_size, part_size, CutNoLater, IsBestCut}
+use Rattle.fast_field.proofs.BestDeltas.{IsFirst, First}
+use Rattle.fast_field.proofs.Shortest.{signed_form, part_form, length_is, part_is, shortest_signed, shortest_part}
 use Rattle.fast_field.proofs.Refused.{units_are}
-use Rattle.fast_field.proofs.ValuesWithin.{IsOfType, IsString, IsUnitKind, unit_limit, units_of_string, all_take, all_drop}
-use Rattle.fast_field.proofs.StandingForms.{signed_stands, part_stands, of_units_is}
+use Rattle.fast_field.proofs.ValuesWithin.{IsOfType, IsString, unit_limit, units_of_string, all_take, all_drop}
+use Rattle.fast_field.proofs.StandingForms.{of_units_is}
 
 -- ---- sizes
-
-abbrev pub length_size : Presence → ℤ → ℕ
-length_size Mandatory z = signed_size z
-length_size Optional z = signed_nullable_size (Value z)
-
-abbrev pub part_size : Kind → List ℕ → ℕ
-part_size kind.Ascii s = ascii_size s
-part_size k s = vector_size s
 
 lengths : (p : Presence) → IsLengthCost (length_size p)
 lengths Mandatory = record { at_end = λ m n le. signed_grow (pos m) (pos n) le; in_front = λ m n le. signed_grow (negsuc m) (negsuc n) le }
@@ -85,17 +76,6 @@ longest_suffix a b = suffix_from a b (min (length a) (length b)) 0 (omega arith)
 
 -- ---- the better of the two
 
--- no later: fewer bytes, or as many and the earlier side, or the same side and no longer a new part
-abbrev CutNoLater : ℕ → ℤ → ℕ → ℕ → ℤ → ℕ → Type 0
-CutNoLater m z part m' z' part' = (m < m') ⊎ ((m ≡ m') × ((side_rank (side_of z) < side_rank (side_of z')) ⊎ ((side_of z ≡ side_of z') × (part ≤ part'))))
-
--- the cut of a value that comes before all others
-pub record IsBestCut (k : Kind) (p : Presence) (base v : List ℕ) (removal : ℤ) (part : List ℕ) : Type 0 where
-  pub few : removed_of removal ≤ length base
-  pub made : v ≡ put_together removal base part
-  pub first : (z : ℤ) (q : List ℕ) → removed_of z ≤ length base → v ≡ put_together z base q
-      → CutNoLater (length_size p removal + part_size k part) removal (length part) (length_size p z + part_size k q) z (length q)
-
 not_equal_first : (m m' : ℕ) (P : Type 0) → m ≤ m' → P → (m < m') ⊎ ((m ≡ m') × P)
 not_equal_first m m' P le q = elim (cases_lt m m') [ inl lt ↦ inl lt | inr ge ↦ let e : m ≡ m' = omega arith in inr (e, q) ]
 
@@ -134,14 +114,6 @@ module _ (k : Kind) (p : Presence) (base v : List ℕ) (n m : ℕ) (prefix : IsL
 
 -- ---- its form
 
-length_stands : (p : Presence) (z : ℤ) → magnitude z < 2 ^ 68 → (b : List ℕ) × SpellsInteger false p b (Value z) × (length b ≡ length_size p z)
-length_stands Mandatory z lt = let s = signed_stands Mandatory z lt in (s.0, s.1.form, shortest_size IsSigned _ signed_size signed_sizes s.0 z (record { form = s.1.form; least = s.1.least }))
-length_stands Optional z lt = let s = signed_stands Optional z lt in (s.0, s.1.form, shortest_size IsSignedNullable _ signed_nullable_size signed_nullable_sizes s.0 (Value z) (record { form = s.1.form; least = s.1.least }))
-
-pub new_part_stands : (k : Kind) (s : List ℕ) → IsString k s → (b : List ℕ) × SpellsPart k b s × (length b ≡ part_size k s)
-new_part_stands kind.Ascii s h = let t = part_stands kind.Ascii s h in (t.0, t.1.form, shortest_size IsAscii _ ascii_size ascii_sizes t.0 s (record { form = t.1.form; least = t.1.least }))
-new_part_stands k s h = let t = part_stands k s h in (t.0, t.1.form, shortest_size IsVector _ vector_size vector_sizes t.0 s (record { form = t.1.form; least = t.1.least }))
-
 no_later : (m n m' n' : ℕ) (z z' : ℤ) (a a' : ℕ) → n ≡ m → m' ≤ n' → CutNoLater m z a m' z' a' → NoLater true n (record { side = side_of z; part = a }) true n' (record { side = side_of z'; part = a' })
 no_later m n m' n' z z' a a' e le (inl lt) = inr (refl, inl (omega arith))
 no_later m n m' n' z z' a a' e le (inr h) = elim (cases_lt n n') [
@@ -162,45 +134,52 @@ removal_fits (negsuc n) h = (omega arith, and_true (nat_le n 2147483647) true (l
 pub of_few : (k : Kind) (s : List ℕ) (v : Scalar) → IsOfUnits k (units_of v) v → length (units_of v) ≤ 65535 → units_of v ≡ s → IsOfFewUnits k s v
 of_few k s v h le e = subst (λ (x : List ℕ). IsOfFewUnits k x v) e (le, h)
 
+pub removal_small : (base : List ℕ) (z : ℤ) → length base ≤ 65535 → removed_of z ≤ length base → magnitude z < 2 ^ 68
+removal_small base z few le = (removal_fits z (omega (arith, le, few))).0
+
 -- the bytes of the best cut come before all other forms
-pub cut_is_first : (k : Kind) (p : Presence) (base v : Scalar) (removal : ℤ) (part : List ℕ) → IsUnitKind k → IsOfType k base → IsOfType k v → IsString k part → IsBestCut k p (units_of base) (units_of v) removal part
-    → First (λ c b. SpellsCut k p base c b v)
-cut_is_first k p base v removal part u h l fits best =
+pub cut_is_first : (k : Kind) (p : Presence) (base v : Scalar) (removal : ℤ) (part b : List ℕ) → IsUnitKind k → IsOfType k base → IsOfType k v → IsBestCut k p (units_of base) (units_of v) removal part → Both (ShortestSigned p removal) (ShortestPart k part) b
+    → IsFirst (λ c b. SpellsCut k p base c b v) b
+cut_is_first k p base v removal part b u h l best spelled =
     let few_base = units_of_string k base u h in
     let few_value = units_of_string k v u l in
     let range = removal_fits removal (omega (arith, best.few, few_base.0)) in
-    let first = length_stands p removal range.0 in
-    let second = new_part_stands k part fits in
-    let size : length (first.0 ++ second.0) ≡ length_size p removal + part_size k part = omega (arith, length-append first.0 second.0, first.2, second.2) in
+    let size : length b ≡ length_size p removal + part_size k part = omega (arith, ap length spelled.parts, length-append spelled.front spelled.back, length_is p removal spelled.front spelled.first, part_is k part spelled.back spelled.second) in
     record {
       cut = record { side = side_of removal; part = length part };
-      bytes = first.0 ++ second.0;
       form = record {
         removal = removal;
         new_part = part;
-        front = first.0;
-        back = second.0;
-        parts = refl;
-        removal_form = first.1;
+        front = spelled.front;
+        back = spelled.back;
+        parts = spelled.parts;
+        removal_form = (signed_form p removal spelled.front spelled.first).form;
         is_int32 = range.1;
         there = best.few;
-        part_form = second.1;
+        part_form = (part_form k part spelled.back spelled.second).form;
         value = of_few k (put_together removal (units_of base) part) v (of_units_is k v u l) few_value.0 best.made;
         cut_is = refl;
       };
-      first = λ c b other.
+      first = λ c o other.
           let made = units_are k (put_together other.removal (units_of base) other.new_part) v other.value.1 in
           let later = best.first other.removal other.new_part other.there made in
-          rw other.cut_is (no_later (length_size p removal + part_size k part) (length (first.0 ++ second.0)) (length_size p other.removal + part_size k other.new_part) (length b) removal other.removal (length part) (length other.new_part) size (cut_least k p base c b v other) later);
+          rw other.cut_is (no_later (length_size p removal + part_size k part) (length b) (length_size p other.removal + part_size k other.new_part) (length o) removal other.removal (length part) (length other.new_part) size (cut_least k p base c o v other) later);
     }
 
 pub drop_fits : (k : Kind) (n : ℕ) (s : List ℕ) → IsString k s → IsString k (drop n s)
 drop_fits k n s h = let less = h.0 in (omega (arith, length-drop n s), all_drop (λ x. x < unit_limit k) n s h.1)
 
-take_fits : (k : Kind) (n : ℕ) (s : List ℕ) → IsString k s → IsString k (take n s)
+pub take_fits : (k : Kind) (n : ℕ) (s : List ℕ) → IsString k s → IsString k (take n s)
 take_fits k n s h = let less = h.0 in (omega (arith, length-take n s), all_take (λ x. x < unit_limit k) n s h.1)
 
 -- each value has one on each base
+cut_stands : (k : Kind) (p : Presence) (base v : Scalar) (removal : ℤ) (part : List ℕ) → IsUnitKind k → IsOfType k base → IsOfType k v → IsString k part → IsBestCut k p (units_of base) (units_of v) removal part
+    → First (λ c b. SpellsCut k p base c b v)
+cut_stands k p base v removal part u h l fits best =
+    let first = shortest_signed p removal (removal_small (units_of base) removal (units_of_string k base u h).0 best.few) in
+    let second = shortest_part k part fits in
+    (first.0 ++ second.0, cut_is_first k p base v removal part (first.0 ++ second.0) u h l best (record { front = first.0; back = second.0; parts = refl; first = first.1; second = second.1 }))
+
 pub string_delta_first : (k : Kind) (p : Presence) (base v : Scalar) → IsUnitKind k → IsOfType k base → IsOfType k v → First (λ c b. SpellsCut k p base c b v)
 string_delta_first k p base v u h l =
     let s = units_of base in
@@ -211,6 +190,6 @@ string_delta_first k p base v u h l =
     let at_the_end = length_size p (pos (length s - prefix.0)) + part_size k (drop prefix.0 t) in
     let in_the_front = length_size p (negsuc (length s - suffix.0)) + part_size k (take (length t - suffix.0) t) in
     elim (cases_lt in_the_front at_the_end) [
-      | inl lt ↦ cut_is_first k p base v (negsuc (length s - suffix.0)) (take (length t - suffix.0) t) u h l (take_fits k (length t - suffix.0) t fits) (best_in_front k p s t prefix.0 suffix.0 prefix.1 suffix.1 lt)
-      | inr ge ↦ cut_is_first k p base v (pos (length s - prefix.0)) (drop prefix.0 t) u h l (drop_fits k prefix.0 t fits) (best_at_end k p s t prefix.0 suffix.0 prefix.1 suffix.1 ge)
+      | inl lt ↦ cut_stands k p base v (negsuc (length s - suffix.0)) (take (length t - suffix.0) t) u h l (take_fits k (length t - suffix.0) t fits) (best_in_front k p s t prefix.0 suffix.0 prefix.1 suffix.1 lt)
+      | inr ge ↦ cut_stands k p base v (pos (length s - prefix.0)) (drop prefix.0 t) u h l (drop_fits k prefix.0 t fits) (best_at_end k p s t prefix.0 suffix.0 prefix.1 suffix.1 ge)
     ]

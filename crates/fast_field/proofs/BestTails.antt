@@ -2,70 +2,53 @@
 use Rattle.std.proofs.Common.{◌≡◌, ℕ, zero, suc, ◌+◌, ◌-◌, ◌<◌, ◌≤◌, List, [], ◌∷◌, length, take, drop, refl, sym, ap, subst, ◌∙◌, arith, inl, inr, length-drop, take-append-drop, drop-drop}
 use Rattle.std.proofs.lemmas.Bool.{cases_lt}
 use Rattle.std.proofs.lemmas.List.{take-take}
-use Rattle.fast_wire.specs.Ascii.{IsAsciiNullable}
-use Rattle.fast_wire.specs.Vector.{IsVectorNullable}
 use Rattle.fast_wire.specs.Sizes.{ascii_nullable_size, vector_nullable_size, unsigned_size}
 use Rattle.fast_wire.specs.declared.nullable.Nullable.TheVariants.{Value}
-use Rattle.fast_wire.proofs.FormSizes.{ascii_nullable_sizes, vector_nullable_sizes, shortest_size}
+use Rattle.fast_wire.proofs.FormSizes.{ascii_nullable_sizes, vector_nullable_sizes}
 use Rattle.fast_wire.proofs.Sizes.{unsigned_size-grows}
 use Rattle.fast_template.specs.declared.kind.Kind.{Kind}
 use Rattle.fast_template.specs.declared.kind.Kind.TheVariants as kind
 use Rattle.fast_template.specs.declared.kind.Presence.{Presence}
 use Rattle.fast_template.specs.declared.kind.Presence.TheVariants.{Mandatory, Optional}
 use Rattle.fast_template.specs.declared.scalar.Scalar.{Scalar}
-use Rattle.fast_field.specs.Values.{units_of}
+use Rattle.fast_field.specs.Values.{units_of, IsUnitKind}
 use Rattle.fast_field.specs.Spelled.{SpellsUnits}
 use Rattle.fast_field.specs.Deltas.{at_end, Cut, ended_by, SpellsTail}
 use Rattle.fast_field.specs.CommonParts.{IsLongestPrefix}
 use Rattle.fast_field.proofs.BestForms.{at_end_first}
-use Rattle.fast_field.proofs.BestDeltas.{First}
-use Rattle.fast_field.proofs.BestCuts.{part_size, part_least, new_part_stands, parts, longest_prefix, of_few, drop_fits}
-use Rattle.fast_field.proofs.Least.{IsPartCost, vector_parts, tail_is, preamble, preamble-cases, NoWorse, tail_cost, shortest_tail, one_more, still_shortest}
+use Rattle.fast_field.specs.Chosen.{ShortestUnits, part_size, tail_size, NoWorse, IsBestTail}
+use Rattle.fast_field.proofs.BestDeltas.{IsFirst, First}
+use Rattle.fast_field.proofs.BestCuts.{part_least, parts, longest_prefix, of_few, drop_fits}
+use Rattle.fast_field.proofs.Shortest.{units_form, units_is, shortest_units}
+use Rattle.fast_field.proofs.Least.{IsPartCost, vector_parts, tail_is, preamble, preamble-cases, tail_cost, shortest_tail, one_more, still_shortest}
 use Rattle.fast_field.proofs.Refused.{units_are}
-use Rattle.fast_field.proofs.ValuesWithin.{IsOfType, IsString, IsUnitKind, units_of_string}
-use Rattle.fast_field.proofs.StandingForms.{units_stand, of_units_is}
+use Rattle.fast_field.proofs.ValuesWithin.{IsOfType, IsString, units_of_string}
+use Rattle.fast_field.proofs.StandingForms.{of_units_is}
 
 -- ---- sizes
-
-abbrev pub tail_size : Kind → Presence → List ℕ → ℕ
-tail_size k Mandatory s = part_size k s
-tail_size kind.Ascii Optional s = ascii_nullable_size (Value s)
-tail_size k Optional s = vector_nullable_size (Value s)
 
 tail_least : (k : Kind) (p : Presence) (s b : List ℕ) → SpellsUnits k p b (Value s) → tail_size k p s ≤ length b
 tail_least k Mandatory s b h = part_least k s b h
 tail_least kind.Ascii Optional s b h = ascii_nullable_sizes.least b (Value s) h
 tail_least k Optional s b h = vector_nullable_sizes.least b (Value s) h
 
-tail_stands : (k : Kind) (p : Presence) (s : List ℕ) → IsString k s → (b : List ℕ) × SpellsUnits k p b (Value s) × (length b ≡ tail_size k p s)
-tail_stands k Mandatory s h = new_part_stands k s h
-tail_stands kind.Ascii Optional s h = let t = units_stand kind.Ascii Optional s h in (t.0, t.1.form, shortest_size IsAsciiNullable _ ascii_nullable_size ascii_nullable_sizes t.0 (Value s) (record { form = t.1.form; least = t.1.least }))
-tail_stands k Optional s h = let t = units_stand k Optional s h in (t.0, t.1.form, shortest_size IsVectorNullable _ vector_nullable_size vector_nullable_sizes t.0 (Value s) (record { form = t.1.form; least = t.1.least }))
-
 -- ---- the tail that comes first
-
--- a tail of a value, and no other is better
-pub record IsBestTail (k : Kind) (p : Presence) (base v tail : List ℕ) : Type 0 where
-  pub made : v ≡ ended_by base tail
-  pub first : (t : List ℕ) → v ≡ ended_by base t → NoWorse (tail_size k p tail) (length tail) (tail_size k p t) (length t)
 
 worse_first : (m n m' n' part : ℕ) (c : Cut) → n ≡ m → m' ≤ n' → NoWorse m part m' c.part → (n ≤ n') × (n ≡ n' → part ≤ c.part)
 worse_first m n m' n' part c e le (inl lt) = (omega arith, λ same. absurd (omega arith))
 worse_first m n m' n' part c e le (inr h) = let same_size = h.0 in (omega arith, λ same. h.1)
 
-pub tail_is_first : (k : Kind) (p : Presence) (base v : Scalar) (tail : List ℕ) → IsUnitKind k → IsOfType k v → IsString k tail → IsBestTail k p (units_of base) (units_of v) tail → First (λ c b. SpellsTail k p base c b v)
-tail_is_first k p base v tail u l fits best =
+pub tail_is_first : (k : Kind) (p : Presence) (base v : Scalar) (tail b : List ℕ) → IsUnitKind k → IsOfType k v → IsBestTail k p (units_of base) (units_of v) tail → ShortestUnits k p tail b → IsFirst (λ c b. SpellsTail k p base c b v) b
+tail_is_first k p base v tail b u l best spelled =
     let few = units_of_string k v u l in
-    let s = tail_stands k p tail fits in
     record {
       cut = record { side = at_end; part = length tail };
-      bytes = s.0;
-      form = record { tail = tail; tail_form = s.1; value = of_few k (ended_by (units_of base) tail) v (of_units_is k v u l) few.0 best.made; cut_is = refl };
-      first = λ c b other.
+      form = record { tail = tail; tail_form = (units_form k p tail b spelled).form; value = of_few k (ended_by (units_of base) tail) v (of_units_is k v u l) few.0 best.made; cut_is = refl };
+      first = λ c o other.
           let made = units_are k (ended_by (units_of base) other.tail) v other.value.1 in
-          let least = tail_least k p other.tail b other.tail_form in
-          let w = worse_first (tail_size k p tail) (length s.0) (tail_size k p other.tail) (length b) (length tail) (record { side = at_end; part = length other.tail }) s.2 least (best.first other.tail made) in
-          rw other.cut_is (at_end_first (length s.0) (length b) (length tail) (record { side = at_end; part = length other.tail }) w.0 w.1);
+          let least = tail_least k p other.tail o other.tail_form in
+          let w = worse_first (tail_size k p tail) (length b) (tail_size k p other.tail) (length o) (length tail) (record { side = at_end; part = length other.tail }) (units_is k p tail b spelled) least (best.first other.tail made) in
+          rw other.cut_is (at_end_first (length b) (length o) (length tail) (record { side = at_end; part = length other.tail }) w.0 w.1);
     }
 
 -- ---- which tail that is
@@ -74,7 +57,7 @@ no_worse_by : (m part m' part' : ℕ) → m ≤ m' → part ≤ part' → NoWors
 no_worse_by m part m' part' le less = elim (cases_lt m m') [ inl lt ↦ inl lt | inr ge ↦ let e : m ≡ m' = omega arith in inr (e, less) ]
 
 -- the one of a longer value is the whole of it
-longer_tail : (k : Kind) (p : Presence) (base v : List ℕ) → length base < length v → IsBestTail k p base v v
+pub longer_tail : (k : Kind) (p : Presence) (base v : List ℕ) → length base < length v → IsBestTail k p base v v
 longer_tail k p base v lt =
     let prefix = longest_prefix base v in
     let none : length base - length v ≡ 0 = omega arith in
@@ -147,13 +130,57 @@ cut_tail kind.Ascii Optional base v same =
     let j = nullable_place v n.0 n.1.in_b in (drop j.0 v, (j.0, refl), best_behind kind.Ascii Optional base v n.0 n.1 same j.0 j.1 j.2)
 cut_tail k Optional base v same = let n = longest_prefix base v in (drop n.0 v, (n.0, refl), shortest k Optional base v n.0 n.1 same vector_nullable_parts)
 
+-- ---- which tail that is, told by the sizes of two: the shortest, or one unit more where that has fewer bytes
+
+on_next : (cost : List ℕ → ℕ) → IsPartCost cost → (v : List ℕ) (n : ℕ) → 0 < n → cost (drop n v) ≤ cost (drop (n - 1) v)
+on_next cost is v n some =
+    let on : n - 1 + 1 ≡ n = omega arith in
+    let next : drop 1 (drop (n - 1) v) ≡ drop n v = drop-drop 1 (n - 1) v ∙ ap (λ (m : ℕ). drop m v) on in
+    subst (λ (t : List ℕ). cost t ≤ cost (drop (n - 1) v)) next (is.on_drop 1 (drop (n - 1) v))
+
+needs_preamble : (v : List ℕ) (m : ℕ) → suc m ≤ length v → tail_cost v m < tail_cost v (suc m) → (preamble (drop (suc m) v) ≡ 2) × (preamble (drop m v) ≡ 0)
+needs_preamble v m le lt = elim (preamble-cases (drop (suc m) v)) [
+  | inl none ↦ absurd (omega (arith, lt))
+  | inr two ↦ elim (preamble-cases (drop m v)) [ inl none ↦ (two, none) | inr twice ↦ absurd (omega (arith, lt)) ]
+]
+
+needs_none : (v : List ℕ) (m : ℕ) → suc m ≤ length v → tail_cost v (suc m) ≤ tail_cost v m → (i : ℕ) → i ≤ suc m → NoWorse (tail_cost v (suc m)) (length v - suc m) (tail_cost v i) (length v - i)
+needs_none v m le no_less i small = elim (preamble-cases (drop (suc m) v)) [
+  | inl none ↦ shortest_tail v (suc m) i le small none
+  | inr two ↦ elim (preamble-cases (drop m v)) [ inl none ↦ absurd (omega (arith, no_less)) | inr twice ↦ still_shortest v m i le small two twice ]
+]
+
+pub longer_is_best : (k : Kind) (p : Presence) (base v : List ℕ) (n : ℕ) → IsLongestPrefix base v n → length v ≡ length base → 0 < n → tail_size k p (drop (n - 1) v) < tail_size k p (drop n v) → IsBestTail k p base v (drop (n - 1) v)
+longer_is_best k Mandatory base v n prefix same some lt = absurd (omega (arith, lt, on_next (part_size k) (parts k) v n some))
+longer_is_best kind.Ascii Optional base v zero prefix same some lt = absurd (omega (arith, some))
+longer_is_best kind.Ascii Optional base v (suc m) prefix same some lt =
+    let in_v = prefix.in_b in
+    let back : suc m - 1 ≡ m = omega arith in
+    let needs = needs_preamble v m in_v (rw (← cost_is v m, ← cost_is v (suc m)) (rw back at lt)) in
+    rw back (best_behind kind.Ascii Optional base v (suc m) prefix same m (omega arith) (λ i small. as_cost v m i (one_more v m i in_v small needs.0 needs.1)))
+longer_is_best k Optional base v n prefix same some lt = absurd (omega (arith, lt, on_next (λ s. vector_nullable_size (Value s)) vector_nullable_parts v n some))
+
+pub shortest_is_best : (k : Kind) (p : Presence) (base v : List ℕ) (n : ℕ) → IsLongestPrefix base v n → length v ≡ length base → (0 < n → tail_size k p (drop n v) ≤ tail_size k p (drop (n - 1) v)) → IsBestTail k p base v (drop n v)
+shortest_is_best k Mandatory base v n prefix same no_less = shortest k Mandatory base v n prefix same (parts k)
+shortest_is_best kind.Ascii Optional base v zero prefix same no_less =
+    best_behind kind.Ascii Optional base v 0 prefix same 0 (omega arith) (λ i small. let none : i ≡ 0 = omega arith in rw none (inr (refl, omega arith)))
+shortest_is_best kind.Ascii Optional base v (suc m) prefix same no_less =
+    let in_v = prefix.in_b in
+    let back : suc m - 1 ≡ m = omega arith in
+    let less : tail_cost v (suc m) ≤ tail_cost v m = rw (← cost_is v m, ← cost_is v (suc m)) (rw back at (no_less (omega arith))) in
+    best_behind kind.Ascii Optional base v (suc m) prefix same (suc m) (omega arith) (λ i small. as_cost v (suc m) i (needs_none v m in_v less i small))
+shortest_is_best k Optional base v n prefix same no_less = shortest k Optional base v n prefix same vector_nullable_parts
+
 -- each value that is no shorter than its base has one
+tail_stands : (k : Kind) (p : Presence) (base v : Scalar) (tail : List ℕ) → IsUnitKind k → IsOfType k v → IsString k tail → IsBestTail k p (units_of base) (units_of v) tail → First (λ c b. SpellsTail k p base c b v)
+tail_stands k p base v tail u l fits best = let s = shortest_units k p tail fits in (s.0, tail_is_first k p base v tail s.0 u l best s.1)
+
 pub tail_first : (k : Kind) (p : Presence) (base v : Scalar) → IsUnitKind k → IsOfType k v → length (units_of base) ≤ length (units_of v) → First (λ c b. SpellsTail k p base c b v)
 tail_first k p base v u l le =
     let fits = units_of_string k v u l in
     elim (cases_lt (length (units_of base)) (length (units_of v))) [
-      | inl lt ↦ tail_is_first k p base v (units_of v) u l fits (longer_tail k p (units_of base) (units_of v) lt)
+      | inl lt ↦ tail_stands k p base v (units_of v) u l fits (longer_tail k p (units_of base) (units_of v) lt)
       | inr ge ↦
           let t = cut_tail k p (units_of base) (units_of v) (omega arith) in
-          tail_is_first k p base v t.0 u l (rw t.1.1 (drop_fits k t.1.0 (units_of v) fits)) t.2
+          tail_stands k p base v t.0 u l (rw t.1.1 (drop_fits k t.1.0 (units_of v) fits)) t.2
     ]

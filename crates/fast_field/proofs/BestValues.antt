@@ -4,6 +4,7 @@ use Rattle.std.specs.Prelude.{ℤ, pos, negsuc, int_lt, int_le, nat_lt, nat_le, 
 use Rattle.std.specs.List.{AllByRecursion}
 use Rattle.std.proofs.lemmas.Bool.Decides.{nat_tests}
 use Rattle.fast_wire.proofs.Readers.{ok_is}
+use Rattle.fast_wire.specs.Writing.{IsShortest}
 use Rattle.fast_wire.specs.declared.nullable.Nullable.TheVariants.{Null}
 use Rattle.fast_template.specs.Scalar.{is_of, in_range, exponent_in_range, scalar_eq-exact, scalar_eq-same, IsScalar}
 use Rattle.fast_template.specs.TemplateSets.{applies}
@@ -34,7 +35,7 @@ use Rattle.fast_field.specs.Best.{bit_rank, NoLater, IsBest}
 use Rattle.fast_field.specs.Planning.{is_optional, is_same, gives_same, default_gives, constant_gives, left_out_of}
 use Rattle.fast_field.specs.Refusals.{are_characters, has_characters, has_too_many, is_far, other_than_constant, constant_refusal, delta_refusal, tail_refusal, operator_refusal, absent_refusal, value_refusal, refusal_of}
 use Rattle.fast_field.proofs.BestForms.{bit_zero_row, bit_zero_is_best}
-use Rattle.fast_field.proofs.BestDeltas.{First, shortest_is_first, number_delta_first, decimal_delta_first}
+use Rattle.fast_field.proofs.BestDeltas.{IsFirst, First, shortest_is_first, number_delta_first, decimal_delta_first}
 use Rattle.fast_field.proofs.BestCuts.{string_delta_first}
 use Rattle.fast_field.proofs.BestTails.{tail_first}
 use Rattle.fast_field.proofs.FieldsWithin.{delta_base_within, unit_kind, values_within}
@@ -102,11 +103,14 @@ can_be_left_out operator.Tail i e cut b v f = gives (predicted i e) v f.2
 
 -- ---- bit 1
 
-pub first_as : (F G : Cut → List ℕ → Type 0) → ((c : Cut) (b : List ℕ) → F c b → G c b) → ((c : Cut) (b : List ℕ) → G c b → F c b) → First F → First G
-first_as F G to from f = record { cut = f.cut; bytes = f.bytes; form = to f.cut f.bytes f.form; first = λ c b h. f.first c b (from c b h) }
+pub is_first_as : (F G : Cut → List ℕ → Type 0) (b : List ℕ) → ((c : Cut) (b : List ℕ) → F c b → G c b) → ((c : Cut) (b : List ℕ) → G c b → F c b) → IsFirst F b → IsFirst G b
+is_first_as F G b to from f = record { cut = f.cut; form = to f.cut b f.form; first = λ c o h. f.first c o (from c o h) }
+
+pub whole_is_first : (k : Kind) (p : Presence) (v : Option Scalar) (b : List ℕ) → IsShortest (Spelled k p) b v → IsFirst (λ c b. (c ≡ uncut) × Spelled k p b v) b
+whole_is_first k p v b s = shortest_is_first (λ c b. (c ≡ uncut) × Spelled k p b v) b (refl, s.form) (λ c o h. (h.0, s.least o h.1))
 
 whole_first : (k : Kind) (p : Presence) (v : Option Scalar) → Stands (Spelled k p) v → First (λ c b. (c ≡ uncut) × Spelled k p b v)
-whole_first k p v s = shortest_is_first (λ c b. (c ≡ uncut) × Spelled k p b v) s.0 (refl, s.1.form) (λ c o h. (h.0, s.1.least o h.1))
+whole_first k p v s = (s.0, whole_is_first k p v s.0 s.1)
 
 value_first : (i : FieldPart) (v : Option Scalar) → IsOfField i v → First (λ c b. (c ≡ uncut) × Spelled i.kind i.presence b v)
 value_first i None h = subst (λ (p : Presence). First (λ c b. (c ≡ uncut) × Spelled i.kind p b None)) (sym h) (whole_first i.kind Optional None (null_whole_stands i.kind))
@@ -126,16 +130,24 @@ has_base : (r : Result Scalar FieldFault) → delta_refusal r ≡ None → (base
 has_base (Ok base) e = (base, refl)
 has_base (Err f) e = absurd cc
 
+pub delta_is_first : (i : FieldPart) (e : Entry) (base v : Scalar) (b : List ℕ) → delta_base i e ≡ Ok base → IsFirst (λ c b. DeltaValue i.kind i.presence base c b v) b → IsFirst (λ c b. DeltaForm i e c b (Some v)) b
+delta_is_first i e base v b is f =
+    is_first_as (λ c b. DeltaValue i.kind i.presence base c b v) (λ c b. DeltaForm i e c b (Some v)) b
+    (λ c o h. (base, is, h))
+    (λ c o h. let same : h.0 ≡ base = ok_is {F = FieldFault} h.0 base (sym h.1 ∙ is) in subst (λ (x : Scalar). DeltaValue i.kind i.presence x c o v) same h.2)
+    f
+
+pub delta_null_is_first : (i : FieldPart) (e : Entry) (b : List ℕ) → IsShortest (SpellsInteger false i.presence) b Null → IsFirst (λ c b. DeltaForm i e c b None) b
+delta_null_is_first i e b s = shortest_is_first (λ c b. DeltaForm i e c b None) b (refl, s.form) (λ c o f. (f.0, s.least o f.1))
+
 delta_first : (i : FieldPart) (e : Entry) (v : Option Scalar) → IsFieldPart i → HoldsScalar e → IsOfField i v → ((w : Scalar) → v ≡ Some w → delta_refusal (delta_base i e) ≡ None) → First (λ c b. DeltaForm i e c b v)
 delta_first i e None is h l none =
     let s = subst (λ (p : Presence). Stands (SpellsInteger false p) Null) (sym l) (null_stands false) in
-    shortest_is_first (λ c b. DeltaForm i e c b None) s.0 (refl, s.1.form) (λ c o f. (f.0, s.1.least o f.1))
+    (s.0, delta_null_is_first i e s.0 s.1)
 delta_first i e (Some v) is h l none =
     let base = has_base (delta_base i e) (none v refl) in
-    first_as (λ c b. DeltaValue i.kind i.presence base.0 c b v) (λ c b. DeltaForm i e c b (Some v))
-    (λ c b f. (base.0, base.1, f))
-    (λ c b f. let same : f.0 ≡ base.0 = ok_is {F = FieldFault} f.0 base.0 (sym f.1 ∙ base.1) in subst (λ (x : Scalar). DeltaValue i.kind i.presence x c b v) same f.2)
-    (delta_value_first i.kind i.presence base.0 v (delta_base_within i e base.0 is h base.1) l)
+    let f = delta_value_first i.kind i.presence base.0 v (delta_base_within i e base.0 is h base.1) l in
+    (f.0, delta_is_first i e base.0 v f.0 base.1 f.1)
 
 long_enough : (r : Result Scalar FieldFault) (v : Scalar) → tail_refusal r v ≡ None → (base : Scalar) × (r ≡ Ok base) × (length (units_of base) ≤ length (units_of v))
 long_enough (Ok base) v e = (base, refl, not_short (nat_lt (length (units_of v)) (length (units_of base))) refl e)
@@ -145,16 +157,24 @@ long_enough (Ok base) v e = (base, refl, not_short (nat_lt (length (units_of v))
     not_short false h e = grind (arith, nat_tests)
 long_enough (Err f) v e = absurd cc
 
+pub tail_form_is_first : (i : FieldPart) (e : Entry) (base v : Scalar) (b : List ℕ) → tail_base i e ≡ Ok base → IsFirst (λ c b. SpellsTail i.kind i.presence base c b v) b → IsFirst (λ c b. TailForm i e c b (Some v)) b
+tail_form_is_first i e base v b is f =
+    is_first_as (λ c b. SpellsTail i.kind i.presence base c b v) (λ c b. TailForm i e c b (Some v)) b
+    (λ c o h. (base, is, h))
+    (λ c o h. let same : h.0 ≡ base = ok_is {F = FieldFault} h.0 base (sym h.1 ∙ is) in subst (λ (x : Scalar). SpellsTail i.kind i.presence x c o v) same h.2)
+    f
+
+pub tail_null_is_first : (i : FieldPart) (e : Entry) (b : List ℕ) → IsShortest (SpellsUnits i.kind i.presence) b Null → IsFirst (λ c b. TailForm i e c b None) b
+tail_null_is_first i e b s = shortest_is_first (λ c b. TailForm i e c b None) b (refl, s.form) (λ c o f. (f.0, s.least o f.1))
+
 tail_form_first : (i : FieldPart) (e : Entry) (v : Option Scalar) → IsFieldPart i → IsTrue (applies operator.Tail i.kind) → IsOfField i v → ((w : Scalar) → v ≡ Some w → tail_refusal (tail_base i e) w ≡ None) → First (λ c b. TailForm i e c b v)
 tail_form_first i e None is fits l none =
     let s = subst (λ (p : Presence). Stands (SpellsUnits i.kind p) Null) (sym l) (null_units_stand i.kind) in
-    shortest_is_first (λ c b. TailForm i e c b None) s.0 (refl, s.1.form) (λ c o f. (f.0, s.1.least o f.1))
+    (s.0, tail_null_is_first i e s.0 s.1)
 tail_form_first i e (Some v) is fits l none =
     let base = long_enough (tail_base i e) v (none v refl) in
-    first_as (λ c b. SpellsTail i.kind i.presence base.0 c b v) (λ c b. TailForm i e c b (Some v))
-    (λ c b f. (base.0, base.1, f))
-    (λ c b f. let same : f.0 ≡ base.0 = ok_is {F = FieldFault} f.0 base.0 (sym f.1 ∙ base.1) in subst (λ (x : Scalar). SpellsTail i.kind i.presence x c b v) same f.2)
-    (tail_first i.kind i.presence base.0 v (unit_kind i.kind fits) l base.2)
+    let f = tail_first i.kind i.presence base.0 v (unit_kind i.kind fits) l base.2 in
+    (f.0, tail_form_is_first i e base.0 v f.0 base.1 f.1)
 
 -- ---- what is not refused is within its type
 
@@ -230,17 +250,17 @@ scalar_within i e (Ascii s) is h u = (few_units i.part i.kind (Ascii s) is.kind_
 scalar_within i e (Unicode s) is h u = (few_units i.part i.kind (Unicode s) is.kind_of_part u.of_kind u.few, h.0, h.1)
 scalar_within i e (Bytes s) is h u = (few_units i.part i.kind (Bytes s) is.kind_of_part u.of_kind u.few, h)
 
-absent_optional : (p : Presence) → absent_refusal p ≡ None → p ≡ Optional
+pub absent_optional : (p : Presence) → absent_refusal p ≡ None → p ≡ Optional
 absent_optional Mandatory h = absurd cc
 absent_optional Optional h = refl
 
-field_value : (i : FieldPart) (e : Entry) (v : Option Scalar) → IsFieldPart i → HasRangeOr v → refusal_of i e v ≡ None → IsFieldValue i v
+pub field_value : (i : FieldPart) (e : Entry) (v : Option Scalar) → IsFieldPart i → HasRangeOr v → refusal_of i e v ≡ None → IsFieldValue i v
 field_value i e None is h none = record { of_field = absent_optional i.presence none; within = tt }
 field_value i e (Some v) is h none = let u = unrefused i e v none in record { of_field = (u.of_kind, scalar_within i e v is h u); within = within_limit i.part v u.few u.near }
 
 -- ---- all operators
 
-constant_is : (p : Part) (o : Option Scalar) (v : Scalar) → constant_refusal p o v ≡ None → Some v ≡ o
+pub constant_is : (p : Part) (o : Option Scalar) (v : Scalar) → constant_refusal p o v ≡ None → Some v ≡ o
 constant_is p None v e = absurd cc
 constant_is p (Some w) v e = same ((scalar_eq.eq-value).it v w) refl e
   where
@@ -248,8 +268,8 @@ constant_is p (Some w) v e = same ((scalar_eq.eq-value).it v w) refl e
     same true h e = ap (λ (x : Scalar). Some x) (scalar_eq-exact v w h)
     same false h e = absurd cc
 
-constant_first : (i : FieldPart) (e : Entry) (v : Scalar) → Some v ≡ i.initial → First (λ c b. FormOf operator.Constant i e true c b (Some v))
-constant_first i e v is = shortest_is_first (λ c b. FormOf operator.Constant i e true c b (Some v)) [] (refl, refl, is) (λ c o f. (f.0, omega arith))
+pub constant_is_first : (i : FieldPart) (e : Entry) (v : Scalar) → Some v ≡ i.initial → IsFirst (λ c b. FormOf operator.Constant i e true c b (Some v)) []
+constant_is_first i e v is = shortest_is_first (λ c b. FormOf operator.Constant i e true c b (Some v)) [] (refl, refl, is) (λ c o f. (f.0, omega arith))
 
 -- under bit 1, where bit 0 does not give the value
 under_one : (o : Operator) (i : FieldPart) (e : Entry) (v : Option Scalar) → i.operator ≡ o → IsFieldPart i → HoldsScalar e → IsOfField i v → ((w : Scalar) → v ≡ Some w → operator_refusal o i e w ≡ None) → left_out_of o i e v ≡ false
@@ -259,30 +279,22 @@ under_one operator.Default i e v o is h l none out = value_first i v l
 under_one operator.Copy i e v o is h l none out = value_first i v l
 under_one operator.Increment i e v o is h l none out = value_first i v l
 under_one operator.Constant i e None o is h l none out = absurd (let w : constant_gives i.presence None ≡ true = rw l refl in cc)
-under_one operator.Constant i e (Some v) o is h l none out = constant_first i e v (constant_is i.part i.initial v (none v refl))
+under_one operator.Constant i e (Some v) o is h l none out = ([], constant_is_first i e v (constant_is i.part i.initial v (none v refl)))
 under_one operator.Delta i e v o is h l none out = delta_first i e v is h l none
 under_one operator.Tail i e v o is h l none out = tail_form_first i e v is (subst (λ (x : Operator). IsTrue (applies x i.kind)) o is.typed.operator_applies) l none
 
-best_under_one : (i : FieldPart) (e : Entry) (v : Option Scalar) → IsWithin i.part v → First (λ c b. FormOf i.operator i e true c b v) → left_out_of i.operator i e v ≡ false → (bit : Bool) × (b : List ℕ) × IsBest i e bit b v
-best_under_one i e v within f out = (
-  true,
-  f.bytes,
-  record {
-    cut = f.cut;
-    form = record { row = f.form; within = within };
-    first = λ bit c b h. later bit c b h;
-  },
-)
+pub best_under_one : (i : FieldPart) (e : Entry) (v : Option Scalar) (best : List ℕ) → IsWithin i.part v → IsFirst (λ c b. FormOf i.operator i e true c b v) best → left_out_of i.operator i e v ≡ false → IsBest i e true best v
+best_under_one i e v best within f out = record { cut = f.cut; form = record { row = f.form; within = within }; first = later }
   where
-    later : (bit : Bool) (c : Cut) (b : List ℕ) → FormBy i e bit c b v → NoLater true (length f.bytes) f.cut bit (length b) c
+    later : (bit : Bool) (c : Cut) (b : List ℕ) → FormBy i e bit c b v → NoLater true (length best) f.cut bit (length b) c
     later true c b h = f.first c b h.row
     later false c b h = absurd (let w = can_be_left_out i.operator i e c b v h.row in cc)
 
 best_by : (i : FieldPart) (e : Entry) (v : Option Scalar) (t : Bool) → left_out_of i.operator i e v ≡ t → IsFieldPart i → HoldsScalar e → IsFieldValue i v → ((w : Scalar) → v ≡ Some w → operator_refusal i.operator i e w ≡ None) → (bit : Bool) × (b : List ℕ) × IsBest i e bit b v
 best_by i e v true out is h l none = (false, [], bit_zero_is_best i e v (record { row = left_out i.operator i e v out; within = l.within }))
-best_by i e v false out is h l none = best_under_one i e v l.within (under_one i.operator i e v refl is h l.of_field none out) out
+best_by i e v false out is h l none = let f = under_one i.operator i e v refl is h l.of_field none out in (true, f.0, best_under_one i e v f.0 l.within f.1 out)
 
-operator_allows : (i : FieldPart) (e : Entry) (v : Option Scalar) → refusal_of i e v ≡ None → (w : Scalar) → v ≡ Some w → operator_refusal i.operator i e w ≡ None
+pub operator_allows : (i : FieldPart) (e : Entry) (v : Option Scalar) → refusal_of i e v ≡ None → (w : Scalar) → v ≡ Some w → operator_refusal i.operator i e w ≡ None
 operator_allows i e v none w is = (unrefused i e w (subst (λ (x : Option Scalar). refusal_of i e x ≡ None) is none)).rest
 
 -- a value that is not refused has a best form

@@ -22,7 +22,7 @@ use Rattle.fast_dictionary.specs.declared.entry.Entry.{Entry}
 use Rattle.fast_dictionary.specs.declared.entry.Entry.TheVariants.{Undefined, Empty, Assigned}
 use Rattle.fast_field.specs.declared.fault.FieldFault.{FieldFault}
 use Rattle.fast_field.specs.declared.fault.FieldFault.TheVariants as fault
-use Rattle.fast_field.specs.Values.{units_of, integer_of, increased, default_of}
+use Rattle.fast_field.specs.Values.{units_of, integer_of, increased, default_of, IsUnitKind}
 use Rattle.fast_field.specs.Parts.{IsFieldPart}
 use Rattle.fast_field.specs.Bases.{kept_of, start_of, delta_base, tail_base, absent_or, initial_or, repeated, predicted, next_of, next, written_entry, delta_entry}
 use Rattle.fast_field.specs.Deltas.{Cut, put_together, ended_by, SpellsCut, DeltaValue, DeltaForm, TailForm}
@@ -30,7 +30,7 @@ use Rattle.fast_field.specs.Fields.{InitialOrAbsent, FormOf, Form}
 use Rattle.fast_field.specs.Within.{HoldsScalar, IsOfField, IsFieldValue}
 use Rattle.fast_field.proofs.SpelledForms.{if_ok}
 use Rattle.fast_field.proofs.BaseSteps.{is_of-kind}
-use Rattle.fast_field.proofs.ValuesWithin.{both, IsOfType, IsOfTypeOr, IsUnitKind, unit_limit, number_within, string_within, units_of_string, spelled_within, part_within, units_within, null_optional, null_units_optional, all_append, all_take, all_drop}
+use Rattle.fast_field.proofs.ValuesWithin.{both, IsOfType, IsOfTypeOr, unit_limit, number_within, string_within, units_of_string, spelled_within, part_within, units_within, null_optional, null_units_optional, all_append, all_take, all_drop}
 
 -- ---- what there is without an entry
 

@@ -7,6 +7,7 @@ use Rattle.std.proofs.lemmas.Bool.{cases_lt}
 use Rattle.fast_wire.specs.Sizes.{ascii_size}
 use Rattle.fast_field.specs.CommonParts.{IsLongestPrefix, IsLongestSuffix}
 use Rattle.fast_field.specs.Deltas.{ended_by}
+use Rattle.fast_field.specs.Chosen.{NoWorse}
 
 -- ---- deltas
 
@@ -139,10 +140,6 @@ pub preamble-cases : (s : List ℕ) → (preamble s ≡ 0) ⊎ (preamble s ≡ 2
 preamble-cases [] = inr refl
 preamble-cases (zero ∷ s) = inr refl
 preamble-cases (suc c ∷ s) = inl refl
-
--- no worse in bytes, and no longer where as good
-abbrev pub NoWorse : ℕ → ℕ → ℕ → ℕ → Type 0
-NoWorse m part m' part' = (m < m') ⊎ ((m ≡ m') × (part ≤ part'))
 
 abbrev pub tail_cost : List ℕ → ℕ → ℕ
 tail_cost v j = (length v - j) + preamble (drop j v)

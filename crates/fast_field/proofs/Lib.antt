@@ -10,6 +10,7 @@ pub mod ValuesWithin
 pub mod FieldsWithin
 pub mod Refused
 pub mod StandingForms
+pub mod Shortest
 pub mod BestDeltas
 pub mod Agreeing
 pub mod Least
@@ -17,6 +18,9 @@ pub mod BestCuts
 pub mod BestTails
 pub mod BestValues
 pub mod OneBest
+pub mod TwoPieces
+pub mod ChosenForms
+pub mod WrittenForms
 pub mod RefusalSteps
 pub mod CallSteps
 pub mod ReadFields

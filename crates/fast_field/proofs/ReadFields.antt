@@ -9,7 +9,7 @@ use Rattle.fast_field.specs.declared.fault.FieldFault.{FieldFault}
 use Rattle.fast_field.specs.declared.fault.FieldFault.TheVariants as fault
 use Rattle.fast_field.specs.Calls.{OrRefused}
 
-all_bytes : (xs : List ℕ) → ((k : ℕ) → get_or xs k 0 < 256) → IsBytes xs
+pub all_bytes : (xs : List ℕ) → ((k : ℕ) → get_or xs k 0 < 256) → IsBytes xs
 all_bytes [] h = tt
 all_bytes (x ∷ xs) h = (h 0, all_bytes xs (λ k. h (suc k)))
 

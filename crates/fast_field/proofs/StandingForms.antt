@@ -19,10 +19,10 @@ use Rattle.fast_template.specs.declared.kind.Presence.{Presence}
 use Rattle.fast_template.specs.declared.kind.Presence.TheVariants.{Mandatory, Optional}
 use Rattle.fast_template.specs.declared.scalar.Scalar.{Scalar}
 use Rattle.fast_template.specs.declared.scalar.Scalar.TheVariants.{U32, I32, U64, I64, Decimal, Ascii, Unicode, Bytes}
-use Rattle.fast_field.specs.Values.{is_unsigned, integer_of, exponent_of, mantissa_of, units_of}
-use Rattle.fast_field.specs.Spelled.{SpellsInteger, SpellsPart, SpellsUnits, SpellsPair, IsOfUnits, SpelledNumber, SpelledString, SpelledDecimal, Spelled}
+use Rattle.fast_field.specs.Values.{is_unsigned, integer_of, exponent_of, mantissa_of, units_of, IsUnitKind}
+use Rattle.fast_field.specs.Spelled.{SpellsInteger, SpellsPart, SpellsUnits, SpellsPair, IsOfUnits, SpelledNumber, SpelledString, Spelled}
 use Rattle.fast_field.proofs.Refused.{units_are}
-use Rattle.fast_field.proofs.ValuesWithin.{both, IsOfType, IsString, IsUnitKind, units_of_string}
+use Rattle.fast_field.proofs.ValuesWithin.{both, IsOfType, IsString, units_of_string}
 
 -- a shortest form stands
 abbrev pub Stands : {V : Type 0} → (List ℕ → V → Type 0) → V → Type 0
@@ -57,7 +57,7 @@ null_stands false = stands_as IsSignedNullable (SpellsInteger false Optional) Nu
 
 -- ---- strings
 
-text_of : (s : List ℕ) → (length s ≤ 65535) × AllByRecursion (λ c. c < 128) s → IsAsciiText s
+pub text_of : (s : List ℕ) → (length s ≤ 65535) × AllByRecursion (λ c. c < 128) s → IsAsciiText s
 text_of s h = (All-from_recursion (λ c. c < 128) s h.1, h.0)
 
 pub part_stands : (k : Kind) (s : List ℕ) → IsString k s → Stands (SpellsPart k) s
@@ -147,18 +147,22 @@ number_stands kind.Int32 p z i h = signed_stands p z (omega (arith, range_small 
 number_stands kind.Int64 p z i h = signed_stands p z (omega (arith, range_small kind.Int64 z i h))
 number_stands k p z i h = absurd cc
 
-whole_number : (k : Kind) (p : Presence) (v : Scalar) → IsTrue (is_integer k) → IsOfType k v → Stands (SpelledNumber k p) (Some v)
-whole_number k p v i h =
+number_shortest : (k : Kind) (p : Presence) (v : Scalar) (b : List ℕ) → IsTrue (is_integer k) → IsOfType k v → IsShortest (SpellsInteger (is_unsigned k) p) b (Value (integer_of v)) → IsShortest (SpelledNumber k p) b (Some v)
+number_shortest k p v b i h s =
     let n = number_is k v i h in
-    let s = number_stands k p (integer_of v) i n.range in (
-      s.0,
-      record {
-        form = record { number = integer_of v; form = s.1.form; range = n.range; value = n.made };
-        least = λ other o.
-            let same : o.number ≡ integer_of v = sym (number_of k o.number i o.range) ∙ ap integer_of (sym o.value) in
-            s.1.least other (subst (λ (z : ℤ). SpellsInteger (is_unsigned k) p other (Value z)) same o.form);
-      },
-    )
+    record {
+      form = record { number = integer_of v; form = s.form; range = n.range; value = n.made };
+      least = λ other o.
+          let same : o.number ≡ integer_of v = sym (number_of k o.number i o.range) ∙ ap integer_of (sym o.value) in
+          s.least other (subst (λ (z : ℤ). SpellsInteger (is_unsigned k) p other (Value z)) same o.form);
+    }
+
+pub number_is_shortest : (k : Kind) (p : Presence) (v : Scalar) (b : List ℕ) → IsTrue (is_integer k) → IsOfType k v → IsShortest (SpellsInteger (is_unsigned k) p) b (Value (integer_of v)) → IsShortest (Spelled k p) b (Some v)
+number_is_shortest kind.UInt32 p v b i h s = let n = number_shortest kind.UInt32 p v b i h s in record { form = n.form; least = n.least }
+number_is_shortest kind.Int32 p v b i h s = let n = number_shortest kind.Int32 p v b i h s in record { form = n.form; least = n.least }
+number_is_shortest kind.UInt64 p v b i h s = let n = number_shortest kind.UInt64 p v b i h s in record { form = n.form; least = n.least }
+number_is_shortest kind.Int64 p v b i h s = let n = number_shortest kind.Int64 p v b i h s in record { form = n.form; least = n.least }
+number_is_shortest k p v b i h s = absurd cc
 
 pub of_units_is : (k : Kind) (v : Scalar) → IsUnitKind k → IsOfType k v → IsOfUnits k (units_of v) v
 of_units_is kind.Ascii (Ascii s) u h = refl
@@ -169,31 +173,42 @@ of_units_is kind.Unicode v u h = let e = h.0 in absurd cc
 of_units_is kind.Bytes v u h = let e = h.0 in absurd cc
 of_units_is k v u h = absurd u
 
-whole_string : (k : Kind) (p : Presence) (v : Scalar) → IsUnitKind k → IsOfType k v → Stands (SpelledString k p) (Some v)
-whole_string k p v u h =
-    let s = units_stand k p (units_of v) (units_of_string k v u h) in (
-      s.0,
-      record {
-        form = record { string = units_of v; form = s.1.form; value = of_units_is k v u h };
-        least = λ other o. s.1.least other (subst (λ (x : List ℕ). SpellsUnits k p other (Value x)) (sym (units_are k o.string v o.value)) o.form);
-      },
-    )
+string_shortest : (k : Kind) (p : Presence) (v : Scalar) (b : List ℕ) → IsUnitKind k → IsOfType k v → IsShortest (SpellsUnits k p) b (Value (units_of v)) → IsShortest (SpelledString k p) b (Some v)
+string_shortest k p v b u h s = record {
+  form = record { string = units_of v; form = s.form; value = of_units_is k v u h };
+  least = λ other o. s.least other (subst (λ (x : List ℕ). SpellsUnits k p other (Value x)) (sym (units_are k o.string v o.value)) o.form);
+}
+
+pub string_is_shortest : (k : Kind) (p : Presence) (v : Scalar) (b : List ℕ) → IsUnitKind k → IsOfType k v → IsShortest (SpellsUnits k p) b (Value (units_of v)) → IsShortest (Spelled k p) b (Some v)
+string_is_shortest kind.Ascii p v b u h s = let n = string_shortest kind.Ascii p v b u h s in record { form = n.form; least = n.least }
+string_is_shortest kind.Unicode p v b u h s = let n = string_shortest kind.Unicode p v b u h s in record { form = n.form; least = n.least }
+string_is_shortest kind.Bytes p v b u h s = let n = string_shortest kind.Bytes p v b u h s in record { form = n.form; least = n.least }
+string_is_shortest k p v b u h s = absurd u
 
 pub exponent_small : (e : ℤ) → IsTrue (exponent_in_range e) → magnitude e < 2 ^ 64
 exponent_small e h = signed_small e 62 63 h (omega arith) (omega arith)
 
-whole_decimal : (p : Presence) (v : Scalar) → IsOfType kind.Decimal v → Stands (SpelledDecimal p) (Some v)
+pub decimal_is_shortest : (p : Presence) (e m : ℤ) (b : List ℕ) → IsOfType kind.Decimal (Decimal e m) → SpellsPair p b e m → ((o : List ℕ) → SpellsPair p o e m → length b ≤ length o) → IsShortest (Spelled kind.Decimal p) b (Some (Decimal e m))
+decimal_is_shortest p e m b h form least = record {
+  form = record { exponent = e; mantissa = m; form = form; value = (h.1.0, h.1.1, refl) };
+  least = λ other o.
+      let same_e : o.exponent ≡ e = sym (ap exponent_of o.value.2) in
+      let same_m : o.mantissa ≡ m = sym (ap mantissa_of o.value.2) in
+      least other (subst (λ (x : ℤ). SpellsPair p other x m) same_e (subst (λ (x : ℤ). SpellsPair p other o.exponent x) same_m o.form));
+}
+
+-- a shortest form of each value stands
+
+whole_number : (k : Kind) (p : Presence) (v : Scalar) → IsTrue (is_integer k) → IsOfType k v → Stands (Spelled k p) (Some v)
+whole_number k p v i h = let s = number_stands k p (integer_of v) i (number_is k v i h).range in (s.0, number_is_shortest k p v s.0 i h s.1)
+
+whole_string : (k : Kind) (p : Presence) (v : Scalar) → IsUnitKind k → IsOfType k v → Stands (Spelled k p) (Some v)
+whole_string k p v u h = let s = units_stand k p (units_of v) (units_of_string k v u h) in (s.0, string_is_shortest k p v s.0 u h s.1)
+
+whole_decimal : (p : Presence) (v : Scalar) → IsOfType kind.Decimal v → Stands (Spelled kind.Decimal p) (Some v)
 whole_decimal p (Decimal e m) h =
-    let s = pair_stands p e m (omega (arith, exponent_small e h.1.0)) (omega (arith, range_small kind.Int64 m refl h.1.1)) in (
-      s.0,
-      record {
-        form = record { exponent = e; mantissa = m; form = s.1; value = (h.1.0, h.1.1, refl) };
-        least = λ other o.
-            let same_e : o.exponent ≡ e = sym (ap exponent_of o.value.2) in
-            let same_m : o.mantissa ≡ m = sym (ap mantissa_of o.value.2) in
-            s.2 other (subst (λ (x : ℤ). SpellsPair p other x m) same_e (subst (λ (x : ℤ). SpellsPair p other o.exponent x) same_m o.form));
-      },
-    )
+    let s = pair_stands p e m (omega (arith, exponent_small e h.1.0)) (omega (arith, range_small kind.Int64 m refl h.1.1)) in
+    (s.0, decimal_is_shortest p e m s.0 h s.1 s.2)
 whole_decimal p v h = let e = h.0 in absurd cc
 
 pub whole_stands : (k : Kind) (p : Presence) (v : Scalar) → IsOfType k v → Stands (Spelled k p) (Some v)

@@ -13,7 +13,7 @@ use Rattle.fast_template.specs.declared.kind.Presence.{Presence}
 use Rattle.fast_template.specs.declared.kind.Presence.TheVariants.{Mandatory, Optional}
 use Rattle.fast_template.specs.declared.scalar.Scalar.{Scalar}
 use Rattle.fast_template.specs.declared.scalar.Scalar.TheVariants.{Ascii, Unicode, Bytes}
-use Rattle.fast_field.specs.Values.{is_unsigned, units_of}
+use Rattle.fast_field.specs.Values.{is_unsigned, units_of, IsUnitKind}
 use Rattle.fast_field.specs.Spelled.{SpellsInteger, SpellsPart, SpellsUnits, IsOfUnits, SpelledNumber, SpelledString, SpelledDecimal, Spelled}
 
 -- a value of a type, within it
@@ -80,13 +80,6 @@ pub units_within : (k : Kind) (p : Presence) (b s : List ℕ) → SpellsUnits k 
 units_within k Mandatory b s h = part_within k b s h
 units_within kind.Ascii Optional b s h = let w = ascii_nullable_sizes.within b (Value s) h in (w.1, recursion_from_All (λ c. c < 128) s w.0)
 units_within k Optional b s h = (h.limit, h.bytes_fit)
-
--- the types of strings and vectors
-abbrev pub IsUnitKind : Kind → Type 0
-IsUnitKind kind.Ascii = Unit {0}
-IsUnitKind kind.Unicode = Unit {0}
-IsUnitKind kind.Bytes = Unit {0}
-IsUnitKind k = ⊥
 
 pub string_within : (k : Kind) (s : List ℕ) (v : Scalar) → IsUnitKind k → IsOfUnits k s v → IsString k s → IsOfType k v
 string_within kind.Ascii s v u h w = rw h (refl, (w.0, w.1))

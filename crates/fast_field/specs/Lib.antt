@@ -14,3 +14,5 @@ pub mod Calls
 pub mod Found
 pub mod Removals
 pub mod CommonParts
+pub mod Chosen
+pub mod Written

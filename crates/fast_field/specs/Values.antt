@@ -37,6 +37,13 @@ units_of (Unicode s) = s
 units_of (Bytes s) = s
 units_of v = []
 
+-- the types of strings and vectors
+abbrev pub IsUnitKind : Kind → Type 0
+IsUnitKind kind.Ascii = Unit {0}
+IsUnitKind kind.Unicode = Unit {0}
+IsUnitKind kind.Bytes = Unit {0}
+IsUnitKind k = ⊥
+
 abbrev pub of_units : Kind → List ℕ → Scalar
 of_units kind.Ascii s = Ascii s
 of_units kind.Unicode s = Unicode s

@@ -1,15 +1,78 @@
 //! The entry afterwards: FAST 1.1, Field Operators, Dictionaries and Previous Values.
 
-ghost use Rattle.std.specs.Prelude.{◌≡◌, IfOk, OnErr};
+ghost use Rattle.std.specs.Prelude.{◌≡◌, true, false, Option, IfOk, OnErr, unwrap_or};
 ghost use Rattle.std.specs.Option.{option_copied};
 ghost use Rattle.fast_dictionary.specs.Dictionary.{entry_of};
+ghost use Rattle.fast_dictionary.specs.declared.entry.Entry as entry;
 ghost use Rattle.fast_field.specs.Bases.{delta_entry, next};
+ghost use Rattle.fast_template.specs.declared.scalar.Scalar as scalar;
+ghost use Rattle.fast_field.specs.Planning.{left_out_of};
 ghost use Rattle.fast_field.specs.Found.{CanLie, IsLeftOut, value_found};
 
 use crate::found::Found;
 use fast_dictionary::{Entry, EntryRef};
 use fast_template::{FieldPart, Operator, Scalar};
 use std::alloc::{AllocError, Global};
+
+/// Whether a value that bit 0 gives is the one that the entry has, and leaves it.
+pub(crate) fn is_repeated(instr: &FieldPart, kept: EntryRef) -> bool
+    ensures { result ≡ true → (v : Option scalar.Scalar)
+        → left_out_of instr.now.operator instr.now (entry_of kept.entry) v ≡ true
+        → next instr.now (entry_of kept.entry) v ≡ entry_of kept.entry }
+{
+    match kept {
+        EntryRef::Undefined | EntryRef::Empty => false,
+        EntryRef::Assigned(_) => match instr.operator {
+            Operator::Copy | Operator::Tail => true,
+            Operator::Plain
+            | Operator::Constant
+            | Operator::Default
+            | Operator::Increment
+            | Operator::Delta => false,
+        },
+    }
+}
+
+/// The entry that a value leaves, none where that is the one that is there.
+pub(crate) fn next_if_changed(
+    alloc: Global,
+    instr: &FieldPart,
+    value: Option<&Scalar>,
+) -> Result<Option<Entry>, AllocError>
+    ensures { IfOk result (λ changed. (e : entry.Entry)
+        → unwrap_or changed e ≡ next instr.now e (option_copied value.entry)) }
+{
+    match instr.operator {
+        Operator::Plain | Operator::Constant | Operator::Default => Ok(None),
+        Operator::Copy | Operator::Increment | Operator::Tail => match value {
+            None => Ok(Some(Entry::Empty)),
+            Some(value) => Ok(Some(Entry::Assigned(value.copy(alloc)?))),
+        },
+        Operator::Delta => match value {
+            None => Ok(None),
+            Some(value) => Ok(Some(Entry::Assigned(value.copy(alloc)?))),
+        },
+    }
+}
+
+/// The same where the bit of the value's best form is known: a value that bit 0 repeats is not copied.
+pub(crate) fn next_unless_repeated(
+    alloc: Global,
+    instr: &FieldPart,
+    kept: EntryRef,
+    bit: bool,
+    value: Option<&Scalar>,
+) -> Result<Option<Entry>, AllocError>
+    requires { bit ≡ false → left_out_of instr.now.operator instr.now (entry_of kept)
+        (option_copied value) ≡ true }
+    ensures { IfOk result (λ changed. unwrap_or changed (entry_of kept.entry)
+        ≡ next instr.now (entry_of kept.entry) (option_copied value.entry)) }
+{
+    if !bit && is_repeated(instr, kept) {
+        return Ok(None);
+    }
+    next_if_changed(alloc, instr, value)
+}
 
 /// The entry that a value of a field leaves, read or written.
 ///
@@ -25,16 +88,9 @@ pub fn next_entry(
     ensures { IfOk result (λ entry. entry
         ≡ next instr.now (entry_of kept.entry) (option_copied value.entry)) }
 {
-    match instr.operator {
-        Operator::Plain | Operator::Constant | Operator::Default => kept.copy(alloc),
-        Operator::Copy | Operator::Increment | Operator::Tail => match value {
-            None => Ok(Entry::Empty),
-            Some(value) => Ok(Entry::Assigned(value.copy(alloc)?)),
-        },
-        Operator::Delta => match value {
-            None => kept.copy(alloc),
-            Some(value) => Ok(Entry::Assigned(value.copy(alloc)?)),
-        },
+    match next_if_changed(alloc, instr, value)? {
+        Some(changed) => Ok(changed),
+        None => kept.copy(alloc),
     }
 }
 

@@ -58,6 +58,17 @@ pub(crate) fn units(value: &Scalar) -> &[u8]
     }
 }
 
+/// The exponent and the mantissa of a decimal; of another value 0 and 0.
+pub(crate) fn decimal(value: &Scalar) -> (i32, i64)
+    ensures exponent { result.0 ≡ exponent_of value.now }
+    ensures mantissa { result.1 ≡ mantissa_of value.now }
+{
+    match value {
+        Scalar::Decimal { exponent, mantissa } => (*exponent, *mantissa),
+        _ => (0, 0),
+    }
+}
+
 /// One more, and after the greatest number of the type its least. (Increment is for integers; of another value the
 /// definition makes 0.)
 fn one_more(value: &Scalar) -> Scalar
@@ -181,7 +192,7 @@ pub(crate) fn base_decimal(base: Option<&Scalar>) -> (i32, i64)
         → result.1 ≡ mantissa_of (base_or_default k (option_copied base.entry)) }
 {
     match base {
-        Some(Scalar::Decimal { exponent, mantissa }) => (*exponent, *mantissa),
-        _ => (0, 0),
+        Some(value) => decimal(value),
+        None => (0, 0),
     }
 }

@@ -1,21 +1,34 @@
 //! Deltas: FAST 1.1, Field Operators, Delta Operator.
 
-ghost use Rattle.std.specs.Prelude.{◌≡◌, ◌^◌, ◌≤◌, ◌<ℤ◌, ◌+ℤ◌, pos, negsuc, true, false, length, drop, IfNone, IfOk, IfSome, IsTrue};
+ghost use Rattle.std.specs.Prelude.{◌≡◌, ◌^◌, ◌≤◌, ◌<ℤ◌, ◌+◌, ◌+ℤ◌, ◌-ℤ◌, pos, negsuc, None, Ok, true, false, length, drop, IfNone, IfOk, IfSome, IsTrue};
 ghost use Rattle.fast_dictionary.specs.Dictionary.{entry_of};
 ghost use Rattle.fast_template.specs.Scalar.{in_range, is_integer};
 ghost use Rattle.fast_template.specs.declared.kind.Kind.TheVariants as kind;
 ghost use Rattle.fast_wire.specs.Reading.{GivesAt};
 ghost use Rattle.fast_field.specs.Calls.{Answers, AnswersAt, IsSentRange, OrRefused};
+ghost use Rattle.fast_field.specs.Chosen.{AppendsOne, Both, CanBeUnits, HasSize, IsDelta, IsSmall, OnBase, ShortestPart, ShortestSigned, length_size, part_size};
+ghost use Rattle.fast_field.specs.Bases.{delta_base};
+ghost use Rattle.fast_field.specs.Refusals.{delta_refusal};
+ghost use Rattle.fast_field.specs.Values.{exponent_of, mantissa_of, units_of};
+ghost use Rattle.fast_field.specs.Found.{base_or_default};
+ghost use Rattle.std.specs.Option.{option_copied};
+ghost use Rattle.fast_template.specs.declared.scalar.Scalar as scalar;
+ghost use Rattle.fast_template.specs.declared.kind.Kind as kind_type;
 ghost use Rattle.fast_field.specs.FieldReading.{decimal_delta_at, delta_at, integer_delta_at, integer_sum, mantissa_delta_behind, new_part_behind, unit_delta_at};
 ghost use Rattle.fast_field.specs.Removals.{length_of};
 
-use crate::base::{base_decimal, base_number, base_of_delta, base_units};
+use crate::base::{base_decimal, base_number, base_of_delta, base_units, decimal, integer, units};
+use crate::cut::best_cut;
 use crate::fault::FieldFault;
+use crate::pieces::Pieces;
 use crate::string::joined;
-use crate::whole::{exponent_within, mantissa_within, read_integer, read_part, value_of_integer};
+use crate::whole::{
+    exponent_within, mantissa_within, read_integer, read_part, read_signed, size_part, size_signed,
+    value_of_integer, write_part, write_signed,
+};
 use fast_dictionary::EntryRef;
-use fast_template::{FieldPart, Kind, Scalar};
-use fast_wire::Nullable;
+use fast_template::{FieldPart, Kind, Presence, Scalar};
+use fast_wire::{Nullable, WireFault};
 use std::alloc::Global;
 
 /// The number that a delta makes of one of at most 64 bits.
@@ -75,7 +88,7 @@ fn read_mantissa_delta(
     let Some(exponent) = exponent_within(exponent) else {
         return Err(FieldFault::R1);
     };
-    let (delta, next) = fast_wire::read_signed(bytes, at)?;
+    let (delta, next) = read_signed(bytes, at)?;
     match mantissa_within(added(i128::from(base), delta)) {
         Some(mantissa) => Ok((Some(Scalar::Decimal { exponent, mantissa }), next)),
         None => Err(FieldFault::R1),
@@ -212,6 +225,119 @@ pub(crate) fn read_delta(
         Kind::Decimal => read_decimal_delta(instr, kept, bytes, at),
         Kind::Ascii | Kind::Unicode | Kind::Bytes => {
             read_unit_delta(alloc, instr, kept, bytes, at)
+        }
+    }
+}
+
+// ---- Written
+
+/// The subtraction length of a removal.
+pub(crate) fn removal_length(removal: Removal) -> i128
+    ensures { result ≡ length_of removal }
+{
+    match removal {
+        Removal::AtEnd(removed) => removed as i128,
+        Removal::InFront(removed) => -1 - removed as i128,
+    }
+}
+
+/// The bytes of a subtraction length and of a new part.
+pub(crate) fn size_cut(kind: Kind, presence: Presence, removal: Removal, part: &[u8]) -> usize
+    requires removal { IsSmall (length_of removal) }
+    requires part { CanBeUnits kind part.now }
+    ensures value { result ≡ length_size presence (length_of removal) + part_size kind part.now }
+    ensures size { HasSize (Both (ShortestSigned presence (length_of removal))
+        (ShortestPart kind part.now)) result }
+{
+    size_signed(presence, removal_length(removal)) + size_part(kind, part)
+}
+
+/// Appends a subtraction length and a new part, or nothing.
+pub(crate) fn write_cut(
+    kind: Kind,
+    presence: Presence,
+    removal: Removal,
+    part: &[u8],
+    out: &mut Vec<u8>,
+) -> Result<(), WireFault>
+    requires removal { IsSmall (length_of removal) }
+    requires part { CanBeUnits kind part.now }
+    ensures { AppendsOne (Both (ShortestSigned presence (length_of removal))
+        (ShortestPart kind part.now)) out.old.items out.new.items result }
+{
+    let start = out.len();
+    write_signed(presence, removal_length(removal), out)?;
+    match write_part(kind, part, out) {
+        Ok(()) => Ok(()),
+        Err(fault) => {
+            out.truncate(start);
+            Err(fault)
+        }
+    }
+}
+
+/// What is added to one number of at most 64 bits to make another.
+fn difference(value: i128, base: i128) -> i128
+    requires value_above { negsuc (2 ^ 64) <ℤ value }
+    requires value_below { value <ℤ pos (2 ^ 64) }
+    requires base_above { negsuc (2 ^ 64) <ℤ base }
+    requires base_below { base <ℤ pos (2 ^ 64) }
+    ensures { result ≡ value -ℤ base }
+{
+    value - base
+}
+
+/// The same of two numbers of 64 bits.
+fn apart(value: i64, base: i64) -> i128
+    ensures { result ≡ value -ℤ base }
+{
+    i128::from(value) - i128::from(base)
+}
+
+/// What is added to the exponent and the mantissa of one decimal to make another.
+fn differences(value: &Scalar, base: Option<&Scalar>) -> (i128, i128)
+    ensures exponent { (k : kind_type.Kind) → result.0
+        ≡ exponent_of value.now -ℤ exponent_of (base_or_default k (option_copied base.entry)) }
+    ensures mantissa { (k : kind_type.Kind) → result.1
+        ≡ mantissa_of value.now -ℤ mantissa_of (base_or_default k (option_copied base.entry)) }
+{
+    let (exponent, mantissa) = decimal(value);
+    let (base_exponent, base_mantissa) = base_decimal(base);
+    (
+        apart(i64::from(exponent), i64::from(base_exponent)),
+        apart(mantissa, base_mantissa),
+    )
+}
+
+/// What makes a value of its base, in the fewest bytes.
+#[tactic(auto, using(crate::proofs::BaseSteps::base_steps))]
+pub(crate) fn delta_of<'a>(instr: &FieldPart, kept: EntryRef, value: &'a Scalar) -> Pieces<'a>
+    requires judged { delta_refusal (delta_base instr.now (entry_of kept)) ≡ None }
+    requires base { (base : scalar.Scalar) → delta_base instr.now (entry_of kept) ≡ Ok base
+        → length (units_of base) ≤ 65535 }
+    requires value { CanBeUnits instr.now.kind (units_of value.now) }
+    ensures { OnBase (delta_base instr.now (entry_of kept.entry))
+        (λ base. IsDelta instr.now.kind instr.now.presence base value.now result) }
+{
+    let Ok(base) = base_of_delta(instr, kept) else {
+        unreachable!()
+    };
+    match instr.kind {
+        Kind::UInt32 | Kind::Int32 | Kind::UInt64 | Kind::Int64 => {
+            Pieces::Difference(difference(integer(value), base_number(base)))
+        }
+        Kind::Decimal => {
+            let (exponent, mantissa) = differences(value, base);
+            Pieces::Differences(exponent, mantissa)
+        }
+        Kind::Ascii | Kind::Unicode | Kind::Bytes => {
+            let (removal, part) = best_cut(
+                instr.kind,
+                instr.presence,
+                base_units(base),
+                units(value),
+            );
+            Pieces::Cut(removal, part)
         }
     }
 }

@@ -3,6 +3,7 @@
 ghost use Rattle.std.specs.Prelude.{◌≡◌};
 ghost use Rattle.fast_field.specs.Faults.{field_fault};
 ghost use Rattle.fast_field.specs.declared.fault.FieldFault.TheVariants.{Memory};
+ghost use Rattle.fast_field.specs.declared.fault.FieldRefusal.TheVariants as refusal;
 
 use fast_wire::WireFault;
 use std::alloc::AllocError;
@@ -95,4 +96,12 @@ pub enum FieldRefusal {
     /// Memory was refused.
     #[error("Memory")]
     Memory,
+}
+
+impl From<AllocError> for FieldRefusal {
+    ghost from_gives = { λ refused why. why ≡ refusal.Memory };
+
+    fn from(_refused: AllocError) -> FieldRefusal {
+        FieldRefusal::Memory
+    }
 }

@@ -1,9 +1,11 @@
-//! What one instruction has in a stream: its forms, the entry that it leaves, and how it is read.
+//! What one instruction has in a stream: its forms, the entry that it leaves, and how it is read and written.
 //!
 //! A field is an instruction of a template (`FieldPart` of `fast_template`) on an entry of a dictionary.
 //! [`read_field`] reads one and answers its value, the entry afterwards and the place after it. [`read_in_place`] is
 //! for callers that keep the entries: it changes the entry where it lies, and copies no value. [`find_field`] changes
-//! nothing. The definitions stand in `specs/`: the forms that spell a value (`Fields`, over `Spelled`, `Bases` and
+//! nothing. [`plan_field`] answers the bit and the bytes of the best form of a value and [`write_field`] appends it;
+//! [`write_in_place`] does both and changes the entry too, and [`write_found`] does so with a value that was just read.
+//! The definitions stand in `specs/`: the forms that spell a value (`Fields`, over `Spelled`, `Bases` and
 //! `Deltas`), the form that a writer chooses (`Best`), and the function that reads a field from the front of a list
 //! and answers its first fault (`FieldReading`). The module [`laws`] ties forms and reading together.
 #![tactic(auto)]
@@ -16,6 +18,7 @@ mod fault;
 mod found;
 pub mod laws;
 mod left_out;
+mod pieces;
 mod plan;
 mod read;
 mod refuse;
@@ -24,9 +27,13 @@ mod tail;
 #[cfg(test)]
 mod tests;
 mod whole;
+mod write;
+#[cfg(test)]
+mod write_tests;
 
 pub use afterwards::next_entry;
 pub use fault::{FieldFault, FieldRefusal};
 pub use found::Found;
-pub use plan::Plan;
+pub use plan::{Plan, plan_field};
 pub use read::{find_field, read_field, read_in_place};
+pub use write::{write_field, write_found, write_in_place};

@@ -1,6 +1,6 @@
 //! Why a value cannot be written.
 
-ghost use Rattle.std.specs.Prelude.{◌≡◌, ◌<◌, ◌↔◌, EachIndex, IsTrue, slice_index};
+ghost use Rattle.std.specs.Prelude.{◌≡◌};
 ghost use Rattle.std.specs.Option.{option_copied};
 ghost use Rattle.fast_dictionary.specs.Dictionary.{entry_of};
 ghost use Rattle.fast_field.specs.Bases.{delta_base, tail_base};
@@ -13,18 +13,11 @@ use crate::whole::exponent_within;
 use fast_dictionary::EntryRef;
 use fast_template::{FieldPart, Operator, Part, Presence, Scalar};
 
-/// Whether each unit is below 128.
-fn all_low(text: &[u8]) -> bool
-    ensures { IsTrue result ↔ EachIndex text.now (λ k. slice_index text.now k < 128) }
-{
-    text.iter().all(|unit| *unit < 128)
-}
-
 /// Whether each unit is a character of ASCII.
 fn all_characters(text: &[u8]) -> bool
     ensures { result ≡ are_characters text.now }
 {
-    all_low(text)
+    text.is_ascii()
 }
 
 /// Whether a string of ASCII has its characters alone.

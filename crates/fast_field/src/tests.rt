@@ -1,4 +1,11 @@
-//! Rows on single fields, by the calls.
+//! Rows on single fields that are read, by the calls, and what tests make fields of.
+
+ghost use Rattle.std.specs.Prelude.{◌≡◌, ◌≤ℤ◌, negsuc, pos, IfOk, IsTrue};
+ghost use Rattle.fast_template.specs.TemplateSets.{applies};
+ghost use Rattle.fast_template.specs.declared.kind.Operator.TheVariants as op;
+ghost use Rattle.fast_template.specs.declared.scalar.Scalar.TheVariants as scalar;
+ghost use Rattle.fast_template.specs.declared.kind.Presence.TheVariants.{Optional};
+ghost use Rattle.fast_field.specs.Parts.{IsFieldPart};
 
 use crate::*;
 use fast_dictionary::Entry;
@@ -10,14 +17,17 @@ use std::process::Abort;
 use std::test::Fail;
 
 // A field with a key of its own.
-fn part_of(
+pub(crate) fn part_of(
     alloc: Global,
     part: Part,
     kind: Kind,
     presence: Presence,
     operator: Operator,
     initial: Option<Scalar>,
-) -> Result<FieldPart, AllocError> {
+) -> Result<FieldPart, AllocError>
+    ensures { IfOk result (λ i. (i.part ≡ part) × (i.kind ≡ kind) × (i.presence ≡ presence)
+        × (i.operator ≡ operator) × (i.initial ≡ initial)) }
+{
     let name = Name::from_string(String::from_str(alloc, "F")?);
     Ok(FieldPart {
         number: 1,
@@ -35,20 +45,27 @@ fn part_of(
     })
 }
 
-fn field(
+pub(crate) fn field(
     alloc: Global,
     kind: Kind,
     presence: Presence,
     operator: Operator,
-) -> Result<FieldPart, AllocError> {
+) -> Result<FieldPart, AllocError>
+    requires applies { IsTrue (applies operator kind) }
+    requires constant { operator ≡ op.Constant → ⊥ }
+    requires default { operator ≡ op.Default → presence ≡ Optional }
+    ensures { IfOk result IsFieldPart }
+{
     part_of(alloc, Part::Whole, kind, presence, operator, None)
 }
 
-fn ascii(alloc: Global, text: &[u8]) -> Result<Scalar, AllocError> {
+pub(crate) fn ascii(alloc: Global, text: &[u8]) -> Result<Scalar, AllocError>
+    ensures { IfOk result (λ v. v ≡ scalar.Ascii text.now) }
+{
     Ok(Scalar::Ascii(ByteString::from_vec(text.to_vec(alloc)?)))
 }
 
-fn unicode(alloc: Global, text: &str) -> Result<Scalar, AllocError> {
+pub(crate) fn unicode(alloc: Global, text: &str) -> Result<Scalar, AllocError> {
     let text = String::from_str(alloc, text)?;
     Ok(Scalar::Unicode(UnicodeText::from_string(text)))
 }

@@ -2,16 +2,89 @@
 
 ghost use Rattle.std.specs.Prelude.{◌≡◌, ◌≤◌, ◌<◌, true, false, length, drop, IfNone, IfOk, IfSome, IsTrue};
 ghost use Rattle.fast_wire.specs.Nullable.{IsNullOr, items_of};
-ghost use Rattle.fast_wire.specs.Reading.{GivesAt};
+ghost use Rattle.fast_wire.specs.Reading.{GivesAt, signed_at};
 ghost use Rattle.fast_template.specs.Scalar.{exponent_in_range, in_range, is_integer};
 ghost use Rattle.fast_template.specs.declared.kind.Kind.TheVariants as kind;
+ghost use Rattle.fast_template.specs.declared.kind.Presence.TheVariants.{Mandatory, Optional};
 ghost use Rattle.fast_field.specs.Calls.{Answers, AnswersAt, IsSentRange, OrRefused};
-ghost use Rattle.fast_field.specs.FieldReading.{decimal_spelled_at, integer_at, integer_spelled_at, integer_value, mantissa_behind, part_at, range_fault, spelled_at, unit_value, units_at, units_spelled_at};
+ghost use Rattle.fast_field.specs.Chosen.{AppendsOne, CanBeUnits, CanBeWhole, HasSize, IsSmall, ShortestPair, ShortestPart, ShortestSigned, ShortestUnits, ShortestUnsigned, ShortestWhole, length_size, part_size, tail_size};
+ghost use Rattle.fast_field.specs.FieldReading.{decimal_spelled_at, in_field, integer_at, integer_spelled_at, integer_value, mantissa_behind, part_at, range_fault, spelled_at, unit_value, units_at, units_spelled_at};
 
 use crate::fault::FieldFault;
 use fast_template::{ByteString, Kind, Part, Presence, Scalar, UnicodeText};
-use fast_wire::Nullable;
+use fast_wire::{Nullable, WireFault};
 use std::alloc::Global;
+
+/// A number without a sign; one that has more than 64 bits is read once more.
+#[tactic(auto, using(crate::proofs::CallSteps::call_steps), unfolding(crate::specs::FieldReading::integer_at))]
+fn read_unsigned(bytes: &[u8], at: usize) -> Result<(Nullable<i128>, usize), FieldFault>
+    requires { at ≤ length bytes.now }
+    ensures place { IfOk result (λ x. (at < x.1) × (x.1 ≤ length bytes.now)) }
+    ensures range { IfOk result (λ x. IsNullOr IsSentRange x.0) }
+    ensures gives { AnswersAt (integer_at true Mandatory) (λ v. v) bytes.now at result }
+{
+    match fast_wire::read_u64(bytes, at) {
+        Ok((number, next)) => Ok((Nullable::Value(i128::from(number)), next)),
+        Err(WireFault::Range) => {
+            let (number, next) = fast_wire::read_unsigned(bytes, at)?;
+            Ok((Nullable::Value(number as i128), next))
+        }
+        Err(fault) => Err(FieldFault::from(fault)),
+    }
+}
+
+/// The same in the nullable form.
+#[tactic(auto, using(crate::proofs::CallSteps::call_steps), unfolding(crate::specs::FieldReading::integer_at))]
+fn read_unsigned_nullable(bytes: &[u8], at: usize) -> Result<(Nullable<i128>, usize), FieldFault>
+    requires { at ≤ length bytes.now }
+    ensures place { IfOk result (λ x. (at < x.1) × (x.1 ≤ length bytes.now)) }
+    ensures range { IfOk result (λ x. IsNullOr IsSentRange x.0) }
+    ensures gives { AnswersAt (integer_at true Optional) (λ v. v) bytes.now at result }
+{
+    match fast_wire::read_u64_nullable(bytes, at) {
+        Ok((Nullable::Null, next)) => Ok((Nullable::Null, next)),
+        Ok((Nullable::Value(number), next)) => { Ok((Nullable::Value(i128::from(number)), next)) }
+        Err(WireFault::Range) => {
+            let (number, next) = fast_wire::read_unsigned_nullable(bytes, at)?;
+            match number {
+                Nullable::Null => Ok((Nullable::Null, next)),
+                Nullable::Value(number) => Ok((Nullable::Value(number as i128), next)),
+            }
+        }
+        Err(fault) => Err(FieldFault::from(fault)),
+    }
+}
+
+/// A number with a sign; one that has more than 64 bits is read once more.
+#[tactic(auto, using(crate::proofs::CallSteps::call_steps), unfolding(crate::specs::FieldReading::integer_at))]
+pub(crate) fn read_signed(bytes: &[u8], at: usize) -> Result<(i128, usize), FieldFault>
+    requires { at ≤ length bytes.now }
+    ensures place { IfOk result (λ x. (at < x.1) × (x.1 ≤ length bytes.now)) }
+    ensures range { IfOk result (λ x. IsSentRange x.0) }
+    ensures gives { AnswersAt (λ bytes. in_field (signed_at bytes)) (λ v. v) bytes.now at result }
+{
+    match fast_wire::read_i64(bytes, at) {
+        Ok((number, next)) => Ok((i128::from(number), next)),
+        Err(WireFault::Range) => Ok(fast_wire::read_signed(bytes, at)?),
+        Err(fault) => Err(FieldFault::from(fault)),
+    }
+}
+
+/// The same in the nullable form.
+#[tactic(auto, using(crate::proofs::CallSteps::call_steps), unfolding(crate::specs::FieldReading::integer_at))]
+fn read_signed_nullable(bytes: &[u8], at: usize) -> Result<(Nullable<i128>, usize), FieldFault>
+    requires { at ≤ length bytes.now }
+    ensures place { IfOk result (λ x. (at < x.1) × (x.1 ≤ length bytes.now)) }
+    ensures range { IfOk result (λ x. IsNullOr IsSentRange x.0) }
+    ensures gives { AnswersAt (integer_at false Optional) (λ v. v) bytes.now at result }
+{
+    match fast_wire::read_i64_nullable(bytes, at) {
+        Ok((Nullable::Null, next)) => Ok((Nullable::Null, next)),
+        Ok((Nullable::Value(number), next)) => { Ok((Nullable::Value(i128::from(number)), next)) }
+        Err(WireFault::Range) => Ok(fast_wire::read_signed_nullable(bytes, at)?),
+        Err(fault) => Err(FieldFault::from(fault)),
+    }
+}
 
 /// An integer in the form of a presence, with no sign where `unsigned` is true.
 #[tactic(auto, using(crate::proofs::CallSteps::call_steps), unfolding(crate::specs::FieldReading::integer_at))]
@@ -26,28 +99,14 @@ pub(crate) fn read_integer(
     ensures range { IfOk result (λ x. IsNullOr IsSentRange x.0) }
     ensures gives { AnswersAt (integer_at unsigned presence) (λ v. v) bytes.now at result }
 {
-    if unsigned {
-        match presence {
-            Presence::Mandatory => {
-                let (number, next) = fast_wire::read_unsigned(bytes, at)?;
-                Ok((Nullable::Value(number as i128), next))
-            }
-            Presence::Optional => {
-                let (number, next) = fast_wire::read_unsigned_nullable(bytes, at)?;
-                match number {
-                    Nullable::Null => Ok((Nullable::Null, next)),
-                    Nullable::Value(number) => Ok((Nullable::Value(number as i128), next)),
-                }
-            }
+    match (unsigned, presence) {
+        (true, Presence::Mandatory) => read_unsigned(bytes, at),
+        (true, Presence::Optional) => read_unsigned_nullable(bytes, at),
+        (false, Presence::Mandatory) => {
+            let (number, next) = read_signed(bytes, at)?;
+            Ok((Nullable::Value(number), next))
         }
-    } else {
-        match presence {
-            Presence::Mandatory => {
-                let (number, next) = fast_wire::read_signed(bytes, at)?;
-                Ok((Nullable::Value(number), next))
-            }
-            Presence::Optional => Ok(fast_wire::read_signed_nullable(bytes, at)?),
-        }
+        (false, Presence::Optional) => read_signed_nullable(bytes, at),
     }
 }
 
@@ -181,7 +240,7 @@ fn read_mantissa(
     let Some(exponent) = exponent_within(exponent) else {
         return Err(FieldFault::R1);
     };
-    let (mantissa, next) = fast_wire::read_signed(bytes, at)?;
+    let (mantissa, next) = read_signed(bytes, at)?;
     match mantissa_within(mantissa) {
         Some(mantissa) => Ok((Some(Scalar::Decimal { exponent, mantissa }), next)),
         None => Err(FieldFault::R1),
@@ -271,5 +330,198 @@ pub(crate) fn read_whole(
         Kind::Ascii | Kind::Unicode | Kind::Bytes => {
             read_string(alloc, kind, presence, bytes, at)
         }
+    }
+}
+
+// ---- Written
+
+/// The bytes of a number without a sign, in the form of a presence.
+fn size_unsigned(presence: Presence, number: u64) -> usize
+    ensures size { HasSize (ShortestUnsigned presence number) result }
+    ensures few { result ≤ 10 }
+{
+    let number = u128::from(number);
+    match presence {
+        Presence::Mandatory => fast_wire::size_unsigned(number),
+        Presence::Optional => fast_wire::size_unsigned_nullable(Nullable::Value(number)),
+    }
+}
+
+/// Appends a number without a sign, in the form of a presence, or nothing.
+fn write_unsigned(presence: Presence, number: u64, out: &mut Vec<u8>) -> Result<(), WireFault>
+    ensures { AppendsOne (ShortestUnsigned presence number) out.old.items out.new.items result }
+{
+    match presence {
+        Presence::Mandatory => fast_wire::write_u64(number, out),
+        Presence::Optional => fast_wire::write_u64_nullable(Nullable::Value(number), out),
+    }
+}
+
+/// The bytes of a number with a sign, in the form of a presence.
+pub(crate) fn size_signed(presence: Presence, number: i128) -> usize
+    requires { IsSmall number }
+    ensures value { result ≡ length_size presence number }
+    ensures size { HasSize (ShortestSigned presence number) result }
+    ensures few { result ≤ 10 }
+{
+    match presence {
+        Presence::Mandatory => fast_wire::size_signed(number),
+        Presence::Optional => fast_wire::size_signed_nullable(Nullable::Value(number)),
+    }
+}
+
+/// Appends a number with a sign, in the form of a presence, or nothing.
+pub(crate) fn write_signed(
+    presence: Presence,
+    number: i128,
+    out: &mut Vec<u8>,
+) -> Result<(), WireFault>
+    requires { IsSmall number }
+    ensures { AppendsOne (ShortestSigned presence number) out.old.items out.new.items result }
+{
+    match i64::try_from(number) {
+        Ok(number) => match presence {
+            Presence::Mandatory => fast_wire::write_i64(number, out),
+            Presence::Optional => fast_wire::write_i64_nullable(Nullable::Value(number), out),
+        },
+        Err(_) => match presence {
+            Presence::Mandatory => fast_wire::write_signed(number, out),
+            Presence::Optional => fast_wire::write_signed_nullable(Nullable::Value(number), out),
+        },
+    }
+}
+
+/// The bytes of characters or bytes in the form that has no NULL.
+pub(crate) fn size_part(kind: Kind, units: &[u8]) -> usize
+    requires { CanBeUnits kind units.now }
+    ensures value { result ≡ part_size kind units.now }
+    ensures size { HasSize (ShortestPart kind units.now) result }
+    ensures few { result ≤ 65545 }
+{
+    match kind {
+        Kind::Ascii => fast_wire::size_ascii(units),
+        _ => fast_wire::size_vector(units),
+    }
+}
+
+/// Appends characters or bytes in the form that has no NULL, or nothing.
+pub(crate) fn write_part(kind: Kind, units: &[u8], out: &mut Vec<u8>) -> Result<(), WireFault>
+    requires { CanBeUnits kind units.now }
+    ensures { AppendsOne (ShortestPart kind units.now) out.old.items out.new.items result }
+{
+    match kind {
+        Kind::Ascii => fast_wire::write_ascii(units, out),
+        _ => fast_wire::write_vector(units, out),
+    }
+}
+
+/// The bytes of characters or bytes in the form of a presence.
+pub(crate) fn size_units(kind: Kind, presence: Presence, units: &[u8]) -> usize
+    requires { CanBeUnits kind units.now }
+    ensures value { result ≡ tail_size kind presence units.now }
+    ensures size { HasSize (ShortestUnits kind presence units.now) result }
+    ensures few { result ≤ 65545 }
+{
+    match presence {
+        Presence::Mandatory => size_part(kind, units),
+        Presence::Optional => match kind {
+            Kind::Ascii => fast_wire::size_ascii_nullable(Nullable::Value(units)),
+            _ => fast_wire::size_vector_nullable(Nullable::Value(units)),
+        },
+    }
+}
+
+/// Appends characters or bytes in the form of a presence, or nothing.
+pub(crate) fn write_units(
+    kind: Kind,
+    presence: Presence,
+    units: &[u8],
+    out: &mut Vec<u8>,
+) -> Result<(), WireFault>
+    requires { CanBeUnits kind units.now }
+    ensures { AppendsOne (ShortestUnits kind presence units.now)
+        out.old.items out.new.items result }
+{
+    match presence {
+        Presence::Mandatory => write_part(kind, units, out),
+        Presence::Optional => match kind {
+            Kind::Ascii => fast_wire::write_ascii_nullable(Nullable::Value(units), out),
+            _ => fast_wire::write_vector_nullable(Nullable::Value(units), out),
+        },
+    }
+}
+
+/// The bytes of an exponent in the form of a presence, and of a mantissa.
+pub(crate) fn size_pair(presence: Presence, exponent: i128, mantissa: i128) -> usize
+    requires exponent { IsSmall exponent }
+    requires mantissa { IsSmall mantissa }
+    ensures size { HasSize (ShortestPair presence exponent mantissa) result }
+    ensures few { result ≤ 20 }
+{
+    size_signed(presence, exponent) + size_signed(Presence::Mandatory, mantissa)
+}
+
+/// Appends an exponent in the form of a presence and then a mantissa, or nothing.
+pub(crate) fn write_pair(
+    presence: Presence,
+    exponent: i128,
+    mantissa: i128,
+    out: &mut Vec<u8>,
+) -> Result<(), WireFault>
+    requires exponent { IsSmall exponent }
+    requires mantissa { IsSmall mantissa }
+    ensures { AppendsOne (ShortestPair presence exponent mantissa)
+        out.old.items out.new.items result }
+{
+    let start = out.len();
+    write_signed(presence, exponent, out)?;
+    match write_signed(Presence::Mandatory, mantissa, out) {
+        Ok(()) => Ok(()),
+        Err(fault) => {
+            out.truncate(start);
+            Err(fault)
+        }
+    }
+}
+
+/// The bytes of a value that stands whole.
+pub(crate) fn size_whole(presence: Presence, value: &Scalar) -> usize
+    requires { CanBeWhole value.now }
+    ensures { HasSize (ShortestWhole presence value.now) result }
+{
+    match value {
+        Scalar::U32(number) => size_unsigned(presence, u64::from(*number)),
+        Scalar::U64(number) => size_unsigned(presence, *number),
+        Scalar::I32(number) => size_signed(presence, i128::from(*number)),
+        Scalar::I64(number) => size_signed(presence, i128::from(*number)),
+        Scalar::Decimal { exponent, mantissa } => {
+            size_pair(presence, i128::from(*exponent), i128::from(*mantissa))
+        }
+        Scalar::Ascii(text) => size_units(Kind::Ascii, presence, text.as_slice()),
+        Scalar::Unicode(text) => size_units(Kind::Unicode, presence, text.as_bytes()),
+        Scalar::Bytes(bytes) => size_units(Kind::Bytes, presence, bytes.as_slice()),
+    }
+}
+
+/// Appends a value that stands whole, or nothing.
+pub(crate) fn write_whole(
+    presence: Presence,
+    value: &Scalar,
+    out: &mut Vec<u8>,
+) -> Result<(), WireFault>
+    requires { CanBeWhole value.now }
+    ensures { AppendsOne (ShortestWhole presence value.now) out.old.items out.new.items result }
+{
+    match value {
+        Scalar::U32(number) => write_unsigned(presence, u64::from(*number), out),
+        Scalar::U64(number) => write_unsigned(presence, *number, out),
+        Scalar::I32(number) => write_signed(presence, i128::from(*number), out),
+        Scalar::I64(number) => write_signed(presence, i128::from(*number), out),
+        Scalar::Decimal { exponent, mantissa } => {
+            write_pair(presence, i128::from(*exponent), i128::from(*mantissa), out)
+        }
+        Scalar::Ascii(text) => write_units(Kind::Ascii, presence, text.as_slice(), out),
+        Scalar::Unicode(text) => write_units(Kind::Unicode, presence, text.as_bytes(), out),
+        Scalar::Bytes(bytes) => write_units(Kind::Bytes, presence, bytes.as_slice(), out),
     }
 }

@@ -1,0 +1,288 @@
+-- What is chosen for a value is spelled as its best form.
+use Rattle.std.proofs.Common.{◌≡◌, ℕ, ◌-◌, ◌<◌, ◌≤◌, Bool, true, false, List, [], ◌∷◌, ◌++◌, length, take, drop, refl, subst, arith, Ok, Err, Result, length-append}
+use Rattle.std.specs.Prelude.{ℤ, pos, negsuc, ◌-ℤ◌, Option, Some, None, IsTrue}
+use Rattle.std.specs.List.{AllByRecursion}
+use Rattle.fast_wire.specs.Nullable.{IsUnsignedNullable, IsSignedNullable}
+use Rattle.fast_wire.specs.Writing.{IsShortest}
+use Rattle.fast_wire.specs.declared.nullable.Nullable.TheVariants.{Null}
+use Rattle.fast_wire.proofs.AsciiForms.{ascii_null_shortest}
+use Rattle.fast_wire.proofs.FormSizes.{unsigned_nullable_sizes}
+use Rattle.fast_wire.proofs.UnsignedForms.{entity_some}
+use Rattle.fast_wire.proofs.VectorForms.{vector_null_shortest}
+use Rattle.fast_template.specs.Scalar.{is_integer, IsScalar}
+use Rattle.fast_template.specs.TemplateSets.{applies}
+use Rattle.fast_template.specs.declared.kind.Kind.{Kind}
+use Rattle.fast_template.specs.declared.kind.Kind.TheVariants as kind
+use Rattle.fast_template.specs.declared.kind.Operator.{Operator}
+use Rattle.fast_template.specs.declared.kind.Operator.TheVariants as operator
+use Rattle.fast_template.specs.declared.kind.Presence.{Presence}
+use Rattle.fast_template.specs.declared.kind.Presence.TheVariants.{Optional}
+use Rattle.fast_template.specs.declared.resolved.FieldPart.{FieldPart}
+use Rattle.fast_template.specs.declared.scalar.Scalar.{Scalar}
+use Rattle.fast_template.specs.declared.scalar.Scalar.TheVariants.{U32, I32, U64, I64, Decimal, Ascii, Unicode, Bytes}
+use Rattle.fast_dictionary.specs.declared.entry.Entry.{Entry}
+use Rattle.fast_field.specs.declared.fault.FieldFault.{FieldFault}
+use Rattle.fast_field.specs.declared.pieces.Pieces.{Pieces}
+use Rattle.fast_field.specs.declared.pieces.Pieces.TheVariants as pieces
+use Rattle.fast_field.specs.Values.{integer_of, exponent_of, mantissa_of, units_of, IsUnitKind}
+use Rattle.fast_field.specs.Parts.{IsFieldPart}
+use Rattle.fast_field.specs.Bases.{delta_base, tail_base}
+use Rattle.fast_field.specs.Spelled.{SpellsInteger, SpellsUnits, Spelled}
+use Rattle.fast_field.specs.Deltas.{uncut, put_together, SpellsTail, DeltaValue, DeltaForm, TailForm}
+use Rattle.fast_field.specs.Fields.{FormOf}
+use Rattle.fast_field.specs.Within.{HasRange, HasRangeOr, HoldsScalar}
+use Rattle.fast_field.specs.Best.{IsBest}
+use Rattle.fast_field.specs.Planning.{constant_gives, left_out_of}
+use Rattle.fast_field.specs.Refusals.{operator_refusal, refusal_of}
+use Rattle.fast_field.specs.Removals.{length_of}
+use Rattle.fast_field.specs.Chosen.{Both, ShortestSigned, ShortestPart, ShortestPair, ShortestWhole, ShortestPieces, CanBeUnits, CanBeWhole, CanBePieces, IsBestCut, IsWhole, IsNothing, IsDelta, IsTail, OnBase, IsMadeOf}
+use Rattle.fast_field.proofs.BestForms.{bit_zero_is_best}
+use Rattle.fast_field.proofs.BestDeltas.{IsFirst, difference_fits, differences_fit, number_delta_is_first, decimal_delta_is_first}
+use Rattle.fast_field.proofs.BestCuts.{cut_is_first, removal_small}
+use Rattle.fast_field.proofs.BestTails.{tail_is_first}
+use Rattle.fast_field.proofs.BestValues.{left_out, whole_is_first, delta_is_first, delta_null_is_first, tail_form_is_first, tail_null_is_first, constant_is_first, constant_is, absent_optional, best_under_one, field_value, operator_allows}
+use Rattle.fast_field.proofs.FieldsWithin.{delta_base_within, unit_kind}
+use Rattle.fast_field.proofs.Shortest.{unsigned_form, signed_form, units_form, pair_form, pair_least}
+use Rattle.fast_field.proofs.StandingForms.{text_of, number_is_shortest, string_is_shortest, decimal_is_shortest}
+use Rattle.fast_field.proofs.ValuesWithin.{IsOfType, IsString, unit_limit, units_of_string}
+
+-- ---- NULL is one byte in every form
+
+abbrev null_byte : List ℕ
+null_byte = 128 ∷ []
+
+unsigned_null : IsUnsignedNullable null_byte Null
+unsigned_null = record { entity = (omega arith, omega arith); short = omega arith; value = refl }
+
+signed_null : IsSignedNullable null_byte Null
+signed_null = record { entity = (omega arith, omega arith); short = omega arith; value = refl }
+
+null_is_byte : (b : List ℕ) → IsShortest IsUnsignedNullable b Null → b ≡ null_byte
+null_is_byte b h =
+    let most = h.least null_byte unsigned_null in
+    let some = entity_some b h.form.entity in
+    unsigned_nullable_sizes.one b null_byte Null h.form unsigned_null (omega (arith, most, some))
+
+null_integer : (u : Bool) → IsShortest (SpellsInteger u Optional) null_byte Null
+null_integer true = record { form = unsigned_null; least = λ o h. entity_some o h.entity }
+null_integer false = record { form = signed_null; least = λ o h. entity_some o h.entity }
+
+null_units : (k : Kind) → IsShortest (SpellsUnits k Optional) null_byte Null
+null_units kind.Ascii = record { form = ascii_null_shortest.form; least = ascii_null_shortest.least }
+null_units k = record { form = vector_null_shortest.form; least = vector_null_shortest.least }
+
+null_spelled : (k : Kind) → IsShortest (Spelled k Optional) null_byte None
+null_spelled kind.UInt32 = record { form = (null_integer true).form; least = (null_integer true).least }
+null_spelled kind.Int32 = record { form = (null_integer false).form; least = (null_integer false).least }
+null_spelled kind.UInt64 = record { form = (null_integer true).form; least = (null_integer true).least }
+null_spelled kind.Int64 = record { form = (null_integer false).form; least = (null_integer false).least }
+null_spelled kind.Decimal = record { form = (null_integer false).form; least = (null_integer false).least }
+null_spelled kind.Ascii = record { form = (null_units kind.Ascii).form; least = (null_units kind.Ascii).least }
+null_spelled kind.Unicode = record { form = (null_units kind.Unicode).form; least = (null_units kind.Unicode).least }
+null_spelled kind.Bytes = record { form = (null_units kind.Bytes).form; least = (null_units kind.Bytes).least }
+
+null_first : (o : Operator) (i : FieldPart) (e : Entry) → i.presence ≡ Optional → left_out_of o i e None ≡ false → IsFirst (λ c b. FormOf o i e true c b None) null_byte
+null_first operator.Plain i e p out = whole_is_first i.kind i.presence None null_byte (rw p (null_spelled i.kind))
+null_first operator.Default i e p out = whole_is_first i.kind i.presence None null_byte (rw p (null_spelled i.kind))
+null_first operator.Copy i e p out = whole_is_first i.kind i.presence None null_byte (rw p (null_spelled i.kind))
+null_first operator.Increment i e p out = whole_is_first i.kind i.presence None null_byte (rw p (null_spelled i.kind))
+null_first operator.Constant i e p out = absurd (let w : constant_gives i.presence None ≡ true = rw p refl in cc)
+null_first operator.Delta i e p out = delta_null_is_first i e null_byte (rw p (null_integer false))
+null_first operator.Tail i e p out = tail_null_is_first i e null_byte (rw p (null_units i.kind))
+
+-- ---- what stands whole
+
+whole_shortest : (k : Kind) (p : Presence) (v : Scalar) (b : List ℕ) → IsOfType k v → ShortestWhole p v b → IsShortest (Spelled k p) b (Some v)
+whole_shortest kind.UInt32 p (U32 n) b h s = number_is_shortest kind.UInt32 p (U32 n) b refl h (unsigned_form p n b s)
+whole_shortest kind.UInt64 p (U64 n) b h s = number_is_shortest kind.UInt64 p (U64 n) b refl h (unsigned_form p n b s)
+whole_shortest kind.Int32 p (I32 z) b h s = number_is_shortest kind.Int32 p (I32 z) b refl h (signed_form p z b s)
+whole_shortest kind.Int64 p (I64 z) b h s = number_is_shortest kind.Int64 p (I64 z) b refl h (signed_form p z b s)
+whole_shortest kind.Decimal p (Decimal e m) b h s = decimal_is_shortest p e m b h (pair_form p e m b s) (pair_least p e m b s)
+whole_shortest kind.Ascii p (Ascii t) b h s = string_is_shortest kind.Ascii p (Ascii t) b tt h (units_form kind.Ascii p t b s)
+whole_shortest kind.Unicode p (Unicode t) b h s = string_is_shortest kind.Unicode p (Unicode t) b tt h (units_form kind.Unicode p t b s)
+whole_shortest kind.Bytes p (Bytes t) b h s = string_is_shortest kind.Bytes p (Bytes t) b tt h (units_form kind.Bytes p t b s)
+whole_shortest k p v b h s = absurd (let e = h.0 in cc)
+
+whole_first : (i : FieldPart) (v : Scalar) (x : Pieces) (b : List ℕ) → IsOfType i.kind v → IsWhole v x → ShortestPieces i x b → IsFirst (λ c b. (c ≡ uncut) × Spelled i.kind i.presence b (Some v)) b
+whole_first i v (pieces.Whole w) b h made s = whole_is_first i.kind i.presence (Some v) b (whole_shortest i.kind i.presence v b h (subst (λ (y : Scalar). ShortestWhole i.presence y b) made s))
+whole_first i v x b h made s = absurd made
+
+-- ---- deltas
+
+number_value : (k : Kind) (p : Presence) (base v : Scalar) (b : List ℕ) → IsTrue (is_integer k) → IsOfType k v → ShortestSigned p (integer_of v -ℤ integer_of base) b → IsFirst (λ c b. DeltaValue k p base c b v) b
+number_value kind.UInt32 p base v b i l s = number_delta_is_first kind.UInt32 p base v b i l s
+number_value kind.Int32 p base v b i l s = number_delta_is_first kind.Int32 p base v b i l s
+number_value kind.UInt64 p base v b i l s = number_delta_is_first kind.UInt64 p base v b i l s
+number_value kind.Int64 p base v b i l s = number_delta_is_first kind.Int64 p base v b i l s
+number_value k p base v b i l s = absurd cc
+
+decimal_value : (k : Kind) (p : Presence) (base v : Scalar) (b : List ℕ) → k ≡ kind.Decimal → IsOfType k v → ShortestPair p (exponent_of v -ℤ exponent_of base) (mantissa_of v -ℤ mantissa_of base) b → IsFirst (λ c b. DeltaValue k p base c b v) b
+decimal_value kind.Decimal p base v b i l s = decimal_delta_is_first p base v b l s
+decimal_value k p base v b i l s = absurd cc
+
+string_value : (k : Kind) (p : Presence) (base v : Scalar) (removal : ℤ) (part b : List ℕ) → IsUnitKind k → IsOfType k base → IsOfType k v → IsBestCut k p (units_of base) (units_of v) removal part → Both (ShortestSigned p removal) (ShortestPart k part) b
+    → IsFirst (λ c b. DeltaValue k p base c b v) b
+string_value kind.Ascii p base v removal part b u h l best s = cut_is_first kind.Ascii p base v removal part b u h l best s
+string_value kind.Unicode p base v removal part b u h l best s = cut_is_first kind.Unicode p base v removal part b u h l best s
+string_value kind.Bytes p base v removal part b u h l best s = cut_is_first kind.Bytes p base v removal part b u h l best s
+string_value k p base v removal part b u h l best s = absurd u
+
+delta_value : (i : FieldPart) (base v : Scalar) (x : Pieces) (b : List ℕ) → IsOfType i.kind base → IsOfType i.kind v → IsDelta i.kind i.presence base v x → ShortestPieces i x b → IsFirst (λ c b. DeltaValue i.kind i.presence base c b v) b
+delta_value i base v (pieces.Difference d) b h l made s = number_value i.kind i.presence base v b made.0 l (subst (λ (z : ℤ). ShortestSigned i.presence z b) made.1 s)
+delta_value i base v (pieces.Differences e m) b h l made s =
+    decimal_value i.kind i.presence base v b made.0 l
+    (subst (λ (z : ℤ). ShortestPair i.presence (exponent_of v -ℤ exponent_of base) z b) made.2 (subst (λ (z : ℤ). ShortestPair i.presence z m b) made.1 s))
+delta_value i base v (pieces.Cut r t) b h l made s = string_value i.kind i.presence base v (length_of r) t.now b made.0 h l made.1 s
+delta_value i base v x b h l made s = absurd made
+
+on_base : (r : Result Scalar FieldFault) (P : Scalar → Type 0) → OnBase r P → (base : Scalar) × (r ≡ Ok base) × P base
+on_base (Ok base) P h = (base, refl, h)
+on_base (Err f) P h = absurd h
+
+delta_first : (i : FieldPart) (e : Entry) (v : Scalar) (x : Pieces) (b : List ℕ) → IsFieldPart i → HoldsScalar e → IsOfType i.kind v → IsMadeOf operator.Delta i e v x → ShortestPieces i x b → IsFirst (λ c b. DeltaForm i e c b (Some v)) b
+delta_first i e v x b is h l made s =
+    let base = on_base (delta_base i e) (λ base. IsDelta i.kind i.presence base v x) made in
+    delta_is_first i e base.0 v b base.1 (delta_value i base.0 v x b (delta_base_within i e base.0 is h base.1) l base.2 s)
+
+-- ---- tails
+
+tail_value : (i : FieldPart) (base v : Scalar) (x : Pieces) (b : List ℕ) → IsUnitKind i.kind → IsOfType i.kind v → IsTail i.kind i.presence base v x → ShortestPieces i x b → IsFirst (λ c b. SpellsTail i.kind i.presence base c b v) b
+tail_value i base v (pieces.Tail t) b u l made s = tail_is_first i.kind i.presence base v t.now b u l made s
+tail_value i base v x b u l made s = absurd made
+
+tail_first : (i : FieldPart) (e : Entry) (v : Scalar) (x : Pieces) (b : List ℕ) → IsTrue (applies operator.Tail i.kind) → IsOfType i.kind v → IsMadeOf operator.Tail i e v x → ShortestPieces i x b → IsFirst (λ c b. TailForm i e c b (Some v)) b
+tail_first i e v x b fits l made s =
+    let base = on_base (tail_base i e) (λ base. IsTail i.kind i.presence base v x) made in
+    tail_form_is_first i e base.0 v b base.1 (tail_value i base.0 v x b (unit_kind i.kind fits) l base.2 s)
+
+-- ---- constants
+
+constant_first : (i : FieldPart) (e : Entry) (v : Scalar) (x : Pieces) (b : List ℕ) → operator_refusal operator.Constant i e v ≡ None → IsNothing x → ShortestPieces i x b → IsFirst (λ c b. FormOf operator.Constant i e true c b (Some v)) b
+constant_first i e v pieces.Nothing b none made s = rw s (constant_is_first i e v (constant_is i.part i.initial v none))
+constant_first i e v x b none made s = absurd made
+
+-- ---- all operators
+
+chosen_first : (o : Operator) (i : FieldPart) (e : Entry) (v : Scalar) (x : Pieces) (b : List ℕ) → IsTrue (applies o i.kind) → IsFieldPart i → HoldsScalar e → IsOfType i.kind v → operator_refusal o i e v ≡ None → IsMadeOf o i e v x → ShortestPieces i x b
+    → IsFirst (λ c b. FormOf o i e true c b (Some v)) b
+chosen_first operator.Plain i e v x b a is h l none made s = whole_first i v x b l made s
+chosen_first operator.Default i e v x b a is h l none made s = whole_first i v x b l made s
+chosen_first operator.Copy i e v x b a is h l none made s = whole_first i v x b l made s
+chosen_first operator.Increment i e v x b a is h l none made s = whole_first i v x b l made s
+chosen_first operator.Constant i e v x b a is h l none made s = constant_first i e v x b none made s
+chosen_first operator.Delta i e v x b a is h l none made s = delta_first i e v x b is h l made s
+chosen_first operator.Tail i e v x b a is h l none made s = tail_first i e v x b a l made s
+
+-- the shortest bytes of what was chosen are the best form
+pub chosen_best : (i : FieldPart) (e : Entry) (v : Scalar) (x : Pieces) → IsFieldPart i → HoldsScalar e → HasRange v → refusal_of i e (Some v) ≡ None → left_out_of i.operator i e (Some v) ≡ false → IsMadeOf i.operator i e v x
+    → (b : List ℕ) → ShortestPieces i x b → IsBest i e true b (Some v)
+chosen_best i e v x is h r none out made b s =
+    let l = field_value i e (Some v) is r none in
+    best_under_one i e (Some v) b l.within (chosen_first i.operator i e v x b is.typed.operator_applies is h l.of_field (operator_allows i e (Some v) none v refl) made s) out
+
+pub null_best : (i : FieldPart) (e : Entry) → refusal_of i e None ≡ None → left_out_of i.operator i e None ≡ false → (b : List ℕ) → IsShortest IsUnsignedNullable b Null → IsBest i e true b None
+null_best i e none out b s = best_under_one i e None b tt (rw (null_is_byte b s) (null_first i.operator i e (absent_optional i.presence none) out)) out
+
+pub left_out_best : (i : FieldPart) (e : Entry) (v : Option Scalar) → IsFieldPart i → HasRangeOr v → refusal_of i e v ≡ None → left_out_of i.operator i e v ≡ true → (b : List ℕ) → b ≡ [] → IsBest i e false b v
+left_out_best i e v is r none out b s = rw s (bit_zero_is_best i e v (record { row = left_out i.operator i e v out; within = (field_value i e v is r none).within }))
+
+-- ---- what was chosen can be spelled
+
+pub units_fit : (k : Kind) (s : List ℕ) → IsString k s → CanBeUnits k s
+units_fit kind.Ascii s h = text_of s h
+units_fit k s h = h.0
+
+whole_fits : (v : Scalar) → IsScalar v → CanBeWhole v
+whole_fits (Ascii s) h = units_fit kind.Ascii s h
+whole_fits (Unicode s) h = h.0
+whole_fits (Bytes s) h = h.0
+whole_fits v h = tt
+
+few_units : (v : Scalar) → IsScalar v → length (units_of v) ≤ 65535
+few_units (Ascii s) h = h.0
+few_units (Unicode s) h = h.0
+few_units (Bytes s) h = h.0
+few_units v h = omega arith
+
+-- the units of a value
+value_fits : (k : Kind) (v : Scalar) → IsOfType k v → CanBeUnits k (units_of v)
+value_fits kind.Ascii v h = units_fit kind.Ascii (units_of v) (units_of_string kind.Ascii v tt h)
+value_fits kind.Unicode v h = units_fit kind.Unicode (units_of v) (units_of_string kind.Unicode v tt h)
+value_fits kind.Bytes v h = units_fit kind.Bytes (units_of v) (units_of_string kind.Bytes v tt h)
+value_fits k v h = few_units v h.1
+
+all_front : (P : ℕ → Type 0) (s t : List ℕ) → AllByRecursion P (s ++ t) → AllByRecursion P s
+all_front P [] t h = tt
+all_front P (c ∷ s) t h = (h.0, all_front P s t h.1)
+
+all_back : (P : ℕ → Type 0) (s t : List ℕ) → AllByRecursion P (s ++ t) → AllByRecursion P t
+all_back P [] t h = h
+all_back P (c ∷ s) t h = all_back P s t h.1
+
+front_is_string : (k : Kind) (v s t : List ℕ) → IsString k v → v ≡ s ++ t → IsString k s
+front_is_string k v s t h e =
+    let w = subst (IsString k) e h in
+    let few = w.0 in
+    (omega (arith, length-append s t), all_front (λ c. c < unit_limit k) s t w.1)
+
+back_is_string : (k : Kind) (v s t : List ℕ) → IsString k v → v ≡ s ++ t → IsString k t
+back_is_string k v s t h e =
+    let w = subst (IsString k) e h in
+    let few = w.0 in
+    (omega (arith, length-append s t), all_back (λ c. c < unit_limit k) s t w.1)
+
+part_is_string : (k : Kind) (z : ℤ) (base part v : List ℕ) → IsString k v → v ≡ put_together z base part → IsString k part
+part_is_string k (pos n) base part v h e = back_is_string k v (take (length base - n) base) part h e
+part_is_string k (negsuc n) base part v h e = front_is_string k v part (drop n base) h e
+
+delta_fits : (i : FieldPart) (base v : Scalar) (x : Pieces) → IsOfType i.kind base → IsOfType i.kind v → IsDelta i.kind i.presence base v x → CanBePieces i x
+delta_fits i base v (pieces.Difference d) h l made = rw made.1 (difference_fits i.kind base v made.0 h l)
+delta_fits i base v (pieces.Differences e m) h l made =
+    let fit = differences_fit base v (subst (λ (k : Kind). IsOfType k base) made.0 h) (subst (λ (k : Kind). IsOfType k v) made.0 l) in
+    rw (made.1, made.2) fit
+delta_fits i base v (pieces.Cut r t) h l made =
+    let best = made.1 in (
+      removal_small (units_of base) (length_of r) (units_of_string i.kind base made.0 h).0 best.few,
+      units_fit i.kind t.now (part_is_string i.kind (length_of r) (units_of base) t.now (units_of v) (units_of_string i.kind v made.0 l) best.made),
+    )
+delta_fits i base v x h l made = absurd made
+
+tail_fits : (i : FieldPart) (base v : Scalar) (x : Pieces) → IsUnitKind i.kind → IsOfType i.kind v → IsTail i.kind i.presence base v x → CanBePieces i x
+tail_fits i base v (pieces.Tail t) u l made =
+    units_fit i.kind t.now (back_is_string i.kind (units_of v) (take (length (units_of base) - length t.now) (units_of base)) t.now (units_of_string i.kind v u l) made.made)
+tail_fits i base v x u l made = absurd made
+
+wholes_fit : (i : FieldPart) (v : Scalar) (x : Pieces) → IsScalar v → IsWhole v x → CanBePieces i x
+wholes_fit i v (pieces.Whole w) h made = rw made (whole_fits v h)
+wholes_fit i v x h made = absurd made
+
+nothing_fits : (i : FieldPart) (x : Pieces) → IsNothing x → CanBePieces i x
+nothing_fits i pieces.Nothing made = tt
+nothing_fits i x made = absurd made
+
+chosen_fits : (o : Operator) (i : FieldPart) (e : Entry) (v : Scalar) (x : Pieces) → IsTrue (applies o i.kind) → IsFieldPart i → HoldsScalar e → IsOfType i.kind v → IsMadeOf o i e v x → CanBePieces i x
+chosen_fits operator.Plain i e v x a is h l made = wholes_fit i v x l.1 made
+chosen_fits operator.Default i e v x a is h l made = wholes_fit i v x l.1 made
+chosen_fits operator.Copy i e v x a is h l made = wholes_fit i v x l.1 made
+chosen_fits operator.Increment i e v x a is h l made = wholes_fit i v x l.1 made
+chosen_fits operator.Constant i e v x a is h l made = nothing_fits i x made
+chosen_fits operator.Delta i e v x a is h l made =
+    let base = on_base (delta_base i e) (λ base. IsDelta i.kind i.presence base v x) made in
+    delta_fits i base.0 v x (delta_base_within i e base.0 is h base.1) l base.2
+chosen_fits operator.Tail i e v x a is h l made =
+    let base = on_base (tail_base i e) (λ base. IsTail i.kind i.presence base v x) made in
+    tail_fits i base.0 v x (unit_kind i.kind a) l base.2
+
+pub chosen_can : (i : FieldPart) (e : Entry) (v : Scalar) (x : Pieces) → IsFieldPart i → HoldsScalar e → HasRange v → refusal_of i e (Some v) ≡ None → IsMadeOf i.operator i e v x → CanBePieces i x
+chosen_can i e v x is h r none made = chosen_fits i.operator i e v x is.typed.operator_applies is h (field_value i e (Some v) is r none).of_field made
+
+-- ---- what choosing asks for
+
+pub value_can : (i : FieldPart) (e : Entry) (v : Scalar) → IsFieldPart i → HasRange v → refusal_of i e (Some v) ≡ None → CanBeUnits i.kind (units_of v)
+value_can i e v is r none = value_fits i.kind v (field_value i e (Some v) is r none).of_field
+
+pub base_few : (i : FieldPart) (e : Entry) → IsFieldPart i → HoldsScalar e → (base : Scalar) → delta_base i e ≡ Ok base → length (units_of base) ≤ 65535
+base_few i e is h base eq = few_units base (delta_base_within i e base is h eq).1
+
+pub operator_can : (i : FieldPart) (e : Entry) (v : Scalar) → refusal_of i e (Some v) ≡ None → operator_refusal i.operator i e v ≡ None
+operator_can i e v none = operator_allows i e (Some v) none v refl
