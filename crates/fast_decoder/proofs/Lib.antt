@@ -8,4 +8,8 @@ pub mod BodyReaders
 pub mod MessageReaders
 pub mod StreamReaders
 pub mod Leaves
+pub mod Steps
+pub mod Walking
+pub mod Views
+pub mod Putting
 mod SameNodes

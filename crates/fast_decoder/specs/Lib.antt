@@ -5,3 +5,7 @@ pub mod Streams
 pub mod Faults
 pub mod Reading
 pub mod Readers
+pub mod OpenSegments
+pub mod Received
+pub mod Walks
+pub mod Built
