@@ -12,4 +12,7 @@ pub mod Steps
 pub mod Walking
 pub mod Views
 pub mod Putting
+pub mod Serving
+pub mod Heads
+pub mod Opening
 mod SameNodes

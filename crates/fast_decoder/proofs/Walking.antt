@@ -7,11 +7,12 @@ use Rattle.fast_template.specs.declared.scalar.Scalar.{Scalar}
 use Rattle.fast_template.specs.declared.scalar.Scalar.TheVariants.{U32, I32, I64, Decimal}
 use Rattle.fast_template.specs.declared.kind.Presence.{Presence}
 use Rattle.fast_template.specs.declared.resolved.FieldPart.{FieldPart}
-use Rattle.fast_template.specs.Resolved.{Instruction, Instructions, whole_field, field_in_parts, group_of, sequence_of, no_instructions, then_instruction, is_optional, has_map}
+use Rattle.fast_template.specs.Resolved.{Instruction, Instructions, whole_field, field_in_parts, group_of, sequence_of, no_instructions, then_instruction, is_optional, has_map, Resolved}
 use Rattle.fast_wire.specs.Reading.{◌>>=◌}
 use Rattle.fast_decoder.specs.Nodes.{single, Items, items_of, sequence_elements, elements_of}
 use Rattle.fast_decoder.specs.Bits.{bit_for, after_bit}
 use Rattle.fast_decoder.specs.Faults.{Stop}
+use Rattle.fast_decoder.specs.Streams.{members_of}
 use Rattle.fast_decoder.specs.Reading.{Cursor, Reads, node_at, field_part_at, own_map_at, behind_bit, piece_at}
 use Rattle.fast_decoder.specs.OpenSegments.{items_before, Body, Sequel, Waiting, Inside, in_group, in_sequence, Next, at_instruction, at_mantissa, at_element, with_item, fewer, under_bits, body_on, mantissa_on, elements_on, top_on, behind_inside, all_around}
 use Rattle.fast_decoder.specs.Received.{Received, Same, Goes, IsExponent, ended_in}
@@ -292,6 +293,14 @@ goes_none Has read a o has = (o, has, record { set = refl; before = refl; templa
 -- where nothing is read, and what was received is kept
 pub goes_kept : (Has Had : Received → Type 0) (read : Received → List ℕ → Reads Items) (a : List ℕ) → ((o : Received) → Has o → Had o) → Goes Has read Had read a a
 goes_kept Has Had read a kept o has = (o, kept o has, record { set = refl; before = refl; template = refl; members = refl; start = refl }, λ more. refl)
+
+abbrev some_members : Instructions → Option Instructions
+some_members is = Some is
+
+-- the template that the message names
+pub same_named : (o p : Received) → Same o p → members_of o.set o.template ≡ Some o.members → members_of p.set p.template ≡ Some p.members
+same_named o p same named =
+    ap (λ (t : ℕ). members_of p.set t) same.template ∙ ap (λ (s : List Resolved). members_of s o.template) same.set ∙ named ∙ ap some_members (sym same.members)
 
 no_frames : (us : List Waiting) → map bare us ≡ [] → us ≡ []
 no_frames [] h = refl

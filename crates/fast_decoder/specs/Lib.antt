@@ -9,3 +9,4 @@ pub mod OpenSegments
 pub mod Received
 pub mod Walks
 pub mod Built
+pub mod Traversals

@@ -1,6 +1,6 @@
 //! The bits of a segment's map, as pieces take them.
 
-ghost use Rattle.std.specs.Prelude.{◌≡◌, ◌≢◌, ◌≤◌, ◌++◌, ℕ, Bool, List, Ok, IfOk, IfErr, length, drop};
+ghost use Rattle.std.specs.Prelude.{◌≡◌, ◌≢◌, ◌≤◌, ◌<◌, ◌++◌, ℕ, Bool, List, Ok, IfOk, IfErr, IsTrue, length, drop};
 ghost use Rattle.fast_dictionary.specs.Dictionary.{Dictionary};
 ghost use Rattle.fast_decoder.specs.Bits.{after_bit, bit_for};
 ghost use Rattle.fast_decoder.specs.OpenSegments.{cursor};
@@ -38,6 +38,7 @@ pub(crate) fn read_own_map(
 ) -> Result<(Bits, usize), Halt>
     requires { at ≤ length bytes.now }
     ensures place { IfOk result (λ x. (at ≤ x.1) × (x.1 ≤ length bytes.now)) }
+    ensures took { IfOk result (λ x. IsTrue own_map → at < x.1) }
     ensures goes { IfOk result (λ x. (d : Dictionary) (bits : List Bool) (spare : ℕ) (more : List ℕ)
         → own_map_at number own_map (cursor d bits spare (drop at bytes.now ++ more))
         ≡ Ok (cursor d x.0 spare (drop x.1 bytes.now ++ more))) }

@@ -46,10 +46,10 @@ fn node_of(value: Option<Scalar>) -> Node
 }
 
 impl Builder {
-    ghost use Rattle.std.specs.Prelude.{[], List};
+    ghost use Rattle.std.specs.Prelude.{[], ◌∷◌, List, option_map};
     ghost use Rattle.std.specs.FinMap as finite;
     ghost use Rattle.fast_template.specs.Resolved.{Resolved};
-    ghost use Rattle.fast_decoder.specs.Nodes.{content_of};
+    ghost use Rattle.fast_decoder.specs.Nodes.{Content, content_of};
 
     /// With no message. Takes no memory.
     pub fn new(alloc: Global) -> Builder
@@ -63,6 +63,21 @@ impl Builder {
             outer: Vec::new(alloc),
             whole: Vec::new(alloc),
         }
+    }
+
+    /// Hands on the message that was finished last. Takes no memory.
+    pub fn hand_on(&mut self) -> Option<Message>
+        ensures handed { (m : Content) → map content_of self.old.whole.items ≡ m ∷ []
+            → (option_map content_of result ≡ Some m) × (self.new.whole.items ≡ []) }
+    {
+        self.whole.pop()
+    }
+
+    /// Forgets all messages. Takes no memory.
+    pub fn reset(&mut self)
+        ensures { self.new.whole.items ≡ [] }
+    {
+        self.whole.clear();
     }
 }
 

@@ -15,6 +15,7 @@ mod message;
 mod part;
 mod place;
 mod receiver;
+mod traversal;
 mod walk;
 
 pub use bits::{first_for, take_for};
@@ -25,4 +26,5 @@ pub use message::{Message, Node};
 pub use part::{exponent_in, mantissa_in, take_part, unsigned_in};
 pub use place::Place;
 pub use receiver::Receiver;
+pub use traversal::{Stage, Traversal};
 pub use walk::{Frame, Inside, Next, Sequel, Walk};

@@ -70,8 +70,10 @@ pub trait Receiver: Drop {
 
     /// Forgets what was received of the message that is open.
     fn back(&mut self, alloc: Global)
-        ensures { (set : List Resolved) (ms : List Content) (d : Dictionary)
-            → keeps self.old set ms d → stands self.new set ms d };
+        ensures open { (set : List Resolved) (ms : List Content) (d : Dictionary)
+            → keeps self.old set ms d → stands self.new set ms d }
+        ensures between { (set : List Resolved) (ms : List Content) (d : Dictionary)
+            → stands self.old set ms d → stands self.new set ms d };
 
     /// Takes a field from the bytes, and puts its entry; answers the place behind it.
     fn field<E: Entries>(

@@ -59,16 +59,16 @@ pub struct Frame<'a> {
 /// The innermost open segment, and those around it, the message's own first.
 #[derive(Drop)]
 pub struct Walk<'a> {
-    bits: Bits,
+    pub(crate) bits: Bits,
     // how many nodes may still come
-    spare: u32,
+    pub(crate) spare: u32,
     next: Next<'a>,
     rest: &'a [Flat],
     around: Vec<Frame<'a>>,
 }
 
-// A fault of a part.
-fn part_halt(part: &FieldPart, fault: FieldFault) -> Halt
+/// A fault of a part.
+pub(crate) fn part_halt(part: &FieldPart, fault: FieldFault) -> Halt
     ensures cause { result.cause ≡ cause_of_field fault }
     ensures number { result.number ≡ part.now.number }
 {
@@ -103,6 +103,20 @@ impl<'a> Walk<'a> {
             rest: members,
             around: Vec::new(alloc),
         }
+    }
+
+    /// Begins a message's body, where its identifier has taken a bit where it needs one.
+    pub(crate) fn open_message(&mut self, needs: bool, members: &'a [Flat])
+        ensures bits { self.new.bits ≡ after_bit needs self.old.bits }
+        ensures spare { self.new.spare ≡ self.old.spare }
+        ensures next { self.new.next ≡ Next.Instruction }
+        ensures rest { self.new.rest.now ≡ members.now }
+        ensures around { self.new.around.items ≡ [] }
+    {
+        take_for(&mut self.bits, needs);
+        self.next = Next::Instruction;
+        self.rest = members;
+        self.around.clear();
     }
 
     // Whether one node more may come.
