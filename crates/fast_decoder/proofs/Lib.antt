@@ -15,4 +15,6 @@ pub mod Putting
 pub mod Serving
 pub mod Heads
 pub mod Opening
+pub mod Standings
+pub mod Followings
 mod SameNodes

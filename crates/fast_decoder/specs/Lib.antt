@@ -10,3 +10,5 @@ pub mod Received
 pub mod Walks
 pub mod Built
 pub mod Traversals
+pub mod Standing
+pub mod Following

@@ -8,10 +8,12 @@
 
 mod bits;
 mod builder;
+mod decoder;
 mod fault;
 mod halt;
 pub mod laws;
 mod message;
+mod messages;
 mod part;
 mod place;
 mod receiver;
@@ -20,6 +22,7 @@ mod walk;
 
 pub use bits::{first_for, take_for};
 pub use builder::{Builder, Level};
+pub use decoder::Decoder;
 pub use fault::{Cause, Fault};
 pub use halt::{Halt, field_cause, map_cause};
 pub use message::{Message, Node};

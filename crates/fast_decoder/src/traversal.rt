@@ -214,7 +214,7 @@ impl<'a> Traversal<'a> {
             ≡ Ok (m, E.contents entries.new, drop n bytes.now ++ more))
             × (nodes_in m.items ≤ node_limit → R.stands receiver.new set (before ++ m ∷ []) (E.contents entries.new))) }
         ensures between { OnOk result (self.new.stage ≡ Stage.Map) }
-        ensures held_place { IfErr result (λ x. (x.1).cause ≢ Cause.Memory → (at ≤ x.0) × (x.0 ≤ length bytes.now)) }
+        ensures held_place { IfErr result (λ x. (at ≤ x.0) × (x.0 ≤ length bytes.now)) }
         ensures stops { IfErr result (λ x. (x.1).cause ≢ Cause.Memory → (set : List Resolved) (before : List Content)
             (start : Dictionary) (read : List ℕ → Reading)
             → IsOpen R.has R.keeps self.old receiver.old set (E.contents entries.old) before start read
@@ -272,7 +272,7 @@ impl<'a> Traversal<'a> {
             × (nodes_in m.items ≤ node_limit → R.stands receiver.new (templates_in self.old.set.now)
             (before ++ m ∷ []) (E.contents entries.new))) }
         ensures between { OnOk result (self.new.stage ≡ Stage.Map) }
-        ensures held_place { IfErr result (λ x. (x.1).cause ≢ Cause.Memory → (at ≤ x.0) × (x.0 ≤ length bytes.now)) }
+        ensures held_place { IfErr result (λ x. (at ≤ x.0) × (x.0 ≤ length bytes.now)) }
         ensures stops { IfErr result (λ x. (x.1).cause ≢ Cause.Memory → (before : List Content) (start : Dictionary)
             (read : List ℕ → Reading)
             → Continues R.has R.stands R.keeps self.old receiver.old (templates_in self.old.set.now)
@@ -332,7 +332,7 @@ impl<'a> Traversal<'a> {
             × (nodes_in m.items ≤ node_limit → R.stands receiver.new (templates_in self.old.set.now)
             (before ++ m ∷ []) (E.contents entries.new))) }
         ensures between { OnOk result (self.new.stage ≡ Stage.Map) }
-        ensures held_place { IfErr result (λ x. (x.1).cause ≢ Cause.Memory → (at ≤ x.0) × (x.0 ≤ length bytes.now)) }
+        ensures held_place { IfErr result (λ x. (at ≤ x.0) × (x.0 ≤ length bytes.now)) }
         ensures stops { IfErr result (λ x. (x.1).cause ≢ Cause.Memory → (before : List Content) (start : Dictionary)
             (read : List ℕ → Reading)
             → Continues R.has R.stands R.keeps self.old receiver.old (templates_in self.old.set.now)

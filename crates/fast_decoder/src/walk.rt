@@ -666,8 +666,9 @@ impl<'a> Walk<'a> {
             self.new receiver.new (E.contents entries.new) (drop at bytes.now) (drop n bytes.now)) }
         ensures whole { OnOk result ((self.new.next ≡ Next.Instruction) × (self.new.around.items ≡ [])
             × (self.new.rest.now ≡ [])) }
-        ensures held { IfErr result (λ x. (x.1).cause ≢ Cause.Memory → (at ≤ x.0) × (x.0 ≤ length bytes.now)
-            × Moves R.has self.old receiver.old (E.contents entries.old)
+        ensures held_place { IfErr result (λ x. (at ≤ x.0) × (x.0 ≤ length bytes.now)) }
+        ensures held { IfErr result (λ x. (x.1).cause ≢ Cause.Memory
+            → Moves R.has self.old receiver.old (E.contents entries.old)
             self.new receiver.new (E.contents entries.new) (drop at bytes.now) (drop x.0 bytes.now)
             × HaltsAs self.new (E.contents entries.new) (drop x.0 bytes.now) x.1
             × IsReady (E.serves entries.new) self.new) }

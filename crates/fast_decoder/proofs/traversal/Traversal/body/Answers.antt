@@ -17,9 +17,9 @@ returns-in-Err-clause-stops g c = λ other set before start read still.
     let e = g.E.Entries.contents c.run.new.entries in
     let bytes = drop c.args.at c.args.bytes.now in
     let rest = drop c.in-Err.halt.0 c.args.bytes.now in
-    let p = held.2 still.received (still.at, still.has) in
+    let p = held.0 still.received (still.at, still.has) in
     still.reads bytes
-    ∙ ap (λ (r : Reads Items). message_of c.args.self.now.template r) (with_none (reads_on old d still.received) (reads_on new e p.0) bytes rest p.3 ∙ held.3 p.0 p.1.0)
+    ∙ ap (λ (r : Reads Items). message_of c.args.self.now.template r) (with_none (reads_on old d still.received) (reads_on new e p.0) bytes rest p.3 ∙ held.1 p.0 p.1.0)
 
 pub returns-in-Err-clause-held : goal.returns-in-Err-clause-held
 returns-in-Err-clause-held g c = λ other set before start read still.
@@ -27,7 +27,7 @@ returns-in-Err-clause-held g c = λ other set before start read still.
     let new = c.run.new.self in
     let e = g.E.Entries.contents c.run.new.entries in
     let bytes = drop c.args.at c.args.bytes.now in
-    let p = held.2 still.received (still.at, still.has) in
+    let p = held.0 still.received (still.at, still.has) in
     let t = c.args.self.now.template in (
       λ bytes. message_of t (reads_on new e p.0 bytes),
       record {

@@ -41,8 +41,6 @@ returns-in-Err-clause-held g c = λ other.
     let kept = At has w c.step.new.receiver e in
     let bytes = drop c.args.at c.args.bytes.now in
     let rest = drop c.pieces.place c.args.bytes.now in (
-      c.pieces.invariant.place.0,
-      c.pieces.invariant.place.1,
       rw (waits.0, waits.1)
           (goes_on before here kept (reads_on c.args.self.now d) (reads_on w e) (reads_on w e) bytes rest rest c.pieces.invariant.goes
           (goes_kept here kept (reads_on w e) rest (λ o at. (at.0, waits.2 o e at.1)))),
