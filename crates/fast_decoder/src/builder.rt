@@ -53,7 +53,8 @@ impl Builder {
 
     /// With no message. Takes no memory.
     pub fn new(alloc: Global) -> Builder
-        ensures stands { (set : List Resolved) → ⟦<Builder as Receiver>⟧.stands result set [] finite.empty }
+        ensures stands { (set : List Resolved)
+            → ⟦<Builder as Receiver>⟧.stands result set [] finite.empty }
         ensures empty { result.whole.items ≡ [] }
     {
         Builder {

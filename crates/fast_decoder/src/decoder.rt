@@ -54,7 +54,8 @@ impl<'a, E: Entries> Decoder<'a, E> {
         ensures ready { CanGoOn (E.serves result.entries) result.traversal }
         ensures set { result.traversal.set.now ≡ set.now }
         ensures fault { result.fault ≡ None }
-        ensures follows { FollowsAt None result.traversal result.builder (E.contents result.entries) result.held.items
+        ensures follows { FollowsAt None result.traversal result.builder (E.contents
+            result.entries) result.held.items
             result.waiting [] [] }
         ensures counts { Counts result.fed result.messages [] [] }
     {
@@ -90,7 +91,8 @@ impl<'a, E: Entries> Decoder<'a, E> {
     // Keeps a fault of a piece of which so many bytes are left.
     fn keep(&mut self, cause: Cause, number: u32, left: usize) -> Fault
         ensures cause { result.cause ≡ cause }
-        ensures message { self.old.messages < 2 ^ 61 → result.place.message ≡ self.old.messages + 1 }
+        ensures message { self.old.messages < 2 ^ 61 → result.place.message
+            ≡ self.old.messages + 1 }
         ensures offset { result.place.offset ≡ self.old.fed - left }
         ensures template { result.place.template ≡ self.old.traversal.template }
         ensures instruction { result.place.instruction ≡ number }
@@ -117,7 +119,8 @@ impl<'a, E: Entries> Decoder<'a, E> {
     // Keeps that memory was refused.
     fn refuse(&mut self) -> Fault
         ensures cause { result.cause ≡ Cause.Memory }
-        ensures message { self.old.messages < 2 ^ 61 → result.place.message ≡ self.old.messages + 1 }
+        ensures message { self.old.messages < 2 ^ 61 → result.place.message
+            ≡ self.old.messages + 1 }
         ensures offset { result.place.offset ≡ 0 }
         ensures template { result.place.template ≡ 0 }
         ensures instruction { result.place.instruction ≡ 0 }
@@ -150,8 +153,10 @@ impl<'a, E: Entries> Decoder<'a, E> {
         requires held { self.now.held.items ≡ [] }
         ensures follows { (fed : List ℕ) (messages : List Content) → length fed < 2 ^ 61
             → Counts self.old.fed self.old.messages fed messages
-            → Ended (Some halt) self.old.traversal self.old.builder (E.contents self.old.entries) rest.now fed messages
-            → FollowsAt self.new.fault self.new.traversal self.new.builder (E.contents self.new.entries)
+            → Ended (Some halt) self.old.traversal self.old.builder (E.contents self.old.entries)
+            rest.now fed messages
+            → FollowsAt self.new.fault self.new.traversal self.new.builder (E.contents
+            self.new.entries)
             self.new.held.items self.new.waiting fed messages
             × Counts self.new.fed self.new.messages fed messages }
         ensures answer { Answers result self.new.fault }
@@ -181,13 +186,17 @@ impl<'a, E: Entries> Decoder<'a, E> {
         requires served { ServesAll (E.serves self.now.entries) self.now.traversal.set.now }
         ensures follows { (fed : List ℕ) (messages : List Content) → length fed ≤ 2 ^ 60
             → Counts self.old.fed self.old.messages fed messages
-            → Stands self.old.traversal self.old.builder (E.contents self.old.entries) bytes.now fed messages
-            → (pushed : List Content) × (map content_of out.new.items ≡ map content_of out.old.items ++ pushed)
-            × FollowsAt self.new.fault self.new.traversal self.new.builder (E.contents self.new.entries)
+            → Stands self.old.traversal self.old.builder (E.contents self.old.entries) bytes.now
+            fed messages
+            → (pushed : List Content) × (map content_of out.new.items
+            ≡ map content_of out.old.items ++ pushed)
+            × FollowsAt self.new.fault self.new.traversal self.new.builder (E.contents
+            self.new.entries)
             self.new.held.items self.new.waiting fed (messages ++ pushed)
             × Counts self.new.fed self.new.messages fed (messages ++ pushed) }
         ensures answer { Answers result self.new.fault }
-        ensures ready { self.new.fault ≡ None → CanGoOn (E.serves self.new.entries) self.new.traversal }
+        ensures ready { self.new.fault ≡ None
+            → CanGoOn (E.serves self.new.entries) self.new.traversal }
         ensures set { self.new.traversal.set ≡ self.old.traversal.set }
         ensures same_keys { E.serves self.new.entries ≡ E.serves self.old.entries }
     {
@@ -216,19 +225,24 @@ impl<'a, E: Entries> Decoder<'a, E> {
     /// these. It is kept until the reset.
     pub fn feed(&mut self, chunk: &[u8], out: &mut Vec<Message>) -> Result<(), Fault>
         requires room { self.now.fed + length chunk.now ≤ 2 ^ 60 }
-        requires ready { self.now.fault ≡ None → CanGoOn (E.serves self.now.entries) self.now.traversal }
+        requires ready { self.now.fault ≡ None
+            → CanGoOn (E.serves self.now.entries) self.now.traversal }
         requires served { ServesAll (E.serves self.now.entries) self.now.traversal.set.now }
-        ensures kept { IfSome self.old.fault (λ f. (result ≡ Err f) × (self.new ≡ self.old) × (out.new ≡ out.old)) }
+        ensures kept { IfSome self.old.fault (λ f. (result ≡ Err f) × (self.new ≡ self.old)
+            × (out.new ≡ out.old)) }
         ensures follows { self.old.fault ≡ None → (fed : List ℕ) (messages : List Content)
             → Counts self.old.fed self.old.messages fed messages
             → FollowsAt None self.old.traversal self.old.builder (E.contents self.old.entries)
             self.old.held.items self.old.waiting fed messages
-            → (pushed : List Content) × (map content_of out.new.items ≡ map content_of out.old.items ++ pushed)
-            × FollowsAt self.new.fault self.new.traversal self.new.builder (E.contents self.new.entries)
+            → (pushed : List Content) × (map content_of out.new.items
+            ≡ map content_of out.old.items ++ pushed)
+            × FollowsAt self.new.fault self.new.traversal self.new.builder (E.contents
+            self.new.entries)
             self.new.held.items self.new.waiting (fed ++ chunk.now) (messages ++ pushed)
             × Counts self.new.fed self.new.messages (fed ++ chunk.now) (messages ++ pushed) }
         ensures answer { Answers result self.new.fault }
-        ensures ready { self.new.fault ≡ None → CanGoOn (E.serves self.new.entries) self.new.traversal }
+        ensures ready { self.new.fault ≡ None
+            → CanGoOn (E.serves self.new.entries) self.new.traversal }
         ensures set { self.new.traversal.set ≡ self.old.traversal.set }
         ensures same_keys { E.serves self.new.entries ≡ E.serves self.old.entries }
     {
@@ -294,7 +308,8 @@ impl<'a, E: Entries> Decoder<'a, E> {
         ensures set { self.new.traversal.set ≡ self.old.traversal.set }
         ensures same_keys { E.serves self.new.entries ≡ E.serves self.old.entries }
         ensures fault { self.new.fault ≡ None }
-        ensures follows { FollowsAt None self.new.traversal self.new.builder (E.contents self.new.entries)
+        ensures follows { FollowsAt None self.new.traversal self.new.builder (E.contents
+            self.new.entries)
             self.new.held.items self.new.waiting [] [] }
         ensures counts { Counts self.new.fed self.new.messages [] [] }
     {

@@ -25,7 +25,8 @@ pub(crate) struct Progress {
 // Hands on the one message that a builder has.
 fn hand_on(builder: &mut Builder, out: &mut Vec<Message>) -> Result<(), AllocError>
     ensures handed { OnOk result ((m : Content) → m ∷ [] ≡ map content_of builder.old.whole.items
-        → (map content_of out.new.items ≡ map content_of out.old.items ++ m ∷ []) × (builder.new.whole.items ≡ [])) }
+        → (map content_of out.new.items ≡ map content_of out.old.items ++ m ∷ [])
+        × (builder.new.whole.items ≡ [])) }
     ensures refused { OnErr result (out.new.items ≡ out.old.items) }
 {
     match builder.hand_on() {
@@ -51,12 +52,15 @@ pub(crate) fn read_messages<E: Entries>(
     ensures many { result.messages ≤ length bytes.now + 1 }
     ensures ended { (fed : List ℕ) (messages : List Content)
         → Stands traversal.old builder.old (E.contents entries.old) bytes.now fed messages
-        → (pushed : List Content) × (map content_of out.new.items ≡ map content_of out.old.items ++ pushed)
+        → (pushed : List Content) × (map content_of out.new.items ≡ map content_of out.old.items
+        ++ pushed)
         × (length pushed ≡ result.messages)
-        × Ended result.halt traversal.new builder.new (E.contents entries.new) (drop result.at bytes.now) fed
+        × Ended result.halt traversal.new builder.new (E.contents entries.new) (drop result.at
+        bytes.now) fed
         (messages ++ pushed) }
     ensures ready { IfNone result.halt (CanGoOn (E.serves entries.new) traversal.new) }
-    ensures waits { IfSome result.halt (λ h. h.cause ≡ Cause.Truncated → CanGoOn (E.serves entries.new) traversal.new) }
+    ensures waits { IfSome result.halt (λ h. h.cause ≡ Cause.Truncated
+        → CanGoOn (E.serves entries.new) traversal.new) }
     ensures set { traversal.new.set ≡ traversal.old.set }
     ensures same_keys { E.serves entries.new ≡ E.serves entries.old }
 {

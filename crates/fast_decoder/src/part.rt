@@ -28,10 +28,12 @@ pub fn take_part<E: Entries>(
     requires place { at ≤ length bytes.now }
     requires served { IsTrue (E.serves entries.now part.now.key) }
     ensures place { IfOk result (λ x. (at ≤ x.1) × (x.1 ≤ length bytes.now)) }
-    ensures took { IfOk result (λ x. Took part.now bit (E.contents entries.old) (E.contents entries.new) x.0
+    ensures took { IfOk result (λ x. Took part.now bit (E.contents entries.old) (E.contents
+        entries.new) x.0
         (drop at bytes.now) (drop x.1 bytes.now)) }
     ensures stops { IfErr result (λ f. f ≢ FieldFault.Memory
-        → (field_at part.now (entry_at (E.contents entries.old) part.now.key) bit (drop at bytes.now) ≡ Err f)
+        → (field_at part.now (entry_at (E.contents entries.old) part.now.key) bit (drop at
+        bytes.now) ≡ Err f)
         × (E.contents entries.new ≡ E.contents entries.old)) }
     ensures same_keys { E.serves entries.new ≡ E.serves entries.old }
 {

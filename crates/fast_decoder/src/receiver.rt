@@ -45,13 +45,16 @@ pub trait Receiver: Drop {
         requires bit { part_needs_bit identifier.now ≡ false → bit ≡ true }
         requires served { IsTrue (E.serves entries.now identifier.now.key) }
         ensures place { IfOk result (λ x. (at ≤ x.1) × (x.1 ≤ length bytes.now)) }
-        ensures goes { IfOk result (λ x. Took identifier.now bit (E.contents entries.old) (E.contents entries.new)
+        ensures goes { IfOk result (λ x. Took identifier.now bit (E.contents entries.old)
+            (E.contents entries.new)
             (Some (U32 x.0)) (drop at bytes.now) (drop x.1 bytes.now)
             × ((set : List Resolved) (ms : List Content) (members : Instructions)
             → stands self.old set ms (E.contents entries.old)
-            → has self.new (opened set ms x.0 members (E.contents entries.old)) (E.contents entries.new))) }
+            → has self.new (opened set ms x.0 members (E.contents entries.old)) (E.contents
+            entries.new))) }
         ensures stops { IfErr result (λ f. f ≢ FieldFault.Memory
-            → (field_at identifier.now (entry_at (E.contents entries.old) identifier.now.key) bit (drop at bytes.now)
+            → (field_at identifier.now (entry_at (E.contents entries.old) identifier.now.key) bit
+            (drop at bytes.now)
             ≡ Err f) × (E.contents entries.new ≡ E.contents entries.old)
             × ((set : List Resolved) (ms : List Content) (d : Dictionary)
             → stands self.old set ms d → stands self.new set ms d)) }
@@ -62,7 +65,8 @@ pub trait Receiver: Drop {
     /// The end of a message.
     fn finish(&mut self, alloc: Global) -> Result<(), AllocError>
         ensures stands { OnOk result ((o : Received) (d : Dictionary) → o.next ≡ at_instruction
-            → o.body.rest ≡ no_instructions → o.around ≡ [] → members_of o.set o.template ≡ Some o.members
+            → o.body.rest ≡ no_instructions → o.around ≡ [] → members_of o.set o.template
+            ≡ Some o.members
             → nodes_in (items_of o.body.done) ≤ node_limit → has self.old o d
             → stands self.new o.set (o.before ++ content_received o ∷ []) d) }
         ensures keeps { OnErr result ((set : List Resolved) (ms : List Content) (d : Dictionary)
@@ -92,13 +96,15 @@ pub trait Receiver: Drop {
         ensures goes { IfOk result (λ n. (v : Option ScalarOf)
             × Took part.now bit (E.contents entries.old) (E.contents entries.new) v
             (drop at bytes.now) (drop n bytes.now)
-            × ((name : List ℕ) (number : ℕ) (presence : PresenceOf) (is : Instructions) (o : Received)
+            × ((name : List ℕ) (number : ℕ) (presence : PresenceOf) (is : Instructions) (o :
+            Received)
             → o.next ≡ at_instruction
             → o.body.rest ≡ then_instruction (whole_field name number presence part.now) is
             → has self.old o (E.contents entries.old)
             → has self.new (passed o is (single v)) (E.contents entries.new))) }
         ensures stops { IfErr result (λ f. f ≢ FieldFault.Memory
-            → (field_at part.now (entry_at (E.contents entries.old) part.now.key) bit (drop at bytes.now) ≡ Err f)
+            → (field_at part.now (entry_at (E.contents entries.old) part.now.key) bit (drop at
+            bytes.now) ≡ Err f)
             × (E.contents entries.new ≡ E.contents entries.old)
             × ((o : Received) (d : Dictionary) → has self.old o d → has self.new o d)) }
         ensures keeps { (set : List Resolved) (ms : List Content) (d : Dictionary)
@@ -123,13 +129,16 @@ pub trait Receiver: Drop {
             × Took part.now bit (E.contents entries.old) (E.contents entries.new) v
             (drop at bytes.now) (drop x.1 bytes.now)
             × IsExponent x.0 v
-            × ((name : List ℕ) (number : ℕ) (presence : PresenceOf) (mantissa : PartOf) (is : Instructions)
+            × ((name : List ℕ) (number : ℕ) (presence : PresenceOf) (mantissa : PartOf) (is :
+            Instructions)
             (o : Received) → o.next ≡ at_instruction
-            → o.body.rest ≡ then_instruction (field_in_parts name number presence part.now mantissa) is
+            → o.body.rest ≡ then_instruction (field_in_parts name number presence part.now
+            mantissa) is
             → has self.old o (E.contents entries.old)
             → has self.new (after_exponent o is mantissa v) (E.contents entries.new))) }
         ensures stops { IfErr result (λ f. f ≢ FieldFault.Memory
-            → (field_at part.now (entry_at (E.contents entries.old) part.now.key) bit (drop at bytes.now) ≡ Err f)
+            → (field_at part.now (entry_at (E.contents entries.old) part.now.key) bit (drop at
+            bytes.now) ≡ Err f)
             × (E.contents entries.new ≡ E.contents entries.old)
             × ((o : Received) (d : Dictionary) → has self.old o d → has self.new o d)) }
         ensures keeps { (set : List Resolved) (ms : List Content) (d : Dictionary)
@@ -155,9 +164,11 @@ pub trait Receiver: Drop {
             (drop at bytes.now) (drop n bytes.now)
             × ((e : ℤ) (o : Received) → o.next ≡ at_mantissa e part.now
             → has self.old o (E.contents entries.old)
-            → has self.new (passed o o.body.rest (single (Some (Decimal e m)))) (E.contents entries.new))) }
+            → has self.new (passed o o.body.rest (single (Some (Decimal e m)))) (E.contents
+            entries.new))) }
         ensures stops { IfErr result (λ f. f ≢ FieldFault.Memory
-            → (field_at part.now (entry_at (E.contents entries.old) part.now.key) bit (drop at bytes.now) ≡ Err f)
+            → (field_at part.now (entry_at (E.contents entries.old) part.now.key) bit (drop at
+            bytes.now) ≡ Err f)
             × (E.contents entries.new ≡ E.contents entries.old)
             × ((o : Received) (d : Dictionary) → has self.old o d → has self.new o d)) }
         ensures keeps { (set : List Resolved) (ms : List Content) (d : Dictionary)
@@ -181,13 +192,15 @@ pub trait Receiver: Drop {
         ensures goes { IfOk result (λ x.
             Took part.now bit (E.contents entries.old) (E.contents entries.new) (length_of x.0)
             (drop at bytes.now) (drop x.1 bytes.now)
-            × ((name : List ℕ) (number : ℕ) (presence : PresenceOf) (members is : Instructions) (o : Received)
+            × ((name : List ℕ) (number : ℕ) (presence : PresenceOf) (members is : Instructions) (o
+            : Received)
             → o.next ≡ at_instruction
             → o.body.rest ≡ then_instruction (sequence_of name number presence part.now members) is
             → has self.old o (E.contents entries.old)
             → has self.new (after_length o number members is x.0) (E.contents entries.new))) }
         ensures stops { IfErr result (λ f. f ≢ FieldFault.Memory
-            → (field_at part.now (entry_at (E.contents entries.old) part.now.key) bit (drop at bytes.now) ≡ Err f)
+            → (field_at part.now (entry_at (E.contents entries.old) part.now.key) bit (drop at
+            bytes.now) ≡ Err f)
             × (E.contents entries.new ≡ E.contents entries.old)
             × ((o : Received) (d : Dictionary) → has self.old o d → has self.new o d)) }
         ensures keeps { (set : List Resolved) (ms : List Content) (d : Dictionary)
@@ -196,10 +209,12 @@ pub trait Receiver: Drop {
 
     /// A group that is left out.
     fn left_out(&mut self) -> Result<(), AllocError>
-        ensures has { OnOk result ((name : List ℕ) (number : ℕ) (presence : PresenceOf) (members is : Instructions)
+        ensures has { OnOk result ((name : List ℕ) (number : ℕ) (presence : PresenceOf) (members is
+            : Instructions)
             (o : Received) (d : Dictionary) → o.next ≡ at_instruction
             → o.body.rest ≡ then_instruction (group_of name number presence members) is
-            → is_optional presence ≡ true → has self.old o d → has self.new (passed o is (single None)) d) }
+            → is_optional presence ≡ true → has self.old o d
+            → has self.new (passed o is (single None)) d) }
         ensures keeps { (set : List Resolved) (ms : List Content) (d : Dictionary)
             → keeps self.old set ms d → keeps self.new set ms d };
 
@@ -211,7 +226,8 @@ pub trait Receiver: Drop {
         own_map: bool,
         size: usize,
     ) -> Result<(), AllocError>
-        ensures has { OnOk result ((name : List ℕ) (number : ℕ) (presence : PresenceOf) (members is : Instructions)
+        ensures has { OnOk result ((name : List ℕ) (number : ℕ) (presence : PresenceOf) (members is
+            : Instructions)
             (bits : List Bool) (o : Received) (d : Dictionary) → o.next ≡ at_instruction
             → o.body.rest ≡ then_instruction (group_of name number presence members) is
             → optional ≡ is_optional presence → own_map ≡ has_map members
@@ -223,7 +239,8 @@ pub trait Receiver: Drop {
     fn leave(&mut self, alloc: Global) -> Result<(), AllocError>
         ensures has { OnOk result ((o : Received) (d : Dictionary) (ws : List Waiting) (w : Waiting)
             → o.next ≡ at_instruction → o.body.rest ≡ no_instructions → o.around ≡ ws ++ w ∷ []
-            → w.inside ≡ in_group → has self.old o d → has self.new (ended_in o ws w.body in_group) d) }
+            → w.inside ≡ in_group → has self.old o d
+            → has self.new (ended_in o ws w.body in_group) d) }
         ensures keeps { (set : List Resolved) (ms : List Content) (d : Dictionary)
             → keeps self.old set ms d → keeps self.new set ms d };
 
@@ -237,7 +254,8 @@ pub trait Receiver: Drop {
 
     /// The end of an element.
     fn leave_element(&mut self, alloc: Global) -> Result<(), AllocError>
-        ensures has { OnOk result ((o : Received) (d : Dictionary) (ws : List Waiting) (w : Waiting) (s : Sequel)
+        ensures has { OnOk result ((o : Received) (d : Dictionary) (ws : List Waiting) (w :
+            Waiting) (s : Sequel)
             → o.next ≡ at_instruction → o.body.rest ≡ no_instructions → o.around ≡ ws ++ w ∷ []
             → w.inside ≡ in_sequence s → has self.old o d
             → has self.new (ended_in o ws w.body (in_sequence s)) d) }
@@ -247,7 +265,8 @@ pub trait Receiver: Drop {
     /// The end of a sequence, behind its last element.
     fn end_sequence(&mut self, alloc: Global) -> Result<(), AllocError>
         ensures has { OnOk result ((o : Received) (d : Dictionary) (s : Sequel)
-            → o.next ≡ at_element s → s.left ≡ 0 → has self.old o d → has self.new (after_sequence o s) d) }
+            → o.next ≡ at_element s → s.left ≡ 0 → has self.old o d
+            → has self.new (after_sequence o s) d) }
         ensures keeps { (set : List Resolved) (ms : List Content) (d : Dictionary)
             → keeps self.old set ms d → keeps self.new set ms d };
 }

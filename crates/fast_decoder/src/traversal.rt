@@ -119,7 +119,8 @@ impl<'a> Traversal<'a> {
         ensures place { IfOk result (λ n. (at < n) × (n ≤ length bytes.now)) }
         ensures goes { IfOk result (λ n. (d : Dictionary) (more : List ℕ)
             → message_at (templates_in self.old.set.now) d (drop at bytes.now ++ more)
-            ≡ identifier_on (templates_in self.old.set.now) d self.new.walk.bits (drop n bytes.now ++ more)) }
+            ≡ identifier_on (templates_in self.old.set.now) d self.new.walk.bits (drop n bytes.now
+            ++ more)) }
         ensures stops { IfErr result (λ h. h.cause ≢ Cause.Memory → (d : Dictionary)
             → message_at (templates_in self.old.set.now) d (drop at bytes.now)
             ≡ Err (stop_of 0 h (drop at bytes.now))) }
@@ -156,18 +157,22 @@ impl<'a> Traversal<'a> {
         ensures goes { IfOk result (λ n. (before : List Content)
             → R.stands receiver.old (templates_in self.old.set.now) before (E.contents entries.old)
             → (later : List ℕ → Reading)
-            × IsOpen R.has R.keeps self.new receiver.new (templates_in self.old.set.now) (E.contents entries.new)
+            × IsOpen R.has R.keeps self.new receiver.new (templates_in self.old.set.now)
+            (E.contents entries.new)
             before (E.contents entries.old) later
-            × ((more : List ℕ) → identifier_on (templates_in self.old.set.now) (E.contents entries.old)
+            × ((more : List ℕ) → identifier_on (templates_in self.old.set.now) (E.contents
+            entries.old)
             self.old.walk.bits (drop at bytes.now ++ more) ≡ later (drop n bytes.now ++ more))) }
         ensures stops { IfErr result (λ h. h.cause ≢ Cause.Memory
-            → identifier_on (templates_in self.old.set.now) (E.contents entries.old) self.old.walk.bits
+            → identifier_on (templates_in self.old.set.now) (E.contents entries.old)
+            self.old.walk.bits
             (drop at bytes.now) ≡ Err (stop_of 0 h (drop at bytes.now))) }
         ensures stage { OnOk result (self.new.stage ≡ Stage.Body) }
         ensures ready { OnOk result (CanGoOn (E.serves entries.old) self.new) }
         ensures waits { IfErr result (λ h. h.cause ≡ Cause.Truncated → (self.new ≡ self.old)
             × (E.contents entries.new ≡ E.contents entries.old)
-            × ((set : List Resolved) (ms : List Content) (d : Dictionary) → R.stands receiver.old set ms d
+            × ((set : List Resolved) (ms : List Content) (d : Dictionary)
+            → R.stands receiver.old set ms d
             → R.stands receiver.new set ms d)) }
         ensures template { OnErr result (self.new.template ≡ 0) }
         ensures keeps { (set : List Resolved) (ms : List Content) (d : Dictionary)
@@ -206,26 +211,36 @@ impl<'a> Traversal<'a> {
         requires stage { self.now.stage ≡ Stage.Body }
         requires ready { CanGoOn (E.serves entries.now) self.now }
         ensures place { IfOk result (λ n. (at ≤ n) × (n ≤ length bytes.now)) }
-        ensures goes { IfOk result (λ n. (set : List Resolved) (before : List Content) (start : Dictionary)
+        ensures goes { IfOk result (λ n. (set : List Resolved) (before : List Content) (start :
+            Dictionary)
             (read : List ℕ → Reading)
-            → IsOpen R.has R.keeps self.old receiver.old set (E.contents entries.old) before start read
+            → IsOpen R.has R.keeps self.old receiver.old set (E.contents entries.old) before start
+            read
             → (m : Content)
             × ((more : List ℕ) → read (drop at bytes.now ++ more)
             ≡ Ok (m, E.contents entries.new, drop n bytes.now ++ more))
-            × (nodes_in m.items ≤ node_limit → R.stands receiver.new set (before ++ m ∷ []) (E.contents entries.new))) }
+            × (nodes_in m.items ≤ node_limit → R.stands receiver.new set (before
+            ++ m ∷ []) (E.contents entries.new))) }
         ensures between { OnOk result (self.new.stage ≡ Stage.Map) }
         ensures held_place { IfErr result (λ x. (at ≤ x.0) × (x.0 ≤ length bytes.now)) }
-        ensures stops { IfErr result (λ x. (x.1).cause ≢ Cause.Memory → (set : List Resolved) (before : List Content)
+        ensures stops { IfErr result (λ x. (x.1).cause ≢ Cause.Memory
+            → (set : List Resolved) (before : List Content)
             (start : Dictionary) (read : List ℕ → Reading)
-            → IsOpen R.has R.keeps self.old receiver.old set (E.contents entries.old) before start read
+            → IsOpen R.has R.keeps self.old receiver.old set (E.contents entries.old) before start
+            read
             → read (drop at bytes.now) ≡ Err (stop_of self.new.template x.1 (drop x.0 bytes.now))) }
-        ensures held { IfErr result (λ x. (x.1).cause ≢ Cause.Memory → (set : List Resolved) (before : List Content)
+        ensures held { IfErr result (λ x. (x.1).cause ≢ Cause.Memory
+            → (set : List Resolved) (before : List Content)
             (start : Dictionary) (read : List ℕ → Reading)
-            → IsOpen R.has R.keeps self.old receiver.old set (E.contents entries.old) before start read
+            → IsOpen R.has R.keeps self.old receiver.old set (E.contents entries.old) before start
+            read
             → (later : List ℕ → Reading)
-            × IsOpen R.has R.keeps self.new receiver.new set (E.contents entries.new) before start later
-            × ((more : List ℕ) → read (drop at bytes.now ++ more) ≡ later (drop x.0 bytes.now ++ more))) }
-        ensures ready { IfErr result (λ x. (x.1).cause ≢ Cause.Memory → CanGoOn (E.serves entries.new) self.new) }
+            × IsOpen R.has R.keeps self.new receiver.new set (E.contents entries.new) before start
+            later
+            × ((more : List ℕ) → read (drop at bytes.now ++ more) ≡ later (drop x.0 bytes.now
+            ++ more))) }
+        ensures ready { IfErr result (λ x. (x.1).cause ≢ Cause.Memory
+            → CanGoOn (E.serves entries.new) self.new) }
         ensures stage { OnErr result (self.new.stage ≡ Stage.Body) }
         ensures keeps { OnErr result ((set : List Resolved) (ms : List Content) (d : Dictionary)
             → R.keeps receiver.old set ms d → R.keeps receiver.new set ms d) }
@@ -263,7 +278,8 @@ impl<'a> Traversal<'a> {
         requires ready { CanGoOn (E.serves entries.now) self.now }
         requires served { ServesAll (E.serves entries.now) self.now.set.now }
         ensures place { IfOk result (λ n. (at ≤ n) × (n ≤ length bytes.now)) }
-        ensures goes { IfOk result (λ n. (before : List Content) (start : Dictionary) (read : List ℕ → Reading)
+        ensures goes { IfOk result (λ n. (before : List Content) (start : Dictionary) (read : List
+            ℕ → Reading)
             → Continues R.has R.stands R.keeps self.old receiver.old (templates_in self.old.set.now)
             (E.contents entries.old) before start read
             → (m : Content)
@@ -273,28 +289,34 @@ impl<'a> Traversal<'a> {
             (before ++ m ∷ []) (E.contents entries.new))) }
         ensures between { OnOk result (self.new.stage ≡ Stage.Map) }
         ensures held_place { IfErr result (λ x. (at ≤ x.0) × (x.0 ≤ length bytes.now)) }
-        ensures stops { IfErr result (λ x. (x.1).cause ≢ Cause.Memory → (before : List Content) (start : Dictionary)
+        ensures stops { IfErr result (λ x. (x.1).cause ≢ Cause.Memory
+            → (before : List Content) (start : Dictionary)
             (read : List ℕ → Reading)
             → Continues R.has R.stands R.keeps self.old receiver.old (templates_in self.old.set.now)
             (E.contents entries.old) before start read
             → read (drop at bytes.now) ≡ Err (stop_of self.new.template x.1 (drop x.0 bytes.now))) }
-        ensures held { IfErr result (λ x. (x.1).cause ≡ Cause.Truncated → (before : List Content) (start : Dictionary)
+        ensures held { IfErr result (λ x. (x.1).cause ≡ Cause.Truncated
+            → (before : List Content) (start : Dictionary)
             (read : List ℕ → Reading)
             → Continues R.has R.stands R.keeps self.old receiver.old (templates_in self.old.set.now)
             (E.contents entries.old) before start read
             → (later : List ℕ → Reading)
             × Continues R.has R.stands R.keeps self.new receiver.new (templates_in self.old.set.now)
             (E.contents entries.new) before start later
-            × ((more : List ℕ) → read (drop at bytes.now ++ more) ≡ later (drop x.0 bytes.now ++ more))) }
-        ensures ready { IfErr result (λ x. (x.1).cause ≡ Cause.Truncated → CanGoOn (E.serves entries.new) self.new) }
-        ensures keeps { OnErr result ((before : List Content) (start : Dictionary) (read : List ℕ → Reading)
+            × ((more : List ℕ) → read (drop at bytes.now ++ more) ≡ later (drop x.0 bytes.now
+            ++ more))) }
+        ensures ready { IfErr result (λ x. (x.1).cause ≡ Cause.Truncated
+            → CanGoOn (E.serves entries.new) self.new) }
+        ensures keeps { OnErr result ((before : List Content) (start : Dictionary) (read : List ℕ
+            → Reading)
             → Continues R.has R.stands R.keeps self.old receiver.old (templates_in self.old.set.now)
             (E.contents entries.old) before start read
             → R.keeps receiver.new (templates_in self.old.set.now) before start
             ⊎ R.stands receiver.new (templates_in self.old.set.now) before start) }
         ensures set { self.new.set ≡ self.old.set }
         ensures same_keys { E.serves entries.new ≡ E.serves entries.old }
-        ensures begun { IfErr result (λ x. (x.1).cause ≡ Cause.Truncated → self.new.stage ≢ Stage.Map) }
+        ensures begun { IfErr result (λ x. (x.1).cause ≡ Cause.Truncated
+            → self.new.stage ≢ Stage.Map) }
     {
         match self.identifier(receiver, entries, bytes, at) {
             Err(halt) => Err((at, halt)),
@@ -323,7 +345,8 @@ impl<'a> Traversal<'a> {
         requires ready { CanGoOn (E.serves entries.now) self.now }
         requires served { ServesAll (E.serves entries.now) self.now.set.now }
         ensures place { IfOk result (λ n. (at ≤ n) × (n ≤ length bytes.now)) }
-        ensures goes { IfOk result (λ n. (before : List Content) (start : Dictionary) (read : List ℕ → Reading)
+        ensures goes { IfOk result (λ n. (before : List Content) (start : Dictionary) (read : List
+            ℕ → Reading)
             → Continues R.has R.stands R.keeps self.old receiver.old (templates_in self.old.set.now)
             (E.contents entries.old) before start read
             → (m : Content)
@@ -333,21 +356,26 @@ impl<'a> Traversal<'a> {
             (before ++ m ∷ []) (E.contents entries.new))) }
         ensures between { OnOk result (self.new.stage ≡ Stage.Map) }
         ensures held_place { IfErr result (λ x. (at ≤ x.0) × (x.0 ≤ length bytes.now)) }
-        ensures stops { IfErr result (λ x. (x.1).cause ≢ Cause.Memory → (before : List Content) (start : Dictionary)
+        ensures stops { IfErr result (λ x. (x.1).cause ≢ Cause.Memory
+            → (before : List Content) (start : Dictionary)
             (read : List ℕ → Reading)
             → Continues R.has R.stands R.keeps self.old receiver.old (templates_in self.old.set.now)
             (E.contents entries.old) before start read
             → read (drop at bytes.now) ≡ Err (stop_of self.new.template x.1 (drop x.0 bytes.now))) }
-        ensures held { IfErr result (λ x. (x.1).cause ≡ Cause.Truncated → (before : List Content) (start : Dictionary)
+        ensures held { IfErr result (λ x. (x.1).cause ≡ Cause.Truncated
+            → (before : List Content) (start : Dictionary)
             (read : List ℕ → Reading)
             → Continues R.has R.stands R.keeps self.old receiver.old (templates_in self.old.set.now)
             (E.contents entries.old) before start read
             → (later : List ℕ → Reading)
             × Continues R.has R.stands R.keeps self.new receiver.new (templates_in self.old.set.now)
             (E.contents entries.new) before start later
-            × ((more : List ℕ) → read (drop at bytes.now ++ more) ≡ later (drop x.0 bytes.now ++ more))) }
-        ensures ready { IfErr result (λ x. (x.1).cause ≡ Cause.Truncated → CanGoOn (E.serves entries.new) self.new) }
-        ensures keeps { OnErr result ((before : List Content) (start : Dictionary) (read : List ℕ → Reading)
+            × ((more : List ℕ) → read (drop at bytes.now ++ more) ≡ later (drop x.0 bytes.now
+            ++ more))) }
+        ensures ready { IfErr result (λ x. (x.1).cause ≡ Cause.Truncated
+            → CanGoOn (E.serves entries.new) self.new) }
+        ensures keeps { OnErr result ((before : List Content) (start : Dictionary) (read : List ℕ
+            → Reading)
             → Continues R.has R.stands R.keeps self.old receiver.old (templates_in self.old.set.now)
             (E.contents entries.old) before start read
             → R.keeps receiver.new (templates_in self.old.set.now) before start
@@ -356,9 +384,11 @@ impl<'a> Traversal<'a> {
         ensures same_keys { E.serves entries.new ≡ E.serves entries.old }
         // a message has a byte
         ensures took { IfOk result (λ n. self.old.stage ≡ Stage.Map → at < n) }
-        ensures held_between { IfErr result (λ x. (x.1).cause ≡ Cause.Truncated → self.new.stage ≡ Stage.Map
+        ensures held_between { IfErr result (λ x. (x.1).cause ≡ Cause.Truncated → self.new.stage
+            ≡ Stage.Map
             → (self.old.stage ≡ Stage.Map) × (x.0 ≡ at)) }
-        ensures begun { IfErr result (λ x. (x.1).cause ≡ Cause.Truncated → self.old.stage ≡ Stage.Map
+        ensures begun { IfErr result (λ x. (x.1).cause ≡ Cause.Truncated → self.old.stage
+            ≡ Stage.Map
             → self.new.stage ≢ Stage.Map → at < x.0) }
     {
         match self.stage {

@@ -123,9 +123,11 @@ impl<'a> Walk<'a> {
     fn count(&self, number: u32) -> Result<(), Halt>
         ensures ok { OnOk result (0 < self.now.spare) }
         ensures goes { OnOk result ((d : Dictionary) (bits : List Bool) (bytes : List ℕ)
-            → node_at number (cursor d bits self.now.spare bytes) ≡ Ok (cursor d bits (self.now.spare - 1) bytes)) }
+            → node_at number (cursor d bits self.now.spare bytes)
+            ≡ Ok (cursor d bits (self.now.spare - 1) bytes)) }
         ensures stops { IfErr result (λ h. (d : Dictionary) (bits : List Bool) (bytes : List ℕ)
-            → node_at number (cursor d bits self.now.spare bytes) ≡ stopped h.number bytes h.cause) }
+            → node_at number (cursor d bits self.now.spare bytes)
+            ≡ stopped h.number bytes h.cause) }
     {
         if self.spare == 0 {
             return Err(Halt {
@@ -170,7 +172,8 @@ impl<'a> Walk<'a> {
               body = record { rest = list_of others.now; done = [] };
               inside = inside_of inside.entry;
             } ∷ []) }
-        ensures depth { OnOk result (length self.new.around.items ≡ length self.old.around.items + 1) }
+        ensures depth { OnOk result (length self.new.around.items
+            ≡ length self.old.around.items + 1) }
     {
         let outer = mem::replace(&mut self.bits, bits);
         self.around.push(Frame {
@@ -247,7 +250,8 @@ impl<'a> Walk<'a> {
         requires place { at ≤ length bytes.now }
         requires next { self.now.next ≡ Next.Instruction }
         requires first { (name : List ℕ) × (presence : PresenceOf) × (list_of self.now.rest.now
-            ≡ then_instruction (field_in_parts name number presence exponent.now mantissa.now) (list_of others.now)) }
+            ≡ then_instruction (field_in_parts name number presence exponent.now mantissa.now)
+            (list_of others.now)) }
         requires ready { IsReady (E.serves entries.now) self.now }
         ensures place { IfOk result (λ n. (at ≤ n) × (n ≤ length bytes.now)) }
         ensures goes { IfOk result (λ n. Moves R.has self.old receiver.old (E.contents entries.old)
@@ -339,7 +343,8 @@ impl<'a> Walk<'a> {
         requires place { at ≤ length bytes.now }
         requires next { self.now.next ≡ Next.Instruction }
         requires first { (name : List ℕ) × (presence : PresenceOf) × (list_of self.now.rest.now
-            ≡ then_instruction (sequence_of name number presence part.now (list_of members.now)) (list_of others.now)) }
+            ≡ then_instruction (sequence_of name number presence part.now (list_of members.now))
+            (list_of others.now)) }
         requires ready { IsReady (E.serves entries.now) self.now }
         ensures place { IfOk result (λ n. (at ≤ n) × (n ≤ length bytes.now)) }
         ensures goes { IfOk result (λ n. Moves R.has self.old receiver.old (E.contents entries.old)
@@ -399,7 +404,8 @@ impl<'a> Walk<'a> {
         requires place { at ≤ length bytes.now }
         requires next { self.now.next ≡ Next.Instruction }
         requires first { (name : List ℕ) × (list_of self.now.rest.now
-            ≡ then_instruction (group_of name number presence (list_of members.now)) (list_of others.now)) }
+            ≡ then_instruction (group_of name number presence (list_of members.now)) (list_of
+            others.now)) }
         ensures place { IfOk result (λ n. (at ≤ n) × (n ≤ length bytes.now)) }
         ensures goes { IfOk result (λ n. (d : Dictionary) → Moves R.has self.old receiver.old d
             self.new receiver.new d (drop at bytes.now) (drop n bytes.now)) }
@@ -494,7 +500,8 @@ impl<'a> Walk<'a> {
               body = record { rest = list_of self.old.rest.now; done = [] };
               inside = in_sequence (fewer (sequel_of sequel.entry));
             } ∷ []) }
-        ensures depth { OnOk result (length self.new.around.items ≡ length self.old.around.items + 1) }
+        ensures depth { OnOk result (length self.new.around.items
+            ≡ length self.old.around.items + 1) }
     {
         let others = Sequel {
             number: sequel.number,
@@ -509,7 +516,8 @@ impl<'a> Walk<'a> {
     fn end<R: Receiver>(&mut self, alloc: Global, receiver: &mut R) -> Result<(), AllocError>
         requires next { self.now.next ≡ Next.Instruction }
         requires rest { self.now.rest.now ≡ [] }
-        ensures goes { OnOk result ((d : Dictionary) (bytes : List ℕ) → Moves R.has self.old receiver.old d
+        ensures goes { OnOk result ((d : Dictionary) (bytes : List ℕ)
+            → Moves R.has self.old receiver.old d
             self.new receiver.new d bytes bytes) }
         ensures ready { OnOk result ((serves : key_type.Key → Bool) → IsReady serves self.old
             → IsReady serves self.new) }
@@ -545,7 +553,8 @@ impl<'a> Walk<'a> {
         ensures spare { self.new.spare ≡ self.old.spare }
         ensures rest { self.new.rest ≡ self.old.rest }
         ensures around { self.new.around ≡ self.old.around }
-        ensures served { OnOk result ((serves : key_type.Key → Bool) → IsInsideServed serves (inside_of inside.entry)
+        ensures served { OnOk result ((serves : key_type.Key → Bool)
+            → IsInsideServed serves (inside_of inside.entry)
             → IsNextServed serves (next_of self.new.next)) }
         ensures keeps { (set : List Resolved) (ms : List Content) (d : Dictionary)
             → R.keeps receiver.old set ms d → R.keeps receiver.new set ms d }
@@ -566,7 +575,8 @@ impl<'a> Walk<'a> {
 
     // Whether the message's own body has ended.
     fn is_whole(&self) -> bool
-        ensures yes { result ≡ true → (self.now.next ≡ Next.Instruction) × (self.now.around.items ≡ [])
+        ensures yes { result ≡ true → (self.now.next ≡ Next.Instruction) × (self.now.around.items
+            ≡ [])
             × (self.now.rest.now ≡ []) }
         ensures no { result ≡ false → IsInside self.now }
     {
@@ -664,7 +674,8 @@ impl<'a> Walk<'a> {
         ensures place { IfOk result (λ n. (at ≤ n) × (n ≤ length bytes.now)) }
         ensures goes { IfOk result (λ n. Moves R.has self.old receiver.old (E.contents entries.old)
             self.new receiver.new (E.contents entries.new) (drop at bytes.now) (drop n bytes.now)) }
-        ensures whole { OnOk result ((self.new.next ≡ Next.Instruction) × (self.new.around.items ≡ [])
+        ensures whole { OnOk result ((self.new.next ≡ Next.Instruction) × (self.new.around.items
+            ≡ [])
             × (self.new.rest.now ≡ [])) }
         ensures held_place { IfErr result (λ x. (at ≤ x.0) × (x.0 ≤ length bytes.now)) }
         ensures held { IfErr result (λ x. (x.1).cause ≢ Cause.Memory
