@@ -8,5 +8,14 @@ pub mod BodyReaders
 pub mod MessageReaders
 pub mod StreamReaders
 pub mod Leaves
+pub mod Steps
+pub mod Walking
+pub mod Views
+pub mod Putting
+pub mod Serving
+pub mod Heads
+pub mod Opening
+pub mod Standings
+pub mod Followings
 mod SameNodes
 mod EqualNodes

@@ -24,7 +24,7 @@ entity_some [] h = absurd h
 entity_some (x ∷ xs) h = omega arith
 
 -- a message has a byte
-message_some : (set : List Resolved) (d : Dictionary) (b : List ℕ) (m : Content) (after : Dictionary) → MessageForm set d b m after → 0 < length b
+pub message_some : (set : List Resolved) (d : Dictionary) (b : List ℕ) (m : Content) (after : Dictionary) → MessageForm set d b m after → 0 < length b
 message_some set d b m after h =
     let g = h.segment in
     let map = entity_some g.map g.map_form.entity in

@@ -5,3 +5,10 @@ pub mod Streams
 pub mod Faults
 pub mod Reading
 pub mod Readers
+pub mod OpenSegments
+pub mod Received
+pub mod Walks
+pub mod Built
+pub mod Traversals
+pub mod Standing
+pub mod Following

@@ -6,13 +6,30 @@
 //! `Readers` says what ties the two, and the module [`laws`] that it holds of bodies, messages and streams.
 #![tactic(auto)]
 
+mod bits;
+mod builder;
+mod decoder;
 mod fault;
+mod halt;
 pub mod laws;
 mod message;
+mod messages;
+mod part;
 mod place;
+mod receiver;
 #[cfg(test)]
 mod tests;
+mod traversal;
+mod walk;
 
+pub use bits::{first_for, take_for};
+pub use builder::{Builder, Level};
+pub use decoder::Decoder;
 pub use fault::{Cause, Fault};
+pub use halt::{Halt, field_cause, map_cause};
 pub use message::{Message, Node};
+pub use part::{exponent_in, mantissa_in, take_part, unsigned_in};
 pub use place::Place;
+pub use receiver::Receiver;
+pub use traversal::{Stage, Traversal};
+pub use walk::{Frame, Inside, Next, Sequel, Walk};

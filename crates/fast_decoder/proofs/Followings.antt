@@ -1,0 +1,171 @@
+-- How a decoder follows a stream.
+use Rattle.std.proofs.Common.{◌≡◌, ◌≢◌, ◌≤◌, ◌<◌, ℕ, ◌+◌, ◌-◌, ◌^◌, length, take, drop, length-drop, length-append, arith, List, [], ◌∷◌, ◌++◌, refl, sym, ap, ◌∙◌, append_assoc, append-nil, inl, inr}
+use Rattle.std.proofs.Math.Seq.{take-length}
+use Rattle.std.specs.List.{AllByRecursion}
+use Rattle.std.specs.FinMap as finite
+use Rattle.std.specs.Prelude.{None}
+use Rattle.fast_template.specs.Resolved.{Resolved}
+use Rattle.fast_template.specs.TemplateSets.{HaveTypedParts, templates_in}
+use Rattle.fast_dictionary.specs.Dictionary.{Dictionary}
+use Rattle.fast_wire.specs.Reader.{IsBytes}
+use Rattle.fast_decoder.specs.declared.builder.Builder.{Builder}
+use Rattle.fast_decoder.specs.declared.traversal.Stage.TheVariants as stage
+use Rattle.fast_decoder.specs.declared.traversal.Traversal.{Traversal}
+use Rattle.fast_decoder.specs.Nodes.{Content}
+use Rattle.fast_decoder.specs.Streams.{Carries, CarriesFrom}
+use Rattle.fast_decoder.specs.Faults.{FirstFault, MessageStop, place_of}
+use Rattle.fast_decoder.specs.declared.fault.Cause.TheVariants.{Truncated, Memory}
+use Rattle.fast_decoder.specs.declared.fault.Fault.{Fault}
+use Rattle.fast_decoder.specs.declared.halt.Halt.{Halt}
+use Rattle.fast_decoder.specs.declared.place.Place.{Place}
+use Rattle.fast_decoder.specs.Standing.{Carried, Stands, StopsBehind}
+use Rattle.fast_decoder.specs.Following.{Counts, FollowsAt, Refused}
+use Rattle.fast_decoder.specs.Traversals.{stop_of}
+use Rattle.fast_decoder.proofs.MessageReaders.{message_stops}
+use Rattle.fast_decoder.proofs.StreamReaders.{message_some}
+
+pub first_fault : (set : List Resolved) → AllByRecursion (λ t. HaveTypedParts t.members) set → (bytes : List ℕ) (messages : List Content) (stop : MessageStop) → StopsBehind set bytes messages stop
+    → FirstFault set bytes (place_of (length bytes) (length messages) stop) stop.stop.cause
+first_fault set typed bytes messages stop s = record {
+  messages = messages;
+  dictionary = s.start;
+  front = s.front;
+  rest = s.rest;
+  stop = stop;
+  parts = s.parts;
+  carried = s.carried;
+  some = s.ends.0;
+  stops = message_stops set typed s.start s.rest stop s.ends.1 s.ends.2;
+  cause_is = refl;
+  place_is = refl;
+}
+
+-- no more messages than bytes
+carried_few : (set : List Resolved) (ms : List Content) (d : Dictionary) (bytes : List ℕ) (after : Dictionary) → CarriesFrom set d bytes ms after → length ms ≤ length bytes
+carried_few set [] d bytes after h = omega arith
+carried_few set (m ∷ ms) d bytes after h =
+    let some = message_some set d h.front m h.between h.first in
+    let less = carried_few set ms h.between h.back after h.second in
+    let size = ap (λ (xs : List ℕ). length xs) h.parts ∙ length-append h.front h.back in
+    omega (arith, some, less, size)
+
+pub few_messages : (set : List Resolved) (bytes : List ℕ) (messages : List Content) → Carried set bytes messages → length messages ≤ length bytes
+few_messages set bytes messages c =
+    let less = carried_few set messages finite.empty c.front c.start c.carried in
+    let size = ap (λ (xs : List ℕ). length xs) c.parts ∙ length-append c.front c.rest in
+    omega (arith, less, size)
+
+pub slice_rest : (xs : List ℕ) (n : ℕ) → take (length xs - n) (drop n xs) ≡ drop n xs
+slice_rest xs n = ap (λ (k : ℕ). take k (drop n xs)) (sym (length-drop n xs)) ∙ take-length (drop n xs)
+
+-- a chunk more
+pub carried_fed : (set : List Resolved) (bytes chunk : List ℕ) (messages : List Content) → Carried set bytes messages → Carried set (bytes ++ chunk) messages
+carried_fed set bytes chunk messages c = record {
+  front = c.front;
+  rest = c.rest ++ chunk;
+  start = c.start;
+  parts = ap (λ (xs : List ℕ). xs ++ chunk) c.parts ∙ append_assoc c.front c.rest chunk;
+  carried = c.carried;
+  ends = tt;
+}
+
+bytes_append : (xs ys : List ℕ) → IsBytes xs → IsBytes ys → IsBytes (xs ++ ys)
+bytes_append [] ys h k = k
+bytes_append (x ∷ xs) ys h k = (h.0, bytes_append xs ys h.1 k)
+
+some_append : (xs ys : List ℕ) → 0 < length xs → 0 < length (xs ++ ys)
+some_append xs ys h = let size = length-append xs ys in omega (arith, size, h)
+
+pub stands_fed : (t : Traversal) (b : Builder) (d : Dictionary) (unread bytes chunk : List ℕ) (messages : List Content) → IsBytes chunk → Stands t b d unread bytes messages → Stands t b d (unread ++ chunk) (bytes ++ chunk) messages
+stands_fed t b d unread bytes chunk messages fits s = record {
+  front = s.front;
+  rest = s.rest ++ chunk;
+  start = s.start;
+  parts = ap (λ (xs : List ℕ). xs ++ chunk) s.parts ∙ append_assoc s.front s.rest chunk;
+  carried = s.carried;
+  ends = record {
+    read = s.ends.read;
+    goes = s.ends.goes;
+    fits = bytes_append s.rest chunk s.ends.fits fits;
+    reads = λ more. rw (append_assoc s.rest chunk more, append_assoc unread chunk more) (s.ends.reads (chunk ++ more));
+    between = λ k. ap (λ (xs : List ℕ). xs ++ chunk) (s.ends.between k);
+    some = λ k. some_append s.rest chunk (s.ends.some k);
+  };
+}
+
+-- ---- faults
+
+pub memory_refused : (f : Fault) (t : Traversal) (bytes : List ℕ) (messages : List Content) (fed count : ℕ) → Counts fed count bytes messages → length bytes < 2 ^ 61 → Carried (templates_in t.set.now) bytes messages
+    → f.cause ≡ Memory → (count < 2 ^ 61 → f.place.message ≡ count + 1) → f.place.offset ≡ 0 → f.place.template ≡ 0 → f.place.instruction ≡ 0 → Refused f t bytes messages
+memory_refused f t bytes messages fed count counts short carried is message offset template instruction =
+    let few = few_messages (templates_in t.set.now) bytes messages carried in
+    let same = counts.count_is in
+    (carried, message (omega (arith, few, same, short)) ∙ ap (λ (n : ℕ). n + 1) same, λ other. absurd (other is), λ _. (offset, template, instruction))
+
+abbrev place_by : ℕ → ℕ → ℕ → ℕ → Place
+place_by m o t i = record { message = m; offset = o; template = t; instruction = i }
+
+place_same : (m n o p i j k l : ℕ) → m ≡ n → o ≡ p → i ≡ j → k ≡ l → place_by m o i k ≡ place_by n p j l
+place_same m n o p i j k l a b c d = rw (a, b, c, d) refl
+
+pub fault_refused : (f : Fault) (t : Traversal) (h : Halt) (rest bytes : List ℕ) (messages : List Content) (fed count : ℕ) → AllByRecursion (λ t. HaveTypedParts t.members) (templates_in t.set.now)
+    → Counts fed count bytes messages → length bytes < 2 ^ 61 → Carried (templates_in t.set.now) bytes messages → StopsBehind (templates_in t.set.now) bytes messages (stop_of t.template h rest)
+    → f.cause ≡ h.cause → h.cause ≢ Memory → (count < 2 ^ 61 → f.place.message ≡ count + 1) → f.place.offset ≡ fed - length rest → f.place.template ≡ t.template → f.place.instruction ≡ h.number
+    → Refused f t bytes messages
+fault_refused f t h rest bytes messages fed count typed counts short carried stops is other message offset template instruction =
+    let few = few_messages (templates_in t.set.now) bytes messages carried in
+    let same = counts.count_is in
+    let numbered = message (omega (arith, few, same, short)) ∙ ap (λ (n : ℕ). n + 1) same in
+    let first = first_fault (templates_in t.set.now) typed bytes messages (stop_of t.template h rest) stops in (
+      carried,
+      numbered,
+      (λ known. record {
+        messages = first.messages;
+        dictionary = first.dictionary;
+        front = first.front;
+        rest = first.rest;
+        stop = first.stop;
+        parts = first.parts;
+        carried = first.carried;
+        some = first.some;
+        stops = first.stops;
+        cause_is = is ∙ first.cause_is;
+        place_is = place_same f.place.message (length messages + 1) f.place.offset (length bytes - length rest) f.place.template t.template f.place.instruction h.number
+            numbered (offset ∙ ap (λ (n : ℕ). n - length rest) counts.fed_is) template instruction
+            ∙ first.place_is;
+      }),
+      λ memory. absurd (other (sym is ∙ memory)),
+    )
+
+-- ---- counts
+
+pub counts_fed : (fed count : ℕ) (bytes chunk : List ℕ) (messages : List Content) → Counts fed count bytes messages → Counts (fed + length chunk) count (bytes ++ chunk) messages
+counts_fed fed count bytes chunk messages c = record { fed_is = ap (λ (n : ℕ). n + length chunk) c.fed_is ∙ sym (length-append bytes chunk); count_is = c.count_is }
+
+pub counts_pushed : (fed count more after : ℕ) (bytes : List ℕ) (messages pushed : List Content) → Counts fed count bytes messages → length pushed ≡ more → (count + more < 2 ^ 62 → after ≡ count + more)
+    → length (messages ++ pushed) ≤ length bytes → length bytes ≤ 2 ^ 60 → Counts fed after bytes (messages ++ pushed)
+counts_pushed fed count more after bytes messages pushed c is exact few short =
+    let sizes = length-append messages pushed in
+    let same = c.count_is in
+    record { fed_is = c.fed_is; count_is = exact (omega (arith, sizes, same, is, few, short)) ∙ omega (arith, sizes, same, is) }
+
+pub none_of : (xs : List ℕ) → length xs ≡ 0 → xs ≡ []
+none_of [] h = refl
+none_of (x ∷ xs) h = absurd (omega (arith, h))
+
+-- what stands between two messages carries them
+pub carries_all : (t : Traversal) (b : Builder) (d : Dictionary) (bytes : List ℕ) (messages : List Content) → t.stage ≡ stage.Map → Stands t b d [] bytes messages → Carries (templates_in t.set.now) bytes messages
+carries_all t b d bytes messages at s =
+    let whole : bytes ≡ s.front = s.parts ∙ ap (λ (xs : List ℕ). s.front ++ xs) (s.ends.between at) ∙ append-nil s.front in
+    (s.start, rw whole s.carried)
+
+-- the bytes end inside a message
+pub ends_inside : (f : Fault) (t : Traversal) (b : Builder) (d : Dictionary) (held : List ℕ) (waiting : ℕ) (bytes : List ℕ) (messages : List Content) (fed count : ℕ) → AllByRecursion (λ t. HaveTypedParts t.members) (templates_in t.set.now)
+    → Counts fed count bytes messages → fed ≤ 2 ^ 60 → FollowsAt None t b d held waiting bytes messages → ((t.stage ≡ stage.Map) × (held ≡ []) → ⊥)
+    → f.cause ≡ Truncated → (count < 2 ^ 61 → f.place.message ≡ count + 1) → f.place.offset ≡ fed - length held → f.place.template ≡ t.template → f.place.instruction ≡ waiting
+    → Refused f t bytes messages
+ends_inside f t b d held waiting bytes messages fed count typed counts short (stands, inl at) inside is message offset template instruction = absurd (inside at)
+ends_inside f t b d held waiting bytes messages fed count typed counts short (stands, inr stops) inside is message offset template instruction =
+    let same = counts.fed_is in
+    fault_refused f t (record { cause = Truncated; number = waiting }) held bytes messages fed count typed counts (omega (arith, same, short))
+    (record { front = stands.front; rest = stands.rest; start = stands.start; parts = stands.parts; carried = stands.carried; ends = tt }) stops is (λ e. absurd cc) message offset template instruction

@@ -1,0 +1,39 @@
+-- How a decoder stands to the bytes fed since the reset and to the messages pushed since.
+use Rattle.std.specs.Prelude.{◌≡◌, ◌≢◌, ◌⊎◌, ℕ, ◌+◌, List, [], length, Option, Some, None, Result, Ok, Err}
+use Rattle.fast_template.specs.TemplateSets.{templates_in}
+use Rattle.fast_dictionary.specs.Dictionary.{Dictionary}
+use Rattle.fast_decoder.specs.declared.fault.Cause.TheVariants.{Truncated, Memory}
+use Rattle.fast_decoder.specs.declared.fault.Fault.{Fault}
+use Rattle.fast_decoder.specs.declared.builder.Builder.{Builder}
+use Rattle.fast_decoder.specs.declared.traversal.Stage.TheVariants as stage
+use Rattle.fast_decoder.specs.declared.traversal.Traversal.{Traversal}
+use Rattle.fast_decoder.specs.Nodes.{Content}
+use Rattle.fast_decoder.specs.Faults.{FirstFault}
+use Rattle.fast_decoder.specs.Standing.{Carried, Stands, StopsBehind}
+
+-- the numbers of bytes fed and of messages pushed
+pub record Counts (fed count : ℕ) (bytes : List ℕ) (messages : List Content) : Type 0 where
+  pub fed_is : fed ≡ length bytes
+  pub count_is : count ≡ length messages
+
+-- No message is open and no byte is held; or the bytes held are what there is of a piece that is not whole.
+abbrev pub Waits : Traversal → List ℕ → ℕ → List ℕ → List Content → Type 0
+Waits t held waiting bytes messages =
+    ((t.stage ≡ stage.Map) × (held ≡ []))
+    ⊎ StopsBehind (templates_in t.set.now) bytes messages (record { template = t.template; stop = record { cause = Truncated; instruction = waiting; left = length held } })
+
+-- A fault is the first of the bytes, behind the messages; or memory was refused behind these.
+abbrev pub Refused : Fault → Traversal → List ℕ → List Content → Type 0
+Refused f t bytes messages =
+    Carried (templates_in t.set.now) bytes messages × (f.place.message ≡ length messages + 1)
+    × (f.cause ≢ Memory → FirstFault (templates_in t.set.now) bytes f.place f.cause)
+    × (f.cause ≡ Memory → (f.place.offset ≡ 0) × (f.place.template ≡ 0) × (f.place.instruction ≡ 0))
+
+abbrev pub FollowsAt : Option Fault → Traversal → Builder → Dictionary → List ℕ → ℕ → List ℕ → List Content → Type 0
+FollowsAt None t b d held waiting bytes messages = Stands t b d held bytes messages × Waits t held waiting bytes messages
+FollowsAt (Some f) t b d held waiting bytes messages = Refused f t bytes messages × (held ≡ [])
+
+-- a call answers the fault that is kept after it, if there is one
+abbrev pub Answers : Result (Unit {0}) Fault → Option Fault → Type 0
+Answers (Ok x) fault = fault ≡ None
+Answers (Err f) fault = fault ≡ Some f
