@@ -12,7 +12,7 @@ use Rattle.std.proofs.lemmas.Map.Views.{Contains-from_any}
 use Rattle.fast_template.specs.Key.{key_cmp, key_cmp-total, key_cmp-exact}
 use Rattle.fast_template.specs.declared.key.Key.{Key}
 use Rattle.fast_template.specs.TemplateSets.{TemplateList, IsSound, keys_in}
-use Rattle.fast_template.proofs.Slots.{same_slot_same_key}
+use Rattle.fast_template.proofs.SlotLaws.{same_slot_same_key}
 use Rattle.fast_dictionary.specs.declared.entry.Entry.{Entry}
 use Rattle.fast_dictionary.specs.declared.entry.Entry.TheVariants.{Undefined}
 use Rattle.fast_dictionary.specs.Dictionary.{entry_at, entry_at-empty, entry_at-set_entry, set_entry, from_pairs, same_dictionary}

@@ -122,186 +122,140 @@ fn the_worked_templates_are_accepted(rt: HostRuntime) -> Result<(), AllocError> 
 }
 
 #[test]
-fn texts_are_loaded_as_their_templates(rt: HostRuntime) -> Result<(), AllocError> {
+fn instructions_are_loaded_as_written(rt: HostRuntime) -> Result<(), AllocError> {
     let alloc = rt.alloc();
-    let none = "{\"templates\":[]}";
-    assert_eq!(rt; fault_of(alloc, none), None);
-    assert_eq!(rt;
-        fault_of(alloc, "{\"templates\":["),
-        fault(LoadCause::S1, 0, 0)
-    );
-    let rows: [(&str, Option<LoadFault>); 12] = [
+    let rows = [
         (
-            "{\"kind\":\"string\",\"name\":\"F\",\"operator\":\"increment\"}",
-            fault(LoadCause::S2, 1, 1),
+            r#"{"kind":"string","name":"F","operator":"increment"}"#,
+            LoadCause::S2,
+            1,
         ),
         (
-            "{\"kind\":\"uInt32\",\"name\":\"F\",\"operator\":\"copy\",\"value\":\"x\"}",
-            fault(LoadCause::S3, 1, 1),
+            r#"{"kind":"uInt32","name":"F","operator":"copy","value":"x"}"#,
+            LoadCause::S3,
+            1,
         ),
         (
-            "{\"kind\":\"uInt32\",\"name\":\"F\",\"operator\":\"copy\",\"value\":\"4294967296\"}",
-            fault(LoadCause::S3, 1, 1),
+            r#"{"kind":"uInt32","name":"F","operator":"constant"}"#,
+            LoadCause::S4,
+            1,
         ),
         (
-            "{\"kind\":\"uInt32\",\"name\":\"F\",\"operator\":\"constant\"}",
-            fault(LoadCause::S4, 1, 1),
+            r#"{"kind":"uInt32","name":"F","operator":"default"}"#,
+            LoadCause::S5,
+            1,
         ),
         (
-            "{\"kind\":\"uInt32\",\"name\":\"F\",\"operator\":\"default\"}",
-            fault(LoadCause::S5, 1, 1),
+            r#"{"kind":"templateRef","name":"Nobody"}"#,
+            LoadCause::D8,
+            1,
         ),
-        (
-            "{\"kind\":\"uInt32\",\"name\":\"F\",\"presence\":\"optional\",\"operator\":\"default\"}",
-            None,
-        ),
-        (
-            "{\"kind\":\"templateRef\",\"name\":\"Nobody\"}",
-            fault(LoadCause::D8, 1, 1),
-        ),
-        (
-            "{\"kind\":\"templateRef\",\"name\":\"A\"}",
-            fault(LoadCause::Cycle, 1, 0),
-        ),
-        // an exponent's checks come before its mantissa's
-        (
-            "{\"kind\":\"decimal\",\"name\":\"F\",\"exponent\":{\"operator\":\"copy\",\"value\":\"64\"},\"mantissa\":{\"operator\":\"tail\"}}",
-            fault(LoadCause::S3, 1, 1),
-        ),
-        // a mantissa alone: the exponent is as if it were empty
-        (
-            "{\"kind\":\"decimal\",\"name\":\"F\",\"mantissa\":{\"operator\":\"copy\"}}",
-            None,
-        ),
+        (r#"{"kind":"templateRef","name":"A"}"#, LoadCause::Cycle, 0),
+        (r#"{"kind":"uInt32","name":""}"#, LoadCause::S1, 1),
         // a name is judged only once all shapes are
         (
-            "{\"kind\":\"uInt32\",\"name\":\"\"}",
-            fault(LoadCause::S1, 1, 1),
-        ),
-        (
-            "{\"kind\":\"uInt32\",\"name\":\"\"},{\"kind\":\"x\",\"name\":\"F\"}",
-            fault(LoadCause::S1, 1, 2),
+            r#"{"kind":"uInt32","name":""},{"kind":"x","name":"F"}"#,
+            LoadCause::S1,
+            2,
         ),
     ];
-    for (instructions, expected) in &rows {
-        assert_eq!(rt; fault_of_one(alloc, instructions)?, *expected);
+    for (instructions, cause, instruction) in &rows {
+        assert_eq!(rt;
+            fault_of_one(alloc, instructions)?,
+            fault(*cause, 1, *instruction)
+        );
     }
     Ok(())
 }
 
 #[test]
-fn malformed_texts_are_refused_at_their_places(rt: HostRuntime) -> Result<(), AllocError> {
+fn decimals_and_defaults_are_loaded(rt: HostRuntime) -> Result<(), AllocError> {
     let alloc = rt.alloc();
-    let texts: [(&str, u32, u32); 18] = [
-        ("[]", 0, 0),
-        ("{}", 0, 0),
-        ("{\"templates\":{}}", 0, 0),
-        ("{\"templates\":[],\"more\":1}", 0, 0),
-        ("{\"templates\":[],\"dictionary\":\"\"}", 0, 0),
-        ("{\"templates\":[],\"dictionary\":1}", 0, 0),
-        ("{\"templates\":[1]}", 1, 0),
-        ("{\"templates\":[{\"name\":\"A\"}]}", 1, 0),
-        ("{\"templates\":[{\"instructions\":[]}]}", 1, 0),
-        (
-            "{\"templates\":[{\"name\":\"A\",\"instructions\":[],\"id\":1.0}]}",
-            1,
-            0,
-        ),
-        (
-            "{\"templates\":[{\"name\":\"A\",\"instructions\":[],\"id\":-0}]}",
-            1,
-            0,
-        ),
-        (
-            "{\"templates\":[{\"name\":\"A\",\"instructions\":[],\"id\":4294967296}]}",
-            1,
-            0,
-        ),
-        (
-            "{\"templates\":[{\"name\":\"A\",\"instructions\":[],\"id\":\"1\"}]}",
-            1,
-            0,
-        ),
-        (
-            "{\"templates\":[{\"name\":\"A\",\"instructions\":[],\"id\":null}]}",
-            1,
-            0,
-        ),
-        (
-            "{\"templates\":[{\"name\":\"A\",\"instructions\":[],\"id\":01}]}",
-            0,
-            0,
-        ),
-        (
-            "{\"templates\":[{\"name\":\"A\",\"instructions\":[],\"typeref\":\"T\"}]}",
-            1,
-            0,
-        ),
-        // a bad name in the first template, and a bad shape in the second
-        (
-            "{\"templates\":[{\"name\":\"\",\"instructions\":[]},{\"name\":\"B\"}]}",
-            2,
-            0,
-        ),
-        (
-            "{\"templates\":[{\"name\":\"\",\"instructions\":[]},{\"name\":\"B\",\"instructions\":[]}]}",
-            1,
-            0,
-        ),
+    // an exponent's checks come before its mantissa's
+    let both = r#"{"kind":"decimal","name":"F",
+        "exponent":{"operator":"copy","value":"64"},"mantissa":{"operator":"tail"}}"#;
+    assert_eq!(rt; fault_of_one(alloc, both)?, fault(LoadCause::S3, 1, 1));
+    let accepted = [
+        // a mantissa alone: the exponent is as if it were empty
+        r#"{"kind":"decimal","name":"F","mantissa":{"operator":"copy"}}"#,
+        r#"{"kind":"uInt32","name":"F","presence":"optional","operator":"default"}"#,
     ];
-    for (text, template, instruction) in &texts {
-        assert_eq!(rt;
-            fault_of(alloc, text),
-            fault(LoadCause::S1, *template, *instruction)
-        );
+    for instructions in &accepted {
+        assert_eq!(rt; fault_of_one(alloc, instructions)?, None);
     }
-    let instructions: [(&str, u32); 14] = [
-        ("1", 1),
-        ("{\"name\":\"F\"}", 1),
-        ("{\"kind\":\"uint32\",\"name\":\"F\"}", 1),
-        ("{\"kind\":\"uInt32\"}", 1),
-        ("{\"kind\":\"uInt32\",\"name\":\"F\",\"value\":\"1\"}", 1),
-        ("{\"kind\":\"uInt32\",\"name\":\"F\",\"key\":\"K\"}", 1),
-        (
-            "{\"kind\":\"uInt32\",\"name\":\"F\",\"charset\":\"ascii\"}",
-            1,
-        ),
-        (
-            "{\"kind\":\"uInt32\",\"name\":\"F\",\"operator\":\"copy\",\"value\":1}",
-            1,
-        ),
-        (
-            "{\"kind\":\"uInt32\",\"name\":\"F\",\"presence\":\"maybe\"}",
-            1,
-        ),
-        (
-            "{\"kind\":\"decimal\",\"name\":\"F\",\"operator\":\"copy\",\"exponent\":{}}",
-            1,
-        ),
-        (
-            "{\"kind\":\"templateRef\",\"name\":\"A\",\"presence\":\"optional\"}",
-            1,
-        ),
+    let large = r#"{"kind":"uInt32","name":"F","operator":"copy","value":"4294967296"}"#;
+    assert_eq!(rt; fault_of_one(alloc, large)?, fault(LoadCause::S3, 1, 1));
+    assert_eq!(rt; fault_of(alloc, r#"{"templates":[]}"#), None);
+    Ok(())
+}
+
+#[test]
+fn texts_of_another_shape_are_refused(rt: HostRuntime) -> Result<(), AllocError> {
+    let alloc = rt.alloc();
+    let texts = [
+        r#"{"templates":["#,
+        "[]",
+        "{}",
+        r#"{"templates":{}}"#,
+        r#"{"templates":[],"more":1}"#,
+        r#"{"templates":[],"dictionary":""}"#,
+        r#"{"templates":[],"dictionary":1}"#,
+        r#"{"templates":[{"name":"A","instructions":[],"id":01}]}"#,
+    ];
+    for text in &texts {
+        assert_eq!(rt; fault_of(alloc, text), fault(LoadCause::S1, 0, 0));
+    }
+    Ok(())
+}
+
+#[test]
+fn templates_of_another_shape_are_refused(rt: HostRuntime) -> Result<(), AllocError> {
+    let alloc = rt.alloc();
+    let texts = [
+        r#"{"templates":[1]}"#,
+        r#"{"templates":[{"name":"A"}]}"#,
+        r#"{"templates":[{"instructions":[]}]}"#,
+        r#"{"templates":[{"name":"A","instructions":[],"id":1.0}]}"#,
+        r#"{"templates":[{"name":"A","instructions":[],"id":-0}]}"#,
+        r#"{"templates":[{"name":"A","instructions":[],"id":4294967296}]}"#,
+        r#"{"templates":[{"name":"A","instructions":[],"id":"1"}]}"#,
+        r#"{"templates":[{"name":"A","instructions":[],"id":null}]}"#,
+        r#"{"templates":[{"name":"A","instructions":[],"typeref":"T"}]}"#,
+        r#"{"templates":[{"name":"","instructions":[]},{"name":"B","instructions":[]}]}"#,
+    ];
+    for text in &texts {
+        assert_eq!(rt; fault_of(alloc, text), fault(LoadCause::S1, 1, 0));
+    }
+    // a bad name in the first template, and a bad shape in the second
+    let second = r#"{"templates":[{"name":"","instructions":[]},{"name":"B"}]}"#;
+    assert_eq!(rt; fault_of(alloc, second), fault(LoadCause::S1, 2, 0));
+    Ok(())
+}
+
+#[test]
+fn instructions_of_another_shape_are_refused(rt: HostRuntime) -> Result<(), AllocError> {
+    let alloc = rt.alloc();
+    let instructions = [
+        "1",
+        r#"{"name":"F"}"#,
+        r#"{"kind":"uint32","name":"F"}"#,
+        r#"{"kind":"uInt32"}"#,
+        r#"{"kind":"uInt32","name":"F","value":"1"}"#,
+        r#"{"kind":"uInt32","name":"F","key":"K"}"#,
+        r#"{"kind":"uInt32","name":"F","charset":"ascii"}"#,
+        r#"{"kind":"uInt32","name":"F","operator":"copy","value":1}"#,
+        r#"{"kind":"uInt32","name":"F","presence":"maybe"}"#,
+        r#"{"kind":"decimal","name":"F","operator":"copy","exponent":{}}"#,
+        r#"{"kind":"templateRef","name":"A","presence":"optional"}"#,
         // a group's own shape comes before that of its members
-        (
-            "{\"kind\":\"group\",\"name\":\"G\",\"instructions\":[1],\"key\":\"K\"}",
-            1,
-        ),
-        (
-            "{\"kind\":\"group\",\"name\":\"G\",\"instructions\":[{\"kind\":\"uInt32\",\"name\":\"F\"},1]}",
-            3,
-        ),
-        (
-            "{\"kind\":\"sequence\",\"name\":\"L\",\"instructions\":[],\"length\":{\"kind\":\"uInt32\"}}",
-            1,
-        ),
+        r#"{"kind":"group","name":"G","instructions":[1],"key":"K"}"#,
+        r#"{"kind":"sequence","name":"L","instructions":[],"length":{"kind":"uInt32"}}"#,
     ];
-    for (members, instruction) in &instructions {
-        assert_eq!(rt;
-            fault_of_one(alloc, members)?,
-            fault(LoadCause::S1, 1, *instruction)
-        );
+    for one in &instructions {
+        assert_eq!(rt; fault_of_one(alloc, one)?, fault(LoadCause::S1, 1, 1));
     }
+    let inside = r#"{"kind":"group","name":"G","instructions":[{"kind":"uInt32","name":"F"},1]}"#;
+    assert_eq!(rt; fault_of_one(alloc, inside)?, fault(LoadCause::S1, 1, 3));
     Ok(())
 }
 
