@@ -7,8 +7,6 @@
 
 mod bits;
 mod build;
-#[cfg(test)]
-mod build_tests;
 mod checks;
 mod duplicates;
 mod extents;
@@ -18,8 +16,6 @@ mod from_json;
 mod id_places;
 mod initial;
 mod json;
-#[cfg(test)]
-mod json_tests;
 mod key;
 mod kind;
 pub mod laws;

@@ -1,3 +1,6 @@
+mod build;
+mod json;
+
 use crate::bits::{has_map, needs_bit, part_needs_bit};
 use crate::key::{Key, Name, Scope};
 use crate::kind::{Kind, Operator, Part, Presence};
