@@ -42,12 +42,16 @@ pub fn streams_are_read()
         → Carries (templates_in set) stream messages
         → stream_at (templates_in set) stream ≡ record { messages = messages; fault = None } }
     ensures read { (set : TemplateList) (stream : List ℕ) (messages : List Content) → IsSound set
-        → IsBytes stream → stream_at (templates_in set) stream ≡ record { messages = messages; fault = None }
+        → IsBytes stream → stream_at (templates_in set) stream
+        ≡ record { messages = messages; fault = None }
         → Carries (templates_in set) stream messages }
-    ensures refused { (set : TemplateList) (stream : List ℕ) (place : Place) (cause : Cause) → IsSound set
+    ensures refused { (set : TemplateList) (stream : List ℕ) (place : Place) (cause : Cause)
+        → IsSound set
         → FirstFault (templates_in set) stream place cause
-        → fault_in stream (stream_at (templates_in set) stream) ≡ Some (record { cause = cause; place = place }) }
-    ensures stopped { (set : TemplateList) (stream : List ℕ) (fault : Fault) → IsSound set → IsBytes stream
+        → fault_in stream (stream_at (templates_in set) stream)
+        ≡ Some (record { cause = cause; place = place }) }
+    ensures stopped { (set : TemplateList) (stream : List ℕ) (fault : Fault) → IsSound set
+        → IsBytes stream
         → fault_in stream (stream_at (templates_in set) stream) ≡ Some fault
         → FirstFault (templates_in set) stream fault.place fault.cause }
 {}
@@ -64,24 +68,28 @@ pub fn carried_or_refused()
     ensures one_of_the_two { (set : TemplateList) (stream : List ℕ) → IsSound set → IsBytes stream
         → ((messages : List Content) × Carries (templates_in set) stream messages)
         ⊎ ((place : Place) × (cause : Cause) × FirstFault (templates_in set) stream place cause) }
-    ensures not_both { (set : TemplateList) (stream : List ℕ) (messages : List Content) (place : Place)
+    ensures not_both { (set : TemplateList) (stream : List ℕ) (messages : List Content)
+        (place : Place)
         (cause : Cause) → IsSound set → Carries (templates_in set) stream messages
         → FirstFault (templates_in set) stream place cause → ⊥ }
-    ensures one_refusal { (set : TemplateList) (stream : List ℕ) (place other : Place) (cause second : Cause)
+    ensures one_refusal { (set : TemplateList) (stream : List ℕ) (place other : Place)
+        (cause second : Cause)
         → IsSound set → FirstFault (templates_in set) stream place cause
         → FirstFault (templates_in set) stream other second → (place ≡ other) × (cause ≡ second) }
 {}
 
 /// A first fault other than want of bytes is the first fault of the stream and any bytes behind it.
 pub fn refusal_stays()
-    ensures { (set : TemplateList) (stream more : List ℕ) (place : Place) (cause : Cause) → IsSound set
+    ensures { (set : TemplateList) (stream more : List ℕ) (place : Place) (cause : Cause)
+        → IsSound set
         → IsBytes (stream ++ more) → FirstFault (templates_in set) stream place cause
         → cause ≢ Cause.Truncated → FirstFault (templates_in set) (stream ++ more) place cause }
 {}
 
 /// Two streams that carry the same messages leave the same dictionary.
 pub fn same_messages_same_dictionary()
-    ensures { (set : List Resolved) (d : Dictionary) (stream other : List ℕ) (messages : List Content)
+    ensures { (set : List Resolved) (d : Dictionary) (stream other : List ℕ)
+        (messages : List Content)
         (after later : Dictionary) → CarriesFrom set d stream messages after
         → CarriesFrom set d other messages later → after ≡ later }
 {}
@@ -89,7 +97,8 @@ pub fn same_messages_same_dictionary()
 /// Of the bits of its map a body leaves all but those that its instructions take, and these it has in order.
 pub fn bits_are_taken()
     ensures taken { (members : Instructions) (before after : State) (bytes : List ℕ) (items : Items)
-        → Body members before bytes items after → after.bits ≡ drop (takes members items) before.bits }
+        → Body members before bytes items after
+        → after.bits ≡ drop (takes members items) before.bits }
     // a list that asks for no map takes none
     ensures none { (members : Instructions) (items : Items) → has_map members ≡ false
         → takes members items ≡ 0 }
@@ -98,6 +107,7 @@ pub fn bits_are_taken()
 /// What contracts see of a message is faithful: `==` of two messages is true exactly if their contents are the same,
 /// and level by level nodes that are seen as the same are the same but for where they lie in memory.
 pub fn contents_are_faithful()
-    ensures equal { (a b : Message) → Decides ((message_eq.eq-value).it a b) (content_of a ≡ content_of b) }
+    ensures equal { (a b : Message)
+        → Decides ((message_eq.eq-value).it a b) (content_of a ≡ content_of b) }
     ensures alike { (a b : Node-F Item) → node_step a ≡ node_step b → AreAlike a b }
 {}

@@ -8,5 +8,6 @@ ghost use Rattle.fast_encoder.specs.Canonical.{IsCanonical};
 
 /// Canonical bytes carry their messages.
 pub fn canonical_bytes_carry()
-    ensures { (set : List Resolved) (messages : List Content) (bytes : List ℕ) → IsCanonical set messages bytes → Carries set bytes messages }
+    ensures { (set : List Resolved) (messages : List Content) (bytes : List ℕ)
+        → IsCanonical set messages bytes → Carries set bytes messages }
 {}

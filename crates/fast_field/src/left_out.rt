@@ -35,7 +35,8 @@ fn may_be_absent(presence: Presence) -> bool
 
 /// Whether bit 0 of copy, increment and tail gives a value.
 fn is_predicted(instr: &FieldPart, kept: EntryRef, value: Option<&Scalar>) -> bool
-    ensures { result ≡ gives_same (predicted instr.now (entry_of kept.entry)) (option_copied value.entry) }
+    ensures { result ≡ gives_same (predicted instr.now (entry_of kept.entry))
+        (option_copied value.entry) }
 {
     match predicted_value(instr, kept) {
         Ok(found) => are_same(found.value(instr, kept), value),
@@ -45,7 +46,8 @@ fn is_predicted(instr: &FieldPart, kept: EntryRef, value: Option<&Scalar>) -> bo
 
 /// Whether bit 0 gives a value.
 pub(crate) fn is_left_out(instr: &FieldPart, kept: EntryRef, value: Option<&Scalar>) -> bool
-    ensures { result ≡ left_out_of instr.now.operator instr.now (entry_of kept.entry) (option_copied value.entry) }
+    ensures { result ≡ left_out_of instr.now.operator instr.now (entry_of kept.entry)
+        (option_copied value.entry) }
 {
     match instr.operator {
         Operator::Plain | Operator::Delta => false,

@@ -140,7 +140,8 @@ pub(crate) fn judge(
     kept: EntryRef,
     value: Option<&Scalar>,
 ) -> Result<(), FieldRefusal>
-    ensures { Judges (refusal_of instr.now (entry_of kept.entry) (option_copied value.entry)) result }
+    ensures { Judges (refusal_of instr.now (entry_of kept.entry)
+        (option_copied value.entry)) result }
 {
     match value {
         None => match instr.presence {

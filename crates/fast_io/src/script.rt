@@ -53,11 +53,13 @@ impl Read for ScriptInput<'_> {
 
     fn read(&mut self, buf: &mut [u8]) -> io::Result<usize>
         ensures bound { ReadsAtMost result buf.new }
-        ensures bytes { ReadConsumes (Some (rest_of self.old)) (Some (rest_of self.new)) result buf.new }
+        ensures bytes { ReadConsumes (Some (rest_of self.old)) (Some
+            (rest_of self.new)) result buf.new }
         // as many bytes as the call has room for, the step allows and the script has left
         ensures count { IfOk result (λ n.
             n ≡ min (min (length buf.old) (step_of self.old)) (length (rest_of self.old))) }
-        ensures fails { IsErr result ↔ (min (next_call_of self.old) (2 ^ 64 - 1) ≡ fails_of self.old) }
+        ensures fails { IsErr result ↔ (min (next_call_of self.old) (2 ^ 64 - 1)
+            ≡ fails_of self.old) }
     {
         self.calls = self.calls.saturating_add(1);
         if self.calls == self.fails {
@@ -117,7 +119,8 @@ impl Write for ScriptOutput {
 
     fn write(&mut self, bytes: &[u8]) -> io::Result<usize>
         ensures bound { WritesAtMost result bytes.now }
-        ensures bytes { WriteAppends (Some (kept_of self.old)) (Some (kept_of self.new)) result bytes.now }
+        ensures bytes { WriteAppends (Some (kept_of self.old)) (Some
+            (kept_of self.new)) result bytes.now }
         // as many bytes as there are and are room for
         ensures count { IfOk result (λ n. n ≡ min (length bytes.now) (room_of self.old)) }
         ensures room { IfOk result (λ n. room_of self.new ≡ room_of self.old - n) }

@@ -29,7 +29,8 @@ pub(crate) fn check_written(
     ensures { MatchResult result
         (λ names. ((phase : ℕ) → phase < 5 → Passes (map written_template_of templates.now) phase)
         × NamesLead names (map written_template_of templates.now))
-        (λ fault. IsFirstFault (map written_template_of templates.now) fault ⊎ (fault ≡ want_of_memory)) }
+        (λ fault. IsFirstFault (map written_template_of templates.now) fault
+        ⊎ (fault ≡ want_of_memory)) }
 {
     if templates.len() > 65_535 {
         return Err(fault_at(LoadCause::TooMany, 0, 0));

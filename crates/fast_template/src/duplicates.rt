@@ -29,7 +29,8 @@ pub(crate) fn check_duplicates(
     ensures { MatchResult result
         (λ names. Passes (map written_template_of templates.now) 2
         × NamesLead names (map written_template_of templates.now))
-        (λ fault. IsFirstOf (map written_template_of templates.now) 2 fault ⊎ (fault ≡ want_of_memory_of)) }
+        (λ fault. IsFirstOf (map written_template_of templates.now) 2 fault
+        ⊎ (fault ≡ want_of_memory_of)) }
 {
     match index_names(alloc, templates) {
         Ok(Ok(names)) => Ok(names),
@@ -67,8 +68,10 @@ fn index_names(
 
 // Enters the place of a name, or answers that it has one.
 fn enter_name(names: &mut BTreeMap<Name, u32>, name: Name, place: u32) -> Result<bool, AllocError>
-    ensures repeats { IfOk result (λ repeats. repeats ≡ is_some (get (slice_cmp nat_cmp) names.old name)) }
-    ensures updates { result ≡ Ok false → Updates (slice_cmp nat_cmp) names.old names.new name (Some place) }
+    ensures repeats { IfOk result (λ repeats. repeats
+        ≡ is_some (get (slice_cmp nat_cmp) names.old name)) }
+    ensures updates { result ≡ Ok false
+        → Updates (slice_cmp nat_cmp) names.old names.new name (Some place) }
 {
     if names.contains_key(&name) {
         return Ok(true);

@@ -25,7 +25,8 @@ impl TemplateSet {
     /// not that of a template text; otherwise what [`TemplateSet::build`] answers; want of memory, where memory is
     /// refused.
     pub fn from_json(alloc: Global, text: &[u8]) -> Result<TemplateSet, LoadFault>
-        ensures read { (d : Data) → IsUtf8 text.now → read text.now ≡ Some d → Loads (templates_of d) result }
+        ensures read { (d : Data) → IsUtf8 text.now → read text.now ≡ Some d
+            → Loads (templates_of d) result }
         ensures unread { ¬ (IsUtf8 text.now) → IsNoText result }
         ensures no_json { read text.now ≡ None → IsNoText result }
     {

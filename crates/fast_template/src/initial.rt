@@ -110,7 +110,8 @@ fn decimal(text: &[u8]) -> Option<Scalar>
 
 // The decimal of a mantissa and an exponent, where both are in range.
 fn decimal_of(mantissa: i128, exponent: i128) -> Option<Scalar>
-    ensures { result ≡ where_so (in_range kind_type.Int64 mantissa && exponent_in_range exponent) (Decimal exponent mantissa) }
+    ensures { result ≡ where_so (in_range kind_type.Int64 mantissa && exponent_in_range exponent)
+        (Decimal exponent mantissa) }
 {
     if !in_range_of(Part::Whole, Kind::Int64, mantissa) {
         return None;

@@ -280,7 +280,8 @@ fn decimal_at(alloc: Global, object: &Value) -> Result<Option<Instruction>, Allo
 }
 
 fn text_field_at(alloc: Global, object: &Value) -> Result<Option<Instruction>, AllocError>
-    ensures { IfOk result (λ o. option_map written_of o ≡ option_and_then (λ k. field_in k (view object.now)) (charset_in (view object.now))) }
+    ensures { IfOk result (λ o. option_map written_of o
+        ≡ option_and_then (λ k. field_in k (view object.now)) (charset_in (view object.now))) }
 {
     match charset_at(object) {
         Some(kind) => field_at(alloc, kind, object),
@@ -332,7 +333,8 @@ fn group_of(
     presence: Presence,
     members: Vec<Instruction>,
 ) -> Result<Instruction, AllocError>
-    ensures { IfOk result (λ group. written_of group ≡ written_group (name_in (view object.now)) presence
+    ensures { IfOk result (λ group. written_of group
+        ≡ written_group (name_in (view object.now)) presence
         (around_in (view object.now)) (written_list (map written_of members.items))) }
 {
     Ok(Instruction::Group {
@@ -351,7 +353,8 @@ fn sequence_of(
     length: Operation,
     members: Vec<Instruction>,
 ) -> Result<Instruction, AllocError>
-    ensures { IfOk result (λ sequence. written_of sequence ≡ written_sequence (name_in (view object.now)) presence
+    ensures { IfOk result (λ sequence. written_of sequence
+        ≡ written_sequence (name_in (view object.now)) presence
         (around_in (view object.now)) (length_name_in (view object.now)) (operation_of length)
         (written_list (map written_of members.items))) }
 {
@@ -368,7 +371,8 @@ fn sequence_of(
 
 #[cycle(reads)]
 fn read_group(alloc: Global, object: &Value, number: u32) -> Result<(Instruction, u32), Unread>
-    ensures { ReadsAs written_of result (group_in (view object.now) number (members_in (view object.now) (next_number_of number))) }
+    ensures { ReadsAs written_of result (group_in (view object.now) number (members_in
+        (view object.now) (next_number_of number))) }
 {
     let Some(presence) = presence_at(object) else {
         return Err(Unread::At(number));
@@ -380,7 +384,8 @@ fn read_group(alloc: Global, object: &Value, number: u32) -> Result<(Instruction
 
 #[cycle(reads)]
 fn read_sequence(alloc: Global, object: &Value, number: u32) -> Result<(Instruction, u32), Unread>
-    ensures { ReadsAs written_of result (sequence_in (view object.now) number (members_in (view object.now) (next_number_of number))) }
+    ensures { ReadsAs written_of result (sequence_in (view object.now) number (members_in
+        (view object.now) (next_number_of number))) }
 {
     let Some(presence) = presence_at(object) else {
         return Err(Unread::At(number));
@@ -395,7 +400,8 @@ fn read_sequence(alloc: Global, object: &Value, number: u32) -> Result<(Instruct
 
 #[cycle(reads)]
 fn read_one(alloc: Global, value: &Value, number: u32) -> Result<(Instruction, u32), Unread>
-    ensures { ReadsAs written_of result (one_of (view value.now) number (members_in (view value.now) (next_number_of number))) }
+    ensures { ReadsAs written_of result (one_of (view value.now) number (members_in
+        (view value.now) (next_number_of number))) }
 {
     let Some(form) = form_at(value) else {
         return Err(Unread::At(number));
@@ -420,7 +426,8 @@ fn read_members(
     object: &Value,
     number: u32,
 ) -> Result<(Vec<Instruction>, u32), Unread>
-    ensures { ReadsAs (λ instructions. written_list (map written_of instructions.items)) result (members_in (view object.now) number) }
+    ensures { ReadsAs (λ instructions. written_list (map written_of instructions.items)) result
+        (members_in (view object.now) number) }
 {
     match object {
         Value::Object(members) => match members.get(text_of_word(Word::Instructions)) {
@@ -433,7 +440,8 @@ fn read_members(
 
 #[cycle(reads)]
 fn read_all(alloc: Global, list: &Value, number: u32) -> Result<(Vec<Instruction>, u32), Unread>
-    ensures { ReadsAs (λ instructions. written_list (map written_of instructions.items)) result (read_all_of (view list.now) number) }
+    ensures { ReadsAs (λ instructions. written_list (map written_of instructions.items)) result
+        (read_all_of (view list.now) number) }
 {
     match list {
         Value::Array(values) => read_values(alloc, values, number),
@@ -447,7 +455,8 @@ fn read_values(
     values: &[Value],
     number: u32,
 ) -> Result<(Vec<Instruction>, u32), Unread>
-    ensures { ReadsAs (λ instructions. written_list (map written_of instructions.items)) result (read_items (items_view values.now) number) }
+    ensures { ReadsAs (λ instructions. written_list (map written_of instructions.items)) result
+        (read_items (items_view values.now) number) }
 {
     let mut instructions = Vec::new(alloc);
     let mut next = number;
@@ -475,7 +484,8 @@ fn dictionary_or(
     default: Option<&str>,
 ) -> Result<Option<String>, AllocError>
     ensures { IfOk result (λ o. option_map string_bytes o
-        ≡ option_or (text_at_of word_variants.Dictionary (view object.now)) (option_map (λ s. s.now) default.entry)) }
+        ≡ option_or (text_at_of word_variants.Dictionary (view object.now)) (option_map
+        (λ s. s.now) default.entry)) }
 {
     match text_at(object, Word::Dictionary).or(default) {
         Some(name) => Ok(Some(String::from_str(alloc, name)?)),
@@ -489,7 +499,8 @@ fn template_of(
     default: Option<&str>,
     members: Vec<Instruction>,
 ) -> Result<Template, AllocError>
-    ensures { IfOk result (λ template. written_template_of template ≡ template_with (option_map (λ s. s.now) default.entry)
+    ensures { IfOk result (λ template. written_template_of template
+        ≡ template_with (option_map (λ s. s.now) default.entry)
         (view object.now) (written_list (map written_of members.items))) }
 {
     Ok(Template {
@@ -502,7 +513,8 @@ fn template_of(
 }
 
 fn read_template(alloc: Global, value: &Value, default: Option<&str>) -> Result<Template, Unread>
-    ensures { ReadsTemplate result (read_template_of (option_map (λ s. s.now) default.entry) (view value.now)) }
+    ensures { ReadsTemplate result (read_template_of (option_map (λ s. s.now) default.entry)
+        (view value.now)) }
 {
     if !fits(Row::Template, value) {
         return Err(Unread::At(0));
@@ -550,7 +562,8 @@ fn read_list(
     default: Option<&str>,
 ) -> Result<Vec<Template>, LoadFault>
     ensures { ReadsTemplates result
-        (templates_under (option_map (λ s. s.now) default.entry) (option_map (λ v. view v.now) list.entry)) }
+        (templates_under (option_map (λ s. s.now) default.entry) (option_map
+        (λ v. view v.now) list.entry)) }
 {
     match list {
         Some(Value::Array(values)) => read_templates(alloc, values, default),

@@ -167,7 +167,10 @@ impl Key {
 
     // How two keys of one slot compare: by scope, then name and part.
     fn cmp_behind_slot(&self, other: &Key) -> Ordering
-        ensures { result ≡ ordering_then (slice_cmp nat_cmp (scope_numbers self.now.scope) (scope_numbers other.now.scope)) (ordering_then (slice_cmp nat_cmp self.now.name other.now.name) (nat_cmp (part_number self.now.part) (part_number other.now.part))) }
+        ensures { result ≡ ordering_then (slice_cmp nat_cmp (scope_numbers self.now.scope)
+            (scope_numbers other.now.scope)) (ordering_then
+            (slice_cmp nat_cmp self.now.name other.now.name) (nat_cmp (part_number self.now.part)
+            (part_number other.now.part))) }
     {
         self.scope
             .cmp(&other.scope)
@@ -183,7 +186,8 @@ impl PartialOrd for Key {
 
     ghost partial_cmp = { λ a b. Some (key_cmp a b) };
 
-    ghost laws = { partial_order_from_agreeing_total key_cmp key_cmp-total (λ a b. refl) key_eq_ties };
+    ghost laws = { partial_order_from_agreeing_total key_cmp key_cmp-total
+        (λ a b. refl) key_eq_ties };
 
     fn partial_cmp(&self, other: &Key) -> Option<Ordering> {
         Some(self.cmp(other))

@@ -45,7 +45,8 @@ impl Judge for Names {
 pub(crate) fn check_names(templates: &[Template]) -> Result<(), LoadFault>
     requires { length templates.now ≤ 65535 }
     ensures { MatchResult result (λ passed. Passes (map written_template_of templates.now) 1)
-        (λ fault. IsFirstOf (map written_template_of templates.now) 1 fault ⊎ (fault ≡ want_of_memory)) }
+        (λ fault. IsFirstOf (map written_template_of templates.now) 1 fault
+        ⊎ (fault ≡ want_of_memory)) }
 {
     match first_at_fault(templates, &Names) {
         Ok(None) => Ok(()),

@@ -78,7 +78,8 @@ impl Judge for Operators {
 pub(crate) fn check_operators(alloc: Global, templates: &[Template]) -> Result<(), LoadFault>
     requires { length templates.now ≤ 65535 }
     ensures { MatchResult result (λ passed. Passes (map written_template_of templates.now) 3)
-        (λ fault. IsFirstOf (map written_template_of templates.now) 3 fault ⊎ (fault ≡ want_of_memory)) }
+        (λ fault. IsFirstOf (map written_template_of templates.now) 3 fault
+        ⊎ (fault ≡ want_of_memory)) }
 {
     match first_at_fault(templates, &Operators { alloc }) {
         Ok(None) => Ok(()),

@@ -27,7 +27,8 @@ pub(crate) struct References<'a> {
 impl Judge for References<'_> {
     ghost judges_template = { λ s w. None };
 
-    ghost judges = { λ s. reference_cause (λ name. is_some (get (slice_cmp nat_cmp) s.names.now name)) };
+    ghost judges = { λ s. reference_cause (λ name. is_some (get
+        (slice_cmp nat_cmp) s.names.now name)) };
 
     fn judge_template(&self, _template: &Template) -> Option<LoadCause> {
         None
@@ -61,7 +62,8 @@ pub(crate) fn check_references(
     requires few { length templates.now ≤ 65535 }
     requires lead { NamesLead names.now (map written_template_of templates.now) }
     ensures { MatchResult result (λ passed. Passes (map written_template_of templates.now) 4)
-        (λ fault. IsFirstOf (map written_template_of templates.now) 4 fault ⊎ (fault ≡ want_of_memory_of)) }
+        (λ fault. IsFirstOf (map written_template_of templates.now) 4 fault
+        ⊎ (fault ≡ want_of_memory_of)) }
 {
     match first_at_fault(templates, &References { alloc, names }) {
         Ok(None) => Ok(()),

@@ -20,10 +20,14 @@ use std::collections::BTreeMap;
 ///
 /// Where memory is refused.
 pub(crate) fn settle(templates: &mut [FlatTemplate], alloc: Global) -> Result<u32, AllocError>
-    requires small { AllByRecursion (λ r. size_of r.members ≤ 65535) (map resolved_of templates.old) }
-    requires bare { (k : key_type.Key) → Contains (keys_of_all (map resolved_of templates.old)) k → k.slot ≡ 0 }
-    ensures settled { OnOk result (AreSettled (map resolved_of templates.old) (map resolved_of templates.new)) }
-    ensures slots { IfOk result (λ slots. HasSlots (identifier_key ∷ keys_of_all (map resolved_of templates.new)) slots) }
+    requires small { AllByRecursion (λ r. size_of r.members ≤ 65535)
+        (map resolved_of templates.old) }
+    requires bare { (k : key_type.Key)
+        → Contains (keys_of_all (map resolved_of templates.old)) k → k.slot ≡ 0 }
+    ensures settled { OnOk result (AreSettled (map resolved_of templates.old)
+        (map resolved_of templates.new)) }
+    ensures slots { IfOk result (λ slots. HasSlots (identifier_key ∷ keys_of_all
+        (map resolved_of templates.new)) slots) }
 {
     let mut slots = first_slots(alloc)?;
     enter_all(templates, &mut slots, alloc)?;
@@ -36,7 +40,8 @@ fn enter_all(
     slots: &mut BTreeMap<Key, u32>,
     alloc: Global,
 ) -> Result<(), AllocError>
-    ensures { OnOk result (EntersKeys slots.old slots.new (keys_of_all (map resolved_of templates.now))) }
+    ensures { OnOk result (EntersKeys slots.old slots.new (keys_of_all
+        (map resolved_of templates.now))) }
 {
     for template in templates {
         enter_keys(&template.members, slots, alloc)?;
@@ -46,7 +51,8 @@ fn enter_all(
 
 fn settle_all(templates: &mut [FlatTemplate], slots: &BTreeMap<Key, u32>)
     requires { AllByRecursion (λ r. size_of r.members ≤ 65535) (map resolved_of templates.old) }
-    ensures { map resolved_of templates.new ≡ map (settled (slot_in slots.now)) (map resolved_of templates.old) }
+    ensures { map resolved_of templates.new
+        ≡ map (settled (slot_in slots.now)) (map resolved_of templates.old) }
 {
     for template in templates.iter_mut() {
         settle_one(template, slots);
@@ -63,7 +69,8 @@ fn settle_one(template: &mut FlatTemplate, slots: &BTreeMap<Key, u32>)
 fn settle_members(members: &mut [Flat], slots: &BTreeMap<Key, u32>)
     requires { size_of (list_of members.old) ≤ 65535 }
     ensures { list_of members.new
-        ≡ numbered 1 (with_keys (λ k. record k { slot = slot_in slots.now k }) (list_of members.old)) }
+        ≡ numbered 1 (with_keys (λ k. record k { slot = slot_in slots.now k })
+        (list_of members.old)) }
 {
     give_slots(members, slots);
     number_all(members, 1);

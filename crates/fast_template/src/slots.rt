@@ -131,7 +131,8 @@ pub(crate) fn give_slots(flats: &mut [Flat], slots: &BTreeMap<Key, u32>)
 #[cycle(giving)]
 fn give_slots_to_one(flat: &mut Flat, slots: &BTreeMap<Key, u32>)
     ensures { instruction_of flat.new
-        ≡ with_keys_of_one (λ k. record k { slot = slot_in slots.now k }) (instruction_of flat.old) }
+        ≡ with_keys_of_one (λ k. record k { slot = slot_in slots.now k })
+        (instruction_of flat.old) }
 {
     match flat {
         Flat::Field { whole, .. } => give_slot(whole, slots),

@@ -64,7 +64,8 @@ pub(crate) fn inside<'a>(
 
 // A name of an element itself, or else that around it.
 fn own_or<'a>(own: &'a Option<String>, around: Option<&'a str>) -> Option<&'a str>
-    ensures { option_map (λ s. s.now) result ≡ option_or (option_map string_bytes own.now) (option_map (λ s. s.now) around.entry) }
+    ensures { option_map (λ s. s.now) result
+        ≡ option_or (option_map string_bytes own.now) (option_map (λ s. s.now) around.entry) }
 {
     match own {
         Some(name) => Some(name.as_str()),
@@ -104,7 +105,8 @@ pub(crate) fn name_of(alloc: Global, text: &str) -> Result<Name, AllocError>
 
 // The dictionary of an operator: its own, or else that around it, or else `global`.
 fn scope_of(alloc: Global, around: Around<'_>, operation: &Operation) -> Result<Scope, AllocError>
-    ensures { IfOk result (λ scope. scope ≡ scope_of_operation (context_in around.entry) (operation_of operation.now)) }
+    ensures { IfOk result (λ scope. scope
+        ≡ scope_of_operation (context_in around.entry) (operation_of operation.now)) }
 {
     match own_or(&operation.dictionary, around.dictionary) {
         Some(name) => scope_named(alloc, around, name),
@@ -124,7 +126,8 @@ pub(crate) fn key_of(
     name: &str,
     part: Part,
 ) -> Result<Key, AllocError>
-    ensures { IfOk result (λ key. key ≡ key_of_operation (context_in around.entry) (operation_of operation.now) name.now part) }
+    ensures { IfOk result (λ key. key
+        ≡ key_of_operation (context_in around.entry) (operation_of operation.now) name.now part) }
 {
     let scope = scope_of(alloc, around, operation)?;
     match &operation.key {
@@ -157,7 +160,8 @@ pub(crate) fn part_of(
     key: Key,
 ) -> Result<FieldPart, AllocError>
     requires { part ≡ Exponent → kind ≡ Int32 }
-    ensures { IfOk result (λ made. (c : Context) → made ≡ part_of_operation c part kind presence (operation_of operation.now) key) }
+    ensures { IfOk result (λ made. (c : Context)
+        → made ≡ part_of_operation c part kind presence (operation_of operation.now) key) }
 {
     let initial = match &operation.initial {
         Some(text) => value_of_text(alloc, part, kind, text)?,

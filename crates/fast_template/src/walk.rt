@@ -93,7 +93,8 @@ pub(crate) fn walk<J: Judge>(
     judge: &J,
     number: u32,
 ) -> Result<Walked, AllocError>
-    ensures { IfOk result (λ walked. walked ≡ walk_of (J.judges judge.now) (written_list (map written_of members.now)) number) }
+    ensures { IfOk result (λ walked. walked
+        ≡ walk_of (J.judges judge.now) (written_list (map written_of members.now)) number) }
 {
     let mut next = number;
     for instruction in members {
@@ -111,7 +112,8 @@ fn walk_one<J: Judge>(
     judge: &J,
     number: u32,
 ) -> Result<Walked, AllocError>
-    ensures { IfOk result (λ walked. walked ≡ walk_one_of (J.judges judge.now) (written_of instruction.now) number) }
+    ensures { IfOk result (λ walked. walked
+        ≡ walk_one_of (J.judges judge.now) (written_of instruction.now) number) }
 {
     if let Some(cause) = judge.judge(instruction)? {
         return Ok(Walked::Fault(cause, number));

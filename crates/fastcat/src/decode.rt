@@ -59,7 +59,8 @@ fn read_copied(
 ) -> Result<(u32, usize), Cause>
     requires { at ≤ length bytes.now }
     ensures place { IfOk result (λ x. (at ≤ x.1) × (x.1 ≤ length bytes.now)) }
-    ensures gives { Gives (λ x. (x.0, drop x.1 bytes.now)) result (copied_at entry bit (drop at bytes.now)) }
+    ensures gives { Gives (λ x. (x.0, drop x.1 bytes.now)) result (copied_at entry bit
+        (drop at bytes.now)) }
 {
     if bit {
         return read_spelled(bytes, at);
@@ -72,7 +73,12 @@ fn read_copied(
 
 /// A stop at a piece of which `left` bytes are left from its beginning on.
 fn stop_at(template: u32, instruction: u32, left: usize, cause: Cause) -> Stop
-    ensures { result ≡ record { cause = cause; template = template; instruction = instruction; left = left } }
+    ensures { result ≡ record {
+      cause = cause;
+      template = template;
+      instruction = instruction;
+      left = left;
+    } }
 {
     Stop {
         cause,
@@ -87,7 +93,8 @@ fn read_bits(alloc: Global, bytes: &[u8], at: usize) -> Result<(Bits, usize), St
     requires { at ≤ length bytes.now }
     ensures place { IfOk result (λ x. (at < x.1) × (x.1 ≤ length bytes.now)) }
     ensures left { IfErr result (λ s. at + s.left ≡ length bytes.now) }
-    ensures gives { GivesStop (λ x. (x.0, drop x.1 bytes.now)) result (placed 0 0 (drop at bytes.now) (caused (map_at (drop at bytes.now)))) }
+    ensures gives { GivesStop (λ x. (x.0, drop x.1 bytes.now)) result (placed 0 0
+        (drop at bytes.now) (caused (map_at (drop at bytes.now)))) }
 {
     match read_map(alloc, bytes, at) {
         Ok(found) => Ok(found),
@@ -100,7 +107,8 @@ fn read_identifier(entry: Option<u32>, bit: bool, bytes: &[u8], at: usize) -> Re
     requires { at ≤ length bytes.now }
     ensures place { IfOk result (λ next. (at ≤ next) × (next ≤ length bytes.now)) }
     ensures left { IfErr result (λ s. at + s.left ≡ length bytes.now) }
-    ensures gives { GivesStop (λ next. drop next bytes.now) result (placed 0 0 (drop at bytes.now) (identifier_at entry bit (drop at bytes.now))) }
+    ensures gives { GivesStop (λ next. drop next bytes.now) result (placed 0 0 (drop at bytes.now)
+        (identifier_at entry bit (drop at bytes.now))) }
 {
     match read_copied(entry, bit, bytes, at) {
         Ok((identifier, next)) if identifier == FIRST => Ok(next),
@@ -114,7 +122,8 @@ fn read_a(bytes: &[u8], at: usize) -> Result<(u32, usize), Stop>
     requires { at ≤ length bytes.now }
     ensures place { IfOk result (λ x. (at ≤ x.1) × (x.1 ≤ length bytes.now)) }
     ensures left { IfErr result (λ s. at + s.left ≡ length bytes.now) }
-    ensures gives { GivesStop (λ x. (x.0, drop x.1 bytes.now)) result (placed 16 1 (drop at bytes.now) (spelled_at (drop at bytes.now))) }
+    ensures gives { GivesStop (λ x. (x.0, drop x.1 bytes.now)) result (placed 16 1
+        (drop at bytes.now) (spelled_at (drop at bytes.now))) }
 {
     match read_spelled(bytes, at) {
         Ok(found) => Ok(found),
@@ -127,7 +136,8 @@ fn read_b(entry: Option<u32>, bit: bool, bytes: &[u8], at: usize) -> Result<(u32
     requires { at ≤ length bytes.now }
     ensures place { IfOk result (λ x. (at ≤ x.1) × (x.1 ≤ length bytes.now)) }
     ensures left { IfErr result (λ s. at + s.left ≡ length bytes.now) }
-    ensures gives { GivesStop (λ x. (x.0, drop x.1 bytes.now)) result (placed 16 2 (drop at bytes.now) (copied_at entry bit (drop at bytes.now))) }
+    ensures gives { GivesStop (λ x. (x.0, drop x.1 bytes.now)) result (placed 16 2
+        (drop at bytes.now) (copied_at entry bit (drop at bytes.now))) }
 {
     match read_copied(entry, bit, bytes, at) {
         Ok(found) => Ok(found),
@@ -146,7 +156,8 @@ pub fn read_message(
     requires { at ≤ length bytes.now }
     ensures place { IfOk result (λ x. (at < x.2) × (x.2 ≤ length bytes.now)) }
     ensures left { IfErr result (λ s. at + s.left ≤ length bytes.now) }
-    ensures gives { GivesStop (λ x. (x.0, x.1, drop x.2 bytes.now)) result (message_at kept (drop at bytes.now)) }
+    ensures gives { GivesStop (λ x. (x.0, x.1, drop x.2 bytes.now)) result (message_at kept
+        (drop at bytes.now)) }
 {
     let (mut bits, next) = read_bits(alloc, bytes, at)?;
     let next = read_identifier(kept.template, bits.take(), bytes, next)?;

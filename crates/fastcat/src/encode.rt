@@ -27,7 +27,8 @@ fn write_value(value: u32, out: &mut Vec<u8>) -> Result<(), AllocError>
 
 /// Appends a field with the copy operator under its best bit.
 fn write_copied(entry: Option<u32>, value: u32, out: &mut Vec<u8>) -> Result<(), AllocError>
-    ensures { OnOk result (AppendsField copy entry (copy_bit entry value) out.old.items out.new.items value) }
+    ensures { OnOk result (AppendsField copy entry
+        (copy_bit entry value) out.old.items out.new.items value) }
 {
     if needs_value(entry, value) {
         return write_value(value, out);
@@ -37,7 +38,8 @@ fn write_copied(entry: Option<u32>, value: u32, out: &mut Vec<u8>) -> Result<(),
 
 /// Appends the shortest map of a message's two bits.
 fn write_bits(identifier_bit: bool, b_bit: bool, out: &mut Vec<u8>) -> Result<(), AllocError>
-    ensures { OnOk result (AppendsShortest IsMap out.old.items out.new.items (identifier_bit ∷ b_bit ∷ [])) }
+    ensures { OnOk result (AppendsShortest IsMap out.old.items out.new.items
+        (identifier_bit ∷ b_bit ∷ [])) }
 {
     write_map(&[identifier_bit, b_bit], out).map_err(|_| AllocError)
 }

@@ -84,7 +84,12 @@ fn transcribe(alloc: Global, command: Command, input: &[u8]) -> Result<Transcrip
 fn place_of(messages: u64, read: usize, template: u32, instruction: u32, left: usize) -> Place
     requires few { messages + 1 < 2 ^ 64 }
     requires within { left ≤ read }
-    ensures { result ≡ record { message = messages + 1; offset = read - left; template = template; instruction = instruction } }
+    ensures { result ≡ record {
+      message = messages + 1;
+      offset = read - left;
+      template = template;
+      instruction = instruction;
+    } }
 {
     Place {
         message: messages + 1,
@@ -164,7 +169,8 @@ pub fn run<R: ByteInput, W: ByteOutput>(
     turns: u64,
 ) -> Result<Summary, CanonFault>
     // at most `turns` reads
-    ensures bounded { (k : ℕ) × (k ≤ turns) × (R.calls reader.new ≡ counted_by (R.calls reader.old) k) }
+    ensures bounded { (k : ℕ) × (k ≤ turns)
+        × (R.calls reader.new ≡ counted_by (R.calls reader.old) k) }
     // the limit is answered only once they are made, and none of them met the end
     ensures turns { OnFault Cause.Turns result
         ((R.calls reader.new ≡ counted_by (R.calls reader.old) turns)
@@ -176,7 +182,8 @@ pub fn run<R: ByteInput, W: ByteOutput>(
     ensures flush { FlushesOnce result (W.flushes writer.old) (W.flushes writer.new) }
     // what the bytes read carry, what was written, and what is answered
     ensures answer { (input : List ℕ) × Consumes (R.left reader.old) (R.left reader.new) input
-        × Runs command turns (R.left reader.new) (W.taken writer.old) (W.taken writer.new) input result }
+        × Runs command turns (R.left reader.new) (W.taken writer.old)
+        (W.taken writer.new) input result }
 {
     let mut input = Vec::new(alloc);
     let ending = read_all(reader, turns, &mut input)?;

@@ -323,7 +323,8 @@ pub fn serve_words<I: ByteInput, O: ByteOutput, E: ByteOutput>(
     ensures status { result ≤ 3 }
     ensures quiet { result ≡ 0 → err.new ≡ err.old }
     // where there are no words nothing is read or written, and the status says so
-    ensures no_words { IfErr words (λ _. (2 ≤ result) × (input.new ≡ input.old) × (out.new ≡ out.old)) }
+    ensures no_words { IfErr words (λ _. (2 ≤ result) × (input.new ≡ input.old)
+        × (out.new ≡ out.old)) }
 {
     let words = match words {
         Ok(words) => words,
