@@ -8,9 +8,13 @@ use Rattle.fast_template.specs.declared.key.Scope.{Scope}
 use Rattle.fast_template.specs.Written.{WrittenOperation, WrittenInstruction, WrittenInstructions, WrittenTemplate, written_field, written_parts, written_group, written_sequence, written_reference, no_written, then_written, listed, listed_one}
 use Rattle.fast_template.specs.Resolved.{Instructions, no_instructions, then_instruction, joined, keys_of, keys_of_one}
 use Rattle.fast_template.specs.FlatLists.{Context, AreFlatLists, context_of, inside, scope_of, key_named, key_of, length_key, flat_one, flat_list}
+use Rattle.fast_template.proofs.AllOf.{all_of_both, all_of_front, all_of_back}
+
+abbrev Bare : Key → Type 0
+Bare k = k.slot ≡ 0
 
 abbrev pub AreBare : List Key → Type 0
-AreBare = AllByRecursion (λ k. k.slot ≡ 0)
+AreBare = AllByRecursion Bare
 
 bare_named : (scope : Scope) (key : Option (List ℕ)) (name : List ℕ) (part : Part) → (key_named scope key name part).slot ≡ 0
 bare_named scope None name part = refl
@@ -23,20 +27,9 @@ bare_length : (c : Context) (name : List ℕ) (length_name : Option (List ℕ)) 
 bare_length c name None operation = bare_key c operation name _
 bare_length c name (Some length_name) operation = bare_key c operation length_name _
 
-both_bare : (ks ls : List Key) → AreBare ks → AreBare ls → AreBare (ks ++ ls)
-both_bare [] ls a b = b
-both_bare (k ∷ ks) ls a b = (a.0, both_bare ks ls a.1 b)
-
 joined_bare : (is js : Instructions) → AreBare (keys_of is) → AreBare (keys_of js) → AreBare (keys_of (joined is js))
 joined_bare no_instructions js a b = b
-joined_bare (then_instruction i is) js a b = both_bare (keys_of_one i) (keys_of (joined is js)) (front (keys_of_one i) (keys_of is) a) (joined_bare is js (back (keys_of_one i) (keys_of is) a) b) where
-  front : (ks ls : List Key) → AreBare (ks ++ ls) → AreBare ks
-  front [] ls all = tt
-  front (k ∷ ks) ls all = (all.0, front ks ls all.1)
-
-  back : (ks ls : List Key) → AreBare (ks ++ ls) → AreBare ls
-  back [] ls all = all
-  back (k ∷ ks) ls all = back ks ls all.1
+joined_bare (then_instruction i is) js a b = all_of_both Bare (keys_of_one i) (keys_of (joined is js)) (all_of_front Bare (keys_of_one i) (keys_of is) a) (joined_bare is js (all_of_back Bare (keys_of_one i) (keys_of is) a) b)
 
 -- where a reference leads to is bare
 abbrev LeadsToBare : (List ℕ → Instructions) → WrittenInstruction → Type 0
@@ -46,27 +39,19 @@ LeadsToBare stands (written_group name presence around members) = Unit {0}
 LeadsToBare stands (written_sequence name presence around length_name length members) = Unit {0}
 LeadsToBare stands (written_reference name) = AreBare (keys_of (stands name))
 
-front_all : {A : Type 0} (P : A → Type 0) (xs ys : List A) → AllByRecursion P (xs ++ ys) → AllByRecursion P xs
-front_all P [] ys all = tt
-front_all P (x ∷ xs) ys all = (all.0, front_all P xs ys all.1)
-
-back_all : {A : Type 0} (P : A → Type 0) (xs ys : List A) → AllByRecursion P (xs ++ ys) → AllByRecursion P ys
-back_all P [] ys all = all
-back_all P (x ∷ xs) ys all = back_all P xs ys all.1
-
 mutual
   one_bare : (stands : List ℕ → Instructions) (c : Context) (i : WrittenInstruction) → AllByRecursion (LeadsToBare stands) (listed_one i) → AreBare (keys_of (flat_one stands c i))
   one_bare stands c (written_field name kind presence operation) all = (bare_key c operation name _, tt)
   one_bare stands c (written_parts name presence exponent mantissa) all = (bare_key c exponent name _, (bare_key c mantissa name _, tt))
-  one_bare stands c (written_group name presence around members) all = both_bare (keys_of (flat_list stands (inside c around) members)) [] (list_bare stands (inside c around) members all.1) tt
+  one_bare stands c (written_group name presence around members) all = all_of_both Bare (keys_of (flat_list stands (inside c around) members)) [] (list_bare stands (inside c around) members all.1) tt
   one_bare stands c (written_sequence name presence around length_name length members) all =
-      (bare_length (inside c around) name length_name length, both_bare (keys_of (flat_list stands (inside c around) members)) [] (list_bare stands (inside c around) members all.1) tt)
+      (bare_length (inside c around) name length_name length, all_of_both Bare (keys_of (flat_list stands (inside c around) members)) [] (list_bare stands (inside c around) members all.1) tt)
   one_bare stands c (written_reference name) all = all.0
 
   list_bare : (stands : List ℕ → Instructions) (c : Context) (is : WrittenInstructions) → AllByRecursion (LeadsToBare stands) (listed is) → AreBare (keys_of (flat_list stands c is))
   list_bare stands c no_written all = tt
   list_bare stands c (then_written i is) all =
-      joined_bare (flat_one stands c i) (flat_list stands c is) (one_bare stands c i (front_all (LeadsToBare stands) (listed_one i) (listed is) all)) (list_bare stands c is (back_all (LeadsToBare stands) (listed_one i) (listed is) all))
+      joined_bare (flat_one stands c i) (flat_list stands c is) (one_bare stands c i (all_of_front (LeadsToBare stands) (listed_one i) (listed is) all)) (list_bare stands c is (all_of_back (LeadsToBare stands) (listed_one i) (listed is) all))
 
 leads_by : (stands : List ℕ → Instructions) (written : WrittenInstruction) → ((name : List ℕ) → written ≡ written_reference name → AreBare (keys_of (stands name))) → LeadsToBare stands written
 leads_by stands (written_field name kind presence operation) lead = tt

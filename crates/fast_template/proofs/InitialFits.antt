@@ -13,6 +13,8 @@ use Rattle.fast_template.specs.declared.scalar.Scalar.TheVariants.{U32, I32, U64
 use Rattle.fast_template.specs.Scalar.{is_of, IsScalar, in_range, exponent_in_range, of_integer}
 use Rattle.fast_template.specs.InitialValues.{where_so, is_digit, integer_of, in_range_of, decimal_value, hex_digit_of, hex_bytes_of, is_short, value_of_text}
 use Rattle.fast_template.specs.TemplateSets.{is_in_part}
+use Rattle.std.specs.Cmp.{first_so, second_so}
+use Rattle.fast_template.proofs.AllOf.{all_of_both}
 use Rattle.fast_template.proofs.NumberLaws.{in_type}
 
 -- what is to be shown of a value
@@ -25,18 +27,10 @@ so : {A : Type 0} (b : Bool) (x v : A) → where_so b x ≡ Some v → (b ≡ tr
 so true x v e = (refl, cc)
 so false x v e = absurd cc
 
-first_of : (a b : Bool) → (a && b) ≡ true → a ≡ true
-first_of true b e = refl
-first_of false b e = absurd (true≢false (sym e))
-
-second_of : (a b : Bool) → (a && b) ≡ true → b ≡ true
-second_of true b e = e
-second_of false b e = absurd (true≢false (sym e))
-
 -- ---- numbers
 
 unsigned_fits : (bound : ℕ) (z : ℤ) → (int_le (pos 0) z && int_le z (pos bound)) ≡ true → nat_abs z ≤ bound
-unsigned_fits bound (pos n) e = leb-true n bound (second_of (nat_le 0 n) (nat_le n bound) e)
+unsigned_fits bound (pos n) e = leb-true n bound (second_so (nat_le 0 n) (nat_le n bound) e)
 unsigned_fits bound (negsuc n) e = absurd (true≢false (sym e))
 
 in_part_of : (p : Part) (k : Kind) (z : ℤ) → in_range_of p k z ≡ true → is_in_part p (I32 z) ≡ true
@@ -80,17 +74,13 @@ decimal_fits p v None x e = absurd cc
 decimal_fits p v (Some m) None e = absurd cc
 decimal_fits p v (Some m) (Some x) e =
     let is_so = so (in_range kind.Int64 m && exponent_in_range x) (Decimal x m) v e in
-    subst (Fits p kind.Decimal) is_so.1 (record { of_kind = refl; in_part = any_part p (Decimal x m) (λ y same. absurd cc); is_scalar = (second_of (in_range kind.Int64 m) (exponent_in_range x) is_so.0, first_of (in_range kind.Int64 m) (exponent_in_range x) is_so.0) })
+    subst (Fits p kind.Decimal) is_so.1 (record { of_kind = refl; in_part = any_part p (Decimal x m) (λ y same. absurd cc); is_scalar = (second_so (in_range kind.Int64 m) (exponent_in_range x) is_so.0, first_so (in_range kind.Int64 m) (exponent_in_range x) is_so.0) })
 
 -- ---- texts
 
 all_below : (bound : ℕ) (s : List ℕ) → list_all (λ c. nat_lt c bound) s ≡ true → AllByRecursion (λ c. c < bound) s
 all_below bound [] e = tt
-all_below bound (c ∷ s) e = (ltb-true c bound (first_of (nat_lt c bound) (list_all (λ c. nat_lt c bound) s) e), all_below bound s (second_of (nat_lt c bound) (list_all (λ c. nat_lt c bound) s) e))
-
-both_below : (bound : ℕ) (xs ys : List ℕ) → AllByRecursion (λ c. c < bound) xs → AllByRecursion (λ c. c < bound) ys → AllByRecursion (λ c. c < bound) (xs ++ ys)
-both_below bound [] ys a b = b
-both_below bound (x ∷ xs) ys a b = (a.0, both_below bound xs ys a.1 b)
+all_below bound (c ∷ s) e = (ltb-true c bound (first_so (nat_lt c bound) (list_all (λ c. nat_lt c bound) s) e), all_below bound s (second_so (nat_lt c bound) (list_all (λ c. nat_lt c bound) s) e))
 
 -- the bytes of a character
 by_length : (c : ℕ) (x y z : Bool) → (x ≡ true → c < 128) → (y ≡ true → c < 2048) → (z ≡ true → c < 65536) → c < 1114112
@@ -112,7 +102,7 @@ character_bytes c e = by_length c (nat_lt c 128) (nat_lt c 2048) (nat_lt c 65536
 
 text_bytes : (cs : List ℕ) → scalars cs ≡ true → AllByRecursion (λ b. b < 256) (encodes cs)
 text_bytes [] e = tt
-text_bytes (c ∷ cs) e = both_below 256 (encode c) (encodes cs) (character_bytes c (first_of (scalar c) (scalars cs) e)) (text_bytes cs (second_of (scalar c) (scalars cs) e))
+text_bytes (c ∷ cs) e = all_of_both (λ b. b < 256) (encode c) (encodes cs) (character_bytes c (first_so (scalar c) (scalars cs) e)) (text_bytes cs (second_so (scalar c) (scalars cs) e))
 
 utf8_bytes : (s : List ℕ) → IsUtf8 s → AllByRecursion (λ b. b < 256) s
 utf8_bytes s is = subst (AllByRecursion (λ b. b < 256)) is.1.1 (text_bytes is.0 is.1.0)
@@ -127,7 +117,7 @@ digit_below c false false false h one two three e = absurd cc
 
 hex_below : (c h : ℕ) → hex_digit_of c ≡ Some h → h < 16
 hex_below c h e = digit_below c (is_digit c) (nat_le 65 c && nat_le c 70) (nat_le 97 c && nat_le c 102) h
-    (λ a. leb-true c 57 (second_of (nat_le 48 c) (nat_le c 57) a)) (λ a. leb-true c 70 (second_of (nat_le 65 c) (nat_le c 70) a)) (λ a. leb-true c 102 (second_of (nat_le 97 c) (nat_le c 102) a)) e
+    (λ a. leb-true c 57 (second_so (nat_le 48 c) (nat_le c 57) a)) (λ a. leb-true c 70 (second_so (nat_le 65 c) (nat_le c 70) a)) (λ a. leb-true c 102 (second_so (nat_le 97 c) (nat_le c 102) a)) e
 
 pair_bytes : (h l : Option ℕ) (rest : Option (List ℕ)) (bytes : List ℕ) → ((n : ℕ) → h ≡ Some n → n < 16) → ((n : ℕ) → l ≡ Some n → n < 16) → ((more : List ℕ) → rest ≡ Some more → AllByRecursion (λ b. b < 256) more)
     → option_and_then (λ h. option_and_then (λ l. option_map (λ more. (16 * h + l) ∷ more) rest) l) h ≡ Some bytes → AllByRecursion (λ b. b < 256) bytes
@@ -164,7 +154,7 @@ value_fits p kind.UInt64 text v utf8 only e = integer_fits p kind.UInt64 v (inte
 value_fits p kind.Decimal text v utf8 only e = decimal_fits p v (integer_of (before_first (λ c. nat_eq c 101) text)) (integer_of (after_first (λ c. nat_eq c 101) text)) e
 value_fits p kind.Ascii text v utf8 only e =
     let is_so = so (list_all (λ c. nat_lt c 128) text && is_short text) (Ascii text) v e in
-    subst (Fits p kind.Ascii) is_so.1 (record { of_kind = refl; in_part = any_part p (Ascii text) (λ y same. absurd cc); is_scalar = (short text (second_of (list_all (λ c. nat_lt c 128) text) (is_short text) is_so.0), all_below 128 text (first_of (list_all (λ c. nat_lt c 128) text) (is_short text) is_so.0)) })
+    subst (Fits p kind.Ascii) is_so.1 (record { of_kind = refl; in_part = any_part p (Ascii text) (λ y same. absurd cc); is_scalar = (short text (second_so (list_all (λ c. nat_lt c 128) text) (is_short text) is_so.0), all_below 128 text (first_so (list_all (λ c. nat_lt c 128) text) (is_short text) is_so.0)) })
 value_fits p kind.Unicode text v utf8 only e =
     let is_so = so (is_short text) (Unicode text) v e in
     subst (Fits p kind.Unicode) is_so.1 (record { of_kind = refl; in_part = any_part p (Unicode text) (λ y same. absurd cc); is_scalar = (short text is_so.0, utf8_bytes text utf8, utf8) })

@@ -1,4 +1,5 @@
 pub mod Maps
+pub mod AllOf
 pub mod Rewritten
 pub mod Numbering
 pub mod Slotting

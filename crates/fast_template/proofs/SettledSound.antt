@@ -7,6 +7,7 @@ use Rattle.fast_template.specs.declared.kind.Presence.{Presence}
 use Rattle.fast_template.specs.declared.resolved.FieldPart.{FieldPart}
 use Rattle.fast_template.specs.Resolved.{Instruction, Instructions, whole_field, field_in_parts, group_of, sequence_of, no_instructions, then_instruction, size_of, size_of_one, depth_of, depth_of_one, numbered, numbered_one, with_key, with_keys, with_keys_of_one}
 use Rattle.fast_template.specs.TemplateSets.{IsPartOf, HasTypedParts, HaveTypedParts, IsNumbered}
+use Rattle.fast_template.proofs.Settling.{size_with_keys}
 
 -- a part's own number and key are no part of what makes it typed
 renumbered : (part : Part) (kind : Kind) (presence : Presence) (n : ℕ) (p : FieldPart) → IsPartOf part kind presence p → IsPartOf part kind presence (record p { number = n })
@@ -63,19 +64,8 @@ mutual
   size_numbered_one n (group_of name number presence members) = ap (λ m. 1 + m) (size_numbered (n + 1) members)
   size_numbered_one n (sequence_of name number presence length members) = ap (λ m. 1 + m) (size_numbered (n + 1) members)
 
-mutual
-  size_rekeyed : (f : Key → Key) (is : Instructions) → size_of (with_keys f is) ≡ size_of is
-  size_rekeyed f no_instructions = refl
-  size_rekeyed f (then_instruction i is) = λ k. size_rekeyed_one f i k + size_rekeyed f is k
-
-  size_rekeyed_one : (f : Key → Key) (i : Instruction) → size_of_one (with_keys_of_one f i) ≡ size_of_one i
-  size_rekeyed_one f (whole_field name number presence whole) = refl
-  size_rekeyed_one f (field_in_parts name number presence exponent mantissa) = refl
-  size_rekeyed_one f (group_of name number presence members) = ap (λ m. 1 + m) (size_rekeyed f members)
-  size_rekeyed_one f (sequence_of name number presence length members) = ap (λ m. 1 + m) (size_rekeyed f members)
-
 pub size_settled : (f : Key → Key) (is : Instructions) → size_of (numbered 1 (with_keys f is)) ≡ size_of is
-size_settled f is = size_numbered 1 (with_keys f is) ∙ size_rekeyed f is
+size_settled f is = size_numbered 1 (with_keys f is) ∙ size_with_keys f is
 
 mutual
   depth_numbered : (n : ℕ) (is : Instructions) → depth_of (numbered n is) ≡ depth_of is

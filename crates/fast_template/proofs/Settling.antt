@@ -1,6 +1,6 @@
 -- Templates that are given their slots and numbers, one after another.
 use Rattle.std.proofs.Common.{◌≡◌, Option, None, true≢false, unwrap_or, ◌⊎◌, inl, inr, ◌<◌, ◌≤◌, ◌+◌, ℕ, zero, suc, List, [], ◌∷◌, ◌++◌, length, take, drop, get_or, slice_set, map, Some, subst, refl, sym, ap, ◌∙◌, arith}
-use Rattle.std.proofs.lemmas.List.{append_assoc, append-nil, take_more, take_more_set, drop-set-lt, drop_more, take_all, length-set}
+use Rattle.std.proofs.lemmas.List.{map-append, map_push, append_assoc, append-nil, take_more, take_more_set, drop-set-lt, drop_more, take_all, length-set}
 use Rattle.std.proofs.lemmas.List.Elements.{Contains-append_right, Contains-append_cases, Contains-push_cases}
 use Rattle.std.specs.Prelude.{Contains, IsSome, IfOk, Result, Ok, Err}
 use Rattle.std.specs.declared.alloc.AllocError.{AllocError}
@@ -26,14 +26,10 @@ mutual
   size_with_keys_of_one f (group_of name number presence members) = ap (λ n. 1 + n) (size_with_keys f members)
   size_with_keys_of_one f (sequence_of name number presence length members) = ap (λ n. 1 + n) (size_with_keys f members)
 
-map_append : (f : Key → Key) (xs ys : List Key) → map f (xs ++ ys) ≡ map f xs ++ map f ys
-map_append f [] ys = refl
-map_append f (x ∷ xs) ys = ap (λ l. f x ∷ l) (map_append f xs ys)
-
 mutual
   keys_with_keys : (f : Key → Key) (is : Instructions) → keys_of (with_keys f is) ≡ map f (keys_of is)
   keys_with_keys f no_instructions = refl
-  keys_with_keys f (then_instruction i is) = (λ k. keys_with_keys_of_one f i k ++ keys_with_keys f is k) ∙ sym (map_append f (keys_of_one i) (keys_of is))
+  keys_with_keys f (then_instruction i is) = (λ k. keys_with_keys_of_one f i k ++ keys_with_keys f is k) ∙ sym (map-append f (keys_of_one i) (keys_of is))
 
   keys_with_keys_of_one : (f : Key → Key) (i : Instruction) → keys_of_one (with_keys_of_one f i) ≡ map f (keys_of_one i)
   keys_with_keys_of_one f (whole_field name number presence whole) = refl
@@ -60,7 +56,7 @@ pub keys_settled : (slot : Key → ℕ) (rs : List Resolved) → keys_of_all (ma
 keys_settled slot [] = refl
 keys_settled slot (r ∷ rs) =
     (λ k. (keys_numbered 1 (with_keys (slotted slot) r.members) ∙ keys_with_keys (slotted slot) r.members) k ++ keys_settled slot rs k)
-    ∙ sym (map_append (slotted slot) (keys_of r.members) (keys_of_all rs))
+    ∙ sym (map-append (slotted slot) (keys_of r.members) (keys_of_all rs))
 
 -- ---- the slots that they have then
 
@@ -118,12 +114,8 @@ keys_join_all : (xs : List Resolved) (r : Resolved) → keys_of_all (xs ++ r ∷
 keys_join_all [] r = append-nil (keys_of r.members)
 keys_join_all (x ∷ xs) r = ap (λ l. keys_of x.members ++ l) (keys_join_all xs r) ∙ sym (append_assoc (keys_of x.members) (keys_of_all xs) (keys_of r.members))
 
-map_join : (ts : List FlatTemplate) (t : FlatTemplate) → map resolved_of (ts ++ t ∷ []) ≡ map resolved_of ts ++ resolved_of t ∷ []
-map_join [] t = refl
-map_join (x ∷ ts) t = ap (λ l. resolved_of x ∷ l) (map_join ts t)
-
 pub all_more : (ts : List FlatTemplate) (i : ℕ) (d : FlatTemplate) → i < length ts → keys_of_all (map resolved_of (take (i + 1) ts)) ≡ keys_of_all (map resolved_of (take i ts)) ++ keys_of (resolved_of (get_or ts i d)).members
-all_more ts i d lt = ap (λ l. keys_of_all (map resolved_of l)) (take_more ts i d lt) ∙ ap keys_of_all (map_join (take i ts) (get_or ts i d)) ∙ keys_join_all (map resolved_of (take i ts)) (resolved_of (get_or ts i d))
+all_more ts i d lt = ap (λ l. keys_of_all (map resolved_of l)) (take_more ts i d lt) ∙ ap keys_of_all (map_push resolved_of (take i ts) (get_or ts i d)) ∙ keys_join_all (map resolved_of (take i ts)) (resolved_of (get_or ts i d))
 
 -- those before i are settled, and the others are as they were
 pub record Partly (g : Resolved → Resolved) (now before : List FlatTemplate) (i : ℕ) : Type 0 where
@@ -148,7 +140,7 @@ settled_more g now before i t d lt p is =
     let there : i < length before = omega (arith, lt, p.long) in
     let same = heads_same (get_or now i d) (get_or before i d) (drop (i + 1) now) (drop (i + 1) before) (sym (drop_more now i d lt) ∙ p.back ∙ drop_more before i d there) in
     record {
-      front = ap (map resolved_of) (take_more_set now i t lt) ∙ map_join (take i now) t ∙ (λ k. p.front k ++ (is ∙ ap (λ z. g (resolved_of z)) same.0) k ∷ []) ∙ sym (map_join_by g (take i before) (get_or before i d)) ∙ ap (λ l. map g (map resolved_of l)) (sym (take_more before i d there));
+      front = ap (map resolved_of) (take_more_set now i t lt) ∙ map_push resolved_of (take i now) t ∙ (λ k. p.front k ++ (is ∙ ap (λ z. g (resolved_of z)) same.0) k ∷ []) ∙ sym (map_join_by g (take i before) (get_or before i d)) ∙ ap (λ l. map g (map resolved_of l)) (sym (take_more before i d there));
       back = drop-set-lt (i + 1) now i t (omega arith) ∙ same.1;
       long = length-set now i t ∙ p.long;
     }

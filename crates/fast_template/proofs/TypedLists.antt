@@ -18,6 +18,7 @@ use Rattle.fast_template.specs.LoadChecks.{operator_allowed, constant_has_value,
 use Rattle.fast_template.specs.Phases.{Passes}
 use Rattle.fast_template.specs.FlatLists.{AreFlatLists, context_of}
 use Rattle.fast_template.specs.TemplateSets.{applies, IsInitial, IsPartOf, HaveTypedParts}
+use Rattle.fast_template.proofs.AllOf.{all_of_front, all_of_back}
 use Rattle.fast_template.proofs.InitialFits.{value_fits}
 
 -- what the checks of operators ask of a part, and what a text is
@@ -141,14 +142,6 @@ LeadsToTyped stands (written_reference name) = HaveTypedParts (stands name)
 abbrev Passing : (List ℕ → Instructions) → WrittenInstruction → Type 0
 Passing stands written = PartsPass (parts_of written) × LeadsToTyped stands written
 
-front_all : {A : Type 0} (P : A → Type 0) (xs ys : List A) → AllByRecursion P (xs ++ ys) → AllByRecursion P xs
-front_all P [] ys all = tt
-front_all P (x ∷ xs) ys all = (all.0, front_all P xs ys all.1)
-
-back_all : {A : Type 0} (P : A → Type 0) (xs ys : List A) → AllByRecursion P (xs ++ ys) → AllByRecursion P ys
-back_all P [] ys all = all
-back_all P (x ∷ xs) ys all = back_all P xs ys all.1
-
 mutual
   passing_one : (stands : List ℕ → Instructions) (i : WrittenInstruction) → AllByRecursion (Passing stands) (listed_one i) → OnePasses stands i
   passing_one stands (written_field name kind presence operation) all = all.0.0
@@ -159,7 +152,7 @@ mutual
 
   passing_list : (stands : List ℕ → Instructions) (is : WrittenInstructions) → AllByRecursion (Passing stands) (listed is) → ListPasses stands is
   passing_list stands no_written all = tt
-  passing_list stands (then_written i is) all = (passing_one stands i (front_all (Passing stands) (listed_one i) (listed is) all), passing_list stands is (back_all (Passing stands) (listed_one i) (listed is) all))
+  passing_list stands (then_written i is) all = (passing_one stands i (all_of_front (Passing stands) (listed_one i) (listed is) all), passing_list stands is (all_of_back (Passing stands) (listed_one i) (listed is) all))
 
 leads_by : (stands : List ℕ → Instructions) (written : WrittenInstruction) → ((name : List ℕ) → written ≡ written_reference name → HaveTypedParts (stands name)) → LeadsToTyped stands written
 leads_by stands (written_field name kind presence operation) lead = tt

@@ -9,6 +9,7 @@ use Rattle.fast_template.specs.declared.written.Instruction.{Instruction, map-In
 use Rattle.fast_template.specs.declared.written.Instruction.TheOpen.{Instruction-F}
 use Rattle.fast_template.specs.declared.written.Template.{Template}
 use Rattle.fast_template.specs.Written.{WrittenInstruction, written_step, written_of, written_list, listed, listed_one, written_template_of}
+use Rattle.fast_template.proofs.AllOf.{all_of_both}
 use Rattle.fast_template.proofs.TypedLists.{HasTexts}
 
 text_of : (o : Option (String Global)) → IfSome (option_map string_bytes o) IsUtf8
@@ -21,13 +22,9 @@ Texts i = AllByRecursion HasTexts (listed_one (written_of i))
 abbrev Proved : Type 0
 Proved = (i : Instruction) × Texts i
 
-both_all : (xs ys : List WrittenInstruction) → AllByRecursion HasTexts xs → AllByRecursion HasTexts ys → AllByRecursion HasTexts (xs ++ ys)
-both_all [] ys a b = b
-both_all (x ∷ xs) ys a b = (a.0, both_all xs ys a.1 b)
-
 lists : (is : List Proved) → AllByRecursion HasTexts (listed (written_list (map written_of (map (λ e. e.0) is))))
 lists [] = tt
-lists (i ∷ is) = both_all (listed_one (written_of i.0)) (listed (written_list (map written_of (map (λ e. e.0) is)))) i.1 (lists is)
+lists (i ∷ is) = all_of_both HasTexts (listed_one (written_of i.0)) (listed (written_list (map written_of (map (λ e. e.0) is)))) i.1 (lists is)
 
 abbrev known : Instruction-F Proved → Instruction-F Instruction
 known = map-Instruction Proved Instruction (λ e. e.0)
@@ -50,7 +47,7 @@ proved = map (λ i. (i, texts i))
 
 members_have_texts : (is : List Instruction) → AllByRecursion HasTexts (listed (written_list (map written_of is)))
 members_have_texts [] = tt
-members_have_texts (i ∷ is) = both_all (listed_one (written_of i)) (listed (written_list (map written_of is))) (texts i) (members_have_texts is)
+members_have_texts (i ∷ is) = all_of_both HasTexts (listed_one (written_of i)) (listed (written_list (map written_of is))) (texts i) (members_have_texts is)
 
 pub template_has_texts : (t : Template) → AllByRecursion HasTexts (listed (written_template_of t).members)
 template_has_texts t = members_have_texts t.members.items
