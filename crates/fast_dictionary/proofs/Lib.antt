@@ -1,2 +1,3 @@
+pub mod FoundKeys
 pub mod OrderedMaps
 pub mod SlotMaps

@@ -1,7 +1,9 @@
 //! Entries in the slots of a template set.
 
-ghost use Rattle.std.specs.Prelude.{◌≡◌, IfOk, false, vec_len};
+ghost use Rattle.std.specs.Prelude.{◌≡◌, Contains, IfOk, IsTrue, false, vec_len};
 ghost use Rattle.std.specs.FinMap as map;
+ghost use Rattle.fast_template.specs.declared.key.Key.{Key as KeyOf};
+ghost use Rattle.fast_template.specs.TemplateSets.{keys_in};
 ghost use Rattle.fast_dictionary.specs.Slots.{AllUndefined, AreBelow, HaveOwnSlots, dictionary_in, is_key_in};
 
 use crate::entries::Entries;
@@ -32,6 +34,8 @@ impl<'a> SlotEntries<'a> {
             (λ s. ⟦<SlotEntries<'a> as Entries>⟧.contents s ≡ map.empty) }
         ensures keys { IfOk result
             (λ s. ⟦<SlotEntries<'a> as Entries>⟧.serves s ≡ is_key_in set.now) }
+        ensures serves_all { IfOk result (λ s. (k : KeyOf) → Contains (keys_in set.now) k
+            → IsTrue (⟦<SlotEntries<'a> as Entries>⟧.serves s k)) }
     {
         let slots = set.slots();
         let mut entries = Vec::with_capacity(alloc, slots as usize)?;

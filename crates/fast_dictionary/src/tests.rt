@@ -1,9 +1,14 @@
-ghost use Rattle.std.specs.Prelude.{IsTrue};
+ghost use Rattle.std.specs.Prelude.{Contains, IfSome, IsTrue};
+ghost use Rattle.fast_template.specs.Resolved.{instruction_of, keys_of, keys_of_one, list_of};
 
 use crate::entries::Entries;
 use crate::entry::{Entry, EntryRef};
 use crate::map::MapEntries;
-use fast_template::{Key, Name, Part, Scalar, Scope, UnicodeText};
+use crate::slots::SlotEntries;
+use fast_template::{
+    Flat, FlatTemplate, Key, LoadCause, LoadFault, Name, Part, Scalar, Scope, TemplateSet,
+    UnicodeText,
+};
 use std::alloc::{AllocError, Global};
 use std::process::Abort;
 
@@ -93,4 +98,55 @@ fn entries_of_a_reference(rt: HostRuntime) -> Result<(), AllocError> {
         assert_eq!(rt; entry.view().copy(alloc)?, entry);
     }
     Ok(())
+}
+
+// The key of an instruction that is a field.
+fn key_of(flat: &Flat) -> Option<&Key>
+    ensures { IfSome result (λ k. Contains (keys_of_one (instruction_of flat.now)) k.now) }
+{
+    match flat {
+        Flat::Field { whole, .. } => Some(&whole.key),
+        _ => None,
+    }
+}
+
+// The key of a template's instruction at a place, where it is a field.
+fn key_at(template: &FlatTemplate, place: usize) -> Option<&Key>
+    ensures { IfSome result
+        (λ k. Contains (keys_of (list_of template.now.members.items)) k.now) }
+{
+    if place < template.members.len() {
+        key_of(&template.members[place])
+    } else {
+        None
+    }
+}
+
+const TWO_FIELDS: &str = r#"{"templates":[{"name":"Two","id":1,"instructions":[
+    {"kind":"string","charset":"unicode","name":"A","operator":"copy"},
+    {"kind":"string","charset":"unicode","name":"B","operator":"copy"}]}]}"#;
+
+#[test]
+fn entries_in_slots(rt: HostRuntime) -> Result<(), AllocError> {
+    let alloc = rt.alloc();
+    let set = match TemplateSet::from_json(alloc, TWO_FIELDS.as_bytes()) {
+        Ok(set) => set,
+        Err(
+            LoadFault {
+                cause: LoadCause::Memory,
+                ..
+            },
+        ) => return Err(AllocError),
+        Err(_) => panic!(rt; "refused"),
+    };
+    let Some(template) = set.find(1) else {
+        panic!(rt; "no template");
+    };
+    let Some(first) = key_at(template, 0) else {
+        panic!(rt; "another field");
+    };
+    let Some(second) = key_at(template, 1) else {
+        panic!(rt; "another second field");
+    };
+    walk(&rt, alloc, SlotEntries::new(alloc, &set)?, first, second)
 }

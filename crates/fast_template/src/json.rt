@@ -14,7 +14,7 @@ ghost use Rattle.fast_template.specs.declared.json.Unread.TheVariants as unread_
 use crate::fault::{LoadCause, LoadFault};
 use crate::kind::{Kind, Operator, Presence};
 use crate::names::is_name;
-use crate::profile::{Row, Word, fits, text_of_word};
+use crate::profile::{IDENTIFIERS, Row, Word, fits, text_of_word};
 use crate::walk::{fault_at, want_of_memory};
 use crate::written::{Instruction, Operation, Template};
 use serde_json::Value;
@@ -472,7 +472,7 @@ fn id_at(object: &Value) -> Option<u32>
     ensures { result ≡ id_in (view object.now) }
 {
     match object.get(text_of_word(Word::Id)).and_then(Value::as_u64) {
-        Some(id) if id < 4_294_967_296 => Some(id as u32),
+        Some(id) if id < IDENTIFIERS => Some(id as u32),
         _ => None,
     }
 }

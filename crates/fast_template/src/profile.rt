@@ -6,6 +6,9 @@ ghost use Rattle.fast_template.specs.Profile.{all_allowed, allows as allows_of, 
 
 use serde_json::{Map, Value};
 
+/// How many identifiers there are: each is below it.
+pub(crate) const IDENTIFIERS: u64 = 1 << 32;
+
 /// A key.
 #[derive(Clone, Copy)]
 pub(crate) enum Word {
@@ -190,7 +193,7 @@ fn is_shape(shape: Shape, value: &Value) -> bool
 {
     match shape {
         Shape::Text => value.is_string(),
-        Shape::Whole => value.as_u64().is_some_and(|number| number < 4_294_967_296),
+        Shape::Whole => value.as_u64().is_some_and(|number| number < IDENTIFIERS),
         Shape::Array => value.is_array(),
         Shape::Object => value.is_object(),
     }

@@ -1,3 +1,4 @@
+use super::{at, granted};
 use crate::fault::{LoadCause, LoadFault};
 use crate::kind::{Kind, Operator, Presence};
 use crate::resolved::{FieldPart, Flat};
@@ -121,19 +122,9 @@ fn referring(alloc: Global, name: &str, to: &[&str]) -> Result<Template, AllocEr
     template(alloc, name, None, members)
 }
 
-fn fault_of(alloc: Global, templates: Vec<Template>) -> Option<LoadFault> {
-    match TemplateSet::build(alloc, templates) {
-        Ok(_) => None,
-        Err(fault) => Some(fault),
-    }
-}
-
-fn at(cause: LoadCause, template: u32, instruction: u32) -> Option<LoadFault> {
-    Some(LoadFault {
-        cause,
-        template,
-        instruction,
-    })
+// The fault of templates, if they have one; want of memory ends the test.
+fn fault_of(alloc: Global, templates: Vec<Template>) -> Result<Option<LoadFault>, AllocError> {
+    Ok(granted(TemplateSet::build(alloc, templates))?.err())
 }
 
 #[test]
@@ -186,7 +177,7 @@ fn fields_are_judged(rt: HostRuntime) -> Result<(), AllocError> {
     ];
     for (kind, presence, operator, initial, expected) in rows {
         let set = one(alloc, field(alloc, kind, presence, operator, initial)?)?;
-        assert_eq!(rt; fault_of(alloc, set), expected, "{operator:?}");
+        assert_eq!(rt; fault_of(alloc, set)?, expected, "{operator:?}");
     }
     Ok(())
 }
@@ -202,11 +193,11 @@ fn odd_parts(alloc: Global, exponent: &str) -> Result<Vec<Template>, AllocError>
 fn an_exponent_is_judged_before_its_mantissa(rt: HostRuntime) -> Result<(), AllocError> {
     let alloc = rt.alloc();
     assert_eq!(rt;
-        fault_of(alloc, odd_parts(alloc, "64")?),
+        fault_of(alloc, odd_parts(alloc, "64")?)?,
         at(LoadCause::S3, 1, 1)
     );
     assert_eq!(rt;
-        fault_of(alloc, odd_parts(alloc, "-63")?),
+        fault_of(alloc, odd_parts(alloc, "-63")?)?,
         at(LoadCause::S2, 1, 1)
     );
     Ok(())
@@ -226,13 +217,13 @@ fn two(
 #[test]
 fn names_and_identifiers_are_new(rt: HostRuntime) -> Result<(), AllocError> {
     let alloc = rt.alloc();
-    assert_eq!(rt; fault_of(alloc, Vec::new(alloc)), None);
+    assert_eq!(rt; fault_of(alloc, Vec::new(alloc))?, None);
     let set = two(alloc, ("A", "A"), (None, None))?;
-    assert_eq!(rt; fault_of(alloc, set), at(LoadCause::DuplicateName, 2, 0));
+    assert_eq!(rt; fault_of(alloc, set)?, at(LoadCause::DuplicateName, 2, 0));
     let set = two(alloc, ("A", "B"), (Some(1), Some(1)))?;
-    assert_eq!(rt; fault_of(alloc, set), at(LoadCause::DuplicateId, 2, 0));
+    assert_eq!(rt; fault_of(alloc, set)?, at(LoadCause::DuplicateId, 2, 0));
     let set = two(alloc, ("A", "B b"), (None, None))?;
-    assert_eq!(rt; fault_of(alloc, set), at(LoadCause::S1, 2, 0));
+    assert_eq!(rt; fault_of(alloc, set)?, at(LoadCause::S1, 2, 0));
     Ok(())
 }
 
@@ -251,9 +242,9 @@ fn referring_all(alloc: Global, rows: &[&[&str]]) -> Result<Vec<Template>, Alloc
 fn references_lead_to_templates_and_not_back(rt: HostRuntime) -> Result<(), AllocError> {
     let alloc = rt.alloc();
     let set = referring_all(alloc, &[&["A", "Nobody"]])?;
-    assert_eq!(rt; fault_of(alloc, set), at(LoadCause::D8, 1, 1));
+    assert_eq!(rt; fault_of(alloc, set)?, at(LoadCause::D8, 1, 1));
     let set = referring_all(alloc, &[&["A", "A"]])?;
-    assert_eq!(rt; fault_of(alloc, set), at(LoadCause::Cycle, 1, 0));
+    assert_eq!(rt; fault_of(alloc, set)?, at(LoadCause::Cycle, 1, 0));
     // the first leads to a cycle, and the second leads from one cycle to another
     let set = referring_all(
         alloc,
@@ -265,7 +256,7 @@ fn references_lead_to_templates_and_not_back(rt: HostRuntime) -> Result<(), Allo
             &["E", "E"],
         ],
     )?;
-    assert_eq!(rt; fault_of(alloc, set), at(LoadCause::Cycle, 3, 0));
+    assert_eq!(rt; fault_of(alloc, set)?, at(LoadCause::Cycle, 3, 0));
     Ok(())
 }
 
@@ -290,7 +281,7 @@ fn depth_goes_through_references(rt: HostRuntime) -> Result<(), AllocError> {
     ];
     for (inner, outer, expected) in rows {
         assert_eq!(rt;
-            fault_of(alloc, nested(alloc, inner, outer)?),
+            fault_of(alloc, nested(alloc, inner, outer)?)?,
             expected,
             "{inner} {outer}"
         );
@@ -319,14 +310,14 @@ fn doubling(alloc: Global, count: u32, fields: u32) -> Result<Vec<Template>, All
 fn counts_stop(rt: HostRuntime) -> Result<(), AllocError> {
     let alloc = rt.alloc();
     assert_eq!(rt;
-        fault_of(alloc, doubling(alloc, 17, 1)?),
+        fault_of(alloc, doubling(alloc, 17, 1)?)?,
         at(LoadCause::TooMany, 1, 0)
     );
     assert_eq!(rt;
-        fault_of(alloc, doubling(alloc, 130, 1)?),
+        fault_of(alloc, doubling(alloc, 130, 1)?)?,
         at(LoadCause::TooMany, 1, 0)
     );
-    assert_eq!(rt; fault_of(alloc, doubling(alloc, 130, 0)?), None);
+    assert_eq!(rt; fault_of(alloc, doubling(alloc, 130, 0)?)?, None);
     Ok(())
 }
 
@@ -399,7 +390,7 @@ fn sharing(alloc: Global) -> Result<Vec<Template>, AllocError> {
 fn keys_are_those_where_an_instruction_was_written(rt: HostRuntime) -> Result<(), AllocError> {
     let alloc = rt.alloc();
     let mut line = String::new(alloc);
-    if let Ok(set) = TemplateSet::build(alloc, sharing(alloc)?) {
+    if let Ok(set) = granted(TemplateSet::build(alloc, sharing(alloc)?))? {
         if let Some(first) = set.find(5) {
             described(alloc, &first.members, &mut line)?;
         }
@@ -415,7 +406,7 @@ fn keys_are_those_where_an_instruction_was_written(rt: HostRuntime) -> Result<()
 fn initial_values_are_read(rt: HostRuntime) -> Result<(), AllocError> {
     let alloc = rt.alloc();
     let mut fields = 0u32;
-    if let Ok(set) = TemplateSet::build(alloc, sharing(alloc)?) {
+    if let Ok(set) = granted(TemplateSet::build(alloc, sharing(alloc)?))? {
         if let Some(shared) = set.find(6) {
             for flat in &shared.members {
                 if let Some(part) = part_of(flat) {

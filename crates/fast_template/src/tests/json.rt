@@ -1,80 +1,11 @@
+use super::{at, granted};
 use crate::fault::{LoadCause, LoadFault};
-use crate::resolved::Flat;
 use crate::set::TemplateSet;
 use std::alloc::{AllocError, Global};
 
-// The text of the worked templates.
-const WORKED: &str = r#"{"templates":[
-{"name":"Quote","id":1,"instructions":[
- {"kind":"uInt32","name":"Seq","operator":"increment"},
- {"kind":"string","name":"Sym","operator":"copy"},
- {"kind":"decimal","name":"Px","operator":"delta"},
- {"kind":"uInt32","name":"Qty","presence":"optional","operator":"copy"}]},
-{"name":"Wrap","id":2,"instructions":[
- {"kind":"uInt32","name":"A","operator":"increment"},
- {"kind":"uInt32","name":"B","operator":"delta"}]},
-{"name":"Opt","id":3,"instructions":[
- {"kind":"decimal","name":"Px","presence":"optional",
-  "exponent":{"operator":"default","value":"2"},"mantissa":{"operator":"copy"}},
- {"kind":"uInt32","name":"Flag","operator":"copy"}]},
-{"name":"Legs","id":4,"instructions":[
- {"kind":"sequence","name":"L","presence":"optional","instructions":[
-  {"kind":"uInt32","name":"P"}]}]},
-{"name":"Marks","id":5,"instructions":[
- {"kind":"sequence","name":"L","instructions":[
-  {"kind":"uInt32","name":"Q","operator":"copy"}]}]},
-{"name":"Bare","id":6,"instructions":[
- {"kind":"sequence","name":"L","instructions":[]}]},
-{"name":"Clash","id":7,"instructions":[
- {"kind":"uInt32","name":"A","operator":"copy","key":"K"},
- {"kind":"string","name":"B","operator":"copy","key":"K"}]},
-{"name":"Tail","id":8,"instructions":[
- {"kind":"string","name":"S","presence":"optional","operator":"tail"}]},
-{"name":"Init","id":9,"instructions":[
- {"kind":"string","name":"S","presence":"optional","operator":"tail","value":"ab"}]},
-{"name":"Delta","id":10,"instructions":[
- {"kind":"string","name":"S","operator":"delta"}]},
-{"name":"Common","instructions":[
- {"kind":"uInt32","name":"B","operator":"copy"}]},
-{"name":"Grp","id":11,"instructions":[
- {"kind":"group","name":"Hd","presence":"optional","instructions":[
-  {"kind":"uInt32","name":"A","operator":"copy"}]},
- {"kind":"templateRef","name":"Common"}]},
-{"name":"Uni","id":12,"instructions":[
- {"kind":"string","charset":"unicode","name":"S","operator":"tail"}]},
-{"name":"Empty","id":13,"instructions":[
- {"kind":"uInt32","name":"A","presence":"optional","operator":"copy","key":"K"},
- {"kind":"uInt32","name":"B","operator":"delta","key":"K"}]},
-{"name":"Const","id":14,"instructions":[
- {"kind":"uInt32","name":"K","operator":"constant","value":"7"},
- {"kind":"uInt32","name":"O","presence":"optional","operator":"constant","value":"9"},
- {"kind":"uInt32","name":"D","operator":"default","value":"3"}]},
-{"name":"Fixed","id":15,"instructions":[
- {"kind":"decimal","name":"Px",
-  "exponent":{"operator":"constant","value":"-2"},"mantissa":{"operator":"delta"}},
- {"kind":"byteVector","name":"Raw","presence":"optional","operator":"copy"}]},
-{"name":"First","id":16,"instructions":[
- {"kind":"uInt32","name":"A"},
- {"kind":"uInt32","name":"B","operator":"copy"}]}]}"#;
-
-fn load(alloc: Global, text: &str) -> Result<TemplateSet, LoadFault> {
-    TemplateSet::from_json(alloc, text.as_bytes())
-}
-
-// The fault of a text, if it has one.
-fn fault_of(alloc: Global, text: &str) -> Option<LoadFault> {
-    match load(alloc, text) {
-        Ok(_) => None,
-        Err(fault) => Some(fault),
-    }
-}
-
-fn fault(cause: LoadCause, template: u32, instruction: u32) -> Option<LoadFault> {
-    Some(LoadFault {
-        cause,
-        template,
-        instruction,
-    })
+// The fault of a text, if it has one; want of memory ends the test.
+fn fault_of(alloc: Global, text: &str) -> Result<Option<LoadFault>, AllocError> {
+    Ok(granted(TemplateSet::from_json(alloc, text.as_bytes()))?.err())
 }
 
 // The text of one template of these instructions.
@@ -87,38 +18,7 @@ fn one(alloc: Global, instructions: &str) -> Result<String, AllocError> {
 
 fn fault_of_one(alloc: Global, instructions: &str) -> Result<Option<LoadFault>, AllocError> {
     let text = one(alloc, instructions)?;
-    Ok(fault_of(alloc, &text))
-}
-
-#[test]
-fn the_worked_templates_are_accepted(rt: HostRuntime) -> Result<(), AllocError> {
-    let alloc = rt.alloc();
-    let Ok(set) = load(alloc, WORKED) else {
-        panic!(rt; "refused");
-    };
-    assert_eq!(rt; set.name(1), Some("Quote"));
-    assert_eq!(rt; set.name(16), Some("First"));
-    assert_eq!(rt; set.name(17), None);
-    // Grp: the group with its member, and Common's field in the place of the reference
-    let Some(grp) = set.find(11) else {
-        panic!(rt; "no Grp");
-    };
-    assert_eq!(rt; grp.members.len(), 2);
-    let names = match (grp.members.first(), grp.members.last()) {
-        (
-            Some(Flat::Group { name, members, .. }),
-            Some(
-                Flat::Field {
-                    name: last,
-                    number,
-                    ..
-                },
-            ),
-        ) => { (name.as_str(), members.len(), last.as_str(), *number) }
-        _ => panic!(rt; "another list"),
-    };
-    assert_eq!(rt; names, ("Hd", 1, "B", 3));
-    Ok(())
+    fault_of(alloc, &text)
 }
 
 #[test]
@@ -162,7 +62,7 @@ fn instructions_are_loaded_as_written(rt: HostRuntime) -> Result<(), AllocError>
     for (instructions, cause, instruction) in &rows {
         assert_eq!(rt;
             fault_of_one(alloc, instructions)?,
-            fault(*cause, 1, *instruction)
+            at(*cause, 1, *instruction)
         );
     }
     Ok(())
@@ -174,7 +74,7 @@ fn decimals_and_defaults_are_loaded(rt: HostRuntime) -> Result<(), AllocError> {
     // an exponent's checks come before its mantissa's
     let both = r#"{"kind":"decimal","name":"F",
         "exponent":{"operator":"copy","value":"64"},"mantissa":{"operator":"tail"}}"#;
-    assert_eq!(rt; fault_of_one(alloc, both)?, fault(LoadCause::S3, 1, 1));
+    assert_eq!(rt; fault_of_one(alloc, both)?, at(LoadCause::S3, 1, 1));
     let accepted = [
         // a mantissa alone: the exponent is as if it were empty
         r#"{"kind":"decimal","name":"F","mantissa":{"operator":"copy"}}"#,
@@ -184,8 +84,8 @@ fn decimals_and_defaults_are_loaded(rt: HostRuntime) -> Result<(), AllocError> {
         assert_eq!(rt; fault_of_one(alloc, instructions)?, None);
     }
     let large = r#"{"kind":"uInt32","name":"F","operator":"copy","value":"4294967296"}"#;
-    assert_eq!(rt; fault_of_one(alloc, large)?, fault(LoadCause::S3, 1, 1));
-    assert_eq!(rt; fault_of(alloc, r#"{"templates":[]}"#), None);
+    assert_eq!(rt; fault_of_one(alloc, large)?, at(LoadCause::S3, 1, 1));
+    assert_eq!(rt; fault_of(alloc, r#"{"templates":[]}"#)?, None);
     Ok(())
 }
 
@@ -203,7 +103,7 @@ fn texts_of_another_shape_are_refused(rt: HostRuntime) -> Result<(), AllocError>
         r#"{"templates":[{"name":"A","instructions":[],"id":01}]}"#,
     ];
     for text in &texts {
-        assert_eq!(rt; fault_of(alloc, text), fault(LoadCause::S1, 0, 0));
+        assert_eq!(rt; fault_of(alloc, text)?, at(LoadCause::S1, 0, 0));
     }
     Ok(())
 }
@@ -224,11 +124,11 @@ fn templates_of_another_shape_are_refused(rt: HostRuntime) -> Result<(), AllocEr
         r#"{"templates":[{"name":"","instructions":[]},{"name":"B","instructions":[]}]}"#,
     ];
     for text in &texts {
-        assert_eq!(rt; fault_of(alloc, text), fault(LoadCause::S1, 1, 0));
+        assert_eq!(rt; fault_of(alloc, text)?, at(LoadCause::S1, 1, 0));
     }
     // a bad name in the first template, and a bad shape in the second
     let second = r#"{"templates":[{"name":"","instructions":[]},{"name":"B"}]}"#;
-    assert_eq!(rt; fault_of(alloc, second), fault(LoadCause::S1, 2, 0));
+    assert_eq!(rt; fault_of(alloc, second)?, at(LoadCause::S1, 2, 0));
     Ok(())
 }
 
@@ -252,10 +152,10 @@ fn instructions_of_another_shape_are_refused(rt: HostRuntime) -> Result<(), Allo
         r#"{"kind":"sequence","name":"L","instructions":[],"length":{"kind":"uInt32"}}"#,
     ];
     for one in &instructions {
-        assert_eq!(rt; fault_of_one(alloc, one)?, fault(LoadCause::S1, 1, 1));
+        assert_eq!(rt; fault_of_one(alloc, one)?, at(LoadCause::S1, 1, 1));
     }
     let inside = r#"{"kind":"group","name":"G","instructions":[{"kind":"uInt32","name":"F"},1]}"#;
-    assert_eq!(rt; fault_of_one(alloc, inside)?, fault(LoadCause::S1, 1, 3));
+    assert_eq!(rt; fault_of_one(alloc, inside)?, at(LoadCause::S1, 1, 3));
     Ok(())
 }
 
@@ -263,10 +163,62 @@ fn instructions_of_another_shape_are_refused(rt: HostRuntime) -> Result<(), Allo
 fn of_a_key_that_stands_twice_the_last_is_read(rt: HostRuntime) -> Result<(), AllocError> {
     let alloc = rt.alloc();
     let twice = "{\"templates\":[{\"id\":\"x\",\"name\":\"A\",\"id\":7,\"instructions\":[]}]}";
-    let Ok(set) = load(alloc, twice) else {
+    let Ok(set) = granted(TemplateSet::from_json(alloc, twice.as_bytes()))? else {
         panic!(rt; "refused");
     };
     assert_eq!(rt; set.name(7), Some("A"));
-    assert_eq!(rt; TemplateSet::from_json(alloc, &[0xFF]).is_err(), true);
+    assert!(rt; granted(TemplateSet::from_json(alloc, &[0xFF]))?.is_err());
+    Ok(())
+}
+
+// Groups, each in the one before.
+fn nested(alloc: Global, levels: u32) -> Result<String, AllocError> {
+    let mut text = String::new(alloc);
+    for _ in 0..levels {
+        text.push_str(r#"{"kind":"group","name":"G","instructions":["#)?;
+    }
+    for _ in 0..levels {
+        text.push_str("]}")?;
+    }
+    Ok(text)
+}
+
+#[test]
+fn groups_in_groups_are_loaded(rt: HostRuntime) -> Result<(), AllocError> {
+    let alloc = rt.alloc();
+    let nine = nested(alloc, 9)?;
+    assert_eq!(rt; fault_of_one(alloc, &nine)?, at(LoadCause::TooDeep, 1, 0));
+    let eight = nested(alloc, 8)?;
+    assert_eq!(rt; fault_of_one(alloc, &eight)?, None);
+    Ok(())
+}
+
+// Seventeen templates, each of which refers to the next one twice; the last has one field.
+fn doubling(alloc: Global) -> Result<String, AllocError> {
+    let mut text = String::from_str(alloc, r#"{"templates":["#)?;
+    for number in 1..17 {
+        text.push_str(&format!(in alloc; r#"{{"name":"N{number}","instructions":["#)?)?;
+        let next = format!(in alloc; r#"{{"kind":"templateRef","name":"N{}"}}"#, number + 1)?;
+        text.push_str(&format!(in alloc; "{next},{next}]}},")?)?;
+    }
+    let last = r#"{"name":"N17","instructions":[{"kind":"uInt32","name":"F"}]}]}"#;
+    text.push_str(last)?;
+    Ok(text)
+}
+
+#[test]
+fn templates_with_others_are_loaded(rt: HostRuntime) -> Result<(), AllocError> {
+    let alloc = rt.alloc();
+    let many = doubling(alloc)?;
+    assert_eq!(rt; fault_of(alloc, &many)?, at(LoadCause::TooMany, 1, 0));
+    let itself = r#"{"kind":"templateRef","name":"A"}"#;
+    assert_eq!(rt; fault_of_one(alloc, itself)?, at(LoadCause::Cycle, 1, 0));
+    let nobody = r#"{"kind":"templateRef","name":"Nobody"}"#;
+    assert_eq!(rt; fault_of_one(alloc, nobody)?, at(LoadCause::D8, 1, 1));
+    let names = r#"{"templates":[{"name":"A","instructions":[]},{"name":"A","instructions":[]}]}"#;
+    assert_eq!(rt; fault_of(alloc, names)?, at(LoadCause::DuplicateName, 2, 0));
+    let ids = r#"{"templates":[{"name":"A","id":1,"instructions":[]},
+        {"name":"B","id":1,"instructions":[]}]}"#;
+    assert_eq!(rt; fault_of(alloc, ids)?, at(LoadCause::DuplicateId, 2, 0));
     Ok(())
 }

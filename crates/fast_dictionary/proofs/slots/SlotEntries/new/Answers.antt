@@ -1,3 +1,7 @@
+use Rattle.std.specs.Cmp.{eq_by_cmp_equiv}
+use Rattle.std.proofs.lemmas.Map.Views.{list_any-from_Contains}
+use Rattle.fast_template.specs.Key.{key_cmp-total}
+use Rattle.fast_template.specs.TemplateSets.{keys_in}
 use Rattle.fast_dictionary.proofs.SlotMaps.{are_below, have_own_slots, undefined_is_empty}
 use Rattle.fast_dictionary.proofs.slots.SlotEntries.new.Goals as goal
 
@@ -9,3 +13,6 @@ invariant_of-result-clause-own_slots c = have_own_slots c.args.set.now c.slots-s
 
 pub returns-clause-empty : goal.returns-clause-empty
 returns-clause-empty c = undefined_is_empty c.args.set.now c.loop.entries.items c.loop.invariant.1
+
+pub returns-clause-serves_all : goal.returns-clause-serves_all
+returns-clause-serves_all c = λ k found. list_any-from_Contains (eq_by_cmp_equiv key_cmp-total) k (keys_in c.args.set.now) found

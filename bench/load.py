@@ -1,0 +1,114 @@
+#!/usr/bin/env python3
+"""Measures how long template sets of extreme shapes take to load, and how much memory.
+
+usage: bench/load.py [PROGRAM]
+
+PROGRAM is crates/template_load/out/template_load if left out (`rt run` in crates/template_load builds it). Each text
+is made anew, loaded three times, and answered by one line of a table: the text's size, what the program says, the
+least processor time and the greatest memory. The status is 1 where an answer is not the one expected.
+"""
+import json
+import os
+import subprocess
+import sys
+import tempfile
+
+MOST = 65_535
+
+
+def field(name, **more):
+    return {"kind": "uInt32", "name": name, **more}
+
+
+def template(name, *instructions):
+    return {"name": name, "instructions": list(instructions)}
+
+
+def refers(name, *others):
+    return template(name, *({"kind": "templateRef", "name": other} for other in others))
+
+
+def doubling(last):
+    return [refers(f"N{n}", f"N{n + 1}", f"N{n + 1}") for n in range(1, 130)] + [template("N130", *last)]
+
+
+def chain():
+    return [refers(f"N{n}", f"N{n + 1}") for n in range(1, MOST)] + [template(f"N{MOST}")]
+
+
+def ring():
+    return chain()[:-1] + [refers(f"N{MOST}", "N1")]
+
+
+def between_cycles():
+    """A ring of two, a path from it, and at its end another ring of two, which the last template closes."""
+    path = [refers(f"P{n}", f"P{n + 1}") for n in range(1, MOST - 4)]
+    return path + [refers(f"P{MOST - 4}", "C"), refers("A", "B"), refers("B", "A", "P1"), refers("C", "D"), refers("D", "C")]
+
+
+def long_text():
+    """Some 16 MB: names of 255 characters."""
+    return [template(f"{n:0>255}", field(f"{n:a>200}")) for n in range(33_000)]
+
+
+CASES = [
+    ("no template", lambda: [], "accepted slots=1"),
+    ("130 templates, each referring twice to the next, the last one empty", lambda: doubling([]), "accepted slots=1"),
+    ("the same, the last one with a field: more than 2^64 instructions", lambda: doubling([field("F")]),
+     "refused TooMany template=1 instruction=0"),
+    ("a chain of 65,535 templates", chain, "accepted slots=1"),
+    ("the same, the last one first", lambda: chain()[::-1], "accepted slots=1"),
+    ("a ring of 65,535 templates", ring, "refused Cycle template=1 instruction=0"),
+    ("a path of 65,531 templates between two cycles", between_cycles,
+     "refused Cycle template=65532 instruction=0"),
+    ("65,535 instructions in one template, one key each",
+     lambda: [template("T", *(field(f"F{n}", operator="copy") for n in range(MOST)))], f"accepted slots={MOST + 1}"),
+    ("the same, with one key", lambda: [template("T", *(field("F", operator="copy", key="K") for _ in range(MOST)))],
+     "accepted slots=2"),
+    ("65,535 templates whose names differ at their ends", lambda: [template(f"{n:x>80}", field("F")) for n in range(MOST)],
+     "accepted slots=2"),
+    ("names of 255 characters", long_text, "accepted slots=33001"),
+]
+
+
+def write(path, templates):
+    """Writes a template text, in a process of its own: what that takes would count as the program's."""
+    child = os.fork()
+    if child == 0:
+        with open(path, "w") as text:
+            json.dump({"templates": templates()}, text, separators=(",", ":"))
+        os._exit(0)
+    os.waitpid(child, 0)
+
+
+def run(program, path):
+    """What the program says of a file, the processor seconds it takes, and its greatest memory in MB."""
+    with open(path, "rb") as text, subprocess.Popen([program], stdin=text, stdout=subprocess.PIPE) as child:
+        said = child.stdout.read().decode().strip()
+        _, _, used = os.wait4(child.pid, 0)
+        child.returncode = 0
+    return said, used.ru_utime + used.ru_stime, used.ru_maxrss / 1024
+
+
+def main():
+    here = os.path.dirname(os.path.abspath(__file__))
+    default = os.path.join(here, "../crates/template_load/out/template_load")
+    program = sys.argv[1] if len(sys.argv) > 1 else default
+    wrong = 0
+    print("| Templates | Text, MB | Answer | Seconds | Memory, MB |\n|---|---|---|---|---|")
+    with tempfile.TemporaryDirectory() as folder:
+        path = os.path.join(folder, "templates.json")
+        for name, templates, expected in CASES:
+            write(path, templates)
+            runs = [run(program, path) for _ in range(3)]
+            said = runs[0][0]
+            wrong += said != expected
+            size = os.path.getsize(path) / 1e6
+            print(f"| {name} | {size:.1f} | {said} | {min(r[1] for r in runs):.2f} | {max(r[2] for r in runs):.0f} |")
+            if said != expected:
+                print(f"{name}: expected {expected}", file=sys.stderr)
+    return 1 if wrong else 0
+
+
+if __name__ == "__main__":
+    sys.exit(main())
