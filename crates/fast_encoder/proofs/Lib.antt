@@ -1,2 +1,2 @@
-mod LawProofs
+pub mod LawProofs
 mod WorkedCanonical
