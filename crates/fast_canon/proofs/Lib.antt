@@ -7,3 +7,4 @@ pub mod BetterParts
 pub mod BetterBodies
 pub mod OneCanonical
 pub mod StreamLaws
+mod WorkedLengths

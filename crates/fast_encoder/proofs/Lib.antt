@@ -1,2 +1,2 @@
 pub mod LawProofs
-mod WorkedCanonical
+pub mod WorkedCanonical
