@@ -144,7 +144,7 @@ better_body_of None is ns s b t holds h = absurd h
 better_body_of (Some members) is ns s b t holds h = better_body members (is members refl) ns s b t holds h
 
 module _ (set : List Resolved) (parts : AllByRecursion (λ t. EachPartIn IsFieldPart t.members) set) where
-  better_message : (d : Dictionary) (b : List ℕ) (m : Content) (after : Dictionary) → HoldScalars d → MessageForm set d b m after → IsBetterWhole (λ x. CanonMessage set d x m after) b after
+  pub better_message : (d : Dictionary) (b : List ℕ) (m : Content) (after : Dictionary) → HoldScalars d → MessageForm set d b m after → IsBetterWhole (λ x. CanonMessage set d x m after) b after
   better_message d b m after holds h =
       let id : Option Scalar = Some (U32 m.template) in
       let members = members_of set m.template in

@@ -169,7 +169,7 @@ one_body_of : (members : Option Instructions) (ns : Items) → IsOne (λ s b t. 
 one_body_of None ns s t p q b c same h k = absurd h
 one_body_of (Some members) ns s t p q b c same h k = one_body members ns s t p q b c same h k
 
-one_message : (set : List Resolved) (m : Content) → IsOneWhole (λ d b after. CanonMessage set d b m after)
+pub one_message : (set : List Resolved) (m : Content) → IsOneWhole (λ d b after. CanonMessage set d b m after)
 one_message set m d e after later b c same h k =
     let id : Option Scalar = Some (U32 m.template) in
     let First : Stage = λ s y u. PartBy IsBest identifier s y id u in
