@@ -1,13 +1,11 @@
 -- What a stream carries has canonical bytes, which are no longer.
 use Rattle.std.proofs.Common.{◌≡◌, ℕ, Bool, true, false, List, [], ◌∷◌, length, Option, Some, None, refl, sym, ap, subst, ◌∙◌, arith}
-use Rattle.std.specs.Prelude.{find, option_map, if◌then◌else◌}
 use Rattle.std.specs.List.{AllByRecursion}
 use Rattle.fast_template.specs.declared.kind.Presence.{Presence}
 use Rattle.fast_template.specs.declared.kind.Presence.TheVariants.{Mandatory, Optional}
 use Rattle.fast_template.specs.declared.scalar.Scalar.{Scalar}
 use Rattle.fast_template.specs.declared.scalar.Scalar.TheVariants.{U32, I32, I64, Decimal}
 use Rattle.fast_template.specs.Resolved.{Instruction, Instructions, whole_field, field_in_parts, group_of, sequence_of, no_instructions, then_instruction, is_optional, has_map, Resolved}
-use Rattle.fast_template.specs.TemplateSets.{has_id}
 use Rattle.fast_dictionary.specs.Dictionary.{Dictionary}
 use Rattle.fast_field.specs.Fields.{Form}
 use Rattle.fast_field.specs.Best.{IsBest}
@@ -16,6 +14,7 @@ use Rattle.fast_decoder.specs.Bits.{bit_for, after_bit}
 use Rattle.fast_decoder.specs.Bodies.{State, Then, Each, SegmentBy, PartBy, PieceBy, BodyBy}
 use Rattle.fast_decoder.specs.Nodes.{Item, single, group_items, sequence_elements, Items, no_items, then_item, element_count, Content}
 use Rattle.fast_decoder.specs.Streams.{members_of, identifier, AnyMap, BodyOfBy, MessageForm, CarriesFrom}
+use Rattle.fast_decoder.proofs.FoundMembers.{members_have}
 use Rattle.fast_encoder.specs.Canonical.{IsShortestMap, CanonMessage, CanonFrom}
 use Rattle.fast_canon.proofs.AskedBits.{behind}
 use Rattle.fast_canon.proofs.Entries.{HoldScalars}
@@ -126,15 +125,6 @@ mutual
 
 -- ---- messages
 
-found_parts : (t : Resolved) (ts : List Resolved) → EachPartIn IsFieldPart t.members → (id : ℕ) (members : Instructions) (b : Bool) → (members_of ts id ≡ Some members → EachPartIn IsFieldPart members)
-    → option_map (λ (r : Resolved). r.members) (if b then Some t else find (λ r. has_id id r.id) ts) ≡ Some members → EachPartIn IsFieldPart members
-found_parts t ts is id members true later h = let same : t.members ≡ members = cc in subst (λ (m : Instructions). EachPartIn IsFieldPart m) same is
-found_parts t ts is id members false later h = later h
-
-members_parts : (set : List Resolved) → AllByRecursion (λ t. EachPartIn IsFieldPart t.members) set → (id : ℕ) (members : Instructions) → members_of set id ≡ Some members → EachPartIn IsFieldPart members
-members_parts [] all id members e = absurd cc
-members_parts (t ∷ ts) all id members e = found_parts t ts all.0 id members (has_id id t.id) (members_parts ts all.1 id members) e
-
 identifier_is : IsFieldPart identifier
 identifier_is = record { typed = record { operator_applies = refl; initial_fits = tt; constant_has_value = λ e. absurd cc; default_has_value = λ e m. absurd cc }; kind_of_part = tt }
 
@@ -155,7 +145,7 @@ module _ (set : List Resolved) (parts : AllByRecursion (λ t. EachPartIn IsField
       (λ bits left x o.
       let first = better_part identifier id (with_bits d bits) o.front o.between identifier_is holds o.first in
       better_then (λ s y u. PartBy IsBest identifier s y id u) (λ u z t. BodyOfBy IsBest IsShortestMap members u z m.items t) (with_bits d bits) o.between (with_bits after left) x o.front o.back o.parts
-      first (better_body_of members (members_parts set parts m.template) m.items o.between o.back (with_bits after left) first.holds o.second))
+      first (better_body_of members (members_have (EachPartIn IsFieldPart) set parts m.template) m.items o.between o.back (with_bits after left) first.holds o.second))
       h.segment in
       record { bytes = better.bytes; stands = record { few = h.few; segment = better.stands }; no_longer = better.no_longer; holds = better.holds }
 
