@@ -4,6 +4,7 @@ pub mod WorkedStreams
 pub mod Weaker
 pub mod PieceReaders
 pub mod MapFaults
+pub mod FoundMembers
 pub mod BodyReaders
 pub mod MessageReaders
 pub mod StreamReaders

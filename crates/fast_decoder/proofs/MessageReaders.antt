@@ -1,6 +1,5 @@
 -- The reading function of messages reads their forms, and stops exactly at their faults.
-use Rattle.std.proofs.Common.{◌≡◌, ◌≢◌, ℕ, ◌+◌, ◌-◌, ◌≤◌, Bool, true, false, List, [], ◌∷◌, ◌++◌, length, Option, Some, None, Result, Ok, Err, refl, sym, ap, subst, ◌∙◌, inl, inr, arith, append_assoc, zero-add, length-append}
-use Rattle.std.specs.Prelude.{find, option_map, if◌then◌else◌}
+use Rattle.std.proofs.Common.{◌≡◌, ◌≢◌, ℕ, ◌+◌, ◌-◌, ◌≤◌, Bool, List, [], ◌++◌, length, Option, Some, None, Result, Ok, Err, refl, sym, ap, subst, ◌∙◌, inl, inr, arith, append_assoc, zero-add, length-append}
 use Rattle.std.specs.List.{AllByRecursion}
 use Rattle.fast_wire.specs.Reader.{IsBytes}
 use Rattle.fast_wire.specs.PresenceMap.{IsWholeMap}
@@ -13,7 +12,7 @@ use Rattle.fast_template.specs.declared.scalar.Scalar.{Scalar}
 use Rattle.fast_template.specs.declared.scalar.Scalar.TheVariants.{U32, I32, U64, I64, Decimal, Ascii, Unicode, Bytes}
 use Rattle.fast_template.specs.declared.resolved.FieldPart.{FieldPart}
 use Rattle.fast_template.specs.Resolved.{Instructions, Resolved}
-use Rattle.fast_template.specs.TemplateSets.{IsTyped, HaveTypedParts, has_id}
+use Rattle.fast_template.specs.TemplateSets.{IsTyped, HaveTypedParts}
 use Rattle.fast_dictionary.specs.Dictionary.{Dictionary}
 use Rattle.fast_field.proofs.ValueKinds.{value_kind, value_there}
 use Rattle.fast_decoder.specs.declared.fault.Cause.TheVariants.{D9, Truncated}
@@ -23,6 +22,7 @@ use Rattle.fast_decoder.specs.Streams.{members_of, identifier, Body, MessageForm
 use Rattle.fast_decoder.specs.Faults.{cause_of_wire, Stop, MessageStop, StopsAt, Part, BodyStops, IdentifierFault, InBody, MessageStops, in_map, in_identifier, in_body}
 use Rattle.fast_decoder.specs.Reading.{Cursor, state_of, Reads, placed, field_part_at, body_at, Named, known, named_at, head_at, in_template, message_at}
 use Rattle.fast_decoder.specs.Readers.{cursor, further, further_on, Passes, IsPieceReader, MessagePasses, IsMessageReader}
+use Rattle.fast_decoder.proofs.FoundMembers.{members_have}
 use Rattle.fast_decoder.proofs.PieceReaders.{Forms, Stopping, Bound, BoundStops, placed_reader, bound_reader, stop_is, fails_as}
 use Rattle.fast_decoder.proofs.MapFaults.{map_refused, map_faulty}
 use Rattle.fast_decoder.proofs.BodyReaders.{IsExact, PartStopping, part_reader, of_uint32, IsLength, body_reader}
@@ -38,16 +38,6 @@ identifier_exact = is_exact identifier identifier_typed
 
 id_part : IsPieceReader (λ _. 0) (Part identifier) (PartStopping identifier) (field_part_at identifier)
 id_part = part_reader identifier identifier_exact
-
-found_typed : (t : Resolved) (ts : List Resolved) → HaveTypedParts t.members → (id : ℕ) (members : Instructions) (b : Bool) → (members_of ts id ≡ Some members → HaveTypedParts members)
-    → option_map (λ (r : Resolved). r.members) (if b then Some t else find (λ r. has_id id r.id) ts) ≡ Some members → HaveTypedParts members
-found_typed t ts typed id members true later h = let same : t.members ≡ members = cc in subst (λ (m : Instructions). HaveTypedParts m) same typed
-found_typed t ts typed id members false later h = later h
-
--- the members of a template of the set are typed
-members_typed : (set : List Resolved) → AllByRecursion (λ t. HaveTypedParts t.members) set → (id : ℕ) (members : Instructions) → members_of set id ≡ Some members → HaveTypedParts members
-members_typed [] all id members e = absurd cc
-members_typed (t ∷ ts) all id members e = found_typed t ts all.0 id members (has_id id t.id) (members_typed ts all.1 id members) e
 
 is_u32 : (v : Option Scalar) → (s : State) (b : List ℕ) (t : State) → Part identifier s b v t → IsLength v
 is_u32 None s b t h = absurd (identifier_exact.there refl _ _ b h.0)
@@ -255,7 +245,7 @@ module _ (set : List Resolved) where
     BodyReader members = IsPieceReader nodes_in (λ s b ns t. Body members s b ns t) (λ s spare rest stop. BodyStops members s spare rest stop) (body_at members)
 
     body_of : (id : ℕ) (members : Instructions) → members_of set id ≡ Some members → BodyReader members
-    body_of id members is = body_reader is_exact members (members_typed set typed id members is)
+    body_of id members is = body_reader is_exact members (members_have HaveTypedParts set typed id members is)
 
     -- a head and the body of its template are a message
     put_together : (d : Dictionary) (front back : List ℕ) (named : Named) (u t : State) (items : Items) → HeadForm (start d) front named u → Body named.members u back items t → nodes_in items ≤ node_limit

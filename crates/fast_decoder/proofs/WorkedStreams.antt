@@ -177,7 +177,7 @@ carried_of stream messages r fits is e = go r.fault refl (ap (λ p. p.1) e)
     go (Some m) h none = absurd cc
 
 -- the stream carries the messages
-carried : (stream : List ℕ) (messages : List Content) → list_all (λ b. nat_lt b 256) stream ≡ true → read stream ≡ (messages, None) → Carries worked_set stream messages
+pub carried : (stream : List ℕ) (messages : List Content) → list_all (λ b. nat_lt b 256) stream ≡ true → read stream ≡ (messages, None) → Carries worked_set stream messages
 carried stream messages fits e = carried_of stream messages (stream_at worked_set stream) (all_bytes stream fits) refl e
 
 -- the stream is refused so

@@ -1,2 +1,2 @@
-mod LawProofs
-mod WorkedCanonical
+pub mod LawProofs
+pub mod WorkedCanonical

@@ -172,7 +172,7 @@ abbrev first : ℕ → ℕ → Content
 first a b = record { template = 16; items = items_of (single (Some (U32 a)) ∷ single (Some (U32 b)) ∷ []) }
 
 -- E0 90 85 86 80 87
-canonical_first : IsCanonical worked_set (first 5 6 ∷ first 7 6 ∷ []) (hex "E0 90 85 86 80 87")
+pub canonical_first : IsCanonical worked_set (first 5 6 ∷ first 7 6 ∷ []) (hex "E0 90 85 86 80 87")
 canonical_first = (
   two_end.dictionary,
   record {
@@ -458,7 +458,7 @@ quote n m = record { template = 1; items = items_of (single (Some (U32 n)) ∷ s
 qty_absent : (d : Dictionary) (e : Entry) → entry_at d qty.key ≡ e → FormBy qty e false uncut [] None → IsBest qty (entry_at d qty.key) false [] None
 qty_absent d e is form = subst (λ (x : Entry). IsBest qty x false [] None) (sym is) (bit_zero_is_best qty e None form)
 
-quote_one : CanonMessage worked_set finite.empty (hex "F0 81 81 41 C2 FE 00 E4") (quote 1 100) q5.dictionary
+pub quote_one : CanonMessage worked_set finite.empty (hex "F0 81 81 41 C2 FE 00 E4") (quote 1 100) q5.dictionary
 quote_one = record {
   few = lit≤ tt;
   segment = record {
@@ -557,7 +557,7 @@ quote_two = record {
 }
 
 -- F0 81 81 41 C2 FE 00 E4 80 80 81
-canonical_quotes : IsCanonical worked_set (quote 1 100 ∷ quote 2 101 ∷ []) (hex "F0 81 81 41 C2 FE 00 E4 80 80 81")
+pub canonical_quotes : IsCanonical worked_set (quote 1 100 ∷ quote 2 101 ∷ []) (hex "F0 81 81 41 C2 FE 00 E4 80 80 81")
 canonical_quotes = (
   r5.dictionary,
   record {

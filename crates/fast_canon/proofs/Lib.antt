@@ -1,0 +1,10 @@
+pub mod AskedBits
+pub mod PartBits
+pub mod ShortestMaps
+pub mod Entries
+pub mod Stages
+pub mod BetterParts
+pub mod BetterBodies
+pub mod OneCanonical
+pub mod StreamLaws
+mod WorkedLengths

@@ -1,0 +1,113 @@
+-- The shortest map of the bits asked for.
+use Rattle.std.proofs.Common.{◌≡◌, ℕ, zero, suc, ◌+◌, ◌-◌, ◌*◌, ◌/◌, ◌%◌, ◌<◌, ◌≤◌, Bool, true, false, List, [], ◌∷◌, length, refl, sym, ap, ◌∙◌, arith, inl, inr}
+use Rattle.std.proofs.lemmas.Bool.{cases_lt, true≢false}
+use Rattle.std.proofs.lemmas.List.{get_or_past, length-map}
+use Rattle.fast_wire.specs.Entity.{groups}
+use Rattle.fast_wire.specs.PresenceMap.{bit_at, bits_of, IsMap, IsWholeMap}
+use Rattle.fast_wire.specs.Writing.{IsShortest}
+use Rattle.fast_wire.specs.Spellings.{map_of, IsUsed, IsMapSize}
+use Rattle.fast_wire.proofs.MapBits.{length_bits}
+use Rattle.fast_wire.proofs.MapForms.{map_length, map_shortest}
+use Rattle.fast_wire.proofs.SameMaps.{one_map}
+use Rattle.fast_wire.proofs.UnsignedForms.{entity_some}
+use Rattle.fast_encoder.specs.Canonical.{IsShortestMap}
+use Rattle.fast_canon.proofs.AskedBits.{Begins, behind, AreBelow, begins_at, none_behind, bits_are, below_at}
+
+-- ---- how many bits there are up to the last 1
+
+used_of : (bits : List Bool) (n : ℕ) → (0 < n → bit_at bits (n - 1) ≡ true) → ((i : ℕ) → n ≤ i → bit_at bits i ≡ false) → IsUsed bits n
+used_of bits n last rest = record { last = last; rest = rest }
+
+used_more : (x : Bool) (bits : List Bool) (n : ℕ) → IsUsed bits n → (m : ℕ) × IsUsed (x ∷ bits) m
+used_more x bits (suc n) h = (suc (suc n), used_of (x ∷ bits) (suc (suc n)) (λ some. let e : suc (suc n) - 1 ≡ suc n = omega arith in let f : suc n - 1 ≡ n = omega arith in rw e (subst_last bits n f (h.last (omega arith)))) past)
+  where
+    subst_last : (bits : List Bool) (n : ℕ) → suc n - 1 ≡ n → bit_at bits (suc n - 1) ≡ true → bit_at bits n ≡ true
+    subst_last bits n e set = sym (ap (bit_at bits) e) ∙ set
+
+    past : (i : ℕ) → suc (suc n) ≤ i → bit_at (x ∷ bits) i ≡ false
+    past zero le = absurd (omega arith)
+    past (suc i) le = h.rest i (omega arith)
+used_more true bits zero h = (1, used_of (true ∷ bits) 1 (λ some. refl) past)
+  where
+    past : (i : ℕ) → 1 ≤ i → bit_at (true ∷ bits) i ≡ false
+    past zero le = absurd (omega arith)
+    past (suc i) le = h.rest i (omega arith)
+used_more false bits zero h = (0, used_of (false ∷ bits) 0 (λ some. absurd (omega arith)) past)
+  where
+    past : (i : ℕ) → 0 ≤ i → bit_at (false ∷ bits) i ≡ false
+    past zero le = refl
+    past (suc i) le = h.rest i (omega arith)
+
+used_in : (bits : List Bool) → (n : ℕ) × IsUsed bits n
+used_in [] = (0, used_of [] 0 (λ some. absurd (omega arith)) (λ i le. refl))
+used_in (x ∷ bits) = let u = used_in bits in used_more x bits u.0 u.1
+
+-- ---- a map of the bits asked for
+
+-- a bit of a map that is 1 is one of its groups'
+within_groups : (map : List ℕ) (bits : List Bool) (i : ℕ) → IsWholeMap map bits → bit_at bits i ≡ true → i < 7 * length map
+within_groups map bits i m set =
+    elim (cases_lt i (7 * length map)) [
+      | inl less ↦ less
+      | inr more ↦
+          let past = get_or_past (bits_of (groups map)) i false (omega (arith, length_bits (groups map), length-map map (λ b. b % 128))) in
+          absurd (true≢false (sym set ∙ ap (λ (l : List Bool). bit_at l i) m.value ∙ past))
+    ]
+
+-- the number of groups that so many bits take
+abbrev groups_for : ℕ → ℕ
+groups_for zero = 1
+groups_for (suc n) = n / 7 + 1
+
+size_is : (used most : ℕ) → 0 < most → most ≤ 256 → (0 < used → used - 1 < 7 * most) → IsMapSize used (groups_for used) × (groups_for used ≤ most)
+size_is zero most some few within = ((omega arith, omega arith, omega arith, λ long. absurd (omega arith)), omega arith)
+size_is (suc n) most some few within =
+    let inside = within (omega arith) in ((omega arith, omega arith, omega arith, λ long. omega arith), omega arith)
+
+-- Below the bits of a map: the shortest map that has the bits asked for and no other, which is no longer.
+pub record IsShorter (asked : List Bool) (map : List ℕ) : Type 0 where
+  pub bytes : List ℕ
+  pub shortest : IsShortest IsMap bytes asked
+  pub no_longer : length bytes ≤ length map
+
+pub shorter_map : (asked bits : List Bool) (map : List ℕ) → IsWholeMap map bits → AreBelow asked bits → IsShorter asked map
+shorter_map asked bits map m below =
+    let u = used_in asked in
+    let size = size_is u.0 (length map) (entity_some map m.entity) m.short (λ some. within_groups map bits (u.0 - 1) m (below_at asked bits below (u.0 - 1) (u.1.last some))) in record {
+      bytes = map_of (groups_for u.0) asked 0;
+      shortest = map_shortest asked u.0 (groups_for u.0) u.1 size.0;
+      no_longer = rw (map_length (groups_for u.0) asked 0) size.1;
+    }
+
+-- ---- as canonical bytes have it
+
+-- its bits begin with those asked for, and it is the shortest of its own
+pub record IsMapOf (asked : List Bool) (bytes : List ℕ) : Type 0 where
+  pub bits : List Bool
+  pub begins : Begins asked bits
+  pub shortest : IsShortestMap bits (behind asked bits) bytes
+
+pub map_of_asked : (asked : List Bool) (bytes : List ℕ) → IsShortest IsMap bytes asked → IsMapOf asked bytes
+map_of_asked asked bytes h =
+    let bits = bits_of (groups bytes) in record {
+      bits = bits;
+      begins = begins_at asked bits h.form.value;
+      shortest = record {
+        form = record { entity = h.form.entity; short = h.form.short; value = refl };
+        asked = none_behind asked bits h.form.value;
+        least = λ others f. h.least others (record { entity = f.entity; short = f.short; value = λ i. f.value i ∙ h.form.value i });
+      };
+    }
+
+same_order : (x y : ℕ) → x ≤ y → y ≤ x → x ≡ y
+same_order x y p q = omega arith
+
+-- the bits asked for have one such map
+pub one_shortest : (asked p q : List Bool) (b c : List ℕ) → Begins asked p → Begins asked q → IsShortestMap p (behind asked p) b → IsShortestMap q (behind asked q) c → b ≡ c
+one_shortest asked p q b c front other h k =
+    let same : (i : ℕ) → bit_at p i ≡ bit_at q i = λ i. bits_are asked p front h.asked i ∙ sym (bits_are asked q other k.asked i) in
+    let p_is : (i : ℕ) → bit_at (bits_of (groups b)) i ≡ bit_at p i = λ i. ap (λ (l : List Bool). bit_at l i) (sym h.form.value) in
+    let q_is : (i : ℕ) → bit_at (bits_of (groups c)) i ≡ bit_at q i = λ i. ap (λ (l : List Bool). bit_at l i) (sym k.form.value) in
+    let b_long = h.least c (record { entity = k.form.entity; short = k.form.short; value = λ i. q_is i ∙ sym (same i) }) in
+    let c_long = k.least b (record { entity = h.form.entity; short = h.form.short; value = λ i. p_is i ∙ same i }) in
+    one_map b c h.form.entity k.form.entity (same_order (length b) (length c) b_long c_long) (λ i. p_is i ∙ same i ∙ sym (q_is i))
