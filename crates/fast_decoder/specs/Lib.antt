@@ -12,3 +12,4 @@ pub mod Built
 pub mod Traversals
 pub mod Standing
 pub mod Following
+pub mod OneProof

@@ -1,10 +1,17 @@
 //! Streams to messages.
 
 ghost use Rattle.std.specs.Prelude.{◌≡◌, ◌≢◌, ◌≤◌, ◌<◌, ◌+◌, ◌-◌, ◌^◌, ◌++◌, [], ℕ, List, None, Some, Err, OnOk, IfErr, IfSome, length, map};
-ghost use Rattle.fast_template.specs.TemplateSets.{templates_in};
+ghost use Rattle.fast_template.specs.TemplateSets.{IsSound, templates_in};
+ghost use Rattle.fast_dictionary.specs.Dictionary.{Dictionary};
+ghost use Rattle.std.specs.Coded.{→_prop};
 ghost use Rattle.fast_decoder.specs.Nodes.{Content, content_of};
 ghost use Rattle.fast_decoder.specs.Streams.{Carries};
+ghost use Rattle.fast_decoder.specs.declared.builder.Builder.{Builder as BuilderNow};
+ghost use Rattle.fast_decoder.specs.declared.traversal.Traversal.{Traversal as TraversalNow};
+ghost use Rattle.fast_decoder.specs.Following.{Counts, Refused};
 ghost use Rattle.fast_decoder.specs.Standing.{Ended, Stands};
+ghost use Rattle.fast_decoder.specs.Traversals.{CanGoOn, ServesAll};
+ghost use Rattle.fast_decoder.specs.OneProof.{CanGoOn-prop, ServesAll-prop};
 
 use crate::builder::Builder;
 use crate::fault::{Cause, Fault};
@@ -34,6 +41,8 @@ pub struct Decoder<'a, E: Entries> {
     fault: Option<Fault>,
     fed: u64,
     messages: u64,
+    ghost served: { ServesAll (E.serves entries) traversal.set.now } by { ServesAll-prop (E.serves entries) traversal.set.now },
+    ghost ready: { fault ≡ None → CanGoOn (E.serves entries) traversal } by { →_prop (CanGoOn-prop (E.serves entries) traversal) },
 }
 
 // So many more; the count stops at the greatest number.
@@ -43,15 +52,50 @@ fn counted(count: u64, more: u64) -> u64
     count.saturating_add(more)
 }
 
+// A fault of a piece of which so many of the bytes fed are left, in the message behind so many.
+fn fault_at(
+    cause: Cause,
+    messages: u64,
+    fed: u64,
+    left: usize,
+    template: u32,
+    instruction: u32,
+) -> Fault
+    ensures cause { result.cause ≡ cause }
+    ensures message { messages < 2 ^ 61 → result.place.message ≡ messages + 1 }
+    ensures offset { result.place.offset ≡ fed - left }
+    ensures template { result.place.template ≡ template }
+    ensures instruction { result.place.instruction ≡ instruction }
+{
+    let place = Place {
+        message: messages.saturating_add(1),
+        offset: fed.saturating_sub(left as u64),
+        template,
+        instruction,
+    };
+    Fault { cause, place }
+}
+
+// The fault that a halt is. Want of memory has no place but the message.
+fn fault_of(halt: Halt, messages: u64, fed: u64, left: usize, template: u32) -> Fault
+    ensures cause { result.cause ≡ halt.cause }
+    ensures refused { (t : TraversalNow) (b : BuilderNow) (d : Dictionary) (rest bytes : List ℕ)
+        (ms : List Content) → IsSound t.set.now → Counts fed messages bytes ms
+        → length bytes < 2 ^ 61 → t.template ≡ template → length rest ≡ left
+        → Ended (Some halt) t b d rest bytes ms → Refused result t bytes ms }
+{
+    match halt.cause {
+        Cause::Memory => fault_at(Cause::Memory, messages, 0, 0, 0, 0),
+        cause => fault_at(cause, messages, fed, left, template, halt.number),
+    }
+}
+
 impl<'a, E: Entries> Decoder<'a, E> {
-    ghost use Rattle.fast_decoder.specs.Following.{Answers, Counts, FollowsAt};
-    ghost use Rattle.fast_decoder.specs.Traversals.{CanGoOn, ServesAll};
+    ghost use Rattle.fast_decoder.specs.Following.{Answers, FollowsAt};
 
     /// A decoder of a set, at the beginning of a stream. The entries are reset. Takes no memory.
     pub fn new(alloc: Global, set: &'a TemplateSet, entries: E) -> Decoder<'a, E>
         requires { ServesAll (E.serves entries) set.now }
-        ensures served { ServesAll (E.serves result.entries) result.traversal.set.now }
-        ensures ready { CanGoOn (E.serves result.entries) result.traversal }
         ensures set { result.traversal.set.now ≡ set.now }
         ensures fault { result.fault ≡ None }
         ensures follows { FollowsAt None result.traversal result.builder (E.contents
@@ -104,13 +148,8 @@ impl<'a, E: Entries> Decoder<'a, E> {
         ensures fed { self.new.fed ≡ self.old.fed }
         ensures messages { self.new.messages ≡ self.old.messages }
     {
-        let place = Place {
-            message: self.messages.saturating_add(1),
-            offset: self.fed.saturating_sub(left as u64),
-            template: self.traversal.template(),
-            instruction: number,
-        };
-        let fault = Fault { cause, place };
+        let template = self.traversal.template();
+        let fault = fault_at(cause, self.messages, self.fed, left, template, number);
         self.fault = Some(fault);
         self.held.clear();
         fault
@@ -132,23 +171,15 @@ impl<'a, E: Entries> Decoder<'a, E> {
         ensures fed { self.new.fed ≡ self.old.fed }
         ensures messages { self.new.messages ≡ self.old.messages }
     {
-        let place = Place {
-            message: self.messages.saturating_add(1),
-            offset: 0,
-            template: 0,
-            instruction: 0,
-        };
-        let fault = Fault {
-            cause: Cause::Memory,
-            place,
-        };
+        let fault = fault_at(Cause::Memory, self.messages, 0, 0, 0, 0);
         self.fault = Some(fault);
         self.held.clear();
         fault
     }
 
-    // Stops where reading did: keeps the bytes of the piece that is not whole, or the fault.
-    fn stop(&mut self, halt: Halt, rest: &[u8]) -> Result<(), Fault>
+    // Keeps the bytes of the piece that is not whole.
+    fn hold(&mut self, halt: Halt, rest: &[u8]) -> Result<(), Fault>
+        requires truncated { halt.cause ≡ Cause.Truncated }
         requires fault { self.now.fault ≡ None }
         requires held { self.now.held.items ≡ [] }
         ensures follows { (fed : List ℕ) (messages : List Content) → length fed < 2 ^ 61
@@ -160,21 +191,17 @@ impl<'a, E: Entries> Decoder<'a, E> {
             self.new.held.items self.new.waiting fed messages
             × Counts self.new.fed self.new.messages fed messages }
         ensures answer { Answers result self.new.fault }
-        ensures waits { self.new.fault ≡ None → halt.cause ≡ Cause.Truncated }
+        ensures cause { IfErr result (λ f. f.cause ≡ Cause.Memory) }
         ensures traversal { self.new.traversal ≡ self.old.traversal }
         ensures entries { self.new.entries ≡ self.old.entries }
+        ensures fed { self.new.fed ≡ self.old.fed }
     {
-        self.traversal.set_is_sound();
-        match halt.cause {
-            Cause::Truncated => match self.held.extend_from_slice(rest) {
-                Err(_) => Err(self.refuse()),
-                Ok(()) => {
-                    self.waiting = halt.number;
-                    Ok(())
-                }
-            },
-            Cause::Memory => Err(self.refuse()),
-            _ => Err(self.keep(halt.cause, halt.number, rest.len())),
+        match self.held.extend_from_slice(rest) {
+            Err(_) => Err(self.refuse()),
+            Ok(()) => {
+                self.waiting = halt.number;
+                Ok(())
+            }
         }
     }
 
@@ -182,8 +209,6 @@ impl<'a, E: Entries> Decoder<'a, E> {
     fn read(&mut self, bytes: &[u8], out: &mut Vec<Message>) -> Result<(), Fault>
         requires fault { self.now.fault ≡ None }
         requires held { self.now.held.items ≡ [] }
-        requires ready { CanGoOn (E.serves self.now.entries) self.now.traversal }
-        requires served { ServesAll (E.serves self.now.entries) self.now.traversal.set.now }
         ensures follows { (fed : List ℕ) (messages : List Content) → length fed ≤ 2 ^ 60
             → Counts self.old.fed self.old.messages fed messages
             → Stands self.old.traversal self.old.builder (E.contents self.old.entries) bytes.now
@@ -195,10 +220,10 @@ impl<'a, E: Entries> Decoder<'a, E> {
             self.new.held.items self.new.waiting fed (messages ++ pushed)
             × Counts self.new.fed self.new.messages fed (messages ++ pushed) }
         ensures answer { Answers result self.new.fault }
-        ensures ready { self.new.fault ≡ None
-            → CanGoOn (E.serves self.new.entries) self.new.traversal }
+        ensures cause { IfErr result (λ f. f.cause ≢ Cause.Truncated) }
         ensures set { self.new.traversal.set ≡ self.old.traversal.set }
         ensures same_keys { E.serves self.new.entries ≡ E.serves self.old.entries }
+        ensures fed { self.new.fed ≡ self.old.fed }
     {
         let progress = read_messages(
             &mut self.traversal,
@@ -208,11 +233,20 @@ impl<'a, E: Entries> Decoder<'a, E> {
             out,
         );
         self.messages = counted(self.messages, progress.messages);
+        let rest = &bytes[progress.at..];
+        let template = self.traversal.template();
         match progress.halt {
             None => Ok(()),
-            Some(halt) => match self.stop(halt, &bytes[progress.at..]) {
-                Err(fault) => Err(fault),
-                Ok(()) => Ok(()),
+            Some(halt) => match halt.cause {
+                Cause::Truncated => match self.hold(halt, rest) {
+                    Err(fault) => Err(fault),
+                    Ok(()) => Ok(()),
+                },
+                _ => {
+                    let fault = fault_of(halt, self.messages, self.fed, rest.len(), template);
+                    self.fault = Some(fault);
+                    Err(fault)
+                }
             },
         }
     }
@@ -225,9 +259,6 @@ impl<'a, E: Entries> Decoder<'a, E> {
     /// these. It is kept until the reset.
     pub fn feed(&mut self, chunk: &[u8], out: &mut Vec<Message>) -> Result<(), Fault>
         requires room { self.now.fed + length chunk.now ≤ 2 ^ 60 }
-        requires ready { self.now.fault ≡ None
-            → CanGoOn (E.serves self.now.entries) self.now.traversal }
-        requires served { ServesAll (E.serves self.now.entries) self.now.traversal.set.now }
         ensures kept { IfSome self.old.fault (λ f. (result ≡ Err f) × (self.new ≡ self.old)
             × (out.new ≡ out.old)) }
         ensures follows { self.old.fault ≡ None → (fed : List ℕ) (messages : List Content)
@@ -241,10 +272,10 @@ impl<'a, E: Entries> Decoder<'a, E> {
             self.new.held.items self.new.waiting (fed ++ chunk.now) (messages ++ pushed)
             × Counts self.new.fed self.new.messages (fed ++ chunk.now) (messages ++ pushed) }
         ensures answer { Answers result self.new.fault }
-        ensures ready { self.new.fault ≡ None
-            → CanGoOn (E.serves self.new.entries) self.new.traversal }
+        ensures cause { self.old.fault ≡ None → IfErr result (λ f. f.cause ≢ Cause.Truncated) }
         ensures set { self.new.traversal.set ≡ self.old.traversal.set }
         ensures same_keys { E.serves self.new.entries ≡ E.serves self.old.entries }
+        ensures fed { self.old.fault ≡ None → self.new.fed ≡ self.old.fed + length chunk.now }
     {
         if let Some(fault) = self.fault {
             return Err(fault);
@@ -304,7 +335,6 @@ impl<'a, E: Entries> Decoder<'a, E> {
 
     /// Begins a new stream, with all entries undefined. Takes no memory.
     pub fn reset(&mut self)
-        ensures ready { CanGoOn (E.serves self.new.entries) self.new.traversal }
         ensures set { self.new.traversal.set ≡ self.old.traversal.set }
         ensures same_keys { E.serves self.new.entries ≡ E.serves self.old.entries }
         ensures fault { self.new.fault ≡ None }

@@ -1,6 +1,7 @@
 //! Reading the messages that end in a list of bytes.
 
 ghost use Rattle.std.specs.Prelude.{◌≡◌, ◌≢◌, ◌≤◌, ◌+◌, ◌++◌, ◌∷◌, [], ℕ, List, Some, OnOk, OnErr, IfSome, IfNone, length, drop, map};
+ghost use Rattle.fast_template.specs.TemplateSets.{IsSound};
 ghost use Rattle.fast_decoder.specs.Nodes.{Content, content_of};
 ghost use Rattle.fast_decoder.specs.Standing.{Ended, Stands};
 ghost use Rattle.fast_decoder.specs.Traversals.{CanGoOn, ServesAll, begun_of};
@@ -62,6 +63,7 @@ pub(crate) fn read_messages<E: Entries>(
     ensures waits { IfSome result.halt (λ h. h.cause ≡ Cause.Truncated
         → CanGoOn (E.serves entries.new) traversal.new) }
     ensures set { traversal.new.set ≡ traversal.old.set }
+    ensures sound { IsSound traversal.new.set.now }
     ensures same_keys { E.serves entries.new ≡ E.serves entries.old }
 {
     traversal.set_is_sound();
