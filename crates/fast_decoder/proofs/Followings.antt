@@ -1,5 +1,5 @@
 -- How a decoder follows a stream.
-use Rattle.std.proofs.Common.{◌≡◌, ◌≢◌, ◌≤◌, ◌<◌, ℕ, ◌+◌, ◌-◌, ◌^◌, length, take, drop, length-drop, length-append, arith, List, [], ◌∷◌, ◌++◌, refl, sym, ap, ◌∙◌, append_assoc, append-nil, inl, inr}
+use Rattle.std.proofs.Common.{◌≡◌, ◌≢◌, ◌≤◌, ◌<◌, ℕ, ◌+◌, ◌-◌, ◌^◌, length, take, drop, length-drop, length-append, arith, List, [], ◌∷◌, ◌++◌, refl, sym, ap, subst, ◌∙◌, append_assoc, append-nil, inl, inr}
 use Rattle.std.proofs.Math.Seq.{take-length}
 use Rattle.std.specs.List.{AllByRecursion}
 use Rattle.std.specs.FinMap as finite
@@ -19,7 +19,7 @@ use Rattle.fast_decoder.specs.declared.fault.Fault.{Fault}
 use Rattle.fast_decoder.specs.declared.halt.Halt.{Halt}
 use Rattle.fast_decoder.specs.declared.place.Place.{Place}
 use Rattle.fast_decoder.specs.Standing.{Carried, Stands, StopsBehind}
-use Rattle.fast_decoder.specs.Following.{Counts, FollowsAt, Refused}
+use Rattle.fast_decoder.specs.Following.{Counts, FollowsAt, IsCutAt, Refused}
 use Rattle.fast_decoder.specs.Traversals.{stop_of}
 use Rattle.fast_decoder.proofs.MessageReaders.{message_stops}
 use Rattle.fast_decoder.proofs.StreamReaders.{message_some}
@@ -169,3 +169,33 @@ ends_inside f t b d held waiting bytes messages fed count typed counts short (st
     let same = counts.fed_is in
     fault_refused f t (record { cause = Truncated; number = waiting }) held bytes messages fed count typed counts (omega (arith, same, short))
     (record { front = stands.front; rest = stands.rest; start = stands.start; parts = stands.parts; carried = stands.carried; ends = tt }) stops is (λ e. absurd cc) message offset template instruction
+
+-- ---- where no more bytes come
+
+pub all_carried : (set : List Resolved) (bytes : List ℕ) (messages : List Content) → Carries set bytes messages → Carried set bytes messages
+all_carried set bytes messages c = record { front = bytes; rest = []; start = c.0; parts = sym (append-nil bytes); carried = c.1; ends = tt }
+
+pub cut_inside : (set other : List Resolved) (f : Fault) (bytes : List ℕ) (messages : List Content) → other ≡ set → f.cause ≡ Truncated → Carried other bytes messages → f.place.message ≡ length messages + 1
+    → (f.cause ≢ Memory → FirstFault other bytes f.place f.cause) → IsCutAt set bytes messages f.place
+cut_inside set other f bytes messages same is carried behind first = record {
+  carried = subst (λ (x : List Resolved). Carried x bytes messages) same carried;
+  behind = behind;
+  at = inl (subst (λ (x : List Resolved). FirstFault x bytes f.place Truncated) same (rw is at (first (λ e. truncated_not_memory (sym is ∙ e)))));
+}
+  where
+    truncated_not_memory : Truncated ≡ Memory → ⊥
+    truncated_not_memory e = absurd cc
+
+pub cut_between : (set : List Resolved) (bytes : List ℕ) (messages : List Content) (fed count : ℕ) (place : Place) → Counts fed count bytes messages → fed ≤ 2 ^ 60 → Carries set bytes messages
+    → (count < 2 ^ 61 → place.message ≡ count + 1) → place.offset ≡ fed → place.template ≡ 0 → place.instruction ≡ 0 → IsCutAt set bytes messages place
+cut_between set bytes messages fed count place counts short carries message offset template instruction =
+    let carried = all_carried set bytes messages carries in
+    let few = few_messages set bytes messages carried in
+    let same = counts.count_is in
+    let all = counts.fed_is in
+    let behind = message (omega (arith, few, same, all, short)) ∙ ap (λ (n : ℕ). n + 1) same in
+    record {
+      carried = carried;
+      behind = behind;
+      at = inr (record { messages = messages; carried = carries; place_is = place_same place.message (length messages + 1) place.offset (length bytes) place.template 0 place.instruction 0 behind (offset ∙ all) template instruction });
+    }

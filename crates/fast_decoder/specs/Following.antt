@@ -1,14 +1,16 @@
 -- How a decoder stands to the bytes fed since the reset and to the messages pushed since.
 use Rattle.std.specs.Prelude.{◌≡◌, ◌≢◌, ◌⊎◌, ℕ, ◌+◌, List, [], length, Option, Some, None, Result, Ok, Err}
+use Rattle.fast_template.specs.Resolved.{Resolved}
 use Rattle.fast_template.specs.TemplateSets.{templates_in}
 use Rattle.fast_dictionary.specs.Dictionary.{Dictionary}
 use Rattle.fast_decoder.specs.declared.fault.Cause.TheVariants.{Truncated, Memory}
 use Rattle.fast_decoder.specs.declared.fault.Fault.{Fault}
+use Rattle.fast_decoder.specs.declared.place.Place.{Place}
 use Rattle.fast_decoder.specs.declared.builder.Builder.{Builder}
 use Rattle.fast_decoder.specs.declared.traversal.Stage.TheVariants as stage
 use Rattle.fast_decoder.specs.declared.traversal.Traversal.{Traversal}
 use Rattle.fast_decoder.specs.Nodes.{Content}
-use Rattle.fast_decoder.specs.Faults.{FirstFault}
+use Rattle.fast_decoder.specs.Faults.{FirstFault, EndsBetween}
 use Rattle.fast_decoder.specs.Standing.{Carried, Stands, StopsBehind}
 
 -- the numbers of bytes fed and of messages pushed
@@ -28,6 +30,13 @@ Refused f t bytes messages =
     Carried (templates_in t.set.now) bytes messages × (f.place.message ≡ length messages + 1)
     × (f.cause ≢ Memory → FirstFault (templates_in t.set.now) bytes f.place f.cause)
     × (f.cause ≡ Memory → (f.place.offset ≡ 0) × (f.place.template ≡ 0) × (f.place.instruction ≡ 0))
+
+-- A prefix of the bytes carries the messages, and the place is where Truncated would be put in them, or their end
+-- between two messages.
+pub record IsCutAt (set : List Resolved) (bytes : List ℕ) (messages : List Content) (place : Place) : Type 0 where
+  pub carried : Carried set bytes messages
+  pub behind : place.message ≡ length messages + 1
+  pub at : FirstFault set bytes place Truncated ⊎ EndsBetween set bytes place
 
 abbrev pub FollowsAt : Option Fault → Traversal → Builder → Dictionary → List ℕ → ℕ → List ℕ → List Content → Type 0
 FollowsAt None t b d held waiting bytes messages = Stands t b d held bytes messages × Waits t held waiting bytes messages

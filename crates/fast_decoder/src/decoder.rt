@@ -91,7 +91,7 @@ fn fault_of(halt: Halt, messages: u64, fed: u64, left: usize, template: u32) -> 
 }
 
 impl<'a, E: Entries> Decoder<'a, E> {
-    ghost use Rattle.fast_decoder.specs.Following.{Answers, FollowsAt};
+    ghost use Rattle.fast_decoder.specs.Following.{Answers, FollowsAt, IsCutAt};
 
     /// A decoder of a set, at the beginning of a stream. The entries are reset. Takes no memory.
     pub fn new(alloc: Global, set: &'a TemplateSet, entries: E) -> Decoder<'a, E>
@@ -317,6 +317,8 @@ impl<'a, E: Entries> Decoder<'a, E> {
             self.new.held.items self.new.waiting fed messages
             × Counts self.new.fed self.new.messages fed messages)) }
         ensures answer { Answers result self.new.fault }
+        ensures set { self.new.traversal.set ≡ self.old.traversal.set }
+        ensures fed { self.new.fed ≡ self.old.fed }
     {
         if let Some(fault) = self.fault {
             return Err(fault);
@@ -331,6 +333,30 @@ impl<'a, E: Entries> Decoder<'a, E> {
             return Ok(());
         }
         Err(self.keep(Cause::Truncated, waiting, left))
+    }
+
+    /// The fault of a stream of which no more bytes come for this cause: where the next piece would begin.
+    pub(crate) fn cut(&mut self, cause: Cause) -> Fault
+        requires few { self.now.fed ≤ 2 ^ 60 }
+        ensures cause { result.cause ≡ cause }
+        ensures place { self.old.fault ≡ None → (fed : List ℕ) (messages : List Content)
+            → Counts self.old.fed self.old.messages fed messages
+            → FollowsAt None self.old.traversal self.old.builder (E.contents self.old.entries)
+            self.old.held.items self.old.waiting fed messages
+            → IsCutAt (templates_in self.old.traversal.set.now) fed messages result.place }
+        ensures set { self.new.traversal.set ≡ self.old.traversal.set }
+        ensures fed { self.new.fed ≡ self.old.fed }
+    {
+        let place = match self.finish() {
+            Err(fault) => fault.place,
+            Ok(()) => Place {
+                message: self.messages.saturating_add(1),
+                offset: self.fed,
+                template: 0,
+                instruction: 0,
+            },
+        };
+        Fault { cause, place }
     }
 
     /// Begins a new stream, with all entries undefined. Takes no memory.
