@@ -17,5 +17,7 @@ pub mod Heads
 pub mod Opening
 pub mod Standings
 pub mod Followings
+pub mod Causes
+pub mod Inputs
 mod SameNodes
 mod EqualNodes

@@ -13,3 +13,4 @@ pub mod Traversals
 pub mod Standing
 pub mod Following
 pub mod OneProof
+pub mod Inputs
