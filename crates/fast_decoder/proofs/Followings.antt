@@ -1,9 +1,8 @@
 -- How a decoder follows a stream.
-use Rattle.std.proofs.Common.{◌≡◌, ◌≢◌, ◌≤◌, ◌<◌, ℕ, ◌+◌, ◌-◌, ◌^◌, length, take, drop, length-drop, length-append, arith, List, [], ◌∷◌, ◌++◌, refl, sym, ap, subst, ◌∙◌, append_assoc, append-nil, inl, inr}
+use Rattle.std.proofs.Common.{◌≡◌, ◌≢◌, ◌≤◌, ◌<◌, ℕ, ◌+◌, ◌-◌, ◌^◌, length, take, drop, length-drop, length-append, arith, List, [], ◌∷◌, ◌++◌, refl, sym, ap, subst, ◌∙◌, append_assoc, append-nil, ◌⊎◌, inl, inr}
 use Rattle.std.proofs.Math.Seq.{take-length}
 use Rattle.std.specs.List.{AllByRecursion}
 use Rattle.std.specs.FinMap as finite
-use Rattle.std.specs.Prelude.{None}
 use Rattle.fast_template.specs.Resolved.{Resolved}
 use Rattle.fast_template.specs.TemplateSets.{HaveTypedParts, templates_in}
 use Rattle.fast_dictionary.specs.Dictionary.{Dictionary}
@@ -13,13 +12,14 @@ use Rattle.fast_decoder.specs.declared.traversal.Traversal.{Traversal}
 use Rattle.fast_decoder.specs.Nodes.{Content}
 use Rattle.fast_decoder.specs.Streams.{Carries, CarriesFrom}
 use Rattle.fast_decoder.specs.Faults.{FirstFault, MessageStop, place_of}
+use Rattle.fast_decoder.specs.declared.fault.Cause.{Cause}
 use Rattle.fast_decoder.specs.declared.fault.Cause.TheVariants.{Truncated, Memory}
 use Rattle.fast_decoder.specs.declared.fault.Fault.{Fault}
 use Rattle.fast_decoder.specs.declared.halt.Halt.{Halt}
 use Rattle.fast_decoder.specs.declared.place.Place.{Place}
 use Rattle.fast_decoder.specs.OpenSegments.{Reading}
-use Rattle.fast_decoder.specs.Standing.{Carried, ReadsOn, HasAll, Having, Standing, Stands, StopsBehind, Unfinished}
-use Rattle.fast_decoder.specs.Traversals.{Continues, ContinuesAt}
+use Rattle.fast_decoder.specs.Standing.{Carried, ReadsOn, HasAll, Having, Standing, Stands, StopsBehind}
+use Rattle.fast_decoder.specs.Traversals.{ContinuesAt}
 use Rattle.fast_decoder.specs.declared.traversal.Stage.{Stage}
 use Rattle.fast_decoder.specs.Following.{Counts, IsCutAt, Refused, Waits}
 use Rattle.fast_decoder.specs.Traversals.{stop_of}
@@ -201,6 +201,9 @@ cut_between set bytes messages fed count place counts short carries message offs
       behind = behind;
       at = inr (record { messages = messages; carried = carries; place_is = place_same place.message (length messages + 1) place.offset (length bytes) place.template 0 place.instruction 0 behind (offset ∙ all) template instruction });
     }
+
+pub not_memory : (c : Cause) → c ≡ Truncated → c ≢ Memory
+not_memory c is e = absurd cc
 
 -- ---- what a receiver keeps
 

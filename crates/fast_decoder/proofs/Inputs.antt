@@ -16,9 +16,10 @@ use Rattle.fast_decoder.specs.declared.message.Message.{Message}
 use Rattle.fast_template.specs.TemplateSets.{templates_in}
 use Rattle.fast_dictionary.specs.declared.entries.Entries.{Ghosts}
 use Rattle.fast_decoder.specs.Nodes.{Content, content_of}
-use Rattle.fast_decoder.specs.Following.{Counts, FollowsAt, IsCutAt}
+use Rattle.fast_decoder.specs.Following.{Follows as HasFed, IsCutAt}
 use Rattle.fast_decoder.specs.Faults.{FirstFault}
-use Rattle.fast_decoder.specs.Standing.{Carried}
+use Rattle.fast_decoder.specs.Standing.{Carried, ReadsOn}
+use Rattle.fast_decoder.proofs.Builders.{BuilderHas, BuilderStands}
 use Rattle.fast_decoder.specs.Inputs.{Causes, Follows, HasReached, IsCaused, IsFaultOf, OnFault, Reader, Reads, RefusedBy, Refuses, Stands, waiting_in}
 use Rattle.fast_decoder.specs.Streams.{CarriesFrom}
 use Rattle.fast_dictionary.specs.Dictionary.{Dictionary}
@@ -77,16 +78,16 @@ pub pushed_waits : (old out new : List Message) (pushed : List Content) → old 
 pushed_waits old out new pushed none turned grown =
     ap waiting_in turned ∙ ap (map content_of) (reverse-reverse out) ∙ grown ∙ ap (λ (xs : List Message). map content_of xs ++ pushed) none
 
-pub goes_on_with : {E : Type 0} {ghosts : Ghosts E} (d : Decoder E ghosts) (bytes : List ℕ) (messages pushed waiting : List Content) → d.fault ≡ None → waiting ≡ pushed
-    → FollowsAt d.fault d.traversal d.builder (ghosts.contents d.entries) d.held.items d.waiting bytes (messages ++ pushed) → Counts d.fed d.messages bytes (messages ++ pushed) → Follows d bytes (messages ++ waiting)
-goes_on_with d bytes messages pushed waiting none same follows counts = rw same (record { goes_on = none; follows = rw none at follows; counts = counts })
+pub goes_on_with : {E : Type 0} {ghosts : Ghosts E} (d : Decoder E ghosts) (bytes : List ℕ) (messages pushed waiting : List Content) → d.machine.fault ≡ None → waiting ≡ pushed
+    → HasFed d.machine [] bytes (messages ++ pushed) → Follows d bytes (messages ++ waiting)
+goes_on_with d bytes messages pushed waiting none same follows = rw same (record { goes_on = none; follows = follows })
 
-pub refused_with : {E : Type 0} {ghosts : Ghosts E} (d : Decoder E ghosts) (f : Fault) (turns : ℕ) (left : Option (List ℕ)) (bytes : List ℕ) (messages pushed waiting : List Content) → d.fault ≡ Some f → f.cause ≢ cause.Truncated
-    → waiting ≡ pushed → FollowsAt d.fault d.traversal d.builder (ghosts.contents d.entries) d.held.items d.waiting bytes (messages ++ pushed)
-    → Refuses (templates_in d.traversal.set.now) turns left bytes (messages ++ waiting) f
+pub refused_with : {E : Type 0} {ghosts : Ghosts E} (d : Decoder E ghosts) (f : Fault) (turns : ℕ) (left : Option (List ℕ)) (bytes : List ℕ) (messages pushed waiting : List Content) → d.machine.fault ≡ Some f → f.cause ≢ cause.Truncated
+    → waiting ≡ pushed → HasFed d.machine [] bytes (messages ++ pushed)
+    → Refuses (templates_in d.machine.traversal.set.now) turns left bytes (messages ++ waiting) f
 refused_with d f turns left bytes messages pushed waiting is more same follows =
-    let refused = rw is at follows in
-    rw same (refused_by_bytes f (templates_in d.traversal.set.now) turns left bytes (messages ++ pushed) more refused.0.0 refused.0.1 refused.0.2 refused.0.3)
+    let refused = rw is at follows.at in
+    rw same (refused_by_bytes f (templates_in d.machine.traversal.set.now) turns left bytes (messages ++ pushed) more refused.0.0 refused.0.1 refused.0.2 refused.0.3)
 
 -- a first fault is none that bytes cannot have
 pub of_bytes : (f : Fault) (set : List Resolved) (bytes : List ℕ) → (f.cause ≢ cause.Memory → FirstFault set bytes f.place f.cause) → f.cause ≢ cause.Truncated
@@ -99,9 +100,9 @@ of_bytes f set bytes first more = (more, (λ e. subst IsOfBytes e (of_stream set
     turns_not_memory : cause.Turns ≡ cause.Memory → ⊥
     turns_not_memory e = absurd cc
 
-pub cause_with : {E : Type 0} {ghosts : Ghosts E} (d : Decoder E ghosts) (f : Fault) (bytes : List ℕ) (messages : List Content) → d.fault ≡ Some f → f.cause ≢ cause.Truncated
-    → FollowsAt d.fault d.traversal d.builder (ghosts.contents d.entries) d.held.items d.waiting bytes messages → (f.cause ≢ cause.Truncated) × (f.cause ≢ cause.Read) × (f.cause ≢ cause.Turns)
-cause_with d f bytes messages is more follows = let refused = rw is at follows in of_bytes f (templates_in d.traversal.set.now) bytes refused.0.2 more
+pub cause_with : {E : Type 0} {ghosts : Ghosts E} (d : Decoder E ghosts) (f : Fault) (bytes : List ℕ) (messages : List Content) → d.machine.fault ≡ Some f → f.cause ≢ cause.Truncated
+    → HasFed d.machine [] bytes messages → (f.cause ≢ cause.Truncated) × (f.cause ≢ cause.Read) × (f.cause ≢ cause.Turns)
+cause_with d f bytes messages is more follows = let refused = rw is at follows.at in of_bytes f (templates_in d.machine.traversal.set.now) bytes refused.0.2 more
 
 -- ---- one read
 
@@ -209,9 +210,11 @@ front_carried set bytes xs ys c =
     record { front = f.0; rest = f.1 ++ c.rest; start = f.2; parts = c.parts ∙ ap (λ (zs : List ℕ). zs ++ c.rest) f.3 ∙ append_assoc f.0 f.1 c.rest; carried = f.4; ends = tt }
 
 reached_carried : {E : Type 0} {ghosts : Ghosts E} (at : Reached) (d : Decoder E ghosts) (reads turns : ℕ) (left : Option (List ℕ)) (bytes : List ℕ) (messages : List Content)
-    → HasReached at (Follows d bytes messages × (reads ≤ length bytes)) (templates_in d.traversal.set.now) turns left bytes messages → Carried (templates_in d.traversal.set.now) bytes messages
-reached_carried {ghosts = ghosts} reached.Open d reads turns left bytes messages h = carried_of d.traversal d.builder (ghosts.contents d.entries) d.held.items bytes messages h.0.follows.0
-reached_carried reached.End d reads turns left bytes messages h = all_carried (templates_in d.traversal.set.now) bytes messages h.carried
+    → HasReached at (Follows d bytes messages × (reads ≤ length bytes)) (templates_in d.machine.traversal.set.now) turns left bytes messages → Carried (templates_in d.machine.traversal.set.now) bytes messages
+reached_carried {ghosts = ghosts} reached.Open d reads turns left bytes messages h =
+    let at = rw (h.0.goes_on) at h.0.follows.at in
+    carried_of (ReadsOn BuilderHas BuilderStands BuilderStands d.machine.traversal d.machine.receiver (ghosts.contents d.machine.entries) []) d.machine.traversal d.machine.held.items bytes messages at.0
+reached_carried reached.End d reads turns left bytes messages h = all_carried (templates_in d.machine.traversal.set.now) bytes messages h.carried
 reached_carried (reached.Fault f) d reads turns left bytes messages h = h.carried
 
 -- the message that waited last in the list is answered
@@ -222,10 +225,10 @@ popped answered old rest m is =
 
 pub stands_popped : {E : Type 0} {ghosts : Ghosts E} (at : Reached) (d : Decoder E ghosts) (old rest : List Message) (m : Message) (turns reads : ℕ) (left : Option (List ℕ)) (bytes : List ℕ) (answered : List Content) → old ≡ rest ++ m ∷ []
     → Stands at d old turns reads left bytes answered
-    → Stands at d rest turns reads left bytes (answered ++ content_of m ∷ []) × Carried (templates_in d.traversal.set.now) bytes (answered ++ content_of m ∷ [])
+    → Stands at d rest turns reads left bytes (answered ++ content_of m ∷ []) × Carried (templates_in d.machine.traversal.set.now) bytes (answered ++ content_of m ∷ [])
 stands_popped at d old rest m turns reads left bytes answered is stands =
-    let now = subst (λ (ms : List Content). HasReached at (Follows d bytes ms × (reads ≤ length bytes)) (templates_in d.traversal.set.now) turns left bytes ms) (popped answered old rest m is) stands in
-    (now, front_carried (templates_in d.traversal.set.now) bytes (answered ++ content_of m ∷ []) (waiting_in rest) (reached_carried at d reads turns left bytes ((answered ++ content_of m ∷ []) ++ waiting_in rest) now))
+    let now = subst (λ (ms : List Content). HasReached at (Follows d bytes ms × (reads ≤ length bytes)) (templates_in d.machine.traversal.set.now) turns left bytes ms) (popped answered old rest m is) stands in
+    (now, front_carried (templates_in d.machine.traversal.set.now) bytes (answered ++ content_of m ∷ []) (waiting_in rest) (reached_carried at d reads turns left bytes ((answered ++ content_of m ∷ []) ++ waiting_in rest) now))
 
 -- ---- causes
 

@@ -1,3 +1,4 @@
+pub mod Builders
 pub mod Hex
 pub mod Rows
 pub mod WorkedStreams

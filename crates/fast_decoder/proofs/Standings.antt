@@ -130,13 +130,14 @@ stops_of G t unread bytes messages stop s some is = record {
     of_stage (inr other) = s.ends.some other
 
 -- where the traversal has stopped further on
-pub stands_further : (G H : Dictionary → (List ℕ → Reading) → Type 0) (t u : Traversal) (unread later bytes : List ℕ) (messages : List Content) (s : Stands G t unread bytes messages) → u.set.now ≡ t.set.now
-    → (read : List ℕ → Reading) → H s.start read
+pub stands_further : {R : Type 0} (has : Having R) (stands keeps : Standing R) (G : Dictionary → (List ℕ → Reading) → Type 0) (t u : Traversal) (r : R) (e : Dictionary) (before : List Content) (unread later bytes : List ℕ) (messages : List Content)
+    (s : Stands G t unread bytes messages) → u.set.now ≡ t.set.now
+    → (read : List ℕ → Reading) → Continues has stands keeps u r (templates_in t.set.now) e before s.start read
     → ((more : List ℕ) → s.ends.read (unread ++ more) ≡ read (later ++ more))
     → (u.stage ≡ stage.Map → (t.stage ≡ stage.Map) × (later ≡ unread))
     → (t.stage ≡ stage.Map → u.stage ≢ stage.Map → 0 < length unread)
-    → Stands H u later bytes messages
-stands_further G H t u unread later bytes messages s set read goes same between some = record {
+    → Stands (ReadsOn has stands keeps u r e before) u later bytes messages
+stands_further has stands keeps G t u r e before unread later bytes messages s set read goes same between some = record {
   front = s.front;
   rest = s.rest;
   start = s.start;
@@ -144,7 +145,7 @@ stands_further G H t u unread later bytes messages s set read goes same between 
   carried = subst (λ (x : List Resolved). CarriesFrom x finite.empty s.front messages s.start) (sym sets) s.carried;
   ends = record {
     read = read;
-    goes = goes;
+    goes = subst (λ (x : List Resolved). Continues has stands keeps u r x e before s.start read) (sym sets) goes;
     fits = s.ends.fits;
     reads = λ more. ap (λ (x : List Resolved). message_at x s.start (s.rest ++ more)) sets ∙ s.ends.reads more ∙ same more;
     between = λ k. s.ends.between (between k).0 ∙ sym (between k).1;

@@ -46,7 +46,7 @@ FollowsAt has stands keeps (Some f) t r d held waiting before bytes messages = R
 
 -- A machine has been fed these bytes since its reset, in which these messages ended; its receiver has them behind those
 -- that it had.
-pub record Follows {R : Type 0} {receiver : Receiving R} {E : Type 0} {entries : Ghosts E} (m : Machine R receiver E entries) (before : List Content) (bytes : List ℕ) (messages : List Content) : Type 0 where
+pub record Follows {R E : Type 0} {receiver : Receiving R} {entries : Ghosts E} (m : Machine R E receiver entries) (before : List Content) (bytes : List ℕ) (messages : List Content) : Type 0 where
   pub at : FollowsAt receiver.has receiver.stands receiver.keeps m.fault m.traversal m.receiver (entries.contents m.entries) m.held.items m.waiting before bytes messages
   pub counts : Counts m.fed m.messages bytes messages
 

@@ -17,7 +17,7 @@ use Rattle.fast_decoder.specs.Nodes.{Content, content_of}
 use Rattle.fast_decoder.specs.Streams.{Carries}
 use Rattle.fast_decoder.specs.Faults.{FirstFault, EndsBetween}
 use Rattle.fast_decoder.specs.Standing.{Carried}
-use Rattle.fast_decoder.specs.Following.{Counts, FollowsAt}
+use Rattle.fast_decoder.specs.Following.{Follows as HasFed}
 
 -- what a reader tells of itself: the bytes left where they are told, how many calls were made, how many of them
 -- failed, and how many met the end
@@ -67,9 +67,8 @@ pub record EndsWith (set : List Resolved) (left : Option (List ℕ)) (bytes : Li
 
 -- a decoder with no fault follows these bytes, fed since its reset, and these messages, pushed since
 pub record Follows {E : Type 0} {ghosts : Ghosts E} (d : Decoder E ghosts) (bytes : List ℕ) (messages : List Content) : Type 0 where
-  pub goes_on : d.fault ≡ None
-  pub follows : FollowsAt None d.traversal d.builder (ghosts.contents d.entries) d.held.items d.waiting bytes messages
-  pub counts : Counts d.fed d.messages bytes messages
+  pub goes_on : d.machine.fault ≡ None
+  pub follows : HasFed d.machine [] bytes messages
 
 -- How far a stream came, that has found these messages in these bytes; while it is open its decoder goes on from them.
 abbrev pub HasReached : Reached → Type 0 → List Resolved → ℕ → Option (List ℕ) → List ℕ → List Content → Type 0
@@ -97,7 +96,7 @@ waiting_in waiting = map content_of (reverse waiting)
 -- byte while it was open.
 abbrev pub Stands : {E : Type 0} {ghosts : Ghosts E} → Reached → Decoder E ghosts → List Message → ℕ → ℕ → Option (List ℕ) → List ℕ → List Content → Type 0
 Stands at decoder waiting turns reads left bytes answered =
-    HasReached at (Follows decoder bytes (answered ++ waiting_in waiting) × (reads ≤ length bytes)) (templates_in decoder.traversal.set.now) turns left bytes (answered ++ waiting_in waiting)
+    HasReached at (Follows decoder bytes (answered ++ waiting_in waiting) × (reads ≤ length bytes)) (templates_in decoder.machine.traversal.set.now) turns left bytes (answered ++ waiting_in waiting)
 
 -- the message that is answered, if there is one
 abbrev pub answered_in : Result (Option Message) Fault → List Content

@@ -75,10 +75,14 @@ impl<'a, E: Entries> Decoder<'a, E> {
         ensures fed { self.old.machine.fault ≡ None
             → self.new.machine.fed ≡ self.old.machine.fed + length chunk.now }
     {
+        if let Some(fault) = self.machine.fault() {
+            return Err(fault);
+        }
         // the builder pushes behind the messages that are there
-        self.machine.receiver.exchange(out);
-        let fed = self.machine.feed(chunk);
-        self.machine.receiver.exchange(out);
+        let machine = &mut self.machine;
+        machine.receiver.exchange(out);
+        let fed = machine.feed(chunk);
+        machine.receiver.exchange(out);
         fed
     }
 
@@ -102,7 +106,10 @@ impl<'a, E: Entries> Decoder<'a, E> {
         ensures set { self.new.machine.traversal.set ≡ self.old.machine.traversal.set }
         ensures fed { self.new.machine.fed ≡ self.old.machine.fed }
     {
-        self.machine.finish()
+        match self.machine.finish() {
+            Err(fault) => Err(fault),
+            Ok(()) => Ok(()),
+        }
     }
 
     /// The fault of a stream of which no more bytes come for this cause: where the next piece would begin.
@@ -125,7 +132,8 @@ impl<'a, E: Entries> Decoder<'a, E> {
         ensures fault { self.new.machine.fault ≡ None }
         ensures follows { Follows self.new.machine [] [] [] }
     {
-        self.machine.receiver.reset();
-        self.machine.reset();
+        let machine = &mut self.machine;
+        machine.receiver.reset();
+        machine.reset();
     }
 }

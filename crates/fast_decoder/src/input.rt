@@ -41,7 +41,7 @@ pub struct MessageInputStream<'a, R: ByteInput, E: Entries> {
     reached: Reached,
     ghost limited: { turns ≤ 2 ^ 40 },
     ghost bounded: { reads ≤ turns },
-    ghost fits: { decoder.fed ≤ 4096 * reads },
+    ghost fits: { decoder.machine.fed ≤ 4096 * reads },
 }
 
 // Feeds what a read gave. The messages that it ends wait, the first one last.
@@ -50,17 +50,17 @@ fn feed<E: Entries>(
     bytes: &[u8],
     waiting: &mut Vec<Message>,
 ) -> Reached
-    requires room { decoder.now.fed + length bytes.now ≤ 2 ^ 60 }
+    requires room { decoder.now.machine.fed + length bytes.now ≤ 2 ^ 60 }
     requires none { waiting.now.items ≡ [] }
     ensures follows { (fed : List ℕ) (messages : List Content) (turns : ℕ) (left : Option (List ℕ))
         → Follows decoder.old fed messages
         → HasReached result (Follows decoder.new (fed ++ bytes.now) (messages
-        ++ waiting_in waiting.new.items)) (templates_in decoder.new.traversal.set.now) turns left
+        ++ waiting_in waiting.new.items)) (templates_in decoder.new.machine.traversal.set.now) turns left
         (fed ++ bytes.now) (messages ++ waiting_in waiting.new.items)
         × OnFault result (λ c. (c ≢ Cause.Truncated) × (c ≢ Cause.Read) × (c ≢ Cause.Turns)) }
     ensures end { result ≢ Reached.End }
-    ensures set { decoder.new.traversal.set ≡ decoder.old.traversal.set }
-    ensures fed { decoder.new.fed ≤ decoder.old.fed + length bytes.now }
+    ensures set { decoder.new.machine.traversal.set ≡ decoder.old.machine.traversal.set }
+    ensures fed { decoder.new.machine.fed ≤ decoder.old.machine.fed + length bytes.now }
 {
     let fed = decoder.feed(bytes, waiting);
     waiting.reverse();
@@ -72,13 +72,13 @@ fn feed<E: Entries>(
 
 // Ends the stream where its reader has.
 fn end<E: Entries>(decoder: &mut Decoder<'_, E>) -> Reached
-    requires few { decoder.now.fed ≤ 2 ^ 60 }
+    requires few { decoder.now.machine.fed ≤ 2 ^ 60 }
     ensures follows { (fed : List ℕ) (messages : List Content) (turns : ℕ) (left : Option (List ℕ))
         → Follows decoder.old fed messages → IsAtEnd left
-        → HasReached result ⊥ (templates_in decoder.new.traversal.set.now) turns left fed messages
+        → HasReached result ⊥ (templates_in decoder.new.machine.traversal.set.now) turns left fed messages
         × OnFault result (λ c. c ≡ Cause.Truncated) }
-    ensures set { decoder.new.traversal.set ≡ decoder.old.traversal.set }
-    ensures fed { decoder.new.fed ≡ decoder.old.fed }
+    ensures set { decoder.new.machine.traversal.set ≡ decoder.old.machine.traversal.set }
+    ensures fed { decoder.new.machine.fed ≡ decoder.old.machine.fed }
 {
     match decoder.finish() {
         Ok(()) => Reached::End,
@@ -100,7 +100,7 @@ impl<'a, R: ByteInput, E: Entries> MessageInputStream<'a, R, E> {
         requires served { ServesAll (E.serves entries) set.now }
         ensures reader { result.reader ≡ reader }
         ensures turns { result.turns ≡ turns }
-        ensures set { result.decoder.traversal.set.now ≡ set.now }
+        ensures set { result.decoder.machine.traversal.set.now ≡ set.now }
         ensures reached { result.reached ≡ Reached.Open }
         ensures reads { result.reads ≡ 0 }
         ensures waiting { result.waiting.items ≡ [] }
@@ -137,7 +137,7 @@ impl<'a, R: ByteInput, E: Entries> MessageInputStream<'a, R, E> {
         requires few { self.now.reads < self.now.turns }
         ensures reads { self.new.reads ≡ self.old.reads + 1 }
         ensures turns { self.new.turns ≡ self.old.turns }
-        ensures set { self.new.decoder.traversal.set ≡ self.old.decoder.traversal.set }
+        ensures set { self.new.decoder.machine.traversal.set ≡ self.old.decoder.machine.traversal.set }
         ensures read { (got : List ℕ)
             × Reads (reader_by R.left R.calls R.errors R.ends self.old.reader)
             (reader_by R.left R.calls R.errors R.ends self.new.reader) 1 got
@@ -169,7 +169,7 @@ impl<'a, R: ByteInput, E: Entries> MessageInputStream<'a, R, E> {
             self.old.reads (R.left self.old.reader) bytes answered
             → Stands self.new.reached self.new.decoder self.new.waiting.items self.new.turns
             self.new.reads (R.left self.new.reader) bytes answered
-            × Tells result (templates_in self.new.decoder.traversal.set.now) self.new.turns
+            × Tells result (templates_in self.new.decoder.machine.traversal.set.now) self.new.turns
             (R.left self.new.reader) bytes answered }
         ensures open { self.old.reached ≡ Reached.Open → IsFaultOf Cause.Turns self.new.reached }
         ensures closed { self.old.reached ≢ Reached.Open → self.new ≡ self.old }
@@ -179,7 +179,7 @@ impl<'a, R: ByteInput, E: Entries> MessageInputStream<'a, R, E> {
         ensures reader { self.new.reader ≡ self.old.reader }
         ensures reads { self.new.reads ≡ self.old.reads }
         ensures turns { self.new.turns ≡ self.old.turns }
-        ensures set { self.new.decoder.traversal.set ≡ self.old.decoder.traversal.set }
+        ensures set { self.new.decoder.machine.traversal.set ≡ self.old.decoder.machine.traversal.set }
     {
         match self.reached {
             Reached::End => Ok(None),
@@ -203,7 +203,7 @@ impl<'a, R: ByteInput, E: Entries> MessageInputStream<'a, R, E> {
     /// both is that of the piece that was reached, or the bytes' end between two messages.
     pub fn read_message(&mut self) -> Result<Option<Message>, Fault>
         ensures turns { self.new.turns ≡ self.old.turns }
-        ensures set { self.new.decoder.traversal.set ≡ self.old.decoder.traversal.set }
+        ensures set { self.new.decoder.machine.traversal.set ≡ self.old.decoder.machine.traversal.set }
         ensures waits { self.old.waiting.items ≢ [] → self.new.reader ≡ self.old.reader }
         ensures read { (got : List ℕ) × (count : ℕ)
             × Reads (reader_by R.left R.calls R.errors R.ends self.old.reader)
@@ -214,7 +214,7 @@ impl<'a, R: ByteInput, E: Entries> MessageInputStream<'a, R, E> {
             self.old.reads (R.left self.old.reader) bytes answered
             → Stands self.new.reached self.new.decoder self.new.waiting.items self.new.turns
             self.new.reads (R.left self.new.reader) (bytes ++ got) (answered ++ answered_in result)
-            × Tells result (templates_in self.new.decoder.traversal.set.now) self.new.turns
+            × Tells result (templates_in self.new.decoder.machine.traversal.set.now) self.new.turns
             (R.left self.new.reader) (bytes ++ got) (answered ++ answered_in result)
             × Causes self.old.reached self.new.reached (self.new.reads ≡ self.new.turns)
             (reader_by R.left R.calls R.errors R.ends self.old.reader)
@@ -239,7 +239,7 @@ impl<'a, R: ByteInput, E: Entries> MessageInputStream<'a, R, E> {
     pub fn reset(&mut self)
         ensures reader { self.new.reader ≡ self.old.reader }
         ensures turns { self.new.turns ≡ self.old.turns }
-        ensures set { self.new.decoder.traversal.set ≡ self.old.decoder.traversal.set }
+        ensures set { self.new.decoder.machine.traversal.set ≡ self.old.decoder.machine.traversal.set }
         ensures reached { self.new.reached ≡ Reached.Open }
         ensures reads { self.new.reads ≡ 0 }
         ensures waiting { self.new.waiting.items ≡ [] }

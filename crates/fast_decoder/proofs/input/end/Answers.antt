@@ -10,6 +10,6 @@ returns-in-Ok-clause-follows g c = λ fed messages turns left follows ended.
 pub returns-in-Err-clause-follows : goal.returns-in-Err-clause-follows
 returns-in-Err-clause-follows g c = λ fed messages turns left follows ended.
     let t = c.in-Err.ensures.truncated follows.goes_on in
-    let after = t.1 fed messages c.requires.few follows.counts follows.follows in
-    let refused = after.0.0 in
-    (refused_by_end c.in-Err.fault (templates_in c.finish.new.self.traversal.set.now) turns left fed messages t.0 ended refused.0 refused.1 refused.2, t.0)
+    let after = t.1 fed messages c.requires.few follows.follows in
+    let refused = (rw (c.in-Err.ensures.answer) at after.at).0 in
+    (refused_by_end c.in-Err.fault (templates_in c.finish.new.self.machine.traversal.set.now) turns left fed messages t.0 ended refused.0 refused.1 refused.2, t.0)

@@ -1,6 +1,5 @@
 use Rattle.std.proofs.Common.{◌≡◌, ◌<◌, ◌++◌, ◌∷◌, [], ℕ, List, length, drop, refl, ap, subst, ◌∙◌, arith, rules, append_assoc, length-append, append-nil}
 use Rattle.fast_decoder.specs.declared.traversal.Stage.TheVariants as stage
-use Rattle.fast_decoder.specs.Nodes.{Content}
 use Rattle.fast_decoder.specs.Traversals.{stop_of}
 use Rattle.fast_decoder.specs.Standing.{ReadsOn, Stands}
 use Rattle.fast_decoder.proofs.Steps.{with_none}
@@ -31,8 +30,8 @@ returns-in-Err-clause-ended g c = λ before fed messages s.
         (λ other. rw (c.message.ensures.set) (stops_of G l.traversal unread fed ms (stop_of new.template c.in-Err.halt later) st some (c.in-Err.ensures.stops other all st.start st.ends.read st.ends.goes))),
         (λ other.
             let h = c.in-Err.ensures.held other all st.start st.ends.read st.ends.goes in
-            stands_further G (ReadsOn R.has R.stands R.keeps new c.leave.new.receiver e all) l.traversal new unread later fed ms st (ap (λ x. x.now) c.message.ensures.set) h.0
-            (rw (c.leave.ensures.waits other, c.message.ensures.set) h.1) h.2
+            stands_further R.has R.stands R.keeps G l.traversal new c.leave.new.receiver e all unread later fed ms st (ap (λ x. x.now) c.message.ensures.set) h.0
+            (rw (c.leave.ensures.waits other) h.1) h.2
             (λ k. let t = c.in-Err.ensures.held_between other k in (t.0, ap (λ (n : ℕ). drop n bytes) t.1))
             (λ old began. some_left bytes l.at (omega (arith, c.in-Err.ensures.begun other old began, c.in-Err.ensures.held_place.1)))),
         (λ other. has_all R.stands G l.traversal new c.leave.new.receiver all unread fed ms st (ap (λ x. x.now) c.message.ensures.set)
@@ -78,7 +77,7 @@ messages-preserved g c =
             held.0 ++ m ∷ [],
             (let sizes = length-append held.0 (m ∷ []) in omega (arith, sizes, held.1)),
             rw (← append_assoc messages held.0 (m ∷ []), ← append_assoc before held.0 (m ∷ []))
-            (stands_between R.has R.stands R.keeps new c.message.new.receiver e (all ++ m ∷ []) later fed (ms ++ m ∷ []) c.in-Ok.ensures.between (rw (c.message.ensures.set) (r.2 whole.few)) (rw (c.message.ensures.set) whole.behind)),
+                (stands_between R.has R.stands R.keeps new c.message.new.receiver e (all ++ m ∷ []) later fed (ms ++ m ∷ []) c.in-Ok.ensures.between (rw (c.message.ensures.set) (r.2 whole.few)) (rw (c.message.ensures.set) whole.behind)),
           );
     }
 

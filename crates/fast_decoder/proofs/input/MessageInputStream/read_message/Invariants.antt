@@ -10,7 +10,7 @@ invariant-reads g l =
     let b = reader_by g.R.ByteInput.left g.R.ByteInput.calls g.R.ByteInput.errors g.R.ByteInput.ends l.self.reader in
     record {
       turns : l.self.turns ≡ l.fn.self.turns;
-      set : l.self.decoder.traversal.set ≡ l.fn.self.decoder.traversal.set;
+      set : l.self.decoder.machine.traversal.set ≡ l.fn.self.decoder.machine.traversal.set;
       waits : l.fn.self.waiting.items ≢ [] → l.self ≡ l.fn.self;
       closed : l.fn.self.reached ≢ reached.Open → l.self ≡ l.fn.self;
       read : (got : List ℕ) × (count : ℕ) × Reads a b count got × (l.self.reads ≡ l.fn.self.reads + count)

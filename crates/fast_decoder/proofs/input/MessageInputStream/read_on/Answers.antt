@@ -50,6 +50,6 @@ returns-in-Err-clause-read g c =
       failed_read _ _ p.call p.bytes,
       λ bytes answered stands.
           let at = rw (c.requires.reached) at stands in
-          let cut = c.cut.ensures.place at.0.goes_on bytes (answered ++ waiting_in old.waiting.items) at.0.counts at.0.follows in
+          let cut = c.cut.ensures.place at.0.goes_on bytes (answered ++ waiting_in old.waiting.items) at.0.follows in
           (rw (append-nil bytes, c.cut.ensures.set) (refused_by_read c.cut.result _ _ _ _ _ c.cut.ensures.cause cut), caused_by_read c.cut.result a b c.cut.ensures.cause p.error),
     )
