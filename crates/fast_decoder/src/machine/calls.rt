@@ -257,8 +257,8 @@ impl<'a, R: Receiver, E: Entries> Machine<'a, R, E> {
         ensures same_keys { E.serves self.new.entries ≡ E.serves self.old.entries }
         ensures fed { self.old.fault ≡ None → self.new.fed ≡ self.old.fed + length chunk.now }
     {
-        if let Some(fault) = self.fault {
-            return Err(fault);
+        if let Some(kept) = self.fault {
+            return Err(kept);
         }
         self.fed += chunk.len() as u64;
         if self.held.is_empty() {
