@@ -1,25 +1,27 @@
 -- How a decoder follows a stream.
-use Rattle.std.proofs.Common.{◌≡◌, ◌≢◌, ◌≤◌, ◌<◌, ℕ, ◌+◌, ◌-◌, ◌^◌, length, take, drop, length-drop, length-append, arith, List, [], ◌∷◌, ◌++◌, refl, sym, ap, ◌∙◌, append_assoc, append-nil, inl, inr}
+use Rattle.std.proofs.Common.{◌≡◌, ◌≢◌, ◌≤◌, ◌<◌, ℕ, ◌+◌, ◌-◌, ◌^◌, length, take, drop, length-drop, length-append, arith, List, [], ◌∷◌, ◌++◌, refl, sym, ap, subst, ◌∙◌, append_assoc, append-nil, ◌⊎◌, inl, inr}
 use Rattle.std.proofs.Math.Seq.{take-length}
 use Rattle.std.specs.List.{AllByRecursion}
 use Rattle.std.specs.FinMap as finite
-use Rattle.std.specs.Prelude.{None}
 use Rattle.fast_template.specs.Resolved.{Resolved}
 use Rattle.fast_template.specs.TemplateSets.{HaveTypedParts, templates_in}
 use Rattle.fast_dictionary.specs.Dictionary.{Dictionary}
 use Rattle.fast_wire.specs.Reader.{IsBytes}
-use Rattle.fast_decoder.specs.declared.builder.Builder.{Builder}
 use Rattle.fast_decoder.specs.declared.traversal.Stage.TheVariants as stage
 use Rattle.fast_decoder.specs.declared.traversal.Traversal.{Traversal}
 use Rattle.fast_decoder.specs.Nodes.{Content}
 use Rattle.fast_decoder.specs.Streams.{Carries, CarriesFrom}
 use Rattle.fast_decoder.specs.Faults.{FirstFault, MessageStop, place_of}
+use Rattle.fast_decoder.specs.declared.fault.Cause.{Cause}
 use Rattle.fast_decoder.specs.declared.fault.Cause.TheVariants.{Truncated, Memory}
 use Rattle.fast_decoder.specs.declared.fault.Fault.{Fault}
 use Rattle.fast_decoder.specs.declared.halt.Halt.{Halt}
 use Rattle.fast_decoder.specs.declared.place.Place.{Place}
-use Rattle.fast_decoder.specs.Standing.{Carried, Stands, StopsBehind}
-use Rattle.fast_decoder.specs.Following.{Counts, FollowsAt, Refused}
+use Rattle.fast_decoder.specs.OpenSegments.{Reading}
+use Rattle.fast_decoder.specs.Standing.{Carried, ReadsOn, HasAll, Having, Standing, Stands, StopsBehind}
+use Rattle.fast_decoder.specs.Traversals.{ContinuesAt}
+use Rattle.fast_decoder.specs.declared.traversal.Stage.{Stage}
+use Rattle.fast_decoder.specs.Following.{Counts, IsCutAt, Refused, Waits}
 use Rattle.fast_decoder.specs.Traversals.{stop_of}
 use Rattle.fast_decoder.proofs.MessageReaders.{message_stops}
 use Rattle.fast_decoder.proofs.StreamReaders.{message_some}
@@ -76,8 +78,8 @@ bytes_append (x ∷ xs) ys h k = (h.0, bytes_append xs ys h.1 k)
 some_append : (xs ys : List ℕ) → 0 < length xs → 0 < length (xs ++ ys)
 some_append xs ys h = let size = length-append xs ys in omega (arith, size, h)
 
-pub stands_fed : (t : Traversal) (b : Builder) (d : Dictionary) (unread bytes chunk : List ℕ) (messages : List Content) → IsBytes chunk → Stands t b d unread bytes messages → Stands t b d (unread ++ chunk) (bytes ++ chunk) messages
-stands_fed t b d unread bytes chunk messages fits s = record {
+pub stands_fed : (G : Dictionary → (List ℕ → Reading) → Type 0) (t : Traversal) (unread bytes chunk : List ℕ) (messages : List Content) → IsBytes chunk → Stands G t unread bytes messages → Stands G t (unread ++ chunk) (bytes ++ chunk) messages
+stands_fed G t unread bytes chunk messages fits s = record {
   front = s.front;
   rest = s.rest ++ chunk;
   start = s.start;
@@ -154,18 +156,72 @@ none_of [] h = refl
 none_of (x ∷ xs) h = absurd (omega (arith, h))
 
 -- what stands between two messages carries them
-pub carries_all : (t : Traversal) (b : Builder) (d : Dictionary) (bytes : List ℕ) (messages : List Content) → t.stage ≡ stage.Map → Stands t b d [] bytes messages → Carries (templates_in t.set.now) bytes messages
-carries_all t b d bytes messages at s =
+pub carries_all : (G : Dictionary → (List ℕ → Reading) → Type 0) (t : Traversal) (bytes : List ℕ) (messages : List Content) → t.stage ≡ stage.Map → Stands G t [] bytes messages → Carries (templates_in t.set.now) bytes messages
+carries_all G t bytes messages at s =
     let whole : bytes ≡ s.front = s.parts ∙ ap (λ (xs : List ℕ). s.front ++ xs) (s.ends.between at) ∙ append-nil s.front in
     (s.start, rw whole s.carried)
 
 -- the bytes end inside a message
-pub ends_inside : (f : Fault) (t : Traversal) (b : Builder) (d : Dictionary) (held : List ℕ) (waiting : ℕ) (bytes : List ℕ) (messages : List Content) (fed count : ℕ) → AllByRecursion (λ t. HaveTypedParts t.members) (templates_in t.set.now)
-    → Counts fed count bytes messages → fed ≤ 2 ^ 60 → FollowsAt None t b d held waiting bytes messages → ((t.stage ≡ stage.Map) × (held ≡ []) → ⊥)
+pub ends_inside : (G : Dictionary → (List ℕ → Reading) → Type 0) (f : Fault) (t : Traversal) (held : List ℕ) (waiting : ℕ) (bytes : List ℕ) (messages : List Content) (fed count : ℕ) → AllByRecursion (λ t. HaveTypedParts t.members) (templates_in t.set.now)
+    → Counts fed count bytes messages → fed ≤ 2 ^ 60 → Stands G t held bytes messages × Waits t held waiting bytes messages → ((t.stage ≡ stage.Map) × (held ≡ []) → ⊥)
     → f.cause ≡ Truncated → (count < 2 ^ 61 → f.place.message ≡ count + 1) → f.place.offset ≡ fed - length held → f.place.template ≡ t.template → f.place.instruction ≡ waiting
     → Refused f t bytes messages
-ends_inside f t b d held waiting bytes messages fed count typed counts short (stands, inl at) inside is message offset template instruction = absurd (inside at)
-ends_inside f t b d held waiting bytes messages fed count typed counts short (stands, inr stops) inside is message offset template instruction =
+ends_inside G f t held waiting bytes messages fed count typed counts short (stands, inl at) inside is message offset template instruction = absurd (inside at)
+ends_inside G f t held waiting bytes messages fed count typed counts short (stands, inr stops) inside is message offset template instruction =
     let same = counts.fed_is in
     fault_refused f t (record { cause = Truncated; number = waiting }) held bytes messages fed count typed counts (omega (arith, same, short))
     (record { front = stands.front; rest = stands.rest; start = stands.start; parts = stands.parts; carried = stands.carried; ends = tt }) stops is (λ e. absurd cc) message offset template instruction
+
+-- ---- where no more bytes come
+
+pub all_carried : (set : List Resolved) (bytes : List ℕ) (messages : List Content) → Carries set bytes messages → Carried set bytes messages
+all_carried set bytes messages c = record { front = bytes; rest = []; start = c.0; parts = sym (append-nil bytes); carried = c.1; ends = tt }
+
+pub cut_inside : (set other : List Resolved) (f : Fault) (bytes : List ℕ) (messages : List Content) → other ≡ set → f.cause ≡ Truncated → Carried other bytes messages → f.place.message ≡ length messages + 1
+    → (f.cause ≢ Memory → FirstFault other bytes f.place f.cause) → IsCutAt set bytes messages f.place
+cut_inside set other f bytes messages same is carried behind first = record {
+  carried = subst (λ (x : List Resolved). Carried x bytes messages) same carried;
+  behind = behind;
+  at = inl (subst (λ (x : List Resolved). FirstFault x bytes f.place Truncated) same (rw is at (first (λ e. truncated_not_memory (sym is ∙ e)))));
+}
+  where
+    truncated_not_memory : Truncated ≡ Memory → ⊥
+    truncated_not_memory e = absurd cc
+
+pub cut_between : (set : List Resolved) (bytes : List ℕ) (messages : List Content) (fed count : ℕ) (place : Place) → Counts fed count bytes messages → fed ≤ 2 ^ 60 → Carries set bytes messages
+    → (count < 2 ^ 61 → place.message ≡ count + 1) → place.offset ≡ fed → place.template ≡ 0 → place.instruction ≡ 0 → IsCutAt set bytes messages place
+cut_between set bytes messages fed count place counts short carries message offset template instruction =
+    let carried = all_carried set bytes messages carries in
+    let few = few_messages set bytes messages carried in
+    let same = counts.count_is in
+    let all = counts.fed_is in
+    let behind = message (omega (arith, few, same, all, short)) ∙ ap (λ (n : ℕ). n + 1) same in
+    record {
+      carried = carried;
+      behind = behind;
+      at = inr (record { messages = messages; carried = carries; place_is = place_same place.message (length messages + 1) place.offset (length bytes) place.template 0 place.instruction 0 behind (offset ∙ all) template instruction });
+    }
+
+pub not_memory : (c : Cause) → c ≡ Truncated → c ≢ Memory
+not_memory c is e = absurd cc
+
+-- ---- what a receiver keeps
+
+kept_at : {R : Type 0} (has : Having R) (stands keeps : Standing R) (t : Traversal) (r : R) (set : List Resolved) (d start : Dictionary) (before : List Content) (read : List ℕ → Reading) (at : Stage)
+    → ContinuesAt has stands keeps at t r set d before start read → keeps r set before start ⊎ stands r set before start
+kept_at has stands keeps t r set d start before read stage.Map c = inr (subst (λ (x : Dictionary). stands r set before x) (sym c.start_is) c.stands)
+kept_at has stands keeps t r set d start before read stage.Identifier c = inr (subst (λ (x : Dictionary). stands r set before x) (sym c.start_is) c.stands)
+kept_at has stands keeps t r set d start before read stage.Body c = inl c.keeps
+
+-- where the receiver forgets what is open
+pub left_behind : {R : Type 0} (has : Having R) (stands keeps : Standing R) (t : Traversal) (r s : R) (d : Dictionary) (before : List Content) (unread bytes : List ℕ) (messages : List Content)
+    → ((set : List Resolved) (ms : List Content) (e : Dictionary) → keeps r set ms e ⊎ stands r set ms e → stands s set ms e)
+    → Stands (ReadsOn has stands keeps t r d before) t unread bytes messages → HasAll stands t s before bytes messages
+left_behind has stands keeps t r s d before unread bytes messages left h = record {
+  front = h.front;
+  rest = h.rest;
+  start = h.start;
+  parts = h.parts;
+  carried = h.carried;
+  ends = left (templates_in t.set.now) before h.start (kept_at has stands keeps t r (templates_in t.set.now) d h.start before h.ends.read t.stage h.ends.goes);
+}

@@ -1,3 +1,4 @@
+pub mod Builders
 pub mod Hex
 pub mod Rows
 pub mod WorkedStreams
@@ -18,5 +19,7 @@ pub mod Heads
 pub mod Opening
 pub mod Standings
 pub mod Followings
+pub mod Causes
+pub mod Inputs
 mod SameNodes
 mod EqualNodes

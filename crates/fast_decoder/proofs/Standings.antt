@@ -6,7 +6,6 @@ use Rattle.fast_wire.specs.Reader.{IsBytes}
 use Rattle.fast_template.specs.Resolved.{Resolved}
 use Rattle.fast_template.specs.TemplateSets.{HaveTypedParts, TemplateList, templates_in}
 use Rattle.fast_dictionary.specs.Dictionary.{Dictionary}
-use Rattle.fast_decoder.specs.declared.builder.Builder.{Builder}
 use Rattle.fast_decoder.specs.declared.traversal.Stage.{Stage}
 use Rattle.fast_decoder.specs.declared.traversal.Stage.TheVariants as stage
 use Rattle.fast_decoder.specs.declared.traversal.Traversal.{Traversal}
@@ -15,9 +14,8 @@ use Rattle.fast_decoder.specs.Streams.{CarriesFrom, MessageForm}
 use Rattle.fast_decoder.specs.Faults.{MessageStop}
 use Rattle.fast_decoder.specs.Reading.{message_at}
 use Rattle.fast_decoder.specs.OpenSegments.{Reading}
-use Rattle.fast_decoder.specs.Built.{IsBuilt}
 use Rattle.fast_decoder.specs.Traversals.{Continues, ContinuesAt, begun_at}
-use Rattle.fast_decoder.specs.Standing.{Behind, Carried, HasWhole, Stands, StopsBehind, Unfinished}
+use Rattle.fast_decoder.specs.Standing.{Behind, Carried, ReadsOn, HasAll, Having, Standing, Stands, StopsBehind, Unfinished}
 use Rattle.fast_decoder.proofs.MessageReaders.{message_found}
 
 -- one message more
@@ -41,8 +39,8 @@ carries_more set (n ∷ ms) m a front x mid after h form = record {
 }
 
 -- the next message with no byte more
-pub now_reads : (t : Traversal) (b : Builder) (d : Dictionary) (unread : List ℕ) (start : Dictionary) (rest : List ℕ) (u : Unfinished t b d unread start rest) → message_at (templates_in t.set.now) start rest ≡ u.read unread
-now_reads t b d unread start rest u = ap (message_at (templates_in t.set.now) start) (sym (append-nil rest)) ∙ u.reads [] ∙ ap u.read (append-nil unread)
+pub now_reads : (G : Dictionary → (List ℕ → Reading) → Type 0) (t : Traversal) (unread : List ℕ) (start : Dictionary) (rest : List ℕ) (u : Unfinished G t unread start rest) → message_at (templates_in t.set.now) start rest ≡ u.read unread
+now_reads G t unread start rest u = ap (message_at (templates_in t.set.now) start) (sym (append-nil rest)) ∙ u.reads [] ∙ ap u.read (append-nil unread)
 
 -- a message that is whole
 pub record Whole (set : List Resolved) (bytes unread : List ℕ) (messages : List Content) (m : Content) (after : Dictionary) : Type 0 where
@@ -76,19 +74,20 @@ map_or_not stage.Map = inl refl
 map_or_not stage.Identifier = inr (λ e. absurd cc)
 map_or_not stage.Body = inr (λ e. absurd cc)
 
-between_of : (t : Traversal) (b : Builder) (set : List Resolved) (d start : Dictionary) (at : Stage) → at ≡ stage.Map → b.whole.items ≡ [] → start ≡ d
-    → ContinuesAt (λ (c : Builder) o e. IsBuilt c o) HasWhole HasWhole at t b set d [] start (message_at set d)
-between_of t b set d start stage.Map at none is = record { stands = rw none refl; start_is = is; reads = λ bytes. refl }
-between_of t b set d start stage.Identifier at none is = absurd cc
-between_of t b set d start stage.Body at none is = absurd cc
+between_of : {R : Type 0} (has : Having R) (stands keeps : Standing R) (t : Traversal) (r : R) (set : List Resolved) (d start : Dictionary) (before : List Content) (at : Stage) → at ≡ stage.Map → stands r set before d → start ≡ d
+    → ContinuesAt has stands keeps at t r set d before start (message_at set d)
+between_of has stands keeps t r set d start before stage.Map at h is = record { stands = h; start_is = is; reads = λ bytes. refl }
+between_of has stands keeps t r set d start before stage.Identifier at h is = absurd cc
+between_of has stands keeps t r set d start before stage.Body at h is = absurd cc
 
 read_from : (set : List Resolved) (d e : Dictionary) (rest unread more : List ℕ) → d ≡ e → rest ≡ unread → message_at set d (rest ++ more) ≡ message_at set e (unread ++ more)
 read_from set d e rest unread more is same = ap (λ (x : Dictionary). message_at set x (rest ++ more)) is ∙ ap (λ (xs : List ℕ). message_at set e (xs ++ more)) same
 
--- between two messages, all of which are handed on
-pub stands_between : (t : Traversal) (b : Builder) (d : Dictionary) (unread bytes : List ℕ) (messages : List Content) → t.stage ≡ stage.Map → b.whole.items ≡ []
-    → Behind (templates_in t.set.now) bytes messages (λ e rest. (e ≡ d) × (rest ≡ unread) × IsBytes rest) → Stands t b d unread bytes messages
-stands_between t b d unread bytes messages at none s = record {
+-- between two messages
+pub stands_between : {R : Type 0} (has : Having R) (stands keeps : Standing R) (t : Traversal) (r : R) (d : Dictionary) (before : List Content) (unread bytes : List ℕ) (messages : List Content) → t.stage ≡ stage.Map
+    → stands r (templates_in t.set.now) before d
+    → Behind (templates_in t.set.now) bytes messages (λ e rest. (e ≡ d) × (rest ≡ unread) × IsBytes rest) → Stands (ReadsOn has stands keeps t r d before) t unread bytes messages
+stands_between has stands keeps t r d before unread bytes messages at h s = record {
   front = s.front;
   rest = s.rest;
   start = s.start;
@@ -96,7 +95,7 @@ stands_between t b d unread bytes messages at none s = record {
   carried = s.carried;
   ends = record {
     read = message_at (templates_in t.set.now) d;
-    goes = between_of t b (templates_in t.set.now) d s.start t.stage at none s.ends.0;
+    goes = between_of has stands keeps t r (templates_in t.set.now) d s.start before t.stage at h s.ends.0;
     fits = s.ends.2;
     reads = λ more. read_from (templates_in t.set.now) s.start d s.rest unread more s.ends.0 s.ends.1;
     between = λ k. s.ends.1;
@@ -105,25 +104,25 @@ stands_between t b d unread bytes messages at none s = record {
 }
 
 -- where the next message is whole
-pub whole_of : (t : Traversal) (b : Builder) (d e : Dictionary) (unread later bytes : List ℕ) (messages : List Content) (m : Content) → AllByRecursion (λ r. HaveTypedParts r.members) (templates_in t.set.now)
-    → (s : Stands t b d unread bytes messages) → s.ends.read unread ≡ Ok (m, e, later) → Whole (templates_in t.set.now) bytes later messages m e
-whole_of t b d e unread later bytes messages m typed s is =
+pub whole_of : (G : Dictionary → (List ℕ → Reading) → Type 0) (t : Traversal) (e : Dictionary) (unread later bytes : List ℕ) (messages : List Content) (m : Content) → AllByRecursion (λ r. HaveTypedParts r.members) (templates_in t.set.now)
+    → (s : Stands G t unread bytes messages) → s.ends.read unread ≡ Ok (m, e, later) → Whole (templates_in t.set.now) bytes later messages m e
+whole_of G t e unread later bytes messages m typed s is =
     message_whole (templates_in t.set.now) typed bytes later messages m e
-    (record { front = s.front; rest = s.rest; start = s.start; parts = s.parts; carried = s.carried; ends = (s.ends.fits, now_reads t b d unread s.start s.rest s.ends ∙ is) })
+    (record { front = s.front; rest = s.rest; start = s.start; parts = s.parts; carried = s.carried; ends = (s.ends.fits, now_reads G t unread s.start s.rest s.ends ∙ is) })
 
-pub carried_of : (t : Traversal) (b : Builder) (d : Dictionary) (unread bytes : List ℕ) (messages : List Content) → Stands t b d unread bytes messages → Carried (templates_in t.set.now) bytes messages
-carried_of t b d unread bytes messages s = record { front = s.front; rest = s.rest; start = s.start; parts = s.parts; carried = s.carried; ends = tt }
+pub carried_of : (G : Dictionary → (List ℕ → Reading) → Type 0) (t : Traversal) (unread bytes : List ℕ) (messages : List Content) → Stands G t unread bytes messages → Carried (templates_in t.set.now) bytes messages
+carried_of G t unread bytes messages s = record { front = s.front; rest = s.rest; start = s.start; parts = s.parts; carried = s.carried; ends = tt }
 
 -- where the next message stops
-pub stops_of : (t : Traversal) (b : Builder) (d : Dictionary) (unread bytes : List ℕ) (messages : List Content) (stop : MessageStop) (s : Stands t b d unread bytes messages)
+pub stops_of : (G : Dictionary → (List ℕ → Reading) → Type 0) (t : Traversal) (unread bytes : List ℕ) (messages : List Content) (stop : MessageStop) (s : Stands G t unread bytes messages)
     → (t.stage ≡ stage.Map → 0 < length unread) → s.ends.read unread ≡ Err stop → StopsBehind (templates_in t.set.now) bytes messages stop
-stops_of t b d unread bytes messages stop s some is = record {
+stops_of G t unread bytes messages stop s some is = record {
   front = s.front;
   rest = s.rest;
   start = s.start;
   parts = s.parts;
   carried = s.carried;
-  ends = (of_stage (map_or_not t.stage), s.ends.fits, now_reads t b d unread s.start s.rest s.ends ∙ is);
+  ends = (of_stage (map_or_not t.stage), s.ends.fits, now_reads G t unread s.start s.rest s.ends ∙ is);
 }
   where
     of_stage : (t.stage ≡ stage.Map) ⊎ (t.stage ≢ stage.Map) → 0 < length s.rest
@@ -131,13 +130,14 @@ stops_of t b d unread bytes messages stop s some is = record {
     of_stage (inr other) = s.ends.some other
 
 -- where the traversal has stopped further on
-pub stands_further : (t u : Traversal) (b c : Builder) (d e : Dictionary) (unread later bytes : List ℕ) (messages : List Content) (s : Stands t b d unread bytes messages) → u.set.now ≡ t.set.now
-    → (read : List ℕ → Reading) → Continues (λ (x : Builder) o y. IsBuilt x o) HasWhole HasWhole u c (templates_in t.set.now) e [] s.start read
+pub stands_further : {R : Type 0} (has : Having R) (stands keeps : Standing R) (G : Dictionary → (List ℕ → Reading) → Type 0) (t u : Traversal) (r : R) (e : Dictionary) (before : List Content) (unread later bytes : List ℕ) (messages : List Content)
+    (s : Stands G t unread bytes messages) → u.set.now ≡ t.set.now
+    → (read : List ℕ → Reading) → Continues has stands keeps u r (templates_in t.set.now) e before s.start read
     → ((more : List ℕ) → s.ends.read (unread ++ more) ≡ read (later ++ more))
     → (u.stage ≡ stage.Map → (t.stage ≡ stage.Map) × (later ≡ unread))
     → (t.stage ≡ stage.Map → u.stage ≢ stage.Map → 0 < length unread)
-    → Stands u c e later bytes messages
-stands_further t u b c d e unread later bytes messages s set read goes same between some = record {
+    → Stands (ReadsOn has stands keeps u r e before) u later bytes messages
+stands_further has stands keeps G t u r e before unread later bytes messages s set read goes same between some = record {
   front = s.front;
   rest = s.rest;
   start = s.start;
@@ -145,7 +145,7 @@ stands_further t u b c d e unread later bytes messages s set read goes same betw
   carried = subst (λ (x : List Resolved). CarriesFrom x finite.empty s.front messages s.start) (sym sets) s.carried;
   ends = record {
     read = read;
-    goes = subst (λ (x : List Resolved). Continues (λ (y : Builder) o z. IsBuilt y o) HasWhole HasWhole u c x e [] s.start read) (sym sets) goes;
+    goes = subst (λ (x : List Resolved). Continues has stands keeps u r x e before s.start read) (sym sets) goes;
     fits = s.ends.fits;
     reads = λ more. ap (λ (x : List Resolved). message_at x s.start (s.rest ++ more)) sets ∙ s.ends.reads more ∙ same more;
     between = λ k. s.ends.between (between k).0 ∙ sym (between k).1;
@@ -180,3 +180,18 @@ none_begun stage.Body e h = absurd cc
 
 pub some_left : (xs : List ℕ) (n : ℕ) → n < length xs → 0 < length (drop n xs)
 some_left xs n h = let l = length-drop n xs in omega (arith, l, h)
+
+-- where the receiver has forgotten what was open
+pub has_all : {R : Type 0} (stands : Standing R) (G : Dictionary → (List ℕ → Reading) → Type 0) (t u : Traversal) (r : R) (before : List Content) (unread bytes : List ℕ) (messages : List Content) (s : Stands G t unread bytes messages)
+    → u.set.now ≡ t.set.now → stands r (templates_in t.set.now) before s.start → HasAll stands u r before bytes messages
+has_all stands G t u r before unread bytes messages s set h = record {
+  front = s.front;
+  rest = s.rest;
+  start = s.start;
+  parts = s.parts;
+  carried = subst (λ (x : List Resolved). CarriesFrom x finite.empty s.front messages s.start) (sym sets) s.carried;
+  ends = subst (λ (x : List Resolved). stands r x before s.start) (sym sets) h;
+}
+  where
+    sets : templates_in u.set.now ≡ templates_in t.set.now
+    sets = ap (λ (x : TemplateList). templates_in x) set

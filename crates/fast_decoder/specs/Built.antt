@@ -1,6 +1,7 @@
 -- What a builder of nodes has of the message that is open.
 use Rattle.std.specs.Prelude.{◌≡◌, List, [], map}
 use Rattle.std.specs.Global.{Vec}
+use Rattle.fast_decoder.specs.declared.message.Message.{Message}
 use Rattle.fast_decoder.specs.declared.message.Node.{Node}
 use Rattle.fast_decoder.specs.declared.builder.Level.{Level}
 use Rattle.fast_decoder.specs.declared.builder.Builder.{Builder}
@@ -35,3 +36,7 @@ pub record IsBuilt (b : Builder) (o : Received) : Type 0 where
   pub next : IsNextBuilt b o.next
   pub done : o.body.done ≡ map item_of b.nodes.items
   pub around : map waiting_done o.around ≡ map level_done b.outer.items
+
+-- with other messages in place of those that are finished
+abbrev pub with_whole : Builder → Vec Message → Builder
+with_whole b messages = record { template = b.template; nodes = b.nodes; exponent = b.exponent; elements = b.elements; outer = b.outer; whole = messages }

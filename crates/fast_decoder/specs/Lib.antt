@@ -12,3 +12,5 @@ pub mod Built
 pub mod Traversals
 pub mod Standing
 pub mod Following
+pub mod OneProof
+pub mod Inputs

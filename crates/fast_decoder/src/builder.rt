@@ -46,10 +46,11 @@ fn node_of(value: Option<Scalar>) -> Node
 }
 
 impl Builder {
-    ghost use Rattle.std.specs.Prelude.{[], ◌∷◌, List, option_map};
+    ghost use Rattle.std.specs.Prelude.{[], List};
     ghost use Rattle.std.specs.FinMap as finite;
     ghost use Rattle.fast_template.specs.Resolved.{Resolved};
-    ghost use Rattle.fast_decoder.specs.Nodes.{Content, content_of};
+    ghost use Rattle.fast_decoder.specs.Nodes.{Content};
+    ghost use Rattle.fast_decoder.specs.Built.{with_whole};
 
     /// With no message. Takes no memory.
     pub fn new(alloc: Global) -> Builder
@@ -67,12 +68,12 @@ impl Builder {
         }
     }
 
-    /// Hands on the message that was finished last. Takes no memory.
-    pub fn hand_on(&mut self) -> Option<Message>
-        ensures handed { (m : Content) → map content_of self.old.whole.items ≡ m ∷ []
-            → (option_map content_of result ≡ Some m) × (self.new.whole.items ≡ []) }
+    /// Exchanges the messages that are finished with others, behind which the next are pushed. Takes no memory.
+    pub fn exchange(&mut self, messages: &mut Vec<Message>)
+        ensures messages { messages.new ≡ self.old.whole }
+        ensures builder { self.new ≡ with_whole self.old messages.old }
     {
-        self.whole.pop()
+        mem::swap(&mut self.whole, messages);
     }
 
     /// Forgets all messages. Takes no memory.

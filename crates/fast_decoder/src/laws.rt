@@ -86,6 +86,12 @@ pub fn refusal_stays()
         → cause ≢ Cause.Truncated → FirstFault (templates_in set) (stream ++ more) place cause }
 {}
 
+/// Bytes have no fault that is a failed read or used up reads.
+pub fn faults_are_of_bytes()
+    ensures { (set : List Resolved) (stream : List ℕ) (place : Place) (cause : Cause)
+        → FirstFault set stream place cause → (cause ≢ Cause.Read) × (cause ≢ Cause.Turns) }
+{}
+
 /// Two streams that carry the same messages leave the same dictionary.
 pub fn same_messages_same_dictionary()
     ensures { (set : List Resolved) (d : Dictionary) (stream other : List ℕ)

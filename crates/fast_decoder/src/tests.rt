@@ -1,3 +1,5 @@
+mod rows;
+
 use crate::decoder::Decoder;
 use crate::fault::{Cause, Fault};
 use crate::message::{Message, Node};

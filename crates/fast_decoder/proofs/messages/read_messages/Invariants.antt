@@ -1,6 +1,6 @@
-use Rattle.std.proofs.Common.{◌≡◌, ◌≤◌, ◌++◌, ◌-◌, ◌+◌, ◌*◌, ℕ, List, length, drop, map}
-use Rattle.fast_decoder.specs.Nodes.{Content, content_of}
-use Rattle.fast_decoder.specs.Standing.{Stands}
+use Rattle.std.proofs.Common.{◌≡◌, ◌≤◌, ◌++◌, ◌-◌, ◌+◌, ◌*◌, ℕ, List, length, drop}
+use Rattle.fast_decoder.specs.Nodes.{Content}
+use Rattle.fast_decoder.specs.Standing.{ReadsOn, Stands}
 use Rattle.fast_decoder.specs.Traversals.{CanGoOn, begun_of}
 use Rattle.fast_decoder.proofs.messages.read_messages.Given as goal
 
@@ -11,9 +11,10 @@ invariant-messages g l = record {
   ready : CanGoOn (g.E.Entries.serves l.entries) l.traversal;
   same_keys : g.E.Entries.serves l.entries ≡ g.E.Entries.serves l.fn.entries;
   set : l.traversal.set ≡ l.fn.traversal.set;
-  stands : (fed : List ℕ) (messages : List Content) → Stands l.fn.traversal l.fn.builder (g.E.Entries.contents l.fn.entries) l.bytes fed messages
-      → (pushed : List Content) × (map content_of l.out.items ≡ map content_of l.fn.out.items ++ pushed) × (length pushed ≡ l.messages)
-      × Stands l.traversal l.builder (g.E.Entries.contents l.entries) (drop l.at l.bytes) fed (messages ++ pushed);
+  stands : (before : List Content) (fed : List ℕ) (messages : List Content)
+      → Stands (ReadsOn g.R.Receiver.has g.R.Receiver.stands g.R.Receiver.keeps l.fn.traversal l.fn.receiver (g.E.Entries.contents l.fn.entries) before) l.fn.traversal l.bytes fed messages
+      → (ended : List Content) × (length ended ≡ l.messages)
+      × Stands (ReadsOn g.R.Receiver.has g.R.Receiver.stands g.R.Receiver.keeps l.traversal l.receiver (g.E.Entries.contents l.entries) (before ++ ended)) l.traversal (drop l.at l.bytes) fed (messages ++ ended);
 }
 
 abbrev pub decreases-messages : goal.decreases-messages

@@ -1,0 +1,304 @@
+-- How a stream of messages follows its reader.
+use Rattle.std.proofs.Common.{◌≡◌, ◌≢◌, ◌≤◌, ℕ, ◌+◌, List, [], ◌∷◌, ◌++◌, length, take, map, reverse, Option, None, Some, refl, sym, ap, subst, ◌∙◌, arith, append_assoc, append-nil, length-append, length-take, ◌⊎◌, inl, inr}
+use Rattle.std.proofs.lemmas.List.{reverse-reverse, reverse-append}
+use Rattle.std.specs.FinMap as finite
+use Rattle.std.specs.Io.KnownBytes.{Consumes, Keeps, IsAtEnd}
+use Rattle.fast_io.specs.Counts.{counted}
+use Rattle.fast_template.specs.Resolved.{Resolved}
+use Rattle.fast_decoder.specs.declared.input.Reached.{Reached}
+use Rattle.fast_decoder.specs.declared.input.Reached.TheVariants as reached
+use Rattle.fast_decoder.specs.declared.fault.Cause.{Cause}
+use Rattle.fast_decoder.specs.declared.fault.Cause.TheVariants as cause
+use Rattle.fast_decoder.specs.declared.fault.Fault.{Fault}
+use Rattle.fast_decoder.specs.declared.place.Place.{Place}
+use Rattle.fast_decoder.specs.declared.decoder.Decoder.{Decoder}
+use Rattle.fast_decoder.specs.declared.message.Message.{Message}
+use Rattle.fast_template.specs.TemplateSets.{templates_in}
+use Rattle.fast_dictionary.specs.declared.entries.Entries.{Ghosts}
+use Rattle.fast_decoder.specs.Nodes.{Content, content_of}
+use Rattle.fast_decoder.specs.Following.{Follows as HasFed, IsCutAt}
+use Rattle.fast_decoder.specs.Faults.{FirstFault}
+use Rattle.fast_decoder.specs.Standing.{Carried, ReadsOn}
+use Rattle.fast_decoder.proofs.Builders.{BuilderHas, BuilderStands}
+use Rattle.fast_decoder.specs.Inputs.{Causes, Follows, HasReached, IsCaused, IsFaultOf, OnFault, Reader, Reads, RefusedBy, Refuses, Stands, waiting_in}
+use Rattle.fast_decoder.specs.Streams.{CarriesFrom}
+use Rattle.fast_dictionary.specs.Dictionary.{Dictionary}
+use Rattle.fast_decoder.proofs.Standings.{carried_of}
+use Rattle.fast_decoder.proofs.Followings.{all_carried}
+use Rattle.fast_decoder.proofs.Causes.{IsOfBytes, of_stream}
+
+by_bytes : (c : Cause) (set : List Resolved) (turns : ℕ) (left : Option (List ℕ)) (bytes : List ℕ) (place : Place) → c ≢ cause.Truncated → (c ≢ cause.Memory → FirstFault set bytes place c)
+    → (c ≡ cause.Memory → (place.offset ≡ 0) × (place.template ≡ 0) × (place.instruction ≡ 0)) → RefusedBy c set turns left bytes place
+by_bytes cause.D2 set turns left bytes place more first memory = first (λ e. absurd cc)
+by_bytes cause.D4 set turns left bytes place more first memory = first (λ e. absurd cc)
+by_bytes cause.D5 set turns left bytes place more first memory = first (λ e. absurd cc)
+by_bytes cause.D6 set turns left bytes place more first memory = first (λ e. absurd cc)
+by_bytes cause.D7 set turns left bytes place more first memory = first (λ e. absurd cc)
+by_bytes cause.D9 set turns left bytes place more first memory = first (λ e. absurd cc)
+by_bytes cause.R1 set turns left bytes place more first memory = first (λ e. absurd cc)
+by_bytes cause.R2 set turns left bytes place more first memory = first (λ e. absurd cc)
+by_bytes cause.Limit set turns left bytes place more first memory = first (λ e. absurd cc)
+by_bytes cause.Truncated set turns left bytes place more first memory = absurd (more refl)
+by_bytes cause.Read set turns left bytes place more first memory = absurd (of_stream set bytes place cause.Read (first (λ e. absurd cc)))
+by_bytes cause.Turns set turns left bytes place more first memory = absurd (of_stream set bytes place cause.Turns (first (λ e. absurd cc)))
+by_bytes cause.Memory set turns left bytes place more first memory = memory refl
+
+-- a fault of the bytes, or want of memory
+pub refused_by_bytes : (f : Fault) (set : List Resolved) (turns : ℕ) (left : Option (List ℕ)) (bytes : List ℕ) (messages : List Content) → f.cause ≢ cause.Truncated → Carried set bytes messages
+    → f.place.message ≡ length messages + 1 → (f.cause ≢ cause.Memory → FirstFault set bytes f.place f.cause)
+    → (f.cause ≡ cause.Memory → (f.place.offset ≡ 0) × (f.place.template ≡ 0) × (f.place.instruction ≡ 0)) → Refuses set turns left bytes messages f
+refused_by_bytes f set turns left bytes messages more carried behind first memory =
+    record { carried = carried; behind = behind; refused = by_bytes f.cause set turns left bytes f.place more first memory }
+
+by_end : (c : Cause) (set : List Resolved) (turns : ℕ) (left : Option (List ℕ)) (bytes : List ℕ) (place : Place) → c ≡ cause.Truncated → IsAtEnd left → (c ≢ cause.Memory → FirstFault set bytes place c)
+    → RefusedBy c set turns left bytes place
+by_end cause.Truncated set turns left bytes place is ended first = (first (λ e. absurd cc), ended)
+by_end cause.D2 set turns left bytes place is ended first = absurd cc
+by_end cause.D4 set turns left bytes place is ended first = absurd cc
+by_end cause.D5 set turns left bytes place is ended first = absurd cc
+by_end cause.D6 set turns left bytes place is ended first = absurd cc
+by_end cause.D7 set turns left bytes place is ended first = absurd cc
+by_end cause.D9 set turns left bytes place is ended first = absurd cc
+by_end cause.R1 set turns left bytes place is ended first = absurd cc
+by_end cause.R2 set turns left bytes place is ended first = absurd cc
+by_end cause.Limit set turns left bytes place is ended first = absurd cc
+by_end cause.Read set turns left bytes place is ended first = absurd cc
+by_end cause.Turns set turns left bytes place is ended first = absurd cc
+by_end cause.Memory set turns left bytes place is ended first = absurd cc
+
+-- the reader has ended inside a message
+pub refused_by_end : (f : Fault) (set : List Resolved) (turns : ℕ) (left : Option (List ℕ)) (bytes : List ℕ) (messages : List Content) → f.cause ≡ cause.Truncated → IsAtEnd left → Carried set bytes messages
+    → f.place.message ≡ length messages + 1 → (f.cause ≢ cause.Memory → FirstFault set bytes f.place f.cause) → Refuses set turns left bytes messages f
+refused_by_end f set turns left bytes messages is ended carried behind first =
+    record { carried = carried; behind = behind; refused = by_end f.cause set turns left bytes f.place is ended first }
+
+-- ---- what waits
+
+pub pushed_waits : (old out new : List Message) (pushed : List Content) → old ≡ [] → new ≡ reverse out → map content_of out ≡ map content_of old ++ pushed → waiting_in new ≡ pushed
+pushed_waits old out new pushed none turned grown =
+    ap waiting_in turned ∙ ap (map content_of) (reverse-reverse out) ∙ grown ∙ ap (λ (xs : List Message). map content_of xs ++ pushed) none
+
+pub goes_on_with : {E : Type 0} {ghosts : Ghosts E} (d : Decoder E ghosts) (bytes : List ℕ) (messages pushed waiting : List Content) → d.machine.fault ≡ None → waiting ≡ pushed
+    → HasFed d.machine [] bytes (messages ++ pushed) → Follows d bytes (messages ++ waiting)
+goes_on_with d bytes messages pushed waiting none same follows = rw same (record { goes_on = none; follows = follows })
+
+pub refused_with : {E : Type 0} {ghosts : Ghosts E} (d : Decoder E ghosts) (f : Fault) (turns : ℕ) (left : Option (List ℕ)) (bytes : List ℕ) (messages pushed waiting : List Content) → d.machine.fault ≡ Some f → f.cause ≢ cause.Truncated
+    → waiting ≡ pushed → HasFed d.machine [] bytes (messages ++ pushed)
+    → Refuses (templates_in d.machine.traversal.set.now) turns left bytes (messages ++ waiting) f
+refused_with d f turns left bytes messages pushed waiting is more same follows =
+    let refused = rw is at follows.at in
+    rw same (refused_by_bytes f (templates_in d.machine.traversal.set.now) turns left bytes (messages ++ pushed) more refused.0.0 refused.0.1 refused.0.2 refused.0.3)
+
+-- a first fault is none that bytes cannot have
+pub of_bytes : (f : Fault) (set : List Resolved) (bytes : List ℕ) → (f.cause ≢ cause.Memory → FirstFault set bytes f.place f.cause) → f.cause ≢ cause.Truncated
+    → (f.cause ≢ cause.Truncated) × (f.cause ≢ cause.Read) × (f.cause ≢ cause.Turns)
+of_bytes f set bytes first more = (more, (λ e. subst IsOfBytes e (of_stream set bytes f.place f.cause (first (λ m. read_not_memory (sym e ∙ m))))), (λ e. subst IsOfBytes e (of_stream set bytes f.place f.cause (first (λ m. turns_not_memory (sym e ∙ m))))))
+  where
+    read_not_memory : cause.Read ≡ cause.Memory → ⊥
+    read_not_memory e = absurd cc
+
+    turns_not_memory : cause.Turns ≡ cause.Memory → ⊥
+    turns_not_memory e = absurd cc
+
+pub cause_with : {E : Type 0} {ghosts : Ghosts E} (d : Decoder E ghosts) (f : Fault) (bytes : List ℕ) (messages : List Content) → d.machine.fault ≡ Some f → f.cause ≢ cause.Truncated
+    → HasFed d.machine [] bytes messages → (f.cause ≢ cause.Truncated) × (f.cause ≢ cause.Read) × (f.cause ≢ cause.Turns)
+cause_with d f bytes messages is more follows = let refused = rw is at follows.at in of_bytes f (templates_in d.machine.traversal.set.now) bytes refused.0.2 more
+
+-- ---- one read
+
+Consumes-nil : (a : Option (List ℕ)) → Consumes a a []
+Consumes-nil None = tt
+Consumes-nil (Some x) = refl
+
+Consumes-trans : (a b c : Option (List ℕ)) (bs cs : List ℕ) → Consumes a b bs → Consumes b c cs → Consumes a c (bs ++ cs)
+Consumes-trans None b c bs cs p q = tt
+Consumes-trans (Some x) None c bs cs p q = absurd p
+Consumes-trans (Some x) (Some y) None bs cs p q = absurd q
+Consumes-trans (Some x) (Some y) (Some z) bs cs p q = p ∙ ap (λ l. bs ++ l) q ∙ sym (append_assoc bs cs z)
+
+Consumes-kept : (a b : Option (List ℕ)) → Keeps a b → Consumes a b []
+Consumes-kept None b p = tt
+Consumes-kept (Some x) None p = absurd p
+Consumes-kept (Some x) (Some y) p = sym p
+
+pub none_read : (a : Reader) → Reads a a 0 []
+none_read a = record { consumed = Consumes-nil a.left; called = omega arith; few = omega arith }
+
+pub one_read : (a b : Reader) (n : ℕ) (buf : List ℕ) → b.calls ≡ counted a.calls → Consumes a.left b.left (take n buf) → length buf ≤ 4096 → Reads a b 1 (take n buf)
+one_read a b n buf call gave room = record { consumed = gave; called = call; few = let size = length-take n buf in omega (arith, size, room) }
+
+pub failed_read : (a b : Reader) → b.calls ≡ counted a.calls → Keeps a.left b.left → Reads a b 1 []
+failed_read a b call kept = record { consumed = Consumes-kept a.left b.left kept; called = call; few = omega arith }
+
+pub empty_read : (a b : Reader) (n : ℕ) (buf : List ℕ) → b.calls ≡ counted a.calls → Consumes a.left b.left (take n buf) → n ≡ 0 → Reads a b 1 []
+empty_read a b n buf call gave none = record { consumed = rw none at gave; called = call; few = omega arith }
+
+pub more_read : (a b c : Reader) (k : ℕ) (got more : List ℕ) → Reads a b k got → Reads b c 1 more → Reads a c (k + 1) (got ++ more)
+more_read a b c k got more r one = record {
+  consumed = Consumes-trans a.left b.left c.left got more r.consumed one.consumed;
+  called = let before = r.called in let now = one.called in omega (arith, before, now);
+  few = let before = r.few in let now = one.few in let size = length-append got more in omega (arith, before, now, size);
+}
+
+-- ---- where it has come to
+
+pub reached_with : (at : Reached) (P Q : Type 0) (set : List Resolved) (turns : ℕ) (left : Option (List ℕ)) (bytes : List ℕ) (messages : List Content) → (P → Q) → HasReached at P set turns left bytes messages
+    → HasReached at Q set turns left bytes messages
+reached_with reached.Open P Q set turns left bytes messages f h = f h
+reached_with reached.End P Q set turns left bytes messages f h = h
+reached_with (reached.Fault x) P Q set turns left bytes messages f h = h
+
+pub refused_by_read : (f : Fault) (set : List Resolved) (turns : ℕ) (left : Option (List ℕ)) (bytes : List ℕ) (messages : List Content) → f.cause ≡ cause.Read → IsCutAt set bytes messages f.place → Refuses set turns left bytes messages f
+refused_by_read f set turns left bytes messages is cut =
+    record { carried = cut.carried; behind = cut.behind; refused = subst (λ (c : Cause). RefusedBy c set turns left bytes f.place) (sym is) cut.at }
+
+pub refused_by_turns : (f : Fault) (set : List Resolved) (turns : ℕ) (left : Option (List ℕ)) (bytes : List ℕ) (messages : List Content) → f.cause ≡ cause.Turns → IsCutAt set bytes messages f.place → turns ≤ length bytes
+    → Refuses set turns left bytes messages f
+refused_by_turns f set turns left bytes messages is cut many =
+    record { carried = cut.carried; behind = cut.behind; refused = subst (λ (c : Cause). RefusedBy c set turns left bytes f.place) (sym is) (cut.at, many) }
+
+pub caused_by_feed : (at : Reached) (old new : Reader) → at ≢ reached.End → OnFault at (λ c. (c ≢ cause.Truncated) × (c ≢ cause.Read) × (c ≢ cause.Turns)) → new.errors ≡ old.errors → new.ends ≡ old.ends → IsCaused at ⊥ old new
+caused_by_feed reached.Open old new some of same none = (same, none)
+caused_by_feed reached.End old new some of same none = absurd (some refl)
+caused_by_feed (reached.Fault f) old new some of same none = ((λ e. absurd (of.1 e)), (λ e. absurd (of.0 e)), (λ e. absurd (of.2 e)))
+
+cause_is : (c : Cause) → c ≡ cause.Truncated → (P Q : Type 0) → P → (c ≡ cause.Read → Q) × (c ≡ cause.Truncated → P) × (c ≡ cause.Turns → ⊥)
+cause_is c is P Q p = ((λ e. absurd (read_not (sym e ∙ is))), (λ e. p), (λ e. turns_not (sym e ∙ is)))
+  where
+    read_not : cause.Read ≡ cause.Truncated → ⊥
+    read_not e = absurd cc
+
+    turns_not : cause.Turns ≡ cause.Truncated → ⊥
+    turns_not e = absurd cc
+
+pub caused_by_end : (at : Reached) (set : List Resolved) (turns : ℕ) (left : Option (List ℕ)) (bytes : List ℕ) (messages : List Content) (old new : Reader) → HasReached at ⊥ set turns left bytes messages
+    → OnFault at (λ c. c ≡ cause.Truncated) → new.ends ≡ counted old.ends → IsCaused at ⊥ old new
+caused_by_end reached.Open set turns left bytes messages old new h of met = absurd h
+caused_by_end reached.End set turns left bytes messages old new h of met = met
+caused_by_end (reached.Fault f) set turns left bytes messages old new h of met =
+    let c = cause_is f.cause of (new.ends ≡ counted old.ends) (new.errors ≡ counted old.errors) met in (c.0, c.1, (λ e. absurd (c.2 e)))
+
+pub caused_by_read : (f : Fault) (old new : Reader) → f.cause ≡ cause.Read → new.errors ≡ counted old.errors → IsCaused (reached.Fault f) ⊥ old new
+caused_by_read f old new is failed = ((λ e. failed), (λ e. absurd (truncated_not (sym is ∙ e))), (λ e. absurd (turns_not (sym is ∙ e))))
+  where
+    truncated_not : cause.Read ≡ cause.Truncated → ⊥
+    truncated_not e = absurd cc
+
+    turns_not : cause.Read ≡ cause.Turns → ⊥
+    turns_not e = absurd cc
+
+pub none_waits : (answered : List Content) (waiting : List Message) → waiting ≡ [] → answered ++ waiting_in waiting ≡ answered
+none_waits answered waiting none = ap (λ (ms : List Message). answered ++ waiting_in ms) none ∙ append-nil answered
+
+-- ---- what was answered
+
+front_carries : (set : List Resolved) (xs ys : List Content) (d : Dictionary) (bytes : List ℕ) (after : Dictionary) → CarriesFrom set d bytes (xs ++ ys) after
+    → (front : List ℕ) × (rest : List ℕ) × (mid : Dictionary) × (bytes ≡ front ++ rest) × CarriesFrom set d front xs mid
+front_carries set [] ys d bytes after h = ([], bytes, d, refl, (refl, refl))
+front_carries set (x ∷ xs) ys d bytes after h =
+    let f = front_carries set xs ys h.between h.back after h.second in (
+      h.front ++ f.0,
+      f.1,
+      f.2,
+      h.parts ∙ ap (λ (zs : List ℕ). h.front ++ zs) f.3 ∙ sym (append_assoc h.front f.0 f.1),
+      record { between = h.between; front = h.front; back = f.0; parts = refl; first = h.first; second = f.4 },
+    )
+
+pub front_carried : (set : List Resolved) (bytes : List ℕ) (xs ys : List Content) → Carried set bytes (xs ++ ys) → Carried set bytes xs
+front_carried set bytes xs ys c =
+    let f = front_carries set xs ys finite.empty c.front c.start c.carried in
+    record { front = f.0; rest = f.1 ++ c.rest; start = f.2; parts = c.parts ∙ ap (λ (zs : List ℕ). zs ++ c.rest) f.3 ∙ append_assoc f.0 f.1 c.rest; carried = f.4; ends = tt }
+
+reached_carried : {E : Type 0} {ghosts : Ghosts E} (at : Reached) (d : Decoder E ghosts) (reads turns : ℕ) (left : Option (List ℕ)) (bytes : List ℕ) (messages : List Content)
+    → HasReached at (Follows d bytes messages × (reads ≤ length bytes)) (templates_in d.machine.traversal.set.now) turns left bytes messages → Carried (templates_in d.machine.traversal.set.now) bytes messages
+reached_carried {ghosts = ghosts} reached.Open d reads turns left bytes messages h =
+    let at = rw (h.0.goes_on) at h.0.follows.at in
+    carried_of (ReadsOn BuilderHas BuilderStands BuilderStands d.machine.traversal d.machine.receiver (ghosts.contents d.machine.entries) []) d.machine.traversal d.machine.held.items bytes messages at.0
+reached_carried reached.End d reads turns left bytes messages h = all_carried (templates_in d.machine.traversal.set.now) bytes messages h.carried
+reached_carried (reached.Fault f) d reads turns left bytes messages h = h.carried
+
+-- the message that waited last in the list is answered
+popped : (answered : List Content) (old rest : List Message) (m : Message) → old ≡ rest ++ m ∷ [] → answered ++ waiting_in old ≡ (answered ++ content_of m ∷ []) ++ waiting_in rest
+popped answered old rest m is =
+    ap (λ (ms : List Message). answered ++ waiting_in ms) is ∙ ap (λ (ms : List Message). answered ++ map content_of ms) (reverse-append rest (m ∷ []))
+    ∙ sym (append_assoc answered (content_of m ∷ []) (waiting_in rest))
+
+pub stands_popped : {E : Type 0} {ghosts : Ghosts E} (at : Reached) (d : Decoder E ghosts) (old rest : List Message) (m : Message) (turns reads : ℕ) (left : Option (List ℕ)) (bytes : List ℕ) (answered : List Content) → old ≡ rest ++ m ∷ []
+    → Stands at d old turns reads left bytes answered
+    → Stands at d rest turns reads left bytes (answered ++ content_of m ∷ []) × Carried (templates_in d.machine.traversal.set.now) bytes (answered ++ content_of m ∷ [])
+stands_popped at d old rest m turns reads left bytes answered is stands =
+    let now = subst (λ (ms : List Content). HasReached at (Follows d bytes ms × (reads ≤ length bytes)) (templates_in d.machine.traversal.set.now) turns left bytes ms) (popped answered old rest m is) stands in
+    (now, front_carried (templates_in d.machine.traversal.set.now) bytes (answered ++ content_of m ∷ []) (waiting_in rest) (reached_carried at d reads turns left bytes ((answered ++ content_of m ∷ []) ++ waiting_in rest) now))
+
+-- ---- causes
+
+pub causes_none : (at : Reached) (a : Reader) → Causes at at ⊥ a a
+causes_none reached.Open a = (refl, refl)
+causes_none reached.End a = (refl, refl)
+causes_none (reached.Fault f) a = (refl, refl)
+
+caused_from : (at : Reached) (a b c : Reader) → b.errors ≡ a.errors → b.ends ≡ a.ends → IsCaused at ⊥ b c → IsCaused at ⊥ a c
+caused_from reached.Open a b c same none h = (h.0 ∙ same, h.1 ∙ none)
+caused_from reached.End a b c same none h = h ∙ ap counted none
+caused_from (reached.Fault f) a b c same none h = ((λ e. h.0 e ∙ ap counted same), (λ e. h.1 e ∙ ap counted none), (λ e. ((h.2 e).0, (h.2 e).1 ∙ none)))
+
+pub causes_on : (before now next : Reached) (a b c : Reader) → now ≡ reached.Open → Causes before now ⊥ a b → IsCaused next ⊥ b c → Causes before next ⊥ a c
+causes_on reached.Open now next a b c is h one = let both = rw is at h in caused_from next a b c both.0 both.1 one
+causes_on reached.End now next a b c is h one = absurd (ended (sym is ∙ h.0))
+  where
+    ended : reached.Open ≡ reached.End → ⊥
+    ended e = absurd cc
+causes_on (reached.Fault f) now next a b c is h one = absurd (other (sym is ∙ h.0))
+  where
+    other : reached.Open ≡ reached.Fault f → ⊥
+    other e = absurd cc
+
+caused_weaker : (at : Reached) (P : Type 0) (a b : Reader) → IsCaused at ⊥ a b → IsCaused at P a b
+caused_weaker reached.Open P a b h = h
+caused_weaker reached.End P a b h = h
+caused_weaker (reached.Fault f) P a b h = (h.0, h.1, (λ e. absurd (h.2 e).0))
+
+pub causes_weaker : (before now : Reached) (P : Type 0) (a b : Reader) → Causes before now ⊥ a b → Causes before now P a b
+causes_weaker reached.Open now P a b h = caused_weaker now P a b h
+causes_weaker reached.End now P a b h = h
+causes_weaker (reached.Fault f) now P a b h = h
+
+caused_used : (at : Reached) (P : Type 0) (a b : Reader) → IsFaultOf cause.Turns at → P → b.ends ≡ a.ends → IsCaused at P a b
+caused_used reached.Open P a b is p none = absurd is
+caused_used reached.End P a b is p none = absurd is
+caused_used (reached.Fault f) P a b is p none = ((λ e. absurd (read_not (sym is ∙ e))), (λ e. absurd (truncated_not (sym is ∙ e))), (λ e. (p, none)))
+  where
+    read_not : cause.Turns ≡ cause.Read → ⊥
+    read_not e = absurd cc
+
+    truncated_not : cause.Turns ≡ cause.Truncated → ⊥
+    truncated_not e = absurd cc
+
+is_open : (at : Reached) → (at ≡ reached.Open) ⊎ (at ≢ reached.Open)
+is_open reached.Open = inl refl
+is_open reached.End = inr (λ e. absurd cc)
+is_open (reached.Fault f) = inr (λ e. absurd cc)
+
+used_from : (before now next : Reached) (P : Type 0) (a b : Reader) → now ≡ reached.Open → Causes before now ⊥ a b → IsFaultOf cause.Turns next → P → Causes before next P a b
+used_from reached.Open now next P a b is h used p = let both = rw is at h in caused_used next P a b used p both.1
+used_from reached.End now next P a b is h used p = absurd (ended (sym is ∙ h.0))
+  where
+    ended : reached.Open ≡ reached.End → ⊥
+    ended e = absurd cc
+used_from (reached.Fault f) now next P a b is h used p = absurd (other (sym is ∙ h.0))
+  where
+    other : reached.Open ≡ reached.Fault f → ⊥
+    other e = absurd cc
+
+-- where no message waits and no read is to be made
+pub causes_end : (before now next : Reached) (P : Type 0) (a b : Reader) → Causes before now ⊥ a b → (now ≡ reached.Open → P) → (now ≡ reached.Open → IsFaultOf cause.Turns next) → (now ≢ reached.Open → next ≡ now)
+    → Causes before next P a b
+causes_end before now next P a b h p used same = go (is_open now)
+  where
+    go : (now ≡ reached.Open) ⊎ (now ≢ reached.Open) → Causes before next P a b
+    go (inl is) = used_from before now next P a b is h (used is) (p is)
+    go (inr other) = subst (λ (r : Reached). Causes before r P a b) (sym (same other)) (causes_weaker before now P a b h)
+
+pub empty_of : {X : Type 0} (xs : List X) → length xs ≡ 0 → xs ≡ []
+empty_of [] h = refl
+empty_of (x ∷ xs) h = absurd (omega (arith, h))

@@ -1,0 +1,126 @@
+-- What a reader gave to a stream of messages, and what the stream answered.
+use Rattle.std.specs.Prelude.{◌≡◌, ◌⊎◌, ◌≤◌, ℕ, ◌+◌, ◌*◌, List, [], ◌∷◌, ◌++◌, length, map, reverse, Option, Some, None, Result, Ok, Err}
+use Rattle.std.specs.Io.KnownBytes.{Consumes, IsAtEnd}
+use Rattle.fast_io.specs.Counts.{counted, counted_by}
+use Rattle.fast_template.specs.Resolved.{Resolved}
+use Rattle.fast_template.specs.TemplateSets.{templates_in}
+use Rattle.fast_decoder.specs.declared.fault.Cause.{Cause}
+use Rattle.fast_decoder.specs.declared.fault.Cause.TheVariants as cause
+use Rattle.fast_decoder.specs.declared.fault.Fault.{Fault}
+use Rattle.fast_decoder.specs.declared.place.Place.{Place}
+use Rattle.fast_decoder.specs.declared.message.Message.{Message}
+use Rattle.fast_decoder.specs.declared.input.Reached.{Reached}
+use Rattle.fast_decoder.specs.declared.input.Reached.TheVariants as reached
+use Rattle.fast_dictionary.specs.declared.entries.Entries.{Ghosts}
+use Rattle.fast_decoder.specs.declared.decoder.Decoder.{Decoder}
+use Rattle.fast_decoder.specs.Nodes.{Content, content_of}
+use Rattle.fast_decoder.specs.Streams.{Carries}
+use Rattle.fast_decoder.specs.Faults.{FirstFault, EndsBetween}
+use Rattle.fast_decoder.specs.Standing.{Carried}
+use Rattle.fast_decoder.specs.Following.{Follows as HasFed}
+
+-- what a reader tells of itself: the bytes left where they are told, how many calls were made, how many of them
+-- failed, and how many met the end
+pub record Reader : Type 0 where
+  pub left : Option (List ℕ)
+  pub calls : ℕ
+  pub errors : ℕ
+  pub ends : ℕ
+
+abbrev pub reader_by : {R : Type 0} → (R → Option (List ℕ)) → (R → ℕ) → (R → ℕ) → (R → ℕ) → R → Reader
+reader_by left calls errors ends r = record { left = left r; calls = calls r; errors = errors r; ends = ends r }
+
+-- So many reads, each of at most 4,096 bytes, gave these bytes.
+pub record Reads (old new : Reader) (count : ℕ) (got : List ℕ) : Type 0 where
+  pub consumed : Consumes old.left new.left got
+  pub called : new.calls ≡ counted_by old.calls count
+  pub few : length got ≤ 4096 * count
+
+-- Where and why the bytes read are refused. Truncated comes only where the reader ended; of a read that failed or was
+-- used up the place is where Truncated would be put in the bytes read, or their end between two messages; each of the
+-- reads that are used up gave a byte, so none met the end; and want of memory has no place but the message.
+abbrev pub RefusedBy : Cause → List Resolved → ℕ → Option (List ℕ) → List ℕ → Place → Type 0
+RefusedBy cause.D2 set turns left bytes place = FirstFault set bytes place cause.D2
+RefusedBy cause.D4 set turns left bytes place = FirstFault set bytes place cause.D4
+RefusedBy cause.D5 set turns left bytes place = FirstFault set bytes place cause.D5
+RefusedBy cause.D6 set turns left bytes place = FirstFault set bytes place cause.D6
+RefusedBy cause.D7 set turns left bytes place = FirstFault set bytes place cause.D7
+RefusedBy cause.D9 set turns left bytes place = FirstFault set bytes place cause.D9
+RefusedBy cause.R1 set turns left bytes place = FirstFault set bytes place cause.R1
+RefusedBy cause.R2 set turns left bytes place = FirstFault set bytes place cause.R2
+RefusedBy cause.Limit set turns left bytes place = FirstFault set bytes place cause.Limit
+RefusedBy cause.Truncated set turns left bytes place = FirstFault set bytes place cause.Truncated × IsAtEnd left
+RefusedBy cause.Read set turns left bytes place = FirstFault set bytes place cause.Truncated ⊎ EndsBetween set bytes place
+RefusedBy cause.Turns set turns left bytes place = (FirstFault set bytes place cause.Truncated ⊎ EndsBetween set bytes place) × (turns ≤ length bytes)
+RefusedBy cause.Memory set turns left bytes place = (place.offset ≡ 0) × (place.template ≡ 0) × (place.instruction ≡ 0)
+
+-- a prefix of the bytes carries the messages, and behind them is the fault
+pub record Refuses (set : List Resolved) (turns : ℕ) (left : Option (List ℕ)) (bytes : List ℕ) (messages : List Content) (f : Fault) : Type 0 where
+  pub carried : Carried set bytes messages
+  pub behind : f.place.message ≡ length messages + 1
+  pub refused : RefusedBy f.cause set turns left bytes f.place
+
+-- the reader has ended, and its bytes carry just the messages
+pub record EndsWith (set : List Resolved) (left : Option (List ℕ)) (bytes : List ℕ) (messages : List Content) : Type 0 where
+  pub carried : Carries set bytes messages
+  pub ended : IsAtEnd left
+
+-- a decoder with no fault follows these bytes, fed since its reset, and these messages, pushed since
+pub record Follows {E : Type 0} {ghosts : Ghosts E} (d : Decoder E ghosts) (bytes : List ℕ) (messages : List Content) : Type 0 where
+  pub goes_on : d.machine.fault ≡ None
+  pub follows : HasFed d.machine [] bytes messages
+
+-- How far a stream came, that has found these messages in these bytes; while it is open its decoder goes on from them.
+abbrev pub HasReached : Reached → Type 0 → List Resolved → ℕ → Option (List ℕ) → List ℕ → List Content → Type 0
+HasReached reached.Open GoesOn set turns left bytes messages = GoesOn
+HasReached reached.End GoesOn set turns left bytes messages = EndsWith set left bytes messages
+HasReached (reached.Fault f) GoesOn set turns left bytes messages = Refuses set turns left bytes messages f
+
+-- a fact on the cause of a fault, where one was reached
+abbrev pub OnFault : Reached → (Cause → Type 0) → Type 0
+OnFault reached.Open Is = Unit {0}
+OnFault reached.End Is = Unit {0}
+OnFault (reached.Fault f) Is = Is f.cause
+
+-- a fault of this cause was reached
+abbrev pub IsFaultOf : Cause → Reached → Type 0
+IsFaultOf c reached.Open = ⊥
+IsFaultOf c reached.End = ⊥
+IsFaultOf c (reached.Fault f) = f.cause ≡ c
+
+-- the messages that wait, the next one last
+abbrev pub waiting_in : List Message → List Content
+waiting_in waiting = map content_of (reverse waiting)
+
+-- A stream that has read these bytes since the reset, has answered these messages, and others wait; each read gave a
+-- byte while it was open.
+abbrev pub Stands : {E : Type 0} {ghosts : Ghosts E} → Reached → Decoder E ghosts → List Message → ℕ → ℕ → Option (List ℕ) → List ℕ → List Content → Type 0
+Stands at decoder waiting turns reads left bytes answered =
+    HasReached at (Follows decoder bytes (answered ++ waiting_in waiting) × (reads ≤ length bytes)) (templates_in decoder.machine.traversal.set.now) turns left bytes (answered ++ waiting_in waiting)
+
+-- the message that is answered, if there is one
+abbrev pub answered_in : Result (Option Message) Fault → List Content
+answered_in (Ok (Some m)) = content_of m ∷ []
+answered_in (Ok None) = []
+answered_in (Err f) = []
+
+-- What an answer says of the bytes read and of the messages answered since the reset, its own included: a prefix of
+-- the bytes carries them; with none, all the bytes do and the reader has ended; with a fault, they are those before it.
+abbrev pub Tells : Result (Option Message) Fault → List Resolved → ℕ → Option (List ℕ) → List ℕ → List Content → Type 0
+Tells (Ok (Some m)) set turns left bytes answered = Carried set bytes answered
+Tells (Ok None) set turns left bytes answered = EndsWith set left bytes answered
+Tells (Err f) set turns left bytes answered = Refuses set turns left bytes answered f
+
+-- What the counts of a reader show of a stream that was open: none failed or met the end while it is open; and there
+-- is a cause where it is not: a failed read, one that met the end, or all reads made of which none met it.
+abbrev pub IsCaused : Reached → Type 0 → Reader → Reader → Type 0
+IsCaused reached.Open UsedUp old new = (new.errors ≡ old.errors) × (new.ends ≡ old.ends)
+IsCaused reached.End UsedUp old new = new.ends ≡ counted old.ends
+IsCaused (reached.Fault f) UsedUp old new =
+    (f.cause ≡ cause.Read → new.errors ≡ counted old.errors) × (f.cause ≡ cause.Truncated → new.ends ≡ counted old.ends)
+    × (f.cause ≡ cause.Turns → UsedUp × (new.ends ≡ old.ends))
+
+-- The same of a call on any stream: one that is not open reads nothing more, and stays.
+abbrev pub Causes : Reached → Reached → Type 0 → Reader → Reader → Type 0
+Causes reached.Open now UsedUp old new = IsCaused now UsedUp old new
+Causes before now UsedUp old new = (now ≡ before) × (new ≡ old)
