@@ -1,2 +1,7 @@
 mod LawProofs
 mod WorkedCanonical
+pub mod Leavings
+pub mod Writings
+pub mod Repeated
+pub mod Relays
+pub mod Writers

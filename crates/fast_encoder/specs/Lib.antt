@@ -1,1 +1,3 @@
 pub mod Canonical
+pub mod Written
+pub mod Levels

@@ -5,7 +5,13 @@
 #![tactic(auto)]
 
 mod fault;
+mod fit;
 mod laws;
+mod level;
+mod relay;
+mod writer;
 
 pub use fault::{EncodeCause, EncodeFault};
 pub use laws::canonical_bytes_carry;
+pub use level::Level;
+pub use writer::Writer;
