@@ -9,6 +9,8 @@ mod fit;
 mod laws;
 mod level;
 mod relay;
+#[cfg(test)]
+mod tests;
 mod writer;
 
 pub use fault::{EncodeCause, EncodeFault};
