@@ -1,5 +1,6 @@
 mod LawProofs
 mod WorkedCanonical
+mod RefusedRows
 pub mod Leavings
 pub mod Writings
 pub mod Repeated
