@@ -6,3 +6,6 @@ pub mod Writings
 pub mod Repeated
 pub mod Relays
 pub mod Writers
+mod Shapes
+mod Sizes
+mod Judgements

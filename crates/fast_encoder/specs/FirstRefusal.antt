@@ -1,5 +1,5 @@
 -- Why a message is not written: the first reason that applies. (Own; the order is that of the cases here.)
-use Rattle.std.specs.Prelude.{Bool, true, false, ◌&&◌, ◌||◌, not, nat_lt, if◌then◌else◌, List, [], ◌∷◌, ◌++◌, drop, length, Option, Some, None, Result, Ok, Err}
+use Rattle.std.specs.Prelude.{ℕ, ◌⊎◌, ◌+◌, ◌<◌, ◌≡◌, Bool, true, false, ◌&&◌, ◌||◌, not, nat_lt, if◌then◌else◌, List, [], ◌∷◌, ◌++◌, drop, length, Option, Some, None, Result, Ok, Err}
 use Rattle.fast_template.specs.Scalar.{is_of}
 use Rattle.fast_template.specs.declared.scalar.Scalar.{Scalar}
 use Rattle.fast_template.specs.declared.scalar.Scalar.TheVariants.{U32, I32, I64, Decimal}
@@ -138,13 +138,27 @@ abbrev pub error_in : {A : Type 0} → Result A EncodeFault → Option EncodeFau
 error_in (Ok x) = None
 error_in (Err f) = Some f
 
+-- what is judged before the fields
+abbrev pub whole_refusal : Instructions → Items → Option EncodeFault
+whole_refusal members ns =
+    if not (items_fit members ns) then Some (refused cause.Mismatch)
+    else if is_too_large ns then Some (refused cause.Limit) else None
+
+abbrev pub or_else : Option EncodeFault → Option EncodeFault → Option EncodeFault
+or_else (Some f) later = Some f
+or_else None later = later
+
 abbrev pub message_refusal : Option Instructions → Dictionary → Content → Option EncodeFault
 message_refusal None d m = Some (refused cause.D9)
 message_refusal (Some members) d m =
-    if not (items_fit members m.items) then Some (refused cause.Mismatch)
-    else if is_too_large m.items then Some (refused cause.Limit)
-    else error_in (segment_judged true (λ s. part_judged identifier s (Some (U32 m.template)) >>= λ t. items_judged members m.items t) d)
+    or_else (whole_refusal members m.items)
+    (error_in (segment_judged true (λ s. part_judged identifier s (Some (U32 m.template)) >>= λ t. items_judged members m.items t) d))
 
 -- why a message is not written from this dictionary; none where it is
 abbrev pub first_refusal : List Resolved → Dictionary → Content → Option EncodeFault
 first_refusal set d m = message_refusal (members_of set m.template) d m
+
+-- Of so many nodes that may still come these leave as many; none is told where there are more, or one that is too large.
+abbrev pub IsLeft : ℕ → Bool → ℕ → Option ℕ → Type 0
+IsLeft nodes large before (Some left) = (before ≡ nodes + left) × (large ≡ false)
+IsLeft nodes large before None = (before < nodes) ⊎ (large ≡ true)

@@ -108,7 +108,7 @@ fn is_kind_of(part: Part, kind: Kind) -> bool
 }
 
 // Whether a value is of the type.
-fn is_of_kind(kind: Kind, value: &Scalar) -> bool
+pub(crate) fn is_of_kind(kind: Kind, value: &Scalar) -> bool
     ensures { result ≡ is_of kind value.now }
 {
     match value {

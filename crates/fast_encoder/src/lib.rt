@@ -6,9 +6,12 @@
 
 mod fault;
 mod fit;
+mod judge;
 mod laws;
 mod level;
 mod relay;
+mod shape;
+mod size;
 #[cfg(test)]
 mod tests;
 mod writer;
