@@ -1,9 +1,11 @@
 //! Streams that are read and written at once, by the calls.
 
+use crate::fault::{EncodeCause, EncodeFault};
+use crate::judge::template_for;
 use crate::writer::Writer;
-use fast_decoder::{Receiver, Traversal};
+use fast_decoder::{Message, Node, Receiver, Traversal};
 use fast_dictionary::MapEntries;
-use fast_template::TemplateSet;
+use fast_template::{ByteString, Scalar, TemplateSet};
 use std::alloc::{AllocError, Global};
 use std::process::Abort;
 
@@ -297,4 +299,74 @@ fn many_elements_of_nothing(rt: HostRuntime) -> Result<(), AllocError> {
     let alloc = rt.alloc();
     let stream = b"\xc0\x86\x03\x7f\xff";
     check(&rt, alloc, stream, stream, false)
+}
+
+// A Quote with this symbol, as far as so many nodes.
+fn quote(alloc: Global, symbol: &[u8], nodes: usize) -> Result<Message, AllocError> {
+    let symbol = ByteString::from_vec(symbol.to_vec(alloc)?);
+    let mut fields = vec![in alloc;
+        Node::Value(Scalar::U32(1)),
+        Node::Value(Scalar::Ascii(symbol)),
+        Node::Value(Scalar::Decimal {
+            exponent: 64,
+            mantissa: 1,
+        }),
+        Node::Absent,
+    ]?;
+    fields.truncate(nodes);
+    Ok(Message {
+        template: 1,
+        fields,
+    })
+}
+
+// A message is refused for this before its fields are looked at.
+fn judged(
+    rt: &impl Abort,
+    alloc: Global,
+    message: &Message,
+    cause: EncodeCause,
+) -> Result<(), AllocError> {
+    let Ok(set) = TemplateSet::from_json(alloc, WORKED.as_bytes()) else {
+        panic!(rt; "refused");
+    };
+    let fault = match template_for(&set, message) {
+        Ok(_) => None,
+        Err(fault) => Some(fault),
+    };
+    let instruction = 0;
+    assert_eq!(rt; fault, Some(EncodeFault { cause, instruction }));
+    Ok(())
+}
+
+#[test]
+fn a_message_is_judged_before_its_fields(rt: HostRuntime) -> Result<(), AllocError> {
+    let alloc = rt.alloc();
+    let unknown = Message {
+        template: 100,
+        fields: Vec::new(alloc),
+    };
+    judged(&rt, alloc, &unknown, EncodeCause::D9)?;
+    judged(&rt, alloc, &quote(alloc, b"AB", 3)?, EncodeCause::Mismatch)?;
+    judged(
+        &rt,
+        alloc,
+        &quote(alloc, b"A\x80", 4)?,
+        EncodeCause::Mismatch,
+    )?;
+    let long = vec![in alloc; b'A'; 65_536]?;
+    judged(&rt, alloc, &quote(alloc, &long, 4)?, EncodeCause::Limit)?;
+    judged(&rt, alloc, &quote(alloc, &long, 3)?, EncodeCause::Mismatch)?;
+    Ok(())
+}
+
+#[test]
+fn a_message_may_be_judged_by_its_fields(rt: HostRuntime) -> Result<(), AllocError> {
+    let alloc = rt.alloc();
+    let Ok(set) = TemplateSet::from_json(alloc, WORKED.as_bytes()) else {
+        panic!(rt; "refused");
+    };
+    let message = quote(alloc, &[], 4)?;
+    assert!(rt; template_for(&set, &message).is_ok());
+    Ok(())
 }
