@@ -9,3 +9,4 @@ pub mod Writers
 mod Shapes
 mod Sizes
 mod Judgements
+mod Puts

@@ -9,6 +9,7 @@ mod fit;
 mod judge;
 mod laws;
 mod level;
+mod put;
 mod relay;
 mod shape;
 mod size;
