@@ -1,15 +1,17 @@
 //! A part of a message that is written.
 
-ghost use Rattle.std.specs.Prelude.{◌≡◌, ◌⊎◌, None, Some, IfErr, IfOk, OnErr, OnOk};
+ghost use Rattle.std.specs.Prelude.{◌≡◌, ◌⊎◌, ◌++◌, not, None, Some, IfErr, IfOk, OnErr, OnOk};
 ghost use Rattle.std.specs.Option.{option_copied};
+ghost use Rattle.fast_template.specs.Resolved.{part_needs_bit as part_needs_bit_of};
 ghost use Rattle.fast_field.specs.Bases.{next};
 ghost use Rattle.fast_field.specs.Parts.{IsFieldPart};
+ghost use Rattle.fast_field.specs.Planning.{left_out_of};
 ghost use Rattle.fast_field.specs.Refusals.{refusal_of};
 ghost use Rattle.fast_field.specs.Within.{HoldsScalar};
 ghost use Rattle.fast_field.specs.declared.fault.FieldRefusal.{FieldRefusal as RefusalOf};
 ghost use Rattle.fast_encoder.specs.FirstRefusal.{cause_of, fault_of};
 ghost use Rattle.fast_encoder.specs.Levels.{level_of};
-ghost use Rattle.fast_encoder.specs.Written.{Spelt};
+ghost use Rattle.fast_encoder.specs.Written.{Spelt, bits_for};
 
 use crate::fault::{EncodeCause, EncodeFault};
 use crate::level::Level;
@@ -82,6 +84,10 @@ pub(crate) fn put_part(
     requires entry { HoldsScalar entry.old }
     ensures spelt { OnOk result (Spelt part.now entry.old (option_copied value.entry)
         (level_of level.old) (level_of level.new)) }
+    // the bit is 0 exactly where that gives the value
+    ensures bit { OnOk result (level.new.bits.items ≡ level.old.bits.items
+        ++ bits_for (part_needs_bit_of part.now) (not (left_out_of part.now.operator part.now
+        entry.old (option_copied value.entry)))) }
     ensures after { OnOk result (entry.new
         ≡ next part.now entry.old (option_copied value.entry)) }
     ensures before { IfOk result (λ e. e ≡ entry.old) }
