@@ -2,6 +2,7 @@
 //!
 //! Of all forms of a message one is canonical: each field in the form that comes first, each map as short as it can be,
 //! and no bit set that no instruction asks for. `specs/Canonical` says so over the definitions of `fast_decoder`.
+//! [`Writer`] is a receiver of `fast_decoder`'s traversal: it writes the canonical bytes of messages as they are read.
 #![tactic(auto)]
 
 mod fault;

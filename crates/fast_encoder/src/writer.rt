@@ -103,7 +103,8 @@ impl Writer {
     // Ends the segment that is open, in the one around it.
     fn close(&mut self) -> Result<(), AllocError>
         ensures closed { OnOk result (Closes (map level_of self.old.outer.items)
-            (level_of self.old.inner) (map level_of self.new.outer.items) (level_of self.new.inner)) }
+            (level_of self.old.inner) (map level_of self.new.outer.items)
+            (level_of self.new.inner)) }
         ensures out { self.new.out ≡ self.old.out }
     {
         match self.outer.pop() {
