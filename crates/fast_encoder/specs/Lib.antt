@@ -1,1 +1,4 @@
 pub mod Canonical
+pub mod Written
+pub mod Levels
+pub mod FirstRefusal

@@ -1,0 +1,79 @@
+//! A segment that is being written.
+
+ghost use Rattle.std.specs.Prelude.{◌≡◌, OnOk, OnErr};
+ghost use Rattle.fast_encoder.specs.Written.{Asked, Ended};
+ghost use Rattle.fast_encoder.specs.Levels.{level_of};
+
+use fast_wire::write_map;
+use std::alloc::{AllocError, Global};
+
+/// A segment: the bits asked for in their order, whether they stand in a map of its own, and the bytes behind that.
+#[derive(Drop)]
+pub struct Level {
+    pub(crate) bits: Vec<bool>,
+    pub(crate) own: bool,
+    pub(crate) bytes: Vec<u8>,
+}
+
+impl Level {
+    ghost use Rattle.std.specs.Prelude.{[]};
+
+    /// Of nothing. Takes no memory.
+    pub(crate) fn new(alloc: Global, own: bool) -> Level
+        ensures bits { result.bits.items ≡ [] }
+        ensures own { result.own ≡ own }
+        ensures bytes { result.bytes.items ≡ [] }
+    {
+        Level {
+            bits: Vec::new(alloc),
+            own,
+            bytes: Vec::new(alloc),
+        }
+    }
+
+    /// Begins anew, in the same memory.
+    pub(crate) fn begin(&mut self, own: bool)
+        ensures bits { self.new.bits.items ≡ [] }
+        ensures own { self.new.own ≡ own }
+        ensures bytes { self.new.bytes.items ≡ [] }
+    {
+        self.bits.clear();
+        self.own = own;
+        self.bytes.clear();
+    }
+
+    /// One bit more, where one is needed.
+    pub(crate) fn ask(&mut self, needed: bool, bit: bool) -> Result<(), AllocError>
+        ensures { OnOk result (Asked needed bit (level_of self.old) (level_of self.new)) }
+    {
+        if needed {
+            self.bits.push(bit)?;
+        }
+        Ok(())
+    }
+
+    /// Appends the segment behind its map, or nothing.
+    ///
+    /// # Errors
+    ///
+    /// A growth was refused, or the map has no room for a bit.
+    pub(crate) fn end(&self, out: &mut Vec<u8>) -> Result<(), AllocError>
+        ensures ended { OnOk result (Ended (level_of self.now) out.old.items out.new.items) }
+        ensures unchanged { OnErr result (out.new.items ≡ out.old.items) }
+    {
+        let start = out.len();
+        if self.own {
+            match write_map(&self.bits, out) {
+                Err(_) => return Err(AllocError),
+                Ok(()) => {}
+            }
+        }
+        match out.extend_from_slice(&self.bytes) {
+            Err(_) => {
+                out.truncate(start);
+                Err(AllocError)
+            }
+            Ok(()) => Ok(()),
+        }
+    }
+}
