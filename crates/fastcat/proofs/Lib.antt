@@ -14,3 +14,4 @@ pub mod LawProofs
 mod ServedRows
 pub mod Written
 pub mod Nested
+mod LineRows
