@@ -1,14 +1,16 @@
 -- What calls one after the other have put behind an output.
-use Rattle.std.proofs.Common.{◌≡◌, ◌<◌, ◌+◌, ◌/◌, ◌%◌, ℕ, List, [], ◌∷◌, ◌++◌, Option, Some, None, Ok, Err, Result, length, take, get_or, option_map, true≢false, refl, sym, ap, ◌∙◌}
+use Rattle.std.proofs.Common.{◌≡◌, ◌<◌, ◌+◌, ◌/◌, ◌%◌, ℕ, List, [], ◌∷◌, ◌++◌, Option, Some, None, Ok, Err, Result, length, take, get_or, option_map, true≢false, true, refl, sym, ap, ap₂, ◌∙◌}
 use Rattle.std.specs.Prelude.{slice_index, codes, IsErr}
 use Rattle.std.proofs.lemmas.List.{append-nil, append_assoc, take_more}
 use Rattle.std.specs.declared.alloc.AllocError.{AllocError}
-use Rattle.std.specs.List.{flat_map}
+use Rattle.std.specs.List.{flat_map, list_all}
+use Rattle.std.proofs.lemmas.List.Concat.{flat_map-cons}
+use Rattle.std.proofs.lemmas.Bool.{and_parts}
 use Rattle.std.proofs.lemmas.Grind.{flat_map-append}
 use Rattle.hex.specs.Hex.{encode_with, encode_lower, lower_digits}
 use Rattle.fastcat.specs.declared.lines.ShowFault.{ShowFault}
 use Rattle.fastcat.specs.declared.lines.ShowFault.TheVariants.{Mismatch, Memory}
-use Rattle.fastcat.specs.Lines.{joined}
+use Rattle.fastcat.specs.Lines.{is_plain, joined, unit_text}
 use Rattle.fastcat.specs.Written.{Extends, Writes, Adds, Shows, Leads}
 
 -- ---- more behind an output
@@ -40,6 +42,14 @@ writes_err t a b (Err f) e x = x
 pub flat_map_one : (f : ℕ → List ℕ) (xs : List ℕ) (i : ℕ) (d : ℕ) → i < length xs → flat_map f (take (i + 1) xs) ≡ flat_map f (take i xs) ++ f (get_or xs i d)
 flat_map_one f xs i d lt =
     ap (flat_map f) (take_more xs i d lt) ∙ flat_map-append f (take i xs) (get_or xs i d ∷ []) ∙ ap (λ l. flat_map f (take i xs) ++ l) (append-nil (f (get_or xs i d)))
+
+-- a string that stands as it is
+pub plain_text : (s : List ℕ) → list_all is_plain s ≡ true → flat_map unit_text s ≡ s
+plain_text [] e = refl
+plain_text (c ∷ s) e =
+    let both = and_parts (is_plain c) (list_all is_plain s) e in
+    let here : unit_text c ≡ c ∷ [] = rw both.0 refl in
+    flat_map-cons unit_text c s ∙ ap₂ (λ x y. x ++ y) here (plain_text s both.1)
 
 encode-append : (t xs ys : List ℕ) → encode_with t (xs ++ ys) ≡ encode_with t xs ++ encode_with t ys
 unfolding encode_with

@@ -2,7 +2,7 @@
 
 ghost use Rattle.std.specs.Prelude.{◌≡◌, ◌++◌, ◌∷◌, ◌&&◌, [], ℕ, List, Some, None, Option, OnOk, OnErr, IfOk, IfErr, codes, decimal, map, option_map};
 ghost use Rattle.std.specs.Fmt.{signed_decimal};
-ghost use Rattle.std.specs.List.{flat_map};
+ghost use Rattle.std.specs.List.{flat_map, list_all};
 ghost use Rattle.hex.specs.Hex.{encode_lower};
 ghost use Rattle.fast_template.specs.Resolved.{instruction_of, list_of, resolved_of};
 ghost use Rattle.fast_template.specs.TemplateSets.{template_of};
@@ -91,11 +91,28 @@ fn push_units(text: &[u8], out: &mut Vec<u8>) -> Result<(), AllocError>
     Ok(())
 }
 
+/// Whether each byte of a string stands as it is.
+fn all_stand(text: &[u8]) -> bool
+    ensures { result ≡ list_all is_plain text.now }
+{
+    text.iter().all(|byte| stands(*byte))
+}
+
+/// Appends a string without its quotes; mostly it stands as it is, and goes there at once.
+fn push_text(text: &[u8], out: &mut Vec<u8>) -> Result<(), AllocError>
+    ensures { Writes (flat_map unit_text text.now) result out.old.items out.new.items }
+{
+    if all_stand(text) {
+        return push(text, out);
+    }
+    push_units(text, out)
+}
+
 fn push_quoted(text: &[u8], out: &mut Vec<u8>) -> Result<(), AllocError>
     ensures { Writes (quoted text.now) result out.old.items out.new.items }
 {
     push(b"\"", out)?;
-    push_units(text, out)?;
+    push_text(text, out)?;
     push(b"\"", out)
 }
 
