@@ -12,3 +12,6 @@ pub mod Runs
 pub mod Canonical
 pub mod LawProofs
 mod ServedRows
+pub mod Written
+pub mod Nested
+mod LineRows

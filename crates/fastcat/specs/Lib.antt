@@ -14,3 +14,5 @@ pub mod Run
 pub mod HexText
 pub mod Refusals
 pub mod Served
+pub mod Lines
+pub mod Written

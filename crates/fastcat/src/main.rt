@@ -12,6 +12,7 @@ pub mod fault;
 mod hex_text;
 mod input;
 pub mod laws;
+pub mod lines;
 mod memory;
 mod message;
 mod output;

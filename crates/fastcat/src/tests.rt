@@ -1,5 +1,6 @@
 //! What no clause says: worked streams, the program's answers, and devices that fail in mid-stream.
 
 mod devices;
+mod lines;
 mod programs;
 mod streams;
