@@ -29,7 +29,7 @@ def run(program, test, library, number):
         asked = told.read()
     if ended.returncode == 0:
         end = WELL
-    elif b"Error: AllocError" in ended.stdout:
+    elif b"rror: AllocError" in ended.stdout:
         end = WANT_OF_MEMORY
     else:
         end = f"status {ended.returncode}"

@@ -73,7 +73,8 @@ pub(crate) fn unicode(alloc: Global, text: &str) -> Result<Scalar, AllocError> {
 // What is read: a value, the entry afterwards, and the place after it.
 type Read = Result<(Option<Scalar>, Entry, usize), FieldFault>;
 
-// Reads one field in both ways, and compares what is read with what is wanted. A refusal leaves the entry.
+// Reads one field in both ways, and compares what is read with what is wanted. A refusal leaves the entry, and want of
+// memory ends the test: so its allocations can be refused in turn.
 fn row(
     rt: &impl Abort,
     alloc: Global,
@@ -85,12 +86,19 @@ fn row(
 ) -> Result<(), AllocError> {
     let before = entry.view().copy(alloc)?;
     let read = read_field(alloc, instr, entry.view(), bit, bytes, 0);
+    if let Err(FieldFault::Memory) = read {
+        return Err(AllocError);
+    }
     assert_eq!(rt; &read, &wanted);
     let mut entry = entry;
     match read_in_place(alloc, instr, &mut entry, bit, bytes, 0) {
         Ok((found, next)) => {
             let value = found.into_value(alloc, instr, entry.view())?;
             assert_eq!(rt; Ok((value, entry, next)), wanted);
+        }
+        Err(FieldFault::Memory) => {
+            assert_eq!(rt; entry, before);
+            return Err(AllocError);
         }
         Err(fault) => {
             assert_eq!(rt; Err(fault), wanted);

@@ -86,7 +86,8 @@ fn text_entry(alloc: Global, text: &[u8]) -> Result<Entry, AllocError>
     }
 }
 
-// A value is planned, and written by each call behind a byte that is there.
+// A value is planned, and written by each call behind a byte that is there. Want of memory leaves all as it was, and
+// ends the test.
 fn written(
     rt: &impl Abort,
     alloc: Global,
@@ -104,6 +105,10 @@ fn written(
     assert_eq!(rt; plan, Ok(Plan { bit, size }));
     let mut out = vec![in alloc; 0x2a]?;
     let answer = write_field(instr, entry.view(), value.as_ref(), &mut out);
+    if let Err(FieldRefusal::Memory) = answer {
+        assert_eq!(rt; out.as_slice(), [0x2a].as_slice());
+        return Err(AllocError);
+    }
     assert_eq!(rt; answer, Ok(()));
     assert!(rt; out.starts_with(&[0x2a]) && out.ends_with(bytes));
     assert_eq!(rt; out.len(), 1 + size);
@@ -111,6 +116,11 @@ fn written(
     let mut changed = entry.view().copy(alloc)?;
     let mut out = Vec::new(alloc);
     let answer = write_in_place(alloc, instr, &mut changed, value.as_ref(), &mut out);
+    if let Err(FieldRefusal::Memory) = answer {
+        assert_eq!(rt; changed, entry);
+        assert_eq!(rt; out.as_slice(), [].as_slice());
+        return Err(AllocError);
+    }
     assert_eq!(rt; answer, Ok(bit));
     assert_eq!(rt; out.as_slice(), bytes);
     assert_eq!(rt; &changed, &after);
@@ -118,6 +128,10 @@ fn written(
     let mut out = Vec::new(alloc);
     match write_found(alloc, instr, &mut moved, Found::own(value), &mut out) {
         Ok((_, answer)) => assert_eq!(rt; answer, bit),
+        Err(FieldRefusal::Memory) => {
+            assert_eq!(rt; out.as_slice(), [].as_slice());
+            return Err(AllocError);
+        }
         Err(refusal) => assert_eq!(rt; Err(refusal), Ok(())),
     }
     assert_eq!(rt; out.as_slice(), bytes);
