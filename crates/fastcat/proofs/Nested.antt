@@ -1,8 +1,8 @@
 -- Texts of lists of nodes, from their front on.
-use Rattle.std.proofs.Common.{◌≡◌, ◌≢◌, ◌≤◌, ◌<◌, ◌+◌, ℕ, suc, List, [], ◌∷◌, ◌++◌, Option, Some, None, length, drop, get_or, map, option_map, Result, Err, refl, sym, subst, ap, ap₂, ◌∙◌}
+use Rattle.std.proofs.Common.{◌≡◌, ◌≢◌, ◌<◌, ◌+◌, ℕ, suc, List, [], ◌∷◌, ◌++◌, Option, None, length, drop, get_or, map, option_map, Result, Err, refl, sym, subst, ap, ap₂, ◌∙◌}
 use Rattle.std.specs.Prelude.{codes}
-use Rattle.std.proofs.lemmas.List.{drop_more, drop_all}
-use Rattle.std.specs.Global.{Vec, Global}
+use Rattle.std.proofs.lemmas.List.{drop_more}
+use Rattle.std.specs.Global.{Vec}
 use Rattle.fast_template.specs.declared.resolved.Flat.{Flat, fold-roll-Flat}
 use Rattle.fast_template.specs.declared.resolved.Flat.TheOpen.{Flat-F}
 use Rattle.fast_template.specs.declared.resolved.Flat.TheVariants as flat
@@ -10,20 +10,12 @@ use Rattle.fast_template.specs.declared.resolved.Flat.TheVariants.{rolls-Sequenc
 use Rattle.fast_template.specs.declared.resolved.FieldPart.{FieldPart}
 use Rattle.fast_template.specs.declared.kind.Presence.{Presence}
 use Rattle.fast_template.specs.Resolved.{Instruction, flat_step, instruction_of, list_of}
-use Rattle.fast_decoder.specs.declared.message.Node.{Node, fold_out-Node}
-use Rattle.fast_decoder.specs.declared.message.Node.TheVariants.{Absent, outs-Absent, Value, outs-Value}
-use Rattle.fast_decoder.specs.Nodes.{Item, Items, single, item_of, items_in, elements_of, node_step}
-use Rattle.fast_template.specs.declared.scalar.Scalar.{Scalar}
+use Rattle.fast_decoder.specs.declared.message.Node.{Node}
+use Rattle.fast_decoder.specs.Nodes.{Item, Items, item_of, items_in, elements_of}
 use Rattle.fastcat.specs.Lines.{braced, bracketed, elements_text, joined, member_text, members_text, node_text, sequence_text}
 use Rattle.fastcat.proofs.Written.{extends_by, joined_none, leads_more, leads_stop, shows_behind, shows_err}
 use Rattle.fastcat.specs.Written.{Adds, Leads, Shows}
 use Rattle.fastcat.specs.declared.lines.ShowFault.{ShowFault}
-
-pub item_of-absent : item_of Absent ≡ single None
-item_of-absent = fold_out-Node Item node_step Absent ∙ rw outs-Absent refl
-
-pub item_of-value : (v : Scalar) → item_of (Value v) ≡ single (Some v)
-item_of-value v = fold_out-Node Item node_step (Value v) ∙ rw (outs-Value v) refl
 
 -- one list is longer than the other
 pub lengths_differ : (before : List ℕ) (flats : List Flat) (nodes : List Node) → length nodes ≢ length flats → members_text before (list_of flats) (items_in nodes) ≡ None
@@ -40,19 +32,10 @@ pub members_at : (before : List ℕ) (flats : List Flat) (nodes : List Node) (i 
 members_at before flats nodes i f n a b =
     ap₂ (λ (fs : List Flat) (ns : List Node). members_text before (list_of fs) (items_in ns)) (drop_more flats i f a) (drop_more nodes i n b)
 
-pub members_end : (before : List ℕ) (flats : List Flat) (nodes : List Node) (i : ℕ) → length flats ≤ i → length nodes ≤ i
-    → members_text before (list_of (drop i flats)) (items_in (drop i nodes)) ≡ Some []
-members_end before flats nodes i a b =
-    ap₂ (λ (fs : List Flat) (ns : List Node). members_text before (list_of fs) (items_in ns)) (drop_all i flats a) (drop_all i nodes b)
-
 pub elements_at : (text : Items → Option (List ℕ)) (before : List ℕ) (es : List (Vec Node)) (i : ℕ) (e : Vec Node) → i < length es
     → elements_text text before (elements_of (map (λ v. items_in v.items) (drop i es)))
     ≡ joined (option_map (λ t. before ++ t) (braced (text (items_in (get_or es i e).items)))) (elements_text text (codes " ") (elements_of (map (λ v. items_in v.items) (drop (i + 1) es))))
 elements_at text before es i e a = ap (λ l. elements_text text before (elements_of (map (λ v. items_in v.items) l))) (drop_more es i e a)
-
-pub elements_end : (text : Items → Option (List ℕ)) (before : List ℕ) (es : List (Vec Node)) (i : ℕ) → length es ≤ i
-    → elements_text text before (elements_of (map (λ v. items_in v.items) (drop i es))) ≡ Some []
-elements_end text before es i a = ap (λ l. elements_text text before (elements_of (map (λ v. items_in v.items) l))) (drop_all i es a)
 
 -- ---- steps of the two loops
 

@@ -1,6 +1,6 @@
 -- What calls one after the other have put behind an output.
 use Rattle.std.proofs.Common.{◌≡◌, ◌<◌, ◌+◌, ◌/◌, ◌%◌, ℕ, List, [], ◌∷◌, ◌++◌, Option, Some, None, Ok, Err, Result, length, take, get_or, option_map, true≢false, true, refl, sym, ap, ap₂, ◌∙◌}
-use Rattle.std.specs.Prelude.{slice_index, codes, IsErr}
+use Rattle.std.specs.Prelude.{slice_index, IsErr}
 use Rattle.std.proofs.lemmas.List.{append-nil, append_assoc, take_more}
 use Rattle.std.specs.declared.alloc.AllocError.{AllocError}
 use Rattle.std.specs.List.{flat_map, list_all}
@@ -28,10 +28,6 @@ extends_more a b c x y = record {
 }
 
 -- ---- texts that are always there
-
-pub writes_then : (s t a b c : List ℕ) (r : Result Unit AllocError) → b ≡ a ++ s → Writes t r b c → Writes (s ++ t) r a c
-writes_then s t a b c (Ok u) e w = w ∙ ap (λ l. l ++ t) e ∙ append_assoc a s t
-writes_then s t a b c (Err f) e w = extends_more a b c (extends_by a b s e) w
 
 pub writes_err : (t a b : List ℕ) (r : Result Unit AllocError) → IsErr r → Extends a b → Writes t r a b
 writes_err t a b (Ok u) e x = absurd (true≢false (sym e))
@@ -70,10 +66,6 @@ encode_pair b = refl
 
 -- ---- texts that may not be there
 
-pub shows_memory : (t : Option (List ℕ)) (a b : List ℕ) (f : ShowFault) → f ≡ Memory → Extends a b → Shows t (Err f) a b
-shows_memory t a b Memory e x = x
-shows_memory t a b Mismatch e x = absurd cc
-
 -- what is made of a text that is not there is not there
 none_of : (g : List ℕ → List ℕ) (t : Option (List ℕ)) → t ≡ None → option_map g t ≡ None
 none_of g t e = ap (option_map g) e
@@ -81,10 +73,6 @@ none_of g t e = ap (option_map g) e
 pub shows_err : (g : List ℕ → List ℕ) (t : Option (List ℕ)) (a b c : List ℕ) (f : ShowFault) → Extends a b → Shows t (Err f) b c → Shows (option_map g t) (Err f) a c
 shows_err g t a b c Memory x w = extends_more a b c x w
 shows_err g t a b c Mismatch x w = (none_of g t w.0, extends_more a b c x w.1)
-
-pub shows_text : (s a b : List ℕ) (r : Result Unit AllocError) → Writes s r a b → (u : Unit {0}) → r ≡ Ok u → Adds (Some s) a b
-shows_text s a b (Ok v) w u e = record { line = s; there = refl; appended = w }
-shows_text s a b (Err f) w u e = absurd cc
 
 -- a text in front
 pub shows_behind : (s : List ℕ) (t : Option (List ℕ)) (a b c : List ℕ) (r : Result Unit ShowFault) → b ≡ a ++ s → Shows t r b c → Shows (option_map (λ x. s ++ x) t) r a c
@@ -124,13 +112,6 @@ leads_more whole t rest a b c l x = record {
   front = l.front ++ x.line;
   whole_is = l.whole_is ∙ ap (λ o. option_map (λ y. l.front ++ y) (joined o rest)) x.there ∙ ap (option_map (λ y. l.front ++ y)) (joined_some x.line rest) ∙ behind_both l.front x.line rest;
   appended = x.appended ∙ ap (λ z. z ++ x.line) l.appended ∙ append_assoc a l.front x.line;
-}
-
-pub leads_end : (whole rest : Option (List ℕ)) (a b : List ℕ) → rest ≡ Some [] → Leads whole rest a b → Adds whole a b
-leads_end whole rest a b e l = record {
-  line = l.front;
-  there = l.whole_is ∙ ap (option_map (λ y. l.front ++ y)) e ∙ ap Some (append-nil l.front);
-  appended = l.appended;
 }
 
 pub joined_none : (s : Option (List ℕ)) → joined s None ≡ None

@@ -5,6 +5,7 @@ use fast_decoder::{Decoder, Message, Node};
 use fast_dictionary::MapEntries;
 use fast_template::{ByteString, Scalar, TemplateSet};
 use std::alloc::{AllocError, Global};
+use std::process::Abort;
 use std::test::Fail;
 
 // The worked templates.

@@ -1,4 +1,4 @@
-use Rattle.std.proofs.Common.{◌≡◌, ◌++◌, ◌∷◌, [], rules, arith, sym, ap, ◌∙◌, get_or, take}
+use Rattle.std.proofs.Common.{◌++◌, ◌∷◌, [], sym, ap, ◌∙◌, get_or, take}
 use Rattle.std.proofs.lemmas.List.{append-nil, append_assoc}
 use Rattle.hex.specs.Hex.{encode_lower}
 use Rattle.fastcat.proofs.Written.{encode_none, encode_one, extends_more, extends_by, writes_err}

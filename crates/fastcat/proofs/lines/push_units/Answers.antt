@@ -1,4 +1,4 @@
-use Rattle.std.proofs.Common.{◌≡◌, ◌++◌, sym, ap, ◌∙◌, get_or, take}
+use Rattle.std.proofs.Common.{◌++◌, sym, ap, ◌∙◌, get_or, take}
 use Rattle.std.proofs.lemmas.List.{append_assoc}
 use Rattle.std.specs.List.{flat_map}
 use Rattle.fastcat.specs.Lines.{unit_text}
