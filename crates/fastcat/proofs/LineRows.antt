@@ -3,6 +3,7 @@ use Rattle.std.proofs.Common.{◌≡◌, ℕ, pos, negsuc, List, [], ◌∷◌, 
 use Rattle.std.specs.Prelude.{codes}
 use Rattle.std.specs.Fmt.{digits}
 use Rattle.hex.specs.Hex.{encode_with}
+use Rattle.fast_template.specs.Resolved.{no_instructions}
 use Rattle.fast_template.specs.Written.{WrittenTemplate}
 use Rattle.fast_template.specs.declared.kind.Kind.TheVariants.{Int64, Ascii, Bytes}
 use Rattle.fast_template.specs.declared.scalar.Scalar.TheVariants as value
@@ -100,10 +101,14 @@ empty_vector : value_text Bytes (value.Bytes []) ≡ Some (codes "x")
 unfolding encode_with
 empty_vector = refl
 
-no_fields : line_by (codes "None") (resolved 6 bare).members (message 6 []) ≡ None
+no_fields : line_by (codes "Void") no_instructions (message 20 []) ≡ Some (codes "20 Void\n")
+unfolding digits
 no_fields = refl
 
 -- ---- messages that are not of their template
+
+too_few : shown 6 bare (message 6 []) ≡ None
+too_few = refl
 
 too_many : shown 4 legs (message 4 (absent ∷ absent ∷ [])) ≡ None
 too_many = refl
