@@ -1,3 +1,5 @@
+pub mod Outputs
+pub mod Relayings
 pub mod AskedBits
 pub mod PartBits
 pub mod ShortestMaps

@@ -1,4 +1,12 @@
 //! The canonicaliser of FAST 1.1, and the laws of streams that its promises stand on.
 #![tactic(auto)]
 
+mod canonical;
+mod fault;
 pub mod laws;
+mod relay;
+mod summary;
+
+pub use canonical::canonicalise;
+pub use fault::CanonFault;
+pub use summary::Summary;

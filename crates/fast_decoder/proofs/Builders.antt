@@ -12,10 +12,11 @@ use Rattle.fast_decoder.specs.declared.traversal.Stage.TheVariants as stage
 use Rattle.fast_decoder.specs.declared.traversal.Traversal.{Traversal}
 use Rattle.fast_decoder.specs.Nodes.{Content, content_of}
 use Rattle.fast_decoder.specs.OpenSegments.{Reading, Next, at_instruction, at_mantissa, at_element}
-use Rattle.fast_decoder.specs.Received.{Received}
+use Rattle.fast_decoder.specs.Received.{Received, behind}
 use Rattle.fast_decoder.specs.Built.{IsBuilt, IsNextBuilt, with_whole}
 use Rattle.fast_decoder.specs.Following.{FollowsAt}
 use Rattle.fast_decoder.specs.Traversals.{ContinuesAt}
+use Rattle.fast_decoder.proofs.Followings.{follows_behind}
 
 abbrev pub BuilderHas : Builder → Received → Dictionary → Type 0
 BuilderHas b o d = IsBuilt b o
@@ -23,55 +24,19 @@ BuilderHas b o d = IsBuilt b o
 abbrev pub BuilderStands : Builder → List Resolved → List Content → Dictionary → Type 0
 BuilderStands b set ms d = ms ≡ map content_of b.whole.items
 
--- behind other messages
-abbrev behind : Received → List Content → Received
-behind o ms = record { set = o.set; before = ms; template = o.template; members = o.members; start = o.start; next = o.next; body = o.body; around = o.around }
-
 next_built : (b : Builder) (v : Vec Message) (next : Next) → IsNextBuilt b next → IsNextBuilt (with_whole b v) next
 next_built b v at_instruction h = h
 next_built b v (at_mantissa e mantissa) h = h
 next_built b v (at_element s) h = h
 
-continues_rebased : (t : Traversal) (b : Builder) (v : Vec Message) (set : List Resolved) (d start : Dictionary) (before : List Content) (read : List ℕ → Reading) (at : Stage)
-    → ContinuesAt BuilderHas BuilderStands BuilderStands at t b set d before start read
-    → ContinuesAt BuilderHas BuilderStands BuilderStands at t (with_whole b v) set d (map content_of v.items) start read
-continues_rebased t b v set d start before read stage.Map c = record { stands = refl; start_is = c.start_is; reads = c.reads }
-continues_rebased t b v set d start before read stage.Identifier c = record { stands = refl; start_is = c.start_is; reads = c.reads }
-continues_rebased t b v set d start before read stage.Body c = record {
-  received = behind c.received (map content_of v.items);
-  at = record { next = c.at.next; rest = c.at.rest; around = c.at.around };
-  has = record { before = refl; template = c.has.template; next = next_built b v c.received.next c.has.next; done = c.has.done; around = c.has.around };
-  keeps = refl;
-  set_is = c.set_is;
-  before_is = refl;
-  template_is = c.template_is;
-  named = c.named;
-  reads = c.reads;
-}
+built_behind : (b : Builder) (v : Vec Message) (o : Received) → IsBuilt b o → IsBuilt (with_whole b v) (behind o (map content_of v.items))
+built_behind b v o h = record { before = refl; template = h.template; next = next_built b v o.next h.next; done = h.done; around = h.around }
 
 pub follows_rebased : (fault : Option Fault) (t : Traversal) (b : Builder) (v : Vec Message) (d : Dictionary) (held : List ℕ) (waiting : ℕ) (before : List Content) (bytes : List ℕ) (messages : List Content)
     → FollowsAt BuilderHas BuilderStands BuilderStands fault t b d held waiting before bytes messages
     → FollowsAt BuilderHas BuilderStands BuilderStands fault t (with_whole b v) d held waiting (map content_of v.items) bytes messages
-follows_rebased None t b v d held waiting before bytes messages f = (
-  record {
-    front = f.0.front;
-    rest = f.0.rest;
-    start = f.0.start;
-    parts = f.0.parts;
-    carried = f.0.carried;
-    ends = record {
-      read = f.0.ends.read;
-      goes = continues_rebased t b v (templates_in t.set.now) d f.0.start before f.0.ends.read t.stage f.0.ends.goes;
-      fits = f.0.ends.fits;
-      reads = f.0.ends.reads;
-      between = f.0.ends.between;
-      some = f.0.ends.some;
-    };
-  },
-  f.1,
-)
-follows_rebased (Some x) t b v d held waiting before bytes messages f =
-    (f.0, f.1, record { front = f.2.front; rest = f.2.rest; start = f.2.start; parts = f.2.parts; carried = f.2.carried; ends = refl })
+follows_rebased fault t b v d held waiting before bytes messages f =
+    follows_behind BuilderHas BuilderStands BuilderStands fault t b (with_whole b v) d held waiting before (map content_of v.items) bytes messages (λ o same h. built_behind b v o h) (λ set e h. refl) (λ set e h. refl) f
 
 whole_at : (t : Traversal) (b : Builder) (set : List Resolved) (d start : Dictionary) (before : List Content) (read : List ℕ → Reading) (at : Stage)
     → ContinuesAt BuilderHas BuilderStands BuilderStands at t b set d before start read → before ≡ map content_of b.whole.items

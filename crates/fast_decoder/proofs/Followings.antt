@@ -1,5 +1,5 @@
 -- How a decoder follows a stream.
-use Rattle.std.proofs.Common.{◌≡◌, ◌≢◌, ◌≤◌, ◌<◌, ℕ, ◌+◌, ◌-◌, ◌^◌, length, take, drop, length-drop, length-append, arith, List, [], ◌∷◌, ◌++◌, refl, sym, ap, subst, ◌∙◌, append_assoc, append-nil, ◌⊎◌, inl, inr}
+use Rattle.std.proofs.Common.{Option, None, Some, ◌≡◌, ◌≢◌, ◌≤◌, ◌<◌, ℕ, ◌+◌, ◌-◌, ◌^◌, length, take, drop, length-drop, length-append, arith, List, [], ◌∷◌, ◌++◌, refl, sym, ap, subst, ◌∙◌, append_assoc, append-nil, ◌⊎◌, inl, inr}
 use Rattle.std.proofs.Math.Seq.{take-length}
 use Rattle.std.specs.List.{AllByRecursion}
 use Rattle.std.specs.FinMap as finite
@@ -18,10 +18,11 @@ use Rattle.fast_decoder.specs.declared.fault.Fault.{Fault}
 use Rattle.fast_decoder.specs.declared.halt.Halt.{Halt}
 use Rattle.fast_decoder.specs.declared.place.Place.{Place}
 use Rattle.fast_decoder.specs.OpenSegments.{Reading}
+use Rattle.fast_decoder.specs.Received.{Received, behind}
 use Rattle.fast_decoder.specs.Standing.{Carried, ReadsOn, HasAll, Having, Standing, Stands, StopsBehind}
 use Rattle.fast_decoder.specs.Traversals.{ContinuesAt}
 use Rattle.fast_decoder.specs.declared.traversal.Stage.{Stage}
-use Rattle.fast_decoder.specs.Following.{Counts, IsCutAt, Refused, Waits}
+use Rattle.fast_decoder.specs.Following.{Counts, FollowsAt, IsCutAt, Refused, Waits}
 use Rattle.fast_decoder.specs.Traversals.{stop_of}
 use Rattle.fast_decoder.proofs.MessageReaders.{message_stops}
 use Rattle.fast_decoder.proofs.StreamReaders.{message_some}
@@ -225,3 +226,60 @@ left_behind has stands keeps t r s d before unread bytes messages left h = recor
   carried = h.carried;
   ends = left (templates_in t.set.now) before h.start (kept_at has stands keeps t r (templates_in t.set.now) d h.start before h.ends.read t.stage h.ends.goes);
 }
+
+-- ---- a receiver that has other messages in front
+
+continues_behind : {R : Type 0} (has : Having R) (stands keeps : Standing R) (t : Traversal) (r s : R) (set : List Resolved) (d start : Dictionary) (before after : List Content) (read : List ℕ → Reading) (at : Stage)
+    → ((o : Received) → o.before ≡ before → has r o d → has s (behind o after) d)
+    → ((x : List Resolved) (e : Dictionary) → stands r x before e → stands s x after e)
+    → ((x : List Resolved) (e : Dictionary) → keeps r x before e → keeps s x after e)
+    → ContinuesAt has stands keeps at t r set d before start read → ContinuesAt has stands keeps at t s set d after start read
+continues_behind has stands keeps t r s set d start before after read stage.Map opened between kept c = record { stands = between set d c.stands; start_is = c.start_is; reads = c.reads }
+continues_behind has stands keeps t r s set d start before after read stage.Identifier opened between kept c = record { stands = between set d c.stands; start_is = c.start_is; reads = c.reads }
+continues_behind has stands keeps t r s set d start before after read stage.Body opened between kept c = record {
+  received = behind c.received after;
+  at = record { next = c.at.next; rest = c.at.rest; around = c.at.around };
+  has = opened c.received c.before_is c.has;
+  keeps = kept set start c.keeps;
+  set_is = c.set_is;
+  before_is = refl;
+  template_is = c.template_is;
+  named = c.named;
+  reads = c.reads;
+}
+
+pub follows_behind : {R : Type 0} (has : Having R) (stands keeps : Standing R) (fault : Option Fault) (t : Traversal) (r s : R) (d : Dictionary) (held : List ℕ) (waiting : ℕ) (before after : List Content) (bytes : List ℕ) (messages : List Content)
+    → ((o : Received) → o.before ≡ before → has r o d → has s (behind o after) d)
+    → ((x : List Resolved) (e : Dictionary) → stands r x before e → stands s x after e)
+    → ((x : List Resolved) (e : Dictionary) → keeps r x before e → keeps s x after e)
+    → FollowsAt has stands keeps fault t r d held waiting before bytes messages → FollowsAt has stands keeps fault t s d held waiting after bytes messages
+follows_behind has stands keeps None t r s d held waiting before after bytes messages opened between kept f = (
+  record {
+    front = f.0.front;
+    rest = f.0.rest;
+    start = f.0.start;
+    parts = f.0.parts;
+    carried = f.0.carried;
+    ends = record {
+      read = f.0.ends.read;
+      goes = continues_behind has stands keeps t r s (templates_in t.set.now) d f.0.start before after f.0.ends.read t.stage opened between kept f.0.ends.goes;
+      fits = f.0.ends.fits;
+      reads = f.0.ends.reads;
+      between = f.0.ends.between;
+      some = f.0.ends.some;
+    };
+  },
+  f.1,
+)
+follows_behind has stands keeps (Some x) t r s d held waiting before after bytes messages opened between kept f =
+    (f.0, f.1, record { front = f.2.front; rest = f.2.rest; start = f.2.start; parts = f.2.parts; carried = f.2.carried; ends = between (templates_in t.set.now) f.2.start f.2.ends })
+
+-- what a receiver has of the messages that ended, whatever is open
+pub has_ended : {R : Type 0} (has : Having R) (stands : Standing R) (fault : Option Fault) (t : Traversal) (r : R) (d : Dictionary) (held : List ℕ) (waiting : ℕ) (before : List Content) (bytes : List ℕ) (messages : List Content)
+    → FollowsAt has stands stands fault t r d held waiting before bytes messages → HasAll stands t r before bytes messages
+has_ended has stands None t r d held waiting before bytes messages f = left_behind has stands stands t r r d before held bytes messages (λ set ms e h. either set ms e h) f.0
+  where
+    either : (set : List Resolved) (ms : List Content) (e : Dictionary) → stands r set ms e ⊎ stands r set ms e → stands r set ms e
+    either set ms e (inl h) = h
+    either set ms e (inr h) = h
+has_ended has stands (Some x) t r d held waiting before bytes messages f = f.2

@@ -28,6 +28,10 @@ pub record Received : Type 0 where
 abbrev pub opened : List Resolved → List Content → ℕ → Instructions → Dictionary → Received
 opened set ms id members d = record { set = set; before = ms; template = id; members = members; start = d; next = at_instruction; body = record { rest = members; done = [] }; around = [] }
 
+-- behind other messages
+abbrev pub behind : Received → List Content → Received
+behind o ms = record { set = o.set; before = ms; template = o.template; members = o.members; start = o.start; next = o.next; body = o.body; around = o.around }
+
 -- elsewhere in the same message
 abbrev pub moved : Received → Next → Body → List Waiting → Received
 moved o next body around = record { set = o.set; before = o.before; template = o.template; members = o.members; start = o.start; next = next; body = body; around = around }

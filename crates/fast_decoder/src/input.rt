@@ -20,7 +20,7 @@ const CHUNK: usize = 4096;
 
 /// How far a stream came.
 #[derive(Clone, Copy)]
-pub(crate) enum Reached {
+pub enum Reached {
     /// More bytes may come.
     Open,
     /// The reader has ended, behind a message.

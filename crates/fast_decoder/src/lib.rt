@@ -29,7 +29,7 @@ pub use builder::{Builder, Level};
 pub use decoder::Decoder;
 pub use fault::{Cause, Fault};
 pub use halt::{Halt, field_cause, map_cause};
-pub use input::MessageInputStream;
+pub use input::{MessageInputStream, Reached};
 pub use machine::Machine;
 pub use message::{Message, Node};
 pub use part::{exponent_in, mantissa_in, take_part, unsigned_in};

@@ -31,6 +31,7 @@ impl Writer {
     ghost use Rattle.fast_template.specs.Resolved.{Resolved};
     ghost use Rattle.fast_dictionary.specs.Dictionary.{Dictionary};
     ghost use Rattle.fast_decoder.specs.Nodes.{Content};
+    ghost use Rattle.fast_decoder.specs.Received.{Received, behind};
     ghost use Rattle.fast_encoder.specs.Levels.{level_of};
     ghost use Rattle.fast_encoder.specs.Written.{Closes, handed_on};
 
@@ -61,6 +62,15 @@ impl Writer {
             (d : Dictionary)
             → ⟦<Writer as Receiver>⟧.stands self.old set (handed_on handed ∷ ms) d
             → ⟦<Writer as Receiver>⟧.stands self.new set
+            (handed_on (handed ++ self.old.out.items) ∷ ms) d }
+        ensures has { (o : Received) (handed : List ℕ) (ms : List Content) (d : Dictionary)
+            → o.before ≡ handed_on handed ∷ ms → ⟦<Writer as Receiver>⟧.has self.old o d
+            → ⟦<Writer as Receiver>⟧.has self.new
+            (behind o (handed_on (handed ++ self.old.out.items) ∷ ms)) d }
+        ensures keeps { (set : List Resolved) (handed : List ℕ) (ms : List Content)
+            (d : Dictionary)
+            → ⟦<Writer as Receiver>⟧.keeps self.old set (handed_on handed ∷ ms) d
+            → ⟦<Writer as Receiver>⟧.keeps self.new set
             (handed_on (handed ++ self.old.out.items) ∷ ms) d }
         ensures empty { self.new.out.items ≡ [] }
     {

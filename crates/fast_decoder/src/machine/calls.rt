@@ -81,15 +81,19 @@ impl<'a, R: Receiver, E: Entries> Machine<'a, R, E> {
         ensures set { result.traversal.set.now ≡ set.now }
         ensures fault { result.fault ≡ None }
         ensures receiver { result.receiver ≡ receiver }
+        ensures fed { result.fed ≡ 0 }
+        ensures sound { IsSound set.now }
         ensures follows { (before : List Content)
             → R.stands receiver (templates_in set.now) before finite.empty
             → Follows result before [] [] }
     {
         let mut entries = entries;
         entries.reset();
+        let traversal = Traversal::new(alloc, set);
+        traversal.set_is_sound();
         Machine {
             alloc,
-            traversal: Traversal::new(alloc, set),
+            traversal,
             receiver,
             entries,
             held: Vec::new(alloc),
@@ -105,6 +109,13 @@ impl<'a, R: Receiver, E: Entries> Machine<'a, R, E> {
         ensures { result ≡ self.now.fault }
     {
         self.fault
+    }
+
+    /// How many messages ended since the reset, before a fault.
+    pub fn messages(&self) -> u64
+        ensures { result ≡ self.now.messages }
+    {
+        self.messages
     }
 
     /// How many bytes were fed since the reset, up to the end of the chunk that has the first fault.
@@ -291,6 +302,9 @@ impl<'a, R: Receiver, E: Entries> Machine<'a, R, E> {
             × ((before : List Content) (fed : List ℕ) (messages : List Content)
             → self.old.fed ≤ 2 ^ 60 → Follows self.old before fed messages
             → Follows self.new before fed messages)) }
+        ensures left { (set : List Resolved) (ms : List Content) (d : Dictionary)
+            → R.keeps self.old.receiver set ms d ⊎ R.stands self.old.receiver set ms d
+            → R.keeps self.new.receiver set ms d ⊎ R.stands self.new.receiver set ms d }
         ensures answer { Answers result self.new.fault }
         ensures set { self.new.traversal.set ≡ self.old.traversal.set }
         ensures fed { self.new.fed ≡ self.old.fed }
@@ -311,12 +325,15 @@ impl<'a, R: Receiver, E: Entries> Machine<'a, R, E> {
     }
 
     /// The fault of a stream of which no more bytes come for this cause: where the next piece would begin.
-    pub(crate) fn cut(&mut self, cause: Cause) -> Fault
+    pub fn cut(&mut self, cause: Cause) -> Fault
         requires few { self.now.fed ≤ 2 ^ 60 }
         ensures cause { result.cause ≡ cause }
         ensures place { self.old.fault ≡ None → (before : List Content) (fed : List ℕ)
             (messages : List Content) → Follows self.old before fed messages
             → IsCutAt (templates_in self.old.traversal.set.now) fed messages result.place }
+        ensures left { (set : List Resolved) (ms : List Content) (d : Dictionary)
+            → R.keeps self.old.receiver set ms d ⊎ R.stands self.old.receiver set ms d
+            → R.keeps self.new.receiver set ms d ⊎ R.stands self.new.receiver set ms d }
         ensures set { self.new.traversal.set ≡ self.old.traversal.set }
         ensures fed { self.new.fed ≡ self.old.fed }
     {

@@ -8,10 +8,10 @@ returns-clause-follows g c = λ before stands.
     let R = g.R.Receiver in
     record {
       at = (
-        rw (c.new-2.ensures.items) (stands_between R.has R.stands R.keeps c.new.result c.args.receiver (g.E.Entries.contents c.reset.new.self) before [] [] [] c.new.ensures.stage
-            (rw (c.reset.ensures.cleared, c.new.ensures.set) stands)
+        rw (c.new.ensures.items) (stands_between R.has R.stands R.keeps c.new-traversal.result c.args.receiver (g.E.Entries.contents c.reset.new.self) before [] [] [] c.new-traversal.ensures.stage
+            (rw (c.reset.ensures.cleared, c.new-traversal.ensures.set) stands)
             (record { front = []; rest = []; start = finite.empty; parts = refl; carried = (refl, refl); ends = (sym c.reset.ensures.cleared, refl, tt) })),
-        inl (c.new.ensures.stage, c.new-2.ensures.items),
+        inl (c.new-traversal.ensures.stage, c.new.ensures.items),
       );
       counts = record { fed_is = refl; count_is = refl };
     }

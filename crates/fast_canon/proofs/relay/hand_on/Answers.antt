@@ -1,0 +1,29 @@
+use Rattle.std.proofs.Common.{◌∷◌, ◌++◌, append-nil}
+use Rattle.fast_template.specs.TemplateSets.{templates_in}
+use Rattle.fast_decoder.proofs.Followings.{follows_behind}
+use Rattle.fast_decoder.proofs.Inputs.{reached_with}
+use Rattle.fast_encoder.specs.Levels.{HasFinished, HasWritten}
+use Rattle.fast_encoder.specs.Written.{handed_on}
+use Rattle.fast_canon.specs.Relays.{GoesOn}
+use Rattle.fast_canon.proofs.relay.hand_on.Goals as goal
+
+pub returns-in-Ok-clause-relays : goal.returns-in-Ok-clause-relays
+returns-in-Ok-clause-relays g c = λ at reads turns left handed input messages r.
+    let old = c.args.machine.now in
+    let h = c.hand_on.ensures in
+    let all = handed ++ old.receiver.out.items in
+    record {
+      holds = reached_with at (GoesOn old reads handed input messages) _ (templates_in old.traversal.set.now) turns left input messages
+          (λ go. record {
+            unrefused = go.unrefused;
+            follows = record {
+              at = follows_behind HasWritten HasFinished HasFinished old.fault old.traversal old.receiver c.hand_on.new.self (g.E.Entries.contents old.entries) old.held.items old.waiting
+                  (handed_on handed ∷ messages) (handed_on all ∷ messages) input messages
+                  (λ o same has. h.has o handed messages _ same has) (λ x e stands. h.stands x handed messages e stands) (λ x e keeps. h.keeps x handed messages e keeps) go.follows.at;
+              counts = go.follows.counts;
+            };
+            few = go.few;
+          }) r.holds;
+      canonical = rw (h.empty, append-nil all) r.canonical;
+      counts = r.counts;
+    }

@@ -1,0 +1,66 @@
+-- What canonicalising answers, and what it wrote.
+use Rattle.std.specs.Prelude.{◌≡◌, ◌≤◌, ℕ, List, ◌++◌, length, Option, Result, Ok, Err}
+use Rattle.std.specs.Io.KnownBytes.{Appends}
+use Rattle.fast_template.specs.Resolved.{Resolved}
+use Rattle.fast_decoder.specs.declared.fault.Fault.{Fault}
+use Rattle.fast_decoder.specs.Nodes.{Content}
+use Rattle.fast_io.specs.Counts.{counted}
+use Rattle.fast_decoder.specs.declared.input.Reached.TheVariants as reached
+use Rattle.fast_decoder.specs.Inputs.{EndsWith, IsCaused, Reader, Refuses}
+use Rattle.fast_decoder.specs.Standing.{Carried}
+use Rattle.fast_encoder.specs.Canonical.{IsCanonical}
+use Rattle.fast_canon.specs.declared.fault.CanonFault.{CanonFault}
+use Rattle.fast_canon.specs.declared.fault.CanonFault.TheVariants as refusal
+use Rattle.fast_canon.specs.declared.summary.Summary.{Summary}
+
+-- The reader has ended, and the bytes read carry the messages; their canonical bytes were written, which are no more
+-- than those read, and all is counted.
+pub record Ends (set : List Resolved) (left taken_old taken_new : Option (List ℕ)) (input : List ℕ) (summary : Summary) : Type 0 where
+  pub messages : List Content
+  pub out : List ℕ
+  pub ends : EndsWith set left input messages
+  pub canonical : IsCanonical set messages out
+  pub written : Appends taken_old taken_new out
+  pub counts : summary ≡ record { messages = length messages; read = length input; written = length out }
+  pub no_longer : length out ≤ length input
+
+-- The stream is refused: the canonical bytes of the messages before the fault were written.
+pub record Stops (set : List Resolved) (turns : ℕ) (left taken_old taken_new : Option (List ℕ)) (input : List ℕ) (fault : Fault) : Type 0 where
+  pub messages : List Content
+  pub out : List ℕ
+  pub refuses : Refuses set turns left input messages fault
+  pub canonical : IsCanonical set messages out
+  pub written : Appends taken_old taken_new out
+
+-- A write failed or memory was refused: a front was written of the canonical bytes of messages that were read.
+pub record Breaks (set : List Resolved) (taken_old taken_new : Option (List ℕ)) (input : List ℕ) : Type 0 where
+  pub messages : List Content
+  pub front : List ℕ
+  pub rest : List ℕ
+  pub carried : Carried set input messages
+  pub canonical : IsCanonical set messages (front ++ rest)
+  pub written : Appends taken_old taken_new front
+
+abbrev pub Canonicalises : List Resolved → ℕ → Option (List ℕ) → Option (List ℕ) → Option (List ℕ) → List ℕ → Result Summary CanonFault → Type 0
+Canonicalises set turns left taken_old taken_new input (Ok summary) = Ends set left taken_old taken_new input summary
+Canonicalises set turns left taken_old taken_new input (Err (refusal.Stream fault)) = Stops set turns left taken_old taken_new input fault
+Canonicalises set turns left taken_old taken_new input (Err f) = Breaks set taken_old taken_new input
+
+-- ---- the calls of the reader and the writer
+
+-- an answer has its cause in the counts of the reader
+abbrev pub IsCausedBy : Result Summary CanonFault → Type 0 → Reader → Reader → Type 0
+IsCausedBy (Ok summary) UsedUp old new = new.ends ≡ counted old.ends
+IsCausedBy (Err (refusal.Stream fault)) UsedUp old new = IsCaused (reached.Fault fault) UsedUp old new
+IsCausedBy (Err f) UsedUp old new = Unit {0}
+
+-- a failed write is answered exactly where a call of the writer failed
+abbrev pub errors_after : Result Summary CanonFault → ℕ → ℕ
+errors_after (Err refusal.Write) old = counted old
+errors_after r old = old
+
+-- one flush before the end and before a refused stream is answered
+abbrev pub FlushesOnce : Result Summary CanonFault → ℕ → ℕ → Type 0
+FlushesOnce (Ok summary) old new = new ≡ counted old
+FlushesOnce (Err (refusal.Stream fault)) old new = new ≡ counted old
+FlushesOnce (Err f) old new = Unit {0}

@@ -1,0 +1,3 @@
+pub mod Canonicalised
+pub mod Outputs
+pub mod Relays

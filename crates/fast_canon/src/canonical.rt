@@ -1,0 +1,71 @@
+//! Streams in canonical form.
+
+ghost use Rattle.std.specs.Prelude.{◌≡◌, ◌≤◌, ◌^◌, ℕ, List};
+ghost use Rattle.fast_template.specs.TemplateSets.{templates_in};
+ghost use Rattle.fast_decoder.specs.Inputs.{Reads, reader_by};
+ghost use Rattle.fast_canon.specs.Canonicalised.{Canonicalises, FlushesOnce, IsCausedBy, errors_after};
+
+use crate::fault::CanonFault;
+use crate::relay::relay;
+use crate::summary::Summary;
+use fast_decoder::{Machine, Reached};
+use fast_dictionary::SlotEntries;
+use fast_encoder::Writer;
+use fast_io::{ByteInput, ByteOutput};
+use fast_template::TemplateSet;
+use std::alloc::Global;
+
+/// Reads a stream of messages of a template set to its end, from undefined entries, and writes the canonical bytes of
+/// its messages: of all legal spellings the one that comes first.
+///
+/// It makes at most `turns` reads of at most 4,096 bytes, of which there may be up to 2^40, and writes what the
+/// messages that ended have after each. What is held is one chunk, the bytes of the message that is open and the
+/// entries. The writer is flushed once before Ok or Stream is answered.
+///
+/// # Errors
+///
+/// Stream: the bytes read are refused, the reader failed, the reads are used up, or memory was refused while a message
+/// was read; the canonical bytes of the messages before are written. Write: the writer failed. Memory: the entries were
+/// refused their memory. After these two a front is written of the canonical bytes of messages that were read.
+pub fn canonicalise<R: ByteInput, W: ByteOutput>(
+    alloc: Global,
+    set: &TemplateSet,
+    reader: &mut R,
+    writer: &mut W,
+    turns: u64,
+) -> Result<Summary, CanonFault>
+    requires turns { turns ≤ 2 ^ 40 }
+    // at most `turns` reads, what they gave, what was written, and what is answered
+    ensures answer { (count : ℕ) × (input : List ℕ)
+        × Reads (reader_by R.left R.calls R.errors R.ends reader.old)
+        (reader_by R.left R.calls R.errors R.ends reader.new) count input
+        × (count ≤ turns)
+        × Canonicalises (templates_in set.now) turns (R.left reader.new) (W.taken writer.old)
+        (W.taken writer.new) input result
+        × IsCausedBy result (count ≡ turns)
+        (reader_by R.left R.calls R.errors R.ends reader.old)
+        (reader_by R.left R.calls R.errors R.ends reader.new) }
+    ensures write { W.errors writer.new ≡ errors_after result (W.errors writer.old) }
+    ensures flush { FlushesOnce result (W.flushes writer.old) (W.flushes writer.new) }
+{
+    let entries = match SlotEntries::new(alloc, set) {
+        Err(_) => return Err(CanonFault::Memory),
+        Ok(entries) => entries,
+    };
+    let canonical = Writer::new(alloc);
+    let mut machine = Machine::new(alloc, set, canonical, entries);
+    match relay(&mut machine, reader, writer, turns) {
+        Err(_) => Err(CanonFault::Write),
+        Ok((reached, written)) => match writer.flush() {
+            Err(_) => Err(CanonFault::Write),
+            Ok(()) => match reached {
+                Reached::Fault(fault) => Err(CanonFault::Stream(fault)),
+                Reached::End | Reached::Open => Ok(Summary {
+                    messages: machine.messages(),
+                    read: machine.fed(),
+                    written,
+                }),
+            },
+        },
+    }
+}

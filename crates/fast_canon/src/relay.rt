@@ -1,0 +1,155 @@
+//! From a reader to a writer, chunk by chunk.
+
+ghost use Rattle.std.specs.Prelude.{◌≡◌, ◌≢◌, ◌≤◌, ◌<◌, ◌+◌, ◌*◌, ◌++◌, ◌^◌, [], true, false, ℕ, List, Option, OnOk, OnErr, IfOk, length};
+ghost use Rattle.std.specs.Io.KnownBytes.{Appends};
+ghost use Rattle.fast_io.specs.Traffic.{CountsError};
+ghost use Rattle.fast_template.specs.TemplateSets.{IsSound};
+ghost use Rattle.fast_decoder.specs.Nodes.{Content};
+ghost use Rattle.fast_decoder.specs.Inputs.{IsCaused, Reads, reader_by};
+ghost use Rattle.fast_decoder.specs.declared.input.Reached.{Reached as ReachedNow};
+ghost use Rattle.fast_decoder.specs.declared.input.Reached.TheVariants as reached;
+ghost use Rattle.fast_canon.specs.Outputs.{Taken};
+ghost use Rattle.fast_canon.specs.Relays.{Broken, Relayed, Relays};
+
+use fast_decoder::{Cause, Machine, Reached};
+use fast_dictionary::Entries;
+use fast_encoder::Writer;
+use fast_io::{ByteInput, ByteOutput, Failed};
+
+/// The most bytes that one read takes.
+pub(crate) const CHUNK: usize = 4096;
+
+/// Pushes all the bytes. It fails only where a push did.
+fn push_all<W: ByteOutput>(writer: &mut W, bytes: &[u8]) -> Result<(), Failed>
+    ensures written { OnOk result (Appends (W.taken writer.old) (W.taken writer.new) bytes.now) }
+    ensures part { OnErr result ((rest : List ℕ)
+        × Taken (W.taken writer.old) (W.taken writer.new) bytes.now rest) }
+    ensures failed { CountsError result (W.errors writer.old) (W.errors writer.new) }
+    ensures flushes { W.flushes writer.new ≡ W.flushes writer.old }
+{
+    let mut rest = bytes;
+    while !rest.is_empty() {
+        match writer.push(rest) {
+            Err(failed) => return Err(failed),
+            Ok(count) => rest = &rest[count..],
+        }
+    }
+    Ok(())
+}
+
+/// Hands on the canonical bytes of the messages that ended, and answers how many they are.
+pub(crate) fn hand_on<W: ByteOutput, E: Entries>(
+    machine: &mut Machine<'_, Writer, E>,
+    writer: &mut W,
+) -> Result<usize, Failed>
+    ensures count { IfOk result (λ n. n ≡ length machine.old.receiver.out.items) }
+    ensures written { OnOk result (Appends (W.taken writer.old) (W.taken writer.new)
+        machine.old.receiver.out.items) }
+    ensures relays { OnOk result ((at : ReachedNow) (reads turns : ℕ)
+        (left : Option (List ℕ)) (handed input : List ℕ) (messages : List Content)
+        → Relays at machine.old reads turns left handed input messages
+        → Relays at machine.new reads turns left (handed ++ machine.old.receiver.out.items) input
+        messages) }
+    ensures empty { OnOk result (machine.new.receiver.out.items ≡ []) }
+    ensures part { OnErr result ((rest : List ℕ) × Taken (W.taken writer.old)
+        (W.taken writer.new) machine.old.receiver.out.items rest) }
+    ensures unchanged { OnErr result (machine.new ≡ machine.old) }
+    ensures failed { CountsError result (W.errors writer.old) (W.errors writer.new) }
+    ensures flushes { W.flushes writer.new ≡ W.flushes writer.old }
+    ensures set { machine.new.traversal ≡ machine.old.traversal }
+    ensures fed { machine.new.fed ≡ machine.old.fed }
+{
+    let count = machine.receiver.finished().len();
+    match push_all(writer, machine.receiver.finished()) {
+        Err(failed) => Err(failed),
+        Ok(()) => {
+            machine.receiver.hand_on();
+            Ok(count)
+        }
+    }
+}
+
+/// Makes one read, and feeds what it gave.
+pub(crate) fn read_on<R: ByteInput, E: Entries>(
+    machine: &mut Machine<'_, Writer, E>,
+    reader: &mut R,
+) -> Reached
+    requires room { machine.now.fed + CHUNK ≤ 2 ^ 60 }
+    ensures read { (got : List ℕ)
+        × Reads (reader_by R.left R.calls R.errors R.ends reader.old)
+        (reader_by R.left R.calls R.errors R.ends reader.new) 1 got
+        × ((reads turns : ℕ) (handed input : List ℕ) (messages : List Content)
+        → Relays reached.Open machine.old reads turns (R.left reader.old) handed input messages
+        → (ended : List Content)
+        × Relays result machine.new (reads + 1) turns (R.left reader.new) handed (input ++ got)
+        (messages ++ ended)
+        × IsCaused result ⊥ (reader_by R.left R.calls R.errors R.ends reader.old)
+        (reader_by R.left R.calls R.errors R.ends reader.new)) }
+    ensures set { machine.new.traversal.set ≡ machine.old.traversal.set }
+    ensures fed { machine.new.fed ≤ machine.old.fed + CHUNK }
+{
+    let mut chunk = [0u8; CHUNK];
+    match reader.pull(&mut chunk) {
+        Ok(0) => match machine.finish() {
+            Ok(()) => Reached::End,
+            Err(fault) => Reached::Fault(fault),
+        },
+        Ok(count) => match machine.feed(&chunk[..count]) {
+            Ok(()) => Reached::Open,
+            Err(fault) => Reached::Fault(fault),
+        },
+        Err(Failed) => Reached::Fault(machine.cut(Cause::Read)),
+    }
+}
+
+fn is_open(reached: Reached) -> bool
+    ensures yes { result ≡ true → reached ≡ Reached.Open }
+    ensures no { result ≡ false → reached ≢ Reached.Open }
+{
+    match reached {
+        Reached::Open => true,
+        Reached::End | Reached::Fault(_) => false,
+    }
+}
+
+/// Reads to the end, the first fault or the last of the reads, and hands on the canonical bytes of each chunk; answers
+/// which of them it was, and how many bytes were handed on.
+pub(crate) fn relay<R: ByteInput, W: ByteOutput, E: Entries>(
+    machine: &mut Machine<'_, Writer, E>,
+    reader: &mut R,
+    writer: &mut W,
+    turns: u64,
+) -> Result<(Reached, u64), Failed>
+    requires turns { turns ≤ 2 ^ 40 }
+    requires fed { machine.now.fed ≡ 0 }
+    requires sound { IsSound machine.now.traversal.set.now }
+    ensures relayed { IfOk result (λ x.
+        Relays reached.Open machine.old 0 turns (R.left reader.old) [] [] []
+        → Relayed x.0 machine.new turns
+        (reader_by R.left R.calls R.errors R.ends reader.old)
+        (reader_by R.left R.calls R.errors R.ends reader.new)
+        (W.taken writer.old) (W.taken writer.new) x.1) }
+    ensures broken { OnErr result (Relays reached.Open machine.old 0 turns (R.left reader.old) [] [] []
+        → Broken machine.new turns (reader_by R.left R.calls R.errors R.ends reader.old)
+        (reader_by R.left R.calls R.errors R.ends reader.new)
+        (W.taken writer.old) (W.taken writer.new)) }
+    ensures failed { CountsError result (W.errors writer.old) (W.errors writer.new) }
+    ensures flushes { W.flushes writer.new ≡ W.flushes writer.old }
+    ensures set { machine.new.traversal.set ≡ machine.old.traversal.set }
+{
+    let mut reached = Reached::Open;
+    let mut reads = 0;
+    let mut written = 0u64;
+    'reads: while is_open(reached) && reads < turns {
+        reached = read_on(machine, reader);
+        reads += 1;
+        match hand_on(machine, writer) {
+            Err(failed) => return Err(failed),
+            Ok(count) => written = written.saturating_add(count as u64),
+        }
+    }
+    match reached {
+        Reached::Open => Ok((Reached::Fault(machine.cut(Cause::Turns)), written)),
+        Reached::End | Reached::Fault(_) => Ok((reached, written)),
+    }
+}
