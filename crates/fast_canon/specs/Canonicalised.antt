@@ -1,5 +1,5 @@
 -- What canonicalising answers, and what it wrote.
-use Rattle.std.specs.Prelude.{◌≡◌, ◌≤◌, ℕ, List, ◌++◌, length, Option, Result, Ok, Err}
+use Rattle.std.specs.Prelude.{◌≡◌, ◌≤◌, ℕ, List, ◌++◌, length, Option, None, Result, Ok, Err}
 use Rattle.std.specs.Io.KnownBytes.{Appends}
 use Rattle.fast_template.specs.Resolved.{Resolved}
 use Rattle.fast_decoder.specs.declared.fault.Fault.{Fault}
@@ -64,3 +64,12 @@ abbrev pub FlushesOnce : Result Summary CanonFault → ℕ → ℕ → Type 0
 FlushesOnce (Ok summary) old new = new ≡ counted old
 FlushesOnce (Err (refusal.Stream fault)) old new = new ≡ counted old
 FlushesOnce (Err f) old new = Unit {0}
+
+-- ---- where nothing is written
+
+-- The same of a check: it never answers a failed write.
+abbrev pub Checks : List Resolved → ℕ → Option (List ℕ) → List ℕ → Result Summary CanonFault → Type 0
+Checks set turns left input (Ok summary) = Ends set left None None input summary
+Checks set turns left input (Err (refusal.Stream fault)) = Stops set turns left None None input fault
+Checks set turns left input (Err refusal.Write) = ⊥
+Checks set turns left input (Err refusal.Memory) = Breaks set None None input

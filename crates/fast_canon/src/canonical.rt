@@ -3,9 +3,10 @@
 ghost use Rattle.std.specs.Prelude.{◌≡◌, ◌≤◌, ◌^◌, ℕ, List};
 ghost use Rattle.fast_template.specs.TemplateSets.{templates_in};
 ghost use Rattle.fast_decoder.specs.Inputs.{Reads, reader_by};
-ghost use Rattle.fast_canon.specs.Canonicalised.{Canonicalises, FlushesOnce, IsCausedBy, errors_after};
+ghost use Rattle.fast_canon.specs.Canonicalised.{Canonicalises, Checks, FlushesOnce, IsCausedBy, errors_after};
 
 use crate::fault::CanonFault;
+use crate::nowhere::Nowhere;
 use crate::relay::relay;
 use crate::summary::Summary;
 use fast_decoder::{Machine, Reached};
@@ -67,5 +68,36 @@ pub fn canonicalise<R: ByteInput, W: ByteOutput>(
                 }),
             },
         },
+    }
+}
+
+/// Reads a stream as `canonicalise` does, and writes nothing: it answers what that would count.
+///
+/// # Errors
+///
+/// Stream and Memory, as `canonicalise` has them.
+pub fn check<R: ByteInput>(
+    alloc: Global,
+    set: &TemplateSet,
+    reader: &mut R,
+    turns: u64,
+) -> Result<Summary, CanonFault>
+    requires turns { turns ≤ 2 ^ 40 }
+    ensures answer { (count : ℕ) × (input : List ℕ)
+        × Reads (reader_by R.left R.calls R.errors R.ends reader.old)
+        (reader_by R.left R.calls R.errors R.ends reader.new) count input
+        × (count ≤ turns)
+        × Checks (templates_in set.now) turns (R.left reader.new) input result
+        × IsCausedBy result (count ≡ turns)
+        (reader_by R.left R.calls R.errors R.ends reader.old)
+        (reader_by R.left R.calls R.errors R.ends reader.new) }
+{
+    let mut nowhere = Nowhere {
+        calls: 0,
+        flushes: 0,
+    };
+    match canonicalise(alloc, set, reader, &mut nowhere, turns) {
+        Ok(summary) => Ok(summary),
+        Err(fault) => Err(fault),
     }
 }

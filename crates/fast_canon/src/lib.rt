@@ -4,9 +4,12 @@
 mod canonical;
 mod fault;
 pub mod laws;
+mod nowhere;
 mod relay;
 mod summary;
+#[cfg(test)]
+mod tests;
 
-pub use canonical::canonicalise;
+pub use canonical::{canonicalise, check};
 pub use fault::CanonFault;
 pub use summary::Summary;

@@ -1,13 +1,12 @@
-use Rattle.std.proofs.Common.{◌≡◌, [], ◌∷◌, ◌++◌, ℕ, List, refl, sym, ap, subst, ◌∙◌, append-nil, arith}
+use Rattle.std.proofs.Common.{[], ◌∷◌, ℕ, List, refl, sym, ap, subst, ◌∙◌, append-nil, arith}
 use Rattle.std.specs.FinMap as finite
 use Rattle.fast_io.specs.Counts.{counted}
 use Rattle.fast_template.specs.TemplateSets.{TemplateList, templates_in}
 use Rattle.fast_decoder.specs.Inputs.{HasReached}
-use Rattle.fast_decoder.proofs.Followings.{all_carried}
 use Rattle.fast_decoder.proofs.Inputs.{none_read}
 use Rattle.fast_encoder.specs.Canonical.{IsCanonical}
 use Rattle.fast_encoder.specs.Written.{handed_on}
-use Rattle.fast_canon.specs.Canonicalised.{Breaks, Ends, Stops}
+use Rattle.fast_canon.specs.Canonicalised.{Breaks, Stops}
 use Rattle.fast_canon.proofs.Outputs.{Appends-kept, Appends-nil}
 use Rattle.fast_canon.proofs.Relayings.{carried_reached, is_end, no_longer, summary_is}
 use Rattle.fast_canon.proofs.canonical.canonicalise.Goals as goal

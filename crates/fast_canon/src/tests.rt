@@ -1,0 +1,147 @@
+//! Streams through the calls.
+
+ghost use Rattle.std.specs.Prelude.{◌≤◌};
+
+use crate::canonical::{canonicalise, check};
+use crate::fault::CanonFault;
+use crate::summary::Summary;
+use fast_decoder::{Cause, Fault, Place};
+use fast_io::{Counted, ScriptInput, ScriptOutput};
+use fast_template::{LoadFault, TemplateSet};
+use std::alloc::{AllocError, Global};
+use std::process::Abort;
+
+// The template of the worked quotes.
+const QUOTE: &str = r#"{"templates":[{"name":"Quote","id":1,"instructions":[
+ {"kind":"uInt32","name":"Seq","operator":"increment"},
+ {"kind":"string","name":"Sym","operator":"copy"},
+ {"kind":"decimal","name":"Px","operator":"delta"},
+ {"kind":"uInt32","name":"Qty","presence":"optional","operator":"copy"}]}]}"#;
+
+// Two quotes, the second one spelled out, and its canonical bytes.
+const TWO: &[u8] = b"\xf0\x81\x81\x41\xc2\xfe\x00\xe4\xf8\x81\x82\x41\xc2\x80\x81\x80";
+
+const CANONICAL: &[u8] = b"\xf0\x81\x81\x41\xc2\xfe\x00\xe4\x80\x80\x81";
+
+fn quotes(alloc: Global) -> Result<TemplateSet, LoadFault> {
+    TemplateSet::from_json(alloc, QUOTE.as_bytes())
+}
+
+// Canonicalises a stream that comes in steps, and checks it.
+fn run(
+    alloc: Global,
+    set: &TemplateSet,
+    stream: &[u8],
+    step: usize,
+    out: &mut ScriptOutput,
+) -> (Result<Summary, CanonFault>, Result<Summary, CanonFault>)
+    requires { 1 ≤ step }
+{
+    let mut reader = Counted::new(ScriptInput::new(stream, step, 0));
+    let mut writer = Counted::new(out);
+    let answer = canonicalise(alloc, set, &mut reader, &mut writer, 100);
+    let mut reader = Counted::new(ScriptInput::new(stream, step, 0));
+    (answer, check(alloc, set, &mut reader, 100))
+}
+
+// A stream in steps of one size gives this output and this answer, of `check` too.
+fn row(
+    rt: &impl Abort,
+    alloc: Global,
+    stream: &[u8],
+    step: usize,
+    written: &[u8],
+    answer: Result<Summary, CanonFault>,
+) -> Result<(), AllocError>
+    requires { 1 ≤ step }
+{
+    let Ok(set) = quotes(alloc) else {
+        panic!(rt; "refused");
+    };
+    let mut out = ScriptOutput::new(alloc, 1000, false, false);
+    let (canonicalised, checked) = run(alloc, &set, stream, step, &mut out);
+    assert_eq!(rt; canonicalised, answer);
+    assert_eq!(rt; checked, answer);
+    assert_eq!(rt; out.bytes(), written);
+    Ok(())
+}
+
+fn counted(messages: u64, read: u64, written: u64) -> Result<Summary, CanonFault> {
+    Ok(Summary {
+        messages,
+        read,
+        written,
+    })
+}
+
+#[test]
+fn streams_to_their_end(rt: HostRuntime) -> Result<(), AllocError> {
+    let alloc = rt.alloc();
+    row(&rt, alloc, TWO, 1, CANONICAL, counted(2, 16, 11))?;
+    row(&rt, alloc, TWO, 3, CANONICAL, counted(2, 16, 11))?;
+    row(&rt, alloc, TWO, 4096, CANONICAL, counted(2, 16, 11))?;
+    row(&rt, alloc, CANONICAL, 2, CANONICAL, counted(2, 11, 11))?;
+    row(&rt, alloc, &[], 1, &[], counted(0, 0, 0))?;
+    Ok(())
+}
+
+fn refused(cause: Cause, message: u64, offset: u64, template: u32, instruction: u32) -> Fault {
+    let place = Place {
+        message,
+        offset,
+        template,
+        instruction,
+    };
+    Fault { cause, place }
+}
+
+#[test]
+fn streams_that_are_refused(rt: HostRuntime) -> Result<(), AllocError> {
+    let alloc = rt.alloc();
+    let first = refused(Cause::D5, 1, 1, 0, 0);
+    row(&rt, alloc, &[0x80], 1, &[], Err(CanonFault::Stream(first)))?;
+    // what was read before the fault is written; the bytes of the message that is open are not
+    let second = refused(Cause::Truncated, 2, 13, 1, 3);
+    let cut = &TWO[..14];
+    let before = &CANONICAL[..8];
+    row(&rt, alloc, cut, 3, before, Err(CanonFault::Stream(second)))?;
+    Ok(())
+}
+
+#[test]
+fn a_writer_that_fails(rt: HostRuntime) -> Result<(), AllocError> {
+    let alloc = rt.alloc();
+    let Ok(set) = quotes(alloc) else {
+        panic!(rt; "refused");
+    };
+    let mut out = ScriptOutput::new(alloc, 3, false, false);
+    let (answer, _) = run(alloc, &set, &TWO[..8], 8, &mut out);
+    assert_eq!(rt; answer, Err(CanonFault::Write));
+    assert_eq!(rt; out.bytes(), [0xf0, 0x81, 0x81].as_slice());
+    let mut out = ScriptOutput::new(alloc, 100, false, true);
+    let (answer, _) = run(alloc, &set, TWO, 8, &mut out);
+    assert_eq!(rt; answer, Err(CanonFault::Write));
+    assert_eq!(rt; out.bytes(), CANONICAL);
+    Ok(())
+}
+
+#[test]
+fn reads_that_are_used_up(rt: HostRuntime) -> Result<(), AllocError> {
+    let alloc = rt.alloc();
+    let Ok(set) = quotes(alloc) else {
+        panic!(rt; "refused");
+    };
+    let mut reader = Counted::new(ScriptInput::new(TWO, 4, 0));
+    let fault = refused(Cause::Turns, 2, 8, 0, 0);
+    assert_eq!(rt;
+        check(alloc, &set, &mut reader, 2),
+        Err(CanonFault::Stream(fault))
+    );
+    let mut reader = Counted::new(ScriptInput::new(TWO, 4, 2));
+    let fault = refused(Cause::Read, 1, 3, 1, 2);
+    assert_eq!(rt;
+        check(alloc, &set, &mut reader, 9),
+        Err(CanonFault::Stream(fault))
+    );
+    Ok(())
+}
