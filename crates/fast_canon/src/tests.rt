@@ -11,20 +11,26 @@ use fast_template::{LoadFault, TemplateSet};
 use std::alloc::{AllocError, Global};
 use std::process::Abort;
 
-// The template of the worked quotes.
-const QUOTE: &str = r#"{"templates":[{"name":"Quote","id":1,"instructions":[
+// Worked templates.
+const TEMPLATES: &str = r#"{"templates":[{"name":"Quote","id":1,"instructions":[
  {"kind":"uInt32","name":"Seq","operator":"increment"},
  {"kind":"string","name":"Sym","operator":"copy"},
  {"kind":"decimal","name":"Px","operator":"delta"},
- {"kind":"uInt32","name":"Qty","presence":"optional","operator":"copy"}]}]}"#;
+ {"kind":"uInt32","name":"Qty","presence":"optional","operator":"copy"}]},
+{"name":"Tail","id":8,"instructions":[
+ {"kind":"string","name":"S","presence":"optional","operator":"tail"}]},
+{"name":"Init","id":9,"instructions":[
+ {"kind":"string","name":"S","presence":"optional","operator":"tail","value":"ab"}]},
+{"name":"Delta","id":10,"instructions":[
+ {"kind":"string","name":"S","operator":"delta"}]}]}"#;
 
 // Two quotes, the second one spelled out, and its canonical bytes.
 const TWO: &[u8] = b"\xf0\x81\x81\x41\xc2\xfe\x00\xe4\xf8\x81\x82\x41\xc2\x80\x81\x80";
 
 const CANONICAL: &[u8] = b"\xf0\x81\x81\x41\xc2\xfe\x00\xe4\x80\x80\x81";
 
-fn quotes(alloc: Global) -> Result<TemplateSet, LoadFault> {
-    TemplateSet::from_json(alloc, QUOTE.as_bytes())
+fn templates(alloc: Global) -> Result<TemplateSet, LoadFault> {
+    TemplateSet::from_json(alloc, TEMPLATES.as_bytes())
 }
 
 // Canonicalises a stream that comes in steps, and checks it.
@@ -55,7 +61,7 @@ fn row(
 ) -> Result<(), AllocError>
     requires { 1 ≤ step }
 {
-    let Ok(set) = quotes(alloc) else {
+    let Ok(set) = templates(alloc) else {
         panic!(rt; "refused");
     };
     let mut out = ScriptOutput::new(alloc, 1000, false, false);
@@ -111,7 +117,7 @@ fn streams_that_are_refused(rt: HostRuntime) -> Result<(), AllocError> {
 #[test]
 fn a_writer_that_fails(rt: HostRuntime) -> Result<(), AllocError> {
     let alloc = rt.alloc();
-    let Ok(set) = quotes(alloc) else {
+    let Ok(set) = templates(alloc) else {
         panic!(rt; "refused");
     };
     let mut out = ScriptOutput::new(alloc, 3, false, false);
@@ -128,7 +134,7 @@ fn a_writer_that_fails(rt: HostRuntime) -> Result<(), AllocError> {
 #[test]
 fn reads_that_are_used_up(rt: HostRuntime) -> Result<(), AllocError> {
     let alloc = rt.alloc();
-    let Ok(set) = quotes(alloc) else {
+    let Ok(set) = templates(alloc) else {
         panic!(rt; "refused");
     };
     let mut reader = Counted::new(ScriptInput::new(TWO, 4, 0));
@@ -143,5 +149,34 @@ fn reads_that_are_used_up(rt: HostRuntime) -> Result<(), AllocError> {
         check(alloc, &set, &mut reader, 9),
         Err(CanonFault::Stream(fault))
     );
+    Ok(())
+}
+
+// Streams that are longer than their canonical bytes, and two that are as long and not the same.
+#[test]
+fn no_stream_is_shorter(rt: HostRuntime) -> Result<(), AllocError> {
+    let alloc = rt.alloc();
+    let quote = &CANONICAL[..8];
+    let overlong = b"\xf0\x81\x00\x00\x81\x41\xc2\xfe\x00\xe4";
+    row(&rt, alloc, overlong, 4, quote, counted(1, 10, 8))?;
+    let wide_map = b"\x70\x00\x80\x81\x81\x41\xc2\xfe\x00\xe4";
+    row(&rt, alloc, wide_map, 4, quote, counted(1, 10, 8))?;
+    let bit_not_asked_for = b"\xf1\x81\x81\x41\xc2\xfe\x00\xe4";
+    row(&rt, alloc, bit_not_asked_for, 4, quote, counted(1, 8, 8))?;
+    let tail = b"\xe0\x88\x78\x61\xe2\xa0\x00\x00\x00\xe2";
+    let least = b"\xe0\x88\x78\x61\xe2\xa0\x78\x00\xe2";
+    row(&rt, alloc, tail, 4, least, counted(2, 10, 9))?;
+    let tail = b"\xe0\x89\x80\xa0\x00\x80";
+    row(
+        &rt,
+        alloc,
+        tail,
+        4,
+        b"\xe0\x89\x80\xa0\xe2",
+        counted(2, 6, 5),
+    )?;
+    let delta = b"\xc0\x8a\x80\x47\x45\x48\xb6\x80\x82\x4d\xb6\x80\xfd\x45\xd3\x80\xff\x80";
+    let least = b"\xc0\x8a\x80\x47\x45\x48\xb6\x80\x82\x4d\xb6\x80\xfd\x45\xd3\x80\x80\x80";
+    row(&rt, alloc, delta, 4, least, counted(4, 18, 18))?;
     Ok(())
 }
