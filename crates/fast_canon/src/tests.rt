@@ -17,6 +17,10 @@ const TEMPLATES: &str = r#"{"templates":[{"name":"Quote","id":1,"instructions":[
  {"kind":"string","name":"Sym","operator":"copy"},
  {"kind":"decimal","name":"Px","operator":"delta"},
  {"kind":"uInt32","name":"Qty","presence":"optional","operator":"copy"}]},
+{"name":"Opt","id":3,"instructions":[
+ {"kind":"decimal","name":"Px","presence":"optional",
+  "exponent":{"operator":"default","value":"2"},"mantissa":{"operator":"copy"}},
+ {"kind":"uInt32","name":"Flag","operator":"copy"}]},
 {"name":"Tail","id":8,"instructions":[
  {"kind":"string","name":"S","presence":"optional","operator":"tail"}]},
 {"name":"Init","id":9,"instructions":[
@@ -163,6 +167,9 @@ fn no_stream_is_shorter(rt: HostRuntime) -> Result<(), AllocError> {
     row(&rt, alloc, wide_map, 4, quote, counted(1, 10, 8))?;
     let bit_not_asked_for = b"\xf1\x81\x81\x41\xc2\xfe\x00\xe4";
     row(&rt, alloc, bit_not_asked_for, 4, quote, counted(1, 8, 8))?;
+    let parts = b"\xf0\x83\x80\x85\xb0\x83\x39\x45\xa3";
+    let least = b"\xf0\x83\x80\x85\x90\x39\x45\xa3";
+    row(&rt, alloc, parts, 4, least, counted(2, 9, 8))?;
     let tail = b"\xe0\x88\x78\x61\xe2\xa0\x00\x00\x00\xe2";
     let least = b"\xe0\x88\x78\x61\xe2\xa0\x78\x00\xe2";
     row(&rt, alloc, tail, 4, least, counted(2, 10, 9))?;
