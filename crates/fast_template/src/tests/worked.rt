@@ -225,5 +225,6 @@ fn the_worked_templates_have_these_flat_lists(rt: HostRuntime) -> Result<(), All
         assert_eq!(rt; list.as_str(), expected);
     }
     assert!(rt; set.find(17).is_none());
+    assert_eq!(rt; set.name(17), None);
     Ok(())
 }
