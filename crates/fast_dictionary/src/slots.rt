@@ -53,10 +53,12 @@ impl Entries for SlotEntries<'_> {
 
     ghost takes_memory = { false };
 
+    #[inline(always)]
     fn get(&self, key: &Key) -> EntryRef<'_> {
         self.entries[key.slot as usize].view()
     }
 
+    #[inline(always)]
     fn entry_mut(&mut self, key: &Key) -> Result<&mut Entry, AllocError> {
         Ok(&mut self.entries[key.slot as usize])
     }

@@ -8,6 +8,7 @@ use crate::kind::{Operator, Presence};
 use crate::resolved::{FieldPart, Flat};
 
 /// Whether a part asks for a bit of the presence map.
+#[inline(always)]
 pub fn part_needs_bit(part: &FieldPart) -> bool
     ensures { result ≡ part_needs_bit_of part.now }
 {
@@ -21,6 +22,7 @@ pub fn part_needs_bit(part: &FieldPart) -> bool
 /// Whether the first part of an instruction asks for a bit of the presence map.
 ///
 /// An optional group asks for one too. A mantissa's own bit is asked of its part.
+#[inline(always)]
 pub fn needs_bit(instruction: &Flat) -> bool
     ensures { result ≡ needs_bit_of (instruction_of instruction.now) }
 {
@@ -36,6 +38,7 @@ pub fn needs_bit(instruction: &Flat) -> bool
 ///
 /// It does exactly if one directly in it can take a bit, be it a mantissa's.
 #[tactic(auto, using(crate::proofs::Maps::has_map_any))]
+#[inline(always)]
 pub fn has_map(instructions: &[Flat]) -> bool
     ensures { result ≡ has_map_of (list_of instructions.now) }
 {
@@ -43,6 +46,7 @@ pub fn has_map(instructions: &[Flat]) -> bool
 }
 
 // Whether some instruction can take a bit of the map around it.
+#[inline(always)]
 fn some_takes_bit(instructions: &[Flat]) -> bool
     ensures { result ≡ list_any (λ i. takes_bit_of (instruction_of i)) instructions.now }
 {
@@ -52,6 +56,7 @@ fn some_takes_bit(instructions: &[Flat]) -> bool
 }
 
 // Whether an instruction can take a bit of the map around it.
+#[inline(always)]
 fn takes_bit(instruction: &Flat) -> bool
     ensures { result ≡ takes_bit_of (instruction_of instruction.now) }
 {

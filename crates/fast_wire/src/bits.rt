@@ -23,6 +23,7 @@ impl Model for ShortBits {
 
 impl ShortBits {
     /// The last `left` bits of a word.
+    #[inline(always)]
     pub(crate) fn new(word: u64, left: usize) -> ShortBits
         requires { left ≤ 63 }
         ensures { result ≡ word_bits left word }
@@ -31,6 +32,7 @@ impl ShortBits {
     }
 
     /// Whether no bit is left.
+    #[inline(always)]
     pub(crate) fn is_empty(&self) -> bool
         ensures { IsTrue result ↔ (self.now ≡ []) }
     {
@@ -38,6 +40,7 @@ impl ShortBits {
     }
 
     /// The next bit, or false past the end.
+    #[inline(always)]
     pub(crate) fn first(&self) -> bool
         ensures { result ≡ next_bit self.now }
     {
@@ -48,6 +51,7 @@ impl ShortBits {
     }
 
     /// The next bit, or false past the end, which is taken.
+    #[inline(always)]
     pub(crate) fn take(&mut self) -> bool
         ensures bit { result ≡ next_bit self.old }
         ensures rest { self.new ≡ later_bits self.old }
@@ -60,6 +64,7 @@ impl ShortBits {
     }
 
     /// Whether a bit that is left is 1.
+    #[inline(always)]
     pub(crate) fn left_set(&self) -> bool
         ensures { IsTrue result ↔ HasSetBit self.now }
     {
@@ -83,6 +88,7 @@ impl Model for LongBits {
 }
 
 /// Bit `i` of the groups of these bytes.
+#[inline(always)]
 fn group_bit(bytes: &[u8], i: usize) -> bool
     requires { i < 7 * length bytes.now }
     ensures { result ≡ bit_at (bits_of (groups bytes.now)) i }
@@ -93,6 +99,7 @@ fn group_bit(bytes: &[u8], i: usize) -> bool
 
 impl LongBits {
     /// All bits of these groups.
+    #[inline(always)]
     pub(crate) fn new(bytes: Vec<u8>) -> LongBits
         requires { length bytes.items ≤ 256 }
         ensures { result ≡ bits_of (groups bytes.items) }
@@ -101,6 +108,7 @@ impl LongBits {
     }
 
     /// The next bit, or false past the end; it stays the next.
+    #[inline(always)]
     pub(crate) fn first(&self) -> bool
         ensures { result ≡ next_bit self.now }
     {
@@ -111,6 +119,7 @@ impl LongBits {
     }
 
     /// The next bit, or false past the end.
+    #[inline(always)]
     pub(crate) fn take(&mut self) -> bool
         ensures bit { result ≡ next_bit self.old }
         ensures rest { self.new ≡ later_bits self.old }
@@ -123,6 +132,7 @@ impl LongBits {
     }
 
     /// Whether a bit that is not yet taken is 1.
+    #[inline(always)]
     pub(crate) fn left_set(&self) -> bool
         ensures { IsTrue result ↔ HasSetBit self.now }
     {
