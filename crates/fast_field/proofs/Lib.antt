@@ -4,7 +4,9 @@ pub mod TypeRows
 pub mod LimitRows
 pub mod LongRows
 pub mod RefusalRows
+pub mod ValueFaults
 pub mod NoMemory
+pub mod Waits
 pub mod FieldsGoOn
 pub mod ValuesWithin
 pub mod FieldsWithin

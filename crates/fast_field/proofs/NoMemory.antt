@@ -1,7 +1,6 @@
 -- Reading answers no want of memory: that is an answer of calls alone.
-use Rattle.std.proofs.Common.{◌≡◌, ℕ, zero, suc, Bool, true, false, List, [], ◌∷◌, length, Result, Ok, Err, refl}
-use Rattle.std.specs.Prelude.{ℤ, ◌+ℤ◌, nat_le, nat_lt, if◌then◌else◌, Option, Some, None}
-use Rattle.std.specs.Str.{is_utf8}
+use Rattle.std.proofs.Common.{ℕ, zero, suc, Bool, true, false, List, [], ◌∷◌, length, Result, Ok, Err, refl}
+use Rattle.std.specs.Prelude.{ℤ, ◌+ℤ◌, nat_le, nat_lt}
 use Rattle.fast_wire.specs.Entity.{groups}
 use Rattle.fast_wire.specs.Nullable.{units}
 use Rattle.fast_wire.specs.Reading.{◌>>=◌, entity_at, unsigned_at, signed_at, unsigned_nullable_at, signed_nullable_at, characters, nullable_characters, within_limit, ascii_at, ascii_nullable_at, bytes_at, vector_at, behind_length, vector_nullable_at}
@@ -9,42 +8,23 @@ use Rattle.fast_wire.specs.declared.fault.WireFault.{WireFault}
 use Rattle.fast_wire.specs.declared.fault.WireFault.TheVariants as wire
 use Rattle.fast_wire.specs.declared.nullable.Nullable.{Nullable}
 use Rattle.fast_wire.specs.declared.nullable.Nullable.TheVariants.{Null, Value}
-use Rattle.fast_template.specs.Scalar.{is_of, in_range, exponent_in_range}
+use Rattle.fast_template.specs.Scalar.{in_range, exponent_in_range}
 use Rattle.fast_template.specs.declared.kind.Kind.{Kind}
 use Rattle.fast_template.specs.declared.kind.Kind.TheVariants as kind
 use Rattle.fast_template.specs.declared.kind.Operator.{Operator}
 use Rattle.fast_template.specs.declared.kind.Operator.TheVariants as operator
 use Rattle.fast_template.specs.declared.kind.Part.{Part}
-use Rattle.fast_template.specs.declared.kind.Part.TheVariants as part
 use Rattle.fast_template.specs.declared.kind.Presence.{Presence}
 use Rattle.fast_template.specs.declared.kind.Presence.TheVariants.{Mandatory, Optional}
 use Rattle.fast_template.specs.declared.resolved.FieldPart.{FieldPart}
-use Rattle.fast_template.specs.declared.scalar.Scalar.{Scalar}
 use Rattle.fast_dictionary.specs.declared.entry.Entry.{Entry}
-use Rattle.fast_dictionary.specs.declared.entry.Entry.TheVariants.{Undefined, Empty, Assigned}
 use Rattle.fast_field.specs.declared.fault.FieldFault.{FieldFault}
 use Rattle.fast_field.specs.declared.fault.FieldFault.TheVariants as fault
-use Rattle.fast_field.specs.Values.{is_unsigned, integer_of, exponent_of, mantissa_of, units_of}
-use Rattle.fast_field.specs.Bases.{kept_of, start_of, delta_base, tail_base, absent_or, initial_or, repeated, predicted}
-use Rattle.fast_field.specs.Deltas.{removed_of, put_together, ended_by}
-use Rattle.fast_field.specs.Fields.{within_part}
-use Rattle.fast_field.specs.FieldReading.{in_field, check, as_value, unless_null, integer_at, part_at, units_at, range_fault, integer_value, decimal_value, unit_value, limited_value, integer_spelled_at, mantissa_behind, decimal_spelled_at, units_spelled_at, spelled_at, integer_sum, integer_delta_at, mantissa_delta_behind, decimal_delta_at, new_part_behind, unit_delta_at, delta_at, ended_value, tail_at, whole_at, predicted_at, row_at, part_checked, field_at, IsFieldFault}
-
--- ---- steps
-
-abbrev pub IsOther : {A F : Type 0} → F → Result A F → Type 0
-IsOther f r = r ≡ Err f → ⊥
-
-pub other_then : {A B F : Type 0} (f : F) (r : Result A F) (k : A → Result B F) → IsOther f r → ((x : A) → IsOther f (k x)) → IsOther f (r >>= k)
-other_then f (Ok x) k h l e = l x e
-other_then f (Err d) k h l e = h cc
-
-pub other_if : {A F : Type 0} (f : F) (t : Bool) (r s : Result A F) → IsOther f r → IsOther f s → IsOther f (if t then r else s)
-other_if f true r s h l e = h e
-other_if f false r s h l e = l e
-
-pub done : {A F : Type 0} (f : F) (x : A) → IsOther f (Ok x)
-done f x e = absurd cc
+use Rattle.fast_field.specs.Values.{is_unsigned, exponent_of, mantissa_of, units_of}
+use Rattle.fast_field.specs.Bases.{delta_base, predicted}
+use Rattle.fast_field.specs.Deltas.{removed_of, put_together}
+use Rattle.fast_field.specs.FieldReading.{in_field, check, integer_at, part_at, units_at, integer_spelled_at, mantissa_behind, decimal_spelled_at, units_spelled_at, spelled_at, integer_delta_at, mantissa_delta_behind, decimal_delta_at, new_part_behind, unit_delta_at, delta_at, tail_at, whole_at, predicted_at, row_at, part_checked, field_at, IsFieldFault}
+use Rattle.fast_field.proofs.ValueFaults.{IsOther, other_then, other_if, done, value, null_or, tested, integer_made, decimal_made, unit_made, few_made, base_of_delta, foretold, summed, ended, part_allowed}
 
 -- ---- forms of bytes
 
@@ -123,40 +103,6 @@ as_field (Err wire.Range) h e = cc
 as_field (Err wire.NotUtf8) h e = cc
 as_field (Err wire.Memory) h e = h refl
 
-tested : (t : Bool) (f : FieldFault) → IsNoWant {A = Unit {0}} (Err f) → IsNoWant (check t f)
-tested true f h e = cc
-tested false f h e = h e
-
-err_D2 : {A : Type 0} → IsNoWant {A = A} (Err fault.D2)
-err_D2 e = cc
-
-err_D4 : {A : Type 0} → IsNoWant {A = A} (Err fault.D4)
-err_D4 e = cc
-
-err_D5 : {A : Type 0} → IsNoWant {A = A} (Err fault.D5)
-err_D5 e = cc
-
-err_D6 : {A : Type 0} → IsNoWant {A = A} (Err fault.D6)
-err_D6 e = cc
-
-err_D7 : {A : Type 0} → IsNoWant {A = A} (Err fault.D7)
-err_D7 e = cc
-
-err_R1 : {A : Type 0} → IsNoWant {A = A} (Err fault.R1)
-err_R1 e = cc
-
-err_R2 : {A : Type 0} → IsNoWant {A = A} (Err fault.R2)
-err_R2 e = cc
-
-err_Limit : {A : Type 0} → IsNoWant {A = A} (Err fault.Limit)
-err_Limit e = cc
-
-range : {A : Type 0} (p : Part) → IsNoWant {A = A} (Err (range_fault p))
-range part.Whole = err_D2
-range part.Exponent = err_R1
-range part.Mantissa = err_R1
-range part.Length = err_D2
-
 integer : (u : Bool) (p : Presence) (bytes : List ℕ) → IsNoWant (integer_at u p bytes)
 unfolding integer_at
 integer true Mandatory bytes = other_then fault.Memory (in_field (unsigned_at bytes)) _ (as_field (unsigned_at bytes) (unsigned bytes)) (λ x. done fault.Memory _)
@@ -175,113 +121,59 @@ string k Mandatory bytes = other_then fault.Memory (part_at k bytes) _ (new_part
 string kind.Ascii Optional bytes = as_field (ascii_nullable_at bytes) (ascii_nullable bytes)
 string k Optional bytes = as_field (vector_nullable_at bytes) (vector_nullable bytes)
 
--- ---- values
-
-integer_made : (pt : Part) (k : Kind) (z : ℤ) → IsNoWant (integer_value pt k z)
-unfolding integer_value
-integer_made pt k z = other_if fault.Memory (in_range k z) _ _ (done fault.Memory _) (range pt)
-
-decimal_made : (e m : ℤ) → IsNoWant (decimal_value e m)
-unfolding decimal_value
-decimal_made e m = other_if fault.Memory (in_range kind.Int64 m) _ _ (done fault.Memory _) err_R1
-
-unit_made : (k : Kind) (s : List ℕ) → IsNoWant (unit_value k s)
-unfolding unit_value
-unit_made kind.Unicode s = other_if fault.Memory (is_utf8 s) _ _ (done fault.Memory _) err_R2
-unit_made k s = done fault.Memory _
-
-few_made : (k : Kind) (s : List ℕ) → IsNoWant (limited_value k s)
-unfolding limited_value
-few_made k s = other_if fault.Memory (nat_lt 65535 (length s)) _ _ err_Limit (unit_made k s)
-
-value : (r : Result Scalar FieldFault) (rest : List ℕ) → IsNoWant r → IsNoWant (as_value r rest)
-value r rest h = other_then fault.Memory r _ h (λ v. done fault.Memory _)
-
-null_or : {A : Type 0} (x : Nullable A) (rest : List ℕ) (f : A → List ℕ → Result (Option Scalar × List ℕ) FieldFault) → ((x : A) (rest : List ℕ) → IsNoWant (f x rest)) → IsNoWant (unless_null (x, rest) f)
-null_or Null rest f h = done fault.Memory _
-null_or (Value x) rest f h = h x rest
-
 -- ---- what stands whole
 
 spelled : (pt : Part) (k : Kind) (p : Presence) (bytes : List ℕ) → IsNoWant (integer_spelled_at pt k p bytes)
 unfolding integer_spelled_at
-spelled pt k p bytes = other_then fault.Memory (integer_at (is_unsigned k) p bytes) _ (integer (is_unsigned k) p bytes) (λ z. null_or z.0 z.1 _ (λ z rest. value _ rest (integer_made pt k z)))
+spelled pt k p bytes = other_then fault.Memory (integer_at (is_unsigned k) p bytes) _ (integer (is_unsigned k) p bytes) (λ z. null_or fault.Memory z.0 z.1 _ (λ z rest. value fault.Memory _ rest (integer_made fault.Memory tt pt k z)))
 
 mantissa : (e : ℤ) (rest : List ℕ) → IsNoWant (mantissa_behind e rest)
 unfolding mantissa_behind
 mantissa e rest =
-    other_then fault.Memory (check (exponent_in_range e) fault.R1) _ (tested (exponent_in_range e) fault.R1 err_R1)
-    (λ ok. other_then fault.Memory (in_field (signed_at rest)) _ (as_field (signed_at rest) (signed rest)) (λ m. value _ m.1 (decimal_made e m.0)))
+    other_then fault.Memory (check (exponent_in_range e) fault.R1) _ (tested fault.Memory tt (exponent_in_range e) fault.R1 (λ h. h))
+    (λ ok. other_then fault.Memory (in_field (signed_at rest)) _ (as_field (signed_at rest) (signed rest)) (λ m. value fault.Memory _ m.1 (decimal_made fault.Memory tt e m.0)))
 
 whole : (pt : Part) (k : Kind) (p : Presence) (bytes : List ℕ) → IsNoWant (spelled_at pt k p bytes)
 unfolding spelled_at decimal_spelled_at units_spelled_at
-whole pt kind.Decimal p bytes = other_then fault.Memory (integer_at false p bytes) _ (integer false p bytes) (λ e. null_or e.0 e.1 _ mantissa)
-whole pt kind.Ascii p bytes = other_then fault.Memory (units_at kind.Ascii p bytes) _ (string kind.Ascii p bytes) (λ s. null_or s.0 s.1 _ (λ s rest. value _ rest (unit_made kind.Ascii s)))
-whole pt kind.Unicode p bytes = other_then fault.Memory (units_at kind.Unicode p bytes) _ (string kind.Unicode p bytes) (λ s. null_or s.0 s.1 _ (λ s rest. value _ rest (unit_made kind.Unicode s)))
-whole pt kind.Bytes p bytes = other_then fault.Memory (units_at kind.Bytes p bytes) _ (string kind.Bytes p bytes) (λ s. null_or s.0 s.1 _ (λ s rest. value _ rest (unit_made kind.Bytes s)))
+whole pt kind.Decimal p bytes = other_then fault.Memory (integer_at false p bytes) _ (integer false p bytes) (λ e. null_or fault.Memory e.0 e.1 _ mantissa)
+whole pt kind.Ascii p bytes = other_then fault.Memory (units_at kind.Ascii p bytes) _ (string kind.Ascii p bytes) (λ s. null_or fault.Memory s.0 s.1 _ (λ s rest. value fault.Memory _ rest (unit_made fault.Memory tt kind.Ascii s)))
+whole pt kind.Unicode p bytes = other_then fault.Memory (units_at kind.Unicode p bytes) _ (string kind.Unicode p bytes) (λ s. null_or fault.Memory s.0 s.1 _ (λ s rest. value fault.Memory _ rest (unit_made fault.Memory tt kind.Unicode s)))
+whole pt kind.Bytes p bytes = other_then fault.Memory (units_at kind.Bytes p bytes) _ (string kind.Bytes p bytes) (λ s. null_or fault.Memory s.0 s.1 _ (λ s rest. value fault.Memory _ rest (unit_made fault.Memory tt kind.Bytes s)))
 whole pt k p bytes = spelled pt k p bytes
-
--- ---- entries
-
-kept : (i : FieldPart) (v : Scalar) → IsNoWant (kept_of i v)
-kept i v = other_if fault.Memory (is_of i.kind v) (Ok v) (Err fault.D4) (done fault.Memory v) err_D4
-
-base_of_delta : (i : FieldPart) (e : Entry) → IsNoWant (delta_base i e)
-base_of_delta i Undefined = done fault.Memory (start_of i)
-base_of_delta i Empty = err_D6
-base_of_delta i (Assigned v) = kept i v
-
-base_of_tail : (i : FieldPart) (e : Entry) → IsNoWant (tail_base i e)
-base_of_tail i Undefined = done fault.Memory (start_of i)
-base_of_tail i Empty = done fault.Memory (start_of i)
-base_of_tail i (Assigned v) = kept i v
-
-absent : (f : FieldFault) (p : Presence) → IsNoWant {A = Option Scalar} (Err f) → IsNoWant (absent_or f p)
-absent f Mandatory h = h
-absent f Optional h = done fault.Memory None
-
-initial : (i : FieldPart) (v : Option Scalar) → IsNoWant (initial_or fault.D5 i v)
-initial i None = absent fault.D5 i.presence err_D5
-initial i (Some v) = done fault.Memory (Some v)
-
-foretold : (i : FieldPart) (e : Entry) → IsNoWant (predicted i e)
-foretold i Undefined = initial i i.initial
-foretold i Empty = absent fault.D6 i.presence err_D6
-foretold i (Assigned v) = other_if fault.Memory (is_of i.kind v) (Ok (Some (repeated i.operator v))) (Err fault.D4) (done fault.Memory (Some (repeated i.operator v))) err_D4
 
 -- ---- deltas and tails
 
 number_delta : (i : FieldPart) (e : Entry) (bytes : List ℕ) → IsNoWant (integer_delta_at i e bytes)
-unfolding integer_delta_at integer_sum
+unfolding integer_delta_at
 number_delta i e bytes =
     other_then fault.Memory (integer_at false i.presence bytes) _ (integer false i.presence bytes)
-    (λ d. null_or d.0 d.1 _ (λ d rest. value _ rest (other_then fault.Memory (delta_base i e) _ (base_of_delta i e) (λ base. integer_made i.part i.kind (integer_of base +ℤ d)))))
+    (λ d. null_or fault.Memory d.0 d.1 _ (λ d rest. value fault.Memory _ rest (summed fault.Memory tt i e d)))
 
 mantissa_delta : (e base : ℤ) (rest : List ℕ) → IsNoWant (mantissa_delta_behind e base rest)
 unfolding mantissa_delta_behind
 mantissa_delta e base rest =
-    other_then fault.Memory (check (exponent_in_range e) fault.R1) _ (tested (exponent_in_range e) fault.R1 err_R1)
-    (λ ok. other_then fault.Memory (in_field (signed_at rest)) _ (as_field (signed_at rest) (signed rest)) (λ d. value _ d.1 (decimal_made e (base +ℤ d.0))))
+    other_then fault.Memory (check (exponent_in_range e) fault.R1) _ (tested fault.Memory tt (exponent_in_range e) fault.R1 (λ h. h))
+    (λ ok. other_then fault.Memory (in_field (signed_at rest)) _ (as_field (signed_at rest) (signed rest)) (λ d. value fault.Memory _ d.1 (decimal_made fault.Memory tt e (base +ℤ d.0))))
 
 decimal_delta : (i : FieldPart) (e : Entry) (bytes : List ℕ) → IsNoWant (decimal_delta_at i e bytes)
 unfolding decimal_delta_at
 decimal_delta i e bytes =
     other_then fault.Memory (integer_at false i.presence bytes) _ (integer false i.presence bytes)
-    (λ d. null_or d.0 d.1 _ (λ d rest. other_then fault.Memory (delta_base i e) _ (base_of_delta i e) (λ base. mantissa_delta (exponent_of base +ℤ d) (mantissa_of base) rest)))
+    (λ d. null_or fault.Memory d.0 d.1 _ (λ d rest. other_then fault.Memory (delta_base i e) _ (base_of_delta fault.Memory tt i e) (λ base. mantissa_delta (exponent_of base +ℤ d) (mantissa_of base) rest)))
 
 part_behind : (k : Kind) (removal : ℤ) (base rest : List ℕ) → IsNoWant (new_part_behind k removal base rest)
 unfolding new_part_behind
 part_behind k removal base rest =
-    other_then fault.Memory (check (nat_le (removed_of removal) (length base)) fault.D7) _ (tested (nat_le (removed_of removal) (length base)) fault.D7 err_D7)
-    (λ ok. other_then fault.Memory (part_at k rest) _ (new_part k rest) (λ s. value _ s.1 (few_made k (put_together removal base s.0))))
+    other_then fault.Memory (check (nat_le (removed_of removal) (length base)) fault.D7) _ (tested fault.Memory tt (nat_le (removed_of removal) (length base)) fault.D7 (λ h. h))
+    (λ ok. other_then fault.Memory (part_at k rest) _ (new_part k rest) (λ s. value fault.Memory _ s.1 (few_made fault.Memory tt k (put_together removal base s.0))))
 
 string_delta : (i : FieldPart) (e : Entry) (bytes : List ℕ) → IsNoWant (unit_delta_at i e bytes)
 unfolding unit_delta_at
 string_delta i e bytes =
     other_then fault.Memory (integer_at false i.presence bytes) _ (integer false i.presence bytes)
-    (λ removal. null_or removal.0 removal.1 _
-    (λ removal rest. other_then fault.Memory (check (in_range kind.Int32 removal) fault.D7) _ (tested (in_range kind.Int32 removal) fault.D7 err_D7)
-    (λ fits. other_then fault.Memory (delta_base i e) _ (base_of_delta i e) (λ base. part_behind i.kind removal (units_of base) rest))))
+    (λ removal. null_or fault.Memory removal.0 removal.1 _
+    (λ removal rest. other_then fault.Memory (check (in_range kind.Int32 removal) fault.D7) _ (tested fault.Memory tt (in_range kind.Int32 removal) fault.D7 (λ h. h))
+    (λ fits. other_then fault.Memory (delta_base i e) _ (base_of_delta fault.Memory tt i e) (λ base. part_behind i.kind removal (units_of base) rest))))
 
 delta : (k : Kind) (i : FieldPart) (e : Entry) (bytes : List ℕ) → IsNoWant (delta_at k i e bytes)
 unfolding delta_at
@@ -292,16 +184,16 @@ delta kind.Bytes i e bytes = string_delta i e bytes
 delta k i e bytes = number_delta i e bytes
 
 tail : (i : FieldPart) (e : Entry) (bytes : List ℕ) → IsNoWant (tail_at i e bytes)
-unfolding tail_at ended_value
+unfolding tail_at
 tail i e bytes =
     other_then fault.Memory (units_at i.kind i.presence bytes) _ (string i.kind i.presence bytes)
-    (λ t. null_or t.0 t.1 _ (λ t rest. value _ rest (other_then fault.Memory (tail_base i e) _ (base_of_tail i e) (λ base. few_made i.kind (ended_by (units_of base) t)))))
+    (λ t. null_or fault.Memory t.0 t.1 _ (λ t rest. value fault.Memory _ rest (ended fault.Memory tt i e t)))
 
 -- ---- the operators
 
 left_out : (i : FieldPart) (e : Entry) (bytes : List ℕ) → IsNoWant (predicted_at i e bytes)
 unfolding predicted_at
-left_out i e bytes = other_then fault.Memory (predicted i e) _ (foretold i e) (λ v. done fault.Memory _)
+left_out i e bytes = other_then fault.Memory (predicted i e) _ (foretold fault.Memory tt i e) (λ v. done fault.Memory _)
 
 stands : (i : FieldPart) (bytes : List ℕ) → IsNoWant (whole_at i bytes)
 unfolding whole_at
@@ -322,15 +214,7 @@ row operator.Delta i e bit bytes = delta i.kind i e bytes
 row operator.Tail i e false bytes = left_out i e bytes
 row operator.Tail i e true bytes = tail i e bytes
 
-checked : (p : Part) (v : Option Scalar) → IsNoWant (part_checked p v)
-unfolding part_checked
-checked p None = done fault.Memory _
-checked part.Exponent (Some v) = other_if fault.Memory (within_part part.Exponent v) _ _ (done fault.Memory _) err_R1
-checked part.Length (Some v) = other_if fault.Memory (within_part part.Length v) _ _ (done fault.Memory _) err_Limit
-checked part.Whole (Some v) = done fault.Memory _
-checked part.Mantissa (Some v) = done fault.Memory _
-
 pub field_no_memory : (i : FieldPart) (e : Entry) (bit : Bool) (bytes : List ℕ) → IsFieldFault i e bit bytes fault.Memory → ⊥
 unfolding field_at
 field_no_memory i e bit bytes =
-    other_then fault.Memory (row_at i.operator i e bit bytes) _ (row i.operator i e bit bytes) (λ x. other_then fault.Memory (part_checked i.part x.0) _ (checked i.part x.0) (λ v. done fault.Memory _))
+    other_then fault.Memory (row_at i.operator i e bit bytes) _ (row i.operator i e bit bytes) (λ x. other_then fault.Memory (part_checked i.part x.0) _ (part_allowed fault.Memory tt i.part x.0) (λ v. done fault.Memory _))

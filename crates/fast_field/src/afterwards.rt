@@ -15,6 +15,7 @@ use fast_template::{FieldPart, Operator, Scalar};
 use std::alloc::{AllocError, Global};
 
 /// Whether a value that bit 0 gives is the one that the entry has, and leaves it.
+#[inline(always)]
 pub(crate) fn is_repeated(instr: &FieldPart, kept: EntryRef) -> bool
     ensures { result ≡ true → (v : Option scalar.Scalar)
         → left_out_of instr.now.operator instr.now (entry_of kept.entry) v ≡ true
@@ -96,6 +97,7 @@ pub fn next_entry(
 
 /// Puts a value where it is kept, and answers where it lies then: a value of its own is moved into the entry, an
 /// initial one is copied, and one that is there stays. An absent one is passed to the caller.
+#[inline(always)]
 fn assign(
     alloc: Global,
     instr: &FieldPart,
@@ -125,6 +127,7 @@ fn assign(
 
 /// Makes an entry the one that a value leaves, and answers where the value lies then. An entry that the operator
 /// leaves is not touched. Memory only for the copy of an initial value; the entry is then as it was.
+#[inline(always)]
 pub(crate) fn settle(
     alloc: Global,
     instr: &FieldPart,

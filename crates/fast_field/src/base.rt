@@ -16,6 +16,7 @@ use fast_dictionary::EntryRef;
 use fast_template::{FieldPart, Kind, Operator, Presence, Scalar};
 
 /// Whether a value is of a type.
+#[inline(always)]
 pub(crate) fn is_of_kind(kind: Kind, value: &Scalar) -> bool
     ensures { result ≡ is_of kind value.now }
 {
@@ -32,6 +33,7 @@ pub(crate) fn is_of_kind(kind: Kind, value: &Scalar) -> bool
 }
 
 /// The number of an integer; of another value 0.
+#[inline(always)]
 pub(crate) fn integer(value: &Scalar) -> i128
     ensures value { result ≡ integer_of value.now }
     ensures above { negsuc (2 ^ 64) <ℤ result }
@@ -47,6 +49,7 @@ pub(crate) fn integer(value: &Scalar) -> i128
 }
 
 /// The characters or bytes of a string or vector; of another value none.
+#[inline(always)]
 pub(crate) fn units(value: &Scalar) -> &[u8]
     ensures { result.now ≡ units_of value.now }
 {
@@ -71,6 +74,7 @@ pub(crate) fn decimal(value: &Scalar) -> (i32, i64)
 
 /// One more, and after the greatest number of the type its least. (Increment is for integers; of another value the
 /// definition makes 0.)
+#[inline(always)]
 fn one_more(value: &Scalar) -> Scalar
     ensures { result ≡ increased value.now }
 {
@@ -87,6 +91,7 @@ fn one_more(value: &Scalar) -> Scalar
 
 /// What bit 0 of copy, increment and tail gives.
 #[tactic(auto, using(crate::proofs::BaseSteps::base_steps))]
+#[inline(always)]
 pub(crate) fn predicted_value(instr: &FieldPart, kept: EntryRef) -> Result<Found, FieldFault>
     ensures lies { IfOk result (CanLie (entry_of kept.entry)) }
     ensures gives { Answers (value_found instr.now (entry_of kept.entry))
@@ -117,6 +122,7 @@ pub(crate) fn predicted_value(instr: &FieldPart, kept: EntryRef) -> Result<Found
 }
 
 /// The value that a delta changes; none stands for 0, or for what is empty.
+#[inline(always)]
 pub(crate) fn base_of_delta<'a>(
     instr: &'a FieldPart,
     kept: EntryRef<'a>,
@@ -159,6 +165,7 @@ pub(crate) fn base_of_tail<'a>(
 
 /// The number of a base.
 #[tactic(auto, using(crate::proofs::BaseSteps::base_steps))]
+#[inline(always)]
 pub(crate) fn base_number(base: Option<&Scalar>) -> i128
     ensures value { (k : kind.Kind)
         → result ≡ integer_of (base_or_default k (option_copied base.entry)) }

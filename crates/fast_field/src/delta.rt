@@ -32,6 +32,7 @@ use fast_wire::{Nullable, WireFault};
 use std::alloc::Global;
 
 /// The number that a delta makes of one of at most 64 bits.
+#[inline(always)]
 fn added(base: i128, delta: i128) -> i128
     requires above { negsuc (2 ^ 64) <ℤ base }
     requires below { base <ℤ pos (2 ^ 64) }
@@ -43,6 +44,7 @@ fn added(base: i128, delta: i128) -> i128
 
 /// What a base and a delta make.
 #[tactic(auto, using(crate::proofs::CallSteps::call_steps), unfolding(crate::specs::FieldReading::integer_sum))]
+#[inline(always)]
 fn sum(instr: &FieldPart, kept: EntryRef, delta: i128) -> Result<Scalar, FieldFault>
     requires kind { IsTrue (is_integer instr.now.kind) }
     requires range { IsSentRange delta }
@@ -54,6 +56,7 @@ fn sum(instr: &FieldPart, kept: EntryRef, delta: i128) -> Result<Scalar, FieldFa
 
 /// Reads what is added to an integer, and answers the sum.
 #[tactic(auto, using(crate::proofs::CallSteps::call_steps), unfolding(crate::specs::FieldReading::integer_delta_at))]
+#[inline(always)]
 fn read_integer_delta(
     instr: &FieldPart,
     kept: EntryRef,
@@ -206,6 +209,7 @@ fn read_unit_delta(
 
 /// Reads a delta, and answers the value that it makes and the place after it. Memory only for strings and vectors.
 #[tactic(auto, unfolding(crate::specs::FieldReading::delta_at))]
+#[inline(always)]
 pub(crate) fn read_delta(
     alloc: Global,
     instr: &FieldPart,
@@ -277,6 +281,7 @@ pub(crate) fn write_cut(
 }
 
 /// What is added to one number of at most 64 bits to make another.
+#[inline(always)]
 fn difference(value: i128, base: i128) -> i128
     requires value_above { negsuc (2 ^ 64) <ℤ value }
     requires value_below { value <ℤ pos (2 ^ 64) }
@@ -295,6 +300,7 @@ fn apart(value: i64, base: i64) -> i128
 }
 
 /// What is added to the exponent and the mantissa of one decimal to make another.
+#[inline(always)]
 fn differences(value: &Scalar, base: Option<&Scalar>) -> (i128, i128)
     ensures exponent { (k : kind_type.Kind) → result.0
         ≡ exponent_of value.now -ℤ exponent_of (base_or_default k (option_copied base.entry)) }
@@ -311,6 +317,7 @@ fn differences(value: &Scalar, base: Option<&Scalar>) -> (i128, i128)
 
 /// What makes a value of its base, in the fewest bytes.
 #[tactic(auto, using(crate::proofs::BaseSteps::base_steps))]
+#[inline(always)]
 pub(crate) fn delta_of<'a>(instr: &FieldPart, kept: EntryRef, value: &'a Scalar) -> Pieces<'a>
     requires judged { delta_refusal (delta_base instr.now (entry_of kept)) ≡ None }
     requires base { (base : scalar.Scalar) → delta_base instr.now (entry_of kept) ≡ Ok base

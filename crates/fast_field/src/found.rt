@@ -26,6 +26,7 @@ pub enum Found {
 
 impl Found {
     /// A value of its own, or none.
+    #[inline(always)]
     pub(crate) fn own(value: Option<Scalar>) -> Found
         ensures value { (i : part.FieldPart) (e : entry.Entry) → value_found i e result ≡ value }
         ensures lies { (e : entry.Entry) → CanLie e result }
@@ -37,6 +38,7 @@ impl Found {
     }
 
     /// The value, of the instruction and the entry on which it was found.
+    #[inline(always)]
     pub fn value<'a>(&'a self, instr: &'a FieldPart, kept: EntryRef<'a>) -> Option<&'a Scalar>
         ensures { option_copied result ≡ value_found instr.now (entry_of kept.entry) self.now }
     {
@@ -56,6 +58,7 @@ impl Found {
     /// # Errors
     ///
     /// Where memory is refused.
+    #[inline(always)]
     pub fn into_value(
         self,
         alloc: Global,

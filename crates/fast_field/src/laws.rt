@@ -56,6 +56,13 @@ pub fn no_fault_is_want_of_memory()
         → IsFieldFault i e bit bytes FieldFault.Memory → ⊥ }
 {}
 
+/// A field that waits for more bytes has few of them: at most ten of a subtraction length, ten of the
+/// length of a new part, and all but one of that part's 65,535.
+pub fn what_waits_is_short()
+    ensures { (i : FieldPart) (e : Entry) (bit : Bool) (bytes : List ℕ)
+        → IsFieldFault i e bit bytes FieldFault.NeedMore → length bytes ≤ 65554 }
+{}
+
 /// Each part of a sound set of templates is a field part; so a mandatory default has an initial value.
 pub fn parts_of_sets_are_field_parts()
     ensures parts { (set : TemplateList) → IsSound set

@@ -11,6 +11,7 @@ use fast_dictionary::EntryRef;
 use fast_template::{FieldPart, Operator, Presence, Scalar};
 
 /// Whether two fields are both absent, or have the same value.
+#[inline(always)]
 fn are_same(value: Option<&Scalar>, other: Option<&Scalar>) -> bool
     ensures { result ≡ is_same (option_copied value.entry) (option_copied other.entry) }
 {
@@ -24,6 +25,7 @@ fn are_same(value: Option<&Scalar>, other: Option<&Scalar>) -> bool
 }
 
 /// Whether a field may be absent.
+#[inline(always)]
 fn may_be_absent(presence: Presence) -> bool
     ensures { result ≡ is_optional presence }
 {
@@ -34,6 +36,7 @@ fn may_be_absent(presence: Presence) -> bool
 }
 
 /// Whether bit 0 of copy, increment and tail gives a value.
+#[inline(always)]
 fn is_predicted(instr: &FieldPart, kept: EntryRef, value: Option<&Scalar>) -> bool
     ensures { result ≡ gives_same (predicted instr.now (entry_of kept.entry))
         (option_copied value.entry) }
@@ -45,6 +48,7 @@ fn is_predicted(instr: &FieldPart, kept: EntryRef, value: Option<&Scalar>) -> bo
 }
 
 /// Whether bit 0 gives a value.
+#[inline(always)]
 pub(crate) fn is_left_out(instr: &FieldPart, kept: EntryRef, value: Option<&Scalar>) -> bool
     ensures { result ≡ left_out_of instr.now.operator instr.now (entry_of kept.entry)
         (option_copied value.entry) }

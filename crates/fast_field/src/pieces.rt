@@ -46,6 +46,7 @@ pub(crate) fn size_pieces(instr: &FieldPart, pieces: Pieces) -> usize
 }
 
 /// Appends the shortest form of these pieces, or nothing. Memory: a growth was refused.
+#[inline(always)]
 pub(crate) fn write_pieces(
     instr: &FieldPart,
     pieces: Pieces,

@@ -83,6 +83,7 @@ fn tell_range(value: Option<&Scalar>)
 }
 
 /// What the best form of a value is made of that bit 0 does not give.
+#[inline(always)]
 fn pieces_of<'a>(instr: &FieldPart, kept: EntryRef, value: &'a Scalar) -> Pieces<'a>
     requires judged { operator_refusal instr.now.operator instr.now (entry_of kept) value.now
         ≡ None }
@@ -102,6 +103,7 @@ fn pieces_of<'a>(instr: &FieldPart, kept: EntryRef, value: &'a Scalar) -> Pieces
 }
 
 /// The bit of the best form of a value, and what the form is made of.
+#[inline(always)]
 pub(crate) fn choose<'a>(
     instr: &FieldPart,
     kept: EntryRef,

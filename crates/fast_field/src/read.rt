@@ -27,6 +27,7 @@ const LENGTH_LIMIT: i128 = 65_535;
 
 /// The value that this bit and the bytes give, before the limits of a part.
 #[tactic(auto, using(crate::proofs::CallSteps::call_steps), unfolding(crate::specs::FieldReading::row_at, crate::specs::FieldReading::whole_at, crate::specs::FieldReading::predicted_at))]
+#[inline(always)]
 fn read_row(
     alloc: Global,
     instr: &FieldPart,
@@ -75,6 +76,7 @@ fn read_row(
 
 /// The limits of an exponent and of a length.
 #[tactic(auto, unfolding(crate::specs::FieldReading::part_checked))]
+#[inline(always)]
 fn check_part(instr: &FieldPart, kept: EntryRef, found: &Found) -> Result<(), FieldFault>
     ensures { Answers (λ _. value_found instr.now (entry_of kept.entry) found.now) result
         (part_checked instr.now.part (value_found instr.now (entry_of kept.entry) found.now)) }
@@ -100,6 +102,7 @@ fn check_part(instr: &FieldPart, kept: EntryRef, found: &Found) -> Result<(), Fi
 
 /// The value that this bit and the bytes give.
 #[tactic(auto, using(crate::proofs::CallSteps::call_steps), unfolding(crate::specs::FieldReading::field_at))]
+#[inline(always)]
 fn read_checked(
     alloc: Global,
     instr: &FieldPart,
@@ -126,6 +129,7 @@ fn read_checked(
 ///
 /// The first fault of the field on the bytes from `at` on. Memory: the copy of a string or a vector was
 /// refused, and no more bytes were needed.
+#[inline(always)]
 pub fn find_field(
     alloc: Global,
     instr: &FieldPart,
@@ -153,6 +157,7 @@ pub fn find_field(
 /// # Errors
 ///
 /// As `find_field`, and the entry is as it was. Memory: also where an initial value was to be copied.
+#[inline(always)]
 pub fn read_in_place(
     alloc: Global,
     instr: &FieldPart,

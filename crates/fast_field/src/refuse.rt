@@ -21,6 +21,7 @@ fn all_characters(text: &[u8]) -> bool
 }
 
 /// Whether a string of ASCII has its characters alone.
+#[inline(always)]
 fn is_spellable(value: &Scalar) -> bool
     ensures { result ≡ has_characters value.now }
 {
@@ -31,6 +32,7 @@ fn is_spellable(value: &Scalar) -> bool
 }
 
 /// Whether there are too many units, or a length is of too many elements.
+#[inline(always)]
 fn is_too_long(part: Part, value: &Scalar) -> bool
     ensures { result ≡ has_too_many part value.now }
 {
@@ -41,6 +43,7 @@ fn is_too_long(part: Part, value: &Scalar) -> bool
 }
 
 /// Whether an exponent is out of range.
+#[inline(always)]
 fn is_far_off(part: Part, value: &Scalar) -> bool
     ensures { result ≡ is_far part value.now }
 {
@@ -54,6 +57,7 @@ fn is_far_off(part: Part, value: &Scalar) -> bool
 }
 
 /// Why a value is refused that is not the constant's.
+#[inline(always)]
 fn not_the_constant(part: Part) -> FieldRefusal
     ensures { result ≡ other_than_constant part }
 {
@@ -73,6 +77,7 @@ fn no_base(fault: FieldFault) -> FieldRefusal
     }
 }
 
+#[inline(always)]
 fn judge_constant(instr: &FieldPart, value: &Scalar) -> Result<(), FieldRefusal>
     ensures { Judges (constant_refusal instr.now.part instr.now.initial value.now) result }
 {
@@ -88,6 +93,7 @@ fn judge_constant(instr: &FieldPart, value: &Scalar) -> Result<(), FieldRefusal>
     }
 }
 
+#[inline(always)]
 fn judge_delta(instr: &FieldPart, kept: EntryRef) -> Result<(), FieldRefusal>
     ensures { Judges (delta_refusal (delta_base instr.now (entry_of kept.entry))) result }
 {
@@ -114,6 +120,7 @@ fn judge_tail(instr: &FieldPart, kept: EntryRef, value: &Scalar) -> Result<(), F
 
 /// The first reason why a value that is there cannot be written.
 #[tactic(auto, unfolding(crate::specs::Refusals::value_refusal))]
+#[inline(always)]
 fn judge_value(instr: &FieldPart, kept: EntryRef, value: &Scalar) -> Result<(), FieldRefusal>
     ensures { Judges (value_refusal instr.now (entry_of kept.entry) value.now) result }
 {
@@ -135,6 +142,7 @@ fn judge_value(instr: &FieldPart, kept: EntryRef, value: &Scalar) -> Result<(), 
 }
 
 /// The first reason why a value cannot be written.
+#[inline(always)]
 pub(crate) fn judge(
     instr: &FieldPart,
     kept: EntryRef,

@@ -17,6 +17,7 @@ use std::alloc::Global;
 
 /// A number without a sign; one that has more than 64 bits is read once more.
 #[tactic(auto, using(crate::proofs::CallSteps::call_steps), unfolding(crate::specs::FieldReading::integer_at))]
+#[inline(always)]
 fn read_unsigned(bytes: &[u8], at: usize) -> Result<(Nullable<i128>, usize), FieldFault>
     requires { at ≤ length bytes.now }
     ensures place { IfOk result (λ x. (at < x.1) × (x.1 ≤ length bytes.now)) }
@@ -35,6 +36,7 @@ fn read_unsigned(bytes: &[u8], at: usize) -> Result<(Nullable<i128>, usize), Fie
 
 /// The same in the nullable form.
 #[tactic(auto, using(crate::proofs::CallSteps::call_steps), unfolding(crate::specs::FieldReading::integer_at))]
+#[inline(always)]
 fn read_unsigned_nullable(bytes: &[u8], at: usize) -> Result<(Nullable<i128>, usize), FieldFault>
     requires { at ≤ length bytes.now }
     ensures place { IfOk result (λ x. (at < x.1) × (x.1 ≤ length bytes.now)) }
@@ -57,6 +59,7 @@ fn read_unsigned_nullable(bytes: &[u8], at: usize) -> Result<(Nullable<i128>, us
 
 /// A number with a sign; one that has more than 64 bits is read once more.
 #[tactic(auto, using(crate::proofs::CallSteps::call_steps), unfolding(crate::specs::FieldReading::integer_at))]
+#[inline(always)]
 pub(crate) fn read_signed(bytes: &[u8], at: usize) -> Result<(i128, usize), FieldFault>
     requires { at ≤ length bytes.now }
     ensures place { IfOk result (λ x. (at < x.1) × (x.1 ≤ length bytes.now)) }
@@ -72,6 +75,7 @@ pub(crate) fn read_signed(bytes: &[u8], at: usize) -> Result<(i128, usize), Fiel
 
 /// The same in the nullable form.
 #[tactic(auto, using(crate::proofs::CallSteps::call_steps), unfolding(crate::specs::FieldReading::integer_at))]
+#[inline(always)]
 fn read_signed_nullable(bytes: &[u8], at: usize) -> Result<(Nullable<i128>, usize), FieldFault>
     requires { at ≤ length bytes.now }
     ensures place { IfOk result (λ x. (at < x.1) × (x.1 ≤ length bytes.now)) }
@@ -88,6 +92,7 @@ fn read_signed_nullable(bytes: &[u8], at: usize) -> Result<(Nullable<i128>, usiz
 
 /// An integer in the form of a presence, with no sign where `unsigned` is true.
 #[tactic(auto, using(crate::proofs::CallSteps::call_steps), unfolding(crate::specs::FieldReading::integer_at))]
+#[inline(always)]
 pub(crate) fn read_integer(
     unsigned: bool,
     presence: Presence,
@@ -112,6 +117,7 @@ pub(crate) fn read_integer(
 
 /// Characters or bytes in the form that has no NULL, of Unicode its bytes, copied once.
 #[tactic(auto, using(crate::proofs::CallSteps::call_steps), unfolding(crate::specs::FieldReading::part_at))]
+#[inline(always)]
 pub(crate) fn read_part(
     alloc: Global,
     kind: Kind,
@@ -155,6 +161,7 @@ pub(crate) fn read_units(
 
 /// What is answered for a number out of its type's bounds: of a part of a decimal it is the decimal that is out
 /// of range.
+#[inline(always)]
 fn range_fault_of(part: Part) -> FieldFault
     ensures { result ≡ range_fault part }
 {
@@ -166,6 +173,7 @@ fn range_fault_of(part: Part) -> FieldFault
 
 /// A number as a value of its type.
 #[tactic(auto, unfolding(crate::specs::FieldReading::integer_value))]
+#[inline(always)]
 pub(crate) fn value_of_integer(part: Part, kind: Kind, number: i128) -> Result<Scalar, FieldFault>
     requires { IsTrue (is_integer kind) }
     ensures { Answers (λ v. v) result (integer_value part kind number) }
@@ -267,6 +275,7 @@ fn read_decimal(
 
 /// An integer.
 #[tactic(auto, unfolding(crate::specs::FieldReading::integer_spelled_at))]
+#[inline(always)]
 fn read_number(
     part: Part,
     kind: Kind,
@@ -310,6 +319,7 @@ fn read_string(
 
 /// A value that stands whole, and the place after it. Memory only for the copy of a string or a vector.
 #[tactic(auto, unfolding(crate::specs::FieldReading::spelled_at))]
+#[inline(always)]
 pub(crate) fn read_whole(
     alloc: Global,
     part: Part,
@@ -348,6 +358,7 @@ fn size_unsigned(presence: Presence, number: u64) -> usize
 }
 
 /// Appends a number without a sign, in the form of a presence, or nothing.
+#[inline(always)]
 fn write_unsigned(presence: Presence, number: u64, out: &mut Vec<u8>) -> Result<(), WireFault>
     ensures { AppendsOne (ShortestUnsigned presence number) out.old.items out.new.items result }
 {
@@ -371,6 +382,7 @@ pub(crate) fn size_signed(presence: Presence, number: i128) -> usize
 }
 
 /// Appends a number with a sign, in the form of a presence, or nothing.
+#[inline(always)]
 pub(crate) fn write_signed(
     presence: Presence,
     number: i128,
@@ -405,6 +417,7 @@ pub(crate) fn size_part(kind: Kind, units: &[u8]) -> usize
 }
 
 /// Appends characters or bytes in the form that has no NULL, or nothing.
+#[inline(always)]
 pub(crate) fn write_part(kind: Kind, units: &[u8], out: &mut Vec<u8>) -> Result<(), WireFault>
     requires { CanBeUnits kind units.now }
     ensures { AppendsOne (ShortestPart kind units.now) out.old.items out.new.items result }
@@ -504,6 +517,7 @@ pub(crate) fn size_whole(presence: Presence, value: &Scalar) -> usize
 }
 
 /// Appends a value that stands whole, or nothing.
+#[inline(always)]
 pub(crate) fn write_whole(
     presence: Presence,
     value: &Scalar,

@@ -21,6 +21,7 @@ use fast_template::{FieldPart, Scalar};
 use std::alloc::Global;
 
 /// Appends the shortest form of these pieces, or nothing, where memory is refused.
+#[inline(always)]
 fn append(instr: &FieldPart, pieces: Pieces, out: &mut Vec<u8>) -> Result<(), FieldRefusal>
     requires { CanBePieces instr.now pieces }
     ensures ok { OnOk result ((b : List ℕ) × (out.new.items ≡ out.old.items ++ b)
@@ -35,6 +36,7 @@ fn append(instr: &FieldPart, pieces: Pieces, out: &mut Vec<u8>) -> Result<(), Fi
 }
 
 /// Appends the best form of a value, and answers its bit.
+#[inline(always)]
 fn append_best(
     instr: &FieldPart,
     kept: EntryRef,
@@ -124,6 +126,7 @@ pub fn write_in_place(
 /// # Errors
 ///
 /// As `write_in_place`; Memory: an initial value was to be copied.
+#[inline(always)]
 pub fn write_found(
     alloc: Global,
     instr: &FieldPart,
