@@ -5,6 +5,7 @@ pub mod WorkedStreams
 pub mod Weaker
 pub mod PieceReaders
 pub mod MapFaults
+pub mod ShortPieces
 pub mod FoundMembers
 pub mod BodyReaders
 pub mod MessageReaders
@@ -19,6 +20,7 @@ pub mod Heads
 pub mod Opening
 pub mod Standings
 pub mod Followings
+pub mod FaultPlaces
 pub mod Causes
 pub mod Inputs
 mod SameNodes

@@ -13,6 +13,7 @@ use Rattle.fast_decoder.specs.declared.traversal.Stage.TheVariants as stage
 use Rattle.fast_decoder.specs.declared.traversal.Traversal.{Traversal}
 use Rattle.fast_decoder.specs.Nodes.{Content}
 use Rattle.fast_decoder.specs.Faults.{FirstFault, EndsBetween}
+use Rattle.fast_decoder.specs.Streams.{Carries}
 use Rattle.fast_decoder.specs.Standing.{Carried, ReadsOn, HasAll, Having, Standing, Stands, StopsBehind}
 
 -- the numbers of bytes fed and of messages pushed
@@ -49,6 +50,13 @@ FollowsAt has stands keeps (Some f) t r d held waiting before bytes messages = R
 pub record Follows {R E : Type 0} {receiver : Receiving R} {entries : Ghosts E} (m : Machine R E receiver entries) (before : List Content) (bytes : List ℕ) (messages : List Content) : Type 0 where
   pub at : FollowsAt receiver.has receiver.stands receiver.keeps m.fault m.traversal m.receiver (entries.contents m.entries) m.held.items m.waiting before bytes messages
   pub counts : Counts m.fed m.messages bytes messages
+
+-- How many of the bytes fed are held: none where they carry messages, else those from the place on where Truncated is
+-- put in them.
+abbrev pub IsHeld : List Resolved → List ℕ → ℕ → ℕ → Type 0
+IsHeld set bytes fed held =
+    (((messages : List Content) × Carries set bytes messages) × (held ≡ 0))
+    ⊎ ((place : Place) × FirstFault set bytes place Truncated × (fed ≡ place.offset + held))
 
 -- a call answers the fault that is kept after it, if there is one
 abbrev pub Answers : Result (Unit {0}) Fault → Option Fault → Type 0

@@ -12,6 +12,7 @@ use fast_wire::{Bits, read_map};
 use std::alloc::Global;
 
 /// The next bit where one is needed, or else 1; it stays the next.
+#[inline(always)]
 pub fn first_for(bits: &Bits, needed: bool) -> bool
     ensures { result ≡ bit_for needed bits.now }
 {
@@ -19,6 +20,7 @@ pub fn first_for(bits: &Bits, needed: bool) -> bool
 }
 
 /// Takes the next bit where one is needed.
+#[inline(always)]
 pub fn take_for(bits: &mut Bits, needed: bool)
     ensures { bits.new ≡ after_bit needed bits.old }
 {
@@ -29,6 +31,7 @@ pub fn take_for(bits: &mut Bits, needed: bool)
 
 /// Reads a segment's own map that begins at `at`, or none where it has none, and answers its bits and the place
 /// after it. `number` is the segment's, for a fault.
+#[inline(always)]
 pub(crate) fn read_own_map(
     alloc: Global,
     number: u32,

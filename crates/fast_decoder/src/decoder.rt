@@ -4,6 +4,7 @@ ghost use Rattle.std.specs.Prelude.{◌≡◌, ◌≢◌, ◌≤◌, ◌+◌, �
 ghost use Rattle.fast_template.specs.TemplateSets.{templates_in};
 ghost use Rattle.fast_decoder.specs.Nodes.{Content, content_of};
 ghost use Rattle.fast_decoder.specs.Streams.{Carries};
+ghost use Rattle.fast_decoder.specs.Following.{IsHeld};
 ghost use Rattle.fast_decoder.specs.Traversals.{ServesAll};
 
 use crate::builder::Builder;
@@ -45,9 +46,16 @@ impl<'a, E: Entries> Decoder<'a, E> {
         self.machine.fed()
     }
 
-    /// How many of the bytes fed belong to no finished piece; 0 after a fault.
+    /// How many of the bytes fed belong to no finished piece, at most 65,554; 0 after a fault.
     pub fn held(&self) -> usize
-        ensures { result ≡ length self.now.machine.held.items }
+        ensures held { result ≡ length self.now.machine.held.items }
+        ensures bounded { result ≤ 65554 }
+        ensures fault { IfSome self.now.machine.fault (λ f. result ≡ 0) }
+        // none where the bytes carry messages, else `fed` less the offset of Truncated
+        ensures waits { self.now.machine.fault ≡ None → (fed : List ℕ) (messages : List Content)
+            → Follows self.now.machine [] fed messages
+            → IsHeld (templates_in self.now.machine.traversal.set.now) fed self.now.machine.fed
+            result }
     {
         self.machine.held()
     }
@@ -119,6 +127,10 @@ impl<'a, E: Entries> Decoder<'a, E> {
         ensures place { self.old.machine.fault ≡ None → (fed : List ℕ)
             (messages : List Content) → Follows self.old.machine [] fed messages
             → IsCutAt (templates_in self.old.machine.traversal.set.now) fed messages result.place }
+        ensures kept { IfSome self.old.machine.fault (λ f. self.new ≡ self.old) }
+        ensures follows { self.old.machine.fault ≡ None → (fed : List ℕ)
+            (messages : List Content) → Follows self.old.machine [] fed messages
+            → Follows self.new.machine [] fed messages }
         ensures set { self.new.machine.traversal.set ≡ self.old.machine.traversal.set }
         ensures fed { self.new.machine.fed ≡ self.old.machine.fed }
     {

@@ -1,7 +1,7 @@
 //! Laws of what a stream carries, each the contract of a function that does nothing.
 
 ghost use Rattle.std.specs.Bool.{Decides};
-ghost use Rattle.std.specs.Prelude.{◌≡◌, ◌≢◌, ◌⊎◌, ◌++◌, ℕ, List, Option, Some, None, drop, false};
+ghost use Rattle.std.specs.Prelude.{◌≡◌, ◌≢◌, ◌≤◌, ◌⊎◌, ◌++◌, ◌+◌, ℕ, List, Option, Some, None, drop, false, length};
 ghost use Rattle.fast_wire.specs.Reader.{IsBytes};
 ghost use Rattle.fast_template.specs.Resolved.{Instructions, Resolved, has_map};
 ghost use Rattle.fast_template.specs.TemplateSets.{HaveTypedParts, IsSound, TemplateList, templates_in};
@@ -90,6 +90,14 @@ pub fn refusal_stays()
 pub fn faults_are_of_bytes()
     ensures { (set : List Resolved) (stream : List ℕ) (place : Place) (cause : Cause)
         → FirstFault set stream place cause → (cause ≢ Cause.Read) × (cause ≢ Cause.Turns) }
+{}
+
+/// Where a stream ends before a piece does, it has few bytes from that piece on: at most ten of a
+/// subtraction length, ten of the length of a new part, and all but one of that part's 65,535.
+pub fn what_waits_is_short()
+    ensures { (set : TemplateList) (stream : List ℕ) (place : Place) → IsSound set
+        → FirstFault (templates_in set) stream place Cause.Truncated
+        → length stream ≤ place.offset + 65554 }
 {}
 
 /// Two streams that carry the same messages leave the same dictionary.

@@ -2,8 +2,9 @@
 
 mod calls;
 
-ghost use Rattle.std.specs.Prelude.{◌≡◌, None};
+ghost use Rattle.std.specs.Prelude.{◌≡◌, ◌≤◌, [], None, IfSome, length};
 ghost use Rattle.std.specs.Coded.{→_prop};
+ghost use Rattle.std.proofs.Props.{props};
 ghost use Rattle.fast_decoder.specs.Traversals.{CanGoOn, ServesAll};
 ghost use Rattle.fast_decoder.specs.OneProof.{CanGoOn-prop, ServesAll-prop};
 
@@ -24,6 +25,8 @@ pub struct Machine<'a, R: Receiver, E: Entries> {
     /// What has the messages that ended; whoever takes them from it leaves what is open.
     pub receiver: R,
     entries: E,
+    // at most ten bytes of a subtraction length, ten of the length of a new part, and all but one
+    // of that part's 65,535
     held: Vec<u8>,
     // the number of the instruction of the piece that is not whole
     waiting: u32,
@@ -31,5 +34,7 @@ pub struct Machine<'a, R: Receiver, E: Entries> {
     fed: u64,
     messages: u64,
     ghost served: { ServesAll (E.serves entries) traversal.set.now } by { ServesAll-prop (E.serves entries) traversal.set.now },
+    ghost bounded: { length held.items ≤ 65554 },
+    ghost cleared: { IfSome fault (λ f. held.items ≡ []) } by { Prim.hlevel props },
     ghost ready: { fault ≡ None → CanGoOn (E.serves entries) traversal } by { →_prop (CanGoOn-prop (E.serves entries) traversal) },
 }

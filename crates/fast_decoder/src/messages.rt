@@ -59,6 +59,9 @@ pub(crate) fn read_messages<R: Receiver, E: Entries>(
     ensures ready { IfNone result.halt (CanGoOn (E.serves entries.new) traversal.new) }
     ensures waits { IfSome result.halt (λ h. h.cause ≡ Cause.Truncated
         → CanGoOn (E.serves entries.new) traversal.new) }
+    // few bytes are left where more are wanted
+    ensures few { IfSome result.halt (λ h. h.cause ≡ Cause.Truncated
+        → length bytes.now ≤ result.at + 65554) }
     ensures set { traversal.new.set ≡ traversal.old.set }
     ensures sound { IsSound traversal.new.set.now }
     ensures same_keys { E.serves entries.new ≡ E.serves entries.old }

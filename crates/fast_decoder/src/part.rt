@@ -17,6 +17,7 @@ use std::alloc::Global;
 /// # Errors
 ///
 /// The first fault of the part, and the entries are as they were. Memory: a growth was refused.
+#[inline(always)]
 pub fn take_part<E: Entries>(
     alloc: Global,
     entries: &mut E,
@@ -50,6 +51,7 @@ pub fn take_part<E: Entries>(
 }
 
 /// The number that an identifier or a length is.
+#[inline(always)]
 pub fn unsigned_in(value: &Option<Scalar>) -> Result<Option<u32>, FieldFault>
     ensures ok { IfOk result (λ n. value.now ≡ length_of n) }
     ensures err { IfErr result (λ f. f ≡ FieldFault.Memory) }
@@ -62,6 +64,7 @@ pub fn unsigned_in(value: &Option<Scalar>) -> Result<Option<u32>, FieldFault>
 }
 
 /// The exponent that a value is.
+#[inline(always)]
 pub fn exponent_in(value: &Option<Scalar>) -> Result<Option<i32>, FieldFault>
     ensures ok { IfOk result (λ e. value.now ≡ exponent_of e) }
     ensures err { IfErr result (λ f. f ≡ FieldFault.Memory) }
@@ -74,6 +77,7 @@ pub fn exponent_in(value: &Option<Scalar>) -> Result<Option<i32>, FieldFault>
 }
 
 /// The mantissa that a value is.
+#[inline(always)]
 pub fn mantissa_in(value: &Option<Scalar>) -> Result<i64, FieldFault>
     ensures ok { IfOk result (λ m. value.now ≡ Some (I64 m)) }
     ensures err { IfErr result (λ f. f ≡ FieldFault.Memory) }

@@ -1,6 +1,6 @@
 //! The one traversal of a stream, message by message.
 
-ghost use Rattle.std.specs.Prelude.{◌≡◌, ◌≢◌, ◌≤◌, ◌<◌, ◌++◌, ◌∷◌, [], ℕ, true, List, OnErr, IfOk, IfErr, OnOk, Ok, Err, ◌⊎◌, length, drop};
+ghost use Rattle.std.specs.Prelude.{◌≡◌, ◌≢◌, ◌≤◌, ◌<◌, ◌+◌, ◌++◌, ◌∷◌, [], ℕ, true, List, OnErr, IfOk, IfErr, OnOk, Ok, Err, ◌⊎◌, length, drop};
 ghost use Rattle.fast_template.specs.Resolved.{Resolved};
 ghost use Rattle.fast_template.specs.TemplateSets.{IsSound, templates_in};
 ghost use Rattle.fast_dictionary.specs.Dictionary.{Dictionary};
@@ -114,6 +114,7 @@ impl<'a> Traversal<'a> {
     }
 
     // Reads a message's map.
+    #[inline(always)]
     fn map(&mut self, bytes: &[u8], at: usize) -> Result<usize, Halt>
         requires place { at ≤ length bytes.now }
         ensures place { IfOk result (λ n. (at < n) × (n ≤ length bytes.now)) }
@@ -200,6 +201,7 @@ impl<'a> Traversal<'a> {
     }
 
     // Reads what is left of a message's body.
+    #[inline(always)]
     fn body<R: Receiver, E: Entries>(
         &mut self,
         receiver: &mut R,
@@ -239,6 +241,9 @@ impl<'a> Traversal<'a> {
             later
             × ((more : List ℕ) → read (drop at bytes.now ++ more) ≡ later (drop x.0 bytes.now
             ++ more))) }
+        // few bytes are left where more are wanted
+        ensures few { IfErr result (λ x. (x.1).cause ≡ Cause.Truncated
+            → length bytes.now ≤ x.0 + 65554) }
         ensures ready { IfErr result (λ x. (x.1).cause ≢ Cause.Memory
             → CanGoOn (E.serves entries.new) self.new) }
         ensures stage { OnErr result (self.new.stage ≡ Stage.Body) }
@@ -266,6 +271,7 @@ impl<'a> Traversal<'a> {
     }
 
     // Reads a message from its identifier on.
+    #[inline(always)]
     fn behind_map<R: Receiver, E: Entries>(
         &mut self,
         receiver: &mut R,
@@ -305,6 +311,9 @@ impl<'a> Traversal<'a> {
             (E.contents entries.new) before start later
             × ((more : List ℕ) → read (drop at bytes.now ++ more) ≡ later (drop x.0 bytes.now
             ++ more))) }
+        // few bytes are left where more are wanted
+        ensures few { IfErr result (λ x. (x.1).cause ≡ Cause.Truncated
+            → length bytes.now ≤ x.0 + 65554) }
         ensures ready { IfErr result (λ x. (x.1).cause ≡ Cause.Truncated
             → CanGoOn (E.serves entries.new) self.new) }
         ensures keeps { OnErr result ((before : List Content) (start : Dictionary) (read : List ℕ
@@ -372,6 +381,9 @@ impl<'a> Traversal<'a> {
             (E.contents entries.new) before start later
             × ((more : List ℕ) → read (drop at bytes.now ++ more) ≡ later (drop x.0 bytes.now
             ++ more))) }
+        // few bytes are left where more are wanted
+        ensures few { IfErr result (λ x. (x.1).cause ≡ Cause.Truncated
+            → length bytes.now ≤ x.0 + 65554) }
         ensures ready { IfErr result (λ x. (x.1).cause ≡ Cause.Truncated
             → CanGoOn (E.serves entries.new) self.new) }
         ensures keeps { OnErr result ((before : List Content) (start : Dictionary) (read : List ℕ

@@ -68,6 +68,7 @@ pub struct Walk<'a> {
 }
 
 /// A fault of a part.
+#[inline(always)]
 pub(crate) fn part_halt(part: &FieldPart, fault: FieldFault) -> Halt
     ensures cause { result.cause ≡ cause_of_field fault }
     ensures number { result.number ≡ part.now.number }
@@ -79,6 +80,7 @@ pub(crate) fn part_halt(part: &FieldPart, fault: FieldFault) -> Halt
 }
 
 // Whether what has this presence may be left out.
+#[inline(always)]
 fn is_optional(presence: Presence) -> bool
     ensures { result ≡ is_optional_of presence }
 {
@@ -120,6 +122,7 @@ impl<'a> Walk<'a> {
     }
 
     // Whether one node more may come.
+    #[inline(always)]
     fn count(&self, number: u32) -> Result<(), Halt>
         ensures ok { OnOk result (0 < self.now.spare) }
         ensures goes { OnOk result ((d : Dictionary) (bits : List Bool) (bytes : List ℕ)
@@ -139,6 +142,7 @@ impl<'a> Walk<'a> {
     }
 
     // Goes on behind the first part of an instruction: a node is counted, and its bit taken.
+    #[inline(always)]
     fn pass(&mut self, needs: bool, others: &'a [Flat], next: Next<'a>)
         requires spare { 0 < self.now.spare }
         ensures bits { self.new.bits ≡ after_bit needs self.old.bits }
@@ -154,6 +158,7 @@ impl<'a> Walk<'a> {
     }
 
     // Opens a segment inside the one that is open; its node is counted.
+    #[inline(always)]
     fn open(
         &mut self,
         members: &'a [Flat],
@@ -188,6 +193,7 @@ impl<'a> Walk<'a> {
     }
 
     // Takes a field.
+    #[inline(always)]
     fn field<R: Receiver, E: Entries>(
         &mut self,
         alloc: Global,
@@ -235,6 +241,7 @@ impl<'a> Walk<'a> {
     }
 
     // Takes the exponent of a decimal in parts.
+    #[inline(always)]
     fn exponent<R: Receiver, E: Entries>(
         &mut self,
         alloc: Global,
@@ -289,6 +296,7 @@ impl<'a> Walk<'a> {
     }
 
     // Takes the mantissa of a decimal whose exponent is there.
+    #[inline(always)]
     fn mantissa<R: Receiver, E: Entries>(
         &mut self,
         alloc: Global,
@@ -487,6 +495,7 @@ impl<'a> Walk<'a> {
     }
 
     // Opens the next element of a sequence.
+    #[inline(always)]
     fn one_more(&mut self, sequel: Sequel<'a>, bits: Bits) -> Result<(), AllocError>
         requires spare { 0 < self.now.spare }
         requires left { 0 < sequel.left }
@@ -513,6 +522,7 @@ impl<'a> Walk<'a> {
     }
 
     // Ends the segment that is open, and goes on in the one around it.
+    #[inline(always)]
     fn end<R: Receiver>(&mut self, alloc: Global, receiver: &mut R) -> Result<(), AllocError>
         requires next { self.now.next ≡ Next.Instruction }
         requires rest { self.now.rest.now ≡ [] }
@@ -537,6 +547,7 @@ impl<'a> Walk<'a> {
     }
 
     // Takes up what the segment that ends was to the body around it.
+    #[inline(always)]
     fn take_up<R: Receiver>(
         &mut self,
         alloc: Global,

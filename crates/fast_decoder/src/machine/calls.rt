@@ -8,7 +8,7 @@ ghost use Rattle.fast_dictionary.specs.Dictionary.{Dictionary};
 ghost use Rattle.fast_decoder.specs.Nodes.{Content};
 ghost use Rattle.fast_decoder.specs.Streams.{Carries};
 ghost use Rattle.fast_decoder.specs.declared.traversal.Traversal.{Traversal as TraversalNow};
-ghost use Rattle.fast_decoder.specs.Following.{Counts, Refused};
+ghost use Rattle.fast_decoder.specs.Following.{Counts, IsHeld, Refused};
 ghost use Rattle.fast_decoder.specs.Standing.{Carried, Ended, ReadsOn, Stands, StopsBehind};
 ghost use Rattle.fast_decoder.specs.Traversals.{CanGoOn, ServesAll, stop_of};
 
@@ -125,10 +125,16 @@ impl<'a, R: Receiver, E: Entries> Machine<'a, R, E> {
         self.fed
     }
 
-    /// How many of the bytes fed belong to no finished piece; 0 after a fault.
+    /// How many of the bytes fed belong to no finished piece, at most 65,554; 0 after a fault.
     pub fn held(&self) -> usize
-        ensures { result ≡ length self.now.held.items }
+        ensures held { result ≡ length self.now.held.items }
+        ensures bounded { result ≤ 65554 }
+        ensures fault { IfSome self.now.fault (λ f. result ≡ 0) }
+        ensures waits { self.now.fault ≡ None → (before : List Content) (fed : List ℕ)
+            (messages : List Content) → Follows self.now before fed messages
+            → IsHeld (templates_in self.now.traversal.set.now) fed self.now.fed result }
     {
+        self.traversal.set_is_sound();
         self.held.len()
     }
 
@@ -188,6 +194,7 @@ impl<'a, R: Receiver, E: Entries> Machine<'a, R, E> {
         requires truncated { halt.cause ≡ Cause.Truncated }
         requires fault { self.now.fault ≡ None }
         requires held { self.now.held.items ≡ [] }
+        requires few { length rest.now ≤ 65554 }
         ensures follows { (before : List Content) (fed : List ℕ) (messages : List Content)
             → length fed < 2 ^ 61 → Counts self.old.fed self.old.messages fed messages
             → Ended R.has R.stands R.keeps (Some halt) self.old.traversal self.old.receiver
@@ -331,6 +338,10 @@ impl<'a, R: Receiver, E: Entries> Machine<'a, R, E> {
         ensures place { self.old.fault ≡ None → (before : List Content) (fed : List ℕ)
             (messages : List Content) → Follows self.old before fed messages
             → IsCutAt (templates_in self.old.traversal.set.now) fed messages result.place }
+        ensures kept { IfSome self.old.fault (λ f. self.new ≡ self.old) }
+        ensures follows { self.old.fault ≡ None → (before : List Content) (fed : List ℕ)
+            (messages : List Content) → Follows self.old before fed messages
+            → Follows self.new before fed messages }
         ensures left { (set : List Resolved) (ms : List Content) (d : Dictionary)
             → R.keeps self.old.receiver set ms d ⊎ R.stands self.old.receiver set ms d
             → R.keeps self.new.receiver set ms d ⊎ R.stands self.new.receiver set ms d }

@@ -17,7 +17,7 @@ returns-then-has_begun-clause-truncated g c = λ none.
             at = rw (r.kept, r.traversal) (
               ends_inside G c.keep.result old.traversal old.held.items old.waiting fed messages old.fed old.messages c.set_is_sound.ensures.typed follows.counts short at
                   (λ at. none_begun old.traversal.stage at.0 (c.has_begun.ensures.yes c.if-has_begun.true))
-                  r.cause r.message (rw (c.held-left.ensures) at r.offset) r.template r.instruction,
+                  r.cause r.message (rw (c.held-left.ensures.held) at r.offset) r.template r.instruction,
               r.held,
               left_behind R.has R.stands R.keeps old.traversal old.receiver c.keep.new.self.receiver (g.E.Entries.contents old.entries) before old.held.items fed messages r.left at.0,
             );
@@ -29,7 +29,7 @@ pub returns-then-left-eq0-clause-ok : goal.returns-then-left-eq0-clause-ok
 returns-then-left-eq0-clause-ok g c =
     let old = c.args.self.now in
     let R = g.R.Receiver in
-    let size = c.held-left.ensures in
+    let size = c.held-left.ensures.held in
     let none = none_of old.held.items (omega (arith, size, c.if-left-eq0.true)) in (
       refl,
       λ before fed messages follows.
@@ -51,8 +51,8 @@ returns-clause-truncated g c = λ none.
           record {
             at = rw (r.kept, r.traversal) (
               ends_inside G c.keep-2.result old.traversal old.held.items old.waiting fed messages old.fed old.messages c.set_is_sound.ensures.typed follows.counts short at
-                  (λ at. let size = c.held-left.ensures in let empty = ap (λ (xs : List ℕ). length xs) at.1 in absurd (omega (arith, size, empty, c.if-left-eq0.false)))
-                  r.cause r.message (rw (c.held-left.ensures) at r.offset) r.template r.instruction,
+                  (λ at. let size = c.held-left.ensures.held in let empty = ap (λ (xs : List ℕ). length xs) at.1 in absurd (omega (arith, size, empty, c.if-left-eq0.false)))
+                  r.cause r.message (rw (c.held-left.ensures.held) at r.offset) r.template r.instruction,
               r.held,
               left_behind R.has R.stands R.keeps old.traversal old.receiver c.keep-2.new.self.receiver (g.E.Entries.contents old.entries) before old.held.items fed messages r.left at.0,
             );

@@ -4,6 +4,7 @@ use Rattle.fast_decoder.specs.declared.fault.Cause.TheVariants.{Truncated, Memor
 use Rattle.fast_decoder.specs.Traversals.{identifier_on}
 use Rattle.fast_decoder.proofs.Opening.{continues_open}
 use Rattle.fast_decoder.proofs.Steps.{with_none}
+use Rattle.fast_decoder.proofs.ShortPieces.{behind_few, identifier_few_at, want_of_bytes}
 use Rattle.fast_decoder.proofs.traversal.Traversal.behind_map.Goals as goal
 
 pub returns-in-Err-clause-held : goal.returns-in-Err-clause-held
@@ -48,3 +49,10 @@ returns-in-Ok-body-clause-goes g c = λ before start read still.
     let i = c.in-Ok.ensures.goes before s.stands in
     let m = c.in-Ok-body.ensures.goes set before d i.0 i.1 in
     (m.0, λ more. s.reads (drop c.args.at c.args.bytes.now ++ more) ∙ i.2 more ∙ m.1 more, m.2)
+
+pub returns-in-Err-clause-few : goal.returns-in-Err-clause-few
+returns-in-Err-clause-few g c = λ t.
+    let old = c.args.self.now in
+    let stops = c.in-Err.ensures.stops (want_of_bytes c.in-Err.halt.cause t) in
+    behind_few c.args.bytes.now c.args.at
+    (identifier_few_at (templates_in old.set.now) (g.E.Entries.contents c.args.entries.now) old.walk.bits (drop c.args.at c.args.bytes.now) c.in-Err.halt stops t)

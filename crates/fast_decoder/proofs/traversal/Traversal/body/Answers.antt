@@ -6,6 +6,7 @@ use Rattle.fast_decoder.specs.OpenSegments.{cursor, message_of}
 use Rattle.fast_decoder.specs.Walks.{next_of, reads_on}
 use Rattle.fast_decoder.proofs.Steps.{with_none}
 use Rattle.fast_decoder.proofs.Walking.{all_read, around_none, is_instruction, same_named}
+use Rattle.fast_decoder.proofs.ShortPieces.{behind_few, walk_few, want_of_bytes}
 use Rattle.fast_decoder.proofs.traversal.Traversal.body.Goals as goal
 
 pub returns-in-Err-clause-stops : goal.returns-in-Err-clause-stops
@@ -65,3 +66,9 @@ returns-in-Ok-finish-clause-goes g c = λ set before start read still.
           ∙ ap (λ (r : Reads Items). message_of t r) (p.3 more ∙ all_read o.around o.next o.body (cursor e new.bits new.spare (drop c.in-Ok.next c.args.bytes.now ++ more)) none next rest),
       λ few. rw (set_is, before_is, template_is) at (c.in-Ok-finish.ensures.stands o e next rest none named few p.1.1),
     )
+
+pub returns-in-Err-clause-few : goal.returns-in-Err-clause-few
+returns-in-Err-clause-few g c = λ t.
+    let held = c.in-Err.ensures.held (want_of_bytes c.in-Err.halt.1.cause t) in
+    let rest = drop c.in-Err.halt.0 c.args.bytes.now in
+    behind_few c.args.bytes.now c.in-Err.halt.0 (walk_few c.run.new.self (g.E.Entries.contents c.run.new.entries) rest c.in-Err.halt.1 held.1 t)

@@ -3,6 +3,7 @@ use Rattle.fast_template.specs.TemplateSets.{templates_in}
 use Rattle.fast_decoder.specs.Reading.{message_at}
 use Rattle.fast_decoder.specs.Traversals.{identifier_on}
 use Rattle.fast_decoder.proofs.Steps.{with_none}
+use Rattle.fast_decoder.proofs.ShortPieces.{behind_few, map_few_at, want_of_bytes}
 use Rattle.fast_decoder.proofs.traversal.Traversal.message.Goals as goal
 
 pub returns-in-Err-clause-held : goal.returns-in-Err-clause-held
@@ -52,3 +53,8 @@ returns-in-Ok-behind_map-clause-goes g c = λ before start read still.
     let inner = rw (c.map.ensures.set) at c.in-Ok-behind_map.ensures.goes in
     let m = inner before start now (rw (c.in-Ok.ensures.stage) (record { stands = s.stands; start_is = s.start_is; reads = λ bytes. refl })) in
     (m.0, λ more. s.reads (drop c.args.at c.args.bytes.now ++ more) ∙ c.in-Ok.ensures.goes d more ∙ m.1 more, m.2)
+
+pub returns-in-Err-clause-few : goal.returns-in-Err-clause-few
+returns-in-Err-clause-few g c = λ t.
+    let stops = c.in-Err.ensures.stops (want_of_bytes c.in-Err.halt.cause t) in
+    behind_few c.args.bytes.now c.args.at (map_few_at (templates_in c.args.self.now.set.now) (drop c.args.at c.args.bytes.now) c.in-Err.halt stops t)
