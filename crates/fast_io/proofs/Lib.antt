@@ -1,1 +1,2 @@
 mod Scripts
+pub mod Outputs

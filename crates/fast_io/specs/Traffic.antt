@@ -1,5 +1,5 @@
 -- What one call of a reader or a writer does to its known bytes and its counts.
-use Rattle.std.specs.Prelude.{◌≡◌, ℕ, ◌<◌, ◌≤◌, List, length, take, Option, Result, Ok, Err}
+use Rattle.std.specs.Prelude.{◌≡◌, ℕ, ◌<◌, ◌≤◌, List, ◌++◌, length, take, Option, Result, Ok, Err}
 use Rattle.std.specs.Io.KnownBytes.{Keeps, Appends, Consumes, IsAtEnd}
 use Rattle.fast_io.specs.Counts.{counted}
 
@@ -22,3 +22,9 @@ CountsError (Err e) old new = new ≡ counted old
 abbrev pub CountsEnd : {E : Type 0} → Result ℕ E → List ℕ → ℕ → ℕ → Type 0
 CountsEnd (Ok n) buf old new = (n ≡ 0 → 0 < length buf → new ≡ counted old) × (0 < n → new ≡ old) × (length buf ≡ 0 → new ≡ old)
 CountsEnd (Err e) buf old new = new ≡ old
+
+-- Of calls one after the other: a front of the bytes was taken, and the rest is left.
+pub record Taken (taken_old taken_new : Option (List ℕ)) (bytes rest : List ℕ) : Type 0 where
+  pub front : List ℕ
+  pub parts : bytes ≡ front ++ rest
+  pub appended : Appends taken_old taken_new front

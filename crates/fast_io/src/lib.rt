@@ -11,8 +11,10 @@ mod output;
 mod script;
 #[cfg(test)]
 mod tests;
+mod whole;
 
 pub use counted::Counted;
 pub use input::{ByteInput, Failed};
 pub use output::ByteOutput;
 pub use script::{ScriptInput, ScriptOutput};
+pub use whole::{push_all, write_all};
