@@ -10,3 +10,12 @@ mod Shapes
 mod Sizes
 mod Judgements
 mod Puts
+pub mod Additions
+pub mod Changes
+mod Rooms
+pub mod Tries
+mod Kept
+pub mod Messages
+mod Outputs
+pub mod NoForms
+pub mod HaveForms

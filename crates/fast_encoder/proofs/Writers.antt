@@ -159,7 +159,7 @@ has_opened outer l k set ms id members d e none bits own bytes entry s = rw (non
       none = λ h. absurd (true_false h);
     }
 
-canon_more : (set : List Resolved) (ms : List Content) (m : Content) (a : Dictionary) (front x : List ℕ) (mid after : Dictionary)
+pub canon_more : (set : List Resolved) (ms : List Content) (m : Content) (a : Dictionary) (front x : List ℕ) (mid after : Dictionary)
     → CanonFrom set a front ms mid → CanonMessage set mid x m after → CanonFrom set a (front ++ x) (ms ++ m ∷ []) after
 canon_more set [] m a front x mid after h form = record {
   between = after;

@@ -2,3 +2,7 @@ pub mod Canonical
 pub mod Written
 pub mod Levels
 pub mod FirstRefusal
+pub mod Added
+pub mod OneProof
+pub mod Outputs
+pub mod Ranges

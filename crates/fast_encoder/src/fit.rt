@@ -18,6 +18,7 @@ use fast_template::{FieldPart, Key, Kind, Operator, Part, Presence, Scalar, Scop
 const UNIT_LIMIT: usize = 65_535;
 
 // Whether these are characters of ASCII, and not too many.
+#[inline(always)]
 fn is_text(text: &[u8]) -> bool
     ensures { result ≡ true
         → (length text.now ≤ 65535) × AllByRecursion (λ c. c < 128) text.now }
@@ -26,6 +27,7 @@ fn is_text(text: &[u8]) -> bool
 }
 
 // Whether there are not too many bytes.
+#[inline(always)]
 fn is_short(bytes: &[u8]) -> bool
     ensures { result ≡ true
         → (length bytes.now ≤ 65535) × AllByRecursion (λ c. c < 256) bytes.now }
@@ -34,6 +36,7 @@ fn is_short(bytes: &[u8]) -> bool
 }
 
 // Whether a value is within its type.
+#[inline(always)]
 fn is_scalar(value: &Scalar) -> bool
     ensures { result ≡ true → IsScalar value.now }
 {
@@ -65,6 +68,7 @@ fn is_scalar(value: &Scalar) -> bool
 }
 
 /// Whether the value of an assigned entry is within its type.
+#[inline(always)]
 pub(crate) fn holds_scalar(kept: EntryRef) -> bool
     ensures { result ≡ true → HoldsScalar (entry_of kept.entry) }
 {
@@ -75,6 +79,7 @@ pub(crate) fn holds_scalar(kept: EntryRef) -> bool
 }
 
 // Whether an operator applies to a type.
+#[inline(always)]
 fn applies(operator: Operator, kind: Kind) -> bool
     ensures { result ≡ applies_to operator kind }
 {
@@ -96,6 +101,7 @@ fn applies(operator: Operator, kind: Kind) -> bool
 }
 
 // Whether a type is that of the part.
+#[inline(always)]
 fn is_kind_of(part: Part, kind: Kind) -> bool
     ensures { result ≡ true → IsKindOfPart part kind }
 {
@@ -108,6 +114,7 @@ fn is_kind_of(part: Part, kind: Kind) -> bool
 }
 
 // Whether a value is of the type.
+#[inline(always)]
 pub(crate) fn is_of_kind(kind: Kind, value: &Scalar) -> bool
     ensures { result ≡ is_of kind value.now }
 {
@@ -124,6 +131,7 @@ pub(crate) fn is_of_kind(kind: Kind, value: &Scalar) -> bool
 }
 
 // Whether an exponent is in range; of other values nothing is asked.
+#[inline(always)]
 fn is_near(part: Part, value: &Scalar) -> bool
     ensures { result ≡ is_in_part part value.now }
 {
@@ -137,6 +145,7 @@ fn is_near(part: Part, value: &Scalar) -> bool
 }
 
 // Whether an initial value is one that the part can have.
+#[inline(always)]
 fn has_initial(part: &FieldPart) -> bool
     ensures { result ≡ true → IfSome part.now.initial (IsInitial part.now) }
 {
@@ -149,6 +158,7 @@ fn has_initial(part: &FieldPart) -> bool
 }
 
 /// Whether a mandatory default has its initial value.
+#[inline(always)]
 pub(crate) fn has_default(part: &FieldPart) -> bool
     ensures { result ≡ true → HasDefault part.now }
 {
@@ -162,6 +172,7 @@ pub(crate) fn has_default(part: &FieldPart) -> bool
 }
 
 // Whether a constant has its value.
+#[inline(always)]
 fn has_constant(part: &FieldPart) -> bool
     ensures { result ≡ true → part.now.operator ≡ operator.Constant → IsSome part.now.initial }
 {
@@ -172,6 +183,7 @@ fn has_constant(part: &FieldPart) -> bool
 }
 
 /// Whether an instruction is as those of a set of templates are.
+#[inline(always)]
 pub(crate) fn is_field_part(part: &FieldPart) -> bool
     ensures { result ≡ true → IsFieldPart part.now }
 {
@@ -183,6 +195,7 @@ pub(crate) fn is_field_part(part: &FieldPart) -> bool
 }
 
 // Whether a key is that of the identifier.
+#[inline(always)]
 fn is_identifier_key(key: &Key) -> bool
     ensures { result ≡ true → key.now ≡ identifier_key }
 {
@@ -193,6 +206,7 @@ fn is_identifier_key(key: &Key) -> bool
 }
 
 /// Whether an instruction is that of the template identifier.
+#[inline(always)]
 pub(crate) fn is_identifier(part: &FieldPart) -> bool
     ensures { result ≡ true → part.now ≡ identifier }
 {

@@ -2,7 +2,7 @@
 
 ghost use Rattle.std.specs.Prelude.{◌≡◌, IfErr, IfOk, None, Some};
 ghost use Rattle.fast_template.specs.Resolved.{list_of};
-ghost use Rattle.fast_template.specs.TemplateSets.{templates_in};
+ghost use Rattle.fast_template.specs.TemplateSets.{IsSound, templates_in};
 ghost use Rattle.fast_dictionary.specs.Dictionary.{Dictionary};
 ghost use Rattle.fast_field.specs.Calls.{Judges};
 ghost use Rattle.fast_decoder.specs.Nodes.{content_of, items_in};
@@ -53,6 +53,7 @@ pub(crate) fn template_for<'a>(
     set: &'a TemplateSet,
     message: &Message,
 ) -> Result<&'a FlatTemplate, EncodeFault>
+    ensures sound { IsSound set.now }
     ensures known { IfOk result (λ t. members_of (templates_in set.now) message.now.template
         ≡ Some (list_of t.now.members.items)) }
     ensures whole { IfOk result (λ t. whole_refusal (list_of t.now.members.items)

@@ -1,11 +1,25 @@
 //! A segment that is being written.
 
-ghost use Rattle.std.specs.Prelude.{◌≡◌, OnOk, OnErr};
+ghost use Rattle.std.specs.Prelude.{◌≡◌, ◌⊎◌, ◌&&◌, true, false, drop, IfErr, OnOk, OnErr};
+ghost use Rattle.fast_encoder.specs.FirstRefusal.{has_set, refused};
 ghost use Rattle.fast_encoder.specs.Written.{Asked, Ended};
 ghost use Rattle.fast_encoder.specs.Levels.{level_of};
 
-use fast_wire::write_map;
+use crate::fault::{EncodeCause, EncodeFault};
+use crate::put::no_memory;
+use fast_wire::{WireFault, write_map};
 use std::alloc::{AllocError, Global};
+
+// A bit for which its map has no room.
+#[inline(always)]
+fn no_room() -> EncodeFault
+    ensures { result ≡ refused EncodeCause.Limit }
+{
+    EncodeFault {
+        cause: EncodeCause::Limit,
+        instruction: 0,
+    }
+}
 
 /// A segment: the bits asked for in their order, whether they stand in a map of its own, and the bytes behind that.
 #[derive(Drop)]
@@ -19,6 +33,7 @@ impl Level {
     ghost use Rattle.std.specs.Prelude.{[]};
 
     /// Of nothing. Takes no memory.
+    #[inline(always)]
     pub(crate) fn new(alloc: Global, own: bool) -> Level
         ensures bits { result.bits.items ≡ [] }
         ensures own { result.own ≡ own }
@@ -32,6 +47,7 @@ impl Level {
     }
 
     /// Begins anew, in the same memory.
+    #[inline(always)]
     pub(crate) fn begin(&mut self, own: bool)
         ensures bits { self.new.bits.items ≡ [] }
         ensures own { self.new.own ≡ own }
@@ -43,6 +59,7 @@ impl Level {
     }
 
     /// One bit more, where one is needed.
+    #[inline(always)]
     pub(crate) fn ask(&mut self, needed: bool, bit: bool) -> Result<(), AllocError>
         ensures { OnOk result (Asked needed bit (level_of self.old) (level_of self.new)) }
     {
@@ -57,21 +74,44 @@ impl Level {
     /// # Errors
     ///
     /// A growth was refused, or the map has no room for a bit.
+    #[inline(always)]
     pub(crate) fn end(&self, out: &mut Vec<u8>) -> Result<(), AllocError>
         ensures ended { OnOk result (Ended (level_of self.now) out.old.items out.new.items) }
+        ensures unchanged { OnErr result (out.new.items ≡ out.old.items) }
+    {
+        match self.seal(out) {
+            Err(_) => Err(AllocError),
+            Ok(()) => Ok(()),
+        }
+    }
+
+    /// The same, and tells a growth that was refused from a map without room.
+    ///
+    /// # Errors
+    ///
+    /// Limit: a bit is 1 for which the map has no room. Memory: a growth was refused.
+    #[inline(always)]
+    pub(crate) fn seal(&self, out: &mut Vec<u8>) -> Result<(), EncodeFault>
+        ensures ended { OnOk result (Ended (level_of self.now) out.old.items out.new.items) }
+        ensures room { OnOk result
+            ((self.now.own && has_set (drop 1792 self.now.bits.items)) ≡ false) }
+        ensures refused { IfErr result (λ f. (f ≡ refused EncodeCause.Memory)
+            ⊎ ((f ≡ refused EncodeCause.Limit)
+            × ((self.now.own && has_set (drop 1792 self.now.bits.items)) ≡ true))) }
         ensures unchanged { OnErr result (out.new.items ≡ out.old.items) }
     {
         let start = out.len();
         if self.own {
             match write_map(&self.bits, out) {
-                Err(_) => return Err(AllocError),
+                Err(WireFault::TooLong) => return Err(no_room()),
+                Err(_) => return Err(no_memory()),
                 Ok(()) => {}
             }
         }
         match out.extend_from_slice(&self.bytes) {
             Err(_) => {
                 out.truncate(start);
-                Err(AllocError)
+                Err(no_memory())
             }
             Ok(()) => Ok(()),
         }

@@ -2,14 +2,23 @@
 //!
 //! Of all forms of a message one is canonical: each field in the form that comes first, each map as short as it can be,
 //! and no bit set that no instruction asks for. `specs/Canonical` says so over the definitions of `fast_decoder`.
+//! [`Encoder`] writes messages that are in memory, and refuses one that has no form.
+//! [`MessageOutputStream`] writes them to a writer.
 //! [`Writer`] is a receiver of `fast_decoder`'s traversal: it writes the canonical bytes of messages as they are read.
 #![tactic(auto)]
 
+#[cfg(test)]
+mod encode_tests;
+mod encoder;
 mod fault;
 mod fit;
+mod journal;
 mod judge;
 mod laws;
 mod level;
+mod message;
+mod nodes;
+mod output;
 mod put;
 mod relay;
 mod shape;
@@ -18,7 +27,9 @@ mod size;
 mod tests;
 mod writer;
 
+pub use encoder::Encoder;
 pub use fault::{EncodeCause, EncodeFault};
 pub use laws::canonical_bytes_carry;
 pub use level::Level;
+pub use output::MessageOutputStream;
 pub use writer::Writer;

@@ -9,7 +9,7 @@ ghost use Rattle.fast_field.specs.Planning.{left_out_of};
 ghost use Rattle.fast_field.specs.Refusals.{refusal_of};
 ghost use Rattle.fast_field.specs.Within.{HoldsScalar};
 ghost use Rattle.fast_field.specs.declared.fault.FieldRefusal.{FieldRefusal as RefusalOf};
-ghost use Rattle.fast_encoder.specs.FirstRefusal.{cause_of, fault_of};
+ghost use Rattle.fast_encoder.specs.FirstRefusal.{cause_of, fault_of, refused};
 ghost use Rattle.fast_encoder.specs.Levels.{level_of};
 ghost use Rattle.fast_encoder.specs.Written.{Spelt, bits_for};
 
@@ -57,9 +57,9 @@ fn fault_for(part: &FieldPart, refusal: FieldRefusal) -> EncodeFault
     }
 }
 
-// Want of memory.
-fn no_memory() -> EncodeFault
-    ensures { result.cause ≡ EncodeCause.Memory }
+/// Want of memory.
+pub(crate) fn no_memory() -> EncodeFault
+    ensures { result ≡ refused EncodeCause.Memory }
 {
     EncodeFault {
         cause: EncodeCause::Memory,
@@ -93,7 +93,7 @@ pub(crate) fn put_part(
     ensures before { IfOk result (λ e. e ≡ entry.old) }
     ensures allowed { OnOk result
         (refusal_of part.now entry.old (option_copied value.entry) ≡ None) }
-    ensures refused { IfErr result (λ f. (f.cause ≡ EncodeCause.Memory)
+    ensures refused { IfErr result (λ f. (f ≡ refused EncodeCause.Memory)
         ⊎ ((r : RefusalOf) × (refusal_of part.now entry.old (option_copied value.entry) ≡ Some r)
         × (f ≡ fault_of part.now r))) }
     ensures kept { OnErr result (entry.new ≡ entry.old) }

@@ -20,6 +20,7 @@ use fast_template::{FieldPart, Scalar, part_needs_bit};
 use std::alloc::Global;
 
 // Reads a part that bit 0 gives. Bit 0 is its best form too.
+#[inline(always)]
 fn repeat(
     alloc: Global,
     part: &FieldPart,
@@ -50,6 +51,7 @@ fn repeat(
 }
 
 // Reads a part that has bytes, and appends the best form of its value.
+#[inline(always)]
 fn rewrite(
     alloc: Global,
     part: &FieldPart,
@@ -90,6 +92,7 @@ fn rewrite(
 /// # Errors
 ///
 /// The first fault of the part; nothing has changed. Memory: a growth was refused.
+#[inline(always)]
 pub(crate) fn relay_entry(
     alloc: Global,
     part: &FieldPart,
@@ -132,6 +135,7 @@ pub(crate) fn relay_entry(
 /// # Errors
 ///
 /// The first fault of the part; nothing has changed. Memory: a growth was refused.
+#[inline(always)]
 pub(crate) fn relay_part<E: Entries>(
     alloc: Global,
     entries: &mut E,
@@ -174,6 +178,7 @@ pub(crate) fn relay_part<E: Entries>(
 /// # Errors
 ///
 /// As `relay_part`. Memory: also where the value was to be copied.
+#[inline(always)]
 pub(crate) fn relay_value<E: Entries>(
     alloc: Global,
     entries: &mut E,

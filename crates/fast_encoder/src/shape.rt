@@ -36,7 +36,8 @@ fn value_is(part: &FieldPart, value: &Scalar) -> bool
     is_of_kind(part.kind, value) && is_spellable(value)
 }
 
-fn may_be_absent(presence: Presence) -> bool
+/// Whether what has this presence may be left out.
+pub(crate) fn may_be_absent(presence: Presence) -> bool
     ensures { result ≡ is_optional presence }
 {
     match presence {

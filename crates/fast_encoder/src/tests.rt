@@ -10,7 +10,7 @@ use std::alloc::{AllocError, Global};
 use std::process::Abort;
 
 // The templates of the worked streams.
-const WORKED: &str = r#"{"templates":[
+pub(crate) const WORKED: &str = r#"{"templates":[
 {"name":"Quote","id":1,"instructions":[
  {"kind":"uInt32","name":"Seq","operator":"increment"},
  {"kind":"string","name":"Sym","operator":"copy"},
@@ -302,7 +302,7 @@ fn many_elements_of_nothing(rt: HostRuntime) -> Result<(), AllocError> {
 }
 
 // A Quote with this symbol, as far as so many nodes.
-fn quote(alloc: Global, symbol: &[u8], nodes: usize) -> Result<Message, AllocError> {
+pub(crate) fn quote(alloc: Global, symbol: &[u8], nodes: usize) -> Result<Message, AllocError> {
     let symbol = ByteString::from_vec(symbol.to_vec(alloc)?);
     let mut fields = vec![in alloc;
         Node::Value(Scalar::U32(1)),

@@ -36,6 +36,7 @@ impl Writer {
     ghost use Rattle.fast_encoder.specs.Written.{Closes, handed_on};
 
     /// With no message, and nothing handed on. Takes no memory.
+    #[inline(always)]
     pub fn new(alloc: Global) -> Writer
         ensures stands { (set : List Resolved)
             → ⟦<Writer as Receiver>⟧.stands result set (handed_on [] ∷ []) finite.empty }
@@ -50,6 +51,7 @@ impl Writer {
     }
 
     /// The canonical bytes of the messages that are finished and not handed on.
+    #[inline(always)]
     pub fn finished(&self) -> &[u8]
         ensures { result.now ≡ self.now.out.items }
     {
@@ -57,6 +59,7 @@ impl Writer {
     }
 
     /// Forgets the bytes of finished messages, which now are handed on. It keeps their memory.
+    #[inline(always)]
     pub fn hand_on(&mut self)
         ensures stands { (set : List Resolved) (handed : List ℕ) (ms : List Content)
             (d : Dictionary)
@@ -78,6 +81,7 @@ impl Writer {
     }
 
     // A level of nothing, one that was used where there is one.
+    #[inline(always)]
     fn fresh(&mut self, alloc: Global, own: bool) -> Level
         ensures bits { result.bits.items ≡ [] }
         ensures own { result.own ≡ own }
@@ -96,6 +100,7 @@ impl Writer {
     }
 
     // Begins a segment inside the one that is open.
+    #[inline(always)]
     fn open(&mut self, alloc: Global, own: bool) -> Result<(), AllocError>
         ensures outer { OnOk result (map level_of self.new.outer.items
             ≡ map level_of self.old.outer.items ++ level_of self.old.inner ∷ []) }
@@ -111,6 +116,7 @@ impl Writer {
     }
 
     // Ends the segment that is open, in the one around it.
+    #[inline(always)]
     fn close(&mut self) -> Result<(), AllocError>
         ensures closed { OnOk result (Closes (map level_of self.old.outer.items)
             (level_of self.old.inner) (map level_of self.new.outer.items)
@@ -138,6 +144,7 @@ impl Receiver for Writer {
 
     ghost keeps = { λ w set ms d. HasFinished w set ms d };
 
+    #[inline(always)]
     fn begin<E: Entries>(
         &mut self,
         alloc: Global,
@@ -161,15 +168,18 @@ impl Receiver for Writer {
         }
     }
 
+    #[inline(always)]
     fn finish(&mut self, _alloc: Global) -> Result<(), AllocError> {
         self.inner.end(&mut self.out)?;
         Ok(())
     }
 
+    #[inline(always)]
     fn back(&mut self, _alloc: Global) {
         self.outer.clear();
     }
 
+    #[inline(always)]
     fn field<E: Entries>(
         &mut self,
         alloc: Global,
@@ -185,6 +195,7 @@ impl Receiver for Writer {
         }
     }
 
+    #[inline(always)]
     fn exponent<E: Entries>(
         &mut self,
         alloc: Global,
@@ -203,6 +214,7 @@ impl Receiver for Writer {
         }
     }
 
+    #[inline(always)]
     fn mantissa<E: Entries>(
         &mut self,
         alloc: Global,
@@ -221,6 +233,7 @@ impl Receiver for Writer {
         }
     }
 
+    #[inline(always)]
     fn begin_sequence<E: Entries>(
         &mut self,
         alloc: Global,
@@ -239,11 +252,13 @@ impl Receiver for Writer {
         }
     }
 
+    #[inline(always)]
     fn left_out(&mut self) -> Result<(), AllocError> {
         self.inner.ask(true, false)?;
         Ok(())
     }
 
+    #[inline(always)]
     fn enter(
         &mut self,
         alloc: Global,
@@ -256,11 +271,13 @@ impl Receiver for Writer {
         Ok(())
     }
 
+    #[inline(always)]
     fn leave(&mut self, _alloc: Global) -> Result<(), AllocError> {
         self.close()?;
         Ok(())
     }
 
+    #[inline(always)]
     fn enter_element(
         &mut self,
         alloc: Global,
@@ -271,11 +288,13 @@ impl Receiver for Writer {
         Ok(())
     }
 
+    #[inline(always)]
     fn leave_element(&mut self, _alloc: Global) -> Result<(), AllocError> {
         self.close()?;
         Ok(())
     }
 
+    #[inline(always)]
     fn end_sequence(&mut self, _alloc: Global) -> Result<(), AllocError> {
         Ok(())
     }

@@ -1,0 +1,29 @@
+//! Messages to canonical bytes.
+
+mod calls;
+
+ghost use Rattle.std.specs.Prelude.{◌≡◌};
+ghost use Rattle.fast_decoder.specs.Streams.{identifier as identifier_part};
+ghost use Rattle.fast_decoder.specs.Traversals.{ServesAll};
+ghost use Rattle.fast_decoder.specs.OneProof.{ServesAll-prop};
+ghost use Rattle.fast_encoder.specs.OneProof.{KeepScalars, KeepScalars-prop};
+
+use crate::journal::Journal;
+use crate::level::Level;
+use fast_dictionary::Entries;
+use fast_template::{FieldPart, TemplateSet};
+use std::alloc::Global;
+
+/// Writes messages of a template set in canonical form, each from the entries that the ones before left.
+#[derive(Drop)]
+pub struct Encoder<'a, E: Entries> {
+    alloc: Global,
+    set: &'a TemplateSet,
+    identifier: FieldPart,
+    journal: Journal<'a, E>,
+    // of the message that is being written, kept for its memory
+    level: Level,
+    ghost identifier_is: { identifier ≡ identifier_part },
+    ghost served: { ServesAll (E.serves journal.entries) set.now } by { ServesAll-prop (E.serves journal.entries) set.now },
+    ghost kept: { KeepScalars (E.contents journal.entries) } by { KeepScalars-prop (E.contents journal.entries) },
+}
