@@ -1,4 +1,3 @@
-pub mod Outputs
 pub mod Relayings
 pub mod AskedBits
 pub mod PartBits

@@ -1,3 +1,2 @@
 pub mod Canonicalised
-pub mod Outputs
 pub mod Relays

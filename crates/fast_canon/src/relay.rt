@@ -2,40 +2,21 @@
 
 ghost use Rattle.std.specs.Prelude.{◌≡◌, ◌≢◌, ◌≤◌, ◌<◌, ◌+◌, ◌*◌, ◌++◌, ◌^◌, [], true, false, ℕ, List, Option, OnOk, OnErr, IfOk, length};
 ghost use Rattle.std.specs.Io.KnownBytes.{Appends};
-ghost use Rattle.fast_io.specs.Traffic.{CountsError};
+ghost use Rattle.fast_io.specs.Traffic.{CountsError, Taken};
 ghost use Rattle.fast_template.specs.TemplateSets.{IsSound};
 ghost use Rattle.fast_decoder.specs.Nodes.{Content};
 ghost use Rattle.fast_decoder.specs.Inputs.{IsCaused, Reads, reader_by};
 ghost use Rattle.fast_decoder.specs.declared.input.Reached.{Reached as ReachedNow};
 ghost use Rattle.fast_decoder.specs.declared.input.Reached.TheVariants as reached;
-ghost use Rattle.fast_canon.specs.Outputs.{Taken};
 ghost use Rattle.fast_canon.specs.Relays.{Broken, Relayed, Relays};
 
 use fast_decoder::{Cause, Machine, Reached};
 use fast_dictionary::Entries;
 use fast_encoder::Writer;
-use fast_io::{ByteInput, ByteOutput, Failed};
+use fast_io::{ByteInput, ByteOutput, Failed, push_all};
 
 /// The most bytes that one read takes.
 pub(crate) const CHUNK: usize = 4096;
-
-/// Pushes all the bytes. It fails only where a push did.
-fn push_all<W: ByteOutput>(writer: &mut W, bytes: &[u8]) -> Result<(), Failed>
-    ensures written { OnOk result (Appends (W.taken writer.old) (W.taken writer.new) bytes.now) }
-    ensures part { OnErr result ((rest : List ℕ)
-        × Taken (W.taken writer.old) (W.taken writer.new) bytes.now rest) }
-    ensures failed { CountsError result (W.errors writer.old) (W.errors writer.new) }
-    ensures flushes { W.flushes writer.new ≡ W.flushes writer.old }
-{
-    let mut rest = bytes;
-    while !rest.is_empty() {
-        match writer.push(rest) {
-            Err(failed) => return Err(failed),
-            Ok(count) => rest = &rest[count..],
-        }
-    }
-    Ok(())
-}
 
 /// Hands on the canonical bytes of the messages that ended, and answers how many they are.
 pub(crate) fn hand_on<W: ByteOutput, E: Entries>(

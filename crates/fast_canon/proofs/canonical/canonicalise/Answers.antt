@@ -7,7 +7,7 @@ use Rattle.fast_decoder.proofs.Inputs.{none_read}
 use Rattle.fast_encoder.specs.Canonical.{IsCanonical}
 use Rattle.fast_encoder.specs.Written.{handed_on}
 use Rattle.fast_canon.specs.Canonicalised.{Breaks, Stops}
-use Rattle.fast_canon.proofs.Outputs.{Appends-kept, Appends-nil}
+use Rattle.fast_io.proofs.Outputs.{Appends-kept, Appends-nil}
 use Rattle.fast_canon.proofs.Relayings.{carried_reached, is_end, no_longer, summary_is}
 use Rattle.fast_canon.proofs.canonical.canonicalise.Goals as goal
 

@@ -6,7 +6,7 @@ use Rattle.fast_decoder.proofs.Inputs.{causes_end, causes_on, causes_weaker, mor
 use Rattle.fast_encoder.specs.Canonical.{IsCanonical}
 use Rattle.fast_encoder.specs.Written.{handed_on}
 use Rattle.fast_canon.specs.Relays.{GoesOn}
-use Rattle.fast_canon.proofs.Outputs.{Appends-trans}
+use Rattle.fast_io.proofs.Outputs.{Appends-trans}
 use Rattle.fast_canon.proofs.Relayings.{carried_by, closed_with, no_longer, shut}
 use Rattle.fast_canon.proofs.relay.relay.Goals.{then-reads-test+else-reads-turns, else-reads-test}
 use Rattle.fast_canon.proofs.relay.relay.Goals as goal
