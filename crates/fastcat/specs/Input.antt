@@ -1,25 +1,22 @@
--- What a run of reads did.
-use Rattle.std.specs.Prelude.{◌≡◌, ℕ, ◌+◌, ◌*◌, ◌≤◌, List, ◌++◌, length, Option}
-use Rattle.std.specs.Io.KnownBytes.{Consumes, IsAtEnd}
-use Rattle.fast_io.specs.Counts.{counted, counted_by}
-use Rattle.fastcat.specs.Devices.{Reader}
-use Rattle.fastcat.specs.declared.input.Ending.{Ending}
-use Rattle.fastcat.specs.declared.input.Ending.TheVariants.{End, Failed, Turns}
+-- What reading a text whole answers (our own).
+use Rattle.std.specs.Prelude.{◌≡◌, ℕ, ◌<◌, ◌≤◌, List, length, Option}
+use Rattle.std.specs.Io.KnownBytes.{IsAtEnd}
+use Rattle.fast_io.specs.Counts.{counted}
+use Rattle.fast_decoder.specs.Inputs.{Reader}
+use Rattle.fastcat.specs.declared.input.TextFault.{TextFault}
+use Rattle.fastcat.specs.declared.input.TextFault.TheVariants.{TooLong, Read, Turns, Memory}
 
--- k reads of at most size bytes gave these bytes, which stand at the end of new
-pub record Reads (left_old left_new : Option (List ℕ)) (calls_old calls_new k size : ℕ) (old new : List ℕ) : Type 0 where
-  pub got : List ℕ
-  pub appended : new ≡ old ++ got
-  pub consumed : Consumes left_old left_new got
-  pub called : calls_new ≡ counted_by calls_old k
-  pub bounded : length got ≤ size * k
+-- the most bytes of a text
+abbrev pub text_limit : ℕ
+text_limit = 16777216
 
--- how they ended: the last met the reader's end; the last failed; or all were made, and each gave a byte
-abbrev pub Ends : Ending → ℕ → Reader → Reader → List ℕ → List ℕ → Type 0
-Ends End turns old new before after =
-    IsAtEnd new.left × (new.errors ≡ old.errors) × (new.ends ≡ counted old.ends)
-Ends Failed turns old new before after =
-    (new.errors ≡ counted old.errors) × (new.ends ≡ old.ends)
-Ends Turns turns old new before after =
-    (new.errors ≡ old.errors) × (new.ends ≡ old.ends) × (new.calls ≡ counted_by old.calls turns)
-    × (length before + turns ≤ length after)
+-- what was read is the text, and the reader has ended
+abbrev pub IsText : List ℕ → List ℕ → Option (List ℕ) → Type 0
+IsText text got left = (text ≡ got) × (length got ≤ text_limit) × IsAtEnd left
+
+-- what was read is too long for one, or a read failed, or all reads were made and none met the end
+abbrev pub GivesNoText : TextFault → ℕ → ℕ → List ℕ → Reader → Reader → Type 0
+GivesNoText TooLong turns count got old new = (text_limit < length got) × IsAtEnd new.left
+GivesNoText Read turns count got old new = new.errors ≡ counted old.errors
+GivesNoText Turns turns count got old new = (count ≡ turns) × (new.ends ≡ old.ends)
+GivesNoText Memory turns count got old new = Unit {0}

@@ -1,104 +1,85 @@
--- What a run answers, and what it wrote.
-use Rattle.std.specs.Prelude.{◌≡◌, ℕ, ◌+◌, ◌≤◌, List, ◌++◌, length, Option, ◌⊎◌, Result, Ok, Err}
-use Rattle.std.specs.Io.KnownBytes.{Appends, IsAtEnd}
-use Rattle.fast_io.specs.Counts.{counted, counted_by}
-use Rattle.fastcat.specs.Devices.{Reader, Writer}
-use Rattle.fastcat.specs.declared.message.Message.{Message}
-use Rattle.fastcat.specs.declared.dictionary.Dictionary.{Dictionary}
-use Rattle.fastcat.specs.declared.place.Place.{Place}
-use Rattle.fastcat.specs.declared.summary.Summary.{Summary}
-use Rattle.fastcat.specs.declared.fault.Cause.{Cause}
-use Rattle.fastcat.specs.declared.fault.Cause.TheVariants as cause
-use Rattle.fastcat.specs.declared.fault.Fault.{Fault}
-use Rattle.fastcat.specs.declared.fault.CanonFault.{CanonFault}
-use Rattle.fastcat.specs.declared.fault.CanonFault.TheVariants as refusal
+-- What a command writes of a stream, and what its run answers.
+use Rattle.std.specs.Prelude.{◌≡◌, ◌⊎◌, ℕ, List, [], ◌∷◌, ◌++◌, length, codes, decimal, Option, None, Some, Result, Ok, Err}
+use Rattle.std.specs.Io.KnownBytes.{Appends}
+use Rattle.fast_io.specs.Counts.{counted_by}
+use Rattle.fast_template.specs.TemplateSets.{TemplateList, templates_in}
+use Rattle.fast_decoder.specs.declared.fault.Fault.{Fault}
+use Rattle.fast_decoder.specs.Nodes.{Content}
+use Rattle.fast_decoder.specs.Inputs.{EndsWith, Refuses}
+use Rattle.fast_decoder.specs.Standing.{Carried}
+use Rattle.fast_canon.specs.Canonicalised.{Canonicalises, Ends, Stops}
+use Rattle.fast_canon.specs.declared.fault.CanonFault.{CanonFault}
+use Rattle.fast_canon.specs.declared.fault.CanonFault.TheVariants as refusal
+use Rattle.fast_canon.specs.declared.summary.Summary.{Summary}
+use Rattle.fastcat.specs.Lines.{joined, line_in}
 use Rattle.fastcat.specs.declared.command.Command.{Command}
-use Rattle.fastcat.specs.declared.command.Command.TheVariants.{Show, Canon}
-use Rattle.fastcat.specs.Message.{Carries, CarriesFrom, empty}
-use Rattle.fastcat.specs.Best.{IsCanonical}
-use Rattle.fastcat.specs.Show.{lines_of}
-use Rattle.fastcat.specs.Faults.{FirstFault, EndsBetween}
+use Rattle.fastcat.specs.declared.command.Command.TheVariants.{Show, Check, Canon}
 
--- what a command writes of messages
-abbrev pub IsOutput : Command → List Message → List ℕ → Type 0
-IsOutput Show messages out = out ≡ lines_of messages
-IsOutput Canon messages out = IsCanonical messages out
+-- ---- show
 
--- what was written for messages that these bytes carry
-pub record Writes (command : Command) (messages : List Message) (taken_old taken_new : Option (List ℕ)) (out : List ℕ) : Type 0 where
-  pub output : IsOutput command messages out
+-- the lines of messages, one behind another; none where a message has none
+abbrev pub lines_in : TemplateList → List Content → Option (List ℕ)
+lines_in set [] = Some []
+lines_in set (m ∷ ms) = joined (line_in set m) (lines_in set ms)
+
+-- The reader has ended, and the bytes read carry the messages; their lines were written, and all is counted: the bytes
+-- written up to the greatest number that a count has.
+pub record ShowsAll (set : TemplateList) (left taken_old taken_new : Option (List ℕ)) (input : List ℕ) (summary : Summary) : Type 0 where
+  pub messages : List Content
+  pub out : List ℕ
+  pub ends : EndsWith (templates_in set) left input messages
+  pub lines : lines_in set messages ≡ Some out
+  pub written : Appends taken_old taken_new out
+  pub counts : summary ≡ record { messages = length messages; read = length input; written = counted_by 0 (length out) }
+
+-- The stream is refused: the lines of the messages before the fault were written.
+pub record ShowsBefore (set : TemplateList) (turns : ℕ) (left taken_old taken_new : Option (List ℕ)) (input : List ℕ) (fault : Fault) : Type 0 where
+  pub messages : List Content
+  pub out : List ℕ
+  pub refuses : Refuses (templates_in set) turns left input messages fault
+  pub lines : lines_in set messages ≡ Some out
   pub written : Appends taken_old taken_new out
 
--- the reader has ended, the bytes read carry the messages, what was written is theirs, and all is counted
-pub record RunsToEnd (command : Command) (left_new taken_old taken_new : Option (List ℕ)) (input : List ℕ) (summary : Summary) : Type 0 where
-  pub messages : List Message
-  pub out : List ℕ
-  pub ended : IsAtEnd left_new
-  pub carried : Carries input messages
-  pub writes : Writes command messages taken_old taken_new out
-  pub counts : summary ≡ record { messages = length messages; read = length input; written = length out }
-
--- Where and why the bytes read are refused. Truncated comes only where the reader ended; of a read that failed or was
--- used up the place is where Truncated would be put in the bytes read, or their end between two messages; each of the
--- reads that are used up gave a byte, so none met the end; and want of memory has no place but the message.
-abbrev pub RefusedBy : Cause → ℕ → Option (List ℕ) → List ℕ → Place → Type 0
-RefusedBy cause.D2 turns left input place = FirstFault input place cause.D2
-RefusedBy cause.D5 turns left input place = FirstFault input place cause.D5
-RefusedBy cause.D9 turns left input place = FirstFault input place cause.D9
-RefusedBy cause.Limit turns left input place = FirstFault input place cause.Limit
-RefusedBy cause.Truncated turns left input place = FirstFault input place cause.Truncated × IsAtEnd left
-RefusedBy cause.Read turns left input place = FirstFault input place cause.Truncated ⊎ EndsBetween input place
-RefusedBy cause.Turns turns left input place = (FirstFault input place cause.Truncated ⊎ EndsBetween input place) × (turns ≤ length input)
-RefusedBy cause.Memory turns left input place = (place.offset ≡ 0) × (place.template ≡ 0) × (place.instruction ≡ 0)
-
--- the stream is refused: what was written is that of the messages before the fault, which a prefix of the bytes carries
-pub record RunsToFault (command : Command) (turns : ℕ) (left_new taken_old taken_new : Option (List ℕ)) (input : List ℕ) (fault : Fault) : Type 0 where
-  pub messages : List Message
-  pub d : Dictionary
+-- A write failed or memory was refused: a front was written of the lines of messages that were read.
+pub record ShowsFront (set : TemplateList) (taken_old taken_new : Option (List ℕ)) (input : List ℕ) : Type 0 where
+  pub messages : List Content
   pub front : List ℕ
   pub rest : List ℕ
-  pub out : List ℕ
-  pub parts : input ≡ front ++ rest
-  pub carried : CarriesFrom empty front messages d
-  pub count : fault.place.message ≡ length messages + 1
-  pub writes : Writes command messages taken_old taken_new out
-  pub refused : RefusedBy fault.cause turns left_new input fault.place
+  pub carried : Carried (templates_in set) input messages
+  pub lines : lines_in set messages ≡ Some (front ++ rest)
+  pub written : Appends taken_old taken_new front
 
--- what is not the stream's fault: a write that failed, and an output or an input for which there was no memory
-abbrev pub RunsRefused : CanonFault → Command → ℕ → Option (List ℕ) → Option (List ℕ) → Option (List ℕ) → List ℕ → Type 0
-RunsRefused (refusal.Stream fault) command turns left_new taken_old taken_new input = RunsToFault command turns left_new taken_old taken_new input fault
-RunsRefused refusal.Write command turns left_new taken_old taken_new input = Unit {0}
-RunsRefused refusal.Memory command turns left_new taken_old taken_new input = Unit {0}
+abbrev pub Shows : TemplateList → ℕ → Option (List ℕ) → Option (List ℕ) → Option (List ℕ) → List ℕ → Result Summary CanonFault → Type 0
+Shows set turns left taken_old taken_new input (Ok summary) = ShowsAll set left taken_old taken_new input summary
+Shows set turns left taken_old taken_new input (Err (refusal.Stream fault)) = ShowsBefore set turns left taken_old taken_new input fault
+Shows set turns left taken_old taken_new input (Err f) = ShowsFront set taken_old taken_new input
 
--- a run's answer, by the bytes that it read and wrote
-abbrev pub Runs : Command → ℕ → Option (List ℕ) → Option (List ℕ) → Option (List ℕ) → List ℕ → Result Summary CanonFault → Type 0
-Runs command turns left_new taken_old taken_new input (Ok summary) = RunsToEnd command left_new taken_old taken_new input summary
-Runs command turns left_new taken_old taken_new input (Err e) = RunsRefused e command turns left_new taken_old taken_new input
+-- ---- check
 
--- a fact for the answer that the stream is refused with this cause
-abbrev pub OnFault : Cause → Result Summary CanonFault → Type 0 → Type 0
-OnFault c (Ok summary) P = Unit {0}
-OnFault c (Err (refusal.Stream fault)) P = fault.cause ≡ c → P
-OnFault c (Err refusal.Write) P = Unit {0}
-OnFault c (Err refusal.Memory) P = Unit {0}
+-- what a check says that ended well
+abbrev pub ok_line : Summary → List ℕ
+ok_line s =
+    codes "ok messages=" ++ decimal s.messages ++ codes " bytes=" ++ decimal s.read ++ codes " canonical=" ++ decimal s.written ++ codes "\n"
 
--- the writer's count of errors afterwards: one call failed where the answer is Write, and else none
-abbrev pub errors_after : Result Summary CanonFault → ℕ → ℕ
-errors_after (Ok summary) n = n
-errors_after (Err (refusal.Stream fault)) n = n
-errors_after (Err refusal.Write) n = counted n
-errors_after (Err refusal.Memory) n = n
+-- A write failed or memory was refused: a front was written of what a check says, and nothing where it did not end well.
+pub record TellsFront (set : TemplateList) (left taken_old taken_new : Option (List ℕ)) (input : List ℕ) : Type 0 where
+  pub summary : Summary
+  pub front : List ℕ
+  pub rest : List ℕ
+  pub line : ok_line summary ≡ front ++ rest
+  pub ended : Ends (templates_in set) left None None input summary ⊎ (front ≡ [])
+  pub written : Appends taken_old taken_new front
 
--- the writer is flushed once before Ok and before a refused stream is answered, also where nothing was written
-abbrev pub FlushesOnce : Result Summary CanonFault → ℕ → ℕ → Type 0
-FlushesOnce (Ok summary) old new = new ≡ counted old
-FlushesOnce (Err (refusal.Stream fault)) old new = new ≡ counted old
-FlushesOnce (Err refusal.Write) old new = Unit {0}
-FlushesOnce (Err refusal.Memory) old new = new ≡ old
+abbrev pub Tells : TemplateList → ℕ → Option (List ℕ) → Option (List ℕ) → Option (List ℕ) → List ℕ → Result Summary CanonFault → Type 0
+Tells set turns left taken_old taken_new input (Ok summary) =
+    Ends (templates_in set) left None None input summary × Appends taken_old taken_new (ok_line summary)
+Tells set turns left taken_old taken_new input (Err (refusal.Stream fault)) =
+    Stops (templates_in set) turns left None None input fault × Appends taken_old taken_new []
+Tells set turns left taken_old taken_new input (Err f) = TellsFront set left taken_old taken_new input
 
--- a failed read, used up reads and a failed write are answered only where the counts show them
-pub record IsCounted (answer : Result Summary CanonFault) (turns : ℕ) (in_old in_new : Reader) (out_old out_new : Writer) : Type 0 where
-  pub read_failed : OnFault cause.Read answer (in_new.errors ≡ counted in_old.errors)
-  pub used_up : OnFault cause.Turns answer ((in_new.calls ≡ counted_by in_old.calls turns) × (in_new.ends ≡ in_old.ends))
-  pub write_failed : out_new.errors ≡ errors_after answer out_old.errors
-  pub flushed : FlushesOnce answer out_old.flushes out_new.flushes
+-- ---- a command
+
+abbrev pub Runs : Command → TemplateList → ℕ → Option (List ℕ) → Option (List ℕ) → Option (List ℕ) → List ℕ → Result Summary CanonFault → Type 0
+Runs Show set turns left taken_old taken_new input r = Shows set turns left taken_old taken_new input r
+Runs Check set turns left taken_old taken_new input r = Tells set turns left taken_old taken_new input r
+Runs Canon set turns left taken_old taken_new input r = Canonicalises (templates_in set) turns left taken_old taken_new input r

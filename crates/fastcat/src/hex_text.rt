@@ -1,6 +1,6 @@
 //! Hex text: the bytes of an input in digits, and bytes as a line of digits.
 
-ghost use Rattle.std.specs.Prelude.{◌≡◌, ◌↔◌, ◌<◌, ◌++◌, ◌∷◌, [], Bool, vec_len, IfOk, IsErr};
+ghost use Rattle.std.specs.Prelude.{◌≡◌, ◌++◌, ◌∷◌, [], Bool, IfOk, IsErr};
 ghost use Rattle.std.specs.String.{string_bytes};
 ghost use Rattle.hex.specs.Hex.{decode_of, encode_lower};
 ghost use Rattle.fastcat.specs.HexText.{is_blank_lem, digits_of};
@@ -8,14 +8,9 @@ ghost use Rattle.fastcat.specs.HexText.{is_blank_lem, digits_of};
 use hex::FromHexError;
 use std::alloc::{AllocError, Global};
 
-/// The most bytes of a hex text, blanks included.
-pub const MAX_TEXT: usize = 16_777_216;
-
 /// Why a text gives no bytes.
 #[derive(Clone, Copy, Debug, PartialEq, Eq)]
 pub enum HexFault {
-    /// The text has more than 16,777,216 bytes, blanks included.
-    TooLong,
     /// The text without its blanks is not an even number of hex digits.
     NotHex,
     /// An allocation was refused.
@@ -37,15 +32,10 @@ fn drop_blanks(text: &mut Vec<u8>)
 }
 
 /// The bytes that a text stands for: an even number of hex digits of either case, once its blanks are dropped.
-/// The text's length is judged before that, and takes no memory.
 pub fn read_hex(alloc: Global, mut text: Vec<u8>) -> Result<Vec<u8>, HexFault>
     ensures ok { IfOk result (λ bytes. decode_of (digits_of text.items) ≡ Ok bytes.items) }
-    ensures too_long { (result ≡ Err HexFault.TooLong) ↔ (MAX_TEXT < vec_len text) }
     ensures not_hex { result ≡ Err HexFault.NotHex → IsErr (decode_of (digits_of text.items)) }
 {
-    if text.len() > MAX_TEXT {
-        return Err(HexFault::TooLong);
-    }
     drop_blanks(&mut text);
     match hex::decode(alloc, text.as_slice()) {
         Ok(bytes) => Ok(bytes),

@@ -1,4 +1,4 @@
-//! Messages of any template set as lines of text.
+//! Messages of any template set as lines of text, and what a check says.
 
 ghost use Rattle.std.specs.Prelude.{◌≡◌, ◌++◌, ◌∷◌, ◌&&◌, [], ℕ, List, Some, None, Option, OnOk, OnErr, IfOk, IfErr, codes, decimal, map, option_map};
 ghost use Rattle.std.specs.Fmt.{signed_decimal};
@@ -10,9 +10,11 @@ ghost use Rattle.fast_template.specs.Scalar.{is_of};
 ghost use Rattle.fast_field.specs.Refusals.{are_characters, has_characters};
 ghost use Rattle.fast_decoder.specs.Nodes.{single, Items, Elements, group_items, sequence_elements, item_of, items_in, elements_of, content_of};
 ghost use Rattle.fastcat.specs.Lines.{absent_text, braced, decimal_text, elements_text, field_text, group_text, sequence_text, is_plain, label, line_by, line_in, bracketed, member_text, members_text, node_text, quoted, scalar_text, unit_text, value_text};
+ghost use Rattle.fastcat.specs.Run.{ok_line};
 ghost use Rattle.fastcat.specs.Written.{Writes, Shows};
 ghost use Rattle.fastcat.specs.declared.lines.ShowFault.TheVariants as fault;
 
+use fast_canon::Summary;
 use fast_decoder::{Message, Node};
 use fast_template::{Flat, FlatTemplate, Kind, Presence, Scalar, TemplateSet};
 use itoa::Buffer;
@@ -426,4 +428,17 @@ pub fn show_line(set: &TemplateSet, message: &Message, out: &mut Vec<u8>) -> Res
         out.truncate(before);
     }
     shown
+}
+
+/// Appends what a check says that ended well.
+pub(crate) fn push_ok_line(summary: &Summary, out: &mut Vec<u8>) -> Result<(), AllocError>
+    ensures { Writes (ok_line summary.now) result out.old.items out.new.items }
+{
+    push(b"ok messages=", out)?;
+    push_unsigned(summary.messages, out)?;
+    push(b" bytes=", out)?;
+    push_unsigned(summary.read, out)?;
+    push(b" canonical=", out)?;
+    push_unsigned(summary.written, out)?;
+    push(b"\n", out)
 }

@@ -1,32 +1,26 @@
-//! The program `fastcat`: FAST 1.1 streams as lines of text, and in canonical form.
+//! The program `fastcat`: FAST 1.1 streams as lines of text, checked, and in canonical form.
 //!
-//! `fastcat show|canon [--hex]` reads a stream from standard input. It knows one template as yet, `First`, with the
-//! identifier 16 and two mandatory uInt32 fields: `A` with no operator, and `B` with `copy`.
+//! `fastcat show|check|canon --templates FILE [--hex] [FILE]` reads a stream of messages of any templates.
 #![tactic(auto)]
 
 pub mod command;
-mod decode;
-mod dictionary;
-mod encode;
-pub mod fault;
 mod hex_text;
 mod input;
-pub mod laws;
 pub mod lines;
 mod memory;
-mod message;
-mod output;
-pub mod place;
 pub mod refusal;
+mod request;
 pub mod run;
 pub mod serve;
-mod show;
-pub mod summary;
+mod shown;
+pub mod source;
 #[cfg(test)]
 mod tests;
+mod told;
 
 use fast_io::Counted;
 use serve::{TURNS, serve_words};
+use source::Host;
 use std::process::ExitCode;
 use std::{env, io};
 
@@ -39,7 +33,7 @@ fn main(rt: HostRuntime) -> ExitCode {
     ExitCode::from(serve_words(
         rt.alloc(),
         words(&rt),
-        &mut Counted::new(rt.stdin()),
+        &mut Host::new(&rt),
         &mut Counted::new(rt.stdout()),
         &mut Counted::new(rt.stderr()),
         TURNS,

@@ -5,11 +5,14 @@ ghost use Rattle.std.specs.String.{string_bytes};
 ghost use Rattle.std.specs.IoError.{error_kind};
 ghost use Rattle.std.specs.declared.io.ErrorKind.TheVariants as io_kind;
 ghost use Rattle.clap.specs.Words.{kind_of};
-ghost use Rattle.fastcat.specs.Refusals.{IsTextOrMemory, IsOfRun, IsOfStream, of_hex_lem, status_of, stream_line_of, text_of, cause_name_of};
+ghost use Rattle.fastcat.specs.Refusals.{IsOfLoad, IsOfRun, IsOfStream, IsTextOrMemory, cause_name_of, load_cause_name_of, load_refusal_of, machine_refusal_of, of_hex_lem, of_template_text_lem, of_text_lem, status_of, stream_line_of, templates_line_of, text_of};
 
-use crate::fault::{CanonFault, Cause, Fault};
 use crate::hex_text::HexFault;
+use crate::input::TextFault;
 use clap::error::ErrorKind;
+use fast_canon::CanonFault;
+use fast_decoder::{Cause, Fault};
+use fast_template::{LoadCause, LoadFault};
 use std::alloc::{AllocError, Global};
 use std::io;
 
@@ -20,12 +23,18 @@ pub enum Refusal {
     Stream(String),
     /// The command line is refused, or asks for help, with the text for the user.
     Line(String),
+    /// The templates are refused, with the line that says so.
+    Templates(String),
     /// A word of the command line is not UTF-8.
     NotText,
+    /// The template text has more bytes than a text may have.
+    TemplatesTooLong,
     /// The input is not an even number of hex digits.
     NotHex,
     /// The input has more bytes than a hex text may have.
     TooLong,
+    /// A file is not there, or cannot be opened.
+    Open,
     /// The input answered an error.
     Read,
     /// The output answered an error, or took nothing.
@@ -42,13 +51,79 @@ fn cause_name(cause: Cause) -> &'static str
 {
     match cause {
         Cause::D2 => "D2",
+        Cause::D4 => "D4",
         Cause::D5 => "D5",
+        Cause::D6 => "D6",
+        Cause::D7 => "D7",
         Cause::D9 => "D9",
+        Cause::R1 => "R1",
+        Cause::R2 => "R2",
         Cause::Truncated => "Truncated",
         Cause::Limit => "Limit",
         Cause::Read => "Read",
         Cause::Turns => "Turns",
         Cause::Memory => "Memory",
+    }
+}
+
+/// A cause of refused templates as a word.
+fn load_cause_name(cause: LoadCause) -> &'static str
+    ensures { result.now ≡ load_cause_name_of cause }
+{
+    match cause {
+        LoadCause::S1 => "S1",
+        LoadCause::S2 => "S2",
+        LoadCause::S3 => "S3",
+        LoadCause::S4 => "S4",
+        LoadCause::S5 => "S5",
+        LoadCause::D8 => "D8",
+        LoadCause::DuplicateName => "DuplicateName",
+        LoadCause::DuplicateId => "DuplicateId",
+        LoadCause::Cycle => "Cycle",
+        LoadCause::TooDeep => "TooDeep",
+        LoadCause::TooMany => "TooMany",
+        LoadCause::Memory => "Memory",
+    }
+}
+
+/// What want of memory for templates is answered with; none where the templates are refused.
+fn load_refusal(cause: LoadCause) -> Option<Refusal>
+    ensures { result ≡ load_refusal_of cause }
+{
+    match cause {
+        LoadCause::Memory => Some(Refusal::Memory),
+        LoadCause::S1
+        | LoadCause::S2
+        | LoadCause::S3
+        | LoadCause::S4
+        | LoadCause::S5
+        | LoadCause::D8
+        | LoadCause::DuplicateName
+        | LoadCause::DuplicateId
+        | LoadCause::Cycle
+        | LoadCause::TooDeep
+        | LoadCause::TooMany => None,
+    }
+}
+
+/// What a fault of the machine in mid-stream is answered with; none where the bytes are refused.
+fn machine_refusal(cause: Cause) -> Option<Refusal>
+    ensures { result ≡ machine_refusal_of cause }
+{
+    match cause {
+        Cause::Read => Some(Refusal::Read),
+        Cause::Turns => Some(Refusal::Turns),
+        Cause::Memory => Some(Refusal::Memory),
+        Cause::D2
+        | Cause::D4
+        | Cause::D5
+        | Cause::D6
+        | Cause::D7
+        | Cause::D9
+        | Cause::R1
+        | Cause::R2
+        | Cause::Truncated
+        | Cause::Limit => None,
     }
 }
 
@@ -66,6 +141,16 @@ fn stream_line(alloc: Global, fault: Fault) -> Result<String, AllocError>
     )
 }
 
+/// The line of refused templates.
+fn templates_line(alloc: Global, fault: LoadFault) -> Result<String, AllocError>
+    ensures { IfOk result (λ line. string_bytes line ≡ templates_line_of fault) }
+{
+    let cause = load_cause_name(fault.cause);
+    let template = fault.template;
+    let instruction = fault.instruction;
+    format!(in alloc; "templates refused {cause} template={template} instruction={instruction}\n")
+}
+
 impl Refusal {
     /// The exit status of the program.
     pub fn status(&self) -> u8
@@ -73,8 +158,13 @@ impl Refusal {
     {
         match self {
             Refusal::Stream(_) => 1,
-            Refusal::Line(_) | Refusal::NotText | Refusal::NotHex | Refusal::TooLong => 2,
-            Refusal::Read | Refusal::Write | Refusal::Turns | Refusal::Memory => 3,
+            Refusal::Line(_)
+            | Refusal::Templates(_)
+            | Refusal::NotText
+            | Refusal::TemplatesTooLong
+            | Refusal::NotHex
+            | Refusal::TooLong => 2,
+            Refusal::Open | Refusal::Read | Refusal::Write | Refusal::Turns | Refusal::Memory => 3,
         }
     }
 
@@ -83,10 +173,12 @@ impl Refusal {
         ensures { result.now ≡ text_of self.now }
     {
         match self {
-            Refusal::Stream(text) | Refusal::Line(text) => text.as_str(),
+            Refusal::Stream(text) | Refusal::Line(text) | Refusal::Templates(text) => text.as_str(),
             Refusal::NotText => "command line is not UTF-8\n",
+            Refusal::TemplatesTooLong => "templates too long\n",
             Refusal::NotHex => "input is not hex\n",
             Refusal::TooLong => "input too long\n",
+            Refusal::Open => "fault open\n",
             Refusal::Read => "fault read\n",
             Refusal::Write => "fault write\n",
             Refusal::Turns => "fault turns\n",
@@ -110,7 +202,7 @@ impl Refusal {
     /// no memory refuses no line.
     pub fn of_line(alloc: Global, error: &clap::Error) -> Refusal
         ensures memory { kind_of error.now ≡ ErrorKind.OutOfMemory → result ≡ Refusal.Memory }
-        ensures line { kind_of error.now ≢ ErrorKind.OutOfMemory → IsTextOrMemory result }
+        ensures line { IsTextOrMemory result }
     {
         if error.kind() == ErrorKind::OutOfMemory {
             return Refusal::Memory;
@@ -121,12 +213,48 @@ impl Refusal {
         }
     }
 
+    /// What an input that gives no text of templates is answered with.
+    pub fn of_template_text(fault: TextFault) -> Refusal
+        ensures { result ≡ of_template_text_lem fault }
+    {
+        match fault {
+            TextFault::TooLong => Refusal::TemplatesTooLong,
+            TextFault::Read => Refusal::Read,
+            TextFault::Turns => Refusal::Turns,
+            TextFault::Memory => Refusal::Memory,
+        }
+    }
+
+    /// What refused templates are answered with.
+    pub fn of_load(alloc: Global, fault: LoadFault) -> Refusal
+        ensures { IsOfLoad fault result }
+    {
+        match load_refusal(fault.cause) {
+            Some(refusal) => refusal,
+            None => match templates_line(alloc, fault) {
+                Ok(line) => Refusal::Templates(line),
+                Err(_) => Refusal::Memory,
+            },
+        }
+    }
+
+    /// What an input that gives no hex text is answered with.
+    pub fn of_text(fault: TextFault) -> Refusal
+        ensures { result ≡ of_text_lem fault }
+    {
+        match fault {
+            TextFault::TooLong => Refusal::TooLong,
+            TextFault::Read => Refusal::Read,
+            TextFault::Turns => Refusal::Turns,
+            TextFault::Memory => Refusal::Memory,
+        }
+    }
+
     /// What a hex text that gives no bytes is answered with.
     pub fn of_hex(fault: HexFault) -> Refusal
         ensures { result ≡ of_hex_lem fault }
     {
         match fault {
-            HexFault::TooLong => Refusal::TooLong,
             HexFault::NotHex => Refusal::NotHex,
             HexFault::Memory => Refusal::Memory,
         }
@@ -134,18 +262,14 @@ impl Refusal {
 
     /// What a stream that was not read to its end is answered with.
     pub fn of_stream(alloc: Global, fault: Fault) -> Refusal
-        ensures { IsOfStream fault.cause fault result }
+        ensures { IsOfStream fault result }
     {
-        match fault.cause {
-            Cause::Read => Refusal::Read,
-            Cause::Turns => Refusal::Turns,
-            Cause::Memory => Refusal::Memory,
-            Cause::D2 | Cause::D5 | Cause::D9 | Cause::Truncated | Cause::Limit => {
-                match stream_line(alloc, fault) {
-                    Ok(line) => Refusal::Stream(line),
-                    Err(_) => Refusal::Memory,
-                }
-            }
+        match machine_refusal(fault.cause) {
+            Some(refusal) => refusal,
+            None => match stream_line(alloc, fault) {
+                Ok(line) => Refusal::Stream(line),
+                Err(_) => Refusal::Memory,
+            },
         }
     }
 

@@ -1,6 +1,7 @@
 //! What no clause says: worked streams, the program's answers, and devices that fail in mid-stream.
 
 mod devices;
+mod examples;
 mod lines;
 mod programs;
 mod streams;

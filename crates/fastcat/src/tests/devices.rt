@@ -1,5 +1,9 @@
 //! Readers and writers that give little, or fail.
 
+ghost use Rattle.std.specs.Prelude.{None};
+
+use crate::source::Source;
+use fast_io::Counted;
 use std::io::{self, Read, Write};
 
 /// An error of a device.
@@ -15,14 +19,14 @@ pub enum After {
 }
 
 /// Gives bytes, at most so many a read.
-#[derive(Drop)]
-pub struct Source<'a> {
+#[derive(Clone, Copy, Drop)]
+pub struct Feed<'a> {
     pub rest: &'a [u8],
     pub width: usize,
     pub after: After,
 }
 
-impl Read for Source<'_> {
+impl Read for Feed<'_> {
     fn read(&mut self, buf: &mut [u8]) -> io::Result<usize> {
         match self.after {
             After::Error if self.rest.is_empty() => Err(broken()),
@@ -34,19 +38,40 @@ impl Read for Source<'_> {
     }
 }
 
-/// Gives one byte again and again.
+/// The name of the file with the templates, and of one with a stream.
+pub const TEMPLATES: &str = "templates.json";
+
+pub const STREAM: &str = "stream.fast";
+
+/// Two files and a standard input.
 #[derive(Drop)]
-pub struct Repeated {
-    pub byte: u8,
-    pub left: usize,
+pub struct Shelf<'a> {
+    pub templates: Feed<'a>,
+    pub stream: Feed<'a>,
+    pub standard: Feed<'a>,
 }
 
-impl Read for Repeated {
-    fn read(&mut self, buf: &mut [u8]) -> io::Result<usize> {
-        let count = buf.len().min(self.left);
-        buf[..count].fill(self.byte);
-        self.left -= count;
-        Ok(count)
+impl<'a> Source for Shelf<'a> {
+    type File = Counted<Feed<'a>>;
+
+    type Standard = Counted<Feed<'a>>;
+
+    ghost file = { λ s name. None };
+
+    ghost input = { λ s. None };
+
+    fn open(&mut self, name: &str) -> Option<Counted<Feed<'a>>> {
+        if name == TEMPLATES {
+            Some(Counted::new(self.templates))
+        } else if name == STREAM {
+            Some(Counted::new(self.stream))
+        } else {
+            None
+        }
+    }
+
+    fn standard(&mut self) -> Counted<Feed<'a>> {
+        Counted::new(self.standard)
     }
 }
 

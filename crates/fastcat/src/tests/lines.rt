@@ -9,7 +9,7 @@ use std::process::Abort;
 use std::test::Fail;
 
 // The worked templates.
-const WORKED: &str = r#"{"templates":[
+pub(super) const WORKED: &str = r#"{"templates":[
 {"name":"Quote","id":1,"instructions":[
  {"kind":"uInt32","name":"Seq","operator":"increment"},
  {"kind":"string","name":"Sym","operator":"copy"},

@@ -1,0 +1,66 @@
+//! Where the program's files and its standard input come from.
+
+ghost use Rattle.std.specs.Prelude.{◌≡◌, ℕ, List, None, Option, IfSome};
+
+use fast_io::{ByteInput, Counted};
+use std::fs::{self, File};
+use std::io::Stdin;
+
+/// Where the program's files and its standard input come from.
+pub trait Source {
+    /// A file that is open.
+    type File: ByteInput + Drop;
+
+    /// The standard input.
+    type Standard: ByteInput + Drop;
+
+    /// What the file of a name gives, where the source tells it.
+    ghost file: { Self → List ℕ → Option (List ℕ) };
+
+    /// What the standard input gives, where the source tells it.
+    ghost input: { Self → Option (List ℕ) };
+
+    /// Opens the file of this name at its beginning; none where it is not there or cannot be opened.
+    fn open(&mut self, name: &str) -> Option<Self::File>
+        ensures gives { IfSome result (λ f. Self.File.left f ≡ file self.old name.now) }
+        ensures files { file self.new ≡ file self.old }
+        ensures input { input self.new ≡ input self.old };
+
+    /// The standard input.
+    fn standard(&mut self) -> Self::Standard
+        ensures gives { Self.Standard.left result ≡ input self.old };
+}
+
+/// The files and the standard input of the machine, which tells of neither what it gives.
+#[derive(Drop)]
+pub struct Host<'a> {
+    rt: &'a HostRuntime,
+}
+
+impl<'a> Host<'a> {
+    /// Those of this process. Takes no memory.
+    pub fn new(rt: &'a HostRuntime) -> Host<'a> {
+        Host { rt }
+    }
+}
+
+impl Source for Host<'_> {
+    type File = Counted<File>;
+
+    type Standard = Counted<Stdin>;
+
+    ghost file = { λ s name. None };
+
+    ghost input = { λ s. None };
+
+    fn open(&mut self, name: &str) -> Option<Counted<File>> {
+        match fs::open(self.rt, name) {
+            Ok(file) => Some(Counted::new(file)),
+            Err(_) => None,
+        }
+    }
+
+    fn standard(&mut self) -> Counted<Stdin> {
+        Counted::new(self.rt.stdin())
+    }
+}
