@@ -4,6 +4,7 @@ mod RefusedRows
 pub mod Leavings
 pub mod Writings
 pub mod Repeated
+mod QuickWays
 pub mod Relays
 pub mod Writers
 mod Shapes

@@ -1,5 +1,6 @@
 pub mod Canonical
 pub mod Written
+pub mod Quick
 pub mod Levels
 pub mod FirstRefusal
 pub mod Added

@@ -20,6 +20,7 @@ mod message;
 mod nodes;
 mod output;
 mod put;
+mod quick;
 mod relay;
 mod shape;
 mod size;

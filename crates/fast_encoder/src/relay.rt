@@ -130,54 +130,12 @@ pub(crate) fn relay_entry(
     }
 }
 
-/// Reads a part, and appends the best form of its value to a segment; answers the place behind what was read.
+/// Reads a part, and appends the best form of its value to a segment; answers the value, none where it is absent, and
+/// the place behind what was read.
 ///
 /// # Errors
 ///
 /// The first fault of the part; nothing has changed. Memory: a growth was refused.
-#[inline(always)]
-pub(crate) fn relay_part<E: Entries>(
-    alloc: Global,
-    entries: &mut E,
-    part: &FieldPart,
-    bit: bool,
-    bytes: &[u8],
-    at: usize,
-    level: &mut Level,
-) -> Result<usize, FieldFault>
-    requires place { at ≤ length bytes.now }
-    requires bit { part_needs_bit_of part.now ≡ false → bit ≡ true }
-    requires served { IsTrue (E.serves entries.now part.now.key) }
-    ensures place { IfOk result (λ n. (at ≤ n) × (n ≤ length bytes.now)) }
-    ensures relays { IfOk result (λ n. (v : Option ScalarOf)
-        × Took part.now bit (E.contents entries.old) (E.contents entries.new) v
-        (drop at bytes.now) (drop n bytes.now)
-        × Spelt part.now (entry_at (E.contents entries.old) part.now.key) v
-        (level_of level.old) (level_of level.new)) }
-    ensures stops { IfErr result (λ f. f ≢ FieldFault.Memory
-        → (field_at part.now (entry_at (E.contents entries.old) part.now.key) bit
-        (drop at bytes.now) ≡ Err f)
-        × (E.contents entries.new ≡ E.contents entries.old)
-        × (level_of level.new ≡ level_of level.old)) }
-    ensures same_keys { E.serves entries.new ≡ E.serves entries.old }
-{
-    match entries.entry_mut(&part.key) {
-        Err(_) => Err(FieldFault::Memory),
-        Ok(entry) => match relay_entry(alloc, part, entry, bit, bytes, at, &mut level.bytes) {
-            Err(fault) => Err(fault),
-            Ok((_found, best, next)) => match level.ask(part_needs_bit(part), best) {
-                Err(_) => Err(FieldFault::Memory),
-                Ok(()) => Ok(next),
-            },
-        },
-    }
-}
-
-/// The same, and answers the value too, none where it is absent.
-///
-/// # Errors
-///
-/// As `relay_part`. Memory: also where the value was to be copied.
 #[inline(always)]
 pub(crate) fn relay_value<E: Entries>(
     alloc: Global,

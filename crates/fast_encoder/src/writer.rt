@@ -2,11 +2,12 @@
 
 use crate::fit::is_identifier;
 use crate::level::Level;
-use crate::relay::{relay_part, relay_value};
-use fast_decoder::{Receiver, exponent_in, mantissa_in, unsigned_in};
+use crate::quick::relay_part;
+use crate::relay::relay_value;
+use fast_decoder::{Receiver, unsigned_in};
 use fast_dictionary::Entries;
 use fast_field::FieldFault;
-use fast_template::{FieldPart, part_needs_bit};
+use fast_template::{FieldPart, Kind};
 use std::alloc::{AllocError, Global};
 use std::mem;
 
@@ -191,7 +192,7 @@ impl Receiver for Writer {
     ) -> Result<usize, FieldFault> {
         match relay_part(alloc, entries, part, bit, bytes, at, &mut self.inner) {
             Err(fault) => Err(fault),
-            Ok(next) => Ok(next),
+            Ok((_there, next)) => Ok(next),
         }
     }
 
@@ -205,12 +206,12 @@ impl Receiver for Writer {
         bytes: &[u8],
         at: usize,
     ) -> Result<(bool, usize), FieldFault> {
-        match relay_value(alloc, entries, part, bit, bytes, at, &mut self.inner) {
-            Err(fault) => Err(fault),
-            Ok((value, next)) => match exponent_in(&value) {
+        match part.kind {
+            Kind::Int32 => match relay_part(alloc, entries, part, bit, bytes, at, &mut self.inner) {
                 Err(fault) => Err(fault),
-                Ok(exponent) => Ok((exponent.is_some(), next)),
+                Ok((there, next)) => Ok((there, next)),
             },
+            _ => Err(FieldFault::Memory),
         }
     }
 
@@ -224,12 +225,18 @@ impl Receiver for Writer {
         bytes: &[u8],
         at: usize,
     ) -> Result<usize, FieldFault> {
-        match relay_value(alloc, entries, part, bit, bytes, at, &mut self.inner) {
-            Err(fault) => Err(fault),
-            Ok((value, next)) => match mantissa_in(&value) {
+        match part.kind {
+            Kind::Int64 => match relay_part(alloc, entries, part, bit, bytes, at, &mut self.inner) {
                 Err(fault) => Err(fault),
-                Ok(_) => Ok(next),
+                Ok((there, next)) => {
+                    if there {
+                        Ok(next)
+                    } else {
+                        Err(FieldFault::Memory)
+                    }
+                }
             },
+            _ => Err(FieldFault::Memory),
         }
     }
 

@@ -1,22 +1,23 @@
-use Rattle.std.proofs.Common.{sym, map}
+use Rattle.std.proofs.Common.{map}
 use Rattle.fast_decoder.specs.Received.{exponent_of}
 use Rattle.fast_encoder.specs.Levels.{level_of}
-use Rattle.fast_encoder.proofs.Writers.{is_exponent, exponent_finished, has_exponent}
+use Rattle.fast_encoder.proofs.QuickWays.{exponent_there}
+use Rattle.fast_encoder.proofs.Writers.{exponent_finished, has_exponent, is_exponent}
 use Rattle.fast_encoder.proofs.writer.WriterReceiver.exponent.Goals as goal
 
-pub returns-clause-goes : goal.returns-clause-goes
-returns-clause-goes g c =
+pub returns-in-Ok-clause-goes : goal.returns-in-Ok-clause-goes
+returns-in-Ok-clause-goes g c =
     let old = c.args.self.now in
     let d = g.E.Entries.contents c.args.entries.now in
-    let e = g.E.Entries.contents c.relay_value.new.entries in
-    let z = c.in-Ok-exponent_in.exponent in
-    let is_it = c.in-Ok-exponent_in.ensures.ok in
-    let took = rw (is_it) at c.in-Ok.ensures.took in (
-      exponent_of z,
+    let e = g.E.Entries.contents c.relay_part.new.entries in
+    let r = c.in-Ok.ensures.relays in
+    let x = exponent_there c.args.part.now.kind c.in-Ok.there r.0 c.in-Int32.is r.1 in
+    let took = rw (x.1) at r.2 in (
+      exponent_of x.0,
       took,
-      is_exponent z c.is_some.result (sym c.is_some.ensures),
+      is_exponent x.0 c.in-Ok.there x.2,
       λ name number presence mantissa is o next first has. (
-        exponent_finished z old.out.items o is mantissa has.0,
-        has_exponent z (map level_of old.outer.items) (level_of old.inner) (level_of c.relay_value.new.level) o name number presence c.args.part.now mantissa is d e next first took.entry (rw (is_it) at c.in-Ok.ensures.spelt) has.1,
+        exponent_finished x.0 old.out.items o is mantissa has.0,
+        has_exponent x.0 (map level_of old.outer.items) (level_of old.inner) (level_of c.relay_part.new.level) o name number presence c.args.part.now mantissa is d e next first took.entry (rw (x.1) at r.3) has.1,
       ),
     )

@@ -10,9 +10,9 @@ returns-in-Ok-clause-goes g c =
     let e = g.E.Entries.contents c.relay_part.new.entries in
     let r = c.in-Ok.ensures.relays in (
       r.0,
-      r.1,
+      r.2,
       λ name number presence is o next first has. (
         has.0,
-        has_field (map level_of old.outer.items) (level_of old.inner) (level_of c.relay_part.new.level) o name number presence c.args.part.now is d e r.0 next first r.1.entry r.2 has.1,
+        has_field (map level_of old.outer.items) (level_of old.inner) (level_of c.relay_part.new.level) o name number presence c.args.part.now is d e r.0 next first r.2.entry r.3 has.1,
       ),
     )
