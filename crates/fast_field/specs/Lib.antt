@@ -16,3 +16,4 @@ pub mod Removals
 pub mod CommonParts
 pub mod Chosen
 pub mod Written
+pub mod Relayed
