@@ -17,6 +17,7 @@ mod cut;
 mod delta;
 mod fault;
 mod found;
+mod integers;
 pub mod laws;
 mod left_out;
 mod number;
