@@ -92,7 +92,7 @@ null_first operator.Tail i e p out = tail_null_is_first i e null_byte (rw p (nul
 
 -- ---- what stands whole
 
-whole_shortest : (k : Kind) (p : Presence) (v : Scalar) (b : List ℕ) → IsOfType k v → ShortestWhole p v b → IsShortest (Spelled k p) b (Some v)
+pub whole_shortest : (k : Kind) (p : Presence) (v : Scalar) (b : List ℕ) → IsOfType k v → ShortestWhole p v b → IsShortest (Spelled k p) b (Some v)
 whole_shortest kind.UInt32 p (U32 n) b h s = number_is_shortest kind.UInt32 p (U32 n) b refl h (unsigned_form p n b s)
 whole_shortest kind.UInt64 p (U64 n) b h s = number_is_shortest kind.UInt64 p (U64 n) b refl h (unsigned_form p n b s)
 whole_shortest kind.Int32 p (I32 z) b h s = number_is_shortest kind.Int32 p (I32 z) b refl h (signed_form p z b s)
@@ -109,7 +109,7 @@ whole_first i v x b h made s = absurd made
 
 -- ---- deltas
 
-number_value : (k : Kind) (p : Presence) (base v : Scalar) (b : List ℕ) → IsTrue (is_integer k) → IsOfType k v → ShortestSigned p (integer_of v -ℤ integer_of base) b → IsFirst (λ c b. DeltaValue k p base c b v) b
+pub number_value : (k : Kind) (p : Presence) (base v : Scalar) (b : List ℕ) → IsTrue (is_integer k) → IsOfType k v → ShortestSigned p (integer_of v -ℤ integer_of base) b → IsFirst (λ c b. DeltaValue k p base c b v) b
 number_value kind.UInt32 p base v b i l s = number_delta_is_first kind.UInt32 p base v b i l s
 number_value kind.Int32 p base v b i l s = number_delta_is_first kind.Int32 p base v b i l s
 number_value kind.UInt64 p base v b i l s = number_delta_is_first kind.UInt64 p base v b i l s

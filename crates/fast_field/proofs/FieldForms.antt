@@ -102,7 +102,7 @@ checked_ok part.Length (Some v) y e = let w = if_ok (within_part part.Length v) 
 checked_ok part.Whole (Some v) y e = (ok_is {F = FieldFault} (Some v) y e, refl)
 checked_ok part.Mantissa (Some v) y e = (ok_is {F = FieldFault} (Some v) y e, refl)
 
-checked_is : (pt : Part) (x : Option Scalar) → IsWithin pt x → part_checked pt x ≡ Ok x
+pub checked_is : (pt : Part) (x : Option Scalar) → IsWithin pt x → part_checked pt x ≡ Ok x
 unfolding part_checked
 checked_is pt None h = refl
 checked_is part.Exponent (Some v) h = if_holds (within_part part.Exponent v) (Some v) fault.R1 h

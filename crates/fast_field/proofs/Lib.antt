@@ -23,6 +23,7 @@ pub mod OneBest
 pub mod TwoPieces
 pub mod ChosenForms
 pub mod WrittenForms
+pub mod Relaying
 pub mod RefusalSteps
 pub mod CallSteps
 pub mod ReadFields

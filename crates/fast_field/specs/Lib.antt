@@ -16,3 +16,5 @@ pub mod Removals
 pub mod CommonParts
 pub mod Chosen
 pub mod Written
+pub mod Numbers
+pub mod Relayed

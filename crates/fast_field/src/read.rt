@@ -23,7 +23,7 @@ use fast_template::{FieldPart, Operator, Part, Scalar};
 use std::alloc::Global;
 
 /// The most elements of a sequence.
-const LENGTH_LIMIT: i128 = 65_535;
+pub(crate) const LENGTH_LIMIT: i128 = 65_535;
 
 /// The value that this bit and the bytes give, before the limits of a part.
 #[tactic(auto, using(crate::proofs::CallSteps::call_steps), unfolding(crate::specs::FieldReading::row_at, crate::specs::FieldReading::whole_at, crate::specs::FieldReading::predicted_at))]

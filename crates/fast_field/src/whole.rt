@@ -359,7 +359,11 @@ fn size_unsigned(presence: Presence, number: u64) -> usize
 
 /// Appends a number without a sign, in the form of a presence, or nothing.
 #[inline(always)]
-fn write_unsigned(presence: Presence, number: u64, out: &mut Vec<u8>) -> Result<(), WireFault>
+pub(crate) fn write_unsigned(
+    presence: Presence,
+    number: u64,
+    out: &mut Vec<u8>,
+) -> Result<(), WireFault>
     ensures { AppendsOne (ShortestUnsigned presence number) out.old.items out.new.items result }
 {
     match presence {

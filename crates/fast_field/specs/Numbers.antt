@@ -1,0 +1,80 @@
+-- Integers by their numbers alone. (Own.) No public clause names these.
+use Rattle.std.specs.Prelude.{◌≡◌, ℕ, ℤ, pos, ◌+ℤ◌, int_le, int_lt, if◌then◌else◌, Bool, true, false, List, Option, Some, None, Ok, IsTrue}
+use Rattle.fast_wire.specs.declared.nullable.Nullable.TheVariants.{Value}
+use Rattle.fast_template.specs.Scalar.{in_range, is_integer, is_of, least_of, greatest_of, exponent_in_range, of_integer}
+use Rattle.fast_template.specs.declared.kind.Kind.{Kind}
+use Rattle.fast_template.specs.declared.kind.Operator.{Operator}
+use Rattle.fast_template.specs.declared.kind.Operator.TheVariants as operator
+use Rattle.fast_template.specs.declared.kind.Part.{Part}
+use Rattle.fast_template.specs.declared.kind.Part.TheVariants as part
+use Rattle.fast_template.specs.declared.kind.Presence.{Presence}
+use Rattle.fast_template.specs.declared.resolved.FieldPart.{FieldPart}
+use Rattle.fast_template.specs.declared.scalar.Scalar.{Scalar}
+use Rattle.fast_dictionary.specs.declared.entry.Entry.{Entry}
+use Rattle.fast_dictionary.specs.declared.entry.Entry.TheVariants.{Assigned}
+use Rattle.fast_field.specs.FieldReading.{integer_at}
+use Rattle.fast_field.specs.Planning.{left_out_of}
+
+-- a number in the range of an integer type
+pub record IsNumber (k : Kind) (z : ℤ) : Type 0 where
+  pub integer : IsTrue (is_integer k)
+  pub range : IsTrue (in_range k z)
+
+-- within the limit of a part
+abbrev pub number_within : Part → ℤ → Bool
+number_within part.Exponent z = exponent_in_range z
+number_within part.Length z = int_le z (pos 65535)
+number_within p z = true
+
+-- what a field can have
+pub record IsFieldNumber (k : Kind) (p : Part) (z : ℤ) : Type 0 where
+  pub number : IsNumber k z
+  pub within : IsTrue (number_within p z)
+
+-- one more; after the greatest number the least
+abbrev pub next_number : Kind → ℤ → ℤ
+next_number k z = if int_lt z (greatest_of k) then z +ℤ pos 1 else least_of k
+
+-- the value is of the type, and this is its number
+pub record IsNumberOf (k : Kind) (v : Scalar) (z : ℤ) : Type 0 where
+  pub number : IsNumber k z
+  pub value : v ≡ of_integer k z
+
+-- the entry has a value of the type, and this is its number
+abbrev pub HasNumber : Kind → Entry → ℤ → Type 0
+HasNumber k (Assigned v) z = IsNumberOf k v z
+HasNumber k e z = ⊥
+
+-- bit 1 spells the whole value
+abbrev pub SpellsWhole : Operator → Type 0
+SpellsWhole operator.Plain = Unit {0}
+SpellsWhole operator.Default = Unit {0}
+SpellsWhole operator.Copy = Unit {0}
+SpellsWhole operator.Increment = Unit {0}
+SpellsWhole o = ⊥
+
+-- bit 0 gives the value that the entry has
+abbrev pub Repeats : Operator → Type 0
+Repeats operator.Copy = Unit {0}
+Repeats operator.Tail = Unit {0}
+Repeats o = ⊥
+
+-- bit 0 gives what follows from the entry
+abbrev pub Predicts : Operator → Type 0
+Predicts operator.Copy = Unit {0}
+Predicts operator.Increment = Unit {0}
+Predicts operator.Tail = Unit {0}
+Predicts o = ⊥
+
+-- the bytes spell a number and not NULL
+abbrev pub Spelt : Bool → Presence → List ℕ → ℤ → List ℕ → Type 0
+Spelt unsigned p bytes z rest = integer_at unsigned p bytes ≡ Ok (Value z, rest)
+
+-- where the value is a number of the type, it is this one
+abbrev pub IsNumberIn : Kind → Option Scalar → Option ℤ → Type 0
+IsNumberIn k o may = (z : ℤ) → IsNumber k z → o ≡ Some (of_integer k z) → may ≡ Some z
+
+-- where bit 0 gives a number of the type, it is this one
+abbrev pub MayGive : Kind → FieldPart → Entry → Option ℤ → Type 0
+MayGive k i e may =
+    (z : ℤ) → IsNumber k z → left_out_of i.operator i e (Some (of_integer k z)) ≡ true → may ≡ Some z
