@@ -157,6 +157,21 @@ impl<'a> Walk<'a> {
         self.next = next;
     }
 
+    // The same behind a field, where an instruction is next as before.
+    #[inline(always)]
+    fn pass_field(&mut self, needs: bool, others: &'a [Flat])
+        requires spare { 0 < self.now.spare }
+        ensures bits { self.new.bits ≡ after_bit needs self.old.bits }
+        ensures spare { self.new.spare ≡ self.old.spare - 1 }
+        ensures next { self.new.next ≡ self.old.next }
+        ensures rest { self.new.rest.now ≡ others.now }
+        ensures around { self.new.around ≡ self.old.around }
+    {
+        take_for(&mut self.bits, needs);
+        self.spare -= 1;
+        self.rest = others;
+    }
+
     // Opens a segment inside the one that is open; its node is counted.
     #[inline(always)]
     fn open(
@@ -232,7 +247,7 @@ impl<'a> Walk<'a> {
                 match receiver.field(alloc, entries, whole, bit, bytes, at) {
                     Err(fault) => Err(part_halt(whole, fault)),
                     Ok(next) => {
-                        self.pass(needs, others, Next::Instruction);
+                        self.pass_field(needs, others);
                         Ok(next)
                     }
                 }

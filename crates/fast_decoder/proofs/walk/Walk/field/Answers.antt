@@ -44,10 +44,10 @@ returns-in-Ok-field-clause-goes g c = λ o at.
     let took = c.in-Ok-field.ensures.goes in
     let others = list_of c.args.others.now in
     let next = is_instruction o.next (at.0.next ∙ ap next_of c.requires.next) in
-    let end = c.pass.ensures in (
+    let end = c.pass_field.ensures in (
       passed o others (single took.0),
       (
-        record { next = ap next_of (sym end.next); rest = ap list_of (sym end.rest); around = rw end.around at.0.around },
+        record { next = ap next_of (sym (end.next ∙ c.requires.next)); rest = ap list_of (sym end.rest); around = rw end.around at.0.around },
         took.2 f.0 c.args.number f.1 others o next (at.0.rest ∙ f.2) at.1,
       ),
       record { set = refl; before = refl; template = refl; members = refl; start = refl },
