@@ -1,5 +1,5 @@
 -- What fields that are read and written at once rest on.
-use Rattle.std.proofs.Common.{◌≡◌, ℕ, Bool, true, false, List, [], ◌++◌, Result, Ok, Err, refl, sym, ap, subst, ◌∙◌, arith}
+use Rattle.std.proofs.Common.{◌≡◌, ℕ, Bool, true, false, List, [], ◌++◌, Result, Ok, Err, refl, sym, ap, subst, ◌∙◌, arith, append-nil}
 use Rattle.std.specs.Prelude.{ℤ, pos, ◌+ℤ◌, ◌-ℤ◌, int_lt, if◌then◌else◌, Option, Some, None, IsTrue, IfSome, IfNone}
 use Rattle.std.proofs.lemmas.Int.{ints}
 use Rattle.fast_wire.proofs.Readers.{ok_is}
@@ -33,7 +33,7 @@ use Rattle.fast_field.specs.Values.{integer_of, increased, is_unsigned}
 use Rattle.fast_field.proofs.BaseSteps.{is_of-kind}
 use Rattle.fast_field.proofs.BestDeltas.{IsFirst}
 use Rattle.fast_field.proofs.BestForms.{bit_zero_is_best}
-use Rattle.fast_field.proofs.BestValues.{left_out, whole_is_first, delta_is_first, best_under_one}
+use Rattle.fast_field.proofs.BestValues.{left_out, whole_is_first, delta_is_first, best_under_one, constant_is_first}
 use Rattle.fast_field.proofs.ChosenForms.{whole_shortest, number_value}
 use Rattle.fast_field.proofs.FieldForms.{field_forms, checked_is}
 use Rattle.fast_field.proofs.FieldsGoOn.{field_goes}
@@ -173,6 +173,14 @@ initial_passes i e v o initial is within =
     let entry : e ≡ next i e (Some v) = rw o refl in
     (v, is, passes i e e (Some v) bit default (record { row = row; within = within }) entry)
 
+pub no_initial_passes : (i : FieldPart) (e : Entry) → i.operator ≡ operator.Default → i.initial ≡ None → i.presence ≡ Optional → IsPassed i e e Absent
+no_initial_passes i e o initial optional =
+    let row : FormOf i.operator i e false uncut [] None = subst (λ (o : Operator). FormOf o i e false uncut [] None) (sym o) (refl, refl, (initial, optional)) in
+    let bit : IsBitOf i false = rw o (λ h. absurd cc) in
+    let default : HasDefault i = λ d m. absurd (let no : Mandatory ≡ Optional = sym m ∙ optional in cc) in
+    let entry : e ≡ next i e None = rw o refl in
+    passes i e e None bit default (record { row = row; within = tt }) entry
+
 pub constant_passes : (i : FieldPart) (e : Entry) → i.operator ≡ operator.Constant → i.presence ≡ Optional → IsPassed i e e Absent
 constant_passes i e o optional =
     let row : FormOf i.operator i e false uncut [] None = subst (λ (o : Operator). FormOf o i e false uncut [] None) (sym o) (refl, refl, optional, refl) in
@@ -226,6 +234,17 @@ relays i old new v bytes rest before after Spells of_kind within row entry out f
   entry = entry;
   best = appends_best i old (Some v) true Spells before after (λ b s. best_under_one i old (Some v) b within (first b s) out) appended;
 }
+
+constant_row : (o : Operator) (i : FieldPart) (e : Entry) (v : Scalar) (bytes : List ℕ) → o ≡ operator.Constant → i.initial ≡ Some v → row_at o i e true bytes ≡ Ok (Some v, bytes)
+unfolding row_at
+constant_row operator.Constant i e v bytes o initial = rw initial refl
+constant_row o' i e v bytes o initial = absurd cc
+
+pub constant_relays : (i : FieldPart) (e : Entry) (v : Scalar) (bytes out : List ℕ) → i.operator ≡ operator.Constant → i.initial ≡ Some v → is_of i.kind v ≡ true → IsTrue (within_part i.part v) → Relays i e e v bytes bytes out out
+constant_relays i e v bytes out o initial is within =
+    relays i e e v bytes bytes out out (λ b. b ≡ []) is within (constant_row i.operator i e v bytes o initial) (rw o refl) (rw o refl)
+    (λ b s. rw s (subst (λ (o : Operator). IsFirst (λ c b. FormOf o i e true c b (Some v)) []) (sym o) (constant_is_first i e v (sym initial))))
+    ([], sym (append-nil out), refl)
 
 typed_relays : (i : FieldPart) (old new : Entry) (z : ℤ) (bytes rest before after : List ℕ) → SpellsWhole i.operator → IsFieldNumber i.kind i.part z → Spelt (is_unsigned i.kind) i.presence bytes z rest → new ≡ next i old (Some (of_integer i.kind z))
     → left_out_of i.operator i old (Some (of_integer i.kind z)) ≡ false → (b : List ℕ) × (after ≡ before ++ b) × ShortestWhole i.presence (of_integer i.kind z) b → Relays i old new (of_integer i.kind z) bytes rest before after

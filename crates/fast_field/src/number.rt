@@ -1,7 +1,7 @@
 //! Fields that are read and written at once, without a value in between: what bit 0 gives of its entry, and integers.
 //! These are most fields of a feed. What is not served here goes the general way of `find_field` and `write_found`.
 
-ghost use Rattle.std.specs.Prelude.{◌≡◌, ◌≤◌, ◌+ℤ◌, ◌<ℤ◌, ◌^◌, pos, negsuc, true, false, length, drop, Some, IfNone, IfSome, IsTrue};
+ghost use Rattle.std.specs.Prelude.{◌≡◌, ◌≤◌, ℕ, List, ◌+ℤ◌, ◌<ℤ◌, ◌^◌, pos, negsuc, true, false, length, drop, Some, IfNone, IfSome, IsTrue};
 ghost use Rattle.fast_template.specs.Scalar.{is_integer, is_of, of_integer};
 ghost use Rattle.fast_template.specs.declared.kind.Operator.TheVariants as operator_type;
 ghost use Rattle.fast_template.specs.declared.scalar.Scalar.{Scalar as ScalarOf};
@@ -110,7 +110,7 @@ fn pass_increment(instr: &FieldPart, entry: &mut Entry) -> Passed
     }
 }
 
-/// The initial value.
+/// The initial value, or none where there is none.
 #[inline(always)]
 fn pass_initial(instr: &FieldPart, entry: &Entry) -> Passed
     requires { instr.now.operator ≡ operator_type.Default }
@@ -124,7 +124,10 @@ fn pass_initial(instr: &FieldPart, entry: &Entry) -> Passed
                 Passed::Elsewhere
             }
         }
-        None => Passed::Elsewhere,
+        None => match instr.presence {
+            Presence::Optional => Passed::Absent,
+            Presence::Mandatory => Passed::Elsewhere,
+        },
     }
 }
 
@@ -315,6 +318,19 @@ fn relay_delta(
     }
 }
 
+/// Whether bit 1 gives a constant, which has no bytes.
+#[inline(always)]
+fn gives_constant(instr: &FieldPart, entry: &Entry) -> bool
+    requires { instr.now.operator ≡ operator_type.Constant }
+    ensures { result ≡ true → (v : ScalarOf) × ((bytes out : List ℕ)
+        → Relays instr.now entry.now entry.now v bytes bytes out out) }
+{
+    match &instr.initial {
+        Some(value) => fits(instr, value),
+        None => false,
+    }
+}
+
 /// Relays a number of a type that is known here.
 #[inline(always)]
 fn relay(
@@ -344,10 +360,9 @@ fn relay(
     }
 }
 
-/// Reads an integer under bit 1, appends its best form where that has bit 1 too, makes the entry the one afterwards,
-/// and answers the place after it. None: nothing has changed, and the general way tells.
+/// Relays a number.
 #[inline(always)]
-pub fn relay_number(
+fn relay_integer(
     instr: &FieldPart,
     entry: &mut Entry,
     bytes: &[u8],
@@ -368,5 +383,40 @@ pub fn relay_number(
         Kind::UInt64 => relay(Kind::UInt64, instr, entry, bytes, at, out),
         Kind::Int64 => relay(Kind::Int64, instr, entry, bytes, at, out),
         Kind::Decimal | Kind::Ascii | Kind::Unicode | Kind::Bytes => None,
+    }
+}
+
+/// Reads an integer or a constant under bit 1, appends its best form where that has bit 1 too, makes the entry the one
+/// afterwards, and answers the place after it. None: nothing has changed, and the general way tells.
+#[inline(always)]
+pub fn relay_number(
+    instr: &FieldPart,
+    entry: &mut Entry,
+    bytes: &[u8],
+    at: usize,
+    out: &mut Vec<u8>,
+) -> Option<usize>
+    requires { at ≤ length bytes.now }
+    ensures place { IfSome result (λ next. (at ≤ next) × (next ≤ length bytes.now)) }
+    ensures relayed { IfSome result (λ next. (v : ScalarOf)
+        × Relays instr.now entry.old entry.new v (drop at bytes.now) (drop next bytes.now)
+        out.old.items out.new.items) }
+    ensures entry { IfNone result (entry.new ≡ entry.old) }
+    ensures out { IfNone result (out.new.items ≡ out.old.items) }
+{
+    match instr.operator {
+        Operator::Constant => {
+            if gives_constant(instr, entry) {
+                Some(at)
+            } else {
+                None
+            }
+        }
+        Operator::Plain
+        | Operator::Default
+        | Operator::Copy
+        | Operator::Increment
+        | Operator::Delta
+        | Operator::Tail => relay_integer(instr, entry, bytes, at, out),
     }
 }
