@@ -5,6 +5,7 @@ ghost use Rattle.fast_template.specs.Resolved.{part_needs_bit as part_needs_bit_
 ghost use Rattle.fast_template.specs.declared.scalar.Scalar.{Scalar as ScalarOf};
 ghost use Rattle.fast_dictionary.specs.Dictionary.{entry_at};
 ghost use Rattle.fast_field.specs.FieldReading.{field_at};
+ghost use Rattle.fast_field.specs.Relayed.{Relays};
 ghost use Rattle.fast_decoder.specs.Received.{Took};
 ghost use Rattle.fast_encoder.specs.Levels.{level_of};
 ghost use Rattle.fast_encoder.specs.Quick.{IsThere, Relayed};
@@ -14,14 +15,43 @@ use crate::fit::is_of_kind;
 use crate::level::Level;
 use crate::relay::relay_entry;
 use fast_dictionary::{Entries, Entry};
-use fast_field::{FieldFault, Passed, pass_left_out, relay_number};
+use fast_field::{FieldFault, Passed, pass_left_out, relay_number, relay_text};
 use fast_template::{FieldPart, part_needs_bit};
 use std::alloc::Global;
 
-// Takes what bit 0 gives, or an integer; answers whether its value is there, and the place behind it. None: nothing
+// Reads an integer, a constant, a string or a vector, and appends its best form; answers the place behind it. None:
+// nothing has changed, and the part goes the general way.
+#[inline(always)]
+fn relay_sent(
+    alloc: Global,
+    part: &FieldPart,
+    entry: &mut Entry,
+    bytes: &[u8],
+    at: usize,
+    out: &mut Vec<u8>,
+) -> Option<usize>
+    requires place { at ≤ length bytes.now }
+    ensures place { IfSome result (λ next. (at ≤ next) × (next ≤ length bytes.now)) }
+    ensures relayed { IfSome result (λ next. (v : ScalarOf)
+        × Relays part.now entry.old entry.new v (drop at bytes.now) (drop next bytes.now)
+        out.old.items out.new.items) }
+    ensures entry { IfNone result (entry.new ≡ entry.old) }
+    ensures out { IfNone result (out.new.items ≡ out.old.items) }
+{
+    match relay_number(part, entry, bytes, at, out) {
+        Some(next) => Some(next),
+        None => match relay_text(alloc, part, entry, bytes, at, out) {
+            Some(next) => Some(next),
+            None => None,
+        },
+    }
+}
+
+// Takes what bit 0 gives, or what was sent; answers whether its value is there, and the place behind it. None: nothing
 // has changed, and the part goes the general way.
 #[inline(always)]
 fn relay_quickly(
+    alloc: Global,
     part: &FieldPart,
     entry: &mut Entry,
     bit: bool,
@@ -39,7 +69,7 @@ fn relay_quickly(
     ensures out { IfNone result (out.new.items ≡ out.old.items) }
 {
     if bit {
-        match relay_number(part, entry, bytes, at, out) {
+        match relay_sent(alloc, part, entry, bytes, at, out) {
             None => None,
             Some(next) => Some((true, next)),
         }
@@ -108,7 +138,7 @@ fn relay_either(
         → (field_at part.now entry.old bit (drop at bytes.now) ≡ Err f)
         × (entry.new ≡ entry.old) × (out.new.items ≡ out.old.items)) }
 {
-    match relay_quickly(part, entry, bit, bytes, at, out) {
+    match relay_quickly(alloc, part, entry, bit, bytes, at, out) {
         Some((there, next)) => Ok((there, bit, next)),
         None => match relay_generally(alloc, part, entry, bit, bytes, at, out) {
             Err(fault) => Err(fault),

@@ -5,7 +5,7 @@
 //! for callers that keep the entries: it changes the entry where it lies, and copies no value. [`find_field`] changes
 //! nothing. [`plan_field`] answers the bit and the bytes of the best form of a value and [`write_field`] appends it;
 //! [`write_in_place`] does both and changes the entry too, and [`write_found`] does so with a value that was just read.
-//! [`pass_left_out`] and [`relay_number`] read and write the most frequent fields at once, with no value in between.
+//! [`pass_left_out`], [`relay_number`] and [`relay_text`] read and write the most frequent fields at once.
 //! The definitions stand in `specs/`: the forms that spell a value (`Fields`, over `Spelled`, `Bases` and
 //! `Deltas`), the form that a writer chooses (`Best`), and the function that reads a field from the front of a list
 //! and answers its first fault (`FieldReading`). The module [`laws`] ties forms and reading together.
@@ -29,6 +29,7 @@ mod string;
 mod tail;
 #[cfg(test)]
 mod tests;
+mod text;
 mod whole;
 mod write;
 #[cfg(test)]
@@ -40,4 +41,5 @@ pub use found::Found;
 pub use number::{Passed, pass_left_out, relay_number};
 pub use plan::{Plan, plan_field};
 pub use read::{find_field, read_field, read_in_place};
+pub use text::relay_text;
 pub use write::{write_field, write_found, write_in_place};

@@ -69,8 +69,26 @@ pub(crate) fn append_entity(value: u128, size: usize, out: &mut Vec<u8>) -> Resu
     ensures { Appends (entity_of size value) out.old out.new result }
 {
     out.reserve(size)?;
-    push_entity(value, size, out);
+    match u64::try_from(value) {
+        Ok(value) => push_short_entity(value, size, out),
+        Err(_) => push_entity(value, size, out),
+    }
     Ok(())
+}
+
+/// The same as `push_entity` of a number in 64 bits.
+fn push_short_entity(value: u64, size: usize, out: &mut Vec<u8>)
+    requires some { 0 < size }
+    requires few { size ≤ 10 }
+    requires room { vec_len out.old + size ≤ vec_capacity out.old }
+    ensures items { out.new.items ≡ out.old.items ++ entity_of size value }
+{
+    for left in (1..size).rev() {
+        let group = (value >> (7 * left)) % 128;
+        out.push(group as u8).unwrap();
+    }
+    let group = value % 128;
+    out.push(group as u8 + STOP_BIT).unwrap();
 }
 
 /// Appends the lowest `size` groups of a number, the stop bit on the last, in room that is there.
