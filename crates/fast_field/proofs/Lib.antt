@@ -24,6 +24,7 @@ pub mod TwoPieces
 pub mod ChosenForms
 pub mod WrittenForms
 pub mod Relaying
+mod TextRelaying
 pub mod RefusalSteps
 pub mod CallSteps
 pub mod ReadFields

@@ -207,7 +207,7 @@ whole_read : (i : FieldPart) (bytes rest : List ℕ) (z : ℤ) → IsNumber i.ki
 unfolding whole_at
 whole_read i bytes rest z n h = spelled_as i.part i.kind i.presence bytes n.integer ∙ spelled_number i.part i.kind i.presence bytes rest z n h
 
-whole_row : (o : Operator) (i : FieldPart) (e : Entry) (bytes : List ℕ) → SpellsWhole o → row_at o i e true bytes ≡ whole_at i bytes
+pub whole_row : (o : Operator) (i : FieldPart) (e : Entry) (bytes : List ℕ) → SpellsWhole o → row_at o i e true bytes ≡ whole_at i bytes
 unfolding row_at
 whole_row operator.Plain i e bytes h = refl
 whole_row operator.Default i e bytes h = refl
@@ -226,7 +226,7 @@ whole_first operator.Copy i e z b o h s = whole_is_first i.kind i.presence (Some
 whole_first operator.Increment i e z b o h s = whole_is_first i.kind i.presence (Some (of_integer i.kind z)) b (whole_shortest i.kind i.presence (of_integer i.kind z) b (of_type i.kind z h) s)
 whole_first o' i e z b o h s = absurd o
 
-relays : (i : FieldPart) (old new : Entry) (v : Scalar) (bytes rest before after : List ℕ) (Spells : List ℕ → Type 0) → IsTrue (is_of i.kind v) → IsTrue (within_part i.part v) → row_at i.operator i old true bytes ≡ Ok (Some v, rest) → new ≡ next i old (Some v)
+pub relays : (i : FieldPart) (old new : Entry) (v : Scalar) (bytes rest before after : List ℕ) (Spells : List ℕ → Type 0) → IsTrue (is_of i.kind v) → IsTrue (within_part i.part v) → row_at i.operator i old true bytes ≡ Ok (Some v, rest) → new ≡ next i old (Some v)
     → left_out_of i.operator i old (Some v) ≡ false → ((b : List ℕ) → Spells b → IsFirst (λ c b. FormOf i.operator i old true c b (Some v)) b) → (b : List ℕ) × (after ≡ before ++ b) × Spells b → Relays i old new v bytes rest before after
 relays i old new v bytes rest before after Spells of_kind within row entry out first appended = record {
   of_kind = of_kind;

@@ -18,3 +18,4 @@ pub mod Chosen
 pub mod Written
 pub mod Numbers
 pub mod Relayed
+pub mod Texts

@@ -1,13 +1,132 @@
 //! Strings and vectors that are read and written at once. What is not served here goes the general way of `find_field`
 //! and `write_found`.
 
-ghost use Rattle.std.specs.Prelude.{◌≡◌, ◌≤◌, length, drop, IfNone, IfSome};
+ghost use Rattle.std.specs.Prelude.{◌≡◌, ◌≤◌, ◌<◌, true, length, drop, Some, IfNone, IfSome};
+ghost use Rattle.std.specs.List.{AllByRecursion};
+ghost use Rattle.fast_template.specs.declared.kind.Part.TheVariants as part_type;
 ghost use Rattle.fast_template.specs.declared.scalar.Scalar.{Scalar as ScalarOf};
+ghost use Rattle.fast_field.specs.Bases.{next_of};
+ghost use Rattle.fast_field.specs.Numbers.{SpellsWhole};
 ghost use Rattle.fast_field.specs.Relayed.{Relays};
+ghost use Rattle.fast_field.specs.Texts.{IsText};
 
+use crate::base::units;
+use crate::left_out::is_left_out;
+use crate::string::UNIT_LIMIT;
+use crate::whole::{read_string, write_units};
 use fast_dictionary::Entry;
-use fast_template::FieldPart;
+use fast_template::{FieldPart, Kind, Operator, Part, Scalar};
 use std::alloc::Global;
+
+/// Whether these are characters of ASCII, and not too many.
+#[inline(always)]
+fn are_characters(text: &[u8]) -> bool
+    ensures { result ≡ true
+        → (length text.now ≤ 65535) × AllByRecursion (λ c. c < 128) text.now }
+{
+    text.len() <= UNIT_LIMIT && text.is_ascii()
+}
+
+/// Whether there are not too many bytes.
+#[inline(always)]
+fn are_few(bytes: &[u8]) -> bool
+    ensures { result ≡ true
+        → (length bytes.now ≤ 65535) × AllByRecursion (λ c. c < 256) bytes.now }
+{
+    bytes.len() <= UNIT_LIMIT
+}
+
+/// Whether a value is a string or vector of a type, and within it.
+#[inline(always)]
+fn is_text(kind: Kind, value: &Scalar) -> bool
+    ensures { result ≡ true → IsText kind value.now }
+{
+    match value {
+        Scalar::Ascii(text) => kind == Kind::Ascii && are_characters(text.as_slice()),
+        Scalar::Unicode(text) => kind == Kind::Unicode && are_few(text.as_bytes()),
+        Scalar::Bytes(bytes) => kind == Kind::Bytes && are_few(bytes.as_slice()),
+        _ => false,
+    }
+}
+
+/// Makes an entry the one that a value leaves which was spelled whole.
+#[inline(always)]
+fn keep_text(operator: Operator, entry: &mut Entry, value: Scalar)
+    requires { SpellsWhole operator }
+    ensures { entry.new ≡ next_of operator entry.old (Some value) }
+{
+    match operator {
+        Operator::Copy | Operator::Increment => *entry = Entry::Assigned(value),
+        _ => {}
+    }
+}
+
+/// Relays a string or vector that is spelled whole.
+fn relay_whole_text(
+    alloc: Global,
+    instr: &FieldPart,
+    entry: &mut Entry,
+    bytes: &[u8],
+    at: usize,
+    out: &mut Vec<u8>,
+) -> Option<usize>
+    requires at { at ≤ length bytes.now }
+    requires part { instr.now.part ≡ part_type.Whole }
+    requires operator { SpellsWhole instr.now.operator }
+    ensures place { IfSome result (λ next. (at ≤ next) × (next ≤ length bytes.now)) }
+    ensures relayed { IfSome result (λ next. (v : ScalarOf)
+        × Relays instr.now entry.old entry.new v (drop at bytes.now) (drop next bytes.now)
+        out.old.items out.new.items) }
+    ensures entry { IfNone result (entry.new ≡ entry.old) }
+    ensures out { IfNone result (out.new.items ≡ out.old.items) }
+{
+    let Ok((read, next)) = read_string(alloc, instr.kind, instr.presence, bytes, at) else {
+        return None;
+    };
+    let Some(value) = read else {
+        return None;
+    };
+    if !is_text(instr.kind, &value) {
+        return None;
+    }
+    if is_left_out(instr, entry.view(), Some(&value)) {
+        return None;
+    }
+    match write_units(instr.kind, instr.presence, units(&value), out) {
+        Ok(()) => {
+            keep_text(instr.operator, entry, value);
+            Some(next)
+        }
+        Err(_) => None,
+    }
+}
+
+/// Relays a string or vector that is no part of another field.
+#[inline(always)]
+fn relay_field_text(
+    alloc: Global,
+    instr: &FieldPart,
+    entry: &mut Entry,
+    bytes: &[u8],
+    at: usize,
+    out: &mut Vec<u8>,
+) -> Option<usize>
+    requires at { at ≤ length bytes.now }
+    requires part { instr.now.part ≡ part_type.Whole }
+    ensures place { IfSome result (λ next. (at ≤ next) × (next ≤ length bytes.now)) }
+    ensures relayed { IfSome result (λ next. (v : ScalarOf)
+        × Relays instr.now entry.old entry.new v (drop at bytes.now) (drop next bytes.now)
+        out.old.items out.new.items) }
+    ensures entry { IfNone result (entry.new ≡ entry.old) }
+    ensures out { IfNone result (out.new.items ≡ out.old.items) }
+{
+    match instr.operator {
+        Operator::Plain | Operator::Default | Operator::Copy => {
+            relay_whole_text(alloc, instr, entry, bytes, at, out)
+        }
+        Operator::Constant | Operator::Increment | Operator::Delta | Operator::Tail => None,
+    }
+}
 
 /// Reads a string or vector under bit 1, appends its best form where that has bit 1 too, makes the entry the one
 /// afterwards, and answers the place after it. None: nothing has changed, and the general way tells.
@@ -28,5 +147,13 @@ pub fn relay_text(
     ensures entry { IfNone result (entry.new ≡ entry.old) }
     ensures out { IfNone result (out.new.items ≡ out.old.items) }
 {
-    None
+    match instr.part {
+        Part::Whole => match instr.kind {
+            Kind::Ascii | Kind::Unicode | Kind::Bytes => {
+                relay_field_text(alloc, instr, entry, bytes, at, out)
+            }
+            Kind::UInt32 | Kind::Int32 | Kind::UInt64 | Kind::Int64 | Kind::Decimal => None,
+        },
+        Part::Exponent | Part::Mantissa | Part::Length => None,
+    }
 }

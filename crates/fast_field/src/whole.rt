@@ -298,7 +298,7 @@ fn read_number(
 
 /// A string or a vector.
 #[tactic(auto, using(crate::proofs::CallSteps::call_steps), unfolding(crate::specs::FieldReading::units_spelled_at))]
-fn read_string(
+pub(crate) fn read_string(
     alloc: Global,
     kind: Kind,
     presence: Presence,
