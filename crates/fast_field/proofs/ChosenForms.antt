@@ -120,7 +120,7 @@ decimal_value : (k : Kind) (p : Presence) (base v : Scalar) (b : List ℕ) → k
 decimal_value kind.Decimal p base v b i l s = decimal_delta_is_first p base v b l s
 decimal_value k p base v b i l s = absurd cc
 
-string_value : (k : Kind) (p : Presence) (base v : Scalar) (removal : ℤ) (part b : List ℕ) → IsUnitKind k → IsOfType k base → IsOfType k v → IsBestCut k p (units_of base) (units_of v) removal part → Both (ShortestSigned p removal) (ShortestPart k part) b
+pub string_value : (k : Kind) (p : Presence) (base v : Scalar) (removal : ℤ) (part b : List ℕ) → IsUnitKind k → IsOfType k base → IsOfType k v → IsBestCut k p (units_of base) (units_of v) removal part → Both (ShortestSigned p removal) (ShortestPart k part) b
     → IsFirst (λ c b. DeltaValue k p base c b v) b
 string_value kind.Ascii p base v removal part b u h l best s = cut_is_first kind.Ascii p base v removal part b u h l best s
 string_value kind.Unicode p base v removal part b u h l best s = cut_is_first kind.Unicode p base v removal part b u h l best s
@@ -198,14 +198,14 @@ whole_fits (Unicode s) h = h.0
 whole_fits (Bytes s) h = h.0
 whole_fits v h = tt
 
-few_units : (v : Scalar) → IsScalar v → length (units_of v) ≤ 65535
+pub few_units : (v : Scalar) → IsScalar v → length (units_of v) ≤ 65535
 few_units (Ascii s) h = h.0
 few_units (Unicode s) h = h.0
 few_units (Bytes s) h = h.0
 few_units v h = omega arith
 
 -- the units of a value
-value_fits : (k : Kind) (v : Scalar) → IsOfType k v → CanBeUnits k (units_of v)
+pub value_fits : (k : Kind) (v : Scalar) → IsOfType k v → CanBeUnits k (units_of v)
 value_fits kind.Ascii v h = units_fit kind.Ascii (units_of v) (units_of_string kind.Ascii v tt h)
 value_fits kind.Unicode v h = units_fit kind.Unicode (units_of v) (units_of_string kind.Unicode v tt h)
 value_fits kind.Bytes v h = units_fit kind.Bytes (units_of v) (units_of_string kind.Bytes v tt h)
@@ -231,11 +231,11 @@ back_is_string k v s t h e =
     let few = w.0 in
     (omega (arith, length-append s t), all_back (λ c. c < unit_limit k) s t w.1)
 
-part_is_string : (k : Kind) (z : ℤ) (base part v : List ℕ) → IsString k v → v ≡ put_together z base part → IsString k part
+pub part_is_string : (k : Kind) (z : ℤ) (base part v : List ℕ) → IsString k v → v ≡ put_together z base part → IsString k part
 part_is_string k (pos n) base part v h e = back_is_string k v (take (length base - n) base) part h e
 part_is_string k (negsuc n) base part v h e = front_is_string k v part (drop n base) h e
 
-delta_fits : (i : FieldPart) (base v : Scalar) (x : Pieces) → IsOfType i.kind base → IsOfType i.kind v → IsDelta i.kind i.presence base v x → CanBePieces i x
+pub delta_fits : (i : FieldPart) (base v : Scalar) (x : Pieces) → IsOfType i.kind base → IsOfType i.kind v → IsDelta i.kind i.presence base v x → CanBePieces i x
 delta_fits i base v (pieces.Difference d) h l made = rw made.1 (difference_fits i.kind base v made.0 h l)
 delta_fits i base v (pieces.Differences e m) h l made =
     let fit = differences_fit base v (subst (λ (k : Kind). IsOfType k base) made.0 h) (subst (λ (k : Kind). IsOfType k v) made.0 l) in

@@ -272,7 +272,7 @@ delta_as kind.UInt64 i e bytes h = refl
 delta_as kind.Int64 i e bytes h = refl
 delta_as k i e bytes h = absurd cc
 
-base_is : (i : FieldPart) (v : Scalar) → is_of i.kind v ≡ true → delta_base i (Assigned v) ≡ Ok v
+pub base_is : (i : FieldPart) (v : Scalar) → is_of i.kind v ≡ true → delta_base i (Assigned v) ≡ Ok v
 base_is i v is = rw is refl
 
 delta_read : (i : FieldPart) (e : Entry) (base : Scalar) (bytes rest : List ℕ) (d : ℤ) → delta_base i e ≡ Ok base → IsTrue (in_range i.kind (integer_of base +ℤ d)) → Spelt false i.presence bytes d rest
@@ -280,7 +280,7 @@ delta_read : (i : FieldPart) (e : Entry) (base : Scalar) (bytes rest : List ℕ)
 unfolding integer_delta_at integer_sum integer_value
 delta_read i e base bytes rest d is range h = rw (h, is, range) refl
 
-delta_row : (o : Operator) (i : FieldPart) (e : Entry) (bytes : List ℕ) → o ≡ operator.Delta → row_at o i e true bytes ≡ delta_at i.kind i e bytes
+pub delta_row : (o : Operator) (i : FieldPart) (e : Entry) (bytes : List ℕ) → o ≡ operator.Delta → row_at o i e true bytes ≡ delta_at i.kind i e bytes
 unfolding row_at
 delta_row operator.Delta i e bytes o = refl
 delta_row o' i e bytes o = absurd cc
@@ -294,7 +294,7 @@ delta_first i v z d b is h s =
     let e : d ≡ integer_of w -ℤ integer_of v = rw (number_back i.kind (z +ℤ d) h, number_is i.kind v z is) (added_back z d) in
     delta_is_first i (Assigned v) v w b (base_is i v (kind_is i.kind v z is)) (number_value i.kind i.presence v w b h.integer (of_type i.kind (z +ℤ d) h) (subst (λ (x : ℤ). ShortestSigned i.presence x b) e s))
 
-delta_out : (i : FieldPart) (e : Entry) (v : Option Scalar) → i.operator ≡ operator.Delta → left_out_of i.operator i e v ≡ false
+pub delta_out : (i : FieldPart) (e : Entry) (v : Option Scalar) → i.operator ≡ operator.Delta → left_out_of i.operator i e v ≡ false
 delta_out i e v o = rw o refl
 
 assigned_relays : (i : FieldPart) (v : Scalar) (new : Entry) (z d : ℤ) (bytes rest before after : List ℕ) → i.operator ≡ operator.Delta → IsNumberOf i.kind v z → IsFieldNumber i.kind i.part (z +ℤ d) → Spelt false i.presence bytes d rest

@@ -1,6 +1,6 @@
 -- What strings and vectors that are read and written at once rest on.
-use Rattle.std.proofs.Common.{◌≡◌, Bool, true, false, List, ℕ, ◌++◌, Ok, refl, ◌∙◌}
-use Rattle.std.specs.Prelude.{Option, Some, IsTrue}
+use Rattle.std.proofs.Common.{◌≡◌, ◌≤◌, Bool, true, false, List, ℕ, ◌++◌, Ok, length, refl, sym, subst, ◌∙◌}
+use Rattle.std.specs.Prelude.{ℤ, Option, Some, IsTrue}
 use Rattle.fast_wire.specs.Writing.{IsShortest}
 use Rattle.fast_template.specs.declared.kind.Kind.{Kind}
 use Rattle.fast_template.specs.declared.kind.Kind.TheVariants as kind
@@ -12,9 +12,11 @@ use Rattle.fast_template.specs.declared.kind.Presence.{Presence}
 use Rattle.fast_template.specs.declared.resolved.FieldPart.{FieldPart}
 use Rattle.fast_template.specs.declared.scalar.Scalar.{Scalar}
 use Rattle.fast_dictionary.specs.declared.entry.Entry.{Entry}
+use Rattle.fast_dictionary.specs.declared.entry.Entry.TheVariants.{Assigned}
 use Rattle.fast_field.specs.Bases.{next}
-use Rattle.fast_field.specs.Chosen.{ShortestUnits}
-use Rattle.fast_field.specs.FieldReading.{spelled_at, units_spelled_at, whole_at}
+use Rattle.fast_field.specs.Chosen.{Both, CanBeUnits, IsBestCut, ShortestPart, ShortestSigned, ShortestUnits}
+use Rattle.fast_field.specs.Deltas.{DeltaForm, put_together}
+use Rattle.fast_field.specs.FieldReading.{delta_at, spelled_at, unit_delta_at, units_spelled_at, whole_at}
 use Rattle.fast_field.specs.Fields.{FormOf, within_part}
 use Rattle.fast_field.specs.Numbers.{SpellsWhole}
 use Rattle.fast_field.specs.Planning.{left_out_of}
@@ -23,10 +25,12 @@ use Rattle.fast_field.specs.Spelled.{Spelled}
 use Rattle.fast_field.specs.Texts.{IsText}
 use Rattle.fast_field.specs.Values.{units_of, IsUnitKind}
 use Rattle.fast_field.proofs.BestDeltas.{IsFirst}
-use Rattle.fast_field.proofs.BestValues.{whole_is_first}
-use Rattle.fast_field.proofs.Relaying.{relays, whole_row}
+use Rattle.fast_field.proofs.BestValues.{delta_is_first, whole_is_first}
+use Rattle.fast_field.proofs.ChosenForms.{few_units, part_is_string, string_value, units_fit, value_fits}
+use Rattle.fast_field.proofs.Relaying.{base_is, delta_out, delta_row, relays, whole_row}
 use Rattle.fast_field.proofs.Shortest.{units_form}
 use Rattle.fast_field.proofs.StandingForms.{string_is_shortest}
+use Rattle.fast_field.proofs.ValuesWithin.{IsOfType, units_of_string}
 
 whole_within : (p : Part) (v : Scalar) → p ≡ part.Whole → IsTrue (within_part p v)
 whole_within p v is = rw is refl
@@ -61,4 +65,43 @@ whole_text_relays i old new v bytes rest before after whole o h read entry out a
     (whole_row i.operator i old bytes o ∙ text_read i v bytes rest h.of_units read)
     entry out
     (λ b s. text_first i.operator i old v b o h s)
+    appended
+
+-- ---- deltas
+
+pub text_of_type : (k : Kind) (v : Scalar) → IsText k v → IsOfType k v
+text_of_type k v h = (h.of_kind, h.within)
+
+pub text_few : (k : Kind) (v : Scalar) → IsText k v → length (units_of v) ≤ 65535
+text_few k v h = few_units v h.within
+
+pub text_units : (k : Kind) (v : Scalar) → IsText k v → CanBeUnits k (units_of v)
+text_units k v h = value_fits k v (text_of_type k v h)
+
+-- the new part of a text has its units
+pub cut_fits : (k : Kind) (v : Scalar) (removal : ℤ) (base new_part : List ℕ) → IsText k v → units_of v ≡ put_together removal base new_part → CanBeUnits k new_part
+cut_fits k v removal base new_part h made = units_fit k new_part (part_is_string k removal base new_part (units_of v) (units_of_string k v h.of_units (text_of_type k v h)) made)
+
+delta_as : (k : Kind) (i : FieldPart) (e : Entry) (bytes : List ℕ) → IsUnitKind k → delta_at k i e bytes ≡ unit_delta_at i e bytes
+unfolding delta_at
+delta_as kind.Ascii i e bytes h = refl
+delta_as kind.Unicode i e bytes h = refl
+delta_as kind.Bytes i e bytes h = refl
+delta_as k i e bytes h = absurd h
+
+cut_first : (i : FieldPart) (base v : Scalar) (removal : ℤ) (new_part b : List ℕ) → IsText i.kind base → IsText i.kind v → IsBestCut i.kind i.presence (units_of base) (units_of v) removal new_part
+    → Both (ShortestSigned i.presence removal) (ShortestPart i.kind new_part) b → IsFirst (λ c b. DeltaForm i (Assigned base) c b (Some v)) b
+cut_first i base v removal new_part b h l best s =
+    delta_is_first i (Assigned base) base v b (base_is i base h.of_kind)
+    (string_value i.kind i.presence base v removal new_part b h.of_units (text_of_type i.kind base h) (text_of_type i.kind v l) best s)
+
+pub text_delta_relays : (i : FieldPart) (base v : Scalar) (removal : ℤ) (new_part bytes rest before after : List ℕ) → i.part ≡ part.Whole → i.operator ≡ operator.Delta → IsText i.kind base → IsText i.kind v → unit_delta_at i (Assigned base) bytes ≡ Ok (Some v, rest)
+    → IsBestCut i.kind i.presence (units_of base) (units_of v) removal new_part → (b : List ℕ) × (after ≡ before ++ b) × Both (ShortestSigned i.presence removal) (ShortestPart i.kind new_part) b → Relays i (Assigned base) (Assigned v) v bytes rest before after
+text_delta_relays i base v removal new_part bytes rest before after whole o h l read best appended =
+    let last : next i (Assigned base) (Some v) ≡ Assigned v = rw o refl in
+    relays i (Assigned base) (Assigned v) v bytes rest before after (Both (ShortestSigned i.presence removal) (ShortestPart i.kind new_part)) l.of_kind (whole_within i.part v whole)
+    (delta_row i.operator i (Assigned base) bytes o ∙ delta_as i.kind i (Assigned base) bytes h.of_units ∙ read)
+    (sym last)
+    (delta_out i (Assigned base) (Some v) o)
+    (λ b s. subst (λ (o : Operator). IsFirst (λ c b. FormOf o i (Assigned base) true c b (Some v)) b) (sym o) (cut_first i base v removal new_part b h l best s))
     appended

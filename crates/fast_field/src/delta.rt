@@ -182,7 +182,7 @@ fn read_new_part(
 
 /// Reads a string or vector by its difference from the base.
 #[tactic(auto, using(crate::proofs::CallSteps::call_steps), unfolding(crate::specs::FieldReading::unit_delta_at))]
-fn read_unit_delta(
+pub(crate) fn read_unit_delta(
     alloc: Global,
     instr: &FieldPart,
     kept: EntryRef,

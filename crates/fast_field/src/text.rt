@@ -3,18 +3,22 @@
 
 ghost use Rattle.std.specs.Prelude.{◌≡◌, ◌≤◌, ◌<◌, true, length, drop, Some, IfNone, IfSome};
 ghost use Rattle.std.specs.List.{AllByRecursion};
+ghost use Rattle.fast_template.specs.declared.kind.Operator.TheVariants as operator_type;
 ghost use Rattle.fast_template.specs.declared.kind.Part.TheVariants as part_type;
 ghost use Rattle.fast_template.specs.declared.scalar.Scalar.{Scalar as ScalarOf};
+ghost use Rattle.fast_dictionary.specs.declared.entry.Entry.TheVariants as entry_type;
 ghost use Rattle.fast_field.specs.Bases.{next_of};
 ghost use Rattle.fast_field.specs.Numbers.{SpellsWhole};
 ghost use Rattle.fast_field.specs.Relayed.{Relays};
 ghost use Rattle.fast_field.specs.Texts.{IsText};
 
 use crate::base::units;
+use crate::cut::best_cut;
+use crate::delta::{read_unit_delta, write_cut};
 use crate::left_out::is_left_out;
 use crate::string::UNIT_LIMIT;
 use crate::whole::{read_string, write_units};
-use fast_dictionary::Entry;
+use fast_dictionary::{Entry, EntryRef};
 use fast_template::{FieldPart, Kind, Operator, Part, Scalar};
 use std::alloc::Global;
 
@@ -101,6 +105,77 @@ fn relay_whole_text(
     }
 }
 
+/// Reads a delta of a string or vector, and appends the best one of its value; answers the value and the place after
+/// what was read.
+fn rewrite_text_delta(
+    alloc: Global,
+    instr: &FieldPart,
+    base: &Scalar,
+    bytes: &[u8],
+    at: usize,
+    out: &mut Vec<u8>,
+) -> Option<(Scalar, usize)>
+    requires at { at ≤ length bytes.now }
+    requires part { instr.now.part ≡ part_type.Whole }
+    requires operator { instr.now.operator ≡ operator_type.Delta }
+    ensures place { IfSome result (λ x. (at ≤ x.1) × (x.1 ≤ length bytes.now)) }
+    ensures relayed { IfSome result (λ x. Relays instr.now (entry_type.Assigned base.now)
+        (entry_type.Assigned x.0) x.0 (drop at bytes.now) (drop x.1 bytes.now)
+        out.old.items out.new.items) }
+    ensures out { IfNone result (out.new.items ≡ out.old.items) }
+{
+    if !is_text(instr.kind, base) {
+        return None;
+    }
+    let kept = EntryRef::Assigned(base);
+    let Ok((read, next)) = read_unit_delta(alloc, instr, kept, bytes, at) else {
+        return None;
+    };
+    let Some(value) = read else {
+        return None;
+    };
+    if !is_text(instr.kind, &value) {
+        return None;
+    }
+    let (removal, part) = best_cut(instr.kind, instr.presence, units(base), units(&value));
+    match write_cut(instr.kind, instr.presence, removal, part, out) {
+        Ok(()) => Some((value, next)),
+        Err(_) => None,
+    }
+}
+
+/// Relays a string or vector by its difference from the value that the entry has.
+#[inline(always)]
+fn relay_text_delta(
+    alloc: Global,
+    instr: &FieldPart,
+    entry: &mut Entry,
+    bytes: &[u8],
+    at: usize,
+    out: &mut Vec<u8>,
+) -> Option<usize>
+    requires at { at ≤ length bytes.now }
+    requires part { instr.now.part ≡ part_type.Whole }
+    requires operator { instr.now.operator ≡ operator_type.Delta }
+    ensures place { IfSome result (λ next. (at ≤ next) × (next ≤ length bytes.now)) }
+    ensures relayed { IfSome result (λ next. (v : ScalarOf)
+        × Relays instr.now entry.old entry.new v (drop at bytes.now) (drop next bytes.now)
+        out.old.items out.new.items) }
+    ensures entry { IfNone result (entry.new ≡ entry.old) }
+    ensures out { IfNone result (out.new.items ≡ out.old.items) }
+{
+    match entry {
+        Entry::Assigned(base) => match rewrite_text_delta(alloc, instr, base, bytes, at, out) {
+            Some((value, next)) => {
+                *base = value;
+                Some(next)
+            }
+            None => None,
+        },
+        Entry::Undefined | Entry::Empty => None,
+    }
+}
+
 /// Relays a string or vector that is no part of another field.
 #[inline(always)]
 fn relay_field_text(
@@ -124,7 +199,8 @@ fn relay_field_text(
         Operator::Plain | Operator::Default | Operator::Copy => {
             relay_whole_text(alloc, instr, entry, bytes, at, out)
         }
-        Operator::Constant | Operator::Increment | Operator::Delta | Operator::Tail => None,
+        Operator::Delta => relay_text_delta(alloc, instr, entry, bytes, at, out),
+        Operator::Constant | Operator::Increment | Operator::Tail => None,
     }
 }
 
