@@ -225,7 +225,7 @@ front_is_string k v s t h e =
     let few = w.0 in
     (omega (arith, length-append s t), all_front (λ c. c < unit_limit k) s t w.1)
 
-back_is_string : (k : Kind) (v s t : List ℕ) → IsString k v → v ≡ s ++ t → IsString k t
+pub back_is_string : (k : Kind) (v s t : List ℕ) → IsString k v → v ≡ s ++ t → IsString k t
 back_is_string k v s t h e =
     let w = subst (IsString k) e h in
     let few = w.0 in

@@ -1,7 +1,8 @@
 -- What strings and vectors that are read and written at once rest on.
-use Rattle.std.proofs.Common.{◌≡◌, ◌≤◌, Bool, true, false, List, ℕ, ◌++◌, Ok, length, refl, sym, subst, ◌∙◌}
+use Rattle.std.proofs.Common.{◌≡◌, ◌≤◌, Bool, true, false, List, ℕ, ◌-◌, ◌++◌, Ok, length, take, refl, sym, subst, ◌∙◌}
 use Rattle.std.specs.Prelude.{ℤ, Option, Some, IsTrue}
 use Rattle.fast_wire.specs.Writing.{IsShortest}
+use Rattle.fast_template.specs.Scalar.{is_of}
 use Rattle.fast_template.specs.declared.kind.Kind.{Kind}
 use Rattle.fast_template.specs.declared.kind.Kind.TheVariants as kind
 use Rattle.fast_template.specs.declared.kind.Operator.{Operator}
@@ -13,10 +14,10 @@ use Rattle.fast_template.specs.declared.resolved.FieldPart.{FieldPart}
 use Rattle.fast_template.specs.declared.scalar.Scalar.{Scalar}
 use Rattle.fast_dictionary.specs.declared.entry.Entry.{Entry}
 use Rattle.fast_dictionary.specs.declared.entry.Entry.TheVariants.{Assigned}
-use Rattle.fast_field.specs.Bases.{next}
-use Rattle.fast_field.specs.Chosen.{Both, CanBeUnits, IsBestCut, ShortestPart, ShortestSigned, ShortestUnits}
-use Rattle.fast_field.specs.Deltas.{DeltaForm, put_together}
-use Rattle.fast_field.specs.FieldReading.{delta_at, spelled_at, unit_delta_at, units_spelled_at, whole_at}
+use Rattle.fast_field.specs.Bases.{next, tail_base}
+use Rattle.fast_field.specs.Chosen.{Both, CanBeUnits, IsBestCut, IsBestTail, ShortestPart, ShortestSigned, ShortestUnits}
+use Rattle.fast_field.specs.Deltas.{DeltaForm, TailForm, ended_by, put_together}
+use Rattle.fast_field.specs.FieldReading.{delta_at, row_at, spelled_at, tail_at, unit_delta_at, units_spelled_at, whole_at}
 use Rattle.fast_field.specs.Fields.{FormOf, within_part}
 use Rattle.fast_field.specs.Numbers.{SpellsWhole}
 use Rattle.fast_field.specs.Planning.{left_out_of}
@@ -25,8 +26,9 @@ use Rattle.fast_field.specs.Spelled.{Spelled}
 use Rattle.fast_field.specs.Texts.{IsText}
 use Rattle.fast_field.specs.Values.{units_of, IsUnitKind}
 use Rattle.fast_field.proofs.BestDeltas.{IsFirst}
-use Rattle.fast_field.proofs.BestValues.{delta_is_first, whole_is_first}
-use Rattle.fast_field.proofs.ChosenForms.{few_units, part_is_string, string_value, units_fit, value_fits}
+use Rattle.fast_field.proofs.BestTails.{tail_is_first}
+use Rattle.fast_field.proofs.BestValues.{delta_is_first, tail_form_is_first, whole_is_first}
+use Rattle.fast_field.proofs.ChosenForms.{back_is_string, few_units, part_is_string, string_value, units_fit, value_fits}
 use Rattle.fast_field.proofs.Relaying.{base_is, delta_out, delta_row, relays, whole_row}
 use Rattle.fast_field.proofs.Shortest.{units_form}
 use Rattle.fast_field.proofs.StandingForms.{string_is_shortest}
@@ -104,4 +106,36 @@ text_delta_relays i base v removal new_part bytes rest before after whole o h l 
     (sym last)
     (delta_out i (Assigned base) (Some v) o)
     (λ b s. subst (λ (o : Operator). IsFirst (λ c b. FormOf o i (Assigned base) true c b (Some v)) b) (sym o) (cut_first i base v removal new_part b h l best s))
+    appended
+
+-- ---- tails
+
+-- the tail of a text has its units
+pub tail_fits : (k : Kind) (v : Scalar) (base tail : List ℕ) → IsText k v → units_of v ≡ ended_by base tail → CanBeUnits k tail
+tail_fits k v base tail h made = units_fit k tail (back_is_string k (units_of v) (take (length base - length tail) base) tail (units_of_string k v h.of_units (text_of_type k v h)) made)
+
+tail_row : (o : Operator) (i : FieldPart) (e : Entry) (bytes : List ℕ) → o ≡ operator.Tail → row_at o i e true bytes ≡ tail_at i e bytes
+unfolding row_at
+tail_row operator.Tail i e bytes o = refl
+tail_row o' i e bytes o = absurd cc
+
+tail_base_is : (i : FieldPart) (v : Scalar) → is_of i.kind v ≡ true → tail_base i (Assigned v) ≡ Ok v
+tail_base_is i v is = rw is refl
+
+ended_first : (i : FieldPart) (base v : Scalar) (tail b : List ℕ) → IsText i.kind base → IsText i.kind v → IsBestTail i.kind i.presence (units_of base) (units_of v) tail
+    → ShortestUnits i.kind i.presence tail b → IsFirst (λ c b. TailForm i (Assigned base) c b (Some v)) b
+ended_first i base v tail b h l best s =
+    tail_form_is_first i (Assigned base) base v b (tail_base_is i base h.of_kind)
+    (tail_is_first i.kind i.presence base v tail b h.of_units (text_of_type i.kind v l) best s)
+
+pub tail_relays : (i : FieldPart) (base v : Scalar) (tail bytes rest before after : List ℕ) → i.part ≡ part.Whole → i.operator ≡ operator.Tail → IsText i.kind base → IsText i.kind v → tail_at i (Assigned base) bytes ≡ Ok (Some v, rest)
+    → left_out_of i.operator i (Assigned base) (Some v) ≡ false → IsBestTail i.kind i.presence (units_of base) (units_of v) tail → (b : List ℕ) × (after ≡ before ++ b) × ShortestUnits i.kind i.presence tail b
+    → Relays i (Assigned base) (Assigned v) v bytes rest before after
+tail_relays i base v tail bytes rest before after whole o h l read out best appended =
+    let last : next i (Assigned base) (Some v) ≡ Assigned v = rw o refl in
+    relays i (Assigned base) (Assigned v) v bytes rest before after (ShortestUnits i.kind i.presence tail) l.of_kind (whole_within i.part v whole)
+    (tail_row i.operator i (Assigned base) bytes o ∙ read)
+    (sym last)
+    out
+    (λ b s. subst (λ (o : Operator). IsFirst (λ c b. FormOf o i (Assigned base) true c b (Some v)) b) (sym o) (ended_first i base v tail b h l best s))
     appended

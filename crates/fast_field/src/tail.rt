@@ -61,7 +61,12 @@ pub(crate) fn read_tail(
 /// The best tail of a value that is no shorter than its base: the fewest bytes; of these, the shortest. That is
 /// what stands behind the longest common front, or one unit more: a nullable ASCII string that is empty or begins
 /// with NUL needs a preamble.
-fn best_tail<'a>(kind: Kind, presence: Presence, base: &[u8], value: &'a [u8]) -> &'a [u8]
+pub(crate) fn best_tail<'a>(
+    kind: Kind,
+    presence: Presence,
+    base: &[u8],
+    value: &'a [u8],
+) -> &'a [u8]
     requires value { CanBeUnits kind value.now }
     requires long { length base.now ≤ length value.now }
     ensures { IsBestTail kind presence base.now value.now result.now }

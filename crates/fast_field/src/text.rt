@@ -17,6 +17,7 @@ use crate::cut::best_cut;
 use crate::delta::{read_unit_delta, write_cut};
 use crate::left_out::is_left_out;
 use crate::string::UNIT_LIMIT;
+use crate::tail::{best_tail, read_tail};
 use crate::whole::{read_string, write_units};
 use fast_dictionary::{Entry, EntryRef};
 use fast_template::{FieldPart, Kind, Operator, Part, Scalar};
@@ -176,6 +177,79 @@ fn relay_text_delta(
     }
 }
 
+/// Reads a tail, and appends the best one of its value; answers the value and the place after what was read.
+fn rewrite_tail(
+    alloc: Global,
+    instr: &FieldPart,
+    base: &Scalar,
+    bytes: &[u8],
+    at: usize,
+    out: &mut Vec<u8>,
+) -> Option<(Scalar, usize)>
+    requires at { at ≤ length bytes.now }
+    requires part { instr.now.part ≡ part_type.Whole }
+    requires operator { instr.now.operator ≡ operator_type.Tail }
+    ensures place { IfSome result (λ x. (at ≤ x.1) × (x.1 ≤ length bytes.now)) }
+    ensures relayed { IfSome result (λ x. Relays instr.now (entry_type.Assigned base.now)
+        (entry_type.Assigned x.0) x.0 (drop at bytes.now) (drop x.1 bytes.now)
+        out.old.items out.new.items) }
+    ensures out { IfNone result (out.new.items ≡ out.old.items) }
+{
+    if !is_text(instr.kind, base) {
+        return None;
+    }
+    let kept = EntryRef::Assigned(base);
+    let Ok((read, next)) = read_tail(alloc, instr, kept, bytes, at) else {
+        return None;
+    };
+    let Some(value) = read else {
+        return None;
+    };
+    if !is_text(instr.kind, &value) || units(&value).len() < units(base).len() {
+        return None;
+    }
+    if is_left_out(instr, kept, Some(&value)) {
+        return None;
+    }
+    let tail = best_tail(instr.kind, instr.presence, units(base), units(&value));
+    match write_units(instr.kind, instr.presence, tail, out) {
+        Ok(()) => Some((value, next)),
+        Err(_) => None,
+    }
+}
+
+/// Relays a string or vector by a new end of the value that the entry has.
+#[inline(always)]
+fn relay_tail(
+    alloc: Global,
+    instr: &FieldPart,
+    entry: &mut Entry,
+    bytes: &[u8],
+    at: usize,
+    out: &mut Vec<u8>,
+) -> Option<usize>
+    requires at { at ≤ length bytes.now }
+    requires part { instr.now.part ≡ part_type.Whole }
+    requires operator { instr.now.operator ≡ operator_type.Tail }
+    ensures place { IfSome result (λ next. (at ≤ next) × (next ≤ length bytes.now)) }
+    ensures relayed { IfSome result (λ next. (v : ScalarOf)
+        × Relays instr.now entry.old entry.new v (drop at bytes.now) (drop next bytes.now)
+        out.old.items out.new.items) }
+    ensures entry { IfNone result (entry.new ≡ entry.old) }
+    ensures out { IfNone result (out.new.items ≡ out.old.items) }
+{
+    match entry {
+        Entry::Assigned(base) => match rewrite_tail(alloc, instr, base, bytes, at, out) {
+            Some((value, next)) => {
+                *base = value;
+                Some(next)
+            }
+            None => None,
+        },
+        Entry::Undefined | Entry::Empty => None,
+    }
+}
+
 /// Relays a string or vector that is no part of another field.
 #[inline(always)]
 fn relay_field_text(
@@ -200,7 +274,8 @@ fn relay_field_text(
             relay_whole_text(alloc, instr, entry, bytes, at, out)
         }
         Operator::Delta => relay_text_delta(alloc, instr, entry, bytes, at, out),
-        Operator::Constant | Operator::Increment | Operator::Tail => None,
+        Operator::Tail => relay_tail(alloc, instr, entry, bytes, at, out),
+        Operator::Constant | Operator::Increment => None,
     }
 }
 
