@@ -30,6 +30,8 @@ mod tail;
 #[cfg(test)]
 mod tests;
 mod text;
+#[cfg(test)]
+mod text_tests;
 mod whole;
 mod write;
 #[cfg(test)]
