@@ -95,7 +95,7 @@ fn read_beside(
     Ok(())
 }
 
-// Reads one field where its entry lies.
+// What is found of one field where its entry lies.
 fn found_in_place(
     alloc: Global,
     instr: &FieldPart,
@@ -112,7 +112,32 @@ fn found_in_place(
     }
 }
 
-// The same, compared with what is wanted. A refusal leaves the entry.
+// What is found, compared with what is wanted. A refusal leaves the entry.
+fn compared(
+    rt: &impl Abort,
+    found: ReadInPlace,
+    entry: Entry,
+    before: Entry,
+    wanted: Read,
+) -> Result<(), AllocError> {
+    match found {
+        Ok((value, next)) => {
+            assert_eq!(rt; Ok((value, entry, next)), wanted);
+            Ok(())
+        }
+        Err(FieldFault::Memory) => {
+            assert_eq!(rt; entry, before);
+            Err(AllocError)
+        }
+        Err(fault) => {
+            assert_eq!(rt; Err(fault), wanted);
+            assert_eq!(rt; entry, before);
+            Ok(())
+        }
+    }
+}
+
+// Reads one field where its entry lies.
 fn read_within(
     rt: &impl Abort,
     alloc: Global,
@@ -124,18 +149,8 @@ fn read_within(
 ) -> Result<(), AllocError> {
     let before = entry.view().copy(alloc)?;
     let mut entry = entry;
-    match found_in_place(alloc, instr, &mut entry, bit, bytes)? {
-        Ok((value, next)) => assert_eq!(rt; Ok((value, entry, next)), wanted),
-        Err(FieldFault::Memory) => {
-            assert_eq!(rt; entry, before);
-            return Err(AllocError);
-        }
-        Err(fault) => {
-            assert_eq!(rt; Err(fault), wanted);
-            assert_eq!(rt; entry, before);
-        }
-    }
-    Ok(())
+    let found = found_in_place(alloc, instr, &mut entry, bit, bytes)?;
+    compared(rt, found, entry, before, wanted)
 }
 
 // Reads one field in both ways.
