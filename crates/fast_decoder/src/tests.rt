@@ -1,10 +1,13 @@
 mod rows;
 
+ghost use Rattle.fast_decoder.specs.Traversals.{ServesAll};
+
 use crate::decoder::Decoder;
 use crate::fault::{Cause, Fault};
 use crate::message::{Message, Node};
 use crate::place::Place;
-use fast_dictionary::{MapEntries, SlotEntries};
+use crate::tests::rows::slots_of;
+use fast_dictionary::{Entries, MapEntries};
 use fast_template::{ByteString, LoadFault, Scalar, TemplateSet};
 use std::alloc::{AllocError, Global};
 
@@ -33,14 +36,15 @@ fn messages_are_equal_by_their_contents(rt: HostRuntime) -> Result<(), AllocErro
     Ok(())
 }
 
-// The set of the template Quote.
-fn quotes(alloc: Global) -> Result<TemplateSet, LoadFault> {
-    let text = r#"{"templates":[{"name":"Quote","id":1,"instructions":[
+const QUOTES: &str = r#"{"templates":[{"name":"Quote","id":1,"instructions":[
         {"kind":"uInt32","name":"Seq","operator":"increment"},
         {"kind":"string","name":"Sym","operator":"copy"},
         {"kind":"decimal","name":"Px","operator":"delta"},
         {"kind":"uInt32","name":"Qty","presence":"optional","operator":"copy"}]}]}"#;
-    TemplateSet::from_json(alloc, text.as_bytes())
+
+// The set of the template Quote.
+fn quotes(alloc: Global) -> Result<TemplateSet, LoadFault> {
+    TemplateSet::from_json(alloc, QUOTES.as_bytes())
 }
 
 const STREAM: [u8; 8] = [0xF0, 0x81, 0x81, 0x41, 0xC2, 0xFE, 0x00, 0xE4];
@@ -63,33 +67,59 @@ fn quote(alloc: Global) -> Result<Message, AllocError> {
     })
 }
 
+// Whether the stream is taken whole, with nothing held at its end.
+fn takes_all<E: Entries>(decoder: &mut Decoder<'_, E>, messages: &mut Vec<Message>) -> bool {
+    decoder.fed() == 0
+        && decoder.feed(&STREAM, messages).is_ok()
+        && decoder.fed() == 8
+        && decoder.held() == 0
+        && decoder.finish().is_ok()
+}
+
+// Whether the stream gives its message, over these entries.
+fn reads_quote<E: Entries>(alloc: Global, set: &TemplateSet, entries: E) -> Result<bool, AllocError>
+    requires { ServesAll (E.serves entries) set.now }
+{
+    let mut messages = Vec::new(alloc);
+    let mut decoder = Decoder::new(alloc, set, entries);
+    let taken = takes_all(&mut decoder, &mut messages);
+    let want = quote(alloc)?;
+    Ok(taken && messages.as_slice() == [want].as_slice())
+}
+
 #[test]
 fn a_stream_is_read(rt: HostRuntime) -> Result<(), AllocError> {
     let alloc = rt.alloc();
     let Ok(set) = quotes(alloc) else {
         panic!(rt; "refused");
     };
-    let mut decoder = Decoder::new(alloc, &set, MapEntries::new(alloc));
-    let mut messages = Vec::new(alloc);
-    assert_eq!(rt; decoder.feed(&STREAM, &mut messages), Ok(()));
-    assert_eq!(rt; &messages, &vec![in alloc; quote(alloc)?]?);
-    assert_eq!(rt; decoder.fed(), 8);
-    assert_eq!(rt; decoder.held(), 0);
-    assert_eq!(rt; decoder.finish(), Ok(()));
+    assert!(rt; reads_quote(alloc, &set, MapEntries::new(alloc))?);
+    assert!(rt; reads_quote(alloc, &set, slots_of(alloc, &set)?)?);
     Ok(())
 }
 
-#[test]
-fn a_stream_is_read_over_slots(rt: HostRuntime) -> Result<(), AllocError> {
-    let alloc = rt.alloc();
-    let Ok(set) = quotes(alloc) else {
-        panic!(rt; "refused");
+// A fault at an offset of the first message.
+fn at(cause: Cause, offset: u64, template: u32, instruction: u32) -> Result<(), Fault> {
+    let place = Place {
+        message: 1,
+        offset,
+        template,
+        instruction,
     };
-    let mut decoder = Decoder::new(alloc, &set, SlotEntries::new(alloc, &set)?);
-    let mut messages = Vec::new(alloc);
-    assert_eq!(rt; decoder.feed(&STREAM, &mut messages), Ok(()));
-    assert_eq!(rt; &messages, &vec![in alloc; quote(alloc)?]?);
-    Ok(())
+    Err(Fault { cause, place })
+}
+
+// Whether a stream is refused with this fault, at its end too.
+fn keeps<E: Entries>(
+    decoder: &mut Decoder<'_, E>,
+    stream: &[u8],
+    messages: &mut Vec<Message>,
+    fault: Result<(), Fault>,
+) -> bool {
+    decoder.fed() == 0
+        && stream.len() < 1000
+        && decoder.feed(stream, messages) == fault
+        && decoder.finish() == fault
 }
 
 #[test]
@@ -100,22 +130,24 @@ fn a_stream_is_refused_and_begun_again(rt: HostRuntime) -> Result<(), AllocError
     };
     let mut decoder = Decoder::new(alloc, &set, MapEntries::new(alloc));
     let mut messages = Vec::new(alloc);
-    let place = Place {
-        message: 1,
-        offset: 1,
-        template: 0,
-        instruction: 0,
-    };
-    let fault = Fault {
-        cause: Cause::D5,
-        place,
-    };
-    assert_eq!(rt; decoder.feed(&[0x80], &mut messages), Err(fault));
-    assert_eq!(rt; decoder.finish(), Err(fault));
+    let fault = at(Cause::D5, 1, 0, 0);
+    assert!(rt; keeps(&mut decoder, &[0x80], &mut messages, fault));
     decoder.reset();
-    assert_eq!(rt; decoder.feed(&STREAM, &mut messages), Ok(()));
+    assert!(rt; takes_all(&mut decoder, &mut messages));
     assert_eq!(rt; messages.len(), 1);
     Ok(())
+}
+
+// Whether a stream that ends within the decimal, of which one byte has come, has this fault at its end.
+fn is_cut<E: Entries>(
+    decoder: &mut Decoder<'_, E>,
+    messages: &mut Vec<Message>,
+    fault: Result<(), Fault>,
+) -> bool {
+    decoder.fed() == 0
+        && decoder.feed(&STREAM[..6], messages).is_ok()
+        && decoder.held() == 1
+        && decoder.finish() == fault
 }
 
 #[test]
@@ -126,20 +158,8 @@ fn a_stream_that_is_cut_is_truncated(rt: HostRuntime) -> Result<(), AllocError> 
     };
     let mut decoder = Decoder::new(alloc, &set, MapEntries::new(alloc));
     let mut messages = Vec::new(alloc);
-    // within the decimal, of which one byte has come
-    assert_eq!(rt; decoder.feed(&STREAM[..6], &mut messages), Ok(()));
-    assert_eq!(rt; decoder.held(), 1);
-    let place = Place {
-        message: 1,
-        offset: 5,
-        template: 1,
-        instruction: 3,
-    };
-    let fault = Fault {
-        cause: Cause::Truncated,
-        place,
-    };
-    assert_eq!(rt; decoder.finish(), Err(fault));
+    let fault = at(Cause::Truncated, 5, 1, 3);
+    assert!(rt; is_cut(&mut decoder, &mut messages, fault));
     assert_eq!(rt; messages.len(), 0);
     Ok(())
 }

@@ -1,6 +1,7 @@
-//! Rows on single fields that are read, by the calls, and what tests make fields of.
+//! Rows on single fields that are read, by the calls, and what tests make fields of. A test has few rows and makes
+//! nothing of its own, since each value that lies there at a `?` makes its proof longer.
 
-ghost use Rattle.std.specs.Prelude.{◌≡◌, ◌≤ℤ◌, negsuc, pos, IfOk, IsTrue};
+ghost use Rattle.std.specs.Prelude.{◌≡◌, IfOk, IsTrue};
 ghost use Rattle.fast_template.specs.TemplateSets.{applies};
 ghost use Rattle.fast_template.specs.declared.kind.Operator.TheVariants as op;
 ghost use Rattle.fast_template.specs.declared.scalar.Scalar.TheVariants as scalar;
@@ -8,7 +9,7 @@ ghost use Rattle.fast_template.specs.declared.kind.Presence.TheVariants.{Optiona
 ghost use Rattle.fast_field.specs.Parts.{IsFieldPart};
 
 use crate::*;
-use fast_dictionary::Entry;
+use fast_dictionary::{Entry, EntryRef};
 use fast_template::{
     ByteString, FieldPart, Key, Kind, Name, Operator, Part, Presence, Scalar, Scope, UnicodeText,
 };
@@ -73,9 +74,71 @@ pub(crate) fn unicode(alloc: Global, text: &str) -> Result<Scalar, AllocError> {
 // What is read: a value, the entry afterwards, and the place after it.
 type Read = Result<(Option<Scalar>, Entry, usize), FieldFault>;
 
-// Reads one field in both ways, and compares what is read with what is wanted. A refusal leaves the entry, and want of
-// memory ends the test: so its allocations can be refused in turn.
-fn row(
+// The same, with the entry where it lay.
+type ReadInPlace = Result<(Option<Scalar>, usize), FieldFault>;
+
+// Reads one field beside its entry. Want of memory ends the test: so its allocations can be refused in turn.
+fn read_beside(
+    rt: &impl Abort,
+    alloc: Global,
+    instr: &FieldPart,
+    entry: EntryRef,
+    bit: bool,
+    bytes: &[u8],
+    wanted: &Read,
+) -> Result<(), AllocError> {
+    let read = read_field(alloc, instr, entry, bit, bytes, 0);
+    if let Err(FieldFault::Memory) = read {
+        return Err(AllocError);
+    }
+    assert_eq!(rt; &read, wanted);
+    Ok(())
+}
+
+// What is found of one field where its entry lies.
+fn found_in_place(
+    alloc: Global,
+    instr: &FieldPart,
+    entry: &mut Entry,
+    bit: bool,
+    bytes: &[u8],
+) -> Result<ReadInPlace, AllocError> {
+    match read_in_place(alloc, instr, entry, bit, bytes, 0) {
+        Ok((found, next)) => {
+            let value = found.into_value(alloc, instr, entry.view())?;
+            Ok(Ok((value, next)))
+        }
+        Err(fault) => Ok(Err(fault)),
+    }
+}
+
+// What is found, compared with what is wanted. A refusal leaves the entry.
+fn compared(
+    rt: &impl Abort,
+    found: ReadInPlace,
+    entry: Entry,
+    before: Entry,
+    wanted: Read,
+) -> Result<(), AllocError> {
+    match found {
+        Ok((value, next)) => {
+            assert_eq!(rt; Ok((value, entry, next)), wanted);
+            Ok(())
+        }
+        Err(FieldFault::Memory) => {
+            assert_eq!(rt; entry, before);
+            Err(AllocError)
+        }
+        Err(fault) => {
+            assert_eq!(rt; Err(fault), wanted);
+            assert_eq!(rt; entry, before);
+            Ok(())
+        }
+    }
+}
+
+// Reads one field where its entry lies.
+fn read_within(
     rt: &impl Abort,
     alloc: Global,
     instr: &FieldPart,
@@ -85,383 +148,371 @@ fn row(
     wanted: Read,
 ) -> Result<(), AllocError> {
     let before = entry.view().copy(alloc)?;
-    let read = read_field(alloc, instr, entry.view(), bit, bytes, 0);
-    if let Err(FieldFault::Memory) = read {
-        return Err(AllocError);
-    }
-    assert_eq!(rt; &read, &wanted);
     let mut entry = entry;
-    match read_in_place(alloc, instr, &mut entry, bit, bytes, 0) {
-        Ok((found, next)) => {
-            let value = found.into_value(alloc, instr, entry.view())?;
-            assert_eq!(rt; Ok((value, entry, next)), wanted);
-        }
-        Err(FieldFault::Memory) => {
-            assert_eq!(rt; entry, before);
-            return Err(AllocError);
-        }
-        Err(fault) => {
-            assert_eq!(rt; Err(fault), wanted);
-            assert_eq!(rt; entry, before);
-        }
-    }
-    Ok(())
+    let found = found_in_place(alloc, instr, &mut entry, bit, bytes)?;
+    compared(rt, found, entry, before, wanted)
+}
+
+// Reads one field in both ways.
+fn row(
+    rt: &impl Abort,
+    alloc: Global,
+    instr: &FieldPart,
+    entry: Entry,
+    bit: bool,
+    bytes: &[u8],
+    wanted: Read,
+) -> Result<(), AllocError> {
+    read_beside(rt, alloc, instr, entry.view(), bit, bytes, &wanted)?;
+    read_within(rt, alloc, instr, entry, bit, bytes, wanted)
+}
+
+// A row on a field with no initial value.
+fn field_row(
+    rt: &impl Abort,
+    alloc: Global,
+    of: (Kind, Presence, Operator),
+    entry: Entry,
+    bit: bool,
+    bytes: &[u8],
+    wanted: Read,
+) -> Result<(), AllocError> {
+    let instr = part_of(alloc, Part::Whole, of.0, of.1, of.2, None)?;
+    row(rt, alloc, &instr, entry, bit, bytes, wanted)
+}
+
+// A row on a uInt32 with an initial value.
+fn initial_row(
+    rt: &impl Abort,
+    alloc: Global,
+    of: (Presence, Operator, u32),
+    entry: Entry,
+    bit: bool,
+    bytes: &[u8],
+    wanted: Read,
+) -> Result<(), AllocError> {
+    let initial = Some(Scalar::U32(of.2));
+    let instr = part_of(alloc, Part::Whole, Kind::UInt32, of.0, of.1, initial)?;
+    row(rt, alloc, &instr, entry, bit, bytes, wanted)
+}
+
+// An entry of characters.
+fn characters(alloc: Global, text: &[u8]) -> Result<Entry, AllocError> {
+    Ok(Entry::Assigned(ascii(alloc, text)?))
+}
+
+// Characters that are read, and stand in the entry afterwards.
+fn read_characters(alloc: Global, text: &[u8], next: usize) -> Result<Read, AllocError> {
+    let value = ascii(alloc, text)?;
+    Ok(Ok((Some(value), characters(alloc, text)?, next)))
+}
+
+// Characters are read on an entry of characters, from all bytes.
+fn ascii_row(
+    rt: &impl Abort,
+    alloc: Global,
+    of: (Presence, Operator),
+    text: &[u8],
+    bytes: &[u8],
+    wanted: &[u8],
+) -> Result<(), AllocError> {
+    let wanted = read_characters(alloc, wanted, bytes.len())?;
+    let entry = characters(alloc, text)?;
+    field_row(
+        rt,
+        alloc,
+        (Kind::Ascii, of.0, of.1),
+        entry,
+        true,
+        bytes,
+        wanted,
+    )
+}
+
+// An entry of text.
+fn text_entry(alloc: Global, text: &str) -> Result<Entry, AllocError> {
+    Ok(Entry::Assigned(unicode(alloc, text)?))
+}
+
+// A text that is read, and stands in the entry afterwards.
+fn read_text(alloc: Global, text: &str, next: usize) -> Result<Read, AllocError> {
+    let value = unicode(alloc, text)?;
+    Ok(Ok((Some(value), text_entry(alloc, text)?, next)))
+}
+
+// A row on a mandatory tail of text.
+fn text_row(
+    rt: &impl Abort,
+    alloc: Global,
+    text: &str,
+    bytes: &[u8],
+    wanted: Read,
+) -> Result<(), AllocError> {
+    let entry = text_entry(alloc, text)?;
+    let of = (Kind::Unicode, Presence::Mandatory, Operator::Tail);
+    field_row(rt, alloc, of, entry, true, bytes, wanted)
+}
+
+// An entry of a number.
+fn number(n: u32) -> Entry {
+    Entry::Assigned(Scalar::U32(n))
+}
+
+// A number that is read, and stands in the entry afterwards.
+fn read_number(n: u32, next: usize) -> Read {
+    Ok((Some(Scalar::U32(n)), number(n), next))
 }
 
 #[test]
-fn fields_without_a_base(rt: HostRuntime) -> Result<(), Fail> {
+fn increments_go_past_the_greatest(rt: HostRuntime) -> Result<(), AllocError> {
     let alloc = rt.alloc();
-    let seq = field(
-        alloc,
-        Kind::UInt32,
-        Presence::Mandatory,
-        Operator::Increment,
-    )?;
-    let number = |n: u32| Entry::Assigned(Scalar::U32(n));
-    let read = Ok((Some(Scalar::U32(0)), number(0), 0));
-    row(&rt, alloc, &seq, number(4_294_967_295), false, &[], read)?;
-    let sym = field(alloc, Kind::Ascii, Presence::Mandatory, Operator::Copy)?;
-    row(
-        &rt,
-        alloc,
-        &sym,
-        Entry::Undefined,
-        false,
-        &[],
-        Err(FieldFault::D5),
-    )?;
-    row(
-        &rt,
-        alloc,
-        &sym,
-        Entry::Empty,
-        false,
-        &[],
-        Err(FieldFault::D6),
-    )?;
-    let qty = field(alloc, Kind::UInt32, Presence::Optional, Operator::Copy)?;
-    row(
-        &rt,
-        alloc,
-        &qty,
-        Entry::Undefined,
-        false,
-        &[],
-        Ok((None, Entry::Empty, 0)),
-    )?;
-    let clash = field(alloc, Kind::UInt32, Presence::Mandatory, Operator::Copy)?;
-    let text = Entry::Assigned(ascii(alloc, b"A")?);
-    row(&rt, alloc, &clash, text, false, &[], Err(FieldFault::D4))?;
-    let text = Entry::Assigned(ascii(alloc, b"A")?);
-    let read = Ok((Some(Scalar::U32(6)), number(6), 1));
-    row(&rt, alloc, &clash, text, true, &[0x86], read)?;
-    let default = part_of(
-        alloc,
-        Part::Whole,
-        Kind::UInt32,
-        Presence::Mandatory,
-        Operator::Default,
-        Some(Scalar::U32(3)),
-    )?;
+    let of = (Kind::UInt32, Presence::Mandatory, Operator::Increment);
+    let entry = number(4_294_967_295);
+    field_row(&rt, alloc, of, entry, false, &[], read_number(0, 0))?;
+    let of = (Kind::Int32, Presence::Mandatory, Operator::Increment);
+    let entry = Entry::Assigned(Scalar::I32(i32::MAX));
+    let after = Entry::Assigned(Scalar::I32(i32::MIN));
+    let read = Ok((Some(Scalar::I32(i32::MIN)), after, 0));
+    field_row(&rt, alloc, of, entry, false, &[], read)
+}
+
+#[test]
+fn copies_of_no_value(rt: HostRuntime) -> Result<(), AllocError> {
+    let alloc = rt.alloc();
+    let of = (Kind::Ascii, Presence::Mandatory, Operator::Copy);
+    let fault = Err(FieldFault::D5);
+    field_row(&rt, alloc, of, Entry::Undefined, false, &[], fault)?;
+    let fault = Err(FieldFault::D6);
+    field_row(&rt, alloc, of, Entry::Empty, false, &[], fault)?;
+    let of = (Kind::UInt32, Presence::Optional, Operator::Copy);
+    let absent = Ok((None, Entry::Empty, 0));
+    field_row(&rt, alloc, of, Entry::Undefined, false, &[], absent)
+}
+
+#[test]
+fn copies_on_another_type(rt: HostRuntime) -> Result<(), AllocError> {
+    let alloc = rt.alloc();
+    let of = (Kind::UInt32, Presence::Mandatory, Operator::Copy);
+    let fault = Err(FieldFault::D4);
+    field_row(&rt, alloc, of, characters(alloc, b"A")?, false, &[], fault)?;
+    let text = characters(alloc, b"A")?;
+    field_row(&rt, alloc, of, text, true, &[0x86], read_number(6, 1))
+}
+
+#[test]
+fn defaults(rt: HostRuntime) -> Result<(), AllocError> {
+    let alloc = rt.alloc();
+    let of = (Presence::Mandatory, Operator::Default, 3);
     let bytes = [0x10, 0x00, 0x00, 0x00, 0x80];
-    row(
-        &rt,
-        alloc,
-        &default,
-        Entry::Undefined,
-        true,
-        &bytes,
-        Err(FieldFault::D2),
-    )?;
-    let need_more = Err(FieldFault::NeedMore);
-    row(
-        &rt,
-        alloc,
-        &default,
-        Entry::Undefined,
-        true,
-        &bytes[..4],
-        need_more,
-    )?;
+    let fault = Err(FieldFault::D2);
+    initial_row(&rt, alloc, of, Entry::Undefined, true, &bytes, fault)?;
+    let fault = Err(FieldFault::NeedMore);
+    initial_row(&rt, alloc, of, Entry::Undefined, true, &bytes[..4], fault)?;
     let read = Ok((Some(Scalar::U32(3)), Entry::Undefined, 0));
-    row(&rt, alloc, &default, Entry::Undefined, false, &[], read)?;
-    let copy = part_of(
-        alloc,
-        Part::Whole,
-        Kind::UInt32,
-        Presence::Optional,
-        Operator::Copy,
-        Some(Scalar::U32(5)),
-    )?;
-    row(
-        &rt,
-        alloc,
-        &copy,
-        Entry::Empty,
-        false,
-        &[],
-        Ok((None, Entry::Empty, 0)),
-    )?;
-    let read = Ok((Some(Scalar::U32(5)), number(5), 0));
-    row(&rt, alloc, &copy, Entry::Undefined, false, &[], read)?;
-    let plain = field(alloc, Kind::Bytes, Presence::Optional, Operator::Plain)?;
+    initial_row(&rt, alloc, of, Entry::Undefined, false, &[], read)
+}
+
+#[test]
+fn copies_of_an_initial_value(rt: HostRuntime) -> Result<(), AllocError> {
+    let alloc = rt.alloc();
+    let of = (Presence::Optional, Operator::Copy, 5);
+    let absent = Ok((None, Entry::Empty, 0));
+    initial_row(&rt, alloc, of, Entry::Empty, false, &[], absent)?;
+    let read = read_number(5, 0);
+    initial_row(&rt, alloc, of, Entry::Undefined, false, &[], read)
+}
+
+#[test]
+fn vectors(rt: HostRuntime) -> Result<(), AllocError> {
+    let alloc = rt.alloc();
+    let of = (Kind::Bytes, Presence::Optional, Operator::Plain);
     let bytes = [0x83, 0x01, 0xff];
     let value = Scalar::Bytes(ByteString::from_vec(bytes[1..].to_vec(alloc)?));
     let read = Ok((Some(value), Entry::Empty, 3));
-    row(&rt, alloc, &plain, Entry::Empty, true, &bytes, read)?;
-    let constant = part_of(
-        alloc,
-        Part::Whole,
-        Kind::UInt32,
-        Presence::Optional,
-        Operator::Constant,
-        Some(Scalar::U32(9)),
-    )?;
-    row(
-        &rt,
-        alloc,
-        &constant,
-        Entry::Undefined,
-        false,
-        &[],
-        Ok((None, Entry::Undefined, 0)),
-    )?;
+    field_row(&rt, alloc, of, Entry::Empty, true, &bytes, read)
+}
+
+#[test]
+fn constants(rt: HostRuntime) -> Result<(), AllocError> {
+    let alloc = rt.alloc();
+    let of = (Presence::Optional, Operator::Constant, 9);
+    let absent = Ok((None, Entry::Undefined, 0));
+    initial_row(&rt, alloc, of, Entry::Undefined, false, &[], absent)?;
     let read = Ok((Some(Scalar::U32(9)), Entry::Undefined, 0));
-    row(&rt, alloc, &constant, Entry::Undefined, true, &[], read)?;
-    let increment = field(alloc, Kind::Int32, Presence::Mandatory, Operator::Increment)?;
-    let entry = Entry::Assigned(Scalar::I32(i32::MAX));
-    let read = Ok((
-        Some(Scalar::I32(i32::MIN)),
-        Entry::Assigned(Scalar::I32(i32::MIN)),
-        0,
-    ));
-    row(&rt, alloc, &increment, entry, false, &[], read)?;
-    Ok(())
+    initial_row(&rt, alloc, of, Entry::Undefined, true, &[], read)
 }
 
 #[test]
-fn deltas_and_tails(rt: HostRuntime) -> Result<(), Fail> {
+fn string_deltas(rt: HostRuntime) -> Result<(), AllocError> {
     let alloc = rt.alloc();
-    let number = |n: u32| Entry::Assigned(Scalar::U32(n));
-    let delta = field(alloc, Kind::Ascii, Presence::Mandatory, Operator::Delta)?;
-    let entry = Entry::Assigned(ascii(alloc, b"ESM6")?);
-    let read = Ok((
-        Some(ascii(alloc, b"ESM6")?),
-        Entry::Assigned(ascii(alloc, b"ESM6")?),
-        2,
-    ));
-    row(&rt, alloc, &delta, entry, true, &[0xff, 0x80], read)?;
-    let entry = Entry::Assigned(ascii(alloc, b"ESM6")?);
-    row(
-        &rt,
-        alloc,
-        &delta,
-        entry,
-        true,
-        &[0x85, 0x80],
-        Err(FieldFault::D7),
-    )?;
-    let entry = Entry::Assigned(ascii(alloc, b"GEM6")?);
-    let read = Ok((
-        Some(ascii(alloc, b"ESM6")?),
-        Entry::Assigned(ascii(alloc, b"ESM6")?),
-        3,
-    ));
-    row(&rt, alloc, &delta, entry, true, &[0xfd, 0x45, 0xd3], read)?;
-    let entry = Entry::Assigned(ascii(alloc, b"ESM6")?);
-    let read = Ok((
-        Some(ascii(alloc, b"ESZ6")?),
-        Entry::Assigned(ascii(alloc, b"ESZ6")?),
-        3,
-    ));
-    row(&rt, alloc, &delta, entry, true, &[0x82, 0x5a, 0xb6], read)?;
-    let wrap = field(alloc, Kind::UInt32, Presence::Mandatory, Operator::Delta)?;
-    row(
-        &rt,
-        alloc,
-        &wrap,
-        number(4_294_967_295),
-        true,
-        &[0x81],
-        Err(FieldFault::D2),
-    )?;
-    row(
-        &rt,
-        alloc,
-        &wrap,
-        Entry::Empty,
-        true,
-        &[0x81],
-        Err(FieldFault::D6),
-    )?;
-    let optional = field(alloc, Kind::UInt32, Presence::Optional, Operator::Delta)?;
-    row(
-        &rt,
-        alloc,
-        &optional,
-        Entry::Empty,
-        true,
-        &[0x80],
-        Ok((None, Entry::Empty, 1)),
-    )?;
-    row(
-        &rt,
-        alloc,
-        &optional,
-        number(5),
-        true,
-        &[0x80],
-        Ok((None, number(5), 1)),
-    )?;
-    let tail = field(alloc, Kind::Ascii, Presence::Optional, Operator::Tail)?;
-    let entry = Entry::Assigned(ascii(alloc, b"xab")?);
-    let read = Ok((
-        Some(ascii(alloc, b"x\0b")?),
-        Entry::Assigned(ascii(alloc, b"x\0b")?),
-        4,
-    ));
-    row(
-        &rt,
-        alloc,
-        &tail,
-        entry,
-        true,
-        &[0x00, 0x00, 0x00, 0xe2],
-        read,
-    )?;
-    let tail = field(alloc, Kind::Unicode, Presence::Mandatory, Operator::Tail)?;
-    let entry = Entry::Assigned(unicode(alloc, "é")?);
-    let read = Ok((
-        Some(unicode(alloc, "è")?),
-        Entry::Assigned(unicode(alloc, "è")?),
-        2,
-    ));
-    row(&rt, alloc, &tail, entry, true, &[0x81, 0xa8], read)?;
-    let entry = Entry::Assigned(unicode(alloc, "è")?);
-    row(
-        &rt,
-        alloc,
-        &tail,
-        entry,
-        true,
-        &[0x81, 0x41],
-        Err(FieldFault::R2),
-    )?;
-    Ok(())
+    let of = (Presence::Mandatory, Operator::Delta);
+    ascii_row(&rt, alloc, of, b"ESM6", &[0xff, 0x80], b"ESM6")?;
+    ascii_row(&rt, alloc, of, b"GEM6", &[0xfd, 0x45, 0xd3], b"ESM6")?;
+    ascii_row(&rt, alloc, of, b"ESM6", &[0x82, 0x5a, 0xb6], b"ESZ6")
 }
 
 #[test]
-fn decimals_and_parts(rt: HostRuntime) -> Result<(), Fail> {
+fn deltas_that_remove_too_much(rt: HostRuntime) -> Result<(), AllocError> {
     let alloc = rt.alloc();
-    let exponent = part_of(
+    let of = (Kind::Ascii, Presence::Mandatory, Operator::Delta);
+    let entry = characters(alloc, b"ESM6")?;
+    let fault = Err(FieldFault::D7);
+    field_row(&rt, alloc, of, entry, true, &[0x85, 0x80], fault)
+}
+
+#[test]
+fn number_deltas(rt: HostRuntime) -> Result<(), AllocError> {
+    let alloc = rt.alloc();
+    let of = (Kind::UInt32, Presence::Mandatory, Operator::Delta);
+    let entry = number(4_294_967_295);
+    field_row(&rt, alloc, of, entry, true, &[0x81], Err(FieldFault::D2))?;
+    let fault = Err(FieldFault::D6);
+    field_row(&rt, alloc, of, Entry::Empty, true, &[0x81], fault)
+}
+
+#[test]
+fn absent_deltas(rt: HostRuntime) -> Result<(), AllocError> {
+    let alloc = rt.alloc();
+    let of = (Kind::UInt32, Presence::Optional, Operator::Delta);
+    let absent = Ok((None, Entry::Empty, 1));
+    field_row(&rt, alloc, of, Entry::Empty, true, &[0x80], absent)?;
+    let absent = Ok((None, number(5), 1));
+    field_row(&rt, alloc, of, number(5), true, &[0x80], absent)
+}
+
+#[test]
+fn tails(rt: HostRuntime) -> Result<(), AllocError> {
+    let alloc = rt.alloc();
+    let of = (Presence::Optional, Operator::Tail);
+    let bytes = [0x00, 0x00, 0x00, 0xe2];
+    ascii_row(&rt, alloc, of, b"xab", &bytes, b"x\0b")
+}
+
+#[test]
+fn tails_of_text(rt: HostRuntime) -> Result<(), AllocError> {
+    let alloc = rt.alloc();
+    let read = read_text(alloc, "è", 2)?;
+    text_row(&rt, alloc, "é", &[0x81, 0xa8], read)?;
+    text_row(&rt, alloc, "è", &[0x81, 0x41], Err(FieldFault::R2))
+}
+
+// A row on an optional exponent whose initial value is 2, and which has no entry.
+fn exponent_row(
+    rt: &impl Abort,
+    alloc: Global,
+    bytes: &[u8],
+    wanted: Read,
+) -> Result<(), AllocError> {
+    let initial = Some(Scalar::I32(2));
+    let presence = Presence::Optional;
+    let default = Operator::Default;
+    let instr = part_of(
         alloc,
         Part::Exponent,
         Kind::Int32,
-        Presence::Optional,
-        Operator::Default,
-        Some(Scalar::I32(2)),
+        presence,
+        default,
+        initial,
     )?;
-    let absent = Ok((None, Entry::Undefined, 1));
-    row(
-        &rt,
-        alloc,
-        &exponent,
-        Entry::Undefined,
-        true,
-        &[0x80],
-        absent,
-    )?;
+    row(rt, alloc, &instr, Entry::Undefined, true, bytes, wanted)
+}
+
+#[test]
+fn exponents(rt: HostRuntime) -> Result<(), AllocError> {
+    let alloc = rt.alloc();
+    exponent_row(&rt, alloc, &[0x80], Ok((None, Entry::Undefined, 1)))?;
     let read = Ok((Some(Scalar::I32(63)), Entry::Undefined, 2));
-    row(
-        &rt,
-        alloc,
-        &exponent,
-        Entry::Undefined,
-        true,
-        &[0x00, 0xc0],
-        read,
-    )?;
-    let refused = Err(FieldFault::R1);
-    row(
-        &rt,
-        alloc,
-        &exponent,
-        Entry::Undefined,
-        true,
-        &[0x00, 0xc1],
-        refused,
-    )?;
-    let decimal = |exponent: i32, mantissa: i64| Scalar::Decimal { exponent, mantissa };
-    let whole = field(alloc, Kind::Decimal, Presence::Mandatory, Operator::Copy)?;
-    let read = Ok((
-        Some(decimal(-2, 942_755)),
-        Entry::Assigned(decimal(-2, 942_755)),
-        4,
-    ));
-    row(
-        &rt,
-        alloc,
-        &whole,
-        Entry::Undefined,
-        true,
-        &[0xfe, 0x39, 0x45, 0xa3],
-        read,
-    )?;
-    let delta = field(alloc, Kind::Decimal, Presence::Mandatory, Operator::Delta)?;
+    exponent_row(&rt, alloc, &[0x00, 0xc0], read)?;
+    exponent_row(&rt, alloc, &[0x00, 0xc1], Err(FieldFault::R1))
+}
+
+fn decimal(exponent: i32, mantissa: i64) -> Scalar {
+    Scalar::Decimal { exponent, mantissa }
+}
+
+#[test]
+fn whole_decimals(rt: HostRuntime) -> Result<(), AllocError> {
+    let alloc = rt.alloc();
+    let of = (Kind::Decimal, Presence::Mandatory, Operator::Copy);
+    let bytes = [0xfe, 0x39, 0x45, 0xa3];
+    let after = Entry::Assigned(decimal(-2, 942_755));
+    let read = Ok((Some(decimal(-2, 942_755)), after, 4));
+    field_row(&rt, alloc, of, Entry::Undefined, true, &bytes, read)
+}
+
+#[test]
+fn decimal_deltas(rt: HostRuntime) -> Result<(), AllocError> {
+    let alloc = rt.alloc();
+    let of = (Kind::Decimal, Presence::Mandatory, Operator::Delta);
+    let entry = Entry::Assigned(decimal(-2, 7));
     let read = Ok((Some(decimal(-1, 5)), Entry::Assigned(decimal(-1, 5)), 2));
-    row(
-        &rt,
-        alloc,
-        &delta,
-        Entry::Assigned(decimal(-2, 7)),
-        true,
-        &[0x81, 0xfe],
-        read,
-    )?;
+    field_row(&rt, alloc, of, entry, true, &[0x81, 0xfe], read)?;
     // an exponent out of range is refused before a mantissa has come
-    let refused = Err(FieldFault::R1);
-    row(
-        &rt,
-        alloc,
-        &delta,
-        Entry::Undefined,
-        true,
-        &[0x00, 0xc0],
-        refused,
-    )?;
-    let length = field(alloc, Kind::UInt32, Presence::Mandatory, Operator::Copy)?;
-    let length = FieldPart {
-        part: Part::Length,
-        ..length
-    };
-    let entry = Entry::Assigned(Scalar::U32(65_536));
-    row(
-        &rt,
-        alloc,
-        &length,
-        entry,
-        false,
-        &[],
-        Err(FieldFault::Limit),
-    )?;
+    let bytes = [0x00, 0xc0];
+    let fault = Err(FieldFault::R1);
+    field_row(&rt, alloc, of, Entry::Undefined, true, &bytes, fault)
+}
+
+#[test]
+fn lengths(rt: HostRuntime) -> Result<(), AllocError> {
+    let alloc = rt.alloc();
+    let presence = Presence::Mandatory;
+    let copy = Operator::Copy;
+    let length = part_of(alloc, Part::Length, Kind::UInt32, presence, copy, None)?;
+    let fault = Err(FieldFault::Limit);
+    row(&rt, alloc, &length, number(65_536), false, &[], fault)
+}
+
+// The entry that a value of a field leaves on an entry of these characters.
+fn entry_after(
+    alloc: Global,
+    of: (Presence, Operator),
+    text: &[u8],
+    value: Option<&Scalar>,
+) -> Result<Entry, AllocError> {
+    let kept = characters(alloc, text)?;
+    let instr = part_of(alloc, Part::Whole, Kind::Ascii, of.0, of.1, None)?;
+    next_entry(alloc, &instr, kept.view(), value)
+}
+
+#[test]
+fn entries_after_a_value(rt: HostRuntime) -> Result<(), AllocError> {
+    let alloc = rt.alloc();
+    let of = (Presence::Mandatory, Operator::Delta);
+    let value = ascii(alloc, b"ESM6")?;
+    let entry = entry_after(alloc, of, b"GEM6", Some(&value))?;
+    assert_eq!(rt; entry, Entry::Assigned(value));
     Ok(())
 }
 
 #[test]
-fn entries_afterwards(rt: HostRuntime) -> Result<(), Fail> {
+fn entries_after_an_absent_value(rt: HostRuntime) -> Result<(), AllocError> {
     let alloc = rt.alloc();
-    let delta = field(alloc, Kind::Ascii, Presence::Mandatory, Operator::Delta)?;
-    let kept = Entry::Assigned(ascii(alloc, b"GEM6")?);
-    let value = ascii(alloc, b"ESM6")?;
-    let entry = next_entry(alloc, &delta, kept.view(), Some(&value))?;
-    assert_eq!(rt; entry, Entry::Assigned(value));
-    assert_eq!(rt; next_entry(alloc, &delta, kept.view(), None)?, kept);
-    let copy = field(alloc, Kind::Ascii, Presence::Optional, Operator::Copy)?;
-    assert_eq!(rt; next_entry(alloc, &copy, kept.view(), None)?, Entry::Empty);
-    let found = find_field(alloc, &copy, kept.view(), false, &[], 0)?;
-    assert_eq!(rt;
-        found.0.value(&copy, kept.view()),
-        Some(&ascii(alloc, b"GEM6")?)
-    );
+    let of = (Presence::Mandatory, Operator::Delta);
+    let entry = entry_after(alloc, of, b"GEM6", None)?;
+    assert_eq!(rt; entry, characters(alloc, b"GEM6")?);
+    let of = (Presence::Optional, Operator::Copy);
+    assert_eq!(rt; entry_after(alloc, of, b"GEM6", None)?, Entry::Empty);
+    Ok(())
+}
+
+// A copy of what is read under bit 0 on an entry.
+fn copied(alloc: Global, kept: EntryRef) -> Result<Option<Scalar>, FieldFault> {
+    let optional = Presence::Optional;
+    let copy = Operator::Copy;
+    let instr = part_of(alloc, Part::Whole, Kind::Ascii, optional, copy, None)?;
+    let found = find_field(alloc, &instr, kept, false, &[], 0)?;
+    match found.0.value(&instr, kept) {
+        Some(value) => Ok(Some(value.copy(alloc)?)),
+        None => Ok(None),
+    }
+}
+
+#[test]
+fn values_that_lie_in_the_entry(rt: HostRuntime) -> Result<(), Fail> {
+    let alloc = rt.alloc();
+    let kept = characters(alloc, b"GEM6")?;
+    let value = copied(alloc, kept.view())?;
+    assert_eq!(rt; value, Some(ascii(alloc, b"GEM6")?));
     Ok(())
 }

@@ -1,15 +1,18 @@
 //! Rows on single fields that are planned and written, by the calls.
 
-ghost use Rattle.std.specs.Prelude.{IfOk, IfSome, IsTrue};
+ghost use Rattle.std.specs.Prelude.{◌≡◌, IfOk, IfSome, IsTrue};
+ghost use Rattle.fast_dictionary.specs.Dictionary.{entry_of};
 ghost use Rattle.fast_template.specs.Scalar.{IsScalar, is_of};
 ghost use Rattle.fast_template.specs.TemplateSets.{applies};
 ghost use Rattle.fast_template.specs.declared.kind.Kind.TheVariants as kind;
+ghost use Rattle.fast_template.specs.declared.kind.Operator.TheVariants as op;
+ghost use Rattle.fast_template.specs.declared.kind.Presence.TheVariants.{Optional};
 ghost use Rattle.fast_field.specs.Parts.{IsFieldPart};
 ghost use Rattle.fast_field.specs.Within.{HoldsScalar};
 
 use crate::tests::{ascii, field, part_of, unicode};
 use crate::*;
-use fast_dictionary::Entry;
+use fast_dictionary::{Entry, EntryRef};
 use fast_template::{FieldPart, Kind, Operator, Part, Presence, Scalar};
 use std::alloc::{AllocError, Global};
 use std::process::Abort;
@@ -86,8 +89,98 @@ fn text_entry(alloc: Global, text: &[u8]) -> Result<Entry, AllocError>
     }
 }
 
-// A value is planned, and written by each call behind a byte that is there. Want of memory leaves all as it was, and
-// ends the test.
+// A value is planned so, or refused so.
+fn planned(
+    rt: &impl Abort,
+    instr: &FieldPart,
+    entry: EntryRef,
+    value: Option<&Scalar>,
+    wanted: Result<Plan, FieldRefusal>,
+)
+    requires part { IsFieldPart instr.now }
+    requires entry { HoldsScalar (entry_of entry) }
+{
+    assert_eq!(rt; plan_field(instr, entry, value), wanted);
+}
+
+// A value is written behind a byte that is there. Want of memory appends nothing, and ends the test.
+fn appended(
+    rt: &impl Abort,
+    alloc: Global,
+    instr: &FieldPart,
+    entry: EntryRef,
+    value: Option<&Scalar>,
+    bytes: &[u8],
+) -> Result<(), AllocError>
+    requires part { IsFieldPart instr.now }
+    requires entry { HoldsScalar (entry_of entry) }
+{
+    let mut out = vec![in alloc; 0x2a]?;
+    let answer = write_field(instr, entry, value, &mut out);
+    if let Err(FieldRefusal::Memory) = answer {
+        assert_eq!(rt; out.as_slice(), [0x2a].as_slice());
+        return Err(AllocError);
+    }
+    assert_eq!(rt; answer, Ok(()));
+    assert!(rt; out.starts_with(&[0x2a]) && out.ends_with(bytes));
+    assert_eq!(rt; out.len(), 1 + bytes.len());
+    Ok(())
+}
+
+// A value is written, and its entry changed where it lies. Want of memory leaves both, and ends the test.
+fn written_in_place(
+    rt: &impl Abort,
+    alloc: Global,
+    instr: &FieldPart,
+    entry: &Entry,
+    value: Option<&Scalar>,
+    wanted: (bool, &[u8], &Entry),
+) -> Result<(), AllocError>
+    requires part { IsFieldPart instr.now }
+    requires entry { HoldsScalar entry.now }
+{
+    let mut changed = entry.view().copy(alloc)?;
+    let mut out = Vec::new(alloc);
+    let answer = write_in_place(alloc, instr, &mut changed, value, &mut out);
+    if let Err(FieldRefusal::Memory) = answer {
+        assert_eq!(rt; &changed, entry);
+        assert_eq!(rt; out.as_slice(), [].as_slice());
+        return Err(AllocError);
+    }
+    assert_eq!(rt; answer, Ok(wanted.0));
+    assert_eq!(rt; out.as_slice(), wanted.1);
+    assert_eq!(rt; &changed, wanted.2);
+    Ok(())
+}
+
+// The same of a value that is moved into its entry.
+fn written_where_found(
+    rt: &impl Abort,
+    alloc: Global,
+    instr: &FieldPart,
+    entry: Entry,
+    value: Option<Scalar>,
+    wanted: (bool, &[u8], Entry),
+) -> Result<(), AllocError>
+    requires part { IsFieldPart instr.now }
+    requires entry { HoldsScalar entry }
+{
+    let mut moved = entry;
+    let mut out = Vec::new(alloc);
+    match write_found(alloc, instr, &mut moved, Found::own(value), &mut out) {
+        Ok((_, answer)) => assert_eq!(rt; answer, wanted.0),
+        Err(FieldRefusal::Memory) => {
+            assert_eq!(rt; out.as_slice(), [].as_slice());
+            return Err(AllocError);
+        }
+        Err(refusal) => assert_eq!(rt; Err(refusal), Ok(())),
+    }
+    assert_eq!(rt; out.as_slice(), wanted.1);
+    assert_eq!(rt; moved, wanted.2);
+    Ok(())
+}
+
+// A value is planned, and written by each call.
 fn written(
     rt: &impl Abort,
     alloc: Global,
@@ -100,42 +193,59 @@ fn written(
     requires part { IsFieldPart instr.now }
     requires entry { HoldsScalar entry }
 {
-    let plan = plan_field(instr, entry.view(), value.as_ref());
     let size = bytes.len();
-    assert_eq!(rt; plan, Ok(Plan { bit, size }));
-    let mut out = vec![in alloc; 0x2a]?;
-    let answer = write_field(instr, entry.view(), value.as_ref(), &mut out);
-    if let Err(FieldRefusal::Memory) = answer {
-        assert_eq!(rt; out.as_slice(), [0x2a].as_slice());
-        return Err(AllocError);
-    }
-    assert_eq!(rt; answer, Ok(()));
-    assert!(rt; out.starts_with(&[0x2a]) && out.ends_with(bytes));
-    assert_eq!(rt; out.len(), 1 + size);
+    planned(
+        rt,
+        instr,
+        entry.view(),
+        value.as_ref(),
+        Ok(Plan { bit, size }),
+    );
+    appended(rt, alloc, instr, entry.view(), value.as_ref(), bytes)?;
     let after = next_entry(alloc, instr, entry.view(), value.as_ref())?;
-    let mut changed = entry.view().copy(alloc)?;
-    let mut out = Vec::new(alloc);
-    let answer = write_in_place(alloc, instr, &mut changed, value.as_ref(), &mut out);
-    if let Err(FieldRefusal::Memory) = answer {
-        assert_eq!(rt; changed, entry);
-        assert_eq!(rt; out.as_slice(), [].as_slice());
-        return Err(AllocError);
-    }
-    assert_eq!(rt; answer, Ok(bit));
-    assert_eq!(rt; out.as_slice(), bytes);
-    assert_eq!(rt; &changed, &after);
-    let mut moved = entry;
-    let mut out = Vec::new(alloc);
-    match write_found(alloc, instr, &mut moved, Found::own(value), &mut out) {
-        Ok((_, answer)) => assert_eq!(rt; answer, bit),
-        Err(FieldRefusal::Memory) => {
-            assert_eq!(rt; out.as_slice(), [].as_slice());
-            return Err(AllocError);
-        }
-        Err(refusal) => assert_eq!(rt; Err(refusal), Ok(())),
-    }
-    assert_eq!(rt; out.as_slice(), bytes);
-    assert_eq!(rt; moved, after);
+    let wanted = (bit, bytes, &after);
+    written_in_place(rt, alloc, instr, &entry, value.as_ref(), wanted)?;
+    written_where_found(rt, alloc, instr, entry, value, (bit, bytes, after))
+}
+
+// A value is refused, and nothing is appended.
+fn not_appended(
+    rt: &impl Abort,
+    alloc: Global,
+    instr: &FieldPart,
+    entry: EntryRef,
+    value: Option<&Scalar>,
+    refusal: FieldRefusal,
+) -> Result<(), AllocError>
+    requires part { IsFieldPart instr.now }
+    requires entry { HoldsScalar (entry_of entry) }
+{
+    let mut out = vec![in alloc; 0x2a]?;
+    let answer = write_field(instr, entry, value, &mut out);
+    assert_eq!(rt; answer, Err(refusal));
+    assert_eq!(rt; out.as_slice(), [0x2a].as_slice());
+    Ok(())
+}
+
+// The same where the entry lies, which has not changed.
+fn not_in_place(
+    rt: &impl Abort,
+    alloc: Global,
+    instr: &FieldPart,
+    entry: Entry,
+    value: Option<&Scalar>,
+    refusal: FieldRefusal,
+) -> Result<(), AllocError>
+    requires part { IsFieldPart instr.now }
+    requires entry { HoldsScalar entry }
+{
+    let mut out = vec![in alloc; 0x2a]?;
+    let before = entry.view().copy(alloc)?;
+    let mut entry = entry;
+    let answer = write_in_place(alloc, instr, &mut entry, value, &mut out);
+    assert_eq!(rt; answer, Err(refusal));
+    assert_eq!(rt; out.as_slice(), [0x2a].as_slice());
+    assert_eq!(rt; entry, before);
     Ok(())
 }
 
@@ -145,238 +255,338 @@ fn refused(
     alloc: Global,
     instr: &FieldPart,
     entry: Entry,
-    value: Option<Scalar>,
+    value: Option<&Scalar>,
     refusal: FieldRefusal,
 ) -> Result<(), AllocError>
     requires part { IsFieldPart instr.now }
     requires entry { HoldsScalar entry }
 {
-    let plan = plan_field(instr, entry.view(), value.as_ref());
-    assert_eq!(rt; plan, Err(refusal));
-    let mut out = vec![in alloc; 0x2a]?;
-    let answer = write_field(instr, entry.view(), value.as_ref(), &mut out);
-    assert_eq!(rt; answer, Err(refusal));
-    let before = entry.view().copy(alloc)?;
-    let mut entry = entry;
-    let answer = write_in_place(alloc, instr, &mut entry, value.as_ref(), &mut out);
-    assert_eq!(rt; answer, Err(refusal));
-    assert_eq!(rt; out.as_slice(), [0x2a].as_slice());
-    assert_eq!(rt; entry, before);
-    Ok(())
+    planned(rt, instr, entry.view(), value, Err(refusal));
+    not_appended(rt, alloc, instr, entry.view(), value, refusal)?;
+    not_in_place(rt, alloc, instr, entry, value, refusal)
 }
 
-#[test]
-fn constants(rt: HostRuntime) -> Result<(), Fail> {
-    let alloc = rt.alloc();
-    let seven = number_with(alloc, Presence::Mandatory, Operator::Constant, 7)?;
-    let value = Some(Scalar::U32(8));
-    refused(
-        &rt,
+// A value of a field with no initial value is written.
+fn field_written(
+    rt: &impl Abort,
+    alloc: Global,
+    of: (Kind, Presence, Operator),
+    entry: Entry,
+    value: Option<Scalar>,
+    bit: bool,
+    bytes: &[u8],
+) -> Result<(), AllocError>
+    requires applies { IsTrue (applies of.2 of.0) }
+    requires constant { of.2 ≡ op.Constant → ⊥ }
+    requires default { of.2 ≡ op.Default → of.1 ≡ Optional }
+    requires entry { HoldsScalar entry }
+{
+    let instr = field(alloc, of.0, of.1, of.2)?;
+    written(rt, alloc, &instr, entry, value, bit, bytes)
+}
+
+// A value of a field with no initial value is refused.
+fn field_refused(
+    rt: &impl Abort,
+    alloc: Global,
+    of: (Kind, Presence, Operator),
+    entry: Entry,
+    value: Option<&Scalar>,
+    refusal: FieldRefusal,
+) -> Result<(), AllocError>
+    requires applies { IsTrue (applies of.2 of.0) }
+    requires constant { of.2 ≡ op.Constant → ⊥ }
+    requires default { of.2 ≡ op.Default → of.1 ≡ Optional }
+    requires entry { HoldsScalar entry }
+{
+    let instr = field(alloc, of.0, of.1, of.2)?;
+    refused(rt, alloc, &instr, entry, value, refusal)
+}
+
+// Characters are written on an entry of characters.
+fn ascii_written(
+    rt: &impl Abort,
+    alloc: Global,
+    of: (Presence, Operator),
+    text: &[u8],
+    value: &[u8],
+    bit: bool,
+    bytes: &[u8],
+) -> Result<(), AllocError>
+    requires applies { IsTrue (applies of.1 kind.Ascii) }
+    requires constant { of.1 ≡ op.Constant → ⊥ }
+    requires default { of.1 ≡ op.Default → of.0 ≡ Optional }
+{
+    let entry = text_entry(alloc, text)?;
+    let value = Some(ascii(alloc, value)?);
+    field_written(
+        rt,
         alloc,
-        &seven,
-        Entry::Undefined,
+        (Kind::Ascii, of.0, of.1),
+        entry,
         value,
-        FieldRefusal::NotConstant,
-    )?;
-    let value = Some(Scalar::U32(7));
-    written(&rt, alloc, &seven, Entry::Undefined, value, true, &[])?;
-    refused(
-        &rt,
-        alloc,
-        &seven,
-        Entry::Undefined,
-        None,
-        FieldRefusal::Mismatch,
-    )?;
-    Ok(())
+        bit,
+        bytes,
+    )
+}
+
+// A value of a number with an initial value, which has no entry, is written.
+fn initial_written(
+    rt: &impl Abort,
+    alloc: Global,
+    of: (Presence, Operator, u32),
+    value: Option<u32>,
+    bit: bool,
+    bytes: &[u8],
+) -> Result<(), AllocError>
+    requires { IsTrue (applies of.1 kind.UInt32) }
+{
+    let instr = number_with(alloc, of.0, of.1, of.2)?;
+    let value = value.map(Scalar::U32);
+    written(rt, alloc, &instr, Entry::Undefined, value, bit, bytes)
+}
+
+// Such a value is refused.
+fn initial_refused(
+    rt: &impl Abort,
+    alloc: Global,
+    of: (Presence, Operator, u32),
+    value: Option<&Scalar>,
+    refusal: FieldRefusal,
+) -> Result<(), AllocError>
+    requires { IsTrue (applies of.1 kind.UInt32) }
+{
+    let instr = number_with(alloc, of.0, of.1, of.2)?;
+    refused(rt, alloc, &instr, Entry::Undefined, value, refusal)
 }
 
 #[test]
-fn optional_constants(rt: HostRuntime) -> Result<(), Fail> {
+fn constants(rt: HostRuntime) -> Result<(), AllocError> {
     let alloc = rt.alloc();
-    let nine = number_with(alloc, Presence::Optional, Operator::Constant, 9)?;
-    written(&rt, alloc, &nine, Entry::Undefined, None, false, &[])?;
-    let value = Some(Scalar::U32(9));
-    written(&rt, alloc, &nine, Entry::Undefined, value, true, &[])?;
+    let seven = (Presence::Mandatory, Operator::Constant, 7);
+    let refusal = FieldRefusal::NotConstant;
+    initial_refused(&rt, alloc, seven, Some(&Scalar::U32(8)), refusal)?;
+    initial_written(&rt, alloc, seven, Some(7), true, &[])?;
+    initial_refused(&rt, alloc, seven, None, FieldRefusal::Mismatch)
+}
+
+#[test]
+fn optional_constants(rt: HostRuntime) -> Result<(), AllocError> {
+    let alloc = rt.alloc();
+    let nine = (Presence::Optional, Operator::Constant, 9);
+    initial_written(&rt, alloc, nine, None, false, &[])?;
+    initial_written(&rt, alloc, nine, Some(9), true, &[])
+}
+
+#[test]
+fn constant_exponents(rt: HostRuntime) -> Result<(), AllocError> {
+    let alloc = rt.alloc();
     let exponent = fixed_exponent(alloc)?;
-    let value = Some(Scalar::I32(-1));
+    let value = Scalar::I32(-1);
+    let refusal = FieldRefusal::D3;
     refused(
         &rt,
         alloc,
         &exponent,
         Entry::Undefined,
-        value,
-        FieldRefusal::D3,
-    )?;
-    Ok(())
+        Some(&value),
+        refusal,
+    )
 }
 
 #[test]
-fn defaults(rt: HostRuntime) -> Result<(), Fail> {
+fn defaults(rt: HostRuntime) -> Result<(), AllocError> {
     let alloc = rt.alloc();
-    let three = number_with(alloc, Presence::Optional, Operator::Default, 3)?;
-    let value = Some(Scalar::U32(3));
-    written(&rt, alloc, &three, Entry::Undefined, value, false, &[])?;
-    written(&rt, alloc, &three, Entry::Undefined, None, true, &[0x80])?;
-    let value = Some(Scalar::U32(4));
-    written(&rt, alloc, &three, Entry::Undefined, value, true, &[0x85])?;
-    Ok(())
+    let three = (Presence::Optional, Operator::Default, 3);
+    initial_written(&rt, alloc, three, Some(3), false, &[])?;
+    initial_written(&rt, alloc, three, None, true, &[0x80])?;
+    initial_written(&rt, alloc, three, Some(4), true, &[0x85])
+}
+
+// A uInt32 that increments is written on a number.
+fn increment_written(
+    rt: &impl Abort,
+    alloc: Global,
+    kept: u32,
+    value: u32,
+    bit: bool,
+    bytes: &[u8],
+) -> Result<(), AllocError> {
+    let of = (Kind::UInt32, Presence::Mandatory, Operator::Increment);
+    let entry = Entry::Assigned(Scalar::U32(kept));
+    let value = Some(Scalar::U32(value));
+    field_written(rt, alloc, of, entry, value, bit, bytes)
 }
 
 #[test]
-fn increments(rt: HostRuntime) -> Result<(), Fail> {
+fn increments(rt: HostRuntime) -> Result<(), AllocError> {
     let alloc = rt.alloc();
-    let next = field(
-        alloc,
-        Kind::UInt32,
-        Presence::Mandatory,
-        Operator::Increment,
-    )?;
-    let entry = Entry::Assigned(Scalar::U32(1));
-    written(&rt, alloc, &next, entry, Some(Scalar::U32(2)), false, &[])?;
-    let entry = Entry::Assigned(Scalar::U32(u32::MAX));
-    written(&rt, alloc, &next, entry, Some(Scalar::U32(0)), false, &[])?;
-    let entry = Entry::Assigned(Scalar::U32(1));
-    written(
+    increment_written(&rt, alloc, 1, 2, false, &[])?;
+    increment_written(&rt, alloc, u32::MAX, 0, false, &[])?;
+    increment_written(&rt, alloc, 1, 3, true, &[0x83])
+}
+
+#[test]
+fn copies(rt: HostRuntime) -> Result<(), AllocError> {
+    let alloc = rt.alloc();
+    let of = (Presence::Mandatory, Operator::Copy);
+    ascii_written(&rt, alloc, of, b"AB", b"AB", false, &[])?;
+    ascii_written(&rt, alloc, of, b"AB", b"C", true, &[0xc3])
+}
+
+#[test]
+fn string_deltas(rt: HostRuntime) -> Result<(), AllocError> {
+    let alloc = rt.alloc();
+    let of = (Presence::Mandatory, Operator::Delta);
+    // fewer bytes with removal in front
+    let bytes = [0xfd, 0x45, 0xd3];
+    ascii_written(&rt, alloc, of, b"GEM6", b"ESM6", true, &bytes)?;
+    // as many bytes on both sides: removal at the end
+    ascii_written(&rt, alloc, of, b"ESM6", b"ESM6", true, &[0x80, 0x80])
+}
+
+#[test]
+fn refused_deltas(rt: HostRuntime) -> Result<(), AllocError> {
+    let alloc = rt.alloc();
+    let of = (Kind::Ascii, Presence::Mandatory, Operator::Delta);
+    let value = ascii(alloc, b"A\x80")?;
+    let refusal = FieldRefusal::Mismatch;
+    field_refused(
         &rt,
         alloc,
-        &next,
-        entry,
-        Some(Scalar::U32(3)),
-        true,
-        &[0x83],
-    )?;
-    Ok(())
+        of,
+        text_entry(alloc, b"A")?,
+        Some(&value),
+        refusal,
+    )
 }
 
 #[test]
-fn copies(rt: HostRuntime) -> Result<(), Fail> {
+fn deltas_on_an_empty_entry(rt: HostRuntime) -> Result<(), AllocError> {
     let alloc = rt.alloc();
-    let copy = field(alloc, Kind::Ascii, Presence::Mandatory, Operator::Copy)?;
-    let entry = text_entry(alloc, b"AB")?;
-    let value = Some(ascii(alloc, b"AB")?);
-    written(&rt, alloc, &copy, entry, value, false, &[])?;
-    let entry = text_entry(alloc, b"AB")?;
-    let value = Some(ascii(alloc, b"C")?);
-    written(&rt, alloc, &copy, entry, value, true, &[0xc3])?;
-    Ok(())
+    let of = (Kind::Ascii, Presence::Mandatory, Operator::Delta);
+    let value = ascii(alloc, b"A")?;
+    field_refused(&rt, alloc, of, Entry::Empty, Some(&value), FieldRefusal::D6)
 }
 
 #[test]
-fn string_deltas(rt: HostRuntime) -> Result<(), Fail> {
+fn number_deltas(rt: HostRuntime) -> Result<(), AllocError> {
     let alloc = rt.alloc();
-    let delta = field(alloc, Kind::Ascii, Presence::Mandatory, Operator::Delta)?;
-    // fewer bytes with removal in front
-    let entry = text_entry(alloc, b"GEM6")?;
-    let value = Some(ascii(alloc, b"ESM6")?);
-    written(&rt, alloc, &delta, entry, value, true, &[0xfd, 0x45, 0xd3])?;
-    // as many bytes on both sides: removal at the end
-    let entry = text_entry(alloc, b"ESM6")?;
-    let value = Some(ascii(alloc, b"ESM6")?);
-    written(&rt, alloc, &delta, entry, value, true, &[0x80, 0x80])?;
-    Ok(())
-}
-
-#[test]
-fn refused_deltas(rt: HostRuntime) -> Result<(), Fail> {
-    let alloc = rt.alloc();
-    let delta = field(alloc, Kind::Ascii, Presence::Mandatory, Operator::Delta)?;
-    let entry = text_entry(alloc, b"A")?;
-    let value = Some(ascii(alloc, b"A\x80")?);
-    refused(&rt, alloc, &delta, entry, value, FieldRefusal::Mismatch)?;
-    let value = Some(ascii(alloc, b"A")?);
-    refused(&rt, alloc, &delta, Entry::Empty, value, FieldRefusal::D6)?;
-    Ok(())
-}
-
-#[test]
-fn number_deltas(rt: HostRuntime) -> Result<(), Fail> {
-    let alloc = rt.alloc();
-    let delta = field(alloc, Kind::UInt64, Presence::Optional, Operator::Delta)?;
+    let of = (Kind::UInt64, Presence::Optional, Operator::Delta);
     // a difference of 65 bits
     let entry = Entry::Assigned(Scalar::U64(u64::MAX));
+    let value = Some(Scalar::U64(0));
     let bytes = [0x7e, 0x00, 0x00, 0x00, 0x00, 0x00, 0x00, 0x00, 0x00, 0x81];
-    written(
-        &rt,
-        alloc,
-        &delta,
-        entry,
-        Some(Scalar::U64(0)),
-        true,
-        &bytes,
-    )?;
-    written(&rt, alloc, &delta, Entry::Empty, None, true, &[0x80])?;
-    Ok(())
+    field_written(&rt, alloc, of, entry, value, true, &bytes)?;
+    field_written(&rt, alloc, of, Entry::Empty, None, true, &[0x80])
 }
 
 #[test]
-fn decimal_deltas(rt: HostRuntime) -> Result<(), Fail> {
+fn decimal_deltas(rt: HostRuntime) -> Result<(), AllocError> {
     let alloc = rt.alloc();
+    let of = (Kind::Decimal, Presence::Mandatory, Operator::Delta);
     let decimal = |exponent: i32, mantissa: i64| Scalar::Decimal { exponent, mantissa };
-    let delta = field(alloc, Kind::Decimal, Presence::Mandatory, Operator::Delta)?;
     let entry = Entry::Assigned(decimal(-2, 7));
-    written(
+    let value = Some(decimal(-1, 5));
+    field_written(&rt, alloc, of, entry, value, true, &[0x81, 0xfe])?;
+    let far = decimal(64, 1);
+    field_refused(
         &rt,
         alloc,
-        &delta,
-        entry,
-        Some(decimal(-1, 5)),
-        true,
-        &[0x81, 0xfe],
-    )?;
-    let far = Some(decimal(64, 1));
-    refused(&rt, alloc, &delta, Entry::Undefined, far, FieldRefusal::R1)?;
-    Ok(())
+        of,
+        Entry::Undefined,
+        Some(&far),
+        FieldRefusal::R1,
+    )
 }
 
 #[test]
-fn tails(rt: HostRuntime) -> Result<(), Fail> {
+fn tails(rt: HostRuntime) -> Result<(), AllocError> {
     let alloc = rt.alloc();
-    let tail = field(alloc, Kind::Ascii, Presence::Optional, Operator::Tail)?;
+    let of = (Presence::Optional, Operator::Tail);
     // the shortest tail begins with NUL, and would have four bytes
-    let entry = text_entry(alloc, b"xab")?;
-    let value = Some(ascii(alloc, b"x\0b")?);
-    written(&rt, alloc, &tail, entry, value, true, &[0x78, 0x00, 0xe2])?;
-    let entry = text_entry(alloc, b"xab")?;
-    let value = Some(ascii(alloc, b"xab")?);
-    written(&rt, alloc, &tail, entry, value, false, &[])?;
-    let entry = text_entry(alloc, b"xab")?;
-    written(&rt, alloc, &tail, entry, None, true, &[0x80])?;
-    Ok(())
+    let bytes = [0x78, 0x00, 0xe2];
+    ascii_written(&rt, alloc, of, b"xab", b"x\0b", true, &bytes)?;
+    ascii_written(&rt, alloc, of, b"xab", b"xab", false, &[])
 }
 
 #[test]
-fn tails_of_an_initial_value(rt: HostRuntime) -> Result<(), Fail> {
+fn absent_tails(rt: HostRuntime) -> Result<(), AllocError> {
     let alloc = rt.alloc();
+    let of = (Kind::Ascii, Presence::Optional, Operator::Tail);
+    let entry = text_entry(alloc, b"xab")?;
+    field_written(&rt, alloc, of, entry, None, true, &[0x80])
+}
+
+// An optional tail whose initial value is "ab" is written on an empty entry.
+fn initial_tail_written(
+    rt: &impl Abort,
+    alloc: Global,
+    value: &[u8],
+    bytes: &[u8],
+) -> Result<(), AllocError> {
     let tail = tail_with(alloc, b"ab")?;
+    let value = Some(ascii(alloc, value)?);
+    written(rt, alloc, &tail, Entry::Empty, value, true, bytes)
+}
+
+#[test]
+fn tails_of_an_initial_value(rt: HostRuntime) -> Result<(), AllocError> {
+    let alloc = rt.alloc();
     // the shortest tail is empty, and would have two bytes
-    let value = Some(ascii(alloc, b"ab")?);
-    written(&rt, alloc, &tail, Entry::Empty, value, true, &[0xe2])?;
+    initial_tail_written(&rt, alloc, b"ab", &[0xe2])?;
     // a longer value stands whole
-    let value = Some(ascii(alloc, b"abc")?);
-    written(
+    initial_tail_written(&rt, alloc, b"abc", &[0x61, 0x62, 0xe3])
+}
+
+#[test]
+fn tails_that_are_too_short(rt: HostRuntime) -> Result<(), AllocError> {
+    let alloc = rt.alloc();
+    let of = (Kind::Ascii, Presence::Optional, Operator::Tail);
+    let value = ascii(alloc, b"x")?;
+    let refusal = FieldRefusal::TooShort;
+    field_refused(
         &rt,
         alloc,
-        &tail,
-        Entry::Empty,
-        value,
-        true,
-        &[0x61, 0x62, 0xe3],
-    )?;
-    Ok(())
+        of,
+        text_entry(alloc, b"xab")?,
+        Some(&value),
+        refusal,
+    )
 }
 
 #[test]
-fn refused_tails(rt: HostRuntime) -> Result<(), Fail> {
+fn tails_on_another_type(rt: HostRuntime) -> Result<(), AllocError> {
     let alloc = rt.alloc();
-    let tail = field(alloc, Kind::Ascii, Presence::Optional, Operator::Tail)?;
-    let entry = text_entry(alloc, b"xab")?;
-    let value = Some(ascii(alloc, b"x")?);
-    refused(&rt, alloc, &tail, entry, value, FieldRefusal::TooShort)?;
-    let tail = field(alloc, Kind::Unicode, Presence::Mandatory, Operator::Tail)?;
-    let entry = text_entry(alloc, b"xab")?;
-    let value = Some(unicode(alloc, "é")?);
-    refused(&rt, alloc, &tail, entry, value, FieldRefusal::D4)?;
+    let of = (Kind::Unicode, Presence::Mandatory, Operator::Tail);
+    let value = unicode(alloc, "é")?;
+    let refusal = FieldRefusal::D4;
+    field_refused(
+        &rt,
+        alloc,
+        of,
+        text_entry(alloc, b"xab")?,
+        Some(&value),
+        refusal,
+    )
+}
+
+// Writes a string delta on an entry, once more where a growth was refused: that is Memory, and nothing is appended.
+fn delta_appended(
+    rt: &impl Abort,
+    alloc: Global,
+    entry: EntryRef,
+    value: &Scalar,
+    out: &mut Vec<u8>,
+) -> Result<(), Fail>
+    requires { HoldsScalar (entry_of entry) }
+{
+    let delta = field(alloc, Kind::Ascii, Presence::Mandatory, Operator::Delta)?;
+    if let Err(refusal) = write_field(&delta, entry, Some(value), out) {
+        assert_eq!(rt; refusal, FieldRefusal::Memory);
+        assert!(rt; out.is_empty());
+        write_field(&delta, entry, Some(value), out)?;
+    }
     Ok(())
 }
 
@@ -384,16 +594,32 @@ fn refused_tails(rt: HostRuntime) -> Result<(), Fail> {
 #[test]
 fn refused_growths(rt: HostRuntime) -> Result<(), Fail> {
     let alloc = rt.alloc();
-    let delta = field(alloc, Kind::Ascii, Presence::Mandatory, Operator::Delta)?;
     let value = ascii(alloc, b"ESM6")?;
     let entry = text_entry(alloc, b"GEM6")?;
     let mut out = Vec::new(alloc);
-    if let Err(refusal) = write_field(&delta, entry.view(), Some(&value), &mut out) {
+    delta_appended(&rt, alloc, entry.view(), &value, &mut out)?;
+    assert_eq!(rt; out.as_slice(), [0xfd, 0x45, 0xd3].as_slice());
+    Ok(())
+}
+
+// The same of `write_in_place`, whose entry is as it was.
+fn delta_in_place(
+    rt: &impl Abort,
+    alloc: Global,
+    entry: &mut Entry,
+    before: &Entry,
+    value: &Scalar,
+    out: &mut Vec<u8>,
+) -> Result<(), Fail>
+    requires { HoldsScalar entry.old }
+{
+    let delta = field(alloc, Kind::Ascii, Presence::Mandatory, Operator::Delta)?;
+    if let Err(refusal) = write_in_place(alloc, &delta, entry, Some(value), out) {
         assert_eq!(rt; refusal, FieldRefusal::Memory);
         assert!(rt; out.is_empty());
-        write_field(&delta, entry.view(), Some(&value), &mut out)?;
+        assert_eq!(rt; &*entry, before);
+        write_in_place(alloc, &delta, entry, Some(value), out)?;
     }
-    assert_eq!(rt; out.as_slice(), [0xfd, 0x45, 0xd3].as_slice());
     Ok(())
 }
 
@@ -401,18 +627,11 @@ fn refused_growths(rt: HostRuntime) -> Result<(), Fail> {
 #[test]
 fn refused_copies(rt: HostRuntime) -> Result<(), Fail> {
     let alloc = rt.alloc();
-    let delta = field(alloc, Kind::Ascii, Presence::Mandatory, Operator::Delta)?;
     let value = ascii(alloc, b"ESM6")?;
     let before = text_entry(alloc, b"GEM6")?;
     let mut entry = text_entry(alloc, b"GEM6")?;
     let mut out = Vec::new(alloc);
-    let answer = write_in_place(alloc, &delta, &mut entry, Some(&value), &mut out);
-    if let Err(refusal) = answer {
-        assert_eq!(rt; refusal, FieldRefusal::Memory);
-        assert!(rt; out.is_empty());
-        assert_eq!(rt; &entry, &before);
-        write_in_place(alloc, &delta, &mut entry, Some(&value), &mut out)?;
-    }
+    delta_in_place(&rt, alloc, &mut entry, &before, &value, &mut out)?;
     assert_eq!(rt; out.as_slice(), [0xfd, 0x45, 0xd3].as_slice());
     assert_eq!(rt; entry, Entry::Assigned(value));
     Ok(())

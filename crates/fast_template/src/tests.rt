@@ -67,26 +67,57 @@ fn part(
     })
 }
 
+// Whether a value has an equal copy.
+fn has_a_copy(alloc: Global, value: &Scalar) -> Result<bool, AllocError> {
+    let copy = value.copy(alloc)?;
+    Ok(copy == *value)
+}
+
 #[test]
-fn copies_are_equal(rt: HostRuntime) -> Result<(), AllocError> {
+fn copies_of_numbers_are_equal(rt: HostRuntime) -> Result<(), AllocError> {
     let alloc = rt.alloc();
-    let values = vec![in alloc;
-        Scalar::U32(4294967295),
-        Scalar::I32(-7942755),
-        Scalar::U64(18446744073709551615),
-        Scalar::I64(-9223372036854775808),
-        Scalar::Decimal {
-            exponent: -2,
-            mantissa: 942755
-        },
-        Scalar::Ascii(ByteString::from_vec(vec![in alloc; 0x47, 0x45, 0x4D, 0x36]?)),
-        Scalar::Unicode(UnicodeText::from_string(String::from_str(alloc, "é")?)),
-        Scalar::Bytes(ByteString::from_vec(vec![in alloc; 0x0A, 0xFF]?)),
-    ]?;
-    for value in &values {
-        let copy = value.copy(alloc)?;
-        assert_eq!(rt; &copy, value);
-    }
+    let decimal = Scalar::Decimal {
+        exponent: -2,
+        mantissa: 942755,
+    };
+    assert!(rt; has_a_copy(alloc, &Scalar::U32(4294967295))?);
+    assert!(rt; has_a_copy(alloc, &Scalar::I32(-7942755))?);
+    assert!(rt; has_a_copy(alloc, &Scalar::U64(18446744073709551615))?);
+    assert!(rt; has_a_copy(alloc, &Scalar::I64(-9223372036854775808))?);
+    assert!(rt; has_a_copy(alloc, &decimal)?);
+    Ok(())
+}
+
+#[test]
+fn copies_of_characters_are_equal(rt: HostRuntime) -> Result<(), AllocError> {
+    let alloc = rt.alloc();
+    let text = vec![in alloc; 0x47, 0x45, 0x4D, 0x36]?;
+    let text = Scalar::Ascii(ByteString::from_vec(text));
+    assert!(rt; has_a_copy(alloc, &text)?);
+    Ok(())
+}
+
+#[test]
+fn copies_of_texts_are_equal(rt: HostRuntime) -> Result<(), AllocError> {
+    let alloc = rt.alloc();
+    let text = String::from_str(alloc, "é")?;
+    let text = Scalar::Unicode(UnicodeText::from_string(text));
+    assert!(rt; has_a_copy(alloc, &text)?);
+    Ok(())
+}
+
+#[test]
+fn copies_of_bytes_are_equal(rt: HostRuntime) -> Result<(), AllocError> {
+    let alloc = rt.alloc();
+    let bytes = vec![in alloc; 0x0A, 0xFF]?;
+    let bytes = Scalar::Bytes(ByteString::from_vec(bytes));
+    assert!(rt; has_a_copy(alloc, &bytes)?);
+    Ok(())
+}
+
+#[test]
+fn copies_of_keys_are_equal(rt: HostRuntime) -> Result<(), AllocError> {
+    let alloc = rt.alloc();
     let length_key = Key {
         slot: 3,
         scope: Scope::User(name(alloc, "mine")?),
@@ -111,6 +142,12 @@ fn a_text_is_filled_again(rt: HostRuntime) -> Result<(), AllocError> {
     Ok(())
 }
 
+// Whether a field of this presence and operator asks for a bit.
+fn asks(alloc: Global, presence: Presence, operator: Operator) -> Result<bool, AllocError> {
+    let of = part(alloc, Part::Whole, presence, operator)?;
+    Ok(part_needs_bit(&of))
+}
+
 #[test]
 fn bits_are_asked_for(rt: HostRuntime) -> Result<(), AllocError> {
     let alloc = rt.alloc();
@@ -124,21 +161,30 @@ fn bits_are_asked_for(rt: HostRuntime) -> Result<(), AllocError> {
         (Operator::Tail, true, true),
     ];
     for (operator, mandatory, optional) in rows {
-        let of = part(alloc, Part::Whole, Presence::Mandatory, operator)?;
-        assert_eq!(rt; part_needs_bit(&of), mandatory, "{operator:?}");
-        let of = part(alloc, Part::Whole, Presence::Optional, operator)?;
-        assert_eq!(rt; part_needs_bit(&of), optional, "{operator:?}");
+        let asked = asks(alloc, Presence::Mandatory, operator)?;
+        assert_eq!(rt; asked, mandatory, "{operator:?}");
+        let asked = asks(alloc, Presence::Optional, operator)?;
+        assert_eq!(rt; asked, optional, "{operator:?}");
     }
-    let decimal = Flat::Parts {
+    Ok(())
+}
+
+// A decimal whose mantissa alone asks for a bit.
+fn decimal(alloc: Global) -> Result<Flat, AllocError> {
+    Ok(Flat::Parts {
         name: name(alloc, "Px")?,
         number: 1,
         presence: Presence::Mandatory,
         exponent: part(alloc, Part::Exponent, Presence::Mandatory, Operator::Delta)?,
         mantissa: part(alloc, Part::Mantissa, Presence::Mandatory, Operator::Copy)?,
-    };
+    })
+}
+
+#[test]
+fn a_map_is_asked_for_by_a_mantissa(rt: HostRuntime) -> Result<(), AllocError> {
+    let decimal = decimal(rt.alloc())?;
     assert_eq!(rt; needs_bit(&decimal), false);
-    let members = vec![in alloc; decimal]?;
-    assert_eq!(rt; has_map(&members), true);
+    assert_eq!(rt; has_map(&[decimal]), true);
     assert_eq!(rt; has_map(&[]), false);
     Ok(())
 }

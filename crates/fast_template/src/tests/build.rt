@@ -127,6 +127,18 @@ fn fault_of(alloc: Global, templates: Vec<Template>) -> Result<Option<LoadFault>
     Ok(granted(TemplateSet::build(alloc, templates))?.err())
 }
 
+// The fault of a field, if it has one.
+fn fault_of_field(
+    alloc: Global,
+    kind: Kind,
+    presence: Presence,
+    operator: Operator,
+    initial: Option<&str>,
+) -> Result<Option<LoadFault>, AllocError> {
+    let field = field(alloc, kind, presence, operator, initial)?;
+    fault_of(alloc, one(alloc, field)?)
+}
+
 #[test]
 fn fields_are_judged(rt: HostRuntime) -> Result<(), AllocError> {
     let alloc = rt.alloc();
@@ -176,30 +188,25 @@ fn fields_are_judged(rt: HostRuntime) -> Result<(), AllocError> {
         ),
     ];
     for (kind, presence, operator, initial, expected) in rows {
-        let set = one(alloc, field(alloc, kind, presence, operator, initial)?)?;
-        assert_eq!(rt; fault_of(alloc, set)?, expected, "{operator:?}");
+        let fault = fault_of_field(alloc, kind, presence, operator, initial)?;
+        assert_eq!(rt; fault, expected, "{operator:?}");
     }
     Ok(())
 }
 
-// A decimal with this text beside its exponent, and a mantissa that no operator applies to.
-fn odd_parts(alloc: Global, exponent: &str) -> Result<Vec<Template>, AllocError> {
+// The fault of a decimal with this text beside its exponent, and a mantissa that no operator applies to.
+fn fault_of_parts(alloc: Global, exponent: &str) -> Result<Option<LoadFault>, AllocError> {
     let exponent = operation(alloc, Operator::Copy, Some(exponent))?;
     let mantissa = operation(alloc, Operator::Tail, None)?;
-    one(alloc, parts(alloc, exponent, mantissa)?)
+    let parts = parts(alloc, exponent, mantissa)?;
+    fault_of(alloc, one(alloc, parts)?)
 }
 
 #[test]
 fn an_exponent_is_judged_before_its_mantissa(rt: HostRuntime) -> Result<(), AllocError> {
     let alloc = rt.alloc();
-    assert_eq!(rt;
-        fault_of(alloc, odd_parts(alloc, "64")?)?,
-        at(LoadCause::S3, 1, 1)
-    );
-    assert_eq!(rt;
-        fault_of(alloc, odd_parts(alloc, "-63")?)?,
-        at(LoadCause::S2, 1, 1)
-    );
+    assert_eq!(rt; fault_of_parts(alloc, "64")?, at(LoadCause::S3, 1, 1));
+    assert_eq!(rt; fault_of_parts(alloc, "-63")?, at(LoadCause::S2, 1, 1));
     Ok(())
 }
 
@@ -375,15 +382,23 @@ fn sequence(alloc: Global, members: Vec<Instruction>) -> Result<Instruction, All
 }
 
 // A template that refers twice to another, once inside a sequence.
-fn sharing(alloc: Global) -> Result<Vec<Template>, AllocError> {
+fn referrer(alloc: Global) -> Result<Template, AllocError> {
     let inner = sequence(alloc, vec![in alloc; reference(alloc, "Shared")?]?)?;
     let members = vec![in alloc; reference(alloc, "Shared")?, inner, plain(alloc)?]?;
-    let shared = vec![in alloc;
+    template(alloc, "A", Some(5), members)
+}
+
+// The template that it refers to.
+fn shared(alloc: Global) -> Result<Template, AllocError> {
+    let members = vec![in alloc;
         field_in(alloc, "X", "template")?,
         field_in(alloc, "Y", "type")?,
     ]?;
-    let referrer = template(alloc, "A", Some(5), members)?;
-    Ok(vec![in alloc; referrer, template(alloc, "Shared", Some(6), shared)?]?)
+    template(alloc, "Shared", Some(6), members)
+}
+
+fn sharing(alloc: Global) -> Result<Vec<Template>, AllocError> {
+    Ok(vec![in alloc; referrer(alloc)?, shared(alloc)?]?)
 }
 
 #[test]
