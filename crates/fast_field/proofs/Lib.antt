@@ -25,6 +25,7 @@ pub mod ChosenForms
 pub mod WrittenForms
 pub mod RefusalSteps
 pub mod CallSteps
+pub mod PutTogether
 pub mod ReadFields
 pub mod BaseSteps
 pub mod PartsOfSets
