@@ -30,6 +30,7 @@ pub mod ReadFields
 pub mod BaseSteps
 pub mod PartsOfSets
 pub mod BestForms
+pub mod ComputedBest
 pub mod WorkedBest
 pub mod NotBest
 pub mod FieldLaws
