@@ -1,11 +1,11 @@
 -- Best forms that compute: the cut and the tail that a writer takes of a text are functions, and their bytes are the
 -- shortest where they are read as them and are no more than their size.
 use Rattle.std.proofs.Common.{◌≡◌, ℕ, ◌+◌, ◌-◌, ◌<◌, ◌≤◌, Bool, true, false, List, [], ◌∷◌, ◌++◌, length, take, drop, refl, sym, subst, ◌∙◌, arith, Ok, Result}
-use Rattle.std.specs.Prelude.{ℤ, pos, negsuc, nat_le, nat_lt, ◌&&◌, Option, Some, None}
+use Rattle.std.specs.Prelude.{ℤ, pos, negsuc, nat_le, nat_lt, ◌&&◌, Option, Some}
 use Rattle.std.specs.List.{AllByRecursion}
 use Rattle.std.proofs.lemmas.Bool.Decides.{nat_tests}
 use Rattle.std.proofs.lemmas.List.{append-nil}
-use Rattle.fast_wire.specs.Reader.{IsBytes, IsReader}
+use Rattle.fast_wire.specs.Reader.{IsReader}
 use Rattle.fast_wire.specs.Sizes.{ascii_size}
 use Rattle.fast_wire.specs.declared.nullable.Nullable.TheVariants.{Value}
 use Rattle.fast_template.specs.declared.kind.Kind.TheVariants as kind
@@ -13,7 +13,6 @@ use Rattle.fast_template.specs.declared.kind.Operator.TheVariants.{Delta, Tail}
 use Rattle.fast_template.specs.declared.kind.Part.TheVariants.{Whole}
 use Rattle.fast_template.specs.declared.kind.Presence.{Presence}
 use Rattle.fast_template.specs.declared.kind.Presence.TheVariants.{Mandatory, Optional}
-use Rattle.fast_template.specs.declared.resolved.FieldPart.{FieldPart}
 use Rattle.fast_template.specs.declared.scalar.Scalar.{Scalar}
 use Rattle.fast_template.specs.declared.scalar.Scalar.TheVariants.{Ascii}
 use Rattle.fast_dictionary.specs.declared.entry.Entry.{Entry}
@@ -50,7 +49,7 @@ all_below_is most (c ∷ s) e =
 abbrev pub is_text : List ℕ → Bool
 is_text s = nat_le (length s) 65535 && all_below 128 s
 
-text_is : (s : List ℕ) → is_text s ≡ true → IsOfType kind.Ascii (Ascii s)
+pub text_is : (s : List ℕ) → is_text s ≡ true → IsOfType kind.Ascii (Ascii s)
 text_is s e =
     let h = both_so (nat_le (length s) 65535) (all_below 128 s) e in
     (refl, (grind (arith, nat_tests, h.0), all_below_is 128 s h.1))

@@ -1,25 +1,27 @@
 -- Worked rows: the form that a writer chooses.
-use Rattle.std.proofs.Common.{◌≡◌, ℕ, zero, suc, ◌+◌, ◌-◌, ◌≤◌, Bool, true, false, List, [], ◌∷◌, ◌++◌, length, take, drop, get_or, Option, Some, None, pos, negsuc, refl, sym, ap, subst, ◌∙◌, arith, inr, length-append, length-take, length-drop}
-use Rattle.std.specs.Prelude.{codes, ℤ, unwrap_or}
+use Rattle.std.proofs.Common.{ℕ, Bool, true, false, List, [], ◌∷◌, Some, None, pos, negsuc, refl, arith}
+use Rattle.std.specs.Prelude.{codes, IsTrue}
 use Rattle.fast_wire.specs.Reading.{entity_at, signed_at, ascii_at, ascii_nullable_at}
 use Rattle.fast_wire.specs.Sizes.{groups_from, signed_size}
-use Rattle.fast_wire.specs.declared.nullable.Nullable.TheVariants.{Value}
-use Rattle.fast_wire.proofs.Readers.{ok_is}
+use Rattle.fast_template.specs.TemplateSets.{applies}
+use Rattle.fast_template.specs.declared.kind.Kind.{Kind}
 use Rattle.fast_template.specs.declared.kind.Kind.TheVariants as kind
+use Rattle.fast_template.specs.declared.kind.Operator.TheVariants.{Tail}
+use Rattle.fast_template.specs.declared.kind.Presence.{Presence}
 use Rattle.fast_template.specs.declared.kind.Presence.TheVariants.{Mandatory, Optional}
-use Rattle.fast_template.specs.declared.scalar.Scalar.{Scalar}
 use Rattle.fast_template.specs.declared.scalar.Scalar.TheVariants.{U32, I32, Ascii, Unicode}
 use Rattle.fast_dictionary.specs.declared.entry.Entry.TheVariants.{Undefined, Empty}
-use Rattle.fast_field.specs.declared.fault.FieldFault.{FieldFault}
-use Rattle.fast_field.specs.Values.{integer_of, units_of}
-use Rattle.fast_field.specs.Deltas.{at_end, in_front, Cut, uncut, DeltaValue, SpellsTail, removed_of, side_of, put_together, ended_by}
 use Rattle.fast_field.specs.FieldReading.{integer_at, part_at, units_at}
 use Rattle.fast_field.specs.Fields.{Form}
-use Rattle.fast_field.specs.Best.{NoLater, IsBest}
+use Rattle.fast_field.specs.Best.{IsBest}
 use Rattle.fast_field.proofs.BestForms.{bit_zero_is_best}
 use Rattle.fast_field.proofs.BestValues.{constant_is_first, best_under_one}
-use Rattle.fast_field.proofs.ComputedBest.{delta_row, tail_row}
-use Rattle.fast_field.proofs.WorkedFields.{text, number, quote_seq, quote_sym, quote_qty, opt_px_exponent, fixed_px_exponent, tail_s, init_s, delta_s, uni_s, const_k, const_o, const_d}
+use Rattle.fast_field.proofs.ComputedBest.{delta_row, tail_row, text_is}
+use Rattle.fast_field.proofs.Refused.{refused_has_none}
+use Rattle.fast_field.specs.Parts.{IsFieldPart}
+use Rattle.fast_field.specs.Refusals.{value_refusal}
+use Rattle.fast_field.specs.declared.fault.FieldRefusal.TheVariants as refusal
+use Rattle.fast_field.proofs.WorkedFields.{field, text, number, quote_seq, quote_sym, quote_qty, opt_px_exponent, fixed_px_exponent, tail_s, init_s, delta_s, uni_s, const_k, const_o, const_d}
 
 -- ---- what bit 0 gives is never sent
 
@@ -66,7 +68,7 @@ tail_in_place_of_nothing : IsBest init_s Empty true (0xE2 ∷ []) (Some (Ascii (
 unfolding units_at ascii_nullable_at entity_at
 tail_in_place_of_nothing = tail_row Optional (Some (Ascii (codes "ab"))) Empty (codes "ab") (codes "ab") (0xE2 ∷ []) true refl refl refl refl refl refl refl refl
 
--- ---- a constant is never sent, and has no other value; an optional one may be left out
+-- ---- a constant is never sent
 
 constant : IsBest const_k Undefined true [] (Some (U32 7))
 constant = best_under_one const_k Undefined (Some (U32 7)) [] refl (constant_is_first const_k Undefined (U32 7) refl) refl
@@ -74,35 +76,39 @@ constant = best_under_one const_k Undefined (Some (U32 7)) [] refl (constant_is_
 optional_constant : IsBest const_o Undefined true [] (Some (U32 9))
 optional_constant = best_under_one const_o Undefined (Some (U32 9)) [] refl (constant_is_first const_o Undefined (U32 9) refl) refl
 
-eight_is_not_seven : pos 8 ≡ pos 7 → ⊥
-eight_is_not_seven e = cc
+-- ---- no other value of a constant has a form, nor has a tail's that is shorter than its base, or whose base is of
+-- another type
+
+whole_constant : IsFieldPart const_k
+whole_constant = record {
+  typed = record { operator_applies = refl; initial_fits = (refl, refl, omega arith); constant_has_value = λ e. refl; default_has_value = λ e m. absurd cc };
+  kind_of_part = tt;
+}
+
+constant_exponent : IsFieldPart fixed_px_exponent
+constant_exponent = record {
+  typed = record { operator_applies = refl; initial_fits = (refl, refl, refl); constant_has_value = λ e. refl; default_has_value = λ e m. absurd cc };
+  kind_of_part = refl;
+}
+
+tail_part : (k : Kind) (p : Presence) → IsTrue (applies Tail k) → IsFieldPart (field k p Tail)
+tail_part k p applies = record {
+  typed = record { operator_applies = applies; initial_fits = tt; constant_has_value = λ e. absurd cc; default_has_value = λ e m. absurd cc };
+  kind_of_part = tt;
+}
 
 other_than_constant : (bit : Bool) (b : List ℕ) → Form const_k Undefined bit b (Some (U32 8)) → ⊥
-other_than_constant false b h = let e = h.1.row.3 in cc
-other_than_constant true b h =
-    let number = λ (v : Option Scalar). integer_of (unwrap_or v (U32 0)) in
-    eight_is_not_seven (ap number h.1.row.2)
-
-other_exponent : negsuc 0 ≡ negsuc 1 → ⊥
-other_exponent e = cc
+unfolding value_refusal
+other_than_constant = refused_has_none const_k Undefined (Some (U32 8)) refusal.NotConstant whole_constant tt refl
 
 other_than_constant_exponent : (bit : Bool) (b : List ℕ) → Form fixed_px_exponent Undefined bit b (Some (I32 (negsuc 0))) → ⊥
-other_than_constant_exponent false b h = let e = h.1.row.3 in cc
-other_than_constant_exponent true b h = other_exponent (ap (λ (v : Option Scalar). integer_of (unwrap_or v (U32 0))) h.1.row.2)
-
--- ---- a value shorter than its base has no tail, and a base of another type none either
+unfolding value_refusal
+other_than_constant_exponent = refused_has_none fixed_px_exponent Undefined (Some (I32 (negsuc 0))) refusal.D3 constant_exponent tt refl
 
 shorter_than_base : (bit : Bool) (b : List ℕ) → Form tail_s (text (codes "xab")) bit b (Some (Ascii (codes "x"))) → ⊥
-shorter_than_base false b h =
-    let same : Some (Ascii (codes "xab")) ≡ Some (Ascii (codes "x")) = ok_is {F = FieldFault} (Some (Ascii (codes "xab"))) (Some (Ascii (codes "x"))) h.1.row.2 in
-    omega (arith, ap (λ (v : Option Scalar). length (units_of (unwrap_or v (U32 0)))) same)
-shorter_than_base true b h =
-    let row = h.1.row in
-    let base : Ascii (codes "xab") ≡ row.0 = ok_is {F = FieldFault} (Ascii (codes "xab")) row.0 row.1 in
-    let spelled = subst (λ (x : Scalar). SpellsTail kind.Ascii Optional x h.0 b (Ascii (codes "x"))) (sym base) row.2 in
-    let kept = take (3 - length spelled.tail) (codes "xab") in
-    omega (arith, ap (λ (x : Scalar). length (units_of x)) spelled.value.1, length-append kept spelled.tail, length-take (3 - length spelled.tail) (codes "xab"))
+unfolding value_refusal
+shorter_than_base = refused_has_none tail_s (text (codes "xab")) (Some (Ascii (codes "x"))) refusal.TooShort (tail_part kind.Ascii Optional refl) (text_is (codes "xab") refl).1 refl
 
 base_of_another_type : (bit : Bool) (b : List ℕ) → Form uni_s (text (codes "xab")) bit b (Some (Unicode (0xC3 ∷ 0xA9 ∷ []))) → ⊥
-base_of_another_type false b h = let e = h.1.row.2 in cc
-base_of_another_type true b h = let e = h.1.row.1 in cc
+unfolding value_refusal
+base_of_another_type = refused_has_none uni_s (text (codes "xab")) (Some (Unicode (0xC3 ∷ 0xA9 ∷ []))) refusal.D4 (tail_part kind.Unicode Mandatory refl) (text_is (codes "xab") refl).1 refl
