@@ -1,9 +1,10 @@
 -- The best delta of a string or vector: the longest common prefix with removal at the end, or the longest common suffix
 -- with removal in front.
 use Rattle.std.proofs.Common.{◌≡◌, ℕ, zero, suc, ◌+◌, ◌-◌, ◌^◌, ◌<◌, ◌≤◌, Bool, true, false, List, ◌++◌, length, take, drop, get_or, min, refl, sym, ap, subst, arith, inl, inr, ◌⊎◌, length-append, length-take, length-drop, take-append-drop}
-use Rattle.std.specs.Prelude.{ℤ, pos, negsuc, nat_le, ◌&&◌, IsTrue}
-use Rattle.std.proofs.lemmas.Bool.{cases_lt, cases_eq}
-use Rattle.std.proofs.lemmas.Bool.Decides.{nat_tests}
+use Rattle.std.specs.Prelude.{ℤ, pos, negsuc, nat_le, ◌&&◌, if◌then◌else◌, IsTrue}
+use Rattle.std.proofs.Math.Dec.{eqb}
+use Rattle.std.proofs.lemmas.Bool.{cases_lt}
+use Rattle.std.proofs.lemmas.Bool.Decides.{nat_tests, eqb_tells}
 use Rattle.fast_wire.specs.Integer.{magnitude}
 use Rattle.fast_wire.specs.Sizes.{unsigned_size}
 use Rattle.fast_wire.specs.declared.nullable.Nullable.TheVariants.{Value}
@@ -54,25 +55,47 @@ cut_least k p base cut b v h =
 
 -- ---- how far two lists agree
 
-prefix_from : (a b : List ℕ) (fuel i : ℕ) → i + fuel ≡ min (length a) (length b) → take i a ≡ take i b → (n : ℕ) × IsLongestPrefix a b n
-prefix_from a b zero i e so_far = (i, prefix_ends a b i (omega arith) (omega arith) so_far)
-prefix_from a b (suc fuel) i e so_far = elim (cases_eq (get_or a i 0) (get_or b i 0)) [
-  | inl same ↦ prefix_from a b fuel (i + 1) (omega arith) (prefix_more a b i (omega arith) (omega arith) same so_far)
-  | inr differ ↦ (i, prefix_stops a b i (omega arith) (omega arith) differ so_far)
+abbrev agree_from : List ℕ → List ℕ → ℕ → ℕ → ℕ
+agree_from a b zero i = i
+agree_from a b (suc fuel) i = if eqb (get_or a i 0) (get_or b i 0) then agree_from a b fuel (i + 1) else i
+
+prefix_from : (a b : List ℕ) (fuel i : ℕ) → i + fuel ≡ min (length a) (length b) → take i a ≡ take i b → IsLongestPrefix a b (agree_from a b fuel i)
+prefix_from a b zero i e so_far = prefix_ends a b i (omega arith) (omega arith) so_far
+prefix_from a b (suc fuel) i e so_far = elim (eqb_tells (get_or a i 0) (get_or b i 0)) [
+  | inl same ↦ rw same.0 (prefix_from a b fuel (i + 1) (omega arith) (prefix_more a b i (omega arith) (omega arith) same.1 so_far))
+  | inr differ ↦ rw differ.0 (prefix_stops a b i (omega arith) (omega arith) differ.1 so_far)
 ]
+
+-- how many units they agree in at their front
+abbrev pub agree_front : List ℕ → List ℕ → ℕ
+agree_front a b = agree_from a b (min (length a) (length b)) 0
+
+pub front_agrees : (a b : List ℕ) → IsLongestPrefix a b (agree_front a b)
+front_agrees a b = prefix_from a b (min (length a) (length b)) 0 (omega arith) refl
 
 pub longest_prefix : (a b : List ℕ) → (n : ℕ) × IsLongestPrefix a b n
-longest_prefix a b = prefix_from a b (min (length a) (length b)) 0 (omega arith) refl
+longest_prefix a b = (agree_front a b, front_agrees a b)
 
-suffix_from : (a b : List ℕ) (fuel i : ℕ) → i + fuel ≡ min (length a) (length b) → drop (length a - i) a ≡ drop (length b - i) b → (n : ℕ) × IsLongestSuffix a b n
-suffix_from a b zero i e so_far = (i, suffix_ends a b i (omega arith) (omega arith) so_far)
-suffix_from a b (suc fuel) i e so_far = elim (cases_eq (get_or a (length a - 1 - i) 0) (get_or b (length b - 1 - i) 0)) [
-  | inl same ↦ suffix_from a b fuel (i + 1) (omega arith) (suffix_more a b i (omega arith) (omega arith) same so_far)
-  | inr differ ↦ (i, suffix_stops a b i (omega arith) (omega arith) differ so_far)
+abbrev agree_before : List ℕ → List ℕ → ℕ → ℕ → ℕ
+agree_before a b zero i = i
+agree_before a b (suc fuel) i = if eqb (get_or a (length a - 1 - i) 0) (get_or b (length b - 1 - i) 0) then agree_before a b fuel (i + 1) else i
+
+suffix_from : (a b : List ℕ) (fuel i : ℕ) → i + fuel ≡ min (length a) (length b) → drop (length a - i) a ≡ drop (length b - i) b → IsLongestSuffix a b (agree_before a b fuel i)
+suffix_from a b zero i e so_far = suffix_ends a b i (omega arith) (omega arith) so_far
+suffix_from a b (suc fuel) i e so_far = elim (eqb_tells (get_or a (length a - 1 - i) 0) (get_or b (length b - 1 - i) 0)) [
+  | inl same ↦ rw same.0 (suffix_from a b fuel (i + 1) (omega arith) (suffix_more a b i (omega arith) (omega arith) same.1 so_far))
+  | inr differ ↦ rw differ.0 (suffix_stops a b i (omega arith) (omega arith) differ.1 so_far)
 ]
 
+-- and at their end
+abbrev pub agree_back : List ℕ → List ℕ → ℕ
+agree_back a b = agree_before a b (min (length a) (length b)) 0
+
+pub back_agrees : (a b : List ℕ) → IsLongestSuffix a b (agree_back a b)
+back_agrees a b = suffix_from a b (min (length a) (length b)) 0 (omega arith) (suffix_none a b)
+
 pub longest_suffix : (a b : List ℕ) → (n : ℕ) × IsLongestSuffix a b n
-longest_suffix a b = suffix_from a b (min (length a) (length b)) 0 (omega arith) (suffix_none a b)
+longest_suffix a b = (agree_back a b, back_agrees a b)
 
 -- ---- the better of the two
 

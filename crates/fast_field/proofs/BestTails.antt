@@ -27,7 +27,7 @@ use Rattle.fast_field.proofs.StandingForms.{of_units_is}
 
 -- ---- sizes
 
-tail_least : (k : Kind) (p : Presence) (s b : List ℕ) → SpellsUnits k p b (Value s) → tail_size k p s ≤ length b
+pub tail_least : (k : Kind) (p : Presence) (s b : List ℕ) → SpellsUnits k p b (Value s) → tail_size k p s ≤ length b
 tail_least k Mandatory s b h = part_least k s b h
 tail_least kind.Ascii Optional s b h = ascii_nullable_sizes.least b (Value s) h
 tail_least k Optional s b h = vector_nullable_sizes.least b (Value s) h

@@ -1,8 +1,7 @@
 -- What a step of a call that failed makes of the reading behind it.
-use Rattle.std.proofs.Common.{◌≡◌, ℕ, Bool, true, false, List, length, Result, Ok, Err, refl, ◌≤◌, inl, inr, arith}
-use Rattle.std.specs.Prelude.{ℤ, IsUtf8, nat_le}
+use Rattle.std.proofs.Common.{◌≡◌, ℕ, Bool, true, false, List, Result, Ok, Err, refl, inl, inr}
+use Rattle.std.specs.Prelude.{IsUtf8}
 use Rattle.std.specs.Str.{is_utf8}
-use Rattle.std.proofs.lemmas.Bool.Decides.{nat_tests}
 use Rattle.std.proofs.lemmas.Str.{is_utf8-from_IsUtf8, IsUtf8-from_is_utf8}
 use Rattle.fast_wire.specs.Reading.{◌>>=◌, Fails, NothingElse}
 use Rattle.fast_wire.specs.declared.fault.WireFault.{WireFault}
@@ -15,10 +14,9 @@ use Rattle.fast_dictionary.specs.declared.entry.Entry.{Entry}
 use Rattle.fast_field.specs.declared.fault.FieldFault.{FieldFault}
 use Rattle.fast_field.specs.declared.fault.FieldFault.TheVariants as fault
 use Rattle.fast_field.specs.Faults.{field_fault}
-use Rattle.fast_field.specs.Deltas.{removed_of, put_together}
 use Rattle.fast_field.specs.Calls.{OrRefused}
-use Rattle.fast_field.specs.FieldReading.{in_field, as_value, part_at, unit_value, units_at, limited_value, units_spelled_at, new_part_behind, tail_at, row_at, part_checked, field_at}
-use Rattle.fast_field.proofs.ValueFaults.{IsOther, other_then, done, value, null_or, unit_made, few_made, ended, part_allowed}
+use Rattle.fast_field.specs.FieldReading.{in_field, unit_value, units_at, units_spelled_at, row_at, part_checked, field_at}
+use Rattle.fast_field.proofs.ValueFaults.{IsOther, other_then, done, value, null_or, unit_made, part_allowed}
 
 -- ---- faults
 
@@ -51,18 +49,6 @@ unicode_refused k s e never = rw (e, no_text s (is_utf8 s) never refl) refl
 pub string_fails : (e : FieldFault) (k : Kind) (p : Presence) (bytes : List ℕ) → Fails OrRefused e (units_at k p bytes) → Fails OrRefused e (units_spelled_at k p bytes)
 unfolding units_spelled_at
 string_fails e k p bytes h = refused_then e (units_at k p bytes) _ h (λ s. null_or fault.NeedMore s.0 s.1 _ (λ s rest. value fault.NeedMore _ rest (unit_made fault.NeedMore tt k s)))
-
-pub new_part_fails : (e : FieldFault) (k : Kind) (removal : ℤ) (base rest : List ℕ) → removed_of removal ≤ length base → Fails OrRefused e (part_at k rest) → Fails OrRefused e (new_part_behind k removal base rest)
-unfolding new_part_behind
-new_part_fails e k removal base rest le h =
-    let there : nat_le (removed_of removal) (length base) ≡ true = grind (arith, nat_tests) in
-    rw there (refused_then e (part_at k rest) (λ s. as_value (limited_value k (put_together removal base s.0)) s.1) h (λ s. value fault.NeedMore _ s.1 (few_made fault.NeedMore tt k (put_together removal base s.0))))
-
-pub tail_fails : (e : FieldFault) (i : FieldPart) (kept : Entry) (bytes : List ℕ) → Fails OrRefused e (units_at i.kind i.presence bytes) → Fails OrRefused e (tail_at i kept bytes)
-unfolding tail_at
-tail_fails e i kept bytes h =
-    refused_then e (units_at i.kind i.presence bytes) _ h
-    (λ t. null_or fault.NeedMore t.0 t.1 _ (λ t rest. value fault.NeedMore _ rest (ended fault.NeedMore tt i kept t)))
 
 pub row_fails : (e : FieldFault) (i : FieldPart) (kept : Entry) (bit : Bool) (bytes : List ℕ) → Fails OrRefused e (row_at i.operator i kept bit bytes) → Fails OrRefused e (field_at i kept bit bytes)
 unfolding field_at

@@ -27,10 +27,12 @@ pub mod Relaying
 mod TextRelaying
 pub mod RefusalSteps
 pub mod CallSteps
+pub mod PutTogether
 pub mod ReadFields
 pub mod BaseSteps
 pub mod PartsOfSets
 pub mod BestForms
+pub mod ComputedBest
 pub mod WorkedBest
 pub mod NotBest
 pub mod FieldLaws

@@ -13,6 +13,7 @@ pub mod FieldReading
 pub mod Calls
 pub mod Found
 pub mod Removals
+pub mod Sent
 pub mod CommonParts
 pub mod Chosen
 pub mod Written

@@ -4,7 +4,7 @@ ghost use Rattle.std.specs.Prelude.{◌≡◌, ◌^◌, ◌≤◌, ◌<ℤ◌, �
 ghost use Rattle.fast_dictionary.specs.Dictionary.{entry_of};
 ghost use Rattle.fast_template.specs.Scalar.{in_range, is_integer};
 ghost use Rattle.fast_template.specs.declared.kind.Kind.TheVariants as kind;
-ghost use Rattle.fast_wire.specs.Reading.{GivesAt};
+ghost use Rattle.fast_wire.specs.Reading.{Gives, GivesAt};
 ghost use Rattle.fast_field.specs.Calls.{Answers, AnswersAt, IsSentRange, OrRefused};
 ghost use Rattle.fast_field.specs.Chosen.{AppendsOne, Both, CanBeUnits, HasSize, IsDelta, IsSmall, OnBase, ShortestPart, ShortestSigned, length_size, part_size};
 ghost use Rattle.fast_field.specs.Bases.{delta_base};
@@ -14,16 +14,18 @@ ghost use Rattle.fast_field.specs.Found.{base_or_default};
 ghost use Rattle.std.specs.Option.{option_copied};
 ghost use Rattle.fast_template.specs.declared.scalar.Scalar as scalar;
 ghost use Rattle.fast_template.specs.declared.kind.Kind as kind_type;
-ghost use Rattle.fast_field.specs.FieldReading.{decimal_delta_at, delta_at, integer_delta_at, integer_sum, mantissa_delta_behind, new_part_behind, unit_delta_at};
+ghost use Rattle.fast_field.specs.FieldReading.{decimal_delta_at, delta_at, integer_delta_at, integer_sum, limited_value, mantissa_delta_behind, new_part_behind, unit_delta_at};
+ghost use Rattle.fast_field.specs.Deltas.{put_together, removed_of};
 ghost use Rattle.fast_field.specs.Removals.{length_of};
+ghost use Rattle.fast_field.specs.Sent.{IsSent, units_sent};
 
 use crate::base::{base_decimal, base_number, base_of_delta, base_units, decimal, integer, units};
 use crate::cut::best_cut;
 use crate::fault::FieldFault;
 use crate::pieces::Pieces;
-use crate::string::joined;
+use crate::string::{find_part, sent_behind, sent_in_front};
 use crate::whole::{
-    exponent_within, mantissa_within, read_integer, read_part, read_signed, size_part, size_signed,
+    exponent_within, mantissa_within, read_integer, read_signed, size_part, size_signed,
     value_of_integer, write_part, write_signed,
 };
 use fast_dictionary::EntryRef;
@@ -145,6 +147,37 @@ fn removal_of(length: i128) -> Option<Removal>
     }
 }
 
+/// How many units are removed.
+#[inline(always)]
+fn removed_units(removal: Removal) -> usize
+    ensures { result ≡ removed_of (length_of removal) }
+{
+    match removal {
+        Removal::AtEnd(removed) | Removal::InFront(removed) => removed,
+    }
+}
+
+/// The base with a new part where units were removed, as a value. Limit: it has too many units.
+#[inline(always)]
+fn changed(
+    alloc: Global,
+    kind: Kind,
+    removal: Removal,
+    base: &[u8],
+    part: &[u8],
+) -> Result<Scalar, FieldFault>
+    requires there { removed_of (length_of removal) ≤ length base.now }
+    requires sent { IsSent kind part.now }
+    ensures { Gives OrRefused (λ v. v) result
+        (limited_value kind (put_together (length_of removal) base.now
+        (units_sent kind part.now))) }
+{
+    match removal {
+        Removal::AtEnd(removed) => { sent_behind(alloc, kind, &base[..base.len() - removed], part) }
+        Removal::InFront(removed) => sent_in_front(alloc, kind, part, &base[removed..]),
+    }
+}
+
 /// Reads a new part, and puts it where units were removed.
 #[tactic(auto, using(crate::proofs::CallSteps::call_steps), unfolding(crate::specs::FieldReading::new_part_behind))]
 fn read_new_part(
@@ -160,24 +193,12 @@ fn read_new_part(
     ensures gives { GivesAt OrRefused (new_part_behind kind (length_of removal) base.now)
         (λ v. v) bytes.now at result }
 {
-    match removal {
-        Removal::AtEnd(removed) => {
-            if removed > base.len() {
-                return Err(FieldFault::D7);
-            }
-            let (part, next) = read_part(alloc, kind, bytes, at)?;
-            let value = joined(alloc, kind, &base[..base.len() - removed], &part)?;
-            Ok((Some(value), next))
-        }
-        Removal::InFront(removed) => {
-            if removed > base.len() {
-                return Err(FieldFault::D7);
-            }
-            let (part, next) = read_part(alloc, kind, bytes, at)?;
-            let value = joined(alloc, kind, &part, &base[removed..])?;
-            Ok((Some(value), next))
-        }
+    if removed_units(removal) > base.len() {
+        return Err(FieldFault::D7);
     }
+    let (span, next) = find_part(kind, bytes, at)?;
+    let value = changed(alloc, kind, removal, base, &bytes[span.start..span.end])?;
+    Ok((Some(value), next))
 }
 
 /// Reads a string or vector by its difference from the base.

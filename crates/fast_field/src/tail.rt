@@ -8,20 +8,21 @@ ghost use Rattle.fast_field.specs.Bases.{tail_base};
 ghost use Rattle.fast_field.specs.Chosen.{CanBeUnits, IsBestTail, IsTail, OnBase};
 ghost use Rattle.fast_field.specs.FieldReading.{ended_value, tail_at};
 ghost use Rattle.fast_field.specs.Refusals.{tail_refusal};
+ghost use Rattle.fast_field.specs.Sent.{IsSent, units_sent};
 ghost use Rattle.fast_field.specs.Values.{units_of};
 
 use crate::base::{base_of_tail, base_units, units};
 use crate::cut::common_prefix;
 use crate::fault::FieldFault;
 use crate::pieces::Pieces;
-use crate::string::joined;
-use crate::whole::{read_units, size_units};
+use crate::string::{find_units, sent_behind};
+use crate::whole::size_units;
 use fast_dictionary::EntryRef;
 use fast_template::{FieldPart, Kind, Presence, Scalar};
 use fast_wire::Nullable;
 use std::alloc::Global;
 
-/// The base with its end in place of which the tail stands.
+/// The base, the tail that was sent in place of its end.
 #[tactic(auto, using(crate::proofs::CallSteps::call_steps), unfolding(crate::specs::FieldReading::ended_value))]
 fn ended(
     alloc: Global,
@@ -29,12 +30,14 @@ fn ended(
     kept: EntryRef,
     tail: &[u8],
 ) -> Result<Scalar, FieldFault>
+    requires { IsSent instr.now.kind tail.now }
     ensures { Gives OrRefused (λ v. v)
-        result (ended_value instr.now (entry_of kept.entry) tail.now) }
+        result (ended_value instr.now (entry_of kept.entry)
+        (units_sent instr.now.kind tail.now)) }
 {
     let base = base_units(base_of_tail(instr, kept)?);
     let left = base.len().saturating_sub(tail.len());
-    joined(alloc, instr.kind, &base[..left], tail)
+    sent_behind(alloc, instr.kind, &base[..left], tail)
 }
 
 /// Reads a tail, and answers the value that it makes and the place after it.
@@ -51,10 +54,13 @@ pub(crate) fn read_tail(
     ensures gives { GivesAt OrRefused (tail_at instr.now (entry_of kept.entry))
         (λ v. v) bytes.now at result }
 {
-    let (tail, next) = read_units(alloc, instr.kind, instr.presence, bytes, at)?;
+    let (tail, next) = find_units(instr.kind, instr.presence, bytes, at)?;
     match tail {
         Nullable::Null => Ok((None, next)),
-        Nullable::Value(tail) => Ok((Some(ended(alloc, instr, kept, &tail)?), next)),
+        Nullable::Value(span) => {
+            let tail = &bytes[span.start..span.end];
+            Ok((Some(ended(alloc, instr, kept, tail)?), next))
+        }
     }
 }
 

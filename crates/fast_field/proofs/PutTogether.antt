@@ -1,0 +1,46 @@
+-- What was sent and units of a base, put together.
+use Rattle.std.proofs.Common.{◌≡◌, ℕ, ◌+◌, ◌-◌, ◌%◌, ◌<◌, ◌≤◌, ◌⊎◌, true, List, ◌++◌, length, get_or, set, refl, ap, ◌∙◌, inl, inr, arith, length-append}
+use Rattle.std.specs.Prelude.{nat_lt}
+use Rattle.std.proofs.lemmas.Bool.Decides.{nat_tests}
+use Rattle.std.proofs.lemmas.List.{get_or-append_right, set-append_right, length-map}
+use Rattle.fast_wire.specs.Entity.{groups}
+use Rattle.fast_wire.specs.Reading.{Fails}
+use Rattle.fast_wire.specs.Spans.{IsTail}
+use Rattle.fast_wire.proofs.AsciiForms.{tail_text}
+use Rattle.fast_template.specs.declared.kind.Kind.{Kind}
+use Rattle.fast_template.specs.declared.kind.Kind.TheVariants as kind
+use Rattle.fast_field.specs.declared.fault.FieldFault.{FieldFault}
+use Rattle.fast_field.specs.declared.fault.FieldFault.TheVariants as fault
+use Rattle.fast_field.specs.Calls.{OrRefused}
+use Rattle.fast_field.specs.FieldReading.{limited_value}
+use Rattle.fast_field.specs.Sent.{units_sent}
+use Rattle.fast_field.proofs.ValueFaults.{few_made}
+
+-- the characters of the last bytes of an entity, where the stop bit was taken off the last
+pub last_cleared : (front tail items : List ℕ) (size x : ℕ) → IsTail tail → items ≡ front ++ tail → 0 < length tail → size ≡ length items → x ≡ get_or items (size - 1) x → set items (size - 1) (x % 128) ≡ front ++ groups tail
+last_cleared front tail items size x h parts some long read =
+    let n = length front in
+    let all : size ≡ n + length tail = long ∙ ap length parts ∙ length-append front tail in
+    let here : size - 1 - n ≡ length tail - 1 = omega (arith, all) in
+    let behind : n ≤ size - 1 = omega (arith, all, some) in
+    let last : x ≡ get_or tail (length tail - 1) x =
+    read ∙ ap (λ (z : List ℕ). get_or z (size - 1) x) parts ∙ get_or-append_right front tail n (size - 1) x refl behind ∙ ap (λ (k : ℕ). get_or tail k x) here in
+    ap (λ (z : List ℕ). set z (size - 1) (x % 128)) parts ∙ set-append_right front tail n (size - 1) (x % 128) refl behind
+    ∙ ap (λ (k : ℕ). front ++ set tail k (x % 128)) here ∙ ap (λ (z : List ℕ). front ++ z) (tail_text tail tail (length tail) x h refl some refl last)
+
+-- as many units as there are bytes
+pub sent_length : (k : Kind) (sent : List ℕ) → length (units_sent k sent) ≡ length sent
+sent_length kind.Ascii sent = length-map sent (λ b. b % 128)
+sent_length k sent = refl
+
+-- ---- where memory was refused, or there are too many units
+
+pub no_memory : (e : FieldFault) (k : Kind) (units : List ℕ) → e ≡ fault.Memory → Fails OrRefused e (limited_value k units)
+no_memory e k units refused = inr (refused, few_made fault.NeedMore tt k units)
+
+pub no_room : (e : FieldFault) (k : Kind) (units : List ℕ) (n : ℕ) → length units ≡ n → (e ≡ fault.Memory) ⊎ ((e ≡ fault.Limit) × (65535 < n)) → Fails OrRefused e (limited_value k units)
+unfolding limited_value
+no_room e k units n all (inl refused) = no_memory e k units refused
+no_room e k units n all (inr h) =
+    let many : nat_lt 65535 (length units) ≡ true = grind (arith, nat_tests, all, h.1) in
+    rw (many, h.0) (inl refl)

@@ -1,0 +1,23 @@
+use Rattle.std.proofs.Common.{◌≡◌, ◌+◌, ◌++◌, length, arith, length-append}
+use Rattle.std.proofs.lemmas.Result.{err_from_is_err_and}
+use Rattle.fast_field.specs.Sent.{units_sent}
+use Rattle.fast_field.proofs.PutTogether.{no_memory, no_room, sent_length}
+use Rattle.fast_field.proofs.string.sent_in_front.Goals as goal
+
+pub returns-in_err-units : goal.returns-in_err-units
+returns-in_err-units c =
+    let p = err_from_is_err_and c.from_residual.result c.from_residual.ensures.1 in
+    let sent = c.args.sent.now in
+    let back = c.args.back.now in
+    let all : length (units_sent c.args.kind sent ++ back) ≡ length sent + length back = omega (arith, length-append (units_sent c.args.kind sent) back, sent_length c.args.kind sent) in
+    rw (p.1, p.2) (no_room _ c.args.kind _ _ all c.in_err-units.ensures.err)
+
+pub returns-in_err-append_sent : goal.returns-in_err-append_sent
+returns-in_err-append_sent c =
+    let p = err_from_is_err_and c.from_residual-in_err-append_sent.result c.from_residual-in_err-append_sent.ensures.1 in
+    rw p.1 (no_memory _ c.args.kind _ p.2)
+
+pub returns-in_err-extend_from_slice : goal.returns-in_err-extend_from_slice
+returns-in_err-extend_from_slice c =
+    let p = err_from_is_err_and c.from_residual-in_err-extend_from_slice.result c.from_residual-in_err-extend_from_slice.ensures.1 in
+    rw p.1 (no_memory _ c.args.kind _ p.2)
