@@ -17,7 +17,7 @@ use fast_wire::{Nullable, Span};
 use std::alloc::{AllocError, Global};
 
 /// The most units of a string or vector.
-const UNIT_LIMIT: usize = 65_535;
+pub(crate) const UNIT_LIMIT: usize = 65_535;
 
 /// Finds characters or bytes in the form that has no NULL, of Unicode its bytes, and the place after them. It
 /// takes no memory.

@@ -87,8 +87,7 @@ fn push_short_entity(value: u64, size: usize, out: &mut Vec<u8>)
         let group = (value >> (7 * left)) % 128;
         out.push(group as u8).unwrap();
     }
-    let group = value % 128;
-    out.push(group as u8 + STOP_BIT).unwrap();
+    out.push((value % 128) as u8 + STOP_BIT).unwrap();
 }
 
 /// Appends the lowest `size` groups of a number, the stop bit on the last, in room that is there.
