@@ -8,29 +8,81 @@ use std::alloc::{AllocError, Global};
 use std::process::Abort;
 use std::test::Fail;
 
-// A field with no initial value.
-fn whole(
-    alloc: Global,
-    kind: Kind,
-    presence: Presence,
-    operator: Operator,
-) -> Result<FieldPart, AllocError> {
-    part_of(alloc, Part::Whole, kind, presence, operator, None)
+// The instruction of a row; want of memory for it ends the test.
+type Instr = Result<FieldPart, AllocError>;
+
+fn mandatory(alloc: Global, kind: Kind, operator: Operator) -> Instr {
+    part_of(
+        alloc,
+        Part::Whole,
+        kind,
+        Presence::Mandatory,
+        operator,
+        None,
+    )
 }
 
-// A uInt32 with an initial value.
-fn with_initial(
-    alloc: Global,
-    presence: Presence,
-    operator: Operator,
-    number: u32,
-) -> Result<FieldPart, AllocError> {
-    let initial = Some(Scalar::U32(number));
+fn optional(alloc: Global, kind: Kind, operator: Operator) -> Instr {
+    part_of(alloc, Part::Whole, kind, Presence::Optional, operator, None)
+}
+
+// A mandatory uInt32 whose initial value is 7.
+fn seven(alloc: Global, operator: Operator) -> Instr {
+    let initial = Some(Scalar::U32(7));
     part_of(
         alloc,
         Part::Whole,
         Kind::UInt32,
-        presence,
+        Presence::Mandatory,
+        operator,
+        initial,
+    )
+}
+
+// An optional constant.
+fn constant(alloc: Global) -> Instr {
+    let initial = Some(Scalar::U32(7));
+    part_of(
+        alloc,
+        Part::Whole,
+        Kind::UInt32,
+        Presence::Optional,
+        Operator::Constant,
+        initial,
+    )
+}
+
+fn length(alloc: Global, operator: Operator) -> Instr {
+    part_of(
+        alloc,
+        Part::Length,
+        Kind::UInt32,
+        Presence::Mandatory,
+        operator,
+        None,
+    )
+}
+
+fn exponent(alloc: Global, operator: Operator) -> Instr {
+    part_of(
+        alloc,
+        Part::Exponent,
+        Kind::Int32,
+        Presence::Mandatory,
+        operator,
+        None,
+    )
+}
+
+// An exponent that is out of its limit where it is not sent.
+fn far_exponent(alloc: Global) -> Instr {
+    let initial = Some(Scalar::I32(64));
+    let operator = Operator::Default;
+    part_of(
+        alloc,
+        Part::Exponent,
+        Kind::Int32,
+        Presence::Mandatory,
         operator,
         initial,
     )
@@ -53,22 +105,34 @@ fn i64_entry(number: i64) -> Entry {
 }
 
 // What bit 0 gives, and the entry afterwards.
-fn passed(rt: &impl Abort, instr: &FieldPart, entry: Entry, answer: Passed, after: Entry) {
+fn passed(
+    rt: &impl Abort,
+    instr: Instr,
+    entry: Entry,
+    answer: Passed,
+    after: Entry,
+) -> Result<(), AllocError> {
+    let instr = instr?;
     let mut entry = entry;
-    assert_eq!(rt; pass_left_out(instr, &mut entry), answer);
+    assert_eq!(rt; pass_left_out(&instr, &mut entry), answer);
     assert_eq!(rt; entry, after);
+    Ok(())
+}
+
+// Bit 0 gives a value.
+fn given(rt: &impl Abort, instr: Instr, entry: Entry, after: Entry) -> Result<(), AllocError> {
+    passed(rt, instr, entry, Passed::Present, after)
 }
 
 // Bit 0 is left to the general way, and the entry stays.
 fn not_passed(
     rt: &impl Abort,
     alloc: Global,
-    instr: &FieldPart,
+    instr: Instr,
     entry: Entry,
 ) -> Result<(), AllocError> {
     let after = entry.view().copy(alloc)?;
-    passed(rt, instr, entry, Passed::Elsewhere, after);
-    Ok(())
+    passed(rt, instr, entry, Passed::Elsewhere, after)
 }
 
 // The bytes behind the first are read to their end, and these are appended. Want of memory leaves all as it was, and
@@ -76,16 +140,17 @@ fn not_passed(
 fn relayed(
     rt: &impl Abort,
     alloc: Global,
-    instr: &FieldPart,
+    instr: Instr,
     entry: Entry,
     bytes: &[u8],
     appended: &[u8],
     after: Entry,
 ) -> Result<(), AllocError> {
+    let instr = instr?;
     let before = entry.view().copy(alloc)?;
     let mut entry = entry;
     let mut out = vec![in alloc; 0x2a]?;
-    let answer = relay_number(instr, &mut entry, bytes, bytes.len().min(1), &mut out);
+    let answer = relay_number(&instr, &mut entry, bytes, bytes.len().min(1), &mut out);
     if answer.is_none() {
         assert_eq!(rt; entry, before);
         assert_eq!(rt; out.as_slice(), [0x2a].as_slice());
@@ -102,14 +167,15 @@ fn relayed(
 fn not_relayed(
     rt: &impl Abort,
     alloc: Global,
-    instr: &FieldPart,
+    instr: Instr,
     entry: Entry,
     bytes: &[u8],
 ) -> Result<(), AllocError> {
+    let instr = instr?;
     let before = entry.view().copy(alloc)?;
     let mut entry = entry;
     let mut out = vec![in alloc; 0x2a]?;
-    let answer = relay_number(instr, &mut entry, bytes, bytes.len().min(1), &mut out);
+    let answer = relay_number(&instr, &mut entry, bytes, bytes.len().min(1), &mut out);
     assert_eq!(rt; answer, None);
     assert_eq!(rt; entry, before);
     assert_eq!(rt; out.as_slice(), [0x2a].as_slice());
@@ -119,240 +185,332 @@ fn not_relayed(
 #[test]
 fn kept_values_are_passed(rt: HostRuntime) -> Result<(), Fail> {
     let alloc = rt.alloc();
-    let number = whole(alloc, Kind::UInt32, Presence::Mandatory, Operator::Copy)?;
-    passed(&rt, &number, u32_entry(5), Passed::Present, u32_entry(5));
-    not_passed(&rt, alloc, &number, u64_entry(5))?;
-    not_passed(&rt, alloc, &number, Entry::Undefined)?;
-    let text = whole(alloc, Kind::Ascii, Presence::Optional, Operator::Tail)?;
-    let entry = Entry::Assigned(ascii(alloc, b"AB")?);
-    let after = Entry::Assigned(ascii(alloc, b"AB")?);
-    passed(&rt, &text, entry, Passed::Present, after);
+    given(
+        &rt,
+        mandatory(alloc, Kind::UInt32, Operator::Copy),
+        u32_entry(5),
+        u32_entry(5),
+    )?;
+    not_passed(
+        &rt,
+        alloc,
+        mandatory(alloc, Kind::UInt32, Operator::Copy),
+        u64_entry(5),
+    )?;
+    not_passed(
+        &rt,
+        alloc,
+        mandatory(alloc, Kind::UInt32, Operator::Copy),
+        Entry::Undefined,
+    )?;
     Ok(())
 }
 
 #[test]
-fn increments_are_passed(rt: HostRuntime) -> Result<(), Fail> {
+fn kept_texts_are_passed(rt: HostRuntime) -> Result<(), Fail> {
     let alloc = rt.alloc();
-    let next = whole(
-        alloc,
-        Kind::UInt32,
-        Presence::Mandatory,
-        Operator::Increment,
+    let entry = Entry::Assigned(ascii(alloc, b"AB")?);
+    let after = Entry::Assigned(ascii(alloc, b"AB")?);
+    given(
+        &rt,
+        optional(alloc, Kind::Ascii, Operator::Tail),
+        entry,
+        after,
     )?;
-    passed(&rt, &next, u32_entry(5), Passed::Present, u32_entry(6));
-    passed(
+    Ok(())
+}
+
+#[test]
+fn uint32_increments_are_passed(rt: HostRuntime) -> Result<(), Fail> {
+    let alloc = rt.alloc();
+    given(
         &rt,
-        &next,
+        mandatory(alloc, Kind::UInt32, Operator::Increment),
+        u32_entry(5),
+        u32_entry(6),
+    )?;
+    given(
+        &rt,
+        mandatory(alloc, Kind::UInt32, Operator::Increment),
         u32_entry(u32::MAX),
-        Passed::Present,
         u32_entry(0),
-    );
-    not_passed(&rt, alloc, &next, u64_entry(5))?;
-    not_passed(&rt, alloc, &next, Entry::Undefined)?;
-    let next = whole(alloc, Kind::Int32, Presence::Mandatory, Operator::Increment)?;
-    let least = i32_entry(i32::MIN);
-    passed(&rt, &next, i32_entry(i32::MAX), Passed::Present, least);
-    let next = whole(alloc, Kind::UInt64, Presence::Optional, Operator::Increment)?;
-    passed(
+    )?;
+    not_passed(
         &rt,
-        &next,
+        alloc,
+        mandatory(alloc, Kind::UInt32, Operator::Increment),
+        u64_entry(5),
+    )?;
+    not_passed(
+        &rt,
+        alloc,
+        mandatory(alloc, Kind::UInt32, Operator::Increment),
+        Entry::Undefined,
+    )?;
+    Ok(())
+}
+
+#[test]
+fn increments_of_64_bits_are_passed(rt: HostRuntime) -> Result<(), Fail> {
+    let alloc = rt.alloc();
+    given(
+        &rt,
+        optional(alloc, Kind::UInt64, Operator::Increment),
         u64_entry(u64::MAX),
-        Passed::Present,
         u64_entry(0),
-    );
-    let next = whole(alloc, Kind::Int64, Presence::Optional, Operator::Increment)?;
-    passed(&rt, &next, i64_entry(-1), Passed::Present, i64_entry(0));
-    let least = i64_entry(i64::MIN);
-    passed(&rt, &next, i64_entry(i64::MAX), Passed::Present, least);
+    )?;
+    given(
+        &rt,
+        optional(alloc, Kind::Int64, Operator::Increment),
+        i64_entry(-1),
+        i64_entry(0),
+    )?;
+    given(
+        &rt,
+        optional(alloc, Kind::Int64, Operator::Increment),
+        i64_entry(i64::MAX),
+        i64_entry(i64::MIN),
+    )?;
+    Ok(())
+}
+
+#[test]
+fn int32_increments_are_passed(rt: HostRuntime) -> Result<(), Fail> {
+    let alloc = rt.alloc();
+    given(
+        &rt,
+        mandatory(alloc, Kind::Int32, Operator::Increment),
+        i32_entry(i32::MAX),
+        i32_entry(i32::MIN),
+    )?;
+    given(
+        &rt,
+        mandatory(alloc, Kind::Int32, Operator::Increment),
+        i32_entry(-1),
+        i32_entry(0),
+    )?;
     Ok(())
 }
 
 #[test]
 fn initial_values_are_passed(rt: HostRuntime) -> Result<(), Fail> {
     let alloc = rt.alloc();
-    let three = with_initial(alloc, Presence::Mandatory, Operator::Default, 3)?;
-    passed(
+    given(
         &rt,
-        &three,
+        seven(alloc, Operator::Default),
         Entry::Undefined,
-        Passed::Present,
         Entry::Undefined,
-    );
-    let none = whole(alloc, Kind::UInt32, Presence::Optional, Operator::Default)?;
-    not_passed(&rt, alloc, &none, Entry::Undefined)?;
+    )?;
+    not_passed(
+        &rt,
+        alloc,
+        optional(alloc, Kind::UInt32, Operator::Default),
+        Entry::Undefined,
+    )?;
     Ok(())
 }
 
 #[test]
 fn absent_fields_are_passed(rt: HostRuntime) -> Result<(), Fail> {
     let alloc = rt.alloc();
-    let copy = whole(alloc, Kind::Decimal, Presence::Optional, Operator::Copy)?;
-    passed(&rt, &copy, Entry::Empty, Passed::Absent, Entry::Empty);
-    let next = whole(alloc, Kind::Int32, Presence::Optional, Operator::Increment)?;
-    passed(&rt, &next, Entry::Empty, Passed::Absent, Entry::Empty);
-    let tail = whole(alloc, Kind::Ascii, Presence::Optional, Operator::Tail)?;
-    passed(&rt, &tail, Entry::Empty, Passed::Absent, Entry::Empty);
-    let nine = with_initial(alloc, Presence::Optional, Operator::Constant, 9)?;
     passed(
         &rt,
-        &nine,
+        optional(alloc, Kind::Decimal, Operator::Copy),
+        Entry::Empty,
+        Passed::Absent,
+        Entry::Empty,
+    )?;
+    passed(
+        &rt,
+        optional(alloc, Kind::Int32, Operator::Increment),
+        Entry::Empty,
+        Passed::Absent,
+        Entry::Empty,
+    )?;
+    passed(
+        &rt,
+        optional(alloc, Kind::Ascii, Operator::Tail),
+        Entry::Empty,
+        Passed::Absent,
+        Entry::Empty,
+    )?;
+    passed(
+        &rt,
+        constant(alloc),
         Entry::Undefined,
         Passed::Absent,
         Entry::Undefined,
-    );
+    )?;
     Ok(())
 }
 
 #[test]
 fn mandatory_fields_are_not_absent(rt: HostRuntime) -> Result<(), Fail> {
     let alloc = rt.alloc();
-    let copy = whole(alloc, Kind::UInt32, Presence::Mandatory, Operator::Copy)?;
-    not_passed(&rt, alloc, &copy, Entry::Empty)?;
-    let next = whole(
+    not_passed(
+        &rt,
         alloc,
-        Kind::UInt32,
-        Presence::Mandatory,
-        Operator::Increment,
+        mandatory(alloc, Kind::UInt32, Operator::Copy),
+        Entry::Empty,
     )?;
-    not_passed(&rt, alloc, &next, Entry::Empty)?;
-    let nine = with_initial(alloc, Presence::Mandatory, Operator::Constant, 9)?;
-    not_passed(&rt, alloc, &nine, Entry::Undefined)?;
+    not_passed(
+        &rt,
+        alloc,
+        mandatory(alloc, Kind::UInt32, Operator::Increment),
+        Entry::Empty,
+    )?;
+    not_passed(
+        &rt,
+        alloc,
+        seven(alloc, Operator::Constant),
+        Entry::Undefined,
+    )?;
     Ok(())
 }
 
 #[test]
 fn fields_without_a_bit_are_not_passed(rt: HostRuntime) -> Result<(), Fail> {
     let alloc = rt.alloc();
-    let plain = whole(alloc, Kind::UInt32, Presence::Optional, Operator::Plain)?;
-    not_passed(&rt, alloc, &plain, u32_entry(5))?;
-    let delta = whole(alloc, Kind::UInt32, Presence::Optional, Operator::Delta)?;
-    not_passed(&rt, alloc, &delta, u32_entry(5))?;
+    not_passed(
+        &rt,
+        alloc,
+        optional(alloc, Kind::UInt32, Operator::Plain),
+        u32_entry(5),
+    )?;
+    not_passed(
+        &rt,
+        alloc,
+        optional(alloc, Kind::UInt32, Operator::Delta),
+        u32_entry(5),
+    )?;
     Ok(())
 }
 
 #[test]
-fn limits_of_what_is_passed(rt: HostRuntime) -> Result<(), Fail> {
+fn lengths_are_passed(rt: HostRuntime) -> Result<(), Fail> {
     let alloc = rt.alloc();
-    let mandatory = Presence::Mandatory;
-    let operator = Operator::Increment;
-    let length = part_of(alloc, Part::Length, Kind::UInt32, mandatory, operator, None)?;
-    passed(
+    given(
         &rt,
-        &length,
+        length(alloc, Operator::Increment),
         u32_entry(65_534),
-        Passed::Present,
         u32_entry(65_535),
-    );
-    not_passed(&rt, alloc, &length, u32_entry(65_535))?;
-    let exponent = part_of(
-        alloc,
-        Part::Exponent,
-        Kind::Int32,
-        mandatory,
-        operator,
-        None,
     )?;
-    passed(
+    not_passed(
         &rt,
-        &exponent,
-        i32_entry(62),
-        Passed::Present,
-        i32_entry(63),
-    );
-    not_passed(&rt, alloc, &exponent, i32_entry(63))?;
-    let operator = Operator::Copy;
-    let length = part_of(alloc, Part::Length, Kind::UInt32, mandatory, operator, None)?;
-    not_passed(&rt, alloc, &length, u32_entry(65_536))?;
-    let operator = Operator::Default;
-    let initial = Some(Scalar::I32(64));
-    let exponent = part_of(
         alloc,
-        Part::Exponent,
-        Kind::Int32,
-        mandatory,
-        operator,
-        initial,
+        length(alloc, Operator::Increment),
+        u32_entry(65_535),
     )?;
-    not_passed(&rt, alloc, &exponent, Entry::Undefined)?;
+    not_passed(&rt, alloc, length(alloc, Operator::Copy), u32_entry(65_536))?;
     Ok(())
 }
 
 #[test]
-fn copies_are_relayed(rt: HostRuntime) -> Result<(), Fail> {
+fn exponents_are_passed(rt: HostRuntime) -> Result<(), Fail> {
     let alloc = rt.alloc();
-    let copy = whole(alloc, Kind::UInt32, Presence::Mandatory, Operator::Copy)?;
-    let bytes = [0xff, 0x87];
+    given(
+        &rt,
+        exponent(alloc, Operator::Increment),
+        i32_entry(62),
+        i32_entry(63),
+    )?;
+    not_passed(
+        &rt,
+        alloc,
+        exponent(alloc, Operator::Increment),
+        i32_entry(63),
+    )?;
+    not_passed(&rt, alloc, far_exponent(alloc), Entry::Undefined)?;
+    Ok(())
+}
+
+#[test]
+fn uint32_copies_are_relayed(rt: HostRuntime) -> Result<(), Fail> {
+    let alloc = rt.alloc();
     relayed(
         &rt,
         alloc,
-        &copy,
+        mandatory(alloc, Kind::UInt32, Operator::Copy),
         u32_entry(5),
-        &bytes,
+        &[0xff, 0x87],
         &[0x87],
         u32_entry(7),
     )?;
     relayed(
         &rt,
         alloc,
-        &copy,
+        mandatory(alloc, Kind::UInt32, Operator::Copy),
         u64_entry(7),
-        &bytes,
+        &[0xff, 0x87],
         &[0x87],
         u32_entry(7),
     )?;
     // overlong
-    let bytes = [0xff, 0x00, 0x87];
     relayed(
         &rt,
         alloc,
-        &copy,
+        mandatory(alloc, Kind::UInt32, Operator::Copy),
         u32_entry(5),
-        &bytes,
+        &[0xff, 0x00, 0x87],
         &[0x87],
         u32_entry(7),
     )?;
-    let bytes = [0xff, 0x0f, 0x7f, 0x7f, 0x7f, 0xff];
-    let greatest = u32_entry(u32::MAX);
+    Ok(())
+}
+
+#[test]
+fn int32_copies_are_relayed(rt: HostRuntime) -> Result<(), Fail> {
+    let alloc = rt.alloc();
     relayed(
         &rt,
         alloc,
-        &copy,
-        Entry::Empty,
-        &bytes,
-        &bytes[1..],
-        greatest,
-    )?;
-    let copy = whole(alloc, Kind::Int32, Presence::Mandatory, Operator::Copy)?;
-    relayed(
-        &rt,
-        alloc,
-        &copy,
+        mandatory(alloc, Kind::Int32, Operator::Copy),
         i32_entry(5),
         &[0xff, 0xff],
         &[0xff],
         i32_entry(-1),
     )?;
-    let copy = whole(alloc, Kind::UInt64, Presence::Mandatory, Operator::Copy)?;
-    let bytes = [0xff, 0x01, 0x80];
     relayed(
         &rt,
         alloc,
-        &copy,
+        optional(alloc, Kind::Int32, Operator::Copy),
+        i32_entry(5),
+        &[0xff, 0xff],
+        &[0xff],
+        i32_entry(-1),
+    )?;
+    Ok(())
+}
+
+#[test]
+fn long_copies_are_relayed(rt: HostRuntime) -> Result<(), Fail> {
+    let alloc = rt.alloc();
+    relayed(
+        &rt,
+        alloc,
+        mandatory(alloc, Kind::UInt64, Operator::Copy),
         Entry::Undefined,
-        &bytes,
+        &[0xff, 0x01, 0x80],
         &[0x01, 0x80],
         u64_entry(128),
     )?;
-    let copy = whole(alloc, Kind::Int64, Presence::Mandatory, Operator::Copy)?;
-    let bytes = [0xff, 0x00, 0xc0];
     relayed(
         &rt,
         alloc,
-        &copy,
+        mandatory(alloc, Kind::Int64, Operator::Copy),
         i64_entry(63),
-        &bytes,
+        &[0xff, 0x00, 0xc0],
         &[0x00, 0xc0],
         i64_entry(64),
+    )?;
+    relayed(
+        &rt,
+        alloc,
+        mandatory(alloc, Kind::UInt32, Operator::Copy),
+        Entry::Empty,
+        &[0xff, 0x0f, 0x7f, 0x7f, 0x7f, 0xff],
+        &[0x0f, 0x7f, 0x7f, 0x7f, 0xff],
+        u32_entry(u32::MAX),
     )?;
     Ok(())
 }
@@ -360,42 +518,28 @@ fn copies_are_relayed(rt: HostRuntime) -> Result<(), Fail> {
 #[test]
 fn optional_copies_are_relayed(rt: HostRuntime) -> Result<(), Fail> {
     let alloc = rt.alloc();
-    let copy = whole(alloc, Kind::UInt32, Presence::Optional, Operator::Copy)?;
     relayed(
         &rt,
         alloc,
-        &copy,
+        optional(alloc, Kind::UInt32, Operator::Copy),
         Entry::Empty,
         &[0xff, 0x88],
         &[0x88],
         u32_entry(7),
     )?;
-    let copy = whole(alloc, Kind::Int32, Presence::Optional, Operator::Copy)?;
     relayed(
         &rt,
         alloc,
-        &copy,
-        i32_entry(5),
-        &[0xff, 0xff],
-        &[0xff],
-        i32_entry(-1),
-    )?;
-    let copy = whole(alloc, Kind::UInt64, Presence::Optional, Operator::Copy)?;
-    let bytes = [0xff, 0x01, 0x80];
-    relayed(
-        &rt,
-        alloc,
-        &copy,
+        optional(alloc, Kind::UInt64, Operator::Copy),
         u64_entry(5),
-        &bytes,
+        &[0xff, 0x01, 0x80],
         &[0x01, 0x80],
         u64_entry(127),
     )?;
-    let copy = whole(alloc, Kind::Int64, Presence::Optional, Operator::Copy)?;
     relayed(
         &rt,
         alloc,
-        &copy,
+        optional(alloc, Kind::Int64, Operator::Copy),
         i64_entry(5),
         &[0xff, 0x81],
         &[0x81],
@@ -405,18 +549,12 @@ fn optional_copies_are_relayed(rt: HostRuntime) -> Result<(), Fail> {
 }
 
 #[test]
-fn increments_are_relayed(rt: HostRuntime) -> Result<(), Fail> {
+fn uint32_increments_are_relayed(rt: HostRuntime) -> Result<(), Fail> {
     let alloc = rt.alloc();
-    let next = whole(
-        alloc,
-        Kind::UInt32,
-        Presence::Mandatory,
-        Operator::Increment,
-    )?;
     relayed(
         &rt,
         alloc,
-        &next,
+        mandatory(alloc, Kind::UInt32, Operator::Increment),
         u32_entry(5),
         &[0xff, 0x89],
         &[0x89],
@@ -425,37 +563,40 @@ fn increments_are_relayed(rt: HostRuntime) -> Result<(), Fail> {
     relayed(
         &rt,
         alloc,
-        &next,
+        mandatory(alloc, Kind::UInt32, Operator::Increment),
         u32_entry(5),
         &[0xff, 0x85],
         &[0x85],
         u32_entry(5),
     )?;
-    let next = whole(alloc, Kind::Int32, Presence::Optional, Operator::Increment)?;
+    Ok(())
+}
+
+#[test]
+fn other_increments_are_relayed(rt: HostRuntime) -> Result<(), Fail> {
+    let alloc = rt.alloc();
     relayed(
         &rt,
         alloc,
-        &next,
+        optional(alloc, Kind::Int32, Operator::Increment),
         i32_entry(5),
         &[0xff, 0xfe],
         &[0xfe],
         i32_entry(-2),
     )?;
-    let next = whole(alloc, Kind::UInt64, Presence::Optional, Operator::Increment)?;
     relayed(
         &rt,
         alloc,
-        &next,
+        optional(alloc, Kind::UInt64, Operator::Increment),
         Entry::Undefined,
         &[0xff, 0x88],
         &[0x88],
         u64_entry(7),
     )?;
-    let next = whole(alloc, Kind::Int64, Presence::Mandatory, Operator::Increment)?;
     relayed(
         &rt,
         alloc,
-        &next,
+        mandatory(alloc, Kind::Int64, Operator::Increment),
         Entry::Empty,
         &[0xff, 0x87],
         &[0x87],
@@ -465,49 +606,49 @@ fn increments_are_relayed(rt: HostRuntime) -> Result<(), Fail> {
 }
 
 #[test]
-fn entries_that_no_operator_changes(rt: HostRuntime) -> Result<(), Fail> {
+fn plain_fields_leave_their_entries(rt: HostRuntime) -> Result<(), Fail> {
     let alloc = rt.alloc();
-    let plain = whole(alloc, Kind::UInt64, Presence::Mandatory, Operator::Plain)?;
-    let after = Entry::Undefined;
     relayed(
         &rt,
         alloc,
-        &plain,
+        mandatory(alloc, Kind::UInt64, Operator::Plain),
         Entry::Undefined,
         &[0xff, 0x87],
         &[0x87],
-        after,
+        Entry::Undefined,
     )?;
-    let plain = whole(alloc, Kind::Int32, Presence::Optional, Operator::Plain)?;
     relayed(
         &rt,
         alloc,
-        &plain,
+        optional(alloc, Kind::Int32, Operator::Plain),
         i32_entry(5),
         &[0xff, 0xff],
         &[0xff],
         i32_entry(5),
     )?;
-    let three = with_initial(alloc, Presence::Mandatory, Operator::Default, 3)?;
+    Ok(())
+}
+
+#[test]
+fn defaults_leave_their_entries(rt: HostRuntime) -> Result<(), Fail> {
+    let alloc = rt.alloc();
     relayed(
         &rt,
         alloc,
-        &three,
+        seven(alloc, Operator::Default),
         u32_entry(4),
         &[0xff, 0x84],
         &[0x84],
         u32_entry(4),
     )?;
-    let none = whole(alloc, Kind::UInt32, Presence::Optional, Operator::Default)?;
-    let after = Entry::Undefined;
     relayed(
         &rt,
         alloc,
-        &none,
+        optional(alloc, Kind::UInt32, Operator::Default),
         Entry::Undefined,
         &[0xff, 0x88],
         &[0x88],
-        after,
+        Entry::Undefined,
     )?;
     Ok(())
 }
@@ -515,33 +656,44 @@ fn entries_that_no_operator_changes(rt: HostRuntime) -> Result<(), Fail> {
 #[test]
 fn deltas_are_relayed(rt: HostRuntime) -> Result<(), Fail> {
     let alloc = rt.alloc();
-    let delta = whole(alloc, Kind::Int64, Presence::Mandatory, Operator::Delta)?;
     relayed(
         &rt,
         alloc,
-        &delta,
+        mandatory(alloc, Kind::Int64, Operator::Delta),
         i64_entry(10),
         &[0xff, 0xff],
         &[0xff],
         i64_entry(9),
     )?;
-    let delta = whole(alloc, Kind::Int32, Presence::Mandatory, Operator::Delta)?;
-    // overlong
-    let bytes = [0xff, 0x7f, 0xff];
     relayed(
         &rt,
         alloc,
-        &delta,
+        mandatory(alloc, Kind::UInt64, Operator::Delta),
+        u64_entry(u64::MAX),
+        &[0xff, 0xff],
+        &[0xff],
+        u64_entry(u64::MAX - 1),
+    )?;
+    // overlong
+    relayed(
+        &rt,
+        alloc,
+        mandatory(alloc, Kind::Int32, Operator::Delta),
         i32_entry(0),
-        &bytes,
+        &[0xff, 0x7f, 0xff],
         &[0xff],
         i32_entry(-1),
     )?;
-    let delta = whole(alloc, Kind::UInt32, Presence::Optional, Operator::Delta)?;
+    Ok(())
+}
+
+#[test]
+fn optional_deltas_are_relayed(rt: HostRuntime) -> Result<(), Fail> {
+    let alloc = rt.alloc();
     relayed(
         &rt,
         alloc,
-        &delta,
+        optional(alloc, Kind::UInt32, Operator::Delta),
         u32_entry(10),
         &[0xff, 0x81],
         &[0x81],
@@ -550,7 +702,7 @@ fn deltas_are_relayed(rt: HostRuntime) -> Result<(), Fail> {
     relayed(
         &rt,
         alloc,
-        &delta,
+        optional(alloc, Kind::UInt32, Operator::Delta),
         u32_entry(10),
         &[0xff, 0x82],
         &[0x82],
@@ -559,22 +711,11 @@ fn deltas_are_relayed(rt: HostRuntime) -> Result<(), Fail> {
     relayed(
         &rt,
         alloc,
-        &delta,
+        optional(alloc, Kind::UInt32, Operator::Delta),
         u32_entry(10),
         &[0xff, 0xff],
         &[0xff],
         u32_entry(9),
-    )?;
-    let delta = whole(alloc, Kind::UInt64, Presence::Mandatory, Operator::Delta)?;
-    let less = u64_entry(u64::MAX - 1);
-    relayed(
-        &rt,
-        alloc,
-        &delta,
-        u64_entry(u64::MAX),
-        &[0xff, 0xff],
-        &[0xff],
-        less,
     )?;
     Ok(())
 }
@@ -582,133 +723,282 @@ fn deltas_are_relayed(rt: HostRuntime) -> Result<(), Fail> {
 #[test]
 fn null_is_not_relayed(rt: HostRuntime) -> Result<(), Fail> {
     let alloc = rt.alloc();
-    let copy = whole(alloc, Kind::UInt32, Presence::Optional, Operator::Copy)?;
-    not_relayed(&rt, alloc, &copy, u32_entry(5), &[0xff, 0x80])?;
-    let copy = whole(alloc, Kind::Int64, Presence::Optional, Operator::Copy)?;
-    not_relayed(&rt, alloc, &copy, i64_entry(5), &[0xff, 0x80])?;
-    let delta = whole(alloc, Kind::Int32, Presence::Optional, Operator::Delta)?;
-    not_relayed(&rt, alloc, &delta, i32_entry(5), &[0xff, 0x80])?;
+    not_relayed(
+        &rt,
+        alloc,
+        optional(alloc, Kind::UInt32, Operator::Copy),
+        u32_entry(5),
+        &[0xff, 0x80],
+    )?;
+    not_relayed(
+        &rt,
+        alloc,
+        optional(alloc, Kind::Int64, Operator::Copy),
+        i64_entry(5),
+        &[0xff, 0x80],
+    )?;
+    not_relayed(
+        &rt,
+        alloc,
+        optional(alloc, Kind::Int32, Operator::Delta),
+        i32_entry(5),
+        &[0xff, 0x80],
+    )?;
     Ok(())
 }
 
 #[test]
 fn ends_of_bytes_are_not_relayed(rt: HostRuntime) -> Result<(), Fail> {
     let alloc = rt.alloc();
-    let copy = whole(alloc, Kind::UInt32, Presence::Mandatory, Operator::Copy)?;
-    not_relayed(&rt, alloc, &copy, u32_entry(5), &[])?;
-    not_relayed(&rt, alloc, &copy, u32_entry(5), &[0xff])?;
-    not_relayed(&rt, alloc, &copy, u32_entry(5), &[0xff, 0x07])?;
-    let delta = whole(alloc, Kind::Int64, Presence::Optional, Operator::Delta)?;
-    not_relayed(&rt, alloc, &delta, i64_entry(5), &[0xff, 0x07])?;
+    not_relayed(
+        &rt,
+        alloc,
+        mandatory(alloc, Kind::UInt32, Operator::Copy),
+        u32_entry(5),
+        &[],
+    )?;
+    not_relayed(
+        &rt,
+        alloc,
+        mandatory(alloc, Kind::UInt32, Operator::Copy),
+        u32_entry(5),
+        &[0xff],
+    )?;
+    not_relayed(
+        &rt,
+        alloc,
+        mandatory(alloc, Kind::UInt32, Operator::Copy),
+        u32_entry(5),
+        &[0xff, 0x07],
+    )?;
+    not_relayed(
+        &rt,
+        alloc,
+        optional(alloc, Kind::Int64, Operator::Delta),
+        i64_entry(5),
+        &[0xff, 0x07],
+    )?;
     Ok(())
 }
 
 #[test]
 fn numbers_out_of_range_are_not_relayed(rt: HostRuntime) -> Result<(), Fail> {
     let alloc = rt.alloc();
-    let copy = whole(alloc, Kind::UInt32, Presence::Mandatory, Operator::Copy)?;
-    let above = [0xff, 0x10, 0x00, 0x00, 0x00, 0x80];
-    not_relayed(&rt, alloc, &copy, u32_entry(5), &above)?;
-    let plain = whole(alloc, Kind::Int32, Presence::Mandatory, Operator::Plain)?;
-    let above = [0xff, 0x08, 0x00, 0x00, 0x00, 0x80];
-    not_relayed(&rt, alloc, &plain, Entry::Undefined, &above)?;
-    let plain = whole(alloc, Kind::UInt64, Presence::Mandatory, Operator::Plain)?;
-    let above = [
-        0xff, 0x02, 0x00, 0x00, 0x00, 0x00, 0x00, 0x00, 0x00, 0x00, 0x80,
-    ];
-    not_relayed(&rt, alloc, &plain, Entry::Undefined, &above)?;
-    let delta = whole(alloc, Kind::UInt32, Presence::Mandatory, Operator::Delta)?;
-    not_relayed(&rt, alloc, &delta, u32_entry(0), &[0xff, 0xff])?;
-    not_relayed(&rt, alloc, &delta, u32_entry(u32::MAX), &[0xff, 0x81])?;
-    let delta = whole(alloc, Kind::Int64, Presence::Mandatory, Operator::Delta)?;
-    not_relayed(&rt, alloc, &delta, i64_entry(i64::MIN), &[0xff, 0xff])?;
+    not_relayed(
+        &rt,
+        alloc,
+        mandatory(alloc, Kind::UInt32, Operator::Copy),
+        u32_entry(5),
+        &[0xff, 0x10, 0x00, 0x00, 0x00, 0x80],
+    )?;
+    not_relayed(
+        &rt,
+        alloc,
+        mandatory(alloc, Kind::Int32, Operator::Plain),
+        Entry::Undefined,
+        &[0xff, 0x08, 0x00, 0x00, 0x00, 0x80],
+    )?;
+    not_relayed(
+        &rt,
+        alloc,
+        mandatory(alloc, Kind::UInt64, Operator::Plain),
+        Entry::Undefined,
+        &[
+            0xff, 0x02, 0x00, 0x00, 0x00, 0x00, 0x00, 0x00, 0x00, 0x00, 0x80,
+        ],
+    )?;
     Ok(())
 }
 
 #[test]
-fn limits_of_what_is_relayed(rt: HostRuntime) -> Result<(), Fail> {
+fn sums_out_of_range_are_not_relayed(rt: HostRuntime) -> Result<(), Fail> {
     let alloc = rt.alloc();
-    let mandatory = Presence::Mandatory;
-    let operator = Operator::Copy;
-    let length = part_of(alloc, Part::Length, Kind::UInt32, mandatory, operator, None)?;
-    let most = [0xff, 0x03, 0x7f, 0xff];
+    not_relayed(
+        &rt,
+        alloc,
+        mandatory(alloc, Kind::UInt32, Operator::Delta),
+        u32_entry(0),
+        &[0xff, 0xff],
+    )?;
+    not_relayed(
+        &rt,
+        alloc,
+        mandatory(alloc, Kind::UInt32, Operator::Delta),
+        u32_entry(u32::MAX),
+        &[0xff, 0x81],
+    )?;
+    not_relayed(
+        &rt,
+        alloc,
+        mandatory(alloc, Kind::Int64, Operator::Delta),
+        i64_entry(i64::MIN),
+        &[0xff, 0xff],
+    )?;
+    Ok(())
+}
+
+#[test]
+fn lengths_are_relayed(rt: HostRuntime) -> Result<(), Fail> {
+    let alloc = rt.alloc();
     relayed(
         &rt,
         alloc,
-        &length,
+        length(alloc, Operator::Copy),
         u32_entry(5),
-        &most,
-        &most[1..],
+        &[0xff, 0x03, 0x7f, 0xff],
+        &[0x03, 0x7f, 0xff],
         u32_entry(65_535),
     )?;
-    not_relayed(&rt, alloc, &length, u32_entry(5), &[0xff, 0x04, 0x00, 0x80])?;
-    let operator = Operator::Delta;
-    let exponent = part_of(
+    not_relayed(
+        &rt,
         alloc,
-        Part::Exponent,
-        Kind::Int32,
-        mandatory,
-        operator,
-        None,
+        length(alloc, Operator::Copy),
+        u32_entry(5),
+        &[0xff, 0x04, 0x00, 0x80],
     )?;
+    Ok(())
+}
+
+#[test]
+fn exponents_are_relayed(rt: HostRuntime) -> Result<(), Fail> {
+    let alloc = rt.alloc();
     relayed(
         &rt,
         alloc,
-        &exponent,
+        exponent(alloc, Operator::Delta),
         i32_entry(0),
         &[0xff, 0xc1],
         &[0xc1],
         i32_entry(-63),
     )?;
-    not_relayed(&rt, alloc, &exponent, i32_entry(0), &[0xff, 0xc0])?;
-    not_relayed(&rt, alloc, &exponent, i32_entry(63), &[0xff, 0x81])?;
+    not_relayed(
+        &rt,
+        alloc,
+        exponent(alloc, Operator::Delta),
+        i32_entry(0),
+        &[0xff, 0xc0],
+    )?;
+    not_relayed(
+        &rt,
+        alloc,
+        exponent(alloc, Operator::Delta),
+        i32_entry(63),
+        &[0xff, 0x81],
+    )?;
     Ok(())
 }
 
 #[test]
-fn what_bit_0_gives_is_not_relayed(rt: HostRuntime) -> Result<(), Fail> {
+fn what_entries_give_is_not_relayed(rt: HostRuntime) -> Result<(), Fail> {
     let alloc = rt.alloc();
-    let seven = [0xff, 0x87];
-    let copy = whole(alloc, Kind::UInt32, Presence::Mandatory, Operator::Copy)?;
-    not_relayed(&rt, alloc, &copy, u32_entry(7), &seven)?;
-    let next = whole(
+    not_relayed(
+        &rt,
         alloc,
-        Kind::UInt32,
-        Presence::Mandatory,
-        Operator::Increment,
+        mandatory(alloc, Kind::UInt32, Operator::Copy),
+        u32_entry(7),
+        &[0xff, 0x87],
     )?;
-    not_relayed(&rt, alloc, &next, u32_entry(6), &seven)?;
-    not_relayed(&rt, alloc, &next, u32_entry(u32::MAX), &[0xff, 0x80])?;
-    let default = with_initial(alloc, Presence::Mandatory, Operator::Default, 7)?;
-    not_relayed(&rt, alloc, &default, Entry::Undefined, &seven)?;
-    let copy = with_initial(alloc, Presence::Mandatory, Operator::Copy, 7)?;
-    not_relayed(&rt, alloc, &copy, Entry::Undefined, &seven)?;
-    let next = with_initial(alloc, Presence::Mandatory, Operator::Increment, 7)?;
-    not_relayed(&rt, alloc, &next, Entry::Undefined, &seven)?;
+    not_relayed(
+        &rt,
+        alloc,
+        mandatory(alloc, Kind::UInt32, Operator::Increment),
+        u32_entry(6),
+        &[0xff, 0x87],
+    )?;
+    not_relayed(
+        &rt,
+        alloc,
+        mandatory(alloc, Kind::UInt32, Operator::Increment),
+        u32_entry(u32::MAX),
+        &[0xff, 0x80],
+    )?;
+    Ok(())
+}
+
+#[test]
+fn initial_values_are_not_relayed(rt: HostRuntime) -> Result<(), Fail> {
+    let alloc = rt.alloc();
+    not_relayed(
+        &rt,
+        alloc,
+        seven(alloc, Operator::Default),
+        Entry::Undefined,
+        &[0xff, 0x87],
+    )?;
+    not_relayed(
+        &rt,
+        alloc,
+        seven(alloc, Operator::Copy),
+        Entry::Undefined,
+        &[0xff, 0x87],
+    )?;
+    not_relayed(
+        &rt,
+        alloc,
+        seven(alloc, Operator::Increment),
+        Entry::Undefined,
+        &[0xff, 0x87],
+    )?;
     Ok(())
 }
 
 #[test]
 fn deltas_on_other_entries_are_not_relayed(rt: HostRuntime) -> Result<(), Fail> {
     let alloc = rt.alloc();
-    let delta = whole(alloc, Kind::UInt32, Presence::Mandatory, Operator::Delta)?;
-    not_relayed(&rt, alloc, &delta, Entry::Undefined, &[0xff, 0x81])?;
-    not_relayed(&rt, alloc, &delta, Entry::Empty, &[0xff, 0x81])?;
-    not_relayed(&rt, alloc, &delta, u64_entry(5), &[0xff, 0x81])?;
+    not_relayed(
+        &rt,
+        alloc,
+        mandatory(alloc, Kind::UInt32, Operator::Delta),
+        Entry::Undefined,
+        &[0xff, 0x81],
+    )?;
+    not_relayed(
+        &rt,
+        alloc,
+        mandatory(alloc, Kind::UInt32, Operator::Delta),
+        Entry::Empty,
+        &[0xff, 0x81],
+    )?;
+    not_relayed(
+        &rt,
+        alloc,
+        mandatory(alloc, Kind::UInt32, Operator::Delta),
+        u64_entry(5),
+        &[0xff, 0x81],
+    )?;
     Ok(())
 }
 
 #[test]
 fn other_fields_are_not_relayed(rt: HostRuntime) -> Result<(), Fail> {
     let alloc = rt.alloc();
-    let mandatory = Presence::Mandatory;
-    let text = whole(alloc, Kind::Ascii, mandatory, Operator::Copy)?;
-    not_relayed(&rt, alloc, &text, Entry::Undefined, &[0xff, 0xc1])?;
-    let decimal = whole(alloc, Kind::Decimal, mandatory, Operator::Plain)?;
-    not_relayed(&rt, alloc, &decimal, Entry::Undefined, &[0xff, 0x81, 0x81])?;
-    let nine = with_initial(alloc, mandatory, Operator::Constant, 9)?;
-    not_relayed(&rt, alloc, &nine, Entry::Undefined, &[0xff, 0x81])?;
-    let tail = whole(alloc, Kind::UInt32, mandatory, Operator::Tail)?;
-    not_relayed(&rt, alloc, &tail, Entry::Undefined, &[0xff, 0x81])?;
+    not_relayed(
+        &rt,
+        alloc,
+        mandatory(alloc, Kind::Ascii, Operator::Copy),
+        Entry::Undefined,
+        &[0xff, 0xc1],
+    )?;
+    not_relayed(
+        &rt,
+        alloc,
+        mandatory(alloc, Kind::Decimal, Operator::Plain),
+        Entry::Undefined,
+        &[0xff, 0x81, 0x81],
+    )?;
+    not_relayed(
+        &rt,
+        alloc,
+        seven(alloc, Operator::Constant),
+        Entry::Undefined,
+        &[0xff, 0x81],
+    )?;
+    not_relayed(
+        &rt,
+        alloc,
+        mandatory(alloc, Kind::UInt32, Operator::Tail),
+        Entry::Undefined,
+        &[0xff, 0x81],
+    )?;
     Ok(())
 }
