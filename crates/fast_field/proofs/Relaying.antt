@@ -1,8 +1,7 @@
 -- What fields that are read and written at once rest on.
-use Rattle.std.proofs.Common.{◌≡◌, ℕ, Bool, true, false, List, [], ◌++◌, Result, Ok, Err, refl, sym, ap, subst, ◌∙◌, arith}
-use Rattle.std.specs.Prelude.{ℤ, pos, ◌+ℤ◌, ◌-ℤ◌, int_lt, if◌then◌else◌, Option, Some, None, IsTrue, IfSome, IfNone}
+use Rattle.std.proofs.Common.{◌≡◌, ℕ, Bool, true, false, List, [], ◌++◌, Result, Ok, refl, sym, ap, subst, ◌∙◌, arith}
+use Rattle.std.specs.Prelude.{ℤ, pos, ◌+ℤ◌, ◌-ℤ◌, int_lt, if◌then◌else◌, Option, Some, None, IsTrue}
 use Rattle.std.proofs.lemmas.Int.{ints}
-use Rattle.fast_wire.proofs.Readers.{ok_is}
 use Rattle.fast_template.specs.Resolved.{operator_needs_bit}
 use Rattle.fast_template.specs.Scalar.{is_of, is_integer, in_range, kind_of, least_of, greatest_of, of_integer}
 use Rattle.fast_template.specs.declared.kind.Kind.{Kind}
@@ -12,18 +11,17 @@ use Rattle.fast_template.specs.declared.kind.Operator.TheVariants as operator
 use Rattle.fast_template.specs.declared.kind.Part.{Part}
 use Rattle.fast_template.specs.declared.kind.Part.TheVariants as part
 use Rattle.fast_template.specs.declared.kind.Presence.{Presence}
-use Rattle.fast_template.specs.declared.kind.Presence.TheVariants.{Mandatory, Optional}
+use Rattle.fast_template.specs.declared.kind.Presence.TheVariants.{Optional}
 use Rattle.fast_template.specs.declared.resolved.FieldPart.{FieldPart}
 use Rattle.fast_template.specs.declared.scalar.Scalar.{Scalar}
 use Rattle.fast_dictionary.specs.declared.entry.Entry.{Entry}
-use Rattle.fast_dictionary.specs.declared.entry.Entry.TheVariants.{Undefined, Empty, Assigned}
+use Rattle.fast_dictionary.specs.declared.entry.Entry.TheVariants.{Empty, Assigned}
 use Rattle.fast_field.specs.declared.fault.FieldFault.{FieldFault}
-use Rattle.fast_field.specs.declared.fault.FieldFault.TheVariants as fault
 use Rattle.fast_field.specs.declared.number.Passed.TheVariants.{Absent, Present}
-use Rattle.fast_field.specs.Bases.{delta_base, absent_or, initial_or, repeated, predicted, next}
+use Rattle.fast_field.specs.Bases.{delta_base, repeated, predicted, next}
 use Rattle.fast_field.specs.Chosen.{ShortestSigned, ShortestWhole}
 use Rattle.fast_field.specs.Deltas.{uncut, DeltaForm}
-use Rattle.fast_field.specs.FieldReading.{integer_value, integer_spelled_at, spelled_at, integer_sum, integer_delta_at, delta_at, whole_at, row_at, part_checked, field_at}
+use Rattle.fast_field.specs.FieldReading.{integer_value, integer_spelled_at, spelled_at, integer_sum, integer_delta_at, delta_at, whole_at, row_at, field_at}
 use Rattle.fast_field.specs.Fields.{FormOf, FormBy, IsWithin, within_part}
 use Rattle.fast_field.specs.Numbers.{IsNumber, number_within, IsFieldNumber, next_number, IsNumberOf, HasNumber, SpellsWhole, Repeats, Predicts, Spelt}
 use Rattle.fast_field.specs.Parts.{IsBitOf, HasDefault}
@@ -33,7 +31,7 @@ use Rattle.fast_field.specs.Values.{integer_of, increased, is_unsigned}
 use Rattle.fast_field.proofs.BaseSteps.{is_of-kind}
 use Rattle.fast_field.proofs.BestDeltas.{IsFirst}
 use Rattle.fast_field.proofs.BestForms.{bit_zero_is_best}
-use Rattle.fast_field.proofs.BestValues.{left_out, whole_is_first, delta_is_first, best_under_one}
+use Rattle.fast_field.proofs.BestValues.{whole_is_first, delta_is_first, best_under_one}
 use Rattle.fast_field.proofs.ChosenForms.{whole_shortest, number_value}
 use Rattle.fast_field.proofs.FieldForms.{field_forms, checked_is}
 use Rattle.fast_field.proofs.FieldsGoOn.{field_goes}
