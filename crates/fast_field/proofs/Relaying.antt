@@ -2,7 +2,6 @@
 use Rattle.std.proofs.Common.{◌≡◌, ℕ, Bool, true, false, List, [], ◌++◌, Result, Ok, Err, refl, sym, ap, subst, ◌∙◌, arith, append-nil}
 use Rattle.std.specs.Prelude.{ℤ, pos, ◌+ℤ◌, ◌-ℤ◌, int_lt, if◌then◌else◌, Option, Some, None, IsTrue, IfSome, IfNone}
 use Rattle.std.proofs.lemmas.Int.{ints}
-use Rattle.fast_wire.proofs.Readers.{ok_is}
 use Rattle.fast_template.specs.Resolved.{operator_needs_bit}
 use Rattle.fast_template.specs.Scalar.{is_of, is_integer, in_range, kind_of, least_of, greatest_of, of_integer}
 use Rattle.fast_template.specs.declared.kind.Kind.{Kind}
@@ -16,15 +15,15 @@ use Rattle.fast_template.specs.declared.kind.Presence.TheVariants.{Mandatory, Op
 use Rattle.fast_template.specs.declared.resolved.FieldPart.{FieldPart}
 use Rattle.fast_template.specs.declared.scalar.Scalar.{Scalar}
 use Rattle.fast_dictionary.specs.declared.entry.Entry.{Entry}
-use Rattle.fast_dictionary.specs.declared.entry.Entry.TheVariants.{Undefined, Empty, Assigned}
+use Rattle.fast_dictionary.specs.declared.entry.Entry.TheVariants.{Empty, Assigned}
 use Rattle.fast_field.specs.declared.fault.FieldFault.{FieldFault}
-use Rattle.fast_field.specs.declared.fault.FieldFault.TheVariants as fault
 use Rattle.fast_field.specs.declared.number.Passed.TheVariants.{Absent, Present}
-use Rattle.fast_field.specs.Bases.{delta_base, absent_or, initial_or, repeated, predicted, next}
+use Rattle.fast_field.specs.Bases.{delta_base, repeated, predicted, next}
 use Rattle.fast_field.specs.Chosen.{ShortestSigned, ShortestWhole}
 use Rattle.fast_field.specs.Deltas.{uncut, DeltaForm}
-use Rattle.fast_field.specs.FieldReading.{integer_value, integer_spelled_at, spelled_at, integer_sum, integer_delta_at, delta_at, whole_at, row_at, part_checked, field_at}
+use Rattle.fast_field.specs.FieldReading.{integer_value, integer_spelled_at, spelled_at, integer_sum, integer_delta_at, delta_at, whole_at, row_at, field_at}
 use Rattle.fast_field.specs.Fields.{FormOf, FormBy, IsWithin, within_part}
+use Rattle.fast_field.specs.Found.{assigned_of}
 use Rattle.fast_field.specs.Numbers.{IsNumber, number_within, IsFieldNumber, next_number, IsNumberOf, HasNumber, SpellsWhole, Repeats, Predicts, Spelt}
 use Rattle.fast_field.specs.Parts.{IsBitOf, HasDefault}
 use Rattle.fast_field.specs.Planning.{left_out_of}
@@ -188,6 +187,29 @@ constant_passes i e o optional =
     let default : HasDefault i = λ d m. absurd (let no : operator.Constant ≡ operator.Default = sym o ∙ d in cc) in
     let entry : e ≡ next i e None = rw o refl in
     passes i e e None bit default (record { row = row; within = tt }) entry
+
+-- ---- where what bit 0 gave is found
+
+passed_row : (i : FieldPart) (old new : Entry) (v : Scalar) (o : Operator) → i.operator ≡ o → (p : Passes i old new (Some v)) → FormOf o i old false p.best.cut [] (Some v)
+passed_row i old new v o is p = subst (λ (o : Operator). FormOf o i old false p.best.cut [] (Some v)) is p.best.form.row
+
+pub initial_found : (i : FieldPart) (old new : Entry) → i.operator ≡ operator.Default → IsPassed i old new Present → Passes i old new i.initial
+initial_found i old new o h = subst (λ (v : Option Scalar). Passes i old new v) (sym (passed_row i old new h.0 operator.Default o h.2).2) h.2
+
+assigned_found : (i : FieldPart) (old new : Entry) (v : Scalar) → new ≡ Assigned v → Passes i old new (Some v) → Passes i old new (assigned_of new)
+assigned_found i old new v e p = let same : assigned_of new ≡ Some v = rw e refl in subst (λ (v : Option Scalar). Passes i old new v) (sym same) p
+
+kept_by : (o : Operator) (i : FieldPart) (old new : Entry) (v : Scalar) → i.operator ≡ o → (o ≡ operator.Default → ⊥) → Passes i old new (Some v) → Passes i old new (assigned_of new)
+kept_by operator.Plain i old new v o other p = absurd (passed_row i old new v operator.Plain o p)
+kept_by operator.Constant i old new v o other p = let none = (passed_row i old new v operator.Constant o p).3 in absurd cc
+kept_by operator.Default i old new v o other p = absurd (other refl)
+kept_by operator.Copy i old new v o other p = assigned_found i old new v (p.entry ∙ predicts_next operator.Copy i old v o tt) p
+kept_by operator.Increment i old new v o other p = assigned_found i old new v (p.entry ∙ predicts_next operator.Increment i old v o tt) p
+kept_by operator.Delta i old new v o other p = absurd (passed_row i old new v operator.Delta o p)
+kept_by operator.Tail i old new v o other p = assigned_found i old new v (p.entry ∙ predicts_next operator.Tail i old v o tt) p
+
+pub kept_found : (i : FieldPart) (old new : Entry) → (i.operator ≡ operator.Default → ⊥) → IsPassed i old new Present → Passes i old new (assigned_of new)
+kept_found i old new other h = kept_by i.operator i old new h.0 refl other h.2
 
 -- ---- bit 1
 

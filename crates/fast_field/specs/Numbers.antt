@@ -1,7 +1,7 @@
 -- Integers by their numbers alone. (Own.) No public clause names these.
-use Rattle.std.specs.Prelude.{◌≡◌, ℕ, ℤ, pos, ◌+ℤ◌, int_le, int_lt, if◌then◌else◌, Bool, true, false, List, Option, Some, None, Ok, IsTrue}
+use Rattle.std.specs.Prelude.{◌≡◌, ℕ, ℤ, pos, ◌+ℤ◌, int_le, int_lt, if◌then◌else◌, Bool, true, List, Option, Some, Ok, IsTrue}
 use Rattle.fast_wire.specs.declared.nullable.Nullable.TheVariants.{Value}
-use Rattle.fast_template.specs.Scalar.{in_range, is_integer, is_of, least_of, greatest_of, exponent_in_range, of_integer}
+use Rattle.fast_template.specs.Scalar.{in_range, is_integer, least_of, greatest_of, exponent_in_range, of_integer}
 use Rattle.fast_template.specs.declared.kind.Kind.{Kind}
 use Rattle.fast_template.specs.declared.kind.Operator.{Operator}
 use Rattle.fast_template.specs.declared.kind.Operator.TheVariants as operator

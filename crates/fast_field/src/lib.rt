@@ -21,6 +21,8 @@ mod integers;
 pub mod laws;
 mod left_out;
 mod number;
+#[cfg(test)]
+mod number_tests;
 mod pieces;
 mod plan;
 mod read;

@@ -8,11 +8,13 @@ ghost use Rattle.fast_template.specs.declared.scalar.Scalar.{Scalar as ScalarOf}
 ghost use Rattle.fast_dictionary.specs.declared.entry.Entry.TheVariants as entry_type;
 ghost use Rattle.fast_field.specs.Bases.{next_of};
 ghost use Rattle.fast_field.specs.Fields.{within_part};
+ghost use Rattle.fast_field.specs.Found.{value_found};
 ghost use Rattle.fast_field.specs.Numbers.{IsNumber, IsNumberIn, MayGive, Predicts, Repeats, SpellsWhole};
 ghost use Rattle.fast_field.specs.Planning.{left_out_of};
-ghost use Rattle.fast_field.specs.Relayed.{IsPassed, Relays};
+ghost use Rattle.fast_field.specs.Relayed.{IsPassed, Passes, Relays};
 
 use crate::base::{integer, is_of_kind};
+use crate::found::Found;
 use crate::integers::{
     is_field_number, is_unsigned, is_within, kept_number, number_after, number_of, read_short,
     set_number, write_number,
@@ -155,6 +157,23 @@ pub fn pass_left_out(instr: &FieldPart, entry: &mut Entry) -> Passed
         Operator::Default => pass_initial(instr, entry),
         Operator::Constant => pass_constant(instr, entry),
         Operator::Plain | Operator::Delta => Passed::Elsewhere,
+    }
+}
+
+/// As `pass_left_out`, and answers where the value lies then.
+#[inline(always)]
+pub(crate) fn pass_found(instr: &FieldPart, entry: &mut Entry) -> Option<Found>
+    ensures some { IfSome result (λ found. Passes instr.now entry.old entry.new
+        (value_found instr.now entry.new found)) }
+    ensures none { IfNone result (entry.new ≡ entry.old) }
+{
+    match pass_left_out(instr, entry) {
+        Passed::Absent => Some(Found::Absent),
+        Passed::Present => match instr.operator {
+            Operator::Default => Some(Found::Initial),
+            _ => Some(Found::Kept),
+        },
+        Passed::Elsewhere => None,
     }
 }
 
