@@ -15,7 +15,6 @@ use fast_template::{
 };
 use std::alloc::{AllocError, Global};
 use std::process::Abort;
-use std::test::Fail;
 
 // A field with a key of its own.
 pub(crate) fn part_of(
@@ -497,19 +496,21 @@ fn entries_after_an_absent_value(rt: HostRuntime) -> Result<(), AllocError> {
 }
 
 // A copy of what is read under bit 0 on an entry.
-fn copied(alloc: Global, kept: EntryRef) -> Result<Option<Scalar>, FieldFault> {
+fn copied(alloc: Global, kept: EntryRef) -> Result<Option<Scalar>, AllocError> {
     let optional = Presence::Optional;
     let copy = Operator::Copy;
     let instr = part_of(alloc, Part::Whole, Kind::Ascii, optional, copy, None)?;
-    let found = find_field(alloc, &instr, kept, false, &[], 0)?;
-    match found.0.value(&instr, kept) {
+    let Ok((found, _)) = find_field(alloc, &instr, kept, false, &[], 0) else {
+        return Ok(None);
+    };
+    match found.value(&instr, kept) {
         Some(value) => Ok(Some(value.copy(alloc)?)),
         None => Ok(None),
     }
 }
 
 #[test]
-fn values_that_lie_in_the_entry(rt: HostRuntime) -> Result<(), Fail> {
+fn values_that_lie_in_the_entry(rt: HostRuntime) -> Result<(), AllocError> {
     let alloc = rt.alloc();
     let kept = characters(alloc, b"GEM6")?;
     let value = copied(alloc, kept.view())?;
