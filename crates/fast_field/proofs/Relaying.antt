@@ -1,6 +1,6 @@
 -- What fields that are read and written at once rest on.
-use Rattle.std.proofs.Common.{◌≡◌, ℕ, Bool, true, false, List, [], ◌++◌, Result, Ok, Err, refl, sym, ap, subst, ◌∙◌, arith, append-nil}
-use Rattle.std.specs.Prelude.{ℤ, pos, ◌+ℤ◌, ◌-ℤ◌, int_lt, if◌then◌else◌, Option, Some, None, IsTrue, IfSome, IfNone}
+use Rattle.std.proofs.Common.{◌≡◌, ℕ, Bool, true, false, List, [], ◌++◌, Result, Ok, refl, sym, ap, subst, ◌∙◌, arith, append-nil}
+use Rattle.std.specs.Prelude.{ℤ, pos, ◌+ℤ◌, ◌-ℤ◌, int_lt, if◌then◌else◌, Option, Some, None, IsTrue}
 use Rattle.std.proofs.lemmas.Int.{ints}
 use Rattle.fast_template.specs.Resolved.{operator_needs_bit}
 use Rattle.fast_template.specs.Scalar.{is_of, is_integer, in_range, kind_of, least_of, greatest_of, of_integer}
@@ -32,7 +32,7 @@ use Rattle.fast_field.specs.Values.{integer_of, increased, is_unsigned}
 use Rattle.fast_field.proofs.BaseSteps.{is_of-kind}
 use Rattle.fast_field.proofs.BestDeltas.{IsFirst}
 use Rattle.fast_field.proofs.BestForms.{bit_zero_is_best}
-use Rattle.fast_field.proofs.BestValues.{left_out, whole_is_first, delta_is_first, best_under_one, constant_is_first}
+use Rattle.fast_field.proofs.BestValues.{whole_is_first, delta_is_first, best_under_one, constant_is_first}
 use Rattle.fast_field.proofs.ChosenForms.{whole_shortest, number_value}
 use Rattle.fast_field.proofs.FieldForms.{field_forms, checked_is}
 use Rattle.fast_field.proofs.FieldsGoOn.{field_goes}

@@ -1,6 +1,6 @@
 -- What strings and vectors that are read and written at once rest on.
-use Rattle.std.proofs.Common.{◌≡◌, ◌≤◌, Bool, true, false, List, ℕ, ◌-◌, ◌++◌, Ok, length, take, refl, sym, subst, ◌∙◌}
-use Rattle.std.specs.Prelude.{ℤ, Option, Some, IsTrue}
+use Rattle.std.proofs.Common.{◌≡◌, ◌≤◌, true, false, List, ℕ, ◌-◌, ◌++◌, Ok, length, take, refl, sym, subst, ◌∙◌}
+use Rattle.std.specs.Prelude.{ℤ, Some, IsTrue}
 use Rattle.fast_wire.specs.Writing.{IsShortest}
 use Rattle.fast_template.specs.Scalar.{is_of}
 use Rattle.fast_template.specs.declared.kind.Kind.{Kind}

@@ -1,6 +1,6 @@
-use Rattle.std.proofs.Common.{◌≡◌, ◌∙◌, ◌-◌, ◌/◌, ◌*◌, ◌^◌, ◌%◌, ◌++◌, ◌∷◌, [], refl, ap, arith, is_ok, true, length, length-append, vec_len, rules}
+use Rattle.std.proofs.Common.{◌≡◌, ◌∙◌, ◌-◌, ◌/◌, ◌*◌, ◌^◌, ◌%◌, ◌++◌, ◌∷◌, [], refl, ap, arith, is_ok, true, length, length-append}
 use Rattle.fast_wire.specs.Spellings.{entity_of}
-use Rattle.fast_wire.proofs.UnsignedForms.{entity_step, entity_length}
+use Rattle.fast_wire.proofs.UnsignedForms.{entity_step}
 use Rattle.fast_wire.proofs.integer.push_short_entity.Goals as goal
 
 pub loop-left-preserved : goal.loop-left-preserved
