@@ -10,11 +10,11 @@ use Rattle.fast_dictionary.specs.Dictionary.{Dictionary}
 use Rattle.fast_field.specs.Fields.{Form}
 use Rattle.fast_field.specs.Best.{IsBest}
 use Rattle.fast_field.specs.Parts.{IsFieldPart, EachPart, EachPartIn}
-use Rattle.fast_decoder.specs.Bits.{bit_for, after_bit}
-use Rattle.fast_decoder.specs.Bodies.{State, Then, Each, SegmentBy, PartBy, PieceBy, BodyBy}
-use Rattle.fast_decoder.specs.Nodes.{Item, single, group_items, sequence_elements, Items, no_items, then_item, element_count, Content}
-use Rattle.fast_decoder.specs.Streams.{members_of, identifier, AnyMap, BodyOfBy, MessageForm, CarriesFrom}
-use Rattle.fast_decoder.proofs.FoundMembers.{members_have}
+use Rattle.fast_stream.specs.Bits.{bit_for, after_bit}
+use Rattle.fast_stream.specs.Bodies.{State, Then, Each, SegmentBy, PartBy, PieceBy, BodyBy}
+use Rattle.fast_stream.specs.Nodes.{Item, single, group_items, sequence_elements, Items, no_items, then_item, element_count, Content}
+use Rattle.fast_stream.specs.Streams.{members_of, identifier, AnyMap, BodyOfBy, MessageForm, CarriesFrom}
+use Rattle.fast_stream.proofs.FoundMembers.{members_have}
 use Rattle.fast_encoder.specs.Canonical.{IsShortestMap, CanonMessage, CanonFrom}
 use Rattle.fast_canon.proofs.AskedBits.{behind}
 use Rattle.fast_canon.proofs.Entries.{HoldScalars}

@@ -9,10 +9,10 @@ use Rattle.fast_field.specs.Fields.{Form}
 use Rattle.fast_field.specs.Best.{IsBest}
 use Rattle.fast_field.specs.Parts.{IsFieldPart}
 use Rattle.fast_field.proofs.BestValues.{form_has_best, none_shorter}
-use Rattle.fast_decoder.specs.Bits.{bit_for}
-use Rattle.fast_decoder.specs.Bodies.{State, Then, Each, WithMap, SegmentBy, PartBy, written}
-use Rattle.fast_decoder.specs.Nodes.{Items, Elements, no_elements, then_element}
-use Rattle.fast_decoder.specs.Streams.{AnyMap}
+use Rattle.fast_stream.specs.Bits.{bit_for}
+use Rattle.fast_stream.specs.Bodies.{State, Then, Each, WithMap, SegmentBy, PartBy, written}
+use Rattle.fast_stream.specs.Nodes.{Items, Elements, no_elements, then_element}
+use Rattle.fast_stream.specs.Streams.{AnyMap}
 use Rattle.fast_encoder.specs.Canonical.{IsShortestMap}
 use Rattle.fast_canon.proofs.AskedBits.{Begins, behind, AreBelow, begins_front, begins_back, behind_both, below_both, below_none, behind_none}
 use Rattle.fast_canon.proofs.Entries.{HoldScalars, written_holds}

@@ -15,7 +15,7 @@ use Rattle.fast_field.specs.Fields.{Form}
 use Rattle.fast_field.specs.Parts.{IsFieldPart}
 use Rattle.fast_field.specs.Within.{HoldsScalar}
 use Rattle.fast_field.proofs.FieldsWithin.{values_within, entries_within}
-use Rattle.fast_decoder.specs.Bodies.{with_entry, written}
+use Rattle.fast_stream.specs.Bodies.{with_entry, written}
 
 -- each entry is undefined, empty or a value within its type
 abbrev pub HoldScalars : Dictionary → Type 0

@@ -7,10 +7,10 @@ use Rattle.fast_template.specs.Resolved.{Instruction, Instructions, whole_field,
 use Rattle.fast_dictionary.specs.Dictionary.{Dictionary, entry_at}
 use Rattle.fast_field.specs.Best.{IsBest}
 use Rattle.fast_field.proofs.OneBest.{best_is_one}
-use Rattle.fast_decoder.specs.Bits.{bit_for, after_bit}
-use Rattle.fast_decoder.specs.Bodies.{State, Then, Each, WithMap, SegmentBy, PartBy, PieceBy, written}
-use Rattle.fast_decoder.specs.Nodes.{Item, single, group_items, sequence_elements, Items, no_items, then_item, Elements, no_elements, then_element, element_count, Content}
-use Rattle.fast_decoder.specs.Streams.{members_of, identifier, BodyOfBy}
+use Rattle.fast_stream.specs.Bits.{bit_for, after_bit}
+use Rattle.fast_stream.specs.Bodies.{State, Then, Each, WithMap, SegmentBy, PartBy, PieceBy, written}
+use Rattle.fast_stream.specs.Nodes.{Item, single, group_items, sequence_elements, Items, no_items, then_item, Elements, no_elements, then_element, element_count, Content}
+use Rattle.fast_stream.specs.Streams.{members_of, identifier, BodyOfBy}
 use Rattle.fast_encoder.specs.Canonical.{IsShortestMap, CanonBody, CanonMessage, CanonFrom}
 use Rattle.fast_canon.proofs.AskedBits.{Begins, behind, begins_both, behind_both}
 use Rattle.fast_canon.proofs.Stages.{Stage, with_bits}

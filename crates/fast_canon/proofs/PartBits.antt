@@ -9,7 +9,7 @@ use Rattle.fast_dictionary.specs.declared.entry.Entry.{Entry}
 use Rattle.fast_field.specs.Deltas.{Cut}
 use Rattle.fast_field.specs.Fields.{FormOf, FormBy}
 use Rattle.fast_field.specs.Parts.{IsBitOf}
-use Rattle.fast_decoder.specs.Bits.{bit_for, after_bit}
+use Rattle.fast_stream.specs.Bits.{bit_for, after_bit}
 use Rattle.fast_canon.proofs.AskedBits.{Begins, behind, AreBelow}
 
 -- the bit, where one is taken

@@ -3,9 +3,9 @@ use Rattle.std.proofs.Common.{◌≡◌, ◌≤◌, ◌↔◌, ℕ, List, length
 use Rattle.std.specs.FinMap as map
 use Rattle.fast_template.specs.TemplateSets.{TemplateList, IsSound, templates_in}
 use Rattle.fast_field.proofs.PartsOfSets.{parts_of_sets}
-use Rattle.fast_decoder.specs.Nodes.{Content}
-use Rattle.fast_decoder.specs.Streams.{Carries}
-use Rattle.fast_decoder.proofs.StreamReaders.{one_list}
+use Rattle.fast_stream.specs.Nodes.{Content}
+use Rattle.fast_stream.specs.Streams.{Carries}
+use Rattle.fast_stream.proofs.StreamReaders.{one_list}
 use Rattle.fast_encoder.specs.Canonical.{IsCanonical}
 use Rattle.fast_encoder.proofs.LawProofs.{canonical_carries}
 use Rattle.fast_canon.proofs.BetterBodies.{better_stream}

@@ -2,11 +2,11 @@
 -- that a stream is its own canonical bytes, or that these are fewer.
 use Rattle.std.proofs.Common.{◌≡◌, ◌≢◌, ◌<◌, ℕ, List, [], ◌∷◌, length, get_or, refl, ap, lit<, arith}
 use Rattle.fast_template.proofs.WorkedSet.{worked_set}
-use Rattle.fast_decoder.specs.Nodes.{Content}
-use Rattle.fast_decoder.specs.Streams.{Carries}
-use Rattle.fast_decoder.proofs.Hex.{hex}
-use Rattle.fast_decoder.proofs.Rows.{quote, u32, message, spelled_out, overlong_integer, overlong_map, unasked_bit, copied}
-use Rattle.fast_decoder.proofs.WorkedStreams.{carried}
+use Rattle.fast_stream.specs.Nodes.{Content}
+use Rattle.fast_stream.specs.Streams.{Carries}
+use Rattle.fast_stream.proofs.Hex.{hex}
+use Rattle.fast_stream.proofs.Rows.{quote, u32, message, spelled_out, overlong_integer, overlong_map, unasked_bit, copied}
+use Rattle.fast_stream.proofs.WorkedStreams.{carried}
 use Rattle.fast_encoder.specs.Canonical.{IsCanonical}
 use Rattle.fast_encoder.proofs.WorkedCanonical.{canonical_first, quote_one, canonical_quotes}
 

@@ -9,10 +9,11 @@ use crate::fault::CanonFault;
 use crate::nowhere::Nowhere;
 use crate::relay::relay;
 use crate::summary::Summary;
-use fast_decoder::{Machine, Reached};
+use fast_decoder::Reached;
 use fast_dictionary::SlotEntries;
 use fast_encoder::Writer;
 use fast_io::{ByteInput, ByteOutput};
+use fast_stream::Machine;
 use fast_template::TemplateSet;
 use std::alloc::Global;
 

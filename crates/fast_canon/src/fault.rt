@@ -3,8 +3,8 @@
 ghost use Rattle.std.specs.Prelude.{◌≡◌};
 ghost use Rattle.fast_canon.specs.declared.fault.CanonFault.TheVariants as refusal;
 
-use fast_decoder::Fault;
 use fast_io::Failed;
+use fast_stream::Fault;
 use std::alloc::AllocError;
 use thiserror::Error;
 

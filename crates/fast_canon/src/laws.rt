@@ -6,14 +6,14 @@ ghost use Rattle.fast_wire.specs.Reader.{IsBytes};
 ghost use Rattle.fast_template.specs.Resolved.{Resolved};
 ghost use Rattle.fast_template.specs.TemplateSets.{IsSound, TemplateList, templates_in};
 ghost use Rattle.fast_dictionary.specs.Dictionary.{Dictionary};
-ghost use Rattle.fast_decoder.specs.declared.fault.Cause.{Cause};
-ghost use Rattle.fast_decoder.specs.declared.place.Place.{Place};
-ghost use Rattle.fast_decoder.specs.Nodes.{Content};
-ghost use Rattle.fast_decoder.specs.Streams.{Carries, CarriesFrom};
-ghost use Rattle.fast_decoder.specs.Faults.{FirstFault};
+ghost use Rattle.fast_stream.specs.declared.fault.Cause.{Cause};
+ghost use Rattle.fast_stream.specs.declared.place.Place.{Place};
+ghost use Rattle.fast_stream.specs.Nodes.{Content};
+ghost use Rattle.fast_stream.specs.Streams.{Carries, CarriesFrom};
+ghost use Rattle.fast_stream.specs.Faults.{FirstFault};
 ghost use Rattle.fast_encoder.specs.Canonical.{IsCanonical};
 
-use fast_decoder::Cause;
+use fast_stream::Cause;
 
 /// A stream carries at most one list of messages.
 pub fn one_reading()

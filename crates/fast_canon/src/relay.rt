@@ -4,16 +4,17 @@ ghost use Rattle.std.specs.Prelude.{◌≡◌, ◌≢◌, ◌≤◌, ◌<◌, �
 ghost use Rattle.std.specs.Io.KnownBytes.{Appends};
 ghost use Rattle.fast_io.specs.Traffic.{CountsError, Taken};
 ghost use Rattle.fast_template.specs.TemplateSets.{IsSound};
-ghost use Rattle.fast_decoder.specs.Nodes.{Content};
+ghost use Rattle.fast_stream.specs.Nodes.{Content};
 ghost use Rattle.fast_decoder.specs.Inputs.{IsCaused, Reads, reader_by};
 ghost use Rattle.fast_decoder.specs.declared.input.Reached.{Reached as ReachedNow};
 ghost use Rattle.fast_decoder.specs.declared.input.Reached.TheVariants as reached;
 ghost use Rattle.fast_canon.specs.Relays.{Broken, Relayed, Relays};
 
-use fast_decoder::{Cause, Machine, Reached};
+use fast_decoder::Reached;
 use fast_dictionary::Entries;
 use fast_encoder::Writer;
 use fast_io::{ByteInput, ByteOutput, Failed, push_all};
+use fast_stream::{Cause, Machine};
 
 /// The most bytes that one read takes.
 pub(crate) const CHUNK: usize = 4096;

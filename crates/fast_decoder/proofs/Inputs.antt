@@ -7,25 +7,25 @@ use Rattle.fast_io.specs.Counts.{counted}
 use Rattle.fast_template.specs.Resolved.{Resolved}
 use Rattle.fast_decoder.specs.declared.input.Reached.{Reached}
 use Rattle.fast_decoder.specs.declared.input.Reached.TheVariants as reached
-use Rattle.fast_decoder.specs.declared.fault.Cause.{Cause}
-use Rattle.fast_decoder.specs.declared.fault.Cause.TheVariants as cause
-use Rattle.fast_decoder.specs.declared.fault.Fault.{Fault}
-use Rattle.fast_decoder.specs.declared.place.Place.{Place}
+use Rattle.fast_stream.specs.declared.fault.Cause.{Cause}
+use Rattle.fast_stream.specs.declared.fault.Cause.TheVariants as cause
+use Rattle.fast_stream.specs.declared.fault.Fault.{Fault}
+use Rattle.fast_stream.specs.declared.place.Place.{Place}
 use Rattle.fast_decoder.specs.declared.decoder.Decoder.{Decoder}
-use Rattle.fast_decoder.specs.declared.message.Message.{Message}
+use Rattle.fast_stream.specs.declared.message.Message.{Message}
 use Rattle.fast_template.specs.TemplateSets.{templates_in}
 use Rattle.fast_dictionary.specs.declared.entries.Entries.{Ghosts}
-use Rattle.fast_decoder.specs.Nodes.{Content, content_of}
-use Rattle.fast_decoder.specs.Following.{Follows as HasFed, IsCutAt}
-use Rattle.fast_decoder.specs.Faults.{FirstFault}
-use Rattle.fast_decoder.specs.Standing.{Carried, ReadsOn}
+use Rattle.fast_stream.specs.Nodes.{Content, content_of}
+use Rattle.fast_stream.specs.Following.{Follows as HasFed, IsCutAt}
+use Rattle.fast_stream.specs.Faults.{FirstFault}
+use Rattle.fast_stream.specs.Standing.{Carried, ReadsOn}
 use Rattle.fast_decoder.proofs.Builders.{BuilderHas, BuilderStands}
 use Rattle.fast_decoder.specs.Inputs.{Causes, Follows, HasReached, IsCaused, IsFaultOf, OnFault, Reader, Reads, RefusedBy, Refuses, Stands, waiting_in}
-use Rattle.fast_decoder.specs.Streams.{CarriesFrom}
+use Rattle.fast_stream.specs.Streams.{CarriesFrom}
 use Rattle.fast_dictionary.specs.Dictionary.{Dictionary}
-use Rattle.fast_decoder.proofs.Standings.{carried_of}
-use Rattle.fast_decoder.proofs.Followings.{all_carried}
-use Rattle.fast_decoder.proofs.Causes.{IsOfBytes, of_stream}
+use Rattle.fast_stream.proofs.Standings.{carried_of}
+use Rattle.fast_stream.proofs.Followings.{all_carried}
+use Rattle.fast_stream.proofs.Causes.{IsOfBytes, of_stream}
 
 by_bytes : (c : Cause) (set : List Resolved) (turns : ℕ) (left : Option (List ℕ)) (bytes : List ℕ) (place : Place) → c ≢ cause.Truncated → (c ≢ cause.Memory → FirstFault set bytes place c)
     → (c ≡ cause.Memory → (place.offset ≡ 0) × (place.template ≡ 0) × (place.instruction ≡ 0)) → RefusedBy c set turns left bytes place

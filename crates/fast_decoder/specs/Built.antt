@@ -1,13 +1,13 @@
 -- What a builder of nodes has of the message that is open.
 use Rattle.std.specs.Prelude.{◌≡◌, List, [], map}
 use Rattle.std.specs.Global.{Vec}
-use Rattle.fast_decoder.specs.declared.message.Message.{Message}
-use Rattle.fast_decoder.specs.declared.message.Node.{Node}
+use Rattle.fast_stream.specs.declared.message.Message.{Message}
+use Rattle.fast_stream.specs.declared.message.Node.{Node}
 use Rattle.fast_decoder.specs.declared.builder.Level.{Level}
 use Rattle.fast_decoder.specs.declared.builder.Builder.{Builder}
-use Rattle.fast_decoder.specs.Nodes.{Item, Items, items_of, item_of, content_of}
-use Rattle.fast_decoder.specs.OpenSegments.{Inside, in_group, in_sequence, Waiting, Next, at_instruction, at_mantissa, at_element}
-use Rattle.fast_decoder.specs.Received.{Received}
+use Rattle.fast_stream.specs.Nodes.{Item, Items, items_of, item_of, content_of}
+use Rattle.fast_stream.specs.OpenSegments.{Inside, in_group, in_sequence, Waiting, Next, at_instruction, at_mantissa, at_element}
+use Rattle.fast_stream.specs.Received.{Received}
 
 -- the elements of a sequence that are built
 abbrev pub elements_built : List (Vec Node) → List Items

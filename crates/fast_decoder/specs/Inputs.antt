@@ -4,20 +4,20 @@ use Rattle.std.specs.Io.KnownBytes.{Consumes, IsAtEnd}
 use Rattle.fast_io.specs.Counts.{counted, counted_by}
 use Rattle.fast_template.specs.Resolved.{Resolved}
 use Rattle.fast_template.specs.TemplateSets.{templates_in}
-use Rattle.fast_decoder.specs.declared.fault.Cause.{Cause}
-use Rattle.fast_decoder.specs.declared.fault.Cause.TheVariants as cause
-use Rattle.fast_decoder.specs.declared.fault.Fault.{Fault}
-use Rattle.fast_decoder.specs.declared.place.Place.{Place}
-use Rattle.fast_decoder.specs.declared.message.Message.{Message}
+use Rattle.fast_stream.specs.declared.fault.Cause.{Cause}
+use Rattle.fast_stream.specs.declared.fault.Cause.TheVariants as cause
+use Rattle.fast_stream.specs.declared.fault.Fault.{Fault}
+use Rattle.fast_stream.specs.declared.place.Place.{Place}
+use Rattle.fast_stream.specs.declared.message.Message.{Message}
 use Rattle.fast_decoder.specs.declared.input.Reached.{Reached}
 use Rattle.fast_decoder.specs.declared.input.Reached.TheVariants as reached
 use Rattle.fast_dictionary.specs.declared.entries.Entries.{Ghosts}
 use Rattle.fast_decoder.specs.declared.decoder.Decoder.{Decoder}
-use Rattle.fast_decoder.specs.Nodes.{Content, content_of}
-use Rattle.fast_decoder.specs.Streams.{Carries}
-use Rattle.fast_decoder.specs.Faults.{FirstFault, EndsBetween}
-use Rattle.fast_decoder.specs.Standing.{Carried}
-use Rattle.fast_decoder.specs.Following.{Follows as HasFed}
+use Rattle.fast_stream.specs.Nodes.{Content, content_of}
+use Rattle.fast_stream.specs.Streams.{Carries}
+use Rattle.fast_stream.specs.Faults.{FirstFault, EndsBetween}
+use Rattle.fast_stream.specs.Standing.{Carried}
+use Rattle.fast_stream.specs.Following.{Follows as HasFed}
 
 -- what a reader tells of itself: the bytes left where they are told, how many calls were made, how many of them
 -- failed, and how many met the end

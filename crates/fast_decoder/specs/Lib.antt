@@ -1,16 +1,2 @@
-pub mod Nodes
-pub mod Bits
-pub mod Bodies
-pub mod Streams
-pub mod Faults
-pub mod Reading
-pub mod Readers
-pub mod OpenSegments
-pub mod Received
-pub mod Walks
 pub mod Built
-pub mod Traversals
-pub mod Standing
-pub mod Following
-pub mod OneProof
 pub mod Inputs

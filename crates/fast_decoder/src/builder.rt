@@ -1,13 +1,11 @@
 //! Builds the nodes of messages.
 
 ghost use Rattle.std.specs.Prelude.{◌≡◌, map, Option, Some, None};
-ghost use Rattle.fast_decoder.specs.Nodes.{item_of, single};
+ghost use Rattle.fast_stream.specs.Nodes.{item_of, single};
 
-use crate::message::{Message, Node};
-use crate::part::{exponent_in, mantissa_in, take_part, unsigned_in};
-use crate::receiver::Receiver;
 use fast_dictionary::Entries;
 use fast_field::FieldFault;
+use fast_stream::{Message, Node, Receiver, exponent_in, mantissa_in, take_part, unsigned_in};
 use fast_template::{FieldPart, Scalar};
 use std::alloc::{AllocError, Global};
 use std::mem;
@@ -49,7 +47,7 @@ impl Builder {
     ghost use Rattle.std.specs.Prelude.{[], List};
     ghost use Rattle.std.specs.FinMap as finite;
     ghost use Rattle.fast_template.specs.Resolved.{Resolved};
-    ghost use Rattle.fast_decoder.specs.Nodes.{Content};
+    ghost use Rattle.fast_stream.specs.Nodes.{Content};
     ghost use Rattle.fast_decoder.specs.Built.{with_whole};
 
     /// With no message. Takes no memory.
@@ -85,7 +83,7 @@ impl Builder {
 }
 
 impl Receiver for Builder {
-    ghost use Rattle.fast_decoder.specs.Nodes.{content_of};
+    ghost use Rattle.fast_stream.specs.Nodes.{content_of};
     ghost use Rattle.fast_decoder.specs.Built.{IsBuilt};
 
     ghost has = { λ b o d. IsBuilt b o };

@@ -2,16 +2,14 @@
 
 ghost use Rattle.std.specs.Prelude.{◌≡◌, ◌≢◌, ◌≤◌, ◌+◌, ◌^◌, ◌++◌, [], ℕ, List, None, Some, Err, OnOk, IfErr, IfSome, length, map};
 ghost use Rattle.fast_template.specs.TemplateSets.{templates_in};
-ghost use Rattle.fast_decoder.specs.Nodes.{Content, content_of};
-ghost use Rattle.fast_decoder.specs.Streams.{Carries};
-ghost use Rattle.fast_decoder.specs.Following.{IsHeld};
-ghost use Rattle.fast_decoder.specs.Traversals.{ServesAll};
+ghost use Rattle.fast_stream.specs.Nodes.{Content, content_of};
+ghost use Rattle.fast_stream.specs.Streams.{Carries};
+ghost use Rattle.fast_stream.specs.Following.{IsHeld};
+ghost use Rattle.fast_stream.specs.Traversals.{ServesAll};
 
 use crate::builder::Builder;
-use crate::fault::{Cause, Fault};
-use crate::machine::Machine;
-use crate::message::Message;
 use fast_dictionary::Entries;
+use fast_stream::{Cause, Fault, Machine, Message};
 use fast_template::TemplateSet;
 use std::alloc::Global;
 
@@ -25,7 +23,7 @@ pub struct Decoder<'a, E: Entries> {
 }
 
 impl<'a, E: Entries> Decoder<'a, E> {
-    ghost use Rattle.fast_decoder.specs.Following.{Answers, Follows, IsCutAt};
+    ghost use Rattle.fast_stream.specs.Following.{Answers, Follows, IsCutAt};
 
     /// A decoder of a set, at the beginning of a stream. The entries are reset. Takes no memory.
     pub fn new(alloc: Global, set: &'a TemplateSet, entries: E) -> Decoder<'a, E>

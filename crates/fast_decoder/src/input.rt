@@ -3,15 +3,14 @@
 ghost use Rattle.std.specs.Prelude.{◌≡◌, ◌≢◌, ◌≤◌, ◌<◌, ◌+◌, ◌*◌, ◌++◌, ◌^◌, [], ℕ, true, false, List, Option, None, Some, Ok, Err, OnOk, IfErr, length};
 ghost use Rattle.std.specs.Io.KnownBytes.{IsAtEnd};
 ghost use Rattle.fast_template.specs.TemplateSets.{templates_in};
-ghost use Rattle.fast_decoder.specs.Nodes.{Content};
-ghost use Rattle.fast_decoder.specs.Traversals.{ServesAll};
+ghost use Rattle.fast_stream.specs.Nodes.{Content};
+ghost use Rattle.fast_stream.specs.Traversals.{ServesAll};
 ghost use Rattle.fast_decoder.specs.Inputs.{Causes, Follows, HasReached, IsCaused, IsFaultOf, OnFault, Reads, Stands, Tells, answered_in, reader_by, waiting_in};
 
 use crate::decoder::Decoder;
-use crate::fault::{Cause, Fault};
-use crate::message::Message;
 use fast_dictionary::Entries;
 use fast_io::{ByteInput, Failed};
+use fast_stream::{Cause, Fault, Message};
 use fast_template::TemplateSet;
 use std::alloc::Global;
 

@@ -1,39 +1,17 @@
-//! What a stream carries: messages, and where a stream has no reading.
+//! Messages from a stream, which comes in chunks or from a reader.
 //!
-//! The definitions stand in `specs/`: what a message is to contracts (`Nodes`), the bits of a map that instructions
-//! take (`Bits`), how instructions stand in a stream (`Bodies`), what a stream carries (`Streams`), and its first
-//! fault (`Faults`). `Reading` is the same once more as a function from bytes, which answers the messages or the fault;
-//! `Readers` says what ties the two, and the module [`laws`] that it holds of bodies, messages and streams.
+//! What a stream carries, where it has no reading, and the machine that goes over its pieces stand in `fast_stream`, and
+//! what a caller needs of it can be named here too. Of the definitions in `specs/`, `Built` says what the [`Builder`]
+//! has of the message that is open, and `Inputs` what a reader gave and what the stream of messages answered.
 #![tactic(auto)]
 
-mod bits;
 mod builder;
 mod decoder;
-mod fault;
-mod halt;
 mod input;
-pub mod laws;
-mod machine;
-mod message;
-mod messages;
-mod part;
-mod place;
-mod receiver;
 #[cfg(test)]
 mod tests;
-mod traversal;
-mod walk;
 
-pub use bits::{first_for, take_for};
 pub use builder::{Builder, Level};
 pub use decoder::Decoder;
-pub use fault::{Cause, Fault};
-pub use halt::{Halt, field_cause, map_cause};
+pub use fast_stream::{Cause, Fault, Machine, Message, Node, Place, Receiver};
 pub use input::{MessageInputStream, Reached};
-pub use machine::Machine;
-pub use message::{Message, Node};
-pub use part::{exponent_in, mantissa_in, take_part, unsigned_in};
-pub use place::Place;
-pub use receiver::Receiver;
-pub use traversal::{Stage, Traversal};
-pub use walk::{Frame, Inside, Next, Sequel, Walk};

@@ -1,13 +1,11 @@
 mod rows;
 
-ghost use Rattle.fast_decoder.specs.Traversals.{ServesAll};
+ghost use Rattle.fast_stream.specs.Traversals.{ServesAll};
 
 use crate::decoder::Decoder;
-use crate::fault::{Cause, Fault};
-use crate::message::{Message, Node};
-use crate::place::Place;
 use crate::tests::rows::slots_of;
 use fast_dictionary::{Entries, MapEntries};
+use fast_stream::{Cause, Fault, Message, Node, Place};
 use fast_template::{ByteString, LoadFault, Scalar, TemplateSet};
 use std::alloc::{AllocError, Global};
 

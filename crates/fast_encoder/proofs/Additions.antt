@@ -15,11 +15,11 @@ use Rattle.fast_field.specs.Best.{IsBest}
 use Rattle.fast_field.specs.Fields.{Form}
 use Rattle.fast_field.specs.Planning.{left_out_of}
 use Rattle.fast_field.specs.Refusals.{refusal_of}
-use Rattle.fast_decoder.specs.Nodes.{Item, single, group_items, sequence_elements, Items, no_items, then_item, Elements, no_elements, then_element, element_count}
-use Rattle.fast_decoder.specs.Bodies.{Then, SegmentBy, PartBy, PieceBy, Each, written}
-use Rattle.fast_decoder.specs.Streams.{AnyMap}
-use Rattle.fast_decoder.proofs.Leaves.{bits_taken_are, no_bits_are_taken}
-use Rattle.fast_decoder.proofs.Weaker.{body_weaker}
+use Rattle.fast_stream.specs.Nodes.{Item, single, group_items, sequence_elements, Items, no_items, then_item, Elements, no_elements, then_element, element_count}
+use Rattle.fast_stream.specs.Bodies.{Then, SegmentBy, PartBy, PieceBy, Each, written}
+use Rattle.fast_stream.specs.Streams.{AnyMap}
+use Rattle.fast_stream.proofs.Leaves.{bits_taken_are, no_bits_are_taken}
+use Rattle.fast_stream.proofs.Weaker.{body_weaker}
 use Rattle.fast_encoder.specs.Added.{Standing, Judging, Adds, AddsBytes}
 use Rattle.fast_encoder.specs.Canonical.{CanonBody, IsShortestMap}
 use Rattle.fast_encoder.specs.FirstRefusal.{part_judged, has_set, segment_judged, item_judged, items_judged, elements_judged}

@@ -16,8 +16,8 @@ use Rattle.fast_field.specs.Parts.{IsFieldPart}
 use Rattle.fast_field.specs.Fields.{Form}
 use Rattle.fast_field.specs.Within.{HoldsScalar}
 use Rattle.fast_field.proofs.FieldsWithin.{values_within, entries_within}
-use Rattle.fast_decoder.specs.Bodies.{with_entry, written}
-use Rattle.fast_decoder.proofs.Putting.{set_written}
+use Rattle.fast_stream.specs.Bodies.{with_entry, written}
+use Rattle.fast_stream.proofs.Putting.{set_written}
 use Rattle.fast_encoder.specs.declared.journal.Change.{Change}
 use Rattle.fast_encoder.specs.Added.{Changed, GoesOn, HoldScalars}
 

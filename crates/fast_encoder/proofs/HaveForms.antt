@@ -25,10 +25,10 @@ use Rattle.fast_field.specs.Refusals.{refusal_of}
 use Rattle.fast_field.specs.Within.{HasRangeOr}
 use Rattle.fast_field.proofs.BestValues.{best_stands}
 use Rattle.fast_field.proofs.PartsOfSets.{parts_of_sets}
-use Rattle.fast_decoder.specs.Nodes.{Item, single, group_items, sequence_elements, Items, no_items, then_item, Elements, no_elements, then_element, element_count, Content}
-use Rattle.fast_decoder.specs.Bodies.{State, Then, PartBy, PieceBy, Each, written}
-use Rattle.fast_decoder.specs.Streams.{members_of, identifier}
-use Rattle.fast_decoder.proofs.FoundMembers.{members_have}
+use Rattle.fast_stream.specs.Nodes.{Item, single, group_items, sequence_elements, Items, no_items, then_item, Elements, no_elements, then_element, element_count, Content}
+use Rattle.fast_stream.specs.Bodies.{State, Then, PartBy, PieceBy, Each, written}
+use Rattle.fast_stream.specs.Streams.{members_of, identifier}
+use Rattle.fast_stream.proofs.FoundMembers.{members_have}
 use Rattle.fast_encoder.specs.declared.fault.EncodeFault.{EncodeFault}
 use Rattle.fast_encoder.specs.Added.{Standing, Judging, Adds, AddsBytes, HoldScalars, IsSmall, AreSmall, AreSmallIn, message_judged}
 use Rattle.fast_encoder.specs.Canonical.{CanonBody, CanonMessage, IsShortestMap}

@@ -2,8 +2,8 @@
 use Rattle.std.proofs.Common.{◌≡◌, List, Option, Some, None, ap}
 use Rattle.fast_template.specs.Resolved.{Instructions, Resolved}
 use Rattle.fast_dictionary.specs.Dictionary.{Dictionary}
-use Rattle.fast_decoder.specs.Nodes.{Content}
-use Rattle.fast_decoder.specs.Streams.{members_of}
+use Rattle.fast_stream.specs.Nodes.{Content}
+use Rattle.fast_stream.specs.Streams.{members_of}
 use Rattle.fast_encoder.specs.declared.fault.EncodeCause.TheVariants as cause
 use Rattle.fast_encoder.specs.declared.fault.EncodeFault.{EncodeFault}
 use Rattle.fast_encoder.specs.FirstRefusal.{first_refusal, message_refusal, whole_refusal, refused}

@@ -4,9 +4,9 @@ use Rattle.std.specs.FinMap as map
 use Rattle.fast_template.specs.Resolved.{Resolved}
 use Rattle.fast_field.specs.Fields.{Form}
 use Rattle.fast_field.specs.Best.{IsBest}
-use Rattle.fast_decoder.specs.Nodes.{Content}
-use Rattle.fast_decoder.specs.Streams.{AnyMap, Carries}
-use Rattle.fast_decoder.proofs.Weaker.{carries_weaker}
+use Rattle.fast_stream.specs.Nodes.{Content}
+use Rattle.fast_stream.specs.Streams.{AnyMap, Carries}
+use Rattle.fast_stream.proofs.Weaker.{carries_weaker}
 use Rattle.fast_encoder.specs.Canonical.{IsShortestMap, IsCanonical}
 
 pub canonical_carries : (set : List Resolved) (messages : List Content) (bytes : List ℕ) → IsCanonical set messages bytes → Carries set bytes messages

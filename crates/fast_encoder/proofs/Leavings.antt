@@ -3,7 +3,7 @@ use Rattle.std.proofs.Common.{◌≡◌, ℕ, zero, suc, Bool, true, false, List
 use Rattle.fast_wire.specs.Entity.{groups}
 use Rattle.fast_wire.specs.PresenceMap.{later_bits, bit_at, bits_of, IsMap}
 use Rattle.fast_wire.specs.Writing.{IsShortest}
-use Rattle.fast_decoder.specs.Bits.{bit_for, after_bit}
+use Rattle.fast_stream.specs.Bits.{bit_for, after_bit}
 use Rattle.fast_encoder.specs.Canonical.{IsShortestMap}
 use Rattle.fast_encoder.specs.Written.{Leaves, bits_for}
 

@@ -9,12 +9,12 @@ use Rattle.fast_dictionary.specs.Dictionary.{Dictionary}
 use Rattle.fast_field.specs.Best.{IsBest}
 use Rattle.fast_field.specs.Parts.{IsFieldPart, EachPartIn}
 use Rattle.fast_field.proofs.PartsOfSets.{parts_of_sets}
-use Rattle.fast_decoder.specs.Nodes.{Items, Content, nodes_in, node_limit}
-use Rattle.fast_decoder.specs.Bodies.{WithMap, PartBy}
-use Rattle.fast_decoder.specs.Streams.{members_of, identifier}
-use Rattle.fast_decoder.specs.Traversals.{ServesAll}
-use Rattle.fast_decoder.proofs.FoundMembers.{members_have}
-use Rattle.fast_decoder.proofs.Serving.{members_served}
+use Rattle.fast_stream.specs.Nodes.{Items, Content, nodes_in, node_limit}
+use Rattle.fast_stream.specs.Bodies.{WithMap, PartBy}
+use Rattle.fast_stream.specs.Streams.{members_of, identifier}
+use Rattle.fast_stream.specs.Traversals.{ServesAll}
+use Rattle.fast_stream.proofs.FoundMembers.{members_have}
+use Rattle.fast_stream.proofs.Serving.{members_served}
 use Rattle.fast_encoder.specs.declared.fault.EncodeCause.TheVariants as cause
 use Rattle.fast_encoder.specs.declared.fault.EncodeFault.{EncodeFault}
 use Rattle.fast_encoder.specs.Added.{Adds, AddsBytes, AnswersBytes, CanTry, MessageStands, message_judged}

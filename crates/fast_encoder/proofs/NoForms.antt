@@ -28,11 +28,11 @@ use Rattle.fast_field.proofs.BestValues.{can_be_left_out}
 use Rattle.fast_field.proofs.FieldsWithin.{values_within}
 use Rattle.fast_field.proofs.PartsOfSets.{parts_of_sets}
 use Rattle.fast_field.proofs.Refused.{not_refused}
-use Rattle.fast_decoder.specs.Bits.{bit_for, after_bit}
-use Rattle.fast_decoder.specs.Nodes.{Item, single, group_items, sequence_elements, Items, no_items, then_item, Elements, no_elements, then_element, element_count, nodes_of, nodes_in, nodes_in_elements, node_limit, Content}
-use Rattle.fast_decoder.specs.Bodies.{State, Then, Each, WithMap, SegmentBy, PartBy, PieceBy, BodyBy, written}
-use Rattle.fast_decoder.specs.Streams.{members_of, identifier, AnyMap, BodyOfBy, MessageForm}
-use Rattle.fast_decoder.proofs.FoundMembers.{members_have}
+use Rattle.fast_stream.specs.Bits.{bit_for, after_bit}
+use Rattle.fast_stream.specs.Nodes.{Item, single, group_items, sequence_elements, Items, no_items, then_item, Elements, no_elements, then_element, element_count, nodes_of, nodes_in, nodes_in_elements, node_limit, Content}
+use Rattle.fast_stream.specs.Bodies.{State, Then, Each, WithMap, SegmentBy, PartBy, PieceBy, BodyBy, written}
+use Rattle.fast_stream.specs.Streams.{members_of, identifier, AnyMap, BodyOfBy, MessageForm}
+use Rattle.fast_stream.proofs.FoundMembers.{members_have}
 use Rattle.fast_encoder.specs.declared.fault.EncodeFault.{EncodeFault}
 use Rattle.fast_encoder.specs.Added.{Judging, HoldScalars}
 use Rattle.fast_encoder.specs.FirstRefusal.{value_fits, item_fits, items_fit, elements_fit, item_is_large, has_large, has_large_in, whole_refusal, part_judged, has_set, segment_judged, item_judged, items_judged, elements_judged, message_refusal, first_refusal}

@@ -3,7 +3,7 @@ use Rattle.std.proofs.Common.{◌≡◌, ℕ, List, [], ◌∷◌, ◌++◌, ref
 use Rattle.std.specs.FinMap as map
 use Rattle.fast_template.specs.Resolved.{Resolved}
 use Rattle.fast_dictionary.specs.Dictionary.{Dictionary}
-use Rattle.fast_decoder.specs.Nodes.{Content}
+use Rattle.fast_stream.specs.Nodes.{Content}
 use Rattle.fast_encoder.specs.Canonical.{CanonMessage, IsCanonical}
 use Rattle.fast_encoder.specs.Outputs.{CanonRuns, AreSent}
 use Rattle.fast_encoder.proofs.Writers.{canon_more}

@@ -4,8 +4,8 @@ use Rattle.std.specs.Prelude.{codes, nat_lt, length}
 use Rattle.std.specs.FinMap as finite
 use Rattle.fast_template.proofs.WorkedSet.{worked_set}
 use Rattle.fast_field.specs.Refusals.{value_refusal, are_characters}
-use Rattle.fast_decoder.specs.Nodes.{Content}
-use Rattle.fast_decoder.proofs.Rows.{u32, decimal, text, absent, message}
+use Rattle.fast_stream.specs.Nodes.{Content}
+use Rattle.fast_stream.proofs.Rows.{u32, decimal, text, absent, message}
 use Rattle.fast_encoder.specs.declared.fault.EncodeCause.{EncodeCause}
 use Rattle.fast_encoder.specs.declared.fault.EncodeCause.TheVariants as cause
 use Rattle.fast_encoder.specs.declared.fault.EncodeFault.{EncodeFault}

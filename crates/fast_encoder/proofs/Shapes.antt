@@ -2,8 +2,8 @@
 use Rattle.std.proofs.Common.{◌≡◌, ◌≢◌, Bool, true, false, ◌&&◌, List, [], ◌∷◌, length, refl}
 use Rattle.fast_template.specs.declared.resolved.Flat.{Flat}
 use Rattle.fast_template.specs.Resolved.{instruction_of, list_of}
-use Rattle.fast_decoder.specs.declared.message.Node.{Node}
-use Rattle.fast_decoder.specs.Nodes.{item_of, items_in}
+use Rattle.fast_stream.specs.declared.message.Node.{Node}
+use Rattle.fast_stream.specs.Nodes.{item_of, items_in}
 use Rattle.fast_encoder.specs.FirstRefusal.{item_fits, items_fit}
 
 and_false : (b c : Bool) → false ≡ c → false ≡ (b && c)

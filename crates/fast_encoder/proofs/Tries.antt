@@ -6,16 +6,16 @@ use Rattle.fast_template.specs.declared.key.Key.{Key}
 use Rattle.fast_template.specs.declared.resolved.Flat.{Flat, fold_out-Flat}
 use Rattle.fast_template.specs.declared.resolved.Flat.TheVariants.{Sequence, outs-Sequence}
 use Rattle.fast_template.specs.declared.scalar.Scalar.TheVariants.{U32}
-use Rattle.fast_decoder.specs.declared.message.Node.{Node}
-use Rattle.fast_decoder.specs.declared.message.Node.TheVariants as nodes
-use Rattle.fast_decoder.proofs.Views.{item_of-sequence}
+use Rattle.fast_stream.specs.declared.message.Node.{Node}
+use Rattle.fast_stream.specs.declared.message.Node.TheVariants as nodes
+use Rattle.fast_stream.proofs.Views.{item_of-sequence}
 use Rattle.fast_template.specs.declared.kind.Presence.{Presence}
 use Rattle.fast_template.specs.declared.resolved.FieldPart.{FieldPart}
 use Rattle.fast_template.specs.Resolved.{Instruction, Instructions, flat_step, instruction_of, list_of, group_of, sequence_of, no_instructions, then_instruction, is_optional, has_map}
 use Rattle.fast_dictionary.specs.Dictionary.{Dictionary}
 use Rattle.fast_field.specs.Best.{IsBest}
-use Rattle.fast_decoder.specs.Nodes.{Item, single, group_items, sequence_elements, Items, no_items, then_item, Elements, no_elements, then_element, item_of, items_in, elements_of, element_count}
-use Rattle.fast_decoder.specs.Bodies.{PartBy, PieceBy, Each}
+use Rattle.fast_stream.specs.Nodes.{Item, single, group_items, sequence_elements, Items, no_items, then_item, Elements, no_elements, then_element, item_of, items_in, elements_of, element_count}
+use Rattle.fast_stream.specs.Bodies.{PartBy, PieceBy, Each}
 use Rattle.fast_encoder.specs.declared.fault.EncodeCause.TheVariants as cause
 use Rattle.fast_encoder.specs.declared.fault.EncodeFault.{EncodeFault}
 use Rattle.fast_encoder.specs.Added.{Adds, AddsBytes, Answers, AnswersBytes, CanTry, CanTryOne, CanTryEach, IsSmall, AreSmall, AreSmallIn}

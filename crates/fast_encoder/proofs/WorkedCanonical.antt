@@ -35,10 +35,10 @@ use Rattle.fast_field.specs.Deltas.{Cut, uncut, SpellsDeltas, DeltaForm}
 use Rattle.fast_field.specs.Fields.{FormOf, FormBy}
 use Rattle.fast_field.specs.Best.{NoLater, IsBest}
 use Rattle.fast_field.proofs.BestForms.{bit_zero_is_best, at_end_first}
-use Rattle.fast_decoder.specs.Nodes.{single, items_of, Content}
-use Rattle.fast_decoder.specs.Bodies.{State, after_part}
-use Rattle.fast_decoder.specs.Streams.{identifier}
-use Rattle.fast_decoder.proofs.Hex.{hex}
+use Rattle.fast_stream.specs.Nodes.{single, items_of, Content}
+use Rattle.fast_stream.specs.Bodies.{State, after_part}
+use Rattle.fast_stream.specs.Streams.{identifier}
+use Rattle.fast_stream.proofs.Hex.{hex}
 use Rattle.fast_encoder.specs.Canonical.{IsShortestMap, CanonMessage, IsCanonical}
 
 entity_some : (b : List ℕ) → IsEntity b → 1 ≤ length b

@@ -9,10 +9,10 @@ use Rattle.fast_wire.specs.Reading.{◌>>=◌}
 use Rattle.fast_field.specs.Best.{IsBest}
 use Rattle.fast_field.specs.Parts.{IsFieldPart, EachPart, EachPartIn}
 use Rattle.fast_field.specs.Within.{HoldsScalar}
-use Rattle.fast_decoder.specs.Nodes.{Item, single, group_items, sequence_elements, Items, no_items, then_item, Elements, no_elements, then_element, element_count, Content}
-use Rattle.fast_decoder.specs.Bodies.{State, Then, PartBy, written}
-use Rattle.fast_decoder.specs.Streams.{identifier}
-use Rattle.fast_decoder.specs.Walks.{IsServed, AreServed}
+use Rattle.fast_stream.specs.Nodes.{Item, single, group_items, sequence_elements, Items, no_items, then_item, Elements, no_elements, then_element, element_count, Content}
+use Rattle.fast_stream.specs.Bodies.{State, Then, PartBy, written}
+use Rattle.fast_stream.specs.Streams.{identifier}
+use Rattle.fast_stream.specs.Walks.{IsServed, AreServed}
 use Rattle.fast_encoder.specs.declared.fault.EncodeCause.TheVariants as cause
 use Rattle.fast_encoder.specs.declared.fault.EncodeFault.{EncodeFault}
 use Rattle.fast_encoder.specs.declared.journal.Change.{Change}

@@ -6,9 +6,9 @@ use Rattle.fast_template.specs.Resolved.{Instructions, Resolved}
 use Rattle.fast_dictionary.specs.Dictionary.{Dictionary}
 use Rattle.fast_wire.specs.PresenceMap.{bit_at, IsMap, IsWholeMap}
 use Rattle.fast_field.specs.Best.{IsBest}
-use Rattle.fast_decoder.specs.Nodes.{Items, Content}
-use Rattle.fast_decoder.specs.Bodies.{State, BodyBy}
-use Rattle.fast_decoder.specs.Streams.{MessageFormBy, CarriesBy}
+use Rattle.fast_stream.specs.Nodes.{Items, Content}
+use Rattle.fast_stream.specs.Bodies.{State, BodyBy}
+use Rattle.fast_stream.specs.Streams.{MessageFormBy, CarriesBy}
 
 -- A map of these bits of which none is set that no instruction asked for; no map of the same bits has fewer bytes.
 -- So it ends with the group of its last 1, or is one group.

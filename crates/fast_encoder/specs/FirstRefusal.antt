@@ -12,9 +12,9 @@ use Rattle.fast_field.specs.declared.fault.FieldRefusal.TheVariants as refusal
 use Rattle.fast_field.specs.Values.{units_of}
 use Rattle.fast_field.specs.Planning.{left_out_of}
 use Rattle.fast_field.specs.Refusals.{refusal_of, has_characters}
-use Rattle.fast_decoder.specs.Nodes.{Item, single, group_items, sequence_elements, Items, no_items, then_item, Elements, no_elements, then_element, element_count, nodes_in, node_limit, Content}
-use Rattle.fast_decoder.specs.Bodies.{State, written}
-use Rattle.fast_decoder.specs.Streams.{members_of, identifier}
+use Rattle.fast_stream.specs.Nodes.{Item, single, group_items, sequence_elements, Items, no_items, then_item, Elements, no_elements, then_element, element_count, nodes_in, node_limit, Content}
+use Rattle.fast_stream.specs.Bodies.{State, written}
+use Rattle.fast_stream.specs.Streams.{members_of, identifier}
 use Rattle.fast_encoder.specs.Written.{state, bits_for}
 use Rattle.fast_encoder.specs.declared.fault.EncodeCause.{EncodeCause}
 use Rattle.fast_encoder.specs.declared.fault.EncodeCause.TheVariants as cause

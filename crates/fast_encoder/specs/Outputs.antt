@@ -3,7 +3,7 @@ use Rattle.std.specs.Prelude.{◌≡◌, ℕ, Bool, true, false, List, [], ◌�
 use Rattle.std.specs.FinMap as map
 use Rattle.fast_template.specs.Resolved.{Resolved}
 use Rattle.fast_dictionary.specs.Dictionary.{Dictionary}
-use Rattle.fast_decoder.specs.Nodes.{Content}
+use Rattle.fast_stream.specs.Nodes.{Content}
 use Rattle.fast_encoder.specs.declared.fault.EncodeFault.{EncodeFault}
 use Rattle.fast_encoder.specs.Canonical.{CanonFrom, IsCanonical}
 

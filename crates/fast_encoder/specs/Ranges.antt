@@ -1,7 +1,7 @@
 -- The values of a message, as their types have them.
 use Rattle.std.specs.Prelude.{◌^◌, ◌<◌}
 use Rattle.fast_field.specs.Within.{HasRangeOr}
-use Rattle.fast_decoder.specs.Nodes.{Item, single, group_items, sequence_elements, Items, no_items, then_item, Elements, no_elements, then_element, Content}
+use Rattle.fast_stream.specs.Nodes.{Item, single, group_items, sequence_elements, Items, no_items, then_item, Elements, no_elements, then_element, Content}
 
 abbrev mutual
   pub HasRanges : Item → Type 0

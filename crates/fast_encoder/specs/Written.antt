@@ -10,11 +10,11 @@ use Rattle.fast_dictionary.specs.declared.entry.Entry.{Entry}
 use Rattle.fast_wire.specs.PresenceMap.{next_bit, later_bits, IsMap}
 use Rattle.fast_wire.specs.Writing.{IsShortest}
 use Rattle.fast_field.specs.Best.{IsBest}
-use Rattle.fast_decoder.specs.Nodes.{single, group_items, sequence_elements, Items, no_items, then_item, Elements, element_count, Content}
-use Rattle.fast_decoder.specs.Bodies.{State, SegmentBy, Then, PartBy, Each, written}
-use Rattle.fast_decoder.specs.Streams.{identifier}
-use Rattle.fast_decoder.specs.OpenSegments.{items_before, elements_before, Body, Sequel, Inside, in_group, in_sequence, Waiting, Next, at_instruction, at_mantissa, at_element, with_item, with_element}
-use Rattle.fast_decoder.specs.Received.{Received}
+use Rattle.fast_stream.specs.Nodes.{single, group_items, sequence_elements, Items, no_items, then_item, Elements, element_count, Content}
+use Rattle.fast_stream.specs.Bodies.{State, SegmentBy, Then, PartBy, Each, written}
+use Rattle.fast_stream.specs.Streams.{identifier}
+use Rattle.fast_stream.specs.OpenSegments.{items_before, elements_before, Body, Sequel, Inside, in_group, in_sequence, Waiting, Next, at_instruction, at_mantissa, at_element, with_item, with_element}
+use Rattle.fast_stream.specs.Received.{Received}
 use Rattle.fast_encoder.specs.Canonical.{CanonBody, CanonFrom, IsShortestMap}
 
 -- ---- the messages that are finished

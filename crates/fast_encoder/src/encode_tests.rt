@@ -1,15 +1,16 @@
 //! Messages through the calls of an encoder and of a stream of messages.
 
 ghost use Rattle.std.specs.Prelude.{IfOk};
-ghost use Rattle.fast_decoder.specs.Traversals.{ServesAll};
+ghost use Rattle.fast_stream.specs.Traversals.{ServesAll};
 
 use crate::encoder::Encoder;
 use crate::fault::{EncodeCause, EncodeFault};
 use crate::output::MessageOutputStream;
 use crate::tests::{WORKED, quote};
-use fast_decoder::{Decoder, Message, Node};
+use fast_decoder::Decoder;
 use fast_dictionary::{Entries, MapEntries, SlotEntries};
 use fast_io::{Counted, ScriptOutput};
+use fast_stream::{Message, Node};
 use fast_template::{ByteString, Scalar, TemplateSet, UnicodeText};
 use std::alloc::{AllocError, Global};
 use std::process::Abort;

@@ -3,9 +3,9 @@
 mod calls;
 
 ghost use Rattle.std.specs.Prelude.{◌≡◌};
-ghost use Rattle.fast_decoder.specs.Streams.{identifier as identifier_part};
-ghost use Rattle.fast_decoder.specs.Traversals.{ServesAll};
-ghost use Rattle.fast_decoder.specs.OneProof.{ServesAll-prop};
+ghost use Rattle.fast_stream.specs.Streams.{identifier as identifier_part};
+ghost use Rattle.fast_stream.specs.Traversals.{ServesAll};
+ghost use Rattle.fast_stream.specs.OneProof.{ServesAll-prop};
 ghost use Rattle.fast_encoder.specs.OneProof.{KeepScalars, KeepScalars-prop};
 
 use crate::journal::Journal;

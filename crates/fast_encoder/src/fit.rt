@@ -9,7 +9,7 @@ ghost use Rattle.fast_dictionary.specs.Dictionary.{entry_of};
 ghost use Rattle.fast_template.specs.declared.kind.Operator.TheVariants as operator;
 ghost use Rattle.fast_field.specs.Parts.{HasDefault, IsFieldPart, IsKindOfPart};
 ghost use Rattle.fast_field.specs.Within.{HoldsScalar};
-ghost use Rattle.fast_decoder.specs.Streams.{identifier};
+ghost use Rattle.fast_stream.specs.Streams.{identifier};
 
 use fast_dictionary::EntryRef;
 use fast_template::{FieldPart, Key, Kind, Operator, Part, Presence, Scalar, Scope};

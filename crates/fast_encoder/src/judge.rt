@@ -5,14 +5,14 @@ ghost use Rattle.fast_template.specs.Resolved.{list_of};
 ghost use Rattle.fast_template.specs.TemplateSets.{IsSound, templates_in};
 ghost use Rattle.fast_dictionary.specs.Dictionary.{Dictionary};
 ghost use Rattle.fast_field.specs.Calls.{Judges};
-ghost use Rattle.fast_decoder.specs.Nodes.{content_of, items_in};
-ghost use Rattle.fast_decoder.specs.Streams.{members_of};
+ghost use Rattle.fast_stream.specs.Nodes.{content_of, items_in};
+ghost use Rattle.fast_stream.specs.Streams.{members_of};
 ghost use Rattle.fast_encoder.specs.FirstRefusal.{first_refusal, is_too_large, whole_refusal};
 
 use crate::fault::{EncodeCause, EncodeFault};
 use crate::shape::all_fit;
 use crate::size::left_behind_all;
-use fast_decoder::{Message, Node};
+use fast_stream::{Message, Node};
 use fast_template::{Flat, FlatTemplate, TemplateSet};
 
 /// The most nodes of a message.

@@ -4,9 +4,9 @@ ghost use Rattle.std.specs.Prelude.{◌≡◌, ◌⊎◌, ◌&&◌, [], Some, tr
 ghost use Rattle.fast_template.specs.Resolved.{list_of};
 ghost use Rattle.fast_template.specs.TemplateSets.{identifier_key};
 ghost use Rattle.fast_template.specs.declared.scalar.Scalar.TheVariants.{U32};
-ghost use Rattle.fast_decoder.specs.Nodes.{content_of, items_in};
-ghost use Rattle.fast_decoder.specs.Bodies.{WithMap};
-ghost use Rattle.fast_decoder.specs.Streams.{identifier as identifier_part};
+ghost use Rattle.fast_stream.specs.Nodes.{content_of, items_in};
+ghost use Rattle.fast_stream.specs.Bodies.{WithMap};
+ghost use Rattle.fast_stream.specs.Streams.{identifier as identifier_part};
 ghost use Rattle.fast_encoder.specs.Added.{Adds, AnswersBytes, CanTry, GoesOn, HoldScalars, MessageStands, message_judged, rest_judged};
 ghost use Rattle.fast_encoder.specs.Canonical.{CanonBody, IsShortestMap};
 ghost use Rattle.fast_encoder.specs.FirstRefusal.{has_set, items_judged, refused, segment_judged};
@@ -17,8 +17,8 @@ use crate::fault::{EncodeCause, EncodeFault};
 use crate::journal::{Journal, put_back, put_value};
 use crate::level::Level;
 use crate::nodes::put_nodes;
-use fast_decoder::{Message, Node};
 use fast_dictionary::Entries;
+use fast_stream::{Message, Node};
 use fast_template::{FieldPart, Flat, Scalar};
 use std::alloc::Global;
 

@@ -6,8 +6,8 @@ ghost use Rattle.fast_template.specs.declared.kind.Presence.{Presence as Presenc
 ghost use Rattle.fast_template.specs.declared.scalar.Scalar.TheVariants.{I32, I64, U32};
 ghost use Rattle.fast_field.specs.Best.{IsBest};
 ghost use Rattle.fast_field.specs.Parts.{IsFieldPart};
-ghost use Rattle.fast_decoder.specs.Nodes.{elements_of, item_of, items_in, single};
-ghost use Rattle.fast_decoder.specs.Bodies.{Each, PartBy, PieceBy};
+ghost use Rattle.fast_stream.specs.Nodes.{elements_of, item_of, items_in, single};
+ghost use Rattle.fast_stream.specs.Bodies.{Each, PartBy, PieceBy};
 ghost use Rattle.fast_encoder.specs.Added.{Answers, AnswersBytes, CanTry, CanTryEach, CanTryOne, GoesOn, HoldScalars};
 ghost use Rattle.fast_encoder.specs.Canonical.{CanonBody, IsShortestMap};
 ghost use Rattle.fast_encoder.specs.FirstRefusal.{elements_judged, item_judged, items_judged, part_judged, refused, segment_judged};
@@ -19,8 +19,8 @@ use crate::journal::Journal;
 use crate::level::Level;
 use crate::put::no_memory;
 use crate::shape::may_be_absent;
-use fast_decoder::Node;
 use fast_dictionary::Entries;
+use fast_stream::Node;
 use fast_template::{FieldPart, Flat, Scalar, has_map};
 use std::alloc::Global;
 

@@ -6,7 +6,7 @@ ghost use Rattle.fast_template.specs.declared.scalar.Scalar.{Scalar as ScalarOf}
 ghost use Rattle.fast_dictionary.specs.Dictionary.{entry_at};
 ghost use Rattle.fast_field.specs.FieldReading.{field_at};
 ghost use Rattle.fast_field.specs.Relayed.{Relays};
-ghost use Rattle.fast_decoder.specs.Received.{Took};
+ghost use Rattle.fast_stream.specs.Received.{Took};
 ghost use Rattle.fast_encoder.specs.Levels.{level_of};
 ghost use Rattle.fast_encoder.specs.Quick.{IsThere, Relayed};
 ghost use Rattle.fast_encoder.specs.Written.{Spelt};

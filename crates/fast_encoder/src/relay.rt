@@ -8,7 +8,7 @@ ghost use Rattle.fast_field.specs.Bases.{next};
 ghost use Rattle.fast_field.specs.Best.{IsBest};
 ghost use Rattle.fast_field.specs.FieldReading.{field_at};
 ghost use Rattle.fast_field.specs.Found.{value_found};
-ghost use Rattle.fast_decoder.specs.Received.{Took};
+ghost use Rattle.fast_stream.specs.Received.{Took};
 ghost use Rattle.fast_encoder.specs.Levels.{level_of};
 ghost use Rattle.fast_encoder.specs.Written.{AppendsForm, Spelt};
 

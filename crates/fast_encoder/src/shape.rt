@@ -5,11 +5,11 @@ ghost use Rattle.std.specs.Option.{option_copied};
 ghost use Rattle.fast_template.specs.Resolved.{instruction_of, is_optional, list_of};
 ghost use Rattle.fast_template.specs.Scalar.{is_of};
 ghost use Rattle.fast_field.specs.Refusals.{are_characters, has_characters};
-ghost use Rattle.fast_decoder.specs.Nodes.{elements_of, item_of, items_in, items_of};
+ghost use Rattle.fast_stream.specs.Nodes.{elements_of, item_of, items_in, items_of};
 ghost use Rattle.fast_encoder.specs.FirstRefusal.{elements_fit, item_fits, items_fit, value_fits};
 
 use crate::fit::is_of_kind;
-use fast_decoder::Node;
+use fast_stream::Node;
 use fast_template::{FieldPart, Flat, Presence, Scalar};
 
 // Whether each unit is a character of ASCII.

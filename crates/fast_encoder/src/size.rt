@@ -2,10 +2,10 @@
 
 ghost use Rattle.std.specs.Prelude.{◌≡◌, length};
 ghost use Rattle.fast_field.specs.Values.{units_of};
-ghost use Rattle.fast_decoder.specs.Nodes.{item_of, items_in, nodes_in, nodes_of};
+ghost use Rattle.fast_stream.specs.Nodes.{item_of, items_in, nodes_in, nodes_of};
 ghost use Rattle.fast_encoder.specs.FirstRefusal.{IsLeft, has_large, item_is_large};
 
-use fast_decoder::Node;
+use fast_stream::Node;
 use fast_template::Scalar;
 
 /// The most characters or bytes of a value, and the most elements of a sequence.

@@ -3,8 +3,8 @@
 use crate::fault::{EncodeCause, EncodeFault};
 use crate::judge::template_for;
 use crate::writer::Writer;
-use fast_decoder::{Message, Node, Receiver, Traversal};
 use fast_dictionary::MapEntries;
+use fast_stream::{Message, Node, Receiver, Traversal};
 use fast_template::{ByteString, Scalar, TemplateSet};
 use std::alloc::{AllocError, Global};
 use std::process::Abort;

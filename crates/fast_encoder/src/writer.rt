@@ -4,9 +4,9 @@ use crate::fit::is_identifier;
 use crate::level::Level;
 use crate::quick::relay_part;
 use crate::relay::relay_value;
-use fast_decoder::{Receiver, unsigned_in};
 use fast_dictionary::Entries;
 use fast_field::FieldFault;
+use fast_stream::{Receiver, unsigned_in};
 use fast_template::{FieldPart, Kind};
 use std::alloc::{AllocError, Global};
 use std::mem;
@@ -31,8 +31,8 @@ impl Writer {
     ghost use Rattle.std.specs.FinMap as finite;
     ghost use Rattle.fast_template.specs.Resolved.{Resolved};
     ghost use Rattle.fast_dictionary.specs.Dictionary.{Dictionary};
-    ghost use Rattle.fast_decoder.specs.Nodes.{Content};
-    ghost use Rattle.fast_decoder.specs.Received.{Received, behind};
+    ghost use Rattle.fast_stream.specs.Nodes.{Content};
+    ghost use Rattle.fast_stream.specs.Received.{Received, behind};
     ghost use Rattle.fast_encoder.specs.Levels.{level_of};
     ghost use Rattle.fast_encoder.specs.Written.{Closes, handed_on};
 

@@ -9,8 +9,8 @@ use Rattle.fast_template.specs.declared.kind.Kind.TheVariants.{Int64, Ascii, Byt
 use Rattle.fast_template.specs.declared.scalar.Scalar.TheVariants as value
 use Rattle.fast_template.proofs.WorkedTemplates.{quote, wrap, opt, legs, bare, tail, grp, uni, const, fixed, first}
 use Rattle.fast_template.proofs.WorkedSet.{resolved}
-use Rattle.fast_decoder.specs.Nodes.{Content}
-use Rattle.fast_decoder.proofs.Rows.{absent, decimal, group, message, sequence, text, u32, unicode, vector}
+use Rattle.fast_stream.specs.Nodes.{Content}
+use Rattle.fast_stream.proofs.Rows.{absent, decimal, group, message, sequence, text, u32, unicode, vector}
 use Rattle.fastcat.specs.Lines.{line_by, value_text}
 
 -- the line of a message of the template at this place

@@ -10,8 +10,8 @@ use Rattle.fast_template.specs.declared.resolved.Flat.TheVariants.{rolls-Sequenc
 use Rattle.fast_template.specs.declared.resolved.FieldPart.{FieldPart}
 use Rattle.fast_template.specs.declared.kind.Presence.{Presence}
 use Rattle.fast_template.specs.Resolved.{Instruction, flat_step, instruction_of, list_of}
-use Rattle.fast_decoder.specs.declared.message.Node.{Node}
-use Rattle.fast_decoder.specs.Nodes.{Item, Items, item_of, items_in, elements_of}
+use Rattle.fast_stream.specs.declared.message.Node.{Node}
+use Rattle.fast_stream.specs.Nodes.{Item, Items, item_of, items_in, elements_of}
 use Rattle.fastcat.specs.Lines.{braced, bracketed, elements_text, joined, member_text, members_text, node_text, sequence_text}
 use Rattle.fastcat.proofs.Written.{extends_by, joined_none, leads_more, leads_stop, shows_behind, shows_err}
 use Rattle.fastcat.specs.Written.{Adds, Leads, Shows}

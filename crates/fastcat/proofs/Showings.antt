@@ -8,14 +8,14 @@ use Rattle.fast_dictionary.specs.declared.entries.Entries.{Ghosts}
 use Rattle.fast_decoder.specs.declared.builder.Builder.{Builder}
 use Rattle.fast_decoder.specs.declared.input.Reached.{Reached}
 use Rattle.fast_decoder.specs.declared.input.Reached.TheVariants as reached
-use Rattle.fast_decoder.specs.declared.machine.Machine.{Machine}
-use Rattle.fast_decoder.specs.declared.message.Message.{Message}
-use Rattle.fast_decoder.specs.declared.receiver.Receiver.{Ghosts as Receiving}
+use Rattle.fast_stream.specs.declared.machine.Machine.{Machine}
+use Rattle.fast_stream.specs.declared.message.Message.{Message}
+use Rattle.fast_stream.specs.declared.receiver.Receiver.{Ghosts as Receiving}
 use Rattle.fast_decoder.specs.Inputs.{Reader}
-use Rattle.fast_decoder.specs.Standing.{Carried, ReadsOn}
-use Rattle.fast_decoder.proofs.Followings.{all_carried}
-use Rattle.fast_decoder.proofs.Standings.{carried_of}
-use Rattle.fast_decoder.specs.Nodes.{Content, content_of}
+use Rattle.fast_stream.specs.Standing.{Carried, ReadsOn}
+use Rattle.fast_stream.proofs.Followings.{all_carried}
+use Rattle.fast_stream.proofs.Standings.{carried_of}
+use Rattle.fast_stream.specs.Nodes.{Content, content_of}
 use Rattle.fast_canon.specs.Canonicalised.{IsCausedBy}
 use Rattle.fast_canon.specs.declared.fault.CanonFault.{CanonFault}
 use Rattle.fast_canon.specs.declared.summary.Summary.{Summary}

@@ -14,7 +14,7 @@ use Rattle.fast_template.specs.Resolved.{Instruction, whole_field, field_in_part
 use Rattle.fast_template.specs.declared.resolved.FlatTemplate.{FlatTemplate}
 use Rattle.fast_template.specs.TemplateSets.{TemplateList, template_of}
 use Rattle.fast_field.specs.Refusals.{has_characters}
-use Rattle.fast_decoder.specs.Nodes.{Item, single, group_items, sequence_elements, Items, no_items, then_item, Elements, no_elements, then_element, Content}
+use Rattle.fast_stream.specs.Nodes.{Item, single, group_items, sequence_elements, Items, no_items, then_item, Elements, no_elements, then_element, Content}
 
 -- ---- values
 

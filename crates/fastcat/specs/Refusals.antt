@@ -6,10 +6,10 @@ use Rattle.std.specs.declared.alloc.Global.{Global}
 use Rattle.fast_template.specs.declared.fault.LoadCause.{LoadCause}
 use Rattle.fast_template.specs.declared.fault.LoadCause.TheVariants as load
 use Rattle.fast_template.specs.declared.fault.LoadFault.{LoadFault}
-use Rattle.fast_decoder.specs.declared.fault.Cause.{Cause}
-use Rattle.fast_decoder.specs.declared.fault.Cause.TheVariants.{D2, D4, D5, D6, D7, D9, R1, R2, Truncated, Limit, Read, Turns, Memory}
-use Rattle.fast_decoder.specs.declared.fault.Fault.{Fault}
-use Rattle.fast_decoder.specs.declared.place.Place.{Place}
+use Rattle.fast_stream.specs.declared.fault.Cause.{Cause}
+use Rattle.fast_stream.specs.declared.fault.Cause.TheVariants.{D2, D4, D5, D6, D7, D9, R1, R2, Truncated, Limit, Read, Turns, Memory}
+use Rattle.fast_stream.specs.declared.fault.Fault.{Fault}
+use Rattle.fast_stream.specs.declared.place.Place.{Place}
 use Rattle.fast_canon.specs.declared.fault.CanonFault.{CanonFault}
 use Rattle.fast_canon.specs.declared.fault.CanonFault.TheVariants as canon
 use Rattle.fastcat.specs.declared.hex_text.HexFault.{HexFault}

@@ -3,10 +3,10 @@ use Rattle.std.specs.Prelude.{◌≡◌, ◌⊎◌, ℕ, List, [], ◌∷◌, �
 use Rattle.std.specs.Io.KnownBytes.{Appends}
 use Rattle.fast_io.specs.Counts.{counted_by}
 use Rattle.fast_template.specs.TemplateSets.{TemplateList, templates_in}
-use Rattle.fast_decoder.specs.declared.fault.Fault.{Fault}
-use Rattle.fast_decoder.specs.Nodes.{Content}
+use Rattle.fast_stream.specs.declared.fault.Fault.{Fault}
+use Rattle.fast_stream.specs.Nodes.{Content}
 use Rattle.fast_decoder.specs.Inputs.{EndsWith, Refuses}
-use Rattle.fast_decoder.specs.Standing.{Carried}
+use Rattle.fast_stream.specs.Standing.{Carried}
 use Rattle.fast_canon.specs.Canonicalised.{Canonicalises, Ends, Stops}
 use Rattle.fast_canon.specs.declared.fault.CanonFault.{CanonFault}
 use Rattle.fast_canon.specs.declared.fault.CanonFault.TheVariants as refusal

@@ -8,14 +8,14 @@ ghost use Rattle.fast_template.specs.Resolved.{instruction_of, list_of, resolved
 ghost use Rattle.fast_template.specs.TemplateSets.{template_of};
 ghost use Rattle.fast_template.specs.Scalar.{is_of};
 ghost use Rattle.fast_field.specs.Refusals.{are_characters, has_characters};
-ghost use Rattle.fast_decoder.specs.Nodes.{single, Items, Elements, group_items, sequence_elements, item_of, items_in, elements_of, content_of};
+ghost use Rattle.fast_stream.specs.Nodes.{single, Items, Elements, group_items, sequence_elements, item_of, items_in, elements_of, content_of};
 ghost use Rattle.fastcat.specs.Lines.{absent_text, braced, decimal_text, elements_text, field_text, group_text, sequence_text, is_plain, label, line_by, line_in, bracketed, member_text, members_text, node_text, quoted, scalar_text, unit_text, value_text};
 ghost use Rattle.fastcat.specs.Run.{ok_line};
 ghost use Rattle.fastcat.specs.Written.{Writes, Shows};
 ghost use Rattle.fastcat.specs.declared.lines.ShowFault.TheVariants as fault;
 
 use fast_canon::Summary;
-use fast_decoder::{Message, Node};
+use fast_stream::{Message, Node};
 use fast_template::{Flat, FlatTemplate, Kind, Presence, Scalar, TemplateSet};
 use itoa::Buffer;
 use std::alloc::AllocError;

@@ -11,7 +11,7 @@ use crate::hex_text::HexFault;
 use crate::input::TextFault;
 use clap::error::ErrorKind;
 use fast_canon::CanonFault;
-use fast_decoder::{Cause, Fault};
+use fast_stream::{Cause, Fault};
 use fast_template::{LoadCause, LoadFault};
 use std::alloc::{AllocError, Global};
 use std::io;

@@ -1,15 +1,13 @@
 //! Worked streams: their messages and their faults, however the bytes come.
 
 ghost use Rattle.std.specs.Prelude.{◌≤◌, IfOk, length};
-ghost use Rattle.fast_decoder.specs.Traversals.{ServesAll};
+ghost use Rattle.fast_stream.specs.Traversals.{ServesAll};
 
 use crate::decoder::Decoder;
-use crate::fault::{Cause, Fault};
 use crate::input::MessageInputStream;
-use crate::message::{Message, Node};
-use crate::place::Place;
 use fast_dictionary::{Entries, MapEntries, SlotEntries};
 use fast_io::{Counted, ScriptInput};
+use fast_stream::{Cause, Fault, Message, Node, Place};
 use fast_template::{ByteString, Scalar, TemplateSet};
 use std::alloc::{AllocError, Global};
 

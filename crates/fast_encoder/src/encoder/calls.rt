@@ -3,8 +3,8 @@
 ghost use Rattle.std.specs.Prelude.{◌≡◌, ◌⊎◌, ◌++◌, ℕ, List, None, Some, OnOk, OnErr, IfErr};
 ghost use Rattle.std.specs.FinMap as finite;
 ghost use Rattle.fast_template.specs.TemplateSets.{templates_in};
-ghost use Rattle.fast_decoder.specs.Nodes.{content_of};
-ghost use Rattle.fast_decoder.specs.Traversals.{ServesAll};
+ghost use Rattle.fast_stream.specs.Nodes.{content_of};
+ghost use Rattle.fast_stream.specs.Traversals.{ServesAll};
 ghost use Rattle.fast_encoder.specs.Canonical.{CanonMessage};
 ghost use Rattle.fast_encoder.specs.FirstRefusal.{first_refusal, refused};
 
@@ -14,8 +14,8 @@ use crate::journal::Journal;
 use crate::judge::template_for;
 use crate::level::Level;
 use crate::message::put_message;
-use fast_decoder::Message;
 use fast_dictionary::Entries;
+use fast_stream::Message;
 use fast_template::{FieldPart, Key, Kind, Name, Operator, Part, Presence, Scope, TemplateSet};
 use std::alloc::Global;
 

@@ -7,7 +7,7 @@ ghost use Rattle.fast_template.specs.declared.scalar.Scalar.{Scalar as ScalarOf}
 ghost use Rattle.fast_dictionary.specs.Dictionary.{Dictionary, entry_at};
 ghost use Rattle.fast_field.specs.Best.{IsBest};
 ghost use Rattle.fast_field.specs.Parts.{IsFieldPart};
-ghost use Rattle.fast_decoder.specs.Bodies.{PartBy, written};
+ghost use Rattle.fast_stream.specs.Bodies.{PartBy, written};
 ghost use Rattle.fast_encoder.specs.Added.{Answers, Changed, GoesOn, HoldScalars};
 ghost use Rattle.fast_encoder.specs.FirstRefusal.{part_judged};
 ghost use Rattle.fast_encoder.specs.Levels.{level_of};

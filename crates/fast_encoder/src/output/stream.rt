@@ -4,8 +4,8 @@ ghost use Rattle.std.specs.Prelude.{◌≡◌, ◌⊎◌, ◌++◌, ◌∷◌, [
 ghost use Rattle.std.specs.FinMap as finite;
 ghost use Rattle.std.specs.Io.KnownBytes.{Appends};
 ghost use Rattle.fast_template.specs.TemplateSets.{templates_in};
-ghost use Rattle.fast_decoder.specs.Nodes.{Content, content_of};
-ghost use Rattle.fast_decoder.specs.Traversals.{ServesAll};
+ghost use Rattle.fast_stream.specs.Nodes.{Content, content_of};
+ghost use Rattle.fast_stream.specs.Traversals.{ServesAll};
 ghost use Rattle.fast_io.specs.Counts.{counted};
 ghost use Rattle.fast_encoder.specs.Canonical.{CanonMessage};
 ghost use Rattle.fast_encoder.specs.FirstRefusal.{first_refusal, refused};
@@ -14,9 +14,9 @@ ghost use Rattle.fast_encoder.specs.Outputs.{Sends, answered};
 use crate::encoder::Encoder;
 use crate::fault::{EncodeCause, EncodeFault};
 use crate::output::MessageOutputStream;
-use fast_decoder::Message;
 use fast_dictionary::Entries;
 use fast_io::{ByteOutput, push_all};
+use fast_stream::Message;
 use fast_template::TemplateSet;
 use std::alloc::Global;
 

@@ -1,8 +1,9 @@
 //! Lines of messages of the worked templates, and messages that have none.
 
 use crate::lines::{ShowFault, show_line};
-use fast_decoder::{Decoder, Message, Node};
+use fast_decoder::Decoder;
 use fast_dictionary::MapEntries;
+use fast_stream::{Message, Node};
 use fast_template::{ByteString, Scalar, TemplateSet};
 use std::alloc::{AllocError, Global};
 use std::process::Abort;

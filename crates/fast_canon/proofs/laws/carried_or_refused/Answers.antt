@@ -1,5 +1,5 @@
 use Rattle.fast_template.specs.TemplateSets.{templates_in}
-use Rattle.fast_decoder.proofs.StreamReaders.{one_of_two, not_both, one_fault}
+use Rattle.fast_stream.proofs.StreamReaders.{one_of_two, not_both, one_fault}
 use Rattle.fast_canon.proofs.laws.carried_or_refused.Goals as goal
 
 pub returns-clause-one_of_the_two : goal.returns-clause-one_of_the_two

@@ -1,4 +1,4 @@
-use Rattle.fast_decoder.proofs.Leaves.{same_dictionary}
+use Rattle.fast_stream.proofs.Leaves.{same_dictionary}
 use Rattle.fast_canon.proofs.laws.one_dictionary.Goals as goal
 
 pub returns : goal.returns

@@ -1,5 +1,5 @@
 use Rattle.fast_template.specs.TemplateSets.{templates_in}
-use Rattle.fast_decoder.proofs.StreamReaders.{one_list}
+use Rattle.fast_stream.proofs.StreamReaders.{one_list}
 use Rattle.fast_canon.proofs.laws.one_reading.Goals as goal
 
 pub returns : goal.returns

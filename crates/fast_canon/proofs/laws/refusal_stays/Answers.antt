@@ -1,5 +1,5 @@
 use Rattle.fast_template.specs.TemplateSets.{templates_in}
-use Rattle.fast_decoder.proofs.StreamReaders.{fault_stays}
+use Rattle.fast_stream.proofs.StreamReaders.{fault_stays}
 use Rattle.fast_canon.proofs.laws.refusal_stays.Goals as goal
 
 pub returns : goal.returns

@@ -1,6 +1,6 @@
 use Rattle.std.proofs.Common.{◌≡◌, length, drop, map}
 use Rattle.fast_template.specs.Resolved.{list_of}
-use Rattle.fast_decoder.specs.Nodes.{elements_of, items_in}
+use Rattle.fast_stream.specs.Nodes.{elements_of, items_in}
 use Rattle.fast_encoder.specs.FirstRefusal.{elements_fit, items_fit}
 use Rattle.fast_encoder.proofs.shape.+shape.Given as goal
 

@@ -2,7 +2,7 @@ use Rattle.std.proofs.Common.{rules, ◌≡◌, ◌<◌, ◌≤◌, ◌+◌, ◌
 use Rattle.std.specs.Prelude.{nat_lt}
 use Rattle.std.specs.Global.{Vec}
 use Rattle.std.proofs.lemmas.List.{drop_more}
-use Rattle.fast_decoder.specs.declared.message.Node.{Node}
+use Rattle.fast_stream.specs.declared.message.Node.{Node}
 use Rattle.fast_encoder.specs.FirstRefusal.{has_large_in}
 use Rattle.fast_encoder.proofs.Sizes.{seen, of_sequence, too_many, none_left, element_refused, all_left}
 use Rattle.fast_encoder.proofs.size.+size.Goals as goal

@@ -1,5 +1,5 @@
 use Rattle.std.proofs.Common.{◌≡◌, ◌+◌, drop, map}
-use Rattle.fast_decoder.specs.Nodes.{elements_of, items_in, nodes_in, nodes_in_elements}
+use Rattle.fast_stream.specs.Nodes.{elements_of, items_in, nodes_in, nodes_in_elements}
 use Rattle.fast_encoder.specs.FirstRefusal.{has_large, has_large_in}
 use Rattle.fast_encoder.proofs.size.+size.Given as goal
 

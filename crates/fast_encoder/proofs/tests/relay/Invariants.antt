@@ -1,5 +1,5 @@
 use Rattle.std.proofs.Common.{length, ◌-◌, ◌≡◌, ◌≤◌}
-use Rattle.fast_decoder.specs.declared.traversal.Stage.TheVariants as stage
+use Rattle.fast_stream.specs.declared.traversal.Stage.TheVariants as stage
 use Rattle.fast_encoder.proofs.tests.relay.Given as goal
 
 abbrev pub invariant-stream : goal.invariant-stream

@@ -2,8 +2,8 @@ use Rattle.std.proofs.Common.{rules, arith, ◌≡◌, ◌<◌, [], ◌++◌, Er
 use Rattle.std.specs.Prelude.{codes}
 use Rattle.std.proofs.lemmas.Result.{err_from_is_err_and}
 use Rattle.fast_template.specs.Resolved.{instruction_of, list_of}
-use Rattle.fast_decoder.specs.Nodes.{item_of, items_in, elements_of, sequence_elements}
-use Rattle.fast_decoder.proofs.Views.{item_of-sequence}
+use Rattle.fast_stream.specs.Nodes.{item_of, items_in, elements_of, sequence_elements}
+use Rattle.fast_stream.proofs.Views.{item_of-sequence}
 use Rattle.fastcat.specs.Lines.{braced, label, members_text, node_text, sequence_text}
 use Rattle.fastcat.specs.Written.{Shows}
 use Rattle.fastcat.proofs.Written.{adds_between, extends_same, leads_start, shows_behind}

@@ -1,6 +1,6 @@
 use Rattle.std.proofs.Common.{map, drop, []}
 use Rattle.fast_template.specs.Resolved.{list_of}
-use Rattle.fast_decoder.specs.Nodes.{items_in, elements_of}
+use Rattle.fast_stream.specs.Nodes.{items_in, elements_of}
 use Rattle.fastcat.specs.Lines.{elements_text, members_text}
 use Rattle.fastcat.specs.Written.{Leads}
 use Rattle.fastcat.proofs.lines.+showing.Given as goal

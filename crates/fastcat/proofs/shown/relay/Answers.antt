@@ -1,10 +1,10 @@
 use Rattle.std.proofs.Common.{◌≡◌, ◌≤◌, ◌+◌, ◌++◌, [], List, Some, map, arith, ap, subst, ◌∙◌}
 use Rattle.fast_template.specs.TemplateSets.{templates_in, TemplateList}
-use Rattle.fast_decoder.specs.declared.message.Message.{Message}
-use Rattle.fast_decoder.specs.Nodes.{Content, content_of}
+use Rattle.fast_stream.specs.declared.message.Message.{Message}
+use Rattle.fast_stream.specs.Nodes.{Content, content_of}
 use Rattle.fast_decoder.specs.declared.input.Reached.TheVariants as reached
 use Rattle.fast_decoder.specs.Inputs.{HasReached, reader_by}
-use Rattle.fast_decoder.specs.Standing.{Carried}
+use Rattle.fast_stream.specs.Standing.{Carried}
 use Rattle.fast_decoder.proofs.Inputs.{causes_end, causes_on, more_read, refused_by_turns}
 use Rattle.fastcat.specs.Run.{lines_in}
 use Rattle.fastcat.specs.Shown.{Adds, IsCutShort, lines_of}

@@ -1,6 +1,6 @@
 use Rattle.std.proofs.Common.{◌++◌, List, arith, subst}
 use Rattle.fast_template.specs.TemplateSets.{templates_in}
-use Rattle.fast_decoder.specs.Nodes.{Content}
+use Rattle.fast_stream.specs.Nodes.{Content}
 use Rattle.fast_decoder.specs.Inputs.{EndsWith, Refuses, waiting_in}
 use Rattle.fast_decoder.proofs.Inputs.{none_waits, refused_by_turns}
 use Rattle.fast_decoder.proofs.input.MessageInputStream.outcome.Goals as goal

@@ -1,5 +1,5 @@
 use Rattle.std.proofs.Common.{◌≡◌, ◌++◌, ◌+◌, [], List, length, refl, sym, ap, ◌∙◌, subst, arith, rules, append_assoc, append-nil}
-use Rattle.fast_decoder.specs.declared.message.Message.{Message}
+use Rattle.fast_stream.specs.declared.message.Message.{Message}
 use Rattle.fast_decoder.specs.Inputs.{Stands, reader_by}
 use Rattle.fast_decoder.proofs.Inputs.{causes_end, causes_none, causes_on, causes_weaker, empty_of, more_read, none_read, stands_popped}
 use Rattle.fast_decoder.proofs.input.MessageInputStream.read_message.Goals as goal

@@ -1,6 +1,6 @@
 use Rattle.std.proofs.Common.{◌≡◌, ◌≢◌, ◌++◌, ◌+◌, ◌-◌, ℕ, List, []}
 use Rattle.fast_decoder.specs.declared.input.Reached.TheVariants as reached
-use Rattle.fast_decoder.specs.Nodes.{Content}
+use Rattle.fast_stream.specs.Nodes.{Content}
 use Rattle.fast_decoder.specs.Inputs.{Causes, Reads, Stands, reader_by}
 use Rattle.fast_decoder.proofs.input.MessageInputStream.read_message.Given as goal
 

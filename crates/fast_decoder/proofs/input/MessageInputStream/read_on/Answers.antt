@@ -1,5 +1,5 @@
 use Rattle.std.proofs.Common.{◌≤◌, ◌<◌, ◌+◌, ◌++◌, [], List, length, take, subst, arith, append-nil, length-append, length-take}
-use Rattle.fast_decoder.specs.Nodes.{Content}
+use Rattle.fast_stream.specs.Nodes.{Content}
 use Rattle.fast_decoder.specs.Inputs.{Follows, reader_by, waiting_in}
 use Rattle.fast_decoder.proofs.Inputs.{caused_by_end, caused_by_feed, caused_by_read, empty_read, failed_read, none_waits, one_read, reached_with, refused_by_read}
 use Rattle.fast_decoder.proofs.input.MessageInputStream.read_on.Goals as goal

@@ -2,7 +2,7 @@ use Rattle.std.proofs.Common.{ap, ◌∙◌}
 use Rattle.std.specs.Result.{is_ok}
 use Rattle.fast_dictionary.specs.declared.entry.Entry.{Entry}
 use Rattle.fast_dictionary.specs.Dictionary.{Dictionary, set_entry}
-use Rattle.fast_decoder.specs.Bodies.{written}
+use Rattle.fast_stream.specs.Bodies.{written}
 use Rattle.fast_encoder.proofs.Changes.{set_back, still_undefined}
 use Rattle.fast_encoder.proofs.journal.calls.put_back.Goals as goal
 

@@ -1,9 +1,9 @@
 use Rattle.std.proofs.Common.{ap, ◌∙◌, map}
-use Rattle.fast_decoder.specs.Received.{length_of}
+use Rattle.fast_stream.specs.Received.{length_of}
 use Rattle.fast_encoder.specs.Levels.{level_of}
 use Rattle.fast_encoder.proofs.Writers.{has_opened}
 use Rattle.std.proofs.Common.{rules, ◌≡◌}
-use Rattle.fast_decoder.specs.Streams.{identifier}
+use Rattle.fast_stream.specs.Streams.{identifier}
 use Rattle.fast_encoder.proofs.writer.WriterReceiver.begin.Goals as goal
 
 pub returns-in-Ok-Some-clause-goes : goal.returns-in-Ok-Some-clause-goes

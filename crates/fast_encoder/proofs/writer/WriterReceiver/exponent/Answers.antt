@@ -1,5 +1,5 @@
 use Rattle.std.proofs.Common.{map}
-use Rattle.fast_decoder.specs.Received.{exponent_of}
+use Rattle.fast_stream.specs.Received.{exponent_of}
 use Rattle.fast_encoder.specs.Levels.{level_of}
 use Rattle.fast_encoder.proofs.QuickWays.{exponent_there}
 use Rattle.fast_encoder.proofs.Writers.{exponent_finished, has_exponent, is_exponent}

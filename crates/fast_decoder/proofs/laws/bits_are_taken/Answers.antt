@@ -1,8 +1,0 @@
-use Rattle.fast_decoder.proofs.Leaves.{bits_taken_are, no_bits_are_taken}
-use Rattle.fast_decoder.proofs.laws.bits_are_taken.Goals as goal
-
-pub returns-clause-taken : goal.returns-clause-taken
-returns-clause-taken c = bits_taken_are
-
-pub returns-clause-none : goal.returns-clause-none
-returns-clause-none c = no_bits_are_taken

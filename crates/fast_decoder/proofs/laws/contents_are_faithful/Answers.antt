@@ -1,6 +1,0 @@
-use Rattle.fast_decoder.proofs.EqualNodes.{messages_exact}
-use Rattle.fast_decoder.proofs.SameNodes.{alike}
-use Rattle.fast_decoder.proofs.laws.contents_are_faithful.Goals as goal
-
-pub returns : goal.returns
-returns c = record { equal = messages_exact; alike = alike }

@@ -1,6 +1,0 @@
-use Rattle.std.proofs.Common.{subst}
-use Rattle.fast_decoder.proofs.Causes.{IsOfBytes, of_stream}
-use Rattle.fast_decoder.proofs.laws.faults_are_of_bytes.Goals as goal
-
-pub returns : goal.returns
-returns c = λ set stream place cause h. let of_bytes = of_stream set stream place cause h in (λ e. subst IsOfBytes e of_bytes, λ e. subst IsOfBytes e of_bytes)

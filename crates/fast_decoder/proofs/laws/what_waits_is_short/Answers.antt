@@ -1,6 +1,0 @@
-use Rattle.fast_template.specs.TemplateSets.{templates_in}
-use Rattle.fast_decoder.proofs.ShortPieces.{fault_is_short}
-use Rattle.fast_decoder.proofs.laws.what_waits_is_short.Goals as goal
-
-pub returns : goal.returns
-returns c = λ set stream place sound. fault_is_short (templates_in set) sound.typed stream place

@@ -1,0 +1,613 @@
+-- The worked rows, computed: what each stream is read as. A refusal is a cause with the message, the offset, the
+-- template and the instruction of the piece.
+use Rattle.std.proofs.Common.{Bool, true, false, ◌≡◌, ap, ℕ, suc, ℤ, pos, negsuc, List, [], ◌∷◌, map, Option, Some, None, Ok, Err, refl}
+use Rattle.std.specs.Prelude.{codes, replicate, cond}
+use Rattle.std.specs.FinMap as finite
+use Rattle.std.specs.Ordering.{eq_by_cmp}
+use Rattle.fast_template.specs.Key.{key_cmp, key_cmp-total}
+use Rattle.fast_template.specs.declared.key.Key.{Key}
+use Rattle.fast_template.specs.declared.scalar.Scalar.{Scalar}
+use Rattle.fast_template.specs.declared.scalar.Scalar.TheVariants.{U32, I64, Decimal, Ascii, Unicode, Bytes}
+use Rattle.fast_dictionary.specs.Dictionary.{Dictionary}
+use Rattle.fast_wire.specs.Reading.{entity_at, unsigned_at, signed_at, unsigned_nullable_at, signed_nullable_at, ascii_at, ascii_nullable_at, bytes_at, vector_at, behind_length, vector_nullable_at, map_at}
+use Rattle.fast_field.specs.FieldReading.{integer_at, part_at, units_at, integer_value, decimal_value, unit_value, integer_spelled_at, mantissa_behind, decimal_spelled_at, units_spelled_at, spelled_at, integer_delta_at, mantissa_delta_behind, decimal_delta_at, new_part_behind, unit_delta_at, delta_at, limited_value, integer_sum, ended_value, tail_at, whole_at, predicted_at, row_at, part_checked, field_at}
+use Rattle.fast_stream.specs.declared.fault.Cause.{Cause}
+use Rattle.fast_stream.specs.declared.fault.Cause.TheVariants.{D2, D4, D5, D6, D7, D9, R1, R2, Truncated, Limit}
+use Rattle.fast_stream.specs.declared.fault.Fault.{Fault}
+use Rattle.fast_stream.specs.Nodes.{Item, single, group_items, sequence_elements, items_of, elements_of, Content, node_limit}
+use Rattle.fast_stream.specs.Faults.{MessageStop}
+use Rattle.fast_stream.specs.Reading.{Cursor, field_part_at, body_at, head_at, message_at, StreamReading, messages_at, stream_at, fault_in}
+use Rattle.std.specs.Str.{is_utf8, chars}
+use Rattle.fast_template.specs.TemplateSets.{identifier_key}
+use Rattle.fast_template.specs.declared.key.Scope.TheVariants.{Global}
+use Rattle.fast_template.specs.declared.kind.Part.{Part}
+use Rattle.fast_template.specs.declared.kind.Part.TheVariants.{Whole, Mantissa}
+use Rattle.fast_template.proofs.WorkedTemplates.{opt, legs, bare, grp}
+use Rattle.fast_template.proofs.WorkedSet.{resolved, slot_of, worked_set}
+
+-- ---- how a row is written
+
+abbrev pub u32 : ℕ → Item
+u32 n = single (Some (U32 n))
+
+abbrev pub decimal : ℤ → ℤ → Item
+decimal exponent mantissa = single (Some (Decimal exponent mantissa))
+
+abbrev pub text : List ℕ → Item
+text s = single (Some (Ascii s))
+
+abbrev pub unicode : List ℕ → Item
+unicode s = single (Some (Unicode s))
+
+abbrev pub vector : List ℕ → Item
+vector s = single (Some (Bytes s))
+
+abbrev pub absent : Item
+absent = single None
+
+abbrev pub group : List Item → Item
+group ns = group_items (items_of ns)
+
+abbrev pub sequence : List (List Item) → Item
+sequence es = sequence_elements (elements_of (map items_of es))
+
+abbrev pub message : ℕ → List Item → Content
+message template ns = record { template = template; items = items_of ns }
+
+-- a message of Quote with Sym="AB", an exponent of -2 and no Qty: its Seq and its mantissa
+abbrev pub quote : ℕ → ℕ → Content
+quote seq mantissa = message 1 (u32 seq ∷ text (codes "AB") ∷ decimal (negsuc 1) (pos mantissa) ∷ absent ∷ [])
+
+abbrev pub refused : Cause → ℕ → ℕ → ℕ → ℕ → Option Fault
+refused cause message offset template instruction = Some (record { cause = cause; place = record { message = message; offset = offset; template = template; instruction = instruction } })
+
+-- the messages of a stream, and its first fault
+abbrev pub read : List ℕ → List Content × Option Fault
+read stream = let r = stream_at worked_set stream in (r.messages, fault_in stream r)
+
+-- all that reading is made of: who unfolds this unfolds its line
+reading : ℕ
+unfolding entity_at unsigned_at signed_at unsigned_nullable_at signed_nullable_at ascii_at ascii_nullable_at bytes_at vector_at behind_length vector_nullable_at map_at integer_at part_at units_at integer_value decimal_value unit_value is_utf8 chars lib.Utf8.encode integer_spelled_at mantissa_behind decimal_spelled_at units_spelled_at spelled_at integer_delta_at mantissa_delta_behind decimal_delta_at new_part_behind unit_delta_at delta_at limited_value integer_sum ended_value tail_at whole_at predicted_at row_at part_checked field_at field_part_at head_at message_at
+reading = 0
+
+-- a key of a name, and a dictionary once these values were put
+abbrev named : List ℕ → Key
+named name = let k : Key = record { slot = 0; scope = Global; name = name; part = Whole } in record k { slot = slot_of k }
+
+abbrev puts : Dictionary → List (Key × Option Scalar) → Dictionary
+puts d [] = d
+puts d (w ∷ ws) = puts (finite.insert d w.0 w.1) ws
+
+-- a stream of one message more, and one that stops
+one_more : (n : ℕ) (d : Dictionary) (b : ℕ) (bytes : List ℕ) {rest : List ℕ} {e : Dictionary} {m : Content} {r : StreamReading}
+    → message_at worked_set d (b ∷ bytes) ≡ Ok (m, e, rest) → messages_at n worked_set e rest ≡ r
+    → messages_at (suc n) worked_set d (b ∷ bytes) ≡ record { messages = m ∷ r.messages; fault = r.fault }
+one_more n d b bytes h t = rw (h, t) refl
+
+last_stop : (n : ℕ) (d : Dictionary) (b : ℕ) (bytes : List ℕ) {s : MessageStop}
+    → message_at worked_set d (b ∷ bytes) ≡ Err s → messages_at (suc n) worked_set d (b ∷ bytes) ≡ record { messages = []; fault = Some s }
+last_stop n d b bytes h = rw h refl
+
+-- what a dictionary has under a key, where it is empty and where a value was put: a finite map computes by these
+absent_there : (q : Key) → finite.get (finite.empty {X = Option Scalar} {R = key_cmp}) q ≡ None
+absent_there q = finite.get-empty key_cmp q
+
+put_there : (d : Dictionary) (k : Key) (v : Option Scalar) (q : Key) → finite.get (finite.insert d k v) q ≡ cond (eq_by_cmp key_cmp q k) (Some v) (finite.get d q)
+put_there d k v q = finite.get-insert key_cmp-total d k v q
+
+-- ---- Presence map, template identifier, and fields of each kind of operator
+
+-- F0 81 81 41 C2 FE 00 E4: Quote Seq=1 Sym="AB" Px=100e-2 Qty=-
+pub one_message : read (0xf0 ∷ 0x81 ∷ 0x81 ∷ 0x41 ∷ 0xc2 ∷ 0xfe ∷ 0x00 ∷ 0xe4 ∷ []) ≡ (quote 1 100 ∷ [], None)
+unfolding reading
+one_message = simp (absent_there, put_there)
+
+abbrev quoted : Dictionary
+quoted = puts finite.empty ((identifier_key, Some (U32 1)) ∷ (named (codes "Seq"), Some (U32 1)) ∷ (named (codes "Sym"), Some (Ascii (codes "AB"))) ∷ (named (codes "Px"), Some (Decimal (negsuc 1) (pos 100))) ∷ (named (codes "Qty"), None) ∷ [])
+
+spelled_out_first : message_at worked_set finite.empty (0xf0 ∷ 0x81 ∷ 0x81 ∷ 0x41 ∷ 0xc2 ∷ 0xfe ∷ 0x00 ∷ 0xe4 ∷ 0xf8 ∷ 0x81 ∷ 0x82 ∷ 0x41 ∷ 0xc2 ∷ 0x80 ∷ 0x81 ∷ 0x80 ∷ []) ≡ Ok (quote 1 100, quoted, 0xf8 ∷ 0x81 ∷ 0x82 ∷ 0x41 ∷ 0xc2 ∷ 0x80 ∷ 0x81 ∷ 0x80 ∷ [])
+unfolding reading
+spelled_out_first = simp (absent_there, put_there)
+
+abbrev quoted_again : Dictionary
+quoted_again = puts quoted ((identifier_key, Some (U32 1)) ∷ (named (codes "Seq"), Some (U32 2)) ∷ (named (codes "Sym"), Some (Ascii (codes "AB"))) ∷ (named (codes "Px"), Some (Decimal (negsuc 1) (pos 101))) ∷ (named (codes "Qty"), None) ∷ [])
+
+spelled_out_second : message_at worked_set quoted (0xf8 ∷ 0x81 ∷ 0x82 ∷ 0x41 ∷ 0xc2 ∷ 0x80 ∷ 0x81 ∷ 0x80 ∷ []) ≡ Ok (quote 2 101, quoted_again, [])
+unfolding reading
+spelled_out_second = simp put_there
+
+-- behind these bytes F8 81 82 41 C2 80 81 80: Seq=2 Sym="AB" Px=101e-2 Qty=-, spelled out
+pub spelled_out : read (0xf0 ∷ 0x81 ∷ 0x81 ∷ 0x41 ∷ 0xc2 ∷ 0xfe ∷ 0x00 ∷ 0xe4 ∷ 0xf8 ∷ 0x81 ∷ 0x82 ∷ 0x41 ∷ 0xc2 ∷ 0x80 ∷ 0x81 ∷ 0x80 ∷ []) ≡ (quote 1 100 ∷ quote 2 101 ∷ [], None)
+spelled_out = rw (spelled_out_first, spelled_out_second) refl
+
+left_out_first : message_at worked_set finite.empty (0xf0 ∷ 0x81 ∷ 0x81 ∷ 0x41 ∷ 0xc2 ∷ 0xfe ∷ 0x00 ∷ 0xe4 ∷ 0x80 ∷ 0x80 ∷ 0x81 ∷ []) ≡ Ok (quote 1 100, quoted, 0x80 ∷ 0x80 ∷ 0x81 ∷ [])
+unfolding reading
+left_out_first = simp (absent_there, put_there)
+
+left_out_second : message_at worked_set quoted (0x80 ∷ 0x80 ∷ 0x81 ∷ []) ≡ Ok (quote 2 101, quoted_again, [])
+unfolding reading
+left_out_second = simp put_there
+
+-- behind F0 81 81 41 C2 FE 00 E4 the bytes 80 80 81: the same two messages
+pub left_out : read (0xf0 ∷ 0x81 ∷ 0x81 ∷ 0x41 ∷ 0xc2 ∷ 0xfe ∷ 0x00 ∷ 0xe4 ∷ 0x80 ∷ 0x80 ∷ 0x81 ∷ []) ≡ (quote 1 100 ∷ quote 2 101 ∷ [], None)
+left_out = rw (left_out_first, left_out_second) refl
+
+-- the empty stream: no message
+pub nothing : read [] ≡ ([], None)
+unfolding reading
+nothing = refl
+
+-- 80: no identifier predicted
+pub no_identifier : read (0x80 ∷ []) ≡ ([], refused D5 1 1 0 0)
+unfolding reading
+no_identifier = simp absent_there
+
+-- C0 E4: no template has the identifier 100
+pub unknown_identifier : read (0xc0 ∷ 0xe4 ∷ []) ≡ ([], refused D9 1 1 0 0)
+unfolding reading
+unknown_identifier = refl
+
+-- 80 and behind it a good message: the same fault
+pub fault_stays : read (0x80 ∷ 0xf0 ∷ 0x81 ∷ 0x81 ∷ 0x41 ∷ 0xc2 ∷ 0xfe ∷ 0x00 ∷ 0xe4 ∷ []) ≡ ([], refused D5 1 1 0 0)
+unfolding reading
+fault_stays = simp absent_there
+
+-- ---- A message that is cut
+
+-- the first byte of F0 81 81 41 C2 FE 00 E4
+pub cut_after_one : read (0xf0 ∷ []) ≡ ([], refused Truncated 1 1 0 0)
+unfolding reading
+cut_after_one = refl
+
+-- the first 2 of F0 81 81 41 C2 FE 00 E4
+pub cut_after_two : read (0xf0 ∷ 0x81 ∷ []) ≡ ([], refused Truncated 1 2 1 1)
+unfolding reading
+cut_after_two = refl
+
+-- the first 3 of F0 81 81 41 C2 FE 00 E4
+pub cut_after_three : read (0xf0 ∷ 0x81 ∷ 0x81 ∷ []) ≡ ([], refused Truncated 1 3 1 2)
+unfolding reading
+cut_after_three = refl
+
+-- the first 4 of F0 81 81 41 C2 FE 00 E4
+pub cut_after_four : read (0xf0 ∷ 0x81 ∷ 0x81 ∷ 0x41 ∷ []) ≡ ([], refused Truncated 1 3 1 2)
+unfolding reading
+cut_after_four = refl
+
+-- the first 5 of F0 81 81 41 C2 FE 00 E4
+pub cut_after_five : read (0xf0 ∷ 0x81 ∷ 0x81 ∷ 0x41 ∷ 0xc2 ∷ []) ≡ ([], refused Truncated 1 5 1 3)
+unfolding reading
+cut_after_five = refl
+
+-- the first 6 of F0 81 81 41 C2 FE 00 E4
+pub cut_after_six : read (0xf0 ∷ 0x81 ∷ 0x81 ∷ 0x41 ∷ 0xc2 ∷ 0xfe ∷ []) ≡ ([], refused Truncated 1 5 1 3)
+unfolding reading
+cut_after_six = simp (absent_there, put_there)
+
+-- the first 7 of F0 81 81 41 C2 FE 00 E4
+pub cut_after_seven : read (0xf0 ∷ 0x81 ∷ 0x81 ∷ 0x41 ∷ 0xc2 ∷ 0xfe ∷ 0x00 ∷ []) ≡ ([], refused Truncated 1 5 1 3)
+unfolding reading
+cut_after_seven = simp (absent_there, put_there)
+
+-- ---- Overlong forms, and bits that no instruction asks for
+
+-- 00 00 81 for Seq
+pub overlong_integer : read (0xf0 ∷ 0x81 ∷ 0x00 ∷ 0x00 ∷ 0x81 ∷ 0x41 ∷ 0xc2 ∷ 0xfe ∷ 0x00 ∷ 0xe4 ∷ []) ≡ (quote 1 100 ∷ [], None)
+unfolding reading
+overlong_integer = simp (absent_there, put_there)
+
+-- 70 00 80 for the map
+pub overlong_map : read (0x70 ∷ 0x00 ∷ 0x80 ∷ 0x81 ∷ 0x81 ∷ 0x41 ∷ 0xc2 ∷ 0xfe ∷ 0x00 ∷ 0xe4 ∷ []) ≡ (quote 1 100 ∷ [], None)
+unfolding reading
+overlong_map = simp (absent_there, put_there)
+
+-- F1 for the map
+pub unasked_bit : read (0xf1 ∷ 0x81 ∷ 0x81 ∷ 0x41 ∷ 0xc2 ∷ 0xfe ∷ 0x00 ∷ 0xe4 ∷ []) ≡ (quote 1 100 ∷ [], None)
+unfolding reading
+unasked_bit = simp (absent_there, put_there)
+
+-- ---- Delta of a string
+
+-- S is "GEH6"; two at the end make way for "M6"; two in front for "ES"
+pub deltas : read (0xc0 ∷ 0x8a ∷ 0x80 ∷ 0x47 ∷ 0x45 ∷ 0x48 ∷ 0xb6 ∷ 0x80 ∷ 0x82 ∷ 0x4d ∷ 0xb6 ∷ 0x80 ∷ 0xfd ∷ 0x45 ∷ 0xd3 ∷ []) ≡ (message 10 (text (codes "GEH6") ∷ []) ∷ message 10 (text (codes "GEM6") ∷ []) ∷ message 10 (text (codes "ESM6") ∷ []) ∷ [], None)
+unfolding reading
+deltas = simp (absent_there, put_there)
+
+abbrev geh6 : Dictionary
+geh6 = puts finite.empty ((identifier_key, Some (U32 10)) ∷ (named (codes "S"), Some (Ascii (codes "GEH6"))) ∷ [])
+
+removes_too_much_first : message_at worked_set finite.empty (0xc0 ∷ 0x8a ∷ 0x80 ∷ 0x47 ∷ 0x45 ∷ 0x48 ∷ 0xb6 ∷ 0x80 ∷ 0x82 ∷ 0x4d ∷ 0xb6 ∷ 0x80 ∷ 0xfd ∷ 0x45 ∷ 0xd3 ∷ 0x80 ∷ 0x85 ∷ 0x80 ∷ []) ≡ Ok (message 10 (text (codes "GEH6") ∷ []), geh6, 0x80 ∷ 0x82 ∷ 0x4d ∷ 0xb6 ∷ 0x80 ∷ 0xfd ∷ 0x45 ∷ 0xd3 ∷ 0x80 ∷ 0x85 ∷ 0x80 ∷ [])
+unfolding reading
+removes_too_much_first = simp (absent_there, put_there)
+
+abbrev gem6 : Dictionary
+gem6 = puts geh6 ((identifier_key, Some (U32 10)) ∷ (named (codes "S"), Some (Ascii (codes "GEM6"))) ∷ [])
+
+removes_too_much_second : message_at worked_set geh6 (0x80 ∷ 0x82 ∷ 0x4d ∷ 0xb6 ∷ 0x80 ∷ 0xfd ∷ 0x45 ∷ 0xd3 ∷ 0x80 ∷ 0x85 ∷ 0x80 ∷ []) ≡ Ok (message 10 (text (codes "GEM6") ∷ []), gem6, 0x80 ∷ 0xfd ∷ 0x45 ∷ 0xd3 ∷ 0x80 ∷ 0x85 ∷ 0x80 ∷ [])
+unfolding reading
+removes_too_much_second = simp put_there
+
+abbrev esm6 : Dictionary
+esm6 = puts gem6 ((identifier_key, Some (U32 10)) ∷ (named (codes "S"), Some (Ascii (codes "ESM6"))) ∷ [])
+
+removes_too_much_third : message_at worked_set gem6 (0x80 ∷ 0xfd ∷ 0x45 ∷ 0xd3 ∷ 0x80 ∷ 0x85 ∷ 0x80 ∷ []) ≡ Ok (message 10 (text (codes "ESM6") ∷ []), esm6, 0x80 ∷ 0x85 ∷ 0x80 ∷ [])
+unfolding reading
+removes_too_much_third = simp put_there
+
+removes_too_much_fourth : message_at worked_set esm6 (0x80 ∷ 0x85 ∷ 0x80 ∷ []) ≡ Err (record { template = 10; stop = record { cause = D7; instruction = 1; left = 2 } })
+unfolding reading
+removes_too_much_fourth = simp put_there
+
+-- behind them 80 85 80: five of four
+pub removes_too_much : read (0xc0 ∷ 0x8a ∷ 0x80 ∷ 0x47 ∷ 0x45 ∷ 0x48 ∷ 0xb6 ∷ 0x80 ∷ 0x82 ∷ 0x4d ∷ 0xb6 ∷ 0x80 ∷ 0xfd ∷ 0x45 ∷ 0xd3 ∷ 0x80 ∷ 0x85 ∷ 0x80 ∷ []) ≡ (message 10 (text (codes "GEH6") ∷ []) ∷ message 10 (text (codes "GEM6") ∷ []) ∷ message 10 (text (codes "ESM6") ∷ []) ∷ [], refused D7 4 16 10 1)
+removes_too_much = ap (λ r. (r.messages, fault_in (0xc0 ∷ 0x8a ∷ 0x80 ∷ 0x47 ∷ 0x45 ∷ 0x48 ∷ 0xb6 ∷ 0x80 ∷ 0x82 ∷ 0x4d ∷ 0xb6 ∷ 0x80 ∷ 0xfd ∷ 0x45 ∷ 0xd3 ∷ 0x80 ∷ 0x85 ∷ 0x80 ∷ []) r)) (one_more 17 _ _ _ removes_too_much_first (one_more 16 _ _ _ removes_too_much_second (one_more 15 _ _ _ removes_too_much_third (last_stop 14 _ _ _ removes_too_much_fourth))))
+
+removes_nothing_in_front_first : message_at worked_set finite.empty (0xc0 ∷ 0x8a ∷ 0x80 ∷ 0x47 ∷ 0x45 ∷ 0x48 ∷ 0xb6 ∷ 0x80 ∷ 0x82 ∷ 0x4d ∷ 0xb6 ∷ 0x80 ∷ 0xfd ∷ 0x45 ∷ 0xd3 ∷ 0x80 ∷ 0xff ∷ 0x80 ∷ []) ≡ Ok (message 10 (text (codes "GEH6") ∷ []), geh6, 0x80 ∷ 0x82 ∷ 0x4d ∷ 0xb6 ∷ 0x80 ∷ 0xfd ∷ 0x45 ∷ 0xd3 ∷ 0x80 ∷ 0xff ∷ 0x80 ∷ [])
+unfolding reading
+removes_nothing_in_front_first = simp (absent_there, put_there)
+
+removes_nothing_in_front_second : message_at worked_set geh6 (0x80 ∷ 0x82 ∷ 0x4d ∷ 0xb6 ∷ 0x80 ∷ 0xfd ∷ 0x45 ∷ 0xd3 ∷ 0x80 ∷ 0xff ∷ 0x80 ∷ []) ≡ Ok (message 10 (text (codes "GEM6") ∷ []), gem6, 0x80 ∷ 0xfd ∷ 0x45 ∷ 0xd3 ∷ 0x80 ∷ 0xff ∷ 0x80 ∷ [])
+unfolding reading
+removes_nothing_in_front_second = simp put_there
+
+removes_nothing_in_front_third : message_at worked_set gem6 (0x80 ∷ 0xfd ∷ 0x45 ∷ 0xd3 ∷ 0x80 ∷ 0xff ∷ 0x80 ∷ []) ≡ Ok (message 10 (text (codes "ESM6") ∷ []), esm6, 0x80 ∷ 0xff ∷ 0x80 ∷ [])
+unfolding reading
+removes_nothing_in_front_third = simp put_there
+
+abbrev esm6_again : Dictionary
+esm6_again = puts esm6 ((identifier_key, Some (U32 10)) ∷ (named (codes "S"), Some (Ascii (codes "ESM6"))) ∷ [])
+
+removes_nothing_in_front_fourth : message_at worked_set esm6 (0x80 ∷ 0xff ∷ 0x80 ∷ []) ≡ Ok (message 10 (text (codes "ESM6") ∷ []), esm6_again, [])
+unfolding reading
+removes_nothing_in_front_fourth = simp put_there
+
+-- behind them 80 FF 80: S is "ESM6" again
+pub removes_nothing_in_front : read (0xc0 ∷ 0x8a ∷ 0x80 ∷ 0x47 ∷ 0x45 ∷ 0x48 ∷ 0xb6 ∷ 0x80 ∷ 0x82 ∷ 0x4d ∷ 0xb6 ∷ 0x80 ∷ 0xfd ∷ 0x45 ∷ 0xd3 ∷ 0x80 ∷ 0xff ∷ 0x80 ∷ []) ≡ (message 10 (text (codes "GEH6") ∷ []) ∷ message 10 (text (codes "GEM6") ∷ []) ∷ message 10 (text (codes "ESM6") ∷ []) ∷ message 10 (text (codes "ESM6") ∷ []) ∷ [], None)
+removes_nothing_in_front = ap (λ r. (r.messages, fault_in (0xc0 ∷ 0x8a ∷ 0x80 ∷ 0x47 ∷ 0x45 ∷ 0x48 ∷ 0xb6 ∷ 0x80 ∷ 0x82 ∷ 0x4d ∷ 0xb6 ∷ 0x80 ∷ 0xfd ∷ 0x45 ∷ 0xd3 ∷ 0x80 ∷ 0xff ∷ 0x80 ∷ []) r)) (one_more 17 _ _ _ removes_nothing_in_front_first (one_more 16 _ _ _ removes_nothing_in_front_second (one_more 15 _ _ _ removes_nothing_in_front_third (one_more 14 _ _ _ removes_nothing_in_front_fourth refl))))
+
+-- ---- Tail
+
+-- S is "xab", and then x, NUL, b by a tail of NUL and b
+pub tail_with_nul : read (0xe0 ∷ 0x88 ∷ 0x78 ∷ 0x61 ∷ 0xe2 ∷ 0xa0 ∷ 0x00 ∷ 0x00 ∷ 0x00 ∷ 0xe2 ∷ []) ≡ (message 8 (text (codes "xab") ∷ []) ∷ message 8 (text (120 ∷ 0 ∷ 98 ∷ []) ∷ []) ∷ [], None)
+unfolding reading
+tail_with_nul = simp (absent_there, put_there)
+
+-- S is absent, and then the initial value "ab" by an empty tail
+pub tail_on_empty : read (0xe0 ∷ 0x89 ∷ 0x80 ∷ 0xa0 ∷ 0x00 ∷ 0x80 ∷ []) ≡ (message 9 (absent ∷ []) ∷ message 9 (text (codes "ab") ∷ []) ∷ [], None)
+unfolding reading
+tail_on_empty = simp put_there
+
+abbrev e_acute : Dictionary
+e_acute = puts finite.empty ((identifier_key, Some (U32 12)) ∷ (named (codes "S"), Some (Unicode (0xc3 ∷ 0xa9 ∷ []))) ∷ [])
+
+tail_in_a_character_first : message_at worked_set finite.empty (0xe0 ∷ 0x8c ∷ 0x82 ∷ 0xc3 ∷ 0xa9 ∷ 0xa0 ∷ 0x81 ∷ 0xa8 ∷ 0xa0 ∷ 0x81 ∷ 0x41 ∷ []) ≡ Ok (message 12 (unicode (0xc3 ∷ 0xa9 ∷ []) ∷ []), e_acute, 0xa0 ∷ 0x81 ∷ 0xa8 ∷ 0xa0 ∷ 0x81 ∷ 0x41 ∷ [])
+unfolding reading
+tail_in_a_character_first = simp (absent_there, put_there)
+
+abbrev e_grave : Dictionary
+e_grave = puts e_acute ((identifier_key, Some (U32 12)) ∷ (named (codes "S"), Some (Unicode (0xc3 ∷ 0xa8 ∷ []))) ∷ [])
+
+tail_in_a_character_second : message_at worked_set e_acute (0xa0 ∷ 0x81 ∷ 0xa8 ∷ 0xa0 ∷ 0x81 ∷ 0x41 ∷ []) ≡ Ok (message 12 (unicode (0xc3 ∷ 0xa8 ∷ []) ∷ []), e_grave, 0xa0 ∷ 0x81 ∷ 0x41 ∷ [])
+unfolding reading
+tail_in_a_character_second = simp put_there
+
+tail_in_a_character_third : message_at worked_set e_grave (0xa0 ∷ 0x81 ∷ 0x41 ∷ []) ≡ Err (record { template = 12; stop = record { cause = R2; instruction = 1; left = 2 } })
+unfolding reading
+tail_in_a_character_third = simp put_there
+
+-- S is C3 A9, then C3 A8, and then C3 41, which is not UTF-8
+pub tail_in_a_character : read (0xe0 ∷ 0x8c ∷ 0x82 ∷ 0xc3 ∷ 0xa9 ∷ 0xa0 ∷ 0x81 ∷ 0xa8 ∷ 0xa0 ∷ 0x81 ∷ 0x41 ∷ []) ≡ (message 12 (unicode (0xc3 ∷ 0xa9 ∷ []) ∷ []) ∷ message 12 (unicode (0xc3 ∷ 0xa8 ∷ []) ∷ []) ∷ [], refused R2 3 9 12 1)
+tail_in_a_character = rw (tail_in_a_character_first, tail_in_a_character_second, tail_in_a_character_third) refl
+
+-- ---- Increment past the maximum, and a delta past it
+
+abbrev greatest : Dictionary
+greatest = puts finite.empty ((identifier_key, Some (U32 2)) ∷ (named (codes "A"), Some (U32 4294967295)) ∷ (named (codes "B"), Some (U32 4294967295)) ∷ [])
+
+wraps_first : message_at worked_set finite.empty (0xe0 ∷ 0x82 ∷ 0x0f ∷ 0x7f ∷ 0x7f ∷ 0x7f ∷ 0xff ∷ 0x0f ∷ 0x7f ∷ 0x7f ∷ 0x7f ∷ 0xff ∷ 0x80 ∷ 0x80 ∷ 0x80 ∷ 0x81 ∷ []) ≡ Ok (message 2 (u32 4294967295 ∷ u32 4294967295 ∷ []), greatest, 0x80 ∷ 0x80 ∷ 0x80 ∷ 0x81 ∷ [])
+unfolding reading
+wraps_first = simp (absent_there, put_there)
+
+abbrev wrapped : Dictionary
+wrapped = puts greatest ((identifier_key, Some (U32 2)) ∷ (named (codes "A"), Some (U32 0)) ∷ (named (codes "B"), Some (U32 4294967295)) ∷ [])
+
+wraps_second : message_at worked_set greatest (0x80 ∷ 0x80 ∷ 0x80 ∷ 0x81 ∷ []) ≡ Ok (message 2 (u32 0 ∷ u32 4294967295 ∷ []), wrapped, 0x80 ∷ 0x81 ∷ [])
+unfolding reading
+wraps_second = simp put_there
+
+wraps_third : message_at worked_set wrapped (0x80 ∷ 0x81 ∷ []) ≡ Err (record { template = 2; stop = record { cause = D2; instruction = 2; left = 1 } })
+unfolding reading
+wraps_third = simp put_there
+
+-- A=4294967295 B=4294967295; A=0 B=4294967295; and B one more
+pub wraps : read (0xe0 ∷ 0x82 ∷ 0x0f ∷ 0x7f ∷ 0x7f ∷ 0x7f ∷ 0xff ∷ 0x0f ∷ 0x7f ∷ 0x7f ∷ 0x7f ∷ 0xff ∷ 0x80 ∷ 0x80 ∷ 0x80 ∷ 0x81 ∷ []) ≡ (message 2 (u32 4294967295 ∷ u32 4294967295 ∷ []) ∷ message 2 (u32 0 ∷ u32 4294967295 ∷ []) ∷ [], refused D2 3 15 2 2)
+wraps = rw (wraps_first, wraps_second, wraps_third) refl
+
+-- ---- Decimals in parts
+
+abbrev parted : List ℕ → Part → Key
+parted name part = let k : Key = record { slot = 0; scope = Global; name = name; part = part } in record k { slot = slot_of k }
+
+abbrev flagged : Dictionary
+flagged = puts finite.empty ((identifier_key, Some (U32 3)) ∷ (named (codes "Flag"), Some (U32 5)) ∷ [])
+
+abbrev priced : Dictionary
+priced = puts flagged ((identifier_key, Some (U32 3)) ∷ (parted (codes "Px") Mantissa, Some (I64 (pos 942755))) ∷ (named (codes "Flag"), Some (U32 5)) ∷ [])
+
+mantissa_takes_a_bit_first : message_at worked_set finite.empty (0xf0 ∷ 0x83 ∷ 0x80 ∷ 0x85 ∷ 0x90 ∷ 0x39 ∷ 0x45 ∷ 0xa3 ∷ []) ≡ Ok (message 3 (absent ∷ u32 5 ∷ []), flagged, 0x90 ∷ 0x39 ∷ 0x45 ∷ 0xa3 ∷ [])
+unfolding reading
+mantissa_takes_a_bit_first = simp (absent_there, put_there)
+
+mantissa_takes_a_bit_second : message_at worked_set flagged (0x90 ∷ 0x39 ∷ 0x45 ∷ 0xa3 ∷ []) ≡ Ok (message 3 (decimal (pos 2) (pos 942755) ∷ u32 5 ∷ []), priced, [])
+unfolding reading
+mantissa_takes_a_bit_second = simp (absent_there, put_there)
+
+-- The absent exponent leaves the mantissa's bit to Flag: Px=- Flag=5, and then Px=942755e2 Flag=5
+pub mantissa_takes_a_bit : read (0xf0 ∷ 0x83 ∷ 0x80 ∷ 0x85 ∷ 0x90 ∷ 0x39 ∷ 0x45 ∷ 0xa3 ∷ []) ≡ (message 3 (absent ∷ u32 5 ∷ []) ∷ message 3 (decimal (pos 2) (pos 942755) ∷ u32 5 ∷ []) ∷ [], None)
+mantissa_takes_a_bit = rw (mantissa_takes_a_bit_first, mantissa_takes_a_bit_second) refl
+
+exponent_spelled_out_first : message_at worked_set finite.empty (0xf0 ∷ 0x83 ∷ 0x80 ∷ 0x85 ∷ 0xb0 ∷ 0x83 ∷ 0x39 ∷ 0x45 ∷ 0xa3 ∷ []) ≡ Ok (message 3 (absent ∷ u32 5 ∷ []), flagged, 0xb0 ∷ 0x83 ∷ 0x39 ∷ 0x45 ∷ 0xa3 ∷ [])
+unfolding reading
+exponent_spelled_out_first = simp (absent_there, put_there)
+
+exponent_spelled_out_second : message_at worked_set flagged (0xb0 ∷ 0x83 ∷ 0x39 ∷ 0x45 ∷ 0xa3 ∷ []) ≡ Ok (message 3 (decimal (pos 2) (pos 942755) ∷ u32 5 ∷ []), priced, [])
+unfolding reading
+exponent_spelled_out_second = simp (absent_there, put_there)
+
+-- the same with B0 and 83 for an exponent of 2
+pub exponent_spelled_out : read (0xf0 ∷ 0x83 ∷ 0x80 ∷ 0x85 ∷ 0xb0 ∷ 0x83 ∷ 0x39 ∷ 0x45 ∷ 0xa3 ∷ []) ≡ (message 3 (absent ∷ u32 5 ∷ []) ∷ message 3 (decimal (pos 2) (pos 942755) ∷ u32 5 ∷ []) ∷ [], None)
+exponent_spelled_out = rw (exponent_spelled_out_first, exponent_spelled_out_second) refl
+
+-- an exponent of 64 is refused before a mantissa has come
+pub exponent_first : read (0xf0 ∷ 0x81 ∷ 0x81 ∷ 0x41 ∷ 0xc2 ∷ 0x00 ∷ 0xc0 ∷ []) ≡ ([], refused R1 1 5 1 3)
+unfolding reading
+exponent_first = simp (absent_there, put_there)
+
+abbrev fixed_once : Dictionary
+fixed_once = puts finite.empty ((identifier_key, Some (U32 15)) ∷ (parted (codes "Px") Mantissa, Some (I64 (pos 100))) ∷ (named (codes "Raw"), Some (Bytes (0x0a ∷ 0xff ∷ []))) ∷ [])
+
+abbrev fixed_twice : Dictionary
+fixed_twice = puts fixed_once ((identifier_key, Some (U32 15)) ∷ (parted (codes "Px") Mantissa, Some (I64 (pos 101))) ∷ (named (codes "Raw"), Some (Bytes (0x0a ∷ 0xff ∷ []))) ∷ [])
+
+constant_exponent_first : message_at worked_set finite.empty (0xe0 ∷ 0x8f ∷ 0x00 ∷ 0xe4 ∷ 0x83 ∷ 0x0a ∷ 0xff ∷ 0x80 ∷ 0x81 ∷ []) ≡ Ok (message 15 (decimal (negsuc 1) (pos 100) ∷ vector (0x0a ∷ 0xff ∷ []) ∷ []), fixed_once, 0x80 ∷ 0x81 ∷ [])
+unfolding reading
+constant_exponent_first = simp (absent_there, put_there)
+
+constant_exponent_second : message_at worked_set fixed_once (0x80 ∷ 0x81 ∷ []) ≡ Ok (message 15 (decimal (negsuc 1) (pos 101) ∷ vector (0x0a ∷ 0xff ∷ []) ∷ []), fixed_twice, [])
+unfolding reading
+constant_exponent_second = simp (absent_there, put_there)
+
+-- Px=100e-2 Raw=x0aff, and Px=101e-2 Raw=x0aff
+pub constant_exponent : read (0xe0 ∷ 0x8f ∷ 0x00 ∷ 0xe4 ∷ 0x83 ∷ 0x0a ∷ 0xff ∷ 0x80 ∷ 0x81 ∷ []) ≡ (message 15 (decimal (negsuc 1) (pos 100) ∷ vector (0x0a ∷ 0xff ∷ []) ∷ []) ∷ message 15 (decimal (negsuc 1) (pos 101) ∷ vector (0x0a ∷ 0xff ∷ []) ∷ []) ∷ [], None)
+constant_exponent = rw (constant_exponent_first, constant_exponent_second) refl
+
+-- ---- Groups and sequences
+
+-- L=-, L=[], and L=[{P=5} {P=6}]
+pub lengths : read (0xc0 ∷ 0x84 ∷ 0x80 ∷ 0x80 ∷ 0x81 ∷ 0x80 ∷ 0x83 ∷ 0x85 ∷ 0x86 ∷ []) ≡ (message 4 (absent ∷ []) ∷ message 4 (sequence [] ∷ []) ∷ message 4 (sequence ((u32 5 ∷ []) ∷ (u32 6 ∷ []) ∷ []) ∷ []) ∷ [], None)
+unfolding reading
+lengths = simp (absent_there, put_there)
+
+-- Each element has its own map: L=[{Q=5} {Q=5}]
+pub maps_of_elements : read (0xc0 ∷ 0x85 ∷ 0x82 ∷ 0xc0 ∷ 0x85 ∷ 0x80 ∷ []) ≡ (message 5 (sequence ((u32 5 ∷ []) ∷ (u32 5 ∷ []) ∷ []) ∷ []) ∷ [], None)
+unfolding reading
+maps_of_elements = simp (absent_there, put_there)
+
+-- a length of 65,536
+pub too_many_elements : read (0xc0 ∷ 0x84 ∷ 0x04 ∷ 0x00 ∷ 0x81 ∷ []) ≡ ([], refused Limit 1 2 4 1)
+unfolding reading
+too_many_elements = refl
+
+abbrev grouped : Dictionary
+grouped = puts finite.empty ((identifier_key, Some (U32 11)) ∷ (named (codes "A"), Some (U32 5)) ∷ (named (codes "B"), Some (U32 6)) ∷ [])
+
+groups_first : message_at worked_set finite.empty (0xf0 ∷ 0x8b ∷ 0xc0 ∷ 0x85 ∷ 0x86 ∷ 0x80 ∷ 0xa0 ∷ 0x80 ∷ []) ≡ Ok (message 11 (group (u32 5 ∷ []) ∷ u32 6 ∷ []), grouped, 0x80 ∷ 0xa0 ∷ 0x80 ∷ [])
+unfolding reading
+groups_first = refl
+
+abbrev ungrouped : Dictionary
+ungrouped = puts grouped ((identifier_key, Some (U32 11)) ∷ (named (codes "B"), Some (U32 6)) ∷ [])
+
+groups_second : message_at worked_set grouped (0x80 ∷ 0xa0 ∷ 0x80 ∷ []) ≡ Ok (message 11 (absent ∷ u32 6 ∷ []), ungrouped, 0xa0 ∷ 0x80 ∷ [])
+unfolding reading
+groups_second = simp put_there
+
+abbrev grouped_again : Dictionary
+grouped_again = puts ungrouped ((identifier_key, Some (U32 11)) ∷ (named (codes "A"), Some (U32 5)) ∷ (named (codes "B"), Some (U32 6)) ∷ [])
+
+groups_third : message_at worked_set ungrouped (0xa0 ∷ 0x80 ∷ []) ≡ Ok (message 11 (group (u32 5 ∷ []) ∷ u32 6 ∷ []), grouped_again, [])
+unfolding reading
+groups_third = simp put_there
+
+-- Hd={A=5} B=6, Hd=- B=6, and Hd={A=5} B=6
+pub groups_there : read (0xf0 ∷ 0x8b ∷ 0xc0 ∷ 0x85 ∷ 0x86 ∷ 0x80 ∷ 0xa0 ∷ 0x80 ∷ []) ≡ (message 11 (group (u32 5 ∷ []) ∷ u32 6 ∷ []) ∷ message 11 (absent ∷ u32 6 ∷ []) ∷ message 11 (group (u32 5 ∷ []) ∷ u32 6 ∷ []) ∷ [], None)
+groups_there = rw (groups_first, groups_second, groups_third) refl
+
+-- ---- One key for two fields
+
+abbrev clashed : Dictionary
+clashed = puts finite.empty ((identifier_key, Some (U32 7)) ∷ (named (codes "K"), Some (U32 5)) ∷ (named (codes "K"), Some (Ascii (codes "A"))) ∷ [])
+
+another_type_first : message_at worked_set finite.empty (0xf0 ∷ 0x87 ∷ 0x85 ∷ 0xc1 ∷ 0x80 ∷ []) ≡ Ok (message 7 (u32 5 ∷ text (codes "A") ∷ []), clashed, 0x80 ∷ [])
+unfolding reading
+another_type_first = refl
+
+another_type_second : message_at worked_set clashed (0x80 ∷ []) ≡ Err (record { template = 7; stop = record { cause = D4; instruction = 1; left = 0 } })
+unfolding reading
+another_type_second = simp put_there
+
+-- A=5 B="A", and then A finds the string
+pub another_type : read (0xf0 ∷ 0x87 ∷ 0x85 ∷ 0xc1 ∷ 0x80 ∷ []) ≡ (message 7 (u32 5 ∷ text (codes "A") ∷ []) ∷ [], refused D4 2 5 7 1)
+another_type = rw (another_type_first, another_type_second) refl
+
+-- A=5 B="A", and A=6 B="A", both spelled out
+pub another_type_unused : read (0xf0 ∷ 0x87 ∷ 0x85 ∷ 0xc1 ∷ 0xb0 ∷ 0x86 ∷ 0xc1 ∷ []) ≡ (message 7 (u32 5 ∷ text (codes "A") ∷ []) ∷ message 7 (u32 6 ∷ text (codes "A") ∷ []) ∷ [], None)
+unfolding reading
+another_type_unused = simp put_there
+
+-- A is absent, and B a delta on what it left
+pub empty_entry : read (0xc0 ∷ 0x8d ∷ 0x85 ∷ []) ≡ ([], refused D6 1 2 13 2)
+unfolding reading
+empty_entry = simp (absent_there, put_there)
+
+-- ---- Copy, constant and default
+
+-- A=5 B=6, and A=7 B=6
+pub copied : read (0xe0 ∷ 0x90 ∷ 0x85 ∷ 0x86 ∷ 0xe0 ∷ 0x90 ∷ 0x87 ∷ 0x86 ∷ []) ≡ (message 16 (u32 5 ∷ u32 6 ∷ []) ∷ message 16 (u32 7 ∷ u32 6 ∷ []) ∷ [], None)
+unfolding reading
+copied = refl
+
+abbrev fourteen : Dictionary
+fourteen = puts finite.empty ((identifier_key, Some (U32 14)) ∷ [])
+
+constants_first : message_at worked_set finite.empty (0xe0 ∷ 0x8e ∷ 0x80 ∷ 0x90 ∷ 0x83 ∷ 0x90 ∷ 0x10 ∷ 0x00 ∷ 0x00 ∷ 0x00 ∷ 0x80 ∷ []) ≡ Ok (message 14 (u32 7 ∷ u32 9 ∷ u32 3 ∷ []), fourteen, 0x80 ∷ 0x90 ∷ 0x83 ∷ 0x90 ∷ 0x10 ∷ 0x00 ∷ 0x00 ∷ 0x00 ∷ 0x80 ∷ [])
+unfolding reading
+constants_first = simp (absent_there, put_there)
+
+abbrev fourteen_again : Dictionary
+fourteen_again = puts fourteen ((identifier_key, Some (U32 14)) ∷ [])
+
+constants_second : message_at worked_set fourteen (0x80 ∷ 0x90 ∷ 0x83 ∷ 0x90 ∷ 0x10 ∷ 0x00 ∷ 0x00 ∷ 0x00 ∷ 0x80 ∷ []) ≡ Ok (message 14 (u32 7 ∷ absent ∷ u32 3 ∷ []), fourteen_again, 0x90 ∷ 0x83 ∷ 0x90 ∷ 0x10 ∷ 0x00 ∷ 0x00 ∷ 0x00 ∷ 0x80 ∷ [])
+unfolding reading
+constants_second = simp (absent_there, put_there)
+
+abbrev fourteen_thrice : Dictionary
+fourteen_thrice = puts fourteen_again ((identifier_key, Some (U32 14)) ∷ [])
+
+constants_third : message_at worked_set fourteen_again (0x90 ∷ 0x83 ∷ 0x90 ∷ 0x10 ∷ 0x00 ∷ 0x00 ∷ 0x00 ∷ 0x80 ∷ []) ≡ Ok (message 14 (u32 7 ∷ absent ∷ u32 3 ∷ []), fourteen_thrice, 0x90 ∷ 0x10 ∷ 0x00 ∷ 0x00 ∷ 0x00 ∷ 0x80 ∷ [])
+unfolding reading
+constants_third = simp (absent_there, put_there)
+
+constants_fourth : message_at worked_set fourteen_thrice (0x90 ∷ 0x10 ∷ 0x00 ∷ 0x00 ∷ 0x00 ∷ 0x80 ∷ []) ≡ Err (record { template = 14; stop = record { cause = D2; instruction = 3; left = 5 } })
+unfolding reading
+constants_fourth = simp put_there
+
+-- K=7 O=9 D=3; twice K=7 O=- D=3; and D past its type
+pub constants : read (0xe0 ∷ 0x8e ∷ 0x80 ∷ 0x90 ∷ 0x83 ∷ 0x90 ∷ 0x10 ∷ 0x00 ∷ 0x00 ∷ 0x00 ∷ 0x80 ∷ []) ≡ (message 14 (u32 7 ∷ u32 9 ∷ u32 3 ∷ []) ∷ message 14 (u32 7 ∷ absent ∷ u32 3 ∷ []) ∷ message 14 (u32 7 ∷ absent ∷ u32 3 ∷ []) ∷ [], refused D2 4 6 14 3)
+constants = ap (λ r. (r.messages, fault_in (0xe0 ∷ 0x8e ∷ 0x80 ∷ 0x90 ∷ 0x83 ∷ 0x90 ∷ 0x10 ∷ 0x00 ∷ 0x00 ∷ 0x00 ∷ 0x80 ∷ []) r)) (one_more 10 _ _ _ constants_first (one_more 9 _ _ _ constants_second (one_more 8 _ _ _ constants_third (last_stop 7 _ _ _ constants_fourth))))
+
+-- ---- Entities that do not end
+
+-- F0 81 and ten times 00
+pub too_long : read (0xf0 ∷ 0x81 ∷ replicate 10 0x00) ≡ ([], refused Limit 1 2 1 1)
+unfolding reading
+too_long = refl
+
+-- F0 81 and nine times 00
+pub not_whole : read (0xf0 ∷ 0x81 ∷ replicate 9 0x00) ≡ ([], refused Truncated 1 2 1 1)
+unfolding reading
+not_whole = refl
+
+-- 256 times 00
+pub map_too_long : read (replicate 256 0x00) ≡ ([], refused Limit 1 0 0 0)
+unfolding reading
+map_too_long = refl
+
+-- 255 times 00
+pub map_not_whole : read (replicate 255 0x00) ≡ ([], refused Truncated 1 0 0 0)
+unfolding reading
+map_not_whole = refl
+
+-- ---- The limit of nodes, which is seen with fewer nodes than 65,536: how many may still come, and the bytes
+
+abbrev may_come : ℕ → List ℕ → Cursor
+may_come spare bytes = record { dictionary = finite.empty; bits = []; spare = spare; bytes = bytes }
+
+-- a sequence of three elements without fields is four nodes: 83
+four_nodes : body_at (resolved 6 bare).members (may_come 4 (0x83 ∷ [])) ≡ Ok (items_of (sequence ([] ∷ [] ∷ [] ∷ []) ∷ []), may_come 0 [])
+unfolding reading
+four_nodes = simp absent_there
+
+-- the fourth is refused where three may come, at the sequence's number
+three_may_come : body_at (resolved 6 bare).members (may_come 3 (0x83 ∷ [])) ≡ Err (record { cause = Limit; instruction = 1; left = 0 })
+unfolding reading
+three_may_come = refl
+
+-- a node is counted before its bytes are looked at: 83 85, where an element's P would be the fourth
+counted_first : body_at (resolved 4 legs).members (may_come 2 (0x83 ∷ 0x85 ∷ [])) ≡ Err (record { cause = Limit; instruction = 2; left = 1 })
+unfolding reading
+counted_first = refl
+
+-- and 83, where an element's P is not there: still the limit
+counted_before_the_end : body_at (resolved 4 legs).members (may_come 2 (0x83 ∷ [])) ≡ Err (record { cause = Limit; instruction = 2; left = 0 })
+unfolding reading
+counted_before_the_end = refl
+
+-- ---- Faults inside a group, an element and a decimal in parts
+
+-- F0 8B: the group's map is not there
+pub no_map_of_group : read (0xf0 ∷ 0x8b ∷ []) ≡ ([], refused Truncated 1 2 11 1)
+unfolding reading
+no_map_of_group = refl
+
+-- F0 8B C0: its A is not there
+pub no_field_of_group : read (0xf0 ∷ 0x8b ∷ 0xc0 ∷ []) ≡ ([], refused Truncated 1 3 11 2)
+unfolding reading
+no_field_of_group = refl
+
+-- F0 8B 80: its A is left out, and no value predicts it
+pub no_value_in_group : read (0xf0 ∷ 0x8b ∷ 0x80 ∷ []) ≡ ([], refused D5 1 3 11 2)
+unfolding reading
+no_value_in_group = simp (absent_there, put_there)
+
+-- C0 85 82: the first element's map is not there
+pub no_map_of_element : read (0xc0 ∷ 0x85 ∷ 0x82 ∷ []) ≡ ([], refused Truncated 1 3 5 1)
+unfolding reading
+no_map_of_element = refl
+
+-- C0 85 82 C0 85: the second element's is not
+pub no_map_of_second_element : read (0xc0 ∷ 0x85 ∷ 0x82 ∷ 0xc0 ∷ 0x85 ∷ []) ≡ ([], refused Truncated 1 5 5 1)
+unfolding reading
+no_map_of_second_element = refl
+
+-- F0 83 83: the mantissa is not there
+pub no_mantissa : read (0xf0 ∷ 0x83 ∷ 0x83 ∷ []) ≡ ([], refused Truncated 1 3 3 1)
+unfolding reading
+no_mantissa = refl
+
+-- F0 83 83 and behind them 2^63 in ten bytes: no mantissa is so large
+pub mantissa_too_large : read (0xf0 ∷ 0x83 ∷ 0x83 ∷ 0x01 ∷ 0x00 ∷ 0x00 ∷ 0x00 ∷ 0x00 ∷ 0x00 ∷ 0x00 ∷ 0x00 ∷ 0x00 ∷ 0x80 ∷ []) ≡ ([], refused R1 1 3 3 1)
+unfolding reading
+mantissa_too_large = refl
+
+-- C0 10 00 00 00 80: an identifier of 2^32, with no template and no instruction
+pub identifier_too_large : read (0xc0 ∷ 0x10 ∷ 0x00 ∷ 0x00 ∷ 0x00 ∷ 0x80 ∷ []) ≡ ([], refused D2 1 1 0 0)
+unfolding reading
+identifier_too_large = refl
+
+-- ---- Small numbers of nodes, under bits of a map
+
+abbrev under_bits : List Bool → ℕ → List ℕ → Cursor
+under_bits bits spare bytes = record { dictionary = finite.empty; bits = bits; spare = spare; bytes = bytes }
+
+-- C0 85 86 under 1 1: the group is a node, its A another
+group_counts : body_at (resolved 12 grp).members (under_bits (true ∷ true ∷ []) 1 (0xc0 ∷ 0x85 ∷ 0x86 ∷ [])) ≡ Err (record { cause = Limit; instruction = 2; left = 2 })
+unfolding reading
+group_counts = refl
+
+-- and B the third
+third_of_two : body_at (resolved 12 grp).members (under_bits (true ∷ true ∷ []) 2 (0xc0 ∷ 0x85 ∷ 0x86 ∷ [])) ≡ Err (record { cause = Limit; instruction = 3; left = 1 })
+unfolding reading
+third_of_two = refl
+
+-- 86 under 0 1: an absent group is a node
+absent_group_counts : body_at (resolved 12 grp).members (under_bits (false ∷ true ∷ []) 1 (0x86 ∷ [])) ≡ Err (record { cause = Limit; instruction = 3; left = 1 })
+unfolding reading
+absent_group_counts = refl
+
+no_node_for_a_group : body_at (resolved 12 grp).members (under_bits (false ∷ true ∷ []) 0 (0x86 ∷ [])) ≡ Err (record { cause = Limit; instruction = 1; left = 1 })
+unfolding reading
+no_node_for_a_group = refl
+
+-- 39 45 A3 under 0 1: a decimal in parts is one node
+parts_count_once : body_at (resolved 3 opt).members (under_bits (false ∷ true ∷ []) 1 (0x39 ∷ 0x45 ∷ 0xa3 ∷ [])) ≡ Err (record { cause = Limit; instruction = 2; left = 0 })
+unfolding reading
+parts_count_once = refl
+
+no_node_for_parts : body_at (resolved 3 opt).members (under_bits (false ∷ true ∷ []) 0 (0x39 ∷ 0x45 ∷ 0xa3 ∷ [])) ≡ Err (record { cause = Limit; instruction = 1; left = 3 })
+unfolding reading
+no_node_for_parts = refl
+
+-- a message has at most so many nodes
+limit_of_nodes : node_limit ≡ 65536
+limit_of_nodes = refl

@@ -1,0 +1,188 @@
+-- The first fault of a stream.
+-- FAST 1.1, Error Handling. Which check comes first, the places and the limits are this project's own.
+use Rattle.std.specs.Prelude.{◌≡◌, ◌<◌, ℕ, zero, suc, ◌+◌, ◌-◌, ℤ, Bool, true, false, List, [], ◌++◌, length, Option, Some, None, ◌⊎◌}
+use Rattle.std.specs.FinMap as map
+use Rattle.fast_template.specs.declared.scalar.Scalar.{Scalar}
+use Rattle.fast_template.specs.declared.scalar.Scalar.TheVariants.{U32, I32}
+use Rattle.fast_template.specs.declared.resolved.FieldPart.{FieldPart}
+use Rattle.fast_template.specs.Resolved.{Instruction, Instructions, whole_field, field_in_parts, group_of, sequence_of, no_instructions, then_instruction, part_needs_bit, is_optional, has_map, Resolved}
+use Rattle.fast_dictionary.specs.Dictionary.{Dictionary, entry_at}
+use Rattle.fast_wire.specs.declared.fault.WireFault.{WireFault}
+use Rattle.fast_wire.specs.declared.fault.WireFault.TheVariants as wire
+use Rattle.fast_wire.specs.PresenceMap.{IsWholeMap}
+use Rattle.fast_wire.specs.Reading.{EntityFault}
+use Rattle.fast_field.specs.declared.fault.FieldFault.{FieldFault}
+use Rattle.fast_field.specs.declared.fault.FieldFault.TheVariants as field
+use Rattle.fast_field.specs.Fields.{Form}
+use Rattle.fast_field.specs.FieldReading.{IsFieldFault}
+use Rattle.fast_stream.specs.declared.fault.Cause.{Cause}
+use Rattle.fast_stream.specs.declared.fault.Cause.TheVariants.{D2, D4, D5, D6, D7, D9, R1, R2, Truncated, Limit, Memory}
+use Rattle.fast_stream.specs.declared.place.Place.{Place}
+use Rattle.fast_stream.specs.Nodes.{Item, Items, Content, nodes_of, nodes_in, node_limit}
+use Rattle.fast_stream.specs.Bits.{bit_for}
+use Rattle.fast_stream.specs.Bodies.{State, Then, PartBy, SegmentBy, PieceBy, BodyBy}
+use Rattle.fast_stream.specs.Streams.{members_of, identifier, AnyMap, Carries, CarriesFrom}
+
+-- the cause that a fault of a byte form is in a stream; the last three come of no bytes
+abbrev pub cause_of_wire : WireFault → Cause
+cause_of_wire wire.NeedMore = Truncated
+cause_of_wire wire.TooLong = Limit
+cause_of_wire wire.Range = Memory
+cause_of_wire wire.NotUtf8 = Memory
+cause_of_wire wire.Memory = Memory
+
+-- and a fault of a field
+abbrev pub cause_of_field : FieldFault → Cause
+cause_of_field field.D2 = D2
+cause_of_field field.D4 = D4
+cause_of_field field.D5 = D5
+cause_of_field field.D6 = D6
+cause_of_field field.D7 = D7
+cause_of_field field.R1 = R1
+cause_of_field field.R2 = R2
+cause_of_field field.Limit = Limit
+cause_of_field field.NeedMore = Truncated
+cause_of_field field.Memory = Memory
+
+-- a fault of a piece: its cause, the number of its instruction, and how many bytes are left from the piece on
+pub record Stop : Type 0 where
+  pub cause : Cause
+  pub instruction : ℕ
+  pub left : ℕ
+
+-- a fault in a message, with its template's identifier: 0 for its map and its identifier
+pub record MessageStop : Type 0 where
+  pub template : ℕ
+  pub stop : Stop
+
+-- the piece that begins with the rest has the fault
+pub record StopsAt (number : ℕ) (Fault : Cause → Type 0) (rest : List ℕ) (stop : Stop) : Type 0 where
+  pub instruction_is : stop.instruction ≡ number
+  pub left_is : stop.left ≡ length rest
+  pub fault : Fault stop.cause
+
+-- a map: the bytes end before its stop bit, or it passes its limit
+abbrev pub MapFault : List ℕ → Cause → Type 0
+MapFault rest cause = (f : WireFault) × EntityFault 256 rest 0 f × (cause ≡ cause_of_wire f)
+
+-- behind a map, under its bits
+abbrev pub BehindMap : (List Bool → List ℕ → Type 0) → List ℕ → Type 0
+BehindMap Behind rest = Then (λ x bits. IsWholeMap x bits) Behind rest
+
+-- a part: the first of its checks that fails
+abbrev pub PartFault : FieldPart → State → List ℕ → Cause → Type 0
+PartFault p s rest cause =
+    (f : FieldFault) × IsFieldFault p (entry_at s.dictionary p.key) (bit_for (part_needs_bit p) s.bits) rest f
+    × (cause ≡ cause_of_field f)
+
+abbrev pub PartStops : FieldPart → State → List ℕ → Stop → Type 0
+PartStops p s rest stop = StopsAt p.number (PartFault p s rest) rest stop
+
+-- No node more may come, before its bit and bytes are looked at; or what is behind the count of one node stops.
+abbrev pub NodeStops : ℕ → ℕ → (ℕ → Type 0) → List ℕ → Stop → Type 0
+NodeStops number zero Behind rest stop = StopsAt number (λ cause. cause ≡ Limit) rest stop
+NodeStops number (suc spare) Behind rest stop = Behind spare
+
+-- the map of a segment, or what is inside it
+abbrev pub SegmentStops : ℕ → Bool → (State → List ℕ → Type 0) → Dictionary → List ℕ → Stop → Type 0
+SegmentStops number true Inside d rest stop =
+    StopsAt number (MapFault rest) rest stop ⊎ BehindMap (λ bits y. Inside (record { dictionary = d; bits = bits }) y) rest
+SegmentStops number false Inside d rest stop = Inside (record { dictionary = d; bits = [] }) rest
+
+abbrev pub Part : FieldPart → State → List ℕ → Option Scalar → State → Type 0
+Part = PartBy Form
+
+-- what came before the piece: items, how many nodes may still come, and what they left
+pub record Passed (A B : Type 0) : Type 0 where
+  pub value : A
+  pub spare : ℕ
+  pub after : B
+
+-- One of so many elements, each of them a node.
+abbrev pub EachStops : ℕ → (Dictionary → List ℕ → Items → Dictionary → Type 0) → (ℕ → Dictionary → List ℕ → Type 0) → ℕ → ℕ → Dictionary → List ℕ → Stop → Type 0
+EachStops number One OneStops zero spare d rest stop = ⊥
+EachStops number One OneStops (suc n) spare d rest stop =
+    NodeStops number spare
+    (λ left. OneStops left d rest
+    ⊎ Then (λ x (p : Passed Items Dictionary). One d x p.value p.after × (left ≡ nodes_in p.value + p.spare)) (λ p y. EachStops number One OneStops n p.spare p.after y stop) rest)
+    rest stop
+
+abbrev mutual
+  -- One instruction, of which some part or inner piece stops. The number of nodes that may still come goes with it.
+  pub PieceStops : Instruction → State → ℕ → List ℕ → Stop → Type 0
+  PieceStops (whole_field name number presence whole) s spare rest stop = NodeStops number spare (λ left. PartStops whole s rest stop) rest stop
+  PieceStops (field_in_parts name number presence exponent mantissa) s spare rest stop =
+      NodeStops number spare
+      (λ left. PartStops exponent s rest stop
+      ⊎ Then (λ x between. (e : ℤ) × Part exponent s x (Some (I32 e)) between) (λ between y. PartStops mantissa between y stop) rest)
+      rest stop
+  PieceStops (group_of name number presence members) s spare rest stop =
+      NodeStops number spare
+      (λ left. (bit_for (is_optional presence) s.bits ≡ true) × SegmentStops number (has_map members) (λ t y. BodyStops members t left y stop) s.dictionary rest stop)
+      rest stop
+  PieceStops (sequence_of name number presence length members) s spare rest stop =
+      NodeStops number spare
+      (λ left. PartStops length s rest stop
+      ⊎ Then (λ x (p : Passed ℕ State). Part length s x (Some (U32 p.value)) p.after × (p.spare ≡ left))
+      (λ p y. EachStops number (λ d z ns e. SegmentBy AnyMap (has_map members) (λ t w u. BodyBy Form AnyMap members t w ns u) d z e)
+      (λ k d z. SegmentStops number (has_map members) (λ t w. BodyStops members t k w stop) d z stop) p.value p.spare p.after.dictionary y stop)
+      rest)
+      rest stop
+
+  -- the pieces before one, none of them past the limit of nodes, and then that one
+  pub BodyStops : Instructions → State → ℕ → List ℕ → Stop → Type 0
+  BodyStops no_instructions s spare rest stop = ⊥
+  BodyStops (then_instruction i is) s spare rest stop =
+      PieceStops i s spare rest stop
+      ⊎ Then (λ x (p : Passed Item State). PieceBy Form AnyMap i s x p.value p.after × (spare ≡ nodes_of p.value + p.spare)) (λ p y. BodyStops is p.after p.spare y stop) rest
+
+-- an identifier that has a fault of its own, or is that of no template
+abbrev pub IdentifierFault : List Resolved → State → List ℕ → Cause → Type 0
+IdentifierFault set s rest cause =
+    PartFault identifier s rest cause
+    ⊎ ((cause ≡ D9) × Then (λ x id. (after : State) × Part identifier s x (Some (U32 id)) after) (λ id y. members_of set id ≡ None) rest)
+
+-- a good identifier, and behind it the body of its template
+pub record InBody (set : List Resolved) (s : State) (rest : List ℕ) (m : MessageStop) : Type 0 where
+  pub members : Instructions
+  pub there : members_of set m.template ≡ Some members
+  pub behind : Then (λ x between. Part identifier s x (Some (U32 m.template)) between)
+      (λ between y. BodyStops members between node_limit y m.stop) rest
+
+-- The pieces of a message before one, and then that piece's fault. Of its map and its identifier the template is 0.
+pub data MessageStops (set : List Resolved) (d : Dictionary) (rest : List ℕ) (m : MessageStop) : Type 0 where
+  in_map : m.template ≡ 0 → StopsAt 0 (MapFault rest) rest m.stop → MessageStops set d rest m
+  in_identifier : m.template ≡ 0
+      → BehindMap (λ bits y. StopsAt 0 (IdentifierFault set (record { dictionary = d; bits = bits }) y) y m.stop) rest
+      → MessageStops set d rest m
+  in_body : BehindMap (λ bits y. InBody set (record { dictionary = d; bits = bits }) y m) rest → MessageStops set d rest m
+
+-- where a stream of this many bytes stops behind this many messages
+abbrev pub place_of : ℕ → ℕ → MessageStop → Place
+place_of size messages m =
+    record { message = messages + 1; offset = size - m.stop.left; template = m.template; instruction = m.stop.instruction }
+
+-- the place at the end of a stream of this many bytes, which is this many messages: where a read fails between two
+abbrev pub place_between : ℕ → ℕ → Place
+place_between size messages = record { message = messages + 1; offset = size; template = 0; instruction = 0 }
+
+-- The stream is message forms of the messages before the place's, and then the pieces of the next one before the
+-- place's piece, which has the fault. A stream that ends between two messages has none.
+pub record FirstFault (set : List Resolved) (stream : List ℕ) (place : Place) (cause : Cause) : Type 0 where
+  pub messages : List Content
+  pub dictionary : Dictionary
+  pub front : List ℕ
+  pub rest : List ℕ
+  pub stop : MessageStop
+  pub parts : stream ≡ front ++ rest
+  pub carried : CarriesFrom set map.empty front messages dictionary
+  pub some : 0 < length rest
+  pub stops : MessageStops set dictionary rest stop
+  pub cause_is : cause ≡ stop.stop.cause
+  pub place_is : place ≡ place_of (length stream) (length messages) stop
+
+-- A stream that ends behind a message, with its end as the place: where a read fails or the reads are used up there.
+pub record EndsBetween (set : List Resolved) (stream : List ℕ) (place : Place) : Type 0 where
+  pub messages : List Content
+  pub carried : Carries set stream messages
+  pub place_is : place ≡ place_between (length stream) (length messages)
