@@ -1,5 +1,5 @@
 //! Laws of streams, each the contract of a function that does nothing. They speak of the definitions alone: what a
-//! stream carries (`fast_decoder`), its first fault, and the canonical bytes of messages (`fast_encoder`).
+//! stream carries (`fast_stream`), its first fault, and the canonical bytes of messages (`fast_encoder`).
 
 ghost use Rattle.std.specs.Prelude.{◌≡◌, ◌≢◌, ◌≤◌, ◌⊎◌, ◌↔◌, ◌++◌, ℕ, List, length};
 ghost use Rattle.fast_wire.specs.Reader.{IsBytes};

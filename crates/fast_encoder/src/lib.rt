@@ -1,10 +1,10 @@
 //! The canonical bytes of messages.
 //!
 //! Of all forms of a message one is canonical: each field in the form that comes first, each map as short as it can be,
-//! and no bit set that no instruction asks for. `specs/Canonical` says so over the definitions of `fast_decoder`.
+//! and no bit set that no instruction asks for. `specs/Canonical` says so over the definitions of `fast_stream`.
 //! [`Encoder`] writes messages that are in memory, and refuses one that has no form.
 //! [`MessageOutputStream`] writes them to a writer.
-//! [`Writer`] is a receiver of `fast_decoder`'s traversal: it writes the canonical bytes of messages as they are read.
+//! [`Writer`] is a receiver of `fast_stream`'s traversal: it writes the canonical bytes of messages as they are read.
 #![tactic(auto)]
 
 #[cfg(test)]
