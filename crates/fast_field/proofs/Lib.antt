@@ -25,6 +25,7 @@ pub mod ChosenForms
 pub mod WrittenForms
 pub mod Relaying
 mod TextRelaying
+mod PlainTexts
 pub mod RefusalSteps
 pub mod CallSteps
 pub mod PutTogether

@@ -24,6 +24,7 @@ mod number;
 #[cfg(test)]
 mod number_tests;
 mod pieces;
+mod plain;
 mod plan;
 mod read;
 mod refuse;

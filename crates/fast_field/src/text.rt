@@ -16,21 +16,13 @@ use crate::base::units;
 use crate::cut::best_cut;
 use crate::delta::{read_unit_delta, write_cut};
 use crate::left_out::is_left_out;
-use crate::string::UNIT_LIMIT;
+use crate::plain::relay_plain;
+use crate::string::{UNIT_LIMIT, are_characters};
 use crate::tail::{best_tail, read_tail};
 use crate::whole::{read_string, write_units};
 use fast_dictionary::{Entry, EntryRef};
 use fast_template::{FieldPart, Kind, Operator, Part, Scalar};
 use std::alloc::Global;
-
-/// Whether these are characters of ASCII, and not too many.
-#[inline(always)]
-fn are_characters(text: &[u8]) -> bool
-    ensures { result ≡ true
-        → (length text.now ≤ 65535) × AllByRecursion (λ c. c < 128) text.now }
-{
-    text.len() <= UNIT_LIMIT && text.is_ascii()
-}
 
 /// Whether there are not too many bytes.
 #[inline(always)]
@@ -251,7 +243,6 @@ fn relay_tail(
 }
 
 /// Relays a string or vector that is no part of another field.
-#[inline(always)]
 fn relay_field_text(
     alloc: Global,
     instr: &FieldPart,
@@ -300,9 +291,11 @@ pub fn relay_text(
 {
     match instr.part {
         Part::Whole => match instr.kind {
-            Kind::Ascii | Kind::Unicode | Kind::Bytes => {
-                relay_field_text(alloc, instr, entry, bytes, at, out)
-            }
+            Kind::Ascii => match relay_plain(alloc, instr, entry, bytes, at, out) {
+                Some(next) => Some(next),
+                None => relay_field_text(alloc, instr, entry, bytes, at, out),
+            },
+            Kind::Unicode | Kind::Bytes => relay_field_text(alloc, instr, entry, bytes, at, out),
             Kind::UInt32 | Kind::Int32 | Kind::UInt64 | Kind::Int64 | Kind::Decimal => None,
         },
         Part::Exponent | Part::Mantissa | Part::Length => None,

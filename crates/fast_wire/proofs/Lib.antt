@@ -15,6 +15,7 @@ pub mod SignedForms
 pub mod Sizes
 pub mod NullableForms
 pub mod AsciiForms
+pub mod PlainAscii
 pub mod VectorForms
 pub mod FormSizes
 pub mod GoingOn

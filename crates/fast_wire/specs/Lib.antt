@@ -10,3 +10,4 @@ pub mod Writing
 pub mod Sizes
 pub mod Spellings
 pub mod Spans
+pub mod Plain

@@ -13,6 +13,7 @@ mod fault;
 mod integer;
 pub mod laws;
 mod nullable;
+mod plain;
 mod presence_map;
 mod short_integer;
 mod span;
@@ -34,6 +35,7 @@ pub use nullable::{
     Nullable, read_signed_nullable, read_unsigned_nullable, size_signed_nullable,
     size_unsigned_nullable, write_signed_nullable, write_unsigned_nullable,
 };
+pub use plain::{is_text_of, plain_ascii_end};
 pub use presence_map::{Bits, read_map, write_map};
 pub use short_integer::{
     read_i64, read_i64_nullable, read_u64, read_u64_nullable, write_i64, write_i64_nullable,

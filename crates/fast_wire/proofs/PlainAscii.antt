@@ -1,0 +1,85 @@
+-- An entity whose first group is not 0 is a string in its shortest form, with NULL and without.
+use Rattle.std.proofs.Common.{◌≡◌, ℕ, zero, suc, ◌+◌, ◌-◌, ◌%◌, ◌<◌, ◌≤◌, List, [], ◌∷◌, ◌++◌, length, get_or, take, drop, refl, sym, ap, ◌∙◌, arith, slice_range, drop-drop, length-take}
+use Rattle.std.proofs.lemmas.List.{length-map, take_more, take-append-drop}
+use Rattle.fast_wire.specs.Ascii.{IsAscii, IsAsciiNullable, SpellsAscii, SpellsAsciiNullable}
+use Rattle.fast_wire.specs.Entity.{IsEntity, groups}
+use Rattle.fast_wire.specs.Plain.{IsPlain}
+use Rattle.fast_wire.specs.Reading.{ascii_at, ascii_nullable_at}
+use Rattle.fast_wire.specs.Sizes.{ascii_size, ascii_nullable_size}
+use Rattle.fast_wire.specs.declared.nullable.Nullable.TheVariants.{Value}
+use Rattle.fast_wire.proofs.FormReaders.{ascii_forms, ascii_nullable_forms}
+use Rattle.fast_wire.proofs.FormSizes.{ascii_sizes, ascii_nullable_sizes}
+
+spells : (gs : List ℕ) → 0 < get_or gs 0 0 → SpellsAscii gs gs
+spells (suc g ∷ gs) h = refl
+spells [] h = absurd (omega arith)
+spells (zero ∷ gs) h = absurd (omega arith)
+
+spells_nullable : (gs : List ℕ) → 0 < get_or gs 0 0 → SpellsAsciiNullable gs (Value gs)
+spells_nullable (suc g ∷ gs) h = refl
+spells_nullable [] h = absurd (omega arith)
+spells_nullable (zero ∷ gs) h = absurd (omega arith)
+
+size_is : (gs : List ℕ) → 0 < get_or gs 0 0 → ascii_size gs ≡ length gs
+size_is (suc g ∷ gs) h = omega arith
+size_is [] h = absurd (omega arith)
+size_is (zero ∷ gs) h = absurd (omega arith)
+
+nullable_size_is : (gs : List ℕ) → 0 < get_or gs 0 0 → ascii_nullable_size (Value gs) ≡ length gs
+nullable_size_is (suc g ∷ gs) h = omega arith
+nullable_size_is [] h = absurd (omega arith)
+nullable_size_is (zero ∷ gs) h = absurd (omega arith)
+
+first_group : (form : List ℕ) → get_or (groups form) 0 0 ≡ get_or form 0 0 % 128
+first_group [] = refl
+first_group (b ∷ bs) = refl
+
+plain_form : (form : List ℕ) → IsEntity form → length form ≤ 65535 → 0 < get_or (groups form) 0 0 → IsAscii form (groups form)
+plain_form form entity few some = record {
+  spelled = record { entity = entity; short = omega arith; value = spells (groups form) some };
+  limit = omega (arith, few, length-map form (λ b. b % 128));
+}
+
+plain_nullable : (form : List ℕ) → IsEntity form → length form ≤ 65535 → 0 < get_or (groups form) 0 0 → IsAsciiNullable form (Value (groups form))
+plain_nullable form entity few some = record {
+  spelled = record { entity = entity; short = omega arith; value = spells_nullable (groups form) some };
+  limit = omega (arith, few, length-map form (λ b. b % 128));
+}
+
+pub plain : (bytes form rest : List ℕ) → bytes ≡ form ++ rest → IsEntity form → length form ≤ 65535 → (get_or form 0 0 % 128 ≡ 0 → ⊥) → IsPlain bytes form rest
+plain bytes form rest parts entity few first =
+    let some : 0 < get_or (groups form) 0 0 = omega (arith, first, first_group form) in
+    let long = length-map form (λ b. b % 128) in
+    let f = plain_form form entity few some in
+    let n = plain_nullable form entity few some in
+    record {
+      entity = entity;
+      read = ap ascii_at parts ∙ ascii_forms.again form (groups form) rest f;
+      read_nullable = ap ascii_nullable_at parts ∙ ascii_nullable_forms.again form (Value (groups form)) rest n;
+      shortest = record { form = f; least = λ other o. omega (arith, long, size_is (groups form) some, ascii_sizes.least other (groups form) o) };
+      shortest_nullable = record { form = n; least = λ other o. omega (arith, long, nullable_size_is (groups form) some, ascii_nullable_sizes.least other (Value (groups form)) o) };
+    }
+
+-- ---- what a call of the code finds
+
+parts_of : (bytes : List ℕ) (at next : ℕ) → at ≤ next → drop at bytes ≡ slice_range bytes at next ++ drop next bytes
+parts_of bytes at next h =
+    let on : at + (next - at) ≡ next = omega arith in
+    let behind : drop (next - at) (drop at bytes) ≡ drop next bytes = drop-drop (next - at) at bytes ∙ ap (λ n. drop n bytes) on in
+    sym (ap (λ r. take (next - at) (drop at bytes) ++ r) (sym behind) ∙ take-append-drop (next - at) (drop at bytes))
+
+pub plain_at : (bytes : List ℕ) (at next : ℕ) → at ≤ next → next ≤ at + 65535 → IsEntity (slice_range bytes at next) → (get_or (slice_range bytes at next) 0 0 % 128 ≡ 0 → ⊥) → IsPlain (drop at bytes) (slice_range bytes at next) (drop next bytes)
+plain_at bytes at next le few entity first =
+    plain (drop at bytes) (slice_range bytes at next) (drop next bytes) (parts_of bytes at next le) entity (omega (arith, few, length-take (next - at) (drop at bytes))) first
+
+-- ---- texts compared with such bytes
+
+group_at : (form : List ℕ) (i : ℕ) → i < length form → get_or (groups form) i 0 ≡ get_or form i 0 % 128
+group_at [] i h = absurd (omega arith)
+group_at (b ∷ bs) zero h = refl
+group_at (b ∷ bs) (suc i) h = group_at bs i (omega arith)
+
+pub text_more : (text form : List ℕ) (i : ℕ) → i < length text → length text ≡ length form → get_or text i 0 ≡ get_or form i 0 % 128 → take i text ≡ take i (groups form) → take (i + 1) text ≡ take (i + 1) (groups form)
+text_more text form i lt long e so_far =
+    let l = length-map form (λ b. b % 128) in
+    rw (take_more text i 0 lt, take_more (groups form) i 0 (omega arith), so_far, e, group_at form i (omega arith)) refl

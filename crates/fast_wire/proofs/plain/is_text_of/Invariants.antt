@@ -1,0 +1,6 @@
+use Rattle.std.proofs.Common.{◌≡◌, take}
+use Rattle.fast_wire.specs.Entity.{groups}
+use Rattle.fast_wire.proofs.plain.is_text_of.Given as goal
+
+abbrev pub invariant-loop-i : goal.invariant-loop-i
+invariant-loop-i l = take l.i l.text ≡ take l.i (groups l.form)
