@@ -5,7 +5,7 @@ use Rattle.clap.specs.Words.{Text, first_of, matches_of, one_of}
 use Rattle.clap.specs.declared.builder.value_parser.ValueParser.{ValueParser}
 use Rattle.clap.proofs.OnLiterals.{clap_on_literals}
 use Rattle.fastcat.specs.CommandLine.{command_named, line_among}
-use Rattle.fastcat.specs.declared.command.Command.TheVariants.{Check}
+use Rattle.fast_command.specs.declared.command.Command.TheVariants.{Check}
 
 abbrev of : Text → List Text → Option Text
 of id words = first_of id (matches_of (line_among None) words)

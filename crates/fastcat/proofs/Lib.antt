@@ -1,7 +1,2 @@
 pub mod Texts
-pub mod Written
-pub mod Nested
-mod LineRows
-pub mod Carried
-pub mod Showings
 mod CommandLines

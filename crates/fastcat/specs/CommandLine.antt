@@ -6,8 +6,8 @@ use Rattle.clap.specs.Words.{App, Row, Rule, Text, first_of, matches_of, new_app
 use Rattle.clap.specs.Simple.{on_top}
 use Rattle.clap.specs.declared.builder.ArgAction.TheVariants.{SetTrue}
 use Rattle.clap.specs.declared.builder.value_parser.ValueParser.{ValueParser}
-use Rattle.fastcat.specs.declared.command.Command.{Command}
-use Rattle.fastcat.specs.declared.command.Command.TheVariants.{Show, Check, Canon}
+use Rattle.fast_command.specs.declared.command.Command.{Command}
+use Rattle.fast_command.specs.declared.command.Command.TheVariants.{Show, Check, Canon}
 
 -- ---- the words
 

@@ -1,10 +1,6 @@
 pub mod Devices
 pub mod Input
-pub mod Run
 pub mod CommandLine
 pub mod HexText
 pub mod Refusals
 pub mod Served
-pub mod Lines
-pub mod Written
-pub mod Shown

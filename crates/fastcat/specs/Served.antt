@@ -19,10 +19,10 @@ use Rattle.fastcat.specs.HexText.{digits_of}
 use Rattle.fastcat.specs.Input.{GivesNoText, IsText}
 use Rattle.fastcat.specs.Refusals.{IsOfLoad, IsOfRun, IsOfStream, IsTextOrMemory, of_template_text_lem, of_text_lem, status_of, text_of}
 use Rattle.fastcat.specs.Devices.{Inputs, Writer, input_of}
-use Rattle.fastcat.specs.Run.{Runs}
+use Rattle.fast_command.specs.Run.{Runs}
 use Rattle.fastcat.specs.CommandLine.{AsksFor}
-use Rattle.fastcat.specs.declared.command.Command.{Command}
-use Rattle.fastcat.specs.declared.command.Command.TheVariants.{Show, Check, Canon}
+use Rattle.fast_command.specs.declared.command.Command.{Command}
+use Rattle.fast_command.specs.declared.command.Command.TheVariants.{Show, Check, Canon}
 use Rattle.fastcat.specs.declared.input.TextFault.{TextFault}
 use Rattle.fastcat.specs.declared.request.Request.{Request}
 use Rattle.fastcat.specs.declared.refusal.Refusal.{Refusal}

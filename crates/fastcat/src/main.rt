@@ -3,20 +3,15 @@
 //! `fastcat show|check|canon --templates FILE [--hex] [FILE]` reads a stream of messages of any templates.
 #![tactic(auto)]
 
-pub mod command;
 mod hex_text;
 mod input;
-pub mod lines;
 mod memory;
 pub mod refusal;
 mod request;
-pub mod run;
 pub mod serve;
-mod shown;
 pub mod source;
 #[cfg(test)]
 mod tests;
-mod told;
 
 use fast_io::Counted;
 use serve::{TURNS, serve_words};

@@ -6,9 +6,9 @@ ghost use Rattle.clap.specs.Words.{app_of};
 ghost use Rattle.clap.specs.declared.builder.value_parser.ValueParser.{ValueParser};
 ghost use Rattle.fastcat.specs.CommandLine.{AsksFor, command_named, line_among};
 
-use crate::command::Command;
 use clap::error::ErrorKind;
 use clap::{Arg, ArgAction};
+use fast_command::Command;
 use std::alloc::{AllocError, Global};
 
 /// What a command line asks for.

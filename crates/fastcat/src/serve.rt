@@ -7,15 +7,14 @@ ghost use Rattle.fastcat.specs.Devices.{inputs_by, writer_by};
 ghost use Rattle.fastcat.specs.Refusals.{status_of, text_of};
 ghost use Rattle.fastcat.specs.Served.{CanonInHex, LoadsSet, Performs, PerformsAsked, PerformsHexText, PerformsInHex, PerformsOver, PerformsWith, ReadsHex, RefusesHex, RefusesTemplates, RunsPlain, Says, SaysText, WritesHex, asked_by, status_after};
 
-use crate::command::Command;
 use crate::hex_text::{hex_line, read_hex};
 use crate::input::read_text;
 use crate::memory::MemoryOutput;
 use crate::refusal::Refusal;
 use crate::request::{Request, parse_words};
-use crate::run::run;
 use crate::source::Source;
 use fast_canon::CanonFault;
+use fast_command::{Command, run};
 use fast_io::{ByteInput, ByteOutput, Counted, write_all};
 use fast_template::TemplateSet;
 use std::alloc::Global;

@@ -2,6 +2,4 @@
 
 mod devices;
 mod examples;
-mod lines;
 mod programs;
-mod streams;

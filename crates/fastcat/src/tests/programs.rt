@@ -2,7 +2,6 @@
 
 use crate::serve::{TURNS, serve, serve_words};
 use crate::tests::devices::{After, Feed, Flushed, Full, STREAM, Shelf, Sink, TEMPLATES};
-use crate::tests::lines::WORKED;
 use fast_io::Counted;
 use std::alloc::Global;
 use std::io;
@@ -31,6 +30,11 @@ fn answers<'a>(status: u8, out: &'a [u8], err: &'a str) -> Answer<'a> {
     Answer { status, out, err }
 }
 
+// The template of the streams, as examples/worked.json has it.
+const FIRST: &str = r#"{"templates":[{"name":"First","id":16,"instructions":[
+ {"kind":"uInt32","name":"A"},
+ {"kind":"uInt32","name":"B","operator":"copy"}]}]}"#;
+
 const SHOW: &[&str] = &["fastcat", "show", "--templates", TEMPLATES];
 
 const CHECK: &[&str] = &["fastcat", "check", "--templates", TEMPLATES];
@@ -58,10 +62,10 @@ fn whole(rest: &[u8]) -> Feed<'_> {
     }
 }
 
-// A shelf with the worked templates, and this standard input.
+// A shelf with that template, and this standard input.
 fn shelf(standard: Feed<'_>) -> Shelf<'_> {
     Shelf {
-        templates: whole(WORKED.as_bytes()),
+        templates: whole(FIRST.as_bytes()),
         stream: whole(TWO),
         standard,
     }

@@ -6,7 +6,7 @@ use Rattle.clap.proofs.OnLiterals.{clap_on_literals}
 use Rattle.clap.proofs.WalkLemmas.{first_value-rows, one_text-rows}
 use Rattle.std.specs.Prelude.{codes}
 use Rattle.fastcat.specs.CommandLine.{command_named, line_among}
-use Rattle.fastcat.specs.declared.command.Command.{Command}
+use Rattle.fast_command.specs.declared.command.Command.{Command}
 use Rattle.fastcat.proofs.request.parse_words.Goals as goal
 
 simple : (among : Option ValueParser) → is_simple (line_among among) ≡ true

@@ -1,0 +1,7 @@
+//! What no clause of `fast_command` says: worked streams through its calls, and devices that fail in mid-stream.
+#![tactic(auto)]
+
+#[cfg(test)]
+mod lines;
+#[cfg(test)]
+mod streams;

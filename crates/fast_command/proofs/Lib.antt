@@ -1,0 +1,5 @@
+pub mod Written
+pub mod Nested
+mod LineRows
+pub mod Carried
+pub mod Showings

@@ -1,0 +1,29 @@
+use Rattle.std.proofs.Common.{◌≡◌, ◌≤◌, ◌-◌, ◌*◌, ℕ, List, []}
+use Rattle.fast_stream.specs.Nodes.{Content}
+use Rattle.fast_decoder.specs.Inputs.{Causes, Reads, reader_by}
+use Rattle.fast_decoder.specs.declared.input.Reached.TheVariants as reached
+use Rattle.fast_command.specs.Run.{lines_in}
+use Rattle.fast_command.specs.Shown.{Adds, Stands}
+use Rattle.fast_command.proofs.shown.relay.Given as goal
+
+abbrev pub invariant-reads : goal.invariant-reads
+invariant-reads g l =
+    let a = reader_by g.R.ByteInput.left g.R.ByteInput.calls g.R.ByteInput.errors g.R.ByteInput.ends l.fn.reader in
+    let b = reader_by g.R.ByteInput.left g.R.ByteInput.calls g.R.ByteInput.errors g.R.ByteInput.ends l.reader in
+    record {
+      few : l.reads ≤ l.turns;
+      fed : l.machine.fed ≤ 4096 * l.reads;
+      set : l.machine.traversal.set ≡ l.fn.machine.traversal.set;
+      none : l.messages.items ≡ [];
+      empty : l.page.lines.items ≡ [];
+      errors : g.W.ByteOutput.errors l.writer ≡ g.W.ByteOutput.errors l.fn.writer;
+      flushes : g.W.ByteOutput.flushes l.writer ≡ g.W.ByteOutput.flushes l.fn.writer;
+      relays : Stands reached.Open l.fn.machine 0 l.turns (g.R.ByteInput.left l.fn.reader) [] []
+          → (input : List ℕ) × (messages : List Content) × Reads a b l.reads input
+          × Stands l.reached l.machine l.reads l.turns (g.R.ByteInput.left l.reader) input messages
+          × Adds (lines_in l.set messages) (g.W.ByteOutput.taken l.fn.writer) (g.W.ByteOutput.taken l.writer) l.fn.page.written l.page.written
+          × Causes reached.Open l.reached ⊥ a b;
+    }
+
+abbrev pub decreases-reads : goal.decreases-reads
+decreases-reads g l = l.turns - l.reads

@@ -1,0 +1,85 @@
+-- What a command writes of a stream, and what its run answers.
+use Rattle.std.specs.Prelude.{◌≡◌, ◌⊎◌, ℕ, List, [], ◌∷◌, ◌++◌, length, codes, decimal, Option, None, Some, Result, Ok, Err}
+use Rattle.std.specs.Io.KnownBytes.{Appends}
+use Rattle.fast_io.specs.Counts.{counted_by}
+use Rattle.fast_template.specs.TemplateSets.{TemplateList, templates_in}
+use Rattle.fast_stream.specs.declared.fault.Fault.{Fault}
+use Rattle.fast_stream.specs.Nodes.{Content}
+use Rattle.fast_decoder.specs.Inputs.{EndsWith, Refuses}
+use Rattle.fast_stream.specs.Standing.{Carried}
+use Rattle.fast_canon.specs.Canonicalised.{Canonicalises, Ends, Stops}
+use Rattle.fast_canon.specs.declared.fault.CanonFault.{CanonFault}
+use Rattle.fast_canon.specs.declared.fault.CanonFault.TheVariants as refusal
+use Rattle.fast_canon.specs.declared.summary.Summary.{Summary}
+use Rattle.fast_command.specs.Lines.{joined, line_in}
+use Rattle.fast_command.specs.declared.command.Command.{Command}
+use Rattle.fast_command.specs.declared.command.Command.TheVariants.{Show, Check, Canon}
+
+-- ---- show
+
+-- the lines of messages, one behind another; none where a message has none
+abbrev pub lines_in : TemplateList → List Content → Option (List ℕ)
+lines_in set [] = Some []
+lines_in set (m ∷ ms) = joined (line_in set m) (lines_in set ms)
+
+-- The reader has ended, and the bytes read carry the messages; their lines were written, and all is counted: the bytes
+-- written up to the greatest number that a count has.
+pub record ShowsAll (set : TemplateList) (left taken_old taken_new : Option (List ℕ)) (input : List ℕ) (summary : Summary) : Type 0 where
+  pub messages : List Content
+  pub out : List ℕ
+  pub ends : EndsWith (templates_in set) left input messages
+  pub lines : lines_in set messages ≡ Some out
+  pub written : Appends taken_old taken_new out
+  pub counts : summary ≡ record { messages = length messages; read = length input; written = counted_by 0 (length out) }
+
+-- The stream is refused: the lines of the messages before the fault were written.
+pub record ShowsBefore (set : TemplateList) (turns : ℕ) (left taken_old taken_new : Option (List ℕ)) (input : List ℕ) (fault : Fault) : Type 0 where
+  pub messages : List Content
+  pub out : List ℕ
+  pub refuses : Refuses (templates_in set) turns left input messages fault
+  pub lines : lines_in set messages ≡ Some out
+  pub written : Appends taken_old taken_new out
+
+-- A write failed or memory was refused: a front was written of the lines of messages that were read.
+pub record ShowsFront (set : TemplateList) (taken_old taken_new : Option (List ℕ)) (input : List ℕ) : Type 0 where
+  pub messages : List Content
+  pub front : List ℕ
+  pub rest : List ℕ
+  pub carried : Carried (templates_in set) input messages
+  pub lines : lines_in set messages ≡ Some (front ++ rest)
+  pub written : Appends taken_old taken_new front
+
+abbrev pub Shows : TemplateList → ℕ → Option (List ℕ) → Option (List ℕ) → Option (List ℕ) → List ℕ → Result Summary CanonFault → Type 0
+Shows set turns left taken_old taken_new input (Ok summary) = ShowsAll set left taken_old taken_new input summary
+Shows set turns left taken_old taken_new input (Err (refusal.Stream fault)) = ShowsBefore set turns left taken_old taken_new input fault
+Shows set turns left taken_old taken_new input (Err f) = ShowsFront set taken_old taken_new input
+
+-- ---- check
+
+-- what a check says that ended well
+abbrev pub ok_line : Summary → List ℕ
+ok_line s =
+    codes "ok messages=" ++ decimal s.messages ++ codes " bytes=" ++ decimal s.read ++ codes " canonical=" ++ decimal s.written ++ codes "\n"
+
+-- A write failed or memory was refused: a front was written of what a check says, and nothing where it did not end well.
+pub record TellsFront (set : TemplateList) (left taken_old taken_new : Option (List ℕ)) (input : List ℕ) : Type 0 where
+  pub summary : Summary
+  pub front : List ℕ
+  pub rest : List ℕ
+  pub line : ok_line summary ≡ front ++ rest
+  pub ended : Ends (templates_in set) left None None input summary ⊎ (front ≡ [])
+  pub written : Appends taken_old taken_new front
+
+abbrev pub Tells : TemplateList → ℕ → Option (List ℕ) → Option (List ℕ) → Option (List ℕ) → List ℕ → Result Summary CanonFault → Type 0
+Tells set turns left taken_old taken_new input (Ok summary) =
+    Ends (templates_in set) left None None input summary × Appends taken_old taken_new (ok_line summary)
+Tells set turns left taken_old taken_new input (Err (refusal.Stream fault)) =
+    Stops (templates_in set) turns left None None input fault × Appends taken_old taken_new []
+Tells set turns left taken_old taken_new input (Err f) = TellsFront set left taken_old taken_new input
+
+-- ---- a command
+
+abbrev pub Runs : Command → TemplateList → ℕ → Option (List ℕ) → Option (List ℕ) → Option (List ℕ) → List ℕ → Result Summary CanonFault → Type 0
+Runs Show set turns left taken_old taken_new input r = Shows set turns left taken_old taken_new input r
+Runs Check set turns left taken_old taken_new input r = Tells set turns left taken_old taken_new input r
+Runs Canon set turns left taken_old taken_new input r = Canonicalises (templates_in set) turns left taken_old taken_new input r

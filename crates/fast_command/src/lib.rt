@@ -1,0 +1,10 @@
+//! Commands over a stream: a line for each of its messages, what a check counts of it, or its canonical bytes.
+#![tactic(auto)]
+
+mod command;
+mod lines;
+mod shown;
+mod told;
+
+pub use command::{Command, run};
+pub use lines::{ShowFault, show_line};
