@@ -21,23 +21,15 @@ mod integers;
 pub mod laws;
 mod left_out;
 mod number;
-#[cfg(test)]
-mod number_tests;
 mod pieces;
 mod plan;
 mod read;
 mod refuse;
 mod string;
 mod tail;
-#[cfg(test)]
-mod tests;
 mod text;
-#[cfg(test)]
-mod text_tests;
 mod whole;
 mod write;
-#[cfg(test)]
-mod write_tests;
 
 pub use afterwards::next_entry;
 pub use fault::{FieldFault, FieldRefusal};

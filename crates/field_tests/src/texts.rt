@@ -1,8 +1,8 @@
 //! Rows on strings and vectors that are relayed at once.
 
-use crate::relay_text;
-use crate::tests::{ascii, part_of};
+use crate::fields::{ascii, part_of};
 use fast_dictionary::Entry;
+use fast_field::relay_text;
 use fast_template::{FieldPart, Kind, Operator, Part, Presence};
 use std::alloc::{AllocError, Global};
 use std::process::Abort;

@@ -2,17 +2,21 @@
 
 ghost use Rattle.std.specs.Prelude.{◌≡◌, IfOk, IfSome, IsTrue};
 ghost use Rattle.fast_dictionary.specs.Dictionary.{entry_of};
+ghost use Rattle.fast_dictionary.specs.declared.entry.Entry as entry;
 ghost use Rattle.fast_template.specs.Scalar.{IsScalar, is_of};
 ghost use Rattle.fast_template.specs.TemplateSets.{applies};
 ghost use Rattle.fast_template.specs.declared.kind.Kind.TheVariants as kind;
 ghost use Rattle.fast_template.specs.declared.kind.Operator.TheVariants as op;
 ghost use Rattle.fast_template.specs.declared.kind.Presence.TheVariants.{Optional};
+ghost use Rattle.fast_field.specs.Found.{CanLie};
 ghost use Rattle.fast_field.specs.Parts.{IsFieldPart};
 ghost use Rattle.fast_field.specs.Within.{HoldsScalar};
 
-use crate::tests::{ascii, field, part_of, unicode};
-use crate::*;
+use crate::fields::{ascii, field, part_of, unicode};
 use fast_dictionary::{Entry, EntryRef};
+use fast_field::{
+    FieldRefusal, Found, Plan, next_entry, plan_field, write_field, write_found, write_in_place,
+};
 use fast_template::{FieldPart, Kind, Operator, Part, Presence, Scalar};
 use std::alloc::{AllocError, Global};
 use std::process::Abort;
@@ -153,6 +157,16 @@ fn written_in_place(
     Ok(())
 }
 
+// A value of its own, or none, as what was found.
+fn found(value: Option<Scalar>) -> Found
+    ensures { (e : entry.Entry) → CanLie e result }
+{
+    match value {
+        None => Found::Absent,
+        Some(value) => Found::Value(value),
+    }
+}
+
 // The same of a value that is moved into its entry.
 fn written_where_found(
     rt: &impl Abort,
@@ -167,7 +181,7 @@ fn written_where_found(
 {
     let mut moved = entry;
     let mut out = Vec::new(alloc);
-    match write_found(alloc, instr, &mut moved, Found::own(value), &mut out) {
+    match write_found(alloc, instr, &mut moved, found(value), &mut out) {
         Ok((_, answer)) => assert_eq!(rt; answer, wanted.0),
         Err(FieldRefusal::Memory) => {
             assert_eq!(rt; out.as_slice(), [].as_slice());

@@ -1,8 +1,8 @@
 //! Rows on fields that are passed and relayed at once.
 
-use crate::tests::{ascii, part_of};
-use crate::*;
+use crate::fields::{ascii, part_of};
 use fast_dictionary::Entry;
+use fast_field::{Passed, pass_left_out, relay_number};
 use fast_template::{FieldPart, Kind, Operator, Part, Presence, Scalar};
 use std::alloc::{AllocError, Global};
 use std::process::Abort;

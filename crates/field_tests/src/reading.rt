@@ -1,74 +1,12 @@
-//! Rows on single fields that are read, by the calls, and what tests make fields of. A test has few rows and makes
-//! nothing of its own, since each value that lies there at a `?` makes its proof longer.
+//! Rows on single fields that are read, by the calls. A test has few rows and makes nothing of its own, since each
+//! value that lies there at a `?` makes its proof longer.
 
-ghost use Rattle.std.specs.Prelude.{◌≡◌, IfOk, IsTrue};
-ghost use Rattle.fast_template.specs.TemplateSets.{applies};
-ghost use Rattle.fast_template.specs.declared.kind.Operator.TheVariants as op;
-ghost use Rattle.fast_template.specs.declared.scalar.Scalar.TheVariants as scalar;
-ghost use Rattle.fast_template.specs.declared.kind.Presence.TheVariants.{Optional};
-ghost use Rattle.fast_field.specs.Parts.{IsFieldPart};
-
-use crate::*;
+use crate::fields::{ascii, part_of, unicode};
 use fast_dictionary::{Entry, EntryRef};
-use fast_template::{
-    ByteString, FieldPart, Key, Kind, Name, Operator, Part, Presence, Scalar, Scope, UnicodeText,
-};
+use fast_field::{FieldFault, find_field, next_entry, read_field, read_in_place};
+use fast_template::{ByteString, FieldPart, Kind, Operator, Part, Presence, Scalar};
 use std::alloc::{AllocError, Global};
 use std::process::Abort;
-
-// A field with a key of its own.
-pub(crate) fn part_of(
-    alloc: Global,
-    part: Part,
-    kind: Kind,
-    presence: Presence,
-    operator: Operator,
-    initial: Option<Scalar>,
-) -> Result<FieldPart, AllocError>
-    ensures { IfOk result (λ i. (i.part ≡ part) × (i.kind ≡ kind) × (i.presence ≡ presence)
-        × (i.operator ≡ operator) × (i.initial ≡ initial)) }
-{
-    let name = Name::from_string(String::from_str(alloc, "F")?);
-    Ok(FieldPart {
-        number: 1,
-        part,
-        kind,
-        presence,
-        operator,
-        initial,
-        key: Key {
-            slot: 1,
-            scope: Scope::Global,
-            name,
-            part,
-        },
-    })
-}
-
-pub(crate) fn field(
-    alloc: Global,
-    kind: Kind,
-    presence: Presence,
-    operator: Operator,
-) -> Result<FieldPart, AllocError>
-    requires applies { IsTrue (applies operator kind) }
-    requires constant { operator ≡ op.Constant → ⊥ }
-    requires default { operator ≡ op.Default → presence ≡ Optional }
-    ensures { IfOk result IsFieldPart }
-{
-    part_of(alloc, Part::Whole, kind, presence, operator, None)
-}
-
-pub(crate) fn ascii(alloc: Global, text: &[u8]) -> Result<Scalar, AllocError>
-    ensures { IfOk result (λ v. v ≡ scalar.Ascii text.now) }
-{
-    Ok(Scalar::Ascii(ByteString::from_vec(text.to_vec(alloc)?)))
-}
-
-pub(crate) fn unicode(alloc: Global, text: &str) -> Result<Scalar, AllocError> {
-    let text = String::from_str(alloc, text)?;
-    Ok(Scalar::Unicode(UnicodeText::from_string(text)))
-}
 
 // What is read: a value, the entry afterwards, and the place after it.
 type Read = Result<(Option<Scalar>, Entry, usize), FieldFault>;
