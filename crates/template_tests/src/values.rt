@@ -1,41 +1,10 @@
-mod build;
-mod json;
-mod worked;
+//! Values, keys and what asks for a bit.
 
-use crate::bits::{has_map, needs_bit, part_needs_bit};
-use crate::fault::{LoadCause, LoadFault};
-use crate::key::{Key, Name, Scope};
-use crate::kind::{Kind, Operator, Part, Presence};
-use crate::resolved::{FieldPart, Flat};
-use crate::scalar::{ByteString, Scalar};
-use crate::set::TemplateSet;
-use crate::unicode_text::UnicodeText;
+use fast_template::{
+    ByteString, FieldPart, Flat, Key, Kind, Name, Operator, Part, Presence, Scalar, Scope,
+    UnicodeText, has_map, needs_bit, part_needs_bit,
+};
 use std::alloc::{AllocError, Global};
-
-// What a load answers, where it is not refused for memory. Want of memory ends a test, so that one whose
-// allocations fail in turn ends with that error or with its row.
-fn granted(
-    loaded: Result<TemplateSet, LoadFault>,
-) -> Result<Result<TemplateSet, LoadFault>, AllocError> {
-    match loaded {
-        Err(
-            LoadFault {
-                cause: LoadCause::Memory,
-                template: 0,
-                instruction: 0,
-            },
-        ) => Err(AllocError),
-        other => Ok(other),
-    }
-}
-
-fn at(cause: LoadCause, template: u32, instruction: u32) -> Option<LoadFault> {
-    Some(LoadFault {
-        cause,
-        template,
-        instruction,
-    })
-}
 
 fn name(alloc: Global, text: &str) -> Result<Name, AllocError> {
     Ok(Name::from_string(String::from_str(alloc, text)?))

@@ -1,10 +1,10 @@
-use super::{at, granted};
-use crate::fault::{LoadCause, LoadFault};
-use crate::kind::{Kind, Operator, Presence};
-use crate::resolved::{FieldPart, Flat};
-use crate::scalar::Scalar;
-use crate::set::TemplateSet;
-use crate::written::{Instruction, Operation, Template};
+//! Templates that are built.
+
+use crate::loads::{at, granted};
+use fast_template::{
+    FieldPart, Flat, Instruction, Kind, LoadCause, LoadFault, Operation, Operator, Presence,
+    Scalar, Template, TemplateSet,
+};
 use std::alloc::{AllocError, Global};
 
 fn text(alloc: Global, given: Option<&str>) -> Result<Option<String>, AllocError> {

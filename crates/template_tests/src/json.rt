@@ -1,6 +1,7 @@
-use super::{at, granted};
-use crate::fault::{LoadCause, LoadFault};
-use crate::set::TemplateSet;
+//! Texts that are loaded.
+
+use crate::loads::{at, granted};
+use fast_template::{LoadCause, LoadFault, TemplateSet};
 use std::alloc::{AllocError, Global};
 
 // The fault of a text, if it has one; want of memory ends the test.

@@ -1,7 +1,7 @@
-use super::granted;
-use crate::resolved::{FieldPart, Flat};
-use crate::scalar::Scalar;
-use crate::set::TemplateSet;
+//! The worked templates.
+
+use crate::loads::granted;
+use fast_template::{FieldPart, Flat, Scalar, TemplateSet};
 use std::alloc::{AllocError, Global};
 
 // The text of the worked templates.
