@@ -19,8 +19,6 @@ mod messages;
 mod part;
 mod place;
 mod receiver;
-#[cfg(test)]
-mod tests;
 mod traversal;
 mod walk;
 

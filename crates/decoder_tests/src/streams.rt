@@ -1,14 +1,11 @@
 //! Worked streams: their messages and their faults, however the bytes come.
 
-ghost use Rattle.std.specs.Prelude.{◌≤◌, IfOk, length};
+ghost use Rattle.std.specs.Prelude.{◌≤◌, length};
 ghost use Rattle.fast_decoder.specs.Traversals.{ServesAll};
 
-use crate::decoder::Decoder;
-use crate::fault::{Cause, Fault};
-use crate::input::MessageInputStream;
-use crate::message::{Message, Node};
-use crate::place::Place;
-use fast_dictionary::{Entries, MapEntries, SlotEntries};
+use crate::slots::slots_of;
+use fast_decoder::{Cause, Decoder, Fault, Message, MessageInputStream, Node, Place};
+use fast_dictionary::{Entries, MapEntries};
 use fast_io::{Counted, ScriptInput};
 use fast_template::{ByteString, Scalar, TemplateSet};
 use std::alloc::{AllocError, Global};
@@ -66,20 +63,6 @@ const WORKED: &str = r#"{"templates":[
 {"name":"First","id":16,"instructions":[
  {"kind":"uInt32","name":"A"},
  {"kind":"uInt32","name":"B","operator":"copy"}]}]}"#;
-
-// Slots of a set, which serve its keys.
-pub(super) fn slots_of<'a>(
-    alloc: Global,
-    set: &'a TemplateSet,
-) -> Result<SlotEntries<'a>, AllocError>
-    ensures { IfOk result
-        (λ s. ServesAll (⟦<SlotEntries<'a> as Entries>⟧.serves s) set.now) }
-{
-    match SlotEntries::new(alloc, set) {
-        Err(error) => Err(error),
-        Ok(entries) => Ok(entries),
-    }
-}
 
 // Whether these bytes are fed with no fault.
 fn feeds<E: Entries>(decoder: &mut Decoder<'_, E>, bytes: &[u8], out: &mut Vec<Message>) -> bool {

@@ -1,12 +1,9 @@
-mod rows;
+//! Messages, and the calls that read one.
 
 ghost use Rattle.fast_decoder.specs.Traversals.{ServesAll};
 
-use crate::decoder::Decoder;
-use crate::fault::{Cause, Fault};
-use crate::message::{Message, Node};
-use crate::place::Place;
-use crate::tests::rows::slots_of;
+use crate::slots::slots_of;
+use fast_decoder::{Cause, Decoder, Fault, Message, Node, Place};
 use fast_dictionary::{Entries, MapEntries};
 use fast_template::{ByteString, LoadFault, Scalar, TemplateSet};
 use std::alloc::{AllocError, Global};
