@@ -1,6 +1,6 @@
 //! The vectors of every form, read, written and sized, and calls at their limits.
 
-use crate::*;
+use fast_wire::*;
 use std::test::Fail;
 
 /// A value, and its shortest form.
