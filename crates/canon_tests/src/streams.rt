@@ -2,9 +2,7 @@
 
 ghost use Rattle.std.specs.Prelude.{◌≤◌};
 
-use crate::canonical::{canonicalise, check};
-use crate::fault::CanonFault;
-use crate::summary::Summary;
+use fast_canon::{CanonFault, Summary, canonicalise, check};
 use fast_decoder::{Cause, Fault, Place};
 use fast_io::{Counted, ScriptInput, ScriptOutput};
 use fast_template::{LoadFault, TemplateSet};

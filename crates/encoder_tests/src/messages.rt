@@ -3,12 +3,10 @@
 ghost use Rattle.std.specs.Prelude.{IfOk};
 ghost use Rattle.fast_decoder.specs.Traversals.{ServesAll};
 
-use crate::encoder::Encoder;
-use crate::fault::{EncodeCause, EncodeFault};
-use crate::output::MessageOutputStream;
-use crate::tests::{WORKED, quote};
+use crate::worked::{WORKED, quote};
 use fast_decoder::{Decoder, Message, Node};
 use fast_dictionary::{Entries, MapEntries, SlotEntries};
+use fast_encoder::{EncodeCause, EncodeFault, Encoder, MessageOutputStream};
 use fast_io::{Counted, ScriptOutput};
 use fast_template::{ByteString, Scalar, TemplateSet, UnicodeText};
 use std::alloc::{AllocError, Global};

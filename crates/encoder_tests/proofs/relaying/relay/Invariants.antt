@@ -1,6 +1,6 @@
 use Rattle.std.proofs.Common.{length, ◌-◌, ◌≡◌, ◌≤◌}
 use Rattle.fast_decoder.specs.declared.traversal.Stage.TheVariants as stage
-use Rattle.fast_encoder.proofs.tests.relay.Given as goal
+use Rattle.encoder_tests.proofs.relaying.relay.Given as goal
 
 abbrev pub invariant-stream : goal.invariant-stream
 invariant-stream l = record {

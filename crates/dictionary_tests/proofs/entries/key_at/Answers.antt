@@ -2,8 +2,8 @@ use Rattle.std.proofs.Common.{arith, subst}
 use Rattle.std.specs.Prelude.{Contains, IfSome}
 use Rattle.fast_template.specs.declared.resolved.Flat.{Flat}
 use Rattle.fast_template.specs.Resolved.{instruction_of, keys_of_one}
-use Rattle.fast_dictionary.proofs.FoundKeys.{key_of_item}
-use Rattle.fast_dictionary.proofs.tests.key_at.Goals as goal
+use Rattle.dictionary_tests.proofs.FoundKeys.{key_of_item}
+use Rattle.dictionary_tests.proofs.entries.key_at.Goals as goal
 
 pub returns-then-place-len : goal.returns-then-place-len
 returns-then-place-len c =

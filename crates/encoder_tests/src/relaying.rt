@@ -1,67 +1,12 @@
 //! Streams that are read and written at once, by the calls.
 
-use crate::fault::{EncodeCause, EncodeFault};
-use crate::judge::template_for;
-use crate::writer::Writer;
-use fast_decoder::{Message, Node, Receiver, Traversal};
+use crate::worked::WORKED;
+use fast_decoder::{Receiver, Traversal};
 use fast_dictionary::MapEntries;
-use fast_template::{ByteString, Scalar, TemplateSet};
+use fast_encoder::Writer;
+use fast_template::TemplateSet;
 use std::alloc::{AllocError, Global};
 use std::process::Abort;
-
-// The templates of the worked streams.
-pub(crate) const WORKED: &str = r#"{"templates":[
-{"name":"Quote","id":1,"instructions":[
- {"kind":"uInt32","name":"Seq","operator":"increment"},
- {"kind":"string","name":"Sym","operator":"copy"},
- {"kind":"decimal","name":"Px","operator":"delta"},
- {"kind":"uInt32","name":"Qty","presence":"optional","operator":"copy"}]},
-{"name":"Wrap","id":2,"instructions":[
- {"kind":"uInt32","name":"A","operator":"increment"},
- {"kind":"uInt32","name":"B","operator":"delta"}]},
-{"name":"Opt","id":3,"instructions":[
- {"kind":"decimal","name":"Px","presence":"optional",
-  "exponent":{"operator":"default","value":"2"},"mantissa":{"operator":"copy"}},
- {"kind":"uInt32","name":"Flag","operator":"copy"}]},
-{"name":"Legs","id":4,"instructions":[
- {"kind":"sequence","name":"L","presence":"optional","instructions":[
-  {"kind":"uInt32","name":"P"}]}]},
-{"name":"Marks","id":5,"instructions":[
- {"kind":"sequence","name":"L","instructions":[
-  {"kind":"uInt32","name":"Q","operator":"copy"}]}]},
-{"name":"Bare","id":6,"instructions":[
- {"kind":"sequence","name":"L","instructions":[]}]},
-{"name":"Clash","id":7,"instructions":[
- {"kind":"uInt32","name":"A","operator":"copy","key":"K"},
- {"kind":"string","name":"B","operator":"copy","key":"K"}]},
-{"name":"Tail","id":8,"instructions":[
- {"kind":"string","name":"S","presence":"optional","operator":"tail"}]},
-{"name":"Init","id":9,"instructions":[
- {"kind":"string","name":"S","presence":"optional","operator":"tail","value":"ab"}]},
-{"name":"Delta","id":10,"instructions":[
- {"kind":"string","name":"S","operator":"delta"}]},
-{"name":"Common","instructions":[
- {"kind":"uInt32","name":"B","operator":"copy"}]},
-{"name":"Grp","id":11,"instructions":[
- {"kind":"group","name":"Hd","presence":"optional","instructions":[
-  {"kind":"uInt32","name":"A","operator":"copy"}]},
- {"kind":"templateRef","name":"Common"}]},
-{"name":"Uni","id":12,"instructions":[
- {"kind":"string","charset":"unicode","name":"S","operator":"tail"}]},
-{"name":"Empty","id":13,"instructions":[
- {"kind":"uInt32","name":"A","presence":"optional","operator":"copy","key":"K"},
- {"kind":"uInt32","name":"B","operator":"delta","key":"K"}]},
-{"name":"Const","id":14,"instructions":[
- {"kind":"uInt32","name":"K","operator":"constant","value":"7"},
- {"kind":"uInt32","name":"O","presence":"optional","operator":"constant","value":"9"},
- {"kind":"uInt32","name":"D","operator":"default","value":"3"}]},
-{"name":"Fixed","id":15,"instructions":[
- {"kind":"decimal","name":"Px",
-  "exponent":{"operator":"constant","value":"-2"},"mantissa":{"operator":"delta"}},
- {"kind":"byteVector","name":"Raw","presence":"optional","operator":"copy"}]},
-{"name":"First","id":16,"instructions":[
- {"kind":"uInt32","name":"A"},
- {"kind":"uInt32","name":"B","operator":"copy"}]}]}"#;
 
 // Reads a stream to its end or its first fault, and writes; answers the writer, and whether there was a fault.
 fn relay(alloc: Global, set: &TemplateSet, stream: &[u8]) -> (Writer, bool) {
@@ -299,74 +244,4 @@ fn many_elements_of_nothing(rt: HostRuntime) -> Result<(), AllocError> {
     let alloc = rt.alloc();
     let stream = b"\xc0\x86\x03\x7f\xff";
     check(&rt, alloc, stream, stream, false)
-}
-
-// A Quote with this symbol, as far as so many nodes.
-pub(crate) fn quote(alloc: Global, symbol: &[u8], nodes: usize) -> Result<Message, AllocError> {
-    let symbol = ByteString::from_vec(symbol.to_vec(alloc)?);
-    let mut fields = vec![in alloc;
-        Node::Value(Scalar::U32(1)),
-        Node::Value(Scalar::Ascii(symbol)),
-        Node::Value(Scalar::Decimal {
-            exponent: 64,
-            mantissa: 1,
-        }),
-        Node::Absent,
-    ]?;
-    fields.truncate(nodes);
-    Ok(Message {
-        template: 1,
-        fields,
-    })
-}
-
-// A message is refused for this before its fields are looked at.
-fn judged(
-    rt: &impl Abort,
-    alloc: Global,
-    message: &Message,
-    cause: EncodeCause,
-) -> Result<(), AllocError> {
-    let Ok(set) = TemplateSet::from_json(alloc, WORKED.as_bytes()) else {
-        panic!(rt; "refused");
-    };
-    let fault = match template_for(&set, message) {
-        Ok(_) => None,
-        Err(fault) => Some(fault),
-    };
-    let instruction = 0;
-    assert_eq!(rt; fault, Some(EncodeFault { cause, instruction }));
-    Ok(())
-}
-
-#[test]
-fn a_message_is_judged_before_its_fields(rt: HostRuntime) -> Result<(), AllocError> {
-    let alloc = rt.alloc();
-    let unknown = Message {
-        template: 100,
-        fields: Vec::new(alloc),
-    };
-    judged(&rt, alloc, &unknown, EncodeCause::D9)?;
-    judged(&rt, alloc, &quote(alloc, b"AB", 3)?, EncodeCause::Mismatch)?;
-    judged(
-        &rt,
-        alloc,
-        &quote(alloc, b"A\x80", 4)?,
-        EncodeCause::Mismatch,
-    )?;
-    let long = vec![in alloc; b'A'; 65_536]?;
-    judged(&rt, alloc, &quote(alloc, &long, 4)?, EncodeCause::Limit)?;
-    judged(&rt, alloc, &quote(alloc, &long, 3)?, EncodeCause::Mismatch)?;
-    Ok(())
-}
-
-#[test]
-fn a_message_may_be_judged_by_its_fields(rt: HostRuntime) -> Result<(), AllocError> {
-    let alloc = rt.alloc();
-    let Ok(set) = TemplateSet::from_json(alloc, WORKED.as_bytes()) else {
-        panic!(rt; "refused");
-    };
-    let message = quote(alloc, &[], 4)?;
-    assert!(rt; template_for(&set, &message).is_ok());
-    Ok(())
 }

@@ -1,10 +1,9 @@
+//! Entries through the trait, over both kinds, and copies of references.
+
 ghost use Rattle.std.specs.Prelude.{Contains, IfSome, IsTrue};
 ghost use Rattle.fast_template.specs.Resolved.{instruction_of, keys_of, keys_of_one, list_of};
 
-use crate::entries::Entries;
-use crate::entry::{Entry, EntryRef};
-use crate::map::MapEntries;
-use crate::slots::SlotEntries;
+use fast_dictionary::{Entries, Entry, EntryRef, MapEntries, SlotEntries};
 use fast_template::{
     Flat, FlatTemplate, Key, LoadCause, LoadFault, Name, Part, Scalar, Scope, TemplateSet,
     UnicodeText,
