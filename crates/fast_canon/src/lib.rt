@@ -7,8 +7,6 @@ pub mod laws;
 mod nowhere;
 mod relay;
 mod summary;
-#[cfg(test)]
-mod tests;
 
 pub use canonical::{canonicalise, check};
 pub use fault::CanonFault;

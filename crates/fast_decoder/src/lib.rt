@@ -8,8 +8,6 @@
 mod builder;
 mod decoder;
 mod input;
-#[cfg(test)]
-mod tests;
 
 pub use builder::{Builder, Level};
 pub use decoder::Decoder;

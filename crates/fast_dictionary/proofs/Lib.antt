@@ -1,3 +1,2 @@
-pub mod FoundKeys
 pub mod OrderedMaps
 pub mod SlotMaps

@@ -5,8 +5,6 @@ mod entries;
 mod entry;
 mod map;
 mod slots;
-#[cfg(test)]
-mod tests;
 
 pub use entries::Entries;
 pub use entry::{Entry, EntryRef};

@@ -7,8 +7,6 @@
 //! [`Writer`] is a receiver of `fast_stream`'s traversal: it writes the canonical bytes of messages as they are read.
 #![tactic(auto)]
 
-#[cfg(test)]
-mod encode_tests;
 mod encoder;
 mod fault;
 mod fit;
@@ -24,8 +22,6 @@ mod quick;
 mod relay;
 mod shape;
 mod size;
-#[cfg(test)]
-mod tests;
 mod writer;
 
 pub use encoder::Encoder;

@@ -21,8 +21,6 @@ mod integers;
 pub mod laws;
 mod left_out;
 mod number;
-#[cfg(test)]
-mod number_tests;
 mod pieces;
 mod plain;
 mod plan;
@@ -30,15 +28,9 @@ mod read;
 mod refuse;
 mod string;
 mod tail;
-#[cfg(test)]
-mod tests;
 mod text;
-#[cfg(test)]
-mod text_tests;
 mod whole;
 mod write;
-#[cfg(test)]
-mod write_tests;
 
 pub use afterwards::next_entry;
 pub use fault::{FieldFault, FieldRefusal};

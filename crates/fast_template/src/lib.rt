@@ -32,8 +32,6 @@ mod set;
 mod settle;
 mod slots;
 mod surroundings;
-#[cfg(test)]
-mod tests;
 mod unicode_text;
 mod walk;
 mod written;

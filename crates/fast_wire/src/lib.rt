@@ -18,8 +18,6 @@ mod presence_map;
 mod short_integer;
 mod span;
 mod stop_bit;
-#[cfg(test)]
-mod tests;
 mod text;
 mod vector;
 

@@ -1,0 +1,5 @@
+//! The tests of fast_canon.
+#![tactic(auto)]
+
+#[cfg(test)]
+mod streams;

@@ -1,0 +1,9 @@
+//! The tests of fast_decoder.
+#![tactic(auto)]
+
+#[cfg(test)]
+mod messages;
+#[cfg(test)]
+mod slots;
+#[cfg(test)]
+mod streams;

@@ -1,0 +1,5 @@
+//! The tests of fast_dictionary.
+#![tactic(auto)]
+
+#[cfg(test)]
+mod entries;

@@ -1,0 +1,13 @@
+//! The tests of fast_field.
+#![tactic(auto)]
+
+#[cfg(test)]
+mod fields;
+#[cfg(test)]
+mod numbers;
+#[cfg(test)]
+mod reading;
+#[cfg(test)]
+mod texts;
+#[cfg(test)]
+mod writing;

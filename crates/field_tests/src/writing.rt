@@ -1,0 +1,652 @@
+//! Rows on single fields that are planned and written, by the calls.
+
+ghost use Rattle.std.specs.Prelude.{◌≡◌, IfOk, IfSome, IsTrue};
+ghost use Rattle.fast_dictionary.specs.Dictionary.{entry_of};
+ghost use Rattle.fast_dictionary.specs.declared.entry.Entry as entry;
+ghost use Rattle.fast_template.specs.Scalar.{IsScalar, is_of};
+ghost use Rattle.fast_template.specs.TemplateSets.{applies};
+ghost use Rattle.fast_template.specs.declared.kind.Kind.TheVariants as kind;
+ghost use Rattle.fast_template.specs.declared.kind.Operator.TheVariants as op;
+ghost use Rattle.fast_template.specs.declared.kind.Presence.TheVariants.{Optional};
+ghost use Rattle.fast_field.specs.Found.{CanLie};
+ghost use Rattle.fast_field.specs.Parts.{IsFieldPart};
+ghost use Rattle.fast_field.specs.Within.{HoldsScalar};
+
+use crate::fields::{ascii, field, part_of, unicode};
+use fast_dictionary::{Entry, EntryRef};
+use fast_field::{
+    FieldRefusal, Found, Plan, next_entry, plan_field, write_field, write_found, write_in_place,
+};
+use fast_template::{FieldPart, Kind, Operator, Part, Presence, Scalar};
+use std::alloc::{AllocError, Global};
+use std::process::Abort;
+use std::test::Fail;
+
+// A number with an initial value.
+fn number_with(
+    alloc: Global,
+    presence: Presence,
+    operator: Operator,
+    number: u32,
+) -> Result<FieldPart, AllocError>
+    requires { IsTrue (applies operator kind.UInt32) }
+    ensures { IfOk result IsFieldPart }
+{
+    let initial = Some(Scalar::U32(number));
+    part_of(
+        alloc,
+        Part::Whole,
+        Kind::UInt32,
+        presence,
+        operator,
+        initial,
+    )
+}
+
+// A constant exponent of a decimal in parts.
+fn fixed_exponent(alloc: Global) -> Result<FieldPart, AllocError>
+    ensures { IfOk result IsFieldPart }
+{
+    let initial = Some(Scalar::I32(-2));
+    part_of(
+        alloc,
+        Part::Exponent,
+        Kind::Int32,
+        Presence::Mandatory,
+        Operator::Constant,
+        initial,
+    )
+}
+
+// These characters, or none if they are not of ASCII.
+fn checked_text(alloc: Global, text: &[u8]) -> Result<Option<Scalar>, AllocError>
+    ensures { IfOk result (λ v. IfSome v (λ v. IsTrue (is_of kind.Ascii v) × IsScalar v)) }
+{
+    if text.len() > 65_535 || !text.is_ascii() {
+        return Ok(None);
+    }
+    Ok(Some(ascii(alloc, text)?))
+}
+
+// An optional ASCII tail with this initial value.
+fn tail_with(alloc: Global, text: &[u8]) -> Result<FieldPart, AllocError>
+    ensures { IfOk result IsFieldPart }
+{
+    let initial = checked_text(alloc, text)?;
+    part_of(
+        alloc,
+        Part::Whole,
+        Kind::Ascii,
+        Presence::Optional,
+        Operator::Tail,
+        initial,
+    )
+}
+
+// An entry with these characters.
+fn text_entry(alloc: Global, text: &[u8]) -> Result<Entry, AllocError>
+    ensures { IfOk result HoldsScalar }
+{
+    match checked_text(alloc, text)? {
+        Some(text) => Ok(Entry::Assigned(text)),
+        None => Ok(Entry::Undefined),
+    }
+}
+
+// A value is planned so, or refused so.
+fn planned(
+    rt: &impl Abort,
+    instr: &FieldPart,
+    entry: EntryRef,
+    value: Option<&Scalar>,
+    wanted: Result<Plan, FieldRefusal>,
+)
+    requires part { IsFieldPart instr.now }
+    requires entry { HoldsScalar (entry_of entry) }
+{
+    assert_eq!(rt; plan_field(instr, entry, value), wanted);
+}
+
+// A value is written behind a byte that is there. Want of memory appends nothing, and ends the test.
+fn appended(
+    rt: &impl Abort,
+    alloc: Global,
+    instr: &FieldPart,
+    entry: EntryRef,
+    value: Option<&Scalar>,
+    bytes: &[u8],
+) -> Result<(), AllocError>
+    requires part { IsFieldPart instr.now }
+    requires entry { HoldsScalar (entry_of entry) }
+{
+    let mut out = vec![in alloc; 0x2a]?;
+    let answer = write_field(instr, entry, value, &mut out);
+    if let Err(FieldRefusal::Memory) = answer {
+        assert_eq!(rt; out.as_slice(), [0x2a].as_slice());
+        return Err(AllocError);
+    }
+    assert_eq!(rt; answer, Ok(()));
+    assert!(rt; out.starts_with(&[0x2a]) && out.ends_with(bytes));
+    assert_eq!(rt; out.len(), 1 + bytes.len());
+    Ok(())
+}
+
+// A value is written, and its entry changed where it lies. Want of memory leaves both, and ends the test.
+fn written_in_place(
+    rt: &impl Abort,
+    alloc: Global,
+    instr: &FieldPart,
+    entry: &Entry,
+    value: Option<&Scalar>,
+    wanted: (bool, &[u8], &Entry),
+) -> Result<(), AllocError>
+    requires part { IsFieldPart instr.now }
+    requires entry { HoldsScalar entry.now }
+{
+    let mut changed = entry.view().copy(alloc)?;
+    let mut out = Vec::new(alloc);
+    let answer = write_in_place(alloc, instr, &mut changed, value, &mut out);
+    if let Err(FieldRefusal::Memory) = answer {
+        assert_eq!(rt; &changed, entry);
+        assert_eq!(rt; out.as_slice(), [].as_slice());
+        return Err(AllocError);
+    }
+    assert_eq!(rt; answer, Ok(wanted.0));
+    assert_eq!(rt; out.as_slice(), wanted.1);
+    assert_eq!(rt; &changed, wanted.2);
+    Ok(())
+}
+
+// A value of its own, or none, as what was found.
+fn found(value: Option<Scalar>) -> Found
+    ensures { (e : entry.Entry) → CanLie e result }
+{
+    match value {
+        None => Found::Absent,
+        Some(value) => Found::Value(value),
+    }
+}
+
+// The same of a value that is moved into its entry.
+fn written_where_found(
+    rt: &impl Abort,
+    alloc: Global,
+    instr: &FieldPart,
+    entry: Entry,
+    value: Option<Scalar>,
+    wanted: (bool, &[u8], Entry),
+) -> Result<(), AllocError>
+    requires part { IsFieldPart instr.now }
+    requires entry { HoldsScalar entry }
+{
+    let mut moved = entry;
+    let mut out = Vec::new(alloc);
+    match write_found(alloc, instr, &mut moved, found(value), &mut out) {
+        Ok((_, answer)) => assert_eq!(rt; answer, wanted.0),
+        Err(FieldRefusal::Memory) => {
+            assert_eq!(rt; out.as_slice(), [].as_slice());
+            return Err(AllocError);
+        }
+        Err(refusal) => assert_eq!(rt; Err(refusal), Ok(())),
+    }
+    assert_eq!(rt; out.as_slice(), wanted.1);
+    assert_eq!(rt; moved, wanted.2);
+    Ok(())
+}
+
+// A value is planned, and written by each call.
+fn written(
+    rt: &impl Abort,
+    alloc: Global,
+    instr: &FieldPart,
+    entry: Entry,
+    value: Option<Scalar>,
+    bit: bool,
+    bytes: &[u8],
+) -> Result<(), AllocError>
+    requires part { IsFieldPart instr.now }
+    requires entry { HoldsScalar entry }
+{
+    let size = bytes.len();
+    planned(
+        rt,
+        instr,
+        entry.view(),
+        value.as_ref(),
+        Ok(Plan { bit, size }),
+    );
+    appended(rt, alloc, instr, entry.view(), value.as_ref(), bytes)?;
+    let after = next_entry(alloc, instr, entry.view(), value.as_ref())?;
+    let wanted = (bit, bytes, &after);
+    written_in_place(rt, alloc, instr, &entry, value.as_ref(), wanted)?;
+    written_where_found(rt, alloc, instr, entry, value, (bit, bytes, after))
+}
+
+// A value is refused, and nothing is appended.
+fn not_appended(
+    rt: &impl Abort,
+    alloc: Global,
+    instr: &FieldPart,
+    entry: EntryRef,
+    value: Option<&Scalar>,
+    refusal: FieldRefusal,
+) -> Result<(), AllocError>
+    requires part { IsFieldPart instr.now }
+    requires entry { HoldsScalar (entry_of entry) }
+{
+    let mut out = vec![in alloc; 0x2a]?;
+    let answer = write_field(instr, entry, value, &mut out);
+    assert_eq!(rt; answer, Err(refusal));
+    assert_eq!(rt; out.as_slice(), [0x2a].as_slice());
+    Ok(())
+}
+
+// The same where the entry lies, which has not changed.
+fn not_in_place(
+    rt: &impl Abort,
+    alloc: Global,
+    instr: &FieldPart,
+    entry: Entry,
+    value: Option<&Scalar>,
+    refusal: FieldRefusal,
+) -> Result<(), AllocError>
+    requires part { IsFieldPart instr.now }
+    requires entry { HoldsScalar entry }
+{
+    let mut out = vec![in alloc; 0x2a]?;
+    let before = entry.view().copy(alloc)?;
+    let mut entry = entry;
+    let answer = write_in_place(alloc, instr, &mut entry, value, &mut out);
+    assert_eq!(rt; answer, Err(refusal));
+    assert_eq!(rt; out.as_slice(), [0x2a].as_slice());
+    assert_eq!(rt; entry, before);
+    Ok(())
+}
+
+// A value is refused by each call, and nothing has changed.
+fn refused(
+    rt: &impl Abort,
+    alloc: Global,
+    instr: &FieldPart,
+    entry: Entry,
+    value: Option<&Scalar>,
+    refusal: FieldRefusal,
+) -> Result<(), AllocError>
+    requires part { IsFieldPart instr.now }
+    requires entry { HoldsScalar entry }
+{
+    planned(rt, instr, entry.view(), value, Err(refusal));
+    not_appended(rt, alloc, instr, entry.view(), value, refusal)?;
+    not_in_place(rt, alloc, instr, entry, value, refusal)
+}
+
+// A value of a field with no initial value is written.
+fn field_written(
+    rt: &impl Abort,
+    alloc: Global,
+    of: (Kind, Presence, Operator),
+    entry: Entry,
+    value: Option<Scalar>,
+    bit: bool,
+    bytes: &[u8],
+) -> Result<(), AllocError>
+    requires applies { IsTrue (applies of.2 of.0) }
+    requires constant { of.2 ≡ op.Constant → ⊥ }
+    requires default { of.2 ≡ op.Default → of.1 ≡ Optional }
+    requires entry { HoldsScalar entry }
+{
+    let instr = field(alloc, of.0, of.1, of.2)?;
+    written(rt, alloc, &instr, entry, value, bit, bytes)
+}
+
+// A value of a field with no initial value is refused.
+fn field_refused(
+    rt: &impl Abort,
+    alloc: Global,
+    of: (Kind, Presence, Operator),
+    entry: Entry,
+    value: Option<&Scalar>,
+    refusal: FieldRefusal,
+) -> Result<(), AllocError>
+    requires applies { IsTrue (applies of.2 of.0) }
+    requires constant { of.2 ≡ op.Constant → ⊥ }
+    requires default { of.2 ≡ op.Default → of.1 ≡ Optional }
+    requires entry { HoldsScalar entry }
+{
+    let instr = field(alloc, of.0, of.1, of.2)?;
+    refused(rt, alloc, &instr, entry, value, refusal)
+}
+
+// Characters are written on an entry of characters.
+fn ascii_written(
+    rt: &impl Abort,
+    alloc: Global,
+    of: (Presence, Operator),
+    text: &[u8],
+    value: &[u8],
+    bit: bool,
+    bytes: &[u8],
+) -> Result<(), AllocError>
+    requires applies { IsTrue (applies of.1 kind.Ascii) }
+    requires constant { of.1 ≡ op.Constant → ⊥ }
+    requires default { of.1 ≡ op.Default → of.0 ≡ Optional }
+{
+    let entry = text_entry(alloc, text)?;
+    let value = Some(ascii(alloc, value)?);
+    field_written(
+        rt,
+        alloc,
+        (Kind::Ascii, of.0, of.1),
+        entry,
+        value,
+        bit,
+        bytes,
+    )
+}
+
+// A value of a number with an initial value, which has no entry, is written.
+fn initial_written(
+    rt: &impl Abort,
+    alloc: Global,
+    of: (Presence, Operator, u32),
+    value: Option<u32>,
+    bit: bool,
+    bytes: &[u8],
+) -> Result<(), AllocError>
+    requires { IsTrue (applies of.1 kind.UInt32) }
+{
+    let instr = number_with(alloc, of.0, of.1, of.2)?;
+    let value = value.map(Scalar::U32);
+    written(rt, alloc, &instr, Entry::Undefined, value, bit, bytes)
+}
+
+// Such a value is refused.
+fn initial_refused(
+    rt: &impl Abort,
+    alloc: Global,
+    of: (Presence, Operator, u32),
+    value: Option<&Scalar>,
+    refusal: FieldRefusal,
+) -> Result<(), AllocError>
+    requires { IsTrue (applies of.1 kind.UInt32) }
+{
+    let instr = number_with(alloc, of.0, of.1, of.2)?;
+    refused(rt, alloc, &instr, Entry::Undefined, value, refusal)
+}
+
+#[test]
+fn constants(rt: HostRuntime) -> Result<(), AllocError> {
+    let alloc = rt.alloc();
+    let seven = (Presence::Mandatory, Operator::Constant, 7);
+    let refusal = FieldRefusal::NotConstant;
+    initial_refused(&rt, alloc, seven, Some(&Scalar::U32(8)), refusal)?;
+    initial_written(&rt, alloc, seven, Some(7), true, &[])?;
+    initial_refused(&rt, alloc, seven, None, FieldRefusal::Mismatch)
+}
+
+#[test]
+fn optional_constants(rt: HostRuntime) -> Result<(), AllocError> {
+    let alloc = rt.alloc();
+    let nine = (Presence::Optional, Operator::Constant, 9);
+    initial_written(&rt, alloc, nine, None, false, &[])?;
+    initial_written(&rt, alloc, nine, Some(9), true, &[])
+}
+
+#[test]
+fn constant_exponents(rt: HostRuntime) -> Result<(), AllocError> {
+    let alloc = rt.alloc();
+    let exponent = fixed_exponent(alloc)?;
+    let value = Scalar::I32(-1);
+    let refusal = FieldRefusal::D3;
+    refused(
+        &rt,
+        alloc,
+        &exponent,
+        Entry::Undefined,
+        Some(&value),
+        refusal,
+    )
+}
+
+#[test]
+fn defaults(rt: HostRuntime) -> Result<(), AllocError> {
+    let alloc = rt.alloc();
+    let three = (Presence::Optional, Operator::Default, 3);
+    initial_written(&rt, alloc, three, Some(3), false, &[])?;
+    initial_written(&rt, alloc, three, None, true, &[0x80])?;
+    initial_written(&rt, alloc, three, Some(4), true, &[0x85])
+}
+
+// A uInt32 that increments is written on a number.
+fn increment_written(
+    rt: &impl Abort,
+    alloc: Global,
+    kept: u32,
+    value: u32,
+    bit: bool,
+    bytes: &[u8],
+) -> Result<(), AllocError> {
+    let of = (Kind::UInt32, Presence::Mandatory, Operator::Increment);
+    let entry = Entry::Assigned(Scalar::U32(kept));
+    let value = Some(Scalar::U32(value));
+    field_written(rt, alloc, of, entry, value, bit, bytes)
+}
+
+#[test]
+fn increments(rt: HostRuntime) -> Result<(), AllocError> {
+    let alloc = rt.alloc();
+    increment_written(&rt, alloc, 1, 2, false, &[])?;
+    increment_written(&rt, alloc, u32::MAX, 0, false, &[])?;
+    increment_written(&rt, alloc, 1, 3, true, &[0x83])
+}
+
+#[test]
+fn copies(rt: HostRuntime) -> Result<(), AllocError> {
+    let alloc = rt.alloc();
+    let of = (Presence::Mandatory, Operator::Copy);
+    ascii_written(&rt, alloc, of, b"AB", b"AB", false, &[])?;
+    ascii_written(&rt, alloc, of, b"AB", b"C", true, &[0xc3])
+}
+
+#[test]
+fn string_deltas(rt: HostRuntime) -> Result<(), AllocError> {
+    let alloc = rt.alloc();
+    let of = (Presence::Mandatory, Operator::Delta);
+    // fewer bytes with removal in front
+    let bytes = [0xfd, 0x45, 0xd3];
+    ascii_written(&rt, alloc, of, b"GEM6", b"ESM6", true, &bytes)?;
+    // as many bytes on both sides: removal at the end
+    ascii_written(&rt, alloc, of, b"ESM6", b"ESM6", true, &[0x80, 0x80])
+}
+
+#[test]
+fn refused_deltas(rt: HostRuntime) -> Result<(), AllocError> {
+    let alloc = rt.alloc();
+    let of = (Kind::Ascii, Presence::Mandatory, Operator::Delta);
+    let value = ascii(alloc, b"A\x80")?;
+    let refusal = FieldRefusal::Mismatch;
+    field_refused(
+        &rt,
+        alloc,
+        of,
+        text_entry(alloc, b"A")?,
+        Some(&value),
+        refusal,
+    )
+}
+
+#[test]
+fn deltas_on_an_empty_entry(rt: HostRuntime) -> Result<(), AllocError> {
+    let alloc = rt.alloc();
+    let of = (Kind::Ascii, Presence::Mandatory, Operator::Delta);
+    let value = ascii(alloc, b"A")?;
+    field_refused(&rt, alloc, of, Entry::Empty, Some(&value), FieldRefusal::D6)
+}
+
+#[test]
+fn number_deltas(rt: HostRuntime) -> Result<(), AllocError> {
+    let alloc = rt.alloc();
+    let of = (Kind::UInt64, Presence::Optional, Operator::Delta);
+    // a difference of 65 bits
+    let entry = Entry::Assigned(Scalar::U64(u64::MAX));
+    let value = Some(Scalar::U64(0));
+    let bytes = [0x7e, 0x00, 0x00, 0x00, 0x00, 0x00, 0x00, 0x00, 0x00, 0x81];
+    field_written(&rt, alloc, of, entry, value, true, &bytes)?;
+    field_written(&rt, alloc, of, Entry::Empty, None, true, &[0x80])
+}
+
+#[test]
+fn decimal_deltas(rt: HostRuntime) -> Result<(), AllocError> {
+    let alloc = rt.alloc();
+    let of = (Kind::Decimal, Presence::Mandatory, Operator::Delta);
+    let decimal = |exponent: i32, mantissa: i64| Scalar::Decimal { exponent, mantissa };
+    let entry = Entry::Assigned(decimal(-2, 7));
+    let value = Some(decimal(-1, 5));
+    field_written(&rt, alloc, of, entry, value, true, &[0x81, 0xfe])?;
+    let far = decimal(64, 1);
+    field_refused(
+        &rt,
+        alloc,
+        of,
+        Entry::Undefined,
+        Some(&far),
+        FieldRefusal::R1,
+    )
+}
+
+#[test]
+fn tails(rt: HostRuntime) -> Result<(), AllocError> {
+    let alloc = rt.alloc();
+    let of = (Presence::Optional, Operator::Tail);
+    // the shortest tail begins with NUL, and would have four bytes
+    let bytes = [0x78, 0x00, 0xe2];
+    ascii_written(&rt, alloc, of, b"xab", b"x\0b", true, &bytes)?;
+    ascii_written(&rt, alloc, of, b"xab", b"xab", false, &[])
+}
+
+#[test]
+fn absent_tails(rt: HostRuntime) -> Result<(), AllocError> {
+    let alloc = rt.alloc();
+    let of = (Kind::Ascii, Presence::Optional, Operator::Tail);
+    let entry = text_entry(alloc, b"xab")?;
+    field_written(&rt, alloc, of, entry, None, true, &[0x80])
+}
+
+// An optional tail whose initial value is "ab" is written on an empty entry.
+fn initial_tail_written(
+    rt: &impl Abort,
+    alloc: Global,
+    value: &[u8],
+    bytes: &[u8],
+) -> Result<(), AllocError> {
+    let tail = tail_with(alloc, b"ab")?;
+    let value = Some(ascii(alloc, value)?);
+    written(rt, alloc, &tail, Entry::Empty, value, true, bytes)
+}
+
+#[test]
+fn tails_of_an_initial_value(rt: HostRuntime) -> Result<(), AllocError> {
+    let alloc = rt.alloc();
+    // the shortest tail is empty, and would have two bytes
+    initial_tail_written(&rt, alloc, b"ab", &[0xe2])?;
+    // a longer value stands whole
+    initial_tail_written(&rt, alloc, b"abc", &[0x61, 0x62, 0xe3])
+}
+
+#[test]
+fn tails_that_are_too_short(rt: HostRuntime) -> Result<(), AllocError> {
+    let alloc = rt.alloc();
+    let of = (Kind::Ascii, Presence::Optional, Operator::Tail);
+    let value = ascii(alloc, b"x")?;
+    let refusal = FieldRefusal::TooShort;
+    field_refused(
+        &rt,
+        alloc,
+        of,
+        text_entry(alloc, b"xab")?,
+        Some(&value),
+        refusal,
+    )
+}
+
+#[test]
+fn tails_on_another_type(rt: HostRuntime) -> Result<(), AllocError> {
+    let alloc = rt.alloc();
+    let of = (Kind::Unicode, Presence::Mandatory, Operator::Tail);
+    let value = unicode(alloc, "é")?;
+    let refusal = FieldRefusal::D4;
+    field_refused(
+        &rt,
+        alloc,
+        of,
+        text_entry(alloc, b"xab")?,
+        Some(&value),
+        refusal,
+    )
+}
+
+// Writes a string delta on an entry, once more where a growth was refused: that is Memory, and nothing is appended.
+fn delta_appended(
+    rt: &impl Abort,
+    alloc: Global,
+    entry: EntryRef,
+    value: &Scalar,
+    out: &mut Vec<u8>,
+) -> Result<(), Fail>
+    requires { HoldsScalar (entry_of entry) }
+{
+    let delta = field(alloc, Kind::Ascii, Presence::Mandatory, Operator::Delta)?;
+    if let Err(refusal) = write_field(&delta, entry, Some(value), out) {
+        assert_eq!(rt; refusal, FieldRefusal::Memory);
+        assert!(rt; out.is_empty());
+        write_field(&delta, entry, Some(value), out)?;
+    }
+    Ok(())
+}
+
+// A refused growth is Memory, nothing is appended then, and the same call gives the row's answer.
+#[test]
+fn refused_growths(rt: HostRuntime) -> Result<(), Fail> {
+    let alloc = rt.alloc();
+    let value = ascii(alloc, b"ESM6")?;
+    let entry = text_entry(alloc, b"GEM6")?;
+    let mut out = Vec::new(alloc);
+    delta_appended(&rt, alloc, entry.view(), &value, &mut out)?;
+    assert_eq!(rt; out.as_slice(), [0xfd, 0x45, 0xd3].as_slice());
+    Ok(())
+}
+
+// The same of `write_in_place`, whose entry is as it was.
+fn delta_in_place(
+    rt: &impl Abort,
+    alloc: Global,
+    entry: &mut Entry,
+    before: &Entry,
+    value: &Scalar,
+    out: &mut Vec<u8>,
+) -> Result<(), Fail>
+    requires { HoldsScalar entry.old }
+{
+    let delta = field(alloc, Kind::Ascii, Presence::Mandatory, Operator::Delta)?;
+    if let Err(refusal) = write_in_place(alloc, &delta, entry, Some(value), out) {
+        assert_eq!(rt; refusal, FieldRefusal::Memory);
+        assert!(rt; out.is_empty());
+        assert_eq!(rt; &*entry, before);
+        write_in_place(alloc, &delta, entry, Some(value), out)?;
+    }
+    Ok(())
+}
+
+// So is a refused copy, and the entry is as it was.
+#[test]
+fn refused_copies(rt: HostRuntime) -> Result<(), Fail> {
+    let alloc = rt.alloc();
+    let value = ascii(alloc, b"ESM6")?;
+    let before = text_entry(alloc, b"GEM6")?;
+    let mut entry = text_entry(alloc, b"GEM6")?;
+    let mut out = Vec::new(alloc);
+    delta_in_place(&rt, alloc, &mut entry, &before, &value, &mut out)?;
+    assert_eq!(rt; out.as_slice(), [0xfd, 0x45, 0xd3].as_slice());
+    assert_eq!(rt; entry, Entry::Assigned(value));
+    Ok(())
+}

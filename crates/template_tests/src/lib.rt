@@ -1,0 +1,13 @@
+//! The tests of fast_template.
+#![tactic(auto)]
+
+#[cfg(test)]
+mod building;
+#[cfg(test)]
+mod json;
+#[cfg(test)]
+mod loads;
+#[cfg(test)]
+mod values;
+#[cfg(test)]
+mod worked;

@@ -1,0 +1,5 @@
+//! The tests of fast_wire.
+#![tactic(auto)]
+
+#[cfg(test)]
+mod forms;
