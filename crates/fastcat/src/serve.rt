@@ -1,6 +1,6 @@
 //! The program as a call: from a command line, files and streams to the exit status.
 
-ghost use Rattle.std.specs.Prelude.{◌≡◌, ◌≢◌, ◌≤◌, ◌⊎◌, ◌^◌, None, Ok, Err, IfErr, IfOk, map};
+ghost use Rattle.std.specs.Prelude.{◌≡◌, ◌≢◌, ◌≤◌, ◌⊎◌, ◌^◌, None, Ok, Err, IfErr, IfOk, map, string_bytes};
 ghost use Rattle.fast_decoder.specs.Inputs.{reader_by};
 ghost use Rattle.fast_template.specs.TemplateSets.{TemplateList};
 ghost use Rattle.fastcat.specs.Devices.{inputs_by, writer_by};
@@ -17,7 +17,7 @@ use fast_canon::CanonFault;
 use fast_command::{Command, run};
 use fast_io::{ByteInput, ByteOutput, Counted, write_all};
 use fast_template::TemplateSet;
-use std::alloc::Global;
+use std::alloc::{AllocError, Global};
 use std::io;
 
 /// The most reads that the program makes of an input.
@@ -319,6 +319,18 @@ pub fn serve<S: Source, O: ByteOutput, E: ByteOutput>(
     }
 }
 
+/// The words as texts.
+fn texts_of<'a>(alloc: Global, words: &'a [String]) -> Result<Vec<&'a str>, AllocError>
+    ensures { IfOk result (λ texts. map (λ text. text.now) texts.items
+        ≡ map string_bytes words.now) }
+{
+    let mut texts = Vec::new(alloc);
+    for word in words {
+        texts.push(word.as_str())?;
+    }
+    Ok(texts)
+}
+
 /// Serves the words of a process, of which each has to be text.
 pub fn serve_words<S: Source, O: ByteOutput, E: ByteOutput>(
     alloc: Global,
@@ -334,14 +346,20 @@ pub fn serve_words<S: Source, O: ByteOutput, E: ByteOutput>(
     // where there are no words nothing is opened or written, and the status says so
     ensures no_words { IfErr words (λ _. (2 ≤ result) × (source.new ≡ source.old)
         × (out.new ≡ out.old)) }
+    // else it serves them, unless memory for them is refused, and then nothing is opened or written
+    ensures performed { IfOk words (λ texts. (r : _) × (result ≡ status_after r)
+        × (((r ≡ Err Refusal.Memory) × (source.new ≡ source.old) × (out.new ≡ out.old))
+        ⊎ Performs (map string_bytes texts.items) (inputs_by S.file S.input source.old) turns
+        (writer_by O.taken O.errors O.flushes out.old)
+        (writer_by O.taken O.errors O.flushes out.new) r)
+        × Says (writer_by E.taken E.errors E.flushes err.old)
+        (writer_by E.taken E.errors E.flushes err.new) r) }
 {
-    let words = match words {
-        Ok(words) => words,
-        Err(error) => return report(&Refusal::of_words(&error), err),
-    };
-    let texts: Result<Vec<&str>, _> = words.iter().map(|word| word.as_str()).collect(alloc);
-    match texts {
-        Ok(texts) => serve(alloc, &texts, source, out, err, turns),
-        Err(_) => report(&Refusal::Memory, err),
+    match words {
+        Err(error) => report(&Refusal::of_words(&error), err),
+        Ok(words) => match texts_of(alloc, &words) {
+            Ok(texts) => serve(alloc, &texts, source, out, err, turns),
+            Err(_) => report(&Refusal::Memory, err),
+        },
     }
 }
