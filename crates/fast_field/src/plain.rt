@@ -289,8 +289,9 @@ fn relay_plain_tail(
     }
 }
 
-/// Relays a string that stands in its shortest form; None: nothing has changed.
-#[inline(always)]
+/// Relays a string that stands in its shortest form; None: nothing has changed. (A call of its own: inlined, it makes the
+/// walk over a segment so long that the compiler no longer inlines the rest.)
+#[inline(never)]
 pub(crate) fn relay_plain(
     alloc: Global,
     instr: &FieldPart,
