@@ -1,13 +1,14 @@
 -- An entity whose first group is not 0 is a string in its shortest form, with NULL and without.
-use Rattle.std.proofs.Common.{◌≡◌, ℕ, zero, suc, ◌+◌, ◌-◌, ◌%◌, ◌<◌, ◌≤◌, List, [], ◌∷◌, ◌++◌, length, get_or, take, drop, refl, sym, ap, ◌∙◌, arith, slice_range, drop-drop, length-take}
+use Rattle.std.proofs.Common.{◌≡◌, Result, Ok, Err, ℕ, zero, suc, ◌+◌, ◌-◌, ◌%◌, ◌<◌, ◌≤◌, List, [], ◌∷◌, ◌++◌, length, get_or, take, drop, refl, sym, ap, ◌∙◌, arith, slice_range, drop-drop, length-take}
 use Rattle.std.proofs.lemmas.List.{length-map, take_more, take-append-drop}
 use Rattle.fast_wire.specs.Ascii.{IsAscii, IsAsciiNullable, SpellsAscii, SpellsAsciiNullable}
 use Rattle.fast_wire.specs.Entity.{IsEntity, groups}
 use Rattle.fast_wire.specs.Plain.{IsPlain}
-use Rattle.fast_wire.specs.Reading.{ascii_at, ascii_nullable_at}
+use Rattle.fast_wire.specs.Reading.{ascii_at, ascii_nullable_at, entity_at}
 use Rattle.fast_wire.specs.Sizes.{ascii_size, ascii_nullable_size}
+use Rattle.fast_wire.specs.declared.fault.WireFault.{WireFault}
 use Rattle.fast_wire.specs.declared.nullable.Nullable.TheVariants.{Value}
-use Rattle.fast_wire.proofs.FormReaders.{ascii_forms, ascii_nullable_forms}
+use Rattle.fast_wire.proofs.FormReaders.{ascii_forms, ascii_nullable_forms, entities}
 use Rattle.fast_wire.proofs.FormSizes.{ascii_sizes, ascii_nullable_sizes}
 
 spells : (gs : List ℕ) → 0 < get_or gs 0 0 → SpellsAscii gs gs
@@ -71,6 +72,30 @@ parts_of bytes at next h =
 pub plain_at : (bytes : List ℕ) (at next : ℕ) → at ≤ next → next ≤ at + 65535 → IsEntity (slice_range bytes at next) → (get_or (slice_range bytes at next) 0 0 % 128 ≡ 0 → ⊥) → IsPlain (drop at bytes) (slice_range bytes at next) (drop next bytes)
 plain_at bytes at next le few entity first =
     plain (drop at bytes) (slice_range bytes at next) (drop next bytes) (parts_of bytes at next le) entity (omega (arith, few, length-take (next - at) (drop at bytes))) first
+
+-- ---- and where it finds none
+
+abbrev front_of : {F : Type 0} → Result (List ℕ × List ℕ) F → List ℕ
+front_of (Ok x) = x.0
+front_of (Err f) = []
+
+entity_read : (bytes form rest : List ℕ) → bytes ≡ form ++ rest → IsPlain bytes form rest → entity_at 65535 bytes ≡ Ok (form, rest)
+entity_read bytes form rest parts h =
+    let few = h.shortest.form.limit in
+    ap (entity_at 65535) parts ∙ (entities 65535).again form form rest (record { entity = h.entity; short = omega (arith, few, length-map form (λ b. b % 128)); value = refl })
+
+no_preamble : (gs : List ℕ) → get_or gs 0 0 ≡ 0 → SpellsAscii gs gs → ⊥
+no_preamble [] h s = s
+no_preamble (zero ∷ gs) h s = let long = ap length s in omega (arith, long)
+no_preamble (suc g ∷ gs) h s = omega (arith, h)
+
+pub none_ends : (bytes form rest : List ℕ) (f : WireFault) → entity_at 65535 bytes ≡ Err f → bytes ≡ form ++ rest → IsPlain bytes form rest → ⊥
+none_ends bytes form rest f fails parts h = let both = sym (entity_read bytes form rest parts h) ∙ fails in absurd cc
+
+pub none_begins : (bytes found form rest others : List ℕ) → entity_at 65535 bytes ≡ Ok (found, others) → get_or found 0 0 % 128 ≡ 0 → bytes ≡ form ++ rest → IsPlain bytes form rest → ⊥
+none_begins bytes found form rest others read first parts h =
+    let same : found ≡ form = ap front_of (sym read ∙ entity_read bytes form rest parts h) in
+    no_preamble (groups form) (first_group form ∙ (rw same at first)) h.shortest.form.spelled.value
 
 -- ---- texts compared with such bytes
 
