@@ -53,6 +53,30 @@ fn put_characters(alloc: Global, text: &mut ByteString, kept: usize, form: &[u8]
     }
 }
 
+/// Appends bytes of an entity, and puts its characters behind so many of a text; or answers false, and does neither.
+#[inline(always)]
+fn send(alloc: Global, text: &mut ByteString, kept: usize, form: &[u8], out: &mut Vec<u8>) -> bool
+    requires kept { kept ≤ length text.now }
+    requires entity { IsEntity form.now }
+    ensures put { result ≡ true → text.new ≡ take kept text.old ++ groups form.now }
+    ensures sent { result ≡ true → out.new.items ≡ out.old.items ++ form.now }
+    ensures text { result ≡ false → text.new ≡ text.old }
+    ensures out { result ≡ false → out.new.items ≡ out.old.items }
+{
+    let start = out.len();
+    match out.extend_from_slice(form) {
+        Err(_) => false,
+        Ok(()) => {
+            if put_characters(alloc, text, kept, form) {
+                true
+            } else {
+                out.truncate(start);
+                false
+            }
+        }
+    }
+}
+
 /// Whether bit 0 may give the string that bytes spell; where false is answered, it does not.
 #[inline(always)]
 fn may_be_left_out(instr: &FieldPart, entry: &Entry, form: &[u8]) -> bool
@@ -224,20 +248,14 @@ fn relay_plain_delta(
     let start = out.len();
     match write_signed(instr.presence, removal, out) {
         Err(_) => None,
-        Ok(()) => match out.extend_from_slice(form) {
-            Err(_) => {
+        Ok(()) => {
+            if send(alloc, text, kept, form, out) {
+                Some(next)
+            } else {
                 out.truncate(start);
                 None
             }
-            Ok(()) => {
-                if put_characters(alloc, text, kept, form) {
-                    Some(next)
-                } else {
-                    out.truncate(start);
-                    None
-                }
-            }
-        },
+        }
     }
 }
 
@@ -275,17 +293,10 @@ fn relay_plain_tail(
     if !agrees_no_further(base, kept, form) {
         return None;
     }
-    let start = out.len();
-    match out.extend_from_slice(form) {
-        Err(_) => None,
-        Ok(()) => {
-            if put_characters(alloc, text, kept, form) {
-                Some(next)
-            } else {
-                out.truncate(start);
-                None
-            }
-        }
+    if send(alloc, text, kept, form, out) {
+        Some(next)
+    } else {
+        None
     }
 }
 

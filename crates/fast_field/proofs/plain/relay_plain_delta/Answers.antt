@@ -5,17 +5,17 @@ use Rattle.fast_field.specs.Numbers.{Spelt}
 use Rattle.fast_field.proofs.PlainTexts.{characters_text, plain_delta_relays}
 use Rattle.fast_field.proofs.plain.relay_plain_delta.Goals as goal
 
-pub returns-then-put_characters-clause-relayed : goal.returns-then-put_characters-clause-relayed
-returns-then-put_characters-clause-relayed c =
+pub returns-then-send-clause-relayed : goal.returns-then-send-clause-relayed
+returns-then-send-clause-relayed c =
     let base = c.as_slice-base.result.now in
     let removed = c.in-Some-few_removed.removed in
     let form = slice_range c.args.bytes.now c.in-Some.middle c.in-Some-plain_ascii_end.next in
     let few = c.in-Some-few_removed.ensures in
     let few0 : c.in-Some.removal ≡ pos removed = search rules in
     let written = c.in-Ok.ensures in
-    let after = c.in-Ok-extend_from_slice.ensures.items ∙ ap (λ s. s ++ form) written.1 in
-    rw (c.put_characters.ensures.put c.if-put_characters.true, ← c.as_slice-base.ensures)
-    (plain_delta_relays c.args.instr.now base removed (length base - removed) (drop c.args.at c.args.bytes.now) (drop c.in-Some.middle c.args.bytes.now) form (drop c.in-Some-plain_ascii_end.next c.args.bytes.now) c.args.out.now.items c.extend_from_slice.new.self.items
+    let after = (c.send.ensures.sent c.if-send.true) ∙ ap (λ s. s ++ form) written.1 in
+    rw (c.send.ensures.put c.if-send.true, ← c.as_slice-base.ensures)
+    (plain_delta_relays c.args.instr.now base removed (length base - removed) (drop c.args.at c.args.bytes.now) (drop c.in-Some.middle c.args.bytes.now) form (drop c.in-Some-plain_ascii_end.next c.args.bytes.now) c.args.out.now.items c.send.new.out.items
     c.requires.kind c.requires.part c.requires.operator
     (characters_text base (c.are_characters.ensures c.if-not-are_characters.false))
     few.1 (omega (arith, c.if-removed-base.false)) refl
