@@ -3,10 +3,10 @@ use Rattle.std.proofs.Common.{◌≡◌, ◌<◌, ◌+◌, ℕ, zero, suc, List,
 use Rattle.std.specs.Prelude.{codes, slice_get, option_and_then, IsSome}
 use Rattle.std.specs.Option.{option_map_or}
 use Rattle.std.specs.Cmp.Lexicographic.{pointwise}
-use Rattle.fast_template.specs.declared.kind.Kind.TheVariants.{UInt32}
-use Rattle.fast_template.specs.declared.kind.Presence.{Presence}
-use Rattle.fast_template.specs.declared.kind.Presence.TheVariants.{Mandatory, Optional}
-use Rattle.fast_template.specs.declared.kind.Operator.TheVariants.{Default, Copy}
+use Rattle.fast_value.specs.declared.kind.Kind.TheVariants.{UInt32}
+use Rattle.fast_value.specs.declared.kind.Presence.{Presence}
+use Rattle.fast_value.specs.declared.kind.Presence.TheVariants.{Mandatory, Optional}
+use Rattle.fast_value.specs.declared.kind.Operator.TheVariants.{Default, Copy}
 use Rattle.fast_template.specs.declared.fault.LoadFault.{LoadFault}
 use Rattle.fast_template.specs.declared.fault.LoadCause.{LoadCause}
 use Rattle.fast_template.specs.declared.fault.LoadCause.TheVariants as cause

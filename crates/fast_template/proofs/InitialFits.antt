@@ -4,18 +4,18 @@ use Rattle.std.specs.Prelude.{nat_abs, int_le, option_map, option_and_then, IsUt
 use Rattle.std.specs.List.{list_all, AllByRecursion, before_first, after_first}
 use Rattle.std.proofs.lemmas.Bool.{leb-true, ltb-true}
 use Rattle.std.proofs.Math.Utf8.{encode, encodes, scalar, scalars, scalar_cases}
-use Rattle.fast_template.specs.declared.kind.Kind.{Kind}
-use Rattle.fast_template.specs.declared.kind.Kind.TheVariants as kind
-use Rattle.fast_template.specs.declared.kind.Part.{Part}
-use Rattle.fast_template.specs.declared.kind.Part.TheVariants as part
-use Rattle.fast_template.specs.declared.scalar.Scalar.{Scalar}
-use Rattle.fast_template.specs.declared.scalar.Scalar.TheVariants.{U32, I32, U64, I64, Decimal, Ascii, Unicode, Bytes}
-use Rattle.fast_template.specs.Scalar.{is_of, IsScalar, in_range, exponent_in_range, of_integer}
-use Rattle.fast_template.specs.InitialValues.{where_so, is_digit, integer_of, in_range_of, decimal_value, hex_digit_of, hex_bytes_of, is_short, value_of_text}
+use Rattle.fast_value.specs.declared.kind.Kind.{Kind}
+use Rattle.fast_value.specs.declared.kind.Kind.TheVariants as kind
+use Rattle.fast_value.specs.declared.kind.Part.{Part}
+use Rattle.fast_value.specs.declared.kind.Part.TheVariants as part
+use Rattle.fast_value.specs.declared.scalar.Scalar.{Scalar}
+use Rattle.fast_value.specs.declared.scalar.Scalar.TheVariants.{U32, I32, U64, I64, Decimal, Ascii, Unicode, Bytes}
+use Rattle.fast_value.specs.Scalar.{is_of, IsScalar, in_range, exponent_in_range, of_integer}
+use Rattle.fast_value.specs.InitialValues.{where_so, is_digit, integer_of, in_range_of, decimal_value, hex_digit_of, hex_bytes_of, is_short, value_of_text}
 use Rattle.fast_template.specs.TemplateSets.{is_in_part}
 use Rattle.std.specs.Cmp.{first_so, second_so}
 use Rattle.fast_template.proofs.AllOf.{all_of_both}
-use Rattle.fast_template.proofs.NumberLaws.{in_type}
+use Rattle.fast_value.proofs.NumberLaws.{in_type}
 
 -- what is to be shown of a value
 pub record Fits (p : Part) (k : Kind) (v : Scalar) : Type 0 where

@@ -16,8 +16,6 @@ pub mod DuplicatePhase
 pub mod Places
 pub mod OperatorPhase
 pub mod NamePhase
-pub mod HexTexts
-pub mod NumberLaws
 pub mod WalkLaws
 pub mod SlotLaws
 pub mod WorkedTemplates
@@ -28,7 +26,6 @@ pub mod Deep
 pub mod LoadRows
 pub mod Tested
 pub mod WorkedSet
-pub mod ScalarRows
 pub mod CheckRows
 pub mod SetRows
 pub mod SearchSteps

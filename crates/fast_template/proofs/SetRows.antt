@@ -4,16 +4,16 @@ use Rattle.std.specs.Prelude.{codes, Contains}
 use Rattle.std.specs.Option.{option_map_or}
 use Rattle.std.specs.List.{AllByRecursion}
 use Rattle.std.specs.Cmp.Lexicographic.{pointwise}
-use Rattle.fast_template.specs.declared.kind.Kind.{Kind}
-use Rattle.fast_template.specs.declared.kind.Kind.TheVariants as kind
-use Rattle.fast_template.specs.declared.kind.Presence.{Presence}
-use Rattle.fast_template.specs.declared.kind.Presence.TheVariants.{Mandatory, Optional}
-use Rattle.fast_template.specs.declared.kind.Operator.{Operator}
-use Rattle.fast_template.specs.declared.kind.Operator.TheVariants as operator
-use Rattle.fast_template.specs.declared.kind.Part.TheVariants as part
-use Rattle.fast_template.specs.declared.scalar.Scalar.TheVariants as value
-use Rattle.fast_template.specs.declared.key.Scope.TheVariants.{Global}
-use Rattle.fast_template.specs.declared.key.Key.{Key}
+use Rattle.fast_value.specs.declared.kind.Kind.{Kind}
+use Rattle.fast_value.specs.declared.kind.Kind.TheVariants as kind
+use Rattle.fast_value.specs.declared.kind.Presence.{Presence}
+use Rattle.fast_value.specs.declared.kind.Presence.TheVariants.{Mandatory, Optional}
+use Rattle.fast_value.specs.declared.kind.Operator.{Operator}
+use Rattle.fast_value.specs.declared.kind.Operator.TheVariants as operator
+use Rattle.fast_value.specs.declared.kind.Part.TheVariants as part
+use Rattle.fast_value.specs.declared.scalar.Scalar.TheVariants as value
+use Rattle.fast_value.specs.declared.key.Scope.TheVariants.{Global}
+use Rattle.fast_value.specs.declared.key.Key.{Key}
 use Rattle.fast_template.specs.declared.resolved.FieldPart.{FieldPart}
 use Rattle.fast_template.specs.Written.{WrittenOperation, written_field, written_parts, written_group, written_sequence, written_list, WrittenTemplate}
 use Rattle.fast_template.specs.Resolved.{Instruction, Instructions, whole_field, field_in_parts, group_of, sequence_of, instructions_of, no_instructions, then_instruction, Resolved, takes_bit, size_of, depth_of, keys_of, numbered, with_keys}

@@ -6,9 +6,9 @@ use Rattle.std.specs.Prelude.{Contains, IsSome, IfOk, Result, Ok, Err}
 use Rattle.std.specs.declared.alloc.AllocError.{AllocError}
 use Rattle.std.specs.List.{AllByRecursion}
 use Rattle.std.specs.BTreeMap.{BTreeMap, btree_map_len, get}
-use Rattle.fast_template.specs.declared.key.Key.{Key}
+use Rattle.fast_value.specs.declared.key.Key.{Key}
 use Rattle.fast_template.specs.declared.resolved.FlatTemplate.{FlatTemplate}
-use Rattle.fast_template.specs.Key.{key_cmp}
+use Rattle.fast_value.specs.Key.{key_cmp}
 use Rattle.fast_template.specs.Resolved.{Instruction, Instructions, whole_field, field_in_parts, group_of, sequence_of, no_instructions, then_instruction, size_of, size_of_one, keys_of, keys_of_one, numbered, numbered_one, with_keys, with_keys_of_one, Resolved, resolved_of}
 use Rattle.fast_template.specs.Slots.{AreSlots, EntersKeys, settled, slot_in}
 use Rattle.fast_template.specs.TemplateSets.{HasSlots, NamesSame, identifier_key, keys_of_all}

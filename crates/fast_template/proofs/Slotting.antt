@@ -2,10 +2,10 @@
 use Rattle.std.proofs.Common.{◌≡◌, Option, Some, None, ◌⊎◌, inl, inr, zero, suc, ◌<◌, ◌+◌, ℕ, List, [], ◌∷◌, ◌++◌, length, take, drop, get_or, slice_set, true≢false, subst, ◌≤◌, refl, sym, ap, ◌∙◌, arith}
 use Rattle.std.proofs.lemmas.List.{append-nil, append_assoc, length-append, take_more}
 use Rattle.std.proofs.Math.Nat.{eq-or-lt_of_le}
-use Rattle.fast_template.specs.declared.key.Key.{Key}
+use Rattle.fast_value.specs.declared.key.Key.{Key}
 use Rattle.std.specs.declared.alloc.Global.{Global}
 use Rattle.std.specs.declared.vec.Vec.{Vec}
-use Rattle.fast_template.specs.declared.kind.Presence.{Presence}
+use Rattle.fast_value.specs.declared.kind.Presence.{Presence}
 use Rattle.fast_template.specs.declared.resolved.FieldPart.{FieldPart}
 use Rattle.fast_template.specs.declared.resolved.Flat.{Flat, fold-roll-Flat}
 use Rattle.fast_template.specs.declared.resolved.Flat.TheOpen.{Flat-F}
@@ -18,7 +18,7 @@ use Rattle.std.specs.declared.cmp.Ordering.{Ordering}
 use Rattle.std.specs.declared.cmp.Ordering.TheVariants.{Less, Equal, Greater}
 use Rattle.std.specs.BTreeMap.{BTreeMap, Updates, btree_map_len, get}
 use Rattle.std.proofs.lemmas.List.Elements.{Contains-push, Contains-push_cases, Contains-append_left}
-use Rattle.fast_template.specs.Key.{key_cmp, key_cmp-exact}
+use Rattle.fast_value.specs.Key.{key_cmp, key_cmp-exact}
 use Rattle.fast_template.specs.TemplateSets.{identifier_key}
 use Rattle.fast_template.specs.Slots.{AreSlots, EntersKeys}
 use Rattle.fast_template.proofs.Rewritten.{front_more, back_stays, back_is}

@@ -1,6 +1,3 @@
-pub mod Scalar
-pub mod Key
-pub mod InitialValues
 pub mod Written
 pub mod Resolved
 pub mod FlatLists
@@ -8,7 +5,6 @@ pub mod TemplateSets
 pub mod Places
 pub mod LoadChecks
 pub mod Walks
-pub mod Numbers
 pub mod PartCauses
 pub mod JsonLoads
 pub mod JsonTemplates

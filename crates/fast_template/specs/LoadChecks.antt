@@ -5,12 +5,12 @@ use Rattle.std.specs.List.{list_all}
 use Rattle.std.specs.Ordering.{nat_cmp}
 use Rattle.std.specs.declared.cmp.Ordering.TheVariants.{Less}
 use Rattle.std.specs.Cmp.Lexicographic.{slice_cmp}
-use Rattle.fast_template.specs.declared.kind.Operator.TheVariants.{Constant, Default}
-use Rattle.fast_template.specs.declared.kind.Presence.TheVariants.{Mandatory}
+use Rattle.fast_value.specs.declared.kind.Operator.TheVariants.{Constant, Default}
+use Rattle.fast_value.specs.declared.kind.Presence.TheVariants.{Mandatory}
 use Rattle.fast_template.specs.declared.fault.LoadCause.{LoadCause}
 use Rattle.fast_template.specs.declared.fault.LoadCause.TheVariants as cause
 use Rattle.fast_template.specs.declared.fault.LoadFault.{LoadFault}
-use Rattle.fast_template.specs.InitialValues.{value_of_text}
+use Rattle.fast_value.specs.InitialValues.{value_of_text}
 use Rattle.fast_template.specs.Written.{WrittenOperation, Surroundings, WrittenInstruction, written_field, written_parts, written_group, written_sequence, written_reference, WrittenTemplate, WrittenPart, parts_of, listed}
 use Rattle.fast_template.specs.Resolved.{Instructions, size_of, depth_of}
 use Rattle.fast_template.specs.FlatLists.{AreFlatLists}

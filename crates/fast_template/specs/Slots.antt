@@ -2,8 +2,8 @@
 -- Own: FAST 1.1, Field Operators, Dictionaries and Previous Values, finds an entry by its key alone.
 use Rattle.std.specs.Prelude.{◌≡◌, ◌<◌, ◌≤◌, ◌+◌, ◌++◌, ℕ, List, length, Some, IsSome, Contains, unwrap_or, map}
 use Rattle.std.specs.BTreeMap.{BTreeMap, btree_map_len, get}
-use Rattle.fast_template.specs.declared.key.Key.{Key}
-use Rattle.fast_template.specs.Key.{key_cmp}
+use Rattle.fast_value.specs.declared.key.Key.{Key}
+use Rattle.fast_value.specs.Key.{key_cmp}
 use Rattle.fast_template.specs.Resolved.{Resolved, numbered, with_keys}
 use Rattle.fast_template.specs.TemplateSets.{identifier_key}
 

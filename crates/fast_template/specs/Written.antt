@@ -1,13 +1,13 @@
 -- Templates as they are written, without where they lie in memory.
 -- FAST 1.1, Templates, Template Definitions and Instructions.
 use Rattle.std.specs.Prelude.{ℕ, List, [], ◌∷◌, ◌++◌, map, Option, option_map, string_bytes}
-use Rattle.fast_template.specs.declared.kind.Kind.{Kind}
-use Rattle.fast_template.specs.declared.kind.Kind.TheVariants.{Int32, UInt32, Int64}
-use Rattle.fast_template.specs.declared.kind.Presence.{Presence}
-use Rattle.fast_template.specs.declared.kind.Presence.TheVariants.{Mandatory}
-use Rattle.fast_template.specs.declared.kind.Operator.{Operator}
-use Rattle.fast_template.specs.declared.kind.Part.{Part}
-use Rattle.fast_template.specs.declared.kind.Part.TheVariants.{Whole, Exponent, Mantissa, Length}
+use Rattle.fast_value.specs.declared.kind.Kind.{Kind}
+use Rattle.fast_value.specs.declared.kind.Kind.TheVariants.{Int32, UInt32, Int64}
+use Rattle.fast_value.specs.declared.kind.Presence.{Presence}
+use Rattle.fast_value.specs.declared.kind.Presence.TheVariants.{Mandatory}
+use Rattle.fast_value.specs.declared.kind.Operator.{Operator}
+use Rattle.fast_value.specs.declared.kind.Part.{Part}
+use Rattle.fast_value.specs.declared.kind.Part.TheVariants.{Whole, Exponent, Mantissa, Length}
 use Rattle.fast_template.specs.declared.written.Operation.{Operation}
 use Rattle.fast_template.specs.declared.written.Template.{Template}
 use Rattle.fast_template.specs.declared.written.Instruction.{Instruction, fold-Instruction}

@@ -4,8 +4,8 @@ ghost use Rattle.std.specs.Prelude.{◌≡◌};
 ghost use Rattle.std.specs.List.{list_any};
 ghost use Rattle.fast_template.specs.Resolved.{has_map as has_map_of, instruction_of, list_of, needs_bit as needs_bit_of, part_needs_bit as part_needs_bit_of, takes_bit as takes_bit_of};
 
-use crate::kind::{Operator, Presence};
 use crate::resolved::{FieldPart, Flat};
+use fast_value::{Operator, Presence};
 
 /// Whether a part asks for a bit of the presence map.
 #[inline(always)]

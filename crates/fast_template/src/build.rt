@@ -14,12 +14,12 @@ use crate::extents::{extents_of, first_too_large};
 use crate::fault::LoadFault;
 use crate::flat_lists::flat_templates;
 use crate::id_places::id_places;
-use crate::key::Name;
 use crate::links::build_order;
 use crate::set::TemplateSet;
 use crate::settle::settle;
 use crate::walk::want_of_memory;
 use crate::written::Template;
+use fast_value::Name;
 use std::alloc::{AllocError, Global};
 use std::collections::BTreeMap;
 

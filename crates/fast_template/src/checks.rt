@@ -8,12 +8,12 @@ ghost use Rattle.fast_template.specs.Written.{written_template_of};
 
 use crate::duplicates::check_duplicates;
 use crate::fault::{LoadCause, LoadFault};
-use crate::key::Name;
 use crate::names::check_names;
 use crate::operators::check_operators;
 use crate::references::check_references;
 use crate::walk::fault_at;
 use crate::written::Template;
+use fast_value::Name;
 use std::alloc::Global;
 use std::collections::BTreeMap;
 

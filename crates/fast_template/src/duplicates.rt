@@ -10,9 +10,9 @@ ghost use Rattle.fast_template.specs.Phases.{IsFirstOf, Passes};
 ghost use Rattle.fast_template.specs.Written.{written_template_of};
 
 use crate::fault::{LoadCause, LoadFault};
-use crate::key::Name;
 use crate::walk::{fault_at, want_of_memory};
 use crate::written::Template;
+use fast_value::Name;
 use std::alloc::{AllocError, Global};
 use std::collections::BTreeMap;
 

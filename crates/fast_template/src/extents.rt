@@ -10,9 +10,9 @@ ghost use Rattle.fast_template.specs.Resolved.{Instructions};
 ghost use Rattle.fast_template.specs.Written.{WrittenTemplate, written_list, written_of, written_template_of};
 
 use crate::fault::{LoadCause, LoadFault};
-use crate::key::Name;
 use crate::walk::fault_at;
 use crate::written::{Instruction, Template};
+use fast_value::Name;
 use std::alloc::{AllocError, Global};
 use std::collections::BTreeMap;
 

@@ -9,11 +9,10 @@ ghost use Rattle.fast_template.specs.Resolved.{field_in_parts, group_of, instruc
 ghost use Rattle.fast_template.specs.Surroundings.{context_in};
 ghost use Rattle.fast_template.specs.Written.{operation_of, written_list, written_of, written_template_of};
 
-use crate::key::{Key, Name};
-use crate::kind::{Kind, Part, Presence};
 use crate::resolved::{FieldPart, Flat, FlatTemplate};
 use crate::surroundings::{Around, directly_in, inside, key_of, name_of, part_of};
 use crate::written::{Instruction, Operation, Template};
+use fast_value::{Key, Kind, Name, Part, Presence};
 use std::alloc::{AllocError, Global};
 use std::collections::BTreeMap;
 

@@ -12,11 +12,11 @@ ghost use Rattle.fast_template.specs.Written.{operation_of, written_group, writt
 ghost use Rattle.fast_template.specs.declared.json.Unread.TheVariants as unread_variants;
 
 use crate::fault::{LoadCause, LoadFault};
-use crate::kind::{Kind, Operator, Presence};
 use crate::names::is_name;
 use crate::profile::{IDENTIFIERS, Row, Word, fits, text_of_word};
 use crate::walk::{fault_at, want_of_memory};
 use crate::written::{Instruction, Operation, Template};
+use fast_value::{Kind, Operator, Presence};
 use serde_json::Value;
 use std::alloc::{AllocError, Global};
 

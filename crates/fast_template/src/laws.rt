@@ -1,7 +1,7 @@
 //! Laws of template sets, each the contract of a function that does nothing.
 
 ghost use Rattle.std.specs.Prelude.{◌≡◌, Contains};
-ghost use Rattle.fast_template.specs.declared.key.Key as key;
+ghost use Rattle.fast_value.specs.declared.key.Key as key;
 ghost use Rattle.fast_template.specs.TemplateSets.{IsSound, TemplateList, keys_in};
 
 /// Two keys of one set with the same slot are equal.

@@ -8,10 +8,10 @@ ghost use Rattle.fast_template.specs.Links.{IsBuildOrder, place_in, places_of, r
 ghost use Rattle.fast_template.specs.Written.{written_list, written_of, written_template_of};
 
 use crate::fault::{LoadCause, LoadFault};
-use crate::key::Name;
 use crate::order::order_of;
 use crate::walk::fault_at;
 use crate::written::{Instruction, Template};
+use fast_value::Name;
 use std::alloc::{AllocError, Global};
 use std::collections::BTreeMap;
 

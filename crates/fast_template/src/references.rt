@@ -11,9 +11,9 @@ ghost use Rattle.fast_template.specs.References.{reference_cause};
 ghost use Rattle.fast_template.specs.Written.{written_template_of};
 
 use crate::fault::{LoadCause, LoadFault};
-use crate::key::Name;
 use crate::walk::{Judge, first_at_fault, want_of_memory};
 use crate::written::{Instruction, Template};
+use fast_value::Name;
 use std::alloc::{AllocError, Global};
 use std::collections::BTreeMap;
 

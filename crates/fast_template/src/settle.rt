@@ -2,15 +2,15 @@
 
 ghost use Rattle.std.specs.Prelude.{◌≡◌, ◌≤◌, ◌∷◌, Contains, IfOk, OnOk, map};
 ghost use Rattle.std.specs.List.{AllByRecursion};
-ghost use Rattle.fast_template.specs.declared.key.Key as key_type;
+ghost use Rattle.fast_value.specs.declared.key.Key as key_type;
 ghost use Rattle.fast_template.specs.Resolved.{list_of, numbered, resolved_of, size_of, with_keys};
 ghost use Rattle.fast_template.specs.Slots.{AreSettled, EntersKeys, settled, slot_in};
 ghost use Rattle.fast_template.specs.TemplateSets.{HasSlots, identifier_key, keys_of_all};
 
-use crate::key::Key;
 use crate::numbers::number_all;
 use crate::resolved::{Flat, FlatTemplate};
 use crate::slots::{enter_keys, first_slots, give_slots, next_slot};
+use fast_value::Key;
 use std::alloc::{AllocError, Global};
 use std::collections::BTreeMap;
 

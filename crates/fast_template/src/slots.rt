@@ -6,9 +6,8 @@ ghost use Rattle.fast_template.specs.Resolved.{instruction_of, keys_of, keys_of_
 ghost use Rattle.fast_template.specs.Slots.{AreSlots, EntersKeys, slot_in};
 ghost use Rattle.fast_template.specs.TemplateSets.{identifier_key};
 
-use crate::key::{Key, Name, Scope};
-use crate::kind::Part;
 use crate::resolved::{FieldPart, Flat};
+use fast_value::{Key, Name, Part, Scope};
 use std::alloc::{AllocError, Global};
 use std::collections::BTreeMap;
 

@@ -1,6 +1,6 @@
 //! Templates as they are written.
 
-use crate::kind::{Kind, Operator, Presence};
+use fast_value::{Kind, Operator, Presence};
 
 /// A field operator as it is written.
 #[derive(Debug, Drop)]

@@ -1,5 +1,5 @@
 use Rattle.std.proofs.Common.{ap, ◌∙◌}
-use Rattle.fast_template.specs.declared.kind.Part.TheVariants.{Whole}
+use Rattle.fast_value.specs.declared.kind.Part.TheVariants.{Whole}
 use Rattle.fast_template.specs.FlatLists.{part_of, field_part}
 use Rattle.fast_template.specs.Surroundings.{context_in}
 use Rattle.fast_template.specs.Written.{operation_of}

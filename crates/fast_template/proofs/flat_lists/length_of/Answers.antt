@@ -1,6 +1,6 @@
 use Rattle.std.proofs.Common.{ap, ◌∙◌}
-use Rattle.fast_template.specs.declared.kind.Kind.TheVariants.{UInt32}
-use Rattle.fast_template.specs.declared.kind.Part.TheVariants.{Length}
+use Rattle.fast_value.specs.declared.kind.Kind.TheVariants.{UInt32}
+use Rattle.fast_value.specs.declared.kind.Part.TheVariants.{Length}
 use Rattle.fast_template.specs.FlatLists.{part_of}
 use Rattle.fast_template.specs.Surroundings.{context_in}
 use Rattle.fast_template.specs.Written.{operation_of}

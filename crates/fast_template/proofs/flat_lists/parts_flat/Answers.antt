@@ -1,7 +1,7 @@
 use Rattle.std.proofs.Common.{ap, ◌∙◌}
-use Rattle.fast_template.specs.declared.kind.Kind.TheVariants.{Int32, Int64}
-use Rattle.fast_template.specs.declared.kind.Presence.TheVariants.{Mandatory}
-use Rattle.fast_template.specs.declared.kind.Part.TheVariants.{Exponent, Mantissa}
+use Rattle.fast_value.specs.declared.kind.Kind.TheVariants.{Int32, Int64}
+use Rattle.fast_value.specs.declared.kind.Presence.TheVariants.{Mandatory}
+use Rattle.fast_value.specs.declared.kind.Part.TheVariants.{Exponent, Mantissa}
 use Rattle.fast_template.specs.FlatLists.{part_of, exponent_part, mantissa_part}
 use Rattle.fast_template.specs.Surroundings.{context_in}
 use Rattle.fast_template.specs.Written.{operation_of}

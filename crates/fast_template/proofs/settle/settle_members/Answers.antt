@@ -1,5 +1,5 @@
 use Rattle.std.proofs.Common.{ap, ◌∙◌, arith}
-use Rattle.fast_template.specs.declared.key.Key.{Key}
+use Rattle.fast_value.specs.declared.key.Key.{Key}
 use Rattle.fast_template.specs.Resolved.{list_of, size_of}
 use Rattle.fast_template.specs.Slots.{slot_in}
 use Rattle.fast_template.proofs.Settling.{size_with_keys}

@@ -1,5 +1,5 @@
 use Rattle.std.proofs.Common.{◌<◌, ◌≤◌, length, take, sym, ap, ◌∙◌, arith}
-use Rattle.fast_template.specs.declared.key.Key.{Key}
+use Rattle.fast_value.specs.declared.key.Key.{Key}
 use Rattle.fast_template.specs.Resolved.{list_of, with_keys, joined}
 use Rattle.fast_template.specs.Slots.{slot_in}
 use Rattle.fast_template.proofs.Rewritten.{unvisited_more, all_front, no_back, joined_end}

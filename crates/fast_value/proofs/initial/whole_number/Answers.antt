@@ -1,8 +1,8 @@
 use Rattle.std.proofs.Common.{◌≡◌, rules, true, false, sym, ap, ◌∙◌, Some}
-use Rattle.fast_template.specs.InitialValues.{where_so, in_range_of}
-use Rattle.fast_template.specs.Scalar.{in_range, of_integer}
-use Rattle.fast_template.proofs.NumberLaws.{integer_value_some, integer_value_none, in_type}
-use Rattle.fast_template.proofs.initial.whole_number.Goals as goal
+use Rattle.fast_value.specs.InitialValues.{where_so, in_range_of}
+use Rattle.fast_value.specs.Scalar.{in_range, of_integer}
+use Rattle.fast_value.proofs.NumberLaws.{integer_value_some, integer_value_none, in_type}
+use Rattle.fast_value.proofs.initial.whole_number.Goals as goal
 
 pub of_integer-requires : goal.of_integer-requires
 of_integer-requires c =

@@ -1,9 +1,9 @@
 use Rattle.std.proofs.Common.{◌≡◌, ◌==◌, rules, Some}
 use Rattle.std.specs.List.{before_first, after_first}
-use Rattle.fast_template.specs.InitialValues.{integer_of}
-use Rattle.fast_template.specs.Numbers.{small_integer}
-use Rattle.fast_template.proofs.NumberLaws.{decimal_some}
-use Rattle.fast_template.proofs.initial.decimal.Goals as goal
+use Rattle.fast_value.specs.InitialValues.{integer_of}
+use Rattle.fast_value.specs.Numbers.{small_integer}
+use Rattle.fast_value.proofs.NumberLaws.{decimal_some}
+use Rattle.fast_value.proofs.initial.decimal.Goals as goal
 
 pub returns : goal.returns
 returns c =

@@ -1,5 +1,5 @@
 use Rattle.std.proofs.Common.{◌≡◌, ◌≤◌, ◌^◌, ◌+◌, ◌*◌, ◌-◌, min, fold, drop}
-use Rattle.fast_template.proofs.initial.capped_number.Given as goal
+use Rattle.fast_value.proofs.initial.capped_number.Given as goal
 
 abbrev pub invariant-loop-digit : goal.invariant-loop-digit
 invariant-loop-digit l =

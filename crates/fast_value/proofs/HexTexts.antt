@@ -8,7 +8,7 @@ use Rattle.std.proofs.lemmas.Bool.{leb-true}
 use Rattle.hex.specs.Hex.{hex_digit_value, digit_or_error, decode_pairs, decode_of, ◌>>=◌}
 use Rattle.hex.specs.declared.error.FromHexError.{FromHexError}
 use Rattle.hex.specs.declared.error.FromHexError.TheVariants.{OutOfMemory}
-use Rattle.fast_template.specs.InitialValues.{is_digit, hex_digit_of, hex_bytes_of}
+use Rattle.fast_value.specs.InitialValues.{is_digit, hex_digit_of, hex_bytes_of}
 
 abbrev pub good : {A : Type 0} → Result A FromHexError → Option A
 good (Ok x) = Some x

@@ -2,13 +2,13 @@
 
 ghost use Rattle.std.specs.Prelude.{◌≡◌, ◌≤◌, ◌^◌, ◌*◌, ◌+◌, ◌-◌, ◌==◌, ◌&&◌, IfOk, IsTrue, drop, fold, length, min, nat_lt};
 ghost use Rattle.std.specs.List.{after_first, before_first, list_all, position_or_len};
-ghost use Rattle.fast_template.specs.InitialValues.{decimal_value, in_range_of as in_range_of_part, integer_of, integer_value, is_digit, where_so, value_of_text as value_of_text_of};
-ghost use Rattle.fast_template.specs.Numbers.{small_integer, small_number};
-ghost use Rattle.fast_template.specs.Scalar.{exponent_in_range, greatest_of, in_range, least_of, of_integer as of_integer_of};
-ghost use Rattle.fast_template.specs.declared.scalar.Scalar.TheVariants.{Decimal};
-ghost use Rattle.fast_template.specs.declared.kind.Part.TheVariants.{Exponent, Whole};
-ghost use Rattle.fast_template.specs.declared.kind.Kind.TheVariants.{Int32};
-ghost use Rattle.fast_template.specs.declared.kind.Kind.TheVariants as kind_type;
+ghost use Rattle.fast_value.specs.InitialValues.{decimal_value, in_range_of as in_range_of_part, integer_of, integer_value, is_digit, where_so, value_of_text as value_of_text_of};
+ghost use Rattle.fast_value.specs.Numbers.{small_integer, small_number};
+ghost use Rattle.fast_value.specs.Scalar.{exponent_in_range, greatest_of, in_range, least_of, of_integer as of_integer_of};
+ghost use Rattle.fast_value.specs.declared.scalar.Scalar.TheVariants.{Decimal};
+ghost use Rattle.fast_value.specs.declared.kind.Part.TheVariants.{Exponent, Whole};
+ghost use Rattle.fast_value.specs.declared.kind.Kind.TheVariants.{Int32};
+ghost use Rattle.fast_value.specs.declared.kind.Kind.TheVariants as kind_type;
 
 use crate::kind::{Kind, Part};
 use crate::scalar::{ByteString, Scalar};
@@ -16,12 +16,16 @@ use crate::unicode_text::UnicodeText;
 use hex::FromHexError;
 use std::alloc::{AllocError, Global};
 
-/// The value that the text of an initial value spells for a part, if it spells one.
+/// The value that the text of an initial value spells for a part, if it spells one. FAST 1.1, Initial Values.
+///
+/// An integer is decimal digits, with `-` in front of them or not. A decimal is two of those, its mantissa and its
+/// exponent, joined by `e`. Bytes are two hexadecimal digits each. A text that is not spelled so, a number out of the
+/// range of its type, an exponent out of -63..63, a character above 127 in ASCII and more than 65,535 units spell none.
 ///
 /// # Errors
 ///
 /// Where memory is refused.
-pub(crate) fn value_of_text(
+pub fn value_of_text(
     alloc: Global,
     part: Part,
     kind: Kind,

@@ -4,18 +4,18 @@ use Rattle.std.specs.Prelude.{codes}
 use Rattle.std.specs.List.{AllByRecursion}
 use Rattle.std.specs.declared.cmp.Ordering.{Ordering}
 use Rattle.std.specs.declared.cmp.Ordering.TheVariants.{Less, Equal}
-use Rattle.fast_template.specs.declared.kind.Kind.{Kind}
-use Rattle.fast_template.specs.declared.kind.Kind.TheVariants as kind
-use Rattle.fast_template.specs.declared.kind.Part.{Part}
-use Rattle.fast_template.specs.declared.kind.Part.TheVariants.{Whole, Exponent, Mantissa, Length}
-use Rattle.fast_template.specs.declared.scalar.Scalar.{Scalar}
-use Rattle.fast_template.specs.declared.scalar.Scalar.TheVariants.{U32, I32, U64, I64, Decimal, Ascii, Unicode, Bytes}
-use Rattle.fast_template.specs.declared.key.Scope.{Scope}
-use Rattle.fast_template.specs.declared.key.Scope.TheVariants.{Global, Template, Typed, User}
-use Rattle.fast_template.specs.declared.key.Key.{Key}
-use Rattle.fast_template.specs.Scalar.{kind_of, is_of, is_integer, least_of, greatest_of, in_range, exponent_in_range, of_integer, IsScalar}
-use Rattle.fast_template.specs.InitialValues.{is_digit, hex_digit_of, is_short, value_of_text}
-use Rattle.fast_template.specs.Key.{part_number, scope_numbers, key_cmp}
+use Rattle.fast_value.specs.declared.kind.Kind.{Kind}
+use Rattle.fast_value.specs.declared.kind.Kind.TheVariants as kind
+use Rattle.fast_value.specs.declared.kind.Part.{Part}
+use Rattle.fast_value.specs.declared.kind.Part.TheVariants.{Whole, Exponent, Mantissa, Length}
+use Rattle.fast_value.specs.declared.scalar.Scalar.{Scalar}
+use Rattle.fast_value.specs.declared.scalar.Scalar.TheVariants.{U32, I32, U64, I64, Decimal, Ascii, Unicode, Bytes}
+use Rattle.fast_value.specs.declared.key.Scope.{Scope}
+use Rattle.fast_value.specs.declared.key.Scope.TheVariants.{Global, Template, Typed, User}
+use Rattle.fast_value.specs.declared.key.Key.{Key}
+use Rattle.fast_value.specs.Scalar.{kind_of, is_of, is_integer, least_of, greatest_of, in_range, exponent_in_range, of_integer, IsScalar}
+use Rattle.fast_value.specs.InitialValues.{is_digit, hex_digit_of, is_short, value_of_text}
+use Rattle.fast_value.specs.Key.{part_number, scope_numbers, key_cmp}
 
 -- ---- types
 

@@ -1,6 +1,6 @@
 -- Numbers in texts, as far as any type can have them.
 use Rattle.std.specs.Prelude.{ℕ, ◌^◌, ℤ, nat_abs, nat_lt, List, Option, option_and_then}
-use Rattle.fast_template.specs.InitialValues.{digits_of, integer_of, where_so}
+use Rattle.fast_value.specs.InitialValues.{digits_of, integer_of, where_so}
 
 -- a number below 2^64, and an integer whose number is
 abbrev pub small_number : List ℕ → Option ℕ

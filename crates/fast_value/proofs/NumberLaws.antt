@@ -2,14 +2,14 @@
 use Rattle.std.proofs.Common.{◌≡◌, ◌<◌, ◌≤◌, ◌+◌, ◌-◌, ◌*◌, ◌^◌, ◌&&◌, suc, ℕ, ℤ, List, [], ◌∷◌, fold, min, nat_lt, nat_le, Option, Some, None, Bool, true, false, pos, negsuc, refl, sym, ap, ◌∙◌, arith, lit<, true≢false}
 use Rattle.std.specs.Prelude.{nat_abs, option_and_then}
 use Rattle.std.proofs.lemmas.Bool.{leb-true, le-leb, lt-ltb}
-use Rattle.fast_template.specs.declared.kind.Kind.{Kind}
-use Rattle.fast_template.specs.declared.kind.Kind.TheVariants as kind
-use Rattle.fast_template.specs.declared.kind.Part.{Part}
-use Rattle.fast_template.specs.declared.kind.Part.TheVariants as part
-use Rattle.fast_template.specs.declared.scalar.Scalar.TheVariants.{Decimal}
-use Rattle.fast_template.specs.Scalar.{in_range, exponent_in_range, of_integer}
-use Rattle.fast_template.specs.InitialValues.{where_so, in_range_of, integer_of, integer_value, decimal_value}
-use Rattle.fast_template.specs.Numbers.{small_integer}
+use Rattle.fast_value.specs.declared.kind.Kind.{Kind}
+use Rattle.fast_value.specs.declared.kind.Kind.TheVariants as kind
+use Rattle.fast_value.specs.declared.kind.Part.{Part}
+use Rattle.fast_value.specs.declared.kind.Part.TheVariants as part
+use Rattle.fast_value.specs.declared.scalar.Scalar.TheVariants.{Decimal}
+use Rattle.fast_value.specs.Scalar.{in_range, exponent_in_range, of_integer}
+use Rattle.fast_value.specs.InitialValues.{where_so, in_range_of, integer_of, integer_value, decimal_value}
+use Rattle.fast_value.specs.Numbers.{small_integer}
 
 abbrev step : ℕ → ℕ → ℕ
 step n d = 10 * n + (d - 48)

@@ -163,7 +163,7 @@ impl Key {
 
 impl Key {
     ghost use Rattle.std.specs.Ordering.{ordering_then};
-    ghost use Rattle.fast_template.specs.Key.{part_number, scope_numbers};
+    ghost use Rattle.fast_value.specs.Key.{part_number, scope_numbers};
 
     // How two keys of one slot compare: by scope, then name and part.
     fn cmp_behind_slot(&self, other: &Key) -> Ordering
@@ -182,7 +182,7 @@ impl Key {
 impl PartialOrd for Key {
     ghost use Rattle.std.specs.Prelude.{Some, refl};
     ghost use Rattle.std.specs.Cmp.{partial_order_from_agreeing_total};
-    ghost use Rattle.fast_template.specs.Key.{key_cmp, key_cmp-total, key_eq_ties};
+    ghost use Rattle.fast_value.specs.Key.{key_cmp, key_cmp-total, key_eq_ties};
 
     ghost partial_cmp = { λ a b. Some (key_cmp a b) };
 
@@ -196,7 +196,7 @@ impl PartialOrd for Key {
 
 impl Ord for Key {
     ghost use Rattle.std.specs.Prelude.{refl};
-    ghost use Rattle.fast_template.specs.Key.{key_cmp, key_cmp-total, key_eq_ties};
+    ghost use Rattle.fast_value.specs.Key.{key_cmp, key_cmp-total, key_eq_ties};
 
     ghost cmp = { key_cmp };
 

@@ -1,9 +1,9 @@
 use Rattle.std.proofs.Common.{◌≡◌, rules, sym, ap, ◌∙◌, Some, None, true, false}
 use Rattle.std.specs.Prelude.{option_and_then}
-use Rattle.fast_template.specs.declared.scalar.Scalar.TheVariants.{Bytes}
-use Rattle.fast_template.specs.InitialValues.{where_so, is_short, hex_bytes_of}
-use Rattle.fast_template.proofs.HexTexts.{good, decoded_bytes, refused}
-use Rattle.fast_template.proofs.initial.hexadecimal.Goals as goal
+use Rattle.fast_value.specs.declared.scalar.Scalar.TheVariants.{Bytes}
+use Rattle.fast_value.specs.InitialValues.{where_so, is_short, hex_bytes_of}
+use Rattle.fast_value.proofs.HexTexts.{good, decoded_bytes, refused}
+use Rattle.fast_value.proofs.initial.hexadecimal.Goals as goal
 
 pub returns-then-len-le65535 : goal.returns-then-len-le65535
 returns-then-len-le65535 c =

@@ -1,6 +1,6 @@
 use Rattle.std.proofs.Common.{◌≡◌, ◌+◌, ◌==◌, drop}
 use Rattle.std.specs.List.{position_or_len}
-use Rattle.fast_template.proofs.initial.first_e.Given as goal
+use Rattle.fast_value.proofs.initial.first_e.Given as goal
 
 abbrev pub invariant-loop-at : goal.invariant-loop-at
 invariant-loop-at l = position_or_len (λ c. c == 101) l.text ≡ l.at + position_or_len (λ c. c == 101) (drop l.at l.text)

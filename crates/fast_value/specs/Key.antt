@@ -8,17 +8,17 @@ use Rattle.std.specs.Ordering.{nat_cmp, ordering_then, is_eq, eq_by_cmp}
 use Rattle.std.specs.Cmp.{IsTotalOrder, Equal-is, both_tied, unsigned_ties, nat_cmp_total, then_total, on_total}
 use Rattle.std.specs.Cmp.Lexicographic.{slice_cmp, nat_list_cmp_total, texts_ties}
 use Rattle.std.specs.FinMap.{IsAntisymmetric, nat_cmp-IsAntisymmetric, slice_cmp-IsAntisymmetric}
-use Rattle.fast_template.specs.declared.kind.Part.{Part}
-use Rattle.fast_template.specs.declared.kind.Part.TheVariants.{Whole, Exponent, Mantissa, Length}
-use Rattle.fast_template.specs.declared.key.Scope.{Scope}
-use Rattle.fast_template.specs.declared.key.Scope.TheVariants.{Global, Template, Typed, User}
-use Rattle.fast_template.specs.declared.key.Key.{Key}
-use Rattle.fast_template.specs.contracts.kind.PartOrd.TheImpl as part
-use Rattle.fast_template.specs.contracts.key.ScopeOrd.TheImpl as scope
-use Rattle.fast_template.specs.contracts.kind.PartOrd.TheImpl.Laws as part_laws
-use Rattle.fast_template.specs.contracts.key.ScopeOrd.TheImpl.Laws as scope_laws
-use Rattle.fast_template.specs.contracts.key.KeyPartialEq.TheImpl as key_eq
-use Rattle.fast_template.specs.contracts.key.KeyEq.TheImpl.Laws as key_eq_laws
+use Rattle.fast_value.specs.declared.kind.Part.{Part}
+use Rattle.fast_value.specs.declared.kind.Part.TheVariants.{Whole, Exponent, Mantissa, Length}
+use Rattle.fast_value.specs.declared.key.Scope.{Scope}
+use Rattle.fast_value.specs.declared.key.Scope.TheVariants.{Global, Template, Typed, User}
+use Rattle.fast_value.specs.declared.key.Key.{Key}
+use Rattle.fast_value.specs.contracts.kind.PartOrd.TheImpl as part
+use Rattle.fast_value.specs.contracts.key.ScopeOrd.TheImpl as scope
+use Rattle.fast_value.specs.contracts.kind.PartOrd.TheImpl.Laws as part_laws
+use Rattle.fast_value.specs.contracts.key.ScopeOrd.TheImpl.Laws as scope_laws
+use Rattle.fast_value.specs.contracts.key.KeyPartialEq.TheImpl as key_eq
+use Rattle.fast_value.specs.contracts.key.KeyEq.TheImpl.Laws as key_eq_laws
 
 -- a part and a dictionary as numbers that tell them apart
 abbrev pub part_number : Part → ℕ

@@ -1,7 +1,7 @@
 use Rattle.std.proofs.Common.{◌≡◌, ◌<◌, ◌+◌, ◌-◌, ◌*◌, ◌^◌, rules, length, drop, min, fold, get_or, sym, ap, ◌∙◌}
 use Rattle.std.proofs.lemmas.List.{drop_more}
-use Rattle.fast_template.proofs.NumberLaws.{capped_fold}
-use Rattle.fast_template.proofs.initial.capped_number.Goals as goal
+use Rattle.fast_value.proofs.NumberLaws.{capped_fold}
+use Rattle.fast_value.proofs.initial.capped_number.Goals as goal
 
 pub loop-digit-preserved : goal.loop-digit-preserved
 loop-digit-preserved c =

@@ -1,0 +1,3 @@
+pub mod HexTexts
+pub mod NumberLaws
+pub mod ScalarRows

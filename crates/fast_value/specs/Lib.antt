@@ -1,0 +1,4 @@
+pub mod Scalar
+pub mod Key
+pub mod InitialValues
+pub mod Numbers
