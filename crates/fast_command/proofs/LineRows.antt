@@ -5,8 +5,8 @@ use Rattle.std.specs.Fmt.{digits}
 use Rattle.hex.specs.Hex.{encode_with}
 use Rattle.fast_template.specs.Resolved.{no_instructions}
 use Rattle.fast_template.specs.Written.{WrittenTemplate}
-use Rattle.fast_template.specs.declared.kind.Kind.TheVariants.{Int64, Ascii, Bytes}
-use Rattle.fast_template.specs.declared.scalar.Scalar.TheVariants as value
+use Rattle.fast_value.specs.declared.kind.Kind.TheVariants.{Int64, Ascii, Bytes}
+use Rattle.fast_value.specs.declared.scalar.Scalar.TheVariants as value
 use Rattle.fast_template.proofs.WorkedTemplates.{quote, wrap, opt, legs, bare, tail, grp, uni, const, fixed, first}
 use Rattle.fast_template.proofs.WorkedSet.{resolved}
 use Rattle.fast_stream.specs.Nodes.{Content}

@@ -8,7 +8,7 @@ use Rattle.fast_template.specs.declared.resolved.Flat.TheOpen.{Flat-F}
 use Rattle.fast_template.specs.declared.resolved.Flat.TheVariants as flat
 use Rattle.fast_template.specs.declared.resolved.Flat.TheVariants.{rolls-Sequence}
 use Rattle.fast_template.specs.declared.resolved.FieldPart.{FieldPart}
-use Rattle.fast_template.specs.declared.kind.Presence.{Presence}
+use Rattle.fast_value.specs.declared.kind.Presence.{Presence}
 use Rattle.fast_template.specs.Resolved.{Instruction, flat_step, instruction_of, list_of}
 use Rattle.fast_stream.specs.declared.message.Node.{Node}
 use Rattle.fast_stream.specs.Nodes.{Item, Items, item_of, items_in, elements_of}

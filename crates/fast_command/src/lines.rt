@@ -6,7 +6,7 @@ ghost use Rattle.std.specs.List.{flat_map, list_all};
 ghost use Rattle.hex.specs.Hex.{encode_lower};
 ghost use Rattle.fast_template.specs.Resolved.{instruction_of, list_of, resolved_of};
 ghost use Rattle.fast_template.specs.TemplateSets.{template_of};
-ghost use Rattle.fast_template.specs.Scalar.{is_of};
+ghost use Rattle.fast_value.specs.Scalar.{is_of};
 ghost use Rattle.fast_field.specs.Refusals.{are_characters, has_characters};
 ghost use Rattle.fast_stream.specs.Nodes.{single, Items, Elements, group_items, sequence_elements, item_of, items_in, elements_of, content_of};
 ghost use Rattle.fast_command.specs.Lines.{absent_text, braced, decimal_text, elements_text, field_text, group_text, sequence_text, is_plain, label, line_by, line_in, bracketed, member_text, members_text, node_text, quoted, scalar_text, unit_text, value_text};

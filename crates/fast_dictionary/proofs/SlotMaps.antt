@@ -9,8 +9,8 @@ use Rattle.std.specs.declared.cmp.Ordering.TheVariants.{Less, Equal, Greater}
 use Rattle.std.specs.FinMap as map
 use Rattle.std.proofs.lemmas.List.{get_or-set_same, get_or-set_other}
 use Rattle.std.proofs.lemmas.Map.Views.{Contains-from_any}
-use Rattle.fast_template.specs.Key.{key_cmp, key_cmp-total, key_cmp-exact}
-use Rattle.fast_template.specs.declared.key.Key.{Key}
+use Rattle.fast_value.specs.Key.{key_cmp, key_cmp-total, key_cmp-exact}
+use Rattle.fast_value.specs.declared.key.Key.{Key}
 use Rattle.fast_template.specs.TemplateSets.{TemplateList, IsSound, keys_in}
 use Rattle.fast_template.proofs.SlotLaws.{same_slot_same_key}
 use Rattle.fast_dictionary.specs.declared.entry.Entry.{Entry}

@@ -8,11 +8,11 @@ use Rattle.std.specs.declared.cmp.Ordering.{Ordering}
 use Rattle.std.specs.declared.cmp.Ordering.TheVariants.{Less, Equal, Greater}
 use Rattle.std.specs.FinMap as map
 use Rattle.std.specs.Coded.{Coded, coded_option}
-use Rattle.fast_template.specs.Key.{key_cmp, key_cmp-total, key_cmp-exact}
-use Rattle.fast_template.specs.declared.key.Key.{Key}
-use Rattle.fast_template.specs.declared.scalar.Scalar.{Scalar}
-use Rattle.fast_template.specs.contracts.key.Key as key
-use Rattle.fast_template.specs.contracts.scalar.Scalar as scalar
+use Rattle.fast_value.specs.Key.{key_cmp, key_cmp-total, key_cmp-exact}
+use Rattle.fast_value.specs.declared.key.Key.{Key}
+use Rattle.fast_value.specs.declared.scalar.Scalar.{Scalar}
+use Rattle.fast_value.specs.contracts.key.Key as key
+use Rattle.fast_value.specs.contracts.scalar.Scalar as scalar
 use Rattle.fast_dictionary.specs.declared.entry.Entry.{Entry}
 use Rattle.fast_dictionary.specs.declared.entry.Entry.TheVariants.{Undefined, Empty, Assigned}
 use Rattle.fast_dictionary.specs.declared.entry.EntryRef.{EntryRef}

@@ -3,8 +3,8 @@
 use Rattle.std.specs.Prelude.{◌≡◌, ◌<◌, ℕ, Bool, IsTrue, List, map, slice_index_or}
 use Rattle.std.specs.List.{list_any}
 use Rattle.std.specs.Ordering.{eq_by_cmp}
-use Rattle.fast_template.specs.Key.{key_cmp}
-use Rattle.fast_template.specs.declared.key.Key.{Key}
+use Rattle.fast_value.specs.Key.{key_cmp}
+use Rattle.fast_value.specs.declared.key.Key.{Key}
 use Rattle.fast_template.specs.TemplateSets.{TemplateList, keys_in}
 use Rattle.fast_dictionary.specs.declared.entry.Entry.{Entry}
 use Rattle.fast_dictionary.specs.declared.entry.Entry.TheVariants.{Undefined}

@@ -3,7 +3,7 @@
 ghost use Rattle.std.specs.Prelude.{◌≡◌, ◌≢◌, Bool, IsTrue, IfOk, OnOk, OnErr};
 ghost use Rattle.std.specs.Borrow.{sem, LendsSoOk};
 ghost use Rattle.std.specs.FinMap as map;
-ghost use Rattle.fast_template.specs.declared.key.Key as key_type;
+ghost use Rattle.fast_value.specs.declared.key.Key as key_type;
 ghost use Rattle.fast_dictionary.specs.Dictionary.{Dictionary, entry_at, entry_of, set_entry, value_in};
 ghost use Rattle.fast_dictionary.specs.contracts.entry.Entry as entry_type;
 ghost use Rattle.fast_dictionary.specs.declared.entry.Entry.TheVariants.{Undefined};

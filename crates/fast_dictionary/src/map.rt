@@ -3,7 +3,7 @@
 ghost use Rattle.std.specs.Prelude.{◌≡◌, true, Some, None, IsSome, OnErr, OnOk};
 ghost use Rattle.std.specs.BTreeMap.{get};
 ghost use Rattle.std.specs.FinMap as map;
-ghost use Rattle.fast_template.specs.Key.{key_cmp};
+ghost use Rattle.fast_value.specs.Key.{key_cmp};
 ghost use Rattle.fast_dictionary.specs.Dictionary.{from_pairs, set_entry};
 
 use crate::entries::Entries;

@@ -2,7 +2,7 @@
 
 ghost use Rattle.std.specs.Prelude.{◌≡◌, Contains, IfOk, IsTrue, false, vec_len};
 ghost use Rattle.std.specs.FinMap as map;
-ghost use Rattle.fast_template.specs.declared.key.Key.{Key as KeyOf};
+ghost use Rattle.fast_value.specs.declared.key.Key.{Key as KeyOf};
 ghost use Rattle.fast_template.specs.TemplateSets.{keys_in};
 ghost use Rattle.fast_dictionary.specs.Slots.{AllUndefined, AreBelow, HaveOwnSlots, dictionary_in, is_key_in};
 

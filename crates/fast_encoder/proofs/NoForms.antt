@@ -4,11 +4,11 @@ use Rattle.std.specs.Prelude.{not, nat_lt}
 use Rattle.std.specs.List.{AllByRecursion}
 use Rattle.std.proofs.lemmas.Bool.Decides.{nat_tests}
 use Rattle.std.proofs.lemmas.List.{append_assoc, length-map}
-use Rattle.fast_template.specs.Scalar.{IsScalar}
-use Rattle.fast_template.specs.declared.kind.Presence.{Presence}
-use Rattle.fast_template.specs.declared.kind.Presence.TheVariants.{Mandatory, Optional}
-use Rattle.fast_template.specs.declared.scalar.Scalar.{Scalar}
-use Rattle.fast_template.specs.declared.scalar.Scalar.TheVariants.{U32, I32, U64, I64, Decimal, Ascii, Unicode, Bytes}
+use Rattle.fast_value.specs.Scalar.{IsScalar}
+use Rattle.fast_value.specs.declared.kind.Presence.{Presence}
+use Rattle.fast_value.specs.declared.kind.Presence.TheVariants.{Mandatory, Optional}
+use Rattle.fast_value.specs.declared.scalar.Scalar.{Scalar}
+use Rattle.fast_value.specs.declared.scalar.Scalar.TheVariants.{U32, I32, U64, I64, Decimal, Ascii, Unicode, Bytes}
 use Rattle.fast_template.specs.declared.resolved.FieldPart.{FieldPart}
 use Rattle.fast_template.specs.Resolved.{Instruction, Instructions, whole_field, field_in_parts, group_of, sequence_of, no_instructions, then_instruction, part_needs_bit, is_optional, has_map}
 use Rattle.fast_template.specs.TemplateSets.{TemplateList, templates_in, IsSound}

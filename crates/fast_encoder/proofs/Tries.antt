@@ -2,14 +2,14 @@
 use Rattle.std.proofs.Common.{◌≡◌, ◌≤◌, ℕ, Bool, true, false, ◌&&◌, ◌||◌, List, [], ◌∷◌, length, map, Some, Ok, Err, inl, inr, Result, refl, ◌∙◌, arith}
 use Rattle.std.specs.Prelude.{◌⊎◌, nat_lt}
 use Rattle.std.specs.Global.{Vec}
-use Rattle.fast_template.specs.declared.key.Key.{Key}
+use Rattle.fast_value.specs.declared.key.Key.{Key}
 use Rattle.fast_template.specs.declared.resolved.Flat.{Flat, fold_out-Flat}
 use Rattle.fast_template.specs.declared.resolved.Flat.TheVariants.{Sequence, outs-Sequence}
-use Rattle.fast_template.specs.declared.scalar.Scalar.TheVariants.{U32}
+use Rattle.fast_value.specs.declared.scalar.Scalar.TheVariants.{U32}
 use Rattle.fast_stream.specs.declared.message.Node.{Node}
 use Rattle.fast_stream.specs.declared.message.Node.TheVariants as nodes
 use Rattle.fast_stream.proofs.Views.{item_of-sequence}
-use Rattle.fast_template.specs.declared.kind.Presence.{Presence}
+use Rattle.fast_value.specs.declared.kind.Presence.{Presence}
 use Rattle.fast_template.specs.declared.resolved.FieldPart.{FieldPart}
 use Rattle.fast_template.specs.Resolved.{Instruction, Instructions, flat_step, instruction_of, list_of, group_of, sequence_of, no_instructions, then_instruction, is_optional, has_map}
 use Rattle.fast_dictionary.specs.Dictionary.{Dictionary}

@@ -1,7 +1,7 @@
 -- The canonical bytes of two worked streams, part by part.
 use Rattle.std.proofs.Common.{◌≡◌, ◌∙◌, ◌+◌, ◌≤◌, ◌<◌, ◌^◌, ℕ, zero, suc, Bool, true, false, pos, negsuc, List, [], ◌∷◌, length, Option, Some, None, Result, Ok, refl, sym, ap, subst, arith, lit<, lit≤, length-append, cond}
 use Rattle.std.specs.Prelude.{ℤ, ◌+ℤ◌, codes, nat_lt, if◌then◌else◌, IsTrue}
-use Rattle.fast_template.specs.Scalar.{in_range}
+use Rattle.fast_value.specs.Scalar.{in_range}
 use Rattle.std.proofs.Math.IntN.{+ℤ_idl}
 use Rattle.std.specs.FinMap as finite
 use Rattle.std.specs.Ordering.{eq_by_cmp}
@@ -11,18 +11,18 @@ use Rattle.fast_wire.specs.Sizes.{groups_from, signed_size, ascii_size}
 use Rattle.fast_wire.proofs.FormSizes.{signed_sizes, ascii_sizes}
 use Rattle.fast_wire.specs.declared.nullable.Nullable.TheVariants.{Value}
 use Rattle.fast_wire.specs.PresenceMap.{bits_of, bit_at}
-use Rattle.fast_template.specs.Key.{key_cmp, key_cmp-total}
-use Rattle.fast_template.specs.declared.key.Key.{Key}
-use Rattle.fast_template.specs.declared.key.Scope.TheVariants.{Global}
-use Rattle.fast_template.specs.declared.kind.Kind.{Kind}
-use Rattle.fast_template.specs.declared.kind.Kind.TheVariants as kind
-use Rattle.fast_template.specs.declared.kind.Presence.{Presence}
-use Rattle.fast_template.specs.declared.kind.Presence.TheVariants.{Mandatory, Optional}
-use Rattle.fast_template.specs.declared.kind.Operator.{Operator}
-use Rattle.fast_template.specs.declared.kind.Operator.TheVariants as operator
-use Rattle.fast_template.specs.declared.kind.Part.TheVariants.{Whole}
-use Rattle.fast_template.specs.declared.scalar.Scalar.{Scalar}
-use Rattle.fast_template.specs.declared.scalar.Scalar.TheVariants.{U32, Ascii, Decimal}
+use Rattle.fast_value.specs.Key.{key_cmp, key_cmp-total}
+use Rattle.fast_value.specs.declared.key.Key.{Key}
+use Rattle.fast_value.specs.declared.key.Scope.TheVariants.{Global}
+use Rattle.fast_value.specs.declared.kind.Kind.{Kind}
+use Rattle.fast_value.specs.declared.kind.Kind.TheVariants as kind
+use Rattle.fast_value.specs.declared.kind.Presence.{Presence}
+use Rattle.fast_value.specs.declared.kind.Presence.TheVariants.{Mandatory, Optional}
+use Rattle.fast_value.specs.declared.kind.Operator.{Operator}
+use Rattle.fast_value.specs.declared.kind.Operator.TheVariants as operator
+use Rattle.fast_value.specs.declared.kind.Part.TheVariants.{Whole}
+use Rattle.fast_value.specs.declared.scalar.Scalar.{Scalar}
+use Rattle.fast_value.specs.declared.scalar.Scalar.TheVariants.{U32, Ascii, Decimal}
 use Rattle.fast_template.specs.declared.resolved.FieldPart.{FieldPart}
 use Rattle.fast_template.proofs.WorkedSet.{worked_set}
 use Rattle.fast_dictionary.specs.declared.entry.Entry.{Entry}

@@ -2,9 +2,9 @@
 use Rattle.std.proofs.Common.{◌≡◌, ◌<◌, ℕ, Bool, true, false, ◌||◌, List, [], ◌∷◌, ◌++◌, Option, Some, None, refl, sym, ap, subst, ◌∙◌, append-nil, arith}
 use Rattle.std.specs.Prelude.{ℤ}
 use Rattle.std.proofs.lemmas.List.{append_assoc}
-use Rattle.fast_template.specs.declared.scalar.Scalar.{Scalar}
-use Rattle.fast_template.specs.declared.scalar.Scalar.TheVariants.{U32, I32, I64, Decimal}
-use Rattle.fast_template.specs.declared.kind.Presence.{Presence}
+use Rattle.fast_value.specs.declared.scalar.Scalar.{Scalar}
+use Rattle.fast_value.specs.declared.scalar.Scalar.TheVariants.{U32, I32, I64, Decimal}
+use Rattle.fast_value.specs.declared.kind.Presence.{Presence}
 use Rattle.fast_template.specs.declared.resolved.FieldPart.{FieldPart}
 use Rattle.fast_template.specs.Resolved.{Instruction, Instructions, whole_field, field_in_parts, group_of, sequence_of, no_instructions, then_instruction, part_needs_bit, is_optional, takes_bit, has_map}
 use Rattle.fast_dictionary.specs.Dictionary.{Dictionary, entry_at}

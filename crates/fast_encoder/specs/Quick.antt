@@ -1,9 +1,9 @@
 -- A part that was relayed with no value in between. (Own.)
 use Rattle.std.specs.Prelude.{◌≡◌, ℕ, Bool, true, false, List, ◌++◌, Option, Some, None, Ok, IsTrue}
-use Rattle.fast_template.specs.Scalar.{is_of}
-use Rattle.fast_template.specs.declared.kind.Kind.{Kind}
+use Rattle.fast_value.specs.Scalar.{is_of}
+use Rattle.fast_value.specs.declared.kind.Kind.{Kind}
 use Rattle.fast_template.specs.declared.resolved.FieldPart.{FieldPart}
-use Rattle.fast_template.specs.declared.scalar.Scalar.{Scalar}
+use Rattle.fast_value.specs.declared.scalar.Scalar.{Scalar}
 use Rattle.fast_dictionary.specs.declared.entry.Entry.{Entry}
 use Rattle.fast_field.specs.Bases.{next}
 use Rattle.fast_field.specs.FieldReading.{field_at}

@@ -3,10 +3,10 @@
 
 ghost use Rattle.std.specs.Prelude.{◌≡◌, ◌≤◌, ◌<◌, true, length, IfSome, IsSome};
 ghost use Rattle.std.specs.List.{AllByRecursion};
-ghost use Rattle.fast_template.specs.Scalar.{IsScalar, is_of};
+ghost use Rattle.fast_value.specs.Scalar.{IsScalar, is_of};
 ghost use Rattle.fast_template.specs.TemplateSets.{IsInitial, applies as applies_to, identifier_key, is_in_part};
 ghost use Rattle.fast_dictionary.specs.Dictionary.{entry_of};
-ghost use Rattle.fast_template.specs.declared.kind.Operator.TheVariants as operator;
+ghost use Rattle.fast_value.specs.declared.kind.Operator.TheVariants as operator;
 ghost use Rattle.fast_field.specs.Parts.{HasDefault, IsFieldPart, IsKindOfPart};
 ghost use Rattle.fast_field.specs.Within.{HoldsScalar};
 ghost use Rattle.fast_stream.specs.Streams.{identifier};

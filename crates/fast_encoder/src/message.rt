@@ -3,7 +3,7 @@
 ghost use Rattle.std.specs.Prelude.{◌≡◌, ◌⊎◌, ◌&&◌, [], Some, true, false, drop, IsTrue, IfErr, OnOk, OnErr};
 ghost use Rattle.fast_template.specs.Resolved.{list_of};
 ghost use Rattle.fast_template.specs.TemplateSets.{identifier_key};
-ghost use Rattle.fast_template.specs.declared.scalar.Scalar.TheVariants.{U32};
+ghost use Rattle.fast_value.specs.declared.scalar.Scalar.TheVariants.{U32};
 ghost use Rattle.fast_stream.specs.Nodes.{content_of, items_in};
 ghost use Rattle.fast_stream.specs.Bodies.{WithMap};
 ghost use Rattle.fast_stream.specs.Streams.{identifier as identifier_part};

@@ -2,8 +2,8 @@
 
 ghost use Rattle.std.specs.Prelude.{◌≡◌, ◌≤◌, ℕ, List, Some, IsTrue, length, map};
 ghost use Rattle.fast_template.specs.Resolved.{field_in_parts, has_map as has_map_of, instruction_of, list_of};
-ghost use Rattle.fast_template.specs.declared.kind.Presence.{Presence as PresenceOf};
-ghost use Rattle.fast_template.specs.declared.scalar.Scalar.TheVariants.{I32, I64, U32};
+ghost use Rattle.fast_value.specs.declared.kind.Presence.{Presence as PresenceOf};
+ghost use Rattle.fast_value.specs.declared.scalar.Scalar.TheVariants.{I32, I64, U32};
 ghost use Rattle.fast_field.specs.Best.{IsBest};
 ghost use Rattle.fast_field.specs.Parts.{IsFieldPart};
 ghost use Rattle.fast_stream.specs.Nodes.{elements_of, item_of, items_in, single};

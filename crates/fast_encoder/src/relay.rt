@@ -2,7 +2,7 @@
 
 ghost use Rattle.std.specs.Prelude.{◌≡◌, ◌≢◌, ◌≤◌, ◌++◌, ℕ, List, Ok, Err, IfOk, IfErr, OnErr, Option, IsTrue, length, drop, [], false, true};
 ghost use Rattle.fast_template.specs.Resolved.{part_needs_bit as part_needs_bit_of};
-ghost use Rattle.fast_template.specs.declared.scalar.Scalar.{Scalar as ScalarOf};
+ghost use Rattle.fast_value.specs.declared.scalar.Scalar.{Scalar as ScalarOf};
 ghost use Rattle.fast_dictionary.specs.Dictionary.{entry_at};
 ghost use Rattle.fast_field.specs.Bases.{next};
 ghost use Rattle.fast_field.specs.Best.{IsBest};

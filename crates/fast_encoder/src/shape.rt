@@ -3,7 +3,7 @@
 ghost use Rattle.std.specs.Prelude.{◌≡◌, Some, map};
 ghost use Rattle.std.specs.Option.{option_copied};
 ghost use Rattle.fast_template.specs.Resolved.{instruction_of, is_optional, list_of};
-ghost use Rattle.fast_template.specs.Scalar.{is_of};
+ghost use Rattle.fast_value.specs.Scalar.{is_of};
 ghost use Rattle.fast_field.specs.Refusals.{are_characters, has_characters};
 ghost use Rattle.fast_stream.specs.Nodes.{elements_of, item_of, items_in, items_of};
 ghost use Rattle.fast_encoder.specs.FirstRefusal.{elements_fit, item_fits, items_fit, value_fits};

@@ -1,10 +1,10 @@
 -- What an entry gives, as calls find it.
 use Rattle.std.proofs.Common.{◌≡◌, true, [], pos, refl}
-use Rattle.fast_template.specs.Scalar.{is_of, kind_of}
-use Rattle.fast_template.specs.declared.kind.Kind.{Kind}
-use Rattle.fast_template.specs.declared.kind.Kind.TheVariants as kind
-use Rattle.fast_template.specs.declared.scalar.Scalar.{Scalar}
-use Rattle.fast_template.specs.declared.scalar.Scalar.TheVariants.{U32, I32, U64, I64, Decimal, Ascii, Unicode, Bytes}
+use Rattle.fast_value.specs.Scalar.{is_of, kind_of}
+use Rattle.fast_value.specs.declared.kind.Kind.{Kind}
+use Rattle.fast_value.specs.declared.kind.Kind.TheVariants as kind
+use Rattle.fast_value.specs.declared.scalar.Scalar.{Scalar}
+use Rattle.fast_value.specs.declared.scalar.Scalar.TheVariants.{U32, I32, U64, I64, Decimal, Ascii, Unicode, Bytes}
 use Rattle.fast_field.specs.Values.{integer_of, exponent_of, mantissa_of, units_of, default_of}
 
 pub integer_of-default_of : (k : Kind) → integer_of (default_of k) ≡ pos 0

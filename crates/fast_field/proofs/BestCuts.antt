@@ -10,12 +10,12 @@ use Rattle.fast_wire.specs.Sizes.{unsigned_size}
 use Rattle.fast_wire.specs.declared.nullable.Nullable.TheVariants.{Value}
 use Rattle.fast_wire.proofs.FormSizes.{signed_sizes, signed_nullable_sizes, ascii_sizes, vector_sizes, signed_grow, signed_nullable_grow}
 use Rattle.fast_wire.proofs.Sizes.{unsigned_size-grows}
-use Rattle.fast_template.specs.Scalar.{in_range}
-use Rattle.fast_template.specs.declared.kind.Kind.{Kind}
-use Rattle.fast_template.specs.declared.kind.Kind.TheVariants as kind
-use Rattle.fast_template.specs.declared.kind.Presence.{Presence}
-use Rattle.fast_template.specs.declared.kind.Presence.TheVariants.{Mandatory, Optional}
-use Rattle.fast_template.specs.declared.scalar.Scalar.{Scalar}
+use Rattle.fast_value.specs.Scalar.{in_range}
+use Rattle.fast_value.specs.declared.kind.Kind.{Kind}
+use Rattle.fast_value.specs.declared.kind.Kind.TheVariants as kind
+use Rattle.fast_value.specs.declared.kind.Presence.{Presence}
+use Rattle.fast_value.specs.declared.kind.Presence.TheVariants.{Mandatory, Optional}
+use Rattle.fast_value.specs.declared.scalar.Scalar.{Scalar}
 use Rattle.fast_field.specs.Values.{units_of, IsUnitKind}
 use Rattle.fast_field.specs.Spelled.{SpellsInteger, SpellsPart, IsOfUnits}
 use Rattle.fast_field.specs.Deltas.{Cut, removed_of, side_of, put_together, IsOfFewUnits, SpellsCut}

@@ -8,7 +8,7 @@ use Rattle.fast_wire.specs.declared.fault.WireFault.TheVariants as wire
 use Rattle.fast_wire.specs.declared.nullable.Nullable.{Nullable}
 use Rattle.fast_wire.specs.declared.nullable.Nullable.TheVariants.{Null, Value}
 use Rattle.fast_wire.proofs.Readers.{ok_is, reader_then, reader_of, reader_as}
-use Rattle.fast_template.specs.declared.scalar.Scalar.{Scalar}
+use Rattle.fast_value.specs.declared.scalar.Scalar.{Scalar}
 use Rattle.fast_field.specs.declared.fault.FieldFault.{FieldFault}
 use Rattle.fast_field.specs.declared.fault.FieldFault.TheVariants as fault
 use Rattle.fast_field.specs.Faults.{field_fault}

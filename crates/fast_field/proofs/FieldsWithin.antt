@@ -7,17 +7,17 @@ use Rattle.std.proofs.lemmas.Bool.Decides.{nat_tests}
 use Rattle.std.proofs.lemmas.Int.{ints}
 use Rattle.std.proofs.lemmas.Str.{IsUtf8-from_is_utf8}
 use Rattle.fast_wire.proofs.Readers.{ok_is}
-use Rattle.fast_template.specs.Scalar.{is_of, is_integer, in_range, least_of, greatest_of, kind_of, of_integer, IsScalar}
+use Rattle.fast_value.specs.Scalar.{is_of, is_integer, in_range, least_of, greatest_of, kind_of, of_integer, IsScalar}
 use Rattle.fast_template.specs.TemplateSets.{applies, IsInitial}
-use Rattle.fast_template.specs.declared.kind.Kind.{Kind}
-use Rattle.fast_template.specs.declared.kind.Kind.TheVariants as kind
-use Rattle.fast_template.specs.declared.kind.Operator.{Operator}
-use Rattle.fast_template.specs.declared.kind.Operator.TheVariants as operator
-use Rattle.fast_template.specs.declared.kind.Presence.{Presence}
-use Rattle.fast_template.specs.declared.kind.Presence.TheVariants.{Mandatory, Optional}
+use Rattle.fast_value.specs.declared.kind.Kind.{Kind}
+use Rattle.fast_value.specs.declared.kind.Kind.TheVariants as kind
+use Rattle.fast_value.specs.declared.kind.Operator.{Operator}
+use Rattle.fast_value.specs.declared.kind.Operator.TheVariants as operator
+use Rattle.fast_value.specs.declared.kind.Presence.{Presence}
+use Rattle.fast_value.specs.declared.kind.Presence.TheVariants.{Mandatory, Optional}
 use Rattle.fast_template.specs.declared.resolved.FieldPart.{FieldPart}
-use Rattle.fast_template.specs.declared.scalar.Scalar.{Scalar}
-use Rattle.fast_template.specs.declared.scalar.Scalar.TheVariants.{U32, I32, U64, I64}
+use Rattle.fast_value.specs.declared.scalar.Scalar.{Scalar}
+use Rattle.fast_value.specs.declared.scalar.Scalar.TheVariants.{U32, I32, U64, I64}
 use Rattle.fast_dictionary.specs.declared.entry.Entry.{Entry}
 use Rattle.fast_dictionary.specs.declared.entry.Entry.TheVariants.{Undefined, Empty, Assigned}
 use Rattle.fast_field.specs.declared.fault.FieldFault.{FieldFault}

@@ -4,10 +4,10 @@ use Rattle.std.specs.Prelude.{nat_lt, nat_le}
 use Rattle.std.proofs.lemmas.Bool.Decides.{nat_tests}
 use Rattle.std.proofs.lemmas.List.{take_all}
 use Rattle.fast_wire.specs.Reading.{entity_at, signed_at, ascii_at}
-use Rattle.fast_template.specs.declared.kind.Kind.TheVariants as kind
-use Rattle.fast_template.specs.declared.kind.Presence.TheVariants.{Mandatory}
-use Rattle.fast_template.specs.declared.kind.Operator.TheVariants.{Tail}
-use Rattle.fast_template.specs.declared.scalar.Scalar.TheVariants.{Ascii}
+use Rattle.fast_value.specs.declared.kind.Kind.TheVariants as kind
+use Rattle.fast_value.specs.declared.kind.Presence.TheVariants.{Mandatory}
+use Rattle.fast_value.specs.declared.kind.Operator.TheVariants.{Tail}
+use Rattle.fast_value.specs.declared.scalar.Scalar.TheVariants.{Ascii}
 use Rattle.fast_field.specs.declared.fault.FieldFault.TheVariants as fault
 use Rattle.fast_field.specs.FieldReading.{integer_at, part_at, units_at, unit_value, limited_value, new_part_behind, unit_delta_at, delta_at, ended_value, tail_at, row_at, part_checked, field_at, IsFieldFault}
 use Rattle.fast_field.proofs.WorkedFields.{field, text, delta_s}

@@ -7,10 +7,10 @@ use Rattle.fast_wire.specs.Reading.{signed_at, ascii_at}
 use Rattle.fast_wire.specs.declared.fault.WireFault.TheVariants as wire
 use Rattle.fast_wire.proofs.Readers.{one_form}
 use Rattle.fast_wire.proofs.FormReaders.{signed_forms, ascii_forms}
-use Rattle.fast_template.specs.declared.kind.Kind.TheVariants as kind
-use Rattle.fast_template.specs.declared.kind.Presence.TheVariants.{Mandatory}
-use Rattle.fast_template.specs.declared.scalar.Scalar.{Scalar}
-use Rattle.fast_template.specs.declared.scalar.Scalar.TheVariants.{Ascii}
+use Rattle.fast_value.specs.declared.kind.Kind.TheVariants as kind
+use Rattle.fast_value.specs.declared.kind.Presence.TheVariants.{Mandatory}
+use Rattle.fast_value.specs.declared.scalar.Scalar.{Scalar}
+use Rattle.fast_value.specs.declared.scalar.Scalar.TheVariants.{Ascii}
 use Rattle.fast_field.specs.Deltas.{at_end, in_front, Cut, side_of, SpellsCut}
 use Rattle.fast_field.specs.Fields.{FormBy}
 use Rattle.fast_field.specs.Best.{side_rank, NoLater, IsBest}

@@ -7,8 +7,8 @@ use Rattle.fast_wire.specs.Entity.{groups}
 use Rattle.fast_wire.specs.Reading.{Fails}
 use Rattle.fast_wire.specs.Spans.{IsTail}
 use Rattle.fast_wire.proofs.AsciiForms.{tail_text}
-use Rattle.fast_template.specs.declared.kind.Kind.{Kind}
-use Rattle.fast_template.specs.declared.kind.Kind.TheVariants as kind
+use Rattle.fast_value.specs.declared.kind.Kind.{Kind}
+use Rattle.fast_value.specs.declared.kind.Kind.TheVariants as kind
 use Rattle.fast_field.specs.declared.fault.FieldFault.{FieldFault}
 use Rattle.fast_field.specs.declared.fault.FieldFault.TheVariants as fault
 use Rattle.fast_field.specs.Calls.{OrRefused}

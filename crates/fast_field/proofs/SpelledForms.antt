@@ -15,14 +15,14 @@ use Rattle.fast_wire.proofs.Readers.{ok_is, reader_then, reader_as, reader_map}
 use Rattle.fast_wire.proofs.FormReaders.{unsigned_forms, signed_forms, ascii_forms, ascii_nullable_forms}
 use Rattle.fast_wire.proofs.NullableForms.{unsigned_nullable_forms, signed_nullable_forms}
 use Rattle.fast_wire.proofs.VectorForms.{vector_forms, vector_nullable_forms}
-use Rattle.fast_template.specs.declared.kind.Kind.{Kind}
-use Rattle.fast_template.specs.declared.kind.Kind.TheVariants as kind
-use Rattle.fast_template.specs.declared.kind.Presence.{Presence}
-use Rattle.fast_template.specs.declared.kind.Presence.TheVariants.{Mandatory, Optional}
-use Rattle.fast_template.specs.declared.kind.Part.{Part}
-use Rattle.fast_template.specs.declared.scalar.Scalar.{Scalar}
-use Rattle.fast_template.specs.declared.scalar.Scalar.TheVariants.{Decimal}
-use Rattle.fast_template.specs.Scalar.{in_range, exponent_in_range, of_integer}
+use Rattle.fast_value.specs.declared.kind.Kind.{Kind}
+use Rattle.fast_value.specs.declared.kind.Kind.TheVariants as kind
+use Rattle.fast_value.specs.declared.kind.Presence.{Presence}
+use Rattle.fast_value.specs.declared.kind.Presence.TheVariants.{Mandatory, Optional}
+use Rattle.fast_value.specs.declared.kind.Part.{Part}
+use Rattle.fast_value.specs.declared.scalar.Scalar.{Scalar}
+use Rattle.fast_value.specs.declared.scalar.Scalar.TheVariants.{Decimal}
+use Rattle.fast_value.specs.Scalar.{in_range, exponent_in_range, of_integer}
 use Rattle.fast_field.specs.declared.fault.FieldFault.{FieldFault}
 use Rattle.fast_field.specs.declared.fault.FieldFault.TheVariants as fault
 use Rattle.fast_field.specs.Values.{is_unsigned, of_units}

@@ -2,16 +2,16 @@
 use Rattle.std.proofs.Common.{◌≡◌, ◌≤◌, true, false, List, ℕ, ◌-◌, ◌++◌, Ok, length, take, refl, sym, subst, ◌∙◌}
 use Rattle.std.specs.Prelude.{ℤ, Some, IsTrue}
 use Rattle.fast_wire.specs.Writing.{IsShortest}
-use Rattle.fast_template.specs.Scalar.{is_of}
-use Rattle.fast_template.specs.declared.kind.Kind.{Kind}
-use Rattle.fast_template.specs.declared.kind.Kind.TheVariants as kind
-use Rattle.fast_template.specs.declared.kind.Operator.{Operator}
-use Rattle.fast_template.specs.declared.kind.Operator.TheVariants as operator
-use Rattle.fast_template.specs.declared.kind.Part.{Part}
-use Rattle.fast_template.specs.declared.kind.Part.TheVariants as part
-use Rattle.fast_template.specs.declared.kind.Presence.{Presence}
+use Rattle.fast_value.specs.Scalar.{is_of}
+use Rattle.fast_value.specs.declared.kind.Kind.{Kind}
+use Rattle.fast_value.specs.declared.kind.Kind.TheVariants as kind
+use Rattle.fast_value.specs.declared.kind.Operator.{Operator}
+use Rattle.fast_value.specs.declared.kind.Operator.TheVariants as operator
+use Rattle.fast_value.specs.declared.kind.Part.{Part}
+use Rattle.fast_value.specs.declared.kind.Part.TheVariants as part
+use Rattle.fast_value.specs.declared.kind.Presence.{Presence}
 use Rattle.fast_template.specs.declared.resolved.FieldPart.{FieldPart}
-use Rattle.fast_template.specs.declared.scalar.Scalar.{Scalar}
+use Rattle.fast_value.specs.declared.scalar.Scalar.{Scalar}
 use Rattle.fast_dictionary.specs.declared.entry.Entry.{Entry}
 use Rattle.fast_dictionary.specs.declared.entry.Entry.TheVariants.{Assigned}
 use Rattle.fast_field.specs.Bases.{next, tail_base}

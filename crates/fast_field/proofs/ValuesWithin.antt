@@ -6,13 +6,13 @@ use Rattle.std.proofs.lemmas.Bool.Decides.{nat_tests}
 use Rattle.std.proofs.lemmas.List.Elements.{recursion_from_All}
 use Rattle.fast_wire.specs.declared.nullable.Nullable.TheVariants.{Null, Value}
 use Rattle.fast_wire.proofs.FormSizes.{ascii_sizes, ascii_nullable_sizes}
-use Rattle.fast_template.specs.Scalar.{is_of, is_integer, in_range, of_integer, IsScalar}
-use Rattle.fast_template.specs.declared.kind.Kind.{Kind}
-use Rattle.fast_template.specs.declared.kind.Kind.TheVariants as kind
-use Rattle.fast_template.specs.declared.kind.Presence.{Presence}
-use Rattle.fast_template.specs.declared.kind.Presence.TheVariants.{Mandatory, Optional}
-use Rattle.fast_template.specs.declared.scalar.Scalar.{Scalar}
-use Rattle.fast_template.specs.declared.scalar.Scalar.TheVariants.{Ascii, Unicode, Bytes}
+use Rattle.fast_value.specs.Scalar.{is_of, is_integer, in_range, of_integer, IsScalar}
+use Rattle.fast_value.specs.declared.kind.Kind.{Kind}
+use Rattle.fast_value.specs.declared.kind.Kind.TheVariants as kind
+use Rattle.fast_value.specs.declared.kind.Presence.{Presence}
+use Rattle.fast_value.specs.declared.kind.Presence.TheVariants.{Mandatory, Optional}
+use Rattle.fast_value.specs.declared.scalar.Scalar.{Scalar}
+use Rattle.fast_value.specs.declared.scalar.Scalar.TheVariants.{Ascii, Unicode, Bytes}
 use Rattle.fast_field.specs.Values.{is_unsigned, units_of, IsUnitKind}
 use Rattle.fast_field.specs.Spelled.{SpellsInteger, SpellsPart, SpellsUnits, IsOfUnits, SpelledNumber, SpelledString, SpelledDecimal, Spelled}
 

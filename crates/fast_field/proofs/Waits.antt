@@ -13,16 +13,16 @@ use Rattle.fast_wire.specs.declared.nullable.Nullable.TheVariants.{Null, Value}
 use Rattle.fast_wire.proofs.Readers.{ok_is}
 use Rattle.fast_wire.proofs.FormReaders.{entity_err, within_err, within_ok}
 use Rattle.fast_wire.proofs.VectorForms.{bytes_long, bytes_ok}
-use Rattle.fast_template.specs.Scalar.{in_range, exponent_in_range}
-use Rattle.fast_template.specs.declared.kind.Kind.{Kind}
-use Rattle.fast_template.specs.declared.kind.Kind.TheVariants as kind
-use Rattle.fast_template.specs.declared.kind.Operator.{Operator}
-use Rattle.fast_template.specs.declared.kind.Operator.TheVariants as operator
-use Rattle.fast_template.specs.declared.kind.Part.{Part}
-use Rattle.fast_template.specs.declared.kind.Presence.{Presence}
-use Rattle.fast_template.specs.declared.kind.Presence.TheVariants.{Mandatory, Optional}
+use Rattle.fast_value.specs.Scalar.{in_range, exponent_in_range}
+use Rattle.fast_value.specs.declared.kind.Kind.{Kind}
+use Rattle.fast_value.specs.declared.kind.Kind.TheVariants as kind
+use Rattle.fast_value.specs.declared.kind.Operator.{Operator}
+use Rattle.fast_value.specs.declared.kind.Operator.TheVariants as operator
+use Rattle.fast_value.specs.declared.kind.Part.{Part}
+use Rattle.fast_value.specs.declared.kind.Presence.{Presence}
+use Rattle.fast_value.specs.declared.kind.Presence.TheVariants.{Mandatory, Optional}
 use Rattle.fast_template.specs.declared.resolved.FieldPart.{FieldPart}
-use Rattle.fast_template.specs.declared.scalar.Scalar.{Scalar}
+use Rattle.fast_value.specs.declared.scalar.Scalar.{Scalar}
 use Rattle.fast_dictionary.specs.declared.entry.Entry.{Entry}
 use Rattle.fast_field.specs.declared.fault.FieldFault.{FieldFault}
 use Rattle.fast_field.specs.declared.fault.FieldFault.TheVariants as fault

@@ -4,12 +4,12 @@ use Rattle.std.specs.Prelude.{codes, IsTrue}
 use Rattle.fast_wire.specs.Reading.{entity_at, signed_at, ascii_at, ascii_nullable_at}
 use Rattle.fast_wire.specs.Sizes.{groups_from, signed_size}
 use Rattle.fast_template.specs.TemplateSets.{applies}
-use Rattle.fast_template.specs.declared.kind.Kind.{Kind}
-use Rattle.fast_template.specs.declared.kind.Kind.TheVariants as kind
-use Rattle.fast_template.specs.declared.kind.Operator.TheVariants.{Tail}
-use Rattle.fast_template.specs.declared.kind.Presence.{Presence}
-use Rattle.fast_template.specs.declared.kind.Presence.TheVariants.{Mandatory, Optional}
-use Rattle.fast_template.specs.declared.scalar.Scalar.TheVariants.{U32, I32, Ascii, Unicode}
+use Rattle.fast_value.specs.declared.kind.Kind.{Kind}
+use Rattle.fast_value.specs.declared.kind.Kind.TheVariants as kind
+use Rattle.fast_value.specs.declared.kind.Operator.TheVariants.{Tail}
+use Rattle.fast_value.specs.declared.kind.Presence.{Presence}
+use Rattle.fast_value.specs.declared.kind.Presence.TheVariants.{Mandatory, Optional}
+use Rattle.fast_value.specs.declared.scalar.Scalar.TheVariants.{U32, I32, Ascii, Unicode}
 use Rattle.fast_dictionary.specs.declared.entry.Entry.TheVariants.{Undefined, Empty}
 use Rattle.fast_field.specs.FieldReading.{integer_at, part_at, units_at}
 use Rattle.fast_field.specs.Fields.{Form}

@@ -3,10 +3,10 @@ use Rattle.std.proofs.Common.{true, false, [], ◌∷◌, Some, None, pos, refl}
 use Rattle.std.specs.Prelude.{codes}
 use Rattle.std.specs.Str.{is_utf8, chars}
 use Rattle.fast_wire.specs.Reading.{entity_at, unsigned_at, signed_at, signed_nullable_at, ascii_at, ascii_nullable_at, bytes_at, vector_at}
-use Rattle.fast_template.specs.declared.kind.Kind.TheVariants as kind
-use Rattle.fast_template.specs.declared.kind.Presence.TheVariants.{Optional}
-use Rattle.fast_template.specs.declared.kind.Operator.TheVariants.{Copy, Delta}
-use Rattle.fast_template.specs.declared.scalar.Scalar.TheVariants.{U32, I32, Ascii, Unicode}
+use Rattle.fast_value.specs.declared.kind.Kind.TheVariants as kind
+use Rattle.fast_value.specs.declared.kind.Presence.TheVariants.{Optional}
+use Rattle.fast_value.specs.declared.kind.Operator.TheVariants.{Copy, Delta}
+use Rattle.fast_value.specs.declared.scalar.Scalar.TheVariants.{U32, I32, Ascii, Unicode}
 use Rattle.fast_dictionary.specs.declared.entry.Entry.TheVariants.{Undefined, Empty, Assigned}
 use Rattle.fast_field.specs.declared.fault.FieldFault.TheVariants as fault
 use Rattle.fast_field.specs.FieldReading.{integer_at, part_at, units_at, integer_value, unit_value, integer_spelled_at, spelled_at, integer_delta_at, integer_sum, mantissa_delta_behind, decimal_delta_at, new_part_behind, unit_delta_at, delta_at, tail_at, ended_value, limited_value, whole_at, predicted_at, row_at, part_checked, field_at, IsFieldFault}

@@ -1,14 +1,14 @@
 -- The forms of one field, by operator and bit. Where a field has no bit, the bit is true.
 -- FAST 1.1, Field Operators. The limits are this project's own.
 use Rattle.std.specs.Prelude.{◌≡◌, ℕ, pos, Bool, true, false, int_le, List, [], Option, Some, None, Ok, IsTrue}
-use Rattle.fast_template.specs.Scalar.{exponent_in_range}
-use Rattle.fast_template.specs.declared.kind.Operator.{Operator}
-use Rattle.fast_template.specs.declared.kind.Operator.TheVariants as operator
-use Rattle.fast_template.specs.declared.kind.Part.{Part}
-use Rattle.fast_template.specs.declared.kind.Part.TheVariants as part
-use Rattle.fast_template.specs.declared.kind.Presence.TheVariants.{Optional}
+use Rattle.fast_value.specs.Scalar.{exponent_in_range}
+use Rattle.fast_value.specs.declared.kind.Operator.{Operator}
+use Rattle.fast_value.specs.declared.kind.Operator.TheVariants as operator
+use Rattle.fast_value.specs.declared.kind.Part.{Part}
+use Rattle.fast_value.specs.declared.kind.Part.TheVariants as part
+use Rattle.fast_value.specs.declared.kind.Presence.TheVariants.{Optional}
 use Rattle.fast_template.specs.declared.resolved.FieldPart.{FieldPart}
-use Rattle.fast_template.specs.declared.scalar.Scalar.{Scalar}
+use Rattle.fast_value.specs.declared.scalar.Scalar.{Scalar}
 use Rattle.fast_dictionary.specs.declared.entry.Entry.{Entry}
 use Rattle.fast_field.specs.Values.{integer_of}
 use Rattle.fast_field.specs.Bases.{predicted}

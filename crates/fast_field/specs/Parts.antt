@@ -3,12 +3,12 @@
 use Rattle.std.specs.Prelude.{◌≡◌, Bool, true, false, IsSome}
 use Rattle.fast_template.specs.Resolved.{Instruction, Instructions, whole_field, field_in_parts, group_of, sequence_of, no_instructions, then_instruction, part_needs_bit}
 use Rattle.fast_template.specs.TemplateSets.{IsTyped}
-use Rattle.fast_template.specs.declared.kind.Kind.{Kind}
-use Rattle.fast_template.specs.declared.kind.Kind.TheVariants as kind
-use Rattle.fast_template.specs.declared.kind.Operator.TheVariants as operator
-use Rattle.fast_template.specs.declared.kind.Part.{Part}
-use Rattle.fast_template.specs.declared.kind.Part.TheVariants as part
-use Rattle.fast_template.specs.declared.kind.Presence.TheVariants.{Mandatory}
+use Rattle.fast_value.specs.declared.kind.Kind.{Kind}
+use Rattle.fast_value.specs.declared.kind.Kind.TheVariants as kind
+use Rattle.fast_value.specs.declared.kind.Operator.TheVariants as operator
+use Rattle.fast_value.specs.declared.kind.Part.{Part}
+use Rattle.fast_value.specs.declared.kind.Part.TheVariants as part
+use Rattle.fast_value.specs.declared.kind.Presence.TheVariants.{Mandatory}
 use Rattle.fast_template.specs.declared.resolved.FieldPart.{FieldPart}
 
 -- a bit that a field can have: without one it is true

@@ -1,9 +1,9 @@
 -- A field that is read and written at once: what was read is a form of its value, the entry is the one afterwards, and
 -- the value's best form was appended. (Own.)
 use Rattle.std.specs.Prelude.{◌≡◌, ℕ, true, false, List, [], ◌++◌, Option, Some, None, Ok, IsTrue}
-use Rattle.fast_template.specs.Scalar.{is_of}
+use Rattle.fast_value.specs.Scalar.{is_of}
 use Rattle.fast_template.specs.declared.resolved.FieldPart.{FieldPart}
-use Rattle.fast_template.specs.declared.scalar.Scalar.{Scalar}
+use Rattle.fast_value.specs.declared.scalar.Scalar.{Scalar}
 use Rattle.fast_dictionary.specs.declared.entry.Entry.{Entry}
 use Rattle.fast_field.specs.declared.number.Passed.{Passed}
 use Rattle.fast_field.specs.declared.number.Passed.TheVariants.{Absent, Present, Elsewhere}

@@ -3,8 +3,8 @@ use Rattle.std.specs.Prelude.{ℕ, List}
 use Rattle.fast_wire.specs.Entity.{groups}
 use Rattle.fast_wire.specs.Spans.{IsTail, bytes_in}
 use Rattle.fast_wire.specs.declared.span.Span.{Span}
-use Rattle.fast_template.specs.declared.kind.Kind.{Kind}
-use Rattle.fast_template.specs.declared.kind.Kind.TheVariants as kind
+use Rattle.fast_value.specs.declared.kind.Kind.{Kind}
+use Rattle.fast_value.specs.declared.kind.Kind.TheVariants as kind
 
 -- what can stand there: of ASCII the last bytes of an entity, or none
 abbrev pub IsSent : Kind → List ℕ → Type 0

@@ -1,11 +1,11 @@
 -- The numbers and the units of values.
 -- FAST 1.1, Templates, Field Instructions.
 use Rattle.std.specs.Prelude.{ℕ, ℤ, pos, ◌+ℤ◌, int_lt, if◌then◌else◌, Bool, true, false, List, []}
-use Rattle.fast_template.specs.Scalar.{kind_of, least_of, greatest_of, of_integer}
-use Rattle.fast_template.specs.declared.scalar.Scalar.{Scalar}
-use Rattle.fast_template.specs.declared.scalar.Scalar.TheVariants.{U32, I32, U64, I64, Decimal, Ascii, Unicode, Bytes}
-use Rattle.fast_template.specs.declared.kind.Kind.{Kind}
-use Rattle.fast_template.specs.declared.kind.Kind.TheVariants as kind
+use Rattle.fast_value.specs.Scalar.{kind_of, least_of, greatest_of, of_integer}
+use Rattle.fast_value.specs.declared.scalar.Scalar.{Scalar}
+use Rattle.fast_value.specs.declared.scalar.Scalar.TheVariants.{U32, I32, U64, I64, Decimal, Ascii, Unicode, Bytes}
+use Rattle.fast_value.specs.declared.kind.Kind.{Kind}
+use Rattle.fast_value.specs.declared.kind.Kind.TheVariants as kind
 
 -- the types whose integers have no sign
 abbrev pub is_unsigned : Kind → Bool

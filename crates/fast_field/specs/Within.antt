@@ -2,12 +2,12 @@
 -- FAST 1.1, Templates, Field Instructions. The limits are this project's own.
 use Rattle.std.specs.Prelude.{◌≡◌, ◌^◌, ◌<◌, Option, Some, None, IsTrue, IsUtf8}
 use Rattle.std.specs.List.{AllByRecursion}
-use Rattle.fast_template.specs.Scalar.{is_of, in_range, IsScalar}
-use Rattle.fast_template.specs.declared.kind.Kind.TheVariants as kind
-use Rattle.fast_template.specs.declared.kind.Presence.TheVariants.{Optional}
+use Rattle.fast_value.specs.Scalar.{is_of, in_range, IsScalar}
+use Rattle.fast_value.specs.declared.kind.Kind.TheVariants as kind
+use Rattle.fast_value.specs.declared.kind.Presence.TheVariants.{Optional}
 use Rattle.fast_template.specs.declared.resolved.FieldPart.{FieldPart}
-use Rattle.fast_template.specs.declared.scalar.Scalar.{Scalar}
-use Rattle.fast_template.specs.declared.scalar.Scalar.TheVariants.{U32, I32, U64, I64, Decimal, Ascii, Unicode, Bytes}
+use Rattle.fast_value.specs.declared.scalar.Scalar.{Scalar}
+use Rattle.fast_value.specs.declared.scalar.Scalar.TheVariants.{U32, I32, U64, I64, Decimal, Ascii, Unicode, Bytes}
 use Rattle.fast_dictionary.specs.declared.entry.Entry.{Entry}
 use Rattle.fast_dictionary.specs.declared.entry.Entry.TheVariants.{Undefined, Empty, Assigned}
 use Rattle.fast_field.specs.Fields.{IsWithin}

@@ -1,7 +1,7 @@
 -- What a call that writes the best form of a value leaves behind, and why it refuses one. (Own.)
 use Rattle.std.specs.Prelude.{◌≡◌, ◌⊎◌, ℕ, ◌≤◌, Bool, false, List, ◌++◌, length, Option, Some, None}
 use Rattle.fast_template.specs.declared.resolved.FieldPart.{FieldPart}
-use Rattle.fast_template.specs.declared.scalar.Scalar.{Scalar}
+use Rattle.fast_value.specs.declared.scalar.Scalar.{Scalar}
 use Rattle.fast_dictionary.specs.declared.entry.Entry.{Entry}
 use Rattle.fast_field.specs.declared.fault.FieldRefusal.{FieldRefusal}
 use Rattle.fast_field.specs.declared.fault.FieldRefusal.TheVariants as refusal

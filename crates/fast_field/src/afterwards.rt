@@ -5,7 +5,7 @@ ghost use Rattle.std.specs.Option.{option_copied};
 ghost use Rattle.fast_dictionary.specs.Dictionary.{entry_of};
 ghost use Rattle.fast_dictionary.specs.declared.entry.Entry as entry;
 ghost use Rattle.fast_field.specs.Bases.{delta_entry, next};
-ghost use Rattle.fast_template.specs.declared.scalar.Scalar as scalar;
+ghost use Rattle.fast_value.specs.declared.scalar.Scalar as scalar;
 ghost use Rattle.fast_field.specs.Planning.{left_out_of};
 ghost use Rattle.fast_field.specs.Found.{CanLie, IsLeftOut, value_found};
 

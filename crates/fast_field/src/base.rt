@@ -2,8 +2,8 @@
 
 ghost use Rattle.std.specs.Prelude.{◌≡◌, ◌^◌, ◌<◌, pos, negsuc, ◌<ℤ◌, IfOk};
 ghost use Rattle.std.specs.Option.{option_copied};
-ghost use Rattle.fast_template.specs.Scalar.{is_of};
-ghost use Rattle.fast_template.specs.declared.kind.Kind as kind;
+ghost use Rattle.fast_value.specs.Scalar.{is_of};
+ghost use Rattle.fast_value.specs.declared.kind.Kind as kind;
 ghost use Rattle.fast_dictionary.specs.Dictionary.{entry_of};
 ghost use Rattle.fast_field.specs.Bases.{delta_base, predicted, tail_base};
 ghost use Rattle.fast_field.specs.Calls.{Answers};

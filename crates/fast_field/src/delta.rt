@@ -2,8 +2,8 @@
 
 ghost use Rattle.std.specs.Prelude.{◌≡◌, ◌^◌, ◌≤◌, ◌<ℤ◌, ◌+◌, ◌+ℤ◌, ◌-ℤ◌, pos, negsuc, None, Ok, true, false, length, drop, IfNone, IfOk, IfSome, IsTrue};
 ghost use Rattle.fast_dictionary.specs.Dictionary.{entry_of};
-ghost use Rattle.fast_template.specs.Scalar.{in_range, is_integer};
-ghost use Rattle.fast_template.specs.declared.kind.Kind.TheVariants as kind;
+ghost use Rattle.fast_value.specs.Scalar.{in_range, is_integer};
+ghost use Rattle.fast_value.specs.declared.kind.Kind.TheVariants as kind;
 ghost use Rattle.fast_wire.specs.Reading.{Gives, GivesAt};
 ghost use Rattle.fast_field.specs.Calls.{Answers, AnswersAt, IsSentRange, OrRefused};
 ghost use Rattle.fast_field.specs.Chosen.{AppendsOne, Both, CanBeUnits, HasSize, IsDelta, IsSmall, OnBase, ShortestPart, ShortestSigned, length_size, part_size};
@@ -12,8 +12,8 @@ ghost use Rattle.fast_field.specs.Refusals.{delta_refusal};
 ghost use Rattle.fast_field.specs.Values.{exponent_of, mantissa_of, units_of};
 ghost use Rattle.fast_field.specs.Found.{base_or_default};
 ghost use Rattle.std.specs.Option.{option_copied};
-ghost use Rattle.fast_template.specs.declared.scalar.Scalar as scalar;
-ghost use Rattle.fast_template.specs.declared.kind.Kind as kind_type;
+ghost use Rattle.fast_value.specs.declared.scalar.Scalar as scalar;
+ghost use Rattle.fast_value.specs.declared.kind.Kind as kind_type;
 ghost use Rattle.fast_field.specs.FieldReading.{decimal_delta_at, delta_at, integer_delta_at, integer_sum, limited_value, mantissa_delta_behind, new_part_behind, unit_delta_at};
 ghost use Rattle.fast_field.specs.Deltas.{put_together, removed_of};
 ghost use Rattle.fast_field.specs.Removals.{length_of};

@@ -2,8 +2,8 @@
 //! between. All is inline, since the type is mostly known where it is called.
 
 ghost use Rattle.std.specs.Prelude.{◌≡◌, ◌≤◌, ◌^◌, ◌<ℤ◌, pos, negsuc, true, false, length, drop, IfNone, IfSome, IsTrue};
-ghost use Rattle.fast_template.specs.Scalar.{greatest_of, in_range, is_integer, is_of, least_of, of_integer};
-ghost use Rattle.fast_template.specs.declared.scalar.Scalar.TheVariants as scalar;
+ghost use Rattle.fast_value.specs.Scalar.{greatest_of, in_range, is_integer, is_of, least_of, of_integer};
+ghost use Rattle.fast_value.specs.declared.scalar.Scalar.TheVariants as scalar;
 ghost use Rattle.fast_dictionary.specs.declared.entry.Entry.TheVariants as entry_type;
 ghost use Rattle.fast_field.specs.Chosen.{AppendsOne, ShortestWhole};
 ghost use Rattle.fast_field.specs.Numbers.{HasNumber, IsFieldNumber, IsNumber, IsNumberOf, Spelt, next_number, number_within};

@@ -5,7 +5,7 @@ ghost use Rattle.std.specs.List.{AllByRecursion};
 ghost use Rattle.fast_wire.specs.Reader.{GoesOn, IsBytes, IsReader};
 ghost use Rattle.fast_template.specs.TemplateSets.{IsSound, TemplateList, templates_in};
 ghost use Rattle.fast_template.specs.declared.resolved.FieldPart.{FieldPart};
-ghost use Rattle.fast_template.specs.declared.scalar.Scalar.{Scalar};
+ghost use Rattle.fast_value.specs.declared.scalar.Scalar.{Scalar};
 ghost use Rattle.fast_dictionary.specs.declared.entry.Entry.{Entry};
 ghost use Rattle.fast_field.specs.Parts.{EachPartIn, HasDefault, IsBitOf, IsFieldPart};
 ghost use Rattle.fast_field.specs.Bases.{next};

@@ -2,9 +2,9 @@
 //! These are most fields of a feed. What is not served here goes the general way of `find_field` and `write_found`.
 
 ghost use Rattle.std.specs.Prelude.{◌≡◌, ◌≤◌, ℕ, List, ◌+ℤ◌, ◌<ℤ◌, ◌^◌, pos, negsuc, true, false, length, drop, Some, IfNone, IfSome, IsTrue};
-ghost use Rattle.fast_template.specs.Scalar.{is_integer, is_of, of_integer};
-ghost use Rattle.fast_template.specs.declared.kind.Operator.TheVariants as operator_type;
-ghost use Rattle.fast_template.specs.declared.scalar.Scalar.{Scalar as ScalarOf};
+ghost use Rattle.fast_value.specs.Scalar.{is_integer, is_of, of_integer};
+ghost use Rattle.fast_value.specs.declared.kind.Operator.TheVariants as operator_type;
+ghost use Rattle.fast_value.specs.declared.scalar.Scalar.{Scalar as ScalarOf};
 ghost use Rattle.fast_dictionary.specs.declared.entry.Entry.TheVariants as entry_type;
 ghost use Rattle.fast_field.specs.Bases.{next_of};
 ghost use Rattle.fast_field.specs.Fields.{within_part};

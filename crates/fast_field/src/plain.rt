@@ -2,11 +2,11 @@
 //! what is written and once into the entry, and no string is made. What is not served here is left to `text`.
 
 ghost use Rattle.std.specs.Prelude.{◌≡◌, ◌≤◌, ◌<◌, ◌++◌, pos, true, false, length, drop, take, Some, IfNone, IfSome};
-ghost use Rattle.fast_template.specs.declared.kind.Kind.TheVariants as kind_type;
-ghost use Rattle.fast_template.specs.declared.kind.Operator.TheVariants as operator_type;
-ghost use Rattle.fast_template.specs.declared.kind.Part.TheVariants as part_type;
-ghost use Rattle.fast_template.specs.declared.scalar.Scalar.{Scalar as ScalarOf};
-ghost use Rattle.fast_template.specs.declared.scalar.Scalar.TheVariants.{Ascii};
+ghost use Rattle.fast_value.specs.declared.kind.Kind.TheVariants as kind_type;
+ghost use Rattle.fast_value.specs.declared.kind.Operator.TheVariants as operator_type;
+ghost use Rattle.fast_value.specs.declared.kind.Part.TheVariants as part_type;
+ghost use Rattle.fast_value.specs.declared.scalar.Scalar.{Scalar as ScalarOf};
+ghost use Rattle.fast_value.specs.declared.scalar.Scalar.TheVariants.{Ascii};
 ghost use Rattle.fast_dictionary.specs.declared.entry.Entry.TheVariants as entry_type;
 ghost use Rattle.fast_wire.specs.Entity.{IsEntity, groups};
 ghost use Rattle.fast_field.specs.Bases.{next_of};

@@ -13,7 +13,7 @@ ghost use Rattle.fast_field.specs.Planning.{left_out_of};
 ghost use Rattle.fast_field.specs.Refusals.{operator_refusal, refusal_of};
 ghost use Rattle.fast_field.specs.Values.{units_of};
 ghost use Rattle.fast_field.specs.Within.{HasRange, HasRangeOr, HoldsScalar};
-ghost use Rattle.fast_template.specs.declared.scalar.Scalar as scalar;
+ghost use Rattle.fast_value.specs.declared.scalar.Scalar as scalar;
 
 use crate::delta::delta_of;
 use crate::fault::FieldRefusal;

@@ -2,7 +2,7 @@
 
 ghost use Rattle.std.specs.Prelude.{◌≡◌, ℕ, ◌≤◌, List, ◌++◌, length, drop, Option, Ok, ◌⊎◌, IfOk, MatchResult, OnErr};
 ghost use Rattle.fast_dictionary.specs.Dictionary.{entry_of};
-ghost use Rattle.fast_template.specs.declared.scalar.Scalar as scalar;
+ghost use Rattle.fast_value.specs.declared.scalar.Scalar as scalar;
 ghost use Rattle.fast_wire.specs.Reading.{Gives, GivesAt, Reads};
 ghost use Rattle.fast_field.specs.Bases.{next};
 ghost use Rattle.fast_field.specs.Calls.{Answers, OrRefused};

@@ -3,9 +3,9 @@
 ghost use Rattle.std.specs.Prelude.{◌≡◌, ◌≤◌, ◌<◌, true, false, length, drop, IfNone, IfOk, IfSome, IsTrue};
 ghost use Rattle.fast_wire.specs.Nullable.{IsNullOr, items_of};
 ghost use Rattle.fast_wire.specs.Reading.{GivesAt, signed_at};
-ghost use Rattle.fast_template.specs.Scalar.{exponent_in_range, in_range, is_integer};
-ghost use Rattle.fast_template.specs.declared.kind.Kind.TheVariants as kind;
-ghost use Rattle.fast_template.specs.declared.kind.Presence.TheVariants.{Mandatory, Optional};
+ghost use Rattle.fast_value.specs.Scalar.{exponent_in_range, in_range, is_integer};
+ghost use Rattle.fast_value.specs.declared.kind.Kind.TheVariants as kind;
+ghost use Rattle.fast_value.specs.declared.kind.Presence.TheVariants.{Mandatory, Optional};
 ghost use Rattle.fast_field.specs.Calls.{Answers, AnswersAt, IsSentRange, OrRefused};
 ghost use Rattle.fast_field.specs.Chosen.{AppendsOne, CanBeUnits, CanBeWhole, HasSize, IsSmall, ShortestPair, ShortestPart, ShortestSigned, ShortestUnits, ShortestUnsigned, ShortestWhole, length_size, part_size, tail_size};
 ghost use Rattle.fast_field.specs.FieldReading.{decimal_spelled_at, in_field, integer_at, integer_spelled_at, integer_value, mantissa_behind, part_at, range_fault, spelled_at, unit_value, units_at, units_spelled_at};

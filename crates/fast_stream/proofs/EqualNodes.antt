@@ -8,8 +8,8 @@ use Rattle.std.specs.Cmp.Lexicographic.{pointwise}
 use Rattle.std.specs.declared.alloc.Global.{Global}
 use Rattle.std.specs.declared.vec.Vec.{Vec}
 use Rattle.std.specs.formers.vec.Vec.{mapped}
-use Rattle.fast_template.specs.Scalar.{scalar_eq-exact, scalar_eq-same}
-use Rattle.fast_template.specs.contracts.scalar.ScalarPartialEq.TheImpl as scalar_eq
+use Rattle.fast_value.specs.Scalar.{scalar_eq-exact, scalar_eq-same}
+use Rattle.fast_value.specs.contracts.scalar.ScalarPartialEq.TheImpl as scalar_eq
 use Rattle.fast_stream.specs.declared.message.Message.{Message}
 use Rattle.fast_stream.specs.declared.message.Node.{Node, Absent, Value, Group', Sequence', roll-Node, out-Node, out-roll-Node, map-Node, fold-roll-Node, fold_out-Node, ind-Node}
 use Rattle.fast_stream.specs.declared.message.Node.TheOpen.{Node-F}

@@ -4,10 +4,10 @@ use Rattle.std.proofs.Common.{Bool, true, false, ◌≡◌, ap, ℕ, suc, ℤ, p
 use Rattle.std.specs.Prelude.{codes, replicate, cond}
 use Rattle.std.specs.FinMap as finite
 use Rattle.std.specs.Ordering.{eq_by_cmp}
-use Rattle.fast_template.specs.Key.{key_cmp, key_cmp-total}
-use Rattle.fast_template.specs.declared.key.Key.{Key}
-use Rattle.fast_template.specs.declared.scalar.Scalar.{Scalar}
-use Rattle.fast_template.specs.declared.scalar.Scalar.TheVariants.{U32, I64, Decimal, Ascii, Unicode, Bytes}
+use Rattle.fast_value.specs.Key.{key_cmp, key_cmp-total}
+use Rattle.fast_value.specs.declared.key.Key.{Key}
+use Rattle.fast_value.specs.declared.scalar.Scalar.{Scalar}
+use Rattle.fast_value.specs.declared.scalar.Scalar.TheVariants.{U32, I64, Decimal, Ascii, Unicode, Bytes}
 use Rattle.fast_dictionary.specs.Dictionary.{Dictionary}
 use Rattle.fast_wire.specs.Reading.{entity_at, unsigned_at, signed_at, unsigned_nullable_at, signed_nullable_at, ascii_at, ascii_nullable_at, bytes_at, vector_at, behind_length, vector_nullable_at, map_at}
 use Rattle.fast_field.specs.FieldReading.{integer_at, part_at, units_at, integer_value, decimal_value, unit_value, integer_spelled_at, mantissa_behind, decimal_spelled_at, units_spelled_at, spelled_at, integer_delta_at, mantissa_delta_behind, decimal_delta_at, new_part_behind, unit_delta_at, delta_at, limited_value, integer_sum, ended_value, tail_at, whole_at, predicted_at, row_at, part_checked, field_at}
@@ -19,9 +19,9 @@ use Rattle.fast_stream.specs.Faults.{MessageStop}
 use Rattle.fast_stream.specs.Reading.{Cursor, field_part_at, body_at, head_at, message_at, StreamReading, messages_at, stream_at, fault_in}
 use Rattle.std.specs.Str.{is_utf8, chars}
 use Rattle.fast_template.specs.TemplateSets.{identifier_key}
-use Rattle.fast_template.specs.declared.key.Scope.TheVariants.{Global}
-use Rattle.fast_template.specs.declared.kind.Part.{Part}
-use Rattle.fast_template.specs.declared.kind.Part.TheVariants.{Whole, Mantissa}
+use Rattle.fast_value.specs.declared.key.Scope.TheVariants.{Global}
+use Rattle.fast_value.specs.declared.kind.Part.{Part}
+use Rattle.fast_value.specs.declared.kind.Part.TheVariants.{Whole, Mantissa}
 use Rattle.fast_template.proofs.WorkedTemplates.{opt, legs, bare, grp}
 use Rattle.fast_template.proofs.WorkedSet.{resolved, slot_of, worked_set}
 

@@ -5,16 +5,16 @@ use Rattle.std.specs.Prelude.{codes, nat_lt, option_map, replicate}
 use Rattle.std.specs.List.{list_all}
 use Rattle.fast_wire.specs.Reader.{IsBytes}
 use Rattle.std.specs.FinMap as finite
-use Rattle.fast_template.specs.Key.{key_cmp}
-use Rattle.fast_template.specs.declared.key.Key.{Key}
-use Rattle.fast_template.specs.declared.key.Scope.TheVariants.{Global}
-use Rattle.fast_template.specs.declared.kind.Kind.TheVariants.{UInt32}
-use Rattle.fast_template.specs.declared.kind.Presence.TheVariants.{Mandatory}
-use Rattle.fast_template.specs.declared.kind.Operator.{Operator}
-use Rattle.fast_template.specs.declared.kind.Operator.TheVariants.{Plain, Copy}
-use Rattle.fast_template.specs.declared.kind.Part.TheVariants.{Whole}
-use Rattle.fast_template.specs.declared.scalar.Scalar.{Scalar}
-use Rattle.fast_template.specs.declared.scalar.Scalar.TheVariants.{U32}
+use Rattle.fast_value.specs.Key.{key_cmp}
+use Rattle.fast_value.specs.declared.key.Key.{Key}
+use Rattle.fast_value.specs.declared.key.Scope.TheVariants.{Global}
+use Rattle.fast_value.specs.declared.kind.Kind.TheVariants.{UInt32}
+use Rattle.fast_value.specs.declared.kind.Presence.TheVariants.{Mandatory}
+use Rattle.fast_value.specs.declared.kind.Operator.{Operator}
+use Rattle.fast_value.specs.declared.kind.Operator.TheVariants.{Plain, Copy}
+use Rattle.fast_value.specs.declared.kind.Part.TheVariants.{Whole}
+use Rattle.fast_value.specs.declared.scalar.Scalar.{Scalar}
+use Rattle.fast_value.specs.declared.scalar.Scalar.TheVariants.{U32}
 use Rattle.fast_template.specs.declared.resolved.FieldPart.{FieldPart}
 use Rattle.fast_dictionary.specs.Dictionary.{entry_from}
 use Rattle.fast_wire.specs.Entity.{groups}

@@ -1,7 +1,7 @@
 -- Messages, without where they lie in memory.
 -- FAST 1.1, Templates, Application Messages. The limit of nodes is this project's own.
 use Rattle.std.specs.Prelude.{◌≡◌, ℕ, ◌+◌, List, [], ◌∷◌, map, Option, Some, None}
-use Rattle.fast_template.specs.declared.scalar.Scalar.{Scalar}
+use Rattle.fast_value.specs.declared.scalar.Scalar.{Scalar}
 use Rattle.fast_stream.specs.declared.message.Message.{Message}
 use Rattle.fast_stream.specs.declared.message.Node.{Node, fold-Node}
 use Rattle.fast_stream.specs.declared.message.Node.TheOpen.{Node-F}

@@ -2,7 +2,7 @@
 use mathlib.Core.Bool.{Bool-set}
 use Rattle.std.specs.Prelude.{Bool, true, List, [], ◌∷◌, map, IsTrue}
 use Rattle.std.specs.Coded.{×_prop, Π_prop, →_prop, Unit-prop, Coded-set, coded_ℕ}
-use Rattle.fast_template.specs.declared.key.Key.{Key}
+use Rattle.fast_value.specs.declared.key.Key.{Key}
 use Rattle.fast_template.specs.Resolved.{Instruction, Instructions, whole_field, field_in_parts, group_of, sequence_of, no_instructions, then_instruction, list_of}
 use Rattle.fast_template.specs.TemplateSets.{TemplateList}
 use Rattle.fast_stream.specs.declared.traversal.Stage.{Stage}

@@ -2,11 +2,11 @@
 -- FAST 1.1, Transfer Encoding, Streams and Messages, and Template Identifier.
 use Rattle.std.specs.Prelude.{◌≡◌, ◌≤◌, ℕ, List, [], ◌∷◌, find, Option, Some, None, option_map}
 use Rattle.std.specs.FinMap as map
-use Rattle.fast_template.specs.declared.kind.Kind.TheVariants.{UInt32}
-use Rattle.fast_template.specs.declared.kind.Presence.TheVariants.{Mandatory}
-use Rattle.fast_template.specs.declared.kind.Operator.TheVariants.{Copy}
-use Rattle.fast_template.specs.declared.kind.Part.TheVariants.{Whole}
-use Rattle.fast_template.specs.declared.scalar.Scalar.TheVariants.{U32}
+use Rattle.fast_value.specs.declared.kind.Kind.TheVariants.{UInt32}
+use Rattle.fast_value.specs.declared.kind.Presence.TheVariants.{Mandatory}
+use Rattle.fast_value.specs.declared.kind.Operator.TheVariants.{Copy}
+use Rattle.fast_value.specs.declared.kind.Part.TheVariants.{Whole}
+use Rattle.fast_value.specs.declared.scalar.Scalar.TheVariants.{U32}
 use Rattle.fast_template.specs.declared.resolved.FieldPart.{FieldPart}
 use Rattle.fast_template.specs.Resolved.{Instructions, Resolved}
 use Rattle.fast_template.specs.TemplateSets.{has_id, identifier_key}

@@ -1,6 +1,6 @@
 -- How a traversal of a stream goes on from where it is.
 use Rattle.std.specs.Prelude.{◌≡◌, ℕ, Bool, List, length, Some, IsTrue, Contains}
-use Rattle.fast_template.specs.declared.key.Key.{Key}
+use Rattle.fast_value.specs.declared.key.Key.{Key}
 use Rattle.fast_template.specs.Resolved.{Resolved}
 use Rattle.fast_template.specs.TemplateSets.{TemplateList, keys_in}
 use Rattle.fast_dictionary.specs.Dictionary.{Dictionary}

@@ -1,6 +1,6 @@
 -- How a walk through a message's open segments stands to what was received.
 use Rattle.std.specs.Prelude.{◌≡◌, ℕ, ◌+◌, ◌*◌, pos, Bool, List, [], ◌∷◌, map, length, IsTrue}
-use Rattle.fast_template.specs.declared.key.Key.{Key}
+use Rattle.fast_value.specs.declared.key.Key.{Key}
 use Rattle.fast_template.specs.Resolved.{Instruction, Instructions, whole_field, field_in_parts, group_of, sequence_of, no_instructions, then_instruction, list_of}
 use Rattle.fast_dictionary.specs.Dictionary.{Dictionary}
 use Rattle.fast_stream.specs.Nodes.{Items}

@@ -1,7 +1,7 @@
 //! Taking the value of a part from the bytes.
 
 ghost use Rattle.std.specs.Prelude.{◌≡◌, ◌≢◌, ◌≤◌, ℕ, IfOk, IfErr, IsTrue, Err, Some, length, drop};
-ghost use Rattle.fast_template.specs.declared.scalar.Scalar.TheVariants.{I64};
+ghost use Rattle.fast_value.specs.declared.scalar.Scalar.TheVariants.{I64};
 ghost use Rattle.fast_dictionary.specs.Dictionary.{entry_at};
 ghost use Rattle.fast_field.specs.FieldReading.{field_at};
 ghost use Rattle.fast_stream.specs.Received.{Took, exponent_of, length_of};

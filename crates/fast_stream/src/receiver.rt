@@ -1,10 +1,10 @@
 //! What receives the fields of a message.
 
 ghost use Rattle.std.specs.Prelude.{◌≡◌, ◌≢◌, ◌≤◌, ◌<◌, ◌++◌, ◌∷◌, [], ℕ, ℤ, Bool, true, false, List, Option, Some, None, IfOk, IfErr, OnOk, OnErr, IsTrue, Err, length, drop};
-ghost use Rattle.fast_template.specs.declared.scalar.Scalar.{Scalar as ScalarOf};
-ghost use Rattle.fast_template.specs.declared.scalar.Scalar.TheVariants.{U32, I64, Decimal};
+ghost use Rattle.fast_value.specs.declared.scalar.Scalar.{Scalar as ScalarOf};
+ghost use Rattle.fast_value.specs.declared.scalar.Scalar.TheVariants.{U32, I64, Decimal};
 ghost use Rattle.fast_template.specs.declared.resolved.FieldPart.{FieldPart as PartOf};
-ghost use Rattle.fast_template.specs.declared.kind.Presence.{Presence as PresenceOf};
+ghost use Rattle.fast_value.specs.declared.kind.Presence.{Presence as PresenceOf};
 ghost use Rattle.fast_template.specs.Resolved.{Instructions, Resolved, whole_field, field_in_parts, group_of, sequence_of, no_instructions, then_instruction, has_map, is_optional, part_needs_bit};
 ghost use Rattle.fast_dictionary.specs.Dictionary.{Dictionary, entry_at};
 ghost use Rattle.fast_field.specs.FieldReading.{field_at};

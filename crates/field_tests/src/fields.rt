@@ -2,9 +2,9 @@
 
 ghost use Rattle.std.specs.Prelude.{◌≡◌, IfOk, IsTrue};
 ghost use Rattle.fast_template.specs.TemplateSets.{applies};
-ghost use Rattle.fast_template.specs.declared.kind.Operator.TheVariants as op;
-ghost use Rattle.fast_template.specs.declared.scalar.Scalar.TheVariants as scalar;
-ghost use Rattle.fast_template.specs.declared.kind.Presence.TheVariants.{Optional};
+ghost use Rattle.fast_value.specs.declared.kind.Operator.TheVariants as op;
+ghost use Rattle.fast_value.specs.declared.scalar.Scalar.TheVariants as scalar;
+ghost use Rattle.fast_value.specs.declared.kind.Presence.TheVariants.{Optional};
 ghost use Rattle.fast_field.specs.Parts.{IsFieldPart};
 
 use fast_template::{

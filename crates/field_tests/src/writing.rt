@@ -3,11 +3,11 @@
 ghost use Rattle.std.specs.Prelude.{◌≡◌, IfOk, IfSome, IsTrue};
 ghost use Rattle.fast_dictionary.specs.Dictionary.{entry_of};
 ghost use Rattle.fast_dictionary.specs.declared.entry.Entry as entry;
-ghost use Rattle.fast_template.specs.Scalar.{IsScalar, is_of};
+ghost use Rattle.fast_value.specs.Scalar.{IsScalar, is_of};
 ghost use Rattle.fast_template.specs.TemplateSets.{applies};
-ghost use Rattle.fast_template.specs.declared.kind.Kind.TheVariants as kind;
-ghost use Rattle.fast_template.specs.declared.kind.Operator.TheVariants as op;
-ghost use Rattle.fast_template.specs.declared.kind.Presence.TheVariants.{Optional};
+ghost use Rattle.fast_value.specs.declared.kind.Kind.TheVariants as kind;
+ghost use Rattle.fast_value.specs.declared.kind.Operator.TheVariants as op;
+ghost use Rattle.fast_value.specs.declared.kind.Presence.TheVariants.{Optional};
 ghost use Rattle.fast_field.specs.Found.{CanLie};
 ghost use Rattle.fast_field.specs.Parts.{IsFieldPart};
 ghost use Rattle.fast_field.specs.Within.{HoldsScalar};

@@ -3,7 +3,7 @@
 ghost use Rattle.std.specs.Prelude.{◌≡◌, Option, [], IsTrue, IfOk, OnOk, OnErr};
 ghost use Rattle.std.specs.FinMap as finite;
 ghost use Rattle.std.specs.Option.{option_copied};
-ghost use Rattle.fast_template.specs.declared.scalar.Scalar.{Scalar as ScalarOf};
+ghost use Rattle.fast_value.specs.declared.scalar.Scalar.{Scalar as ScalarOf};
 ghost use Rattle.fast_dictionary.specs.Dictionary.{Dictionary, entry_at};
 ghost use Rattle.fast_field.specs.Best.{IsBest};
 ghost use Rattle.fast_field.specs.Parts.{IsFieldPart};

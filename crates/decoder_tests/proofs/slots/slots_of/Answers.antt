@@ -2,7 +2,7 @@ use Rattle.std.proofs.Common.{sym, subst}
 use Rattle.std.specs.Prelude.{IsTrue}
 use Rattle.std.specs.Cmp.{eq_by_cmp_equiv}
 use Rattle.std.proofs.lemmas.Map.Views.{list_any-from_Contains}
-use Rattle.fast_template.specs.Key.{key_cmp-total}
+use Rattle.fast_value.specs.Key.{key_cmp-total}
 use Rattle.fast_template.specs.TemplateSets.{keys_in}
 use Rattle.decoder_tests.proofs.slots.slots_of.Goals as goal
 

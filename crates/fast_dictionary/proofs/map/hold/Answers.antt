@@ -1,7 +1,7 @@
 use Rattle.std.proofs.Common.{◌≡◌, None, rules, ap, ◌∙◌}
 use Rattle.std.specs.Map.{lookup}
 use Rattle.std.specs.BTreeMap.{is_at}
-use Rattle.fast_template.specs.Key.{key_cmp}
+use Rattle.fast_value.specs.Key.{key_cmp}
 use Rattle.fast_dictionary.specs.declared.entry.Entry.TheVariants.{Undefined}
 use Rattle.fast_dictionary.specs.Dictionary.{from_pairs, set_entry}
 use Rattle.fast_dictionary.proofs.OrderedMaps.{held_is}

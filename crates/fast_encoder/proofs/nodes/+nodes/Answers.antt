@@ -1,11 +1,11 @@
 use Rattle.std.proofs.Common.{rules, ◌≡◌, ◌≢◌, ◌+◌, ℕ, List, ◌∷◌, ◌∙◌, true, Some, None, refl, sym, ap, length, drop, map, arith}
 use Rattle.std.proofs.lemmas.List.{drop_more, drop_all}
 use Rattle.std.specs.Global.{Vec}
-use Rattle.fast_template.specs.declared.kind.Presence.{Presence}
+use Rattle.fast_value.specs.declared.kind.Presence.{Presence}
 use Rattle.fast_template.specs.declared.resolved.FieldPart.{FieldPart}
 use Rattle.fast_template.specs.declared.resolved.Flat.{Flat, fold_out-Flat}
 use Rattle.fast_template.specs.declared.resolved.Flat.TheVariants.{Parts, outs-Parts, Group, Sequence, outs-Group, outs-Sequence}
-use Rattle.fast_template.specs.declared.scalar.Scalar.{Scalar}
+use Rattle.fast_value.specs.declared.scalar.Scalar.{Scalar}
 use Rattle.fast_template.specs.Resolved.{Instruction, flat_step, instruction_of, list_of, field_in_parts, group_of, sequence_of, is_optional}
 use Rattle.fast_stream.specs.declared.message.Node.{Node, fold_out-Node}
 use Rattle.fast_stream.specs.declared.message.Node.TheVariants.{Absent, outs-Absent, Value, outs-Value}

@@ -1,5 +1,5 @@
 use Rattle.std.proofs.Common.{Some}
-use Rattle.fast_template.specs.declared.scalar.Scalar.TheVariants.{I32, I64}
+use Rattle.fast_value.specs.declared.scalar.Scalar.TheVariants.{I32, I64}
 use Rattle.fast_field.specs.Best.{IsBest}
 use Rattle.fast_stream.specs.Bodies.{PartBy}
 use Rattle.fast_encoder.specs.FirstRefusal.{part_judged}

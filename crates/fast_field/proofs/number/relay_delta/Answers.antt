@@ -3,7 +3,7 @@ use Rattle.std.specs.Int.RustNames.{FitsSigned}
 use Rattle.std.specs.Prelude.{◌+ℤ◌, drop}
 use Rattle.std.proofs.Common.{arith}
 use Rattle.std.proofs.lemmas.Int.{ints, to_z-of_z}
-use Rattle.fast_template.specs.Scalar.{of_integer}
+use Rattle.fast_value.specs.Scalar.{of_integer}
 use Rattle.fast_field.proofs.Relaying.{delta_relays}
 use Rattle.fast_field.proofs.number.relay_delta.Goals as goal
 

@@ -1,6 +1,6 @@
 use Rattle.std.proofs.Common.{drop, slice_range}
 use Rattle.fast_wire.specs.Entity.{groups}
-use Rattle.fast_template.specs.declared.scalar.Scalar.TheVariants.{Ascii}
+use Rattle.fast_value.specs.declared.scalar.Scalar.TheVariants.{Ascii}
 use Rattle.fast_field.proofs.PlainTexts.{plain_relays}
 use Rattle.fast_field.proofs.plain.relay_plain_whole.Goals as goal
 

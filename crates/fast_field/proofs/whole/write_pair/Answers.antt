@@ -1,6 +1,6 @@
 use Rattle.std.specs.Int.{w128}
 use Rattle.std.proofs.lemmas.Int.{to_z-of_z}
-use Rattle.fast_template.specs.declared.kind.Presence.TheVariants.{Mandatory}
+use Rattle.fast_value.specs.declared.kind.Presence.TheVariants.{Mandatory}
 use Rattle.fast_field.specs.Chosen.{ShortestSigned}
 use Rattle.fast_field.proofs.TwoPieces.{both_appended, small_fits}
 use Rattle.fast_field.proofs.whole.write_pair.Goals as goal

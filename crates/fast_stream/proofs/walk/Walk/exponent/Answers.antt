@@ -1,5 +1,5 @@
 use Rattle.std.proofs.Common.{◌++◌, ◌-◌, Option, None, drop, refl, sym, ap, subst, ◌∙◌}
-use Rattle.fast_template.specs.declared.scalar.Scalar.{Scalar}
+use Rattle.fast_value.specs.declared.scalar.Scalar.{Scalar}
 use Rattle.fast_template.specs.Resolved.{list_of, field_in_parts}
 use Rattle.fast_stream.specs.Nodes.{single}
 use Rattle.fast_stream.specs.Faults.{cause_of_field}

@@ -1,5 +1,5 @@
 use Rattle.std.proofs.Common.{◌++◌, Some, drop, refl, ap, ◌∙◌}
-use Rattle.fast_template.specs.declared.scalar.Scalar.TheVariants.{I64, Decimal}
+use Rattle.fast_value.specs.declared.scalar.Scalar.TheVariants.{I64, Decimal}
 use Rattle.fast_stream.specs.Nodes.{single}
 use Rattle.fast_stream.specs.Faults.{cause_of_field}
 use Rattle.fast_stream.specs.OpenSegments.{cursor}

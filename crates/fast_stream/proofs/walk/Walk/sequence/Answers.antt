@@ -1,5 +1,5 @@
 use Rattle.std.proofs.Common.{◌++◌, ◌-◌, [], Some, None, drop, refl, sym, ap, ◌∙◌}
-use Rattle.fast_template.specs.declared.scalar.Scalar.TheVariants.{U32}
+use Rattle.fast_value.specs.declared.scalar.Scalar.TheVariants.{U32}
 use Rattle.fast_template.specs.Resolved.{list_of, sequence_of, has_map}
 use Rattle.fast_stream.specs.Nodes.{single}
 use Rattle.fast_stream.specs.Faults.{cause_of_field}
