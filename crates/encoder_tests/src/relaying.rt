@@ -2,7 +2,7 @@
 
 use crate::worked::WORKED;
 use fast_dictionary::MapEntries;
-use fast_encoder::Writer;
+use fast_writer::Writer;
 use fast_stream::{Receiver, Traversal};
 use fast_template::TemplateSet;
 use std::alloc::{AllocError, Global};

@@ -15,7 +15,7 @@ use Rattle.fast_stream.specs.Bodies.{State, Then, Each, SegmentBy, PartBy, Piece
 use Rattle.fast_stream.specs.Nodes.{Item, single, group_items, sequence_elements, Items, no_items, then_item, element_count, Content}
 use Rattle.fast_stream.specs.Streams.{members_of, identifier, AnyMap, BodyOfBy, MessageForm, CarriesFrom}
 use Rattle.fast_stream.proofs.FoundMembers.{members_have}
-use Rattle.fast_encoder.specs.Canonical.{IsShortestMap, CanonMessage, CanonFrom}
+use Rattle.fast_writer.specs.Canonical.{IsShortestMap, CanonMessage, CanonFrom}
 use Rattle.fast_canon.proofs.AskedBits.{behind}
 use Rattle.fast_canon.proofs.Entries.{HoldScalars}
 use Rattle.fast_canon.proofs.PartBits.{one_asked, asked_is, asked_left, asked_below}

@@ -13,7 +13,7 @@ use Rattle.fast_stream.specs.Bits.{bit_for}
 use Rattle.fast_stream.specs.Bodies.{State, Then, Each, WithMap, SegmentBy, PartBy, written}
 use Rattle.fast_stream.specs.Nodes.{Items, Elements, no_elements, then_element}
 use Rattle.fast_stream.specs.Streams.{AnyMap}
-use Rattle.fast_encoder.specs.Canonical.{IsShortestMap}
+use Rattle.fast_writer.specs.Canonical.{IsShortestMap}
 use Rattle.fast_canon.proofs.AskedBits.{Begins, behind, AreBelow, begins_front, begins_back, behind_both, below_both, below_none, behind_none}
 use Rattle.fast_canon.proofs.Entries.{HoldScalars, written_holds}
 use Rattle.fast_canon.proofs.PartBits.{one_asked, asked_is, asked_left, asked_below, form_bit}

@@ -11,7 +11,7 @@ use Rattle.fast_stream.specs.Bits.{bit_for, after_bit}
 use Rattle.fast_stream.specs.Bodies.{State, Then, Each, WithMap, SegmentBy, PartBy, PieceBy, written}
 use Rattle.fast_stream.specs.Nodes.{Item, single, group_items, sequence_elements, Items, no_items, then_item, Elements, no_elements, then_element, element_count, Content}
 use Rattle.fast_stream.specs.Streams.{members_of, identifier, BodyOfBy}
-use Rattle.fast_encoder.specs.Canonical.{IsShortestMap, CanonBody, CanonMessage, CanonFrom}
+use Rattle.fast_writer.specs.Canonical.{IsShortestMap, CanonBody, CanonMessage, CanonFrom}
 use Rattle.fast_canon.proofs.AskedBits.{Begins, behind, begins_both, behind_both}
 use Rattle.fast_canon.proofs.Stages.{Stage, with_bits}
 use Rattle.fast_canon.proofs.PartBits.{one_asked, asked_left, asked_begins}

@@ -19,10 +19,10 @@ use Rattle.fast_stream.proofs.Standings.{carried_of}
 use Rattle.fast_canon.specs.Relays.{Relays}
 use Rattle.fast_canon.specs.declared.summary.Summary.{Summary}
 use Rattle.fast_canon.proofs.StreamLaws.{none_shorter}
-use Rattle.fast_encoder.specs.declared.writer.Writer.{Writer}
-use Rattle.fast_encoder.specs.Canonical.{IsCanonical}
-use Rattle.fast_encoder.specs.Levels.{HasFinished, HasWritten}
-use Rattle.fast_encoder.specs.Written.{handed_on}
+use Rattle.fast_writer.specs.declared.writer.Writer.{Writer}
+use Rattle.fast_writer.specs.Canonical.{IsCanonical}
+use Rattle.fast_writer.specs.Levels.{HasFinished, HasWritten}
+use Rattle.fast_writer.specs.Written.{handed_on}
 
 -- the writer has the canonical bytes of the messages that ended, but for those handed on
 pub canonical_of : (fault : Option Fault) (t : Traversal) (w : Writer) (d : Dictionary) (held : List ℕ) (waiting : ℕ) (handed bytes : List ℕ) (messages : List Content)

@@ -10,7 +10,7 @@ use Rattle.fast_wire.proofs.MapBits.{length_bits}
 use Rattle.fast_wire.proofs.MapForms.{map_length, map_shortest}
 use Rattle.fast_wire.proofs.SameMaps.{one_map}
 use Rattle.fast_wire.proofs.UnsignedForms.{entity_some}
-use Rattle.fast_encoder.specs.Canonical.{IsShortestMap}
+use Rattle.fast_writer.specs.Canonical.{IsShortestMap}
 use Rattle.fast_canon.proofs.AskedBits.{Begins, behind, AreBelow, begins_at, none_behind, bits_are, below_at}
 
 -- ---- how many bits there are up to the last 1

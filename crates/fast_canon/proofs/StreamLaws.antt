@@ -6,8 +6,8 @@ use Rattle.fast_field.proofs.PartsOfSets.{parts_of_sets}
 use Rattle.fast_stream.specs.Nodes.{Content}
 use Rattle.fast_stream.specs.Streams.{Carries}
 use Rattle.fast_stream.proofs.StreamReaders.{one_list}
-use Rattle.fast_encoder.specs.Canonical.{IsCanonical}
-use Rattle.fast_encoder.proofs.LawProofs.{canonical_carries}
+use Rattle.fast_writer.specs.Canonical.{IsCanonical}
+use Rattle.fast_writer.proofs.LawProofs.{canonical_carries}
 use Rattle.fast_canon.proofs.BetterBodies.{better_stream}
 use Rattle.fast_canon.proofs.Entries.{empty_holds}
 use Rattle.fast_canon.proofs.OneCanonical.{one_canonical}

@@ -7,8 +7,8 @@ use Rattle.fast_stream.specs.Streams.{Carries}
 use Rattle.fast_stream.proofs.Hex.{hex}
 use Rattle.fast_stream.proofs.Rows.{quote, u32, message, spelled_out, overlong_integer, overlong_map, unasked_bit, copied}
 use Rattle.fast_stream.proofs.WorkedStreams.{carried}
-use Rattle.fast_encoder.specs.Canonical.{IsCanonical}
-use Rattle.fast_encoder.proofs.WorkedCanonical.{canonical_first, quote_one, canonical_quotes}
+use Rattle.fast_writer.specs.Canonical.{IsCanonical}
+use Rattle.fast_writer.proofs.WorkedCanonical.{canonical_first, quote_one, canonical_quotes}
 
 -- a stream and the canonical bytes of its messages
 record AreOf (messages : List Content) (stream bytes : List ℕ) : Type 0 where

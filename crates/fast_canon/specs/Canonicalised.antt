@@ -8,7 +8,7 @@ use Rattle.fast_io.specs.Counts.{counted}
 use Rattle.fast_decoder.specs.declared.input.Reached.TheVariants as reached
 use Rattle.fast_decoder.specs.Inputs.{EndsWith, IsCaused, Reader, Refuses}
 use Rattle.fast_stream.specs.Standing.{Carried}
-use Rattle.fast_encoder.specs.Canonical.{IsCanonical}
+use Rattle.fast_writer.specs.Canonical.{IsCanonical}
 use Rattle.fast_canon.specs.declared.fault.CanonFault.{CanonFault}
 use Rattle.fast_canon.specs.declared.fault.CanonFault.TheVariants as refusal
 use Rattle.fast_canon.specs.declared.summary.Summary.{Summary}

@@ -11,9 +11,9 @@ use Rattle.fast_stream.specs.Nodes.{Content}
 use Rattle.fast_stream.specs.Following.{Counts, Follows}
 use Rattle.fast_decoder.specs.Inputs.{HasReached, IsCaused, Reader, Reads}
 use Rattle.fast_stream.specs.Standing.{Carried}
-use Rattle.fast_encoder.specs.declared.writer.Writer.{Writer}
-use Rattle.fast_encoder.specs.Canonical.{IsCanonical}
-use Rattle.fast_encoder.specs.Written.{handed_on}
+use Rattle.fast_writer.specs.declared.writer.Writer.{Writer}
+use Rattle.fast_writer.specs.Canonical.{IsCanonical}
+use Rattle.fast_writer.specs.Written.{handed_on}
 
 -- a machine with no fault has been fed these bytes, in which these messages ended; each read gave a byte
 pub record GoesOn {E : Type 0} {receiver : Receiving Writer} {entries : Ghosts E} (m : Machine Writer E receiver entries) (reads : ℕ) (handed input : List ℕ) (messages : List Content) : Type 0 where

@@ -11,7 +11,7 @@ use crate::relay::relay;
 use crate::summary::Summary;
 use fast_decoder::Reached;
 use fast_dictionary::SlotEntries;
-use fast_encoder::Writer;
+use fast_writer::Writer;
 use fast_io::{ByteInput, ByteOutput};
 use fast_stream::Machine;
 use fast_template::TemplateSet;

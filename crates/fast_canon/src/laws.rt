@@ -1,5 +1,5 @@
 //! Laws of streams, each the contract of a function that does nothing. They speak of the definitions alone: what a
-//! stream carries (`fast_stream`), its first fault, and the canonical bytes of messages (`fast_encoder`).
+//! stream carries (`fast_stream`), its first fault, and the canonical bytes of messages (`fast_writer`).
 
 ghost use Rattle.std.specs.Prelude.{◌≡◌, ◌≢◌, ◌≤◌, ◌⊎◌, ◌↔◌, ◌++◌, ℕ, List, length};
 ghost use Rattle.fast_wire.specs.Reader.{IsBytes};
@@ -11,7 +11,7 @@ ghost use Rattle.fast_stream.specs.declared.place.Place.{Place};
 ghost use Rattle.fast_stream.specs.Nodes.{Content};
 ghost use Rattle.fast_stream.specs.Streams.{Carries, CarriesFrom};
 ghost use Rattle.fast_stream.specs.Faults.{FirstFault};
-ghost use Rattle.fast_encoder.specs.Canonical.{IsCanonical};
+ghost use Rattle.fast_writer.specs.Canonical.{IsCanonical};
 
 use fast_stream::Cause;
 

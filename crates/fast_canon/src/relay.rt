@@ -12,7 +12,7 @@ ghost use Rattle.fast_canon.specs.Relays.{Broken, Relayed, Relays};
 
 use fast_decoder::Reached;
 use fast_dictionary::Entries;
-use fast_encoder::Writer;
+use fast_writer::Writer;
 use fast_io::{ByteInput, ByteOutput, Failed, push_all};
 use fast_stream::{Cause, Machine};
 

@@ -21,11 +21,11 @@ use Rattle.fast_stream.specs.Streams.{AnyMap}
 use Rattle.fast_stream.proofs.Leaves.{bits_taken_are, no_bits_are_taken}
 use Rattle.fast_stream.proofs.Weaker.{body_weaker}
 use Rattle.fast_encoder.specs.Added.{Standing, Judging, Adds, AddsBytes}
-use Rattle.fast_encoder.specs.Canonical.{CanonBody, IsShortestMap}
+use Rattle.fast_writer.specs.Canonical.{CanonBody, IsShortestMap}
 use Rattle.fast_encoder.specs.FirstRefusal.{part_judged, has_set, segment_judged, item_judged, items_judged, elements_judged}
-use Rattle.fast_encoder.specs.Written.{Level, state, bits_for, Leaves, Segment, Spelt, Asked, Ended}
-use Rattle.fast_encoder.proofs.Leavings.{leaves_split, bit_of, behind_of, closed}
-use Rattle.fast_encoder.proofs.Writings.{part_by}
+use Rattle.fast_writer.specs.Written.{Level, state, bits_for, Leaves, Segment, Spelt, Asked, Ended}
+use Rattle.fast_writer.proofs.Leavings.{leaves_split, bit_of, behind_of, closed}
+use Rattle.fast_writer.proofs.Writings.{part_by}
 
 pub adds_then : (P : Standing) (p : Judging) (Q : Standing) (q : Judging) (d e f : Dictionary) (l k j : Level)
     → Adds P p d l e k → Adds Q q e k f j → Adds (λ s b t. Then (λ x u. P s x u) (λ u y. Q u y t) b) (λ s. p s >>= λ t. q t) d l f j

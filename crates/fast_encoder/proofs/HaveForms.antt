@@ -31,10 +31,10 @@ use Rattle.fast_stream.specs.Streams.{members_of, identifier}
 use Rattle.fast_stream.proofs.FoundMembers.{members_have}
 use Rattle.fast_encoder.specs.declared.fault.EncodeFault.{EncodeFault}
 use Rattle.fast_encoder.specs.Added.{Standing, Judging, Adds, AddsBytes, HoldScalars, IsSmall, AreSmall, AreSmallIn, message_judged}
-use Rattle.fast_encoder.specs.Canonical.{CanonBody, CanonMessage, IsShortestMap}
-use Rattle.fast_encoder.specs.FirstRefusal.{item_fits, items_fit, elements_fit, whole_refusal, judged, part_judged, has_set, segment_judged, item_judged, items_judged, elements_judged, or_else, error_in, message_refusal, first_refusal}
+use Rattle.fast_writer.specs.Canonical.{CanonBody, CanonMessage, IsShortestMap}
+use Rattle.fast_encoder.specs.FirstRefusal.{item_fits, items_fit, elements_fit, whole_refusal, judged, part_judged, segment_judged, item_judged, items_judged, elements_judged, or_else, error_in, message_refusal, first_refusal}
 use Rattle.fast_encoder.specs.Ranges.{HasRanges, HaveRanges, HaveRangesIn, IsInRange}
-use Rattle.fast_encoder.specs.Written.{Level, state, bits_for, Segment, Spelt, Asked, Ended}
+use Rattle.fast_writer.specs.Written.{has_set, Level, state, bits_for, Segment, Spelt, Asked, Ended}
 use Rattle.fast_encoder.proofs.Additions.{adds_then, body_none, body_more, part_added, no_group_added, group_added, sequence_added, elements_none, elements_more, segment_added}
 use Rattle.fast_encoder.proofs.Changes.{best_holds}
 use Rattle.fast_encoder.proofs.Messages.{fitting, message_added, written_is}

@@ -4,9 +4,9 @@ use Rattle.std.specs.FinMap as map
 use Rattle.fast_template.specs.Resolved.{Resolved}
 use Rattle.fast_dictionary.specs.Dictionary.{Dictionary}
 use Rattle.fast_stream.specs.Nodes.{Content}
-use Rattle.fast_encoder.specs.Canonical.{CanonMessage, IsCanonical}
+use Rattle.fast_writer.specs.Canonical.{CanonMessage, IsCanonical}
 use Rattle.fast_encoder.specs.Outputs.{CanonRuns, AreSent}
-use Rattle.fast_encoder.proofs.Writers.{canon_more}
+use Rattle.fast_writer.proofs.Writers.{canon_more}
 
 -- ---- messages
 

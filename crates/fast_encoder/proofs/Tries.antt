@@ -19,9 +19,9 @@ use Rattle.fast_stream.specs.Bodies.{PartBy, PieceBy, Each}
 use Rattle.fast_encoder.specs.declared.fault.EncodeCause.TheVariants as cause
 use Rattle.fast_encoder.specs.declared.fault.EncodeFault.{EncodeFault}
 use Rattle.fast_encoder.specs.Added.{Adds, AddsBytes, Answers, AnswersBytes, CanTry, CanTryOne, CanTryEach, IsSmall, AreSmall, AreSmallIn}
-use Rattle.fast_encoder.specs.Canonical.{CanonBody, IsShortestMap}
+use Rattle.fast_writer.specs.Canonical.{CanonBody, IsShortestMap}
 use Rattle.fast_encoder.specs.FirstRefusal.{refused, item_is_large, has_large, has_large_in, part_judged, segment_judged, item_judged, items_judged, elements_judged}
-use Rattle.fast_encoder.specs.Written.{Level, state, Segment, Asked}
+use Rattle.fast_writer.specs.Written.{Level, state, Segment, Asked}
 use Rattle.fast_encoder.proofs.Additions.{body_none, body_more, group_added, sequence_added, elements_none, elements_more}
 
 pub and_true : (b c : Bool) → (b && c) ≡ true → (b ≡ true) × (c ≡ true)

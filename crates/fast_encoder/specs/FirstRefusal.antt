@@ -15,7 +15,7 @@ use Rattle.fast_field.specs.Refusals.{refusal_of, has_characters}
 use Rattle.fast_stream.specs.Nodes.{Item, single, group_items, sequence_elements, Items, no_items, then_item, Elements, no_elements, then_element, element_count, nodes_in, node_limit, Content}
 use Rattle.fast_stream.specs.Bodies.{State, written}
 use Rattle.fast_stream.specs.Streams.{members_of, identifier}
-use Rattle.fast_encoder.specs.Written.{state, bits_for}
+use Rattle.fast_writer.specs.Written.{state, bits_for, has_set}
 use Rattle.fast_encoder.specs.declared.fault.EncodeCause.{EncodeCause}
 use Rattle.fast_encoder.specs.declared.fault.EncodeCause.TheVariants as cause
 use Rattle.fast_encoder.specs.declared.fault.EncodeFault.{EncodeFault}
@@ -98,10 +98,6 @@ judged p s v None =
 
 abbrev pub part_judged : FieldPart → State → Option Scalar → Result State EncodeFault
 part_judged p s v = judged p s v (refusal_of p (entry_at s.dictionary p.key) v)
-
-abbrev pub has_set : List Bool → Bool
-has_set [] = false
-has_set (bit ∷ bits) = bit || has_set bits
 
 -- A map has room for 1,792 bits, up to the last 1.
 abbrev pub segment_judged : Bool → (State → Result State EncodeFault) → Dictionary → Result Dictionary EncodeFault

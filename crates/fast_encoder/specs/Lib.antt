@@ -1,7 +1,3 @@
-pub mod Canonical
-pub mod Written
-pub mod Quick
-pub mod Levels
 pub mod FirstRefusal
 pub mod Added
 pub mod OneProof

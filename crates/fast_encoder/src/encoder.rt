@@ -9,7 +9,7 @@ ghost use Rattle.fast_stream.specs.OneProof.{ServesAll-prop};
 ghost use Rattle.fast_encoder.specs.OneProof.{KeepScalars, KeepScalars-prop};
 
 use crate::journal::Journal;
-use crate::level::Level;
+use fast_writer::Level;
 use fast_dictionary::Entries;
 use fast_template::{FieldPart, TemplateSet};
 use std::alloc::Global;

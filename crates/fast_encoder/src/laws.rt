@@ -1,23 +1,16 @@
 //! Laws of canonical bytes, each the contract of a function that does nothing.
 
 ghost use Rattle.std.specs.Prelude.{◌≡◌, ℕ, List, None, Some};
-ghost use Rattle.fast_template.specs.Resolved.{Resolved};
 ghost use Rattle.fast_template.specs.TemplateSets.{IsSound, TemplateList, templates_in};
 ghost use Rattle.fast_dictionary.specs.Dictionary.{Dictionary};
 ghost use Rattle.fast_stream.specs.Nodes.{Content};
-ghost use Rattle.fast_stream.specs.Streams.{Carries, MessageForm};
+ghost use Rattle.fast_stream.specs.Streams.{MessageForm};
 ghost use Rattle.fast_encoder.specs.Added.{HoldScalars};
-ghost use Rattle.fast_encoder.specs.Canonical.{CanonMessage, IsCanonical};
+ghost use Rattle.fast_writer.specs.Canonical.{CanonMessage};
 ghost use Rattle.fast_encoder.specs.FirstRefusal.{first_refusal};
 ghost use Rattle.fast_encoder.specs.Ranges.{IsInRange};
 
 use crate::fault::EncodeFault;
-
-/// Canonical bytes carry their messages.
-pub fn canonical_bytes_carry()
-    ensures { (set : List Resolved) (messages : List Content) (bytes : List ℕ)
-        → IsCanonical set messages bytes → Carries set bytes messages }
-{}
 
 /// A message that is refused has no form at all, canonical or not, from the same entries.
 pub fn refused_messages_have_no_form()

@@ -8,18 +8,20 @@ ghost use Rattle.fast_stream.specs.Nodes.{content_of, items_in};
 ghost use Rattle.fast_stream.specs.Bodies.{WithMap};
 ghost use Rattle.fast_stream.specs.Streams.{identifier as identifier_part};
 ghost use Rattle.fast_encoder.specs.Added.{Adds, AnswersBytes, CanTry, GoesOn, HoldScalars, MessageStands, message_judged, rest_judged};
-ghost use Rattle.fast_encoder.specs.Canonical.{CanonBody, IsShortestMap};
-ghost use Rattle.fast_encoder.specs.FirstRefusal.{has_set, items_judged, refused, segment_judged};
-ghost use Rattle.fast_encoder.specs.Levels.{level_of};
-ghost use Rattle.fast_encoder.specs.Written.{Ended, state};
+ghost use Rattle.fast_writer.specs.Canonical.{CanonBody, IsShortestMap};
+ghost use Rattle.fast_encoder.specs.FirstRefusal.{items_judged, refused, segment_judged};
+ghost use Rattle.fast_writer.specs.Levels.{level_of};
+ghost use Rattle.fast_writer.specs.Written.{Ended, has_set, state};
 
 use crate::fault::{EncodeCause, EncodeFault};
 use crate::journal::{Journal, put_back, put_value};
-use crate::level::Level;
 use crate::nodes::put_nodes;
+use crate::put::{no_memory, no_room};
 use fast_dictionary::Entries;
 use fast_stream::{Message, Node};
 use fast_template::{FieldPart, Flat, Scalar};
+use fast_wire::WireFault;
+use fast_writer::Level;
 use std::alloc::Global;
 
 // Writes the nodes of a message behind its identifier, and appends the whole behind its map, or nothing.
@@ -52,7 +54,8 @@ fn put_rest<'a, E: Entries>(
     match put_nodes(members, nodes, alloc, journal, level) {
         Err(fault) => Err(fault),
         Ok(()) => match level.seal(out) {
-            Err(fault) => Err(fault),
+            Err(WireFault::TooLong) => Err(no_room()),
+            Err(_) => Err(no_memory()),
             Ok(()) => Ok(()),
         },
     }

@@ -9,14 +9,14 @@ ghost use Rattle.fast_field.specs.Parts.{IsFieldPart};
 ghost use Rattle.fast_stream.specs.Nodes.{elements_of, item_of, items_in, single};
 ghost use Rattle.fast_stream.specs.Bodies.{Each, PartBy, PieceBy};
 ghost use Rattle.fast_encoder.specs.Added.{Answers, AnswersBytes, CanTry, CanTryEach, CanTryOne, GoesOn, HoldScalars};
-ghost use Rattle.fast_encoder.specs.Canonical.{CanonBody, IsShortestMap};
+ghost use Rattle.fast_writer.specs.Canonical.{CanonBody, IsShortestMap};
 ghost use Rattle.fast_encoder.specs.FirstRefusal.{elements_judged, item_judged, items_judged, part_judged, refused, segment_judged};
-ghost use Rattle.fast_encoder.specs.Levels.{level_of};
-ghost use Rattle.fast_encoder.specs.Written.{Segment};
+ghost use Rattle.fast_writer.specs.Levels.{level_of};
+ghost use Rattle.fast_writer.specs.Written.{Segment};
 
 use crate::fault::{EncodeCause, EncodeFault};
 use crate::journal::Journal;
-use crate::level::Level;
+use fast_writer::Level;
 use crate::put::no_memory;
 use crate::shape::may_be_absent;
 use fast_dictionary::Entries;

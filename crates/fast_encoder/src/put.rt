@@ -10,14 +10,14 @@ ghost use Rattle.fast_field.specs.Refusals.{refusal_of};
 ghost use Rattle.fast_field.specs.Within.{HoldsScalar};
 ghost use Rattle.fast_field.specs.declared.fault.FieldRefusal.{FieldRefusal as RefusalOf};
 ghost use Rattle.fast_encoder.specs.FirstRefusal.{cause_of, fault_of, refused};
-ghost use Rattle.fast_encoder.specs.Levels.{level_of};
-ghost use Rattle.fast_encoder.specs.Written.{Spelt, bits_for};
+ghost use Rattle.fast_writer.specs.Levels.{level_of};
+ghost use Rattle.fast_writer.specs.Written.{Spelt, bits_for};
 
 use crate::fault::{EncodeCause, EncodeFault};
-use crate::level::Level;
 use fast_dictionary::Entry;
 use fast_field::{FieldRefusal, next_entry, plan_field, write_field};
 use fast_template::{FieldPart, Scalar, part_needs_bit};
+use fast_writer::Level;
 use std::alloc::Global;
 use std::mem;
 
@@ -63,6 +63,16 @@ pub(crate) fn no_memory() -> EncodeFault
 {
     EncodeFault {
         cause: EncodeCause::Memory,
+        instruction: 0,
+    }
+}
+
+/// A bit for which its map has no room.
+pub(crate) fn no_room() -> EncodeFault
+    ensures { result ≡ refused EncodeCause.Limit }
+{
+    EncodeFault {
+        cause: EncodeCause::Limit,
         instruction: 0,
     }
 }

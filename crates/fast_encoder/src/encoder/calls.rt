@@ -5,14 +5,14 @@ ghost use Rattle.std.specs.FinMap as finite;
 ghost use Rattle.fast_template.specs.TemplateSets.{templates_in};
 ghost use Rattle.fast_stream.specs.Nodes.{content_of};
 ghost use Rattle.fast_stream.specs.Traversals.{ServesAll};
-ghost use Rattle.fast_encoder.specs.Canonical.{CanonMessage};
+ghost use Rattle.fast_writer.specs.Canonical.{CanonMessage};
 ghost use Rattle.fast_encoder.specs.FirstRefusal.{first_refusal, refused};
 
 use crate::encoder::Encoder;
 use crate::fault::{EncodeCause, EncodeFault};
 use crate::journal::Journal;
 use crate::judge::template_for;
-use crate::level::Level;
+use fast_writer::Level;
 use crate::message::put_message;
 use fast_dictionary::Entries;
 use fast_stream::Message;

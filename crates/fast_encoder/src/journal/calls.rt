@@ -10,11 +10,11 @@ ghost use Rattle.fast_field.specs.Parts.{IsFieldPart};
 ghost use Rattle.fast_stream.specs.Bodies.{PartBy, written};
 ghost use Rattle.fast_encoder.specs.Added.{Answers, Changed, GoesOn, HoldScalars};
 ghost use Rattle.fast_encoder.specs.FirstRefusal.{part_judged};
-ghost use Rattle.fast_encoder.specs.Levels.{level_of};
+ghost use Rattle.fast_writer.specs.Levels.{level_of};
 
 use crate::fault::EncodeFault;
 use crate::journal::{Change, Journal};
-use crate::level::Level;
+use fast_writer::Level;
 use crate::put::{no_memory, put_part};
 use fast_dictionary::{Entries, Entry};
 use fast_template::{FieldPart, Scalar};

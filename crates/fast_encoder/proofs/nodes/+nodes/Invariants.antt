@@ -2,7 +2,7 @@ use Rattle.std.proofs.Common.{◌≡◌, drop, length, map}
 use Rattle.fast_template.specs.Resolved.{list_of}
 use Rattle.fast_stream.specs.Nodes.{elements_of, items_in}
 use Rattle.fast_encoder.specs.Added.{GoesOn}
-use Rattle.fast_encoder.specs.Levels.{level_of}
+use Rattle.fast_writer.specs.Levels.{level_of}
 use Rattle.fast_encoder.proofs.Tries.{Reached, ReachedElement}
 use Rattle.fast_encoder.proofs.nodes.+nodes.Given as goal
 

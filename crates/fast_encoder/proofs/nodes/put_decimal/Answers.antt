@@ -3,7 +3,7 @@ use Rattle.fast_value.specs.declared.scalar.Scalar.TheVariants.{I32, I64}
 use Rattle.fast_field.specs.Best.{IsBest}
 use Rattle.fast_stream.specs.Bodies.{PartBy}
 use Rattle.fast_encoder.specs.FirstRefusal.{part_judged}
-use Rattle.fast_encoder.specs.Levels.{level_of}
+use Rattle.fast_writer.specs.Levels.{level_of}
 use Rattle.fast_encoder.proofs.Additions.{adds_then}
 use Rattle.fast_encoder.proofs.nodes.put_decimal.Goals as goal
 

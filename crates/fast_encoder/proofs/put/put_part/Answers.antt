@@ -1,7 +1,7 @@
 use Rattle.std.proofs.Common.{Bool, ◌++◌, ap, ◌∙◌}
 use Rattle.std.specs.Option.{option_copied}
 use Rattle.fast_template.specs.Resolved.{part_needs_bit}
-use Rattle.fast_encoder.specs.Written.{bits_for}
+use Rattle.fast_writer.specs.Written.{bits_for}
 use Rattle.fast_encoder.proofs.Puts.{bit_is}
 use Rattle.fast_encoder.proofs.put.put_part.Goals as goal
 

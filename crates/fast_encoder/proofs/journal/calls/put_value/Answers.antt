@@ -6,7 +6,7 @@ use Rattle.fast_dictionary.specs.Dictionary.{set_entry, set_entry-there}
 use Rattle.fast_field.specs.Bases.{next}
 use Rattle.fast_stream.proofs.Putting.{set_written}
 use Rattle.fast_encoder.specs.Added.{HoldScalars}
-use Rattle.fast_encoder.specs.Levels.{level_of}
+use Rattle.fast_writer.specs.Levels.{level_of}
 use Rattle.fast_encoder.proofs.Additions.{part_added}
 use Rattle.fast_encoder.proofs.Changes.{best_holds}
 use Rattle.fast_encoder.proofs.journal.calls.put_value.Goals as goal

@@ -1,5 +1,0 @@
-use Rattle.fast_encoder.proofs.LawProofs.{canonical_carries}
-use Rattle.fast_encoder.proofs.laws.canonical_bytes_carry.Goals as goal
-
-pub returns : goal.returns
-returns c = canonical_carries

@@ -1,0 +1,9 @@
+pub mod LawProofs
+pub mod WorkedCanonical
+pub mod Leavings
+pub mod Writings
+pub mod Repeated
+mod QuickWays
+pub mod Relays
+pub mod Writers
+mod Rooms

@@ -1,0 +1,23 @@
+use Rattle.std.proofs.Common.{map}
+use Rattle.fast_stream.specs.Received.{exponent_of}
+use Rattle.fast_writer.specs.Levels.{level_of}
+use Rattle.fast_writer.proofs.QuickWays.{exponent_there}
+use Rattle.fast_writer.proofs.Writers.{exponent_finished, has_exponent, is_exponent}
+use Rattle.fast_writer.proofs.writer.WriterReceiver.exponent.Goals as goal
+
+pub returns-in-Ok-clause-goes : goal.returns-in-Ok-clause-goes
+returns-in-Ok-clause-goes g c =
+    let old = c.args.self.now in
+    let d = g.E.Entries.contents c.args.entries.now in
+    let e = g.E.Entries.contents c.relay_part.new.entries in
+    let r = c.in-Ok.ensures.relays in
+    let x = exponent_there c.args.part.now.kind c.in-Ok.there r.0 c.in-Int32.is r.1 in
+    let took = rw (x.1) at r.2 in (
+      exponent_of x.0,
+      took,
+      is_exponent x.0 c.in-Ok.there x.2,
+      λ name number presence mantissa is o next first has. (
+        exponent_finished x.0 old.out.items o is mantissa has.0,
+        has_exponent x.0 (map level_of old.outer.items) (level_of old.inner) (level_of c.relay_part.new.level) o name number presence c.args.part.now mantissa is d e next first took.entry (rw (x.1) at r.3) has.1,
+      ),
+    )

@@ -1,0 +1,18 @@
+use Rattle.std.proofs.Common.{map}
+use Rattle.fast_writer.specs.Levels.{level_of}
+use Rattle.fast_writer.proofs.Writers.{has_field}
+use Rattle.fast_writer.proofs.writer.WriterReceiver.field.Goals as goal
+
+pub returns-in-Ok-clause-goes : goal.returns-in-Ok-clause-goes
+returns-in-Ok-clause-goes g c =
+    let old = c.args.self.now in
+    let d = g.E.Entries.contents c.args.entries.now in
+    let e = g.E.Entries.contents c.relay_part.new.entries in
+    let r = c.in-Ok.ensures.relays in (
+      r.0,
+      r.2,
+      λ name number presence is o next first has. (
+        has.0,
+        has_field (map level_of old.outer.items) (level_of old.inner) (level_of c.relay_part.new.level) o name number presence c.args.part.now is d e r.0 next first r.2.entry r.3 has.1,
+      ),
+    )

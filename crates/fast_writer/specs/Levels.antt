@@ -1,0 +1,19 @@
+-- What a writer of canonical bytes has of its messages.
+use Rattle.std.specs.Prelude.{List, map}
+use Rattle.fast_template.specs.Resolved.{Resolved}
+use Rattle.fast_dictionary.specs.Dictionary.{Dictionary}
+use Rattle.fast_stream.specs.Nodes.{Content}
+use Rattle.fast_stream.specs.Received.{Received}
+use Rattle.fast_writer.specs.Written.{Level, IsFinished, IsOpened}
+use Rattle.fast_writer.specs.declared.level.Level.{Level as LevelNow}
+use Rattle.fast_writer.specs.declared.writer.Writer.{Writer}
+
+abbrev pub level_of : LevelNow → Level
+level_of l = record { bits = l.bits.items; own = l.own; bytes = l.bytes.items }
+
+abbrev pub HasFinished : Writer → List Resolved → List Content → Dictionary → Type 0
+HasFinished w set ms d = IsFinished w.out.items set ms d
+
+-- the messages before, and what is written of the one that is open
+abbrev pub HasWritten : Writer → Received → Dictionary → Type 0
+HasWritten w o d = HasFinished w o.set o.before o.start × IsOpened (map level_of w.outer.items) (level_of w.inner) o d

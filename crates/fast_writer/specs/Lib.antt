@@ -1,0 +1,4 @@
+pub mod Canonical
+pub mod Written
+pub mod Quick
+pub mod Levels

@@ -1,0 +1,108 @@
+//! A segment that is being written.
+
+ghost use Rattle.std.specs.Prelude.{◌≡◌, ◌⊎◌, ◌&&◌, true, false, drop, IfErr, OnOk, OnErr};
+ghost use Rattle.fast_wire.specs.declared.fault.WireFault.TheVariants as fault;
+ghost use Rattle.fast_writer.specs.Written.{Asked, Ended, has_set};
+ghost use Rattle.fast_writer.specs.Levels.{level_of};
+
+use fast_wire::{WireFault, write_map};
+use std::alloc::{AllocError, Global};
+
+/// A segment: the bits asked for in their order, whether they stand in a map of its own, and the bytes behind that.
+#[derive(Drop)]
+pub struct Level {
+    /// The bits that its instructions asked for, in their order.
+    pub bits: Vec<bool>,
+    /// Whether they stand in a map of its own.
+    pub own: bool,
+    /// What stands behind the map.
+    pub bytes: Vec<u8>,
+}
+
+impl Level {
+    ghost use Rattle.std.specs.Prelude.{[]};
+
+    /// Of nothing. Takes no memory.
+    #[inline(always)]
+    pub fn new(alloc: Global, own: bool) -> Level
+        ensures bits { result.bits.items ≡ [] }
+        ensures own { result.own ≡ own }
+        ensures bytes { result.bytes.items ≡ [] }
+    {
+        Level {
+            bits: Vec::new(alloc),
+            own,
+            bytes: Vec::new(alloc),
+        }
+    }
+
+    /// Begins anew, in the same memory.
+    #[inline(always)]
+    pub fn begin(&mut self, own: bool)
+        ensures bits { self.new.bits.items ≡ [] }
+        ensures own { self.new.own ≡ own }
+        ensures bytes { self.new.bytes.items ≡ [] }
+    {
+        self.bits.clear();
+        self.own = own;
+        self.bytes.clear();
+    }
+
+    /// One bit more, where one is needed.
+    #[inline(always)]
+    pub fn ask(&mut self, needed: bool, bit: bool) -> Result<(), AllocError>
+        ensures { OnOk result (Asked needed bit (level_of self.old) (level_of self.new)) }
+    {
+        if needed {
+            self.bits.push(bit)?;
+        }
+        Ok(())
+    }
+
+    /// Appends the segment behind its map, or nothing.
+    ///
+    /// # Errors
+    ///
+    /// A growth was refused, or the map has no room for a bit.
+    #[inline(always)]
+    pub fn end(&self, out: &mut Vec<u8>) -> Result<(), AllocError>
+        ensures ended { OnOk result (Ended (level_of self.now) out.old.items out.new.items) }
+        ensures unchanged { OnErr result (out.new.items ≡ out.old.items) }
+    {
+        match self.seal(out) {
+            Err(_) => Err(AllocError),
+            Ok(()) => Ok(()),
+        }
+    }
+
+    /// The same, and tells a growth that was refused from a map without room.
+    ///
+    /// # Errors
+    ///
+    /// TooLong: a bit is 1 for which the map has no room. Memory: a growth was refused.
+    #[inline(always)]
+    pub fn seal(&self, out: &mut Vec<u8>) -> Result<(), WireFault>
+        ensures ended { OnOk result (Ended (level_of self.now) out.old.items out.new.items) }
+        ensures room { OnOk result
+            ((self.now.own && has_set (drop 1792 self.now.bits.items)) ≡ false) }
+        ensures refused { IfErr result (λ f. (f ≡ fault.Memory) ⊎ ((f ≡ fault.TooLong)
+            × ((self.now.own && has_set (drop 1792 self.now.bits.items)) ≡ true))) }
+        ensures unchanged { OnErr result (out.new.items ≡ out.old.items) }
+    {
+        let start = out.len();
+        if self.own {
+            match write_map(&self.bits, out) {
+                Err(WireFault::TooLong) => return Err(WireFault::TooLong),
+                Err(_) => return Err(WireFault::Memory),
+                Ok(()) => {}
+            }
+        }
+        match out.extend_from_slice(&self.bytes) {
+            Err(_) => {
+                out.truncate(start);
+                Err(WireFault::Memory)
+            }
+            Ok(()) => Ok(()),
+        }
+    }
+}

@@ -1,0 +1,192 @@
+//! A part that is read and written at once, with no value in between.
+
+ghost use Rattle.std.specs.Prelude.{◌≡◌, ◌≢◌, ◌≤◌, Err, IfNone, IfOk, IfErr, IfSome, Option, IsTrue, length, drop, false, true};
+ghost use Rattle.fast_template.specs.Resolved.{part_needs_bit as part_needs_bit_of};
+ghost use Rattle.fast_value.specs.declared.scalar.Scalar.{Scalar as ScalarOf};
+ghost use Rattle.fast_dictionary.specs.Dictionary.{entry_at};
+ghost use Rattle.fast_field.specs.FieldReading.{field_at};
+ghost use Rattle.fast_field.specs.Relayed.{Relays};
+ghost use Rattle.fast_stream.specs.Received.{Took};
+ghost use Rattle.fast_writer.specs.Levels.{level_of};
+ghost use Rattle.fast_writer.specs.Quick.{IsThere, Relayed};
+ghost use Rattle.fast_writer.specs.Written.{Spelt};
+
+use crate::fit::is_of_kind;
+use crate::level::Level;
+use crate::relay::relay_entry;
+use fast_dictionary::{Entries, Entry};
+use fast_field::{FieldFault, Passed, pass_left_out, relay_number, relay_text};
+use fast_template::{FieldPart, part_needs_bit};
+use std::alloc::Global;
+
+// Reads an integer, a constant, a string or a vector, and appends its best form; answers the place behind it. None:
+// nothing has changed, and the part goes the general way.
+#[inline(always)]
+fn relay_sent(
+    alloc: Global,
+    part: &FieldPart,
+    entry: &mut Entry,
+    bytes: &[u8],
+    at: usize,
+    out: &mut Vec<u8>,
+) -> Option<usize>
+    requires place { at ≤ length bytes.now }
+    ensures place { IfSome result (λ next. (at ≤ next) × (next ≤ length bytes.now)) }
+    ensures relayed { IfSome result (λ next. (v : ScalarOf)
+        × Relays part.now entry.old entry.new v (drop at bytes.now) (drop next bytes.now)
+        out.old.items out.new.items) }
+    ensures entry { IfNone result (entry.new ≡ entry.old) }
+    ensures out { IfNone result (out.new.items ≡ out.old.items) }
+{
+    match relay_number(part, entry, bytes, at, out) {
+        Some(next) => Some(next),
+        None => match relay_text(alloc, part, entry, bytes, at, out) {
+            Some(next) => Some(next),
+            None => None,
+        },
+    }
+}
+
+// Takes what bit 0 gives, or what was sent; answers whether its value is there, and the place behind it. None: nothing
+// has changed, and the part goes the general way.
+#[inline(always)]
+fn relay_quickly(
+    alloc: Global,
+    part: &FieldPart,
+    entry: &mut Entry,
+    bit: bool,
+    bytes: &[u8],
+    at: usize,
+    out: &mut Vec<u8>,
+) -> Option<(bool, usize)>
+    requires place { at ≤ length bytes.now }
+    requires bit { part_needs_bit_of part.now ≡ false → bit ≡ true }
+    ensures place { IfSome result (λ x. (at ≤ x.1) × (x.1 ≤ length bytes.now)) }
+    ensures relayed { IfSome result (λ x. (v : Option ScalarOf) × IsThere part.now.kind x.0 v
+        × Relayed part.now entry.old entry.new bit bit v (drop at bytes.now) (drop x.1 bytes.now)
+        out.old.items out.new.items) }
+    ensures entry { IfNone result (entry.new ≡ entry.old) }
+    ensures out { IfNone result (out.new.items ≡ out.old.items) }
+{
+    if bit {
+        match relay_sent(alloc, part, entry, bytes, at, out) {
+            None => None,
+            Some(next) => Some((true, next)),
+        }
+    } else {
+        match pass_left_out(part, entry) {
+            Passed::Elsewhere => None,
+            Passed::Absent => Some((false, at)),
+            Passed::Present => Some((true, at)),
+        }
+    }
+}
+
+// The same of any part, the general way; answers the bit of the best form too.
+fn relay_generally(
+    alloc: Global,
+    part: &FieldPart,
+    entry: &mut Entry,
+    bit: bool,
+    bytes: &[u8],
+    at: usize,
+    out: &mut Vec<u8>,
+) -> Result<(bool, bool, usize), FieldFault>
+    requires place { at ≤ length bytes.now }
+    requires bit { part_needs_bit_of part.now ≡ false → bit ≡ true }
+    ensures place { IfOk result (λ x. (at ≤ x.2) × (x.2 ≤ length bytes.now)) }
+    ensures relayed { IfOk result (λ x. (v : Option ScalarOf) × IsThere part.now.kind x.0 v
+        × Relayed part.now entry.old entry.new bit x.1 v (drop at bytes.now) (drop x.2 bytes.now)
+        out.old.items out.new.items) }
+    ensures stops { IfErr result (λ f. f ≢ FieldFault.Memory
+        → (field_at part.now entry.old bit (drop at bytes.now) ≡ Err f)
+        × (entry.new ≡ entry.old) × (out.new.items ≡ out.old.items)) }
+{
+    match relay_entry(alloc, part, entry, bit, bytes, at, out) {
+        Err(fault) => Err(fault),
+        Ok((found, best, next)) => match found.value(part, entry.view()) {
+            None => Ok((false, best, next)),
+            Some(value) => {
+                if is_of_kind(part.kind, value) {
+                    Ok((true, best, next))
+                } else {
+                    Err(FieldFault::Memory)
+                }
+            }
+        },
+    }
+}
+
+// The same by the quick way, and by the general one where that does not serve.
+#[inline(always)]
+fn relay_either(
+    alloc: Global,
+    part: &FieldPart,
+    entry: &mut Entry,
+    bit: bool,
+    bytes: &[u8],
+    at: usize,
+    out: &mut Vec<u8>,
+) -> Result<(bool, bool, usize), FieldFault>
+    requires place { at ≤ length bytes.now }
+    requires bit { part_needs_bit_of part.now ≡ false → bit ≡ true }
+    ensures place { IfOk result (λ x. (at ≤ x.2) × (x.2 ≤ length bytes.now)) }
+    ensures relayed { IfOk result (λ x. (v : Option ScalarOf) × IsThere part.now.kind x.0 v
+        × Relayed part.now entry.old entry.new bit x.1 v (drop at bytes.now) (drop x.2 bytes.now)
+        out.old.items out.new.items) }
+    ensures stops { IfErr result (λ f. f ≢ FieldFault.Memory
+        → (field_at part.now entry.old bit (drop at bytes.now) ≡ Err f)
+        × (entry.new ≡ entry.old) × (out.new.items ≡ out.old.items)) }
+{
+    match relay_quickly(alloc, part, entry, bit, bytes, at, out) {
+        Some((there, next)) => Ok((there, bit, next)),
+        None => match relay_generally(alloc, part, entry, bit, bytes, at, out) {
+            Err(fault) => Err(fault),
+            Ok(x) => Ok(x),
+        },
+    }
+}
+
+/// Reads a part, and appends the best form of its value to a segment; answers whether the value is there, and the
+/// place behind what was read.
+///
+/// # Errors
+///
+/// The first fault of the part; nothing has changed. Memory: a growth was refused.
+#[inline(always)]
+pub(crate) fn relay_part<E: Entries>(
+    alloc: Global,
+    entries: &mut E,
+    part: &FieldPart,
+    bit: bool,
+    bytes: &[u8],
+    at: usize,
+    level: &mut Level,
+) -> Result<(bool, usize), FieldFault>
+    requires place { at ≤ length bytes.now }
+    requires bit { part_needs_bit_of part.now ≡ false → bit ≡ true }
+    requires served { IsTrue (E.serves entries.now part.now.key) }
+    ensures place { IfOk result (λ x. (at ≤ x.1) × (x.1 ≤ length bytes.now)) }
+    ensures relays { IfOk result (λ x. (v : Option ScalarOf) × IsThere part.now.kind x.0 v
+        × Took part.now bit (E.contents entries.old) (E.contents entries.new) v
+        (drop at bytes.now) (drop x.1 bytes.now)
+        × Spelt part.now (entry_at (E.contents entries.old) part.now.key) v
+        (level_of level.old) (level_of level.new)) }
+    ensures stops { IfErr result (λ f. f ≢ FieldFault.Memory
+        → (field_at part.now (entry_at (E.contents entries.old) part.now.key) bit
+        (drop at bytes.now) ≡ Err f)
+        × (E.contents entries.new ≡ E.contents entries.old)
+        × (level_of level.new ≡ level_of level.old)) }
+    ensures same_keys { E.serves entries.new ≡ E.serves entries.old }
+{
+    match entries.entry_mut(&part.key) {
+        Err(_) => Err(FieldFault::Memory),
+        Ok(entry) => match relay_either(alloc, part, entry, bit, bytes, at, &mut level.bytes) {
+            Err(fault) => Err(fault),
+            Ok((there, best, next)) => match level.ask(part_needs_bit(part), best) {
+                Err(_) => Err(FieldFault::Memory),
+                Ok(()) => Ok((there, next)),
+            },
+        },
+    }
+}

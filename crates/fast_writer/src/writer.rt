@@ -1,0 +1,308 @@
+//! Writes the canonical bytes of messages as they are read.
+
+use crate::fit::is_identifier;
+use crate::level::Level;
+use crate::quick::relay_part;
+use crate::relay::relay_value;
+use fast_dictionary::Entries;
+use fast_field::FieldFault;
+use fast_stream::{Receiver, unsigned_in};
+use fast_template::{FieldPart, Kind};
+use std::alloc::{AllocError, Global};
+use std::mem;
+
+/// Writes the canonical bytes of the messages that it receives, each field as it is read and on the same entries.
+///
+/// The bytes of the messages that are finished wait in it until they are handed on; those of the message that is open
+/// are no part of them.
+#[derive(Drop)]
+pub struct Writer {
+    // the innermost open segment, and those around it
+    inner: Level,
+    outer: Vec<Level>,
+    // levels that were open, kept for their memory
+    spare: Vec<Level>,
+    // of the messages that are finished and not handed on
+    out: Vec<u8>,
+}
+
+impl Writer {
+    ghost use Rattle.std.specs.Prelude.{◌≡◌, [], ◌∷◌, ◌++◌, List, ℕ, map, OnOk};
+    ghost use Rattle.std.specs.FinMap as finite;
+    ghost use Rattle.fast_template.specs.Resolved.{Resolved};
+    ghost use Rattle.fast_dictionary.specs.Dictionary.{Dictionary};
+    ghost use Rattle.fast_stream.specs.Nodes.{Content};
+    ghost use Rattle.fast_stream.specs.Received.{Received, behind};
+    ghost use Rattle.fast_writer.specs.Levels.{level_of};
+    ghost use Rattle.fast_writer.specs.Written.{Closes, handed_on};
+
+    /// With no message, and nothing handed on. Takes no memory.
+    #[inline(always)]
+    pub fn new(alloc: Global) -> Writer
+        ensures stands { (set : List Resolved)
+            → ⟦<Writer as Receiver>⟧.stands result set (handed_on [] ∷ []) finite.empty }
+        ensures empty { result.out.items ≡ [] }
+    {
+        Writer {
+            inner: Level::new(alloc, true),
+            outer: Vec::new(alloc),
+            spare: Vec::new(alloc),
+            out: Vec::new(alloc),
+        }
+    }
+
+    /// The canonical bytes of the messages that are finished and not handed on.
+    #[inline(always)]
+    pub fn finished(&self) -> &[u8]
+        ensures { result.now ≡ self.now.out.items }
+    {
+        &self.out
+    }
+
+    /// Forgets the bytes of finished messages, which now are handed on. It keeps their memory.
+    #[inline(always)]
+    pub fn hand_on(&mut self)
+        ensures stands { (set : List Resolved) (handed : List ℕ) (ms : List Content)
+            (d : Dictionary)
+            → ⟦<Writer as Receiver>⟧.stands self.old set (handed_on handed ∷ ms) d
+            → ⟦<Writer as Receiver>⟧.stands self.new set
+            (handed_on (handed ++ self.old.out.items) ∷ ms) d }
+        ensures has { (o : Received) (handed : List ℕ) (ms : List Content) (d : Dictionary)
+            → o.before ≡ handed_on handed ∷ ms → ⟦<Writer as Receiver>⟧.has self.old o d
+            → ⟦<Writer as Receiver>⟧.has self.new
+            (behind o (handed_on (handed ++ self.old.out.items) ∷ ms)) d }
+        ensures keeps { (set : List Resolved) (handed : List ℕ) (ms : List Content)
+            (d : Dictionary)
+            → ⟦<Writer as Receiver>⟧.keeps self.old set (handed_on handed ∷ ms) d
+            → ⟦<Writer as Receiver>⟧.keeps self.new set
+            (handed_on (handed ++ self.old.out.items) ∷ ms) d }
+        ensures empty { self.new.out.items ≡ [] }
+    {
+        self.out.clear();
+    }
+
+    // A level of nothing, one that was used where there is one.
+    #[inline(always)]
+    fn fresh(&mut self, alloc: Global, own: bool) -> Level
+        ensures bits { result.bits.items ≡ [] }
+        ensures own { result.own ≡ own }
+        ensures bytes { result.bytes.items ≡ [] }
+        ensures inner { self.new.inner ≡ self.old.inner }
+        ensures outer { self.new.outer ≡ self.old.outer }
+        ensures out { self.new.out ≡ self.old.out }
+    {
+        match self.spare.pop() {
+            None => Level::new(alloc, own),
+            Some(mut level) => {
+                level.begin(own);
+                level
+            }
+        }
+    }
+
+    // Begins a segment inside the one that is open.
+    #[inline(always)]
+    fn open(&mut self, alloc: Global, own: bool) -> Result<(), AllocError>
+        ensures outer { OnOk result (map level_of self.new.outer.items
+            ≡ map level_of self.old.outer.items ++ level_of self.old.inner ∷ []) }
+        ensures bits { OnOk result (self.new.inner.bits.items ≡ []) }
+        ensures own { OnOk result (self.new.inner.own ≡ own) }
+        ensures bytes { OnOk result (self.new.inner.bytes.items ≡ []) }
+        ensures out { self.new.out ≡ self.old.out }
+    {
+        let inner = self.fresh(alloc, own);
+        let around = mem::replace(&mut self.inner, inner);
+        self.outer.push(around)?;
+        Ok(())
+    }
+
+    // Ends the segment that is open, in the one around it.
+    #[inline(always)]
+    fn close(&mut self) -> Result<(), AllocError>
+        ensures closed { OnOk result (Closes (map level_of self.old.outer.items)
+            (level_of self.old.inner) (map level_of self.new.outer.items)
+            (level_of self.new.inner)) }
+        ensures out { self.new.out ≡ self.old.out }
+    {
+        match self.outer.pop() {
+            None => Err(AllocError),
+            Some(around) => {
+                let inner = mem::replace(&mut self.inner, around);
+                inner.end(&mut self.inner.bytes)?;
+                self.spare.push(inner)?;
+                Ok(())
+            }
+        }
+    }
+}
+
+impl Receiver for Writer {
+    ghost use Rattle.fast_writer.specs.Levels.{HasFinished, HasWritten};
+
+    ghost has = { λ w o d. HasWritten w o d };
+
+    ghost stands = { λ w set ms d. HasFinished w set ms d };
+
+    ghost keeps = { λ w set ms d. HasFinished w set ms d };
+
+    #[inline(always)]
+    fn begin<E: Entries>(
+        &mut self,
+        alloc: Global,
+        entries: &mut E,
+        identifier: &FieldPart,
+        bit: bool,
+        bytes: &[u8],
+        at: usize,
+    ) -> Result<(u32, usize), FieldFault> {
+        if !is_identifier(identifier) {
+            return Err(FieldFault::Memory);
+        }
+        self.outer.clear();
+        self.inner.begin(true);
+        match relay_value(alloc, entries, identifier, bit, bytes, at, &mut self.inner) {
+            Err(fault) => Err(fault),
+            Ok((value, next)) => match unsigned_in(&value) {
+                Ok(Some(id)) => Ok((id, next)),
+                _ => Err(FieldFault::Memory),
+            },
+        }
+    }
+
+    #[inline(always)]
+    fn finish(&mut self, _alloc: Global) -> Result<(), AllocError> {
+        self.inner.end(&mut self.out)?;
+        Ok(())
+    }
+
+    #[inline(always)]
+    fn back(&mut self, _alloc: Global) {
+        self.outer.clear();
+    }
+
+    #[inline(always)]
+    fn field<E: Entries>(
+        &mut self,
+        alloc: Global,
+        entries: &mut E,
+        part: &FieldPart,
+        bit: bool,
+        bytes: &[u8],
+        at: usize,
+    ) -> Result<usize, FieldFault> {
+        match relay_part(alloc, entries, part, bit, bytes, at, &mut self.inner) {
+            Err(fault) => Err(fault),
+            Ok((_there, next)) => Ok(next),
+        }
+    }
+
+    #[inline(always)]
+    fn exponent<E: Entries>(
+        &mut self,
+        alloc: Global,
+        entries: &mut E,
+        part: &FieldPart,
+        bit: bool,
+        bytes: &[u8],
+        at: usize,
+    ) -> Result<(bool, usize), FieldFault> {
+        match part.kind {
+            Kind::Int32 => match relay_part(alloc, entries, part, bit, bytes, at, &mut self.inner) {
+                Err(fault) => Err(fault),
+                Ok((there, next)) => Ok((there, next)),
+            },
+            _ => Err(FieldFault::Memory),
+        }
+    }
+
+    #[inline(always)]
+    fn mantissa<E: Entries>(
+        &mut self,
+        alloc: Global,
+        entries: &mut E,
+        part: &FieldPart,
+        bit: bool,
+        bytes: &[u8],
+        at: usize,
+    ) -> Result<usize, FieldFault> {
+        match part.kind {
+            Kind::Int64 => match relay_part(alloc, entries, part, bit, bytes, at, &mut self.inner) {
+                Err(fault) => Err(fault),
+                Ok((there, next)) => {
+                    if there {
+                        Ok(next)
+                    } else {
+                        Err(FieldFault::Memory)
+                    }
+                }
+            },
+            _ => Err(FieldFault::Memory),
+        }
+    }
+
+    #[inline(always)]
+    fn begin_sequence<E: Entries>(
+        &mut self,
+        alloc: Global,
+        entries: &mut E,
+        part: &FieldPart,
+        bit: bool,
+        bytes: &[u8],
+        at: usize,
+    ) -> Result<(Option<u32>, usize), FieldFault> {
+        match relay_value(alloc, entries, part, bit, bytes, at, &mut self.inner) {
+            Err(fault) => Err(fault),
+            Ok((value, next)) => match unsigned_in(&value) {
+                Err(fault) => Err(fault),
+                Ok(length) => Ok((length, next)),
+            },
+        }
+    }
+
+    #[inline(always)]
+    fn left_out(&mut self) -> Result<(), AllocError> {
+        self.inner.ask(true, false)?;
+        Ok(())
+    }
+
+    #[inline(always)]
+    fn enter(
+        &mut self,
+        alloc: Global,
+        optional: bool,
+        own_map: bool,
+        _size: usize,
+    ) -> Result<(), AllocError> {
+        self.inner.ask(optional, true)?;
+        self.open(alloc, own_map)?;
+        Ok(())
+    }
+
+    #[inline(always)]
+    fn leave(&mut self, _alloc: Global) -> Result<(), AllocError> {
+        self.close()?;
+        Ok(())
+    }
+
+    #[inline(always)]
+    fn enter_element(
+        &mut self,
+        alloc: Global,
+        own_map: bool,
+        _size: usize,
+    ) -> Result<(), AllocError> {
+        self.open(alloc, own_map)?;
+        Ok(())
+    }
+
+    #[inline(always)]
+    fn leave_element(&mut self, _alloc: Global) -> Result<(), AllocError> {
+        self.close()?;
+        Ok(())
+    }
+
+    #[inline(always)]
+    fn end_sequence(&mut self, _alloc: Global) -> Result<(), AllocError> {
+        Ok(())
+    }
+}
