@@ -23,9 +23,7 @@ pub mod OneBest
 pub mod TwoPieces
 pub mod ChosenForms
 pub mod WrittenForms
-pub mod Relaying
-mod TextRelaying
-mod PlainTexts
+pub mod Passing
 pub mod RefusalSteps
 pub mod CallSteps
 pub mod PutTogether

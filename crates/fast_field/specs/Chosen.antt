@@ -1,5 +1,5 @@
 -- What a form is made of, the bytes that spell it, and which one a writer takes. (Own: FAST 1.1 leaves the choice to
--- the writer.) No public clause names these.
+-- the writer.)
 use Rattle.std.specs.Prelude.{◌≡◌, ◌⊎◌, ℕ, ◌+◌, ◌^◌, ◌<◌, ◌≤◌, ℤ, ◌-ℤ◌, List, [], ◌++◌, length, Result, Ok, Err, IsTrue}
 use Rattle.fast_wire.specs.Ascii.{IsAscii, IsAsciiNullable, IsAsciiText}
 use Rattle.fast_wire.specs.Integer.{IsUnsigned, IsSigned, magnitude}

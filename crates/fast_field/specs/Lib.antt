@@ -18,5 +18,4 @@ pub mod CommonParts
 pub mod Chosen
 pub mod Written
 pub mod Numbers
-pub mod Relayed
-pub mod Texts
+pub mod Passed

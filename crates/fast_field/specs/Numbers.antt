@@ -1,19 +1,14 @@
--- Integers by their numbers alone. (Own.) No public clause names these.
-use Rattle.std.specs.Prelude.{◌≡◌, ℕ, ℤ, pos, ◌+ℤ◌, int_le, int_lt, if◌then◌else◌, Bool, true, List, Option, Some, Ok, IsTrue}
-use Rattle.fast_wire.specs.declared.nullable.Nullable.TheVariants.{Value}
+-- Integers by their numbers alone. (Own.)
+use Rattle.std.specs.Prelude.{◌≡◌, ℤ, pos, ◌+ℤ◌, int_le, int_lt, if◌then◌else◌, Bool, true, IsTrue}
 use Rattle.fast_value.specs.Scalar.{in_range, is_integer, least_of, greatest_of, exponent_in_range, of_integer}
 use Rattle.fast_value.specs.declared.kind.Kind.{Kind}
 use Rattle.fast_value.specs.declared.kind.Operator.{Operator}
 use Rattle.fast_value.specs.declared.kind.Operator.TheVariants as operator
 use Rattle.fast_value.specs.declared.kind.Part.{Part}
 use Rattle.fast_value.specs.declared.kind.Part.TheVariants as part
-use Rattle.fast_value.specs.declared.kind.Presence.{Presence}
-use Rattle.fast_template.specs.declared.resolved.FieldPart.{FieldPart}
 use Rattle.fast_value.specs.declared.scalar.Scalar.{Scalar}
 use Rattle.fast_dictionary.specs.declared.entry.Entry.{Entry}
 use Rattle.fast_dictionary.specs.declared.entry.Entry.TheVariants.{Assigned}
-use Rattle.fast_field.specs.FieldReading.{integer_at}
-use Rattle.fast_field.specs.Planning.{left_out_of}
 
 -- a number in the range of an integer type
 pub record IsNumber (k : Kind) (z : ℤ) : Type 0 where
@@ -45,14 +40,6 @@ abbrev pub HasNumber : Kind → Entry → ℤ → Type 0
 HasNumber k (Assigned v) z = IsNumberOf k v z
 HasNumber k e z = ⊥
 
--- bit 1 spells the whole value
-abbrev pub SpellsWhole : Operator → Type 0
-SpellsWhole operator.Plain = Unit {0}
-SpellsWhole operator.Default = Unit {0}
-SpellsWhole operator.Copy = Unit {0}
-SpellsWhole operator.Increment = Unit {0}
-SpellsWhole o = ⊥
-
 -- bit 0 gives the value that the entry has
 abbrev pub Repeats : Operator → Type 0
 Repeats operator.Copy = Unit {0}
@@ -65,16 +52,3 @@ Predicts operator.Copy = Unit {0}
 Predicts operator.Increment = Unit {0}
 Predicts operator.Tail = Unit {0}
 Predicts o = ⊥
-
--- the bytes spell a number and not NULL
-abbrev pub Spelt : Bool → Presence → List ℕ → ℤ → List ℕ → Type 0
-Spelt unsigned p bytes z rest = integer_at unsigned p bytes ≡ Ok (Value z, rest)
-
--- where the value is a number of the type, it is this one
-abbrev pub IsNumberIn : Kind → Option Scalar → Option ℤ → Type 0
-IsNumberIn k o may = (z : ℤ) → IsNumber k z → o ≡ Some (of_integer k z) → may ≡ Some z
-
--- where bit 0 gives a number of the type, it is this one
-abbrev pub MayGive : Kind → FieldPart → Entry → Option ℤ → Type 0
-MayGive k i e may =
-    (z : ℤ) → IsNumber k z → left_out_of i.operator i e (Some (of_integer k z)) ≡ true → may ≡ Some z

@@ -48,9 +48,9 @@ pub(crate) fn integer(value: &Scalar) -> i128
     }
 }
 
-/// The characters or bytes of a string or vector; of another value none.
+/// The characters or bytes of a string or vector, of Unicode its bytes; of another value none.
 #[inline(always)]
-pub(crate) fn units(value: &Scalar) -> &[u8]
+pub fn units(value: &Scalar) -> &[u8]
     ensures { result.now ≡ units_of value.now }
 {
     match value {

@@ -37,8 +37,9 @@ pub(crate) fn common_suffix(a: &[u8], b: &[u8]) -> usize
 }
 
 /// What the best delta removes of a base, and its new part: the fewest bytes; of these, removal at the end; of
-/// these, the shortest new part. On each side it is the longest common part that stays.
-pub(crate) fn best_cut<'a>(
+/// these, the shortest new part. On each side it is the longest common part that stays. (FAST 1.1, Field Operators,
+/// Delta Operator, leaves the choice to the writer.)
+pub fn best_cut<'a>(
     kind: Kind,
     presence: Presence,
     base: &[u8],

@@ -124,9 +124,9 @@ fn read_decimal_delta(
     }
 }
 
-/// What a string or vector delta removes of its base.
+/// What a string or vector delta removes of its base: FAST 1.1, Field Operators, Delta Operator, subtraction length.
 #[derive(Clone, Copy, Debug, PartialEq, Eq, Drop)]
-pub(crate) enum Removal {
+pub enum Removal {
     /// So many units at the end.
     AtEnd(usize),
     /// So many units in front.
@@ -201,9 +201,15 @@ fn read_new_part(
     Ok((Some(value), next))
 }
 
-/// Reads a string or vector by its difference from the base.
+/// Reads the delta of a string or vector that begins at `at`, and answers the value that it makes, none where it is NULL,
+/// and the place after it: FAST 1.1, Field Operators, Delta Operator.
+///
+/// # Errors
+///
+/// The first fault of the delta on the bytes from `at` on; NeedMore where they end before it does. Memory: the value
+/// was refused it.
 #[tactic(auto, using(crate::proofs::CallSteps::call_steps), unfolding(crate::specs::FieldReading::unit_delta_at))]
-pub(crate) fn read_unit_delta(
+pub fn read_unit_delta(
     alloc: Global,
     instr: &FieldPart,
     kept: EntryRef,
@@ -277,8 +283,12 @@ pub(crate) fn size_cut(kind: Kind, presence: Presence, removal: Removal, part: &
     size_signed(presence, removal_length(removal)) + size_part(kind, part)
 }
 
-/// Appends a subtraction length and a new part, or nothing.
-pub(crate) fn write_cut(
+/// Appends a subtraction length and a new part, each in its shortest form, or nothing.
+///
+/// # Errors
+///
+/// Memory: a growth was refused.
+pub fn write_cut(
     kind: Kind,
     presence: Presence,
     removal: Removal,

@@ -1,32 +1,17 @@
-//! Integers by their numbers: the ranges of their types, and how they are kept, read and written, with no value in
-//! between. All is inline, since the type is mostly known where it is called.
+//! Integers by their numbers: the ranges of their types, and how they are kept, with no value in between. All is inline,
+//! since the type is mostly known where it is called.
 
-ghost use Rattle.std.specs.Prelude.{◌≡◌, ◌≤◌, ◌^◌, ◌<ℤ◌, pos, negsuc, true, false, length, drop, IfNone, IfSome, IsTrue};
+ghost use Rattle.std.specs.Prelude.{◌≡◌, ◌^◌, ◌<ℤ◌, pos, negsuc, true, false, IfNone, IfSome, IsTrue};
 ghost use Rattle.fast_value.specs.Scalar.{greatest_of, in_range, is_integer, is_of, least_of, of_integer};
 ghost use Rattle.fast_value.specs.declared.scalar.Scalar.TheVariants as scalar;
 ghost use Rattle.fast_dictionary.specs.declared.entry.Entry.TheVariants as entry_type;
-ghost use Rattle.fast_field.specs.Chosen.{AppendsOne, ShortestWhole};
-ghost use Rattle.fast_field.specs.Numbers.{HasNumber, IsFieldNumber, IsNumber, IsNumberOf, Spelt, next_number, number_within};
-ghost use Rattle.fast_field.specs.Values as values;
+ghost use Rattle.fast_field.specs.Numbers.{HasNumber, IsFieldNumber, IsNumber, IsNumberOf, next_number, number_within};
 
 use crate::read::LENGTH_LIMIT;
-use crate::whole::{write_signed, write_unsigned};
 use fast_dictionary::Entry;
-use fast_template::{Kind, Part, Presence, Scalar};
-use fast_wire::{Nullable, WireFault};
+use fast_template::{Kind, Part, Scalar};
 
 // ---- Ranges
-
-/// Whether the integers of a type have no sign.
-#[inline(always)]
-pub(crate) fn is_unsigned(kind: Kind) -> bool
-    ensures { result ≡ values.is_unsigned kind }
-{
-    match kind {
-        Kind::UInt32 | Kind::UInt64 => true,
-        _ => false,
-    }
-}
 
 /// The least number of an integer type.
 #[inline(always)]
@@ -75,18 +60,18 @@ pub(crate) fn is_within(part: Part, number: i128) -> bool
     }
 }
 
-/// Whether a field can have a number.
+/// Whether a field can have a number: in the range of its integer type and within the limit of its part.
 #[inline(always)]
-pub(crate) fn is_field_number(kind: Kind, part: Part, number: i128) -> bool
+pub fn is_field_number(kind: Kind, part: Part, number: i128) -> bool
     requires { IsTrue (is_integer kind) }
     ensures { result ≡ true → IsFieldNumber kind part number }
 {
     is_in_range(kind, number) && is_within(part, number)
 }
 
-/// One more, and after the greatest number of the type its least.
+/// One more, and after the greatest number of the type its least: FAST 1.1, Field Operators, Increment Operator.
 #[inline(always)]
-pub(crate) fn number_after(kind: Kind, number: i128) -> i128
+pub fn number_after(kind: Kind, number: i128) -> i128
     requires { IsNumber kind number }
     ensures value { result ≡ next_number kind number }
     ensures number { IsNumber kind result }
@@ -100,9 +85,9 @@ pub(crate) fn number_after(kind: Kind, number: i128) -> i128
 
 // ---- Kept
 
-/// The number of a value of an integer type.
+/// The number of a value of an integer type; none where the value is of another type.
 #[inline(always)]
-pub(crate) fn number_of(kind: Kind, value: &Scalar) -> Option<i128>
+pub fn number_of(kind: Kind, value: &Scalar) -> Option<i128>
     requires { IsTrue (is_integer kind) }
     ensures some { IfSome result (IsNumberOf kind value.now) }
     ensures none { IfNone result (is_of kind value.now ≡ false) }
@@ -130,9 +115,9 @@ pub(crate) fn number_of(kind: Kind, value: &Scalar) -> Option<i128>
     }
 }
 
-/// The number of an entry that has one of this type.
+/// The number of an entry that has one of this integer type.
 #[inline(always)]
-pub(crate) fn kept_number(kind: Kind, entry: &Entry) -> Option<i128>
+pub fn kept_number(kind: Kind, entry: &Entry) -> Option<i128>
     requires { IsTrue (is_integer kind) }
     ensures number { IfSome result (HasNumber kind entry.now) }
     ensures above { IfSome result (λ number. negsuc (2 ^ 64) <ℤ number) }
@@ -200,9 +185,9 @@ fn set_i64(entry: &mut Entry, number: i64)
     }
 }
 
-/// Assigns a number, in place where the entry has one of the type.
+/// Assigns a number of an integer type, in place where the entry has one of the type. It takes no memory.
 #[inline(always)]
-pub(crate) fn set_number(kind: Kind, entry: &mut Entry, number: i128)
+pub fn set_number(kind: Kind, entry: &mut Entry, number: i128)
     requires { IsNumber kind number }
     ensures { entry.new ≡ entry_type.Assigned (of_integer kind number) }
 {
@@ -211,65 +196,6 @@ pub(crate) fn set_number(kind: Kind, entry: &mut Entry, number: i128)
         Kind::Int32 => set_i32(entry, number as i32),
         Kind::UInt64 => set_u64(entry, number as u64),
         Kind::Int64 => set_i64(entry, number as i64),
-        Kind::Decimal | Kind::Ascii | Kind::Unicode | Kind::Bytes => unreachable!(),
-    }
-}
-
-// ---- Read and written
-
-/// A number that has 64 bits; none where it has more, is NULL or faulty.
-#[tactic(auto, unfolding(crate::specs::FieldReading::integer_at))]
-#[inline(always)]
-pub(crate) fn read_short(
-    unsigned: bool,
-    presence: Presence,
-    bytes: &[u8],
-    at: usize,
-) -> Option<(i128, usize)>
-    requires { at ≤ length bytes.now }
-    ensures place { IfSome result (λ x. (at ≤ x.1) × (x.1 ≤ length bytes.now)) }
-    ensures above { IfSome result (λ x. negsuc (2 ^ 64) <ℤ x.0) }
-    ensures below { IfSome result (λ x. x.0 <ℤ pos (2 ^ 64)) }
-    ensures gives { IfSome result (λ x. Spelt unsigned presence (drop at bytes.now)
-        x.0 (drop x.1 bytes.now)) }
-{
-    match (unsigned, presence) {
-        (true, Presence::Mandatory) => match fast_wire::read_u64(bytes, at) {
-            Ok((number, next)) => Some((i128::from(number), next)),
-            Err(_) => None,
-        },
-        (true, Presence::Optional) => match fast_wire::read_u64_nullable(bytes, at) {
-            Ok((Nullable::Value(number), next)) => Some((i128::from(number), next)),
-            Ok((Nullable::Null, _)) => None,
-            Err(_) => None,
-        },
-        (false, Presence::Mandatory) => match fast_wire::read_i64(bytes, at) {
-            Ok((number, next)) => Some((i128::from(number), next)),
-            Err(_) => None,
-        },
-        (false, Presence::Optional) => match fast_wire::read_i64_nullable(bytes, at) {
-            Ok((Nullable::Value(number), next)) => Some((i128::from(number), next)),
-            Ok((Nullable::Null, _)) => None,
-            Err(_) => None,
-        },
-    }
-}
-
-/// Appends a number in the form of a presence, or nothing.
-#[inline(always)]
-pub(crate) fn write_number(
-    kind: Kind,
-    presence: Presence,
-    number: i128,
-    out: &mut Vec<u8>,
-) -> Result<(), WireFault>
-    requires { IsNumber kind number }
-    ensures { AppendsOne (ShortestWhole presence (of_integer kind number))
-        out.old.items out.new.items result }
-{
-    match kind {
-        Kind::UInt32 | Kind::UInt64 => write_unsigned(presence, number as u64, out),
-        Kind::Int32 | Kind::Int64 => write_signed(presence, number, out),
         Kind::Decimal | Kind::Ascii | Kind::Unicode | Kind::Bytes => unreachable!(),
     }
 }

@@ -16,7 +16,7 @@ use crate::base::{integer, predicted_value};
 use crate::delta::read_delta;
 use crate::fault::FieldFault;
 use crate::found::Found;
-use crate::number::pass_found;
+use crate::passed::pass_found;
 use crate::tail::read_tail;
 use crate::whole::{exponent_within, read_whole};
 use fast_dictionary::{Entry, EntryRef};

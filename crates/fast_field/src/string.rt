@@ -1,7 +1,6 @@
 //! Strings and vectors that are put together from a base and from what was sent, which is copied once.
 
-ghost use Rattle.std.specs.Prelude.{◌≡◌, ◌≤◌, ◌<◌, true, ◌+◌, ◌⊎◌, [], ◌++◌, length, IfErr, IfOk, OnOk};
-ghost use Rattle.std.specs.List.{AllByRecursion};
+ghost use Rattle.std.specs.Prelude.{◌≡◌, ◌≤◌, ◌<◌, ◌+◌, ◌⊎◌, [], ◌++◌, length, IfErr, IfOk, OnOk};
 ghost use Rattle.fast_wire.specs.Entity.{groups};
 ghost use Rattle.fast_wire.specs.Nullable.{IsNullOr};
 ghost use Rattle.fast_wire.specs.Reading.{Gives};
@@ -18,16 +17,7 @@ use fast_wire::{Nullable, Span};
 use std::alloc::{AllocError, Global};
 
 /// The most units of a string or vector.
-pub(crate) const UNIT_LIMIT: usize = 65_535;
-
-/// Whether these are characters of ASCII, and not too many.
-#[inline(always)]
-pub(crate) fn are_characters(text: &[u8]) -> bool
-    ensures { result ≡ true
-        → (length text.now ≤ 65535) × AllByRecursion (λ c. c < 128) text.now }
-{
-    text.len() <= UNIT_LIMIT && text.is_ascii()
-}
+const UNIT_LIMIT: usize = 65_535;
 
 /// Finds characters or bytes in the form that has no NULL, of Unicode its bytes, and the place after them. It
 /// takes no memory.

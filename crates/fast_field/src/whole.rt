@@ -296,9 +296,15 @@ fn read_number(
     }
 }
 
-/// A string or a vector.
+/// Reads a string or a vector that stands whole from `at` on, and answers its value, none where it is NULL, and the place
+/// after it.
+///
+/// # Errors
+///
+/// The first fault of the form on the bytes from `at` on; NeedMore where they end before it does. Memory: the copy was
+/// refused.
 #[tactic(auto, using(crate::proofs::CallSteps::call_steps), unfolding(crate::specs::FieldReading::units_spelled_at))]
-pub(crate) fn read_string(
+pub fn read_string(
     alloc: Global,
     kind: Kind,
     presence: Presence,
@@ -357,13 +363,13 @@ fn size_unsigned(presence: Presence, number: u64) -> usize
     }
 }
 
-/// Appends a number without a sign, in the form of a presence, or nothing.
+/// Appends a number without a sign, in the shortest form of a presence, or nothing.
+///
+/// # Errors
+///
+/// Memory: a growth was refused.
 #[inline(always)]
-pub(crate) fn write_unsigned(
-    presence: Presence,
-    number: u64,
-    out: &mut Vec<u8>,
-) -> Result<(), WireFault>
+pub fn write_unsigned(presence: Presence, number: u64, out: &mut Vec<u8>) -> Result<(), WireFault>
     ensures { AppendsOne (ShortestUnsigned presence number) out.old.items out.new.items result }
 {
     match presence {
@@ -385,13 +391,13 @@ pub(crate) fn size_signed(presence: Presence, number: i128) -> usize
     }
 }
 
-/// Appends a number with a sign, in the form of a presence, or nothing.
+/// Appends a number with a sign, in the shortest form of a presence, or nothing.
+///
+/// # Errors
+///
+/// Memory: a growth was refused.
 #[inline(always)]
-pub(crate) fn write_signed(
-    presence: Presence,
-    number: i128,
-    out: &mut Vec<u8>,
-) -> Result<(), WireFault>
+pub fn write_signed(presence: Presence, number: i128, out: &mut Vec<u8>) -> Result<(), WireFault>
     requires { IsSmall number }
     ensures { AppendsOne (ShortestSigned presence number) out.old.items out.new.items result }
 {
@@ -448,8 +454,12 @@ pub(crate) fn size_units(kind: Kind, presence: Presence, units: &[u8]) -> usize
     }
 }
 
-/// Appends characters or bytes in the form of a presence, or nothing.
-pub(crate) fn write_units(
+/// Appends characters or bytes in the shortest form of a presence, of Unicode its bytes, or nothing.
+///
+/// # Errors
+///
+/// Memory: a growth was refused.
+pub fn write_units(
     kind: Kind,
     presence: Presence,
     units: &[u8],

@@ -5,7 +5,7 @@ ghost use Rattle.fast_template.specs.Resolved.{part_needs_bit as part_needs_bit_
 ghost use Rattle.fast_value.specs.declared.scalar.Scalar.{Scalar as ScalarOf};
 ghost use Rattle.fast_dictionary.specs.Dictionary.{entry_at};
 ghost use Rattle.fast_field.specs.FieldReading.{field_at};
-ghost use Rattle.fast_field.specs.Relayed.{Relays};
+ghost use Rattle.fast_relay.specs.Relayed.{Relays};
 ghost use Rattle.fast_stream.specs.Received.{Took};
 ghost use Rattle.fast_writer.specs.Levels.{level_of};
 ghost use Rattle.fast_writer.specs.Quick.{IsThere, Relayed};
@@ -15,7 +15,8 @@ use crate::fit::is_of_kind;
 use crate::level::Level;
 use crate::relay::relay_entry;
 use fast_dictionary::{Entries, Entry};
-use fast_field::{FieldFault, Passed, pass_left_out, relay_number, relay_text};
+use fast_field::{FieldFault, Passed, pass_left_out};
+use fast_relay::{relay_number, relay_text};
 use fast_template::{FieldPart, part_needs_bit};
 use std::alloc::Global;
 

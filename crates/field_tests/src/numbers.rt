@@ -2,7 +2,8 @@
 
 use crate::fields::{ascii, part_of};
 use fast_dictionary::Entry;
-use fast_field::{Passed, pass_left_out, relay_number};
+use fast_field::{Passed, pass_left_out};
+use fast_relay::relay_number;
 use fast_template::{FieldPart, Kind, Operator, Part, Presence, Scalar};
 use std::alloc::{AllocError, Global};
 use std::process::Abort;

@@ -2,7 +2,7 @@
 
 use crate::fields::{ascii, part_of};
 use fast_dictionary::Entry;
-use fast_field::relay_text;
+use fast_relay::relay_text;
 use fast_template::{FieldPart, Kind, Operator, Part, Presence};
 use std::alloc::{AllocError, Global};
 use std::process::Abort;

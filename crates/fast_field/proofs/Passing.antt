@@ -1,0 +1,202 @@
+-- What fields that bit 0 gives rest on, and numbers as values.
+use Rattle.std.proofs.Common.{◌≡◌, Bool, true, false, [], Result, Ok, refl, sym, ap, subst, ◌∙◌}
+use Rattle.std.specs.Prelude.{ℤ, pos, ◌+ℤ◌, int_lt, if◌then◌else◌, Option, Some, None, IsTrue}
+use Rattle.fast_template.specs.Resolved.{operator_needs_bit}
+use Rattle.fast_value.specs.Scalar.{is_of, kind_of, least_of, greatest_of, of_integer}
+use Rattle.fast_value.specs.declared.kind.Kind.{Kind}
+use Rattle.fast_value.specs.declared.kind.Operator.{Operator}
+use Rattle.fast_value.specs.declared.kind.Operator.TheVariants as operator
+use Rattle.fast_value.specs.declared.kind.Part.{Part}
+use Rattle.fast_value.specs.declared.kind.Part.TheVariants as part
+use Rattle.fast_value.specs.declared.kind.Presence.{Presence}
+use Rattle.fast_value.specs.declared.kind.Presence.TheVariants.{Mandatory, Optional}
+use Rattle.fast_template.specs.declared.resolved.FieldPart.{FieldPart}
+use Rattle.fast_value.specs.declared.scalar.Scalar.{Scalar}
+use Rattle.fast_dictionary.specs.declared.entry.Entry.{Entry}
+use Rattle.fast_dictionary.specs.declared.entry.Entry.TheVariants.{Empty, Assigned}
+use Rattle.fast_field.specs.declared.fault.FieldFault.{FieldFault}
+use Rattle.fast_field.specs.declared.passed.Passed.TheVariants.{Absent, Present}
+use Rattle.fast_field.specs.Bases.{repeated, predicted, next}
+use Rattle.fast_field.specs.Deltas.{uncut}
+use Rattle.fast_field.specs.Fields.{FormOf, FormBy, IsWithin, within_part}
+use Rattle.fast_field.specs.Found.{assigned_of}
+use Rattle.fast_field.specs.Numbers.{IsNumber, number_within, IsFieldNumber, next_number, IsNumberOf, HasNumber, Repeats, Predicts}
+use Rattle.fast_field.specs.Parts.{IsBitOf, HasDefault}
+use Rattle.fast_field.specs.Passed.{Passes, IsPassed}
+use Rattle.fast_field.specs.Values.{integer_of, increased}
+use Rattle.fast_field.proofs.BaseSteps.{is_of-kind}
+use Rattle.fast_field.proofs.BestForms.{bit_zero_is_best}
+use Rattle.fast_field.proofs.FieldForms.{field_forms}
+use Rattle.fast_field.proofs.StandingForms.{number_of}
+use Rattle.fast_field.proofs.ValuesWithin.{IsOfType, number_within as within_type}
+
+-- ---- numbers as values
+
+pub of_type : (k : Kind) (z : ℤ) → IsNumber k z → IsOfType k (of_integer k z)
+of_type k z h = within_type k z h.integer h.range
+
+pub of_kind : (k : Kind) (z : ℤ) → IsNumber k z → IsTrue (is_of k (of_integer k z))
+of_kind k z h = (of_type k z h).0
+
+pub number_back : (k : Kind) (z : ℤ) → IsNumber k z → integer_of (of_integer k z) ≡ z
+number_back k z h = number_of k z h.integer h.range
+
+one_number : (k : Kind) (y z : ℤ) → IsNumber k y → IsNumber k z → of_integer k y ≡ of_integer k z → y ≡ z
+one_number k y z h l e = sym (number_back k y h) ∙ ap integer_of e ∙ number_back k z l
+
+within_as : (p : Part) (v : Scalar) (z : ℤ) → integer_of v ≡ z → IsTrue (number_within p z) → IsTrue (within_part p v)
+within_as part.Whole v z e h = refl
+within_as part.Mantissa v z e h = refl
+within_as part.Exponent v z e h = rw e h
+within_as part.Length v z e h = rw e h
+
+pub within_number : (k : Kind) (p : Part) (z : ℤ) → IsFieldNumber k p z → IsTrue (within_part p (of_integer k z))
+within_number k p z h = within_as p (of_integer k z) z (number_back k z h.number) h.within
+
+pub kind_is : (k : Kind) (v : Scalar) (z : ℤ) → IsNumberOf k v z → is_of k v ≡ true
+kind_is k v z h = rw h.value (of_kind k z h.number)
+
+pub number_is : (k : Kind) (v : Scalar) (z : ℤ) → IsNumberOf k v z → integer_of v ≡ z
+number_is k v z h = ap integer_of h.value ∙ number_back k z h.number
+
+moved_in : (f : ℤ → Scalar) (t : Bool) (y z : ℤ) → (if t then f y else f z) ≡ f (if t then y else z)
+moved_in f true y z = refl
+moved_in f false y z = refl
+
+pub increased_is : (k : Kind) (v : Scalar) (z : ℤ) → IsNumberOf k v z → increased v ≡ of_integer k (next_number k z)
+increased_is k v z h =
+    let e : kind_of v ≡ k = is_of-kind k v (kind_is k v z h) in
+    let n : integer_of v ≡ z = number_is k v z h in
+    rw (e, n) (moved_in (of_integer k) (int_lt z (greatest_of k)) (z +ℤ pos 1) (least_of k))
+
+-- ---- bit 0
+
+predicts_bit : (o : Operator) (p : Presence) → Predicts o → operator_needs_bit o p ≡ false → false ≡ true
+predicts_bit operator.Copy p h e = absurd cc
+predicts_bit operator.Increment p h e = absurd cc
+predicts_bit operator.Tail p h e = absurd cc
+predicts_bit o p h e = absurd h
+
+no_default : (o : Operator) → Predicts o → o ≡ operator.Default → ⊥
+no_default operator.Copy h e = cc
+no_default operator.Increment h e = cc
+no_default operator.Tail h e = cc
+no_default o h e = h
+
+predicted_row : (o : Operator) (i : FieldPart) (e : Entry) (v : Option Scalar) → Predicts o → predicted i e ≡ Ok v → FormOf o i e false uncut [] v
+predicted_row operator.Copy i e v h p = (refl, refl, p)
+predicted_row operator.Increment i e v h p = (refl, refl, p)
+predicted_row operator.Tail i e v h p = (refl, refl, p)
+predicted_row o i e v h p = absurd h
+
+passes : (i : FieldPart) (old new : Entry) (v : Option Scalar) → IsBitOf i false → HasDefault i → FormBy i old false uncut [] v → new ≡ next i old v → Passes i old new v
+passes i old new v bit default form entry = record {
+  read = λ bytes. (field_forms i old false bit default).again [] v bytes (uncut, form);
+  entry = entry;
+  best = bit_zero_is_best i old v form;
+}
+
+predicted_passes : (i : FieldPart) (old new : Entry) (v : Option Scalar) → Predicts i.operator → predicted i old ≡ Ok v → IsWithin i.part v → new ≡ next i old v → Passes i old new v
+predicted_passes i old new v h p within entry =
+    passes i old new v (predicts_bit i.operator i.presence h) (λ is m. absurd (no_default i.operator h is))
+    (record { row = predicted_row i.operator i old v h p; within = within })
+    entry
+
+repeats_predicts : (o : Operator) → Repeats o → Predicts o
+repeats_predicts operator.Copy h = tt
+repeats_predicts operator.Tail h = tt
+repeats_predicts o h = absurd h
+
+repeats : (o : Operator) (v : Scalar) → Repeats o → repeated o v ≡ v
+repeats operator.Copy v h = refl
+repeats operator.Tail v h = refl
+repeats o v h = absurd h
+
+abbrev known : Option Scalar → Result (Option Scalar) FieldFault
+known v = Ok v
+
+assigned_predicted : (i : FieldPart) (v w : Scalar) → is_of i.kind v ≡ true → repeated i.operator v ≡ w → predicted i (Assigned v) ≡ Ok (Some w)
+assigned_predicted i v w is e = rw is (ap (λ (x : Scalar). known (Some x)) e)
+
+predicts_next : (o : Operator) (i : FieldPart) (e : Entry) (v : Scalar) → i.operator ≡ o → Predicts o → next i e (Some v) ≡ Assigned v
+predicts_next operator.Copy i e v is h = rw is refl
+predicts_next operator.Increment i e v is h = rw is refl
+predicts_next operator.Tail i e v is h = rw is refl
+predicts_next o i e v is h = absurd h
+
+predicts_empty : (o : Operator) (i : FieldPart) (e : Entry) → i.operator ≡ o → Predicts o → next i e None ≡ Empty
+predicts_empty operator.Copy i e is h = rw is refl
+predicts_empty operator.Increment i e is h = rw is refl
+predicts_empty operator.Tail i e is h = rw is refl
+predicts_empty o i e is h = absurd h
+
+pub kept_passes : (i : FieldPart) (v : Scalar) → Repeats i.operator → is_of i.kind v ≡ true → IsTrue (within_part i.part v) → IsPassed i (Assigned v) (Assigned v) Present
+kept_passes i v h is within =
+    let p = repeats_predicts i.operator h in
+    (v, is, predicted_passes i (Assigned v) (Assigned v) (Some v) p (assigned_predicted i v v is (repeats i.operator v h)) within (sym (predicts_next i.operator i (Assigned v) v refl p)))
+
+assigned_passes : (i : FieldPart) (v : Scalar) (z : ℤ) → i.operator ≡ operator.Increment → IsNumberOf i.kind v z → IsFieldNumber i.kind i.part (next_number i.kind z) → IsPassed i (Assigned v) (Assigned (of_integer i.kind (next_number i.kind z))) Present
+assigned_passes i v z o h n =
+    let w = of_integer i.kind (next_number i.kind z) in
+    let p : Predicts i.operator = rw o tt in
+    let e : repeated i.operator v ≡ w = rw o (increased_is i.kind v z h) in
+    (w, of_kind i.kind (next_number i.kind z) n.number, predicted_passes i (Assigned v) (Assigned w) (Some w) p (assigned_predicted i v w (kind_is i.kind v z h) e) (within_number i.kind i.part (next_number i.kind z) n) (sym (predicts_next i.operator i (Assigned v) w refl p)))
+
+entry_passes : (i : FieldPart) (e : Entry) (z : ℤ) → i.operator ≡ operator.Increment → HasNumber i.kind e z → IsFieldNumber i.kind i.part (next_number i.kind z) → IsPassed i e (Assigned (of_integer i.kind (next_number i.kind z))) Present
+entry_passes i (Assigned v) z o h n = assigned_passes i v z o h n
+entry_passes i e z o h n = absurd h
+
+pub next_passes : (k : Kind) (i : FieldPart) (e : Entry) (z : ℤ) → k ≡ i.kind → i.operator ≡ operator.Increment → HasNumber k e z → IsFieldNumber k i.part (next_number k z) → IsPassed i e (Assigned (of_integer k (next_number k z))) Present
+next_passes k i e z same o = subst (λ (k : Kind). HasNumber k e z → IsFieldNumber k i.part (next_number k z) → IsPassed i e (Assigned (of_integer k (next_number k z))) Present) (sym same) (entry_passes i e z o)
+
+pub empty_passes : (i : FieldPart) → Predicts i.operator → i.presence ≡ Optional → IsPassed i Empty Empty Absent
+empty_passes i h optional =
+    let p : predicted i Empty ≡ Ok None = rw optional refl in
+    predicted_passes i Empty Empty None h p tt (sym (predicts_empty i.operator i Empty refl h))
+
+pub initial_passes : (i : FieldPart) (e : Entry) (v : Scalar) → i.operator ≡ operator.Default → i.initial ≡ Some v → is_of i.kind v ≡ true → IsTrue (within_part i.part v) → IsPassed i e e Present
+initial_passes i e v o initial is within =
+    let row : FormOf i.operator i e false uncut [] (Some v) = subst (λ (o : Operator). FormOf o i e false uncut [] (Some v)) (sym o) (refl, refl, initial) in
+    let bit : IsBitOf i false = rw o (λ h. absurd cc) in
+    let default : HasDefault i = λ d m. rw initial refl in
+    let entry : e ≡ next i e (Some v) = rw o refl in
+    (v, is, passes i e e (Some v) bit default (record { row = row; within = within }) entry)
+
+pub no_initial_passes : (i : FieldPart) (e : Entry) → i.operator ≡ operator.Default → i.initial ≡ None → i.presence ≡ Optional → IsPassed i e e Absent
+no_initial_passes i e o initial optional =
+    let row : FormOf i.operator i e false uncut [] None = subst (λ (o : Operator). FormOf o i e false uncut [] None) (sym o) (refl, refl, (initial, optional)) in
+    let bit : IsBitOf i false = rw o (λ h. absurd cc) in
+    let default : HasDefault i = λ d m. absurd (let no : Mandatory ≡ Optional = sym m ∙ optional in cc) in
+    let entry : e ≡ next i e None = rw o refl in
+    passes i e e None bit default (record { row = row; within = tt }) entry
+
+pub constant_passes : (i : FieldPart) (e : Entry) → i.operator ≡ operator.Constant → i.presence ≡ Optional → IsPassed i e e Absent
+constant_passes i e o optional =
+    let row : FormOf i.operator i e false uncut [] None = subst (λ (o : Operator). FormOf o i e false uncut [] None) (sym o) (refl, refl, optional, refl) in
+    let bit : IsBitOf i false = rw (o, optional) (λ h. absurd cc) in
+    let default : HasDefault i = λ d m. absurd (let no : operator.Constant ≡ operator.Default = sym o ∙ d in cc) in
+    let entry : e ≡ next i e None = rw o refl in
+    passes i e e None bit default (record { row = row; within = tt }) entry
+
+-- ---- where what bit 0 gave is found
+
+passed_row : (i : FieldPart) (old new : Entry) (v : Scalar) (o : Operator) → i.operator ≡ o → (p : Passes i old new (Some v)) → FormOf o i old false p.best.cut [] (Some v)
+passed_row i old new v o is p = subst (λ (o : Operator). FormOf o i old false p.best.cut [] (Some v)) is p.best.form.row
+
+pub initial_found : (i : FieldPart) (old new : Entry) → i.operator ≡ operator.Default → IsPassed i old new Present → Passes i old new i.initial
+initial_found i old new o h = subst (λ (v : Option Scalar). Passes i old new v) (sym (passed_row i old new h.0 operator.Default o h.2).2) h.2
+
+assigned_found : (i : FieldPart) (old new : Entry) (v : Scalar) → new ≡ Assigned v → Passes i old new (Some v) → Passes i old new (assigned_of new)
+assigned_found i old new v e p = let same : assigned_of new ≡ Some v = rw e refl in subst (λ (v : Option Scalar). Passes i old new v) (sym same) p
+
+kept_by : (o : Operator) (i : FieldPart) (old new : Entry) (v : Scalar) → i.operator ≡ o → (o ≡ operator.Default → ⊥) → Passes i old new (Some v) → Passes i old new (assigned_of new)
+kept_by operator.Plain i old new v o other p = absurd (passed_row i old new v operator.Plain o p)
+kept_by operator.Constant i old new v o other p = let none = (passed_row i old new v operator.Constant o p).3 in absurd cc
+kept_by operator.Default i old new v o other p = absurd (other refl)
+kept_by operator.Copy i old new v o other p = assigned_found i old new v (p.entry ∙ predicts_next operator.Copy i old v o tt) p
+kept_by operator.Increment i old new v o other p = assigned_found i old new v (p.entry ∙ predicts_next operator.Increment i old v o tt) p
+kept_by operator.Delta i old new v o other p = absurd (passed_row i old new v operator.Delta o p)
+kept_by operator.Tail i old new v o other p = assigned_found i old new v (p.entry ∙ predicts_next operator.Tail i old v o tt) p
+
+pub kept_found : (i : FieldPart) (old new : Entry) → (i.operator ≡ operator.Default → ⊥) → IsPassed i old new Present → Passes i old new (assigned_of new)
+kept_found i old new other h = kept_by i.operator i old new h.0 refl other h.2

@@ -1,8 +1,0 @@
-use Rattle.fast_field.proofs.Relaying.{initial_passes, no_initial_passes}
-use Rattle.fast_field.proofs.number.pass_initial.Goals as goal
-
-pub returns-then-fits : goal.returns-then-fits
-returns-then-fits c = initial_passes c.args.instr.now c.args.entry.now c.in-Some.value c.requires c.in-Some.is (c.fits.ensures.kind c.if-fits.true) (c.fits.ensures.within c.if-fits.true)
-
-pub returns-in-Optional : goal.returns-in-Optional
-returns-in-Optional c = no_initial_passes c.args.instr.now c.args.entry.now c.requires c.in-None.is c.in-Optional.is

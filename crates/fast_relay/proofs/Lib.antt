@@ -1,0 +1,3 @@
+pub mod Relaying
+mod TextRelaying
+mod PlainTexts

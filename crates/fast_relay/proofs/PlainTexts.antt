@@ -1,0 +1,249 @@
+-- Strings that stand in their shortest form, read and written at once.
+use Rattle.std.proofs.Common.{rules, ◌≡◌, ◌≤◌, ◌<◌, ◌+◌, ◌-◌, ◌%◌, true, false, List, ℕ, ◌++◌, Ok, length, take, drop, get_or, zero, suc, [], ◌∷◌, refl, sym, ap, subst, ◌∙◌, arith, inl, inr, length-append, length-drop, append_assoc}
+use Rattle.std.specs.Prelude.{Some, ℤ, pos, negsuc, nat_le, nat_lt, nat_eq, not}
+use Rattle.std.proofs.lemmas.Bool.{cases_lt}
+use Rattle.std.proofs.lemmas.Bool.Decides.{nat_tests}
+use Rattle.std.proofs.lemmas.List.{get_or-append-add, length-map, length-take-le}
+use Rattle.std.proofs.Math.Seq.{drop-append_seam, take-append_seam, take-length}
+use Rattle.std.specs.List.{AllByRecursion}
+use Rattle.fast_wire.specs.Entity.{IsEntity, groups}
+use Rattle.fast_wire.specs.Plain.{IsPlain}
+use Rattle.fast_wire.specs.declared.nullable.Nullable.TheVariants.{Value}
+use Rattle.fast_value.specs.declared.kind.Kind.{Kind}
+use Rattle.fast_value.specs.declared.kind.Kind.TheVariants as kind
+use Rattle.fast_value.specs.declared.kind.Operator.TheVariants as operator
+use Rattle.fast_value.specs.declared.kind.Part.TheVariants as part
+use Rattle.fast_value.specs.declared.kind.Presence.{Presence}
+use Rattle.fast_value.specs.declared.kind.Presence.TheVariants.{Mandatory, Optional}
+use Rattle.fast_template.specs.declared.resolved.FieldPart.{FieldPart}
+use Rattle.fast_value.specs.declared.scalar.Scalar.TheVariants.{Ascii}
+use Rattle.fast_dictionary.specs.declared.entry.Entry.{Entry}
+use Rattle.fast_dictionary.specs.declared.entry.Entry.TheVariants.{Assigned}
+use Rattle.fast_wire.specs.Integer.{magnitude}
+use Rattle.fast_wire.specs.Nullable.{sent_signed}
+use Rattle.fast_wire.specs.Sizes.{groups_from, signed_nullable_size, signed_size}
+use Rattle.fast_wire.proofs.Sizes.{groups_from-positive}
+use Rattle.fast_wire.proofs.UnsignedForms.{entity_some}
+use Rattle.fast_field.specs.Bases.{delta_base, next}
+use Rattle.fast_field.specs.Chosen.{IsBestCut, IsBestTail, ShortestPart, ShortestSigned, ShortestUnits, length_size, part_size, tail_size}
+use Rattle.fast_field.specs.CommonParts.{IsLongestPrefix, IsLongestSuffix}
+use Rattle.fast_field.specs.FieldReading.{ended_value, limited_value, new_part_behind, part_at, tail_at, unit_delta_at, unit_value, units_at, units_spelled_at}
+use Rattle.fast_relay.specs.Numbers.{SpellsWhole, Spelt}
+use Rattle.fast_field.specs.Planning.{is_same, left_out_of}
+use Rattle.fast_relay.specs.Relayed.{Relays}
+use Rattle.fast_relay.specs.Texts.{IsText}
+use Rattle.fast_field.proofs.Agreeing.{prefix_ends, prefix_stops, suffix_ends, suffix_none, suffix_stops}
+use Rattle.fast_field.proofs.BestCuts.{best_at_end, parts}
+use Rattle.fast_field.proofs.BestTails.{shortest_is_best}
+use Rattle.fast_field.proofs.Shortest.{units_is}
+use Rattle.fast_relay.proofs.TextRelaying.{tail_relays, text_delta_relays, whole_text_relays}
+use Rattle.fast_field.proofs.ValuesWithin.{all_append, all_take, part_within, string_within, unit_limit, units_of_string}
+
+units_plain : (p : Presence) (bytes form rest : List ℕ) → IsPlain bytes form rest → units_at kind.Ascii p bytes ≡ Ok (Value (groups form), rest)
+unfolding units_at part_at
+units_plain Mandatory bytes form rest h = rw h.read refl
+units_plain Optional bytes form rest h = rw h.read_nullable refl
+
+spelled_plain : (p : Presence) (bytes form rest : List ℕ) → IsPlain bytes form rest → units_spelled_at kind.Ascii p bytes ≡ Ok (Some (Ascii (groups form)), rest)
+unfolding units_spelled_at unit_value
+spelled_plain p bytes form rest h = rw (units_plain p bytes form rest h) refl
+
+shortest_plain : (p : Presence) (bytes form rest : List ℕ) → IsPlain bytes form rest → ShortestUnits kind.Ascii p (groups form) form
+shortest_plain Mandatory bytes form rest h = h.shortest
+shortest_plain Optional bytes form rest h = h.shortest_nullable
+
+pub text_plain : (bytes form rest : List ℕ) → IsPlain bytes form rest → IsText kind.Ascii (Ascii (groups form))
+text_plain bytes form rest h =
+    let w = string_within kind.Ascii (groups form) (Ascii (groups form)) tt refl (part_within kind.Ascii form (groups form) h.shortest.form) in
+    record { of_units = tt; of_kind = w.0; within = w.1 }
+
+pub plain_relays : (i : FieldPart) (old new : Entry) (bytes form rest before : List ℕ) → i.kind ≡ kind.Ascii → i.part ≡ part.Whole → SpellsWhole i.operator → IsPlain bytes form rest → new ≡ next i old (Some (Ascii (groups form)))
+    → left_out_of i.operator i old (Some (Ascii (groups form))) ≡ false → Relays i old new (Ascii (groups form)) bytes rest before (before ++ form)
+plain_relays i old new bytes form rest before k whole o h entry out =
+    whole_text_relays i old new (Ascii (groups form)) bytes rest before (before ++ form) whole o
+    (subst (λ (k : Kind). IsText k (Ascii (groups form))) (sym k) (text_plain bytes form rest h))
+    (subst (λ (k : Kind). units_spelled_at k i.presence bytes ≡ Ok (Some (Ascii (groups form)), rest)) (sym k) (spelled_plain i.presence bytes form rest h))
+    entry out
+    (form, refl, subst (λ (k : Kind). ShortestUnits k i.presence (groups form) form) (sym k) (shortest_plain i.presence bytes form rest h))
+
+-- ---- deltas that remove few characters at the end
+
+le_true : (m n : ℕ) → m ≤ n → nat_le m n ≡ true
+le_true m n h = grind (arith, nat_tests)
+
+lt_true : (m n : ℕ) → m < n → nat_lt m n ≡ true
+lt_true m n h = grind (arith, nat_tests)
+
+lt_false : (m n : ℕ) → n ≤ m → nat_lt m n ≡ false
+lt_false m n h = grind (arith, nat_tests)
+
+small_size : (p : Presence) (r : ℕ) → r < 63 → length_size p (pos r) ≡ 1
+unfolding signed_size signed_nullable_size groups_from
+small_size Mandatory r h = rw (lt_true r 64 (omega arith)) refl
+small_size Optional r h = rw (lt_true (r + 1) 64 (omega arith)) refl
+
+some_size : (p : Presence) (z : ℤ) → 1 ≤ length_size p z
+unfolding signed_size signed_nullable_size
+some_size Mandatory z = groups_from-positive 9 64 (magnitude z)
+some_size Optional z = groups_from-positive 9 64 (magnitude (sent_signed (Value z)))
+
+behind_kept : (base part : List ℕ) (n : ℕ) → n ≤ length base → drop n (take n base ++ part) ≡ part
+behind_kept base part n h = let long = length-take-le n base h in subst (λ m. drop m (take n base ++ part) ≡ part) long (drop-append_seam (take n base) part)
+
+in_front_kept : (base part : List ℕ) (n : ℕ) → n ≤ length base → take n (take n base ++ part) ≡ take n base
+in_front_kept base part n h = let long = length-take-le n base h in subst (λ m. take m (take n base ++ part) ≡ take n base) long (take-append_seam (take n base) part)
+
+part_at_kept : (base part : List ℕ) (n i : ℕ) → n ≤ length base → get_or (take n base ++ part) (n + i) 0 ≡ get_or part i 0
+part_at_kept base part n i h = let long = length-take-le n base h in subst (λ m. get_or (take n base ++ part) (m + i) 0 ≡ get_or part i 0) long (get_or-append-add (take n base) part i 0)
+
+pub prefix_stays : (base part : List ℕ) (n : ℕ) → n ≤ length base → 0 < length part → (n < length base → get_or base n 0 ≡ get_or part 0 0 → ⊥) → IsLongestPrefix base (take n base ++ part) n
+prefix_stays base part n h some differ =
+    let long = length-take-le n base h in
+    let whole = length-append (take n base) part in
+    let same = sym (in_front_kept base part n h) in
+    let on : n + 0 ≡ n = omega arith in
+    let first : get_or (take n base ++ part) n 0 ≡ get_or part 0 0 = subst (λ m. get_or (take n base ++ part) m 0 ≡ get_or part 0 0) on (part_at_kept base part n 0 h) in
+    elim (cases_lt n (length base)) [
+      | inl lt ↦ prefix_stops base (take n base ++ part) n lt (omega (arith, long, whole, some)) (λ e. differ lt (e ∙ first)) same
+      | inr ge ↦ prefix_ends base (take n base ++ part) n (omega (arith, long, whole, some, ge, h)) (omega (arith, long, whole, some, ge, h)) same
+    ]
+
+pub suffix_stays : (base part : List ℕ) (n : ℕ) → n ≤ length base → 0 < length part → (0 < length base → get_or base (length base - 1) 0 ≡ get_or part (length part - 1) 0 → ⊥) → IsLongestSuffix base (take n base ++ part) 0
+suffix_stays base part n h some differ =
+    let v = take n base ++ part in
+    let long = length-take-le n base h in
+    let whole = length-append (take n base) part in
+    let there : n + (length part - 1) ≡ length v - 1 - 0 = omega (arith, long, whole, some) in
+    let last : get_or v (length v - 1 - 0) 0 ≡ get_or part (length part - 1) 0 = subst (λ m. get_or v m 0 ≡ get_or part (length part - 1) 0) there (part_at_kept base part n (length part - 1) h) in
+    let back : length base - 1 - 0 ≡ length base - 1 = omega arith in
+    elim (cases_lt 0 (length base)) [
+      | inl lt ↦ suffix_stops base v 0 lt (omega (arith, long, whole, some)) (λ e. differ lt (subst (λ m. get_or base m 0 ≡ get_or v (length v - 1 - 0) 0) back e ∙ last)) (suffix_none base v)
+      | inr ge ↦ suffix_ends base v 0 (omega (arith, ge)) (omega arith) (suffix_none base v)
+    ]
+
+pub best_removal : (p : Presence) (base part : List ℕ) (r n : ℕ) → r < 63 → r ≤ length base → n ≡ length base - r → IsLongestPrefix base (take n base ++ part) n → IsLongestSuffix base (take n base ++ part) 0
+    → IsBestCut kind.Ascii p base (take n base ++ part) (pos r) part
+best_removal p base part r n few le is prefix suffix =
+    let v = take n base ++ part in
+    let h : n ≤ length base = omega (arith, is) in
+    let removed : length base - n ≡ r = omega (arith, is, le) in
+    let behind = behind_kept base part n h in
+    let all : take (length v - 0) v ≡ v = let z : length v - 0 ≡ length v = omega arith in ap (λ m. take m v) z ∙ take-length v in
+    let less : part_size kind.Ascii (drop n v) ≤ part_size kind.Ascii v = (parts kind.Ascii).on_drop n v in
+    let one : length_size p (pos (length base - n)) ≡ 1 = rw removed (small_size p r few) in
+    let best = best_at_end kind.Ascii p base v n 0 prefix suffix (rw all (omega (arith, one, less, some_size p (negsuc (length base - 0))))) in
+    rw (removed, behind) at best
+
+delta_base_is : (i : FieldPart) (base : List ℕ) → i.kind ≡ kind.Ascii → delta_base i (Assigned (Ascii base)) ≡ Ok (Ascii base)
+delta_base_is i base k = rw k refl
+
+new_part_read : (base : List ℕ) (r : ℕ) (middle form rest : List ℕ) → r ≤ length base → IsPlain middle form rest → length (take (length base - r) base ++ groups form) ≤ 65535
+    → new_part_behind kind.Ascii (pos r) base middle ≡ Ok (Some (Ascii (take (length base - r) base ++ groups form)), rest)
+unfolding new_part_behind part_at limited_value unit_value
+new_part_read base r middle form rest le h few = rw (le_true r (length base) le, h.read, lt_false 65535 (length (take (length base - r) base ++ groups form)) few) refl
+
+delta_read_plain : (i : FieldPart) (base : List ℕ) (r : ℕ) (bytes middle form rest : List ℕ) → i.kind ≡ kind.Ascii → r < 63 → r ≤ length base → Spelt false i.presence bytes (pos r) middle → IsPlain middle form rest → length (take (length base - r) base ++ groups form) ≤ 65535
+    → unit_delta_at i (Assigned (Ascii base)) bytes ≡ Ok (Some (Ascii (take (length base - r) base ++ groups form)), rest)
+unfolding unit_delta_at
+delta_read_plain i base r bytes middle form rest k small le removal h few =
+    rw (removal, le_true r 2147483647 (omega (arith, small)), delta_base_is i base k, k) (new_part_read base r middle form rest le h few)
+
+text_together : (base form : List ℕ) (n : ℕ) → IsText kind.Ascii (Ascii base) → IsText kind.Ascii (Ascii (groups form)) → length (take n base ++ groups form) ≤ 65535 → IsText kind.Ascii (Ascii (take n base ++ groups form))
+text_together base form n b f few =
+    let us = units_of_string kind.Ascii (Ascii base) tt (b.of_kind, b.within) in
+    let uf = units_of_string kind.Ascii (Ascii (groups form)) tt (f.of_kind, f.within) in
+    let w = string_within kind.Ascii (take n base ++ groups form) (Ascii (take n base ++ groups form)) tt refl (few, all_append (λ x. x < unit_limit kind.Ascii) (take n base) (groups form) (all_take (λ x. x < unit_limit kind.Ascii) n base us.1) uf.1) in
+    record { of_units = tt; of_kind = w.0; within = w.1 }
+
+pub plain_delta_relays : (i : FieldPart) (base : List ℕ) (r n : ℕ) (bytes middle form rest before after : List ℕ) → i.kind ≡ kind.Ascii → i.part ≡ part.Whole → i.operator ≡ operator.Delta → IsText kind.Ascii (Ascii base) → r < 63 → r ≤ length base → n ≡ length base - r
+    → Spelt false i.presence bytes (pos r) middle → IsPlain middle form rest → n + length form ≤ 65535 → IsLongestPrefix base (take n base ++ groups form) n → IsLongestSuffix base (take n base ++ groups form) 0
+    → (b : List ℕ) × (after ≡ before ++ b ++ form) × ShortestSigned i.presence (pos r) b → Relays i (Assigned (Ascii base)) (Assigned (Ascii (take n base ++ groups form))) (Ascii (take n base ++ groups form)) bytes rest before after
+plain_delta_relays i base r n bytes middle form rest before after k whole o text small le is removal h short prefix suffix appended =
+    let v = take n base ++ groups form in
+    let long : length v ≤ 65535 = omega (arith, short, length-append (take n base) (groups form), length-take-le n base (omega (arith, is)), length-map form (λ b. b % 128)) in
+    let t = text_together base form n text (text_plain middle form rest h) long in
+    let read = delta_read_plain i base r bytes middle form rest k small le removal h (subst (λ m. length (take m base ++ groups form) ≤ 65535) is long) in
+    text_delta_relays i (Ascii base) (Ascii v) (pos r) (groups form) bytes rest before after whole o
+    (subst (λ (k : Kind). IsText k (Ascii base)) (sym k) text)
+    (subst (λ (k : Kind). IsText k (Ascii v)) (sym k) t)
+    (subst (λ m. unit_delta_at i (Assigned (Ascii base)) bytes ≡ Ok (Some (Ascii (take m base ++ groups form)), rest)) (sym is) read)
+    (subst (λ (k : Kind). IsBestCut k i.presence base v (pos r) (groups form)) (sym k) (best_removal i.presence base (groups form) r n small le is prefix suffix))
+    (appended.0 ++ form, appended.1 ∙ append_assoc before appended.0 form, record { front = appended.0; back = form; parts = refl; first = appended.2; second = subst (λ (k : Kind). ShortestPart k (groups form) form) (sym k) h.shortest })
+
+-- ---- what a call of the code finds
+
+group_at : (form : List ℕ) (i : ℕ) → i < length form → get_or (groups form) i 0 ≡ get_or form i 0 % 128
+group_at [] i h = absurd (omega arith)
+group_at (b ∷ bs) zero h = refl
+group_at (b ∷ bs) (suc i) h = group_at bs i (omega arith)
+
+pub prefix_found : (base form : List ℕ) (n : ℕ) → n ≤ length base → IsEntity form → (n < length base → get_or base n 0 ≡ get_or form 0 0 % 128 → ⊥) → IsLongestPrefix base (take n base ++ groups form) n
+prefix_found base form n h entity differ =
+    let some = entity_some form entity in
+    prefix_stays base (groups form) n h (omega (arith, some, length-map form (λ b. b % 128))) (λ lt e. differ lt (e ∙ group_at form 0 some))
+
+pub no_equal : (a b : ℕ) → not (nat_eq a b) ≡ true → a ≡ b → ⊥
+no_equal a b e same = grind (arith, nat_tests)
+
+pub suffix_found : (base form : List ℕ) (n : ℕ) → n ≤ length base → IsEntity form → (0 < length base → get_or base (length base - 1) 0 ≡ get_or form (length form - 1) 0 % 128 → ⊥) → IsLongestSuffix base (take n base ++ groups form) 0
+suffix_found base form n h entity differ =
+    let some = entity_some form entity in
+    let same = length-map form (λ b. b % 128) in
+    suffix_stays base (groups form) n h (omega (arith, some, same)) (λ lt e. differ lt (e ∙ ap (λ m. get_or (groups form) (m - 1) 0) same ∙ group_at form (length form - 1) (omega (arith, some))))
+
+pub characters_text : (s : List ℕ) → (length s ≤ 65535) × AllByRecursion (λ c. c < 128) s → IsText kind.Ascii (Ascii s)
+characters_text s h = let w = string_within kind.Ascii s (Ascii s) tt refl h in record { of_units = tt; of_kind = w.0; within = w.1 }
+
+-- ---- tails
+
+no_less : (p : Presence) (s : List ℕ) → length s ≤ tail_size kind.Ascii p s
+no_less Mandatory [] = omega arith
+no_less Mandatory (zero ∷ s) = omega arith
+no_less Mandatory (suc x ∷ s) = omega arith
+no_less Optional [] = omega arith
+no_less Optional (zero ∷ s) = omega arith
+no_less Optional (suc x ∷ s) = omega arith
+
+not_same : (s t : List ℕ) → (s ≡ t → ⊥) → is_same (Some (Ascii s)) (Some (Ascii t)) ≡ false
+not_same s t differ = search rules
+
+tail_read_plain : (i : FieldPart) (base : List ℕ) (bytes form rest : List ℕ) → i.kind ≡ kind.Ascii → IsPlain bytes form rest → length (take (length base - length (groups form)) base ++ groups form) ≤ 65535
+    → tail_at i (Assigned (Ascii base)) bytes ≡ Ok (Some (Ascii (take (length base - length (groups form)) base ++ groups form)), rest)
+unfolding tail_at ended_value limited_value unit_value
+tail_read_plain i base bytes form rest k h few = rw (k, units_plain i.presence bytes form rest h, lt_false 65535 (length (take (length base - length (groups form)) base ++ groups form)) few) refl
+
+best_end : (p : Presence) (base bytes form rest : List ℕ) (n : ℕ) → n + length (groups form) ≡ length base → IsPlain bytes form rest → IsLongestPrefix base (take n base ++ groups form) n → IsBestTail kind.Ascii p base (take n base ++ groups form) (groups form)
+best_end p base bytes form rest n is h prefix =
+    let v = take n base ++ groups form in
+    let long = length-take-le n base (omega (arith, is)) in
+    let whole : length v ≡ length base = omega (arith, length-append (take n base) (groups form), long, is) in
+    let behind = behind_kept base (groups form) n (omega (arith, is)) in
+    let size : tail_size kind.Ascii p (groups form) ≡ length form = sym (units_is kind.Ascii p (groups form) form (shortest_plain p bytes form rest h)) in
+    let less : 0 < n → tail_size kind.Ascii p (drop n v) ≤ tail_size kind.Ascii p (drop (n - 1) v) = λ some. rw behind (omega (arith, some, size, length-map form (λ b. b % 128), whole, is, length-drop (n - 1) v, no_less p (drop (n - 1) v))) in
+    rw behind at (shortest_is_best kind.Ascii p base v n prefix whole less)
+
+other_end : (i : FieldPart) (base v : List ℕ) → i.kind ≡ kind.Ascii → i.operator ≡ operator.Tail → (base ≡ v → ⊥) → left_out_of i.operator i (Assigned (Ascii base)) (Some (Ascii v)) ≡ false
+other_end i base v k o differ = rw (o, k) (not_same base v differ)
+
+no_same_text : (base part : List ℕ) (n : ℕ) → n < length base → IsLongestPrefix base (take n base ++ part) n → base ≡ take n base ++ part → ⊥
+no_same_text base part n lt prefix e =
+    let all = prefix.longest (length base) (omega arith) (let l = ap length e in omega (arith, l)) (ap (take (length base)) e) in
+    omega (arith, all, lt)
+
+pub plain_tail_relays : (i : FieldPart) (base : List ℕ) (n : ℕ) (bytes form rest before : List ℕ) → i.kind ≡ kind.Ascii → i.part ≡ part.Whole → i.operator ≡ operator.Tail → IsText kind.Ascii (Ascii base) → length base ≤ 65535 → n + length form ≡ length base
+    → IsPlain bytes form rest → IsLongestPrefix base (take n base ++ groups form) n → Relays i (Assigned (Ascii base)) (Assigned (Ascii (take n base ++ groups form))) (Ascii (take n base ++ groups form)) bytes rest before (before ++ form)
+plain_tail_relays i base n bytes form rest before k whole o text short is h prefix =
+    let v = take n base ++ groups form in
+    let same = length-map form (λ b. b % 128) in
+    let some = entity_some form h.entity in
+    let kept : n ≡ length base - length (groups form) = omega (arith, is, same) in
+    let long : length v ≤ 65535 = omega (arith, short, is, same, length-append (take n base) (groups form), length-take-le n base (omega (arith, is))) in
+    let t = text_together base form n text (text_plain bytes form rest h) long in
+    let read = tail_read_plain i base bytes form rest k h (subst (λ m. length (take m base ++ groups form) ≤ 65535) kept long) in
+    tail_relays i (Ascii base) (Ascii v) (groups form) bytes rest before (before ++ form) whole o
+    (subst (λ (k : Kind). IsText k (Ascii base)) (sym k) text)
+    (subst (λ (k : Kind). IsText k (Ascii v)) (sym k) t)
+    (subst (λ m. tail_at i (Assigned (Ascii base)) bytes ≡ Ok (Some (Ascii (take m base ++ groups form)), rest)) (sym kept) read)
+    (other_end i base v k o (no_same_text base (groups form) n (omega (arith, is, some)) prefix))
+    (subst (λ (k : Kind). IsBestTail k i.presence base v (groups form)) (sym k) (best_end i.presence base bytes form rest n (omega (arith, is, same)) h prefix))
+    (form, refl, subst (λ (k : Kind). ShortestUnits k i.presence (groups form) form) (sym k) (shortest_plain i.presence bytes form rest h))

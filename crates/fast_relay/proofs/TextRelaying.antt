@@ -1,0 +1,141 @@
+-- What strings and vectors that are read and written at once rest on.
+use Rattle.std.proofs.Common.{◌≡◌, ◌≤◌, true, false, List, ℕ, ◌-◌, ◌++◌, Ok, length, take, refl, sym, subst, ◌∙◌}
+use Rattle.std.specs.Prelude.{ℤ, Some, IsTrue}
+use Rattle.fast_wire.specs.Writing.{IsShortest}
+use Rattle.fast_value.specs.Scalar.{is_of}
+use Rattle.fast_value.specs.declared.kind.Kind.{Kind}
+use Rattle.fast_value.specs.declared.kind.Kind.TheVariants as kind
+use Rattle.fast_value.specs.declared.kind.Operator.{Operator}
+use Rattle.fast_value.specs.declared.kind.Operator.TheVariants as operator
+use Rattle.fast_value.specs.declared.kind.Part.{Part}
+use Rattle.fast_value.specs.declared.kind.Part.TheVariants as part
+use Rattle.fast_value.specs.declared.kind.Presence.{Presence}
+use Rattle.fast_template.specs.declared.resolved.FieldPart.{FieldPart}
+use Rattle.fast_value.specs.declared.scalar.Scalar.{Scalar}
+use Rattle.fast_dictionary.specs.declared.entry.Entry.{Entry}
+use Rattle.fast_dictionary.specs.declared.entry.Entry.TheVariants.{Assigned}
+use Rattle.fast_field.specs.Bases.{next, tail_base}
+use Rattle.fast_field.specs.Chosen.{Both, CanBeUnits, IsBestCut, IsBestTail, ShortestPart, ShortestSigned, ShortestUnits}
+use Rattle.fast_field.specs.Deltas.{DeltaForm, TailForm, ended_by, put_together}
+use Rattle.fast_field.specs.FieldReading.{delta_at, row_at, spelled_at, tail_at, unit_delta_at, units_spelled_at, whole_at}
+use Rattle.fast_field.specs.Fields.{FormOf, within_part}
+use Rattle.fast_relay.specs.Numbers.{SpellsWhole}
+use Rattle.fast_field.specs.Planning.{left_out_of}
+use Rattle.fast_relay.specs.Relayed.{Relays}
+use Rattle.fast_field.specs.Spelled.{Spelled}
+use Rattle.fast_relay.specs.Texts.{IsText}
+use Rattle.fast_field.specs.Values.{units_of, IsUnitKind}
+use Rattle.fast_field.proofs.BestDeltas.{IsFirst}
+use Rattle.fast_field.proofs.BestTails.{tail_is_first}
+use Rattle.fast_field.proofs.BestValues.{delta_is_first, tail_form_is_first, whole_is_first}
+use Rattle.fast_field.proofs.ChosenForms.{back_is_string, few_units, part_is_string, string_value, units_fit, value_fits}
+use Rattle.fast_relay.proofs.Relaying.{base_is, delta_out, delta_row, relays, whole_row}
+use Rattle.fast_field.proofs.Shortest.{units_form}
+use Rattle.fast_field.proofs.StandingForms.{string_is_shortest}
+use Rattle.fast_field.proofs.ValuesWithin.{IsOfType, units_of_string}
+
+whole_within : (p : Part) (v : Scalar) → p ≡ part.Whole → IsTrue (within_part p v)
+whole_within p v is = rw is refl
+
+-- ---- what stands whole
+
+spelled_as : (pt : Part) (k : Kind) (p : Presence) (bytes : List ℕ) → IsUnitKind k → spelled_at pt k p bytes ≡ units_spelled_at k p bytes
+unfolding spelled_at
+spelled_as pt kind.Ascii p bytes h = refl
+spelled_as pt kind.Unicode p bytes h = refl
+spelled_as pt kind.Bytes p bytes h = refl
+spelled_as pt k p bytes h = absurd h
+
+text_read : (i : FieldPart) (v : Scalar) (bytes rest : List ℕ) → IsUnitKind i.kind → units_spelled_at i.kind i.presence bytes ≡ Ok (Some v, rest) → whole_at i bytes ≡ Ok (Some v, rest)
+unfolding whole_at
+text_read i v bytes rest h read = spelled_as i.part i.kind i.presence bytes h ∙ read
+
+text_shortest : (k : Kind) (p : Presence) (v : Scalar) (b : List ℕ) → IsText k v → ShortestUnits k p (units_of v) b → IsShortest (Spelled k p) b (Some v)
+text_shortest k p v b h s = string_is_shortest k p v b h.of_units (h.of_kind, h.within) (units_form k p (units_of v) b s)
+
+text_first : (o : Operator) (i : FieldPart) (e : Entry) (v : Scalar) (b : List ℕ) → SpellsWhole o → IsText i.kind v → ShortestUnits i.kind i.presence (units_of v) b → IsFirst (λ c b. FormOf o i e true c b (Some v)) b
+text_first operator.Plain i e v b o h s = whole_is_first i.kind i.presence (Some v) b (text_shortest i.kind i.presence v b h s)
+text_first operator.Default i e v b o h s = whole_is_first i.kind i.presence (Some v) b (text_shortest i.kind i.presence v b h s)
+text_first operator.Copy i e v b o h s = whole_is_first i.kind i.presence (Some v) b (text_shortest i.kind i.presence v b h s)
+text_first operator.Increment i e v b o h s = whole_is_first i.kind i.presence (Some v) b (text_shortest i.kind i.presence v b h s)
+text_first o' i e v b o h s = absurd o
+
+pub whole_text_relays : (i : FieldPart) (old new : Entry) (v : Scalar) (bytes rest before after : List ℕ) → i.part ≡ part.Whole → SpellsWhole i.operator → IsText i.kind v → units_spelled_at i.kind i.presence bytes ≡ Ok (Some v, rest)
+    → new ≡ next i old (Some v) → left_out_of i.operator i old (Some v) ≡ false → (b : List ℕ) × (after ≡ before ++ b) × ShortestUnits i.kind i.presence (units_of v) b → Relays i old new v bytes rest before after
+whole_text_relays i old new v bytes rest before after whole o h read entry out appended =
+    relays i old new v bytes rest before after (ShortestUnits i.kind i.presence (units_of v)) h.of_kind (whole_within i.part v whole)
+    (whole_row i.operator i old bytes o ∙ text_read i v bytes rest h.of_units read)
+    entry out
+    (λ b s. text_first i.operator i old v b o h s)
+    appended
+
+-- ---- deltas
+
+pub text_of_type : (k : Kind) (v : Scalar) → IsText k v → IsOfType k v
+text_of_type k v h = (h.of_kind, h.within)
+
+pub text_few : (k : Kind) (v : Scalar) → IsText k v → length (units_of v) ≤ 65535
+text_few k v h = few_units v h.within
+
+pub text_units : (k : Kind) (v : Scalar) → IsText k v → CanBeUnits k (units_of v)
+text_units k v h = value_fits k v (text_of_type k v h)
+
+-- the new part of a text has its units
+pub cut_fits : (k : Kind) (v : Scalar) (removal : ℤ) (base new_part : List ℕ) → IsText k v → units_of v ≡ put_together removal base new_part → CanBeUnits k new_part
+cut_fits k v removal base new_part h made = units_fit k new_part (part_is_string k removal base new_part (units_of v) (units_of_string k v h.of_units (text_of_type k v h)) made)
+
+delta_as : (k : Kind) (i : FieldPart) (e : Entry) (bytes : List ℕ) → IsUnitKind k → delta_at k i e bytes ≡ unit_delta_at i e bytes
+unfolding delta_at
+delta_as kind.Ascii i e bytes h = refl
+delta_as kind.Unicode i e bytes h = refl
+delta_as kind.Bytes i e bytes h = refl
+delta_as k i e bytes h = absurd h
+
+cut_first : (i : FieldPart) (base v : Scalar) (removal : ℤ) (new_part b : List ℕ) → IsText i.kind base → IsText i.kind v → IsBestCut i.kind i.presence (units_of base) (units_of v) removal new_part
+    → Both (ShortestSigned i.presence removal) (ShortestPart i.kind new_part) b → IsFirst (λ c b. DeltaForm i (Assigned base) c b (Some v)) b
+cut_first i base v removal new_part b h l best s =
+    delta_is_first i (Assigned base) base v b (base_is i base h.of_kind)
+    (string_value i.kind i.presence base v removal new_part b h.of_units (text_of_type i.kind base h) (text_of_type i.kind v l) best s)
+
+pub text_delta_relays : (i : FieldPart) (base v : Scalar) (removal : ℤ) (new_part bytes rest before after : List ℕ) → i.part ≡ part.Whole → i.operator ≡ operator.Delta → IsText i.kind base → IsText i.kind v → unit_delta_at i (Assigned base) bytes ≡ Ok (Some v, rest)
+    → IsBestCut i.kind i.presence (units_of base) (units_of v) removal new_part → (b : List ℕ) × (after ≡ before ++ b) × Both (ShortestSigned i.presence removal) (ShortestPart i.kind new_part) b → Relays i (Assigned base) (Assigned v) v bytes rest before after
+text_delta_relays i base v removal new_part bytes rest before after whole o h l read best appended =
+    let last : next i (Assigned base) (Some v) ≡ Assigned v = rw o refl in
+    relays i (Assigned base) (Assigned v) v bytes rest before after (Both (ShortestSigned i.presence removal) (ShortestPart i.kind new_part)) l.of_kind (whole_within i.part v whole)
+    (delta_row i.operator i (Assigned base) bytes o ∙ delta_as i.kind i (Assigned base) bytes h.of_units ∙ read)
+    (sym last)
+    (delta_out i (Assigned base) (Some v) o)
+    (λ b s. subst (λ (o : Operator). IsFirst (λ c b. FormOf o i (Assigned base) true c b (Some v)) b) (sym o) (cut_first i base v removal new_part b h l best s))
+    appended
+
+-- ---- tails
+
+-- the tail of a text has its units
+pub tail_fits : (k : Kind) (v : Scalar) (base tail : List ℕ) → IsText k v → units_of v ≡ ended_by base tail → CanBeUnits k tail
+tail_fits k v base tail h made = units_fit k tail (back_is_string k (units_of v) (take (length base - length tail) base) tail (units_of_string k v h.of_units (text_of_type k v h)) made)
+
+tail_row : (o : Operator) (i : FieldPart) (e : Entry) (bytes : List ℕ) → o ≡ operator.Tail → row_at o i e true bytes ≡ tail_at i e bytes
+unfolding row_at
+tail_row operator.Tail i e bytes o = refl
+tail_row o' i e bytes o = absurd cc
+
+tail_base_is : (i : FieldPart) (v : Scalar) → is_of i.kind v ≡ true → tail_base i (Assigned v) ≡ Ok v
+tail_base_is i v is = rw is refl
+
+ended_first : (i : FieldPart) (base v : Scalar) (tail b : List ℕ) → IsText i.kind base → IsText i.kind v → IsBestTail i.kind i.presence (units_of base) (units_of v) tail
+    → ShortestUnits i.kind i.presence tail b → IsFirst (λ c b. TailForm i (Assigned base) c b (Some v)) b
+ended_first i base v tail b h l best s =
+    tail_form_is_first i (Assigned base) base v b (tail_base_is i base h.of_kind)
+    (tail_is_first i.kind i.presence base v tail b h.of_units (text_of_type i.kind v l) best s)
+
+pub tail_relays : (i : FieldPart) (base v : Scalar) (tail bytes rest before after : List ℕ) → i.part ≡ part.Whole → i.operator ≡ operator.Tail → IsText i.kind base → IsText i.kind v → tail_at i (Assigned base) bytes ≡ Ok (Some v, rest)
+    → left_out_of i.operator i (Assigned base) (Some v) ≡ false → IsBestTail i.kind i.presence (units_of base) (units_of v) tail → (b : List ℕ) × (after ≡ before ++ b) × ShortestUnits i.kind i.presence tail b
+    → Relays i (Assigned base) (Assigned v) v bytes rest before after
+tail_relays i base v tail bytes rest before after whole o h l read out best appended =
+    let last : next i (Assigned base) (Some v) ≡ Assigned v = rw o refl in
+    relays i (Assigned base) (Assigned v) v bytes rest before after (ShortestUnits i.kind i.presence tail) l.of_kind (whole_within i.part v whole)
+    (tail_row i.operator i (Assigned base) bytes o ∙ read)
+    (sym last)
+    out
+    (λ b s. subst (λ (o : Operator). IsFirst (λ c b. FormOf o i (Assigned base) true c b (Some v)) b) (sym o) (ended_first i base v tail b h l best s))
+    appended

@@ -1,0 +1,18 @@
+-- A field that is read and written at once: what was read is a form of its value, the entry is the one afterwards, and
+-- the value's best form was appended. (Own.)
+use Rattle.std.specs.Prelude.{◌≡◌, ℕ, true, List, ◌++◌, Some, Ok, IsTrue}
+use Rattle.fast_value.specs.Scalar.{is_of}
+use Rattle.fast_template.specs.declared.resolved.FieldPart.{FieldPart}
+use Rattle.fast_value.specs.declared.scalar.Scalar.{Scalar}
+use Rattle.fast_dictionary.specs.declared.entry.Entry.{Entry}
+use Rattle.fast_field.specs.Bases.{next}
+use Rattle.fast_field.specs.FieldReading.{field_at}
+use Rattle.fast_field.specs.Written.{AppendsBest}
+
+-- the bytes before `rest` give the value under bit 1, and behind what was written its best form was appended
+pub record Relays (i : FieldPart) (old new : Entry) (v : Scalar) (bytes rest : List ℕ)
+    (before after : List ℕ) : Type 0 where
+  pub of_kind : IsTrue (is_of i.kind v)
+  pub read : (more : List ℕ) → field_at i old true (bytes ++ more) ≡ Ok (Some v, rest ++ more)
+  pub entry : new ≡ next i old (Some v)
+  pub best : AppendsBest i old (Some v) true before after

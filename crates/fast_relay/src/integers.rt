@@ -1,0 +1,81 @@
+//! Numbers as they are read and written where they are relayed. All is inline, since the type is mostly known where it is
+//! called.
+
+ghost use Rattle.std.specs.Prelude.{◌≡◌, ◌≤◌, ◌^◌, ◌<ℤ◌, pos, negsuc, length, drop, IfSome};
+ghost use Rattle.fast_value.specs.Scalar.{of_integer};
+ghost use Rattle.fast_field.specs.Chosen.{AppendsOne, ShortestWhole};
+ghost use Rattle.fast_field.specs.Numbers.{IsNumber};
+ghost use Rattle.fast_field.specs.Values as values;
+ghost use Rattle.fast_relay.specs.Numbers.{Spelt};
+
+use fast_field::{write_signed, write_unsigned};
+use fast_template::{Kind, Presence};
+use fast_wire::{Nullable, WireFault};
+
+/// Whether the integers of a type have no sign.
+#[inline(always)]
+pub(crate) fn is_unsigned(kind: Kind) -> bool
+    ensures { result ≡ values.is_unsigned kind }
+{
+    match kind {
+        Kind::UInt32 | Kind::UInt64 => true,
+        _ => false,
+    }
+}
+
+/// A number that has 64 bits; none where it has more, is NULL or faulty.
+#[tactic(auto, unfolding(fast_field::specs::FieldReading::integer_at))]
+#[inline(always)]
+pub(crate) fn read_short(
+    unsigned: bool,
+    presence: Presence,
+    bytes: &[u8],
+    at: usize,
+) -> Option<(i128, usize)>
+    requires { at ≤ length bytes.now }
+    ensures place { IfSome result (λ x. (at ≤ x.1) × (x.1 ≤ length bytes.now)) }
+    ensures above { IfSome result (λ x. negsuc (2 ^ 64) <ℤ x.0) }
+    ensures below { IfSome result (λ x. x.0 <ℤ pos (2 ^ 64)) }
+    ensures gives { IfSome result (λ x. Spelt unsigned presence (drop at bytes.now)
+        x.0 (drop x.1 bytes.now)) }
+{
+    match (unsigned, presence) {
+        (true, Presence::Mandatory) => match fast_wire::read_u64(bytes, at) {
+            Ok((number, next)) => Some((i128::from(number), next)),
+            Err(_) => None,
+        },
+        (true, Presence::Optional) => match fast_wire::read_u64_nullable(bytes, at) {
+            Ok((Nullable::Value(number), next)) => Some((i128::from(number), next)),
+            Ok((Nullable::Null, _)) => None,
+            Err(_) => None,
+        },
+        (false, Presence::Mandatory) => match fast_wire::read_i64(bytes, at) {
+            Ok((number, next)) => Some((i128::from(number), next)),
+            Err(_) => None,
+        },
+        (false, Presence::Optional) => match fast_wire::read_i64_nullable(bytes, at) {
+            Ok((Nullable::Value(number), next)) => Some((i128::from(number), next)),
+            Ok((Nullable::Null, _)) => None,
+            Err(_) => None,
+        },
+    }
+}
+
+/// Appends a number in the form of a presence, or nothing.
+#[inline(always)]
+pub(crate) fn write_number(
+    kind: Kind,
+    presence: Presence,
+    number: i128,
+    out: &mut Vec<u8>,
+) -> Result<(), WireFault>
+    requires { IsNumber kind number }
+    ensures { AppendsOne (ShortestWhole presence (of_integer kind number))
+        out.old.items out.new.items result }
+{
+    match kind {
+        Kind::UInt32 | Kind::UInt64 => write_unsigned(presence, number as u64, out),
+        Kind::Int32 | Kind::Int64 => write_signed(presence, number, out),
+        Kind::Decimal | Kind::Ascii | Kind::Unicode | Kind::Bytes => unreachable!(),
+    }
+}

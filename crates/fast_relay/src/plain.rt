@@ -1,0 +1,342 @@
+//! ASCII strings that stand in their shortest form, as most do: they are copied from the bytes that were read, once to
+//! what is written and once into the entry, and no string is made. What is not served here is left to `text`.
+
+ghost use Rattle.std.specs.Prelude.{◌≡◌, ◌≤◌, ◌<◌, ◌++◌, pos, true, false, length, drop, take, Some, IfNone, IfSome};
+ghost use Rattle.fast_value.specs.declared.kind.Kind.TheVariants as kind_type;
+ghost use Rattle.fast_value.specs.declared.kind.Operator.TheVariants as operator_type;
+ghost use Rattle.fast_value.specs.declared.kind.Part.TheVariants as part_type;
+ghost use Rattle.fast_value.specs.declared.scalar.Scalar.{Scalar as ScalarOf};
+ghost use Rattle.fast_value.specs.declared.scalar.Scalar.TheVariants.{Ascii};
+ghost use Rattle.fast_dictionary.specs.declared.entry.Entry.TheVariants as entry_type;
+ghost use Rattle.fast_wire.specs.Entity.{IsEntity, groups};
+ghost use Rattle.fast_field.specs.Bases.{next_of};
+ghost use Rattle.fast_field.specs.CommonParts.{IsLongestPrefix, IsLongestSuffix};
+ghost use Rattle.fast_relay.specs.Numbers.{SpellsWhole};
+ghost use Rattle.fast_field.specs.Planning.{left_out_of};
+ghost use Rattle.fast_relay.specs.Relayed.{Relays};
+
+use crate::characters::{UNIT_LIMIT, are_characters};
+use crate::integers::read_short;
+use fast_dictionary::Entry;
+use fast_field::write_signed;
+use fast_template::{ByteString, FieldPart, Operator, Scalar};
+use fast_wire::{is_text_of, plain_ascii_end};
+use std::alloc::Global;
+use std::mem;
+
+/// A subtraction length below this takes one byte, with NULL and without.
+const FEW: usize = 63;
+
+/// Puts the characters of an entity behind so many characters of a text, in place of the others; answers false, and
+/// leaves the text as it was, where memory is refused.
+fn put_characters(alloc: Global, text: &mut ByteString, kept: usize, form: &[u8]) -> bool
+    requires kept { kept ≤ length text.now }
+    requires entity { IsEntity form.now }
+    ensures put { result ≡ true → text.new ≡ take kept text.old ++ groups form.now }
+    ensures unchanged { result ≡ false → text.new ≡ text.old }
+{
+    let empty = ByteString::from_vec(Vec::new(alloc));
+    let mut characters = mem::replace(text, empty).into_vec();
+    match characters.reserve(form.len()) {
+        Err(_) => {
+            *text = ByteString::from_vec(characters);
+            false
+        }
+        Ok(()) => {
+            characters.truncate(kept);
+            characters.extend_from_slice(form).unwrap();
+            let last = characters.len() - 1;
+            characters[last] %= 128;
+            *text = ByteString::from_vec(characters);
+            true
+        }
+    }
+}
+
+/// Appends bytes of an entity, and puts its characters behind so many of a text; or answers false, and does neither.
+#[inline(always)]
+fn send(alloc: Global, text: &mut ByteString, kept: usize, form: &[u8], out: &mut Vec<u8>) -> bool
+    requires kept { kept ≤ length text.now }
+    requires entity { IsEntity form.now }
+    ensures put { result ≡ true → text.new ≡ take kept text.old ++ groups form.now }
+    ensures sent { result ≡ true → out.new.items ≡ out.old.items ++ form.now }
+    ensures text { result ≡ false → text.new ≡ text.old }
+    ensures out { result ≡ false → out.new.items ≡ out.old.items }
+{
+    let start = out.len();
+    match out.extend_from_slice(form) {
+        Err(_) => false,
+        Ok(()) => {
+            if put_characters(alloc, text, kept, form) {
+                true
+            } else {
+                out.truncate(start);
+                false
+            }
+        }
+    }
+}
+
+/// Whether bit 0 may give the string that bytes spell; where false is answered, it does not.
+#[inline(always)]
+fn may_be_left_out(instr: &FieldPart, entry: &Entry, form: &[u8]) -> bool
+    requires operator { SpellsWhole instr.now.operator }
+    requires kind { instr.now.kind ≡ kind_type.Ascii }
+    ensures { result ≡ false → left_out_of instr.now.operator instr.now entry.now
+        (Some (Ascii (groups form.now))) ≡ false }
+{
+    match instr.operator {
+        Operator::Plain => false,
+        Operator::Default => match &instr.initial {
+            None => false,
+            Some(Scalar::Ascii(text)) => is_text_of(text.as_slice(), form),
+            Some(_) => true,
+        },
+        Operator::Copy => match entry {
+            Entry::Assigned(Scalar::Ascii(text)) => is_text_of(text.as_slice(), form),
+            _ => true,
+        },
+        _ => true,
+    }
+}
+
+/// Makes an entry the one that the string leaves which bytes spell whole; answers false, and leaves it as it was,
+/// where it has no string to put it in the place of.
+#[inline(always)]
+fn keep_plain(alloc: Global, operator: Operator, entry: &mut Entry, form: &[u8]) -> bool
+    requires operator { SpellsWhole operator }
+    requires entity { IsEntity form.now }
+    ensures kept { result ≡ true → entry.new
+        ≡ next_of operator entry.old (Some (Ascii (groups form.now))) }
+    ensures unchanged { result ≡ false → entry.new ≡ entry.old }
+{
+    match operator {
+        Operator::Copy | Operator::Increment => match entry {
+            Entry::Assigned(Scalar::Ascii(text)) => put_characters(alloc, text, 0, form),
+            _ => false,
+        },
+        _ => true,
+    }
+}
+
+/// Relays a string that is spelled whole.
+#[inline(always)]
+fn relay_plain_whole(
+    alloc: Global,
+    instr: &FieldPart,
+    entry: &mut Entry,
+    bytes: &[u8],
+    at: usize,
+    out: &mut Vec<u8>,
+) -> Option<usize>
+    requires at { at ≤ length bytes.now }
+    requires part { instr.now.part ≡ part_type.Whole }
+    requires operator { SpellsWhole instr.now.operator }
+    requires kind { instr.now.kind ≡ kind_type.Ascii }
+    ensures place { IfSome result (λ next. (at ≤ next) × (next ≤ length bytes.now)) }
+    ensures relayed { IfSome result (λ next. (v : ScalarOf)
+        × Relays instr.now entry.old entry.new v (drop at bytes.now) (drop next bytes.now)
+        out.old.items out.new.items) }
+    ensures entry { IfNone result (entry.new ≡ entry.old) }
+    ensures out { IfNone result (out.new.items ≡ out.old.items) }
+{
+    let Some(next) = plain_ascii_end(bytes, at) else {
+        return None;
+    };
+    let form = &bytes[at..next];
+    if may_be_left_out(instr, entry, form) {
+        return None;
+    }
+    let start = out.len();
+    match out.extend_from_slice(form) {
+        Err(_) => None,
+        Ok(()) => {
+            if keep_plain(alloc, instr.operator, entry, form) {
+                Some(next)
+            } else {
+                out.truncate(start);
+                None
+            }
+        }
+    }
+}
+
+/// Whether a text has no more in common with its first units and others behind them than these first units.
+#[inline(always)]
+fn agrees_no_further(base: &[u8], kept: usize, form: &[u8]) -> bool
+    requires kept { kept ≤ length base.now }
+    requires entity { IsEntity form.now }
+    ensures { result ≡ true
+        → IsLongestPrefix base.now (take kept base.now ++ groups form.now) kept }
+{
+    if kept < base.len() {
+        base[kept] != form[0] % 128
+    } else {
+        true
+    }
+}
+
+/// Whether it ends otherwise than these do.
+#[inline(always)]
+fn ends_otherwise(base: &[u8], kept: usize, form: &[u8]) -> bool
+    requires kept { kept ≤ length base.now }
+    requires entity { IsEntity form.now }
+    ensures { result ≡ true
+        → IsLongestSuffix base.now (take kept base.now ++ groups form.now) 0 }
+{
+    if base.is_empty() {
+        true
+    } else {
+        base[base.len() - 1] != form[form.len() - 1] % 128
+    }
+}
+
+/// How many characters a subtraction length removes at the end, if they are few.
+#[inline(always)]
+fn few_removed(removal: i128) -> Option<usize>
+    ensures { IfSome result (λ n. (removal ≡ pos n) × (n < 63)) }
+{
+    match usize::try_from(removal) {
+        Ok(removed) if removed < FEW => Some(removed),
+        _ => None,
+    }
+}
+
+/// Relays a string by a removal of few characters at the end of the one that the entry has, and a new part.
+#[inline(always)]
+fn relay_plain_delta(
+    alloc: Global,
+    instr: &FieldPart,
+    text: &mut ByteString,
+    bytes: &[u8],
+    at: usize,
+    out: &mut Vec<u8>,
+) -> Option<usize>
+    requires at { at ≤ length bytes.now }
+    requires part { instr.now.part ≡ part_type.Whole }
+    requires operator { instr.now.operator ≡ operator_type.Delta }
+    requires kind { instr.now.kind ≡ kind_type.Ascii }
+    ensures place { IfSome result (λ next. (at ≤ next) × (next ≤ length bytes.now)) }
+    ensures relayed { IfSome result (λ next. Relays instr.now
+        (entry_type.Assigned (Ascii text.old)) (entry_type.Assigned (Ascii text.new))
+        (Ascii text.new) (drop at bytes.now) (drop next bytes.now)
+        out.old.items out.new.items) }
+    ensures text { IfNone result (text.new ≡ text.old) }
+    ensures out { IfNone result (out.new.items ≡ out.old.items) }
+{
+    let Some((removal, middle)) = read_short(false, instr.presence, bytes, at) else {
+        return None;
+    };
+    let Some(removed) = few_removed(removal) else {
+        return None;
+    };
+    let base = text.as_slice();
+    if removed > base.len() || !are_characters(base) {
+        return None;
+    }
+    let Some(next) = plain_ascii_end(bytes, middle) else {
+        return None;
+    };
+    let form = &bytes[middle..next];
+    let kept = base.len() - removed;
+    if form.len() > UNIT_LIMIT - kept || !agrees_no_further(base, kept, form) {
+        return None;
+    }
+    if !ends_otherwise(base, kept, form) {
+        return None;
+    }
+    let start = out.len();
+    match write_signed(instr.presence, removal, out) {
+        Err(_) => None,
+        Ok(()) => {
+            if send(alloc, text, kept, form, out) {
+                Some(next)
+            } else {
+                out.truncate(start);
+                None
+            }
+        }
+    }
+}
+
+/// Relays a string by a new end of the one that the entry has.
+#[inline(always)]
+fn relay_plain_tail(
+    alloc: Global,
+    instr: &FieldPart,
+    text: &mut ByteString,
+    bytes: &[u8],
+    at: usize,
+    out: &mut Vec<u8>,
+) -> Option<usize>
+    requires at { at ≤ length bytes.now }
+    requires part { instr.now.part ≡ part_type.Whole }
+    requires operator { instr.now.operator ≡ operator_type.Tail }
+    requires kind { instr.now.kind ≡ kind_type.Ascii }
+    ensures place { IfSome result (λ next. (at ≤ next) × (next ≤ length bytes.now)) }
+    ensures relayed { IfSome result (λ next. Relays instr.now
+        (entry_type.Assigned (Ascii text.old)) (entry_type.Assigned (Ascii text.new))
+        (Ascii text.new) (drop at bytes.now) (drop next bytes.now)
+        out.old.items out.new.items) }
+    ensures text { IfNone result (text.new ≡ text.old) }
+    ensures out { IfNone result (out.new.items ≡ out.old.items) }
+{
+    let base = text.as_slice();
+    let Some(next) = plain_ascii_end(bytes, at) else {
+        return None;
+    };
+    let form = &bytes[at..next];
+    if form.len() > base.len() || !are_characters(base) {
+        return None;
+    }
+    let kept = base.len() - form.len();
+    if !agrees_no_further(base, kept, form) {
+        return None;
+    }
+    if send(alloc, text, kept, form, out) {
+        Some(next)
+    } else {
+        None
+    }
+}
+
+/// Relays a string that stands in its shortest form; None: nothing has changed. (A call of its own: inlined, it makes the
+/// walk over a segment so long that the compiler no longer inlines the rest.)
+#[inline(never)]
+pub(crate) fn relay_plain(
+    alloc: Global,
+    instr: &FieldPart,
+    entry: &mut Entry,
+    bytes: &[u8],
+    at: usize,
+    out: &mut Vec<u8>,
+) -> Option<usize>
+    requires at { at ≤ length bytes.now }
+    requires part { instr.now.part ≡ part_type.Whole }
+    requires kind { instr.now.kind ≡ kind_type.Ascii }
+    ensures place { IfSome result (λ next. (at ≤ next) × (next ≤ length bytes.now)) }
+    ensures relayed { IfSome result (λ next. (v : ScalarOf)
+        × Relays instr.now entry.old entry.new v (drop at bytes.now) (drop next bytes.now)
+        out.old.items out.new.items) }
+    ensures entry { IfNone result (entry.new ≡ entry.old) }
+    ensures out { IfNone result (out.new.items ≡ out.old.items) }
+{
+    match instr.operator {
+        Operator::Plain | Operator::Default | Operator::Copy => {
+            relay_plain_whole(alloc, instr, entry, bytes, at, out)
+        }
+        Operator::Delta => match entry {
+            Entry::Assigned(Scalar::Ascii(text)) => {
+                relay_plain_delta(alloc, instr, text, bytes, at, out)
+            }
+            _ => None,
+        },
+        Operator::Tail => match entry {
+            Entry::Assigned(Scalar::Ascii(text)) => {
+                relay_plain_tail(alloc, instr, text, bytes, at, out)
+            }
+            _ => None,
+        },
+        Operator::Constant | Operator::Increment => None,
+    }
+}
