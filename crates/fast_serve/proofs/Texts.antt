@@ -1,5 +1,5 @@
 -- A text that was read whole.
-use Rattle.std.proofs.Common.{◌≡◌, ◌≤◌, ℕ, List, length, ap, sym, subst, arith, refl}
+use Rattle.std.proofs.Common.{◌≤◌, ℕ, List, length, ap, sym, subst, arith, refl}
 use Rattle.fast_decoder.specs.Inputs.{Reader, Reads}
 use Rattle.fast_host.specs.Input.{IsText}
 use Rattle.fast_serve.specs.Served.{HasText}

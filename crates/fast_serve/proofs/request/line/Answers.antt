@@ -1,9 +1,9 @@
 use Rattle.std.proofs.Common.{rules, ap, ap₂, codes, true, false, ◌≡◌, ◌∙◌, Some}
 use Rattle.std.proofs.lemmas.Result.{IfOk-weaker}
-use Rattle.clap.specs.Words.{App, Rule, app_of, new_app, new_rule, rule_of, with_rule}
+use Rattle.clap.specs.Words.{App, Rule, app_of, new_app, rule_of, with_rule}
 use Rattle.clap.specs.Simple.{app_of_fields, on_top}
 use Rattle.clap.specs.declared.builder.arg.Arg.{Arg}
-use Rattle.fast_serve.specs.CommandLine.{command_rule, hex_rule, input_rule, line_among, templates_rule}
+use Rattle.fast_serve.specs.CommandLine.{command_rule, hex_rule, input_rule, templates_rule}
 use Rattle.fast_serve.proofs.request.line.Goals as goal
 
 pub returns : goal.returns

@@ -1,6 +1,6 @@
 use Rattle.std.proofs.Common.{◌≡◌, ◌∙◌, List, Option, None, Some, true, map, option_map, ap, sym, refl}
 use Rattle.std.specs.Prelude.{option_and_then}
-use Rattle.clap.specs.Words.{App, Row, Text, app_of, first_of, found_of, is_simple, matches_of, one_of}
+use Rattle.clap.specs.Words.{App, Row, Text, first_of, found_of, is_simple, matches_of, one_of}
 use Rattle.clap.specs.declared.builder.value_parser.ValueParser.{ValueParser}
 use Rattle.clap.proofs.OnLiterals.{clap_on_literals}
 use Rattle.clap.proofs.WalkLemmas.{first_value-rows, one_text-rows}
