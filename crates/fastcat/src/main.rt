@@ -3,19 +3,9 @@
 //! `fastcat show|check|canon --templates FILE [--hex] [FILE]` reads a stream of messages of any templates.
 #![tactic(auto)]
 
-mod hex_text;
-mod input;
-mod memory;
-pub mod refusal;
-mod request;
-pub mod serve;
-pub mod source;
-#[cfg(test)]
-mod tests;
-
+use fast_host::Host;
 use fast_io::Counted;
-use serve::{TURNS, serve_words};
-use source::Host;
+use fast_serve::serve::{TURNS, serve_words};
 use std::process::ExitCode;
 use std::{env, io};
 

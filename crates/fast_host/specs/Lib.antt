@@ -1,0 +1,4 @@
+pub mod Devices
+pub mod Input
+pub mod HexText
+pub mod Refusals

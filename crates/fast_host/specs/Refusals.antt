@@ -1,0 +1,171 @@
+-- What the program says where it does not do what it is asked to. The words and the statuses are the project's own;
+-- the numbers of causes are those of FAST 1.1, Error Handling.
+use Rattle.std.specs.Prelude.{◌≡◌, ◌⊎◌, ℕ, List, [], ◌∷◌, ◌++◌, codes, decimal, Option, None, Some, String}
+use Rattle.std.specs.String.{string_bytes}
+use Rattle.std.specs.declared.alloc.Global.{Global}
+use Rattle.fast_template.specs.declared.fault.LoadCause.{LoadCause}
+use Rattle.fast_template.specs.declared.fault.LoadCause.TheVariants as load
+use Rattle.fast_template.specs.declared.fault.LoadFault.{LoadFault}
+use Rattle.fast_stream.specs.declared.fault.Cause.{Cause}
+use Rattle.fast_stream.specs.declared.fault.Cause.TheVariants.{D2, D4, D5, D6, D7, D9, R1, R2, Truncated, Limit, Read, Turns, Memory}
+use Rattle.fast_stream.specs.declared.fault.Fault.{Fault}
+use Rattle.fast_stream.specs.declared.place.Place.{Place}
+use Rattle.fast_canon.specs.declared.fault.CanonFault.{CanonFault}
+use Rattle.fast_canon.specs.declared.fault.CanonFault.TheVariants as canon
+use Rattle.fast_host.specs.declared.hex_text.HexFault.{HexFault}
+use Rattle.fast_host.specs.declared.hex_text.HexFault.TheVariants as hex
+use Rattle.fast_host.specs.declared.input.TextFault.{TextFault}
+use Rattle.fast_host.specs.declared.input.TextFault.TheVariants as text
+use Rattle.fast_host.specs.declared.refusal.Refusal.{Refusal}
+use Rattle.fast_host.specs.declared.refusal.Refusal.TheVariants as refusal
+
+-- the exit status: 1 for a refused stream, 2 for a refused line or text, 3 for a fault of the machine
+abbrev pub status_of : Refusal → ℕ
+status_of (refusal.Stream line) = 1
+status_of (refusal.Line words) = 2
+status_of (refusal.Templates line) = 2
+status_of refusal.NotText = 2
+status_of refusal.TemplatesTooLong = 2
+status_of refusal.NotHex = 2
+status_of refusal.TooLong = 2
+status_of refusal.Open = 3
+status_of refusal.Read = 3
+status_of refusal.Write = 3
+status_of refusal.Turns = 3
+status_of refusal.Memory = 3
+
+-- a word and a line feed
+abbrev pub line_of : List ℕ → List ℕ
+line_of word = word ++ 10 ∷ []
+
+-- the text for the user
+abbrev pub text_of : Refusal → List ℕ
+text_of (refusal.Stream line) = string_bytes line
+text_of (refusal.Line words) = string_bytes words
+text_of (refusal.Templates line) = string_bytes line
+text_of refusal.NotText = line_of (codes "command line is not UTF-8")
+text_of refusal.TemplatesTooLong = line_of (codes "templates too long")
+text_of refusal.NotHex = line_of (codes "input is not hex")
+text_of refusal.TooLong = line_of (codes "input too long")
+text_of refusal.Open = line_of (codes "fault open")
+text_of refusal.Read = line_of (codes "fault read")
+text_of refusal.Write = line_of (codes "fault write")
+text_of refusal.Turns = line_of (codes "fault turns")
+text_of refusal.Memory = line_of (codes "fault memory")
+
+-- the parser's text, or want of memory for it
+abbrev pub IsTextOrMemory : Refusal → Type 0
+IsTextOrMemory r = (r ≡ refusal.Memory) ⊎ ((words : String Global) × (r ≡ refusal.Line words))
+
+-- the refusal that is known, or where none is one of these
+abbrev pub IsKnownOr : Option Refusal → (Refusal → Type 0) → Refusal → Type 0
+IsKnownOr (Some known) IsOne r = r ≡ known
+IsKnownOr None IsOne r = IsOne r
+
+-- ---- templates
+
+-- the refusal of an input that gives no text of templates
+abbrev pub of_template_text_lem : TextFault → Refusal
+of_template_text_lem text.TooLong = refusal.TemplatesTooLong
+of_template_text_lem text.Read = refusal.Read
+of_template_text_lem text.Turns = refusal.Turns
+of_template_text_lem text.Memory = refusal.Memory
+
+-- a cause as a word
+abbrev pub load_cause_name_of : LoadCause → List ℕ
+load_cause_name_of load.S1 = codes "S1"
+load_cause_name_of load.S2 = codes "S2"
+load_cause_name_of load.S3 = codes "S3"
+load_cause_name_of load.S4 = codes "S4"
+load_cause_name_of load.S5 = codes "S5"
+load_cause_name_of load.D8 = codes "D8"
+load_cause_name_of load.DuplicateName = codes "DuplicateName"
+load_cause_name_of load.DuplicateId = codes "DuplicateId"
+load_cause_name_of load.Cycle = codes "Cycle"
+load_cause_name_of load.TooDeep = codes "TooDeep"
+load_cause_name_of load.TooMany = codes "TooMany"
+load_cause_name_of load.Memory = codes "Memory"
+
+-- the line of refused templates
+abbrev pub templates_line_of : LoadFault → List ℕ
+templates_line_of fault =
+    line_of (codes "templates refused " ++ load_cause_name_of fault.cause ++ codes " template=" ++ decimal fault.template
+    ++ codes " instruction=" ++ decimal fault.instruction)
+
+-- the line of the refused templates, or want of memory for it
+abbrev pub IsTemplatesOrMemory : LoadFault → Refusal → Type 0
+IsTemplatesOrMemory fault r =
+    (r ≡ refusal.Memory) ⊎ ((line : String Global) × (r ≡ refusal.Templates line) × (string_bytes line ≡ templates_line_of fault))
+
+-- want of memory has a word of its own
+abbrev pub load_refusal_of : LoadCause → Option Refusal
+load_refusal_of load.Memory = Some refusal.Memory
+load_refusal_of _ = None
+
+-- the refusal of templates
+abbrev pub IsOfLoad : LoadFault → Refusal → Type 0
+IsOfLoad fault r = IsKnownOr (load_refusal_of fault.cause) (IsTemplatesOrMemory fault) r
+
+-- ---- hex text
+
+-- the refusal of an input that gives no hex text
+abbrev pub of_text_lem : TextFault → Refusal
+of_text_lem text.TooLong = refusal.TooLong
+of_text_lem text.Read = refusal.Read
+of_text_lem text.Turns = refusal.Turns
+of_text_lem text.Memory = refusal.Memory
+
+-- the refusal of a text that is no hex
+abbrev pub of_hex_lem : HexFault → Refusal
+of_hex_lem hex.NotHex = refusal.NotHex
+of_hex_lem hex.Memory = refusal.Memory
+
+-- ---- streams
+
+-- a cause as a word
+abbrev pub cause_name_of : Cause → List ℕ
+cause_name_of D2 = codes "D2"
+cause_name_of D4 = codes "D4"
+cause_name_of D5 = codes "D5"
+cause_name_of D6 = codes "D6"
+cause_name_of D7 = codes "D7"
+cause_name_of D9 = codes "D9"
+cause_name_of R1 = codes "R1"
+cause_name_of R2 = codes "R2"
+cause_name_of Truncated = codes "Truncated"
+cause_name_of Limit = codes "Limit"
+cause_name_of Read = codes "Read"
+cause_name_of Turns = codes "Turns"
+cause_name_of Memory = codes "Memory"
+
+-- a place as text
+abbrev pub place_text_of : Place → List ℕ
+place_text_of place =
+    codes "message=" ++ decimal place.message ++ codes " offset=" ++ decimal place.offset
+    ++ codes " template=" ++ decimal place.template ++ codes " instruction=" ++ decimal place.instruction
+
+-- the line of a refused stream
+abbrev pub stream_line_of : Fault → List ℕ
+stream_line_of fault = line_of (codes "refused " ++ cause_name_of fault.cause ++ codes " " ++ place_text_of fault.place)
+
+-- the line of the refused stream, or want of memory for it
+abbrev pub IsStreamOrMemory : Fault → Refusal → Type 0
+IsStreamOrMemory fault r =
+    (r ≡ refusal.Memory) ⊎ ((line : String Global) × (r ≡ refusal.Stream line) × (string_bytes line ≡ stream_line_of fault))
+
+-- a fault of the machine in mid-stream has words of its own
+abbrev pub machine_refusal_of : Cause → Option Refusal
+machine_refusal_of Read = Some refusal.Read
+machine_refusal_of Turns = Some refusal.Turns
+machine_refusal_of Memory = Some refusal.Memory
+machine_refusal_of _ = None
+
+-- the refusal of a stream that was not read to its end
+abbrev pub IsOfStream : Fault → Refusal → Type 0
+IsOfStream fault r = IsKnownOr (machine_refusal_of fault.cause) (IsStreamOrMemory fault) r
+
+-- the refusal of what a run answers
+abbrev pub IsOfRun : CanonFault → Refusal → Type 0
+IsOfRun (canon.Stream fault) r = IsOfStream fault r
+IsOfRun canon.Write r = r ≡ refusal.Write
+IsOfRun canon.Memory r = r ≡ refusal.Memory

@@ -1,0 +1,218 @@
+-- What the program did, by what its files and its input gave and what its output took. How it answers is the project's
+-- own.
+use Rattle.std.specs.Prelude.{◌≡◌, ◌≢◌, ◌⊎◌, ℕ, ◌≤◌, ◌++◌, List, [], ◌∷◌, Bool, true, false, Option, None, Some, option_map, Result, Ok, Err, IsErr, IsErrAnd, IsUtf8}
+use Rattle.std.specs.Io.KnownBytes.{Appends}
+use Rattle.hex.specs.Hex.{decode_of, encode_lower}
+use Rattle.serde_json.specs.Data.{Data}
+use Rattle.serde_json.specs.Read.{read}
+use Rattle.fast_io.specs.Counts.{counted}
+use Rattle.fast_template.specs.JsonLoads.{IsNoText, Loads}
+use Rattle.fast_template.specs.JsonTemplates.{templates_of}
+use Rattle.fast_template.specs.TemplateSets.{TemplateList}
+use Rattle.fast_template.specs.declared.fault.LoadFault.{LoadFault}
+use Rattle.fast_decoder.specs.Inputs.{Reader, Reads}
+use Rattle.fast_canon.specs.Canonicalised.{FlushesOnce, IsCausedBy, errors_after}
+use Rattle.fast_canon.specs.declared.fault.CanonFault.{CanonFault}
+use Rattle.fast_canon.specs.declared.fault.CanonFault.TheVariants as fault
+use Rattle.fast_canon.specs.declared.summary.Summary.{Summary}
+use Rattle.fast_host.specs.HexText.{digits_of}
+use Rattle.fast_host.specs.Input.{GivesNoText, IsText}
+use Rattle.fast_host.specs.Refusals.{IsOfLoad, IsOfRun, IsOfStream, IsTextOrMemory, of_template_text_lem, of_text_lem, status_of, text_of}
+use Rattle.fast_host.specs.Devices.{Inputs, Writer, input_of}
+use Rattle.fast_command.specs.Run.{Runs}
+use Rattle.fast_serve.specs.CommandLine.{AsksFor}
+use Rattle.fast_command.specs.declared.command.Command.{Command}
+use Rattle.fast_command.specs.declared.command.Command.TheVariants.{Show, Check, Canon}
+use Rattle.fast_host.specs.declared.input.TextFault.{TextFault}
+use Rattle.fast_serve.specs.declared.request.Request.{Request}
+use Rattle.fast_host.specs.declared.refusal.Refusal.{Refusal}
+use Rattle.fast_host.specs.declared.refusal.Refusal.TheVariants as refusal
+
+abbrev pub Answer : Type 0
+Answer = Result (Unit {0}) Refusal
+
+-- ---- an input that is read whole
+
+-- so many reads gave these bytes, no more than are allowed
+pub record ReadsUpTo (turns count : ℕ) (old new : Reader) (got : List ℕ) : Type 0 where
+  pub reads : Reads old new count got
+  pub bounded : count ≤ turns
+
+-- the text was read whole
+pub record HasText (turns : ℕ) (old new : Reader) (text : List ℕ) : Type 0 where
+  pub count : ℕ
+  pub read : ReadsUpTo turns count old new text
+  pub whole : IsText text text new.left
+
+-- no text was read whole
+pub record HasNoText (turns : ℕ) (old new : Reader) (why : TextFault) : Type 0 where
+  pub count : ℕ
+  pub got : List ℕ
+  pub read : ReadsUpTo turns count old new got
+  pub fails : GivesNoText why turns count got old new
+
+-- ---- templates
+
+-- what loading a text answers, whether or not it is UTF-8 and JSON
+abbrev pub LoadsText : List ℕ → Result TemplateList LoadFault → Type 0
+LoadsText text result =
+    ((d : Data) → IsUtf8 text → read text ≡ Some d → Loads (templates_of d) result)
+    × (¬ (IsUtf8 text) → IsNoText result)
+    × (read text ≡ None → IsNoText result)
+
+-- a reader of these bytes gave a text, and the text is one of this set
+pub record LoadsSet (left : Option (List ℕ)) (turns : ℕ) (set : TemplateList) : Type 0 where
+  pub old : Reader
+  pub new : Reader
+  pub text : List ℕ
+  pub begins : old.left ≡ left
+  pub read : HasText turns old new text
+  pub loads : LoadsText text (Ok set)
+
+-- why templates are not served: their text was not read whole, or is refused
+abbrev pub RefusesText : ℕ → Reader → Reader → Refusal → Type 0
+RefusesText turns old new r =
+    ((why : TextFault) × HasNoText turns old new why × (r ≡ of_template_text_lem why))
+    ⊎ ((text : List ℕ) × (fault : LoadFault) × HasText turns old new text × LoadsText text (Err fault) × IsOfLoad fault r)
+
+-- or their file cannot be opened
+abbrev pub RefusesTemplates : Option (List ℕ) → ℕ → Refusal → Type 0
+RefusesTemplates left turns r =
+    (r ≡ refusal.Open) ⊎ ((old : Reader) × (new : Reader) × (old.left ≡ left) × RefusesText turns old new r)
+
+-- ---- a run in plain bytes
+
+-- what is answered of a run
+abbrev pub AnswersRun : Result Summary CanonFault → Answer → Type 0
+AnswersRun (Ok summary) r = r ≡ Ok tt
+AnswersRun (Err f) r = IsErrAnd r (IsOfRun f)
+
+-- a command was run from the bytes read to those written
+pub record RunsPlain (command : Command) (set : TemplateList) (turns : ℕ) (in_old in_new : Reader) (out_old out_new : Writer) (r : Answer) : Type 0 where
+  pub count : ℕ
+  pub input : List ℕ
+  pub answer : Result Summary CanonFault
+  pub read : ReadsUpTo turns count in_old in_new input
+  pub ran : Runs command set turns in_new.left out_old.taken out_new.taken input answer
+  pub caused : IsCausedBy answer (count ≡ turns) in_old in_new
+  pub write_failed : out_new.errors ≡ errors_after answer out_old.errors
+  pub flushed : FlushesOnce answer out_old.flushes out_new.flushes
+  pub answered : AnswersRun answer r
+
+-- ---- a run in hex text
+
+-- a line of hex was written and flushed
+abbrev pub WritesLine : Writer → Writer → List ℕ → Type 0
+WritesLine old new bytes =
+    Appends old.taken new.taken (encode_lower bytes ++ 10 ∷ []) × (new.errors ≡ old.errors) × (new.flushes ≡ counted old.flushes)
+
+-- bytes were written as a line of hex and flushed, or the output failed, or memory did before anything was written
+abbrev pub WritesHex : Writer → Writer → List ℕ → Answer → Type 0
+WritesHex old new bytes r =
+    ((r ≡ Ok tt) × WritesLine old new bytes)
+    ⊎ ((r ≡ Err refusal.Write) × (new.errors ≡ counted old.errors))
+    ⊎ ((r ≡ Err refusal.Memory) × (new ≡ old))
+
+-- what is answered of a run in memory that wrote these bytes
+abbrev pub AnswersInHex : Writer → Writer → List ℕ → Result Summary CanonFault → Answer → Type 0
+AnswersInHex old new bytes (Ok summary) r = WritesHex old new bytes r
+AnswersInHex old new bytes (Err (fault.Stream f)) r =
+    (WritesLine old new bytes × IsErrAnd r (IsOfStream f))
+    ⊎ ((r ≡ Err refusal.Write) × (new.errors ≡ counted old.errors))
+    ⊎ ((r ≡ Err refusal.Memory) × (new ≡ old))
+AnswersInHex old new bytes (Err fault.Write) r = (r ≡ Err refusal.Memory) × (new ≡ old)
+AnswersInHex old new bytes (Err fault.Memory) r = (r ≡ Err refusal.Memory) × (new ≡ old)
+
+-- the canonical bytes of a stream in memory were written as a line of hex
+pub record CanonInHex (set : TemplateList) (turns : ℕ) (stream : List ℕ) (old new : Writer) (r : Answer) : Type 0 where
+  pub input : List ℕ
+  pub count : ℕ
+  pub in_old : Reader
+  pub in_new : Reader
+  pub bytes : List ℕ
+  pub answer : Result Summary CanonFault
+  pub begins : in_old.left ≡ Some stream
+  pub read : ReadsUpTo turns count in_old in_new input
+  pub ran : Runs Canon set turns in_new.left (Some []) (Some bytes) input answer
+  pub answered : AnswersInHex old new bytes answer r
+
+-- a command was run over a stream in memory
+abbrev pub RunsInMemory : Command → TemplateList → ℕ → List ℕ → Writer → Writer → Answer → Type 0
+RunsInMemory command set turns stream old new r =
+    (in_old : Reader) × (in_new : Reader) × (in_old.left ≡ Some stream) × RunsPlain command set turns in_old in_new old new r
+
+-- what was done of a stream in hex text
+abbrev pub PerformsInHex : Command → TemplateList → ℕ → List ℕ → Writer → Writer → Answer → Type 0
+PerformsInHex Show set turns stream old new r = RunsInMemory Show set turns stream old new r
+PerformsInHex Check set turns stream old new r = RunsInMemory Check set turns stream old new r
+PerformsInHex Canon set turns stream old new r = CanonInHex set turns stream old new r
+
+-- why an input gives no bytes of hex text: it was not read whole, or is no hex, or there was no memory
+abbrev pub RefusesHex : ℕ → Reader → Reader → Refusal → Type 0
+RefusesHex turns old new r =
+    ((why : TextFault) × HasNoText turns old new why × (r ≡ of_text_lem why))
+    ⊎ ((text : List ℕ) × HasText turns old new text × (((r ≡ refusal.NotHex) × IsErr (decode_of (digits_of text))) ⊎ (r ≡ refusal.Memory)))
+
+-- the whole input is hex text of these bytes
+abbrev pub ReadsHex : ℕ → Reader → Reader → List ℕ → Type 0
+ReadsHex turns old new bytes = (text : List ℕ) × HasText turns old new text × (decode_of (digits_of text) ≡ Ok bytes)
+
+-- the input is no hex text, and nothing was written; or it is that of a stream, of which this was done
+abbrev pub PerformsHexText : Command → TemplateList → ℕ → Reader → Reader → Writer → Writer → Answer → Type 0
+PerformsHexText command set turns in_old in_new out_old out_new r =
+    (IsErrAnd r (RefusesHex turns in_old in_new) × (out_new ≡ out_old))
+    ⊎ ((stream : List ℕ) × ReadsHex turns in_old in_new stream × PerformsInHex command set turns stream out_old out_new r)
+
+-- ---- what is asked for
+
+-- what a command line asks for, with the names of the files; without one the input is the standard input
+pub record Asked : Type 0 where
+  pub command : Command
+  pub templates : List ℕ
+  pub hex : Bool
+  pub input : Option (List ℕ)
+
+abbrev pub asked_by : Request → Asked
+asked_by r = record { command = r.command; templates = r.templates.now; hex = r.hex; input = option_map (λ name. name.now) r.input }
+
+-- a command over an input in plain bytes, or in hex text
+abbrev pub PerformsOver : Bool → Command → TemplateList → ℕ → Reader → Reader → Writer → Writer → Answer → Type 0
+PerformsOver false command set turns in_old in_new out_old out_new r = RunsPlain command set turns in_old in_new out_old out_new r
+PerformsOver true command set turns in_old in_new out_old out_new r = PerformsHexText command set turns in_old in_new out_old out_new r
+
+-- with templates that are loaded: the input's file cannot be opened, or it was opened at its beginning
+abbrev pub PerformsWith : Asked → TemplateList → Inputs → ℕ → Writer → Writer → Answer → Type 0
+PerformsWith asked set inputs turns out_old out_new r =
+    ((asked.input ≢ None) × (r ≡ Err refusal.Open) × (out_new ≡ out_old))
+    ⊎ ((in_old : Reader) × (in_new : Reader) × (in_old.left ≡ input_of inputs asked.input)
+    × PerformsOver asked.hex asked.command set turns in_old in_new out_old out_new r)
+
+-- the templates are refused, and nothing was written; or they are loaded
+abbrev pub PerformsAsked : Asked → Inputs → ℕ → Writer → Writer → Answer → Type 0
+PerformsAsked asked inputs turns out_old out_new r =
+    (IsErrAnd r (RefusesTemplates (inputs.file asked.templates) turns) × (out_new ≡ out_old))
+    ⊎ ((set : TemplateList) × LoadsSet (inputs.file asked.templates) turns set × PerformsWith asked set inputs turns out_old out_new r)
+
+-- the command line is refused, and nothing was written; or it asks for something
+abbrev pub Performs : List (List ℕ) → Inputs → ℕ → Writer → Writer → Answer → Type 0
+Performs words inputs turns out_old out_new r =
+    (IsErrAnd r IsTextOrMemory × (out_new ≡ out_old))
+    ⊎ ((asked : Asked) × AsksFor words asked.command asked.templates asked.hex asked.input × PerformsAsked asked inputs turns out_old out_new r)
+
+-- ---- what is said
+
+-- the exit status of what was done
+abbrev pub status_after : Answer → ℕ
+status_after (Ok done) = 0
+status_after (Err r) = status_of r
+
+-- a text was written and flushed, or a call failed
+abbrev pub SaysText : Writer → Writer → List ℕ → Type 0
+SaysText old new text =
+    (Appends old.taken new.taken text × (new.errors ≡ old.errors) × (new.flushes ≡ counted old.flushes))
+    ⊎ (new.errors ≡ counted old.errors)
+
+-- what is said of what was done: nothing where it was done, and else the refusal's text, unless a call failed
+abbrev pub Says : Writer → Writer → Answer → Type 0
+Says old new (Ok done) = new ≡ old
+Says old new (Err r) = SaysText old new (text_of r)

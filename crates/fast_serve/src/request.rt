@@ -1,0 +1,111 @@
+//! What a command line asks for.
+
+ghost use Rattle.std.specs.Prelude.{◌≡◌, None, Some, IfNone, IfOk, IfSome, map, option_and_then, option_map};
+ghost use Rattle.std.specs.Option.{option_copied};
+ghost use Rattle.clap.specs.Words.{app_of};
+ghost use Rattle.clap.specs.declared.builder.value_parser.ValueParser.{ValueParser};
+ghost use Rattle.fast_serve.specs.CommandLine.{AsksFor, command_named, line_among};
+
+use clap::error::ErrorKind;
+use clap::{Arg, ArgAction};
+use fast_command::Command;
+use std::alloc::{AllocError, Global};
+
+/// What a command line asks for.
+#[derive(Clone, Copy, Debug, PartialEq, Eq)]
+pub(crate) struct Request<'a> {
+    pub(crate) command: Command,
+    /// The name of the file with the templates.
+    pub(crate) templates: &'a str,
+    /// Whether the input is hex text, and with it what `canon` writes.
+    pub(crate) hex: bool,
+    /// The name of the file with the stream; without one it is the standard input.
+    pub(crate) input: Option<&'a str>,
+}
+
+/// What the help says behind the list of words.
+const MORE: &str = "\
+Commands:
+  show   Write a line for each message, as `16 First A=5 B=6`
+  check  Write how many messages and bytes there are, and how many canonical bytes
+  canon  Write the canonical bytes: each message in the spelling that comes first
+
+Exit status:
+  0  done
+  1  the stream is refused: standard error has the cause and the place
+  2  the command line, the templates or the hex text is refused
+  3  a file, a read, a write or memory failed
+
+Example:
+  echo '{\"templates\":[{\"name\":\"Tick\",\"id\":1,\"instructions\":[
+    {\"kind\":\"uInt32\",\"name\":\"Price\",\"operator\":\"copy\"}]}]}' > tick.json
+  echo e0 81 85 80 | fastcat show --templates tick.json --hex";
+
+/// The words that a command line may have.
+fn line<'a>(alloc: Global) -> Result<clap::Command<'a>, AllocError>
+    ensures { IfOk result (λ line. (among : _) × (app_of line ≡ line_among among)) }
+{
+    let command = Arg::new(alloc, "command")
+        .value_name("COMMAND")
+        .required(true)
+        .value_parser(["show", "check", "canon"].as_slice())
+        .help("What to do with the stream");
+    let templates = Arg::new(alloc, "templates")
+        .long("templates")
+        .value_name("FILE")
+        .required(true)
+        .help("The templates of the stream, a JSON text");
+    let hex = Arg::new(alloc, "hex")
+        .long("hex")
+        .action(ArgAction::SetTrue)
+        .help("Read hex text, and write canonical bytes as hex text");
+    let input = Arg::new(alloc, "input")
+        .value_name("FILE")
+        .help("The stream; without a name it is standard input");
+    clap::Command::new(alloc, "fastcat")
+        .version("0.1.0")
+        .about("Reads, checks and canonicalises FAST 1.1 streams")
+        .after_help(MORE)
+        .arg(command)?
+        .arg(input)?
+        .arg(templates)?
+        .arg(hex)
+}
+
+/// The command of a word.
+fn command_of(word: Option<&str>) -> Option<Command>
+    ensures { result ≡ option_and_then command_named (option_map (λ w. w.now) word.entry) }
+{
+    match word {
+        Some("show") => Some(Command::Show),
+        Some("check") => Some(Command::Check),
+        Some("canon") => Some(Command::Canon),
+        Some(_) | None => None,
+    }
+}
+
+/// Reads a command line, of which the first word is the program's name.
+pub(crate) fn parse_words<'a>(
+    alloc: Global,
+    words: &'a [&'a str],
+) -> Result<Request<'a>, clap::Error>
+    ensures { IfOk result (λ r. AsksFor (map (λ w. w.now) words.now) r.command r.templates.now r.hex
+        (option_map (λ name. name.now) r.input)) }
+{
+    let mut line = line(alloc)?;
+    let matches = line.try_get_matches_from_mut(words)?;
+    let command = command_of(matches.get_str("command"));
+    match (command, matches.get_str("templates")) {
+        (Some(command), Some(templates)) => Ok(Request {
+            command,
+            templates,
+            hex: matches.get_flag("hex"),
+            input: matches.get_str("input"),
+        }),
+        // The parser lets no other line through.
+        (_, _) => Err(line.error(
+            ErrorKind::MissingRequiredArgument,
+            "COMMAND and --templates are required",
+        )?),
+    }
+}

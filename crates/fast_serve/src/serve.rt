@@ -1,0 +1,361 @@
+//! The program as a call: from a command line, files and streams to the exit status.
+
+ghost use Rattle.std.specs.Prelude.{◌≡◌, ◌≢◌, ◌≤◌, ◌⊎◌, ◌^◌, None, Ok, Err, IfErr, IfOk, map, string_bytes};
+ghost use Rattle.fast_decoder.specs.Inputs.{reader_by};
+ghost use Rattle.fast_template.specs.TemplateSets.{TemplateList};
+ghost use Rattle.fast_host.specs.Devices.{inputs_by, writer_by};
+ghost use Rattle.fast_host.specs.Refusals.{status_of, text_of};
+ghost use Rattle.fast_serve.specs.Served.{CanonInHex, LoadsSet, Performs, PerformsAsked, PerformsHexText, PerformsInHex, PerformsOver, PerformsWith, ReadsHex, RefusesHex, RefusesTemplates, RunsPlain, Says, SaysText, WritesHex, asked_by, status_after};
+
+use crate::request::{Request, parse_words};
+use fast_canon::CanonFault;
+use fast_command::{Command, run};
+use fast_host::{MemoryOutput, Refusal, Source, hex_line, read_hex, read_text};
+use fast_io::{ByteInput, ByteOutput, Counted, write_all};
+use fast_template::TemplateSet;
+use std::alloc::{AllocError, Global};
+use std::io;
+
+/// The most reads that the program makes of an input.
+pub const TURNS: u64 = 1 << 40;
+
+/// The templates that a text stands for. It is read whole before it is judged.
+fn read_templates<I: ByteInput>(
+    alloc: Global,
+    input: &mut I,
+    turns: u64,
+) -> Result<TemplateSet, Refusal>
+    ensures ok { IfOk result (λ set. LoadsSet (I.left input.old) turns set) }
+    ensures refused { IfErr result (RefusesTemplates (I.left input.old) turns) }
+{
+    match read_text(alloc, input, turns) {
+        Err(fault) => Err(Refusal::of_template_text(fault)),
+        Ok(text) => match TemplateSet::from_json(alloc, &text) {
+            Ok(set) => Ok(set),
+            Err(fault) => Err(Refusal::of_load(alloc, fault)),
+        },
+    }
+}
+
+/// The templates of a file.
+fn load<S: Source>(
+    alloc: Global,
+    name: &str,
+    source: &mut S,
+    turns: u64,
+) -> Result<TemplateSet, Refusal>
+    ensures ok { IfOk result (λ set. LoadsSet (S.file source.old name.now) turns set) }
+    ensures refused { IfErr result (RefusesTemplates (S.file source.old name.now) turns) }
+    ensures files { S.file source.new ≡ S.file source.old }
+    ensures input { S.input source.new ≡ S.input source.old }
+{
+    match source.open(name) {
+        None => Err(Refusal::Open),
+        Some(mut file) => read_templates(alloc, &mut file, turns),
+    }
+}
+
+/// The bytes that an input stands for in hex text. It is read whole before it is judged.
+fn read_hex_input<I: ByteInput>(
+    alloc: Global,
+    input: &mut I,
+    turns: u64,
+) -> Result<Vec<u8>, Refusal>
+    ensures ok { IfOk result (λ bytes. ReadsHex turns
+        (reader_by I.left I.calls I.errors I.ends input.old)
+        (reader_by I.left I.calls I.errors I.ends input.new) bytes.items) }
+    ensures refused { IfErr result (RefusesHex turns
+        (reader_by I.left I.calls I.errors I.ends input.old)
+        (reader_by I.left I.calls I.errors I.ends input.new)) }
+{
+    match read_text(alloc, input, turns) {
+        Err(fault) => Err(Refusal::of_text(fault)),
+        Ok(text) => match read_hex(alloc, text) {
+            Ok(bytes) => Ok(bytes),
+            Err(fault) => Err(Refusal::of_hex(fault)),
+        },
+    }
+}
+
+/// Runs a command from the input's bytes to the output's.
+fn run_plain<I: ByteInput, O: ByteOutput>(
+    alloc: Global,
+    command: Command,
+    set: &TemplateSet,
+    input: &mut I,
+    out: &mut O,
+    turns: u64,
+) -> Result<(), Refusal>
+    requires turns { turns ≤ 2 ^ 40 }
+    ensures { RunsPlain command set.now turns
+        (reader_by I.left I.calls I.errors I.ends input.old)
+        (reader_by I.left I.calls I.errors I.ends input.new)
+        (writer_by O.taken O.errors O.flushes out.old)
+        (writer_by O.taken O.errors O.flushes out.new) result }
+{
+    match run(alloc, command, set, input, out, turns) {
+        Ok(_) => Ok(()),
+        Err(fault) => Err(Refusal::of_run(alloc, fault)),
+    }
+}
+
+/// Writes bytes as a line of hex.
+fn write_hex_line<O: ByteOutput>(alloc: Global, bytes: &[u8], out: &mut O) -> Result<(), Refusal>
+    ensures { WritesHex (writer_by O.taken O.errors O.flushes out.old)
+        (writer_by O.taken O.errors O.flushes out.new) bytes.now result }
+{
+    let line = hex_line(alloc, bytes).map_err(|_| Refusal::Memory)?;
+    write_all(out, line.as_bytes()).map_err(|_| Refusal::Write)
+}
+
+/// Writes the canonical bytes of a stream as a line of hex, also those that stand before a fault of the stream.
+fn canon_in_hex<O: ByteOutput>(
+    alloc: Global,
+    set: &TemplateSet,
+    stream: &[u8],
+    out: &mut O,
+    turns: u64,
+) -> Result<(), Refusal>
+    requires turns { turns ≤ 2 ^ 40 }
+    ensures { CanonInHex set.now turns stream.now
+        (writer_by O.taken O.errors O.flushes out.old)
+        (writer_by O.taken O.errors O.flushes out.new) result }
+{
+    let mut input = Counted::new(stream);
+    let mut kept = MemoryOutput {
+        bytes: Vec::new(alloc),
+        calls: 0,
+        errors: 0,
+        flushes: 0,
+    };
+    match run(alloc, Command::Canon, set, &mut input, &mut kept, turns) {
+        Ok(_) => write_hex_line(alloc, &kept.bytes, out),
+        Err(CanonFault::Stream(fault)) => {
+            write_hex_line(alloc, &kept.bytes, out)?;
+            Err(Refusal::of_stream(alloc, fault))
+        }
+        // An output in memory fails only where there is no memory.
+        Err(CanonFault::Write | CanonFault::Memory) => Err(Refusal::Memory),
+    }
+}
+
+/// Does with a stream in memory what is asked of a stream in hex text.
+fn perform_in_hex<O: ByteOutput>(
+    alloc: Global,
+    command: Command,
+    set: &TemplateSet,
+    stream: &[u8],
+    out: &mut O,
+    turns: u64,
+) -> Result<(), Refusal>
+    requires turns { turns ≤ 2 ^ 40 }
+    ensures { PerformsInHex command set.now turns stream.now
+        (writer_by O.taken O.errors O.flushes out.old)
+        (writer_by O.taken O.errors O.flushes out.new) result }
+{
+    match command {
+        Command::Canon => canon_in_hex(alloc, set, stream, out, turns),
+        Command::Show | Command::Check => {
+            let mut input = Counted::new(stream);
+            run_plain(alloc, command, set, &mut input, out, turns)
+        }
+    }
+}
+
+/// Does what is asked of an input in hex text.
+fn perform_hex<I: ByteInput, O: ByteOutput>(
+    alloc: Global,
+    command: Command,
+    set: &TemplateSet,
+    input: &mut I,
+    out: &mut O,
+    turns: u64,
+) -> Result<(), Refusal>
+    requires turns { turns ≤ 2 ^ 40 }
+    ensures { PerformsHexText command set.now turns
+        (reader_by I.left I.calls I.errors I.ends input.old)
+        (reader_by I.left I.calls I.errors I.ends input.new)
+        (writer_by O.taken O.errors O.flushes out.old)
+        (writer_by O.taken O.errors O.flushes out.new) result }
+{
+    match read_hex_input(alloc, input, turns) {
+        Err(refusal) => Err(refusal),
+        Ok(stream) => perform_in_hex(alloc, command, set, &stream, out, turns),
+    }
+}
+
+/// Does what is asked of an input that is open.
+fn perform_over<I: ByteInput, O: ByteOutput>(
+    alloc: Global,
+    request: Request<'_>,
+    set: &TemplateSet,
+    input: &mut I,
+    out: &mut O,
+    turns: u64,
+) -> Result<(), Refusal>
+    requires turns { turns ≤ 2 ^ 40 }
+    ensures { PerformsOver request.entry.hex request.entry.command set.now turns
+        (reader_by I.left I.calls I.errors I.ends input.old)
+        (reader_by I.left I.calls I.errors I.ends input.new)
+        (writer_by O.taken O.errors O.flushes out.old)
+        (writer_by O.taken O.errors O.flushes out.new) result }
+{
+    if request.hex {
+        perform_hex(alloc, request.command, set, input, out, turns)
+    } else {
+        run_plain(alloc, request.command, set, input, out, turns)
+    }
+}
+
+/// Opens the input, and does what is asked of it.
+fn perform_with<S: Source, O: ByteOutput>(
+    alloc: Global,
+    request: Request<'_>,
+    set: &TemplateSet,
+    source: &mut S,
+    out: &mut O,
+    turns: u64,
+) -> Result<(), Refusal>
+    requires turns { turns ≤ 2 ^ 40 }
+    ensures { PerformsWith (asked_by request.entry) set.now (inputs_by S.file S.input source.old) turns
+        (writer_by O.taken O.errors O.flushes out.old)
+        (writer_by O.taken O.errors O.flushes out.new) result }
+{
+    match request.input {
+        None => {
+            let mut input = source.standard();
+            perform_over(alloc, request, set, &mut input, out, turns)
+        }
+        Some(name) => match source.open(name) {
+            None => Err(Refusal::Open),
+            Some(mut file) => perform_over(alloc, request, set, &mut file, out, turns),
+        },
+    }
+}
+
+/// Loads the templates, and does what is asked.
+fn perform_asked<S: Source, O: ByteOutput>(
+    alloc: Global,
+    request: Request<'_>,
+    source: &mut S,
+    out: &mut O,
+    turns: u64,
+) -> Result<(), Refusal>
+    requires turns { turns ≤ 2 ^ 40 }
+    ensures { PerformsAsked (asked_by request.entry) (inputs_by S.file S.input source.old) turns
+        (writer_by O.taken O.errors O.flushes out.old)
+        (writer_by O.taken O.errors O.flushes out.new) result }
+{
+    match load(alloc, request.templates, source, turns) {
+        Err(refusal) => Err(refusal),
+        Ok(set) => perform_with(alloc, request, &set, source, out, turns),
+    }
+}
+
+/// Does what a command line asks for.
+fn perform<S: Source, O: ByteOutput>(
+    alloc: Global,
+    words: &[&str],
+    source: &mut S,
+    out: &mut O,
+    turns: u64,
+) -> Result<(), Refusal>
+    requires turns { turns ≤ 2 ^ 40 }
+    ensures { Performs (map (λ w. w.now) words.now) (inputs_by S.file S.input source.old) turns
+        (writer_by O.taken O.errors O.flushes out.old)
+        (writer_by O.taken O.errors O.flushes out.new) result }
+{
+    match parse_words(alloc, words) {
+        Err(error) => Err(Refusal::of_line(alloc, &error)),
+        Ok(request) => perform_asked(alloc, request, source, out, turns),
+    }
+}
+
+/// Says why the program does not do what it is asked to, and answers its exit status. An `err` that fails changes
+/// no status.
+pub fn report<E: ByteOutput>(refusal: &Refusal, err: &mut E) -> u8
+    ensures status { result ≡ status_of refusal.now }
+    // its text is written and flushed, or a call failed
+    ensures said { SaysText (writer_by E.taken E.errors E.flushes err.old)
+        (writer_by E.taken E.errors E.flushes err.new) (text_of refusal.now) }
+{
+    let _ = write_all(err, refusal.text().as_bytes());
+    refusal.status()
+}
+
+/// Does what a command line asks for, and answers the exit status of the program: 0 where it is done, 1 where the
+/// stream is refused, 2 where the command line, the templates or a hex text is, and 3 for a fault of the machine. To
+/// `out` goes what the command writes, and to `err` the line that says why the status is not 0. The first word is the
+/// program's name. Of each input at most `turns` reads are made, of which there may be up to 2^40.
+///
+/// The first that fails is answered: the command line; opening, reading and loading the templates; opening the input;
+/// with `--hex` reading it whole, its size and its digits; the run.
+pub fn serve<S: Source, O: ByteOutput, E: ByteOutput>(
+    alloc: Global,
+    words: &[&str],
+    source: &mut S,
+    out: &mut O,
+    err: &mut E,
+    turns: u64,
+) -> u8
+    requires turns { turns ≤ 2 ^ 40 }
+    ensures status { result ≤ 3 }
+    ensures quiet { result ≡ 0 → err.new ≡ err.old }
+    // what was read, written and answered, that the status is that of the answer, and what is said
+    ensures performed { (r : _) × (result ≡ status_after r)
+        × Performs (map (λ w. w.now) words.now) (inputs_by S.file S.input source.old) turns
+        (writer_by O.taken O.errors O.flushes out.old)
+        (writer_by O.taken O.errors O.flushes out.new) r
+        × Says (writer_by E.taken E.errors E.flushes err.old)
+        (writer_by E.taken E.errors E.flushes err.new) r }
+{
+    match perform(alloc, words, source, out, turns) {
+        Ok(()) => 0,
+        Err(refusal) => report(&refusal, err),
+    }
+}
+
+/// The words as texts.
+fn texts_of<'a>(alloc: Global, words: &'a [String]) -> Result<Vec<&'a str>, AllocError>
+    ensures { IfOk result (λ texts. map (λ text. text.now) texts.items
+        ≡ map string_bytes words.now) }
+{
+    let mut texts = Vec::new(alloc);
+    for word in words {
+        texts.push(word.as_str())?;
+    }
+    Ok(texts)
+}
+
+/// Serves the words of a process, of which each has to be text.
+pub fn serve_words<S: Source, O: ByteOutput, E: ByteOutput>(
+    alloc: Global,
+    words: io::Result<Vec<String>>,
+    source: &mut S,
+    out: &mut O,
+    err: &mut E,
+    turns: u64,
+) -> u8
+    requires turns { turns ≤ 2 ^ 40 }
+    ensures status { result ≤ 3 }
+    ensures quiet { result ≡ 0 → err.new ≡ err.old }
+    // where there are no words nothing is opened or written, and the status says so
+    ensures no_words { IfErr words (λ _. (2 ≤ result) × (source.new ≡ source.old)
+        × (out.new ≡ out.old)) }
+    // else it serves them, unless memory for them is refused, and then nothing is opened or written
+    ensures performed { IfOk words (λ texts. (r : _) × (result ≡ status_after r)
+        × (((r ≡ Err Refusal.Memory) × (source.new ≡ source.old) × (out.new ≡ out.old))
+        ⊎ Performs (map string_bytes texts.items) (inputs_by S.file S.input source.old) turns
+        (writer_by O.taken O.errors O.flushes out.old)
+        (writer_by O.taken O.errors O.flushes out.new) r)
+        × Says (writer_by E.taken E.errors E.flushes err.old)
+        (writer_by E.taken E.errors E.flushes err.new) r) }
+{
+    match words {
+        Err(error) => report(&Refusal::of_words(&error), err),
+        Ok(words) => match texts_of(alloc, &words) {
+            Ok(texts) => serve(alloc, &texts, source, out, err, turns),
+            Err(_) => report(&Refusal::Memory, err),
+        },
+    }
+}

@@ -1,5 +1,0 @@
-use Rattle.std.proofs.Common.{inr, refl}
-use Rattle.fastcat.proofs.refusal.Refusal.of_line.Goals as goal
-
-pub returns-in-Ok-clause-line : goal.returns-in-Ok-clause-line
-returns-in-Ok-clause-line c = inr (c.in-Ok.text, refl)

@@ -1,0 +1,134 @@
+//! Readers and writers that give little, or fail.
+
+ghost use Rattle.std.specs.Prelude.{None};
+
+use fast_host::Source;
+use fast_io::Counted;
+use std::io::{self, Read, Write};
+
+/// An error of a device.
+fn broken() -> io::Error {
+    io::Error::from(io::ErrorKind::Other)
+}
+
+/// What stands after the bytes of a source.
+#[derive(Clone, Copy)]
+pub enum After {
+    End,
+    Error,
+}
+
+/// Gives bytes, at most so many a read.
+#[derive(Clone, Copy, Drop)]
+pub struct Feed<'a> {
+    pub rest: &'a [u8],
+    pub width: usize,
+    pub after: After,
+}
+
+impl Read for Feed<'_> {
+    fn read(&mut self, buf: &mut [u8]) -> io::Result<usize> {
+        match self.after {
+            After::Error if self.rest.is_empty() => Err(broken()),
+            _ => {
+                let len = buf.len().min(self.width);
+                self.rest.read(&mut buf[..len])
+            }
+        }
+    }
+}
+
+/// The name of the file with the templates, and of one with a stream.
+pub const TEMPLATES: &str = "templates.json";
+
+pub const STREAM: &str = "stream.fast";
+
+/// Two files and a standard input.
+#[derive(Drop)]
+pub struct Shelf<'a> {
+    pub templates: Feed<'a>,
+    pub stream: Feed<'a>,
+    pub standard: Feed<'a>,
+}
+
+impl<'a> Source for Shelf<'a> {
+    type File = Counted<Feed<'a>>;
+
+    type Standard = Counted<Feed<'a>>;
+
+    ghost file = { λ s name. None };
+
+    ghost input = { λ s. None };
+
+    fn open(&mut self, name: &str) -> Option<Counted<Feed<'a>>> {
+        if name == TEMPLATES {
+            Some(Counted::new(self.templates))
+        } else if name == STREAM {
+            Some(Counted::new(self.stream))
+        } else {
+            None
+        }
+    }
+
+    fn standard(&mut self) -> Counted<Feed<'a>> {
+        Counted::new(self.standard)
+    }
+}
+
+/// Keeps all bytes, and counts the flushes.
+#[derive(Drop)]
+pub struct Flushed<'a> {
+    pub kept: &'a mut Vec<u8>,
+    pub flushes: &'a mut u32,
+}
+
+impl Write for Flushed<'_> {
+    fn write(&mut self, bytes: &[u8]) -> io::Result<usize> {
+        self.kept.write(bytes)
+    }
+
+    fn flush(&mut self) -> io::Result<()> {
+        *self.flushes = self.flushes.saturating_add(1);
+        Ok(())
+    }
+}
+
+/// What a full sink answers, and to what.
+#[derive(Clone, Copy)]
+pub enum Full {
+    /// It answers an error to a write.
+    Error,
+    /// It takes no byte.
+    Nothing,
+    /// It answers an error to a flush, and takes all bytes.
+    Flush,
+}
+
+/// Keeps the bytes for which it has room.
+#[derive(Drop)]
+pub struct Sink<'a> {
+    pub kept: &'a mut Vec<u8>,
+    pub room: usize,
+    pub full: Full,
+}
+
+impl Write for Sink<'_> {
+    fn write(&mut self, bytes: &[u8]) -> io::Result<usize> {
+        match self.full {
+            Full::Flush => self.kept.write(bytes),
+            Full::Error if self.room == 0 => Err(broken()),
+            _ => {
+                let count = bytes.len().min(self.room);
+                self.room -= count;
+                self.kept.write(&bytes[..count])
+            }
+        }
+    }
+
+    fn flush(&mut self) -> io::Result<()> {
+        match self.full {
+            Full::Flush => Err(broken()),
+            _ => Ok(()),
+        }
+    }
+}

@@ -1,0 +1,121 @@
+//! The order book and the trade feed of examples/: their lines and canonical bytes, and those of these bytes.
+
+use crate::tests::devices::{After, Feed, STREAM, Shelf, TEMPLATES};
+use fast_io::Counted;
+use fast_serve::serve::{TURNS, serve};
+use std::alloc::Global;
+use std::process::Abort;
+use std::test::Fail;
+
+// The text of book.json.
+const BOOK: &str = r#"{"templates":[
+{"name":"Book","id":1,"instructions":[
+ {"kind":"uInt32","name":"Seq","operator":"increment"},
+ {"kind":"string","name":"Symbol","operator":"copy"},
+ {"kind":"sequence","name":"Entries","instructions":[
+  {"kind":"uInt32","name":"Side","operator":"copy"},
+  {"kind":"decimal","name":"Price",
+   "exponent":{"operator":"default","value":"-2"},"mantissa":{"operator":"delta"}},
+  {"kind":"uInt32","name":"Size","operator":"copy"}]}]}]}"#;
+
+// The text of trade.json.
+const TRADE: &str = r#"{"templates":[
+{"name":"Trade","id":2,"instructions":[
+ {"kind":"uInt64","name":"Time","operator":"delta"},
+ {"kind":"string","name":"Symbol","operator":"delta"},
+ {"kind":"decimal","name":"Price","operator":"delta"},
+ {"kind":"uInt32","name":"Size","operator":"default","value":"100"},
+ {"kind":"byteVector","name":"Buyer","presence":"optional","operator":"copy"}]}]}"#;
+
+// Bytes that are given whole.
+fn whole(text: &str) -> Feed<'_> {
+    Feed {
+        rest: text.as_bytes(),
+        width: 4096,
+        after: After::End,
+    }
+}
+
+// Serves a command over templates and a stream in hex text.
+fn is_served(
+    rt: &impl Abort,
+    alloc: Global,
+    command: &str,
+    templates: &str,
+    stream: &str,
+    want: &str,
+) -> Result<(), Fail> {
+    let mut out = Vec::new(alloc);
+    let mut err = Vec::new(alloc);
+    let status = serve(
+        alloc,
+        &[
+            "fastcat",
+            command,
+            "--hex",
+            "--templates",
+            TEMPLATES,
+            STREAM,
+        ],
+        &mut Shelf {
+            templates: whole(templates),
+            stream: whole(stream),
+            standard: whole(""),
+        },
+        &mut Counted::new(&mut out),
+        &mut Counted::new(&mut err),
+        TURNS,
+    );
+    assert_eq!(rt; out.as_slice(), want.as_bytes(), "{command}");
+    assert!(rt; err.is_empty(), "{command}");
+    assert_eq!(rt; status, 0, "{command}");
+    Ok(())
+}
+
+// An example, and the same of its canonical bytes.
+fn example(
+    rt: &impl Abort,
+    alloc: Global,
+    templates: &str,
+    stream: &str,
+    lines: &str,
+    canon: &str,
+) -> Result<(), Fail> {
+    for input in [stream, canon] {
+        is_served(rt, alloc, "show", templates, input, lines)?;
+        is_served(rt, alloc, "canon", templates, input, canon)?;
+    }
+    Ok(())
+}
+
+#[test]
+fn an_order_book(rt: HostRuntime) -> Result<(), Fail> {
+    let stream = "f0 81 81 45 d3 82 d0 80 1b 3b e9 8a c0 81 99\nf0 81 82 45 d3 81 d0 81 99 84\n";
+    let lines = concat!(
+        "1 Book Seq=1 Symbol=\"ES\" Entries=[{Side=0 Price=450025e-2 Size=10} ",
+        "{Side=1 Price=450050e-2 Size=10}]\n",
+        "1 Book Seq=2 Symbol=\"ES\" Entries=[{Side=1 Price=450075e-2 Size=4}]\n",
+    );
+    let canon = "f0818145d382d0801b3be98ac081998081909984\n";
+    example(&rt, rt.alloc(), BOOK, stream, lines, canon)?;
+    let told = "ok messages=2 bytes=25 canonical=20\n";
+    is_served(&rt, rt.alloc(), "check", BOOK, stream, told)
+}
+
+#[test]
+fn a_trade_feed(rt: HostRuntime) -> Result<(), Fail> {
+    let stream = concat!(
+        "c0 82 10 27 33 c0 80 45 53 5a b6 fe 1b 3b e9\n",
+        "b0 8f 80 80 80 99 01 fa 83 0a ff\n",
+        "a0 80 84 45 53 48 b7 80 80 e4\n",
+    );
+    let lines = concat!(
+        "2 Trade Time=34200000 Symbol=\"ESZ6\" Price=450025e-2 Size=100 Buyer=-\n",
+        "2 Trade Time=34200015 Symbol=\"ESZ6\" Price=450050e-2 Size=250 Buyer=x0aff\n",
+        "2 Trade Time=34200015 Symbol=\"ESH7\" Price=450050e-2 Size=100 Buyer=x0aff\n",
+    );
+    let canon = "c082102733c08045535ab6fe1b3be9b08f8080809901fa830aff80808248b78080\n";
+    example(&rt, rt.alloc(), TRADE, stream, lines, canon)?;
+    let told = "ok messages=3 bytes=36 canonical=33\n";
+    is_served(&rt, rt.alloc(), "check", TRADE, stream, told)
+}
