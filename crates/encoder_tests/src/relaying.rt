@@ -2,9 +2,9 @@
 
 use crate::worked::WORKED;
 use fast_dictionary::MapEntries;
-use fast_writer::Writer;
 use fast_stream::{Receiver, Traversal};
 use fast_template::TemplateSet;
+use fast_writer::Writer;
 use std::alloc::{AllocError, Global};
 use std::process::Abort;
 

@@ -11,10 +11,10 @@ use crate::relay::relay;
 use crate::summary::Summary;
 use fast_decoder::Reached;
 use fast_dictionary::SlotEntries;
-use fast_writer::Writer;
 use fast_io::{ByteInput, ByteOutput};
 use fast_stream::Machine;
 use fast_template::TemplateSet;
+use fast_writer::Writer;
 use std::alloc::Global;
 
 /// Reads a stream of messages of a template set to its end, from undefined entries, and writes the canonical bytes of

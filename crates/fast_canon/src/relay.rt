@@ -12,9 +12,9 @@ ghost use Rattle.fast_canon.specs.Relays.{Broken, Relayed, Relays};
 
 use fast_decoder::Reached;
 use fast_dictionary::Entries;
-use fast_writer::Writer;
 use fast_io::{ByteInput, ByteOutput, Failed, push_all};
 use fast_stream::{Cause, Machine};
+use fast_writer::Writer;
 
 /// The most bytes that one read takes.
 pub(crate) const CHUNK: usize = 4096;

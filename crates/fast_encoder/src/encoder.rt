@@ -9,9 +9,9 @@ ghost use Rattle.fast_stream.specs.OneProof.{ServesAll-prop};
 ghost use Rattle.fast_encoder.specs.OneProof.{KeepScalars, KeepScalars-prop};
 
 use crate::journal::Journal;
-use fast_writer::Level;
 use fast_dictionary::Entries;
 use fast_template::{FieldPart, TemplateSet};
+use fast_writer::Level;
 use std::alloc::Global;
 
 /// Writes messages of a template set in canonical form, each from the entries that the ones before left.

@@ -16,12 +16,12 @@ ghost use Rattle.fast_writer.specs.Written.{Segment};
 
 use crate::fault::{EncodeCause, EncodeFault};
 use crate::journal::Journal;
-use fast_writer::Level;
 use crate::put::no_memory;
 use crate::shape::may_be_absent;
 use fast_dictionary::Entries;
 use fast_stream::Node;
 use fast_template::{FieldPart, Flat, Scalar, has_map};
+use fast_writer::Level;
 use std::alloc::Global;
 
 // A node that is not of its instruction's shape.

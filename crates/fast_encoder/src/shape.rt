@@ -8,9 +8,9 @@ ghost use Rattle.fast_field.specs.Refusals.{are_characters, has_characters};
 ghost use Rattle.fast_stream.specs.Nodes.{elements_of, item_of, items_in, items_of};
 ghost use Rattle.fast_encoder.specs.FirstRefusal.{elements_fit, item_fits, items_fit, value_fits};
 
-use fast_writer::is_of_kind;
 use fast_stream::Node;
 use fast_template::{FieldPart, Flat, Presence, Scalar};
+use fast_writer::is_of_kind;
 
 // Whether each unit is a character of ASCII.
 fn all_characters(text: &[u8]) -> bool

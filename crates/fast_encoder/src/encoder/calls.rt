@@ -12,11 +12,11 @@ use crate::encoder::Encoder;
 use crate::fault::{EncodeCause, EncodeFault};
 use crate::journal::Journal;
 use crate::judge::template_for;
-use fast_writer::Level;
 use crate::message::put_message;
 use fast_dictionary::Entries;
 use fast_stream::Message;
 use fast_template::{FieldPart, Key, Kind, Name, Operator, Part, Presence, Scope, TemplateSet};
+use fast_writer::Level;
 use std::alloc::Global;
 
 impl<'a, E: Entries> Encoder<'a, E> {

@@ -14,10 +14,10 @@ ghost use Rattle.fast_writer.specs.Levels.{level_of};
 
 use crate::fault::EncodeFault;
 use crate::journal::{Change, Journal};
-use fast_writer::Level;
 use crate::put::{no_memory, put_part};
 use fast_dictionary::{Entries, Entry};
 use fast_template::{FieldPart, Scalar};
+use fast_writer::Level;
 use std::alloc::Global;
 
 /// Appends the best form of a part's value to a segment, none where it is absent, and makes the part's entry the one
