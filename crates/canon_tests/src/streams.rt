@@ -2,6 +2,7 @@
 
 ghost use Rattle.std.specs.Prelude.{◌≤◌};
 
+use crate::same::same;
 use fast_canon::{CanonFault, Summary, canonicalise, check};
 use fast_io::{Counted, ScriptInput, ScriptOutput};
 use fast_stream::{Cause, Fault, Place};
@@ -68,9 +69,9 @@ fn row(
     };
     let mut out = ScriptOutput::new(alloc, 1000, false, false);
     let (canonicalised, checked) = run(alloc, &set, stream, step, &mut out);
-    assert_eq!(rt; canonicalised, answer);
-    assert_eq!(rt; checked, answer);
-    assert_eq!(rt; out.bytes(), written);
+    same(rt, canonicalised, answer);
+    same(rt, checked, answer);
+    same(rt, out.bytes(), written);
     Ok(())
 }
 
@@ -124,12 +125,12 @@ fn a_writer_that_fails(rt: HostRuntime) -> Result<(), AllocError> {
     };
     let mut out = ScriptOutput::new(alloc, 3, false, false);
     let (answer, _) = run(alloc, &set, &TWO[..8], 8, &mut out);
-    assert_eq!(rt; answer, Err(CanonFault::Write));
-    assert_eq!(rt; out.bytes(), [0xf0, 0x81, 0x81].as_slice());
+    same(&rt, answer, Err(CanonFault::Write));
+    same(&rt, out.bytes(), [0xf0, 0x81, 0x81].as_slice());
     let mut out = ScriptOutput::new(alloc, 100, false, true);
     let (answer, _) = run(alloc, &set, TWO, 8, &mut out);
-    assert_eq!(rt; answer, Err(CanonFault::Write));
-    assert_eq!(rt; out.bytes(), CANONICAL);
+    same(&rt, answer, Err(CanonFault::Write));
+    same(&rt, out.bytes(), CANONICAL);
     Ok(())
 }
 
@@ -141,15 +142,17 @@ fn reads_that_are_used_up(rt: HostRuntime) -> Result<(), AllocError> {
     };
     let mut reader = Counted::new(ScriptInput::new(TWO, 4, 0));
     let fault = refused(Cause::Turns, 2, 8, 0, 0);
-    assert_eq!(rt;
+    same(
+        &rt,
         check(alloc, &set, &mut reader, 2),
-        Err(CanonFault::Stream(fault))
+        Err(CanonFault::Stream(fault)),
     );
     let mut reader = Counted::new(ScriptInput::new(TWO, 4, 2));
     let fault = refused(Cause::Read, 1, 3, 1, 2);
-    assert_eq!(rt;
+    same(
+        &rt,
         check(alloc, &set, &mut reader, 9),
-        Err(CanonFault::Stream(fault))
+        Err(CanonFault::Stream(fault)),
     );
     Ok(())
 }

@@ -1,5 +1,6 @@
 //! Lines of messages of the worked templates, and messages that have none.
 
+use crate::same::same;
 use fast_command::{ShowFault, show_line};
 use fast_decoder::Decoder;
 use fast_dictionary::MapEntries;
@@ -148,7 +149,7 @@ fn worked_streams_have_their_lines(rt: HostRuntime) -> Result<(), Fail> {
     let set = load(alloc, WORKED)?;
     for row in &ROWS {
         let lines = lines_of(alloc, &set, row.stream)?;
-        assert_eq!(rt; lines.as_slice(), row.lines.as_bytes());
+        same(&rt, lines.as_slice(), row.lines.as_bytes());
     }
     Ok(())
 }
@@ -182,8 +183,12 @@ fn refused(
     message: &Message,
 ) -> Result<(), Fail> {
     let mut out = Vec::from_slice(alloc, b"before")?;
-    assert_eq!(rt; show_line(set, message, &mut out), Err(ShowFault::Mismatch));
-    assert_eq!(rt; out.as_slice(), b"before".as_slice());
+    same(
+        rt,
+        show_line(set, message, &mut out),
+        Err(ShowFault::Mismatch),
+    );
+    same(rt, out.as_slice(), b"before".as_slice());
     Ok(())
 }
 
@@ -227,8 +232,8 @@ fn a_line_stands_behind_what_was_there(rt: HostRuntime) -> Result<(), Fail> {
     // a quote, a backslash, `~` and DEL
     let message = one(alloc, 8, text(alloc, b"\"\\~\x7f")?)?;
     let mut out = Vec::from_slice(alloc, b"before")?;
-    assert_eq!(rt; show_line(&set, &message, &mut out), Ok(()));
+    same(&rt, show_line(&set, &message, &mut out), Ok(()));
     let line = b"before8 Tail S=\"\\x22\\x5c~\\x7f\"\n";
-    assert_eq!(rt; out.as_slice(), line.as_slice());
+    same(&rt, out.as_slice(), line.as_slice());
     Ok(())
 }

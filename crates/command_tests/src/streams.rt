@@ -3,6 +3,7 @@
 ghost use Rattle.std.specs.Prelude.{◌≤◌, ◌^◌};
 
 use crate::lines::WORKED;
+use crate::same::same;
 use fast_canon::{CanonFault, Summary};
 use fast_command::{Command, run};
 use fast_io::{Counted, ScriptInput, ScriptOutput};
@@ -351,8 +352,8 @@ fn gives(
 ) {
     let mut out = ScriptOutput::new(alloc, 1_000_000, false, false);
     let got = play(alloc, set, command, reader, &mut out, 100_000);
-    assert_eq!(rt; got, answer);
-    assert_eq!(rt; out.bytes(), written);
+    same(rt, got, answer);
+    same(rt, out.bytes(), written);
 }
 
 /// What each command makes of a stream that ends, in steps of one size.
@@ -508,8 +509,8 @@ fn breaks_at(
         &mut out,
         100,
     );
-    assert_eq!(rt; got, Err(CanonFault::Write));
-    assert_eq!(rt; out.bytes(), &whole[..room.min(whole.len())]);
+    same(rt, got, Err(CanonFault::Write));
+    same(rt, out.bytes(), &whole[..room.min(whole.len())]);
 }
 
 /// A writer that answers that it took nothing.
@@ -517,7 +518,7 @@ fn takes_none(rt: &impl Abort, alloc: Global, set: &TemplateSet, command: Comman
     let mut out = ScriptOutput::new(alloc, 0, true, false);
     let reader = ScriptInput::new(TWO, 4096, 0);
     let got = play(alloc, set, command, reader, &mut out, 100);
-    assert_eq!(rt; got, Err(CanonFault::Write));
+    same(rt, got, Err(CanonFault::Write));
     assert!(rt; out.bytes().is_empty());
 }
 
@@ -536,8 +537,8 @@ fn breaks(rt: &impl Abort, alloc: Global, set: &TemplateSet, command: Command, w
         &mut out,
         100,
     );
-    assert_eq!(rt; got, Err(CanonFault::Write));
-    assert_eq!(rt; out.bytes(), whole);
+    same(rt, got, Err(CanonFault::Write));
+    same(rt, out.bytes(), whole);
 }
 
 #[test]
@@ -569,7 +570,7 @@ fn flush_fails(
         &mut out,
         100,
     );
-    assert_eq!(rt; got, Err(CanonFault::Write));
+    same(rt, got, Err(CanonFault::Write));
     assert!(rt; out.bytes().is_empty());
 }
 
@@ -606,7 +607,7 @@ fn turned(
         &mut out,
         turns,
     );
-    assert_eq!(rt; got, answer);
+    same(rt, got, answer);
 }
 
 #[test]
@@ -635,7 +636,7 @@ fn a_long_stream(rt: HostRuntime) -> Result<(), Fail> {
     let mut out = ScriptOutput::new(alloc, 1_000_000, false, false);
     let reader = ScriptInput::new(&stream, 4096, 0);
     let got = play(alloc, &set, Command::Show, reader, &mut out, 100);
-    assert_eq!(rt; got, counted(10_001, 30_008, 428_139));
+    same(&rt, got, counted(10_001, 30_008, 428_139));
     let last = b"\n1 Quote Seq=10001 Sym=\"AB\" Px=10100e-2 Qty=-\n";
     assert!(rt; out.bytes().ends_with(last));
     let told = b"ok messages=10001 bytes=30008 canonical=30008\n";
@@ -656,7 +657,7 @@ fn a_long_line(rt: HostRuntime) -> Result<(), Fail> {
     let mut out = ScriptOutput::new(alloc, 1_000_000, false, false);
     let reader = ScriptInput::new(stream, 4096, 0);
     let got = play(alloc, &set, Command::Show, reader, &mut out, 100);
-    assert_eq!(rt; got, counted(1, 5, 196_616));
+    same(&rt, got, counted(1, 5, 196_616));
     assert!(rt; out.bytes().starts_with(b"6 Bare L=[{} {} {} "));
     assert!(rt; out.bytes().ends_with(b" {} {}]\n"));
     let told = b"ok messages=1 bytes=5 canonical=5\n";

@@ -4,6 +4,8 @@
 #[cfg(test)]
 mod messages;
 #[cfg(test)]
+mod same;
+#[cfg(test)]
 mod slots;
 #[cfg(test)]
 mod streams;

@@ -2,6 +2,7 @@
 
 ghost use Rattle.fast_stream.specs.Traversals.{ServesAll};
 
+use crate::same::same;
 use crate::slots::slots_of;
 use fast_decoder::Decoder;
 use fast_dictionary::{Entries, MapEntries};
@@ -29,7 +30,7 @@ fn message(alloc: Global, text: &[u8], room: usize) -> Result<Message, AllocErro
 fn messages_are_equal_by_their_contents(rt: HostRuntime) -> Result<(), AllocError> {
     let alloc = rt.alloc();
     let one = message(alloc, b"GEM", 0)?;
-    assert_eq!(rt; &one, &message(alloc, b"GEM", 9)?);
+    same(&rt, &one, &message(alloc, b"GEM", 9)?);
     assert_ne!(rt; &one, &message(alloc, b"GEM4", 0)?);
     Ok(())
 }
@@ -132,7 +133,7 @@ fn a_stream_is_refused_and_begun_again(rt: HostRuntime) -> Result<(), AllocError
     assert!(rt; keeps(&mut decoder, &[0x80], &mut messages, fault));
     decoder.reset();
     assert!(rt; takes_all(&mut decoder, &mut messages));
-    assert_eq!(rt; messages.len(), 1);
+    same(&rt, messages.len(), 1);
     Ok(())
 }
 
@@ -158,6 +159,6 @@ fn a_stream_that_is_cut_is_truncated(rt: HostRuntime) -> Result<(), AllocError> 
     let mut messages = Vec::new(alloc);
     let fault = at(Cause::Truncated, 5, 1, 3);
     assert!(rt; is_cut(&mut decoder, &mut messages, fault));
-    assert_eq!(rt; messages.len(), 0);
+    same(&rt, messages.len(), 0);
     Ok(())
 }

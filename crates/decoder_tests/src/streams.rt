@@ -3,6 +3,7 @@
 ghost use Rattle.std.specs.Prelude.{◌≤◌, length};
 ghost use Rattle.fast_stream.specs.Traversals.{ServesAll};
 
+use crate::same::same;
 use crate::slots::slots_of;
 use fast_decoder::{Decoder, MessageInputStream};
 use fast_dictionary::{Entries, MapEntries};
@@ -315,24 +316,26 @@ const QUOTE: &[u8] = b"\xF0\x81\x81\x41\xC2\xFE\x00\xE4";
 fn fields(rt: HostRuntime) {
     let alloc = rt.alloc();
     let stream = b"\xF0\x81\x81\x41\xC2\xFE\x00\xE4\x80\x80\x81";
-    assert_eq!(rt; gives(alloc, stream, quotes(alloc), None), true);
+    same(&rt, gives(alloc, stream, quotes(alloc), None), true);
     let stream = b"\xE0\x82\x0F\x7F\x7F\x7F\xFF\x0F\x7F\x7F\x7F\xFF\x80\x80\x80\x81";
-    assert_eq!(rt;
+    same(
+        &rt,
         gives(alloc, stream, wraps(alloc), at(Cause::D2, 3, 15, 2, 2)),
-        true
+        true,
     );
     let stream = b"\xF0\x83\x80\x85\x90\x39\x45\xA3";
-    assert_eq!(rt; gives(alloc, stream, parts(alloc), None), true);
+    same(&rt, gives(alloc, stream, parts(alloc), None), true);
 }
 
 #[test]
 fn string_deltas(rt: HostRuntime) {
     let alloc = rt.alloc();
     let stream = b"\xC0\x8A\x80\x47\x45\x48\xB6\x80\x82\x4D\xB6\x80\xFD\x45\xD3\x80\x85\x80";
-    assert_eq!(rt; gives(alloc, &stream[..15], deltas(alloc), None), true);
-    assert_eq!(rt;
+    same(&rt, gives(alloc, &stream[..15], deltas(alloc), None), true);
+    same(
+        &rt,
         gives(alloc, stream, deltas(alloc), at(Cause::D7, 4, 16, 10, 1)),
-        true
+        true,
     );
 }
 
@@ -340,75 +343,95 @@ fn string_deltas(rt: HostRuntime) {
 fn segments(rt: HostRuntime) {
     let alloc = rt.alloc();
     let stream = b"\xC0\x84\x80\x80\x81\x80\x83\x85\x86";
-    assert_eq!(rt; gives(alloc, stream, legs(alloc), None), true);
+    same(&rt, gives(alloc, stream, legs(alloc), None), true);
     let stream = b"\xC0\x85\x82\xC0\x85\x80";
-    assert_eq!(rt; gives(alloc, stream, marks(alloc), None), true);
+    same(&rt, gives(alloc, stream, marks(alloc), None), true);
     let stream = b"\xF0\x8B\xC0\x85\x86\x80\xA0\x80";
-    assert_eq!(rt; gives(alloc, stream, groups(alloc), None), true);
+    same(&rt, gives(alloc, stream, groups(alloc), None), true);
 }
 
 #[test]
 fn refusals(rt: HostRuntime) {
     let alloc = rt.alloc();
-    assert_eq!(rt; refuses(alloc, &[], None), true);
-    assert_eq!(rt; refuses(alloc, b"\x80", at(Cause::D5, 1, 1, 0, 0)), true);
-    assert_eq!(rt;
+    same(&rt, refuses(alloc, &[], None), true);
+    same(
+        &rt,
+        refuses(alloc, b"\x80", at(Cause::D5, 1, 1, 0, 0)),
+        true,
+    );
+    same(
+        &rt,
         refuses(alloc, b"\xC0\xE4", at(Cause::D9, 1, 1, 0, 0)),
-        true
+        true,
     );
-    assert_eq!(rt;
+    same(
+        &rt,
         refuses(alloc, b"\xC0\x84\x04\x00\x81", at(Cause::Limit, 1, 2, 4, 1)),
-        true
+        true,
     );
-    assert_eq!(rt;
+    same(
+        &rt,
         refuses(alloc, b"\xC0\x8D\x85", at(Cause::D6, 1, 2, 13, 2)),
-        true
+        true,
     );
     let stream = b"\xF0\x81\x81\x41\xC2\x00\xC0";
-    assert_eq!(rt; refuses(alloc, stream, at(Cause::R1, 1, 5, 1, 3)), true);
+    same(&rt, refuses(alloc, stream, at(Cause::R1, 1, 5, 1, 3)), true);
     let stream = b"\xF0\x87\x85\xC1\x80";
-    assert_eq!(rt;
+    same(
+        &rt,
         gives(alloc, stream, clash(alloc), at(Cause::D4, 2, 5, 7, 1)),
-        true
+        true,
     );
     let stream = b"\xF0\x81\0\0\0\0\0\0\0\0\0\0";
-    assert_eq!(rt; refuses(alloc, stream, at(Cause::Limit, 1, 2, 1, 1)), true);
-    assert_eq!(rt;
+    same(
+        &rt,
+        refuses(alloc, stream, at(Cause::Limit, 1, 2, 1, 1)),
+        true,
+    );
+    same(
+        &rt,
         refuses(alloc, &stream[..11], at(Cause::Truncated, 1, 2, 1, 1)),
-        true
+        true,
     );
 }
 
 #[test]
 fn cut_off(rt: HostRuntime) {
     let alloc = rt.alloc();
-    assert_eq!(rt;
+    same(
+        &rt,
         refuses(alloc, &QUOTE[..1], at(Cause::Truncated, 1, 1, 0, 0)),
-        true
+        true,
     );
-    assert_eq!(rt;
+    same(
+        &rt,
         refuses(alloc, &QUOTE[..2], at(Cause::Truncated, 1, 2, 1, 1)),
-        true
+        true,
     );
-    assert_eq!(rt;
+    same(
+        &rt,
         refuses(alloc, &QUOTE[..3], at(Cause::Truncated, 1, 3, 1, 2)),
-        true
+        true,
     );
-    assert_eq!(rt;
+    same(
+        &rt,
         refuses(alloc, &QUOTE[..4], at(Cause::Truncated, 1, 3, 1, 2)),
-        true
+        true,
     );
-    assert_eq!(rt;
+    same(
+        &rt,
         refuses(alloc, &QUOTE[..5], at(Cause::Truncated, 1, 5, 1, 3)),
-        true
+        true,
     );
-    assert_eq!(rt;
+    same(
+        &rt,
         refuses(alloc, &QUOTE[..6], at(Cause::Truncated, 1, 5, 1, 3)),
-        true
+        true,
     );
-    assert_eq!(rt;
+    same(
+        &rt,
         refuses(alloc, &QUOTE[..7], at(Cause::Truncated, 1, 5, 1, 3)),
-        true
+        true,
     );
 }
 
@@ -450,8 +473,12 @@ fn long(alloc: Global, characters: usize, fault: Option<Fault>) -> Result<bool, 
 #[test]
 fn long_strings(rt: HostRuntime) {
     let alloc = rt.alloc();
-    assert_eq!(rt; long(alloc, 65_535, None), Ok(true));
-    assert_eq!(rt; long(alloc, 65_536, at(Cause::Limit, 1, 3, 1, 2)), Ok(true));
+    same(&rt, long(alloc, 65_535, None), Ok(true));
+    same(
+        &rt,
+        long(alloc, 65_536, at(Cause::Limit, 1, 3, 1, 2)),
+        Ok(true),
+    );
 }
 
 // Whether so many bytes are held after one byte more.
@@ -486,9 +513,13 @@ fn holds(alloc: Global, stream: &[u8], held: &[usize]) -> bool {
 #[test]
 fn held_byte_by_byte(rt: HostRuntime) {
     let alloc = rt.alloc();
-    assert_eq!(rt; holds(alloc, QUOTE, &[0, 0, 0, 1, 0, 1, 2, 0]), true);
-    assert_eq!(rt; holds(alloc, b"\xC0\x85\x82\xC0\x85\x80", &[0; 6]), true);
-    assert_eq!(rt; holds(alloc, b"\x80", &[0]), true);
+    same(&rt, holds(alloc, QUOTE, &[0, 0, 0, 1, 0, 1, 2, 0]), true);
+    same(
+        &rt,
+        holds(alloc, b"\xC0\x85\x82\xC0\x85\x80", &[0; 6]),
+        true,
+    );
+    same(&rt, holds(alloc, b"\x80", &[0]), true);
 }
 
 // Whether the most bytes are held while the last byte of a delta of 65,535 is missing, and none behind it.
@@ -518,7 +549,7 @@ fn the_most_held(rt: HostRuntime) -> Result<(), AllocError> {
     let mut decoder = Decoder::new(alloc, &set, slots_of(alloc, &set)?);
     let mut messages = Vec::new(alloc);
     assert!(rt; holds_most(&mut decoder, &part, &mut messages));
-    assert_eq!(rt; messages.len(), 1);
+    same(&rt, messages.len(), 1);
     Ok(())
 }
 
@@ -546,14 +577,15 @@ fn faults(
 fn failed_and_used_up_reads(rt: HostRuntime) {
     let alloc = rt.alloc();
     let failed = at(Cause::Read, 1, 2, 1, 1);
-    assert_eq!(rt; faults(alloc, b"\xF0\x81", 2, 2, 9), (failed, failed));
+    same(&rt, faults(alloc, b"\xF0\x81", 2, 2, 9), (failed, failed));
     let used_up = at(Cause::Turns, 1, 2, 1, 1);
-    assert_eq!(rt; faults(alloc, QUOTE, 1, 0, 2), (used_up, used_up));
+    same(&rt, faults(alloc, QUOTE, 1, 0, 2), (used_up, used_up));
     // eight reads for a message, and one that meets the end
-    assert_eq!(rt; faults(alloc, QUOTE, 1, 0, 9), (None, None));
-    assert_eq!(rt;
+    same(&rt, faults(alloc, QUOTE, 1, 0, 9), (None, None));
+    same(
+        &rt,
         faults(alloc, QUOTE, 1, 0, 8),
-        (None, at(Cause::Turns, 2, 8, 0, 0))
+        (None, at(Cause::Turns, 2, 8, 0, 0)),
     );
 }
 
@@ -582,5 +614,5 @@ fn reset(rt: HostRuntime) {
     let mut messages = Vec::new(alloc);
     let fault = at(Cause::D5, 1, 1, 0, 0);
     assert!(rt; begins_again(&mut decoder, &mut messages, fault));
-    assert_eq!(rt; messages.len(), 1);
+    same(&rt, messages.len(), 1);
 }

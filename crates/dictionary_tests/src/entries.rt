@@ -3,6 +3,7 @@
 ghost use Rattle.std.specs.Prelude.{Contains, IfSome, IsTrue};
 ghost use Rattle.fast_template.specs.Resolved.{instruction_of, keys_of, keys_of_one, list_of};
 
+use crate::same::same;
 use fast_dictionary::{Entries, Entry, EntryRef, MapEntries, SlotEntries};
 use fast_template::{
     Flat, FlatTemplate, Key, LoadCause, LoadFault, Name, Part, Scalar, Scope, TemplateSet,
@@ -94,7 +95,7 @@ fn entries_of_a_reference(rt: HostRuntime) -> Result<(), AllocError> {
         Entry::Empty,
         Entry::Assigned(text(alloc, "é")?),
     ] {
-        assert_eq!(rt; entry.view().copy(alloc)?, entry);
+        same(&rt, entry.view().copy(alloc)?, entry);
     }
     Ok(())
 }

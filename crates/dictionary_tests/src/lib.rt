@@ -3,3 +3,5 @@
 
 #[cfg(test)]
 mod entries;
+#[cfg(test)]
+mod same;

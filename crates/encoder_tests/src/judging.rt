@@ -1,5 +1,6 @@
 //! Messages that are judged before their fields, by the call of an encoder.
 
+use crate::same::same;
 use crate::worked::{WORKED, quote};
 use fast_dictionary::MapEntries;
 use fast_encoder::{EncodeCause, EncodeFault, Encoder};
@@ -22,8 +23,8 @@ fn judged(
     let mut out = Vec::new(alloc);
     let mut encoder = Encoder::new(alloc, &set, MapEntries::new(alloc));
     let answer = encoder.encode(message, &mut out);
-    assert_eq!(rt; answer, Err(EncodeFault { cause, instruction }));
-    assert_eq!(rt; out.len(), 0);
+    same(rt, answer, Err(EncodeFault { cause, instruction }));
+    same(rt, out.len(), 0);
     Ok(())
 }
 

@@ -8,4 +8,6 @@ mod messages;
 #[cfg(test)]
 mod relaying;
 #[cfg(test)]
+mod same;
+#[cfg(test)]
 mod worked;

@@ -3,6 +3,7 @@
 ghost use Rattle.std.specs.Prelude.{IfOk};
 ghost use Rattle.fast_stream.specs.Traversals.{ServesAll};
 
+use crate::same::same;
 use crate::worked::{WORKED, quote};
 use fast_decoder::Decoder;
 use fast_dictionary::{Entries, MapEntries, SlotEntries};
@@ -277,10 +278,10 @@ fn a_writer_that_fails(rt: HostRuntime) -> Result<(), AllocError> {
     };
     let mut out = ScriptOutput::new(alloc, 3, false, false);
     assert!(rt; keeps_failing(alloc, &set, first, &mut out));
-    assert_eq!(rt; out.bytes(), [0xf0, 0x81, 0x81].as_slice());
+    same(&rt, out.bytes(), [0xf0, 0x81, 0x81].as_slice());
     let mut none = ScriptOutput::new(alloc, 0, true, false);
     assert!(rt; keeps_failing(alloc, &set, first, &mut none));
-    assert_eq!(rt; none.bytes().len(), 0);
+    same(&rt, none.bytes().len(), 0);
     Ok(())
 }
 
@@ -310,7 +311,7 @@ fn a_writer_that_takes_all(rt: HostRuntime) -> Result<(), AllocError> {
     let mut out = ScriptOutput::new(alloc, 100, false, false);
     assert!(rt; writes_all(alloc, &set, &two, &mut out));
     let want = b"\xf0\x81\x81\x41\xc2\xfe\x00\xe4\x80\x80\x81\xf0\x81\x81\x41\xc2\xfe\x00\xe4";
-    assert_eq!(rt; out.bytes(), want.as_slice());
+    same(&rt, out.bytes(), want.as_slice());
     Ok(())
 }
 

@@ -1,5 +1,6 @@
 //! Streams that are read and written at once, by the calls.
 
+use crate::same::same;
 use crate::worked::WORKED;
 use fast_dictionary::MapEntries;
 use fast_stream::{Receiver, Traversal};
@@ -38,10 +39,10 @@ fn check(
         panic!(rt; "refused");
     };
     let (mut writer, fault) = relay(alloc, &set, stream);
-    assert_eq!(rt; writer.finished(), canonical);
-    assert_eq!(rt; fault, refused);
+    same(rt, writer.finished(), canonical);
+    same(rt, fault, refused);
     writer.hand_on();
-    assert_eq!(rt; writer.finished().len(), 0);
+    same(rt, writer.finished().len(), 0);
     Ok(())
 }
 

@@ -8,6 +8,8 @@ mod numbers;
 #[cfg(test)]
 mod reading;
 #[cfg(test)]
+mod same;
+#[cfg(test)]
 mod texts;
 #[cfg(test)]
 mod writing;

@@ -1,6 +1,7 @@
 //! Rows on fields that are passed and relayed at once.
 
 use crate::fields::{ascii, part_of};
+use crate::same::same;
 use fast_dictionary::Entry;
 use fast_field::{Passed, pass_left_out};
 use fast_relay::relay_number;
@@ -115,8 +116,8 @@ fn passed(
 ) -> Result<(), AllocError> {
     let instr = instr?;
     let mut entry = entry;
-    assert_eq!(rt; pass_left_out(&instr, &mut entry), answer);
-    assert_eq!(rt; entry, after);
+    same(rt, pass_left_out(&instr, &mut entry), answer);
+    same(rt, entry, after);
     Ok(())
 }
 
@@ -153,14 +154,14 @@ fn relayed(
     let mut out = vec![in alloc; 0x2a]?;
     let answer = relay_number(&instr, &mut entry, bytes, bytes.len().min(1), &mut out);
     if answer.is_none() {
-        assert_eq!(rt; entry, before);
-        assert_eq!(rt; out.as_slice(), [0x2a].as_slice());
+        same(rt, entry, before);
+        same(rt, out.as_slice(), [0x2a].as_slice());
         return Err(AllocError);
     }
-    assert_eq!(rt; answer, Some(bytes.len()));
-    assert_eq!(rt; entry, after);
-    assert_eq!(rt; &out[..1], [0x2a].as_slice());
-    assert_eq!(rt; &out[1..], appended);
+    same(rt, answer, Some(bytes.len()));
+    same(rt, entry, after);
+    same(rt, &out[..1], [0x2a].as_slice());
+    same(rt, &out[1..], appended);
     Ok(())
 }
 
@@ -177,9 +178,9 @@ fn not_relayed(
     let mut entry = entry;
     let mut out = vec![in alloc; 0x2a]?;
     let answer = relay_number(&instr, &mut entry, bytes, bytes.len().min(1), &mut out);
-    assert_eq!(rt; answer, None);
-    assert_eq!(rt; entry, before);
-    assert_eq!(rt; out.as_slice(), [0x2a].as_slice());
+    same(rt, answer, None);
+    same(rt, entry, before);
+    same(rt, out.as_slice(), [0x2a].as_slice());
     Ok(())
 }
 

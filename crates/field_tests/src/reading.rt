@@ -2,6 +2,7 @@
 //! value that lies there at a `?` makes its proof longer.
 
 use crate::fields::{ascii, part_of, unicode};
+use crate::same::same;
 use fast_dictionary::{Entry, EntryRef};
 use fast_field::{FieldFault, find_field, next_entry, read_field, read_in_place};
 use fast_template::{ByteString, FieldPart, Kind, Operator, Part, Presence, Scalar};
@@ -28,7 +29,7 @@ fn read_beside(
     if let Err(FieldFault::Memory) = read {
         return Err(AllocError);
     }
-    assert_eq!(rt; &read, wanted);
+    same(rt, &read, wanted);
     Ok(())
 }
 
@@ -59,16 +60,16 @@ fn compared(
 ) -> Result<(), AllocError> {
     match found {
         Ok((value, next)) => {
-            assert_eq!(rt; Ok((value, entry, next)), wanted);
+            same(rt, Ok((value, entry, next)), wanted);
             Ok(())
         }
         Err(FieldFault::Memory) => {
-            assert_eq!(rt; entry, before);
+            same(rt, entry, before);
             Err(AllocError)
         }
         Err(fault) => {
-            assert_eq!(rt; Err(fault), wanted);
-            assert_eq!(rt; entry, before);
+            same(rt, Err(fault), wanted);
+            same(rt, entry, before);
             Ok(())
         }
     }
@@ -418,7 +419,7 @@ fn entries_after_a_value(rt: HostRuntime) -> Result<(), AllocError> {
     let of = (Presence::Mandatory, Operator::Delta);
     let value = ascii(alloc, b"ESM6")?;
     let entry = entry_after(alloc, of, b"GEM6", Some(&value))?;
-    assert_eq!(rt; entry, Entry::Assigned(value));
+    same(&rt, entry, Entry::Assigned(value));
     Ok(())
 }
 
@@ -427,9 +428,9 @@ fn entries_after_an_absent_value(rt: HostRuntime) -> Result<(), AllocError> {
     let alloc = rt.alloc();
     let of = (Presence::Mandatory, Operator::Delta);
     let entry = entry_after(alloc, of, b"GEM6", None)?;
-    assert_eq!(rt; entry, characters(alloc, b"GEM6")?);
+    same(&rt, entry, characters(alloc, b"GEM6")?);
     let of = (Presence::Optional, Operator::Copy);
-    assert_eq!(rt; entry_after(alloc, of, b"GEM6", None)?, Entry::Empty);
+    same(&rt, entry_after(alloc, of, b"GEM6", None)?, Entry::Empty);
     Ok(())
 }
 
@@ -452,6 +453,6 @@ fn values_that_lie_in_the_entry(rt: HostRuntime) -> Result<(), AllocError> {
     let alloc = rt.alloc();
     let kept = characters(alloc, b"GEM6")?;
     let value = copied(alloc, kept.view())?;
-    assert_eq!(rt; value, Some(ascii(alloc, b"GEM6")?));
+    same(&rt, value, Some(ascii(alloc, b"GEM6")?));
     Ok(())
 }

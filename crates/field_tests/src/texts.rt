@@ -1,6 +1,7 @@
 //! Rows on strings and vectors that are relayed at once.
 
 use crate::fields::{ascii, part_of};
+use crate::same::same;
 use fast_dictionary::Entry;
 use fast_relay::relay_text;
 use fast_template::{FieldPart, Kind, Operator, Part, Presence};
@@ -42,13 +43,13 @@ fn relayed(
         &mut out,
     );
     if answer.is_none() {
-        assert_eq!(rt; entry, kept(alloc, before)?);
-        assert_eq!(rt; out.as_slice(), [0x2a].as_slice());
+        same(rt, entry, kept(alloc, before)?);
+        same(rt, out.as_slice(), [0x2a].as_slice());
         return Err(AllocError);
     }
-    assert_eq!(rt; answer, Some(bytes.len()));
-    assert_eq!(rt; entry, kept(alloc, after)?);
-    assert_eq!(rt; &out[1..], appended);
+    same(rt, answer, Some(bytes.len()));
+    same(rt, entry, kept(alloc, after)?);
+    same(rt, &out[1..], appended);
     Ok(())
 }
 
@@ -70,9 +71,9 @@ fn not_relayed(
         bytes.len().min(1),
         &mut out,
     );
-    assert_eq!(rt; answer, None);
-    assert_eq!(rt; entry, kept(alloc, before)?);
-    assert_eq!(rt; out.as_slice(), [0x2a].as_slice());
+    same(rt, answer, None);
+    same(rt, entry, kept(alloc, before)?);
+    same(rt, out.as_slice(), [0x2a].as_slice());
     Ok(())
 }
 

@@ -13,6 +13,7 @@ ghost use Rattle.fast_field.specs.Parts.{IsFieldPart};
 ghost use Rattle.fast_field.specs.Within.{HoldsScalar};
 
 use crate::fields::{ascii, field, part_of, unicode};
+use crate::same::same;
 use fast_dictionary::{Entry, EntryRef};
 use fast_field::{
     FieldRefusal, Found, Plan, next_entry, plan_field, write_field, write_found, write_in_place,
@@ -104,7 +105,7 @@ fn planned(
     requires part { IsFieldPart instr.now }
     requires entry { HoldsScalar (entry_of entry) }
 {
-    assert_eq!(rt; plan_field(instr, entry, value), wanted);
+    same(rt, plan_field(instr, entry, value), wanted);
 }
 
 // A value is written behind a byte that is there. Want of memory appends nothing, and ends the test.
@@ -122,12 +123,12 @@ fn appended(
     let mut out = vec![in alloc; 0x2a]?;
     let answer = write_field(instr, entry, value, &mut out);
     if let Err(FieldRefusal::Memory) = answer {
-        assert_eq!(rt; out.as_slice(), [0x2a].as_slice());
+        same(rt, out.as_slice(), [0x2a].as_slice());
         return Err(AllocError);
     }
-    assert_eq!(rt; answer, Ok(()));
+    same(rt, answer, Ok(()));
     assert!(rt; out.starts_with(&[0x2a]) && out.ends_with(bytes));
-    assert_eq!(rt; out.len(), 1 + bytes.len());
+    same(rt, out.len(), 1 + bytes.len());
     Ok(())
 }
 
@@ -147,13 +148,13 @@ fn written_in_place(
     let mut out = Vec::new(alloc);
     let answer = write_in_place(alloc, instr, &mut changed, value, &mut out);
     if let Err(FieldRefusal::Memory) = answer {
-        assert_eq!(rt; &changed, entry);
-        assert_eq!(rt; out.as_slice(), [].as_slice());
+        same(rt, &changed, entry);
+        same(rt, out.as_slice(), [].as_slice());
         return Err(AllocError);
     }
-    assert_eq!(rt; answer, Ok(wanted.0));
-    assert_eq!(rt; out.as_slice(), wanted.1);
-    assert_eq!(rt; &changed, wanted.2);
+    same(rt, answer, Ok(wanted.0));
+    same(rt, out.as_slice(), wanted.1);
+    same(rt, &changed, wanted.2);
     Ok(())
 }
 
@@ -182,15 +183,15 @@ fn written_where_found(
     let mut moved = entry;
     let mut out = Vec::new(alloc);
     match write_found(alloc, instr, &mut moved, found(value), &mut out) {
-        Ok((_, answer)) => assert_eq!(rt; answer, wanted.0),
+        Ok((_, answer)) => same(rt, answer, wanted.0),
         Err(FieldRefusal::Memory) => {
-            assert_eq!(rt; out.as_slice(), [].as_slice());
+            same(rt, out.as_slice(), [].as_slice());
             return Err(AllocError);
         }
-        Err(refusal) => assert_eq!(rt; Err(refusal), Ok(())),
+        Err(refusal) => same(rt, Err(refusal), Ok(())),
     }
-    assert_eq!(rt; out.as_slice(), wanted.1);
-    assert_eq!(rt; moved, wanted.2);
+    same(rt, out.as_slice(), wanted.1);
+    same(rt, moved, wanted.2);
     Ok(())
 }
 
@@ -236,8 +237,8 @@ fn not_appended(
 {
     let mut out = vec![in alloc; 0x2a]?;
     let answer = write_field(instr, entry, value, &mut out);
-    assert_eq!(rt; answer, Err(refusal));
-    assert_eq!(rt; out.as_slice(), [0x2a].as_slice());
+    same(rt, answer, Err(refusal));
+    same(rt, out.as_slice(), [0x2a].as_slice());
     Ok(())
 }
 
@@ -257,9 +258,9 @@ fn not_in_place(
     let before = entry.view().copy(alloc)?;
     let mut entry = entry;
     let answer = write_in_place(alloc, instr, &mut entry, value, &mut out);
-    assert_eq!(rt; answer, Err(refusal));
-    assert_eq!(rt; out.as_slice(), [0x2a].as_slice());
-    assert_eq!(rt; entry, before);
+    same(rt, answer, Err(refusal));
+    same(rt, out.as_slice(), [0x2a].as_slice());
+    same(rt, entry, before);
     Ok(())
 }
 
@@ -597,7 +598,7 @@ fn delta_appended(
 {
     let delta = field(alloc, Kind::Ascii, Presence::Mandatory, Operator::Delta)?;
     if let Err(refusal) = write_field(&delta, entry, Some(value), out) {
-        assert_eq!(rt; refusal, FieldRefusal::Memory);
+        same(rt, refusal, FieldRefusal::Memory);
         assert!(rt; out.is_empty());
         write_field(&delta, entry, Some(value), out)?;
     }
@@ -612,7 +613,7 @@ fn refused_growths(rt: HostRuntime) -> Result<(), Fail> {
     let entry = text_entry(alloc, b"GEM6")?;
     let mut out = Vec::new(alloc);
     delta_appended(&rt, alloc, entry.view(), &value, &mut out)?;
-    assert_eq!(rt; out.as_slice(), [0xfd, 0x45, 0xd3].as_slice());
+    same(&rt, out.as_slice(), [0xfd, 0x45, 0xd3].as_slice());
     Ok(())
 }
 
@@ -629,9 +630,9 @@ fn delta_in_place(
 {
     let delta = field(alloc, Kind::Ascii, Presence::Mandatory, Operator::Delta)?;
     if let Err(refusal) = write_in_place(alloc, &delta, entry, Some(value), out) {
-        assert_eq!(rt; refusal, FieldRefusal::Memory);
+        same(rt, refusal, FieldRefusal::Memory);
         assert!(rt; out.is_empty());
-        assert_eq!(rt; &*entry, before);
+        same(rt, &*entry, before);
         write_in_place(alloc, &delta, entry, Some(value), out)?;
     }
     Ok(())
@@ -646,7 +647,7 @@ fn refused_copies(rt: HostRuntime) -> Result<(), Fail> {
     let mut entry = text_entry(alloc, b"GEM6")?;
     let mut out = Vec::new(alloc);
     delta_in_place(&rt, alloc, &mut entry, &before, &value, &mut out)?;
-    assert_eq!(rt; out.as_slice(), [0xfd, 0x45, 0xd3].as_slice());
-    assert_eq!(rt; entry, Entry::Assigned(value));
+    same(&rt, out.as_slice(), [0xfd, 0x45, 0xd3].as_slice());
+    same(&rt, entry, Entry::Assigned(value));
     Ok(())
 }

@@ -3,3 +3,4 @@
 mod devices;
 mod examples;
 mod programs;
+mod same;

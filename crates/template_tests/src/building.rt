@@ -1,6 +1,7 @@
 //! Templates that are built.
 
 use crate::loads::{at, granted};
+use crate::same::same;
 use fast_template::{
     FieldPart, Flat, Instruction, Kind, LoadCause, LoadFault, Operation, Operator, Presence,
     Scalar, Template, TemplateSet,
@@ -205,8 +206,8 @@ fn fault_of_parts(alloc: Global, exponent: &str) -> Result<Option<LoadFault>, Al
 #[test]
 fn an_exponent_is_judged_before_its_mantissa(rt: HostRuntime) -> Result<(), AllocError> {
     let alloc = rt.alloc();
-    assert_eq!(rt; fault_of_parts(alloc, "64")?, at(LoadCause::S3, 1, 1));
-    assert_eq!(rt; fault_of_parts(alloc, "-63")?, at(LoadCause::S2, 1, 1));
+    same(&rt, fault_of_parts(alloc, "64")?, at(LoadCause::S3, 1, 1));
+    same(&rt, fault_of_parts(alloc, "-63")?, at(LoadCause::S2, 1, 1));
     Ok(())
 }
 
@@ -224,13 +225,17 @@ fn two(
 #[test]
 fn names_and_identifiers_are_new(rt: HostRuntime) -> Result<(), AllocError> {
     let alloc = rt.alloc();
-    assert_eq!(rt; fault_of(alloc, Vec::new(alloc))?, None);
+    same(&rt, fault_of(alloc, Vec::new(alloc))?, None);
     let set = two(alloc, ("A", "A"), (None, None))?;
-    assert_eq!(rt; fault_of(alloc, set)?, at(LoadCause::DuplicateName, 2, 0));
+    same(
+        &rt,
+        fault_of(alloc, set)?,
+        at(LoadCause::DuplicateName, 2, 0),
+    );
     let set = two(alloc, ("A", "B"), (Some(1), Some(1)))?;
-    assert_eq!(rt; fault_of(alloc, set)?, at(LoadCause::DuplicateId, 2, 0));
+    same(&rt, fault_of(alloc, set)?, at(LoadCause::DuplicateId, 2, 0));
     let set = two(alloc, ("A", "B b"), (None, None))?;
-    assert_eq!(rt; fault_of(alloc, set)?, at(LoadCause::S1, 2, 0));
+    same(&rt, fault_of(alloc, set)?, at(LoadCause::S1, 2, 0));
     Ok(())
 }
 
@@ -249,9 +254,9 @@ fn referring_all(alloc: Global, rows: &[&[&str]]) -> Result<Vec<Template>, Alloc
 fn references_lead_to_templates_and_not_back(rt: HostRuntime) -> Result<(), AllocError> {
     let alloc = rt.alloc();
     let set = referring_all(alloc, &[&["A", "Nobody"]])?;
-    assert_eq!(rt; fault_of(alloc, set)?, at(LoadCause::D8, 1, 1));
+    same(&rt, fault_of(alloc, set)?, at(LoadCause::D8, 1, 1));
     let set = referring_all(alloc, &[&["A", "A"]])?;
-    assert_eq!(rt; fault_of(alloc, set)?, at(LoadCause::Cycle, 1, 0));
+    same(&rt, fault_of(alloc, set)?, at(LoadCause::Cycle, 1, 0));
     // the first leads to a cycle, and the second leads from one cycle to another
     let set = referring_all(
         alloc,
@@ -263,7 +268,7 @@ fn references_lead_to_templates_and_not_back(rt: HostRuntime) -> Result<(), Allo
             &["E", "E"],
         ],
     )?;
-    assert_eq!(rt; fault_of(alloc, set)?, at(LoadCause::Cycle, 3, 0));
+    same(&rt, fault_of(alloc, set)?, at(LoadCause::Cycle, 3, 0));
     Ok(())
 }
 
@@ -316,15 +321,17 @@ fn doubling(alloc: Global, count: u32, fields: u32) -> Result<Vec<Template>, All
 #[test]
 fn counts_stop(rt: HostRuntime) -> Result<(), AllocError> {
     let alloc = rt.alloc();
-    assert_eq!(rt;
+    same(
+        &rt,
         fault_of(alloc, doubling(alloc, 17, 1)?)?,
-        at(LoadCause::TooMany, 1, 0)
+        at(LoadCause::TooMany, 1, 0),
     );
-    assert_eq!(rt;
+    same(
+        &rt,
         fault_of(alloc, doubling(alloc, 130, 1)?)?,
-        at(LoadCause::TooMany, 1, 0)
+        at(LoadCause::TooMany, 1, 0),
     );
-    assert_eq!(rt; fault_of(alloc, doubling(alloc, 130, 0)?)?, None);
+    same(&rt, fault_of(alloc, doubling(alloc, 130, 0)?)?, None);
     Ok(())
 }
 
@@ -409,11 +416,15 @@ fn keys_are_those_where_an_instruction_was_written(rt: HostRuntime) -> Result<()
         if let Some(first) = set.find(5) {
             described(alloc, &first.members, &mut line)?;
         }
-        assert_eq!(rt; set.slots(), 5);
-        assert_eq!(rt; set.name(6), Some("Shared"));
+        same(&rt, set.slots(), 5);
+        same(&rt, set.name(6), Some("Shared"));
         assert!(rt; set.find(7).is_none());
     }
-    assert_eq!(rt; line.as_str(), "1 1 X, 2 2 Y, 3 3 L, 4 1 X, 5 2 Y, 6 4 F, ");
+    same(
+        &rt,
+        line.as_str(),
+        "1 1 X, 2 2 Y, 3 3 L, 4 1 X, 5 2 Y, 6 4 F, ",
+    );
     Ok(())
 }
 
@@ -425,12 +436,12 @@ fn initial_values_are_read(rt: HostRuntime) -> Result<(), AllocError> {
         if let Some(shared) = set.find(6) {
             for flat in &shared.members {
                 if let Some(part) = part_of(flat) {
-                    assert_eq!(rt; part.initial, Some(Scalar::U32(7)));
+                    same(&rt, &part.initial, &Some(Scalar::U32(7)));
                     fields = fields.saturating_add(1);
                 }
             }
         }
     }
-    assert_eq!(rt; fields, 2);
+    same(&rt, fields, 2);
     Ok(())
 }

@@ -1,6 +1,7 @@
 //! Texts that are loaded.
 
 use crate::loads::{at, granted};
+use crate::same::same;
 use fast_template::{LoadCause, LoadFault, TemplateSet};
 use std::alloc::{AllocError, Global};
 
@@ -61,9 +62,10 @@ fn instructions_are_loaded_as_written(rt: HostRuntime) -> Result<(), AllocError>
         ),
     ];
     for (instructions, cause, instruction) in &rows {
-        assert_eq!(rt;
+        same(
+            &rt,
             fault_of_one(alloc, instructions)?,
-            at(*cause, 1, *instruction)
+            at(*cause, 1, *instruction),
         );
     }
     Ok(())
@@ -75,18 +77,18 @@ fn decimals_and_defaults_are_loaded(rt: HostRuntime) -> Result<(), AllocError> {
     // an exponent's checks come before its mantissa's
     let both = r#"{"kind":"decimal","name":"F",
         "exponent":{"operator":"copy","value":"64"},"mantissa":{"operator":"tail"}}"#;
-    assert_eq!(rt; fault_of_one(alloc, both)?, at(LoadCause::S3, 1, 1));
+    same(&rt, fault_of_one(alloc, both)?, at(LoadCause::S3, 1, 1));
     let accepted = [
         // a mantissa alone: the exponent is as if it were empty
         r#"{"kind":"decimal","name":"F","mantissa":{"operator":"copy"}}"#,
         r#"{"kind":"uInt32","name":"F","presence":"optional","operator":"default"}"#,
     ];
     for instructions in &accepted {
-        assert_eq!(rt; fault_of_one(alloc, instructions)?, None);
+        same(&rt, fault_of_one(alloc, instructions)?, None);
     }
     let large = r#"{"kind":"uInt32","name":"F","operator":"copy","value":"4294967296"}"#;
-    assert_eq!(rt; fault_of_one(alloc, large)?, at(LoadCause::S3, 1, 1));
-    assert_eq!(rt; fault_of(alloc, r#"{"templates":[]}"#)?, None);
+    same(&rt, fault_of_one(alloc, large)?, at(LoadCause::S3, 1, 1));
+    same(&rt, fault_of(alloc, r#"{"templates":[]}"#)?, None);
     Ok(())
 }
 
@@ -104,7 +106,7 @@ fn texts_of_another_shape_are_refused(rt: HostRuntime) -> Result<(), AllocError>
         r#"{"templates":[{"name":"A","instructions":[],"id":01}]}"#,
     ];
     for text in &texts {
-        assert_eq!(rt; fault_of(alloc, text)?, at(LoadCause::S1, 0, 0));
+        same(&rt, fault_of(alloc, text)?, at(LoadCause::S1, 0, 0));
     }
     Ok(())
 }
@@ -125,11 +127,11 @@ fn templates_of_another_shape_are_refused(rt: HostRuntime) -> Result<(), AllocEr
         r#"{"templates":[{"name":"","instructions":[]},{"name":"B","instructions":[]}]}"#,
     ];
     for text in &texts {
-        assert_eq!(rt; fault_of(alloc, text)?, at(LoadCause::S1, 1, 0));
+        same(&rt, fault_of(alloc, text)?, at(LoadCause::S1, 1, 0));
     }
     // a bad name in the first template, and a bad shape in the second
     let second = r#"{"templates":[{"name":"","instructions":[]},{"name":"B"}]}"#;
-    assert_eq!(rt; fault_of(alloc, second)?, at(LoadCause::S1, 2, 0));
+    same(&rt, fault_of(alloc, second)?, at(LoadCause::S1, 2, 0));
     Ok(())
 }
 
@@ -153,10 +155,10 @@ fn instructions_of_another_shape_are_refused(rt: HostRuntime) -> Result<(), Allo
         r#"{"kind":"sequence","name":"L","instructions":[],"length":{"kind":"uInt32"}}"#,
     ];
     for one in &instructions {
-        assert_eq!(rt; fault_of_one(alloc, one)?, at(LoadCause::S1, 1, 1));
+        same(&rt, fault_of_one(alloc, one)?, at(LoadCause::S1, 1, 1));
     }
     let inside = r#"{"kind":"group","name":"G","instructions":[{"kind":"uInt32","name":"F"},1]}"#;
-    assert_eq!(rt; fault_of_one(alloc, inside)?, at(LoadCause::S1, 1, 3));
+    same(&rt, fault_of_one(alloc, inside)?, at(LoadCause::S1, 1, 3));
     Ok(())
 }
 
@@ -167,7 +169,7 @@ fn of_a_key_that_stands_twice_the_last_is_read(rt: HostRuntime) -> Result<(), Al
     let Ok(set) = granted(TemplateSet::from_json(alloc, twice.as_bytes()))? else {
         panic!(rt; "refused");
     };
-    assert_eq!(rt; set.name(7), Some("A"));
+    same(&rt, set.name(7), Some("A"));
     assert!(rt; granted(TemplateSet::from_json(alloc, &[0xFF]))?.is_err());
     Ok(())
 }
@@ -188,9 +190,13 @@ fn nested(alloc: Global, levels: u32) -> Result<String, AllocError> {
 fn groups_in_groups_are_loaded(rt: HostRuntime) -> Result<(), AllocError> {
     let alloc = rt.alloc();
     let nine = nested(alloc, 9)?;
-    assert_eq!(rt; fault_of_one(alloc, &nine)?, at(LoadCause::TooDeep, 1, 0));
+    same(
+        &rt,
+        fault_of_one(alloc, &nine)?,
+        at(LoadCause::TooDeep, 1, 0),
+    );
     let eight = nested(alloc, 8)?;
-    assert_eq!(rt; fault_of_one(alloc, &eight)?, None);
+    same(&rt, fault_of_one(alloc, &eight)?, None);
     Ok(())
 }
 
@@ -211,15 +217,23 @@ fn doubling(alloc: Global) -> Result<String, AllocError> {
 fn templates_with_others_are_loaded(rt: HostRuntime) -> Result<(), AllocError> {
     let alloc = rt.alloc();
     let many = doubling(alloc)?;
-    assert_eq!(rt; fault_of(alloc, &many)?, at(LoadCause::TooMany, 1, 0));
+    same(&rt, fault_of(alloc, &many)?, at(LoadCause::TooMany, 1, 0));
     let itself = r#"{"kind":"templateRef","name":"A"}"#;
-    assert_eq!(rt; fault_of_one(alloc, itself)?, at(LoadCause::Cycle, 1, 0));
+    same(
+        &rt,
+        fault_of_one(alloc, itself)?,
+        at(LoadCause::Cycle, 1, 0),
+    );
     let nobody = r#"{"kind":"templateRef","name":"Nobody"}"#;
-    assert_eq!(rt; fault_of_one(alloc, nobody)?, at(LoadCause::D8, 1, 1));
+    same(&rt, fault_of_one(alloc, nobody)?, at(LoadCause::D8, 1, 1));
     let names = r#"{"templates":[{"name":"A","instructions":[]},{"name":"A","instructions":[]}]}"#;
-    assert_eq!(rt; fault_of(alloc, names)?, at(LoadCause::DuplicateName, 2, 0));
+    same(
+        &rt,
+        fault_of(alloc, names)?,
+        at(LoadCause::DuplicateName, 2, 0),
+    );
     let ids = r#"{"templates":[{"name":"A","id":1,"instructions":[]},
         {"name":"B","id":1,"instructions":[]}]}"#;
-    assert_eq!(rt; fault_of(alloc, ids)?, at(LoadCause::DuplicateId, 2, 0));
+    same(&rt, fault_of(alloc, ids)?, at(LoadCause::DuplicateId, 2, 0));
     Ok(())
 }

@@ -8,6 +8,8 @@ mod json;
 #[cfg(test)]
 mod loads;
 #[cfg(test)]
+mod same;
+#[cfg(test)]
 mod values;
 #[cfg(test)]
 mod worked;

@@ -1,5 +1,6 @@
 //! Values, keys and what asks for a bit.
 
+use crate::same::same;
 use fast_template::{
     ByteString, FieldPart, Flat, Key, Kind, Name, Operator, Part, Presence, Scalar, Scope,
     UnicodeText, has_map, needs_bit, part_needs_bit,
@@ -94,7 +95,7 @@ fn copies_of_keys_are_equal(rt: HostRuntime) -> Result<(), AllocError> {
         part: Part::Length,
     };
     let copy = length_key.copy(alloc)?;
-    assert_eq!(rt; copy, length_key);
+    same(&rt, copy, length_key);
     Ok(())
 }
 
@@ -102,12 +103,12 @@ fn copies_of_keys_are_equal(rt: HostRuntime) -> Result<(), AllocError> {
 fn a_text_is_filled_again(rt: HostRuntime) -> Result<(), AllocError> {
     let alloc = rt.alloc();
     let text = UnicodeText::from_string(String::from_str(alloc, "é")?);
-    assert_eq!(rt; text.as_bytes(), [0xC3, 0xA9].as_slice());
-    assert_eq!(rt; text.as_str(), "é");
+    same(&rt, text.as_bytes(), [0xC3, 0xA9].as_slice());
+    same(&rt, text.as_str(), "é");
     let mut bytes = text.into_bytes();
     bytes.clear();
     let text = UnicodeText::from_utf8(bytes);
-    assert_eq!(rt; text.into_string().as_str(), "");
+    same(&rt, text.into_string().as_str(), "");
     Ok(())
 }
 
@@ -152,9 +153,9 @@ fn decimal(alloc: Global) -> Result<Flat, AllocError> {
 #[test]
 fn a_map_is_asked_for_by_a_mantissa(rt: HostRuntime) -> Result<(), AllocError> {
     let decimal = decimal(rt.alloc())?;
-    assert_eq!(rt; needs_bit(&decimal), false);
-    assert_eq!(rt; has_map(&[decimal]), true);
-    assert_eq!(rt; has_map(&[]), false);
+    same(&rt, needs_bit(&decimal), false);
+    same(&rt, has_map(&[decimal]), true);
+    same(&rt, has_map(&[]), false);
     Ok(())
 }
 

@@ -1,6 +1,7 @@
 //! The worked templates.
 
 use crate::loads::granted;
+use crate::same::same;
 use fast_template::{FieldPart, Flat, Scalar, TemplateSet};
 use std::alloc::{AllocError, Global};
 
@@ -219,12 +220,12 @@ fn the_worked_templates_have_these_flat_lists(rt: HostRuntime) -> Result<(), All
         let Some(template) = set.find(id) else {
             panic!(rt; "no template {id}");
         };
-        assert_eq!(rt; set.name(id), Some(name));
+        same(&rt, set.name(id), Some(name));
         let mut list = String::new(alloc);
         list_of(alloc, &template.members, &mut list)?;
-        assert_eq!(rt; list.as_str(), expected);
+        same(&rt, list.as_str(), expected);
     }
     assert!(rt; set.find(17).is_none());
-    assert_eq!(rt; set.name(17), None);
+    same(&rt, set.name(17), None);
     Ok(())
 }

@@ -1,5 +1,6 @@
 //! The vectors of every form, read, written and sized, and calls at their limits.
 
+use crate::same::same;
 use fast_wire::*;
 use std::test::Fail;
 
@@ -33,26 +34,31 @@ fn unsigned_vectors(rt: HostRuntime) -> Result<(), Fail> {
     for vector in &vectors {
         let mut out = Vec::new(rt.alloc());
         write_unsigned(vector.value, &mut out)?;
-        assert_eq!(rt; out.as_slice(), vector.bytes);
-        assert_eq!(rt;
+        same(&rt, out.as_slice(), vector.bytes);
+        same(
+            &rt,
             read_unsigned(vector.bytes, 0)?,
-            (vector.value, vector.bytes.len())
+            (vector.value, vector.bytes.len()),
         );
         assert!(rt; vector.value < 1 << 70);
-        assert_eq!(rt; size_unsigned(vector.value), vector.bytes.len());
+        same(&rt, size_unsigned(vector.value), vector.bytes.len());
     }
     Ok(())
 }
 
 #[test]
 fn unsigned_limits(rt: HostRuntime) -> Result<(), Fail> {
-    assert_eq!(rt; read_unsigned(&[0x00, 0x00, 0x81], 0)?, (1, 3));
-    assert_eq!(rt; read_unsigned(&[0xff, 0x81], 1)?, (1, 2));
-    assert_eq!(rt; read_unsigned(&[0x00; 9], 0), Err(WireFault::NeedMore));
-    assert_eq!(rt; read_unsigned(&[0x00; 10], 0), Err(WireFault::TooLong));
-    assert_eq!(rt; read_unsigned(&[0x80], 1), Err(WireFault::NeedMore));
+    same(&rt, read_unsigned(&[0x00, 0x00, 0x81], 0)?, (1, 3));
+    same(&rt, read_unsigned(&[0xff, 0x81], 1)?, (1, 2));
+    same(&rt, read_unsigned(&[0x00; 9], 0), Err(WireFault::NeedMore));
+    same(&rt, read_unsigned(&[0x00; 10], 0), Err(WireFault::TooLong));
+    same(&rt, read_unsigned(&[0x80], 1), Err(WireFault::NeedMore));
     let mut out = Vec::new(rt.alloc());
-    assert_eq!(rt; write_unsigned(1 << 70, &mut out), Err(WireFault::Range));
+    same(
+        &rt,
+        write_unsigned(1 << 70, &mut out),
+        Err(WireFault::Range),
+    );
     assert!(rt; out.is_empty());
     Ok(())
 }
@@ -74,19 +80,20 @@ fn signed_vectors(rt: HostRuntime) -> Result<(), Fail> {
     for (value, bytes) in vectors {
         let mut out = Vec::new(rt.alloc());
         write_signed(value, &mut out)?;
-        assert_eq!(rt; out.as_slice(), bytes);
-        assert_eq!(rt; read_signed(bytes, 0)?, (value, bytes.len()));
-        assert_eq!(rt; size_signed(value), bytes.len());
+        same(&rt, out.as_slice(), bytes);
+        same(&rt, read_signed(bytes, 0)?, (value, bytes.len()));
+        same(&rt, size_signed(value), bytes.len());
     }
     let mut out = Vec::new(rt.alloc());
-    assert_eq!(rt; write_signed(1 << 69, &mut out), Err(WireFault::Range));
-    assert_eq!(rt;
+    same(&rt, write_signed(1 << 69, &mut out), Err(WireFault::Range));
+    same(
+        &rt,
         write_signed(-(1 << 69) - 1, &mut out),
-        Err(WireFault::Range)
+        Err(WireFault::Range),
     );
     assert!(rt; out.is_empty());
-    assert_eq!(rt; read_signed(&[0x00; 10], 0), Err(WireFault::TooLong));
-    assert_eq!(rt; read_signed(&[0x00; 9], 0), Err(WireFault::NeedMore));
+    same(&rt, read_signed(&[0x00; 10], 0), Err(WireFault::TooLong));
+    same(&rt, read_signed(&[0x00; 9], 0), Err(WireFault::NeedMore));
     Ok(())
 }
 
@@ -97,11 +104,11 @@ fn decimal_vector(rt: HostRuntime) -> Result<(), Fail> {
     let mut out = Vec::new(rt.alloc());
     write_signed(2, &mut out)?;
     write_signed(942_755, &mut out)?;
-    assert_eq!(rt; out.as_slice(), bytes.as_slice());
+    same(&rt, out.as_slice(), bytes.as_slice());
     let (exponent, next) = read_signed(&bytes, 0)?;
-    assert_eq!(rt; (exponent, next), (2, 1));
-    assert_eq!(rt; read_signed(&bytes, next)?, (942_755, 4));
-    assert_eq!(rt; size_signed(2) + size_signed(942_755), 4);
+    same(&rt, (exponent, next), (2, 1));
+    same(&rt, read_signed(&bytes, next)?, (942_755, 4));
+    same(&rt, size_signed(2) + size_signed(942_755), 4);
     Ok(())
 }
 
@@ -122,23 +129,26 @@ fn unsigned_nullable_vectors(rt: HostRuntime) -> Result<(), Fail> {
     for (value, bytes) in vectors {
         let mut out = Vec::new(rt.alloc());
         write_unsigned_nullable(value, &mut out)?;
-        assert_eq!(rt; out.as_slice(), bytes);
-        assert_eq!(rt; read_unsigned_nullable(bytes, 0)?, (value, bytes.len()));
-        assert_eq!(rt; size_unsigned_nullable(value), bytes.len());
+        same(&rt, out.as_slice(), bytes);
+        same(&rt, read_unsigned_nullable(bytes, 0)?, (value, bytes.len()));
+        same(&rt, size_unsigned_nullable(value), bytes.len());
     }
-    assert_eq!(rt;
+    same(
+        &rt,
         read_unsigned_nullable(&[0x00, 0x80], 0)?,
-        (Nullable::Null, 2)
+        (Nullable::Null, 2),
     );
-    assert_eq!(rt;
+    same(
+        &rt,
         read_unsigned_nullable(&[0x00; 10], 0),
-        Err(WireFault::TooLong)
+        Err(WireFault::TooLong),
     );
     let mut out = Vec::new(rt.alloc());
     for value in [(1 << 70) - 1, u128::MAX] {
-        assert_eq!(rt;
+        same(
+            &rt,
             write_unsigned_nullable(Nullable::Value(value), &mut out),
-            Err(WireFault::Range)
+            Err(WireFault::Range),
         );
     }
     assert!(rt; out.is_empty());
@@ -158,20 +168,26 @@ fn signed_nullable_vectors(rt: HostRuntime) -> Result<(), Fail> {
     for (value, bytes) in vectors {
         let mut out = Vec::new(rt.alloc());
         write_signed_nullable(value, &mut out)?;
-        assert_eq!(rt; out.as_slice(), bytes);
-        assert_eq!(rt; read_signed_nullable(bytes, 0)?, (value, bytes.len()));
-        assert_eq!(rt; size_signed_nullable(value), bytes.len());
+        same(&rt, out.as_slice(), bytes);
+        same(&rt, read_signed_nullable(bytes, 0)?, (value, bytes.len()));
+        same(&rt, size_signed_nullable(value), bytes.len());
     }
-    assert_eq!(rt;
+    same(
+        &rt,
         read_signed_nullable(&[0x00, 0x80], 0)?,
-        (Nullable::Null, 2)
+        (Nullable::Null, 2),
     );
-    assert_eq!(rt; read_signed_nullable(&[0x7f], 0), Err(WireFault::NeedMore));
+    same(
+        &rt,
+        read_signed_nullable(&[0x7f], 0),
+        Err(WireFault::NeedMore),
+    );
     let mut out = Vec::new(rt.alloc());
     for value in [(1 << 69) - 1, i128::MAX, i128::MIN] {
-        assert_eq!(rt;
+        same(
+            &rt,
             write_signed_nullable(Nullable::Value(value), &mut out),
-            Err(WireFault::Range)
+            Err(WireFault::Range),
         );
     }
     assert!(rt; out.is_empty());
@@ -213,12 +229,12 @@ fn short_forms(rt: HostRuntime) -> Result<(), Fail> {
         write_signed_nullable(Nullable::Value(value), &mut wide)?;
     }
     wide.extend_from_slice(&[0x80, 0x80])?;
-    assert_eq!(rt; out.as_slice(), wide.as_slice());
+    same(&rt, out.as_slice(), wide.as_slice());
     out.clear();
     write_i64(-1, &mut out)?;
     write_i64_nullable(Nullable::Value(62), &mut out)?;
     write_u64_nullable(Nullable::Value(126), &mut out)?;
-    assert_eq!(rt; out.as_slice(), [0xff, 0xbf, 0xff].as_slice());
+    same(&rt, out.as_slice(), [0xff, 0xbf, 0xff].as_slice());
     Ok(())
 }
 
@@ -234,12 +250,12 @@ fn wide_maps(rt: HostRuntime) -> Result<(), Fail> {
             read => read,
         };
         let (mut bits, next) = read?;
-        assert_eq!(rt; next, size);
+        same(&rt, next, size);
         for byte in &bytes[..size] {
             for mask in [64, 32, 16, 8, 4, 2, 1] {
                 let set = *byte & mask != 0;
                 assert!(rt; bits.first() == set && (bits.left_set() || !set));
-                assert_eq!(rt; bits.take(), set);
+                same(&rt, bits.take(), set);
             }
         }
         assert!(rt; !bits.left_set() && !bits.take());
@@ -251,26 +267,29 @@ fn wide_maps(rt: HostRuntime) -> Result<(), Fail> {
 #[test]
 fn spans(rt: HostRuntime) -> Result<(), Fail> {
     let empty = Span { start: 1, end: 1 };
-    assert_eq!(rt; find_ascii(&[0x80], 0)?, (empty, 1));
-    assert_eq!(rt;
+    same(&rt, find_ascii(&[0x80], 0)?, (empty, 1));
+    same(
+        &rt,
         find_ascii(&[0x00, 0xc1], 0)?,
-        (Span { start: 1, end: 2 }, 2)
+        (Span { start: 1, end: 2 }, 2),
     );
-    assert_eq!(rt;
+    same(
+        &rt,
         find_ascii(&[0x48, 0x65, 0xf9, 0x80], 0)?,
-        (Span { start: 0, end: 3 }, 3)
+        (Span { start: 0, end: 3 }, 3),
     );
-    assert_eq!(rt; find_ascii(b"Hey", 0), Err(WireFault::NeedMore));
-    assert_eq!(rt; find_ascii_nullable(&[0x80], 0)?, (Nullable::Null, 1));
+    same(&rt, find_ascii(b"Hey", 0), Err(WireFault::NeedMore));
+    same(&rt, find_ascii_nullable(&[0x80], 0)?, (Nullable::Null, 1));
     let letter = Nullable::Value(Span { start: 1, end: 2 });
-    assert_eq!(rt; find_ascii_nullable(&[0x00, 0xc1], 0)?, (letter, 2));
-    assert_eq!(rt;
+    same(&rt, find_ascii_nullable(&[0x00, 0xc1], 0)?, (letter, 2));
+    same(
+        &rt,
         find_vector(&[0x82, 0xc3, 0xa9], 0)?,
-        (Span { start: 1, end: 3 }, 3)
+        (Span { start: 1, end: 3 }, 3),
     );
-    assert_eq!(rt; find_vector(&[0x83, 0xc3], 0), Err(WireFault::NeedMore));
-    assert_eq!(rt; find_vector_nullable(&[0x80], 0)?, (Nullable::Null, 1));
-    assert_eq!(rt; find_vector_nullable(&[0x82, 0x41], 0)?, (letter, 2));
+    same(&rt, find_vector(&[0x83, 0xc3], 0), Err(WireFault::NeedMore));
+    same(&rt, find_vector_nullable(&[0x80], 0)?, (Nullable::Null, 1));
+    same(&rt, find_vector_nullable(&[0x82, 0x41], 0)?, (letter, 2));
     let mut text = Vec::new(rt.alloc());
     for (tail, characters) in [
         ([0x48, 0x65, 0xf9].as_slice(), b"Hey".as_slice()),
@@ -279,7 +298,7 @@ fn spans(rt: HostRuntime) -> Result<(), Fail> {
         (&[0x48, 0xe9], b"Hi"),
     ] {
         fill_characters(tail, &mut text)?;
-        assert_eq!(rt; text.as_slice(), characters);
+        same(&rt, text.as_slice(), characters);
     }
     Ok(())
 }
@@ -298,7 +317,7 @@ fn short_integers(rt: HostRuntime) -> Result<(), Fail> {
         (u64::MAX, &widest),
     ];
     for (value, bytes) in unsigned {
-        assert_eq!(rt; read_u64(bytes, 0)?, (value, bytes.len()));
+        same(&rt, read_u64(bytes, 0)?, (value, bytes.len()));
     }
     let signed: [(i64, &[u8]); 6] = [
         (2, &[0x82]),
@@ -318,32 +337,42 @@ fn short_integers(rt: HostRuntime) -> Result<(), Fail> {
         ),
     ];
     for (value, bytes) in signed {
-        assert_eq!(rt; read_i64(bytes, 0)?, (value, bytes.len()));
+        same(&rt, read_i64(bytes, 0)?, (value, bytes.len()));
     }
-    assert_eq!(rt; read_u64_nullable(&[0x80], 0)?, (Nullable::Null, 1));
-    assert_eq!(rt; read_u64_nullable(&[0x00, 0x80], 0)?, (Nullable::Null, 2));
-    assert_eq!(rt;
+    same(&rt, read_u64_nullable(&[0x80], 0)?, (Nullable::Null, 1));
+    same(
+        &rt,
+        read_u64_nullable(&[0x00, 0x80], 0)?,
+        (Nullable::Null, 2),
+    );
+    same(
+        &rt,
         read_u64_nullable(
             &[0x02, 0x00, 0x00, 0x00, 0x00, 0x00, 0x00, 0x00, 0x00, 0x80],
-            0
+            0,
         )?,
-        (Nullable::Value(u64::MAX), 10)
+        (Nullable::Value(u64::MAX), 10),
     );
-    assert_eq!(rt; read_i64_nullable(&[0x80], 0)?, (Nullable::Null, 1));
-    assert_eq!(rt; read_i64_nullable(&[0xc0], 0)?, (Nullable::Value(-64), 1));
-    assert_eq!(rt;
+    same(&rt, read_i64_nullable(&[0x80], 0)?, (Nullable::Null, 1));
+    same(
+        &rt,
+        read_i64_nullable(&[0xc0], 0)?,
+        (Nullable::Value(-64), 1),
+    );
+    same(
+        &rt,
         read_i64_nullable(&[0x00, 0xc0], 0)?,
-        (Nullable::Value(63), 2)
+        (Nullable::Value(63), 2),
     );
     let beyond = [0x02, 0x00, 0x00, 0x00, 0x00, 0x00, 0x00, 0x00, 0x00, 0x81];
-    assert_eq!(rt; read_u64(&beyond, 0), Err(WireFault::Range));
-    assert_eq!(rt; read_u64_nullable(&beyond, 0), Err(WireFault::Range));
-    assert_eq!(rt; read_i64(&widest, 0), Err(WireFault::Range));
-    assert_eq!(rt; read_i64_nullable(&widest, 0), Err(WireFault::Range));
-    assert_eq!(rt; read_u64(&[0x00; 9], 0), Err(WireFault::NeedMore));
-    assert_eq!(rt; read_i64(&[0x00; 10], 0), Err(WireFault::TooLong));
-    assert_eq!(rt; read_u64_nullable(&[], 0), Err(WireFault::NeedMore));
-    assert_eq!(rt; read_i64_nullable(&[0x7f], 0), Err(WireFault::NeedMore));
+    same(&rt, read_u64(&beyond, 0), Err(WireFault::Range));
+    same(&rt, read_u64_nullable(&beyond, 0), Err(WireFault::Range));
+    same(&rt, read_i64(&widest, 0), Err(WireFault::Range));
+    same(&rt, read_i64_nullable(&widest, 0), Err(WireFault::Range));
+    same(&rt, read_u64(&[0x00; 9], 0), Err(WireFault::NeedMore));
+    same(&rt, read_i64(&[0x00; 10], 0), Err(WireFault::TooLong));
+    same(&rt, read_u64_nullable(&[], 0), Err(WireFault::NeedMore));
+    same(&rt, read_i64_nullable(&[0x7f], 0), Err(WireFault::NeedMore));
     Ok(())
 }
 
@@ -358,15 +387,15 @@ fn ascii_vectors(rt: HostRuntime) -> Result<(), Fail> {
     for (text, bytes) in vectors {
         let mut out = Vec::new(rt.alloc());
         write_ascii(text, &mut out)?;
-        assert_eq!(rt; out.as_slice(), bytes);
+        same(&rt, out.as_slice(), bytes);
         let (read, next) = read_ascii(rt.alloc(), bytes, 0)?;
-        assert_eq!(rt; read.as_slice(), text);
-        assert_eq!(rt; next, bytes.len());
-        assert_eq!(rt; size_ascii(text), bytes.len());
+        same(&rt, read.as_slice(), text);
+        same(&rt, next, bytes.len());
+        same(&rt, size_ascii(text), bytes.len());
     }
     let (overlong, next) = read_ascii(rt.alloc(), &[0x00, 0xc1], 0)?;
-    assert_eq!(rt; overlong.as_slice(), b"A".as_slice());
-    assert_eq!(rt; next, 2);
+    same(&rt, overlong.as_slice(), b"A".as_slice());
+    same(&rt, next, 2);
     Ok(())
 }
 
@@ -390,11 +419,11 @@ fn ascii_nullable_vectors(rt: HostRuntime) -> Result<(), Fail> {
     for (value, bytes) in vectors {
         let mut out = Vec::new(rt.alloc());
         write_ascii_nullable(value, &mut out)?;
-        assert_eq!(rt; out.as_slice(), bytes);
+        same(&rt, out.as_slice(), bytes);
         let (read, next) = read_ascii_nullable(rt.alloc(), bytes, 0)?;
-        assert_eq!(rt; shown(&read), value);
-        assert_eq!(rt; next, bytes.len());
-        assert_eq!(rt; size_ascii_nullable(value), bytes.len());
+        same(&rt, shown(&read), value);
+        same(&rt, next, bytes.len());
+        same(&rt, size_ascii_nullable(value), bytes.len());
     }
     Ok(())
 }
@@ -404,8 +433,8 @@ fn ascii_overlong(rt: HostRuntime) -> Result<(), Fail> {
     let overlong: [&[u8]; 2] = [&[0x00, 0xc1], &[0x00, 0x00, 0xc1]];
     for bytes in overlong {
         let (read, next) = read_ascii_nullable(rt.alloc(), bytes, 0)?;
-        assert_eq!(rt; shown(&read), Nullable::Value(b"A".as_slice()));
-        assert_eq!(rt; next, bytes.len());
+        same(&rt, shown(&read), Nullable::Value(b"A".as_slice()));
+        same(&rt, next, bytes.len());
     }
     Ok(())
 }
@@ -413,12 +442,13 @@ fn ascii_overlong(rt: HostRuntime) -> Result<(), Fail> {
 #[test]
 fn ascii_limits(rt: HostRuntime) -> Result<(), Fail> {
     let mut out = Vec::new(rt.alloc());
-    assert_eq!(rt; write_ascii(&[0x80], &mut out), Err(WireFault::Range));
+    same(&rt, write_ascii(&[0x80], &mut out), Err(WireFault::Range));
     let long = [0x41; 65_536];
-    assert_eq!(rt; write_ascii(&long, &mut out), Err(WireFault::TooLong));
-    assert_eq!(rt;
+    same(&rt, write_ascii(&long, &mut out), Err(WireFault::TooLong));
+    same(
+        &rt,
         write_ascii_nullable(Nullable::Value(&long), &mut out),
-        Err(WireFault::TooLong)
+        Err(WireFault::TooLong),
     );
     assert!(rt; out.is_empty());
     let mut groups = [0x00; 65_540];
@@ -432,8 +462,8 @@ fn ascii_limits(rt: HostRuntime) -> Result<(), Fail> {
     groups[65_536] = 0x80;
     assert!(rt; matches!(read_ascii(rt.alloc(), &groups, 0), Err(WireFault::TooLong)));
     let (text, next) = read_ascii_nullable(rt.alloc(), &groups, 0)?;
-    assert_eq!(rt; shown(&text), Nullable::Value(&groups[..65_535]));
-    assert_eq!(rt; next, 65_537);
+    same(&rt, shown(&text), Nullable::Value(&groups[..65_535]));
+    same(&rt, next, 65_537);
     Ok(())
 }
 
@@ -443,11 +473,11 @@ fn vector_vectors(rt: HostRuntime) -> Result<(), Fail> {
     let items = [0xc3, 0xa9];
     let mut out = Vec::new(rt.alloc());
     write_vector(&items, &mut out)?;
-    assert_eq!(rt; out.as_slice(), bytes.as_slice());
+    same(&rt, out.as_slice(), bytes.as_slice());
     let (read, next) = read_vector(rt.alloc(), &bytes, 0)?;
-    assert_eq!(rt; read.as_slice(), items.as_slice());
-    assert_eq!(rt; next, 3);
-    assert_eq!(rt; size_vector(&items), 3);
+    same(&rt, read.as_slice(), items.as_slice());
+    same(&rt, next, 3);
+    same(&rt, size_vector(&items), 3);
     let refused: [(&[u8], WireFault); 3] = [
         (&[0x82, 0xc3], WireFault::NeedMore),
         (&[0x04, 0x00, 0x80], WireFault::TooLong),
@@ -458,7 +488,7 @@ fn vector_vectors(rt: HostRuntime) -> Result<(), Fail> {
     }
     let long = [0x00; 65_536];
     let mut none = Vec::new(rt.alloc());
-    assert_eq!(rt; write_vector(&long, &mut none), Err(WireFault::TooLong));
+    same(&rt, write_vector(&long, &mut none), Err(WireFault::TooLong));
     assert!(rt; none.is_empty());
     Ok(())
 }
@@ -473,11 +503,11 @@ fn vector_nullable_vectors(rt: HostRuntime) -> Result<(), Fail> {
     for (value, bytes) in vectors {
         let mut out = Vec::new(rt.alloc());
         write_vector_nullable(value, &mut out)?;
-        assert_eq!(rt; out.as_slice(), bytes);
+        same(&rt, out.as_slice(), bytes);
         let (read, next) = read_vector_nullable(rt.alloc(), bytes, 0)?;
-        assert_eq!(rt; shown(&read), value);
-        assert_eq!(rt; next, bytes.len());
-        assert_eq!(rt; size_vector_nullable(value), bytes.len());
+        same(&rt, shown(&read), value);
+        same(&rt, next, bytes.len());
+        same(&rt, size_vector_nullable(value), bytes.len());
     }
     assert!(rt;
         matches!(
@@ -490,8 +520,8 @@ fn vector_nullable_vectors(rt: HostRuntime) -> Result<(), Fail> {
 
 #[test]
 fn texts(rt: HostRuntime) -> Result<(), Fail> {
-    assert_eq!(rt; check_text(&[0xc3, 0xa9]), Ok(()));
-    assert_eq!(rt; check_text(&[0xc3, 0x41]), Err(WireFault::NotUtf8));
+    same(&rt, check_text(&[0xc3, 0xa9]), Ok(()));
+    same(&rt, check_text(&[0xc3, 0x41]), Err(WireFault::NotUtf8));
     Ok(())
 }
 
@@ -509,12 +539,12 @@ fn map_vectors(rt: HostRuntime) -> Result<(), Fail> {
     for (bits, bytes) in vectors {
         let mut out = Vec::new(rt.alloc());
         write_map(bits, &mut out)?;
-        assert_eq!(rt; out.as_slice(), bytes);
+        same(&rt, out.as_slice(), bytes);
         let (mut read, next) = read_map(rt.alloc(), bytes, 0)?;
-        assert_eq!(rt; next, bytes.len());
+        same(&rt, next, bytes.len());
         for bit in bits {
-            assert_eq!(rt; read.first(), *bit);
-            assert_eq!(rt; read.take(), *bit);
+            same(&rt, read.first(), *bit);
+            same(&rt, read.take(), *bit);
         }
         assert!(rt; !read.left_set() && !read.first() && !read.take());
     }
@@ -524,7 +554,7 @@ fn map_vectors(rt: HostRuntime) -> Result<(), Fail> {
 #[test]
 fn map_limits(rt: HostRuntime) -> Result<(), Fail> {
     let (mut long, next) = read_map(rt.alloc(), &[0x70, 0x00, 0x80], 0)?;
-    assert_eq!(rt; next, 3);
+    same(&rt, next, 3);
     assert!(rt; long.left_set() && long.take() && long.take() && long.take());
     assert!(rt; !long.left_set() && !long.take());
     let mut none = Bits::none(rt.alloc());
@@ -539,10 +569,10 @@ fn map_limits(rt: HostRuntime) -> Result<(), Fail> {
     assert!(rt; matches!(read_map(rt.alloc(), &zeros, 0), Err(WireFault::TooLong)));
     let ones = [true; 1793];
     let mut out = Vec::new(rt.alloc());
-    assert_eq!(rt; write_map(&ones, &mut out), Err(WireFault::TooLong));
+    same(&rt, write_map(&ones, &mut out), Err(WireFault::TooLong));
     assert!(rt; out.is_empty());
     write_map(&ones[..1792], &mut out)?;
-    assert_eq!(rt; out.len(), 256);
+    same(&rt, out.len(), 256);
     Ok(())
 }
 
@@ -552,12 +582,12 @@ fn map_limits(rt: HostRuntime) -> Result<(), Fail> {
 fn stop_bits(rt: HostRuntime) -> Result<(), Fail> {
     for length in 0..=64 {
         let mut bytes = [0x7f; 64];
-        assert_eq!(rt; find_stop(&bytes[..length]), None);
+        same(&rt, find_stop(&bytes[..length]), None);
         for stop in 0..length {
             for after in [0x00, 0xff] {
                 bytes[stop..].fill(after);
                 bytes[stop] = 0x80;
-                assert_eq!(rt; find_stop(&bytes[..length]), Some(stop));
+                same(&rt, find_stop(&bytes[..length]), Some(stop));
             }
             bytes.fill(0x7f);
         }
@@ -576,12 +606,12 @@ macro_rules! written {
             $out.extend_from_slice(&FRONT)?;
         }
         if let Err(fault) = $call {
-            assert_eq!($rt; fault, WireFault::Memory);
-            assert_eq!($rt; $out.as_slice(), FRONT.as_slice());
+            same(&$rt, fault, WireFault::Memory);
+            same(&$rt, $out.as_slice(), FRONT.as_slice());
             $call?;
         }
         assert!($rt; $out.starts_with(&FRONT) && $out.ends_with($bytes.as_slice()));
-        assert_eq!($rt; $out.len(), FRONT.len() + $bytes.len());
+        same(&$rt, $out.len(), FRONT.len() + $bytes.len());
     };
 }
 
@@ -593,7 +623,7 @@ macro_rules! taken {
             read => read,
         };
         let (value, _) = read?;
-        assert_eq!($rt; value.as_slice(), $bytes.as_slice());
+        same(&$rt, value.as_slice(), $bytes.as_slice());
     };
 }
 
@@ -662,12 +692,12 @@ fn refused_copies(rt: HostRuntime) -> Result<(), Fail> {
         Err(WireFault::Memory) => read_ascii_nullable(rt.alloc(), &[0xc1], 0),
         read => read,
     };
-    assert_eq!(rt; shown(&text?.0), Nullable::Value(b"A".as_slice()));
+    same(&rt, shown(&text?.0), Nullable::Value(b"A".as_slice()));
     let vector = match read_vector_nullable(rt.alloc(), &[0x82, 0x41], 0) {
         Err(WireFault::Memory) => read_vector_nullable(rt.alloc(), &[0x82, 0x41], 0),
         read => read,
     };
-    assert_eq!(rt; shown(&vector?.0), Nullable::Value(b"A".as_slice()));
+    same(&rt, shown(&vector?.0), Nullable::Value(b"A".as_slice()));
     Ok(())
 }
 
@@ -725,13 +755,14 @@ fn no_memory_where_it_fits(rt: HostRuntime) -> Result<(), Fail> {
     write_vector(&[0xc3, 0xa9], &mut out)?;
     write_vector_nullable(Nullable::Null, &mut out)?;
     write_map(&[true], &mut out)?;
-    assert_eq!(rt;
+    same(
+        &rt,
         out.as_slice(),
         [
             0x39, 0x45, 0xa3, 0x46, 0x3a, 0xdd, 0x48, 0x65, 0xf9, 0x00, 0x80, 0x82, 0xc3, 0xa9,
             0x80, 0xc0,
         ]
-        .as_slice()
+        .as_slice(),
     );
     Ok(())
 }

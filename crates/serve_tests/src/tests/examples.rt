@@ -1,5 +1,6 @@
 //! The order book and the trade feed of examples/: their lines and canonical bytes, and those of these bytes.
 
+use super::same::same;
 use crate::tests::devices::{After, Feed, STREAM, Shelf, TEMPLATES};
 use fast_io::Counted;
 use fast_serve::serve::{TURNS, serve};

@@ -1,5 +1,6 @@
 //! The program: its exit status, what it writes, and what it says.
 
+use super::same::same;
 use crate::tests::devices::{After, Feed, Flushed, Full, STREAM, Shelf, Sink, TEMPLATES};
 use fast_io::Counted;
 use fast_serve::serve::{TURNS, serve, serve_words};
@@ -504,15 +505,15 @@ fn words_are_served(
         &mut Counted::new(&mut err),
         TURNS,
     );
-    assert_eq!(rt; err.as_slice(), want.err.as_bytes());
-    assert_eq!(rt; out.as_slice(), want.out);
-    assert_eq!(rt; status, want.status);
+    same(rt, err.as_slice(), want.err.as_bytes());
+    same(rt, out.as_slice(), want.out);
+    same(rt, status, want.status);
     Ok(())
 }
 
 #[test]
 fn process_words(rt: HostRuntime) -> Result<(), Fail> {
-    assert_eq!(rt; TURNS, 1_099_511_627_776);
+    same(&rt, TURNS, 1_099_511_627_776);
     let texts = [
         String::from_str(rt.alloc(), "fastcat")?,
         String::from_str(rt.alloc(), "canon")?,
