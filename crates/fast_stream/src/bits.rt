@@ -13,7 +13,7 @@ use std::alloc::Global;
 
 /// The next bit where one is needed, or else 1; it stays the next.
 #[inline(always)]
-pub fn first_for(bits: &Bits, needed: bool) -> bool
+pub(crate) fn first_for(bits: &Bits, needed: bool) -> bool
     ensures { result ≡ bit_for needed bits.now }
 {
     if needed { bits.first() } else { true }
@@ -21,7 +21,7 @@ pub fn first_for(bits: &Bits, needed: bool) -> bool
 
 /// Takes the next bit where one is needed.
 #[inline(always)]
-pub fn take_for(bits: &mut Bits, needed: bool)
+pub(crate) fn take_for(bits: &mut Bits, needed: bool)
     ensures { bits.new ≡ after_bit needed bits.old }
 {
     if needed {

@@ -29,7 +29,7 @@ impl From<AllocError> for Halt {
 }
 
 /// The cause that a fault of a field is in a stream.
-pub fn field_cause(fault: FieldFault) -> Cause
+pub(crate) fn field_cause(fault: FieldFault) -> Cause
     ensures { result ≡ cause_of_field fault }
 {
     match fault {
@@ -47,7 +47,7 @@ pub fn field_cause(fault: FieldFault) -> Cause
 }
 
 /// The cause that a fault of a presence map is in a stream.
-pub fn map_cause(fault: WireFault) -> Cause
+pub(crate) fn map_cause(fault: WireFault) -> Cause
     ensures { result ≡ cause_of_wire fault }
 {
     match fault {

@@ -20,9 +20,8 @@ mod receiver;
 mod traversal;
 mod walk;
 
-pub use bits::{first_for, take_for};
 pub use fault::{Cause, Fault};
-pub use halt::{Halt, field_cause, map_cause};
+pub use halt::Halt;
 pub use machine::Machine;
 pub use message::{Message, Node};
 pub use part::{exponent_in, mantissa_in, take_part, unsigned_in};

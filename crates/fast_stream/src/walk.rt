@@ -91,7 +91,7 @@ impl<'a> Walk<'a> {
     ghost use Rattle.fast_stream.specs.Walks.{At, HaltsAs, IsElement, IsInside, IsInsideServed, IsNextServed, IsReady, Moves, bare_inside, bare_next, frame_of, inside_of, next_of, rank_of, sequel_of, weight_of};
 
     /// At the beginning of a list of instructions.
-    pub fn new(alloc: Global, members: &'a [Flat], bits: Bits, spare: u32) -> Walk<'a>
+    pub(crate) fn new(alloc: Global, members: &'a [Flat], bits: Bits, spare: u32) -> Walk<'a>
         ensures bits { result.bits ≡ bits }
         ensures spare { result.spare ≡ spare }
         ensures next { result.next ≡ Next.Instruction }
@@ -687,7 +687,7 @@ impl<'a> Walk<'a> {
     }
 
     /// Takes what is left of the message, up to its end.
-    pub fn run<R: Receiver, E: Entries>(
+    pub(crate) fn run<R: Receiver, E: Entries>(
         &mut self,
         alloc: Global,
         receiver: &mut R,
