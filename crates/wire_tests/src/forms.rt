@@ -2,6 +2,8 @@
 
 use crate::same::same;
 use fast_wire::*;
+use std::alloc::{AllocError, Global};
+use std::process::Abort;
 use std::test::Fail;
 
 /// A value, and its shortest form.
@@ -598,20 +600,36 @@ fn stop_bits(rt: HostRuntime) -> Result<(), Fail> {
 /// Bytes that stand in an output before a form is written.
 const FRONT: [u8; 3] = [0xd5, 0x00, 0x80];
 
+/// An output in which these bytes stand.
+fn begun(alloc: Global) -> Result<Vec<u8>, AllocError> {
+    let mut out = Vec::new(alloc);
+    if out.extend_from_slice(&FRONT).is_err() {
+        out.extend_from_slice(&FRONT)?;
+    }
+    Ok(out)
+}
+
+/// A refused growth is Memory, and nothing was appended.
+fn nothing_written(rt: &impl Abort, fault: WireFault, out: &[u8]) {
+    assert_eq!(rt; fault, WireFault::Memory);
+    assert_eq!(rt; out, FRONT.as_slice());
+}
+
+/// Behind the bytes that stood there stand these.
+fn stands_behind(rt: &impl Abort, out: &[u8], bytes: &[u8]) {
+    assert!(rt; out.starts_with(&FRONT) && out.ends_with(bytes));
+    assert_eq!(rt; out.len().saturating_sub(FRONT.len()), bytes.len());
+}
+
 /// Writes behind bytes that are there, once more where memory was refused, and compares the bytes.
 macro_rules! written {
     ($rt:ident, $bytes:expr, $out:ident => $call:expr) => {
-        let mut $out = Vec::new($rt.alloc());
-        if $out.extend_from_slice(&FRONT).is_err() {
-            $out.extend_from_slice(&FRONT)?;
-        }
+        let mut $out = begun($rt.alloc())?;
         if let Err(fault) = $call {
-            same(&$rt, fault, WireFault::Memory);
-            same(&$rt, $out.as_slice(), FRONT.as_slice());
+            nothing_written(&$rt, fault, &$out);
             $call?;
         }
-        assert!($rt; $out.starts_with(&FRONT) && $out.ends_with($bytes.as_slice()));
-        same(&$rt, $out.len(), FRONT.len() + $bytes.len());
+        stands_behind(&$rt, &$out, $bytes.as_slice());
     };
 }
 
