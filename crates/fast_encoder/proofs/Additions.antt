@@ -22,8 +22,8 @@ use Rattle.fast_stream.proofs.Leaves.{bits_taken_are, no_bits_are_taken}
 use Rattle.fast_stream.proofs.Weaker.{body_weaker}
 use Rattle.fast_encoder.specs.Added.{Standing, Judging, Adds, AddsBytes}
 use Rattle.fast_writer.specs.Canonical.{CanonBody, IsShortestMap}
-use Rattle.fast_encoder.specs.FirstRefusal.{part_judged, has_set, segment_judged, item_judged, items_judged, elements_judged}
-use Rattle.fast_writer.specs.Written.{Level, state, bits_for, Leaves, Segment, Spelt, Asked, Ended}
+use Rattle.fast_encoder.specs.FirstRefusal.{part_judged, segment_judged, item_judged, items_judged, elements_judged}
+use Rattle.fast_writer.specs.Written.{Level, state, bits_for, Leaves, Segment, Spelt, Asked, Ended, has_set}
 use Rattle.fast_writer.proofs.Leavings.{leaves_split, bit_of, behind_of, closed}
 use Rattle.fast_writer.proofs.Writings.{part_by}
 

@@ -19,8 +19,8 @@ use Rattle.fast_encoder.specs.declared.fault.EncodeCause.TheVariants as cause
 use Rattle.fast_encoder.specs.declared.fault.EncodeFault.{EncodeFault}
 use Rattle.fast_encoder.specs.Added.{Adds, AddsBytes, AnswersBytes, CanTry, MessageStands, message_judged}
 use Rattle.fast_writer.specs.Canonical.{CanonBody, CanonMessage, IsShortestMap}
-use Rattle.fast_encoder.specs.FirstRefusal.{refused, has_set, part_judged, items_judged, items_fit, is_too_large, has_large, whole_refusal, segment_judged}
-use Rattle.fast_writer.specs.Written.{Level, Ended}
+use Rattle.fast_encoder.specs.FirstRefusal.{refused, part_judged, items_judged, items_fit, is_too_large, has_large, whole_refusal, segment_judged}
+use Rattle.fast_writer.specs.Written.{Level, Ended, has_set}
 use Rattle.fast_encoder.proofs.Additions.{adds_then}
 use Rattle.fast_writer.proofs.Leavings.{closed}
 use Rattle.fast_encoder.proofs.Tries.{or_false, small_all}

@@ -35,8 +35,8 @@ use Rattle.fast_stream.specs.Streams.{members_of, identifier, AnyMap, BodyOfBy, 
 use Rattle.fast_stream.proofs.FoundMembers.{members_have}
 use Rattle.fast_encoder.specs.declared.fault.EncodeFault.{EncodeFault}
 use Rattle.fast_encoder.specs.Added.{Judging, HoldScalars}
-use Rattle.fast_encoder.specs.FirstRefusal.{value_fits, item_fits, items_fit, elements_fit, item_is_large, has_large, has_large_in, whole_refusal, part_judged, has_set, segment_judged, item_judged, items_judged, elements_judged, message_refusal, first_refusal}
-use Rattle.fast_writer.specs.Written.{state, bits_for}
+use Rattle.fast_encoder.specs.FirstRefusal.{value_fits, item_fits, items_fit, elements_fit, item_is_large, has_large, has_large_in, whole_refusal, part_judged, segment_judged, item_judged, items_judged, elements_judged, message_refusal, first_refusal}
+use Rattle.fast_writer.specs.Written.{state, bits_for, has_set}
 use Rattle.fast_encoder.proofs.Changes.{form_holds}
 
 -- One after the other these bits stand no higher than those taken of a map, and the later ones are left of it.

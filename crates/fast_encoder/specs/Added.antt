@@ -16,9 +16,9 @@ use Rattle.fast_stream.specs.Walks.{IsServed, AreServed}
 use Rattle.fast_encoder.specs.declared.fault.EncodeCause.TheVariants as cause
 use Rattle.fast_encoder.specs.declared.fault.EncodeFault.{EncodeFault}
 use Rattle.fast_encoder.specs.declared.journal.Change.{Change}
-use Rattle.fast_encoder.specs.FirstRefusal.{refused, item_fits, items_fit, elements_fit, has_set, part_judged, items_judged}
+use Rattle.fast_encoder.specs.FirstRefusal.{refused, item_fits, items_fit, elements_fit, part_judged, items_judged}
 use Rattle.fast_writer.specs.Canonical.{CanonBody}
-use Rattle.fast_writer.specs.Written.{Level, Leaves, state}
+use Rattle.fast_writer.specs.Written.{Level, Leaves, state, has_set}
 
 -- ---- to a segment
 

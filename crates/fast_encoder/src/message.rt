@@ -16,11 +16,10 @@ ghost use Rattle.fast_writer.specs.Written.{Ended, has_set, state};
 use crate::fault::{EncodeCause, EncodeFault};
 use crate::journal::{Journal, put_back, put_value};
 use crate::nodes::put_nodes;
-use crate::put::{no_memory, no_room};
+use crate::put::seal;
 use fast_dictionary::Entries;
 use fast_stream::{Message, Node};
 use fast_template::{FieldPart, Flat, Scalar};
-use fast_wire::WireFault;
 use fast_writer::Level;
 use std::alloc::Global;
 
@@ -53,9 +52,8 @@ fn put_rest<'a, E: Entries>(
 {
     match put_nodes(members, nodes, alloc, journal, level) {
         Err(fault) => Err(fault),
-        Ok(()) => match level.seal(out) {
-            Err(WireFault::TooLong) => Err(no_room()),
-            Err(_) => Err(no_memory()),
+        Ok(()) => match seal(level, out) {
+            Err(fault) => Err(fault),
             Ok(()) => Ok(()),
         },
     }

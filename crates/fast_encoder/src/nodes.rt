@@ -16,7 +16,7 @@ ghost use Rattle.fast_writer.specs.Written.{Segment};
 
 use crate::fault::{EncodeCause, EncodeFault};
 use crate::journal::Journal;
-use crate::put::no_memory;
+use crate::put::{no_memory, seal};
 use crate::shape::may_be_absent;
 use fast_dictionary::Entries;
 use fast_stream::Node;
@@ -256,7 +256,7 @@ fn put_segment<'a, E: Entries>(
     let mut level = Level::new(alloc, has_map(members));
     match put_nodes(members, nodes, alloc, journal, &mut level) {
         Err(fault) => Err(fault),
-        Ok(()) => match level.seal(out) {
+        Ok(()) => match seal(&level, out) {
             Err(fault) => Err(fault),
             Ok(()) => Ok(()),
         },

@@ -1,6 +1,6 @@
 //! A part of a message that is written.
 
-ghost use Rattle.std.specs.Prelude.{◌≡◌, ◌⊎◌, ◌++◌, not, None, Some, IfErr, IfOk, OnErr, OnOk};
+ghost use Rattle.std.specs.Prelude.{◌≡◌, ◌⊎◌, ◌++◌, ◌&&◌, true, false, drop, not, None, Some, IfErr, IfOk, OnErr, OnOk};
 ghost use Rattle.std.specs.Option.{option_copied};
 ghost use Rattle.fast_template.specs.Resolved.{part_needs_bit as part_needs_bit_of};
 ghost use Rattle.fast_field.specs.Bases.{next};
@@ -11,12 +11,13 @@ ghost use Rattle.fast_field.specs.Within.{HoldsScalar};
 ghost use Rattle.fast_field.specs.declared.fault.FieldRefusal.{FieldRefusal as RefusalOf};
 ghost use Rattle.fast_encoder.specs.FirstRefusal.{cause_of, fault_of, refused};
 ghost use Rattle.fast_writer.specs.Levels.{level_of};
-ghost use Rattle.fast_writer.specs.Written.{Spelt, bits_for};
+ghost use Rattle.fast_writer.specs.Written.{Ended, Spelt, bits_for, has_set};
 
 use crate::fault::{EncodeCause, EncodeFault};
 use fast_dictionary::Entry;
 use fast_field::{FieldRefusal, next_entry, plan_field, write_field};
 use fast_template::{FieldPart, Scalar, part_needs_bit};
+use fast_wire::WireFault;
 use fast_writer::Level;
 use std::alloc::Global;
 use std::mem;
@@ -67,13 +68,34 @@ pub(crate) fn no_memory() -> EncodeFault
     }
 }
 
-/// A bit for which its map has no room.
-pub(crate) fn no_room() -> EncodeFault
+// A bit for which its map has no room.
+fn no_room() -> EncodeFault
     ensures { result ≡ refused EncodeCause.Limit }
 {
     EncodeFault {
         cause: EncodeCause::Limit,
         instruction: 0,
+    }
+}
+
+/// Appends a segment behind its map, or nothing.
+///
+/// # Errors
+///
+/// Limit: a bit is 1 for which the map has no room. Memory: a growth was refused.
+pub(crate) fn seal(level: &Level, out: &mut Vec<u8>) -> Result<(), EncodeFault>
+    ensures ended { OnOk result (Ended (level_of level.now) out.old.items out.new.items) }
+    ensures room { OnOk result
+        ((level.now.own && has_set (drop 1792 level.now.bits.items)) ≡ false) }
+    ensures refused { IfErr result (λ f. (f ≡ refused EncodeCause.Memory)
+        ⊎ ((f ≡ refused EncodeCause.Limit)
+        × ((level.now.own && has_set (drop 1792 level.now.bits.items)) ≡ true))) }
+    ensures unchanged { OnErr result (out.new.items ≡ out.old.items) }
+{
+    match level.seal(out) {
+        Err(WireFault::TooLong) => Err(no_room()),
+        Err(_) => Err(no_memory()),
+        Ok(()) => Ok(()),
     }
 }
 
