@@ -3,29 +3,14 @@
 use crate::same::same;
 use crate::worked::WORKED;
 use fast_dictionary::MapEntries;
-use fast_stream::{Receiver, Traversal};
+use fast_stream::Machine;
 use fast_template::TemplateSet;
 use fast_writer::Writer;
 use std::alloc::{AllocError, Global};
 use std::process::Abort;
 
-// Reads a stream to its end or its first fault, and writes; answers the writer, and whether there was a fault.
-fn relay(alloc: Global, set: &TemplateSet, stream: &[u8]) -> (Writer, bool) {
-    let mut traversal = Traversal::new(alloc, set);
-    let mut writer = Writer::new(alloc);
-    let mut entries = MapEntries::new(alloc);
-    let mut at = 0;
-    'stream: while at < stream.len() {
-        match traversal.message(&mut writer, &mut entries, stream, at) {
-            Ok(next) => at = next,
-            Err(_) => {
-                writer.back(alloc);
-                return (writer, true);
-            }
-        }
-    }
-    (writer, false)
-}
+// More than the bytes of any stream here; a machine asks how many it is fed.
+const LONGEST: usize = 4096;
 
 // The messages of a stream up to its first fault have these canonical bytes.
 fn check(
@@ -38,11 +23,15 @@ fn check(
     let Ok(set) = TemplateSet::from_json(alloc, WORKED.as_bytes()) else {
         panic!(rt; "refused");
     };
-    let (mut writer, fault) = relay(alloc, &set, stream);
-    same(rt, writer.finished(), canonical);
+    if stream.len() > LONGEST {
+        panic!(rt; "too long a stream");
+    }
+    let mut machine = Machine::new(alloc, &set, Writer::new(alloc), MapEntries::new(alloc));
+    let fault = machine.feed(stream).is_err() || machine.finish().is_err();
+    same(rt, machine.receiver.finished(), canonical);
     same(rt, fault, refused);
-    writer.hand_on();
-    same(rt, writer.finished().len(), 0);
+    machine.receiver.hand_on();
+    same(rt, machine.receiver.finished().len(), 0);
     Ok(())
 }
 

@@ -52,7 +52,7 @@ impl<'a> Traversal<'a> {
     ghost use Rattle.fast_stream.specs.Traversals.{CanGoOn, Continues, IsOpen, ServesAll, begun_of, identifier_on, stop_of};
 
     /// At the beginning of a stream. Takes no memory.
-    pub fn new(alloc: Global, set: &'a TemplateSet) -> Traversal<'a>
+    pub(crate) fn new(alloc: Global, set: &'a TemplateSet) -> Traversal<'a>
         ensures set { result.set.now ≡ set.now }
         ensures stage { result.stage ≡ Stage.Map }
     {
@@ -80,14 +80,14 @@ impl<'a> Traversal<'a> {
     }
 
     /// The identifier of the open message's template; 0 until it is known, and between messages.
-    pub fn template(&self) -> u32
+    pub(crate) fn template(&self) -> u32
         ensures { result ≡ self.now.template }
     {
         self.template
     }
 
     /// Whether a message has begun.
-    pub fn has_begun(&self) -> bool
+    pub(crate) fn has_begun(&self) -> bool
         ensures yes { result ≡ true → begun_of self.now ≡ 1 }
         ensures no { result ≢ true → self.now.stage ≡ Stage.Map }
     {
@@ -105,7 +105,7 @@ impl<'a> Traversal<'a> {
     }
 
     /// Goes back to the beginning of a stream.
-    pub fn reset(&mut self)
+    pub(crate) fn reset(&mut self)
         ensures set { self.new.set ≡ self.old.set }
         ensures stage { self.new.stage ≡ Stage.Map }
     {
@@ -343,7 +343,7 @@ impl<'a> Traversal<'a> {
     /// Why a piece was not read, and where that begins. Truncated: the bytes end before it does. Then the traversal
     /// has stopped there, and goes on with the bytes from there on and those that follow. Memory: a growth was
     /// refused.
-    pub fn message<R: Receiver, E: Entries>(
+    pub(crate) fn message<R: Receiver, E: Entries>(
         &mut self,
         receiver: &mut R,
         entries: &mut E,
