@@ -2,7 +2,8 @@
 -- each in a line (our own).
 use Rattle.std.specs.Prelude.{◌≡◌, List, Bool, true, false, codes, Option, None, Some, if◌then◌else◌}
 use Rattle.std.specs.Str.{bytes_eq}
-use Rattle.clap.specs.Words.{App, Rule, Text, first_of, matches_of, new_app, new_rule, one_of, with_rule}
+use Rattle.clap.specs.Words.{App, Rule, Text, first_of, first_value, matches_of, new_app, new_rule, one_of, one_text, with_rule}
+use Rattle.clap.specs.declared.parser.matches.Found.{Found}
 use Rattle.clap.specs.Simple.{on_top}
 use Rattle.clap.specs.declared.builder.ArgAction.TheVariants.{SetTrue}
 use Rattle.clap.specs.declared.builder.value_parser.ValueParser.{ValueParser}
@@ -27,10 +28,13 @@ templates_rule = record (new_rule (codes "templates")) { long = Some (codes "tem
 abbrev pub hex_rule : Rule
 hex_rule = record (new_rule (codes "hex")) { long = Some (codes "hex"); action = Some SetTrue }
 
--- fastcat COMMAND [FILE] --templates FILE [--hex], with --help and --version
+-- fastcat, with --help and --version
+abbrev pub bare_app : App
+bare_app = on_top (λ s. record s { has_version = true }) (new_app (codes "fastcat"))
+
+-- fastcat COMMAND [FILE] --templates FILE [--hex]
 abbrev pub line_among : Option ValueParser → App
-line_among among =
-    with_rule (with_rule (with_rule (with_rule (on_top (λ s. record s { has_version = true }) (new_app (codes "fastcat"))) (command_rule among)) input_rule) templates_rule) hex_rule
+line_among among = with_rule (with_rule (with_rule (with_rule bare_app (command_rule among)) input_rule) templates_rule) hex_rule
 
 -- ---- what is found of them
 
@@ -44,6 +48,15 @@ command_named word =
 -- whether a flag is set
 abbrev pub IsFlag : Option Text → Bool → Type 0
 IsFlag found flag = (found ≡ Some (codes "true") → flag ≡ true) × (found ≡ Some (codes "false") → flag ≡ false) × (found ≡ None → flag ≡ false)
+
+-- what is asked for is what a parser found
+pub record Finds (found : Found) (command : Command) (templates : Text) (hex : Bool) (input : Option Text) : Type 0 where
+  pub word : Text
+  pub command_word : first_value found (codes "command") ≡ Some word
+  pub command_is : command_named word ≡ Some command
+  pub templates_are : first_value found (codes "templates") ≡ Some templates
+  pub hex_is : IsFlag (one_text found (codes "hex")) hex
+  pub input_is : first_value found (codes "input") ≡ input
 
 -- what is asked for is what the parser finds in the words
 pub record AsksFor (words : List Text) (command : Command) (templates : Text) (hex : Bool) (input : Option Text) : Type 0 where

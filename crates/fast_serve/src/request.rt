@@ -1,13 +1,13 @@
 //! What a command line asks for.
 
-ghost use Rattle.std.specs.Prelude.{◌≡◌, None, Some, IfNone, IfOk, IfSome, map, option_and_then, option_map};
+ghost use Rattle.std.specs.Prelude.{◌≡◌, None, Some, IfNone, IfOk, IfSome, false, map, option_and_then, option_map};
 ghost use Rattle.std.specs.Option.{option_copied};
-ghost use Rattle.clap.specs.Words.{app_of};
+ghost use Rattle.clap.specs.Words.{app_of, found_of, rule_of};
 ghost use Rattle.clap.specs.declared.builder.value_parser.ValueParser.{ValueParser};
-ghost use Rattle.fast_serve.specs.CommandLine.{AsksFor, command_named, line_among};
+ghost use Rattle.fast_serve.specs.CommandLine.{AsksFor, Finds, bare_app, command_named, command_rule, hex_rule, input_rule, line_among, templates_rule};
 
 use clap::error::ErrorKind;
-use clap::{Arg, ArgAction};
+use clap::{Arg, ArgAction, ArgMatches};
 use fast_command::Command;
 use std::alloc::{AllocError, Global};
 
@@ -41,35 +41,70 @@ Example:
     {\"kind\":\"uInt32\",\"name\":\"Price\",\"operator\":\"copy\"}]}]}' > tick.json
   echo e0 81 85 80 | fastcat show --templates tick.json --hex";
 
-/// The words that a command line may have.
-fn line<'a>(alloc: Global) -> Result<clap::Command<'a>, AllocError>
-    ensures { IfOk result (λ line. (among : _) × (app_of line ≡ line_among among)) }
+/// The word for the command, which has to be there.
+fn command_word<'a>(alloc: Global) -> Arg<'a>
+    ensures rule { (among : _) × (rule_of result ≡ command_rule among) }
+    ensures local { result.global ≡ false }
 {
-    let command = Arg::new(alloc, "command")
+    Arg::new(alloc, "command")
         .value_name("COMMAND")
         .required(true)
         .value_parser(["show", "check", "canon"].as_slice())
-        .help("What to do with the stream");
-    let templates = Arg::new(alloc, "templates")
+        .help("What to do with the stream")
+}
+
+/// The word for the file of the stream.
+fn input_word<'a>(alloc: Global) -> Arg<'a>
+    ensures rule { rule_of result ≡ input_rule }
+    ensures local { result.global ≡ false }
+{
+    Arg::new(alloc, "input")
+        .value_name("FILE")
+        .help("The stream; without a name it is standard input")
+}
+
+/// The word for the file of the templates, which has to be there.
+fn templates_word<'a>(alloc: Global) -> Arg<'a>
+    ensures rule { rule_of result ≡ templates_rule }
+    ensures local { result.global ≡ false }
+{
+    Arg::new(alloc, "templates")
         .long("templates")
         .value_name("FILE")
         .required(true)
-        .help("The templates of the stream, a JSON text");
-    let hex = Arg::new(alloc, "hex")
+        .help("The templates of the stream, a JSON text")
+}
+
+/// The flag for hex text.
+fn hex_word<'a>(alloc: Global) -> Arg<'a>
+    ensures rule { rule_of result ≡ hex_rule }
+    ensures local { result.global ≡ false }
+{
+    Arg::new(alloc, "hex")
         .long("hex")
         .action(ArgAction::SetTrue)
-        .help("Read hex text, and write canonical bytes as hex text");
-    let input = Arg::new(alloc, "input")
-        .value_name("FILE")
-        .help("The stream; without a name it is standard input");
+        .help("Read hex text, and write canonical bytes as hex text")
+}
+
+/// The program without its words.
+fn bare_line<'a>(alloc: Global) -> clap::Command<'a>
+    ensures { app_of result ≡ bare_app }
+{
     clap::Command::new(alloc, "fastcat")
         .version("0.1.0")
         .about("Reads, checks and canonicalises FAST 1.1 streams")
         .after_help(MORE)
-        .arg(command)?
-        .arg(input)?
-        .arg(templates)?
-        .arg(hex)
+}
+
+/// The words that a command line may have.
+fn line<'a>(alloc: Global) -> Result<clap::Command<'a>, AllocError>
+    ensures { IfOk result (λ line. (among : _) × (app_of line ≡ line_among among)) }
+{
+    bare_line(alloc)
+        .arg(command_word(alloc))?
+        .arg(input_word(alloc))?
+        .arg(templates_word(alloc))?
+        .arg(hex_word(alloc))
 }
 
 /// The command of a word.
@@ -84,6 +119,23 @@ fn command_of(word: Option<&str>) -> Option<Command>
     }
 }
 
+/// What is asked for by what a parser found; none where a word is not there that has to be.
+fn request_of<'a>(matches: &ArgMatches<'a>) -> Option<Request<'a>>
+    ensures { IfSome result (λ r. Finds (found_of matches.now) r.command r.templates.now r.hex
+        (option_map (λ name. name.now) r.input)) }
+{
+    let command = command_of(matches.get_str("command"));
+    match (command, matches.get_str("templates")) {
+        (Some(command), Some(templates)) => Some(Request {
+            command,
+            templates,
+            hex: matches.get_flag("hex"),
+            input: matches.get_str("input"),
+        }),
+        (_, _) => None,
+    }
+}
+
 /// Reads a command line, of which the first word is the program's name.
 pub(crate) fn parse_words<'a>(
     alloc: Global,
@@ -94,16 +146,10 @@ pub(crate) fn parse_words<'a>(
 {
     let mut line = line(alloc)?;
     let matches = line.try_get_matches_from_mut(words)?;
-    let command = command_of(matches.get_str("command"));
-    match (command, matches.get_str("templates")) {
-        (Some(command), Some(templates)) => Ok(Request {
-            command,
-            templates,
-            hex: matches.get_flag("hex"),
-            input: matches.get_str("input"),
-        }),
+    match request_of(&matches) {
+        Some(request) => Ok(request),
         // The parser lets no other line through.
-        (_, _) => Err(line.error(
+        None => Err(line.error(
             ErrorKind::MissingRequiredArgument,
             "COMMAND and --templates are required",
         )?),
