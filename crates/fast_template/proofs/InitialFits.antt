@@ -1,5 +1,5 @@
 -- The value that a text spells is one of its part and type.
-use Rattle.std.proofs.Common.{◌≡◌, ◌≢◌, ◌<◌, ◌≤◌, ◌+◌, ◌-◌, ◌*◌, ◌/◌, ◌%◌, ◌^◌, ◌&&◌, ℕ, ℤ, pos, negsuc, List, [], ◌∷◌, ◌++◌, length, nat_lt, nat_le, if◌then◌else◌, cond, Option, Some, None, Bool, true, false, nat_eq, ◌⊎◌, inl, inr, refl, sym, subst, arith, true≢false}
+use Rattle.std.proofs.Common.{◌≡◌, ◌≢◌, ◌<◌, ◌≤◌, ◌+◌, ◌-◌, ◌*◌, ◌/◌, ◌%◌, ◌^◌, ◌&&◌, ℕ, ℤ, pos, negsuc, List, [], ◌∷◌, length, nat_lt, nat_le, if◌then◌else◌, cond, Option, Some, None, Bool, true, false, nat_eq, ◌⊎◌, inl, inr, refl, sym, subst, arith, true≢false}
 use Rattle.std.specs.Prelude.{nat_abs, int_le, option_map, option_and_then, IsUtf8}
 use Rattle.std.specs.List.{list_all, AllByRecursion, before_first, after_first}
 use Rattle.std.proofs.lemmas.Bool.{leb-true, ltb-true}

@@ -1,5 +1,5 @@
 -- The initial values of templates that a program has are texts.
-use Rattle.std.proofs.Common.{List, [], ◌∷◌, ◌++◌, map, Option, Some, None, string_bytes, sym, subst}
+use Rattle.std.proofs.Common.{List, [], ◌∷◌, map, Option, Some, None, string_bytes, sym, subst}
 use Rattle.std.specs.Prelude.{IfSome, IsUtf8, option_map}
 use Rattle.std.specs.List.{AllByRecursion}
 use Rattle.std.specs.declared.alloc.Global.{Global}
