@@ -7,6 +7,7 @@ ghost use Rattle.fast_value.specs.declared.scalar.Scalar.TheVariants as scalar;
 ghost use Rattle.fast_value.specs.declared.kind.Presence.TheVariants.{Optional};
 ghost use Rattle.fast_field.specs.Parts.{IsFieldPart};
 
+use fast_dictionary::Entry;
 use fast_template::{
     ByteString, FieldPart, Key, Kind, Name, Operator, Part, Presence, Scalar, Scope, UnicodeText,
 };
@@ -64,4 +65,108 @@ pub(crate) fn ascii(alloc: Global, text: &[u8]) -> Result<Scalar, AllocError>
 pub(crate) fn unicode(alloc: Global, text: &str) -> Result<Scalar, AllocError> {
     let text = String::from_str(alloc, text)?;
     Ok(Scalar::Unicode(UnicodeText::from_string(text)))
+}
+
+fn vector(alloc: Global, bytes: &[u8]) -> Result<Scalar, AllocError> {
+    Ok(Scalar::Bytes(ByteString::from_vec(bytes.to_vec(alloc)?)))
+}
+
+// The field of a row, in short.
+#[derive(Clone, Copy)]
+pub(crate) enum Shape {
+    // Whole values with no initial value.
+    Mandatory(Kind, Operator),
+    Optional(Kind, Operator),
+    // A uInt32 with an initial value.
+    Initial(Presence, Operator, u32),
+    // A mandatory length.
+    Length(Operator),
+    // An exponent, which may have an initial value.
+    Exponent(Presence, Operator, Option<i32>),
+}
+
+impl Shape {
+    pub(crate) fn instr(self, alloc: Global) -> Result<FieldPart, AllocError> {
+        let mandatory = Presence::Mandatory;
+        match self {
+            Shape::Mandatory(kind, operator) => {
+                part_of(alloc, Part::Whole, kind, mandatory, operator, None)
+            }
+            Shape::Optional(kind, operator) => {
+                let presence = Presence::Optional;
+                part_of(alloc, Part::Whole, kind, presence, operator, None)
+            }
+            Shape::Initial(presence, operator, number) => {
+                let initial = Some(Scalar::U32(number));
+                part_of(
+                    alloc,
+                    Part::Whole,
+                    Kind::UInt32,
+                    presence,
+                    operator,
+                    initial,
+                )
+            }
+            Shape::Length(operator) => {
+                part_of(alloc, Part::Length, Kind::UInt32, mandatory, operator, None)
+            }
+            Shape::Exponent(presence, operator, initial) => {
+                let initial = initial.map(Scalar::I32);
+                part_of(
+                    alloc,
+                    Part::Exponent,
+                    Kind::Int32,
+                    presence,
+                    operator,
+                    initial,
+                )
+            }
+        }
+    }
+}
+
+// A value of a row.
+#[derive(Clone, Copy)]
+pub(crate) enum Value {
+    U32(u32),
+    I32(i32),
+    U64(u64),
+    I64(i64),
+    Decimal(i32, i64),
+    Ascii(&'static [u8]),
+    Unicode(&'static str),
+    Bytes(&'static [u8]),
+}
+
+impl Value {
+    pub(crate) fn scalar(self, alloc: Global) -> Result<Scalar, AllocError> {
+        match self {
+            Value::U32(number) => Ok(Scalar::U32(number)),
+            Value::I32(number) => Ok(Scalar::I32(number)),
+            Value::U64(number) => Ok(Scalar::U64(number)),
+            Value::I64(number) => Ok(Scalar::I64(number)),
+            Value::Decimal(exponent, mantissa) => Ok(Scalar::Decimal { exponent, mantissa }),
+            Value::Ascii(text) => ascii(alloc, text),
+            Value::Unicode(text) => unicode(alloc, text),
+            Value::Bytes(bytes) => vector(alloc, bytes),
+        }
+    }
+}
+
+// The entry of a row.
+#[derive(Clone, Copy)]
+pub(crate) enum Kept {
+    Undefined,
+    Empty,
+    Assigned(Value),
+}
+
+impl Kept {
+    pub(crate) fn entry(self, alloc: Global) -> Result<Entry, AllocError> {
+        match self {
+            Kept::Undefined => Ok(Entry::Undefined),
+            Kept::Empty => Ok(Entry::Empty),
+            Kept::Assigned(value) => Ok(Entry::Assigned(value.scalar(alloc)?)),
+        }
+    }
 }

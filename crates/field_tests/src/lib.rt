@@ -8,6 +8,8 @@ mod numbers;
 #[cfg(test)]
 mod reading;
 #[cfg(test)]
+mod relaying;
+#[cfg(test)]
 mod same;
 #[cfg(test)]
 mod texts;

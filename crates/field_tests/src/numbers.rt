@@ -1,1015 +1,823 @@
-//! Rows on fields that are passed and relayed at once.
+//! Rows on fields that are passed and relayed at once. A test has a table of rows, since each value that is made at a
+//! call makes its proof longer.
 
-use crate::fields::{ascii, part_of};
+use crate::fields::{Kept, Shape, Value};
+use crate::relaying::{Answer, NotRelayed, Relayed, is_left, is_relayed};
 use crate::same::same;
-use fast_dictionary::Entry;
 use fast_field::{Passed, pass_left_out};
 use fast_relay::relay_number;
-use fast_template::{FieldPart, Kind, Operator, Part, Presence, Scalar};
+use fast_template::{FieldPart, Kind, Operator, Presence};
 use std::alloc::{AllocError, Global};
 use std::process::Abort;
-use std::test::Fail;
-
-// The instruction of a row; want of memory for it ends the test.
-type Instr = Result<FieldPart, AllocError>;
-
-fn mandatory(alloc: Global, kind: Kind, operator: Operator) -> Instr {
-    part_of(
-        alloc,
-        Part::Whole,
-        kind,
-        Presence::Mandatory,
-        operator,
-        None,
-    )
-}
-
-fn optional(alloc: Global, kind: Kind, operator: Operator) -> Instr {
-    part_of(alloc, Part::Whole, kind, Presence::Optional, operator, None)
-}
-
-// A mandatory uInt32 whose initial value is 7.
-fn seven(alloc: Global, operator: Operator) -> Instr {
-    let initial = Some(Scalar::U32(7));
-    part_of(
-        alloc,
-        Part::Whole,
-        Kind::UInt32,
-        Presence::Mandatory,
-        operator,
-        initial,
-    )
-}
-
-// An optional constant.
-fn constant(alloc: Global) -> Instr {
-    let initial = Some(Scalar::U32(7));
-    part_of(
-        alloc,
-        Part::Whole,
-        Kind::UInt32,
-        Presence::Optional,
-        Operator::Constant,
-        initial,
-    )
-}
-
-fn length(alloc: Global, operator: Operator) -> Instr {
-    part_of(
-        alloc,
-        Part::Length,
-        Kind::UInt32,
-        Presence::Mandatory,
-        operator,
-        None,
-    )
-}
-
-fn exponent(alloc: Global, operator: Operator) -> Instr {
-    part_of(
-        alloc,
-        Part::Exponent,
-        Kind::Int32,
-        Presence::Mandatory,
-        operator,
-        None,
-    )
-}
-
-// An exponent that is out of its limit where it is not sent.
-fn far_exponent(alloc: Global) -> Instr {
-    let initial = Some(Scalar::I32(64));
-    let operator = Operator::Default;
-    part_of(
-        alloc,
-        Part::Exponent,
-        Kind::Int32,
-        Presence::Mandatory,
-        operator,
-        initial,
-    )
-}
-
-fn u32_entry(number: u32) -> Entry {
-    Entry::Assigned(Scalar::U32(number))
-}
-
-fn i32_entry(number: i32) -> Entry {
-    Entry::Assigned(Scalar::I32(number))
-}
-
-fn u64_entry(number: u64) -> Entry {
-    Entry::Assigned(Scalar::U64(number))
-}
-
-fn i64_entry(number: i64) -> Entry {
-    Entry::Assigned(Scalar::I64(number))
-}
 
 // What bit 0 gives, and the entry afterwards.
-fn passed(
-    rt: &impl Abort,
-    instr: Instr,
-    entry: Entry,
+struct Passing {
+    of: Shape,
+    before: Kept,
     answer: Passed,
-    after: Entry,
+    after: Kept,
+}
+
+fn passes_with(
+    rt: &impl Abort,
+    alloc: Global,
+    instr: &FieldPart,
+    row: &Passing,
 ) -> Result<(), AllocError> {
-    let instr = instr?;
-    let mut entry = entry;
-    same(rt, pass_left_out(&instr, &mut entry), answer);
-    same(rt, entry, after);
+    let mut entry = row.before.entry(alloc)?;
+    same(rt, pass_left_out(instr, &mut entry), row.answer);
+    same(rt, entry, row.after.entry(alloc)?);
     Ok(())
 }
 
-// Bit 0 gives a value.
-fn given(rt: &impl Abort, instr: Instr, entry: Entry, after: Entry) -> Result<(), AllocError> {
-    passed(rt, instr, entry, Passed::Present, after)
+fn passes(rt: &impl Abort, alloc: Global, row: &Passing) -> Result<(), AllocError> {
+    let instr = row.of.instr(alloc)?;
+    passes_with(rt, alloc, &instr, row)
 }
 
-// Bit 0 is left to the general way, and the entry stays.
-fn not_passed(
-    rt: &impl Abort,
-    alloc: Global,
-    instr: Instr,
-    entry: Entry,
-) -> Result<(), AllocError> {
-    let after = entry.view().copy(alloc)?;
-    passed(rt, instr, entry, Passed::Elsewhere, after)
-}
-
-// The bytes behind the first are read to their end, and these are appended. Want of memory leaves all as it was, and
-// ends the test.
-fn relayed(
-    rt: &impl Abort,
-    alloc: Global,
-    instr: Instr,
-    entry: Entry,
-    bytes: &[u8],
-    appended: &[u8],
-    after: Entry,
-) -> Result<(), AllocError> {
-    let instr = instr?;
-    let before = entry.view().copy(alloc)?;
-    let mut entry = entry;
-    let mut out = vec![in alloc; 0x2a]?;
-    let answer = relay_number(&instr, &mut entry, bytes, bytes.len().min(1), &mut out);
-    if answer.is_none() {
-        same(rt, entry, before);
-        same(rt, out.as_slice(), [0x2a].as_slice());
-        return Err(AllocError);
+fn all_pass(rt: &impl Abort, alloc: Global, rows: &[Passing]) -> Result<(), AllocError> {
+    for row in rows {
+        passes(rt, alloc, row)?;
     }
-    same(rt, answer, Some(bytes.len()));
-    same(rt, entry, after);
-    same(rt, &out[..1], [0x2a].as_slice());
-    same(rt, &out[1..], appended);
     Ok(())
 }
 
-// The bytes behind the first are left to the general way, and nothing has changed.
-fn not_relayed(
-    rt: &impl Abort,
+fn relay_with(
     alloc: Global,
-    instr: Instr,
-    entry: Entry,
+    instr: &FieldPart,
+    before: Kept,
     bytes: &[u8],
-) -> Result<(), AllocError> {
-    let instr = instr?;
-    let before = entry.view().copy(alloc)?;
-    let mut entry = entry;
+) -> Result<Answer, AllocError> {
     let mut out = vec![in alloc; 0x2a]?;
-    let answer = relay_number(&instr, &mut entry, bytes, bytes.len().min(1), &mut out);
-    same(rt, answer, None);
-    same(rt, entry, before);
-    same(rt, out.as_slice(), [0x2a].as_slice());
+    let mut entry = before.entry(alloc)?;
+    let next = relay_number(instr, &mut entry, bytes, bytes.len().min(1), &mut out);
+    Ok(Answer { next, entry, out })
+}
+
+fn relay(alloc: Global, of: Shape, before: Kept, bytes: &[u8]) -> Result<Answer, AllocError> {
+    let instr = of.instr(alloc)?;
+    relay_with(alloc, &instr, before, bytes)
+}
+
+fn all_relayed(rt: &impl Abort, alloc: Global, rows: &[Relayed]) -> Result<(), AllocError> {
+    for row in rows {
+        let answer = relay(alloc, row.of, row.before, row.bytes)?;
+        is_relayed(rt, alloc, answer, row)?;
+    }
+    Ok(())
+}
+
+fn none_relayed(rt: &impl Abort, alloc: Global, rows: &[NotRelayed]) -> Result<(), AllocError> {
+    for row in rows {
+        let answer = relay(alloc, row.of, row.before, row.bytes)?;
+        is_left(rt, alloc, answer, row.before)?;
+    }
     Ok(())
 }
 
 #[test]
-fn kept_values_are_passed(rt: HostRuntime) -> Result<(), Fail> {
-    let alloc = rt.alloc();
-    given(
-        &rt,
-        mandatory(alloc, Kind::UInt32, Operator::Copy),
-        u32_entry(5),
-        u32_entry(5),
-    )?;
-    not_passed(
-        &rt,
-        alloc,
-        mandatory(alloc, Kind::UInt32, Operator::Copy),
-        u64_entry(5),
-    )?;
-    not_passed(
-        &rt,
-        alloc,
-        mandatory(alloc, Kind::UInt32, Operator::Copy),
-        Entry::Undefined,
-    )?;
-    Ok(())
+fn kept_values_are_passed(rt: HostRuntime) -> Result<(), AllocError> {
+    const ROWS: &[Passing] = &[
+        Passing {
+            of: Shape::Mandatory(Kind::UInt32, Operator::Copy),
+            before: Kept::Assigned(Value::U32(5)),
+            answer: Passed::Present,
+            after: Kept::Assigned(Value::U32(5)),
+        },
+        Passing {
+            of: Shape::Mandatory(Kind::UInt32, Operator::Copy),
+            before: Kept::Assigned(Value::U64(5)),
+            answer: Passed::Elsewhere,
+            after: Kept::Assigned(Value::U64(5)),
+        },
+        Passing {
+            of: Shape::Mandatory(Kind::UInt32, Operator::Copy),
+            before: Kept::Undefined,
+            answer: Passed::Elsewhere,
+            after: Kept::Undefined,
+        },
+    ];
+    all_pass(&rt, rt.alloc(), ROWS)
 }
 
 #[test]
-fn kept_texts_are_passed(rt: HostRuntime) -> Result<(), Fail> {
-    let alloc = rt.alloc();
-    let entry = Entry::Assigned(ascii(alloc, b"AB")?);
-    let after = Entry::Assigned(ascii(alloc, b"AB")?);
-    given(
-        &rt,
-        optional(alloc, Kind::Ascii, Operator::Tail),
-        entry,
-        after,
-    )?;
-    Ok(())
+fn kept_texts_are_passed(rt: HostRuntime) -> Result<(), AllocError> {
+    const ROWS: &[Passing] = &[Passing {
+        of: Shape::Optional(Kind::Ascii, Operator::Tail),
+        before: Kept::Assigned(Value::Ascii(b"AB")),
+        answer: Passed::Present,
+        after: Kept::Assigned(Value::Ascii(b"AB")),
+    }];
+    all_pass(&rt, rt.alloc(), ROWS)
 }
 
 #[test]
-fn uint32_increments_are_passed(rt: HostRuntime) -> Result<(), Fail> {
-    let alloc = rt.alloc();
-    given(
-        &rt,
-        mandatory(alloc, Kind::UInt32, Operator::Increment),
-        u32_entry(5),
-        u32_entry(6),
-    )?;
-    given(
-        &rt,
-        mandatory(alloc, Kind::UInt32, Operator::Increment),
-        u32_entry(u32::MAX),
-        u32_entry(0),
-    )?;
-    not_passed(
-        &rt,
-        alloc,
-        mandatory(alloc, Kind::UInt32, Operator::Increment),
-        u64_entry(5),
-    )?;
-    not_passed(
-        &rt,
-        alloc,
-        mandatory(alloc, Kind::UInt32, Operator::Increment),
-        Entry::Undefined,
-    )?;
-    Ok(())
+fn uint32_increments_are_passed(rt: HostRuntime) -> Result<(), AllocError> {
+    const ROWS: &[Passing] = &[
+        Passing {
+            of: Shape::Mandatory(Kind::UInt32, Operator::Increment),
+            before: Kept::Assigned(Value::U32(5)),
+            answer: Passed::Present,
+            after: Kept::Assigned(Value::U32(6)),
+        },
+        Passing {
+            of: Shape::Mandatory(Kind::UInt32, Operator::Increment),
+            before: Kept::Assigned(Value::U32(u32::MAX)),
+            answer: Passed::Present,
+            after: Kept::Assigned(Value::U32(0)),
+        },
+        Passing {
+            of: Shape::Mandatory(Kind::UInt32, Operator::Increment),
+            before: Kept::Assigned(Value::U64(5)),
+            answer: Passed::Elsewhere,
+            after: Kept::Assigned(Value::U64(5)),
+        },
+        Passing {
+            of: Shape::Mandatory(Kind::UInt32, Operator::Increment),
+            before: Kept::Undefined,
+            answer: Passed::Elsewhere,
+            after: Kept::Undefined,
+        },
+    ];
+    all_pass(&rt, rt.alloc(), ROWS)
 }
 
 #[test]
-fn increments_of_64_bits_are_passed(rt: HostRuntime) -> Result<(), Fail> {
-    let alloc = rt.alloc();
-    given(
-        &rt,
-        optional(alloc, Kind::UInt64, Operator::Increment),
-        u64_entry(u64::MAX),
-        u64_entry(0),
-    )?;
-    given(
-        &rt,
-        optional(alloc, Kind::Int64, Operator::Increment),
-        i64_entry(-1),
-        i64_entry(0),
-    )?;
-    given(
-        &rt,
-        optional(alloc, Kind::Int64, Operator::Increment),
-        i64_entry(i64::MAX),
-        i64_entry(i64::MIN),
-    )?;
-    Ok(())
+fn increments_of_64_bits_are_passed(rt: HostRuntime) -> Result<(), AllocError> {
+    const ROWS: &[Passing] = &[
+        Passing {
+            of: Shape::Optional(Kind::UInt64, Operator::Increment),
+            before: Kept::Assigned(Value::U64(u64::MAX)),
+            answer: Passed::Present,
+            after: Kept::Assigned(Value::U64(0)),
+        },
+        Passing {
+            of: Shape::Optional(Kind::Int64, Operator::Increment),
+            before: Kept::Assigned(Value::I64(-1)),
+            answer: Passed::Present,
+            after: Kept::Assigned(Value::I64(0)),
+        },
+        Passing {
+            of: Shape::Optional(Kind::Int64, Operator::Increment),
+            before: Kept::Assigned(Value::I64(i64::MAX)),
+            answer: Passed::Present,
+            after: Kept::Assigned(Value::I64(i64::MIN)),
+        },
+    ];
+    all_pass(&rt, rt.alloc(), ROWS)
 }
 
 #[test]
-fn int32_increments_are_passed(rt: HostRuntime) -> Result<(), Fail> {
-    let alloc = rt.alloc();
-    given(
-        &rt,
-        mandatory(alloc, Kind::Int32, Operator::Increment),
-        i32_entry(i32::MAX),
-        i32_entry(i32::MIN),
-    )?;
-    given(
-        &rt,
-        mandatory(alloc, Kind::Int32, Operator::Increment),
-        i32_entry(-1),
-        i32_entry(0),
-    )?;
-    Ok(())
+fn int32_increments_are_passed(rt: HostRuntime) -> Result<(), AllocError> {
+    const ROWS: &[Passing] = &[
+        Passing {
+            of: Shape::Mandatory(Kind::Int32, Operator::Increment),
+            before: Kept::Assigned(Value::I32(i32::MAX)),
+            answer: Passed::Present,
+            after: Kept::Assigned(Value::I32(i32::MIN)),
+        },
+        Passing {
+            of: Shape::Mandatory(Kind::Int32, Operator::Increment),
+            before: Kept::Assigned(Value::I32(-1)),
+            answer: Passed::Present,
+            after: Kept::Assigned(Value::I32(0)),
+        },
+    ];
+    all_pass(&rt, rt.alloc(), ROWS)
 }
 
 #[test]
-fn initial_values_are_passed(rt: HostRuntime) -> Result<(), Fail> {
-    let alloc = rt.alloc();
-    given(
-        &rt,
-        seven(alloc, Operator::Default),
-        Entry::Undefined,
-        Entry::Undefined,
-    )?;
-    passed(
-        &rt,
-        optional(alloc, Kind::UInt32, Operator::Default),
-        Entry::Undefined,
-        Passed::Absent,
-        Entry::Undefined,
-    )?;
-    Ok(())
+fn initial_values_are_passed(rt: HostRuntime) -> Result<(), AllocError> {
+    const ROWS: &[Passing] = &[
+        Passing {
+            of: Shape::Initial(Presence::Mandatory, Operator::Default, 7),
+            before: Kept::Undefined,
+            answer: Passed::Present,
+            after: Kept::Undefined,
+        },
+        Passing {
+            of: Shape::Optional(Kind::UInt32, Operator::Default),
+            before: Kept::Undefined,
+            answer: Passed::Absent,
+            after: Kept::Undefined,
+        },
+    ];
+    all_pass(&rt, rt.alloc(), ROWS)
 }
 
 #[test]
-fn absent_fields_are_passed(rt: HostRuntime) -> Result<(), Fail> {
-    let alloc = rt.alloc();
-    passed(
-        &rt,
-        optional(alloc, Kind::Decimal, Operator::Copy),
-        Entry::Empty,
-        Passed::Absent,
-        Entry::Empty,
-    )?;
-    passed(
-        &rt,
-        optional(alloc, Kind::Int32, Operator::Increment),
-        Entry::Empty,
-        Passed::Absent,
-        Entry::Empty,
-    )?;
-    passed(
-        &rt,
-        optional(alloc, Kind::Ascii, Operator::Tail),
-        Entry::Empty,
-        Passed::Absent,
-        Entry::Empty,
-    )?;
-    passed(
-        &rt,
-        constant(alloc),
-        Entry::Undefined,
-        Passed::Absent,
-        Entry::Undefined,
-    )?;
-    Ok(())
+fn absent_fields_are_passed(rt: HostRuntime) -> Result<(), AllocError> {
+    const ROWS: &[Passing] = &[
+        Passing {
+            of: Shape::Optional(Kind::Decimal, Operator::Copy),
+            before: Kept::Empty,
+            answer: Passed::Absent,
+            after: Kept::Empty,
+        },
+        Passing {
+            of: Shape::Optional(Kind::Int32, Operator::Increment),
+            before: Kept::Empty,
+            answer: Passed::Absent,
+            after: Kept::Empty,
+        },
+        Passing {
+            of: Shape::Optional(Kind::Ascii, Operator::Tail),
+            before: Kept::Empty,
+            answer: Passed::Absent,
+            after: Kept::Empty,
+        },
+        Passing {
+            of: Shape::Initial(Presence::Optional, Operator::Constant, 7),
+            before: Kept::Undefined,
+            answer: Passed::Absent,
+            after: Kept::Undefined,
+        },
+    ];
+    all_pass(&rt, rt.alloc(), ROWS)
 }
 
 #[test]
-fn mandatory_fields_are_not_absent(rt: HostRuntime) -> Result<(), Fail> {
-    let alloc = rt.alloc();
-    not_passed(
-        &rt,
-        alloc,
-        mandatory(alloc, Kind::UInt32, Operator::Copy),
-        Entry::Empty,
-    )?;
-    not_passed(
-        &rt,
-        alloc,
-        mandatory(alloc, Kind::UInt32, Operator::Increment),
-        Entry::Empty,
-    )?;
-    not_passed(
-        &rt,
-        alloc,
-        seven(alloc, Operator::Constant),
-        Entry::Undefined,
-    )?;
-    Ok(())
+fn mandatory_fields_are_not_absent(rt: HostRuntime) -> Result<(), AllocError> {
+    const ROWS: &[Passing] = &[
+        Passing {
+            of: Shape::Mandatory(Kind::UInt32, Operator::Copy),
+            before: Kept::Empty,
+            answer: Passed::Elsewhere,
+            after: Kept::Empty,
+        },
+        Passing {
+            of: Shape::Mandatory(Kind::UInt32, Operator::Increment),
+            before: Kept::Empty,
+            answer: Passed::Elsewhere,
+            after: Kept::Empty,
+        },
+        Passing {
+            of: Shape::Initial(Presence::Mandatory, Operator::Constant, 7),
+            before: Kept::Undefined,
+            answer: Passed::Elsewhere,
+            after: Kept::Undefined,
+        },
+    ];
+    all_pass(&rt, rt.alloc(), ROWS)
 }
 
 #[test]
-fn fields_without_a_bit_are_not_passed(rt: HostRuntime) -> Result<(), Fail> {
-    let alloc = rt.alloc();
-    not_passed(
-        &rt,
-        alloc,
-        optional(alloc, Kind::UInt32, Operator::Plain),
-        u32_entry(5),
-    )?;
-    not_passed(
-        &rt,
-        alloc,
-        optional(alloc, Kind::UInt32, Operator::Delta),
-        u32_entry(5),
-    )?;
-    Ok(())
+fn fields_without_a_bit_are_not_passed(rt: HostRuntime) -> Result<(), AllocError> {
+    const ROWS: &[Passing] = &[
+        Passing {
+            of: Shape::Optional(Kind::UInt32, Operator::Plain),
+            before: Kept::Assigned(Value::U32(5)),
+            answer: Passed::Elsewhere,
+            after: Kept::Assigned(Value::U32(5)),
+        },
+        Passing {
+            of: Shape::Optional(Kind::UInt32, Operator::Delta),
+            before: Kept::Assigned(Value::U32(5)),
+            answer: Passed::Elsewhere,
+            after: Kept::Assigned(Value::U32(5)),
+        },
+    ];
+    all_pass(&rt, rt.alloc(), ROWS)
 }
 
 #[test]
-fn lengths_are_passed(rt: HostRuntime) -> Result<(), Fail> {
-    let alloc = rt.alloc();
-    given(
-        &rt,
-        length(alloc, Operator::Increment),
-        u32_entry(65_534),
-        u32_entry(65_535),
-    )?;
-    not_passed(
-        &rt,
-        alloc,
-        length(alloc, Operator::Increment),
-        u32_entry(65_535),
-    )?;
-    not_passed(&rt, alloc, length(alloc, Operator::Copy), u32_entry(65_536))?;
-    Ok(())
+fn lengths_are_passed(rt: HostRuntime) -> Result<(), AllocError> {
+    const ROWS: &[Passing] = &[
+        Passing {
+            of: Shape::Length(Operator::Increment),
+            before: Kept::Assigned(Value::U32(65_534)),
+            answer: Passed::Present,
+            after: Kept::Assigned(Value::U32(65_535)),
+        },
+        Passing {
+            of: Shape::Length(Operator::Increment),
+            before: Kept::Assigned(Value::U32(65_535)),
+            answer: Passed::Elsewhere,
+            after: Kept::Assigned(Value::U32(65_535)),
+        },
+        Passing {
+            of: Shape::Length(Operator::Copy),
+            before: Kept::Assigned(Value::U32(65_536)),
+            answer: Passed::Elsewhere,
+            after: Kept::Assigned(Value::U32(65_536)),
+        },
+    ];
+    all_pass(&rt, rt.alloc(), ROWS)
 }
 
 #[test]
-fn exponents_are_passed(rt: HostRuntime) -> Result<(), Fail> {
-    let alloc = rt.alloc();
-    given(
-        &rt,
-        exponent(alloc, Operator::Increment),
-        i32_entry(62),
-        i32_entry(63),
-    )?;
-    not_passed(
-        &rt,
-        alloc,
-        exponent(alloc, Operator::Increment),
-        i32_entry(63),
-    )?;
-    not_passed(&rt, alloc, far_exponent(alloc), Entry::Undefined)?;
-    Ok(())
+fn exponents_are_passed(rt: HostRuntime) -> Result<(), AllocError> {
+    const ROWS: &[Passing] = &[
+        Passing {
+            of: Shape::Exponent(Presence::Mandatory, Operator::Increment, None),
+            before: Kept::Assigned(Value::I32(62)),
+            answer: Passed::Present,
+            after: Kept::Assigned(Value::I32(63)),
+        },
+        Passing {
+            of: Shape::Exponent(Presence::Mandatory, Operator::Increment, None),
+            before: Kept::Assigned(Value::I32(63)),
+            answer: Passed::Elsewhere,
+            after: Kept::Assigned(Value::I32(63)),
+        },
+        Passing {
+            of: Shape::Exponent(Presence::Mandatory, Operator::Default, Some(64)),
+            before: Kept::Undefined,
+            answer: Passed::Elsewhere,
+            after: Kept::Undefined,
+        },
+    ];
+    all_pass(&rt, rt.alloc(), ROWS)
 }
 
 #[test]
-fn uint32_copies_are_relayed(rt: HostRuntime) -> Result<(), Fail> {
-    let alloc = rt.alloc();
-    relayed(
-        &rt,
-        alloc,
-        mandatory(alloc, Kind::UInt32, Operator::Copy),
-        u32_entry(5),
-        &[0xff, 0x87],
-        &[0x87],
-        u32_entry(7),
-    )?;
-    relayed(
-        &rt,
-        alloc,
-        mandatory(alloc, Kind::UInt32, Operator::Copy),
-        u64_entry(7),
-        &[0xff, 0x87],
-        &[0x87],
-        u32_entry(7),
-    )?;
-    // overlong
-    relayed(
-        &rt,
-        alloc,
-        mandatory(alloc, Kind::UInt32, Operator::Copy),
-        u32_entry(5),
-        &[0xff, 0x00, 0x87],
-        &[0x87],
-        u32_entry(7),
-    )?;
-    Ok(())
+fn uint32_copies_are_relayed(rt: HostRuntime) -> Result<(), AllocError> {
+    const ROWS: &[Relayed] = &[
+        Relayed {
+            of: Shape::Mandatory(Kind::UInt32, Operator::Copy),
+            before: Kept::Assigned(Value::U32(5)),
+            bytes: &[0xff, 0x87],
+            appended: &[0x87],
+            after: Kept::Assigned(Value::U32(7)),
+        },
+        Relayed {
+            of: Shape::Mandatory(Kind::UInt32, Operator::Copy),
+            before: Kept::Assigned(Value::U64(7)),
+            bytes: &[0xff, 0x87],
+            appended: &[0x87],
+            after: Kept::Assigned(Value::U32(7)),
+        },
+        // overlong
+        Relayed {
+            of: Shape::Mandatory(Kind::UInt32, Operator::Copy),
+            before: Kept::Assigned(Value::U32(5)),
+            bytes: &[0xff, 0x00, 0x87],
+            appended: &[0x87],
+            after: Kept::Assigned(Value::U32(7)),
+        },
+    ];
+    all_relayed(&rt, rt.alloc(), ROWS)
 }
 
 #[test]
-fn int32_copies_are_relayed(rt: HostRuntime) -> Result<(), Fail> {
-    let alloc = rt.alloc();
-    relayed(
-        &rt,
-        alloc,
-        mandatory(alloc, Kind::Int32, Operator::Copy),
-        i32_entry(5),
-        &[0xff, 0xff],
-        &[0xff],
-        i32_entry(-1),
-    )?;
-    relayed(
-        &rt,
-        alloc,
-        optional(alloc, Kind::Int32, Operator::Copy),
-        i32_entry(5),
-        &[0xff, 0xff],
-        &[0xff],
-        i32_entry(-1),
-    )?;
-    Ok(())
+fn int32_copies_are_relayed(rt: HostRuntime) -> Result<(), AllocError> {
+    const ROWS: &[Relayed] = &[
+        Relayed {
+            of: Shape::Mandatory(Kind::Int32, Operator::Copy),
+            before: Kept::Assigned(Value::I32(5)),
+            bytes: &[0xff, 0xff],
+            appended: &[0xff],
+            after: Kept::Assigned(Value::I32(-1)),
+        },
+        Relayed {
+            of: Shape::Optional(Kind::Int32, Operator::Copy),
+            before: Kept::Assigned(Value::I32(5)),
+            bytes: &[0xff, 0xff],
+            appended: &[0xff],
+            after: Kept::Assigned(Value::I32(-1)),
+        },
+    ];
+    all_relayed(&rt, rt.alloc(), ROWS)
 }
 
 #[test]
-fn long_copies_are_relayed(rt: HostRuntime) -> Result<(), Fail> {
-    let alloc = rt.alloc();
-    relayed(
-        &rt,
-        alloc,
-        mandatory(alloc, Kind::UInt64, Operator::Copy),
-        Entry::Undefined,
-        &[0xff, 0x01, 0x80],
-        &[0x01, 0x80],
-        u64_entry(128),
-    )?;
-    relayed(
-        &rt,
-        alloc,
-        mandatory(alloc, Kind::Int64, Operator::Copy),
-        i64_entry(63),
-        &[0xff, 0x00, 0xc0],
-        &[0x00, 0xc0],
-        i64_entry(64),
-    )?;
-    relayed(
-        &rt,
-        alloc,
-        mandatory(alloc, Kind::UInt32, Operator::Copy),
-        Entry::Empty,
-        &[0xff, 0x0f, 0x7f, 0x7f, 0x7f, 0xff],
-        &[0x0f, 0x7f, 0x7f, 0x7f, 0xff],
-        u32_entry(u32::MAX),
-    )?;
-    Ok(())
+fn long_copies_are_relayed(rt: HostRuntime) -> Result<(), AllocError> {
+    const ROWS: &[Relayed] = &[
+        Relayed {
+            of: Shape::Mandatory(Kind::UInt64, Operator::Copy),
+            before: Kept::Undefined,
+            bytes: &[0xff, 0x01, 0x80],
+            appended: &[0x01, 0x80],
+            after: Kept::Assigned(Value::U64(128)),
+        },
+        Relayed {
+            of: Shape::Mandatory(Kind::Int64, Operator::Copy),
+            before: Kept::Assigned(Value::I64(63)),
+            bytes: &[0xff, 0x00, 0xc0],
+            appended: &[0x00, 0xc0],
+            after: Kept::Assigned(Value::I64(64)),
+        },
+        Relayed {
+            of: Shape::Mandatory(Kind::UInt32, Operator::Copy),
+            before: Kept::Empty,
+            bytes: &[0xff, 0x0f, 0x7f, 0x7f, 0x7f, 0xff],
+            appended: &[0x0f, 0x7f, 0x7f, 0x7f, 0xff],
+            after: Kept::Assigned(Value::U32(u32::MAX)),
+        },
+    ];
+    all_relayed(&rt, rt.alloc(), ROWS)
 }
 
 #[test]
-fn optional_copies_are_relayed(rt: HostRuntime) -> Result<(), Fail> {
-    let alloc = rt.alloc();
-    relayed(
-        &rt,
-        alloc,
-        optional(alloc, Kind::UInt32, Operator::Copy),
-        Entry::Empty,
-        &[0xff, 0x88],
-        &[0x88],
-        u32_entry(7),
-    )?;
-    relayed(
-        &rt,
-        alloc,
-        optional(alloc, Kind::UInt64, Operator::Copy),
-        u64_entry(5),
-        &[0xff, 0x01, 0x80],
-        &[0x01, 0x80],
-        u64_entry(127),
-    )?;
-    relayed(
-        &rt,
-        alloc,
-        optional(alloc, Kind::Int64, Operator::Copy),
-        i64_entry(5),
-        &[0xff, 0x81],
-        &[0x81],
-        i64_entry(0),
-    )?;
-    Ok(())
+fn optional_copies_are_relayed(rt: HostRuntime) -> Result<(), AllocError> {
+    const ROWS: &[Relayed] = &[
+        Relayed {
+            of: Shape::Optional(Kind::UInt32, Operator::Copy),
+            before: Kept::Empty,
+            bytes: &[0xff, 0x88],
+            appended: &[0x88],
+            after: Kept::Assigned(Value::U32(7)),
+        },
+        Relayed {
+            of: Shape::Optional(Kind::UInt64, Operator::Copy),
+            before: Kept::Assigned(Value::U64(5)),
+            bytes: &[0xff, 0x01, 0x80],
+            appended: &[0x01, 0x80],
+            after: Kept::Assigned(Value::U64(127)),
+        },
+        Relayed {
+            of: Shape::Optional(Kind::Int64, Operator::Copy),
+            before: Kept::Assigned(Value::I64(5)),
+            bytes: &[0xff, 0x81],
+            appended: &[0x81],
+            after: Kept::Assigned(Value::I64(0)),
+        },
+    ];
+    all_relayed(&rt, rt.alloc(), ROWS)
 }
 
 #[test]
-fn uint32_increments_are_relayed(rt: HostRuntime) -> Result<(), Fail> {
-    let alloc = rt.alloc();
-    relayed(
-        &rt,
-        alloc,
-        mandatory(alloc, Kind::UInt32, Operator::Increment),
-        u32_entry(5),
-        &[0xff, 0x89],
-        &[0x89],
-        u32_entry(9),
-    )?;
-    relayed(
-        &rt,
-        alloc,
-        mandatory(alloc, Kind::UInt32, Operator::Increment),
-        u32_entry(5),
-        &[0xff, 0x85],
-        &[0x85],
-        u32_entry(5),
-    )?;
-    Ok(())
+fn uint32_increments_are_relayed(rt: HostRuntime) -> Result<(), AllocError> {
+    const ROWS: &[Relayed] = &[
+        Relayed {
+            of: Shape::Mandatory(Kind::UInt32, Operator::Increment),
+            before: Kept::Assigned(Value::U32(5)),
+            bytes: &[0xff, 0x89],
+            appended: &[0x89],
+            after: Kept::Assigned(Value::U32(9)),
+        },
+        Relayed {
+            of: Shape::Mandatory(Kind::UInt32, Operator::Increment),
+            before: Kept::Assigned(Value::U32(5)),
+            bytes: &[0xff, 0x85],
+            appended: &[0x85],
+            after: Kept::Assigned(Value::U32(5)),
+        },
+    ];
+    all_relayed(&rt, rt.alloc(), ROWS)
 }
 
 #[test]
-fn other_increments_are_relayed(rt: HostRuntime) -> Result<(), Fail> {
-    let alloc = rt.alloc();
-    relayed(
-        &rt,
-        alloc,
-        optional(alloc, Kind::Int32, Operator::Increment),
-        i32_entry(5),
-        &[0xff, 0xfe],
-        &[0xfe],
-        i32_entry(-2),
-    )?;
-    relayed(
-        &rt,
-        alloc,
-        optional(alloc, Kind::UInt64, Operator::Increment),
-        Entry::Undefined,
-        &[0xff, 0x88],
-        &[0x88],
-        u64_entry(7),
-    )?;
-    relayed(
-        &rt,
-        alloc,
-        mandatory(alloc, Kind::Int64, Operator::Increment),
-        Entry::Empty,
-        &[0xff, 0x87],
-        &[0x87],
-        i64_entry(7),
-    )?;
-    Ok(())
+fn other_increments_are_relayed(rt: HostRuntime) -> Result<(), AllocError> {
+    const ROWS: &[Relayed] = &[
+        Relayed {
+            of: Shape::Optional(Kind::Int32, Operator::Increment),
+            before: Kept::Assigned(Value::I32(5)),
+            bytes: &[0xff, 0xfe],
+            appended: &[0xfe],
+            after: Kept::Assigned(Value::I32(-2)),
+        },
+        Relayed {
+            of: Shape::Optional(Kind::UInt64, Operator::Increment),
+            before: Kept::Undefined,
+            bytes: &[0xff, 0x88],
+            appended: &[0x88],
+            after: Kept::Assigned(Value::U64(7)),
+        },
+        Relayed {
+            of: Shape::Mandatory(Kind::Int64, Operator::Increment),
+            before: Kept::Empty,
+            bytes: &[0xff, 0x87],
+            appended: &[0x87],
+            after: Kept::Assigned(Value::I64(7)),
+        },
+    ];
+    all_relayed(&rt, rt.alloc(), ROWS)
 }
 
 #[test]
-fn plain_fields_leave_their_entries(rt: HostRuntime) -> Result<(), Fail> {
-    let alloc = rt.alloc();
-    relayed(
-        &rt,
-        alloc,
-        mandatory(alloc, Kind::UInt64, Operator::Plain),
-        Entry::Undefined,
-        &[0xff, 0x87],
-        &[0x87],
-        Entry::Undefined,
-    )?;
-    relayed(
-        &rt,
-        alloc,
-        optional(alloc, Kind::Int32, Operator::Plain),
-        i32_entry(5),
-        &[0xff, 0xff],
-        &[0xff],
-        i32_entry(5),
-    )?;
-    Ok(())
+fn plain_fields_leave_their_entries(rt: HostRuntime) -> Result<(), AllocError> {
+    const ROWS: &[Relayed] = &[
+        Relayed {
+            of: Shape::Mandatory(Kind::UInt64, Operator::Plain),
+            before: Kept::Undefined,
+            bytes: &[0xff, 0x87],
+            appended: &[0x87],
+            after: Kept::Undefined,
+        },
+        Relayed {
+            of: Shape::Optional(Kind::Int32, Operator::Plain),
+            before: Kept::Assigned(Value::I32(5)),
+            bytes: &[0xff, 0xff],
+            appended: &[0xff],
+            after: Kept::Assigned(Value::I32(5)),
+        },
+    ];
+    all_relayed(&rt, rt.alloc(), ROWS)
 }
 
 #[test]
-fn defaults_leave_their_entries(rt: HostRuntime) -> Result<(), Fail> {
-    let alloc = rt.alloc();
-    relayed(
-        &rt,
-        alloc,
-        seven(alloc, Operator::Default),
-        u32_entry(4),
-        &[0xff, 0x84],
-        &[0x84],
-        u32_entry(4),
-    )?;
-    relayed(
-        &rt,
-        alloc,
-        optional(alloc, Kind::UInt32, Operator::Default),
-        Entry::Undefined,
-        &[0xff, 0x88],
-        &[0x88],
-        Entry::Undefined,
-    )?;
-    Ok(())
+fn defaults_leave_their_entries(rt: HostRuntime) -> Result<(), AllocError> {
+    const ROWS: &[Relayed] = &[
+        Relayed {
+            of: Shape::Initial(Presence::Mandatory, Operator::Default, 7),
+            before: Kept::Assigned(Value::U32(4)),
+            bytes: &[0xff, 0x84],
+            appended: &[0x84],
+            after: Kept::Assigned(Value::U32(4)),
+        },
+        Relayed {
+            of: Shape::Optional(Kind::UInt32, Operator::Default),
+            before: Kept::Undefined,
+            bytes: &[0xff, 0x88],
+            appended: &[0x88],
+            after: Kept::Undefined,
+        },
+    ];
+    all_relayed(&rt, rt.alloc(), ROWS)
 }
 
 #[test]
-fn deltas_are_relayed(rt: HostRuntime) -> Result<(), Fail> {
-    let alloc = rt.alloc();
-    relayed(
-        &rt,
-        alloc,
-        mandatory(alloc, Kind::Int64, Operator::Delta),
-        i64_entry(10),
-        &[0xff, 0xff],
-        &[0xff],
-        i64_entry(9),
-    )?;
-    relayed(
-        &rt,
-        alloc,
-        mandatory(alloc, Kind::UInt64, Operator::Delta),
-        u64_entry(u64::MAX),
-        &[0xff, 0xff],
-        &[0xff],
-        u64_entry(u64::MAX - 1),
-    )?;
-    // overlong
-    relayed(
-        &rt,
-        alloc,
-        mandatory(alloc, Kind::Int32, Operator::Delta),
-        i32_entry(0),
-        &[0xff, 0x7f, 0xff],
-        &[0xff],
-        i32_entry(-1),
-    )?;
-    Ok(())
+fn deltas_are_relayed(rt: HostRuntime) -> Result<(), AllocError> {
+    const ROWS: &[Relayed] = &[
+        Relayed {
+            of: Shape::Mandatory(Kind::Int64, Operator::Delta),
+            before: Kept::Assigned(Value::I64(10)),
+            bytes: &[0xff, 0xff],
+            appended: &[0xff],
+            after: Kept::Assigned(Value::I64(9)),
+        },
+        Relayed {
+            of: Shape::Mandatory(Kind::UInt64, Operator::Delta),
+            before: Kept::Assigned(Value::U64(u64::MAX)),
+            bytes: &[0xff, 0xff],
+            appended: &[0xff],
+            after: Kept::Assigned(Value::U64(u64::MAX - 1)),
+        },
+        // overlong
+        Relayed {
+            of: Shape::Mandatory(Kind::Int32, Operator::Delta),
+            before: Kept::Assigned(Value::I32(0)),
+            bytes: &[0xff, 0x7f, 0xff],
+            appended: &[0xff],
+            after: Kept::Assigned(Value::I32(-1)),
+        },
+    ];
+    all_relayed(&rt, rt.alloc(), ROWS)
 }
 
 #[test]
-fn optional_deltas_are_relayed(rt: HostRuntime) -> Result<(), Fail> {
-    let alloc = rt.alloc();
-    relayed(
-        &rt,
-        alloc,
-        optional(alloc, Kind::UInt32, Operator::Delta),
-        u32_entry(10),
-        &[0xff, 0x81],
-        &[0x81],
-        u32_entry(10),
-    )?;
-    relayed(
-        &rt,
-        alloc,
-        optional(alloc, Kind::UInt32, Operator::Delta),
-        u32_entry(10),
-        &[0xff, 0x82],
-        &[0x82],
-        u32_entry(11),
-    )?;
-    relayed(
-        &rt,
-        alloc,
-        optional(alloc, Kind::UInt32, Operator::Delta),
-        u32_entry(10),
-        &[0xff, 0xff],
-        &[0xff],
-        u32_entry(9),
-    )?;
-    Ok(())
+fn optional_deltas_are_relayed(rt: HostRuntime) -> Result<(), AllocError> {
+    const ROWS: &[Relayed] = &[
+        Relayed {
+            of: Shape::Optional(Kind::UInt32, Operator::Delta),
+            before: Kept::Assigned(Value::U32(10)),
+            bytes: &[0xff, 0x81],
+            appended: &[0x81],
+            after: Kept::Assigned(Value::U32(10)),
+        },
+        Relayed {
+            of: Shape::Optional(Kind::UInt32, Operator::Delta),
+            before: Kept::Assigned(Value::U32(10)),
+            bytes: &[0xff, 0x82],
+            appended: &[0x82],
+            after: Kept::Assigned(Value::U32(11)),
+        },
+        Relayed {
+            of: Shape::Optional(Kind::UInt32, Operator::Delta),
+            before: Kept::Assigned(Value::U32(10)),
+            bytes: &[0xff, 0xff],
+            appended: &[0xff],
+            after: Kept::Assigned(Value::U32(9)),
+        },
+    ];
+    all_relayed(&rt, rt.alloc(), ROWS)
 }
 
 #[test]
-fn null_is_not_relayed(rt: HostRuntime) -> Result<(), Fail> {
-    let alloc = rt.alloc();
-    not_relayed(
-        &rt,
-        alloc,
-        optional(alloc, Kind::UInt32, Operator::Copy),
-        u32_entry(5),
-        &[0xff, 0x80],
-    )?;
-    not_relayed(
-        &rt,
-        alloc,
-        optional(alloc, Kind::Int64, Operator::Copy),
-        i64_entry(5),
-        &[0xff, 0x80],
-    )?;
-    not_relayed(
-        &rt,
-        alloc,
-        optional(alloc, Kind::Int32, Operator::Delta),
-        i32_entry(5),
-        &[0xff, 0x80],
-    )?;
-    Ok(())
+fn null_is_not_relayed(rt: HostRuntime) -> Result<(), AllocError> {
+    const ROWS: &[NotRelayed] = &[
+        NotRelayed {
+            of: Shape::Optional(Kind::UInt32, Operator::Copy),
+            before: Kept::Assigned(Value::U32(5)),
+            bytes: &[0xff, 0x80],
+        },
+        NotRelayed {
+            of: Shape::Optional(Kind::Int64, Operator::Copy),
+            before: Kept::Assigned(Value::I64(5)),
+            bytes: &[0xff, 0x80],
+        },
+        NotRelayed {
+            of: Shape::Optional(Kind::Int32, Operator::Delta),
+            before: Kept::Assigned(Value::I32(5)),
+            bytes: &[0xff, 0x80],
+        },
+    ];
+    none_relayed(&rt, rt.alloc(), ROWS)
 }
 
 #[test]
-fn ends_of_bytes_are_not_relayed(rt: HostRuntime) -> Result<(), Fail> {
-    let alloc = rt.alloc();
-    not_relayed(
-        &rt,
-        alloc,
-        mandatory(alloc, Kind::UInt32, Operator::Copy),
-        u32_entry(5),
-        &[],
-    )?;
-    not_relayed(
-        &rt,
-        alloc,
-        mandatory(alloc, Kind::UInt32, Operator::Copy),
-        u32_entry(5),
-        &[0xff],
-    )?;
-    not_relayed(
-        &rt,
-        alloc,
-        mandatory(alloc, Kind::UInt32, Operator::Copy),
-        u32_entry(5),
-        &[0xff, 0x07],
-    )?;
-    not_relayed(
-        &rt,
-        alloc,
-        optional(alloc, Kind::Int64, Operator::Delta),
-        i64_entry(5),
-        &[0xff, 0x07],
-    )?;
-    Ok(())
+fn ends_of_bytes_are_not_relayed(rt: HostRuntime) -> Result<(), AllocError> {
+    const ROWS: &[NotRelayed] = &[
+        NotRelayed {
+            of: Shape::Mandatory(Kind::UInt32, Operator::Copy),
+            before: Kept::Assigned(Value::U32(5)),
+            bytes: &[],
+        },
+        NotRelayed {
+            of: Shape::Mandatory(Kind::UInt32, Operator::Copy),
+            before: Kept::Assigned(Value::U32(5)),
+            bytes: &[0xff],
+        },
+        NotRelayed {
+            of: Shape::Mandatory(Kind::UInt32, Operator::Copy),
+            before: Kept::Assigned(Value::U32(5)),
+            bytes: &[0xff, 0x07],
+        },
+        NotRelayed {
+            of: Shape::Optional(Kind::Int64, Operator::Delta),
+            before: Kept::Assigned(Value::I64(5)),
+            bytes: &[0xff, 0x07],
+        },
+    ];
+    none_relayed(&rt, rt.alloc(), ROWS)
 }
 
 #[test]
-fn numbers_out_of_range_are_not_relayed(rt: HostRuntime) -> Result<(), Fail> {
-    let alloc = rt.alloc();
-    not_relayed(
-        &rt,
-        alloc,
-        mandatory(alloc, Kind::UInt32, Operator::Copy),
-        u32_entry(5),
-        &[0xff, 0x10, 0x00, 0x00, 0x00, 0x80],
-    )?;
-    not_relayed(
-        &rt,
-        alloc,
-        mandatory(alloc, Kind::Int32, Operator::Plain),
-        Entry::Undefined,
-        &[0xff, 0x08, 0x00, 0x00, 0x00, 0x80],
-    )?;
-    not_relayed(
-        &rt,
-        alloc,
-        mandatory(alloc, Kind::UInt64, Operator::Plain),
-        Entry::Undefined,
-        &[
-            0xff, 0x02, 0x00, 0x00, 0x00, 0x00, 0x00, 0x00, 0x00, 0x00, 0x80,
-        ],
-    )?;
-    Ok(())
+fn numbers_out_of_range_are_not_relayed(rt: HostRuntime) -> Result<(), AllocError> {
+    const ROWS: &[NotRelayed] = &[
+        NotRelayed {
+            of: Shape::Mandatory(Kind::UInt32, Operator::Copy),
+            before: Kept::Assigned(Value::U32(5)),
+            bytes: &[0xff, 0x10, 0x00, 0x00, 0x00, 0x80],
+        },
+        NotRelayed {
+            of: Shape::Mandatory(Kind::Int32, Operator::Plain),
+            before: Kept::Undefined,
+            bytes: &[0xff, 0x08, 0x00, 0x00, 0x00, 0x80],
+        },
+        NotRelayed {
+            of: Shape::Mandatory(Kind::UInt64, Operator::Plain),
+            before: Kept::Undefined,
+            bytes: &[
+                0xff, 0x02, 0x00, 0x00, 0x00, 0x00, 0x00, 0x00, 0x00, 0x00, 0x80,
+            ],
+        },
+    ];
+    none_relayed(&rt, rt.alloc(), ROWS)
 }
 
 #[test]
-fn sums_out_of_range_are_not_relayed(rt: HostRuntime) -> Result<(), Fail> {
-    let alloc = rt.alloc();
-    not_relayed(
-        &rt,
-        alloc,
-        mandatory(alloc, Kind::UInt32, Operator::Delta),
-        u32_entry(0),
-        &[0xff, 0xff],
-    )?;
-    not_relayed(
-        &rt,
-        alloc,
-        mandatory(alloc, Kind::UInt32, Operator::Delta),
-        u32_entry(u32::MAX),
-        &[0xff, 0x81],
-    )?;
-    not_relayed(
-        &rt,
-        alloc,
-        mandatory(alloc, Kind::Int64, Operator::Delta),
-        i64_entry(i64::MIN),
-        &[0xff, 0xff],
-    )?;
-    Ok(())
+fn sums_out_of_range_are_not_relayed(rt: HostRuntime) -> Result<(), AllocError> {
+    const ROWS: &[NotRelayed] = &[
+        NotRelayed {
+            of: Shape::Mandatory(Kind::UInt32, Operator::Delta),
+            before: Kept::Assigned(Value::U32(0)),
+            bytes: &[0xff, 0xff],
+        },
+        NotRelayed {
+            of: Shape::Mandatory(Kind::UInt32, Operator::Delta),
+            before: Kept::Assigned(Value::U32(u32::MAX)),
+            bytes: &[0xff, 0x81],
+        },
+        NotRelayed {
+            of: Shape::Mandatory(Kind::Int64, Operator::Delta),
+            before: Kept::Assigned(Value::I64(i64::MIN)),
+            bytes: &[0xff, 0xff],
+        },
+    ];
+    none_relayed(&rt, rt.alloc(), ROWS)
 }
 
 #[test]
-fn lengths_are_relayed(rt: HostRuntime) -> Result<(), Fail> {
-    let alloc = rt.alloc();
-    relayed(
-        &rt,
-        alloc,
-        length(alloc, Operator::Copy),
-        u32_entry(5),
-        &[0xff, 0x03, 0x7f, 0xff],
-        &[0x03, 0x7f, 0xff],
-        u32_entry(65_535),
-    )?;
-    not_relayed(
-        &rt,
-        alloc,
-        length(alloc, Operator::Copy),
-        u32_entry(5),
-        &[0xff, 0x04, 0x00, 0x80],
-    )?;
-    Ok(())
+fn lengths_are_relayed(rt: HostRuntime) -> Result<(), AllocError> {
+    const RELAYED: &[Relayed] = &[Relayed {
+        of: Shape::Length(Operator::Copy),
+        before: Kept::Assigned(Value::U32(5)),
+        bytes: &[0xff, 0x03, 0x7f, 0xff],
+        appended: &[0x03, 0x7f, 0xff],
+        after: Kept::Assigned(Value::U32(65_535)),
+    }];
+    const OTHERS: &[NotRelayed] = &[NotRelayed {
+        of: Shape::Length(Operator::Copy),
+        before: Kept::Assigned(Value::U32(5)),
+        bytes: &[0xff, 0x04, 0x00, 0x80],
+    }];
+    all_relayed(&rt, rt.alloc(), RELAYED)?;
+    none_relayed(&rt, rt.alloc(), OTHERS)
 }
 
 #[test]
-fn exponents_are_relayed(rt: HostRuntime) -> Result<(), Fail> {
-    let alloc = rt.alloc();
-    relayed(
-        &rt,
-        alloc,
-        exponent(alloc, Operator::Delta),
-        i32_entry(0),
-        &[0xff, 0xc1],
-        &[0xc1],
-        i32_entry(-63),
-    )?;
-    not_relayed(
-        &rt,
-        alloc,
-        exponent(alloc, Operator::Delta),
-        i32_entry(0),
-        &[0xff, 0xc0],
-    )?;
-    not_relayed(
-        &rt,
-        alloc,
-        exponent(alloc, Operator::Delta),
-        i32_entry(63),
-        &[0xff, 0x81],
-    )?;
-    Ok(())
+fn exponents_are_relayed(rt: HostRuntime) -> Result<(), AllocError> {
+    const RELAYED: &[Relayed] = &[Relayed {
+        of: Shape::Exponent(Presence::Mandatory, Operator::Delta, None),
+        before: Kept::Assigned(Value::I32(0)),
+        bytes: &[0xff, 0xc1],
+        appended: &[0xc1],
+        after: Kept::Assigned(Value::I32(-63)),
+    }];
+    const OTHERS: &[NotRelayed] = &[
+        NotRelayed {
+            of: Shape::Exponent(Presence::Mandatory, Operator::Delta, None),
+            before: Kept::Assigned(Value::I32(0)),
+            bytes: &[0xff, 0xc0],
+        },
+        NotRelayed {
+            of: Shape::Exponent(Presence::Mandatory, Operator::Delta, None),
+            before: Kept::Assigned(Value::I32(63)),
+            bytes: &[0xff, 0x81],
+        },
+    ];
+    all_relayed(&rt, rt.alloc(), RELAYED)?;
+    none_relayed(&rt, rt.alloc(), OTHERS)
 }
 
 #[test]
-fn what_entries_give_is_not_relayed(rt: HostRuntime) -> Result<(), Fail> {
-    let alloc = rt.alloc();
-    not_relayed(
-        &rt,
-        alloc,
-        mandatory(alloc, Kind::UInt32, Operator::Copy),
-        u32_entry(7),
-        &[0xff, 0x87],
-    )?;
-    not_relayed(
-        &rt,
-        alloc,
-        mandatory(alloc, Kind::UInt32, Operator::Increment),
-        u32_entry(6),
-        &[0xff, 0x87],
-    )?;
-    not_relayed(
-        &rt,
-        alloc,
-        mandatory(alloc, Kind::UInt32, Operator::Increment),
-        u32_entry(u32::MAX),
-        &[0xff, 0x80],
-    )?;
-    Ok(())
+fn what_entries_give_is_not_relayed(rt: HostRuntime) -> Result<(), AllocError> {
+    const ROWS: &[NotRelayed] = &[
+        NotRelayed {
+            of: Shape::Mandatory(Kind::UInt32, Operator::Copy),
+            before: Kept::Assigned(Value::U32(7)),
+            bytes: &[0xff, 0x87],
+        },
+        NotRelayed {
+            of: Shape::Mandatory(Kind::UInt32, Operator::Increment),
+            before: Kept::Assigned(Value::U32(6)),
+            bytes: &[0xff, 0x87],
+        },
+        NotRelayed {
+            of: Shape::Mandatory(Kind::UInt32, Operator::Increment),
+            before: Kept::Assigned(Value::U32(u32::MAX)),
+            bytes: &[0xff, 0x80],
+        },
+    ];
+    none_relayed(&rt, rt.alloc(), ROWS)
 }
 
 #[test]
-fn initial_values_are_not_relayed(rt: HostRuntime) -> Result<(), Fail> {
-    let alloc = rt.alloc();
-    not_relayed(
-        &rt,
-        alloc,
-        seven(alloc, Operator::Default),
-        Entry::Undefined,
-        &[0xff, 0x87],
-    )?;
-    not_relayed(
-        &rt,
-        alloc,
-        seven(alloc, Operator::Copy),
-        Entry::Undefined,
-        &[0xff, 0x87],
-    )?;
-    not_relayed(
-        &rt,
-        alloc,
-        seven(alloc, Operator::Increment),
-        Entry::Undefined,
-        &[0xff, 0x87],
-    )?;
-    Ok(())
+fn initial_values_are_not_relayed(rt: HostRuntime) -> Result<(), AllocError> {
+    const ROWS: &[NotRelayed] = &[
+        NotRelayed {
+            of: Shape::Initial(Presence::Mandatory, Operator::Default, 7),
+            before: Kept::Undefined,
+            bytes: &[0xff, 0x87],
+        },
+        NotRelayed {
+            of: Shape::Initial(Presence::Mandatory, Operator::Copy, 7),
+            before: Kept::Undefined,
+            bytes: &[0xff, 0x87],
+        },
+        NotRelayed {
+            of: Shape::Initial(Presence::Mandatory, Operator::Increment, 7),
+            before: Kept::Undefined,
+            bytes: &[0xff, 0x87],
+        },
+    ];
+    none_relayed(&rt, rt.alloc(), ROWS)
 }
 
 #[test]
-fn deltas_on_other_entries_are_not_relayed(rt: HostRuntime) -> Result<(), Fail> {
-    let alloc = rt.alloc();
-    not_relayed(
-        &rt,
-        alloc,
-        mandatory(alloc, Kind::UInt32, Operator::Delta),
-        Entry::Undefined,
-        &[0xff, 0x81],
-    )?;
-    not_relayed(
-        &rt,
-        alloc,
-        mandatory(alloc, Kind::UInt32, Operator::Delta),
-        Entry::Empty,
-        &[0xff, 0x81],
-    )?;
-    not_relayed(
-        &rt,
-        alloc,
-        mandatory(alloc, Kind::UInt32, Operator::Delta),
-        u64_entry(5),
-        &[0xff, 0x81],
-    )?;
-    Ok(())
+fn deltas_on_other_entries_are_not_relayed(rt: HostRuntime) -> Result<(), AllocError> {
+    const ROWS: &[NotRelayed] = &[
+        NotRelayed {
+            of: Shape::Mandatory(Kind::UInt32, Operator::Delta),
+            before: Kept::Undefined,
+            bytes: &[0xff, 0x81],
+        },
+        NotRelayed {
+            of: Shape::Mandatory(Kind::UInt32, Operator::Delta),
+            before: Kept::Empty,
+            bytes: &[0xff, 0x81],
+        },
+        NotRelayed {
+            of: Shape::Mandatory(Kind::UInt32, Operator::Delta),
+            before: Kept::Assigned(Value::U64(5)),
+            bytes: &[0xff, 0x81],
+        },
+    ];
+    none_relayed(&rt, rt.alloc(), ROWS)
 }
 
 #[test]
-fn other_fields_are_not_relayed(rt: HostRuntime) -> Result<(), Fail> {
-    let alloc = rt.alloc();
-    not_relayed(
-        &rt,
-        alloc,
-        mandatory(alloc, Kind::Ascii, Operator::Copy),
-        Entry::Undefined,
-        &[0xff, 0xc1],
-    )?;
-    not_relayed(
-        &rt,
-        alloc,
-        mandatory(alloc, Kind::Decimal, Operator::Plain),
-        Entry::Undefined,
-        &[0xff, 0x81, 0x81],
-    )?;
-    not_relayed(
-        &rt,
-        alloc,
-        mandatory(alloc, Kind::UInt32, Operator::Tail),
-        Entry::Undefined,
-        &[0xff, 0x81],
-    )?;
-    Ok(())
+fn other_fields_are_not_relayed(rt: HostRuntime) -> Result<(), AllocError> {
+    const ROWS: &[NotRelayed] = &[
+        NotRelayed {
+            of: Shape::Mandatory(Kind::Ascii, Operator::Copy),
+            before: Kept::Undefined,
+            bytes: &[0xff, 0xc1],
+        },
+        NotRelayed {
+            of: Shape::Mandatory(Kind::Decimal, Operator::Plain),
+            before: Kept::Undefined,
+            bytes: &[0xff, 0x81, 0x81],
+        },
+        NotRelayed {
+            of: Shape::Mandatory(Kind::UInt32, Operator::Tail),
+            before: Kept::Undefined,
+            bytes: &[0xff, 0x81],
+        },
+    ];
+    none_relayed(&rt, rt.alloc(), ROWS)
 }
 
 #[test]
-fn constants_have_no_bytes(rt: HostRuntime) -> Result<(), Fail> {
-    let alloc = rt.alloc();
-    relayed(
-        &rt,
-        alloc,
-        seven(alloc, Operator::Constant),
-        Entry::Undefined,
-        &[0xff],
-        &[],
-        Entry::Undefined,
-    )?;
-    Ok(())
+fn constants_have_no_bytes(rt: HostRuntime) -> Result<(), AllocError> {
+    const ROWS: &[Relayed] = &[Relayed {
+        of: Shape::Initial(Presence::Mandatory, Operator::Constant, 7),
+        before: Kept::Undefined,
+        bytes: &[0xff],
+        appended: &[],
+        after: Kept::Undefined,
+    }];
+    all_relayed(&rt, rt.alloc(), ROWS)
 }

@@ -1,173 +1,151 @@
 //! Rows on strings and vectors that are relayed at once.
 
-use crate::fields::{ascii, part_of};
-use crate::same::same;
-use fast_dictionary::Entry;
+use crate::fields::{Kept, Shape, Value};
+use crate::relaying::{Answer, NotRelayed, Relayed, is_left, is_relayed};
 use fast_relay::relay_text;
-use fast_template::{FieldPart, Kind, Operator, Part, Presence};
+use fast_template::{FieldPart, Kind, Operator};
 use std::alloc::{AllocError, Global};
 use std::process::Abort;
-use std::test::Fail;
 
-// An ASCII string on an entry, which is empty where there is none; want of memory for it ends the test.
-fn text_part(
-    alloc: Global,
-    presence: Presence,
-    operator: Operator,
-) -> Result<FieldPart, AllocError> {
-    part_of(alloc, Part::Whole, Kind::Ascii, presence, operator, None)
-}
-
-fn kept(alloc: Global, text: &[u8]) -> Result<Entry, AllocError> {
-    Ok(Entry::Assigned(ascii(alloc, text)?))
-}
-
-// The bytes behind the first are read to their end, these are appended, and the entry has this text.
-fn relayed(
-    rt: &impl Abort,
+fn relay_with(
     alloc: Global,
     instr: &FieldPart,
-    before: &[u8],
+    before: Kept,
     bytes: &[u8],
-    appended: &[u8],
-    after: &[u8],
-) -> Result<(), AllocError> {
-    let mut entry = kept(alloc, before)?;
+) -> Result<Answer, AllocError> {
     let mut out = vec![in alloc; 0x2a]?;
-    let answer = relay_text(
-        alloc,
-        instr,
-        &mut entry,
-        bytes,
-        bytes.len().min(1),
-        &mut out,
-    );
-    if answer.is_none() {
-        same(rt, entry, kept(alloc, before)?);
-        same(rt, out.as_slice(), [0x2a].as_slice());
-        return Err(AllocError);
+    let mut entry = before.entry(alloc)?;
+    let at = bytes.len().min(1);
+    let next = relay_text(alloc, instr, &mut entry, bytes, at, &mut out);
+    Ok(Answer { next, entry, out })
+}
+
+fn relay(alloc: Global, of: Shape, before: Kept, bytes: &[u8]) -> Result<Answer, AllocError> {
+    let instr = of.instr(alloc)?;
+    relay_with(alloc, &instr, before, bytes)
+}
+
+fn all_relayed(rt: &impl Abort, alloc: Global, rows: &[Relayed]) -> Result<(), AllocError> {
+    for row in rows {
+        let answer = relay(alloc, row.of, row.before, row.bytes)?;
+        is_relayed(rt, alloc, answer, row)?;
     }
-    same(rt, answer, Some(bytes.len()));
-    same(rt, entry, kept(alloc, after)?);
-    same(rt, &out[1..], appended);
     Ok(())
 }
 
-// The bytes behind the first are left to the general way, and nothing has changed.
-fn not_relayed(
-    rt: &impl Abort,
-    alloc: Global,
-    instr: &FieldPart,
-    before: &[u8],
-    bytes: &[u8],
-) -> Result<(), AllocError> {
-    let mut entry = kept(alloc, before)?;
-    let mut out = vec![in alloc; 0x2a]?;
-    let answer = relay_text(
-        alloc,
-        instr,
-        &mut entry,
-        bytes,
-        bytes.len().min(1),
-        &mut out,
-    );
-    same(rt, answer, None);
-    same(rt, entry, kept(alloc, before)?);
-    same(rt, out.as_slice(), [0x2a].as_slice());
+fn none_relayed(rt: &impl Abort, alloc: Global, rows: &[NotRelayed]) -> Result<(), AllocError> {
+    for row in rows {
+        let answer = relay(alloc, row.of, row.before, row.bytes)?;
+        is_left(rt, alloc, answer, row.before)?;
+    }
     Ok(())
 }
 
 #[test]
-fn copies_of_texts_are_relayed(rt: HostRuntime) -> Result<(), Fail> {
-    let alloc = rt.alloc();
-    let instr = text_part(alloc, Presence::Mandatory, Operator::Copy)?;
-    relayed(
-        &rt,
-        alloc,
-        &instr,
-        b"AB",
-        &[0, 0x43, 0xc4],
-        &[0x43, 0xc4],
-        b"CD",
-    )?;
-    not_relayed(&rt, alloc, &instr, b"AB", &[0, 0x41, 0xc2])?;
-    not_relayed(&rt, alloc, &instr, b"AB", &[0, 0x41])?;
-    Ok(())
+fn copies_of_texts_are_relayed(rt: HostRuntime) -> Result<(), AllocError> {
+    const RELAYED: &[Relayed] = &[Relayed {
+        of: Shape::Mandatory(Kind::Ascii, Operator::Copy),
+        before: Kept::Assigned(Value::Ascii(b"AB")),
+        bytes: &[0, 0x43, 0xc4],
+        appended: &[0x43, 0xc4],
+        after: Kept::Assigned(Value::Ascii(b"CD")),
+    }];
+    const OTHERS: &[NotRelayed] = &[
+        NotRelayed {
+            of: Shape::Mandatory(Kind::Ascii, Operator::Copy),
+            before: Kept::Assigned(Value::Ascii(b"AB")),
+            bytes: &[0, 0x41, 0xc2],
+        },
+        NotRelayed {
+            of: Shape::Mandatory(Kind::Ascii, Operator::Copy),
+            before: Kept::Assigned(Value::Ascii(b"AB")),
+            bytes: &[0, 0x41],
+        },
+    ];
+    all_relayed(&rt, rt.alloc(), RELAYED)?;
+    none_relayed(&rt, rt.alloc(), OTHERS)
 }
 
 #[test]
-fn optional_copies_of_texts_are_relayed(rt: HostRuntime) -> Result<(), Fail> {
-    let alloc = rt.alloc();
-    let instr = text_part(alloc, Presence::Optional, Operator::Copy)?;
-    relayed(
-        &rt,
-        alloc,
-        &instr,
-        b"AB",
-        &[0, 0x00, 0x80],
-        &[0x00, 0x80],
-        b"",
-    )?;
-    not_relayed(&rt, alloc, &instr, b"AB", &[0, 0x80])?;
-    Ok(())
+fn optional_copies_of_texts_are_relayed(rt: HostRuntime) -> Result<(), AllocError> {
+    const RELAYED: &[Relayed] = &[Relayed {
+        of: Shape::Optional(Kind::Ascii, Operator::Copy),
+        before: Kept::Assigned(Value::Ascii(b"AB")),
+        bytes: &[0, 0x00, 0x80],
+        appended: &[0x00, 0x80],
+        after: Kept::Assigned(Value::Ascii(b"")),
+    }];
+    const OTHERS: &[NotRelayed] = &[NotRelayed {
+        of: Shape::Optional(Kind::Ascii, Operator::Copy),
+        before: Kept::Assigned(Value::Ascii(b"AB")),
+        bytes: &[0, 0x80],
+    }];
+    all_relayed(&rt, rt.alloc(), RELAYED)?;
+    none_relayed(&rt, rt.alloc(), OTHERS)
 }
 
 #[test]
-fn defaults_of_texts_leave_their_entries(rt: HostRuntime) -> Result<(), Fail> {
-    let alloc = rt.alloc();
-    let instr = text_part(alloc, Presence::Optional, Operator::Default)?;
-    relayed(
-        &rt,
-        alloc,
-        &instr,
-        b"AB",
-        &[0, 0x43, 0xc4],
-        &[0x43, 0xc4],
-        b"AB",
-    )?;
-    Ok(())
+fn defaults_of_texts_leave_their_entries(rt: HostRuntime) -> Result<(), AllocError> {
+    const ROWS: &[Relayed] = &[Relayed {
+        of: Shape::Optional(Kind::Ascii, Operator::Default),
+        before: Kept::Assigned(Value::Ascii(b"AB")),
+        bytes: &[0, 0x43, 0xc4],
+        appended: &[0x43, 0xc4],
+        after: Kept::Assigned(Value::Ascii(b"AB")),
+    }];
+    all_relayed(&rt, rt.alloc(), ROWS)
 }
 
 #[test]
-fn deltas_of_texts_are_relayed(rt: HostRuntime) -> Result<(), Fail> {
-    let alloc = rt.alloc();
-    let instr = text_part(alloc, Presence::Mandatory, Operator::Delta)?;
-    relayed(
-        &rt,
-        alloc,
-        &instr,
-        b"ESM6",
-        &[0, 0x81, 0xb7],
-        &[0x81, 0xb7],
-        b"ESM7",
-    )?;
-    relayed(
-        &rt,
-        alloc,
-        &instr,
-        b"ESM6",
-        &[0, 0x82, 0x4d, 0xb7],
-        &[0x81, 0xb7],
-        b"ESM7",
-    )?;
-    not_relayed(&rt, alloc, &instr, b"ESM6", &[0, 0x85, 0xb7])?;
-    Ok(())
+fn deltas_of_texts_are_relayed(rt: HostRuntime) -> Result<(), AllocError> {
+    const RELAYED: &[Relayed] = &[
+        Relayed {
+            of: Shape::Mandatory(Kind::Ascii, Operator::Delta),
+            before: Kept::Assigned(Value::Ascii(b"ESM6")),
+            bytes: &[0, 0x81, 0xb7],
+            appended: &[0x81, 0xb7],
+            after: Kept::Assigned(Value::Ascii(b"ESM7")),
+        },
+        Relayed {
+            of: Shape::Mandatory(Kind::Ascii, Operator::Delta),
+            before: Kept::Assigned(Value::Ascii(b"ESM6")),
+            bytes: &[0, 0x82, 0x4d, 0xb7],
+            appended: &[0x81, 0xb7],
+            after: Kept::Assigned(Value::Ascii(b"ESM7")),
+        },
+    ];
+    const OTHERS: &[NotRelayed] = &[NotRelayed {
+        of: Shape::Mandatory(Kind::Ascii, Operator::Delta),
+        before: Kept::Assigned(Value::Ascii(b"ESM6")),
+        bytes: &[0, 0x85, 0xb7],
+    }];
+    all_relayed(&rt, rt.alloc(), RELAYED)?;
+    none_relayed(&rt, rt.alloc(), OTHERS)
 }
 
 #[test]
-fn tails_of_texts_are_relayed(rt: HostRuntime) -> Result<(), Fail> {
-    let alloc = rt.alloc();
-    let instr = text_part(alloc, Presence::Mandatory, Operator::Tail)?;
-    relayed(&rt, alloc, &instr, b"xab", &[0, 0xe3], &[0xe3], b"xac")?;
-    relayed(
-        &rt,
-        alloc,
-        &instr,
-        b"xab",
-        &[0, 0x61, 0xe3],
-        &[0xe3],
-        b"xac",
-    )?;
-    not_relayed(&rt, alloc, &instr, b"xab", &[0, 0xe2])?;
-    Ok(())
+fn tails_of_texts_are_relayed(rt: HostRuntime) -> Result<(), AllocError> {
+    const RELAYED: &[Relayed] = &[
+        Relayed {
+            of: Shape::Mandatory(Kind::Ascii, Operator::Tail),
+            before: Kept::Assigned(Value::Ascii(b"xab")),
+            bytes: &[0, 0xe3],
+            appended: &[0xe3],
+            after: Kept::Assigned(Value::Ascii(b"xac")),
+        },
+        Relayed {
+            of: Shape::Mandatory(Kind::Ascii, Operator::Tail),
+            before: Kept::Assigned(Value::Ascii(b"xab")),
+            bytes: &[0, 0x61, 0xe3],
+            appended: &[0xe3],
+            after: Kept::Assigned(Value::Ascii(b"xac")),
+        },
+    ];
+    const OTHERS: &[NotRelayed] = &[NotRelayed {
+        of: Shape::Mandatory(Kind::Ascii, Operator::Tail),
+        before: Kept::Assigned(Value::Ascii(b"xab")),
+        bytes: &[0, 0xe2],
+    }];
+    all_relayed(&rt, rt.alloc(), RELAYED)?;
+    none_relayed(&rt, rt.alloc(), OTHERS)
 }

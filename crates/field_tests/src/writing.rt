@@ -127,9 +127,45 @@ fn appended(
         return Err(AllocError);
     }
     same(rt, answer, Ok(()));
-    assert!(rt; out.starts_with(&[0x2a]) && out.ends_with(bytes));
-    same(rt, out.len(), 1 + bytes.len());
+    same(rt, out.split_first(), Some((&0x2a, bytes)));
     Ok(())
+}
+
+// What a call answered, the entry afterwards, and what was written.
+#[derive(Drop)]
+struct Answer {
+    bit: Result<bool, FieldRefusal>,
+    entry: Entry,
+    out: Vec<u8>,
+}
+
+fn answered(
+    rt: &impl Abort,
+    answer: Answer,
+    bit: Result<bool, FieldRefusal>,
+    bytes: &[u8],
+    after: &Entry,
+) {
+    same(rt, answer.bit, bit);
+    same(rt, answer.out.as_slice(), bytes);
+    same(rt, &answer.entry, after);
+}
+
+// Writes a value behind these bytes, and changes a copy of its entry where it lies.
+fn put_in_place(
+    alloc: Global,
+    instr: &FieldPart,
+    entry: &Entry,
+    value: Option<&Scalar>,
+    front: Vec<u8>,
+) -> Result<Answer, AllocError>
+    requires part { IsFieldPart instr.now }
+    requires entry { HoldsScalar entry.now }
+{
+    let mut out = front;
+    let mut entry = entry.view().copy(alloc)?;
+    let bit = write_in_place(alloc, instr, &mut entry, value, &mut out);
+    Ok(Answer { bit, entry, out })
 }
 
 // A value is written, and its entry changed where it lies. Want of memory leaves both, and ends the test.
@@ -144,28 +180,43 @@ fn written_in_place(
     requires part { IsFieldPart instr.now }
     requires entry { HoldsScalar entry.now }
 {
-    let mut changed = entry.view().copy(alloc)?;
-    let mut out = Vec::new(alloc);
-    let answer = write_in_place(alloc, instr, &mut changed, value, &mut out);
-    if let Err(FieldRefusal::Memory) = answer {
-        same(rt, &changed, entry);
-        same(rt, out.as_slice(), [].as_slice());
+    let answer = put_in_place(alloc, instr, entry, value, Vec::new(alloc))?;
+    if let Err(FieldRefusal::Memory) = answer.bit {
+        answered(rt, answer, Err(FieldRefusal::Memory), &[], entry);
         return Err(AllocError);
     }
-    same(rt, answer, Ok(wanted.0));
-    same(rt, out.as_slice(), wanted.1);
-    same(rt, &changed, wanted.2);
+    answered(rt, answer, Ok(wanted.0), wanted.1, wanted.2);
     Ok(())
 }
 
-// A value of its own, or none, as what was found.
-fn found(value: Option<Scalar>) -> Found
-    ensures { (e : entry.Entry) → CanLie e result }
+// A copy of a value, or none, as what was found.
+fn found(alloc: Global, value: Option<&Scalar>) -> Result<Found, AllocError>
+    ensures { IfOk result (λ f. (e : entry.Entry) → CanLie e f) }
 {
     match value {
-        None => Found::Absent,
-        Some(value) => Found::Value(value),
+        None => Ok(Found::Absent),
+        Some(value) => Ok(Found::Value(value.copy(alloc)?)),
     }
+}
+
+// Moves a copy of a value into a copy of its entry, and writes it.
+fn put_where_found(
+    alloc: Global,
+    instr: &FieldPart,
+    entry: &Entry,
+    value: Option<&Scalar>,
+) -> Result<Answer, AllocError>
+    requires part { IsFieldPart instr.now }
+    requires entry { HoldsScalar entry.now }
+{
+    let mut out = Vec::new(alloc);
+    let mut entry = entry.view().copy(alloc)?;
+    let found = found(alloc, value)?;
+    let bit = match write_found(alloc, instr, &mut entry, found, &mut out) {
+        Ok((_, bit)) => Ok(bit),
+        Err(refusal) => Err(refusal),
+    };
+    Ok(Answer { bit, entry, out })
 }
 
 // The same of a value that is moved into its entry.
@@ -173,29 +224,45 @@ fn written_where_found(
     rt: &impl Abort,
     alloc: Global,
     instr: &FieldPart,
-    entry: Entry,
-    value: Option<Scalar>,
-    wanted: (bool, &[u8], Entry),
+    entry: &Entry,
+    value: Option<&Scalar>,
+    wanted: (bool, &[u8], &Entry),
 ) -> Result<(), AllocError>
     requires part { IsFieldPart instr.now }
-    requires entry { HoldsScalar entry }
+    requires entry { HoldsScalar entry.now }
 {
-    let mut moved = entry;
-    let mut out = Vec::new(alloc);
-    match write_found(alloc, instr, &mut moved, found(value), &mut out) {
-        Ok((_, answer)) => same(rt, answer, wanted.0),
-        Err(FieldRefusal::Memory) => {
-            same(rt, out.as_slice(), [].as_slice());
-            return Err(AllocError);
-        }
-        Err(refusal) => same(rt, Err(refusal), Ok(())),
+    let answer = put_where_found(alloc, instr, entry, value)?;
+    if let Err(FieldRefusal::Memory) = answer.bit {
+        same(rt, answer.out.as_slice(), [].as_slice());
+        return Err(AllocError);
     }
-    same(rt, out.as_slice(), wanted.1);
-    same(rt, moved, wanted.2);
+    answered(rt, answer, Ok(wanted.0), wanted.1, wanted.2);
     Ok(())
 }
 
 // A value is planned, and written by each call.
+fn written_by_each(
+    rt: &impl Abort,
+    alloc: Global,
+    instr: &FieldPart,
+    entry: &Entry,
+    value: Option<&Scalar>,
+    bit: bool,
+    bytes: &[u8],
+) -> Result<(), AllocError>
+    requires part { IsFieldPart instr.now }
+    requires entry { HoldsScalar entry.now }
+{
+    let size = bytes.len();
+    planned(rt, instr, entry.view(), value, Ok(Plan { bit, size }));
+    appended(rt, alloc, instr, entry.view(), value, bytes)?;
+    let after = next_entry(alloc, instr, entry.view(), value)?;
+    let wanted = (bit, bytes, &after);
+    written_in_place(rt, alloc, instr, entry, value, wanted)?;
+    written_where_found(rt, alloc, instr, entry, value, wanted)
+}
+
+// The same of values that are given away.
 fn written(
     rt: &impl Abort,
     alloc: Global,
@@ -208,19 +275,7 @@ fn written(
     requires part { IsFieldPart instr.now }
     requires entry { HoldsScalar entry }
 {
-    let size = bytes.len();
-    planned(
-        rt,
-        instr,
-        entry.view(),
-        value.as_ref(),
-        Ok(Plan { bit, size }),
-    );
-    appended(rt, alloc, instr, entry.view(), value.as_ref(), bytes)?;
-    let after = next_entry(alloc, instr, entry.view(), value.as_ref())?;
-    let wanted = (bit, bytes, &after);
-    written_in_place(rt, alloc, instr, &entry, value.as_ref(), wanted)?;
-    written_where_found(rt, alloc, instr, entry, value, (bit, bytes, after))
+    written_by_each(rt, alloc, instr, &entry, value.as_ref(), bit, bytes)
 }
 
 // A value is refused, and nothing is appended.
@@ -247,24 +302,37 @@ fn not_in_place(
     rt: &impl Abort,
     alloc: Global,
     instr: &FieldPart,
-    entry: Entry,
+    entry: &Entry,
     value: Option<&Scalar>,
     refusal: FieldRefusal,
 ) -> Result<(), AllocError>
     requires part { IsFieldPart instr.now }
-    requires entry { HoldsScalar entry }
+    requires entry { HoldsScalar entry.now }
 {
-    let mut out = vec![in alloc; 0x2a]?;
-    let before = entry.view().copy(alloc)?;
-    let mut entry = entry;
-    let answer = write_in_place(alloc, instr, &mut entry, value, &mut out);
-    same(rt, answer, Err(refusal));
-    same(rt, out.as_slice(), [0x2a].as_slice());
-    same(rt, entry, before);
+    let front = vec![in alloc; 0x2a]?;
+    let answer = put_in_place(alloc, instr, entry, value, front)?;
+    answered(rt, answer, Err(refusal), &[0x2a], entry);
     Ok(())
 }
 
 // A value is refused by each call, and nothing has changed.
+fn refused_by_each(
+    rt: &impl Abort,
+    alloc: Global,
+    instr: &FieldPart,
+    entry: &Entry,
+    value: Option<&Scalar>,
+    refusal: FieldRefusal,
+) -> Result<(), AllocError>
+    requires part { IsFieldPart instr.now }
+    requires entry { HoldsScalar entry.now }
+{
+    planned(rt, instr, entry.view(), value, Err(refusal));
+    not_appended(rt, alloc, instr, entry.view(), value, refusal)?;
+    not_in_place(rt, alloc, instr, entry, value, refusal)
+}
+
+// The same on an entry that is given away.
 fn refused(
     rt: &impl Abort,
     alloc: Global,
@@ -276,9 +344,7 @@ fn refused(
     requires part { IsFieldPart instr.now }
     requires entry { HoldsScalar entry }
 {
-    planned(rt, instr, entry.view(), value, Err(refusal));
-    not_appended(rt, alloc, instr, entry.view(), value, refusal)?;
-    not_in_place(rt, alloc, instr, entry, value, refusal)
+    refused_by_each(rt, alloc, instr, &entry, value, refusal)
 }
 
 // A value of a field with no initial value is written.
@@ -586,23 +652,48 @@ fn tails_on_another_type(rt: HostRuntime) -> Result<(), AllocError> {
     )
 }
 
-// Writes a string delta on an entry, once more where a growth was refused: that is Memory, and nothing is appended.
+// A mandatory string delta.
+fn string_delta(alloc: Global) -> Result<FieldPart, AllocError>
+    ensures { IfOk result IsFieldPart }
+{
+    field(alloc, Kind::Ascii, Presence::Mandatory, Operator::Delta)
+}
+
+// Writes a value, once more where a growth was refused: that is Memory, and nothing is appended.
+fn put_again(
+    rt: &impl Abort,
+    instr: &FieldPart,
+    entry: EntryRef,
+    value: &Scalar,
+    out: &mut Vec<u8>,
+) -> Result<(), FieldRefusal>
+    requires part { IsFieldPart instr.now }
+    requires entry { HoldsScalar (entry_of entry) }
+{
+    match write_field(instr, entry, Some(value), out) {
+        Ok(()) => Ok(()),
+        Err(refusal) => {
+            same(rt, refusal, FieldRefusal::Memory);
+            same(rt, out.as_slice(), [].as_slice());
+            write_field(instr, entry, Some(value), out)
+        }
+    }
+}
+
+// A string delta that is written on an entry.
 fn delta_appended(
     rt: &impl Abort,
     alloc: Global,
     entry: EntryRef,
     value: &Scalar,
     out: &mut Vec<u8>,
-) -> Result<(), Fail>
+) -> Result<(), FieldRefusal>
     requires { HoldsScalar (entry_of entry) }
 {
-    let delta = field(alloc, Kind::Ascii, Presence::Mandatory, Operator::Delta)?;
-    if let Err(refusal) = write_field(&delta, entry, Some(value), out) {
-        same(rt, refusal, FieldRefusal::Memory);
-        assert!(rt; out.is_empty());
-        write_field(&delta, entry, Some(value), out)?;
+    match string_delta(alloc) {
+        Ok(delta) => put_again(rt, &delta, entry, value, out),
+        Err(AllocError) => Err(FieldRefusal::Memory),
     }
-    Ok(())
 }
 
 // A refused growth is Memory, nothing is appended then, and the same call gives the row's answer.
@@ -618,6 +709,29 @@ fn refused_growths(rt: HostRuntime) -> Result<(), Fail> {
 }
 
 // The same of `write_in_place`, whose entry is as it was.
+fn put_in_place_again(
+    rt: &impl Abort,
+    alloc: Global,
+    instr: &FieldPart,
+    entry: &mut Entry,
+    before: &Entry,
+    value: &Scalar,
+    out: &mut Vec<u8>,
+) -> Result<bool, FieldRefusal>
+    requires part { IsFieldPart instr.now }
+    requires entry { HoldsScalar entry.old }
+{
+    match write_in_place(alloc, instr, entry, Some(value), out) {
+        Ok(bit) => Ok(bit),
+        Err(refusal) => {
+            same(rt, refusal, FieldRefusal::Memory);
+            same(rt, out.as_slice(), [].as_slice());
+            same(rt, &*entry, before);
+            write_in_place(alloc, instr, entry, Some(value), out)
+        }
+    }
+}
+
 fn delta_in_place(
     rt: &impl Abort,
     alloc: Global,
@@ -625,17 +739,13 @@ fn delta_in_place(
     before: &Entry,
     value: &Scalar,
     out: &mut Vec<u8>,
-) -> Result<(), Fail>
+) -> Result<bool, FieldRefusal>
     requires { HoldsScalar entry.old }
 {
-    let delta = field(alloc, Kind::Ascii, Presence::Mandatory, Operator::Delta)?;
-    if let Err(refusal) = write_in_place(alloc, &delta, entry, Some(value), out) {
-        same(rt, refusal, FieldRefusal::Memory);
-        assert!(rt; out.is_empty());
-        same(rt, &*entry, before);
-        write_in_place(alloc, &delta, entry, Some(value), out)?;
+    match string_delta(alloc) {
+        Ok(delta) => put_in_place_again(rt, alloc, &delta, entry, before, value, out),
+        Err(AllocError) => Err(FieldRefusal::Memory),
     }
-    Ok(())
 }
 
 // So is a refused copy, and the entry is as it was.
