@@ -4,7 +4,7 @@ use crate::fields::{ascii, part_of};
 use crate::same::same;
 use fast_dictionary::Entry;
 use fast_field::{Passed, pass_left_out};
-use fast_relay::relay_number;
+use fast_relay::{relay_number, relay_unsigned};
 use fast_template::{FieldPart, Kind, Operator, Part, Presence, Scalar};
 use std::alloc::{AllocError, Global};
 use std::process::Abort;
@@ -181,6 +181,33 @@ fn not_relayed(
     same(rt, answer, None);
     same(rt, entry, before);
     same(rt, out.as_slice(), [0x2a].as_slice());
+    Ok(())
+}
+
+// The number of the bytes behind the first, which are read to their end, or none. Want of memory ends the test.
+fn counted(
+    rt: &impl Abort,
+    alloc: Global,
+    instr: Instr,
+    bytes: &[u8],
+    number: Option<u32>,
+) -> Result<(), AllocError> {
+    let instr = instr?;
+    let mut entry = Entry::Undefined;
+    let mut out = Vec::new(alloc);
+    match relay_unsigned(&instr, &mut entry, bytes, bytes.len().min(1), &mut out) {
+        Some((found, next)) => {
+            same(rt, Some(found), number);
+            same(rt, next, bytes.len());
+            same(rt, entry, u32_entry(found));
+        }
+        None => {
+            if number.is_some() {
+                return Err(AllocError);
+            }
+            same(rt, entry, Entry::Undefined);
+        }
+    }
     Ok(())
 }
 
@@ -1010,6 +1037,41 @@ fn constants_have_no_bytes(rt: HostRuntime) -> Result<(), Fail> {
         &[0xff],
         &[],
         Entry::Undefined,
+    )?;
+    Ok(())
+}
+
+#[test]
+fn numbers_are_answered(rt: HostRuntime) -> Result<(), Fail> {
+    let alloc = rt.alloc();
+    counted(
+        &rt,
+        alloc,
+        mandatory(alloc, Kind::UInt32, Operator::Copy),
+        &[0xff, 0x01, 0x80],
+        Some(128),
+    )?;
+    counted(
+        &rt,
+        alloc,
+        optional(alloc, Kind::UInt32, Operator::Increment),
+        &[0xff, 0x88],
+        Some(7),
+    )?;
+    // another type, and NULL
+    counted(
+        &rt,
+        alloc,
+        mandatory(alloc, Kind::UInt64, Operator::Copy),
+        &[0xff, 0x87],
+        None,
+    )?;
+    counted(
+        &rt,
+        alloc,
+        optional(alloc, Kind::UInt32, Operator::Copy),
+        &[0xff, 0x80],
+        None,
     )?;
     Ok(())
 }
