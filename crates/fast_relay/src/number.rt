@@ -5,6 +5,7 @@ ghost use Rattle.std.specs.Prelude.{◌≡◌, ◌≤◌, ℕ, List, ◌+ℤ◌,
 ghost use Rattle.fast_value.specs.Scalar.{is_integer, of_integer};
 ghost use Rattle.fast_value.specs.declared.kind.Operator.TheVariants as operator_type;
 ghost use Rattle.fast_value.specs.declared.scalar.Scalar.{Scalar as ScalarOf};
+ghost use Rattle.fast_value.specs.declared.scalar.Scalar.TheVariants as scalar;
 ghost use Rattle.fast_dictionary.specs.declared.entry.Entry.TheVariants as entry_type;
 ghost use Rattle.fast_field.specs.Bases.{next_of};
 ghost use Rattle.fast_field.specs.Numbers.{IsNumber};
@@ -107,15 +108,16 @@ fn relay_whole(
     bytes: &[u8],
     at: usize,
     out: &mut Vec<u8>,
-) -> Option<usize>
+) -> Option<(i128, usize)>
     requires at { at ≤ length bytes.now }
     requires kind { kind ≡ instr.now.kind }
     requires integer { IsTrue (is_integer kind) }
     requires operator { SpellsWhole instr.now.operator }
-    ensures place { IfSome result (λ next. (at ≤ next) × (next ≤ length bytes.now)) }
-    ensures relayed { IfSome result (λ next. (v : ScalarOf)
-        × Relays instr.now entry.old entry.new v (drop at bytes.now) (drop next bytes.now)
-        out.old.items out.new.items) }
+    ensures place { IfSome result (λ x. (at ≤ x.1) × (x.1 ≤ length bytes.now)) }
+    ensures number { IfSome result (λ x. IsNumber kind x.0) }
+    ensures relayed { IfSome result (λ x.
+        Relays instr.now entry.old entry.new (of_integer kind x.0)
+        (drop at bytes.now) (drop x.1 bytes.now) out.old.items out.new.items) }
     ensures entry { IfNone result (entry.new ≡ entry.old) }
     ensures out { IfNone result (out.new.items ≡ out.old.items) }
 {
@@ -131,7 +133,7 @@ fn relay_whole(
     match write_number(kind, instr.presence, number, out) {
         Ok(()) => {
             keep_whole(kind, instr.operator, entry, number);
-            Some(next)
+            Some((number, next))
         }
         Err(_) => None,
     }
@@ -146,15 +148,16 @@ fn relay_delta(
     bytes: &[u8],
     at: usize,
     out: &mut Vec<u8>,
-) -> Option<usize>
+) -> Option<(i128, usize)>
     requires at { at ≤ length bytes.now }
     requires kind { kind ≡ instr.now.kind }
     requires integer { IsTrue (is_integer kind) }
     requires operator { instr.now.operator ≡ operator_type.Delta }
-    ensures place { IfSome result (λ next. (at ≤ next) × (next ≤ length bytes.now)) }
-    ensures relayed { IfSome result (λ next. (v : ScalarOf)
-        × Relays instr.now entry.old entry.new v (drop at bytes.now) (drop next bytes.now)
-        out.old.items out.new.items) }
+    ensures place { IfSome result (λ x. (at ≤ x.1) × (x.1 ≤ length bytes.now)) }
+    ensures number { IfSome result (λ x. IsNumber kind x.0) }
+    ensures relayed { IfSome result (λ x.
+        Relays instr.now entry.old entry.new (of_integer kind x.0)
+        (drop at bytes.now) (drop x.1 bytes.now) out.old.items out.new.items) }
     ensures entry { IfNone result (entry.new ≡ entry.old) }
     ensures out { IfNone result (out.new.items ≡ out.old.items) }
 {
@@ -171,7 +174,7 @@ fn relay_delta(
     match write_signed(instr.presence, delta, out) {
         Ok(()) => {
             set_number(kind, entry, number);
-            Some(next)
+            Some((number, next))
         }
         Err(_) => None,
     }
@@ -190,7 +193,37 @@ fn gives_constant(instr: &FieldPart, entry: &Entry) -> bool
     }
 }
 
-/// Relays a number of a type that is known here.
+/// Relays a number of a type that is known here, and answers it.
+#[inline(always)]
+fn relay_value(
+    kind: Kind,
+    instr: &FieldPart,
+    entry: &mut Entry,
+    bytes: &[u8],
+    at: usize,
+    out: &mut Vec<u8>,
+) -> Option<(i128, usize)>
+    requires at { at ≤ length bytes.now }
+    requires kind { kind ≡ instr.now.kind }
+    requires integer { IsTrue (is_integer kind) }
+    ensures place { IfSome result (λ x. (at ≤ x.1) × (x.1 ≤ length bytes.now)) }
+    ensures number { IfSome result (λ x. IsNumber kind x.0) }
+    ensures relayed { IfSome result (λ x.
+        Relays instr.now entry.old entry.new (of_integer kind x.0)
+        (drop at bytes.now) (drop x.1 bytes.now) out.old.items out.new.items) }
+    ensures entry { IfNone result (entry.new ≡ entry.old) }
+    ensures out { IfNone result (out.new.items ≡ out.old.items) }
+{
+    match instr.operator {
+        Operator::Delta => relay_delta(kind, instr, entry, bytes, at, out),
+        Operator::Plain | Operator::Default | Operator::Copy | Operator::Increment => {
+            relay_whole(kind, instr, entry, bytes, at, out)
+        }
+        Operator::Constant | Operator::Tail => None,
+    }
+}
+
+/// Relays a number of a type that is known here; answers the place alone.
 #[inline(always)]
 fn relay(
     kind: Kind,
@@ -210,12 +243,9 @@ fn relay(
     ensures entry { IfNone result (entry.new ≡ entry.old) }
     ensures out { IfNone result (out.new.items ≡ out.old.items) }
 {
-    match instr.operator {
-        Operator::Delta => relay_delta(kind, instr, entry, bytes, at, out),
-        Operator::Plain | Operator::Default | Operator::Copy | Operator::Increment => {
-            relay_whole(kind, instr, entry, bytes, at, out)
-        }
-        Operator::Constant | Operator::Tail => None,
+    match relay_value(kind, instr, entry, bytes, at, out) {
+        Some((_number, next)) => Some(next),
+        None => None,
     }
 }
 
@@ -277,5 +307,31 @@ pub fn relay_number(
         | Operator::Increment
         | Operator::Delta
         | Operator::Tail => relay_integer(instr, entry, bytes, at, out),
+    }
+}
+
+/// The same of a number without sign of 32 bits, as the identifier of a template and the length of a sequence are; it
+/// answers the number too. None where the field is of another type, or has a constant.
+#[inline(always)]
+pub fn relay_unsigned(
+    instr: &FieldPart,
+    entry: &mut Entry,
+    bytes: &[u8],
+    at: usize,
+    out: &mut Vec<u8>,
+) -> Option<(u32, usize)>
+    requires { at ≤ length bytes.now }
+    ensures place { IfSome result (λ x. (at ≤ x.1) × (x.1 ≤ length bytes.now)) }
+    ensures relayed { IfSome result (λ x. Relays instr.now entry.old entry.new (scalar.U32 x.0)
+        (drop at bytes.now) (drop x.1 bytes.now) out.old.items out.new.items) }
+    ensures entry { IfNone result (entry.new ≡ entry.old) }
+    ensures out { IfNone result (out.new.items ≡ out.old.items) }
+{
+    match instr.kind {
+        Kind::UInt32 => match relay_value(Kind::UInt32, instr, entry, bytes, at, out) {
+            Some((number, next)) => Some((number as u32, next)),
+            None => None,
+        },
+        _ => None,
     }
 }

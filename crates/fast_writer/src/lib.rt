@@ -6,6 +6,7 @@
 //! [`Level`] is one segment that is being written.
 #![tactic(auto)]
 
+mod count;
 mod fit;
 mod laws;
 mod level;

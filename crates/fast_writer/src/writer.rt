@@ -1,12 +1,12 @@
 //! Writes the canonical bytes of messages as they are read.
 
+use crate::count::relay_count;
 use crate::fit::is_identifier;
 use crate::level::Level;
 use crate::quick::relay_part;
-use crate::relay::relay_value;
 use fast_dictionary::Entries;
 use fast_field::FieldFault;
-use fast_stream::{Receiver, unsigned_in};
+use fast_stream::Receiver;
 use fast_template::{FieldPart, Kind};
 use std::alloc::{AllocError, Global};
 use std::mem;
@@ -160,12 +160,10 @@ impl Receiver for Writer {
         }
         self.outer.clear();
         self.inner.begin(true);
-        match relay_value(alloc, entries, identifier, bit, bytes, at, &mut self.inner) {
+        match relay_count(alloc, entries, identifier, bit, bytes, at, &mut self.inner) {
             Err(fault) => Err(fault),
-            Ok((value, next)) => match unsigned_in(&value) {
-                Ok(Some(id)) => Ok((id, next)),
-                _ => Err(FieldFault::Memory),
-            },
+            Ok((Some(id), next)) => Ok((id, next)),
+            Ok((None, _)) => Err(FieldFault::Memory),
         }
     }
 
@@ -250,12 +248,9 @@ impl Receiver for Writer {
         bytes: &[u8],
         at: usize,
     ) -> Result<(Option<u32>, usize), FieldFault> {
-        match relay_value(alloc, entries, part, bit, bytes, at, &mut self.inner) {
+        match relay_count(alloc, entries, part, bit, bytes, at, &mut self.inner) {
             Err(fault) => Err(fault),
-            Ok((value, next)) => match unsigned_in(&value) {
-                Err(fault) => Err(fault),
-                Ok(length) => Ok((length, next)),
-            },
+            Ok((length, next)) => Ok((length, next)),
         }
     }
 

@@ -4,8 +4,9 @@
 use crate::fields::{Kept, Shape, Value};
 use crate::relaying::{Answer, NotRelayed, Relayed, is_left, is_relayed};
 use crate::same::same;
+use fast_dictionary::Entry;
 use fast_field::{Passed, pass_left_out};
-use fast_relay::relay_number;
+use fast_relay::{relay_number, relay_unsigned};
 use fast_template::{FieldPart, Kind, Operator, Presence};
 use std::alloc::{AllocError, Global};
 use std::process::Abort;
@@ -71,6 +72,47 @@ fn none_relayed(rt: &impl Abort, alloc: Global, rows: &[NotRelayed]) -> Result<(
     for row in rows {
         let answer = relay(alloc, row.of, row.before, row.bytes)?;
         is_left(rt, alloc, answer, row.before)?;
+    }
+    Ok(())
+}
+
+// The number of the bytes behind the first, which are read to their end, or none; the entry is undefined before.
+struct Counted {
+    of: Shape,
+    bytes: &'static [u8],
+    number: Option<u32>,
+}
+
+// Want of memory ends the test.
+fn counts_with(
+    rt: &impl Abort,
+    alloc: Global,
+    instr: &FieldPart,
+    row: &Counted,
+) -> Result<(), AllocError> {
+    let mut out = Vec::new(alloc);
+    let mut entry = Entry::Undefined;
+    let start = row.bytes.len().min(1);
+    match relay_unsigned(instr, &mut entry, row.bytes, start, &mut out) {
+        Some((number, next)) => {
+            same(rt, Some(number), row.number);
+            same(rt, next, row.bytes.len());
+            same(rt, entry, Kept::Assigned(Value::U32(number)).entry(alloc)?);
+        }
+        None => {
+            if row.number.is_some() {
+                return Err(AllocError);
+            }
+            same(rt, entry, Entry::Undefined);
+        }
+    }
+    Ok(())
+}
+
+fn all_counted(rt: &impl Abort, alloc: Global, rows: &[Counted]) -> Result<(), AllocError> {
+    for row in rows {
+        let instr = row.of.instr(alloc)?;
+        counts_with(rt, alloc, &instr, row)?;
     }
     Ok(())
 }
@@ -820,4 +862,32 @@ fn constants_have_no_bytes(rt: HostRuntime) -> Result<(), AllocError> {
         after: Kept::Undefined,
     }];
     all_relayed(&rt, rt.alloc(), ROWS)
+}
+
+#[test]
+fn numbers_are_answered(rt: HostRuntime) -> Result<(), AllocError> {
+    const ROWS: &[Counted] = &[
+        Counted {
+            of: Shape::Mandatory(Kind::UInt32, Operator::Copy),
+            bytes: &[0xff, 0x01, 0x80],
+            number: Some(128),
+        },
+        Counted {
+            of: Shape::Optional(Kind::UInt32, Operator::Increment),
+            bytes: &[0xff, 0x88],
+            number: Some(7),
+        },
+        // another type, and NULL
+        Counted {
+            of: Shape::Mandatory(Kind::UInt64, Operator::Copy),
+            bytes: &[0xff, 0x87],
+            number: None,
+        },
+        Counted {
+            of: Shape::Optional(Kind::UInt32, Operator::Copy),
+            bytes: &[0xff, 0x80],
+            number: None,
+        },
+    ];
+    all_counted(&rt, rt.alloc(), ROWS)
 }

@@ -3,7 +3,6 @@ use Rattle.std.specs.Int.RustNames.{FitsSigned}
 use Rattle.std.specs.Prelude.{◌+ℤ◌, drop}
 use Rattle.std.proofs.Common.{arith}
 use Rattle.std.proofs.lemmas.Int.{ints, to_z-of_z}
-use Rattle.fast_value.specs.Scalar.{of_integer}
 use Rattle.fast_relay.proofs.Relaying.{delta_relays}
 use Rattle.fast_relay.proofs.number.relay_delta.Goals as goal
 
@@ -17,12 +16,10 @@ returns-in-Ok-clause-relayed c =
     let sum_fits : FitsSigned w128 (z +ℤ d) = omega (arith, ints, c.in-Some.ensures.above, c.in-Some.ensures.below, c.in-Some-read_short.ensures.above, c.in-Some-read_short.ensures.below) in
     let kept = to_z-of_z w128 z kept_fits in
     let delta = to_z-of_z w128 d delta_fits in
-    let sum = to_z-of_z w128 (z +ℤ d) sum_fits in (
-      of_integer k (z +ℤ d),
-      delta_relays k c.args.instr.now c.args.entry.now c.set_number.new.entry z d (drop c.args.at c.args.bytes.now) (drop c.in-Some-read_short.next c.args.bytes.now) c.args.out.now.items c.write_signed.new.out.items
-          c.requires.kind c.requires.operator c.in-Some.ensures.number
-          (rw (kept, delta, sum) at (c.is_field_number.ensures c.if-not-is_field_number.false))
-          c.in-Some-read_short.ensures.gives
-          (rw (kept, delta, sum) at c.set_number.ensures)
-          (rw delta at c.in-Ok.ensures),
-    )
+    let sum = to_z-of_z w128 (z +ℤ d) sum_fits in
+    rw (kept, delta, sum) (delta_relays k c.args.instr.now c.args.entry.now c.set_number.new.entry z d (drop c.args.at c.args.bytes.now) (drop c.in-Some-read_short.next c.args.bytes.now) c.args.out.now.items c.write_signed.new.out.items
+    c.requires.kind c.requires.operator c.in-Some.ensures.number
+    (rw (kept, delta, sum) at (c.is_field_number.ensures c.if-not-is_field_number.false))
+    c.in-Some-read_short.ensures.gives
+    (rw (kept, delta, sum) at c.set_number.ensures)
+    (rw delta at c.in-Ok.ensures))

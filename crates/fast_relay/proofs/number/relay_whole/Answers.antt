@@ -3,7 +3,6 @@ use Rattle.std.specs.Int.RustNames.{FitsSigned}
 use Rattle.std.specs.Prelude.{drop}
 use Rattle.std.proofs.Common.{arith}
 use Rattle.std.proofs.lemmas.Int.{ints, to_z-of_z}
-use Rattle.fast_value.specs.Scalar.{of_integer}
 use Rattle.fast_relay.proofs.Relaying.{whole_relays}
 use Rattle.fast_relay.proofs.number.relay_whole.Goals as goal
 
@@ -12,13 +11,11 @@ returns-in-Ok-clause-relayed c =
     let k = c.args.kind in
     let z = c.in-Some.number in
     let fits : FitsSigned w128 z = omega (arith, ints, c.in-Some.ensures.above, c.in-Some.ensures.below) in
-    let same = to_z-of_z w128 z fits in (
-      of_integer k z,
-      whole_relays k c.args.instr.now c.args.entry.now c.keep_whole.new.entry z (drop c.args.at c.args.bytes.now) (drop c.in-Some.next c.args.bytes.now) c.args.out.now.items c.write_number.new.out.items
-          c.requires.kind c.requires.operator
-          (rw same at (c.is_field_number.ensures c.if-not-is_field_number.false))
-          (rw c.is_unsigned.ensures at c.in-Some.ensures.gives)
-          (rw same at c.keep_whole.ensures)
-          (rw same at (c.is_given.ensures c.if-is_given.false))
-          (rw same at c.in-Ok.ensures),
-    )
+    let same = to_z-of_z w128 z fits in
+    rw same (whole_relays k c.args.instr.now c.args.entry.now c.keep_whole.new.entry z (drop c.args.at c.args.bytes.now) (drop c.in-Some.next c.args.bytes.now) c.args.out.now.items c.write_number.new.out.items
+    c.requires.kind c.requires.operator
+    (rw same at (c.is_field_number.ensures c.if-not-is_field_number.false))
+    (rw c.is_unsigned.ensures at c.in-Some.ensures.gives)
+    (rw same at c.keep_whole.ensures)
+    (rw same at (c.is_given.ensures c.if-is_given.false))
+    (rw same at c.in-Ok.ensures))

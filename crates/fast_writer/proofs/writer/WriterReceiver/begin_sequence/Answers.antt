@@ -3,17 +3,16 @@ use Rattle.fast_writer.specs.Levels.{level_of}
 use Rattle.fast_writer.proofs.Writers.{length_finished, has_length}
 use Rattle.fast_writer.proofs.writer.WriterReceiver.begin_sequence.Goals as goal
 
-pub returns-clause-goes : goal.returns-clause-goes
-returns-clause-goes g c =
+pub returns-in-Ok-clause-goes : goal.returns-in-Ok-clause-goes
+returns-in-Ok-clause-goes g c =
     let old = c.args.self.now in
     let d = g.E.Entries.contents c.args.entries.now in
-    let e = g.E.Entries.contents c.relay_value.new.entries in
-    let n = c.in-Ok-unsigned_in.length in
-    let is_it = c.in-Ok-unsigned_in.ensures.ok in
-    let took = rw (is_it) at c.in-Ok.ensures.took in (
+    let e = g.E.Entries.contents c.relay_count.new.entries in
+    let n = c.in-Ok.length in
+    let took = c.in-Ok.ensures.took in (
       took,
       λ name number presence members is o next first has. (
         length_finished n old.out.items o number members is has.0,
-        has_length n (map level_of old.outer.items) (level_of old.inner) (level_of c.relay_value.new.level) o name number presence c.args.part.now members is d e next first took.entry (rw (is_it) at c.in-Ok.ensures.spelt) has.1,
+        has_length n (map level_of old.outer.items) (level_of old.inner) (level_of c.relay_count.new.level) o name number presence c.args.part.now members is d e next first took.entry c.in-Ok.ensures.spelt has.1,
       ),
     )

@@ -1,0 +1,178 @@
+//! The identifier of a template or the length of a sequence, read and written at once: a part whose number is wanted.
+
+ghost use Rattle.std.specs.Prelude.{◌≡◌, ◌≢◌, ◌≤◌, Err, IfNone, IfOk, IfErr, IfSome, IsTrue, length, drop, false, true};
+ghost use Rattle.fast_template.specs.Resolved.{part_needs_bit as part_needs_bit_of};
+ghost use Rattle.fast_dictionary.specs.Dictionary.{entry_at};
+ghost use Rattle.fast_field.specs.FieldReading.{field_at};
+ghost use Rattle.fast_field.specs.Passed.{Passes};
+ghost use Rattle.fast_stream.specs.Received.{Took, length_of};
+ghost use Rattle.fast_writer.specs.Levels.{level_of};
+ghost use Rattle.fast_writer.specs.Quick.{Relayed};
+ghost use Rattle.fast_writer.specs.Written.{Spelt};
+
+use crate::level::Level;
+use crate::relay::relay_entry;
+use fast_dictionary::{Entries, Entry};
+use fast_field::{FieldFault, Passed, pass_left_out};
+use fast_relay::relay_unsigned;
+use fast_template::{FieldPart, Kind, Operator, Scalar, part_needs_bit};
+use std::alloc::Global;
+
+// Takes the number of the entry that bit 0 repeats, or that there is none. None: nothing has changed, and the part goes
+// the general way.
+#[inline(always)]
+fn repeat_count(part: &FieldPart, entry: &mut Entry) -> Option<Option<u32>>
+    ensures passed { IfSome result (λ count.
+        Passes part.now entry.old entry.new (length_of count)) }
+    ensures entry { IfNone result (entry.new ≡ entry.old) }
+{
+    match (part.operator, part.kind) {
+        (Operator::Copy, Kind::UInt32) => match pass_left_out(part, entry) {
+            Passed::Elsewhere => None,
+            Passed::Absent => Some(None),
+            Passed::Present => match entry {
+                Entry::Assigned(Scalar::U32(number)) => Some(Some(*number)),
+                _ => unreachable!(),
+            },
+        },
+        _ => None,
+    }
+}
+
+// Takes what bit 0 repeats, or what was sent; answers the number and the place behind it. None: nothing has changed,
+// and the part goes the general way.
+#[inline(always)]
+fn count_quickly(
+    part: &FieldPart,
+    entry: &mut Entry,
+    bit: bool,
+    bytes: &[u8],
+    at: usize,
+    out: &mut Vec<u8>,
+) -> Option<(Option<u32>, usize)>
+    requires place { at ≤ length bytes.now }
+    requires bit { part_needs_bit_of part.now ≡ false → bit ≡ true }
+    ensures place { IfSome result (λ x. (at ≤ x.1) × (x.1 ≤ length bytes.now)) }
+    ensures relayed { IfSome result (λ x.
+        Relayed part.now entry.old entry.new bit bit (length_of x.0) (drop at bytes.now)
+        (drop x.1 bytes.now) out.old.items out.new.items) }
+    ensures entry { IfNone result (entry.new ≡ entry.old) }
+    ensures out { IfNone result (out.new.items ≡ out.old.items) }
+{
+    if bit {
+        match relay_unsigned(part, entry, bytes, at, out) {
+            None => None,
+            Some((number, next)) => Some((Some(number), next)),
+        }
+    } else {
+        match repeat_count(part, entry) {
+            None => None,
+            Some(count) => Some((count, at)),
+        }
+    }
+}
+
+// The same of any part, the general way; answers the bit of the best form too.
+#[inline(never)]
+fn count_generally(
+    alloc: Global,
+    part: &FieldPart,
+    entry: &mut Entry,
+    bit: bool,
+    bytes: &[u8],
+    at: usize,
+    out: &mut Vec<u8>,
+) -> Result<(Option<u32>, bool, usize), FieldFault>
+    requires place { at ≤ length bytes.now }
+    requires bit { part_needs_bit_of part.now ≡ false → bit ≡ true }
+    ensures place { IfOk result (λ x. (at ≤ x.2) × (x.2 ≤ length bytes.now)) }
+    ensures relayed { IfOk result (λ x.
+        Relayed part.now entry.old entry.new bit x.1 (length_of x.0) (drop at bytes.now)
+        (drop x.2 bytes.now) out.old.items out.new.items) }
+    ensures stops { IfErr result (λ f. f ≢ FieldFault.Memory
+        → (field_at part.now entry.old bit (drop at bytes.now) ≡ Err f)
+        × (entry.new ≡ entry.old) × (out.new.items ≡ out.old.items)) }
+{
+    match relay_entry(alloc, part, entry, bit, bytes, at, out) {
+        Err(fault) => Err(fault),
+        Ok((found, best, next)) => match found.value(part, entry.view()) {
+            None => Ok((None, best, next)),
+            Some(Scalar::U32(number)) => Ok((Some(*number), best, next)),
+            Some(_) => Err(FieldFault::Memory),
+        },
+    }
+}
+
+// The same by the quick way, and by the general one where that does not serve.
+#[inline(always)]
+fn count_either(
+    alloc: Global,
+    part: &FieldPart,
+    entry: &mut Entry,
+    bit: bool,
+    bytes: &[u8],
+    at: usize,
+    out: &mut Vec<u8>,
+) -> Result<(Option<u32>, bool, usize), FieldFault>
+    requires place { at ≤ length bytes.now }
+    requires bit { part_needs_bit_of part.now ≡ false → bit ≡ true }
+    ensures place { IfOk result (λ x. (at ≤ x.2) × (x.2 ≤ length bytes.now)) }
+    ensures relayed { IfOk result (λ x.
+        Relayed part.now entry.old entry.new bit x.1 (length_of x.0) (drop at bytes.now)
+        (drop x.2 bytes.now) out.old.items out.new.items) }
+    ensures stops { IfErr result (λ f. f ≢ FieldFault.Memory
+        → (field_at part.now entry.old bit (drop at bytes.now) ≡ Err f)
+        × (entry.new ≡ entry.old) × (out.new.items ≡ out.old.items)) }
+{
+    match count_quickly(part, entry, bit, bytes, at, out) {
+        Some((count, next)) => Ok((count, bit, next)),
+        None => match count_generally(alloc, part, entry, bit, bytes, at, out) {
+            Err(fault) => Err(fault),
+            Ok(x) => Ok(x),
+        },
+    }
+}
+
+/// Reads a part that is a number without sign of 32 bits, and appends the best form of its value to a segment; answers
+/// the number, none where it is absent, and the place behind what was read.
+///
+/// # Errors
+///
+/// The first fault of the part; nothing has changed. Memory: a growth was refused, or the value is no such number.
+#[inline(never)]
+pub(crate) fn relay_count<E: Entries>(
+    alloc: Global,
+    entries: &mut E,
+    part: &FieldPart,
+    bit: bool,
+    bytes: &[u8],
+    at: usize,
+    level: &mut Level,
+) -> Result<(Option<u32>, usize), FieldFault>
+    requires place { at ≤ length bytes.now }
+    requires bit { part_needs_bit_of part.now ≡ false → bit ≡ true }
+    requires served { IsTrue (E.serves entries.now part.now.key) }
+    ensures place { IfOk result (λ x. (at ≤ x.1) × (x.1 ≤ length bytes.now)) }
+    ensures took { IfOk result (λ x. Took part.now bit (E.contents entries.old) (E.contents
+        entries.new) (length_of x.0) (drop at bytes.now) (drop x.1 bytes.now)) }
+    ensures spelt { IfOk result (λ x.
+        Spelt part.now (entry_at (E.contents entries.old) part.now.key) (length_of x.0)
+        (level_of level.old) (level_of level.new)) }
+    ensures stops { IfErr result (λ f. f ≢ FieldFault.Memory
+        → (field_at part.now (entry_at (E.contents entries.old) part.now.key) bit
+        (drop at bytes.now) ≡ Err f)
+        × (E.contents entries.new ≡ E.contents entries.old)
+        × (level_of level.new ≡ level_of level.old)) }
+    ensures same_keys { E.serves entries.new ≡ E.serves entries.old }
+{
+    match entries.entry_mut(&part.key) {
+        Err(_) => Err(FieldFault::Memory),
+        Ok(entry) => match count_either(alloc, part, entry, bit, bytes, at, &mut level.bytes) {
+            Err(fault) => Err(fault),
+            Ok((count, best, next)) => match level.ask(part_needs_bit(part), best) {
+                Err(_) => Err(FieldFault::Memory),
+                Ok(()) => Ok((count, next)),
+            },
+        },
+    }
+}
