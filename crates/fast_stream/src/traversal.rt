@@ -135,7 +135,9 @@ impl<'a> Traversal<'a> {
         match read_own_map(self.alloc, 0, true, bytes, at) {
             Err(halt) => Err(halt),
             Ok((bits, next)) => {
-                self.walk = Walk::new(self.alloc, &[], bits, NODE_LIMIT);
+                // the rest of the walk begins with the body, in the memory of the last one
+                self.walk.bits = bits;
+                self.walk.spare = NODE_LIMIT;
                 self.stage = Stage::Identifier;
                 Ok(next)
             }

@@ -11,5 +11,4 @@ returns-in-Err-clause-stops c = λ other d.
 
 pub returns-in-Ok-clause-goes : goal.returns-in-Ok-clause-goes
 returns-in-Ok-clause-goes c = λ d more.
-    rw (c.new.ensures.bits)
-    (map_read (templates_in c.args.self.now.set.now) d (drop c.args.at c.args.bytes.now ++ more) (cursor d c.in-Ok.bits node_limit (drop c.in-Ok.next c.args.bytes.now ++ more)) (c.in-Ok.ensures.goes d [] node_limit more))
+    map_read (templates_in c.args.self.now.set.now) d (drop c.args.at c.args.bytes.now ++ more) (cursor d c.in-Ok.bits node_limit (drop c.in-Ok.next c.args.bytes.now ++ more)) (c.in-Ok.ensures.goes d [] node_limit more)
