@@ -1,12 +1,11 @@
 //! The order book and the trade feed of examples/: their lines and canonical bytes, and those of these bytes.
 
-use super::same::same;
+use super::same::same_of;
 use crate::tests::devices::{After, Feed, STREAM, Shelf, TEMPLATES};
 use fast_io::Counted;
 use fast_serve::serve::{TURNS, serve};
 use std::alloc::Global;
 use std::process::Abort;
-use std::test::Fail;
 
 // The text of book.json.
 const BOOK: &str = r#"{"templates":[
@@ -45,19 +44,20 @@ fn is_served(
     templates: &str,
     stream: &str,
     want: &str,
-) -> Result<(), Fail> {
+) {
+    let words = [
+        "fastcat",
+        command,
+        "--hex",
+        "--templates",
+        TEMPLATES,
+        STREAM,
+    ];
     let mut out = Vec::new(alloc);
     let mut err = Vec::new(alloc);
     let status = serve(
         alloc,
-        &[
-            "fastcat",
-            command,
-            "--hex",
-            "--templates",
-            TEMPLATES,
-            STREAM,
-        ],
+        &words,
         &mut Shelf {
             templates: whole(templates),
             stream: whole(stream),
@@ -67,10 +67,9 @@ fn is_served(
         &mut Counted::new(&mut err),
         TURNS,
     );
-    assert_eq!(rt; out.as_slice(), want.as_bytes(), "{command}");
-    assert!(rt; err.is_empty(), "{command}");
-    assert_eq!(rt; status, 0, "{command}");
-    Ok(())
+    same_of(rt, &words, out.as_slice(), want.as_bytes());
+    same_of(rt, &words, err.as_slice(), [].as_slice());
+    same_of(rt, &words, status, 0);
 }
 
 // An example, and the same of its canonical bytes.
@@ -81,16 +80,15 @@ fn example(
     stream: &str,
     lines: &str,
     canon: &str,
-) -> Result<(), Fail> {
-    for input in [stream, canon] {
-        is_served(rt, alloc, "show", templates, input, lines)?;
-        is_served(rt, alloc, "canon", templates, input, canon)?;
-    }
-    Ok(())
+) {
+    is_served(rt, alloc, "show", templates, stream, lines);
+    is_served(rt, alloc, "canon", templates, stream, canon);
+    is_served(rt, alloc, "show", templates, canon, lines);
+    is_served(rt, alloc, "canon", templates, canon, canon);
 }
 
 #[test]
-fn an_order_book(rt: HostRuntime) -> Result<(), Fail> {
+fn an_order_book(rt: HostRuntime) {
     let stream = "f0 81 81 45 d3 82 d0 80 1b 3b e9 8a c0 81 99\nf0 81 82 45 d3 81 d0 81 99 84\n";
     let lines = concat!(
         "1 Book Seq=1 Symbol=\"ES\" Entries=[{Side=0 Price=450025e-2 Size=10} ",
@@ -98,13 +96,13 @@ fn an_order_book(rt: HostRuntime) -> Result<(), Fail> {
         "1 Book Seq=2 Symbol=\"ES\" Entries=[{Side=1 Price=450075e-2 Size=4}]\n",
     );
     let canon = "f0818145d382d0801b3be98ac081998081909984\n";
-    example(&rt, rt.alloc(), BOOK, stream, lines, canon)?;
+    example(&rt, rt.alloc(), BOOK, stream, lines, canon);
     let told = "ok messages=2 bytes=25 canonical=20\n";
-    is_served(&rt, rt.alloc(), "check", BOOK, stream, told)
+    is_served(&rt, rt.alloc(), "check", BOOK, stream, told);
 }
 
 #[test]
-fn a_trade_feed(rt: HostRuntime) -> Result<(), Fail> {
+fn a_trade_feed(rt: HostRuntime) {
     let stream = concat!(
         "c0 82 10 27 33 c0 80 45 53 5a b6 fe 1b 3b e9\n",
         "b0 8f 80 80 80 99 01 fa 83 0a ff\n",
@@ -116,7 +114,7 @@ fn a_trade_feed(rt: HostRuntime) -> Result<(), Fail> {
         "2 Trade Time=34200015 Symbol=\"ESH7\" Price=450050e-2 Size=100 Buyer=x0aff\n",
     );
     let canon = "c082102733c08045535ab6fe1b3be9b08f8080809901fa830aff80808248b78080\n";
-    example(&rt, rt.alloc(), TRADE, stream, lines, canon)?;
+    example(&rt, rt.alloc(), TRADE, stream, lines, canon);
     let told = "ok messages=3 bytes=36 canonical=33\n";
-    is_served(&rt, rt.alloc(), "check", TRADE, stream, told)
+    is_served(&rt, rt.alloc(), "check", TRADE, stream, told);
 }

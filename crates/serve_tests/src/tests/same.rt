@@ -7,3 +7,13 @@ use std::process::Abort;
 pub(crate) fn same<T: PartialEq + Debug + Drop>(rt: &impl Abort, given: T, wanted: T) {
     assert_eq!(rt; given, wanted);
 }
+
+/// The same of a command line.
+pub(crate) fn same_of<T: PartialEq + Debug + Drop>(
+    rt: &impl Abort,
+    words: &[&str],
+    given: T,
+    wanted: T,
+) {
+    assert_eq!(rt; given, wanted, "{words:?}");
+}
