@@ -122,6 +122,24 @@ map_step front bits (suc (suc n)) from h =
     let e : suc (suc n) - 1 ≡ suc n = omega arith in
     rw e (append_assoc front (group_from bits from ∷ []) (map_of (suc n) bits (from + 7)))
 
+-- few bits stand in one group, and no map is shorter
+pub one_group : (bits : List Bool) → length bits ≤ 7 → IsShortest IsMap (map_of 1 bits 0) bits
+one_group bits few = record {
+  form = record {
+    entity = map_entity 1 bits 0 (omega arith);
+    short = omega arith;
+    value = λ i.
+        elim (cases_lt i 7) [
+          | inl less ↦ let e : 0 + i ≡ i = omega arith in map_bits 1 bits 0 i less ∙ ap (bit_at bits) e
+          | inr more ↦ past (map_of 1 bits 0) i more ∙ sym (get_or_past bits i false (omega arith))
+        ];
+  };
+  least = λ other f. omega (arith, entity_some other f.entity);
+}
+
+pub few_none : (bits : List Bool) → length bits ≤ 7 → HasSetBit (drop 1792 bits) → ⊥
+few_none bits few (i, set) = true≢false (sym (rw (← get_or-drop 1792 bits i false) set) ∙ get_or_past bits (1792 + i) false (omega arith))
+
 pub used_set : (bits : List Bool) (used m : ℕ) → IsUsed bits used → m < used → HasSetBit (drop m bits)
 used_set bits used m u h =
     let e : m + (used - 1 - m) ≡ used - 1 = omega arith in

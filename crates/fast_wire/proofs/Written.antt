@@ -1,5 +1,5 @@
 -- What a call that appends a form leaves, from what it appended.
-use Rattle.std.proofs.Common.{◌≡◌, ℕ, ℤ, ◌+◌, ◌^◌, ◌<◌, ◌≤◌, ◌++◌, List, [], length, Bool, Result, Ok, Err, Vec, Global, refl, sym, ap, subst, arith, inl, inr}
+use Rattle.std.proofs.Common.{◌≡◌, ℕ, ℤ, ◌+◌, ◌%◌, ◌^◌, ◌<◌, ◌≤◌, ◌++◌, List, [], ◌∷◌, length, Bool, Result, Ok, Err, Vec, Global, refl, sym, ap, subst, arith, inl, inr}
 use Rattle.std.specs.Int.{w64}
 use Rattle.std.specs.Prelude.{pos, negsuc}
 use mir.Val.{SFits}
@@ -9,14 +9,14 @@ use Rattle.fast_wire.specs.Integer.{IsSigned, IsUnsigned, magnitude}
 use Rattle.fast_wire.specs.Nullable.{IsSignedNullable, IsUnsignedNullable, sent_signed, sent_unsigned}
 use Rattle.fast_wire.specs.PresenceMap.{IsMap}
 use Rattle.fast_wire.specs.Sizes.{CanBeSigned, CanBeSignedNullable, CanBeVector}
-use Rattle.fast_wire.specs.Spellings.{Appends, IsOneGroup, IsLeastSignedSize, IsLeastSize, IsMapSize, IsUsed, entity_of, map_of, preamble_for, string_of}
+use Rattle.fast_wire.specs.Spellings.{Appends, IsOneGroup, IsLeastSignedSize, IsLeastSize, IsMapSize, IsUsed, entity_of, group_from, map_of, preamble_for, string_of}
 use Rattle.fast_wire.specs.Vector.{IsVector, IsVectorNullable}
 use Rattle.fast_wire.specs.Writing.{IsShortest, NeverRefused, NoText, OutOfRange, TooManyBits, TooManyBytes, Writes}
 use Rattle.fast_wire.specs.declared.fault.WireFault.{WireFault}
 use Rattle.fast_wire.specs.declared.nullable.Nullable.{Nullable}
 use Rattle.fast_wire.specs.declared.nullable.Nullable.TheVariants.{Null, Value}
 use Rattle.fast_wire.proofs.AsciiForms.{ascii_null_shortest, ascii_nullable_shortest, ascii_shortest}
-use Rattle.fast_wire.proofs.MapForms.{map_shortest, used_none}
+use Rattle.fast_wire.proofs.MapForms.{few_none, group_small, map_shortest, one_group, used_none}
 use Rattle.fast_wire.proofs.NullableForms.{sent_is}
 use Rattle.fast_wire.proofs.SignedForms.{lift, signed_most, signed_shortest}
 use Rattle.fast_wire.proofs.UnsignedForms.{entity_shortest}
@@ -79,6 +79,11 @@ null_vector_appended old new r a = appended IsVectorNullable TooManyBytes old ne
 pub map_appended : (old new : Vec ℕ Global) (bits : List Bool) (used size : ℕ) (r : Result (Unit {0}) WireFault) → IsUsed bits used → used ≤ 1792 → IsMapSize used size
     → Appends (map_of size bits 0) old new r → Writes IsMap TooManyBits old new bits r
 map_appended old new bits used size r u few h a = appended IsMap TooManyBits old new bits (map_of size bits 0) r (map_shortest bits used size u h) (λ e f. used_none bits used 1792 u few f.1) a
+
+pub group_appended : (old new : Vec ℕ Global) (bits : List Bool) (group : ℕ) (r : Result (Unit {0}) WireFault) → length bits ≤ 7 → group ≡ group_from bits 0 → Appends (entity_of 1 group) old new r → Writes IsMap TooManyBits old new bits r
+group_appended old new bits group r few same a =
+    let last : group % 128 + 128 ≡ group_from bits 0 + 128 = omega (arith, same, group_small bits 0) in
+    appended IsMap TooManyBits old new bits (map_of 1 bits 0) r (one_group bits few) (λ e f. few_none bits few f.1) (subst (λ (l : List ℕ). Appends l old new r) (ap (λ (g : ℕ). g ∷ []) last) a)
 
 -- ---- signed numbers
 

@@ -10,13 +10,16 @@ ghost use Rattle.fast_wire.specs.Spellings.{bit_number, group_from, map_of, IsUs
 
 use crate::bits::{LongBits, ShortBits};
 use crate::fault::WireFault;
-use crate::short_integer::short_entity;
+use crate::short_integer::{append_byte, short_entity};
 use crate::stop_bit::{STOP_BIT, entity_end};
 use std::alloc::Global;
 use std::marker::Model;
 
 /// The most bytes of a presence map.
 const MAP_LIMIT: usize = 256;
+
+/// The bits of a group.
+const GROUP_BITS: usize = 7;
 
 /// The bits of a presence map that are not yet taken, the most significant of a group first. Past their end
 /// every bit is 0. Those of a map of at most nine bytes stand in one word, those of a longer one in a copy.
@@ -147,6 +150,10 @@ fn group_at(bits: &[bool], from: usize) -> u8
 pub fn write_map(bits: &[bool], out: &mut Vec<u8>) -> Result<(), WireFault>
     ensures { Writes IsMap TooManyBits out.old out.new bits.now result }
 {
+    // most maps are one group, and need no look for the last 1
+    if bits.len() <= GROUP_BITS {
+        return append_byte(group_at(bits, 0), out);
+    }
     let used = used_bits(bits);
     if used > 7 * MAP_LIMIT {
         return Err(WireFault::TooLong);

@@ -225,7 +225,7 @@ fn read_long_signed_nullable(bytes: &[u8], at: usize) -> Result<(Nullable<i64>, 
 
 /// Appends an entity of one byte, or nothing.
 #[inline]
-fn append_byte(group: u8, out: &mut Vec<u8>) -> Result<(), WireFault>
+pub(crate) fn append_byte(group: u8, out: &mut Vec<u8>) -> Result<(), WireFault>
     requires { group < 128 }
     ensures { Appends (entity_of 1 group) out.old out.new result }
 {

@@ -3,8 +3,12 @@ use Rattle.fast_wire.specs.Writing.{TooManyBits}
 use Rattle.fast_wire.specs.declared.fault.WireFault.TheVariants as fault
 use Rattle.std.proofs.Common.{refl}
 use Rattle.fast_wire.proofs.MapForms.{used_set}
-use Rattle.fast_wire.proofs.Written.{map_appended, turned_away}
+use Rattle.fast_wire.proofs.Written.{group_appended, map_appended, turned_away}
 use Rattle.fast_wire.proofs.presence_map.write_map.Goals as goal
+
+pub returns-then-bits-le-GROUP_BITS : goal.returns-then-bits-le-GROUP_BITS
+returns-then-bits-le-GROUP_BITS c =
+    group_appended c.args.out.now c.append_byte.new.out c.args.bits.now c.group_at.result c.append_byte.result c.if-bits-le-GROUP_BITS.true c.group_at.ensures.value c.append_byte.ensures
 
 pub returns-then-used : goal.returns-then-used
 returns-then-used c =
