@@ -116,7 +116,7 @@ number_value kind.UInt64 p base v b i l s = number_delta_is_first kind.UInt64 p 
 number_value kind.Int64 p base v b i l s = number_delta_is_first kind.Int64 p base v b i l s
 number_value k p base v b i l s = absurd cc
 
-decimal_value : (k : Kind) (p : Presence) (base v : Scalar) (b : List ℕ) → k ≡ kind.Decimal → IsOfType k v → ShortestPair p (exponent_of v -ℤ exponent_of base) (mantissa_of v -ℤ mantissa_of base) b → IsFirst (λ c b. DeltaValue k p base c b v) b
+pub decimal_value : (k : Kind) (p : Presence) (base v : Scalar) (b : List ℕ) → k ≡ kind.Decimal → IsOfType k v → ShortestPair p (exponent_of v -ℤ exponent_of base) (mantissa_of v -ℤ mantissa_of base) b → IsFirst (λ c b. DeltaValue k p base c b v) b
 decimal_value kind.Decimal p base v b i l s = decimal_delta_is_first p base v b l s
 decimal_value k p base v b i l s = absurd cc
 

@@ -43,5 +43,8 @@ pub use passed::{Passed, fits, pass_left_out};
 pub use plan::{Plan, plan_field};
 pub use read::{find_field, read_field, read_in_place};
 pub use tail::{best_tail, read_tail};
-pub use whole::{read_string, write_signed, write_units, write_unsigned};
+pub use whole::{
+    exponent_within, mantissa_within, read_string, write_pair, write_signed, write_units,
+    write_unsigned,
+};
 pub use write::{write_field, write_found, write_in_place};

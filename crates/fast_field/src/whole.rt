@@ -214,8 +214,9 @@ pub(crate) fn value_of_units(kind: Kind, units: Vec<u8>) -> Result<Scalar, Field
     }
 }
 
-/// An exponent within its limit.
-pub(crate) fn exponent_within(exponent: i128) -> Option<i32>
+/// An exponent within its limit, -63 to 63; none where it is not.
+#[inline(always)]
+pub fn exponent_within(exponent: i128) -> Option<i32>
     ensures some { IfSome result (λ e. (e ≡ exponent) × (exponent_in_range exponent ≡ true)) }
     ensures none { IfNone result (exponent_in_range exponent ≡ false) }
 {
@@ -226,8 +227,9 @@ pub(crate) fn exponent_within(exponent: i128) -> Option<i32>
     }
 }
 
-/// A mantissa within its limit.
-pub(crate) fn mantissa_within(mantissa: i128) -> Option<i64>
+/// A mantissa within its limit, that of an int64; none where it is not.
+#[inline(always)]
+pub fn mantissa_within(mantissa: i128) -> Option<i64>
     ensures some { IfSome result (λ m. (m ≡ mantissa) × (in_range kind.Int64 mantissa ≡ true)) }
     ensures none { IfNone result (in_range kind.Int64 mantissa ≡ false) }
 {
@@ -488,8 +490,12 @@ pub(crate) fn size_pair(presence: Presence, exponent: i128, mantissa: i128) -> u
     size_signed(presence, exponent) + size_signed(Presence::Mandatory, mantissa)
 }
 
-/// Appends an exponent in the form of a presence and then a mantissa, or nothing.
-pub(crate) fn write_pair(
+/// Appends an exponent in the form of a presence and then a mantissa, each in its shortest form, or nothing.
+///
+/// # Errors
+///
+/// Memory: a growth was refused.
+pub fn write_pair(
     presence: Presence,
     exponent: i128,
     mantissa: i128,

@@ -1,3 +1,4 @@
 pub mod Relaying
 mod TextRelaying
 mod PlainTexts
+mod DecimalRelaying

@@ -127,7 +127,7 @@ unfolding row_at
 delta_row operator.Delta i e bytes o = refl
 delta_row o' i e bytes o = absurd cc
 
-added_back : (z d : ℤ) → d ≡ (z +ℤ d) -ℤ z
+pub added_back : (z d : ℤ) → d ≡ (z +ℤ d) -ℤ z
 added_back z d = omega (arith, ints)
 
 delta_first : (i : FieldPart) (v : Scalar) (z d : ℤ) (b : List ℕ) → IsNumberOf i.kind v z → IsNumber i.kind (z +ℤ d) → ShortestSigned i.presence d b → IsFirst (λ c b. DeltaForm i (Assigned v) c b (Some (of_integer i.kind (z +ℤ d)))) b

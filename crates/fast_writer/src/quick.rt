@@ -16,11 +16,11 @@ use crate::level::Level;
 use crate::relay::relay_entry;
 use fast_dictionary::{Entries, Entry};
 use fast_field::{FieldFault, Passed, pass_left_out};
-use fast_relay::{relay_number, relay_text};
+use fast_relay::{relay_decimal, relay_number, relay_text};
 use fast_template::{FieldPart, part_needs_bit};
 use std::alloc::Global;
 
-// Reads an integer, a constant, a string or a vector, and appends its best form; answers the place behind it. None:
+// Reads an integer, a constant, a string, a vector or a difference of decimals, and appends its best form; answers the place behind it. None:
 // nothing has changed, and the part goes the general way.
 #[inline(always)]
 fn relay_sent(
@@ -43,7 +43,10 @@ fn relay_sent(
         Some(next) => Some(next),
         None => match relay_text(alloc, part, entry, bytes, at, out) {
             Some(next) => Some(next),
-            None => None,
+            None => match relay_decimal(part, entry, bytes, at, out) {
+                Some(next) => Some(next),
+                None => None,
+            },
         },
     }
 }

@@ -2,6 +2,8 @@
 #![tactic(auto)]
 
 #[cfg(test)]
+mod decimals;
+#[cfg(test)]
 mod fields;
 #[cfg(test)]
 mod numbers;

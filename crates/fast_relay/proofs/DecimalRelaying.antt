@@ -1,0 +1,113 @@
+-- What decimals that are read and written at once rest on.
+use Rattle.std.proofs.Common.{◌≡◌, ◌≤◌, ℕ, nat_le, Bool, true, false, List, ◌++◌, Result, Ok, Err, refl, sym, ap, subst, ◌∙◌, arith}
+use Rattle.std.specs.Prelude.{ℤ, pos, negsuc, ◌&&◌, ◌^◌, ◌<ℤ◌, ◌+ℤ◌, ◌-ℤ◌, Option, Some, IsTrue}
+use Rattle.std.proofs.lemmas.Int.{ints}
+use Rattle.std.proofs.lemmas.Bool.Decides.{nat_tests}
+use Rattle.std.specs.Int.{w32, w64}
+use Rattle.std.specs.Int.RustNames.{FitsSigned}
+use Rattle.fast_wire.specs.Reading.{◌>>=◌, signed_at}
+use Rattle.fast_wire.specs.declared.nullable.Nullable.{Nullable}
+use Rattle.fast_wire.specs.declared.nullable.Nullable.TheVariants.{Null, Value}
+use Rattle.fast_value.specs.Scalar.{exponent_in_range, in_range}
+use Rattle.fast_value.specs.declared.kind.Kind.{Kind}
+use Rattle.fast_value.specs.declared.kind.Kind.TheVariants as kind
+use Rattle.fast_value.specs.declared.kind.Operator.{Operator}
+use Rattle.fast_value.specs.declared.kind.Operator.TheVariants as operator
+use Rattle.fast_value.specs.declared.kind.Part.TheVariants as part
+use Rattle.fast_value.specs.declared.kind.Presence.TheVariants.{Mandatory}
+use Rattle.fast_template.specs.declared.resolved.FieldPart.{FieldPart}
+use Rattle.fast_value.specs.declared.scalar.Scalar.TheVariants.{Decimal}
+use Rattle.fast_dictionary.specs.declared.entry.Entry.{Entry}
+use Rattle.fast_dictionary.specs.declared.entry.Entry.TheVariants.{Assigned}
+use Rattle.fast_field.specs.Bases.{next}
+use Rattle.fast_field.specs.Chosen.{IsSmall, ShortestPair}
+use Rattle.fast_field.specs.Deltas.{DeltaForm}
+use Rattle.fast_field.specs.FieldReading.{decimal_delta_at, decimal_value, delta_at, in_field, integer_at, mantissa_delta_behind, row_at}
+use Rattle.fast_field.specs.Fields.{FormOf}
+use Rattle.fast_field.specs.declared.fault.FieldFault.{FieldFault}
+use Rattle.fast_field.specs.declared.fault.FieldFault.TheVariants as fault
+use Rattle.fast_field.proofs.BestDeltas.{IsFirst}
+use Rattle.fast_field.proofs.BestValues.{delta_is_first}
+use Rattle.fast_field.proofs.ChosenForms.{decimal_value as decimal_is_first}
+use Rattle.fast_field.proofs.ValuesWithin.{IsOfType}
+use Rattle.fast_relay.specs.Numbers.{Spelt}
+use Rattle.fast_relay.specs.Relayed.{Relays}
+use Rattle.fast_relay.proofs.Relaying.{added_back, base_is, delta_out, delta_row, relays}
+
+-- a number of 64 bits can be sent
+pub small : (z : ℤ) → negsuc (2 ^ 64) <ℤ z → z <ℤ pos (2 ^ 64) → IsSmall z
+small (pos n) above below = omega (arith, ints, below)
+small (negsuc n) above below = omega (arith, ints, above)
+
+-- the parts of a decimal fit their types
+both : (a b : Bool) → (a && b) ≡ true → (a ≡ true) × (b ≡ true)
+both true true e = (refl, refl)
+both true false e = absurd cc
+both false b e = absurd cc
+
+at_most : (m n : ℕ) → nat_le m n ≡ true → m ≤ n
+at_most m n h = grind (arith, nat_tests)
+
+pub exponent_fits : (z : ℤ) → exponent_in_range z ≡ true → FitsSigned w32 z
+exponent_fits (pos n) h = let le = at_most n 63 h in omega (arith, ints, le)
+exponent_fits (negsuc n) h = let le = at_most n 62 (both (nat_le n 62) true h).0 in omega (arith, ints, le)
+
+pub mantissa_fits : (z : ℤ) → in_range kind.Int64 z ≡ true → FitsSigned w64 z
+mantissa_fits (pos n) h = let le = at_most n 9223372036854775807 h in omega (arith, ints, le)
+mantissa_fits (negsuc n) h = let le = at_most n 9223372036854775807 (both (nat_le n 9223372036854775807) true h).0 in omega (arith, ints, le)
+
+-- a number that is spelled is read
+not_null : Result (Nullable ℤ × List ℕ) FieldFault → Result (ℤ × List ℕ) FieldFault
+not_null (Ok (Value z, rest)) = Ok (z, rest)
+not_null (Ok (Null, rest)) = Err fault.R1
+not_null (Err f) = Err f
+
+stays : (r : Result (ℤ × List ℕ) FieldFault) → not_null (r >>= λ x. Ok (Value x.0, x.1)) ≡ r
+unfolding not_null
+stays (Ok (z, rest)) = refl
+stays (Err f) = refl
+
+signed_read : (bytes rest : List ℕ) (z : ℤ) → Spelt false Mandatory bytes z rest → in_field (signed_at bytes) ≡ Ok (z, rest)
+unfolding integer_at not_null
+signed_read bytes rest z h = sym (stays (in_field (signed_at bytes))) ∙ ap not_null h
+
+delta_as : (k : Kind) (i : FieldPart) (e : Entry) (bytes : List ℕ) → k ≡ kind.Decimal → delta_at k i e bytes ≡ decimal_delta_at i e bytes
+unfolding delta_at
+delta_as kind.Decimal i e bytes h = refl
+delta_as k i e bytes h = absurd cc
+
+delta_read : (i : FieldPart) (x m dx dm : ℤ) (bytes mid rest : List ℕ) → i.kind ≡ kind.Decimal → Spelt false i.presence bytes dx mid → exponent_in_range (x +ℤ dx) ≡ true → Spelt false Mandatory mid dm rest → in_range kind.Int64 (m +ℤ dm) ≡ true
+    → decimal_delta_at i (Assigned (Decimal x m)) bytes ≡ Ok (Some (Decimal (x +ℤ dx) (m +ℤ dm)), rest)
+unfolding decimal_delta_at mantissa_delta_behind decimal_value
+delta_read i x m dx dm bytes mid rest k exponent near mantissa fits =
+    rw (exponent, base_is i (Decimal x m) (rw k refl), near, signed_read mid rest dm mantissa, fits) refl
+
+of_type : (k : Kind) (e m : ℤ) → k ≡ kind.Decimal → exponent_in_range e ≡ true → in_range kind.Int64 m ≡ true → IsOfType k (Decimal e m)
+of_type k e m same near fits = subst (λ (k : Kind). IsOfType k (Decimal e m)) (sym same) (refl, (near, fits))
+
+delta_first : (i : FieldPart) (x m dx dm : ℤ) (b : List ℕ) → i.kind ≡ kind.Decimal → exponent_in_range (x +ℤ dx) ≡ true → in_range kind.Int64 (m +ℤ dm) ≡ true → ShortestPair i.presence dx dm b
+    → IsFirst (λ c b. DeltaForm i (Assigned (Decimal x m)) c b (Some (Decimal (x +ℤ dx) (m +ℤ dm)))) b
+delta_first i x m dx dm b k near fits s =
+    let base = Decimal x m in
+    let v = Decimal (x +ℤ dx) (m +ℤ dm) in
+    let one = subst (λ (e : ℤ). ShortestPair i.presence e dm b) (added_back x dx) s in
+    let both = subst (λ (z : ℤ). ShortestPair i.presence ((x +ℤ dx) -ℤ x) z b) (added_back m dm) one in
+    delta_is_first i (Assigned base) base v b (base_is i base (rw k refl)) (decimal_is_first i.kind i.presence base v b k (of_type i.kind (x +ℤ dx) (m +ℤ dm) k near fits) both)
+
+assigned_relays : (i : FieldPart) (new : Entry) (x m dx dm : ℤ) (bytes mid rest before after : List ℕ) → i.kind ≡ kind.Decimal → i.operator ≡ operator.Delta → i.part ≡ part.Whole → Spelt false i.presence bytes dx mid → exponent_in_range (x +ℤ dx) ≡ true → Spelt false Mandatory mid dm rest
+    → in_range kind.Int64 (m +ℤ dm) ≡ true → new ≡ Assigned (Decimal (x +ℤ dx) (m +ℤ dm)) → (b : List ℕ) × (after ≡ before ++ b) × ShortestPair i.presence dx dm b → Relays i (Assigned (Decimal x m)) new (Decimal (x +ℤ dx) (m +ℤ dm)) bytes rest before after
+assigned_relays i new x m dx dm bytes mid rest before after k o p exponent near mantissa fits entry appended =
+    let old = Assigned (Decimal x m) in
+    let v = Decimal (x +ℤ dx) (m +ℤ dm) in
+    let last : next i old (Some v) ≡ Assigned v = rw o refl in
+    relays i old new v bytes rest before after (ShortestPair i.presence dx dm) (rw k refl) (rw p refl)
+    (delta_row i.operator i old bytes o ∙ delta_as i.kind i old bytes k ∙ delta_read i x m dx dm bytes mid rest k exponent near mantissa fits)
+    (entry ∙ sym last)
+    (delta_out i old (Some v) o)
+    (λ b s. subst (λ (o : Operator). IsFirst (λ c b. FormOf o i old true c b (Some v)) b) (sym o) (delta_first i x m dx dm b k near fits s))
+    appended
+
+pub decimal_relays : (i : FieldPart) (old new : Entry) (x m dx dm : ℤ) (bytes mid rest before after : List ℕ) → old ≡ Assigned (Decimal x m) → i.kind ≡ kind.Decimal → i.operator ≡ operator.Delta → i.part ≡ part.Whole → Spelt false i.presence bytes dx mid → exponent_in_range (x +ℤ dx) ≡ true
+    → Spelt false Mandatory mid dm rest → in_range kind.Int64 (m +ℤ dm) ≡ true → new ≡ Assigned (Decimal (x +ℤ dx) (m +ℤ dm)) → (b : List ℕ) × (after ≡ before ++ b) × ShortestPair i.presence dx dm b → Relays i old new (Decimal (x +ℤ dx) (m +ℤ dm)) bytes rest before after
+decimal_relays i old new x m dx dm bytes mid rest before after is k o p exponent near mantissa fits entry appended =
+    subst (λ (e : Entry). Relays i e new (Decimal (x +ℤ dx) (m +ℤ dm)) bytes rest before after) (sym is) (assigned_relays i new x m dx dm bytes mid rest before after k o p exponent near mantissa fits entry appended)
