@@ -1,6 +1,6 @@
 -- What decimals that are read and written at once rest on.
 use Rattle.std.proofs.Common.{◌≡◌, ◌≤◌, ℕ, nat_le, Bool, true, false, List, ◌++◌, Result, Ok, Err, refl, sym, ap, subst, ◌∙◌, arith}
-use Rattle.std.specs.Prelude.{ℤ, pos, negsuc, ◌&&◌, ◌^◌, ◌<ℤ◌, ◌+ℤ◌, ◌-ℤ◌, Option, Some, IsTrue}
+use Rattle.std.specs.Prelude.{ℤ, pos, negsuc, ◌&&◌, ◌^◌, ◌<ℤ◌, ◌+ℤ◌, ◌-ℤ◌, Some}
 use Rattle.std.proofs.lemmas.Int.{ints}
 use Rattle.std.proofs.lemmas.Bool.Decides.{nat_tests}
 use Rattle.std.specs.Int.{w32, w64}
@@ -22,7 +22,7 @@ use Rattle.fast_dictionary.specs.declared.entry.Entry.TheVariants.{Assigned}
 use Rattle.fast_field.specs.Bases.{next}
 use Rattle.fast_field.specs.Chosen.{IsSmall, ShortestPair}
 use Rattle.fast_field.specs.Deltas.{DeltaForm}
-use Rattle.fast_field.specs.FieldReading.{decimal_delta_at, decimal_value, delta_at, in_field, integer_at, mantissa_delta_behind, row_at}
+use Rattle.fast_field.specs.FieldReading.{decimal_delta_at, decimal_value, delta_at, in_field, integer_at, mantissa_delta_behind}
 use Rattle.fast_field.specs.Fields.{FormOf}
 use Rattle.fast_field.specs.declared.fault.FieldFault.{FieldFault}
 use Rattle.fast_field.specs.declared.fault.FieldFault.TheVariants as fault
