@@ -6,16 +6,16 @@ use Rattle.fast_dictionary.specs.Dictionary.{Dictionary}
 use Rattle.fast_dictionary.specs.declared.entries.Entries.{Ghosts}
 use Rattle.fast_decoder.specs.declared.input.Reached.{Reached}
 use Rattle.fast_decoder.specs.declared.input.Reached.TheVariants as reached
-use Rattle.fast_stream.specs.declared.machine.Machine.{Machine}
-use Rattle.fast_stream.specs.declared.receiver.Receiver.{Ghosts as Receiving}
+use Rattle.fast_machine.specs.declared.machine.Machine.{Machine}
+use Rattle.fast_walk.specs.declared.receiver.Receiver.{Ghosts as Receiving}
 use Rattle.fast_decoder.specs.Inputs.{HasReached}
 use Rattle.fast_stream.specs.declared.fault.Fault.{Fault}
-use Rattle.fast_stream.specs.declared.traversal.Traversal.{Traversal}
+use Rattle.fast_walk.specs.declared.traversal.Traversal.{Traversal}
 use Rattle.fast_stream.specs.Nodes.{Content}
-use Rattle.fast_stream.specs.Standing.{Carried, ReadsOn}
-use Rattle.fast_stream.specs.Following.{FollowsAt}
-use Rattle.fast_stream.proofs.Followings.{all_carried, has_ended}
-use Rattle.fast_stream.proofs.Standings.{carried_of}
+use Rattle.fast_machine.specs.Standing.{Carried, ReadsOn}
+use Rattle.fast_machine.specs.Following.{FollowsAt}
+use Rattle.fast_machine.proofs.Followings.{all_carried, has_ended}
+use Rattle.fast_machine.proofs.Standings.{carried_of}
 use Rattle.fast_canon.specs.Relays.{Relays}
 use Rattle.fast_canon.specs.declared.summary.Summary.{Summary}
 use Rattle.fast_canon.proofs.StreamLaws.{none_shorter}

@@ -7,7 +7,7 @@ use Rattle.fast_stream.specs.Nodes.{Content}
 use Rattle.fast_io.specs.Counts.{counted}
 use Rattle.fast_decoder.specs.declared.input.Reached.TheVariants as reached
 use Rattle.fast_decoder.specs.Inputs.{EndsWith, IsCaused, Reader, Refuses}
-use Rattle.fast_stream.specs.Standing.{Carried}
+use Rattle.fast_machine.specs.Standing.{Carried}
 use Rattle.fast_writer.specs.Canonical.{IsCanonical}
 use Rattle.fast_canon.specs.declared.fault.CanonFault.{CanonFault}
 use Rattle.fast_canon.specs.declared.fault.CanonFault.TheVariants as refusal

@@ -5,12 +5,12 @@ use Rattle.fast_template.specs.TemplateSets.{templates_in}
 use Rattle.fast_dictionary.specs.declared.entries.Entries.{Ghosts}
 use Rattle.fast_decoder.specs.declared.input.Reached.{Reached}
 use Rattle.fast_decoder.specs.declared.input.Reached.TheVariants as reached
-use Rattle.fast_stream.specs.declared.machine.Machine.{Machine}
-use Rattle.fast_stream.specs.declared.receiver.Receiver.{Ghosts as Receiving}
+use Rattle.fast_machine.specs.declared.machine.Machine.{Machine}
+use Rattle.fast_walk.specs.declared.receiver.Receiver.{Ghosts as Receiving}
 use Rattle.fast_stream.specs.Nodes.{Content}
-use Rattle.fast_stream.specs.Following.{Counts, Follows}
+use Rattle.fast_machine.specs.Following.{Counts, Follows}
 use Rattle.fast_decoder.specs.Inputs.{HasReached, IsCaused, Reader, Reads}
-use Rattle.fast_stream.specs.Standing.{Carried}
+use Rattle.fast_machine.specs.Standing.{Carried}
 use Rattle.fast_writer.specs.declared.writer.Writer.{Writer}
 use Rattle.fast_writer.specs.Canonical.{IsCanonical}
 use Rattle.fast_writer.specs.Written.{handed_on}

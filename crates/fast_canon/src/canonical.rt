@@ -12,7 +12,7 @@ use crate::summary::Summary;
 use fast_decoder::Reached;
 use fast_dictionary::SlotEntries;
 use fast_io::{ByteInput, ByteOutput};
-use fast_stream::Machine;
+use fast_machine::Machine;
 use fast_template::TemplateSet;
 use fast_writer::Writer;
 use std::alloc::Global;

@@ -13,7 +13,8 @@ ghost use Rattle.fast_canon.specs.Relays.{Broken, Relayed, Relays};
 use fast_decoder::Reached;
 use fast_dictionary::Entries;
 use fast_io::{ByteInput, ByteOutput, Failed, push_all};
-use fast_stream::{Cause, Machine};
+use fast_machine::Machine;
+use fast_stream::Cause;
 use fast_writer::Writer;
 
 /// The most bytes that one read takes.

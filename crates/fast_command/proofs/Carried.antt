@@ -23,12 +23,12 @@ use Rattle.fast_field.proofs.PartsOfSets.{parts_of_sets}
 use Rattle.fast_stream.specs.Bits.{bit_for}
 use Rattle.fast_stream.specs.Bodies.{State, Each, SegmentBy, PartBy, PieceBy, BodyBy}
 use Rattle.fast_stream.specs.Nodes.{Content, Elements, no_elements, then_element, element_count, Item, single, group_items, sequence_elements, Items, no_items, then_item}
-use Rattle.fast_stream.specs.Standing.{Carried}
+use Rattle.fast_machine.specs.Standing.{Carried}
 use Rattle.fast_stream.specs.Streams.{AnyMap, BodyOfBy, CarriesFrom, MessageForm, identifier, members_of}
 use Rattle.fast_stream.proofs.FoundMembers.{members_have}
-use Rattle.fast_stream.proofs.Serving.{found_members}
+use Rattle.fast_walk.proofs.Serving.{found_members}
 use Rattle.fast_canon.proofs.Entries.{HoldScalars, empty_holds, written_holds}
-use Rattle.fast_command.specs.Lines.{absent_text, decimal_text, elements_text, field_text, joined, labelled, line_if, line_in, members_text, node_text, scalar_text, value_text}
+use Rattle.fast_lines.specs.Lines.{absent_text, decimal_text, elements_text, field_text, joined, labelled, line_if, line_in, members_text, node_text, scalar_text, value_text}
 use Rattle.fast_command.specs.Run.{lines_in}
 
 -- there is a text

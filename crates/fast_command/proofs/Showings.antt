@@ -8,19 +8,19 @@ use Rattle.fast_dictionary.specs.declared.entries.Entries.{Ghosts}
 use Rattle.fast_decoder.specs.declared.builder.Builder.{Builder}
 use Rattle.fast_decoder.specs.declared.input.Reached.{Reached}
 use Rattle.fast_decoder.specs.declared.input.Reached.TheVariants as reached
-use Rattle.fast_stream.specs.declared.machine.Machine.{Machine}
+use Rattle.fast_machine.specs.declared.machine.Machine.{Machine}
 use Rattle.fast_stream.specs.declared.message.Message.{Message}
-use Rattle.fast_stream.specs.declared.receiver.Receiver.{Ghosts as Receiving}
+use Rattle.fast_walk.specs.declared.receiver.Receiver.{Ghosts as Receiving}
 use Rattle.fast_decoder.specs.Inputs.{Reader}
-use Rattle.fast_stream.specs.Standing.{Carried, ReadsOn}
-use Rattle.fast_stream.proofs.Followings.{all_carried}
-use Rattle.fast_stream.proofs.Standings.{carried_of}
+use Rattle.fast_machine.specs.Standing.{Carried, ReadsOn}
+use Rattle.fast_machine.proofs.Followings.{all_carried}
+use Rattle.fast_machine.proofs.Standings.{carried_of}
 use Rattle.fast_stream.specs.Nodes.{Content, content_of}
 use Rattle.fast_canon.specs.Canonicalised.{IsCausedBy}
 use Rattle.fast_canon.specs.declared.fault.CanonFault.{CanonFault}
 use Rattle.fast_canon.specs.declared.summary.Summary.{Summary}
 use Rattle.fast_canon.specs.declared.fault.CanonFault.TheVariants as refusal
-use Rattle.fast_command.specs.Lines.{joined, line_in}
+use Rattle.fast_lines.specs.Lines.{joined, line_in}
 use Rattle.fast_io.specs.Traffic.{Taken}
 use Rattle.fast_command.specs.Run.{Shows, ShowsFront, TellsFront, lines_in, ok_line}
 use Rattle.fast_command.specs.Shown.{Adds, Holds, IsCutShort, IsOwn, Stands, lines_of}

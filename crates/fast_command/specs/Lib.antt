@@ -1,4 +1,2 @@
 pub mod Run
-pub mod Lines
-pub mod Written
 pub mod Shown

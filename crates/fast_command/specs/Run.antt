@@ -1,17 +1,17 @@
 -- What a command writes of a stream, and what its run answers.
-use Rattle.std.specs.Prelude.{◌≡◌, ◌⊎◌, ℕ, List, [], ◌∷◌, ◌++◌, length, codes, decimal, Option, None, Some, Result, Ok, Err}
+use Rattle.std.specs.Prelude.{◌≡◌, ◌⊎◌, ℕ, List, [], ◌∷◌, ◌++◌, length, Option, None, Some, Result, Ok, Err}
 use Rattle.std.specs.Io.KnownBytes.{Appends}
 use Rattle.fast_io.specs.Counts.{counted_by}
 use Rattle.fast_template.specs.TemplateSets.{TemplateList, templates_in}
 use Rattle.fast_stream.specs.declared.fault.Fault.{Fault}
 use Rattle.fast_stream.specs.Nodes.{Content}
 use Rattle.fast_decoder.specs.Inputs.{EndsWith, Refuses}
-use Rattle.fast_stream.specs.Standing.{Carried}
+use Rattle.fast_machine.specs.Standing.{Carried}
 use Rattle.fast_canon.specs.Canonicalised.{Canonicalises, Ends, Stops}
 use Rattle.fast_canon.specs.declared.fault.CanonFault.{CanonFault}
 use Rattle.fast_canon.specs.declared.fault.CanonFault.TheVariants as refusal
 use Rattle.fast_canon.specs.declared.summary.Summary.{Summary}
-use Rattle.fast_command.specs.Lines.{joined, line_in}
+use Rattle.fast_lines.specs.Lines.{joined, line_in, ok_text}
 use Rattle.fast_command.specs.declared.command.Command.{Command}
 use Rattle.fast_command.specs.declared.command.Command.TheVariants.{Show, Check, Canon}
 
@@ -58,8 +58,7 @@ Shows set turns left taken_old taken_new input (Err f) = ShowsFront set taken_ol
 
 -- what a check says that ended well
 abbrev pub ok_line : Summary → List ℕ
-ok_line s =
-    codes "ok messages=" ++ decimal s.messages ++ codes " bytes=" ++ decimal s.read ++ codes " canonical=" ++ decimal s.written ++ codes "\n"
+ok_line s = ok_text s.messages s.read s.written
 
 -- A write failed or memory was refused: a front was written of what a check says, and nothing where it did not end well.
 pub record TellsFront (set : TemplateList) (left taken_old taken_new : Option (List ℕ)) (input : List ℕ) : Type 0 where

@@ -7,11 +7,11 @@ use Rattle.fast_dictionary.specs.declared.entries.Entries.{Ghosts}
 use Rattle.fast_decoder.specs.declared.builder.Builder.{Builder}
 use Rattle.fast_decoder.specs.declared.input.Reached.{Reached}
 use Rattle.fast_decoder.specs.declared.input.Reached.TheVariants as reached
-use Rattle.fast_stream.specs.declared.machine.Machine.{Machine}
+use Rattle.fast_machine.specs.declared.machine.Machine.{Machine}
 use Rattle.fast_stream.specs.declared.message.Message.{Message}
-use Rattle.fast_stream.specs.declared.receiver.Receiver.{Ghosts as Receiving}
+use Rattle.fast_walk.specs.declared.receiver.Receiver.{Ghosts as Receiving}
 use Rattle.fast_stream.specs.Nodes.{Content, content_of}
-use Rattle.fast_stream.specs.Following.{Counts, Follows}
+use Rattle.fast_machine.specs.Following.{Counts, Follows}
 use Rattle.fast_decoder.specs.Inputs.{HasReached, IsCaused, Reader, Reads}
 use Rattle.fast_canon.specs.declared.fault.CanonFault.{CanonFault}
 use Rattle.fast_canon.specs.declared.fault.CanonFault.TheVariants as refusal

@@ -2,9 +2,8 @@
 #![tactic(auto)]
 
 mod command;
-mod lines;
 mod shown;
 mod told;
 
 pub use command::{Command, run};
-pub use lines::{ShowFault, show_line};
+pub use fast_lines::{ShowFault, show_line};

@@ -5,7 +5,7 @@ ghost use Rattle.std.specs.Io.KnownBytes.{Appends};
 ghost use Rattle.fast_io.specs.Counts.{counted_by};
 ghost use Rattle.fast_io.specs.Traffic.{CountsError, Taken};
 ghost use Rattle.fast_template.specs.TemplateSets.{IsSound, templates_in};
-ghost use Rattle.fast_stream.specs.Following.{Follows};
+ghost use Rattle.fast_machine.specs.Following.{Follows};
 ghost use Rattle.fast_stream.specs.Nodes.{Content, content_of};
 ghost use Rattle.fast_decoder.specs.Inputs.{HasReached, IsCaused, OnFault, Reads, reader_by};
 ghost use Rattle.fast_decoder.specs.declared.input.Reached.TheVariants as reached;
@@ -13,12 +13,13 @@ ghost use Rattle.fast_canon.specs.Canonicalised.{FlushesOnce, IsCausedBy, errors
 ghost use Rattle.fast_command.specs.Run.{Shows};
 ghost use Rattle.fast_command.specs.Shown.{Adds, Broken, IsCutShort, IsOwn, Relayed, Stands, errors_by, lines_of};
 
-use crate::lines::show_line;
 use fast_canon::{CanonFault, Summary};
 use fast_decoder::{Builder, Reached};
 use fast_dictionary::{Entries, SlotEntries};
 use fast_io::{ByteInput, ByteOutput, Failed, push_all};
-use fast_stream::{Cause, Machine, Message};
+use fast_lines::show_line;
+use fast_machine::Machine;
+use fast_stream::{Cause, Message};
 use fast_template::TemplateSet;
 use std::alloc::Global;
 

@@ -5,9 +5,9 @@ ghost use Rattle.fast_decoder.specs.Inputs.{Reads, reader_by};
 ghost use Rattle.fast_canon.specs.Canonicalised.{FlushesOnce, IsCausedBy, errors_after};
 ghost use Rattle.fast_command.specs.Run.{Tells};
 
-use crate::lines::push_ok_line;
 use fast_canon::{CanonFault, Summary, check};
 use fast_io::{ByteInput, ByteOutput, write_all};
+use fast_lines::push_ok_line;
 use fast_template::TemplateSet;
 use std::alloc::Global;
 
@@ -42,7 +42,7 @@ pub(crate) fn tell<R: ByteInput, W: ByteOutput>(
         Err(CanonFault::Write | CanonFault::Memory) => Err(CanonFault::Memory),
         Ok(summary) => {
             let mut line = Vec::new(alloc);
-            match push_ok_line(&summary, &mut line) {
+            match push_ok_line(summary.messages, summary.read, summary.written, &mut line) {
                 Err(_) => Err(CanonFault::Memory),
                 Ok(()) => match write_all(writer, &line) {
                     Err(_) => Err(CanonFault::Write),

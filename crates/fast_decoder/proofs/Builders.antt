@@ -7,16 +7,16 @@ use Rattle.fast_dictionary.specs.Dictionary.{Dictionary}
 use Rattle.fast_decoder.specs.declared.builder.Builder.{Builder}
 use Rattle.fast_stream.specs.declared.fault.Fault.{Fault}
 use Rattle.fast_stream.specs.declared.message.Message.{Message}
-use Rattle.fast_stream.specs.declared.traversal.Stage.{Stage}
-use Rattle.fast_stream.specs.declared.traversal.Stage.TheVariants as stage
-use Rattle.fast_stream.specs.declared.traversal.Traversal.{Traversal}
+use Rattle.fast_walk.specs.declared.traversal.Stage.{Stage}
+use Rattle.fast_walk.specs.declared.traversal.Stage.TheVariants as stage
+use Rattle.fast_walk.specs.declared.traversal.Traversal.{Traversal}
 use Rattle.fast_stream.specs.Nodes.{Content, content_of}
-use Rattle.fast_stream.specs.OpenSegments.{Reading, Next, at_instruction, at_mantissa, at_element}
-use Rattle.fast_stream.specs.Received.{Received, behind}
+use Rattle.fast_walk.specs.OpenSegments.{Reading, Next, at_instruction, at_mantissa, at_element}
+use Rattle.fast_walk.specs.Received.{Received, behind}
 use Rattle.fast_decoder.specs.Built.{IsBuilt, IsNextBuilt, with_whole}
-use Rattle.fast_stream.specs.Following.{FollowsAt}
-use Rattle.fast_stream.specs.Traversals.{ContinuesAt}
-use Rattle.fast_stream.proofs.Followings.{follows_behind}
+use Rattle.fast_machine.specs.Following.{FollowsAt}
+use Rattle.fast_walk.specs.Traversals.{ContinuesAt}
+use Rattle.fast_machine.proofs.Followings.{follows_behind}
 
 abbrev pub BuilderHas : Builder → Received → Dictionary → Type 0
 BuilderHas b o d = IsBuilt b o

@@ -16,15 +16,15 @@ use Rattle.fast_stream.specs.declared.message.Message.{Message}
 use Rattle.fast_template.specs.TemplateSets.{templates_in}
 use Rattle.fast_dictionary.specs.declared.entries.Entries.{Ghosts}
 use Rattle.fast_stream.specs.Nodes.{Content, content_of}
-use Rattle.fast_stream.specs.Following.{Follows as HasFed, IsCutAt}
+use Rattle.fast_machine.specs.Following.{Follows as HasFed, IsCutAt}
 use Rattle.fast_stream.specs.Faults.{FirstFault}
-use Rattle.fast_stream.specs.Standing.{Carried, ReadsOn}
+use Rattle.fast_machine.specs.Standing.{Carried, ReadsOn}
 use Rattle.fast_decoder.proofs.Builders.{BuilderHas, BuilderStands}
 use Rattle.fast_decoder.specs.Inputs.{Causes, Follows, HasReached, IsCaused, IsFaultOf, OnFault, Reader, Reads, RefusedBy, Refuses, Stands, waiting_in}
 use Rattle.fast_stream.specs.Streams.{CarriesFrom}
 use Rattle.fast_dictionary.specs.Dictionary.{Dictionary}
-use Rattle.fast_stream.proofs.Standings.{carried_of}
-use Rattle.fast_stream.proofs.Followings.{all_carried}
+use Rattle.fast_machine.proofs.Standings.{carried_of}
+use Rattle.fast_machine.proofs.Followings.{all_carried}
 use Rattle.fast_stream.proofs.Causes.{IsOfBytes, of_stream}
 
 by_bytes : (c : Cause) (set : List Resolved) (turns : ℕ) (left : Option (List ℕ)) (bytes : List ℕ) (place : Place) → c ≢ cause.Truncated → (c ≢ cause.Memory → FirstFault set bytes place c)

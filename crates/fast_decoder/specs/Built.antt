@@ -6,8 +6,8 @@ use Rattle.fast_stream.specs.declared.message.Node.{Node}
 use Rattle.fast_decoder.specs.declared.builder.Level.{Level}
 use Rattle.fast_decoder.specs.declared.builder.Builder.{Builder}
 use Rattle.fast_stream.specs.Nodes.{Item, Items, items_of, item_of, content_of}
-use Rattle.fast_stream.specs.OpenSegments.{Inside, in_group, in_sequence, Waiting, Next, at_instruction, at_mantissa, at_element}
-use Rattle.fast_stream.specs.Received.{Received}
+use Rattle.fast_walk.specs.OpenSegments.{Inside, in_group, in_sequence, Waiting, Next, at_instruction, at_mantissa, at_element}
+use Rattle.fast_walk.specs.Received.{Received}
 
 -- the elements of a sequence that are built
 abbrev pub elements_built : List (Vec Node) → List Items

@@ -16,8 +16,8 @@ use Rattle.fast_decoder.specs.declared.decoder.Decoder.{Decoder}
 use Rattle.fast_stream.specs.Nodes.{Content, content_of}
 use Rattle.fast_stream.specs.Streams.{Carries}
 use Rattle.fast_stream.specs.Faults.{FirstFault, EndsBetween}
-use Rattle.fast_stream.specs.Standing.{Carried}
-use Rattle.fast_stream.specs.Following.{Follows as HasFed}
+use Rattle.fast_machine.specs.Standing.{Carried}
+use Rattle.fast_machine.specs.Following.{Follows as HasFed}
 
 -- what a reader tells of itself: the bytes left where they are told, how many calls were made, how many of them
 -- failed, and how many met the end

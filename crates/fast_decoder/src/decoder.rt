@@ -4,12 +4,13 @@ ghost use Rattle.std.specs.Prelude.{◌≡◌, ◌≢◌, ◌≤◌, ◌+◌, �
 ghost use Rattle.fast_template.specs.TemplateSets.{templates_in};
 ghost use Rattle.fast_stream.specs.Nodes.{Content, content_of};
 ghost use Rattle.fast_stream.specs.Streams.{Carries};
-ghost use Rattle.fast_stream.specs.Following.{IsHeld};
-ghost use Rattle.fast_stream.specs.Traversals.{ServesAll};
+ghost use Rattle.fast_machine.specs.Following.{IsHeld};
+ghost use Rattle.fast_walk.specs.Traversals.{ServesAll};
 
 use crate::builder::Builder;
 use fast_dictionary::Entries;
-use fast_stream::{Cause, Fault, Machine, Message};
+use fast_machine::Machine;
+use fast_stream::{Cause, Fault, Message};
 use fast_template::TemplateSet;
 use std::alloc::Global;
 
@@ -23,7 +24,7 @@ pub struct Decoder<'a, E: Entries> {
 }
 
 impl<'a, E: Entries> Decoder<'a, E> {
-    ghost use Rattle.fast_stream.specs.Following.{Answers, Follows, IsCutAt};
+    ghost use Rattle.fast_machine.specs.Following.{Answers, Follows, IsCutAt};
 
     /// A decoder of a set, at the beginning of a stream. The entries are reset. Takes no memory.
     pub fn new(alloc: Global, set: &'a TemplateSet, entries: E) -> Decoder<'a, E>

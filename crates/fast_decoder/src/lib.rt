@@ -11,5 +11,7 @@ mod input;
 
 pub use builder::{Builder, Level};
 pub use decoder::Decoder;
-pub use fast_stream::{Cause, Fault, Machine, Message, Node, Place, Receiver};
+pub use fast_machine::Machine;
+pub use fast_stream::{Cause, Fault, Message, Node, Place};
+pub use fast_walk::Receiver;
 pub use input::{MessageInputStream, Reached};

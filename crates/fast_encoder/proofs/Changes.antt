@@ -17,7 +17,7 @@ use Rattle.fast_field.specs.Fields.{Form}
 use Rattle.fast_field.specs.Within.{HoldsScalar}
 use Rattle.fast_field.proofs.FieldsWithin.{values_within, entries_within}
 use Rattle.fast_stream.specs.Bodies.{with_entry, written}
-use Rattle.fast_stream.proofs.Putting.{set_written}
+use Rattle.fast_walk.proofs.Putting.{set_written}
 use Rattle.fast_encoder.specs.declared.journal.Change.{Change}
 use Rattle.fast_encoder.specs.Added.{Changed, GoesOn, HoldScalars}
 

@@ -12,9 +12,9 @@ use Rattle.fast_field.proofs.PartsOfSets.{parts_of_sets}
 use Rattle.fast_stream.specs.Nodes.{Items, Content, nodes_in, node_limit}
 use Rattle.fast_stream.specs.Bodies.{WithMap, PartBy}
 use Rattle.fast_stream.specs.Streams.{members_of, identifier}
-use Rattle.fast_stream.specs.Traversals.{ServesAll}
+use Rattle.fast_walk.specs.Traversals.{ServesAll}
 use Rattle.fast_stream.proofs.FoundMembers.{members_have}
-use Rattle.fast_stream.proofs.Serving.{members_served}
+use Rattle.fast_walk.proofs.Serving.{members_served}
 use Rattle.fast_encoder.specs.declared.fault.EncodeCause.TheVariants as cause
 use Rattle.fast_encoder.specs.declared.fault.EncodeFault.{EncodeFault}
 use Rattle.fast_encoder.specs.Added.{Adds, AddsBytes, AnswersBytes, CanTry, MessageStands, message_judged}

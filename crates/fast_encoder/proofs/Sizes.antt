@@ -6,7 +6,7 @@ use Rattle.std.proofs.lemmas.Bool.Decides.{nat_tests}
 use Rattle.fast_stream.specs.declared.message.Node.{Node}
 use Rattle.fast_stream.specs.declared.message.Node.TheVariants.{Sequence}
 use Rattle.fast_stream.specs.Nodes.{Elements, elements_of, element_count, item_of, items_in, nodes_in, nodes_in_elements, nodes_of}
-use Rattle.fast_stream.proofs.Views.{item_of-sequence}
+use Rattle.fast_walk.proofs.Views.{item_of-sequence}
 use Rattle.fast_encoder.specs.FirstRefusal.{IsLeft, has_large, has_large_in, item_is_large}
 
 abbrev pub seen : List (Vec Node) → Elements

@@ -8,7 +8,7 @@ use Rattle.fast_template.specs.declared.resolved.Flat.TheVariants.{Sequence, out
 use Rattle.fast_value.specs.declared.scalar.Scalar.TheVariants.{U32}
 use Rattle.fast_stream.specs.declared.message.Node.{Node}
 use Rattle.fast_stream.specs.declared.message.Node.TheVariants as nodes
-use Rattle.fast_stream.proofs.Views.{item_of-sequence}
+use Rattle.fast_walk.proofs.Views.{item_of-sequence}
 use Rattle.fast_value.specs.declared.kind.Presence.{Presence}
 use Rattle.fast_template.specs.declared.resolved.FieldPart.{FieldPart}
 use Rattle.fast_template.specs.Resolved.{Instruction, Instructions, flat_step, instruction_of, list_of, group_of, sequence_of, no_instructions, then_instruction, is_optional, has_map}

@@ -12,7 +12,7 @@ use Rattle.fast_field.specs.Within.{HoldsScalar}
 use Rattle.fast_stream.specs.Nodes.{Item, single, group_items, sequence_elements, Items, no_items, then_item, Elements, no_elements, then_element, element_count, Content}
 use Rattle.fast_stream.specs.Bodies.{State, Then, PartBy, written}
 use Rattle.fast_stream.specs.Streams.{identifier}
-use Rattle.fast_stream.specs.Walks.{IsServed, AreServed}
+use Rattle.fast_walk.specs.Walks.{IsServed, AreServed}
 use Rattle.fast_encoder.specs.declared.fault.EncodeCause.TheVariants as cause
 use Rattle.fast_encoder.specs.declared.fault.EncodeFault.{EncodeFault}
 use Rattle.fast_encoder.specs.declared.journal.Change.{Change}

@@ -4,8 +4,8 @@ mod calls;
 
 ghost use Rattle.std.specs.Prelude.{◌≡◌};
 ghost use Rattle.fast_stream.specs.Streams.{identifier as identifier_part};
-ghost use Rattle.fast_stream.specs.Traversals.{ServesAll};
-ghost use Rattle.fast_stream.specs.OneProof.{ServesAll-prop};
+ghost use Rattle.fast_walk.specs.Traversals.{ServesAll};
+ghost use Rattle.fast_machine.specs.OneProof.{ServesAll-prop};
 ghost use Rattle.fast_encoder.specs.OneProof.{KeepScalars, KeepScalars-prop};
 
 use crate::journal::Journal;

@@ -13,26 +13,30 @@ use Rattle.fast_value.specs.declared.kind.Kind.{Kind}
 use Rattle.fast_value.specs.declared.kind.Kind.TheVariants as kind
 use Rattle.fast_value.specs.declared.kind.Operator.{Operator}
 use Rattle.fast_value.specs.declared.kind.Operator.TheVariants as operator
+use Rattle.fast_value.specs.declared.kind.Part.{Part}
 use Rattle.fast_value.specs.declared.kind.Part.TheVariants as part
+use Rattle.fast_value.specs.declared.kind.Presence.{Presence}
 use Rattle.fast_value.specs.declared.kind.Presence.TheVariants.{Mandatory}
 use Rattle.fast_template.specs.declared.resolved.FieldPart.{FieldPart}
+use Rattle.fast_value.specs.declared.scalar.Scalar.{Scalar}
 use Rattle.fast_value.specs.declared.scalar.Scalar.TheVariants.{Decimal}
 use Rattle.fast_dictionary.specs.declared.entry.Entry.{Entry}
 use Rattle.fast_dictionary.specs.declared.entry.Entry.TheVariants.{Assigned}
 use Rattle.fast_field.specs.Bases.{next}
-use Rattle.fast_field.specs.Chosen.{IsSmall, ShortestPair}
+use Rattle.fast_field.specs.Chosen.{IsSmall, ShortestPair, ShortestWhole}
 use Rattle.fast_field.specs.Deltas.{DeltaForm}
-use Rattle.fast_field.specs.FieldReading.{decimal_delta_at, decimal_value, delta_at, in_field, integer_at, mantissa_delta_behind}
+use Rattle.fast_field.specs.FieldReading.{decimal_delta_at, decimal_spelled_at, decimal_value, delta_at, in_field, integer_at, mantissa_behind, mantissa_delta_behind, spelled_at, whole_at}
 use Rattle.fast_field.specs.Fields.{FormOf}
+use Rattle.fast_field.specs.Planning.{left_out_of}
 use Rattle.fast_field.specs.declared.fault.FieldFault.{FieldFault}
 use Rattle.fast_field.specs.declared.fault.FieldFault.TheVariants as fault
 use Rattle.fast_field.proofs.BestDeltas.{IsFirst}
-use Rattle.fast_field.proofs.BestValues.{delta_is_first}
-use Rattle.fast_field.proofs.ChosenForms.{decimal_value as decimal_is_first}
+use Rattle.fast_field.proofs.BestValues.{delta_is_first, whole_is_first}
+use Rattle.fast_field.proofs.ChosenForms.{decimal_value as decimal_is_first, whole_shortest}
 use Rattle.fast_field.proofs.ValuesWithin.{IsOfType}
-use Rattle.fast_relay.specs.Numbers.{Spelt}
+use Rattle.fast_relay.specs.Numbers.{SpellsWhole, Spelt}
 use Rattle.fast_relay.specs.Relayed.{Relays}
-use Rattle.fast_relay.proofs.Relaying.{added_back, base_is, delta_out, delta_row, relays}
+use Rattle.fast_relay.proofs.Relaying.{added_back, base_is, delta_out, delta_row, relays, whole_row}
 
 -- a number of 64 bits can be sent
 pub small : (z : ℤ) → negsuc (2 ^ 64) <ℤ z → z <ℤ pos (2 ^ 64) → IsSmall z
@@ -111,3 +115,36 @@ pub decimal_relays : (i : FieldPart) (old new : Entry) (x m dx dm : ℤ) (bytes 
     → Spelt false Mandatory mid dm rest → in_range kind.Int64 (m +ℤ dm) ≡ true → new ≡ Assigned (Decimal (x +ℤ dx) (m +ℤ dm)) → (b : List ℕ) × (after ≡ before ++ b) × ShortestPair i.presence dx dm b → Relays i old new (Decimal (x +ℤ dx) (m +ℤ dm)) bytes rest before after
 decimal_relays i old new x m dx dm bytes mid rest before after is k o p exponent near mantissa fits entry appended =
     subst (λ (e : Entry). Relays i e new (Decimal (x +ℤ dx) (m +ℤ dm)) bytes rest before after) (sym is) (assigned_relays i new x m dx dm bytes mid rest before after k o p exponent near mantissa fits entry appended)
+
+-- ---- what stands whole
+
+spelled_as : (pt : Part) (k : Kind) (p : Presence) (bytes : List ℕ) → k ≡ kind.Decimal → spelled_at pt k p bytes ≡ decimal_spelled_at p bytes
+unfolding spelled_at
+spelled_as pt kind.Decimal p bytes h = refl
+spelled_as pt k p bytes h = absurd cc
+
+spelled_read : (p : Presence) (x m : ℤ) (bytes mid rest : List ℕ) → Spelt false p bytes x mid → exponent_in_range x ≡ true → Spelt false Mandatory mid m rest → in_range kind.Int64 m ≡ true → decimal_spelled_at p bytes ≡ Ok (Some (Decimal x m), rest)
+unfolding decimal_spelled_at mantissa_behind decimal_value
+spelled_read p x m bytes mid rest exponent near mantissa fits = rw (exponent, near, signed_read mid rest m mantissa, fits) refl
+
+whole_read : (i : FieldPart) (x m : ℤ) (bytes mid rest : List ℕ) → i.kind ≡ kind.Decimal → Spelt false i.presence bytes x mid → exponent_in_range x ≡ true → Spelt false Mandatory mid m rest → in_range kind.Int64 m ≡ true → whole_at i bytes ≡ Ok (Some (Decimal x m), rest)
+unfolding whole_at
+whole_read i x m bytes mid rest k exponent near mantissa fits = spelled_as i.part i.kind i.presence bytes k ∙ spelled_read i.presence x m bytes mid rest exponent near mantissa fits
+
+whole_first : (o : Operator) (i : FieldPart) (e : Entry) (v : Scalar) (b : List ℕ) → SpellsWhole o → IsOfType i.kind v → ShortestWhole i.presence v b → IsFirst (λ c b. FormOf o i e true c b (Some v)) b
+whole_first operator.Plain i e v b o h s = whole_is_first i.kind i.presence (Some v) b (whole_shortest i.kind i.presence v b h s)
+whole_first operator.Default i e v b o h s = whole_is_first i.kind i.presence (Some v) b (whole_shortest i.kind i.presence v b h s)
+whole_first operator.Copy i e v b o h s = whole_is_first i.kind i.presence (Some v) b (whole_shortest i.kind i.presence v b h s)
+whole_first operator.Increment i e v b o h s = whole_is_first i.kind i.presence (Some v) b (whole_shortest i.kind i.presence v b h s)
+whole_first o' i e v b o h s = absurd o
+
+pub decimal_whole_relays : (i : FieldPart) (old new : Entry) (x m : ℤ) (bytes mid rest before after : List ℕ) → i.kind ≡ kind.Decimal → i.part ≡ part.Whole → SpellsWhole i.operator → Spelt false i.presence bytes x mid → exponent_in_range x ≡ true → Spelt false Mandatory mid m rest → in_range kind.Int64 m ≡ true
+    → left_out_of i.operator i old (Some (Decimal x m)) ≡ false → new ≡ next i old (Some (Decimal x m)) → (b : List ℕ) × (after ≡ before ++ b) × ShortestPair i.presence x m b → Relays i old new (Decimal x m) bytes rest before after
+decimal_whole_relays i old new x m bytes mid rest before after k p o exponent near mantissa fits out entry appended =
+    let v = Decimal x m in
+    relays i old new v bytes rest before after (ShortestPair i.presence x m) (rw k refl) (rw p refl)
+    (whole_row i.operator i old bytes o ∙ whole_read i x m bytes mid rest k exponent near mantissa fits)
+    entry
+    out
+    (λ b s. whole_first i.operator i old v b o (of_type i.kind x m k near fits) s)
+    appended

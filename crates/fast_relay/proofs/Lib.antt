@@ -2,3 +2,6 @@ pub mod Relaying
 mod TextRelaying
 mod PlainTexts
 mod DecimalRelaying
+mod NullRelaying
+mod VectorTexts
+mod Taking

@@ -3,8 +3,8 @@ use Rattle.std.proofs.Common.{rules, ◌≡◌, ◌≤◌, ◌<◌, ◌+◌, ◌
 use Rattle.std.specs.Prelude.{Some, ℤ, pos, negsuc, nat_le, nat_lt, nat_eq, not}
 use Rattle.std.proofs.lemmas.Bool.{cases_lt}
 use Rattle.std.proofs.lemmas.Bool.Decides.{nat_tests}
-use Rattle.std.proofs.lemmas.List.{get_or-append-add, length-map, length-take-le}
-use Rattle.std.proofs.Math.Seq.{drop-append_seam, take-append_seam, take-length}
+use Rattle.std.proofs.lemmas.List.{get_or-append-add, get_or-drop, length-map, length-take-le}
+use Rattle.std.proofs.Math.Seq.{drop-append_seam, take-append_seam}
 use Rattle.std.specs.List.{AllByRecursion}
 use Rattle.fast_wire.specs.Entity.{IsEntity, groups}
 use Rattle.fast_wire.specs.Plain.{IsPlain}
@@ -31,9 +31,9 @@ use Rattle.fast_field.specs.FieldReading.{ended_value, limited_value, new_part_b
 use Rattle.fast_relay.specs.Numbers.{SpellsWhole, Spelt}
 use Rattle.fast_field.specs.Planning.{is_same, left_out_of}
 use Rattle.fast_relay.specs.Relayed.{Relays}
-use Rattle.fast_relay.specs.Texts.{IsText}
-use Rattle.fast_field.proofs.Agreeing.{prefix_ends, prefix_stops, suffix_ends, suffix_none, suffix_stops}
-use Rattle.fast_field.proofs.BestCuts.{best_at_end, parts}
+use Rattle.fast_relay.specs.Texts.{IsText, SharesEnd}
+use Rattle.fast_field.proofs.Agreeing.{prefix_ends, prefix_more, prefix_stops, suffix_ends, suffix_none, suffix_stops}
+use Rattle.fast_field.proofs.BestCuts.{best_at_end, longest_suffix}
 use Rattle.fast_field.proofs.BestTails.{shortest_is_best}
 use Rattle.fast_field.proofs.Shortest.{units_is}
 use Rattle.fast_relay.proofs.TextRelaying.{tail_relays, text_delta_relays, whole_text_relays}
@@ -68,13 +68,13 @@ plain_relays i old new bytes form rest before k whole o h entry out =
 
 -- ---- deltas that remove few characters at the end
 
-le_true : (m n : ℕ) → m ≤ n → nat_le m n ≡ true
+pub le_true : (m n : ℕ) → m ≤ n → nat_le m n ≡ true
 le_true m n h = grind (arith, nat_tests)
 
 lt_true : (m n : ℕ) → m < n → nat_lt m n ≡ true
 lt_true m n h = grind (arith, nat_tests)
 
-lt_false : (m n : ℕ) → n ≤ m → nat_lt m n ≡ false
+pub lt_false : (m n : ℕ) → n ≤ m → nat_lt m n ≡ false
 lt_false m n h = grind (arith, nat_tests)
 
 small_size : (p : Presence) (r : ℕ) → r < 63 → length_size p (pos r) ≡ 1
@@ -87,7 +87,7 @@ unfolding signed_size signed_nullable_size
 some_size Mandatory z = groups_from-positive 9 64 (magnitude z)
 some_size Optional z = groups_from-positive 9 64 (magnitude (sent_signed (Value z)))
 
-behind_kept : (base part : List ℕ) (n : ℕ) → n ≤ length base → drop n (take n base ++ part) ≡ part
+pub behind_kept : (base part : List ℕ) (n : ℕ) → n ≤ length base → drop n (take n base ++ part) ≡ part
 behind_kept base part n h = let long = length-take-le n base h in subst (λ m. drop m (take n base ++ part) ≡ part) long (drop-append_seam (take n base) part)
 
 in_front_kept : (base part : List ℕ) (n : ℕ) → n ≤ length base → take n (take n base ++ part) ≡ take n base
@@ -121,17 +121,55 @@ suffix_stays base part n h some differ =
       | inr ge ↦ suffix_ends base v 0 (omega (arith, ge)) (omega arith) (suffix_none base v)
     ]
 
-pub best_removal : (p : Presence) (base part : List ℕ) (r n : ℕ) → r < 63 → r ≤ length base → n ≡ length base - r → IsLongestPrefix base (take n base ++ part) n → IsLongestSuffix base (take n base ++ part) 0
-    → IsBestCut kind.Ascii p base (take n base ++ part) (pos r) part
-best_removal p base part r n few le is prefix suffix =
+no_less : (p : Presence) (s : List ℕ) → length s ≤ tail_size kind.Ascii p s
+no_less Mandatory [] = omega arith
+no_less Mandatory (zero ∷ s) = omega arith
+no_less Mandatory (suc x ∷ s) = omega arith
+no_less Optional [] = omega arith
+no_less Optional (zero ∷ s) = omega arith
+no_less Optional (suc x ∷ s) = omega arith
+
+plain_least : (bytes form rest : List ℕ) → IsPlain bytes form rest → (s : List ℕ) → length (groups form) ≤ length s → part_size kind.Ascii (groups form) ≤ part_size kind.Ascii s
+plain_least bytes form rest h s le =
+    let size : part_size kind.Ascii (groups form) ≡ length form = sym (units_is kind.Ascii Mandatory (groups form) form h.shortest) in
+    omega (arith, size, le, length-map form (λ b. b % 128), no_less Mandatory s)
+
+pub none_shared : (a b : List ℕ) (n : ℕ) → IsLongestSuffix a b 0 → SharesEnd a b n
+none_shared a b n h = (0, h, omega arith)
+
+-- where as many are put there as are removed, what both have in common at the end stands behind the first of them
+behind_first : (base part : List ℕ) (n m : ℕ) → n < length base → length part ≡ length base - n → length part ≤ n → IsLongestPrefix base (take n base ++ part) n → IsLongestSuffix base (take n base ++ part) m → n < m → ⊥
+behind_first base part n m lt as_many few prefix suffix more =
     let v = take n base ++ part in
+    let whole : length v ≡ length base = omega (arith, length-append (take n base) part, length-take-le n base (omega (arith, lt)), as_many, lt) in
+    let in_a = suffix.in_a in
+    let j = n - (length base - m) in
+    let there : length base - m + j ≡ n = omega (arith, more, as_many, few, in_a, lt) in
+    let there' : length v - m + j ≡ n = omega (arith, more, as_many, few, in_a, lt, whole) in
+    let of_base : get_or (drop (length base - m) base) j 0 ≡ get_or base n 0 = get_or-drop (length base - m) base j 0 ∙ ap (λ (i : ℕ). get_or base i 0) there in
+    let of_v : get_or (drop (length v - m) v) j 0 ≡ get_or v n 0 = get_or-drop (length v - m) v j 0 ∙ ap (λ (i : ℕ). get_or v i 0) there' in
+    let same : get_or base n 0 ≡ get_or v n 0 = sym of_base ∙ ap (λ (l : List ℕ). get_or l j 0) suffix.common ∙ of_v in
+    let longer = prefix.longest (n + 1) (omega (arith, lt)) (omega (arith, lt, whole)) (prefix_more base v n lt (omega (arith, lt, whole)) same prefix.common) in
+    omega (arith, longer)
+
+pub few_shared : (base part : List ℕ) (n : ℕ) → n < length base → length part ≡ length base - n → length part ≤ n → IsLongestPrefix base (take n base ++ part) n → SharesEnd base (take n base ++ part) n
+few_shared base part n lt as_many few prefix =
+    let s = longest_suffix base (take n base ++ part) in
+    (s.0, s.1, elim (cases_lt n s.0) [ inl more ↦ absurd (behind_first base part n s.0 lt as_many few prefix s.1 more) | inr le ↦ le ])
+
+pub best_removal : (k : Kind) (p : Presence) (base part : List ℕ) (r n : ℕ) → r < 63 → r ≤ length base → n ≡ length base - r → IsLongestPrefix base (take n base ++ part) n → SharesEnd base (take n base ++ part) n
+    → ((s : List ℕ) → length part ≤ length s → part_size k part ≤ part_size k s) → IsBestCut k p base (take n base ++ part) (pos r) part
+best_removal k p base part r n few le is prefix shared least =
+    let v = take n base ++ part in
+    let m = shared.0 in
     let h : n ≤ length base = omega (arith, is) in
     let removed : length base - n ≡ r = omega (arith, is, le) in
     let behind = behind_kept base part n h in
-    let all : take (length v - 0) v ≡ v = let z : length v - 0 ≡ length v = omega arith in ap (λ m. take m v) z ∙ take-length v in
-    let less : part_size kind.Ascii (drop n v) ≤ part_size kind.Ascii v = (parts kind.Ascii).on_drop n v in
+    let front = take (length v - m) v in
+    let long : length front ≡ length v - m = length-take-le (length v - m) v (omega arith) in
+    let less : part_size k (drop n v) ≤ part_size k front = rw behind (least front (omega (arith, long, length-append (take n base) part, length-take-le n base h, shared.2))) in
     let one : length_size p (pos (length base - n)) ≡ 1 = rw removed (small_size p r few) in
-    let best = best_at_end kind.Ascii p base v n 0 prefix suffix (rw all (omega (arith, one, less, some_size p (negsuc (length base - 0))))) in
+    let best = best_at_end k p base v n m prefix shared.1 (omega (arith, one, less, some_size p (negsuc (length base - m)))) in
     rw (removed, behind) at best
 
 delta_base_is : (i : FieldPart) (base : List ℕ) → i.kind ≡ kind.Ascii → delta_base i (Assigned (Ascii base)) ≡ Ok (Ascii base)
@@ -156,7 +194,7 @@ text_together base form n b f few =
     record { of_units = tt; of_kind = w.0; within = w.1 }
 
 pub plain_delta_relays : (i : FieldPart) (base : List ℕ) (r n : ℕ) (bytes middle form rest before after : List ℕ) → i.kind ≡ kind.Ascii → i.part ≡ part.Whole → i.operator ≡ operator.Delta → IsText kind.Ascii (Ascii base) → r < 63 → r ≤ length base → n ≡ length base - r
-    → Spelt false i.presence bytes (pos r) middle → IsPlain middle form rest → n + length form ≤ 65535 → IsLongestPrefix base (take n base ++ groups form) n → IsLongestSuffix base (take n base ++ groups form) 0
+    → Spelt false i.presence bytes (pos r) middle → IsPlain middle form rest → n + length form ≤ 65535 → IsLongestPrefix base (take n base ++ groups form) n → SharesEnd base (take n base ++ groups form) n
     → (b : List ℕ) × (after ≡ before ++ b ++ form) × ShortestSigned i.presence (pos r) b → Relays i (Assigned (Ascii base)) (Assigned (Ascii (take n base ++ groups form))) (Ascii (take n base ++ groups form)) bytes rest before after
 plain_delta_relays i base r n bytes middle form rest before after k whole o text small le is removal h short prefix suffix appended =
     let v = take n base ++ groups form in
@@ -167,7 +205,7 @@ plain_delta_relays i base r n bytes middle form rest before after k whole o text
     (subst (λ (k : Kind). IsText k (Ascii base)) (sym k) text)
     (subst (λ (k : Kind). IsText k (Ascii v)) (sym k) t)
     (subst (λ m. unit_delta_at i (Assigned (Ascii base)) bytes ≡ Ok (Some (Ascii (take m base ++ groups form)), rest)) (sym is) read)
-    (subst (λ (k : Kind). IsBestCut k i.presence base v (pos r) (groups form)) (sym k) (best_removal i.presence base (groups form) r n small le is prefix suffix))
+    (subst (λ (k : Kind). IsBestCut k i.presence base v (pos r) (groups form)) (sym k) (best_removal kind.Ascii i.presence base (groups form) r n small le is prefix suffix (plain_least middle form rest h)))
     (appended.0 ++ form, appended.1 ∙ append_assoc before appended.0 form, record { front = appended.0; back = form; parts = refl; first = appended.2; second = subst (λ (k : Kind). ShortestPart k (groups form) form) (sym k) h.shortest })
 
 -- ---- what a call of the code finds
@@ -196,14 +234,6 @@ characters_text s h = let w = string_within kind.Ascii s (Ascii s) tt refl h in 
 
 -- ---- tails
 
-no_less : (p : Presence) (s : List ℕ) → length s ≤ tail_size kind.Ascii p s
-no_less Mandatory [] = omega arith
-no_less Mandatory (zero ∷ s) = omega arith
-no_less Mandatory (suc x ∷ s) = omega arith
-no_less Optional [] = omega arith
-no_less Optional (zero ∷ s) = omega arith
-no_less Optional (suc x ∷ s) = omega arith
-
 not_same : (s t : List ℕ) → (s ≡ t → ⊥) → is_same (Some (Ascii s)) (Some (Ascii t)) ≡ false
 not_same s t differ = search rules
 
@@ -225,7 +255,7 @@ best_end p base bytes form rest n is h prefix =
 other_end : (i : FieldPart) (base v : List ℕ) → i.kind ≡ kind.Ascii → i.operator ≡ operator.Tail → (base ≡ v → ⊥) → left_out_of i.operator i (Assigned (Ascii base)) (Some (Ascii v)) ≡ false
 other_end i base v k o differ = rw (o, k) (not_same base v differ)
 
-no_same_text : (base part : List ℕ) (n : ℕ) → n < length base → IsLongestPrefix base (take n base ++ part) n → base ≡ take n base ++ part → ⊥
+pub no_same_text : (base part : List ℕ) (n : ℕ) → n < length base → IsLongestPrefix base (take n base ++ part) n → base ≡ take n base ++ part → ⊥
 no_same_text base part n lt prefix e =
     let all = prefix.longest (length base) (omega arith) (let l = ap length e in omega (arith, l)) (ap (take (length base)) e) in
     omega (arith, all, lt)

@@ -45,7 +45,7 @@ spelled_as pt kind.UInt64 p bytes h = refl
 spelled_as pt kind.Int64 p bytes h = refl
 spelled_as pt k p bytes h = absurd cc
 
-whole_read : (i : FieldPart) (bytes rest : List ℕ) (z : ℤ) → IsNumber i.kind z → Spelt (is_unsigned i.kind) i.presence bytes z rest → whole_at i bytes ≡ Ok (Some (of_integer i.kind z), rest)
+pub whole_read : (i : FieldPart) (bytes rest : List ℕ) (z : ℤ) → IsNumber i.kind z → Spelt (is_unsigned i.kind) i.presence bytes z rest → whole_at i bytes ≡ Ok (Some (of_integer i.kind z), rest)
 unfolding whole_at
 whole_read i bytes rest z n h = spelled_as i.part i.kind i.presence bytes n.integer ∙ spelled_number i.part i.kind i.presence bytes rest z n h
 
@@ -57,7 +57,7 @@ whole_row operator.Copy i e bytes h = refl
 whole_row operator.Increment i e bytes h = refl
 whole_row o i e bytes h = absurd h
 
-row_read : (i : FieldPart) (e : Entry) (bytes rest : List ℕ) (v : Option Scalar) → row_at i.operator i e true bytes ≡ Ok (v, rest) → IsWithin i.part v → field_at i e true bytes ≡ Ok (v, rest)
+pub row_read : (i : FieldPart) (e : Entry) (bytes rest : List ℕ) (v : Option Scalar) → row_at i.operator i e true bytes ≡ Ok (v, rest) → IsWithin i.part v → field_at i e true bytes ≡ Ok (v, rest)
 unfolding field_at
 row_read i e bytes rest v h within = rw (h, checked_is i.part v within) refl
 
@@ -106,7 +106,7 @@ whole_relays k i old new z bytes rest before after same o =
 
 -- ---- deltas
 
-delta_as : (k : Kind) (i : FieldPart) (e : Entry) (bytes : List ℕ) → IsTrue (is_integer k) → delta_at k i e bytes ≡ integer_delta_at i e bytes
+pub delta_as : (k : Kind) (i : FieldPart) (e : Entry) (bytes : List ℕ) → IsTrue (is_integer k) → delta_at k i e bytes ≡ integer_delta_at i e bytes
 unfolding delta_at
 delta_as kind.UInt32 i e bytes h = refl
 delta_as kind.Int32 i e bytes h = refl
@@ -117,7 +117,7 @@ delta_as k i e bytes h = absurd cc
 pub base_is : (i : FieldPart) (v : Scalar) → is_of i.kind v ≡ true → delta_base i (Assigned v) ≡ Ok v
 base_is i v is = rw is refl
 
-delta_read : (i : FieldPart) (e : Entry) (base : Scalar) (bytes rest : List ℕ) (d : ℤ) → delta_base i e ≡ Ok base → IsTrue (in_range i.kind (integer_of base +ℤ d)) → Spelt false i.presence bytes d rest
+pub delta_read : (i : FieldPart) (e : Entry) (base : Scalar) (bytes rest : List ℕ) (d : ℤ) → delta_base i e ≡ Ok base → IsTrue (in_range i.kind (integer_of base +ℤ d)) → Spelt false i.presence bytes d rest
     → integer_delta_at i e bytes ≡ Ok (Some (of_integer i.kind (integer_of base +ℤ d)), rest)
 unfolding integer_delta_at integer_sum integer_value
 delta_read i e base bytes rest d is range h = rw (h, is, range) refl

@@ -139,3 +139,16 @@ tail_relays i base v tail bytes rest before after whole o h l read out best appe
     out
     (λ b s. subst (λ (o : Operator). IsFirst (λ c b. FormOf o i (Assigned base) true c b (Some v)) b) (sym o) (ended_first i base v tail b h l best s))
     appended
+
+-- of an entry that gives a tail another base than its value
+pub first_tail_relays : (i : FieldPart) (e : Entry) (base v : Scalar) (tail bytes rest before after : List ℕ) → i.part ≡ part.Whole → i.operator ≡ operator.Tail → tail_base i e ≡ Ok base → IsText i.kind v → tail_at i e bytes ≡ Ok (Some v, rest)
+    → left_out_of i.operator i e (Some v) ≡ false → IsBestTail i.kind i.presence (units_of base) (units_of v) tail → (b : List ℕ) × (after ≡ before ++ b) × ShortestUnits i.kind i.presence tail b
+    → Relays i e (Assigned v) v bytes rest before after
+first_tail_relays i e base v tail bytes rest before after whole o given l read out best appended =
+    let last : next i e (Some v) ≡ Assigned v = rw o refl in
+    relays i e (Assigned v) v bytes rest before after (ShortestUnits i.kind i.presence tail) l.of_kind (whole_within i.part v whole)
+    (tail_row i.operator i e bytes o ∙ read)
+    (sym last)
+    out
+    (λ b s. subst (λ (o : Operator). IsFirst (λ c b. FormOf o i e true c b (Some v)) b) (sym o) (tail_form_is_first i e base v b given (tail_is_first i.kind i.presence base v tail b l.of_units (text_of_type i.kind v l) best s)))
+    appended

@@ -1,6 +1,6 @@
 -- A field that is read and written at once: what was read is a form of its value, the entry is the one afterwards, and
 -- the value's best form was appended. (Own.)
-use Rattle.std.specs.Prelude.{◌≡◌, ℕ, true, List, ◌++◌, Some, Ok, IsTrue}
+use Rattle.std.specs.Prelude.{◌≡◌, ℕ, true, List, ◌++◌, Some, None, Ok, IsTrue}
 use Rattle.fast_value.specs.Scalar.{is_of}
 use Rattle.fast_template.specs.declared.resolved.FieldPart.{FieldPart}
 use Rattle.fast_value.specs.declared.scalar.Scalar.{Scalar}
@@ -16,3 +16,15 @@ pub record Relays (i : FieldPart) (old new : Entry) (v : Scalar) (bytes rest : L
   pub read : (more : List ℕ) → field_at i old true (bytes ++ more) ≡ Ok (Some v, rest ++ more)
   pub entry : new ≡ next i old (Some v)
   pub best : AppendsBest i old (Some v) true before after
+
+-- the same of NULL, which gives that there is no value
+pub record RelaysNull (i : FieldPart) (old new : Entry) (bytes rest : List ℕ)
+    (before after : List ℕ) : Type 0 where
+  pub read : (more : List ℕ) → field_at i old true (bytes ++ more) ≡ Ok (None, rest ++ more)
+  pub entry : new ≡ next i old None
+  pub best : AppendsBest i old None true before after
+
+-- the bytes before `rest` give the value under bit 1, and the entry is the one afterwards; nothing is written
+pub record Takes (i : FieldPart) (old new : Entry) (v : Scalar) (bytes rest : List ℕ) : Type 0 where
+  pub read : (more : List ℕ) → field_at i old true (bytes ++ more) ≡ Ok (Some v, rest ++ more)
+  pub entry : new ≡ next i old (Some v)

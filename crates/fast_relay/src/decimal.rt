@@ -1,4 +1,4 @@
-//! Decimals that are sent as a difference, read and written at once.
+//! Decimals that are sent whole or as a difference, read and written at once.
 
 ghost use Rattle.std.specs.Prelude.{◌≡◌, ◌≤◌, ◌^◌, ◌+ℤ◌, ◌<ℤ◌, pos, negsuc, true, length, drop, IfNone, IfSome};
 ghost use Rattle.fast_value.specs.Scalar.{exponent_in_range, in_range};
@@ -8,11 +8,13 @@ ghost use Rattle.fast_value.specs.declared.kind.Part.TheVariants as part_type;
 ghost use Rattle.fast_value.specs.declared.scalar.Scalar.{Scalar as ScalarOf};
 ghost use Rattle.fast_value.specs.declared.scalar.Scalar.TheVariants as scalar;
 ghost use Rattle.fast_dictionary.specs.declared.entry.Entry.TheVariants as entry_type;
+ghost use Rattle.fast_relay.specs.Numbers.{SpellsWhole};
 ghost use Rattle.fast_relay.specs.Relayed.{Relays};
 
 use crate::integers::read_short;
+use crate::kept::keep_value;
 use fast_dictionary::Entry;
-use fast_field::{exponent_within, mantissa_within, write_pair};
+use fast_field::{exponent_within, is_left_out, mantissa_within, write_pair};
 use fast_template::{FieldPart, Kind, Operator, Part, Presence, Scalar};
 
 /// The exponent and the mantissa of an entry that is a decimal.
@@ -89,8 +91,52 @@ fn relay_decimal_delta(
     }
 }
 
-/// Reads a decimal that is sent as a difference under bit 1, appends its best form, makes the entry the one afterwards,
-/// and answers the place after it. None: nothing has changed, and the general way tells.
+/// Relays a decimal that is spelled whole.
+#[inline(always)]
+fn relay_decimal_whole(
+    instr: &FieldPart,
+    entry: &mut Entry,
+    bytes: &[u8],
+    at: usize,
+    out: &mut Vec<u8>,
+) -> Option<usize>
+    requires at { at ≤ length bytes.now }
+    requires kind { instr.now.kind ≡ kind_type.Decimal }
+    requires operator { SpellsWhole instr.now.operator }
+    requires part { instr.now.part ≡ part_type.Whole }
+    ensures place { IfSome result (λ next. (at ≤ next) × (next ≤ length bytes.now)) }
+    ensures relayed { IfSome result (λ next. (v : ScalarOf)
+        × Relays instr.now entry.old entry.new v (drop at bytes.now) (drop next bytes.now)
+        out.old.items out.new.items) }
+    ensures entry { IfNone result (entry.new ≡ entry.old) }
+    ensures out { IfNone result (out.new.items ≡ out.old.items) }
+{
+    let Some((exponent_sent, behind)) = read_short(false, instr.presence, bytes, at) else {
+        return None;
+    };
+    let Some((mantissa_sent, next)) = read_short(false, Presence::Mandatory, bytes, behind) else {
+        return None;
+    };
+    let Some(exponent) = exponent_within(exponent_sent) else {
+        return None;
+    };
+    let Some(mantissa) = mantissa_within(mantissa_sent) else {
+        return None;
+    };
+    let value = Scalar::Decimal { exponent, mantissa };
+    if is_left_out(instr, entry.view(), Some(&value)) {
+        return None;
+    }
+    match write_pair(instr.presence, exponent_sent, mantissa_sent, out) {
+        Ok(()) => {
+            keep_value(instr.operator, entry, value);
+            Some(next)
+        }
+        Err(_) => None,
+    }
+}
+
+/// Reads a decimal in one piece under bit 1, which is sent whole or as a difference, appends its best form, makes the entry the one afterwards, and answers the place after it. None: nothing has changed, and the general way tells.
 #[inline(never)]
 pub fn relay_decimal(
     instr: &FieldPart,
@@ -110,6 +156,9 @@ pub fn relay_decimal(
     match (instr.kind, instr.operator, instr.part) {
         (Kind::Decimal, Operator::Delta, Part::Whole) => {
             relay_decimal_delta(instr, entry, bytes, at, out)
+        }
+        (Kind::Decimal, Operator::Plain | Operator::Default | Operator::Copy, Part::Whole) => {
+            relay_decimal_whole(instr, entry, bytes, at, out)
         }
         (_, _, _) => None,
     }

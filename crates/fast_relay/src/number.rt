@@ -87,7 +87,7 @@ fn is_given(kind: Kind, instr: &FieldPart, entry: &Entry, number: i128) -> bool
 
 /// Makes an entry the one that a number leaves which was spelled whole.
 #[inline(always)]
-fn keep_whole(kind: Kind, operator: Operator, entry: &mut Entry, number: i128)
+pub(crate) fn keep_whole(kind: Kind, operator: Operator, entry: &mut Entry, number: i128)
     requires operator { SpellsWhole operator }
     requires number { IsNumber kind number }
     ensures { entry.new ≡ next_of operator entry.old (Some (of_integer kind number)) }
@@ -306,7 +306,13 @@ pub fn relay_number(
         | Operator::Copy
         | Operator::Increment
         | Operator::Delta
-        | Operator::Tail => relay_integer(instr, entry, bytes, at, out),
+        | Operator::Tail => match instr.kind {
+            // asked here too, since a call that only says no is not for nothing
+            Kind::UInt32 | Kind::Int32 | Kind::UInt64 | Kind::Int64 => {
+                relay_integer(instr, entry, bytes, at, out)
+            }
+            Kind::Decimal | Kind::Ascii | Kind::Unicode | Kind::Bytes => None,
+        },
     }
 }
 

@@ -14,6 +14,7 @@ ghost use Rattle.fast_field.specs.CommonParts.{IsLongestPrefix, IsLongestSuffix}
 ghost use Rattle.fast_relay.specs.Numbers.{SpellsWhole};
 ghost use Rattle.fast_field.specs.Planning.{left_out_of};
 ghost use Rattle.fast_relay.specs.Relayed.{Relays};
+ghost use Rattle.fast_relay.specs.Texts.{SharesEnd};
 
 use crate::characters::{UNIT_LIMIT, are_characters};
 use crate::integers::read_short;
@@ -94,14 +95,29 @@ fn may_be_left_out(instr: &FieldPart, entry: &Entry, form: &[u8]) -> bool
         },
         Operator::Copy => match entry {
             Entry::Assigned(Scalar::Ascii(text)) => is_text_of(text.as_slice(), form),
-            _ => true,
+            Entry::Empty => false,
+            Entry::Assigned(_) | Entry::Undefined => true,
         },
         _ => true,
     }
 }
 
+/// The string that bytes spell; none where memory is refused.
+#[inline(always)]
+fn make_string(alloc: Global, form: &[u8]) -> Option<ByteString>
+    requires { IsEntity form.now }
+    ensures { IfSome result (λ text. text ≡ groups form.now) }
+{
+    let mut text = ByteString::from_vec(Vec::new(alloc));
+    if put_characters(alloc, &mut text, 0, form) {
+        Some(text)
+    } else {
+        None
+    }
+}
+
 /// Makes an entry the one that the string leaves which bytes spell whole; answers false, and leaves it as it was,
-/// where it has no string to put it in the place of.
+/// where it is neither empty nor has a string to put it in the place of, or memory is refused.
 #[inline(always)]
 fn keep_plain(alloc: Global, operator: Operator, entry: &mut Entry, form: &[u8]) -> bool
     requires operator { SpellsWhole operator }
@@ -113,7 +129,14 @@ fn keep_plain(alloc: Global, operator: Operator, entry: &mut Entry, form: &[u8])
     match operator {
         Operator::Copy | Operator::Increment => match entry {
             Entry::Assigned(Scalar::Ascii(text)) => put_characters(alloc, text, 0, form),
-            _ => false,
+            Entry::Empty => match make_string(alloc, form) {
+                Some(text) => {
+                    *entry = Entry::Assigned(Scalar::Ascii(text));
+                    true
+                }
+                None => false,
+            },
+            Entry::Assigned(_) | Entry::Undefined => false,
         },
         _ => true,
     }
@@ -191,9 +214,26 @@ fn ends_otherwise(base: &[u8], kept: usize, form: &[u8]) -> bool
     }
 }
 
+/// Whether a removal at the end, to so many units, takes no more bytes than one in front: no fewer are kept than a text
+/// has in common with what it becomes at its end. This is so where as many are put there as are removed, and no more.
+#[inline(always)]
+fn is_cut_at_end(base: &[u8], kept: usize, form: &[u8]) -> bool
+    requires kept { kept ≤ length base.now }
+    requires entity { IsEntity form.now }
+    requires prefix { IsLongestPrefix base.now (take kept base.now ++ groups form.now) kept }
+    ensures { result ≡ true
+        → SharesEnd base.now (take kept base.now ++ groups form.now) kept }
+{
+    if kept < base.len() && form.len() == base.len() - kept && form.len() <= kept {
+        true
+    } else {
+        ends_otherwise(base, kept, form)
+    }
+}
+
 /// How many characters a subtraction length removes at the end, if they are few.
 #[inline(always)]
-fn few_removed(removal: i128) -> Option<usize>
+pub(crate) fn few_removed(removal: i128) -> Option<usize>
     ensures { IfSome result (λ n. (removal ≡ pos n) × (n < 63)) }
 {
     match usize::try_from(removal) {
@@ -242,7 +282,7 @@ fn relay_plain_delta(
     if form.len() > UNIT_LIMIT - kept || !agrees_no_further(base, kept, form) {
         return None;
     }
-    if !ends_otherwise(base, kept, form) {
+    if !is_cut_at_end(base, kept, form) {
         return None;
     }
     let start = out.len();

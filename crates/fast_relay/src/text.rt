@@ -1,19 +1,18 @@
 //! Strings and vectors that are read and written at once. What is not served here goes the general way of `find_field`
 //! and `write_found`.
 
-ghost use Rattle.std.specs.Prelude.{◌≡◌, ◌≤◌, ◌<◌, true, length, drop, Some, IfNone, IfSome};
-ghost use Rattle.std.specs.List.{AllByRecursion};
+ghost use Rattle.std.specs.Prelude.{◌≡◌, ◌≤◌, ◌<◌, true, length, drop, IfNone, IfSome};
 ghost use Rattle.fast_value.specs.declared.kind.Operator.TheVariants as operator_type;
 ghost use Rattle.fast_value.specs.declared.kind.Part.TheVariants as part_type;
 ghost use Rattle.fast_value.specs.declared.scalar.Scalar.{Scalar as ScalarOf};
 ghost use Rattle.fast_dictionary.specs.declared.entry.Entry.TheVariants as entry_type;
-ghost use Rattle.fast_field.specs.Bases.{next_of};
 ghost use Rattle.fast_relay.specs.Numbers.{SpellsWhole};
 ghost use Rattle.fast_relay.specs.Relayed.{Relays};
-ghost use Rattle.fast_relay.specs.Texts.{IsText};
 
-use crate::characters::{UNIT_LIMIT, are_characters};
+use crate::characters::is_text;
+use crate::kept::keep_value;
 use crate::plain::relay_plain;
+use crate::vectors::relay_vector;
 use fast_dictionary::{Entry, EntryRef};
 use fast_field::{
     best_cut, best_tail, is_left_out, read_string, read_tail, read_unit_delta, units, write_cut,
@@ -21,40 +20,6 @@ use fast_field::{
 };
 use fast_template::{FieldPart, Kind, Operator, Part, Scalar};
 use std::alloc::Global;
-
-/// Whether there are not too many bytes.
-#[inline(always)]
-fn are_few(bytes: &[u8]) -> bool
-    ensures { result ≡ true
-        → (length bytes.now ≤ 65535) × AllByRecursion (λ c. c < 256) bytes.now }
-{
-    bytes.len() <= UNIT_LIMIT
-}
-
-/// Whether a value is a string or vector of a type, and within it.
-#[inline(always)]
-fn is_text(kind: Kind, value: &Scalar) -> bool
-    ensures { result ≡ true → IsText kind value.now }
-{
-    match value {
-        Scalar::Ascii(text) => kind == Kind::Ascii && are_characters(text.as_slice()),
-        Scalar::Unicode(text) => kind == Kind::Unicode && are_few(text.as_bytes()),
-        Scalar::Bytes(bytes) => kind == Kind::Bytes && are_few(bytes.as_slice()),
-        _ => false,
-    }
-}
-
-/// Makes an entry the one that a value leaves which was spelled whole.
-#[inline(always)]
-fn keep_text(operator: Operator, entry: &mut Entry, value: Scalar)
-    requires { SpellsWhole operator }
-    ensures { entry.new ≡ next_of operator entry.old (Some value) }
-{
-    match operator {
-        Operator::Copy | Operator::Increment => *entry = Entry::Assigned(value),
-        _ => {}
-    }
-}
 
 /// Relays a string or vector that is spelled whole.
 fn relay_whole_text(
@@ -89,7 +54,7 @@ fn relay_whole_text(
     }
     match write_units(instr.kind, instr.presence, units(&value), out) {
         Ok(()) => {
-            keep_text(instr.operator, entry, value);
+            keep_value(instr.operator, entry, value);
             Some(next)
         }
         Err(_) => None,
@@ -293,7 +258,10 @@ pub fn relay_text(
                 Some(next) => Some(next),
                 None => relay_field_text(alloc, instr, entry, bytes, at, out),
             },
-            Kind::Unicode | Kind::Bytes => relay_field_text(alloc, instr, entry, bytes, at, out),
+            Kind::Unicode | Kind::Bytes => match relay_vector(alloc, instr, entry, bytes, at, out) {
+                Some(next) => Some(next),
+                None => relay_field_text(alloc, instr, entry, bytes, at, out),
+            },
             Kind::UInt32 | Kind::Int32 | Kind::UInt64 | Kind::Int64 | Kind::Decimal => None,
         },
         Part::Exponent | Part::Mantissa | Part::Length => None,

@@ -7,9 +7,9 @@ use Rattle.serde_json.specs.Data.{Data}
 use Rattle.serde_json.specs.Read.{read}
 use Rattle.fast_io.specs.Counts.{counted}
 use Rattle.fast_template.specs.JsonLoads.{IsNoText, Loads}
-use Rattle.fast_template.specs.JsonTemplates.{templates_of}
+use Rattle.fast_written.specs.JsonTemplates.{templates_of}
 use Rattle.fast_template.specs.TemplateSets.{TemplateList}
-use Rattle.fast_template.specs.declared.fault.LoadFault.{LoadFault}
+use Rattle.fast_written.specs.declared.fault.LoadFault.{LoadFault}
 use Rattle.fast_decoder.specs.Inputs.{Reader, Reads}
 use Rattle.fast_canon.specs.Canonicalised.{FlushesOnce, IsCausedBy, errors_after}
 use Rattle.fast_canon.specs.declared.fault.CanonFault.{CanonFault}

@@ -22,7 +22,7 @@ use Rattle.fast_template.specs.TemplateSets.{identifier_key}
 use Rattle.fast_value.specs.declared.key.Scope.TheVariants.{Global}
 use Rattle.fast_value.specs.declared.kind.Part.{Part}
 use Rattle.fast_value.specs.declared.kind.Part.TheVariants.{Whole, Mantissa}
-use Rattle.fast_template.proofs.WorkedTemplates.{opt, legs, bare, grp}
+use Rattle.fast_written.proofs.WorkedTemplates.{opt, legs, bare, grp}
 use Rattle.fast_template.proofs.WorkedSet.{resolved, slot_of, worked_set}
 
 -- ---- how a row is written

@@ -18,23 +18,12 @@ use Rattle.fast_field.specs.FieldReading.{field_at}
 use Rattle.fast_field.proofs.Waits.{field_waits}
 use Rattle.fast_stream.specs.declared.fault.Cause.{Cause}
 use Rattle.fast_stream.specs.declared.fault.Cause.TheVariants.{Truncated, Limit, Memory, D9}
-use Rattle.fast_stream.specs.declared.halt.Halt.{Halt}
 use Rattle.fast_stream.specs.declared.place.Place.{Place}
 use Rattle.fast_stream.specs.Nodes.{Items, node_limit}
 use Rattle.fast_stream.specs.Bits.{bit_for}
 use Rattle.fast_stream.specs.Streams.{members_of, identifier}
 use Rattle.fast_stream.specs.Faults.{cause_of_wire, cause_of_field, Stop, MessageStop, FirstFault}
 use Rattle.fast_stream.specs.Reading.{Cursor, Reads, stopped, placed, counted, node_at, field_part_at, never, decimal_of, mantissa_at, own_map_at, segment_at, each_at, elements_at, group_at, behind_bit, piece_at, body_at, known, named_at, head_at, in_template, message_at}
-use Rattle.fast_stream.specs.OpenSegments.{Body, Inside, in_group, in_sequence, Waiting, Next, at_instruction, at_mantissa, at_element, Sequel, body_on, elements_on, top_on, behind_inside, all_around, cursor}
-use Rattle.fast_stream.specs.Received.{Received}
-use Rattle.fast_stream.specs.Traversals.{identifier_on, stop_of}
-use Rattle.fast_stream.specs.Walks.{IsAt, HaltsAs, bare, bare_next, bare_inside, next_of, inside_of, frame_of}
-use Rattle.fast_stream.specs.declared.walk.Next.{Next as NextNow}
-use Rattle.fast_stream.specs.declared.walk.Next.TheVariants as next
-use Rattle.fast_stream.specs.declared.walk.Inside.{Inside as InsideNow}
-use Rattle.fast_stream.specs.declared.walk.Inside.TheVariants as inside
-use Rattle.fast_stream.specs.declared.walk.Frame.{Frame as FrameNow}
-use Rattle.fast_stream.specs.declared.walk.Walk.{Walk as WalkNow}
 use Rattle.fast_stream.proofs.MapFaults.{map_refused}
 use Rattle.fast_stream.proofs.MessageReaders.{message_stopped}
 
@@ -44,10 +33,10 @@ use Rattle.fast_stream.proofs.MessageReaders.{message_stopped}
 abbrev pub IsShort : {A : Type 0} → Result A Stop → Type 0
 IsShort r = (s : Stop) → r ≡ Err s → s.cause ≡ Truncated → s.left ≤ 65554
 
-short_ok : {A : Type 0} (x : A) → IsShort (Ok x)
+pub short_ok : {A : Type 0} (x : A) → IsShort (Ok x)
 short_ok x s e t = absurd cc
 
-short_then : {A B : Type 0} (r : Result A Stop) (k : A → Result B Stop) → IsShort r → ((x : A) → IsShort (k x)) → IsShort (r >>= k)
+pub short_then : {A B : Type 0} (r : Result A Stop) (k : A → Result B Stop) → IsShort r → ((x : A) → IsShort (k x)) → IsShort (r >>= k)
 short_then (Ok x) k h later s e t = later x s e t
 short_then {A} {B} (Err d) k h later s e t = h s (ap (λ (z : Stop). Err z) (err_is {A = B} d s e)) t
 
@@ -89,7 +78,7 @@ map_few bytes f e t =
 part_few : (p : FieldPart) (d : Dictionary) (bits : List Bool) (bytes : List ℕ) (f : FieldFault) → field_at p (entry_at d p.key) (bit_for (part_needs_bit p) bits) bytes ≡ Err f → cause_of_field f ≡ Truncated → length bytes ≤ 65554
 part_few p d bits bytes f e t = field_waits p (entry_at d p.key) (bit_for (part_needs_bit p) bits) bytes (e ∙ ap (λ (g : FieldFault). Err g) (part_waits f t))
 
-part_short : (p : FieldPart) (c : Cursor) → IsShort (field_part_at p c)
+pub part_short : (p : FieldPart) (c : Cursor) → IsShort (field_part_at p c)
 unfolding field_part_at
 part_short p c =
     short_then (placed cause_of_field p.number c.bytes (field_at p (entry_at c.dictionary p.key) (bit_for (part_needs_bit p) c.bits) c.bytes)) _
@@ -99,7 +88,7 @@ part_short p c =
 never_short : {A : Type 0} (c : Cursor) → IsShort (never {A = A} c)
 never_short c = short_stopped 0 c.bytes Memory (λ e. absurd cc)
 
-decimal_short : (e : ℤ) (x : Option Scalar × Cursor) → IsShort (decimal_of e x)
+pub decimal_short : (e : ℤ) (x : Option Scalar × Cursor) → IsShort (decimal_of e x)
 decimal_short e (Some (I64 m), c) = short_ok _
 decimal_short e (None, c) = never_short c
 decimal_short e (Some (U32 v), c) = never_short c
@@ -129,11 +118,11 @@ own_map_short : (number : ℕ) (has : Bool) (c : Cursor) → IsShort (own_map_at
 own_map_short number true c = short_then (placed cause_of_wire number c.bytes (map_at c.bytes)) _ (short_placed cause_of_wire number c.bytes (map_at c.bytes) (map_few c.bytes)) (λ m. short_ok _)
 own_map_short number false c = short_ok _
 
-segment_short : {A : Type 0} (number : ℕ) (has : Bool) (read : Cursor → Reads A) (c : Cursor) → ((j : Cursor) → IsShort (read j)) → IsShort (segment_at number has read c)
+pub segment_short : {A : Type 0} (number : ℕ) (has : Bool) (read : Cursor → Reads A) (c : Cursor) → ((j : Cursor) → IsShort (read j)) → IsShort (segment_at number has read c)
 segment_short number has read c h =
     short_then (own_map_at number has c >>= read) _ (short_then (own_map_at number has c) read (own_map_short number has c) h) (λ r. short_ok _)
 
-each_short : (number : ℕ) (one : Cursor → Reads Items) → ((j : Cursor) → IsShort (one j)) → (n : ℕ) (c : Cursor) → IsShort (each_at number one n c)
+pub each_short : (number : ℕ) (one : Cursor → Reads Items) → ((j : Cursor) → IsShort (one j)) → (n : ℕ) (c : Cursor) → IsShort (each_at number one n c)
 each_short number one h zero c = short_ok _
 each_short number one h (suc n) c =
     short_then (node_at number c >>= one) _ (short_then (node_at number c) one (counted_short number c.spare c) h)
@@ -174,87 +163,22 @@ mutual
   body_short (then_instruction i is) c =
       short_then (piece_at i c) _ (piece_short i c) (λ n. short_then (body_at is n.1) _ (body_short is n.1) (λ ns. short_ok _))
 
--- ---- what is left of a message that has begun
-
-body_left_short : (b : Body) (c : Cursor) → IsShort (body_on b c)
-body_left_short b c = short_then (body_at b.rest c) _ (body_short b.rest c) (λ r. short_ok _)
-
-elements_left_short : (q : Sequel) (b : Body) (c : Cursor) → IsShort (elements_on q b c)
-elements_left_short q b c =
-    short_then (each_at q.number (segment_at q.number q.own_map (λ j. body_at q.members j)) q.left c) _
-    (each_short q.number (segment_at q.number q.own_map (λ j. body_at q.members j)) (λ j. segment_short q.number q.own_map (λ j. body_at q.members j) j (λ j. body_short q.members j)) q.left c)
-    (λ es. body_left_short _ es.1)
-
-top_short : (n : Next) (b : Body) (c : Cursor) → IsShort (top_on n b c)
-top_short at_instruction b c = body_left_short b c
-top_short (at_mantissa e mantissa) b c =
-    short_then (field_part_at mantissa c >>= decimal_of e) _ (short_then (field_part_at mantissa c) (decimal_of e) (part_short mantissa c) (decimal_short e)) (λ n. body_left_short _ n.1)
-top_short (at_element q) b c = elements_left_short q b c
-
-inside_short : (i : Inside) (b : Body) (ns : Items) (c : Cursor) → IsShort (behind_inside i b ns c)
-inside_short in_group b ns c = body_left_short _ c
-inside_short (in_sequence q) b ns c = elements_left_short _ b c
-
-all_short : (ws : List Waiting) (r : Reads Items) → IsShort r → IsShort (all_around ws r)
-all_short [] r h = h
-all_short (w ∷ ws) r h = short_then (all_around ws r) _ (all_short ws r h) (λ ns. inside_short w.inside w.body ns.0 _)
-
--- ---- a walk, whatever was received
-
-next_is_bare : (n : NextNow) → bare_next (next_of n) ≡ next_of n
-next_is_bare next.Instruction = refl
-next_is_bare (next.Mantissa p) = refl
-next_is_bare (next.Element q) = refl
-
-inside_is_bare : (i : InsideNow) → bare_inside (inside_of i) ≡ inside_of i
-inside_is_bare inside.Group = refl
-inside_is_bare (inside.Element q) = refl
-
-frame_is_bare : (f : FrameNow) → bare (frame_of f) ≡ frame_of f
-frame_is_bare f = ap (λ (i : Inside). record { bits = f.bits; body = record { rest = list_of f.rest.now; done = [] }; inside = i }) (inside_is_bare f.inside)
-
-frames_are_bare : (fs : List FrameNow) → map bare (map frame_of fs) ≡ map frame_of fs
-frames_are_bare [] = refl
-frames_are_bare (f ∷ fs) = ap (λ (w : Waiting). w ∷ map bare (map frame_of fs)) (frame_is_bare f) ∙ ap (λ (ws : List Waiting). frame_of f ∷ ws) (frames_are_bare fs)
-
-abbrev something : WalkNow → Received
-something w = record {
-  set = [];
-  before = [];
-  template = 0;
-  members = no_instructions;
-  start = finite.empty;
-  next = next_of w.next;
-  body = record { rest = list_of w.rest.now; done = [] };
-  around = map frame_of w.around.items;
-}
-
-is_at_something : (w : WalkNow) → IsAt w (something w)
-is_at_something w = record { next = next_is_bare w.next; rest = refl; around = frames_are_bare w.around.items }
-
--- where a walk halts for want of bytes they are few
-pub walk_few : (w : WalkNow) (d : Dictionary) (bytes : List ℕ) (h : Halt) → HaltsAs w d bytes h → h.cause ≡ Truncated → length bytes ≤ 65554
-walk_few w d bytes h halts t =
-    let o = something w in
-    all_short o.around (top_on o.next o.body (cursor d w.bits w.spare bytes)) (top_short o.next o.body (cursor d w.bits w.spare bytes))
-    (record { cause = h.cause; instruction = h.number; left = length bytes }) (halts o (is_at_something w)) t
-
 -- ---- messages
 
 -- the same of a message
 abbrev pub IsShortMessage : {A : Type 0} → Result A MessageStop → Type 0
 IsShortMessage r = (m : MessageStop) → r ≡ Err m → m.stop.cause ≡ Truncated → m.stop.left ≤ 65554
 
-short_in : {A : Type 0} (id : ℕ) (r : Result A Stop) → IsShort r → IsShortMessage (in_template id r)
+pub short_in : {A : Type 0} (id : ℕ) (r : Result A Stop) → IsShort r → IsShortMessage (in_template id r)
 short_in id (Ok x) h m e t = absurd cc
 short_in {A} id (Err s) h m e t =
     subst (λ (z : MessageStop). z.stop.cause ≡ Truncated → z.stop.left ≤ 65554) (err_is {A = A} (record { template = id; stop = s }) m e) (h s refl) t
 
-message_then : {A B : Type 0} (r : Result A MessageStop) (k : A → Result B MessageStop) → IsShortMessage r → ((x : A) → IsShortMessage (k x)) → IsShortMessage (r >>= k)
+pub message_then : {A B : Type 0} (r : Result A MessageStop) (k : A → Result B MessageStop) → IsShortMessage r → ((x : A) → IsShortMessage (k x)) → IsShortMessage (r >>= k)
 message_then (Ok x) k h later m e t = later x m e t
 message_then {A} {B} (Err d) k h later m e t = h m (ap (λ (z : MessageStop). Err z) (err_is {A = B} d m e)) t
 
-message_ok : {A : Type 0} (x : A) → IsShortMessage (Ok x)
+pub message_ok : {A : Type 0} (x : A) → IsShortMessage (Ok x)
 message_ok x m e t = absurd cc
 
 known_short : (id : ℕ) (bytes : List ℕ) (c : Cursor) (o : Option Instructions) → IsShort (known id bytes c o)
@@ -272,12 +196,16 @@ named_short set bytes (Some (Ascii v), c) = never_short c
 named_short set bytes (Some (Unicode v), c) = never_short c
 named_short set bytes (Some (Bytes v), c) = never_short c
 
-identifier_short : (set : List Resolved) (c : Cursor) → IsShort (field_part_at identifier c >>= named_at set c.bytes)
+pub identifier_short : (set : List Resolved) (c : Cursor) → IsShort (field_part_at identifier c >>= named_at set c.bytes)
 identifier_short set c = short_then (field_part_at identifier c) (named_at set c.bytes) (part_short identifier c) (named_short set c.bytes)
+
+-- where the reading of a message starts
+abbrev start_of : Dictionary → List ℕ → Cursor
+start_of d bytes = record { dictionary = d; bits = []; spare = node_limit; bytes = bytes }
 
 head_short : (set : List Resolved) (d : Dictionary) (bytes : List ℕ) → IsShort (head_at set d bytes)
 unfolding head_at
-head_short set d bytes = short_then (own_map_at 0 true (cursor d [] node_limit bytes)) _ (own_map_short 0 true (cursor d [] node_limit bytes)) (identifier_short set)
+head_short set d bytes = short_then (own_map_at 0 true (start_of d bytes)) _ (own_map_short 0 true (start_of d bytes)) (identifier_short set)
 
 -- where a message stops for want of bytes they are few from its piece on
 pub message_short : (set : List Resolved) (d : Dictionary) (bytes : List ℕ) → IsShortMessage (message_at set d bytes)
@@ -286,16 +214,6 @@ message_short set d bytes =
     message_then (in_template 0 (head_at set d bytes)) _ (short_in 0 (head_at set d bytes) (head_short set d bytes))
     (λ h. message_then (in_template h.0.template (body_at h.0.members h.1)) _ (short_in h.0.template (body_at h.0.members h.1) (body_short h.0.members h.1)) (λ r. message_ok _))
 
-pub map_few_at : (set : List Resolved) (bytes : List ℕ) (h : Halt) → ((d : Dictionary) → message_at set d bytes ≡ Err (stop_of 0 h bytes)) → h.cause ≡ Truncated → length bytes ≤ 65554
-map_few_at set bytes h stops t = message_short set finite.empty bytes (stop_of 0 h bytes) (stops finite.empty) t
-
-pub identifier_few_at : (set : List Resolved) (d : Dictionary) (bits : List Bool) (bytes : List ℕ) (h : Halt) → identifier_on set d bits bytes ≡ Err (stop_of 0 h bytes) → h.cause ≡ Truncated → length bytes ≤ 65554
-identifier_few_at set d bits bytes h stops t =
-    message_then (in_template 0 (field_part_at identifier (cursor d bits node_limit bytes) >>= named_at set bytes)) _
-    (short_in 0 (field_part_at identifier (cursor d bits node_limit bytes) >>= named_at set bytes) (identifier_short set (cursor d bits node_limit bytes)))
-    (λ h. message_then (in_template h.0.template (body_at h.0.members h.1)) _ (short_in h.0.template (body_at h.0.members h.1) (body_short h.0.members h.1)) (λ r. message_ok _))
-    (stop_of 0 h bytes) stops t
-
 -- ---- streams
 
 pub fault_is_short : (set : List Resolved) → AllByRecursion (λ t. HaveTypedParts t.members) set → (stream : List ℕ) (place : Place) → FirstFault set stream place Truncated → length stream ≤ place.offset + 65554
@@ -303,11 +221,3 @@ fault_is_short set typed stream place h =
     let few = message_short set h.dictionary h.rest h.stop (message_stopped set typed h.dictionary h.rest h.stop h.stops) (sym h.cause_is) in
     let offset = ap (λ (p : Place). p.offset) h.place_is in
     omega (arith, few, offset)
-
--- ---- places
-
-pub behind_few : (bytes : List ℕ) (at : ℕ) → length (drop at bytes) ≤ 65554 → length bytes ≤ at + 65554
-behind_few bytes at few = let size = length-drop at bytes in omega (arith, size, few)
-
-pub want_of_bytes : (cause : Cause) → cause ≡ Truncated → cause ≡ Memory → ⊥
-want_of_bytes cause t m = let k : Truncated ≡ Memory = sym t ∙ m in absurd cc

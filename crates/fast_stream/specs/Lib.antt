@@ -5,10 +5,3 @@ pub mod Streams
 pub mod Faults
 pub mod Reading
 pub mod Readers
-pub mod OpenSegments
-pub mod Received
-pub mod Walks
-pub mod Traversals
-pub mod Standing
-pub mod Following
-pub mod OneProof

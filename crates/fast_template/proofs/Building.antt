@@ -6,8 +6,8 @@ use Rattle.std.proofs.lemmas.Option.{slice_get_within, slice_get-get_or, slice_g
 use Rattle.std.proofs.lemmas.List.{length-map, take_all, drop_all, append-nil}
 use Rattle.fast_value.specs.declared.key.Key.{Key}
 use Rattle.fast_template.specs.declared.resolved.FlatTemplate.{FlatTemplate}
-use Rattle.fast_template.specs.declared.written.Template.{Template}
-use Rattle.fast_template.specs.Written.{WrittenInstruction, WrittenInstructions, written_field, written_parts, written_group, written_sequence, written_reference, no_written, then_written, WrittenTemplate, written_template_of, listed}
+use Rattle.fast_written.specs.declared.written.Template.{Template}
+use Rattle.fast_written.specs.Written.{WrittenInstruction, WrittenInstructions, written_field, written_parts, written_group, written_sequence, written_reference, no_written, then_written, WrittenTemplate, written_template_of, listed}
 use Rattle.fast_template.specs.Resolved.{Instructions, Resolved, resolved_of, size_of, depth_of, keys_of, numbered, with_keys}
 use Rattle.fast_template.specs.FlatLists.{AreFlatLists, Resolves, AreResolved}
 use Rattle.fast_template.specs.TemplateSets.{HaveTypedParts, IsNumbered, Differ, AreSound, HasSlots, identifier_key, keys_of_all, size_of_all}
@@ -16,7 +16,7 @@ use Rattle.fast_template.specs.Phases.{phase_of, Passes}
 use Rattle.fast_template.specs.Links.{EachReference, EachReferenceOne, IsBehind, IsBuildOrder, references_in, references_in_one}
 use Rattle.fast_template.specs.NamedLists.{AreFlattened}
 use Rattle.fast_template.specs.Slots.{settled, AreSettled}
-use Rattle.fast_template.proofs.SearchSteps.{at_append}
+use Rattle.fast_order.proofs.SearchSteps.{at_append}
 use Rattle.fast_template.proofs.LinkOrder.{named_there, listed_to}
 use Rattle.fast_template.proofs.SettledSound.{typed_settled, size_settled, depth_settled, in_order_settled}
 use Rattle.fast_template.proofs.TypedLists.{template_typed}

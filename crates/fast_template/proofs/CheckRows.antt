@@ -7,14 +7,16 @@ use Rattle.fast_value.specs.declared.kind.Kind.TheVariants.{UInt32}
 use Rattle.fast_value.specs.declared.kind.Presence.{Presence}
 use Rattle.fast_value.specs.declared.kind.Presence.TheVariants.{Mandatory, Optional}
 use Rattle.fast_value.specs.declared.kind.Operator.TheVariants.{Default, Copy}
-use Rattle.fast_template.specs.declared.fault.LoadFault.{LoadFault}
-use Rattle.fast_template.specs.declared.fault.LoadCause.{LoadCause}
-use Rattle.fast_template.specs.declared.fault.LoadCause.TheVariants as cause
-use Rattle.fast_template.specs.Written.{WrittenOperation, Surroundings, WrittenInstruction, WrittenInstructions, written_field, written_parts, written_group, written_sequence, written_reference, written_list, no_written, then_written, WrittenTemplate, WrittenPart, parts_of, listed}
+use Rattle.fast_written.specs.declared.fault.LoadFault.{LoadFault}
+use Rattle.fast_written.specs.declared.fault.LoadCause.{LoadCause}
+use Rattle.fast_written.specs.declared.fault.LoadCause.TheVariants as cause
+use Rattle.fast_written.specs.Written.{WrittenOperation, Surroundings, WrittenInstruction, WrittenInstructions, written_field, written_parts, written_group, written_sequence, written_reference, written_list, no_written, then_written, WrittenTemplate, WrittenPart, parts_of, listed}
 use Rattle.fast_template.specs.Resolved.{Instructions, no_instructions, joined, size_of, depth_of}
 use Rattle.fast_template.specs.FlatLists.{Context, context_of, flat_one, flat_list, AreFlatLists}
-use Rattle.fast_template.specs.LoadChecks.{from_one, IsTemplateAt, IsInstructionAt, IsPartAt, HasNames, is_name, names_of, names_in, Refers, Leads, directly, onwards, size_up_to, Check, few_templates, names_well_made, name_new, id_new, operator_allowed, constant_has_value, default_has_value, value_spelled, reference_known, off_cycles, nests_little, sum_small, Fails, turn_of, Before, fault_of, want_of_memory, IsAccepted, IsFirstFault}
-use Rattle.fast_template.proofs.WorkedTemplates.{by, nothing_around, template}
+use Rattle.fast_template.specs.LoadChecks.{from_one, IsTemplateAt, IsInstructionAt, IsPartAt, HasNames, names_of, names_in, Refers, Leads, directly, onwards, size_up_to, Check, few_templates, names_well_made, name_new, id_new, operator_allowed, constant_has_value, default_has_value, value_spelled, reference_known, off_cycles, nests_little, sum_small, Fails, turn_of, Before, fault_of, IsAccepted, IsFirstFault}
+use Rattle.fast_written.specs.LoadFaults.{want_of_memory}
+use Rattle.fast_written.specs.Names.{is_name}
+use Rattle.fast_written.proofs.WorkedTemplates.{by, nothing_around, template}
 
 -- ---- names
 

@@ -7,10 +7,10 @@ use Rattle.std.specs.Cmp.{ranked, unsigned_Decides}
 use Rattle.std.specs.declared.cmp.Ordering.{Ordering}
 use Rattle.std.specs.declared.cmp.Ordering.TheVariants.{Less, Equal, Greater}
 use Rattle.std.specs.Cmp.Lexicographic.{pointwise, slice_cmp, same_text, nat_list_eq_equiv}
-use Rattle.fast_template.specs.declared.fault.LoadCause.{LoadCause}
-use Rattle.fast_template.specs.declared.fault.LoadCause.TheVariants.{DuplicateName, DuplicateId}
-use Rattle.fast_template.specs.declared.fault.LoadFault.{LoadFault}
-use Rattle.fast_template.specs.Written.{WrittenTemplate}
+use Rattle.fast_written.specs.declared.fault.LoadCause.{LoadCause}
+use Rattle.fast_written.specs.declared.fault.LoadCause.TheVariants.{DuplicateName, DuplicateId}
+use Rattle.fast_written.specs.declared.fault.LoadFault.{LoadFault}
+use Rattle.fast_written.specs.Written.{WrittenTemplate}
 use Rattle.fast_template.specs.TemplateSets.{has_id}
 use Rattle.fast_template.specs.LoadChecks.{Check, few_templates, names_well_made, name_new, id_new, operator_allowed, constant_has_value, default_has_value, value_spelled, reference_known, off_cycles, nests_little, sum_small, Fails, Before}
 use Rattle.fast_template.specs.Walks.{after_template}

@@ -6,13 +6,13 @@ use Rattle.std.specs.BTreeMap.{BTreeMap}
 use Rattle.std.proofs.lemmas.Bool.{cases_lt}
 use Rattle.std.proofs.lemmas.Option.{slice_get_within, slice_get-get_or}
 use Rattle.fast_template.specs.declared.extents.Extent.{Extent}
-use Rattle.fast_template.specs.Written.{WrittenInstruction, WrittenInstructions, written_field, written_parts, written_group, written_sequence, written_reference, no_written, then_written, WrittenTemplate}
+use Rattle.fast_written.specs.Written.{WrittenInstruction, WrittenInstructions, written_field, written_parts, written_group, written_sequence, written_reference, no_written, then_written, WrittenTemplate}
 use Rattle.fast_template.specs.Resolved.{Instructions, no_instructions, then_instruction, joined, size_of, depth_of}
 use Rattle.fast_template.specs.FlatLists.{Context, context_of, inside, flat_one, flat_list, AreFlatLists}
 use Rattle.fast_template.specs.Duplicates.{NamesLead}
 use Rattle.fast_template.specs.Links.{EachReference, EachReferenceOne, IsBehind, IsBuildOrder, place_in}
 use Rattle.fast_template.specs.Extents.{size_with, size_with_one, depth_with, depth_with_one, stopped_size, stopped_depth, extent_named, size_named, depth_named, IsExtentOf}
-use Rattle.fast_template.proofs.SearchSteps.{at_set, at_set_same}
+use Rattle.fast_order.proofs.SearchSteps.{at_set, at_set_same}
 use Rattle.fast_template.proofs.LinkOrder.{named_there}
 
 -- ---- flat lists

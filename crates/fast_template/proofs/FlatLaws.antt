@@ -6,18 +6,18 @@ use Rattle.std.proofs.lemmas.Option.{slice_get_past}
 use Rattle.std.proofs.lemmas.List.{drop_more, drop_all}
 use Rattle.fast_value.specs.declared.kind.Kind.{Kind}
 use Rattle.fast_value.specs.declared.kind.Presence.{Presence}
-use Rattle.fast_template.specs.declared.written.Operation.{Operation}
-use Rattle.fast_template.specs.declared.written.Instruction.{Instruction}
-use Rattle.fast_template.specs.declared.written.Instruction.TheVariants as written
-use Rattle.fast_template.specs.declared.written.Instruction.TheOpen.{Instruction-F}
-use Rattle.fast_template.specs.declared.written.Instruction.TheFolds.{fold-roll-Instruction}
+use Rattle.fast_written.specs.declared.written.Operation.{Operation}
+use Rattle.fast_written.specs.declared.written.Instruction.{Instruction}
+use Rattle.fast_written.specs.declared.written.Instruction.TheVariants as written
+use Rattle.fast_written.specs.declared.written.Instruction.TheOpen.{Instruction-F}
+use Rattle.fast_written.specs.declared.written.Instruction.TheFolds.{fold-roll-Instruction}
 use Rattle.fast_template.specs.declared.resolved.FieldPart.{FieldPart}
 use Rattle.fast_template.specs.declared.resolved.Flat.{Flat}
 use Rattle.fast_template.specs.declared.resolved.FlatTemplate.{FlatTemplate}
 use Rattle.fast_template.specs.declared.resolved.Flat.TheVariants as flat
 use Rattle.fast_template.specs.declared.resolved.Flat.TheOpen.{Flat-F}
 use Rattle.fast_template.specs.declared.resolved.Flat.TheFolds.{fold-roll-Flat}
-use Rattle.fast_template.specs.Written.{WrittenInstruction, written_field, written_parts, written_group, written_sequence, written_step, written_list, written_of, operation_of}
+use Rattle.fast_written.specs.Written.{WrittenInstruction, written_field, written_parts, written_group, written_sequence, written_step, written_list, written_of, operation_of}
 use Rattle.fast_template.specs.Resolved as resolved
 use Rattle.fast_template.specs.Resolved.{Instructions, whole_field, field_in_parts, group_of, sequence_of, no_instructions, then_instruction, joined, list_of, instruction_of, flat_step}
 use Rattle.fast_template.specs.NamedLists.{list_at}

@@ -7,14 +7,14 @@ use Rattle.std.proofs.lemmas.Bool.{cases_lt}
 use Rattle.std.proofs.lemmas.Option.{slice_get_within, slice_get-map}
 use Rattle.std.proofs.lemmas.List.{length-map, map-set, set-get_or, get_or-map}
 use Rattle.fast_template.specs.declared.resolved.FlatTemplate.{FlatTemplate}
-use Rattle.fast_template.specs.declared.written.Template.{Template}
-use Rattle.fast_template.specs.Written.{WrittenTemplate, written_template_of}
+use Rattle.fast_written.specs.declared.written.Template.{Template}
+use Rattle.fast_written.specs.Written.{WrittenTemplate, written_template_of}
 use Rattle.fast_template.specs.Resolved.{Instructions, no_instructions, list_of}
 use Rattle.fast_template.specs.FlatLists.{context_of, flat_list, AreFlatLists}
 use Rattle.fast_template.specs.Duplicates.{NamesLead}
 use Rattle.fast_template.specs.Links.{IsBehind, IsBuildOrder}
 use Rattle.fast_template.specs.NamedLists.{list_at, list_named, heading, heading_of, AreFlattened}
-use Rattle.fast_template.proofs.SearchSteps.{at_set, at_set_same, at_set_other}
+use Rattle.fast_order.proofs.SearchSteps.{at_set, at_set_same, at_set_other}
 use Rattle.fast_template.proofs.LinkOrder.{named_there}
 use Rattle.fast_template.proofs.Solutions.{same_list}
 

@@ -7,7 +7,6 @@ pub mod Settling
 pub mod SettledSound
 pub mod InitialFits
 pub mod TypedLists
-pub mod JsonReading
 pub mod BareLists
 pub mod WrittenTexts
 pub mod PhaseOrder
@@ -18,7 +17,6 @@ pub mod OperatorPhase
 pub mod NamePhase
 pub mod WalkLaws
 pub mod SlotLaws
-pub mod WorkedTemplates
 pub mod WorkedRows
 pub mod OneFault
 pub mod Solutions
@@ -28,9 +26,6 @@ pub mod Tested
 pub mod WorkedSet
 pub mod CheckRows
 pub mod SetRows
-pub mod SearchSteps
-pub mod SearchGroups
-pub mod SearchTurns
 pub mod LinkLaws
 pub mod FlatLaws
 pub mod LinkOrder

@@ -1,8 +1,8 @@
 -- References, one list of instructions after another.
 use Rattle.std.proofs.Common.{◌≡◌, ◌<◌, ◌+◌, ◌∷◌, ◌++◌, [], ℕ, List, map, drop, get_or, length, option_to_list, Option, refl, sym, ap, ◌∙◌, append_assoc}
 use Rattle.std.proofs.lemmas.List.{drop_more}
-use Rattle.fast_template.specs.declared.written.Instruction.{Instruction}
-use Rattle.fast_template.specs.Written.{written_list, written_of}
+use Rattle.fast_written.specs.declared.written.Instruction.{Instruction}
+use Rattle.fast_written.specs.Written.{written_list, written_of}
 use Rattle.fast_template.specs.Links.{places_of, references_in, references_in_one}
 
 pub places_of-append : (f : List ℕ → Option ℕ) (xs ys : List (List ℕ)) → places_of f (xs ++ ys) ≡ places_of f xs ++ places_of f ys

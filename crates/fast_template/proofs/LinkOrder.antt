@@ -11,17 +11,17 @@ use Rattle.std.specs.declared.alloc.Global.{Global}
 use Rattle.std.proofs.lemmas.Bool.{cases_eq, cases_lt}
 use Rattle.std.proofs.lemmas.Option.{slice_get_within, slice_get-map, slice_get_cases}
 use Rattle.std.proofs.lemmas.List.{length-map}
-use Rattle.fast_template.specs.declared.fault.LoadCause.TheVariants.{Cycle}
-use Rattle.fast_template.specs.declared.fault.LoadFault.{LoadFault}
-use Rattle.fast_template.specs.declared.written.Template.{Template}
-use Rattle.fast_template.specs.Written.{WrittenInstruction, WrittenInstructions, written_field, written_parts, written_group, written_sequence, written_reference, no_written, then_written, WrittenTemplate, written_template_of, listed, listed_one}
+use Rattle.fast_written.specs.declared.fault.LoadCause.TheVariants.{Cycle}
+use Rattle.fast_written.specs.declared.fault.LoadFault.{LoadFault}
+use Rattle.fast_written.specs.declared.written.Template.{Template}
+use Rattle.fast_written.specs.Written.{WrittenInstruction, WrittenInstructions, written_field, written_parts, written_group, written_sequence, written_reference, no_written, then_written, WrittenTemplate, written_template_of, listed, listed_one}
 use Rattle.fast_template.specs.LoadChecks.{Check, few_templates, names_well_made, name_new, id_new, operator_allowed, constant_has_value, default_has_value, value_spelled, reference_known, off_cycles, nests_little, sum_small, IsTemplateAt, Fails, Before, Refers, Leads, directly, onwards}
 use Rattle.fast_template.specs.Phases.{phase_of, Passes, IsFirstOf}
 use Rattle.fast_template.specs.Duplicates.{place_named, NamesLead}
-use Rattle.fast_template.specs.Order.{IsReference, AreWithin, Reaches, one, further, IsOrder, IsFirstOnCycle}
+use Rattle.fast_order.specs.Order.{IsReference, AreWithin, Reaches, one, further, IsOrder, IsFirstOnCycle}
 use Rattle.fast_template.specs.Links.{references_in, references_in_one, places_of, place_in, EachReference, EachReferenceOne, IsBehind, IsBuildOrder}
 use Rattle.fast_template.proofs.DuplicatePhase.{Found, found, placed}
-use Rattle.fast_template.proofs.SearchSteps.{at_append, at_old, at_right}
+use Rattle.fast_order.proofs.SearchSteps.{at_append, at_old, at_right}
 
 -- ---- places of names
 

@@ -8,11 +8,12 @@ use Rattle.std.specs.Cmp.{ranked}
 use Rattle.std.specs.declared.cmp.Ordering.{Ordering}
 use Rattle.std.specs.declared.cmp.Ordering.TheVariants.{Less, Equal, Greater}
 use Rattle.std.specs.Cmp.Lexicographic.{slice_cmp}
-use Rattle.fast_template.specs.declared.fault.LoadCause.{LoadCause}
-use Rattle.fast_template.specs.declared.fault.LoadCause.TheVariants.{S1}
-use Rattle.fast_template.specs.declared.fault.LoadFault.{LoadFault}
-use Rattle.fast_template.specs.Written.{WrittenInstruction, WrittenTemplate}
-use Rattle.fast_template.specs.LoadChecks.{Check, few_templates, names_well_made, name_new, id_new, operator_allowed, constant_has_value, default_has_value, value_spelled, reference_known, off_cycles, nests_little, sum_small, is_name, names_of, names_in, Fails, Before}
+use Rattle.fast_written.specs.declared.fault.LoadCause.{LoadCause}
+use Rattle.fast_written.specs.declared.fault.LoadCause.TheVariants.{S1}
+use Rattle.fast_written.specs.declared.fault.LoadFault.{LoadFault}
+use Rattle.fast_written.specs.Written.{WrittenInstruction, WrittenTemplate}
+use Rattle.fast_template.specs.LoadChecks.{Check, few_templates, names_well_made, name_new, id_new, operator_allowed, constant_has_value, default_has_value, value_spelled, reference_known, off_cycles, nests_little, sum_small, names_of, names_in, Fails, Before}
+use Rattle.fast_written.specs.Names.{is_name}
 use Rattle.fast_template.specs.Walks.{first_at_fault}
 use Rattle.fast_template.specs.Phases.{phase_of, Passes, IsFirstOf}
 use Rattle.fast_template.proofs.WalkLaws.{CauseIn, IsFirstPlace, first_place, no_place}

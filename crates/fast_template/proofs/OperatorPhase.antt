@@ -12,10 +12,10 @@ use Rattle.fast_value.specs.declared.kind.Operator.TheVariants as operator
 use Rattle.fast_value.specs.declared.kind.Presence.{Presence}
 use Rattle.fast_value.specs.declared.kind.Presence.TheVariants.{Mandatory, Optional}
 use Rattle.fast_value.specs.declared.scalar.Scalar.{Scalar}
-use Rattle.fast_template.specs.declared.fault.LoadCause.{LoadCause}
-use Rattle.fast_template.specs.declared.fault.LoadCause.TheVariants as cause
-use Rattle.fast_template.specs.declared.fault.LoadFault.{LoadFault}
-use Rattle.fast_template.specs.Written.{WrittenInstruction, WrittenTemplate, WrittenPart, parts_of, listed}
+use Rattle.fast_written.specs.declared.fault.LoadCause.{LoadCause}
+use Rattle.fast_written.specs.declared.fault.LoadCause.TheVariants as cause
+use Rattle.fast_written.specs.declared.fault.LoadFault.{LoadFault}
+use Rattle.fast_written.specs.Written.{WrittenInstruction, WrittenTemplate, WrittenPart, parts_of, listed}
 use Rattle.fast_template.specs.TemplateSets.{applies}
 use Rattle.fast_value.specs.InitialValues.{value_of_text}
 use Rattle.fast_template.specs.PartCauses.{missing_value, value_cause, initial_cause, part_cause, parts_cause}

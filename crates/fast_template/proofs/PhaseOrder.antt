@@ -5,9 +5,9 @@ use Rattle.std.specs.Cmp.{ranked}
 use Rattle.std.specs.declared.cmp.Ordering.{Ordering}
 use Rattle.std.specs.declared.cmp.Ordering.TheVariants.{Less, Equal, Greater}
 use Rattle.std.specs.Cmp.Lexicographic.{slice_cmp}
-use Rattle.fast_template.specs.declared.fault.LoadFault.{LoadFault}
-use Rattle.fast_template.specs.declared.fault.LoadCause.TheVariants.{TooMany}
-use Rattle.fast_template.specs.Written.{WrittenTemplate}
+use Rattle.fast_written.specs.declared.fault.LoadFault.{LoadFault}
+use Rattle.fast_written.specs.declared.fault.LoadCause.TheVariants.{TooMany}
+use Rattle.fast_written.specs.Written.{WrittenTemplate}
 use Rattle.fast_template.specs.LoadChecks.{Check, few_templates, names_well_made, name_new, id_new, operator_allowed, constant_has_value, default_has_value, value_spelled, reference_known, off_cycles, nests_little, sum_small, Fails, Before, turn_of, IsFirstFault}
 use Rattle.fast_template.specs.Phases.{phase_of, Passes, IsFirstOf}
 

@@ -6,11 +6,11 @@ use Rattle.std.specs.Cmp.{unsigned_ties, unsigned_Decides}
 use Rattle.std.specs.Cmp.Lexicographic.{pointwise, slice_cmp, texts_ties, same_text}
 use Rattle.std.specs.BTreeMap.{BTreeMap, Updates, get}
 use Rattle.std.proofs.lemmas.List.{take_more, drop_more, map-append, length-map}
-use Rattle.fast_template.specs.declared.written.Template.{Template}
-use Rattle.fast_template.specs.declared.fault.LoadFault.{LoadFault}
-use Rattle.fast_template.specs.declared.fault.LoadCause.TheVariants.{DuplicateName, DuplicateId}
+use Rattle.fast_written.specs.declared.written.Template.{Template}
+use Rattle.fast_written.specs.declared.fault.LoadFault.{LoadFault}
+use Rattle.fast_written.specs.declared.fault.LoadCause.TheVariants.{DuplicateName, DuplicateId}
 use Rattle.fast_template.specs.Walks.{after_template}
-use Rattle.fast_template.specs.Written.{WrittenTemplate, written_template_of}
+use Rattle.fast_written.specs.Written.{WrittenTemplate, written_template_of}
 use Rattle.fast_template.specs.TemplateSets.{has_id}
 use Rattle.fast_template.specs.Duplicates.{place_where, place_named, place_of_id, repeats_id, duplicate_of, first_duplicate, has_entry, EntersId, NamesLead, IdsLead}
 

@@ -3,10 +3,10 @@ use Rattle.std.proofs.Common.{◌≡◌, ◌≢◌, ◌≤◌, ◌<◌, ◌+◌,
 use Rattle.std.specs.Prelude.{slice_get}
 use Rattle.std.specs.Option.{option_map_or}
 use Rattle.std.specs.Cmp.Lexicographic.{pointwise, nat_list_eq_equiv, same_text}
-use Rattle.fast_template.specs.declared.fault.LoadCause.{LoadCause}
-use Rattle.fast_template.specs.declared.fault.LoadCause.TheVariants.{D8}
-use Rattle.fast_template.specs.declared.fault.LoadFault.{LoadFault}
-use Rattle.fast_template.specs.Written.{WrittenInstruction, written_field, written_parts, written_group, written_sequence, written_reference, WrittenTemplate}
+use Rattle.fast_written.specs.declared.fault.LoadCause.{LoadCause}
+use Rattle.fast_written.specs.declared.fault.LoadCause.TheVariants.{D8}
+use Rattle.fast_written.specs.declared.fault.LoadFault.{LoadFault}
+use Rattle.fast_written.specs.Written.{WrittenInstruction, written_field, written_parts, written_group, written_sequence, written_reference, WrittenTemplate}
 use Rattle.fast_template.specs.LoadChecks.{Check, few_templates, names_well_made, name_new, id_new, operator_allowed, constant_has_value, default_has_value, value_spelled, reference_known, off_cycles, nests_little, sum_small, IsTemplateAt, Fails, Before}
 use Rattle.fast_template.specs.Walks.{first_at_fault}
 use Rattle.fast_template.specs.Duplicates.{place_named}

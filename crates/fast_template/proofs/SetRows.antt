@@ -15,11 +15,11 @@ use Rattle.fast_value.specs.declared.scalar.Scalar.TheVariants as value
 use Rattle.fast_value.specs.declared.key.Scope.TheVariants.{Global}
 use Rattle.fast_value.specs.declared.key.Key.{Key}
 use Rattle.fast_template.specs.declared.resolved.FieldPart.{FieldPart}
-use Rattle.fast_template.specs.Written.{WrittenOperation, written_field, written_parts, written_group, written_sequence, written_list, WrittenTemplate}
+use Rattle.fast_written.specs.Written.{WrittenOperation, written_field, written_parts, written_group, written_sequence, written_list, WrittenTemplate}
 use Rattle.fast_template.specs.Resolved.{Instruction, Instructions, whole_field, field_in_parts, group_of, sequence_of, instructions_of, no_instructions, then_instruction, Resolved, takes_bit, size_of, depth_of, keys_of, numbered, with_keys}
 use Rattle.fast_template.specs.FlatLists.{context_of, flat_list, AreFlatLists, AreResolved}
 use Rattle.fast_template.specs.TemplateSets.{applies, is_in_part, HasSlots, identifier_key, keys_of_all, size_of_all, AreSound}
-use Rattle.fast_template.proofs.WorkedTemplates.{nothing_around, common, grp}
+use Rattle.fast_written.proofs.WorkedTemplates.{nothing_around, common, grp}
 
 -- ---- the types that operators apply to
 

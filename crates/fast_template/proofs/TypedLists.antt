@@ -9,11 +9,11 @@ use Rattle.fast_value.specs.declared.kind.Part.TheVariants as part
 use Rattle.fast_value.specs.declared.kind.Presence.TheVariants.{Mandatory}
 use Rattle.fast_value.specs.declared.key.Key.{Key}
 use Rattle.fast_value.specs.InitialValues.{value_of_text}
-use Rattle.fast_template.specs.Written.{WrittenInstruction, WrittenInstructions, WrittenPart, written_field, written_parts, written_group, written_sequence, written_reference, no_written, then_written, parts_of, listed, listed_one}
+use Rattle.fast_written.specs.Written.{WrittenInstruction, WrittenInstructions, WrittenPart, written_field, written_parts, written_group, written_sequence, written_reference, no_written, then_written, parts_of, listed, listed_one}
 use Rattle.fast_template.specs.Resolved.{Instructions, no_instructions, then_instruction, joined}
 use Rattle.fast_template.specs.FlatLists.{Context, inside, part_of, flat_one, flat_list}
 use Rattle.std.specs.List.{AllByRecursion}
-use Rattle.fast_template.specs.Written.{WrittenTemplate}
+use Rattle.fast_written.specs.Written.{WrittenTemplate}
 use Rattle.fast_template.specs.LoadChecks.{operator_allowed, constant_has_value, default_has_value, value_spelled, from_one, IsPartAt, IsInstructionAt}
 use Rattle.fast_template.specs.Phases.{Passes}
 use Rattle.fast_template.specs.FlatLists.{AreFlatLists, context_of}

@@ -3,12 +3,13 @@ use Rattle.std.proofs.Common.{◌≡◌, ◌≤◌, ◌<◌, ◌+◌, ℕ, zero,
 use Rattle.std.specs.Prelude.{slice_get}
 use Rattle.std.proofs.Math.Nat.{min-le_right}
 use Rattle.std.specs.Option.{option_map_or}
-use Rattle.fast_template.specs.declared.fault.LoadCause.{LoadCause}
-use Rattle.fast_template.specs.declared.fault.LoadFault.{LoadFault}
+use Rattle.fast_written.specs.declared.fault.LoadCause.{LoadCause}
+use Rattle.fast_written.specs.declared.fault.LoadFault.{LoadFault}
 use Rattle.fast_template.specs.declared.walk.Walked.{Walked}
 use Rattle.fast_template.specs.declared.walk.Walked.TheVariants.{Next, Fault}
-use Rattle.fast_template.specs.Written.{WrittenInstruction, WrittenInstructions, written_field, written_parts, written_group, written_sequence, written_reference, no_written, then_written, WrittenTemplate, listed, listed_one}
-use Rattle.fast_template.specs.Walks.{next_number, and_then, judged, walk, walk_one, after_walk, after_template, first_at_fault}
+use Rattle.fast_written.specs.Written.{WrittenInstruction, WrittenInstructions, written_field, written_parts, written_group, written_sequence, written_reference, no_written, then_written, WrittenTemplate, listed, listed_one}
+use Rattle.fast_template.specs.Walks.{and_then, judged, walk, walk_one, after_walk, after_template, first_at_fault}
+use Rattle.fast_written.specs.LoadFaults.{next_number}
 
 module _ (judge : WrittenInstruction → Option LoadCause) where
   -- the same along a list

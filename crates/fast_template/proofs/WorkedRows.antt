@@ -17,12 +17,12 @@ use Rattle.fast_value.specs.declared.key.Scope.TheVariants.{Global, Template, Ty
 use Rattle.fast_value.specs.declared.key.Key.{Key}
 use Rattle.fast_template.specs.declared.resolved.FieldPart.{FieldPart}
 use Rattle.fast_value.specs.InitialValues.{value_of_text}
-use Rattle.fast_template.specs.Written.{WrittenOperation, Surroundings, WrittenInstruction, written_field, written_parts, written_group, written_sequence, written_reference, written_list, WrittenTemplate}
+use Rattle.fast_written.specs.Written.{WrittenOperation, Surroundings, WrittenInstruction, written_field, written_parts, written_group, written_sequence, written_reference, written_list, WrittenTemplate}
 use Rattle.fast_template.specs.Resolved.{Instruction, Instructions, whole_field, field_in_parts, group_of, sequence_of, instructions_of, no_instructions, then_instruction, numbered, keys_of, size_of, depth_of, needs_bit, has_map}
 use Rattle.fast_template.specs.FlatLists.{context_of, flat_list}
 use Rattle.fast_template.specs.LoadChecks.{Before, names_well_made, name_new, id_new, operator_allowed, constant_has_value, default_has_value, value_spelled, reference_known, off_cycles, nests_little, sum_small, Fails, directly, IsTemplateAt}
 use Rattle.fast_template.specs.TemplateSets.{HaveTypedParts, IsNumbered, AreSound, identifier_key}
-use Rattle.fast_template.proofs.WorkedTemplates.{by, by_value, by_key, nothing_around, template, quote, wrap, opt, legs, marks, bare, clash, tail, init, delta, common, grp, uni, empty, const, fixed, first}
+use Rattle.fast_written.proofs.WorkedTemplates.{by, by_value, by_key, nothing_around, template, quote, wrap, opt, legs, marks, bare, clash, tail, init, delta, common, grp, uni, empty, const, fixed, first}
 
 -- The only reference of the worked rows is to Common, the eleventh template.
 abbrev common_list : List ℕ → Instructions

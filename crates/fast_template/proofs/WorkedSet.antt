@@ -13,12 +13,12 @@ use Rattle.fast_value.specs.declared.scalar.Scalar.TheVariants as value
 use Rattle.fast_value.specs.declared.key.Scope.TheVariants.{Global}
 use Rattle.fast_value.specs.declared.key.Key.{Key}
 use Rattle.fast_template.specs.declared.resolved.FieldPart.{FieldPart}
-use Rattle.fast_template.specs.Written.{WrittenTemplate}
+use Rattle.fast_written.specs.Written.{WrittenTemplate}
 use Rattle.fast_template.specs.Resolved.{Instructions, no_instructions, Resolved, numbered, with_keys}
 use Rattle.fast_template.specs.FlatLists.{context_of, flat_list}
 use Rattle.fast_template.specs.TemplateSets.{applies, IsInitial, IsPartOf, HaveTypedParts, AreSound, identifier_key, keys_of_all}
 use Rattle.fast_template.proofs.Tested.{names_tie, slotted_by, all_differ}
-use Rattle.fast_template.proofs.WorkedTemplates.{quote, wrap, opt, legs, marks, bare, clash, tail, init, delta, common, grp, uni, empty, const, fixed, first}
+use Rattle.fast_written.proofs.WorkedTemplates.{quote, wrap, opt, legs, marks, bare, clash, tail, init, delta, common, grp, uni, empty, const, fixed, first}
 
 -- The only reference is to Common, the eleventh template.
 abbrev pub common_list : List ℕ → Instructions

@@ -5,10 +5,10 @@ use Rattle.std.specs.List.{AllByRecursion}
 use Rattle.std.specs.declared.alloc.Global.{Global}
 use Rattle.std.specs.declared.string.String.{String}
 use Rattle.std.proofs.lemmas.Str.{IsUtf8-string_bytes}
-use Rattle.fast_template.specs.declared.written.Instruction.{Instruction, map-Instruction, fold-roll-Instruction, ind-Instruction}
-use Rattle.fast_template.specs.declared.written.Instruction.TheOpen.{Instruction-F}
-use Rattle.fast_template.specs.declared.written.Template.{Template}
-use Rattle.fast_template.specs.Written.{WrittenInstruction, written_step, written_of, written_list, listed, listed_one, written_template_of}
+use Rattle.fast_written.specs.declared.written.Instruction.{Instruction, map-Instruction, fold-roll-Instruction, ind-Instruction}
+use Rattle.fast_written.specs.declared.written.Instruction.TheOpen.{Instruction-F}
+use Rattle.fast_written.specs.declared.written.Template.{Template}
+use Rattle.fast_written.specs.Written.{WrittenInstruction, written_step, written_of, written_list, listed, listed_one, written_template_of}
 use Rattle.fast_template.proofs.AllOf.{all_of_both}
 use Rattle.fast_template.proofs.TypedLists.{HasTexts}
 

@@ -1,12 +1,12 @@
 -- How large the flat lists of templates are and how deep they nest, before any is put together.
 -- Own: the limits.
 use Rattle.std.specs.Prelude.{◌≡◌, ◌+◌, ℕ, max, min, nat_lt, if◌then◌else◌, List, [], ◌∷◌, slice_get, Option, Some, None, option_and_then}
-use Rattle.fast_template.specs.declared.fault.LoadCause.TheVariants.{TooDeep, TooMany}
-use Rattle.fast_template.specs.declared.fault.LoadFault.{LoadFault}
+use Rattle.fast_written.specs.declared.fault.LoadCause.TheVariants.{TooDeep, TooMany}
+use Rattle.fast_written.specs.declared.fault.LoadFault.{LoadFault}
 use Rattle.std.specs.Option.{option_map_or}
 use Rattle.std.specs.BTreeMap.{BTreeMap}
 use Rattle.fast_template.specs.declared.extents.Extent.{Extent}
-use Rattle.fast_template.specs.Written.{WrittenInstruction, WrittenInstructions, written_field, written_parts, written_group, written_sequence, written_reference, no_written, then_written}
+use Rattle.fast_written.specs.Written.{WrittenInstruction, WrittenInstructions, written_field, written_parts, written_group, written_sequence, written_reference, no_written, then_written}
 use Rattle.fast_template.specs.Resolved.{Instructions, size_of, depth_of}
 use Rattle.fast_template.specs.Links.{place_in}
 

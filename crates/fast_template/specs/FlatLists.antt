@@ -16,7 +16,7 @@ use Rattle.fast_value.specs.declared.key.Scope.TheVariants.{Global, Template, Ty
 use Rattle.fast_value.specs.declared.key.Key.{Key}
 use Rattle.fast_template.specs.declared.resolved.FieldPart.{FieldPart}
 use Rattle.fast_value.specs.InitialValues.{value_of_text}
-use Rattle.fast_template.specs.Written.{WrittenOperation, Surroundings, WrittenInstruction, WrittenInstructions, written_field, written_parts, written_group, written_sequence, written_reference, no_written, then_written, WrittenTemplate}
+use Rattle.fast_written.specs.Written.{WrittenOperation, Surroundings, WrittenInstruction, WrittenInstructions, written_field, written_parts, written_group, written_sequence, written_reference, no_written, then_written, WrittenTemplate}
 use Rattle.fast_template.specs.Resolved.{Instructions, whole_field, field_in_parts, group_of, sequence_of, no_instructions, then_instruction, joined, numbered, with_keys, Resolved}
 
 -- where an instruction was written: in which template, and what the elements around it name

@@ -1,11 +1,12 @@
 -- What loading a template text answers.
 -- Own: the order of the checks of a load begins with the shape of the text.
 use Rattle.std.specs.Prelude.{◌≡◌, ◌⊎◌, List, MatchResult, Result, Ok, Err}
-use Rattle.fast_template.specs.declared.fault.LoadCause.TheVariants as cause
-use Rattle.fast_template.specs.declared.fault.LoadFault.{LoadFault}
-use Rattle.fast_template.specs.Written.{WrittenTemplate}
+use Rattle.fast_written.specs.declared.fault.LoadCause.TheVariants as cause
+use Rattle.fast_written.specs.declared.fault.LoadFault.{LoadFault}
+use Rattle.fast_written.specs.Written.{WrittenTemplate}
 use Rattle.fast_template.specs.FlatLists.{AreResolved}
-use Rattle.fast_template.specs.LoadChecks.{IsAccepted, IsFirstFault, fault_at, want_of_memory}
+use Rattle.fast_template.specs.LoadChecks.{IsAccepted, IsFirstFault}
+use Rattle.fast_written.specs.LoadFaults.{fault_at, want_of_memory}
 use Rattle.fast_template.specs.TemplateSets.{TemplateList, templates_in}
 
 -- templates as written are built; a fault of the text's shape comes before that

@@ -1,4 +1,3 @@
-pub mod Written
 pub mod Resolved
 pub mod FlatLists
 pub mod TemplateSets
@@ -7,15 +6,11 @@ pub mod LoadChecks
 pub mod Walks
 pub mod PartCauses
 pub mod JsonLoads
-pub mod JsonTemplates
 pub mod Phases
-pub mod Profile
 pub mod Slots
 pub mod Duplicates
 pub mod References
 pub mod Surroundings
-pub mod Order
-pub mod Search
 pub mod Links
 pub mod Extents
 pub mod NamedLists

@@ -1,17 +1,19 @@
 -- The checks of a load, their order, and the first that fails.
 -- FAST 1.1, Errors, Static Errors, and D8. The order and the causes without a number are this project's own.
-use Rattle.std.specs.Prelude.{◌≡◌, ◌≢◌, ◌<◌, ◌+◌, ◌&&◌, ℕ, zero, suc, min, nat_le, Bool, false, List, [], ◌∷◌, ◌++◌, length, take, slice_get, option_to_list, Option, Some, None, IsSome}
+use Rattle.std.specs.Prelude.{◌≡◌, ◌≢◌, ◌<◌, ◌+◌, ℕ, zero, suc, Bool, false, List, [], ◌∷◌, ◌++◌, length, take, slice_get, option_to_list, Option, Some, None, IsSome}
 use Rattle.std.specs.List.{list_all}
 use Rattle.std.specs.Ordering.{nat_cmp}
 use Rattle.std.specs.declared.cmp.Ordering.TheVariants.{Less}
 use Rattle.std.specs.Cmp.Lexicographic.{slice_cmp}
 use Rattle.fast_value.specs.declared.kind.Operator.TheVariants.{Constant, Default}
 use Rattle.fast_value.specs.declared.kind.Presence.TheVariants.{Mandatory}
-use Rattle.fast_template.specs.declared.fault.LoadCause.{LoadCause}
-use Rattle.fast_template.specs.declared.fault.LoadCause.TheVariants as cause
-use Rattle.fast_template.specs.declared.fault.LoadFault.{LoadFault}
+use Rattle.fast_written.specs.declared.fault.LoadCause.{LoadCause}
+use Rattle.fast_written.specs.declared.fault.LoadCause.TheVariants as cause
+use Rattle.fast_written.specs.declared.fault.LoadFault.{LoadFault}
+use Rattle.fast_written.specs.Names.{is_name}
+use Rattle.fast_written.specs.LoadFaults.{fault_at}
 use Rattle.fast_value.specs.InitialValues.{value_of_text}
-use Rattle.fast_template.specs.Written.{WrittenOperation, Surroundings, WrittenInstruction, written_field, written_parts, written_group, written_sequence, written_reference, WrittenTemplate, WrittenPart, parts_of, listed}
+use Rattle.fast_written.specs.Written.{WrittenOperation, Surroundings, WrittenInstruction, written_field, written_parts, written_group, written_sequence, written_reference, WrittenTemplate, WrittenPart, parts_of, listed}
 use Rattle.fast_template.specs.Resolved.{Instructions, size_of, depth_of}
 use Rattle.fast_template.specs.FlatLists.{AreFlatLists}
 use Rattle.fast_template.specs.TemplateSets.{applies}
@@ -29,10 +31,6 @@ abbrev pub IsInstructionAt : List WrittenTemplate → ℕ → ℕ → WrittenIns
 IsInstructionAt templates t i written = (w : WrittenTemplate) × IsTemplateAt templates t w × (from_one (listed w.members) i ≡ Some written)
 
 -- ---- names
-
--- 1 to 255 bytes from '!' to '~'
-abbrev pub is_name : List ℕ → Bool
-is_name s = nat_le 1 (length s) && nat_le (length s) 255 && list_all (λ c. nat_le 33 c && nat_le c 126) s
 
 abbrev pub names_around : Surroundings → List (List ℕ)
 names_around around = option_to_list around.dictionary ++ option_to_list around.type_ref
@@ -131,10 +129,7 @@ turn_of (sum_small t) = 6 ∷ t ∷ 1 ∷ []
 abbrev pub Before : Check → Check → Type 0
 Before a b = slice_cmp nat_cmp (turn_of a) (turn_of b) ≡ Less
 
--- the fault that a failed check is answered by; a number past 4,294,967,295 is given as that
-abbrev pub fault_at : LoadCause → ℕ → ℕ → LoadFault
-fault_at c t i = record { cause = c; template = min t 4294967295; instruction = min i 4294967295 }
-
+-- the fault that a failed check is answered by
 abbrev pub fault_of : Check → LoadFault
 fault_of few_templates = fault_at cause.TooMany 0 0
 fault_of (names_well_made t i) = fault_at cause.S1 t i
@@ -148,10 +143,6 @@ fault_of (reference_known t i) = fault_at cause.D8 t i
 fault_of (off_cycles t) = fault_at cause.Cycle t 0
 fault_of (nests_little t) = fault_at cause.TooDeep t 0
 fault_of (sum_small t) = fault_at cause.TooMany t 0
-
--- the fault where memory is refused, whichever step asked for it
-abbrev pub want_of_memory : LoadFault
-want_of_memory = fault_at cause.Memory 0 0
 
 -- no check fails
 abbrev pub IsAccepted : List WrittenTemplate → Type 0

@@ -3,7 +3,7 @@ use Rattle.std.specs.Prelude.{◌≡◌, ℕ, List, length, Option, Some, slice_
 use Rattle.std.specs.Option.{option_map_or}
 use Rattle.std.specs.BTreeMap.{BTreeMap}
 use Rattle.fast_template.specs.declared.resolved.FlatTemplate.{FlatTemplate}
-use Rattle.fast_template.specs.Written.{WrittenTemplate}
+use Rattle.fast_written.specs.Written.{WrittenTemplate}
 use Rattle.fast_template.specs.Resolved.{Instructions, no_instructions, list_of}
 use Rattle.fast_template.specs.FlatLists.{AreFlatLists}
 use Rattle.fast_template.specs.Links.{place_in}

@@ -7,10 +7,10 @@ use Rattle.fast_value.specs.declared.kind.Operator.TheVariants.{Constant, Defaul
 use Rattle.fast_value.specs.declared.kind.Presence.{Presence}
 use Rattle.fast_value.specs.declared.kind.Presence.TheVariants.{Mandatory}
 use Rattle.fast_value.specs.declared.scalar.Scalar.{Scalar}
-use Rattle.fast_template.specs.declared.fault.LoadCause.{LoadCause}
-use Rattle.fast_template.specs.declared.fault.LoadCause.TheVariants.{S2, S3, S4, S5}
+use Rattle.fast_written.specs.declared.fault.LoadCause.{LoadCause}
+use Rattle.fast_written.specs.declared.fault.LoadCause.TheVariants.{S2, S3, S4, S5}
 use Rattle.fast_value.specs.InitialValues.{value_of_text}
-use Rattle.fast_template.specs.Written.{WrittenPart}
+use Rattle.fast_written.specs.Written.{WrittenPart}
 use Rattle.fast_template.specs.TemplateSets.{applies}
 
 -- without an initial value

@@ -1,15 +1,12 @@
 -- Instructions one after another, depth first, until one is judged to be at fault.
--- Own: the numbers of instructions in faults, and that a number past 4,294,967,295 is given as that.
-use Rattle.std.specs.Prelude.{ℕ, ◌+◌, min, List, [], ◌∷◌, Option, Some, None}
-use Rattle.fast_template.specs.declared.fault.LoadCause.{LoadCause}
-use Rattle.fast_template.specs.declared.fault.LoadFault.{LoadFault}
+-- Own: the numbers of instructions in faults.
+use Rattle.std.specs.Prelude.{ℕ, ◌+◌, List, [], ◌∷◌, Option, Some, None}
+use Rattle.fast_written.specs.declared.fault.LoadCause.{LoadCause}
+use Rattle.fast_written.specs.declared.fault.LoadFault.{LoadFault}
+use Rattle.fast_written.specs.LoadFaults.{next_number}
 use Rattle.fast_template.specs.declared.walk.Walked.{Walked}
 use Rattle.fast_template.specs.declared.walk.Walked.TheVariants.{Next, Fault}
-use Rattle.fast_template.specs.Written.{WrittenInstruction, WrittenInstructions, written_field, written_parts, written_group, written_sequence, written_reference, no_written, then_written, WrittenTemplate}
-
--- the number after one
-abbrev pub next_number : ℕ → ℕ
-next_number n = min (n + 1) 4294967295
+use Rattle.fast_written.specs.Written.{WrittenInstruction, WrittenInstructions, written_field, written_parts, written_group, written_sequence, written_reference, no_written, then_written, WrittenTemplate}
 
 -- goes on with the next number, where there was no fault
 abbrev pub and_then : Walked → (ℕ → Walked) → Walked

@@ -4,22 +4,21 @@ ghost use Rattle.std.specs.Prelude.{◌≡◌, ◌≤◌, ◌<◌, ◌⊎◌, �
 ghost use Rattle.fast_template.specs.Duplicates.{NamesLead};
 ghost use Rattle.fast_template.specs.FlatLists.{AreResolved};
 ghost use Rattle.fast_template.specs.Links.{IsBuildOrder};
-ghost use Rattle.fast_template.specs.LoadChecks.{IsAccepted, IsFirstFault, want_of_memory as want_of_memory_of};
+ghost use Rattle.fast_template.specs.LoadChecks.{IsAccepted, IsFirstFault};
+ghost use Rattle.fast_written.specs.LoadFaults.{want_of_memory as want_of_memory_of};
 ghost use Rattle.fast_template.specs.Phases.{IsFirstOf, Passes};
 ghost use Rattle.fast_template.specs.TemplateSets.{templates_in};
-ghost use Rattle.fast_template.specs.Written.{written_template_of};
+ghost use Rattle.fast_written.specs.Written.{written_template_of};
 
 use crate::checks::check_written;
 use crate::extents::{extents_of, first_too_large};
-use crate::fault::LoadFault;
 use crate::flat_lists::flat_templates;
 use crate::id_places::id_places;
 use crate::links::build_order;
 use crate::set::TemplateSet;
 use crate::settle::settle;
-use crate::walk::want_of_memory;
-use crate::written::Template;
 use fast_value::Name;
+use fast_written::{LoadFault, Template, want_of_memory};
 use std::alloc::{AllocError, Global};
 use std::collections::BTreeMap;
 

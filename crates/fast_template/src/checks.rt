@@ -2,18 +2,17 @@
 
 ghost use Rattle.std.specs.Prelude.{◌≡◌, ◌<◌, ◌⊎◌, MatchResult, ℕ, map};
 ghost use Rattle.fast_template.specs.Duplicates.{NamesLead};
-ghost use Rattle.fast_template.specs.LoadChecks.{IsFirstFault, want_of_memory};
+ghost use Rattle.fast_template.specs.LoadChecks.{IsFirstFault};
+ghost use Rattle.fast_written.specs.LoadFaults.{want_of_memory};
 ghost use Rattle.fast_template.specs.Phases.{Passes};
-ghost use Rattle.fast_template.specs.Written.{written_template_of};
+ghost use Rattle.fast_written.specs.Written.{written_template_of};
 
 use crate::duplicates::check_duplicates;
-use crate::fault::{LoadCause, LoadFault};
 use crate::names::check_names;
 use crate::operators::check_operators;
 use crate::references::check_references;
-use crate::walk::fault_at;
-use crate::written::Template;
 use fast_value::Name;
+use fast_written::{LoadCause, LoadFault, Template, fault_at};
 use std::alloc::Global;
 use std::collections::BTreeMap;
 

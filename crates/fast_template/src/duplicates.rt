@@ -5,14 +5,12 @@ ghost use Rattle.std.specs.BTreeMap.{Updates, get};
 ghost use Rattle.std.specs.Cmp.Lexicographic.{slice_cmp};
 ghost use Rattle.std.specs.Ordering.{nat_cmp};
 ghost use Rattle.fast_template.specs.Duplicates.{EntersId, NamesLead, first_duplicate, has_entry};
-ghost use Rattle.fast_template.specs.LoadChecks.{want_of_memory as want_of_memory_of};
+ghost use Rattle.fast_written.specs.LoadFaults.{want_of_memory as want_of_memory_of};
 ghost use Rattle.fast_template.specs.Phases.{IsFirstOf, Passes};
-ghost use Rattle.fast_template.specs.Written.{written_template_of};
+ghost use Rattle.fast_written.specs.Written.{written_template_of};
 
-use crate::fault::{LoadCause, LoadFault};
-use crate::walk::{fault_at, want_of_memory};
-use crate::written::Template;
 use fast_value::Name;
+use fast_written::{LoadCause, LoadFault, Template, fault_at, want_of_memory};
 use std::alloc::{AllocError, Global};
 use std::collections::BTreeMap;
 

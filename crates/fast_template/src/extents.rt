@@ -7,12 +7,10 @@ ghost use Rattle.fast_template.specs.declared.extents.Extent as extent_type;
 ghost use Rattle.fast_template.specs.FlatLists.{AreFlatLists};
 ghost use Rattle.fast_template.specs.Links.{IsBuildOrder};
 ghost use Rattle.fast_template.specs.Resolved.{Instructions};
-ghost use Rattle.fast_template.specs.Written.{WrittenTemplate, written_list, written_of, written_template_of};
+ghost use Rattle.fast_written.specs.Written.{WrittenTemplate, written_list, written_of, written_template_of};
 
-use crate::fault::{LoadCause, LoadFault};
-use crate::walk::fault_at;
-use crate::written::{Instruction, Template};
 use fast_value::Name;
+use fast_written::{Instruction, LoadCause, LoadFault, Template, fault_at};
 use std::alloc::{AllocError, Global};
 use std::collections::BTreeMap;
 

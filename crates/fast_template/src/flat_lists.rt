@@ -7,12 +7,12 @@ ghost use Rattle.fast_template.specs.Links.{IsBuildOrder};
 ghost use Rattle.fast_template.specs.NamedLists.{AreFlattened, heading, heading_of, list_at, list_named};
 ghost use Rattle.fast_template.specs.Resolved.{field_in_parts, group_of, instruction_of, joined, list_of, sequence_of, whole_field};
 ghost use Rattle.fast_template.specs.Surroundings.{context_in};
-ghost use Rattle.fast_template.specs.Written.{operation_of, written_list, written_of, written_template_of};
+ghost use Rattle.fast_written.specs.Written.{operation_of, written_list, written_of, written_template_of};
 
 use crate::resolved::{FieldPart, Flat, FlatTemplate};
 use crate::surroundings::{Around, directly_in, inside, key_of, name_of, part_of};
-use crate::written::{Instruction, Operation, Template};
 use fast_value::{Key, Kind, Name, Part, Presence};
+use fast_written::{Instruction, Operation, Template};
 use std::alloc::{AllocError, Global};
 use std::collections::BTreeMap;
 

@@ -4,15 +4,13 @@ ghost use Rattle.std.specs.Prelude.{◌≡◌, ◌⊎◌, None, Some, IsUtf8};
 ghost use Rattle.serde_json.specs.Data.{Data};
 ghost use Rattle.serde_json.specs.Read.{read};
 ghost use Rattle.serde_json.specs.Errors.{IsMemory};
-ghost use Rattle.fast_template.specs.declared.fault.LoadCause.TheVariants as cause;
+ghost use Rattle.fast_written.specs.declared.fault.LoadCause.TheVariants as cause;
 ghost use Rattle.fast_template.specs.JsonLoads.{IsNoText, Loads};
-ghost use Rattle.fast_template.specs.JsonTemplates.{templates_of};
-ghost use Rattle.fast_template.specs.LoadChecks.{fault_at as fault_at_of, want_of_memory as want_of_memory_of};
+ghost use Rattle.fast_written.specs.JsonTemplates.{templates_of};
+ghost use Rattle.fast_written.specs.LoadFaults.{fault_at as fault_at_of, want_of_memory as want_of_memory_of};
 
-use crate::fault::{LoadCause, LoadFault};
-use crate::json::templates_in_data;
 use crate::set::TemplateSet;
-use crate::walk::{fault_at, want_of_memory};
+use fast_written::{LoadCause, LoadFault, fault_at, templates_in_data, want_of_memory};
 use serde_json::{Error, Value};
 use std::alloc::Global;
 

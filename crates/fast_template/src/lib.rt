@@ -1,9 +1,9 @@
-//! What a message looks like: templates as written, resolved templates and sets of them.
+//! What a message looks like: resolved templates and sets of them.
 //!
-//! A template set is described by its `specs/`: what the parts of a template are (`Written`, `Resolved`),
-//! how one becomes the other (`FlatLists`), what is true of every set (`TemplateSets`) and which check of a
-//! load fails first (`LoadChecks`). The words of an instruction, values and keys stand in `fast_value`, and can be
-//! named here too.
+//! A template set is described by its `specs/`: what the parts of a resolved template are (`Resolved`), how a written
+//! one becomes it (`FlatLists`), what is true of every set (`TemplateSets`) and which check of a load fails first
+//! (`LoadChecks`). Written templates stand in `fast_written`, the words of an instruction, values and keys in
+//! `fast_value`, and can be named here too.
 #![tactic(auto)]
 
 mod bits;
@@ -11,18 +11,14 @@ mod build;
 mod checks;
 mod duplicates;
 mod extents;
-mod fault;
 mod flat_lists;
 mod from_json;
 mod id_places;
-mod json;
 pub mod laws;
 mod links;
 mod names;
 mod numbers;
 mod operators;
-mod order;
-mod profile;
 mod references;
 mod resolved;
 mod set;
@@ -30,13 +26,11 @@ mod settle;
 mod slots;
 mod surroundings;
 mod walk;
-mod written;
 
 pub use bits::{has_map, needs_bit, part_needs_bit};
 pub use fast_value::{
     ByteString, Key, Kind, Name, Operator, Part, Presence, Scalar, Scope, UnicodeText,
 };
-pub use fault::{LoadCause, LoadFault};
+pub use fast_written::{Instruction, LoadCause, LoadFault, Operation, Template};
 pub use resolved::{FieldPart, Flat, FlatTemplate};
 pub use set::TemplateSet;
-pub use written::{Instruction, Operation, Template};

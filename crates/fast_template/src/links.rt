@@ -1,17 +1,15 @@
 //! Which templates each template refers to.
 
 ghost use Rattle.std.specs.Prelude.{◌≡◌, ◌≤◌, ◌<◌, ◌+◌, ◌++◌, IfOk, MatchResult, OnOk, length, map};
-ghost use Rattle.fast_template.specs.declared.fault.LoadCause.TheVariants.{Cycle};
+ghost use Rattle.fast_written.specs.declared.fault.LoadCause.TheVariants.{Cycle};
 ghost use Rattle.fast_template.specs.Duplicates.{NamesLead};
 ghost use Rattle.fast_template.specs.Phases.{IsFirstOf, Passes};
 ghost use Rattle.fast_template.specs.Links.{IsBuildOrder, place_in, places_of, references_in, references_in_one};
-ghost use Rattle.fast_template.specs.Written.{written_list, written_of, written_template_of};
+ghost use Rattle.fast_written.specs.Written.{written_list, written_of, written_template_of};
 
-use crate::fault::{LoadCause, LoadFault};
-use crate::order::order_of;
-use crate::walk::fault_at;
-use crate::written::{Instruction, Template};
+use fast_order::order_of;
 use fast_value::Name;
+use fast_written::{Instruction, LoadCause, LoadFault, Template, fault_at};
 use std::alloc::{AllocError, Global};
 use std::collections::BTreeMap;
 

@@ -2,14 +2,17 @@
 
 ghost use Rattle.std.specs.Prelude.{◌≡◌, ◌≤◌, ◌⊎◌, ◌&&◌, MatchResult, length, map, nat_le, Some, None, if◌then◌else◌, option_map, option_to_list, string_bytes};
 ghost use Rattle.std.specs.List.{list_all};
-ghost use Rattle.fast_template.specs.declared.fault.LoadCause.TheVariants.{S1};
-ghost use Rattle.fast_template.specs.LoadChecks.{is_name as is_name_of, names_beside, names_in, names_of, want_of_memory};
+ghost use Rattle.fast_written.specs.declared.fault.LoadCause.TheVariants.{S1};
+ghost use Rattle.fast_template.specs.LoadChecks.{names_beside, names_in, names_of};
+ghost use Rattle.fast_written.specs.LoadFaults.{want_of_memory};
+ghost use Rattle.fast_written.specs.Names.{is_name as is_name_of};
 ghost use Rattle.fast_template.specs.Phases.{IsFirstOf, Passes};
-ghost use Rattle.fast_template.specs.Written.{operation_of, written_of, written_template_of};
+ghost use Rattle.fast_written.specs.Written.{operation_of, written_of, written_template_of};
 
-use crate::fault::{LoadCause, LoadFault};
-use crate::walk::{Judge, first_at_fault, want_of_memory};
-use crate::written::{Instruction, Operation, Template};
+use crate::walk::{Judge, first_at_fault};
+use fast_written::{
+    Instruction, LoadCause, LoadFault, Operation, Template, is_name, want_of_memory,
+};
 use std::alloc::AllocError;
 
 /// Judges names: 1 to 255 bytes from `!` to `~`.
@@ -118,19 +121,4 @@ fn is_name_or_none(text: &Option<String>) -> bool
         Some(text) => is_name(text),
         None => true,
     }
-}
-
-/// Whether a text is a name: 1 to 255 bytes from `!` to `~`.
-pub(crate) fn is_name(text: &str) -> bool
-    ensures { result ≡ is_name_of text.now }
-{
-    let bytes = text.as_bytes();
-    1 <= bytes.len() && bytes.len() <= 255 && are_printed(bytes)
-}
-
-// Whether all bytes lie from `!` to `~`.
-fn are_printed(bytes: &[u8]) -> bool
-    ensures { result ≡ list_all (λ c. nat_le 33 c && nat_le c 126) bytes.now }
-{
-    bytes.iter().all(|c| c.is_ascii_graphic())
 }

@@ -1,18 +1,17 @@
 //! Whether operators apply to their types, and have the initial values that they need.
 
 ghost use Rattle.std.specs.Prelude.{◌≡◌, ◌≤◌, ◌⊎◌, IfOk, MatchResult, None, length, map};
-ghost use Rattle.fast_template.specs.LoadChecks.{want_of_memory};
+ghost use Rattle.fast_written.specs.LoadFaults.{want_of_memory};
 ghost use Rattle.fast_template.specs.Phases.{IsFirstOf, Passes};
 ghost use Rattle.fast_value.specs.declared.kind.Kind.TheVariants.{Int32};
 ghost use Rattle.fast_value.specs.declared.kind.Part.TheVariants.{Exponent};
 ghost use Rattle.fast_template.specs.PartCauses.{missing_value as missing_value_of, part_cause, parts_cause};
 ghost use Rattle.fast_template.specs.TemplateSets.{applies as applies_to};
-ghost use Rattle.fast_template.specs.Written.{operation_of, parts_of, written_template_of};
+ghost use Rattle.fast_written.specs.Written.{operation_of, parts_of, written_template_of};
 
-use crate::fault::{LoadCause, LoadFault};
-use crate::walk::{Judge, first_at_fault, want_of_memory};
-use crate::written::{Instruction, Operation, Template};
+use crate::walk::{Judge, first_at_fault};
 use fast_value::{Kind, Operator, Part, Presence, value_of_text};
+use fast_written::{Instruction, LoadCause, LoadFault, Operation, Template, want_of_memory};
 use std::alloc::{AllocError, Global};
 
 /// Judges operators and initial values, an exponent before its mantissa.

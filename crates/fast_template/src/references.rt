@@ -5,15 +5,14 @@ ghost use Rattle.std.specs.BTreeMap.{get};
 ghost use Rattle.std.specs.Cmp.Lexicographic.{slice_cmp};
 ghost use Rattle.std.specs.Ordering.{nat_cmp};
 ghost use Rattle.fast_template.specs.Duplicates.{NamesLead};
-ghost use Rattle.fast_template.specs.LoadChecks.{want_of_memory as want_of_memory_of};
+ghost use Rattle.fast_written.specs.LoadFaults.{want_of_memory as want_of_memory_of};
 ghost use Rattle.fast_template.specs.Phases.{IsFirstOf, Passes};
 ghost use Rattle.fast_template.specs.References.{reference_cause};
-ghost use Rattle.fast_template.specs.Written.{written_template_of};
+ghost use Rattle.fast_written.specs.Written.{written_template_of};
 
-use crate::fault::{LoadCause, LoadFault};
-use crate::walk::{Judge, first_at_fault, want_of_memory};
-use crate::written::{Instruction, Template};
+use crate::walk::{Judge, first_at_fault};
 use fast_value::Name;
+use fast_written::{Instruction, LoadCause, LoadFault, Template, want_of_memory};
 use std::alloc::{AllocError, Global};
 use std::collections::BTreeMap;
 

@@ -6,11 +6,11 @@ ghost use Rattle.fast_value.specs.declared.kind.Kind.TheVariants.{Int32};
 ghost use Rattle.fast_value.specs.declared.kind.Part.TheVariants.{Exponent};
 ghost use Rattle.fast_template.specs.FlatLists.{Context, context_of, inside as inside_of, key_of as key_of_operation, part_of as part_of_operation, scope_named as scope_of_name, scope_of as scope_of_operation};
 ghost use Rattle.fast_template.specs.Surroundings.{context_in};
-ghost use Rattle.fast_template.specs.Written.{operation_of, written_template_of};
+ghost use Rattle.fast_written.specs.Written.{operation_of, written_template_of};
 
 use crate::resolved::FieldPart;
-use crate::written::{Operation, Template};
 use fast_value::{Key, Kind, Name, Part, Presence, Scope, value_of_text};
+use fast_written::{Operation, Template};
 use std::alloc::{AllocError, Global};
 
 /// In which template an instruction was written, and what the elements around it name.

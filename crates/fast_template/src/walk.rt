@@ -1,13 +1,11 @@
 //! Instructions one after another, until one is at fault.
 
 ghost use Rattle.std.specs.Prelude.{◌≡◌, ◌≤◌, IfOk, Option, length, map};
-ghost use Rattle.fast_template.specs.declared.fault.LoadCause as cause_type;
-ghost use Rattle.fast_template.specs.Written.{WrittenInstruction, WrittenTemplate, written_list, written_of, written_template_of};
-ghost use Rattle.fast_template.specs.LoadChecks.{want_of_memory as want_of_memory_of};
+ghost use Rattle.fast_written.specs.declared.fault.LoadCause as cause_type;
+ghost use Rattle.fast_written.specs.Written.{WrittenInstruction, WrittenTemplate, written_list, written_of, written_template_of};
 ghost use Rattle.fast_template.specs.Walks.{first_at_fault as first_at_fault_of, walk as walk_of, walk_one as walk_one_of};
 
-use crate::fault::{LoadCause, LoadFault};
-use crate::written::{Instruction, Template};
+use fast_written::{Instruction, LoadCause, LoadFault, Template, fault_at};
 use std::alloc::AllocError;
 
 /// What is judged of each template and of each instruction by itself.
@@ -62,24 +60,6 @@ pub(crate) fn first_at_fault<J: Judge>(
         place += 1;
     }
     Ok(None)
-}
-
-/// The fault of a load whose memory was refused.
-pub(crate) fn want_of_memory() -> LoadFault
-    ensures { result ≡ want_of_memory_of }
-{
-    fault_at(LoadCause::Memory, 0, 0)
-}
-
-/// A fault and its place.
-pub(crate) fn fault_at(cause: LoadCause, template: u32, instruction: u32) -> LoadFault
-    ensures { result ≡ record { cause = cause; template = template; instruction = instruction } }
-{
-    LoadFault {
-        cause,
-        template,
-        instruction,
-    }
 }
 
 /// Judges instructions depth first, a group or sequence before its members, until one is at fault.

@@ -7,7 +7,7 @@ use Rattle.fast_value.specs.declared.kind.Kind.{Kind}
 use Rattle.fast_value.specs.declared.kind.Kind.TheVariants as kind
 use Rattle.fast_value.specs.declared.scalar.Scalar.{Scalar}
 use Rattle.fast_value.specs.declared.scalar.Scalar.TheVariants.{I32, I64}
-use Rattle.fast_stream.specs.Received.{exponent_of}
+use Rattle.fast_walk.specs.Received.{exponent_of}
 use Rattle.fast_writer.specs.Quick.{IsThere}
 
 -- what an exponent and a mantissa are

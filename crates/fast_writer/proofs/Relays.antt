@@ -7,8 +7,8 @@ use Rattle.fast_dictionary.specs.declared.entry.Entry.{Entry}
 use Rattle.fast_dictionary.specs.Dictionary.{Dictionary, entry_at, set_entry}
 use Rattle.fast_field.specs.Bases.{next}
 use Rattle.fast_field.specs.FieldReading.{field_at}
-use Rattle.fast_stream.specs.Received.{Took}
-use Rattle.fast_stream.proofs.Putting.{set_written}
+use Rattle.fast_walk.specs.Received.{Took}
+use Rattle.fast_walk.proofs.Putting.{set_written}
 use Rattle.fast_writer.specs.Written.{Level, AppendsForm, Asked, Spelt}
 
 pub took_of : (p : FieldPart) (bit : Bool) (d e : Dictionary) (old new : Entry) (v : Option Scalar) (bytes rest : List ℕ)

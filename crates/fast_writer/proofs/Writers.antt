@@ -15,8 +15,8 @@ use Rattle.fast_wire.specs.Writing.{IsShortest}
 use Rattle.fast_stream.specs.Nodes.{single, items_of, Content, nodes_in, node_limit}
 use Rattle.fast_stream.specs.Bodies.{written}
 use Rattle.fast_stream.specs.Streams.{identifier, members_of}
-use Rattle.fast_stream.specs.OpenSegments.{Sequel, Inside, in_group, in_sequence, Waiting, Next, at_instruction, at_mantissa, at_element}
-use Rattle.fast_stream.specs.Received.{Received, IsExponent, opened, passed, entered, after_exponent, after_length, in_element, after_sequence, ended_in, content_received, exponent_of, length_of}
+use Rattle.fast_walk.specs.OpenSegments.{Sequel, Inside, in_group, in_sequence, Waiting, Next, at_instruction, at_mantissa, at_element}
+use Rattle.fast_walk.specs.Received.{Received, IsExponent, opened, passed, entered, after_exponent, after_length, in_element, after_sequence, ended_in, content_received, exponent_of, length_of}
 use Rattle.fast_writer.specs.Canonical.{CanonFrom, CanonMessage}
 use Rattle.fast_writer.specs.Written.{Level, state, bits_for, Opening, of_message, IsWritten, with_bytes, IsTop, IsBehind, Chain, IsOpened, IsFinished, Spelt, Asked, Ended, Closes, bytes_in}
 use Rattle.fast_writer.proofs.Leavings.{closed}

@@ -13,8 +13,8 @@ use Rattle.fast_wire.specs.Writing.{IsShortest}
 use Rattle.fast_field.specs.Best.{IsBest}
 use Rattle.fast_stream.specs.Nodes.{Item, single, group_items, sequence_elements, no_items, then_item, items_of, Elements, no_elements, then_element, elements_of, element_count}
 use Rattle.fast_stream.specs.Bodies.{State, SegmentBy, PartBy, PieceBy, Each, written}
-use Rattle.fast_stream.specs.OpenSegments.{Body, Sequel, in_group, in_sequence, Waiting, at_instruction, at_element, with_item, fewer}
-use Rattle.fast_stream.proofs.Steps.{items_before-more, items_before-end, elements_before-more, elements_before-end}
+use Rattle.fast_walk.specs.OpenSegments.{Body, Sequel, in_group, in_sequence, Waiting, at_instruction, at_element, with_item, fewer}
+use Rattle.fast_walk.proofs.Steps.{items_before-more, items_before-end, elements_before-more, elements_before-end}
 use Rattle.fast_writer.specs.Canonical.{CanonBody, IsShortestMap}
 use Rattle.fast_writer.specs.Written.{Level, state, bits_for, Leaves, Opening, of_segment, Whole, IsWritten, with_bytes, more_of, WaitsMantissa, Segment, WaitsElements, IsTop, IsBehind, Waits, Chain, Spelt, Asked}
 use Rattle.fast_writer.proofs.Leavings.{leaves_split, bit_of, behind_of, no_bits, closed}

@@ -3,7 +3,7 @@ use Rattle.std.specs.Prelude.{List, map}
 use Rattle.fast_template.specs.Resolved.{Resolved}
 use Rattle.fast_dictionary.specs.Dictionary.{Dictionary}
 use Rattle.fast_stream.specs.Nodes.{Content}
-use Rattle.fast_stream.specs.Received.{Received}
+use Rattle.fast_walk.specs.Received.{Received}
 use Rattle.fast_writer.specs.Written.{Level, IsFinished, IsOpened}
 use Rattle.fast_writer.specs.declared.level.Level.{Level as LevelNow}
 use Rattle.fast_writer.specs.declared.writer.Writer.{Writer}

@@ -13,8 +13,8 @@ use Rattle.fast_field.specs.Best.{IsBest}
 use Rattle.fast_stream.specs.Nodes.{single, group_items, sequence_elements, Items, no_items, then_item, Elements, element_count, Content}
 use Rattle.fast_stream.specs.Bodies.{State, SegmentBy, Then, PartBy, Each, written}
 use Rattle.fast_stream.specs.Streams.{identifier}
-use Rattle.fast_stream.specs.OpenSegments.{items_before, elements_before, Body, Sequel, Inside, in_group, in_sequence, Waiting, Next, at_instruction, at_mantissa, at_element, with_item, with_element}
-use Rattle.fast_stream.specs.Received.{Received}
+use Rattle.fast_walk.specs.OpenSegments.{items_before, elements_before, Body, Sequel, Inside, in_group, in_sequence, Waiting, Next, at_instruction, at_mantissa, at_element, with_item, with_element}
+use Rattle.fast_walk.specs.Received.{Received}
 use Rattle.fast_writer.specs.Canonical.{CanonBody, CanonFrom, IsShortestMap}
 
 -- ---- the messages that are finished

@@ -5,7 +5,7 @@ ghost use Rattle.fast_template.specs.Resolved.{part_needs_bit as part_needs_bit_
 ghost use Rattle.fast_dictionary.specs.Dictionary.{entry_at};
 ghost use Rattle.fast_field.specs.FieldReading.{field_at};
 ghost use Rattle.fast_field.specs.Passed.{Passes};
-ghost use Rattle.fast_stream.specs.Received.{Took, length_of};
+ghost use Rattle.fast_walk.specs.Received.{Took, length_of};
 ghost use Rattle.fast_writer.specs.Levels.{level_of};
 ghost use Rattle.fast_writer.specs.Quick.{Relayed};
 ghost use Rattle.fast_writer.specs.Written.{Spelt};
@@ -14,7 +14,7 @@ use crate::level::Level;
 use crate::relay::relay_entry;
 use fast_dictionary::{Entries, Entry};
 use fast_field::{FieldFault, Passed, pass_left_out};
-use fast_relay::relay_unsigned;
+use fast_relay::{relay_null, relay_unsigned};
 use fast_template::{FieldPart, Kind, Operator, Scalar, part_needs_bit};
 use std::alloc::Global;
 
@@ -61,8 +61,11 @@ fn count_quickly(
 {
     if bit {
         match relay_unsigned(part, entry, bytes, at, out) {
-            None => None,
             Some((number, next)) => Some((Some(number), next)),
+            None => match relay_null(part, entry, bytes, at, out) {
+                Some(next) => Some((None, next)),
+                None => None,
+            },
         }
     } else {
         match repeat_count(part, entry) {

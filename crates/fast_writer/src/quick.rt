@@ -6,7 +6,7 @@ ghost use Rattle.fast_value.specs.declared.scalar.Scalar.{Scalar as ScalarOf};
 ghost use Rattle.fast_dictionary.specs.Dictionary.{entry_at};
 ghost use Rattle.fast_field.specs.FieldReading.{field_at};
 ghost use Rattle.fast_relay.specs.Relayed.{Relays};
-ghost use Rattle.fast_stream.specs.Received.{Took};
+ghost use Rattle.fast_walk.specs.Received.{Took};
 ghost use Rattle.fast_writer.specs.Levels.{level_of};
 ghost use Rattle.fast_writer.specs.Quick.{IsThere, Relayed};
 ghost use Rattle.fast_writer.specs.Written.{Spelt};
@@ -16,12 +16,13 @@ use crate::level::Level;
 use crate::relay::relay_entry;
 use fast_dictionary::{Entries, Entry};
 use fast_field::{FieldFault, Passed, pass_left_out};
-use fast_relay::{relay_decimal, relay_number, relay_text};
+use fast_relay::{relay_decimal, relay_null, relay_number, relay_text};
 use fast_template::{FieldPart, part_needs_bit};
 use std::alloc::Global;
 
-// Reads an integer, a constant, a string, a vector or a difference of decimals, and appends its best form; answers the place behind it. None:
-// nothing has changed, and the part goes the general way.
+// Reads what was sent under bit 1 and appends its best form: an integer, a constant, NULL, a string, a vector or a
+// difference of decimals. Answers whether the value is there, and the place behind it. None: nothing has changed, and
+// the part goes the general way.
 #[inline(always)]
 fn relay_sent(
     alloc: Global,
@@ -30,22 +31,25 @@ fn relay_sent(
     bytes: &[u8],
     at: usize,
     out: &mut Vec<u8>,
-) -> Option<usize>
+) -> Option<(bool, usize)>
     requires place { at ≤ length bytes.now }
-    ensures place { IfSome result (λ next. (at ≤ next) × (next ≤ length bytes.now)) }
-    ensures relayed { IfSome result (λ next. (v : ScalarOf)
-        × Relays part.now entry.old entry.new v (drop at bytes.now) (drop next bytes.now)
-        out.old.items out.new.items) }
+    ensures place { IfSome result (λ x. (at ≤ x.1) × (x.1 ≤ length bytes.now)) }
+    ensures relayed { IfSome result (λ x. (v : Option ScalarOf) × IsThere part.now.kind x.0 v
+        × Relayed part.now entry.old entry.new true true v (drop at bytes.now)
+        (drop x.1 bytes.now) out.old.items out.new.items) }
     ensures entry { IfNone result (entry.new ≡ entry.old) }
     ensures out { IfNone result (out.new.items ≡ out.old.items) }
 {
     match relay_number(part, entry, bytes, at, out) {
-        Some(next) => Some(next),
-        None => match relay_text(alloc, part, entry, bytes, at, out) {
-            Some(next) => Some(next),
-            None => match relay_decimal(part, entry, bytes, at, out) {
-                Some(next) => Some(next),
-                None => None,
+        Some(next) => Some((true, next)),
+        None => match relay_null(part, entry, bytes, at, out) {
+            Some(next) => Some((false, next)),
+            None => match relay_text(alloc, part, entry, bytes, at, out) {
+                Some(next) => Some((true, next)),
+                None => match relay_decimal(part, entry, bytes, at, out) {
+                    Some(next) => Some((true, next)),
+                    None => None,
+                },
             },
         },
     }
@@ -75,7 +79,7 @@ fn relay_quickly(
     if bit {
         match relay_sent(alloc, part, entry, bytes, at, out) {
             None => None,
-            Some(next) => Some((true, next)),
+            Some(x) => Some(x),
         }
     } else {
         match pass_left_out(part, entry) {

@@ -6,8 +6,8 @@ use crate::level::Level;
 use crate::quick::relay_part;
 use fast_dictionary::Entries;
 use fast_field::FieldFault;
-use fast_stream::Receiver;
 use fast_template::{FieldPart, Kind};
+use fast_walk::Receiver;
 use std::alloc::{AllocError, Global};
 use std::mem;
 
@@ -32,7 +32,7 @@ impl Writer {
     ghost use Rattle.fast_template.specs.Resolved.{Resolved};
     ghost use Rattle.fast_dictionary.specs.Dictionary.{Dictionary};
     ghost use Rattle.fast_stream.specs.Nodes.{Content};
-    ghost use Rattle.fast_stream.specs.Received.{Received, behind};
+    ghost use Rattle.fast_walk.specs.Received.{Received, behind};
     ghost use Rattle.fast_writer.specs.Levels.{level_of};
     ghost use Rattle.fast_writer.specs.Written.{Closes, handed_on};
 

@@ -4,7 +4,7 @@ ghost use Rattle.std.specs.Prelude.{◌≡◌, ◌⊎◌, ◌++◌, ℕ, List, N
 ghost use Rattle.std.specs.FinMap as finite;
 ghost use Rattle.fast_template.specs.TemplateSets.{templates_in};
 ghost use Rattle.fast_stream.specs.Nodes.{content_of};
-ghost use Rattle.fast_stream.specs.Traversals.{ServesAll};
+ghost use Rattle.fast_walk.specs.Traversals.{ServesAll};
 ghost use Rattle.fast_writer.specs.Canonical.{CanonMessage};
 ghost use Rattle.fast_encoder.specs.FirstRefusal.{first_refusal, refused};
 

@@ -5,7 +5,7 @@ ghost use Rattle.std.specs.FinMap as finite;
 ghost use Rattle.std.specs.Io.KnownBytes.{Appends};
 ghost use Rattle.fast_template.specs.TemplateSets.{templates_in};
 ghost use Rattle.fast_stream.specs.Nodes.{Content, content_of};
-ghost use Rattle.fast_stream.specs.Traversals.{ServesAll};
+ghost use Rattle.fast_walk.specs.Traversals.{ServesAll};
 ghost use Rattle.fast_io.specs.Counts.{counted};
 ghost use Rattle.fast_writer.specs.Canonical.{CanonMessage};
 ghost use Rattle.fast_encoder.specs.FirstRefusal.{first_refusal, refused};

@@ -1,6 +1,6 @@
 use Rattle.std.proofs.Common.{◌∷◌, ◌++◌, append-nil}
 use Rattle.fast_template.specs.TemplateSets.{templates_in}
-use Rattle.fast_stream.proofs.Followings.{follows_behind}
+use Rattle.fast_machine.proofs.Followings.{follows_behind}
 use Rattle.fast_decoder.proofs.Inputs.{reached_with}
 use Rattle.fast_writer.specs.Levels.{HasFinished, HasWritten}
 use Rattle.fast_writer.specs.Written.{handed_on}

@@ -1,7 +1,7 @@
 use Rattle.std.proofs.Common.{◌<◌, ◌++◌, ◌∷◌, [], take, ap, sym, subst, ℕ, arith, append-nil, length-append, length-take}
 use Rattle.fast_template.specs.TemplateSets.{templates_in}
 use Rattle.fast_decoder.specs.declared.input.Reached.TheVariants as reached
-use Rattle.fast_stream.specs.Following.{Counts}
+use Rattle.fast_machine.specs.Following.{Counts}
 use Rattle.fast_decoder.specs.Inputs.{reader_by}
 use Rattle.fast_decoder.proofs.Inputs.{caused_by_end, caused_by_feed, caused_by_read, empty_read, failed_read, of_bytes, one_read, refused_by_bytes, refused_by_end, refused_by_read}
 use Rattle.fast_writer.specs.Written.{handed_on}

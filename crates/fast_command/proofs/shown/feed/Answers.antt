@@ -1,7 +1,7 @@
 use Rattle.std.proofs.Common.{◌≡◌, [], ◌++◌, List, map, sym, ◌∙◌, ap, subst}
 use Rattle.fast_template.specs.TemplateSets.{templates_in}
 use Rattle.fast_stream.specs.Nodes.{Content, content_of}
-use Rattle.fast_stream.specs.Following.{FollowsAt}
+use Rattle.fast_machine.specs.Following.{FollowsAt}
 use Rattle.fast_decoder.specs.Built.{with_whole}
 use Rattle.fast_decoder.proofs.Builders.{BuilderHas, BuilderStands, follows_rebased, whole_of_follows}
 use Rattle.fast_decoder.proofs.Inputs.{of_bytes, refused_by_bytes}

@@ -2,7 +2,7 @@ use Rattle.std.proofs.Common.{◌<◌, ◌++◌, ◌+◌, [], take, map, ap, sym
 use Rattle.fast_template.specs.TemplateSets.{templates_in}
 use Rattle.fast_stream.specs.Nodes.{Content, content_of}
 use Rattle.fast_decoder.specs.declared.input.Reached.TheVariants as reached
-use Rattle.fast_stream.specs.Following.{Counts}
+use Rattle.fast_machine.specs.Following.{Counts}
 use Rattle.fast_decoder.specs.Inputs.{reader_by}
 use Rattle.fast_decoder.proofs.Inputs.{caused_by_end, caused_by_feed, caused_by_read, empty_read, failed_read, one_read, reached_with, refused_by_end, refused_by_read}
 use Rattle.fast_command.specs.Shown.{GoesOn}

@@ -4,7 +4,7 @@ use Rattle.fast_stream.specs.declared.message.Message.{Message}
 use Rattle.fast_stream.specs.Nodes.{Content, content_of}
 use Rattle.fast_decoder.specs.declared.input.Reached.TheVariants as reached
 use Rattle.fast_decoder.specs.Inputs.{HasReached, reader_by}
-use Rattle.fast_stream.specs.Standing.{Carried}
+use Rattle.fast_machine.specs.Standing.{Carried}
 use Rattle.fast_decoder.proofs.Inputs.{causes_end, causes_on, more_read, refused_by_turns}
 use Rattle.fast_command.specs.Run.{lines_in}
 use Rattle.fast_command.specs.Shown.{Adds, IsCutShort, lines_of}

@@ -4,7 +4,7 @@ use Rattle.fast_template.specs.declared.resolved.FlatTemplate.{FlatTemplate}
 use Rattle.fast_template.specs.Resolved.{list_of, Instructions}
 use Rattle.fast_template.specs.TemplateSets.{templates_in}
 use Rattle.fast_stream.specs.Nodes.{content_of}
-use Rattle.fast_stream.proofs.Serving.{found_members}
+use Rattle.fast_walk.proofs.Serving.{found_members}
 use Rattle.fast_encoder.proofs.Judgements.{unknown_refused, whole_refused}
 use Rattle.fast_encoder.proofs.judge.template_for.Goals as goal
 

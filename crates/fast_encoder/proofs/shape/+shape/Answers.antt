@@ -2,7 +2,7 @@ use Rattle.std.proofs.Common.{rules, ◌≡◌, ◌≢◌, ◌∙◌, refl, leng
 use Rattle.fast_template.specs.Resolved.{Instruction, flat_step, instruction_of, list_of, sequence_of}
 use Rattle.fast_template.specs.declared.resolved.Flat.{fold_out-Flat}
 use Rattle.fast_template.specs.declared.resolved.Flat.TheVariants.{Sequence, outs-Sequence}
-use Rattle.fast_stream.proofs.Views.{item_of-sequence}
+use Rattle.fast_walk.proofs.Views.{item_of-sequence}
 use Rattle.fast_encoder.proofs.Shapes.{other_number}
 use Rattle.fast_encoder.proofs.shape.+shape.Goals as goal
 

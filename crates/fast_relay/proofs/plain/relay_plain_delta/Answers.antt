@@ -23,5 +23,5 @@ returns-then-send-clause-relayed c =
     c.in-Some-plain_ascii_end.ensures.plain
     (omega (arith, c.if-form-kept.false, c.if-removed-base.false, few.1, (c.are_characters.ensures c.if-not-are_characters.false).0))
     (c.agrees_no_further.ensures c.if-not-agrees_no_further.false)
-    (c.ends_otherwise.ensures c.if-not-ends_otherwise.false)
+    (c.is_cut_at_end.ensures c.if-not-is_cut_at_end.false)
     (written.0, after, subst (λ (z : ℤ). ShortestSigned c.args.instr.now.presence z written.0) few.0 written.2))

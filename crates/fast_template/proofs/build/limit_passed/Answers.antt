@@ -1,6 +1,6 @@
 use Rattle.std.proofs.Common.{◌≡◌, ◌≤◌, List, map, length, sym, subst, ap, ◌∙◌}
 use Rattle.std.proofs.lemmas.List.{length-map}
-use Rattle.fast_template.specs.Written.{WrittenTemplate, written_template_of}
+use Rattle.fast_written.specs.Written.{WrittenTemplate, written_template_of}
 use Rattle.fast_template.specs.Extents.{too_large}
 use Rattle.fast_template.proofs.LimitPhase.{limit_is, there_are_lists}
 use Rattle.fast_template.proofs.build.limit_passed.Goals as goal

@@ -1,5 +1,5 @@
 use Rattle.std.proofs.Common.{List, map}
-use Rattle.fast_template.specs.Written.{WrittenTemplate, written_template_of}
+use Rattle.fast_written.specs.Written.{WrittenTemplate, written_template_of}
 use Rattle.fast_template.proofs.PhaseOrder.{first_fault, and_this}
 use Rattle.fast_template.proofs.build.order_within_limits.Goals as goal
 

@@ -1,7 +1,7 @@
 use Rattle.std.proofs.Common.{◌≡◌, ◌≤◌, ◌++◌, ◌∷◌, List, map, length, take, drop, sym, subst}
 use Rattle.std.proofs.lemmas.List.{length-map}
 use Rattle.fast_template.specs.declared.resolved.FlatTemplate.{FlatTemplate}
-use Rattle.fast_template.specs.Written.{WrittenTemplate, written_template_of}
+use Rattle.fast_written.specs.Written.{WrittenTemplate, written_template_of}
 use Rattle.fast_template.specs.Resolved.{resolved_of}
 use Rattle.fast_template.specs.FlatLists.{AreResolved}
 use Rattle.fast_template.specs.Slots.{AreSettled}

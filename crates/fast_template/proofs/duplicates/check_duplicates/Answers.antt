@@ -1,6 +1,6 @@
 use Rattle.std.proofs.Common.{◌≡◌, ◌≤◌, inl, length, map, List, [], Some, None, subst, sym}
 use Rattle.std.proofs.lemmas.List.{length-map}
-use Rattle.fast_template.specs.Written.{WrittenTemplate, written_template_of}
+use Rattle.fast_written.specs.Written.{WrittenTemplate, written_template_of}
 use Rattle.fast_template.specs.Duplicates.{NamesLead, first_duplicate}
 use Rattle.fast_template.proofs.DuplicatePhase.{duplicates_pass, duplicates_fault}
 use Rattle.fast_template.proofs.duplicates.check_duplicates.Goals as goal

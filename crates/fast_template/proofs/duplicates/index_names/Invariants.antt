@@ -1,6 +1,6 @@
 use Rattle.std.proofs.Common.{◌≡◌, map, drop, take, []}
 use Rattle.std.proofs.Common.{◌+◌}
-use Rattle.fast_template.specs.Written.{written_template_of}
+use Rattle.fast_written.specs.Written.{written_template_of}
 use Rattle.fast_template.specs.Duplicates.{NamesLead, IdsLead, first_duplicate}
 use Rattle.fast_template.proofs.duplicates.index_names.Given as goal
 

@@ -1,6 +1,6 @@
 use Rattle.std.proofs.Common.{◌≡◌, ◌≤◌, ◌+◌, map, max, drop}
 use Rattle.fast_template.specs.Extents.{depth_named, depth_with, size_named, size_with, stopped_depth, stopped_size}
-use Rattle.fast_template.specs.Written.{written_list, written_of}
+use Rattle.fast_written.specs.Written.{written_list, written_of}
 use Rattle.fast_template.proofs.extents.+extents.Given as goal
 
 abbrev pub invariant-extent_of_all-loop-member : goal.invariant-extent_of_all-loop-member

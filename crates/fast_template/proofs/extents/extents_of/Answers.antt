@@ -2,8 +2,8 @@ use Rattle.std.proofs.Common.{◌≡◌, ◌<◌, ℕ, List, map, length, option
 use Rattle.std.specs.Prelude.{slice_get, slice_index_or}
 use Rattle.std.proofs.lemmas.Option.{slice_get-get_or, slice_get_read, slice_get-map}
 use Rattle.std.proofs.lemmas.List.{length-map, length-set}
-use Rattle.fast_template.specs.declared.written.Template.{Template}
-use Rattle.fast_template.specs.Written.{WrittenTemplate, WrittenInstructions, written_list, written_of, written_template_of}
+use Rattle.fast_written.specs.declared.written.Template.{Template}
+use Rattle.fast_written.specs.Written.{WrittenTemplate, WrittenInstructions, written_list, written_of, written_template_of}
 use Rattle.fast_template.specs.Resolved.{Instructions}
 use Rattle.fast_template.specs.FlatLists.{AreFlatLists}
 use Rattle.fast_template.specs.Extents.{IsExtentOf, size_with, size_named, stopped_size, depth_with, depth_named, stopped_depth}

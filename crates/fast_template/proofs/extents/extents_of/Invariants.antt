@@ -1,5 +1,5 @@
 use Rattle.std.proofs.Common.{◌≡◌, map, length}
-use Rattle.fast_template.specs.Written.{written_template_of}
+use Rattle.fast_written.specs.Written.{written_template_of}
 use Rattle.fast_template.proofs.ExtentLaws.{KnowsExtents}
 use Rattle.fast_template.proofs.extents.extents_of.Given as goal
 

@@ -1,7 +1,7 @@
 use Rattle.std.proofs.Common.{◌≡◌, map, option_map, string_bytes, ap, subst, sym, ◌∙◌}
 use Rattle.fast_template.specs.FlatLists.{flat_list, length_part}
 use Rattle.fast_template.specs.Resolved.{joined, list_of, instruction_of, sequence_of}
-use Rattle.fast_template.specs.Written.{written_list, written_of, operation_of}
+use Rattle.fast_written.specs.Written.{written_list, written_of, operation_of}
 use Rattle.fast_template.proofs.FlatLaws.{flat_more, flat_end, field_put, parts_put, group_put, sequence_put}
 use Rattle.fast_template.specs.NamedLists.{list_named}
 use Rattle.fast_template.specs.Surroundings.{context_in}

@@ -3,7 +3,7 @@ use Rattle.fast_template.specs.FlatLists.{flat_list}
 use Rattle.fast_template.specs.NamedLists.{list_named}
 use Rattle.fast_template.specs.Resolved.{joined, list_of}
 use Rattle.fast_template.specs.Surroundings.{context_in}
-use Rattle.fast_template.specs.Written.{written_list, written_of}
+use Rattle.fast_written.specs.Written.{written_list, written_of}
 use Rattle.fast_template.proofs.flat_lists.+appends.Given as goal
 
 abbrev pub invariant-append_all-loop-member : goal.invariant-append_all-loop-member

@@ -2,7 +2,7 @@ use Rattle.std.proofs.Common.{ap, ◌∙◌}
 use Rattle.fast_value.specs.declared.kind.Part.TheVariants.{Whole}
 use Rattle.fast_template.specs.FlatLists.{part_of, field_part}
 use Rattle.fast_template.specs.Surroundings.{context_in}
-use Rattle.fast_template.specs.Written.{operation_of}
+use Rattle.fast_written.specs.Written.{operation_of}
 use Rattle.fast_template.proofs.FlatLaws.{field_made}
 use Rattle.fast_template.proofs.flat_lists.field_flat.Goals as goal
 

@@ -2,9 +2,9 @@ use Rattle.std.proofs.Common.{◌≡◌, ◌<◌, ◌+◌, ℕ, List, map, lengt
 use Rattle.std.specs.Prelude.{slice_get, slice_index_or}
 use Rattle.std.proofs.lemmas.Option.{slice_get-get_or, slice_get_read, slice_get-map}
 use Rattle.std.proofs.lemmas.List.{length-map}
-use Rattle.fast_template.specs.declared.written.Template.{Template}
+use Rattle.fast_written.specs.declared.written.Template.{Template}
 use Rattle.fast_template.specs.declared.resolved.FlatTemplate.{FlatTemplate}
-use Rattle.fast_template.specs.Written.{WrittenTemplate, written_list, written_of, written_template_of}
+use Rattle.fast_written.specs.Written.{WrittenTemplate, written_list, written_of, written_template_of}
 use Rattle.fast_template.specs.Resolved.{Instructions, joined, list_of}
 use Rattle.fast_template.specs.FlatLists.{AreFlatLists, context_of, flat_list}
 use Rattle.fast_template.specs.NamedLists.{list_named}

@@ -1,6 +1,6 @@
 use Rattle.std.proofs.Common.{◌≡◌, map}
 use Rattle.fast_template.specs.NamedLists.{heading, heading_of}
-use Rattle.fast_template.specs.Written.{written_template_of}
+use Rattle.fast_written.specs.Written.{written_template_of}
 use Rattle.fast_template.proofs.Flattening.{KnowsLists}
 use Rattle.fast_template.proofs.flat_lists.flat_templates.Given as goal
 

@@ -3,7 +3,7 @@ use Rattle.fast_value.specs.declared.kind.Kind.TheVariants.{UInt32}
 use Rattle.fast_value.specs.declared.kind.Part.TheVariants.{Length}
 use Rattle.fast_template.specs.FlatLists.{part_of}
 use Rattle.fast_template.specs.Surroundings.{context_in}
-use Rattle.fast_template.specs.Written.{operation_of}
+use Rattle.fast_written.specs.Written.{operation_of}
 use Rattle.fast_template.proofs.flat_lists.length_of.Goals as goal
 
 pub returns : goal.returns

@@ -4,7 +4,7 @@ use Rattle.fast_value.specs.declared.kind.Presence.TheVariants.{Mandatory}
 use Rattle.fast_value.specs.declared.kind.Part.TheVariants.{Exponent, Mantissa}
 use Rattle.fast_template.specs.FlatLists.{part_of, exponent_part, mantissa_part}
 use Rattle.fast_template.specs.Surroundings.{context_in}
-use Rattle.fast_template.specs.Written.{operation_of}
+use Rattle.fast_written.specs.Written.{operation_of}
 use Rattle.fast_template.proofs.FlatLaws.{parts_made}
 use Rattle.fast_template.proofs.flat_lists.parts_flat.Goals as goal
 

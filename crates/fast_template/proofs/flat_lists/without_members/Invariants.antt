@@ -1,6 +1,6 @@
 use Rattle.std.proofs.Common.{◌≡◌, map, take}
 use Rattle.fast_template.specs.NamedLists.{heading, heading_of}
-use Rattle.fast_template.specs.Written.{written_template_of}
+use Rattle.fast_written.specs.Written.{written_template_of}
 use Rattle.fast_template.proofs.flat_lists.without_members.Given as goal
 
 abbrev pub invariant-loop-template : goal.invariant-loop-template

@@ -1,6 +1,6 @@
 use Rattle.std.proofs.Common.{◌≡◌, ◌++◌, map, drop}
 use Rattle.fast_template.specs.Links.{place_in, places_of, references_in}
-use Rattle.fast_template.specs.Written.{written_list, written_of}
+use Rattle.fast_written.specs.Written.{written_list, written_of}
 use Rattle.fast_template.proofs.links.+links.Given as goal
 
 abbrev pub invariant-link_all-loop-member : goal.invariant-link_all-loop-member

@@ -1,6 +1,6 @@
 use Rattle.std.proofs.Common.{◌≡◌, map, take}
 use Rattle.fast_template.specs.Links.{place_in, places_of, references_in}
-use Rattle.fast_template.specs.Written.{written_template_of}
+use Rattle.fast_written.specs.Written.{written_template_of}
 use Rattle.fast_template.proofs.links.links_of.Given as goal
 
 abbrev pub invariant-loop-template : goal.invariant-loop-template

@@ -1,6 +1,6 @@
 use Rattle.std.proofs.Common.{◌≡◌, ◌≤◌, rules, inl, length, map, List, Some, None, subst, sym}
 use Rattle.std.proofs.lemmas.List.{length-map}
-use Rattle.fast_template.specs.Written.{WrittenTemplate, written_template_of}
+use Rattle.fast_written.specs.Written.{WrittenTemplate, written_template_of}
 use Rattle.fast_template.specs.Walks.{first_at_fault}
 use Rattle.fast_template.proofs.OperatorPhase.{nothing_of, of_parts, operators_pass, operators_fault}
 use Rattle.fast_template.proofs.operators.check_operators.Goals as goal

@@ -4,7 +4,7 @@ use Rattle.std.specs.Ordering.{nat_cmp}
 use Rattle.std.specs.Cmp.Lexicographic.{slice_cmp}
 use Rattle.std.specs.BTreeMap.{get}
 use Rattle.fast_template.specs.References.{reference_cause}
-use Rattle.fast_template.specs.Written.{WrittenTemplate, written_template_of}
+use Rattle.fast_written.specs.Written.{WrittenTemplate, written_template_of}
 use Rattle.fast_template.specs.Walks.{first_at_fault}
 use Rattle.fast_template.proofs.ReferencePhase.{references_pass, references_fault}
 use Rattle.fast_template.proofs.references.check_references.Goals as goal

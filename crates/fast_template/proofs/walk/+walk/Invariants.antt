@@ -1,5 +1,5 @@
 use Rattle.std.proofs.Common.{◌≡◌, map, drop}
-use Rattle.fast_template.specs.Written.{written_list, written_of}
+use Rattle.fast_written.specs.Written.{written_list, written_of}
 use Rattle.fast_template.specs.Walks.{walk}
 use Rattle.fast_template.proofs.walk.+walk.Given as goal
 

@@ -1,5 +1,5 @@
 use Rattle.std.proofs.Common.{◌≡◌, ◌+◌, map, drop}
-use Rattle.fast_template.specs.Written.{written_template_of}
+use Rattle.fast_written.specs.Written.{written_template_of}
 use Rattle.fast_template.specs.Walks.{first_at_fault}
 use Rattle.fast_template.proofs.walk.first_at_fault.Given as goal
 

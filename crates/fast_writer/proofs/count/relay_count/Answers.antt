@@ -1,7 +1,7 @@
 use Rattle.std.proofs.Common.{ap, ◌∙◌}
 use Rattle.std.specs.Result.{is_ok}
 use Rattle.fast_dictionary.specs.Dictionary.{set_entry, set_entry-there}
-use Rattle.fast_stream.specs.Received.{length_of}
+use Rattle.fast_walk.specs.Received.{length_of}
 use Rattle.fast_writer.specs.Levels.{level_of}
 use Rattle.fast_writer.proofs.Relays.{level_bytes, took_of}
 use Rattle.fast_writer.proofs.count.relay_count.Goals as goal

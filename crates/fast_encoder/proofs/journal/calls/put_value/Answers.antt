@@ -4,7 +4,7 @@ use Rattle.std.specs.Result.{is_ok}
 use Rattle.fast_dictionary.specs.declared.entry.Entry.{Entry}
 use Rattle.fast_dictionary.specs.Dictionary.{set_entry, set_entry-there}
 use Rattle.fast_field.specs.Bases.{next}
-use Rattle.fast_stream.proofs.Putting.{set_written}
+use Rattle.fast_walk.proofs.Putting.{set_written}
 use Rattle.fast_encoder.specs.Added.{HoldScalars}
 use Rattle.fast_writer.specs.Levels.{level_of}
 use Rattle.fast_encoder.proofs.Additions.{part_added}

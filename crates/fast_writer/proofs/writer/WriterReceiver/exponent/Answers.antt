@@ -1,5 +1,5 @@
 use Rattle.std.proofs.Common.{map}
-use Rattle.fast_stream.specs.Received.{exponent_of}
+use Rattle.fast_walk.specs.Received.{exponent_of}
 use Rattle.fast_writer.specs.Levels.{level_of}
 use Rattle.fast_writer.proofs.QuickWays.{exponent_there}
 use Rattle.fast_writer.proofs.Writers.{exponent_finished, has_exponent, is_exponent}

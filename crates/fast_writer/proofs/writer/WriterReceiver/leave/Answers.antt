@@ -1,6 +1,6 @@
 use Rattle.std.proofs.Common.{ℕ, subst, sym, map}
 use Rattle.std.specs.Global.{Vec}
-use Rattle.fast_stream.specs.OpenSegments.{in_group}
+use Rattle.fast_walk.specs.OpenSegments.{in_group}
 use Rattle.fast_writer.specs.Written.{IsFinished}
 use Rattle.fast_writer.specs.Levels.{level_of}
 use Rattle.fast_writer.proofs.Writers.{has_ended}

@@ -1,0 +1,133 @@
+-- What calls one after the other have put behind an output.
+use Rattle.std.proofs.Common.{◌≡◌, ◌<◌, ◌+◌, ◌/◌, ◌%◌, ℕ, List, [], ◌∷◌, ◌++◌, Option, Some, None, Ok, Err, Result, length, take, get_or, option_map, true≢false, true, refl, sym, ap, ap₂, ◌∙◌}
+use Rattle.std.specs.Prelude.{slice_index, IsErr}
+use Rattle.std.proofs.lemmas.List.{append-nil, append_assoc, take_more}
+use Rattle.std.specs.declared.alloc.AllocError.{AllocError}
+use Rattle.std.specs.List.{flat_map, list_all}
+use Rattle.std.proofs.lemmas.List.Concat.{flat_map-cons}
+use Rattle.std.proofs.lemmas.Bool.{and_parts}
+use Rattle.std.proofs.lemmas.Grind.{flat_map-append}
+use Rattle.hex.specs.Hex.{encode_with, encode_lower, lower_digits}
+use Rattle.fast_lines.specs.declared.lines.ShowFault.{ShowFault}
+use Rattle.fast_lines.specs.declared.lines.ShowFault.TheVariants.{Mismatch, Memory}
+use Rattle.fast_lines.specs.Lines.{is_plain, joined, unit_text}
+use Rattle.fast_lines.specs.Written.{Extends, Writes, Adds, Shows, Leads}
+
+-- ---- more behind an output
+
+pub extends_same : (a : List ℕ) → Extends a a
+extends_same a = record { more = []; appended = sym (append-nil a) }
+
+pub extends_by : (a b s : List ℕ) → b ≡ a ++ s → Extends a b
+extends_by a b s e = record { more = s; appended = e }
+
+pub extends_more : (a b c : List ℕ) → Extends a b → Extends b c → Extends a c
+extends_more a b c x y = record {
+  more = x.more ++ y.more;
+  appended = y.appended ∙ ap (λ l. l ++ y.more) x.appended ∙ append_assoc a x.more y.more;
+}
+
+-- ---- texts that are always there
+
+pub writes_err : (t a b : List ℕ) (r : Result Unit AllocError) → IsErr r → Extends a b → Writes t r a b
+writes_err t a b (Ok u) e x = absurd (true≢false (sym e))
+writes_err t a b (Err f) e x = x
+
+-- ---- one more element of a list
+
+pub flat_map_one : (f : ℕ → List ℕ) (xs : List ℕ) (i : ℕ) (d : ℕ) → i < length xs → flat_map f (take (i + 1) xs) ≡ flat_map f (take i xs) ++ f (get_or xs i d)
+flat_map_one f xs i d lt =
+    ap (flat_map f) (take_more xs i d lt) ∙ flat_map-append f (take i xs) (get_or xs i d ∷ []) ∙ ap (λ l. flat_map f (take i xs) ++ l) (append-nil (f (get_or xs i d)))
+
+-- a string that stands as it is
+pub plain_text : (s : List ℕ) → list_all is_plain s ≡ true → flat_map unit_text s ≡ s
+plain_text [] e = refl
+plain_text (c ∷ s) e =
+    let both = and_parts (is_plain c) (list_all is_plain s) e in
+    let here : unit_text c ≡ c ∷ [] = rw both.0 refl in
+    flat_map-cons unit_text c s ∙ ap₂ (λ x y. x ++ y) here (plain_text s both.1)
+
+encode-append : (t xs ys : List ℕ) → encode_with t (xs ++ ys) ≡ encode_with t xs ++ encode_with t ys
+unfolding encode_with
+encode-append t [] ys = refl
+encode-append t (b ∷ rest) ys = ap (λ l. slice_index t (b / 16) ∷ slice_index t (b % 16) ∷ l) (encode-append t rest ys)
+
+pub encode_one : (xs : List ℕ) (i : ℕ) (d : ℕ) → i < length xs → encode_lower (take (i + 1) xs) ≡ encode_lower (take i xs) ++ encode_lower (get_or xs i d ∷ [])
+encode_one xs i d lt =
+    ap encode_lower (take_more xs i d lt) ∙ encode-append lower_digits (take i xs) (get_or xs i d ∷ [])
+
+pub encode_none : encode_lower [] ≡ []
+unfolding encode_with
+encode_none = refl
+
+pub encode_pair : (b : ℕ) → slice_index lower_digits (b / 16) ∷ slice_index lower_digits (b % 16) ∷ [] ≡ encode_lower (b ∷ [])
+unfolding encode_with
+encode_pair b = refl
+
+-- ---- texts that may not be there
+
+-- what is made of a text that is not there is not there
+none_of : (g : List ℕ → List ℕ) (t : Option (List ℕ)) → t ≡ None → option_map g t ≡ None
+none_of g t e = ap (option_map g) e
+
+pub shows_err : (g : List ℕ → List ℕ) (t : Option (List ℕ)) (a b c : List ℕ) (f : ShowFault) → Extends a b → Shows t (Err f) b c → Shows (option_map g t) (Err f) a c
+shows_err g t a b c Memory x w = extends_more a b c x w
+shows_err g t a b c Mismatch x w = (none_of g t w.0, extends_more a b c x w.1)
+
+-- a text in front
+pub shows_behind : (s : List ℕ) (t : Option (List ℕ)) (a b c : List ℕ) (r : Result Unit ShowFault) → b ≡ a ++ s → Shows t r b c → Shows (option_map (λ x. s ++ x) t) r a c
+shows_behind s t a b c (Ok u) e w = record {
+  line = s ++ w.line;
+  there = ap (option_map (λ x. s ++ x)) w.there;
+  appended = w.appended ∙ ap (λ l. l ++ w.line) e ∙ append_assoc a s w.line;
+}
+shows_behind s t a b c (Err f) e w = shows_err (λ x. s ++ x) t a b c f (extends_by a b s e) w
+
+-- a text in front and another behind
+pub adds_between : (o w : List ℕ) (t : Option (List ℕ)) (a b c d : List ℕ) → b ≡ a ++ o → Adds t b c → d ≡ c ++ w → Adds (option_map (λ x. o ++ x ++ w) t) a d
+adds_between o w t a b c d e x f = record {
+  line = o ++ x.line ++ w;
+  there = ap (option_map (λ y. o ++ y ++ w)) x.there;
+  appended = f ∙ ap (λ l. l ++ w) (x.appended ∙ ap (λ l. l ++ x.line) e ∙ append_assoc a o x.line) ∙ append_assoc a (o ++ x.line) w;
+}
+
+-- ---- texts of lists, from their front on
+
+pub leads_start : (t : Option (List ℕ)) (a : List ℕ) → Leads t t a a
+leads_start t a = record { front = []; whole_is = same t; appended = sym (append-nil a) } where
+  same : (o : Option (List ℕ)) → o ≡ option_map (λ x. [] ++ x) o
+  same None = refl
+  same (Some x) = refl
+
+joined_some : (s : List ℕ) (t : Option (List ℕ)) → joined (Some s) t ≡ option_map (λ x. s ++ x) t
+joined_some s None = refl
+joined_some s (Some t) = refl
+
+behind_both : (s u : List ℕ) (t : Option (List ℕ)) → option_map (λ x. s ++ x) (option_map (λ x. u ++ x) t) ≡ option_map (λ x. (s ++ u) ++ x) t
+behind_both s u None = refl
+behind_both s u (Some t) = ap Some (sym (append_assoc s u t))
+
+pub leads_more : (whole t rest : Option (List ℕ)) (a b c : List ℕ) → Leads whole (joined t rest) a b → Adds t b c → Leads whole rest a c
+leads_more whole t rest a b c l x = record {
+  front = l.front ++ x.line;
+  whole_is = l.whole_is ∙ ap (λ o. option_map (λ y. l.front ++ y) (joined o rest)) x.there ∙ ap (option_map (λ y. l.front ++ y)) (joined_some x.line rest) ∙ behind_both l.front x.line rest;
+  appended = x.appended ∙ ap (λ z. z ++ x.line) l.appended ∙ append_assoc a l.front x.line;
+}
+
+pub joined_none : (s : Option (List ℕ)) → joined s None ≡ None
+joined_none None = refl
+joined_none (Some s) = refl
+
+none_joined : (t : Option (List ℕ)) → joined None t ≡ None
+none_joined None = refl
+none_joined (Some t) = refl
+
+pub leads_err : (whole t rest : Option (List ℕ)) (a b c : List ℕ) (f : ShowFault) → Leads whole (joined t rest) a b → Shows t (Err f) b c → Shows whole (Err f) a c
+leads_err whole t rest a b c Memory l w = extends_more a b c (extends_by a b l.front l.appended) w
+leads_err whole t rest a b c Mismatch l w = (
+  l.whole_is ∙ ap (λ o. option_map (λ y. l.front ++ y) (joined o rest)) w.0 ∙ ap (option_map (λ y. l.front ++ y)) (none_joined rest),
+  extends_more a b c (extends_by a b l.front l.appended) w.1,
+)
+
+pub leads_stop : (whole t rest : Option (List ℕ)) (a b c : List ℕ) (f : ShowFault) (r : Result Unit ShowFault) → r ≡ Err f → Leads whole (joined t rest) a b → Shows t (Err f) b c → Shows whole r a c
+leads_stop whole t rest a b c f r e l w = rw e (leads_err whole t rest a b c f l w)

@@ -1,0 +1,3 @@
+pub mod Standing
+pub mod Following
+pub mod OneProof

@@ -1,0 +1,59 @@
+-- What a decoder's fields keep of its keys has one proof at most.
+use mathlib.Core.Bool.{Bool-set}
+use Rattle.std.specs.Prelude.{Bool, true, List, [], ◌∷◌, map, IsTrue}
+use Rattle.std.specs.Coded.{×_prop, Π_prop, →_prop, Unit-prop, Coded-set, coded_ℕ}
+use Rattle.fast_value.specs.declared.key.Key.{Key}
+use Rattle.fast_template.specs.Resolved.{Instruction, Instructions, whole_field, field_in_parts, group_of, sequence_of, no_instructions, then_instruction, list_of}
+use Rattle.fast_template.specs.TemplateSets.{TemplateList}
+use Rattle.fast_walk.specs.declared.traversal.Stage.{Stage}
+use Rattle.fast_walk.specs.declared.traversal.Stage.TheVariants as stage
+use Rattle.fast_walk.specs.declared.traversal.Traversal.{Traversal}
+use Rattle.fast_walk.specs.declared.walk.Walk.{Walk}
+use Rattle.fast_walk.specs.OpenSegments.{Inside, in_group, in_sequence, Waiting, Next, at_instruction, at_mantissa, at_element}
+use Rattle.fast_walk.specs.Walks.{IsServed, AreServed, IsNextServed, IsInsideServed, AreAllServed, IsReady, next_of, frame_of}
+use Rattle.fast_walk.specs.Traversals.{ServesAll, IsReadyAt, CanGoOn}
+
+served-prop : (b : Bool) → IsProp (IsTrue b)
+served-prop b = Bool-set b true
+
+pub ServesAll-prop : (serves : Key → Bool) (set : TemplateList) → IsProp (ServesAll serves set)
+ServesAll-prop serves set = Π_prop (λ k. →_prop (served-prop (serves k)))
+
+mutual
+  one-prop : (serves : Key → Bool) (i : Instruction) → IsProp (IsServed serves i)
+  one-prop serves (whole_field name number presence whole) = served-prop (serves whole.key)
+  one-prop serves (field_in_parts name number presence exponent mantissa) = ×_prop (served-prop (serves exponent.key)) (served-prop (serves mantissa.key))
+  one-prop serves (group_of name number presence members) = list-prop serves members
+  one-prop serves (sequence_of name number presence length members) = ×_prop (served-prop (serves length.key)) (list-prop serves members)
+
+  list-prop : (serves : Key → Bool) (is : Instructions) → IsProp (AreServed serves is)
+  list-prop serves no_instructions = Unit-prop
+  list-prop serves (then_instruction i is) = ×_prop (one-prop serves i) (list-prop serves is)
+
+next-prop : (serves : Key → Bool) (n : Next) → IsProp (IsNextServed serves n)
+next-prop serves at_instruction = Unit-prop
+next-prop serves (at_mantissa e mantissa) = served-prop (serves mantissa.key)
+next-prop serves (at_element s) = list-prop serves s.members
+
+inside-prop : (serves : Key → Bool) (i : Inside) → IsProp (IsInsideServed serves i)
+inside-prop serves in_group = Unit-prop
+inside-prop serves (in_sequence s) = list-prop serves s.members
+
+around-prop : (serves : Key → Bool) (ws : List Waiting) → IsProp (AreAllServed serves ws)
+around-prop serves [] = Unit-prop
+around-prop serves (w ∷ ws) = ×_prop (×_prop (list-prop serves w.body.rest) (inside-prop serves w.inside)) (around-prop serves ws)
+
+ready-prop : (serves : Key → Bool) (w : Walk) → IsProp (IsReady serves w)
+ready-prop serves w r s = λ i. record {
+  next = next-prop serves (next_of w.next) r.next s.next i;
+  rest = list-prop serves (list_of w.rest.now) r.rest s.rest i;
+  around = around-prop serves (map frame_of w.around.items) r.around s.around i;
+}
+
+at-prop : (at : Stage) (serves : Key → Bool) (t : Traversal) → IsProp (IsReadyAt at serves t)
+at-prop stage.Map serves t = Unit-prop
+at-prop stage.Identifier serves t = ×_prop (Coded-set coded_ℕ t.template 0) (Coded-set coded_ℕ t.walk.spare 65536)
+at-prop stage.Body serves t = ready-prop serves t.walk
+
+pub CanGoOn-prop : (serves : Key → Bool) (t : Traversal) → IsProp (CanGoOn serves t)
+CanGoOn-prop serves t = at-prop t.stage serves t

@@ -1,0 +1,39 @@
+//! Reading a stream that comes in chunks, whatever is done with what is read.
+
+mod calls;
+
+ghost use Rattle.std.specs.Prelude.{◌≡◌, ◌≤◌, [], None, IfSome, length};
+ghost use Rattle.std.specs.Coded.{→_prop};
+ghost use Rattle.std.proofs.Props.{props};
+ghost use Rattle.fast_walk.specs.Traversals.{CanGoOn, ServesAll};
+ghost use Rattle.fast_machine.specs.OneProof.{CanGoOn-prop, ServesAll-prop};
+
+use fast_dictionary::Entries;
+use fast_stream::Fault;
+use fast_walk::{Receiver, Traversal};
+use std::alloc::Global;
+
+/// Reads a stream that comes in chunks, stops anywhere, and hands what it reads to a receiver.
+///
+/// It keeps the segments that are open, and the bytes of the one piece that is not whole. Nothing but that piece is
+/// read again.
+#[derive(Drop)]
+pub struct Machine<'a, R: Receiver, E: Entries> {
+    alloc: Global,
+    traversal: Traversal<'a>,
+    /// What has the messages that ended; whoever takes them from it leaves what is open.
+    pub receiver: R,
+    entries: E,
+    // at most ten bytes of a subtraction length, ten of the length of a new part, and all but one
+    // of that part's 65,535
+    held: Vec<u8>,
+    // the number of the instruction of the piece that is not whole
+    waiting: u32,
+    fault: Option<Fault>,
+    fed: u64,
+    messages: u64,
+    ghost served: { ServesAll (E.serves entries) traversal.set.now } by { ServesAll-prop (E.serves entries) traversal.set.now },
+    ghost bounded: { length held.items ≤ 65554 },
+    ghost cleared: { IfSome fault (λ f. held.items ≡ []) } by { Prim.hlevel props },
+    ghost ready: { fault ≡ None → CanGoOn (E.serves entries) traversal } by { →_prop (CanGoOn-prop (E.serves entries) traversal) },
+}

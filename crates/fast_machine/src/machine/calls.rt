@@ -1,0 +1,378 @@
+//! The calls of a machine.
+
+ghost use Rattle.std.specs.Prelude.{◌≡◌, ◌≢◌, ◌≤◌, ◌<◌, ◌+◌, ◌-◌, ◌^◌, ◌++◌, ◌⊎◌, [], ℕ, List, None, Some, Err, OnOk, IfErr, IfSome, length, map};
+ghost use Rattle.std.specs.FinMap as finite;
+ghost use Rattle.fast_template.specs.Resolved.{Resolved};
+ghost use Rattle.fast_template.specs.TemplateSets.{IsSound, templates_in};
+ghost use Rattle.fast_dictionary.specs.Dictionary.{Dictionary};
+ghost use Rattle.fast_stream.specs.Nodes.{Content};
+ghost use Rattle.fast_stream.specs.Streams.{Carries};
+ghost use Rattle.fast_walk.specs.declared.traversal.Traversal.{Traversal as TraversalNow};
+ghost use Rattle.fast_machine.specs.Following.{Counts, IsHeld, Refused};
+ghost use Rattle.fast_machine.specs.Standing.{Carried, Ended, ReadsOn, Stands, StopsBehind};
+ghost use Rattle.fast_walk.specs.Traversals.{CanGoOn, ServesAll, stop_of};
+
+use crate::machine::Machine;
+use crate::messages::read_messages;
+use fast_dictionary::Entries;
+use fast_stream::{Cause, Fault, Place};
+use fast_template::TemplateSet;
+use fast_walk::{Halt, Receiver, Traversal};
+use std::alloc::Global;
+use std::mem;
+
+// So many more; the count stops at the greatest number.
+fn counted(count: u64, more: u64) -> u64
+    ensures { count + more < 2 ^ 62 → result ≡ count + more }
+{
+    count.saturating_add(more)
+}
+
+// A fault of a piece of which so many of the bytes fed are left, in the message behind so many.
+fn fault_at(
+    cause: Cause,
+    messages: u64,
+    fed: u64,
+    left: usize,
+    template: u32,
+    instruction: u32,
+) -> Fault
+    ensures cause { result.cause ≡ cause }
+    ensures message { messages < 2 ^ 61 → result.place.message ≡ messages + 1 }
+    ensures offset { result.place.offset ≡ fed - left }
+    ensures template { result.place.template ≡ template }
+    ensures instruction { result.place.instruction ≡ instruction }
+{
+    let place = Place {
+        message: messages.saturating_add(1),
+        offset: fed.saturating_sub(left as u64),
+        template,
+        instruction,
+    };
+    Fault { cause, place }
+}
+
+// The fault that a halt is. Want of memory has no place but the message.
+fn fault_of(halt: Halt, messages: u64, fed: u64, left: usize, template: u32) -> Fault
+    ensures cause { result.cause ≡ halt.cause }
+    ensures refused { (t : TraversalNow) (rest bytes : List ℕ) (ms : List Content)
+        → IsSound t.set.now → Counts fed messages bytes ms → length bytes < 2 ^ 61
+        → t.template ≡ template → length rest ≡ left
+        → Carried (templates_in t.set.now) bytes ms
+        → (halt.cause ≢ Cause.Memory
+        → StopsBehind (templates_in t.set.now) bytes ms (stop_of t.template halt rest))
+        → Refused result t bytes ms }
+{
+    match halt.cause {
+        Cause::Memory => fault_at(Cause::Memory, messages, 0, 0, 0, 0),
+        cause => fault_at(cause, messages, fed, left, template, halt.number),
+    }
+}
+
+impl<'a, R: Receiver, E: Entries> Machine<'a, R, E> {
+    ghost use Rattle.fast_machine.specs.Following.{Answers, Follows, IsCutAt};
+
+    /// A machine over a set, at the beginning of a stream. The entries are reset. Takes no memory.
+    pub fn new(alloc: Global, set: &'a TemplateSet, receiver: R, entries: E) -> Machine<'a, R, E>
+        requires { ServesAll (E.serves entries) set.now }
+        ensures set { result.traversal.set.now ≡ set.now }
+        ensures fault { result.fault ≡ None }
+        ensures receiver { result.receiver ≡ receiver }
+        ensures fed { result.fed ≡ 0 }
+        ensures sound { IsSound set.now }
+        ensures follows { (before : List Content)
+            → R.stands receiver (templates_in set.now) before finite.empty
+            → Follows result before [] [] }
+    {
+        let mut entries = entries;
+        entries.reset();
+        let traversal = Traversal::new(alloc, set);
+        traversal.set_is_sound();
+        Machine {
+            alloc,
+            traversal,
+            receiver,
+            entries,
+            held: Vec::new(alloc),
+            waiting: 0,
+            fault: None,
+            fed: 0,
+            messages: 0,
+        }
+    }
+
+    /// The fault that is kept, if there is one.
+    pub fn fault(&self) -> Option<Fault>
+        ensures { result ≡ self.now.fault }
+    {
+        self.fault
+    }
+
+    /// How many messages ended since the reset, before a fault.
+    pub fn messages(&self) -> u64
+        ensures { result ≡ self.now.messages }
+    {
+        self.messages
+    }
+
+    /// How many bytes were fed since the reset, up to the end of the chunk that has the first fault.
+    pub fn fed(&self) -> u64
+        ensures { result ≡ self.now.fed }
+    {
+        self.fed
+    }
+
+    /// How many of the bytes fed belong to no finished piece, at most 65,554; 0 after a fault.
+    pub fn held(&self) -> usize
+        ensures held { result ≡ length self.now.held.items }
+        ensures bounded { result ≤ 65554 }
+        ensures fault { IfSome self.now.fault (λ f. result ≡ 0) }
+        ensures waits { self.now.fault ≡ None → (before : List Content) (fed : List ℕ)
+            (messages : List Content) → Follows self.now before fed messages
+            → IsHeld (templates_in self.now.traversal.set.now) fed self.now.fed result }
+    {
+        self.traversal.set_is_sound();
+        self.held.len()
+    }
+
+    // Keeps a fault of a piece of which so many bytes are left.
+    fn keep(&mut self, cause: Cause, number: u32, left: usize) -> Fault
+        ensures cause { result.cause ≡ cause }
+        ensures message { self.old.messages < 2 ^ 61 → result.place.message
+            ≡ self.old.messages + 1 }
+        ensures offset { result.place.offset ≡ self.old.fed - left }
+        ensures template { result.place.template ≡ self.old.traversal.template }
+        ensures instruction { result.place.instruction ≡ number }
+        ensures kept { self.new.fault ≡ Some result }
+        ensures held { self.new.held.items ≡ [] }
+        ensures traversal { self.new.traversal ≡ self.old.traversal }
+        ensures left { (set : List Resolved) (ms : List Content) (d : Dictionary)
+            → R.keeps self.old.receiver set ms d ⊎ R.stands self.old.receiver set ms d
+            → R.stands self.new.receiver set ms d }
+        ensures entries { self.new.entries ≡ self.old.entries }
+        ensures fed { self.new.fed ≡ self.old.fed }
+        ensures messages { self.new.messages ≡ self.old.messages }
+    {
+        let template = self.traversal.template();
+        let fault = fault_at(cause, self.messages, self.fed, left, template, number);
+        self.fault = Some(fault);
+        self.held.clear();
+        self.receiver.back(self.alloc);
+        fault
+    }
+
+    // Keeps that memory was refused.
+    fn refuse(&mut self) -> Fault
+        ensures cause { result.cause ≡ Cause.Memory }
+        ensures message { self.old.messages < 2 ^ 61 → result.place.message
+            ≡ self.old.messages + 1 }
+        ensures offset { result.place.offset ≡ 0 }
+        ensures template { result.place.template ≡ 0 }
+        ensures instruction { result.place.instruction ≡ 0 }
+        ensures kept { self.new.fault ≡ Some result }
+        ensures held { self.new.held.items ≡ [] }
+        ensures traversal { self.new.traversal ≡ self.old.traversal }
+        ensures left { (set : List Resolved) (ms : List Content) (d : Dictionary)
+            → R.keeps self.old.receiver set ms d ⊎ R.stands self.old.receiver set ms d
+            → R.stands self.new.receiver set ms d }
+        ensures entries { self.new.entries ≡ self.old.entries }
+        ensures fed { self.new.fed ≡ self.old.fed }
+        ensures messages { self.new.messages ≡ self.old.messages }
+    {
+        let fault = fault_at(Cause::Memory, self.messages, 0, 0, 0, 0);
+        self.fault = Some(fault);
+        self.held.clear();
+        self.receiver.back(self.alloc);
+        fault
+    }
+
+    // Keeps the bytes of the piece that is not whole.
+    fn hold(&mut self, halt: Halt, rest: &[u8]) -> Result<(), Fault>
+        requires truncated { halt.cause ≡ Cause.Truncated }
+        requires fault { self.now.fault ≡ None }
+        requires held { self.now.held.items ≡ [] }
+        requires few { length rest.now ≤ 65554 }
+        ensures follows { (before : List Content) (fed : List ℕ) (messages : List Content)
+            → length fed < 2 ^ 61 → Counts self.old.fed self.old.messages fed messages
+            → Ended R.has R.stands R.keeps (Some halt) self.old.traversal self.old.receiver
+            (E.contents self.old.entries) before rest.now fed messages
+            → Follows self.new before fed messages }
+        ensures answer { Answers result self.new.fault }
+        ensures cause { IfErr result (λ f. f.cause ≡ Cause.Memory) }
+        ensures traversal { self.new.traversal ≡ self.old.traversal }
+        ensures entries { self.new.entries ≡ self.old.entries }
+        ensures fed { self.new.fed ≡ self.old.fed }
+    {
+        match self.held.extend_from_slice(rest) {
+            Err(_) => Err(self.refuse()),
+            Ok(()) => {
+                self.waiting = halt.number;
+                Ok(())
+            }
+        }
+    }
+
+    // Reads on in these bytes, where none are held.
+    fn read(&mut self, bytes: &[u8]) -> Result<(), Fault>
+        requires fault { self.now.fault ≡ None }
+        requires held { self.now.held.items ≡ [] }
+        ensures follows { (before : List Content) (fed : List ℕ) (messages : List Content)
+            → length fed ≤ 2 ^ 60 → Counts self.old.fed self.old.messages fed messages
+            → Stands (ReadsOn R.has R.stands R.keeps self.old.traversal self.old.receiver
+            (E.contents self.old.entries) before) self.old.traversal bytes.now fed messages
+            → (ended : List Content) × Follows self.new (before ++ ended) fed (messages ++ ended) }
+        ensures answer { Answers result self.new.fault }
+        ensures cause { IfErr result (λ f. f.cause ≢ Cause.Truncated) }
+        ensures set { self.new.traversal.set ≡ self.old.traversal.set }
+        ensures same_keys { E.serves self.new.entries ≡ E.serves self.old.entries }
+        ensures fed { self.new.fed ≡ self.old.fed }
+    {
+        let progress = read_messages(
+            self.alloc,
+            &mut self.traversal,
+            &mut self.receiver,
+            &mut self.entries,
+            bytes,
+        );
+        self.messages = counted(self.messages, progress.messages);
+        let rest = &bytes[progress.at..];
+        let template = self.traversal.template();
+        match progress.halt {
+            None => Ok(()),
+            Some(halt) => match halt.cause {
+                Cause::Truncated => match self.hold(halt, rest) {
+                    Err(fault) => Err(fault),
+                    Ok(()) => Ok(()),
+                },
+                _ => {
+                    let fault = fault_of(halt, self.messages, self.fed, rest.len(), template);
+                    self.fault = Some(fault);
+                    Err(fault)
+                }
+            },
+        }
+    }
+
+    /// Takes the next bytes of the stream. The receiver has each message that they end.
+    ///
+    /// # Errors
+    ///
+    /// The first fault of the bytes fed since the reset, behind the messages that ended, or the refusal of memory
+    /// behind these. It is kept until the reset.
+    pub fn feed(&mut self, chunk: &[u8]) -> Result<(), Fault>
+        requires room { self.now.fed + length chunk.now ≤ 2 ^ 60 }
+        ensures kept { IfSome self.old.fault (λ f. (result ≡ Err f) × (self.new ≡ self.old)) }
+        ensures follows { self.old.fault ≡ None → (before : List Content) (fed : List ℕ)
+            (messages : List Content) → Follows self.old before fed messages
+            → (ended : List Content)
+            × Follows self.new (before ++ ended) (fed ++ chunk.now) (messages ++ ended) }
+        ensures answer { Answers result self.new.fault }
+        ensures cause { self.old.fault ≡ None → IfErr result (λ f. f.cause ≢ Cause.Truncated) }
+        ensures set { self.new.traversal.set ≡ self.old.traversal.set }
+        ensures same_keys { E.serves self.new.entries ≡ E.serves self.old.entries }
+        ensures fed { self.old.fault ≡ None → self.new.fed ≡ self.old.fed + length chunk.now }
+    {
+        if let Some(kept) = self.fault {
+            return Err(kept);
+        }
+        self.fed += chunk.len() as u64;
+        if self.held.is_empty() {
+            return match self.read(chunk) {
+                Err(fault) => Err(fault),
+                Ok(()) => Ok(()),
+            };
+        }
+        let mut bytes = mem::replace(&mut self.held, Vec::new(self.alloc));
+        match bytes.extend_from_slice(chunk) {
+            Err(_) => Err(self.refuse()),
+            Ok(()) => match self.read(&bytes) {
+                Err(fault) => Err(fault),
+                Ok(()) => Ok(()),
+            },
+        }
+    }
+
+    /// The end of the stream.
+    ///
+    /// # Errors
+    ///
+    /// The kept fault, or Truncated where the stream ends inside a message, which is kept from then on.
+    pub fn finish(&mut self) -> Result<(), Fault>
+        ensures kept { IfSome self.old.fault (λ f. (result ≡ Err f) × (self.new ≡ self.old)) }
+        ensures ok { OnOk result ((self.new ≡ self.old) × ((before : List Content) (fed : List ℕ)
+            (messages : List Content) → Follows self.old before fed messages
+            → Carries (templates_in self.old.traversal.set.now) fed messages)) }
+        ensures truncated { self.old.fault ≡ None → IfErr result (λ f. (f.cause ≡ Cause.Truncated)
+            × ((before : List Content) (fed : List ℕ) (messages : List Content)
+            → self.old.fed ≤ 2 ^ 60 → Follows self.old before fed messages
+            → Follows self.new before fed messages)) }
+        ensures left { (set : List Resolved) (ms : List Content) (d : Dictionary)
+            → R.keeps self.old.receiver set ms d ⊎ R.stands self.old.receiver set ms d
+            → R.keeps self.new.receiver set ms d ⊎ R.stands self.new.receiver set ms d }
+        ensures answer { Answers result self.new.fault }
+        ensures set { self.new.traversal.set ≡ self.old.traversal.set }
+        ensures fed { self.new.fed ≡ self.old.fed }
+    {
+        if let Some(fault) = self.fault {
+            return Err(fault);
+        }
+        self.traversal.set_is_sound();
+        let waiting = self.waiting;
+        let left = self.held();
+        if self.traversal.has_begun() {
+            return Err(self.keep(Cause::Truncated, waiting, left));
+        }
+        if left == 0 {
+            return Ok(());
+        }
+        Err(self.keep(Cause::Truncated, waiting, left))
+    }
+
+    /// The fault of a stream of which no more bytes come for this cause: where the next piece would begin.
+    pub fn cut(&mut self, cause: Cause) -> Fault
+        requires few { self.now.fed ≤ 2 ^ 60 }
+        ensures cause { result.cause ≡ cause }
+        ensures place { self.old.fault ≡ None → (before : List Content) (fed : List ℕ)
+            (messages : List Content) → Follows self.old before fed messages
+            → IsCutAt (templates_in self.old.traversal.set.now) fed messages result.place }
+        ensures kept { IfSome self.old.fault (λ f. self.new ≡ self.old) }
+        ensures follows { self.old.fault ≡ None → (before : List Content) (fed : List ℕ)
+            (messages : List Content) → Follows self.old before fed messages
+            → Follows self.new before fed messages }
+        ensures left { (set : List Resolved) (ms : List Content) (d : Dictionary)
+            → R.keeps self.old.receiver set ms d ⊎ R.stands self.old.receiver set ms d
+            → R.keeps self.new.receiver set ms d ⊎ R.stands self.new.receiver set ms d }
+        ensures set { self.new.traversal.set ≡ self.old.traversal.set }
+        ensures fed { self.new.fed ≡ self.old.fed }
+    {
+        let place = match self.finish() {
+            Err(fault) => fault.place,
+            Ok(()) => Place {
+                message: self.messages.saturating_add(1),
+                offset: self.fed,
+                template: 0,
+                instruction: 0,
+            },
+        };
+        Fault { cause, place }
+    }
+
+    /// Begins a new stream, with all entries undefined; the receiver stays. Takes no memory.
+    pub fn reset(&mut self)
+        ensures set { self.new.traversal.set ≡ self.old.traversal.set }
+        ensures same_keys { E.serves self.new.entries ≡ E.serves self.old.entries }
+        ensures fault { self.new.fault ≡ None }
+        ensures receiver { self.new.receiver ≡ self.old.receiver }
+        ensures follows { (before : List Content)
+            → R.stands self.old.receiver (templates_in self.old.traversal.set.now) before
+            finite.empty → Follows self.new before [] [] }
+    {
+        self.entries.reset();
+        self.traversal.reset();
+        self.held.clear();
+        self.waiting = 0;
+        self.fault = None;
+        self.fed = 0;
+        self.messages = 0;
+    }
+}

@@ -1,0 +1,3 @@
+pub mod SearchSteps
+pub mod SearchGroups
+pub mod SearchTurns

@@ -1,0 +1,10 @@
+use Rattle.std.proofs.Common.{◌≡◌, ◌<◌, ℕ, None, []}
+use Rattle.fast_order.specs.Search.{Stands, IsDone, state_of}
+use Rattle.fast_order.proofs.order.searched.Given as goal
+
+abbrev pub invariant-loop-root : goal.invariant-loop-root
+invariant-loop-root l = record {
+  stands : Stands l.references (state_of l.search) None;
+  at_rest : l.search.path.items ≡ [];
+  done : (v : ℕ) → v < l.root → IsDone l.search.marks.items v;
+}

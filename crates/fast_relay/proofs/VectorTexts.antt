@@ -1,0 +1,307 @@
+-- Unicode strings and byte vectors, read and written at once.
+use Rattle.std.proofs.Common.{◌≡◌, ◌≤◌, ◌<◌, ◌+◌, ◌-◌, Bool, true, false, List, [], ◌∷◌, ℕ, suc, get_or, ◌++◌, Result, Ok, Err, length, take, drop, slice_range, refl, sym, ap, subst, ◌∙◌, arith, drop-drop, length-append, length-drop}
+use Rattle.std.specs.Prelude.{Some, None, ℤ, pos, IsCharBoundary}
+use Rattle.std.proofs.lemmas.List.{drop_more, length-take-le}
+use Rattle.std.proofs.lemmas.Str.{IsUtf8-append, IsUtf8-take, is_utf8-from_IsUtf8}
+use Rattle.std.proofs.Math.Seq.{take-nil}
+use Rattle.fast_wire.specs.Reading.{◌>>=◌, behind_length, bytes_at, unsigned_at, unsigned_nullable_at, vector_at, vector_nullable_at}
+use Rattle.fast_wire.specs.declared.fault.WireFault.{WireFault}
+use Rattle.fast_wire.specs.declared.fault.WireFault.TheVariants as wire
+use Rattle.fast_wire.specs.declared.nullable.Nullable.{Nullable}
+use Rattle.fast_wire.specs.declared.nullable.Nullable.TheVariants.{Null, Value}
+use Rattle.fast_wire.specs.Integer.{IsUnsigned}
+use Rattle.fast_wire.specs.Reader.{IsBytes}
+use Rattle.fast_wire.specs.Vector.{IsCounted, IsLengthNullable}
+use Rattle.fast_wire.specs.Writing.{IsShortest}
+use Rattle.fast_wire.proofs.UnsignedForms.{entity_some}
+use Rattle.fast_wire.specs.Sizes.{unsigned_size, vector_nullable_size}
+use Rattle.fast_wire.proofs.Sizes.{unsigned_size-grows}
+use Rattle.fast_value.specs.Scalar.{is_of, scalar_eq-exact}
+use Rattle.fast_value.specs.contracts.scalar.ScalarPartialEq.TheImpl as scalar_eq
+use Rattle.fast_value.specs.declared.kind.Kind.{Kind}
+use Rattle.fast_value.specs.declared.kind.Kind.TheVariants as kind
+use Rattle.fast_value.specs.declared.kind.Operator.TheVariants as operator
+use Rattle.fast_value.specs.declared.kind.Part.TheVariants as part
+use Rattle.fast_value.specs.declared.kind.Presence.{Presence}
+use Rattle.fast_value.specs.declared.kind.Presence.TheVariants.{Mandatory, Optional}
+use Rattle.fast_template.specs.declared.resolved.FieldPart.{FieldPart}
+use Rattle.fast_value.specs.declared.scalar.Scalar.{Scalar}
+use Rattle.fast_value.specs.declared.scalar.Scalar.TheVariants.{Unicode, Bytes}
+use Rattle.fast_dictionary.specs.declared.entry.Entry.{Entry}
+use Rattle.fast_dictionary.specs.declared.entry.Entry.TheVariants.{Assigned, Empty}
+use Rattle.fast_field.specs.declared.fault.FieldFault.{FieldFault}
+use Rattle.fast_field.specs.Bases.{next, start_of}
+use Rattle.fast_field.specs.Chosen.{Both, IsBestCut, IsBestTail, ShortestPart, ShortestSigned, ShortestUnits, part_size, tail_size}
+use Rattle.fast_field.specs.CommonParts.{IsLongestPrefix}
+use Rattle.fast_field.specs.Deltas.{ended_by}
+use Rattle.fast_field.specs.FieldReading.{ended_value, in_field, integer_at, limited_value, new_part_behind, part_at, signless, tail_at, unit_delta_at, unit_value, units_at, units_spelled_at}
+use Rattle.fast_field.specs.Planning.{left_out_of}
+use Rattle.fast_field.specs.Values.{default_of, of_units, units_of}
+use Rattle.fast_relay.specs.Numbers.{SpellsWhole, Spelt}
+use Rattle.fast_relay.specs.Relayed.{Relays}
+use Rattle.fast_relay.specs.Texts.{IsText, IsVectorKind, SharesEnd}
+use Rattle.fast_field.proofs.BestCuts.{parts}
+use Rattle.fast_field.proofs.BestTails.{longer_tail, shortest_is_best}
+use Rattle.fast_field.proofs.Least.{IsPartCost, vector_parts}
+use Rattle.fast_field.proofs.ValuesWithin.{all_append, all_take}
+use Rattle.fast_relay.proofs.PlainTexts.{behind_kept, best_removal, le_true, lt_false, no_same_text}
+use Rattle.fast_relay.proofs.Relaying.{base_is}
+use Rattle.fast_relay.proofs.TextRelaying.{first_tail_relays, tail_relays, text_delta_relays, whole_text_relays}
+
+-- ---- what stands behind a length
+
+-- the number that was sent, and the same where it may be NULL
+number : Result (Nullable ℤ × List ℕ) FieldFault → Result (ℕ × List ℕ) WireFault
+number (Ok (Value (pos n), rest)) = Ok (n, rest)
+number (Ok (x, rest)) = Err wire.NeedMore
+number (Err f) = Err wire.NeedMore
+
+number_or_null : Result (Nullable ℤ × List ℕ) FieldFault → Result (Nullable ℕ × List ℕ) WireFault
+number_or_null (Ok (Value (pos n), rest)) = Ok (Value n, rest)
+number_or_null (Ok (x, rest)) = Ok (Null, rest)
+number_or_null (Err f) = Err wire.NeedMore
+
+abbrev as_number : ℕ × List ℕ → Result (Nullable ℤ × List ℕ) FieldFault
+as_number x = Ok (Value (pos x.0), x.1)
+
+abbrev as_nullable : Nullable ℕ × List ℕ → Result (Nullable ℤ × List ℕ) FieldFault
+as_nullable x = Ok (signless x.0, x.1)
+
+sent : (r : Result (ℕ × List ℕ) WireFault) (n : ℕ) (rest : List ℕ) → (in_field r >>= as_number) ≡ Ok (Value (pos n), rest) → r ≡ Ok (n, rest)
+unfolding number
+sent (Ok (m, more)) n rest h = ap number h
+sent (Err f) n rest h = absurd cc
+
+sent_nullable : (r : Result (Nullable ℕ × List ℕ) WireFault) (n : ℕ) (rest : List ℕ) → (in_field r >>= as_nullable) ≡ Ok (Value (pos n), rest) → r ≡ Ok (Value n, rest)
+unfolding number_or_null
+sent_nullable (Ok (Value m, more)) n rest h = ap number_or_null h
+sent_nullable (Ok (Null, more)) n rest h = ap number_or_null h
+sent_nullable (Err f) n rest h = absurd cc
+
+behind : (k : Kind) (p : Presence) (bytes rest : List ℕ) (n : ℕ) → IsVectorKind k → Spelt true p bytes (pos n) rest → n ≤ 65535 → n ≤ length rest → units_at k p bytes ≡ Ok (Value (take n rest), drop n rest)
+unfolding integer_at units_at part_at vector_at vector_nullable_at behind_length bytes_at
+behind kind.Unicode Mandatory bytes rest n k h few there = rw (sent (unsigned_at bytes) n rest h, lt_false 65535 n few, lt_false (length rest) n there) refl
+behind kind.Bytes Mandatory bytes rest n k h few there = rw (sent (unsigned_at bytes) n rest h, lt_false 65535 n few, lt_false (length rest) n there) refl
+behind kind.Unicode Optional bytes rest n k h few there = rw (sent_nullable (unsigned_nullable_at bytes) n rest h, lt_false 65535 n few, lt_false (length rest) n there) refl
+behind kind.Bytes Optional bytes rest n k h few there = rw (sent_nullable (unsigned_nullable_at bytes) n rest h, lt_false 65535 n few, lt_false (length rest) n there) refl
+behind k' p bytes rest n k h few there = absurd k
+
+pub bytes_found : (k : Kind) (p : Presence) (bytes : List ℕ) (at start n : ℕ) → IsVectorKind k → Spelt true p (drop at bytes) (pos n) (drop start bytes) → n ≤ 65535 → n ≤ length bytes - start → start ≤ length bytes
+    → units_at k p (drop at bytes) ≡ Ok (Value (slice_range bytes start (start + n)), drop (start + n) bytes)
+bytes_found k p bytes at start n is h few there within =
+    let there' : n ≤ length (drop start bytes) = omega (arith, there, within, length-drop start bytes) in
+    let on : start + n - start ≡ n = omega arith in
+    behind k p (drop at bytes) (drop start bytes) n is h few there'
+    ∙ ap (λ (rest : List ℕ). Ok (Value (take n (drop start bytes)), rest)) (drop-drop n start bytes)
+    ∙ ap (λ (m : ℕ). Ok (Value (take m (drop start bytes)), drop (start + n) bytes)) (sym on)
+
+-- ---- what stands whole
+
+units_back : (k : Kind) (s : List ℕ) → IsVectorKind k → units_of (of_units k s) ≡ s
+units_back kind.Unicode s h = refl
+units_back kind.Bytes s h = refl
+units_back k s h = absurd h
+
+spelled : (k : Kind) (p : Presence) (bytes s rest : List ℕ) → IsVectorKind k → IsText k (of_units k s) → units_at k p bytes ≡ Ok (Value s, rest) → units_spelled_at k p bytes ≡ Ok (Some (of_units k s), rest)
+unfolding units_spelled_at unit_value
+spelled kind.Unicode p bytes s rest is t h = rw (h, is_utf8-from_IsUtf8 s t.within.2) refl
+spelled kind.Bytes p bytes s rest is t h = rw h refl
+spelled k p bytes s rest is t h = absurd is
+
+pub vector_relays : (i : FieldPart) (old new : Entry) (s bytes rest before after : List ℕ) → IsVectorKind i.kind → i.part ≡ part.Whole → SpellsWhole i.operator → IsText i.kind (of_units i.kind s) → units_at i.kind i.presence bytes ≡ Ok (Value s, rest)
+    → new ≡ next i old (Some (of_units i.kind s)) → left_out_of i.operator i old (Some (of_units i.kind s)) ≡ false → (b : List ℕ) × (after ≡ before ++ b) × ShortestUnits i.kind i.presence s b → Relays i old new (of_units i.kind s) bytes rest before after
+vector_relays i old new s bytes rest before after is whole o t read entry out appended =
+    whole_text_relays i old new (of_units i.kind s) bytes rest before after whole o t (spelled i.kind i.presence bytes s rest is t read) entry out
+    (subst (λ (x : List ℕ). (b : List ℕ) × (after ≡ before ++ b) × ShortestUnits i.kind i.presence x b) (sym (units_back i.kind s is)) appended)
+
+-- ---- units put behind others
+
+together : (k : Kind) (s t : List ℕ) → IsVectorKind k → IsText k (of_units k s) → IsText k (of_units k t) → length (s ++ t) ≤ 65535 → IsText k (of_units k (s ++ t))
+together kind.Unicode s t is a b few = record { of_units = tt; of_kind = refl; within = (few, all_append (λ c. c < 256) s t a.within.1 b.within.1, IsUtf8-append s t a.within.2 b.within.2) }
+together kind.Bytes s t is a b few = record { of_units = tt; of_kind = refl; within = (few, all_append (λ c. c < 256) s t a.within.1 b.within.1) }
+together k s t is a b few = absurd is
+
+pub put_behind : (k : Kind) (base s : List ℕ) (n : ℕ) → IsVectorKind k → n ≤ length base → n + length s ≤ 65535 → IsText k (of_units k (take n base)) → IsText k (of_units k s) → IsText k (of_units k (take n base ++ s))
+put_behind k base s n is within few front back = together k (take n base) s is front back (omega (arith, few, length-append (take n base) s, length-take-le n base within))
+
+pub front_text : (k : Kind) (base : Scalar) (n : ℕ) → IsVectorKind k → IsText k base → n ≤ length (units_of base) → (k ≡ kind.Unicode → IsCharBoundary (units_of base) n) → IsText k (of_units k (take n (units_of base)))
+front_text kind.Unicode (Unicode s) n is t le cut = record { of_units = tt; of_kind = refl; within = (omega (arith, length-take-le n s le, le, t.within.0), all_take (λ c. c < 256) n s t.within.1, IsUtf8-take s n t.within.2 (cut refl)) }
+front_text kind.Bytes (Bytes s) n is t le cut = record { of_units = tt; of_kind = refl; within = (omega (arith, length-take-le n s le, le, t.within.0), all_take (λ c. c < 256) n s t.within.1) }
+front_text kind.Unicode v n is t le cut = absurd (let e = t.of_kind in cc)
+front_text kind.Bytes v n is t le cut = absurd (let e = t.of_kind in cc)
+front_text k v n is t le cut = absurd is
+
+limited : (k : Kind) (s : List ℕ) → IsVectorKind k → IsText k (of_units k s) → limited_value k s ≡ Ok (of_units k s)
+unfolding limited_value unit_value
+limited kind.Unicode s is t = rw (lt_false 65535 (length s) t.within.0, is_utf8-from_IsUtf8 s t.within.2) refl
+limited kind.Bytes s is t = rw (lt_false 65535 (length s) t.within.0) refl
+limited k s is t = absurd is
+
+-- ---- tails
+
+tail_read : (i : FieldPart) (base v : Scalar) (s bytes rest : List ℕ) → is_of i.kind base ≡ true → units_at i.kind i.presence bytes ≡ Ok (Value s, rest) → limited_value i.kind (ended_by (units_of base) s) ≡ Ok v → tail_at i (Assigned base) bytes ≡ Ok (Some v, rest)
+unfolding tail_at ended_value
+tail_read i base v s bytes rest is read made = rw (read, is, made) refl
+
+not_same : (v w : Scalar) (b : Bool) → (units_of v ≡ units_of w → ⊥) → (scalar_eq.eq-value).it v w ≡ b → (scalar_eq.eq-value).it v w ≡ false
+not_same v w true differ e = absurd (differ (ap units_of (scalar_eq-exact v w e)))
+not_same v w false differ e = e
+
+other_end : (i : FieldPart) (base v : Scalar) → i.operator ≡ operator.Tail → is_of i.kind base ≡ true → (units_of base ≡ units_of v → ⊥) → left_out_of i.operator i (Assigned base) (Some v) ≡ false
+other_end i base v o is differ = rw (o, is) (not_same base v ((scalar_eq.eq-value).it base v) differ refl)
+
+vector_parts_nullable : IsPartCost (λ s. vector_nullable_size (Value s))
+vector_parts_nullable = vector_parts (λ n. unsigned_size (n + 1)) (λ m n le. unsigned_size-grows (m + 1) (n + 1) (omega arith))
+
+shorter : (cost : List ℕ → ℕ) → IsPartCost cost → (v : List ℕ) (n : ℕ) → 0 < n → cost (drop n v) ≤ cost (drop (n - 1) v)
+shorter cost is v n some =
+    let on : n - 1 + 1 ≡ n = omega (arith, some) in
+    let next : drop 1 (drop (n - 1) v) ≡ drop n v = drop-drop 1 (n - 1) v ∙ ap (λ (m : ℕ). drop m v) on in
+    subst (λ (t : List ℕ). cost t ≤ cost (drop (n - 1) v)) next (is.on_drop 1 (drop (n - 1) v))
+
+no_more : (k : Kind) (p : Presence) (v : List ℕ) (n : ℕ) → IsVectorKind k → 0 < n → tail_size k p (drop n v) ≤ tail_size k p (drop (n - 1) v)
+no_more kind.Unicode Mandatory v n is some = shorter (part_size kind.Unicode) (parts kind.Unicode) v n some
+no_more kind.Bytes Mandatory v n is some = shorter (part_size kind.Bytes) (parts kind.Bytes) v n some
+no_more kind.Unicode Optional v n is some = shorter (λ s. vector_nullable_size (Value s)) vector_parts_nullable v n some
+no_more kind.Bytes Optional v n is some = shorter (λ s. vector_nullable_size (Value s)) vector_parts_nullable v n some
+no_more k p v n is some = absurd is
+
+best_end : (k : Kind) (p : Presence) (base s : List ℕ) (n : ℕ) → IsVectorKind k → n + length s ≡ length base → IsLongestPrefix base (take n base ++ s) n → IsBestTail k p base (take n base ++ s) s
+best_end k p base s n is size prefix =
+    let v = take n base ++ s in
+    let within : n ≤ length base = omega (arith, size) in
+    let whole : length v ≡ length base = omega (arith, length-append (take n base) s, length-take-le n base within, size) in
+    rw (behind_kept base s n within) at (shortest_is_best k p base v n prefix whole (λ some. no_more k p v n is some))
+
+pub vector_tail_relays : (i : FieldPart) (base : Scalar) (n : ℕ) (s bytes rest before after : List ℕ) → IsVectorKind i.kind → i.part ≡ part.Whole → i.operator ≡ operator.Tail → IsText i.kind base → n + length s ≡ length (units_of base) → 0 < length s
+    → IsLongestPrefix (units_of base) (take n (units_of base) ++ s) n → IsText i.kind (of_units i.kind (take n (units_of base) ++ s)) → units_at i.kind i.presence bytes ≡ Ok (Value s, rest) → (b : List ℕ) × (after ≡ before ++ b) × ShortestUnits i.kind i.presence s b
+    → Relays i (Assigned base) (Assigned (of_units i.kind (take n (units_of base) ++ s))) (of_units i.kind (take n (units_of base) ++ s)) bytes rest before after
+vector_tail_relays i base n s bytes rest before after is whole o text size some prefix t read appended =
+    let b = units_of base in
+    let joined = take n b ++ s in
+    let v = of_units i.kind joined in
+    let back = units_back i.kind joined is in
+    let kept : n ≡ length b - length s = omega (arith, size) in
+    let made : limited_value i.kind (ended_by b s) ≡ Ok v = subst (λ (m : ℕ). limited_value i.kind (take m b ++ s) ≡ Ok v) kept (limited i.kind joined is t) in
+    tail_relays i base v s bytes rest before after whole o text t
+    (tail_read i base v s bytes rest text.of_kind read made)
+    (other_end i base v o text.of_kind (λ e. no_same_text b s n (omega (arith, size, some)) prefix (e ∙ back)))
+    (subst (λ (x : List ℕ). IsBestTail i.kind i.presence b x s) (sym back) (best_end i.kind i.presence b s n is size prefix))
+    appended
+
+-- ---- tails of an empty entry
+
+default_none : (k : Kind) → IsVectorKind k → units_of (default_of k) ≡ []
+default_none kind.Unicode is = refl
+default_none kind.Bytes is = refl
+default_none k is = absurd is
+
+start_none : (i : FieldPart) → IsVectorKind i.kind → i.initial ≡ None → units_of (start_of i) ≡ []
+start_none i is none = rw none (default_none i.kind is)
+
+first_read : (i : FieldPart) (v : Scalar) (s bytes rest : List ℕ) → units_at i.kind i.presence bytes ≡ Ok (Value s, rest) → limited_value i.kind (ended_by (units_of (start_of i)) s) ≡ Ok v → tail_at i Empty bytes ≡ Ok (Some v, rest)
+unfolding tail_at ended_value
+first_read i v s bytes rest read made = rw (read, made) refl
+
+first_out : (p : Presence) (i : FieldPart) (v : Scalar) → i.operator ≡ operator.Tail → i.presence ≡ p → left_out_of i.operator i Empty (Some v) ≡ false
+first_out Mandatory i v o is = rw (o, is) refl
+first_out Optional i v o is = rw (o, is) refl
+
+pub vector_first_relays : (i : FieldPart) (s bytes rest before after : List ℕ) → IsVectorKind i.kind → i.part ≡ part.Whole → i.operator ≡ operator.Tail → i.initial ≡ None → IsText i.kind (of_units i.kind s) → 0 < length s → units_at i.kind i.presence bytes ≡ Ok (Value s, rest)
+    → (b : List ℕ) × (after ≡ before ++ b) × ShortestUnits i.kind i.presence s b → Relays i Empty (Assigned (of_units i.kind s)) (of_units i.kind s) bytes rest before after
+vector_first_relays i s bytes rest before after is whole o none t some read appended =
+    let v = of_units i.kind s in
+    let base = start_of i in
+    let back = units_back i.kind s is in
+    let nothing = start_none i is none in
+    let made : limited_value i.kind (ended_by (units_of base) s) ≡ Ok v = rw (nothing, take-nil) (limited i.kind s is t) in
+    first_tail_relays i Empty base v s bytes rest before after whole o refl t
+    (first_read i v s bytes rest read made)
+    (first_out i.presence i v o refl)
+    (rw (nothing, back) (longer_tail i.kind i.presence [] s some))
+    appended
+
+-- ---- deltas that remove few bytes at the end
+
+part_least : (k : Kind) (s t : List ℕ) → IsVectorKind k → length s ≤ length t → part_size k s ≤ part_size k t
+part_least kind.Unicode s t is le = omega (arith, le, unsigned_size-grows (length s) (length t) le)
+part_least kind.Bytes s t is le = omega (arith, le, unsigned_size-grows (length s) (length t) le)
+part_least k s t is le = absurd is
+
+part_of : Result (Nullable (List ℕ) × List ℕ) FieldFault → Result (List ℕ × List ℕ) FieldFault
+part_of (Ok (Value s, rest)) = Ok (s, rest)
+part_of (Ok (Null, rest)) = Ok (rest, rest)
+part_of (Err f) = Err f
+
+abbrev as_units : List ℕ × List ℕ → Result (Nullable (List ℕ) × List ℕ) FieldFault
+as_units x = Ok (Value x.0, x.1)
+
+part_sent : (r : Result (List ℕ × List ℕ) FieldFault) (s rest : List ℕ) → (r >>= as_units) ≡ Ok (Value s, rest) → r ≡ Ok (s, rest)
+unfolding part_of
+part_sent (Ok (t, more)) s rest h = ap part_of h
+part_sent (Err f) s rest h = absurd cc
+
+part_read : (k : Kind) (bytes s rest : List ℕ) → units_at k Mandatory bytes ≡ Ok (Value s, rest) → part_at k bytes ≡ Ok (s, rest)
+unfolding units_at
+part_read k bytes s rest h = part_sent (part_at k bytes) s rest h
+
+new_part_read : (k : Kind) (base : List ℕ) (v : Scalar) (r : ℕ) (s middle rest : List ℕ) → r ≤ length base → part_at k middle ≡ Ok (s, rest) → limited_value k (take (length base - r) base ++ s) ≡ Ok v → new_part_behind k (pos r) base middle ≡ Ok (Some v, rest)
+unfolding new_part_behind
+new_part_read k base v r s middle rest le read made = rw (le_true r (length base) le, read, made) refl
+
+delta_read : (i : FieldPart) (base v : Scalar) (r : ℕ) (s bytes middle rest : List ℕ) → is_of i.kind base ≡ true → r < 63 → r ≤ length (units_of base) → Spelt false i.presence bytes (pos r) middle → part_at i.kind middle ≡ Ok (s, rest) → limited_value i.kind (take (length (units_of base) - r) (units_of base) ++ s) ≡ Ok v
+    → unit_delta_at i (Assigned base) bytes ≡ Ok (Some v, rest)
+unfolding unit_delta_at
+delta_read i base v r s bytes middle rest is small le removal read made =
+    rw (removal, le_true r 2147483647 (omega (arith, small)), base_is i base is) (new_part_read i.kind (units_of base) v r s middle rest le read made)
+
+pub vector_delta_relays : (i : FieldPart) (base : Scalar) (r n : ℕ) (s bytes middle rest before after : List ℕ) → IsVectorKind i.kind → i.part ≡ part.Whole → i.operator ≡ operator.Delta → IsText i.kind base → r < 63 → r ≤ length (units_of base) → n ≡ length (units_of base) - r
+    → IsLongestPrefix (units_of base) (take n (units_of base) ++ s) n → SharesEnd (units_of base) (take n (units_of base) ++ s) n → IsText i.kind (of_units i.kind (take n (units_of base) ++ s)) → Spelt false i.presence bytes (pos r) middle → units_at i.kind Mandatory middle ≡ Ok (Value s, rest)
+    → (b : List ℕ) × (after ≡ before ++ b) × Both (ShortestSigned i.presence (pos r)) (ShortestPart i.kind s) b
+    → Relays i (Assigned base) (Assigned (of_units i.kind (take n (units_of base) ++ s))) (of_units i.kind (take n (units_of base) ++ s)) bytes rest before after
+vector_delta_relays i base r n s bytes middle rest before after is whole o text small le kept prefix suffix t removal read appended =
+    let b = units_of base in
+    let joined = take n b ++ s in
+    let v = of_units i.kind joined in
+    let back = units_back i.kind joined is in
+    let made : limited_value i.kind (take (length b - r) b ++ s) ≡ Ok v = subst (λ (m : ℕ). limited_value i.kind (take m b ++ s) ≡ Ok v) kept (limited i.kind joined is t) in
+    text_delta_relays i base v (pos r) s bytes rest before after whole o text t
+    (delta_read i base v r s bytes middle rest text.of_kind small le removal (part_read i.kind middle s rest read) made)
+    (subst (λ (x : List ℕ). IsBestCut i.kind i.presence b x (pos r) s) (sym back) (best_removal i.kind i.presence b s r n small le kept prefix suffix (λ t le. part_least i.kind s t is le)))
+    appended
+
+-- ---- bytes that stand behind a length of one byte
+
+length_form : (b n : ℕ) → b ≡ 128 + n → b < 256 → IsUnsigned (b ∷ []) n
+length_form b n is byte = record { entity = (omega (arith, is), byte); short = omega arith; value = omega (arith, is, byte) }
+
+counted : (IsLength : List ℕ → ℕ → Type 0) (b : ℕ) (s : List ℕ) → IsLength (b ∷ []) (length s) → IsBytes s → length s ≤ 65535 → ((front : List ℕ) → IsLength front (length s) → 1 ≤ length front) → IsShortest (IsCounted IsLength) (b ∷ s) s
+counted IsLength b s form fit few some = record {
+  form = record { front = b ∷ []; parts = refl; length_form = form; bytes_fit = fit; limit = few };
+  least = λ other h. omega (arith, some h.front h.length_form, ap length h.parts, length-append h.front s);
+}
+
+fits : (k : Kind) (s : List ℕ) → IsVectorKind k → IsText k (of_units k s) → IsBytes s × (length s ≤ 65535)
+fits kind.Unicode s is t = (t.within.1, t.within.0)
+fits kind.Bytes s is t = (t.within.1, t.within.0)
+fits k s is t = absurd is
+
+stands : (k : Kind) (p : Presence) (b : ℕ) (s : List ℕ) → IsVectorKind k → IsText k (of_units k s) → b < 256 → (p ≡ Mandatory → b ≡ 128 + length s) → (p ≡ Optional → b ≡ 129 + length s) → ShortestUnits k p s (b ∷ s)
+stands kind.Unicode Mandatory b s is t byte m o = let f = fits kind.Unicode s is t in counted IsUnsigned b s (length_form b (length s) (m refl) byte) f.0 f.1 (λ front h. entity_some front h.entity)
+stands kind.Bytes Mandatory b s is t byte m o = let f = fits kind.Bytes s is t in counted IsUnsigned b s (length_form b (length s) (m refl) byte) f.0 f.1 (λ front h. entity_some front h.entity)
+stands kind.Unicode Optional b s is t byte m o = let f = fits kind.Unicode s is t in let c = counted IsLengthNullable b s (length_form b (length s + 1) (omega (arith, o refl)) byte) f.0 f.1 (λ front h. entity_some front h.entity) in record { form = c.form; least = c.least }
+stands kind.Bytes Optional b s is t byte m o = let f = fits kind.Bytes s is t in let c = counted IsLengthNullable b s (length_form b (length s + 1) (omega (arith, o refl)) byte) f.0 f.1 (λ front h. entity_some front h.entity) in record { form = c.form; least = c.least }
+stands k p b s is t byte m o = absurd is
+
+length_in_front : (bytes : List ℕ) (at next : ℕ) → at < next → next ≤ length bytes → slice_range bytes at next ≡ get_or bytes at 0 ∷ slice_range bytes (at + 1) next
+length_in_front bytes at next lt le =
+    let more : next - at ≡ suc (next - (at + 1)) = omega (arith, lt) in
+    ap (λ (l : List ℕ). take (next - at) l) (drop_more bytes at 0 (omega (arith, lt, le))) ∙ ap (λ (n : ℕ). take n (get_or bytes at 0 ∷ drop (at + 1) bytes)) more
+
+pub copied : (k : Kind) (p : Presence) (bytes : List ℕ) (at start next : ℕ) → IsVectorKind k → start ≡ at + 1 → start ≤ next → next ≤ length bytes → IsText k (of_units k (slice_range bytes start next)) → get_or bytes at 0 < 256
+    → (p ≡ Mandatory → get_or bytes at 0 ≡ 128 + (next - start)) → (p ≡ Optional → get_or bytes at 0 ≡ 129 + (next - start)) → ShortestUnits k p (slice_range bytes start next) (slice_range bytes at next)
+copied k p bytes at start next is one le within t byte m o =
+    let s = slice_range bytes start next in
+    let long : length s ≡ next - start = omega (arith, length-take-le (next - start) (drop start bytes) (omega (arith, length-drop start bytes, within, le))) in
+    let front : slice_range bytes at next ≡ get_or bytes at 0 ∷ s = length_in_front bytes at next (omega (arith, one, le)) within ∙ ap (λ (x : ℕ). get_or bytes at 0 ∷ slice_range bytes x next) (sym one) in
+    rw front (stands k p (get_or bytes at 0) s is t byte (λ e. m e ∙ ap (λ (n : ℕ). 128 + n) (sym long)) (λ e. o e ∙ ap (λ (n : ℕ). 129 + n) (sym long)))

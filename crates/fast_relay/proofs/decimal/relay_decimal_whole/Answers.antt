@@ -1,0 +1,50 @@
+use Rattle.std.specs.Int.{w32, w64, w128}
+use Rattle.std.specs.Int.RustNames.{FitsSigned}
+use Rattle.std.specs.Prelude.{drop}
+use Rattle.std.proofs.Common.{ap, sym, ◌∙◌, arith}
+use Rattle.std.proofs.lemmas.Int.{ints, to_z-of_z}
+use Rattle.fast_value.specs.Scalar.{exponent_in_range, in_range}
+use Rattle.fast_value.specs.declared.kind.Kind.TheVariants as kind
+use Rattle.fast_value.specs.declared.scalar.Scalar.TheVariants.{Decimal}
+use Rattle.fast_relay.proofs.DecimalRelaying.{decimal_whole_relays, exponent_fits, mantissa_fits, small}
+use Rattle.fast_relay.proofs.decimal.relay_decimal_whole.Goals as goal
+
+pub write_pair-requires-clause-exponent : goal.write_pair-requires-clause-exponent
+write_pair-requires-clause-exponent c =
+    let x = c.in-Some.exponent_sent in
+    let read = c.in-Some.ensures in
+    let fits : FitsSigned w128 x = omega (arith, ints, read.above, read.below) in
+    rw (to_z-of_z w128 x fits) (small x read.above read.below)
+
+pub write_pair-requires-clause-mantissa : goal.write_pair-requires-clause-mantissa
+write_pair-requires-clause-mantissa c =
+    let m = c.in-Some-read_short.mantissa_sent in
+    let read = c.in-Some-read_short.ensures in
+    let fits : FitsSigned w128 m = omega (arith, ints, read.above, read.below) in
+    rw (to_z-of_z w128 m fits) (small m read.above read.below)
+
+pub returns-in-Ok-clause-relayed : goal.returns-in-Ok-clause-relayed
+returns-in-Ok-clause-relayed c =
+    let x = c.in-Some.exponent_sent in
+    let m = c.in-Some-read_short.mantissa_sent in
+    let first = c.in-Some.ensures in
+    let second = c.in-Some-read_short.ensures in
+    let x_fits : FitsSigned w128 x = omega (arith, ints, first.above, first.below) in
+    let m_fits : FitsSigned w128 m = omega (arith, ints, second.above, second.below) in
+    let x_is = to_z-of_z w128 x x_fits in
+    let m_is = to_z-of_z w128 m m_fits in
+    let near = rw x_is at c.in-Some-exponent_within.ensures.some in
+    let within = rw m_is at c.in-Some-mantissa_within.ensures.some in
+    let e = c.in-Some-exponent_within.exponent in
+    let n = c.in-Some-mantissa_within.mantissa in
+    let e_is = to_z-of_z w32 e (exponent_fits e (ap exponent_in_range near.0 ∙ near.1)) ∙ near.0 in
+    let n_is = to_z-of_z w64 n (mantissa_fits n (ap (in_range kind.Int64) within.0 ∙ within.1)) ∙ within.0 in
+    let bytes = c.args.bytes.now in (
+      Decimal x m,
+      decimal_whole_relays c.args.instr.now c.args.entry.now c.keep_value.new.entry x m
+          (drop c.args.at bytes) (drop c.in-Some.behind bytes) (drop c.in-Some-read_short.next bytes) c.args.out.now.items c.write_pair.new.out.items
+          c.requires.kind c.requires.part c.requires.operator first.gives near.1 second.gives within.1
+          (rw (e_is, n_is, c.view.ensures) at (sym c.is_left_out.ensures ∙ c.if-is_left_out.false))
+          (rw (e_is, n_is) at c.keep_value.ensures)
+          (rw (x_is, m_is) at c.in-Ok.ensures),
+    )

@@ -1,0 +1,9 @@
+use Rattle.std.proofs.Common.{◌+◌, drop}
+use Rattle.fast_relay.proofs.NullRelaying.{null_relays}
+use Rattle.fast_relay.proofs.null.relay_null.Goals as goal
+
+pub returns-then-send_null-clause-relayed : goal.returns-then-send_null-clause-relayed
+returns-then-send_null-clause-relayed c =
+    rw (c.begins_with_null.ensures.null c.if-not-begins_with_null.false)
+    (null_relays c.args.instr.now c.args.entry.now c.send_null.new.entry (drop (c.args.at + 1) c.args.bytes.now) c.args.out.now.items c.send_null.new.out.items
+    c.in-Optional.is (c.send_null.ensures.best c.if-send_null.true) (c.send_null.ensures.kept c.if-send_null.true) (c.send_null.ensures.sent c.if-send_null.true))

@@ -1,0 +1,19 @@
+use Rattle.std.specs.Int.{w128}
+use Rattle.std.specs.Int.RustNames.{FitsSigned}
+use Rattle.std.specs.Prelude.{ℤ, drop, true}
+use Rattle.std.proofs.Common.{arith, subst, sym, ◌∙◌}
+use Rattle.std.proofs.lemmas.Int.{ints, to_z-of_z}
+use Rattle.fast_relay.specs.Numbers.{Spelt}
+use Rattle.fast_relay.proofs.VectorTexts.{bytes_found}
+use Rattle.fast_relay.proofs.vectors.find_bytes.Goals as goal
+
+pub returns-clause-gives : goal.returns-clause-gives
+returns-clause-gives c =
+    let bytes = c.args.bytes.now in
+    let z = c.in-Some.length in
+    let read = c.in-Some.ensures in
+    let few = c.in-Some-few_bytes.ensures in
+    let fits : FitsSigned w128 z = omega (arith, ints, read.above, read.below) in
+    bytes_found c.args.kind c.args.presence bytes c.args.at c.in-Some.start c.in-Some-few_bytes.count c.requires.kind
+    (subst (λ (x : ℤ). Spelt true c.args.presence (drop c.args.at bytes) x (drop c.in-Some.start bytes)) (sym (to_z-of_z w128 z fits) ∙ few.0) read.gives)
+    few.1 (omega (arith, c.if-bytes-start.false)) (omega (arith, read.place))

@@ -1,0 +1,106 @@
+//! NULL, read and written at once: a field that is sent as absent.
+
+ghost use Rattle.std.specs.Prelude.{◌≡◌, ◌≤◌, ◌<◌, ◌+◌, ◌++◌, ◌∷◌, [], true, false, length, drop, None, IfNone, IfSome};
+ghost use Rattle.fast_field.specs.Bases.{next_of};
+ghost use Rattle.fast_field.specs.Planning.{left_out_of};
+ghost use Rattle.fast_relay.specs.Relayed.{RelaysNull};
+
+use fast_dictionary::Entry;
+use fast_template::{FieldPart, Operator, Presence};
+
+/// NULL in its shortest form, which is the same for every type.
+const NULL: u8 = 0x80;
+
+/// Whether the bytes from a place on begin with NULL in its shortest form.
+#[inline(always)]
+fn begins_with_null(bytes: &[u8], at: usize) -> bool
+    requires { at ≤ length bytes.now }
+    ensures within { result ≡ true → at < length bytes.now }
+    ensures null { result ≡ true → drop at bytes.now ≡ 128 ∷ drop (at + 1) bytes.now }
+{
+    at < bytes.len() && bytes[at] == NULL
+}
+
+/// Whether bit 0 may give that a field is absent; where false is answered, it does not.
+#[inline(always)]
+fn may_be_left_out(instr: &FieldPart, entry: &Entry) -> bool
+    ensures { result ≡ false
+        → left_out_of instr.now.operator instr.now entry.now None ≡ false }
+{
+    match instr.operator {
+        Operator::Plain | Operator::Delta => false,
+        Operator::Constant => true,
+        Operator::Default => instr.initial.is_none(),
+        Operator::Copy | Operator::Increment | Operator::Tail => match entry {
+            Entry::Assigned(_) => false,
+            Entry::Undefined => instr.initial.is_none(),
+            Entry::Empty => true,
+        },
+    }
+}
+
+/// Makes an entry the one that an absent field leaves.
+#[inline(always)]
+fn keep_absent(operator: Operator, entry: &mut Entry)
+    ensures { entry.new ≡ next_of operator entry.old None }
+{
+    match operator {
+        Operator::Copy | Operator::Increment | Operator::Tail => *entry = Entry::Empty,
+        Operator::Plain | Operator::Constant | Operator::Default | Operator::Delta => {}
+    }
+}
+
+/// Appends NULL, where that is the best form of an absent field, and makes the entry the one afterwards; or answers
+/// false, and changes nothing.
+#[inline(never)]
+fn send_null(instr: &FieldPart, entry: &mut Entry, out: &mut Vec<u8>) -> bool
+    ensures best { result ≡ true
+        → left_out_of instr.now.operator instr.now entry.old None ≡ false }
+    ensures sent { result ≡ true → out.new.items ≡ out.old.items ++ (128 ∷ []) }
+    ensures kept { result ≡ true → entry.new ≡ next_of instr.now.operator entry.old None }
+    ensures entry { result ≡ false → entry.new ≡ entry.old }
+    ensures out { result ≡ false → out.new.items ≡ out.old.items }
+{
+    if may_be_left_out(instr, entry) {
+        return false;
+    }
+    match out.push(NULL) {
+        Err(_) => false,
+        Ok(()) => {
+            keep_absent(instr.operator, entry);
+            true
+        }
+    }
+}
+
+/// Reads NULL under bit 1, of a field of any type that may be absent, appends it where it is the best form of that,
+/// makes the entry the one afterwards, and answers the place after it. None: nothing has changed, and another way tells.
+#[inline(always)]
+pub fn relay_null(
+    instr: &FieldPart,
+    entry: &mut Entry,
+    bytes: &[u8],
+    at: usize,
+    out: &mut Vec<u8>,
+) -> Option<usize>
+    requires { at ≤ length bytes.now }
+    ensures place { IfSome result (λ next. (at ≤ next) × (next ≤ length bytes.now)) }
+    ensures relayed { IfSome result (λ next. RelaysNull instr.now entry.old entry.new
+        (drop at bytes.now) (drop next bytes.now) out.old.items out.new.items) }
+    ensures entry { IfNone result (entry.new ≡ entry.old) }
+    ensures out { IfNone result (out.new.items ≡ out.old.items) }
+{
+    match instr.presence {
+        Presence::Mandatory => None,
+        Presence::Optional => {
+            if !begins_with_null(bytes, at) {
+                return None;
+            }
+            if send_null(instr, entry, out) {
+                Some(at + 1)
+            } else {
+                None
+            }
+        }
+    }
+}

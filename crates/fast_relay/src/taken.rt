@@ -1,0 +1,140 @@
+//! Integers that are read at once, where they are not written again. What is not served here goes the general way of
+//! `read_in_place`.
+
+ghost use Rattle.std.specs.Prelude.{◌≡◌, ◌≤◌, length, drop, IfNone, IfSome, IsTrue};
+ghost use Rattle.fast_value.specs.Scalar.{is_integer, of_integer};
+ghost use Rattle.fast_value.specs.declared.kind.Operator.TheVariants as operator_type;
+ghost use Rattle.fast_field.specs.Numbers.{IsNumber};
+ghost use Rattle.fast_relay.specs.Numbers.{SpellsWhole};
+ghost use Rattle.fast_relay.specs.Relayed.{Takes};
+
+use crate::integers::{is_unsigned, read_short};
+use crate::number::keep_whole;
+use fast_dictionary::Entry;
+use fast_field::{is_field_number, kept_number, set_number};
+use fast_template::{FieldPart, Kind, Operator, Scalar};
+
+/// A number of an integer type as a value.
+#[inline(always)]
+fn value_of(kind: Kind, number: i128) -> Scalar
+    requires { IsNumber kind number }
+    ensures { result ≡ of_integer kind number }
+{
+    match kind {
+        Kind::UInt32 => Scalar::U32(number as u32),
+        Kind::Int32 => Scalar::I32(number as i32),
+        Kind::UInt64 => Scalar::U64(number as u64),
+        Kind::Int64 => Scalar::I64(number as i64),
+        Kind::Decimal | Kind::Ascii | Kind::Unicode | Kind::Bytes => unreachable!(),
+    }
+}
+
+/// Takes a number that is spelled whole.
+#[inline(always)]
+fn take_whole(
+    kind: Kind,
+    instr: &FieldPart,
+    entry: &mut Entry,
+    bytes: &[u8],
+    at: usize,
+) -> Option<(Scalar, usize)>
+    requires at { at ≤ length bytes.now }
+    requires kind { kind ≡ instr.now.kind }
+    requires integer { IsTrue (is_integer kind) }
+    requires operator { SpellsWhole instr.now.operator }
+    ensures place { IfSome result (λ x. (at ≤ x.1) × (x.1 ≤ length bytes.now)) }
+    ensures taken { IfSome result (λ x. Takes instr.now entry.old entry.new x.0
+        (drop at bytes.now) (drop x.1 bytes.now)) }
+    ensures entry { IfNone result (entry.new ≡ entry.old) }
+{
+    let Some((number, next)) = read_short(is_unsigned(kind), instr.presence, bytes, at) else {
+        return None;
+    };
+    if !is_field_number(kind, instr.part, number) {
+        return None;
+    }
+    keep_whole(kind, instr.operator, entry, number);
+    Some((value_of(kind, number), next))
+}
+
+/// Takes what is added to the number that the entry has.
+#[inline(always)]
+fn take_delta(
+    kind: Kind,
+    instr: &FieldPart,
+    entry: &mut Entry,
+    bytes: &[u8],
+    at: usize,
+) -> Option<(Scalar, usize)>
+    requires at { at ≤ length bytes.now }
+    requires kind { kind ≡ instr.now.kind }
+    requires integer { IsTrue (is_integer kind) }
+    requires operator { instr.now.operator ≡ operator_type.Delta }
+    ensures place { IfSome result (λ x. (at ≤ x.1) × (x.1 ≤ length bytes.now)) }
+    ensures taken { IfSome result (λ x. Takes instr.now entry.old entry.new x.0
+        (drop at bytes.now) (drop x.1 bytes.now)) }
+    ensures entry { IfNone result (entry.new ≡ entry.old) }
+{
+    let Some(kept) = kept_number(kind, entry) else {
+        return None;
+    };
+    let Some((delta, next)) = read_short(false, instr.presence, bytes, at) else {
+        return None;
+    };
+    let number = kept + delta;
+    if !is_field_number(kind, instr.part, number) {
+        return None;
+    }
+    set_number(kind, entry, number);
+    Some((value_of(kind, number), next))
+}
+
+/// Takes a number of a type that is known here.
+#[inline(always)]
+fn take(
+    kind: Kind,
+    instr: &FieldPart,
+    entry: &mut Entry,
+    bytes: &[u8],
+    at: usize,
+) -> Option<(Scalar, usize)>
+    requires at { at ≤ length bytes.now }
+    requires kind { kind ≡ instr.now.kind }
+    requires integer { IsTrue (is_integer kind) }
+    ensures place { IfSome result (λ x. (at ≤ x.1) × (x.1 ≤ length bytes.now)) }
+    ensures taken { IfSome result (λ x. Takes instr.now entry.old entry.new x.0
+        (drop at bytes.now) (drop x.1 bytes.now)) }
+    ensures entry { IfNone result (entry.new ≡ entry.old) }
+{
+    match instr.operator {
+        Operator::Delta => take_delta(kind, instr, entry, bytes, at),
+        Operator::Plain | Operator::Default | Operator::Copy | Operator::Increment => {
+            take_whole(kind, instr, entry, bytes, at)
+        }
+        Operator::Constant | Operator::Tail => None,
+    }
+}
+
+/// Reads an integer under bit 1, makes the entry the one afterwards, and answers the number as a value and the place
+/// after it. It takes no memory. None: nothing has changed, and the general way tells.
+#[inline(never)]
+pub fn take_number(
+    instr: &FieldPart,
+    entry: &mut Entry,
+    bytes: &[u8],
+    at: usize,
+) -> Option<(Scalar, usize)>
+    requires { at ≤ length bytes.now }
+    ensures place { IfSome result (λ x. (at ≤ x.1) × (x.1 ≤ length bytes.now)) }
+    ensures taken { IfSome result (λ x. Takes instr.now entry.old entry.new x.0
+        (drop at bytes.now) (drop x.1 bytes.now)) }
+    ensures entry { IfNone result (entry.new ≡ entry.old) }
+{
+    match instr.kind {
+        Kind::UInt32 => take(Kind::UInt32, instr, entry, bytes, at),
+        Kind::Int32 => take(Kind::Int32, instr, entry, bytes, at),
+        Kind::UInt64 => take(Kind::UInt64, instr, entry, bytes, at),
+        Kind::Int64 => take(Kind::Int64, instr, entry, bytes, at),
+        Kind::Decimal | Kind::Ascii | Kind::Unicode | Kind::Bytes => None,
+    }
+}

@@ -1,9 +1,0 @@
-use Rattle.std.proofs.Common.{◌≡◌, drop, map}
-use Rattle.serde_json.specs.View.{items_view}
-use Rattle.fast_template.specs.JsonTemplates.{read_items}
-use Rattle.fast_template.specs.Written.{written_of}
-use Rattle.fast_template.proofs.JsonReading.{behind}
-use Rattle.fast_template.proofs.json.+reads.Given as goal
-
-abbrev pub invariant-read_values-loop-value : goal.invariant-read_values-loop-value
-invariant-read_values-loop-value l = behind (map written_of l.instructions.items) (read_items (items_view (drop l.value-index l.values)) l.next) ≡ read_items (items_view l.values) l.fn.number

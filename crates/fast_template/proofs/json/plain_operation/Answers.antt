@@ -1,5 +1,0 @@
-use Rattle.std.proofs.Common.{refl}
-use Rattle.fast_template.proofs.json.plain_operation.Goals as goal
-
-pub returns : goal.returns
-returns c = refl

@@ -1,5 +1,0 @@
-use Rattle.std.proofs.Common.{rules}
-use Rattle.fast_template.proofs.json.read_template.Goals as goal
-
-pub returns-then-not-fits : goal.returns-then-not-fits
-returns-then-not-fits c = search rules

@@ -1,6 +1,0 @@
-use Rattle.std.proofs.Common.{refl, sym}
-use Rattle.std.proofs.lemmas.Option.{slice_get_read}
-use Rattle.fast_template.proofs.order.row_of.Goals as goal
-
-pub returns : goal.returns
-returns c = (c.index-references-node.result, slice_get_read c.args.references.now _ c.args.node _ refl c.requires c.index-references-node.is, sym c.deref.ensures.value)

@@ -1,7 +1,0 @@
-use Rattle.std.proofs.Common.{◌≡◌}
-use Rattle.serde_json.specs.View.{members_view}
-use Rattle.fast_template.specs.Profile.{all_allowed}
-use Rattle.fast_template.proofs.profile.allows_all.Given as goal
-
-abbrev pub invariant-loop-key : goal.invariant-loop-key
-invariant-loop-key l = all_allowed l.row (members_view l.key-iterator) ≡ all_allowed l.row (members_view l.initial.key-iterator)

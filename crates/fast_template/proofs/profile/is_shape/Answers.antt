@@ -1,5 +1,0 @@
-use Rattle.std.proofs.Common.{rules}
-use Rattle.fast_template.proofs.profile.is_shape.Goals as goal
-
-pub returns-in-Whole : goal.returns-in-Whole
-returns-in-Whole c = search rules

@@ -1,0 +1,8 @@
+pub mod ShortWalks
+pub mod Steps
+pub mod Walking
+pub mod Views
+pub mod Putting
+pub mod Serving
+pub mod Heads
+pub mod Opening

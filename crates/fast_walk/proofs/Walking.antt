@@ -1,0 +1,318 @@
+-- How reading goes on, whatever was received.
+use Rattle.std.proofs.Common.{◌≡◌, ◌<◌, ℕ, ℤ, Bool, true, false, List, [], ◌∷◌, ◌++◌, map, Option, Some, None, Result, Ok, Err, refl, sym, ap, ◌∙◌, arith}
+use Rattle.std.proofs.lemmas.List.{map_push}
+use Rattle.std.specs.Prelude.{option_to_list}
+use Rattle.fast_value.specs.declared.key.Key.{Key}
+use Rattle.fast_value.specs.declared.scalar.Scalar.{Scalar}
+use Rattle.fast_value.specs.declared.scalar.Scalar.TheVariants.{U32, I32, I64, Decimal}
+use Rattle.fast_value.specs.declared.kind.Presence.{Presence}
+use Rattle.fast_template.specs.declared.resolved.FieldPart.{FieldPart}
+use Rattle.fast_template.specs.Resolved.{Instruction, Instructions, whole_field, field_in_parts, group_of, sequence_of, no_instructions, then_instruction, is_optional, has_map, Resolved}
+use Rattle.fast_wire.specs.Reading.{◌>>=◌}
+use Rattle.fast_stream.specs.Nodes.{single, Items, items_of, sequence_elements, elements_of}
+use Rattle.fast_stream.specs.Bits.{bit_for, after_bit}
+use Rattle.fast_stream.specs.Faults.{Stop}
+use Rattle.fast_stream.specs.Streams.{members_of}
+use Rattle.fast_stream.specs.Reading.{Cursor, Reads, node_at, field_part_at, own_map_at, behind_bit, piece_at}
+use Rattle.fast_walk.specs.OpenSegments.{items_before, Body, Sequel, Waiting, Inside, in_group, in_sequence, Next, at_instruction, at_mantissa, at_element, with_item, fewer, under_bits, body_on, mantissa_on, elements_on, top_on, behind_inside, all_around}
+use Rattle.fast_walk.specs.Received.{Received, Same, Goes, IsExponent, ended_in}
+use Rattle.fast_walk.specs.Walks.{bare_inside, bare, bare_next, bare_sequel, frame_of, AreAllServed, IsWaitingServed}
+use Rattle.fast_walk.specs.declared.walk.Frame.{Frame as FrameNow}
+use Rattle.fast_walk.proofs.Steps.{field_goes, no_group_goes, group_goes, piece_stops, end_goes, whole_goes, exponent_goes, no_exponent_goes, length_goes, no_length_goes, mantissa_goes, mantissa_stops, element_goes, no_map_stops, no_node_stops, no_more_goes}
+
+-- ---- what is next
+
+pub is_instruction : (n : Next) → bare_next n ≡ at_instruction → n ≡ at_instruction
+is_instruction at_instruction h = refl
+is_instruction (at_mantissa e p) h = absurd cc
+is_instruction (at_element s) h = absurd cc
+
+-- the mantissa that is next, with its exponent
+pub record IsMantissa (n : Next) (p : FieldPart) : Type 0 where
+  pub exponent : ℤ
+  pub is : n ≡ at_mantissa exponent p
+
+part_of : FieldPart → Next → FieldPart
+part_of p (at_mantissa e q) = q
+part_of p n = p
+
+pub is_mantissa : (n : Next) (z : ℤ) (p : FieldPart) → bare_next n ≡ at_mantissa z p → IsMantissa n p
+unfolding part_of
+is_mantissa at_instruction z p h = absurd cc
+is_mantissa (at_mantissa e q) z p h = record { exponent = e; is = ap (at_mantissa e) (ap (part_of p) h) }
+is_mantissa (at_element s) z p h = absurd cc
+
+-- the sequence whose element is next, with those that are read
+pub record IsSequel (n : Next) (t : Sequel) : Type 0 where
+  pub sequel : Sequel
+  pub is : n ≡ at_element sequel
+  pub same : bare_sequel sequel ≡ t
+
+sequel_in : Sequel → Next → Sequel
+sequel_in t (at_element s) = s
+sequel_in t n = t
+
+pub is_sequel : (n : Next) (t : Sequel) → bare_next n ≡ at_element t → IsSequel n t
+unfolding sequel_in
+is_sequel at_instruction t h = absurd cc
+is_sequel (at_mantissa e p) t h = absurd cc
+is_sequel (at_element s) t h = record { sequel = s; is = refl; same = ap (sequel_in t) h }
+
+pub is_group : (i : Inside) → bare_inside i ≡ in_group → i ≡ in_group
+is_group in_group h = refl
+is_group (in_sequence s) h = absurd cc
+
+pub record IsElementOf (i : Inside) (t : Sequel) : Type 0 where
+  pub sequel : Sequel
+  pub is : i ≡ in_sequence sequel
+  pub same : bare_sequel sequel ≡ t
+
+inside_sequel : Sequel → Inside → Sequel
+inside_sequel t (in_sequence s) = s
+inside_sequel t in_group = t
+
+pub is_element_of : (i : Inside) (t : Sequel) → bare_inside i ≡ in_sequence t → IsElementOf i t
+unfolding inside_sequel
+is_element_of in_group t h = absurd cc
+is_element_of (in_sequence s) t h = record { sequel = s; is = refl; same = ap (inside_sequel t) h }
+
+pub record IsThere (v : Option Scalar) : Type 0 where
+  pub exponent : ℤ
+  pub is : v ≡ Some (I32 exponent)
+
+pub is_there : (b : Bool) (v : Option Scalar) → b ≡ true → IsExponent b v → IsThere v
+is_there true v h k = record { exponent = k.0; is = k.1 }
+is_there false v h k = absurd cc
+
+pub not_there : (b : Bool) (v : Option Scalar) → b ≡ false → IsExponent b v → v ≡ None
+not_there true v h k = absurd cc
+not_there false v h k = k
+
+-- ---- one piece
+
+abbrev part_read : Cursor → Option Scalar → Reads (Option Scalar)
+part_read k v = Ok (v, k)
+
+body_is : (b : Body) (is : Instructions) (c : Cursor) → b.rest ≡ is → body_on b c ≡ body_on (record { rest = is; done = b.done }) c
+body_is b is c h = ap (λ (is : Instructions). body_on (record { rest = is; done = b.done }) c) h
+
+-- at an instruction what is left is that of its body
+top_is : (n : Next) (b : Body) (is : Instructions) (c : Cursor) → n ≡ at_instruction → b.rest ≡ is → top_on n b c ≡ body_on (record { rest = is; done = b.done }) c
+top_is n b is c next h = ap (λ (n : Next). top_on n b c) next ∙ body_is b is c h
+
+pub field_on : (ws : List Waiting) (n : Next) (b : Body) (name : List ℕ) (number : ℕ) (presence : Presence) (whole : FieldPart) (is : Instructions) (c d e : Cursor) (v : Option Scalar)
+    → n ≡ at_instruction → b.rest ≡ then_instruction (whole_field name number presence whole) is → node_at number c ≡ Ok d → field_part_at whole d ≡ Ok (v, e)
+    → all_around ws (top_on n b c) ≡ all_around ws (body_on (record { rest = is; done = b.done ++ single v ∷ [] }) e)
+field_on ws n b name number presence whole is c d e v next first h k =
+    ap (λ (r : Reads Items). all_around ws r) (top_is n b _ c next first ∙ field_goes name number presence whole is b.done c d e v h k)
+
+pub exponent_on : (ws : List Waiting) (n : Next) (b : Body) (name : List ℕ) (number : ℕ) (presence : Presence) (exponent mantissa : FieldPart) (is : Instructions) (c d k : Cursor) (v : Option Scalar) (e : ℤ)
+    → n ≡ at_instruction → b.rest ≡ then_instruction (field_in_parts name number presence exponent mantissa) is → v ≡ Some (I32 e) → node_at number c ≡ Ok d → field_part_at exponent d ≡ Ok (v, k)
+    → all_around ws (top_on n b c) ≡ all_around ws (mantissa_on e mantissa (record { rest = is; done = b.done }) k)
+exponent_on ws n b name number presence exponent mantissa is c d k v e next first there h m =
+    ap (λ (r : Reads Items). all_around ws r) (top_is n b _ c next first ∙ exponent_goes name number presence exponent mantissa is b.done c d k e h (m ∙ ap (part_read k) there))
+
+pub no_exponent_on : (ws : List Waiting) (n : Next) (b : Body) (name : List ℕ) (number : ℕ) (presence : Presence) (exponent mantissa : FieldPart) (is : Instructions) (c d k : Cursor) (v : Option Scalar)
+    → n ≡ at_instruction → b.rest ≡ then_instruction (field_in_parts name number presence exponent mantissa) is → v ≡ None → node_at number c ≡ Ok d → field_part_at exponent d ≡ Ok (v, k)
+    → all_around ws (top_on n b c) ≡ all_around ws (body_on (record { rest = is; done = b.done ++ single None ∷ [] }) k)
+no_exponent_on ws n b name number presence exponent mantissa is c d k v next first there h m =
+    ap (λ (r : Reads Items). all_around ws r) (top_is n b _ c next first ∙ no_exponent_goes name number presence exponent mantissa is b.done c d k h (m ∙ ap (part_read k) there))
+
+pub mantissa_on_goes : (ws : List Waiting) (n : Next) (e m : ℤ) (mantissa : FieldPart) (b : Body) (c k : Cursor) → n ≡ at_mantissa e mantissa → field_part_at mantissa c ≡ Ok (Some (I64 m), k)
+    → all_around ws (top_on n b c) ≡ all_around ws (body_on (with_item b (single (Some (Decimal e m)))) k)
+mantissa_on_goes ws n e m mantissa b c k next h =
+    ap (λ (r : Reads Items). all_around ws r) (ap (λ (n : Next). top_on n b c) next ∙ mantissa_goes e m mantissa b c k h)
+
+pub mantissa_on_stops : (ws : List Waiting) (n : Next) (e : ℤ) (mantissa : FieldPart) (b : Body) (c : Cursor) (s : Stop) → n ≡ at_mantissa e mantissa → field_part_at mantissa c ≡ Err s
+    → all_around ws (top_on n b c) ≡ Err s
+mantissa_on_stops ws n e mantissa b c s next h = ap (λ (n : Next). all_around ws (top_on n b c)) next ∙ mantissa_stops ws e mantissa b c s h
+
+pub length_on : (ws : List Waiting) (n : Next) (b : Body) (name : List ℕ) (number : ℕ) (presence : Presence) (part : FieldPart) (members is : Instructions) (c d k : Cursor) (many : ℕ)
+    → n ≡ at_instruction → b.rest ≡ then_instruction (sequence_of name number presence part members) is → node_at number c ≡ Ok d → field_part_at part d ≡ Ok (Some (U32 many), k)
+    → all_around ws (top_on n b c)
+    ≡ all_around ws (elements_on (record { number = number; own_map = has_map members; members = members; left = many; done = [] }) (record { rest = is; done = b.done }) k)
+length_on ws n b name number presence part members is c d k many next first h m =
+    ap (λ (r : Reads Items). all_around ws r) (top_is n b _ c next first ∙ length_goes name number presence part members is b.done c d k many h m)
+
+pub no_length_on : (ws : List Waiting) (n : Next) (b : Body) (name : List ℕ) (number : ℕ) (presence : Presence) (part : FieldPart) (members is : Instructions) (c d k : Cursor)
+    → n ≡ at_instruction → b.rest ≡ then_instruction (sequence_of name number presence part members) is → node_at number c ≡ Ok d → field_part_at part d ≡ Ok (None, k)
+    → all_around ws (top_on n b c) ≡ all_around ws (body_on (record { rest = is; done = b.done ++ single None ∷ [] }) k)
+no_length_on ws n b name number presence part members is c d k next first h m =
+    ap (λ (r : Reads Items). all_around ws r) (top_is n b _ c next first ∙ no_length_goes name number presence part members is b.done c d k h m)
+
+pub piece_stops_on : (ws : List Waiting) (n : Next) (b : Body) (i : Instruction) (is : Instructions) (c : Cursor) (s : Stop)
+    → n ≡ at_instruction → b.rest ≡ then_instruction i is → piece_at i c ≡ Err s → all_around ws (top_on n b c) ≡ Err s
+piece_stops_on ws n b i is c s next first h = ap (λ (r : Reads Items). all_around ws r) (top_is n b _ c next first) ∙ piece_stops ws i is b.done c s h
+
+pub no_group_on : (ws : List Waiting) (n : Next) (b : Body) (name : List ℕ) (number : ℕ) (presence : Presence) (members is : Instructions) (c d : Cursor)
+    → n ≡ at_instruction → b.rest ≡ then_instruction (group_of name number presence members) is → node_at number c ≡ Ok d → bit_for (is_optional presence) d.bits ≡ false
+    → all_around ws (top_on n b c) ≡ all_around ws (body_on (record { rest = is; done = b.done ++ single None ∷ [] }) (behind_bit (is_optional presence) d))
+no_group_on ws n b name number presence members is c d next first h k =
+    ap (λ (r : Reads Items). all_around ws r) (top_is n b _ c next first ∙ no_group_goes name number presence members is b.done c d h k)
+
+pub group_on : (ws : List Waiting) (n : Next) (b : Body) (name : List ℕ) (number : ℕ) (presence : Presence) (members is : Instructions) (c d e : Cursor)
+    → n ≡ at_instruction → b.rest ≡ then_instruction (group_of name number presence members) is → node_at number c ≡ Ok d → bit_for (is_optional presence) d.bits ≡ true
+    → own_map_at number (has_map members) (behind_bit (is_optional presence) d) ≡ Ok e
+    → all_around ws (top_on n b c)
+    ≡ all_around (ws ++ record { bits = after_bit (is_optional presence) d.bits; body = record { rest = is; done = b.done }; inside = in_group } ∷ []) (body_on (record { rest = members; done = [] }) e)
+group_on ws n b name number presence members is c d e next first h k m =
+    ap (λ (r : Reads Items). all_around ws r) (top_is n b _ c next first) ∙ group_goes name number presence members is b.done ws c d e h k m
+
+left_is : (s t : Sequel) → bare_sequel s ≡ t → t.left ≡ s.left
+left_is s t same = sym (ap (λ (x : Sequel). x.left) same)
+
+node_is : (s t : Sequel) (c : Cursor) (r : Result Cursor Stop) → bare_sequel s ≡ t → node_at t.number c ≡ r → node_at s.number c ≡ r
+node_is s t c r same h = ap (λ (x : Sequel). node_at x.number c) same ∙ h
+
+map_is : (s t : Sequel) (c : Cursor) (r : Result Cursor Stop) → bare_sequel s ≡ t → own_map_at t.number t.own_map c ≡ r → own_map_at s.number s.own_map c ≡ r
+map_is s t c r same h = ap (λ (x : Sequel). own_map_at x.number x.own_map c) same ∙ h
+
+some_is : (s t : Sequel) → bare_sequel s ≡ t → 0 < t.left → 0 < s.left
+some_is s t same some = let left = left_is s t same in omega (arith, left, some)
+
+pub element_on : (ws : List Waiting) (n : Next) (b : Body) (s t : Sequel) (c d e : Cursor) → n ≡ at_element s → bare_sequel s ≡ t → 0 < t.left → node_at t.number c ≡ Ok d → own_map_at t.number t.own_map d ≡ Ok e
+    → all_around ws (top_on n b c) ≡ all_around (ws ++ record { bits = d.bits; body = b; inside = in_sequence (fewer s) } ∷ []) (body_on (record { rest = s.members; done = [] }) e)
+element_on ws n b s t c d e next same some h k =
+    ap (λ (n : Next). all_around ws (top_on n b c)) next ∙ element_goes s b ws c d e (some_is s t same some) (node_is s t c (Ok d) same h) (map_is s t d (Ok e) same k)
+
+pub no_node_on : (ws : List Waiting) (n : Next) (b : Body) (s t : Sequel) (c : Cursor) (f : Stop) → n ≡ at_element s → bare_sequel s ≡ t → 0 < t.left → node_at t.number c ≡ Err f → all_around ws (top_on n b c) ≡ Err f
+no_node_on ws n b s t c f next same some h = ap (λ (n : Next). all_around ws (top_on n b c)) next ∙ no_node_stops s b ws c f (some_is s t same some) (node_is s t c (Err f) same h)
+
+pub no_map_on : (ws : List Waiting) (n : Next) (b : Body) (s t : Sequel) (c d : Cursor) (f : Stop) → n ≡ at_element s → bare_sequel s ≡ t → 0 < t.left → node_at t.number c ≡ Ok d → own_map_at t.number t.own_map d ≡ Err f
+    → all_around ws (top_on n b c) ≡ Err f
+no_map_on ws n b s t c d f next same some h k =
+    ap (λ (n : Next). all_around ws (top_on n b c)) next ∙ no_map_stops s b ws c d f (some_is s t same some) (node_is s t c (Ok d) same h) (map_is s t d (Err f) same k)
+
+pub no_more_on : (ws : List Waiting) (n : Next) (b : Body) (s : Sequel) (c : Cursor) → n ≡ at_element s → s.left ≡ 0
+    → all_around ws (top_on n b c) ≡ all_around ws (body_on (with_item b (sequence_elements (elements_of s.done))) c)
+no_more_on ws n b s c next none = ap (λ (n : Next). all_around ws (top_on n b c)) next ∙ ap (λ (r : Reads Items). all_around ws r) (no_more_goes s b c none)
+
+pub around_element : (us fs : List Waiting) (bits : List Bool) (b : Body) (is : Instructions) (s t : Sequel) → map bare us ≡ fs → b.rest ≡ is → bare_sequel s ≡ t
+    → map bare (us ++ record { bits = bits; body = b; inside = in_sequence (fewer s) } ∷ []) ≡ fs ++ record { bits = bits; body = record { rest = is; done = [] }; inside = in_sequence (fewer t) } ∷ []
+around_element us fs bits b is s t h k same =
+    map_push bare us (record { bits = bits; body = b; inside = in_sequence (fewer s) })
+    ∙ ap (λ (ws : List Waiting). ws ++ record { bits = bits; body = record { rest = b.rest; done = [] }; inside = in_sequence (fewer (bare_sequel s)) } ∷ []) h
+    ∙ ap (λ (x : Instructions). fs ++ record { bits = bits; body = record { rest = x; done = [] }; inside = in_sequence (fewer (bare_sequel s)) } ∷ []) k
+    ∙ ap (λ (x : Sequel). fs ++ record { bits = bits; body = record { rest = is; done = [] }; inside = in_sequence (fewer x) } ∷ []) same
+
+-- ---- the end of a segment
+
+tail_of : {X : Type 0} → List X → List X
+tail_of [] = []
+tail_of (x ∷ xs) = xs
+
+-- what was received last of the bodies around
+pub record Last (us : List Waiting) (fs : List Waiting) (f : Waiting) : Type 0 where
+  pub before : List Waiting
+  pub last : Waiting
+  pub is : us ≡ before ++ last ∷ []
+  pub rests : map bare before ≡ fs
+  pub same : bare last ≡ f
+
+abbrev behind : (u : Waiting) (us fs : List Waiting) (f g : Waiting) → bare u ≡ g → Last us fs f → Last (u ∷ us) (g ∷ fs) f
+behind u us fs f g h l = record { before = u ∷ l.before; last = l.last; is = ap (λ (vs : List Waiting). u ∷ vs) l.is; rests = rw (h, l.rests) refl; same = l.same }
+
+head_or : Waiting → List Waiting → Waiting
+head_or w [] = w
+head_or w (x ∷ xs) = x
+
+pub last_of : (us fs : List Waiting) (f : Waiting) → map bare us ≡ fs ++ f ∷ [] → Last us fs f
+unfolding head_or tail_of
+last_of [] [] f h = absurd cc
+last_of [] (g ∷ fs) f h = absurd cc
+last_of (u ∷ []) [] f h = record { before = []; last = u; is = refl; rests = refl; same = ap (head_or f) h }
+last_of (u ∷ v ∷ us) [] f h = absurd (no_more (ap tail_of h))
+  where
+    no_more : map bare (v ∷ us) ≡ [] → ⊥
+    no_more h = absurd cc
+last_of (u ∷ us) (g ∷ fs) f h = behind u us fs f g (ap (head_or f) h) (last_of us fs f (ap tail_of h))
+
+pub rest_of_last : (us fs : List Waiting) (f : Waiting) (l : Last us fs f) → l.last.body.rest ≡ f.body.rest
+rest_of_last us fs f l = ap (λ (w : Waiting). w.body.rest) l.same
+
+pub inside_of_last : (us fs : List Waiting) (f : Waiting) (l : Last us fs f) → bare_inside l.last.inside ≡ f.inside
+inside_of_last us fs f l = ap (λ (w : Waiting). w.inside) l.same
+
+-- what is left behind it, in the body that waited
+ended_top : (o : Received) (ws : List Waiting) (b : Body) (i : Inside) (ns : Items) (c : Cursor) → items_of o.body.done ≡ ns
+    → behind_inside i b ns c ≡ top_on (ended_in o ws b i).next (ended_in o ws b i).body c
+ended_top o ws b in_group ns c h = rw (sym h) refl
+ended_top o ws b (in_sequence s) ns c h = rw (sym h) refl
+
+ended_around : (o : Received) (ws : List Waiting) (b : Body) (i : Inside) → (ended_in o ws b i).around ≡ ws
+ended_around o ws b in_group = refl
+ended_around o ws b (in_sequence s) = refl
+
+pub end_on : (o : Received) (ws fs : List Waiting) (f : Waiting) (l : Last o.around fs f) (c : Cursor) → o.next ≡ at_instruction → o.body.rest ≡ no_instructions
+    → all_around o.around (top_on o.next o.body c)
+    ≡ all_around (ended_in o l.before l.last.body l.last.inside).around
+    (top_on (ended_in o l.before l.last.body l.last.inside).next (ended_in o l.before l.last.body l.last.inside).body (under_bits f.bits c))
+end_on o ws fs f l c next rest =
+    ap (λ (n : Next). all_around o.around (top_on n o.body c)) next
+    ∙ end_goes o.around l.before l.last o.body c l.is rest
+    ∙ ap (λ (w : Waiting). all_around l.before (behind_inside l.last.inside l.last.body (items_of o.body.done) (under_bits w.bits c))) l.same
+    ∙ ap (λ (r : Reads Items). all_around l.before r) (ended_top o l.before l.last.body l.last.inside (items_of o.body.done) (under_bits f.bits c) refl)
+    ∙ ap (λ (ws : List Waiting). all_around ws (top_on (ended_in o l.before l.last.body l.last.inside).next (ended_in o l.before l.last.body l.last.inside).body (under_bits f.bits c)))
+    (sym (ended_around o l.before l.last.body l.last.inside))
+
+pub ended_rest : (o : Received) (ws : List Waiting) (b : Body) (i : Inside) → (ended_in o ws b i).body.rest ≡ b.rest
+ended_rest o ws b in_group = refl
+ended_rest o ws b (in_sequence s) = refl
+
+pub ended_bare : (o : Received) (ws : List Waiting) (b : Body) (i : Inside) → map bare (ended_in o ws b i).around ≡ map bare ws
+ended_bare o ws b i = ap (map bare) (ended_around o ws b i)
+
+pub ended_same : (o : Received) (ws : List Waiting) (b : Body) (i : Inside) → Same o (ended_in o ws b i)
+ended_same o ws b in_group = record { set = refl; before = refl; template = refl; members = refl; start = refl }
+ended_same o ws b (in_sequence s) = record { set = refl; before = refl; template = refl; members = refl; start = refl }
+
+pub popped : (old new : List FrameNow) (r : Option FrameNow) (f : FrameNow) → old ≡ new ++ option_to_list r → r ≡ Some f → map frame_of old ≡ map frame_of new ++ frame_of f ∷ []
+popped old new r f h k = ap (map frame_of) (h ∙ ap (λ (o : Option FrameNow). new ++ option_to_list o) k) ∙ map_push frame_of new f
+
+-- ---- keys
+
+pub served_push : (serves : Key → Bool) (ws : List Waiting) (w : Waiting) → AreAllServed serves ws → IsWaitingServed serves w → AreAllServed serves (ws ++ w ∷ [])
+served_push serves [] w h k = (k, tt)
+served_push serves (v ∷ ws) w h k = (h.0, served_push serves ws w h.1 k)
+
+pub served_pop : (serves : Key → Bool) (ws : List Waiting) (w : Waiting) → AreAllServed serves (ws ++ w ∷ []) → AreAllServed serves ws × IsWaitingServed serves w
+served_pop serves [] w h = (tt, h.0)
+served_pop serves (v ∷ ws) w h = let r = served_pop serves ws w h.1 in ((h.0, r.0), r.1)
+
+-- ---- one piece behind the other
+
+pub goes_on : (Has Had Later : Received → Type 0) (read reads later : Received → List ℕ → Reads Items) (a b c : List ℕ) → Goes Has read Had reads a b → Goes Had reads Later later b c → Goes Has read Later later a c
+goes_on Has Had Later read reads later a b c g h o has =
+    let p = g o has in
+    let q = h p.0 p.1 in
+    (q.0, q.1, record { set = q.2.set ∙ p.2.set; before = q.2.before ∙ p.2.before; template = q.2.template ∙ p.2.template; members = q.2.members ∙ p.2.members; start = q.2.start ∙ p.2.start }, λ more. p.3 more ∙ q.3 more)
+
+pub goes_none : (Has : Received → Type 0) (read : Received → List ℕ → Reads Items) (a : List ℕ) → Goes Has read Has read a a
+goes_none Has read a o has = (o, has, record { set = refl; before = refl; template = refl; members = refl; start = refl }, λ more. refl)
+
+-- where nothing is read, and what was received is kept
+pub goes_kept : (Has Had : Received → Type 0) (read : Received → List ℕ → Reads Items) (a : List ℕ) → ((o : Received) → Has o → Had o) → Goes Has read Had read a a
+goes_kept Has Had read a kept o has = (o, kept o has, record { set = refl; before = refl; template = refl; members = refl; start = refl }, λ more. refl)
+
+abbrev some_members : Instructions → Option Instructions
+some_members is = Some is
+
+-- the template that the message names
+pub same_named : (o p : Received) → Same o p → members_of o.set o.template ≡ Some o.members → members_of p.set p.template ≡ Some p.members
+same_named o p same named =
+    ap (λ (t : ℕ). members_of p.set t) same.template ∙ ap (λ (s : List Resolved). members_of s o.template) same.set ∙ named ∙ ap some_members (sym same.members)
+
+no_frames : (us : List Waiting) → map bare us ≡ [] → us ≡ []
+no_frames [] h = refl
+no_frames (u ∷ us) h = absurd cc
+
+pub around_none : (us : List Waiting) (fs : List FrameNow) → map bare us ≡ map frame_of fs → fs ≡ [] → us ≡ []
+around_none us fs h none = no_frames us (h ∙ ap (map frame_of) none)
+
+-- the end of the message's own body
+pub all_read : (us : List Waiting) (n : Next) (b : Body) (c : Cursor) → us ≡ [] → n ≡ at_instruction → b.rest ≡ no_instructions → all_around us (top_on n b c) ≡ Ok (items_of b.done, c)
+all_read us n b c none next rest = ap (λ (ws : List Waiting). all_around ws (top_on n b c)) none ∙ top_is n b no_instructions c next rest ∙ whole_goes b.done c
+
+pub from_none : (r : Reads Items) → (r >>= λ x. Ok (items_before [] x.0, x.1)) ≡ r
+from_none (Err s) = refl
+from_none (Ok x) = refl

@@ -1,0 +1,75 @@
+use Rattle.std.proofs.Common.{Option, drop, map, refl, sym, ap, ◌∙◌}
+use Rattle.std.specs.Prelude.{option_map}
+use Rattle.fast_template.specs.declared.resolved.FlatTemplate.{FlatTemplate}
+use Rattle.fast_template.specs.Resolved.{list_of, Instructions}
+use Rattle.fast_template.specs.TemplateSets.{templates_in}
+use Rattle.fast_stream.specs.Faults.{cause_of_field}
+use Rattle.fast_walk.specs.OpenSegments.{message_of}
+use Rattle.fast_walk.specs.Received.{opened}
+use Rattle.fast_walk.specs.Walks.{next_of, reads_on, frame_of}
+use Rattle.fast_walk.proofs.Heads.{identifier_goes, identifier_stops, unknown_stops}
+use Rattle.fast_walk.proofs.Serving.{found_members, members_served}
+use Rattle.fast_walk.proofs.traversal.Traversal.identifier.Goals as goal
+
+abbrev members_found : Option FlatTemplate → Option Instructions
+members_found o = option_map (λ (f : FlatTemplate). list_of f.members.items) o
+
+pub returns-in-Err-clause-stops : goal.returns-in-Err-clause-stops
+returns-in-Err-clause-stops g c = λ other.
+    let old = c.args.self.now in
+    let d = g.E.Entries.contents c.args.entries.now in
+    let stops = (c.in-Err.ensures.stops (λ e. other (c.part_halt.ensures.cause ∙ ap cause_of_field e))).0 in
+    rw (c.part_halt.ensures.cause, c.part_halt.ensures.number, old.identifier_is)
+    (identifier_stops (templates_in old.set.now) d old.walk.bits (drop c.args.at c.args.bytes.now) c.in-Err.fault
+    (rw (c.first_for-bit.ensures, c.part_needs_bit-needs.ensures, old.identifier_is) at stops))
+
+pub returns-in-None-clause-stops : goal.returns-in-None-clause-stops
+returns-in-None-clause-stops g c = λ other.
+    let old = c.args.self.now in
+    let d = g.E.Entries.contents c.args.entries.now in
+    let e = g.E.Entries.contents c.begin.new.entries in
+    let took = rw (c.first_for-bit.ensures, c.part_needs_bit-needs.ensures, old.identifier_is) at c.in-Ok.ensures.goes.0 in
+    let none = found_members old.set.now c.in-Ok.id ∙ ap members_found (sym (rw (c.in-None.is) at c.find.ensures.value)) in
+    unknown_stops (templates_in old.set.now) d e old.walk.bits (drop c.args.at c.args.bytes.now) (drop c.in-Ok.next c.args.bytes.now) c.in-Ok.id took none
+
+pub returns-in-Some-clause-goes : goal.returns-in-Some-clause-goes
+returns-in-Some-clause-goes g c = λ before stands.
+    let old = c.args.self.now in
+    let set = templates_in old.set.now in
+    let d = g.E.Entries.contents c.args.entries.now in
+    let e = g.E.Entries.contents c.begin.new.entries in
+    let id = c.in-Ok.id in
+    let members = list_of c.in-Some.template.now.members.items in
+    let took = rw (c.first_for-bit.ensures, c.part_needs_bit-needs.ensures, old.identifier_is) at c.in-Ok.ensures.goes.0 in
+    let named = found_members old.set.now id ∙ ap members_found (sym (rw (c.in-Some.is) at c.find.ensures.value)) in
+    let walk = c.open_message.new.self in
+    let end = c.open_message.ensures in
+    let o = opened set before id members d in (
+      λ bytes. message_of id (reads_on walk e o bytes),
+      record {
+        received = o;
+        at = record { next = ap next_of (sym end.next); rest = ap list_of (sym (end.rest ∙ c.deref.ensures.value)); around = ap (map frame_of) (sym end.around) };
+        has = c.in-Ok.ensures.goes.1 set before members stands;
+        keeps = c.begin.ensures.keeps set before d stands;
+        set_is = refl;
+        before_is = refl;
+        template_is = refl;
+        named = named;
+        reads = λ bytes. refl;
+      },
+      λ more. rw (end.bits, end.spare, c.requires.spare, c.part_needs_bit-needs.ensures, old.identifier_is)
+          (identifier_goes set d e old.walk.bits (drop c.args.at c.args.bytes.now) (drop c.in-Ok.next c.args.bytes.now) more id members took named),
+    )
+
+pub returns-in-Some-clause-ready : goal.returns-in-Some-clause-ready
+returns-in-Some-clause-ready g c =
+    let old = c.args.self.now in
+    let id = c.in-Ok.id in
+    let members = list_of c.in-Some.template.now.members.items in
+    let named = found_members old.set.now id ∙ ap members_found (sym (rw (c.in-Some.is) at c.find.ensures.value)) in
+    let end = c.open_message.ensures in
+    record {
+      next = rw (end.next) tt;
+      rest = rw (end.rest, c.deref.ensures.value) (members_served (g.E.Entries.serves c.args.entries.now) old.set.now id members c.requires.served named);
+      around = rw (end.around) tt;
+    }

@@ -1,0 +1,43 @@
+use Rattle.std.proofs.Common.{◌++◌, Some, drop, refl, ap, ◌∙◌}
+use Rattle.fast_value.specs.declared.scalar.Scalar.TheVariants.{I64, Decimal}
+use Rattle.fast_stream.specs.Nodes.{single}
+use Rattle.fast_stream.specs.Faults.{cause_of_field}
+use Rattle.fast_walk.specs.OpenSegments.{cursor}
+use Rattle.fast_walk.specs.Received.{passed}
+use Rattle.fast_walk.specs.Walks.{next_of}
+use Rattle.fast_walk.proofs.Steps.{part_goes, part_stops}
+use Rattle.fast_walk.proofs.Walking.{mantissa_on_goes, mantissa_on_stops, is_mantissa}
+use Rattle.fast_walk.proofs.walk.Walk.mantissa.Goals as goal
+
+pub returns-in-Err-clause-stops : goal.returns-in-Err-clause-stops
+returns-in-Err-clause-stops g c = λ other o at.
+    let old = c.args.self.now in
+    let d = g.E.Entries.contents c.args.entries.now in
+    let bytes = drop c.args.at c.args.bytes.now in
+    let next = is_mantissa o.next _ c.args.mantissa.now (at.next ∙ ap next_of c.requires.next) in
+    let stops = (c.in-Err.ensures.stops (λ e. other (c.part_halt.ensures.cause ∙ ap cause_of_field e))).0 in
+    let part = part_stops c.args.mantissa.now d old.bits old.spare bytes c.in-Err.fault (rw (c.first_for-bit.ensures, c.part_needs_bit-needs.ensures) at stops) in
+    rw (c.part_halt.ensures.cause, c.part_halt.ensures.number)
+    (mantissa_on_stops o.around o.next next.exponent c.args.mantissa.now o.body (cursor d old.bits old.spare bytes) _ next.is part)
+
+pub returns-in-Err-clause-waits : goal.returns-in-Err-clause-waits
+returns-in-Err-clause-waits g c = λ other.
+    let stops = c.in-Err.ensures.stops (λ e. other (c.part_halt.ensures.cause ∙ ap cause_of_field e)) in
+    (refl, stops.1, stops.2)
+
+pub returns-in-Ok-clause-goes : goal.returns-in-Ok-clause-goes
+returns-in-Ok-clause-goes g c = λ o at.
+    let old = c.args.self.now in
+    let d = g.E.Entries.contents c.args.entries.now in
+    let took = c.in-Ok.ensures.goes in
+    let next = is_mantissa o.next _ c.args.mantissa.now (at.0.next ∙ ap next_of c.requires.next) in (
+      passed o o.body.rest (single (Some (Decimal next.exponent took.0))),
+      (record { next = refl; rest = at.0.rest; around = at.0.around }, took.2 next.exponent o next.is at.1),
+      record { set = refl; before = refl; template = refl; members = refl; start = refl },
+      λ more.
+          let bytes = drop c.args.at c.args.bytes.now ++ more in
+          rw (c.take_for.ensures, c.part_needs_bit-needs.ensures, took.1.entry)
+          (mantissa_on_goes o.around o.next next.exponent took.0 c.args.mantissa.now o.body (cursor d old.bits old.spare bytes) _ next.is
+          (part_goes c.args.mantissa.now d old.bits old.spare bytes (drop c.in-Ok.next c.args.bytes.now ++ more) (Some (I64 took.0))
+          (rw (c.first_for-bit.ensures, c.part_needs_bit-needs.ensures) at took.1.value more))),
+    )

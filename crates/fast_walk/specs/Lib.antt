@@ -1,0 +1,4 @@
+pub mod OpenSegments
+pub mod Received
+pub mod Walks
+pub mod Traversals

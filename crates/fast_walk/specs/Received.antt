@@ -1,0 +1,115 @@
+-- What a receiver has been handed of a message that has begun.
+use Rattle.std.specs.Prelude.{◌≡◌, ℕ, ℤ, Bool, true, false, List, [], ◌∷◌, ◌++◌, Option, Some, None, Ok}
+use Rattle.fast_value.specs.declared.scalar.Scalar.{Scalar}
+use Rattle.fast_value.specs.declared.scalar.Scalar.TheVariants.{U32, I32}
+use Rattle.fast_template.specs.declared.resolved.FieldPart.{FieldPart}
+use Rattle.fast_template.specs.Resolved.{Instructions, has_map, Resolved}
+use Rattle.fast_dictionary.specs.declared.entry.Entry.{Entry}
+use Rattle.fast_dictionary.specs.Dictionary.{Dictionary, entry_at}
+use Rattle.fast_field.specs.Bases.{next}
+use Rattle.fast_field.specs.FieldReading.{field_at}
+use Rattle.fast_stream.specs.Nodes.{Item, single, group_items, sequence_elements, items_of, elements_of, Content}
+use Rattle.fast_stream.specs.Bodies.{written}
+use Rattle.fast_stream.specs.Reading.{Reads}
+use Rattle.fast_stream.specs.Nodes.{Items}
+use Rattle.fast_walk.specs.OpenSegments.{Body, Sequel, Inside, in_group, in_sequence, Waiting, Next, at_instruction, at_mantissa, at_element, with_item, with_element, fewer}
+
+-- The template set; the messages before; the template and its instructions; the dictionary before the message; the
+-- piece that is next, the innermost open body, and those around it, the message's own first.
+pub record Received : Type 0 where
+  pub set : List Resolved
+  pub before : List Content
+  pub template : ℕ
+  pub members : Instructions
+  pub start : Dictionary
+  pub next : Next
+  pub body : Body
+  pub around : List Waiting
+
+-- at the beginning of a message, behind its identifier
+abbrev pub opened : List Resolved → List Content → ℕ → Instructions → Dictionary → Received
+opened set ms id members d = record { set = set; before = ms; template = id; members = members; start = d; next = at_instruction; body = record { rest = members; done = [] }; around = [] }
+
+-- behind other messages
+abbrev pub behind : Received → List Content → Received
+behind o ms = record { set = o.set; before = ms; template = o.template; members = o.members; start = o.start; next = o.next; body = o.body; around = o.around }
+
+-- elsewhere in the same message
+abbrev pub moved : Received → Next → Body → List Waiting → Received
+moved o next body around = record { set = o.set; before = o.before; template = o.template; members = o.members; start = o.start; next = next; body = body; around = around }
+
+-- behind an instruction, with its item
+abbrev pub passed : Received → Instructions → Item → Received
+passed o is n = moved o at_instruction (record { rest = is; done = o.body.done ++ n ∷ [] }) o.around
+
+-- in a group
+abbrev pub entered : Received → List Bool → Instructions → Instructions → Received
+entered o bits members is = moved o at_instruction (record { rest = members; done = [] })
+    (o.around ++ record { bits = bits; body = record { rest = is; done = o.body.done }; inside = in_group } ∷ [])
+
+-- behind an exponent: at the mantissa, or behind a decimal that is absent
+abbrev pub after_exponent : Received → Instructions → FieldPart → Option Scalar → Received
+after_exponent o is mantissa (Some (I32 e)) = moved o (at_mantissa e mantissa) (record { rest = is; done = o.body.done }) o.around
+after_exponent o is mantissa v = passed o is (single None)
+
+-- behind a length: at the first element, or behind a sequence that is absent
+abbrev pub after_length : Received → ℕ → Instructions → Instructions → Option ℕ → Received
+after_length o number members is (Some n) =
+    moved o (at_element (record { number = number; own_map = has_map members; members = members; left = n; done = [] })) (record { rest = is; done = o.body.done }) o.around
+after_length o number members is None = passed o is (single None)
+
+-- in the next element of a sequence
+abbrev pub in_element : Received → List Bool → Sequel → Received
+in_element o bits s = moved o at_instruction (record { rest = s.members; done = [] }) (o.around ++ record { bits = bits; body = o.body; inside = in_sequence (fewer s) } ∷ [])
+
+-- behind the last element
+abbrev pub after_sequence : Received → Sequel → Received
+after_sequence o s = moved o at_instruction (with_item o.body (sequence_elements (elements_of s.done))) o.around
+
+-- behind a group or an element that has ended, in the body that waited for it
+abbrev pub ended_in : Received → List Waiting → Body → Inside → Received
+ended_in o ws b in_group = moved o at_instruction (with_item b (group_items (items_of o.body.done))) ws
+ended_in o ws b (in_sequence s) = moved o (at_element (with_element s (items_of o.body.done))) b ws
+
+-- the message that has been received, once its own body has ended
+abbrev pub content_received : Received → Content
+content_received o = record { template = o.template; items = items_of o.body.done }
+
+-- ---- values
+
+-- a value taken from the bytes, and its entry the one afterwards
+pub record TookFrom (p : FieldPart) (bit : Bool) (old new : Entry) (v : Option Scalar) (bytes rest : List ℕ) : Type 0 where
+  pub value : (more : List ℕ) → field_at p old bit (bytes ++ more) ≡ Ok (v, rest ++ more)
+  pub entry : new ≡ next p old v
+
+-- a value taken from the bytes, and its entry put
+pub record Took (p : FieldPart) (bit : Bool) (d e : Dictionary) (v : Option Scalar) (bytes rest : List ℕ) : Type 0 where
+  pub value : (more : List ℕ) → field_at p (entry_at d p.key) bit (bytes ++ more) ≡ Ok (v, rest ++ more)
+  pub entry : e ≡ written p d v
+
+-- whether an exponent is there
+abbrev pub IsExponent : Bool → Option Scalar → Type 0
+IsExponent true v = (e : ℤ) × (v ≡ Some (I32 e))
+IsExponent false v = v ≡ None
+
+abbrev pub exponent_of : Option ℤ → Option Scalar
+exponent_of None = None
+exponent_of (Some e) = Some (I32 e)
+
+abbrev pub length_of : Option ℕ → Option Scalar
+length_of None = None
+length_of (Some n) = Some (U32 n)
+
+-- ---- from one place of a message to another
+
+-- of the same message, behind the same ones
+pub record Same (o p : Received) : Type 0 where
+  pub set : p.set ≡ o.set
+  pub before : p.before ≡ o.before
+  pub template : p.template ≡ o.template
+  pub members : p.members ≡ o.members
+  pub start : p.start ≡ o.start
+
+-- Whatever has been received, something is received now from which reading goes on.
+abbrev pub Goes : (Received → Type 0) → (Received → List ℕ → Reads Items) → (Received → Type 0) → (Received → List ℕ → Reads Items) → List ℕ → List ℕ → Type 0
+Goes Has read Had later bytes rest = (o : Received) → Has o → (p : Received) × Had p × Same o p × ((more : List ℕ) → read o (bytes ++ more) ≡ later p (rest ++ more))

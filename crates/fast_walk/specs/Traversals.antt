@@ -1,0 +1,80 @@
+-- How a traversal of a stream goes on from where it is.
+use Rattle.std.specs.Prelude.{◌≡◌, ℕ, Bool, List, length, Some, IsTrue, Contains}
+use Rattle.fast_value.specs.declared.key.Key.{Key}
+use Rattle.fast_template.specs.Resolved.{Resolved}
+use Rattle.fast_template.specs.TemplateSets.{TemplateList, keys_in}
+use Rattle.fast_dictionary.specs.Dictionary.{Dictionary}
+use Rattle.fast_wire.specs.Reading.{◌>>=◌}
+use Rattle.fast_stream.specs.Nodes.{Content, node_limit}
+use Rattle.fast_stream.specs.Streams.{members_of, identifier}
+use Rattle.fast_stream.specs.Faults.{MessageStop}
+use Rattle.fast_stream.specs.Reading.{field_part_at, named_at, in_template, message_at}
+use Rattle.fast_walk.specs.OpenSegments.{Reading, cursor, message_of, named_on}
+use Rattle.fast_walk.specs.Received.{Received}
+use Rattle.fast_walk.specs.Walks.{IsAt, IsReady, reads_on}
+use Rattle.fast_walk.specs.declared.halt.Halt.{Halt}
+use Rattle.fast_walk.specs.declared.traversal.Stage.{Stage as StageNow}
+use Rattle.fast_walk.specs.declared.traversal.Stage.TheVariants as stage
+use Rattle.fast_walk.specs.declared.traversal.Traversal.{Traversal as TraversalNow}
+
+-- what is left of a message behind its map
+abbrev pub identifier_on : List Resolved → Dictionary → List Bool → List ℕ → Reading
+identifier_on set d bits bytes = named_on (in_template 0 (field_part_at identifier (cursor d bits node_limit bytes) >>= named_at set bytes))
+
+-- the fault of the piece that is first of these bytes
+abbrev pub stop_of : ℕ → Halt → List ℕ → MessageStop
+stop_of template h bytes = record { template = template; stop = record { cause = h.cause; instruction = h.number; left = length bytes } }
+
+-- The body of a message is open: of these messages before, from the dictionary behind them; and this is still read.
+pub record IsOpen {R : Type 0} (Has : R → Received → Dictionary → Type 0) (Keeps : R → List Resolved → List Content → Dictionary → Type 0)
+    (t : TraversalNow) (r : R) (set : List Resolved) (d : Dictionary) (before : List Content) (start : Dictionary) (read : List ℕ → Reading) : Type 0 where
+  pub received : Received
+  pub at : IsAt t.walk received
+  pub has : Has r received d
+  pub keeps : Keeps r set before start
+  pub set_is : received.set ≡ set
+  pub before_is : received.before ≡ before
+  pub template_is : received.template ≡ t.template
+  pub named : members_of received.set received.template ≡ Some received.members
+  pub reads : (bytes : List ℕ) → read bytes ≡ message_of t.template (reads_on t.walk d received bytes)
+
+-- No message is open, or only its map is read.
+pub record IsBetween (Stands : Type 0) (d start : Dictionary) (read now : List ℕ → Reading) : Type 0 where
+  pub stands : Stands
+  pub start_is : start ≡ d
+  pub reads : (bytes : List ℕ) → read bytes ≡ now bytes
+
+-- What a traversal, its receiver and its dictionary still read: behind these messages, from the dictionary there.
+abbrev pub ContinuesAt : {R : Type 0} → (R → Received → Dictionary → Type 0) → (R → List Resolved → List Content → Dictionary → Type 0) → (R → List Resolved → List Content → Dictionary → Type 0)
+    → StageNow → TraversalNow → R → List Resolved → Dictionary → List Content → Dictionary → (List ℕ → Reading) → Type 0
+ContinuesAt has stands keeps stage.Map t r set d before start read = IsBetween (stands r set before d) d start read (message_at set d)
+ContinuesAt has stands keeps stage.Identifier t r set d before start read = IsBetween (stands r set before d) d start read (identifier_on set d t.walk.bits)
+ContinuesAt has stands keeps stage.Body t r set d before start read = IsOpen has keeps t r set d before start read
+
+abbrev pub Continues : {R : Type 0} → (R → Received → Dictionary → Type 0) → (R → List Resolved → List Content → Dictionary → Type 0) → (R → List Resolved → List Content → Dictionary → Type 0)
+    → TraversalNow → R → List Resolved → Dictionary → List Content → Dictionary → (List ℕ → Reading) → Type 0
+Continues has stands keeps t r set d before start read = ContinuesAt has stands keeps t.stage t r set d before start read
+
+-- ---- keys
+
+-- each key of a set is served
+abbrev pub ServesAll : (Key → Bool) → TemplateList → Type 0
+ServesAll serves set = (k : Key) → Contains (keys_in set) k → IsTrue (serves k)
+
+-- Each key that an open body may ask for is served; before it no template is known, and no node counted.
+abbrev pub IsReadyAt : StageNow → (Key → Bool) → TraversalNow → Type 0
+IsReadyAt stage.Map serves t = Unit {0}
+IsReadyAt stage.Identifier serves t = (t.template ≡ 0) × (t.walk.spare ≡ node_limit)
+IsReadyAt stage.Body serves t = IsReady serves t.walk
+
+-- The traversal is as it leaves itself.
+abbrev pub CanGoOn : (Key → Bool) → TraversalNow → Type 0
+CanGoOn serves t = IsReadyAt t.stage serves t
+
+abbrev pub begun_at : StageNow → ℕ
+begun_at stage.Map = 0
+begun_at n = 1
+
+-- whether a message has begun
+abbrev pub begun_of : TraversalNow → ℕ
+begun_of t = begun_at t.stage

@@ -1,0 +1,126 @@
+-- How a walk through a message's open segments stands to what was received.
+use Rattle.std.specs.Prelude.{◌≡◌, ℕ, ◌+◌, ◌*◌, pos, Bool, List, [], ◌∷◌, map, length, IsTrue}
+use Rattle.fast_value.specs.declared.key.Key.{Key}
+use Rattle.fast_template.specs.Resolved.{Instruction, Instructions, whole_field, field_in_parts, group_of, sequence_of, no_instructions, then_instruction, list_of}
+use Rattle.fast_dictionary.specs.Dictionary.{Dictionary}
+use Rattle.fast_stream.specs.Nodes.{Items}
+use Rattle.fast_stream.specs.Reading.{Reads, stopped}
+use Rattle.fast_walk.specs.OpenSegments.{Sequel, Inside, in_group, in_sequence, Waiting, Next, at_instruction, at_mantissa, at_element, all_around, top_on, cursor}
+use Rattle.fast_walk.specs.Received.{Received, Goes}
+use Rattle.fast_walk.specs.declared.halt.Halt.{Halt}
+use Rattle.fast_walk.specs.declared.walk.Sequel.{Sequel as SequelNow}
+use Rattle.fast_walk.specs.declared.walk.Inside.{Inside as InsideNow}
+use Rattle.fast_walk.specs.declared.walk.Inside.TheVariants as inside
+use Rattle.fast_walk.specs.declared.walk.Next.{Next as NextNow}
+use Rattle.fast_walk.specs.declared.walk.Next.TheVariants as next
+use Rattle.fast_walk.specs.declared.walk.Frame.{Frame as FrameNow}
+use Rattle.fast_walk.specs.declared.walk.Walk.{Walk as WalkNow}
+
+-- ---- without the items, and without a mantissa's exponent
+
+abbrev pub bare_sequel : Sequel → Sequel
+bare_sequel s = record { number = s.number; own_map = s.own_map; members = s.members; left = s.left; done = [] }
+
+abbrev pub bare_inside : Inside → Inside
+bare_inside in_group = in_group
+bare_inside (in_sequence s) = in_sequence (bare_sequel s)
+
+abbrev pub bare : Waiting → Waiting
+bare w = record { bits = w.bits; body = record { rest = w.body.rest; done = [] }; inside = bare_inside w.inside }
+
+abbrev pub bare_next : Next → Next
+bare_next at_instruction = at_instruction
+bare_next (at_mantissa e mantissa) = at_mantissa (pos 0) mantissa
+bare_next (at_element s) = at_element (bare_sequel s)
+
+-- ---- what the types of the program are to contracts
+
+abbrev pub sequel_of : SequelNow → Sequel
+sequel_of s = record { number = s.number; own_map = s.own_map; members = list_of s.members.now; left = s.left; done = [] }
+
+abbrev pub inside_of : InsideNow → Inside
+inside_of inside.Group = in_group
+inside_of (inside.Element s) = in_sequence (sequel_of s)
+
+abbrev pub frame_of : FrameNow → Waiting
+frame_of f = record { bits = f.bits; body = record { rest = list_of f.rest.now; done = [] }; inside = inside_of f.inside }
+
+abbrev pub next_of : NextNow → Next
+next_of next.Instruction = at_instruction
+next_of (next.Mantissa mantissa) = at_mantissa (pos 0) mantissa.now
+next_of (next.Element s) = at_element (sequel_of s)
+
+-- the walk is where this has been received
+pub record IsAt (w : WalkNow) (o : Received) : Type 0 where
+  pub next : bare_next o.next ≡ next_of w.next
+  pub rest : o.body.rest ≡ list_of w.rest.now
+  pub around : map bare o.around ≡ map frame_of w.around.items
+
+-- what is left to be read
+abbrev pub reads_on : WalkNow → Dictionary → Received → List ℕ → Reads Items
+reads_on w d o bytes = all_around o.around (top_on o.next o.body (cursor d w.bits w.spare bytes))
+
+-- where a walk is and what its receiver has
+abbrev pub At : {R : Type 0} → (R → Received → Dictionary → Type 0) → WalkNow → R → Dictionary → Received → Type 0
+At has w r d o = IsAt w o × has r o d
+
+-- From one walk, receiver and dictionary to others: reading goes on, from these bytes to the rest.
+abbrev pub Moves : {R : Type 0} → (R → Received → Dictionary → Type 0) → WalkNow → R → Dictionary → WalkNow → R → Dictionary → List ℕ → List ℕ → Type 0
+Moves has w r d v s e bytes rest = Goes (At has w r d) (reads_on w d) (At has v s e) (reads_on v e) bytes rest
+
+-- Reading stops at the first of these bytes.
+abbrev pub HaltsAs : WalkNow → Dictionary → List ℕ → Halt → Type 0
+HaltsAs w d bytes h = (o : Received) → IsAt w o → reads_on w d o bytes ≡ stopped h.number bytes h.cause
+
+-- ---- keys
+
+-- Each key that these instructions may ask for is served.
+abbrev mutual
+  pub IsServed : (Key → Bool) → Instruction → Type 0
+  IsServed serves (whole_field name number presence whole) = IsTrue (serves whole.key)
+  IsServed serves (field_in_parts name number presence exponent mantissa) = IsTrue (serves exponent.key) × IsTrue (serves mantissa.key)
+  IsServed serves (group_of name number presence members) = AreServed serves members
+  IsServed serves (sequence_of name number presence length members) = IsTrue (serves length.key) × AreServed serves members
+
+  pub AreServed : (Key → Bool) → Instructions → Type 0
+  AreServed serves no_instructions = Unit {0}
+  AreServed serves (then_instruction i is) = IsServed serves i × AreServed serves is
+
+abbrev pub IsNextServed : (Key → Bool) → Next → Type 0
+IsNextServed serves at_instruction = Unit {0}
+IsNextServed serves (at_mantissa e mantissa) = IsTrue (serves mantissa.key)
+IsNextServed serves (at_element s) = AreServed serves s.members
+
+abbrev pub IsInsideServed : (Key → Bool) → Inside → Type 0
+IsInsideServed serves in_group = Unit {0}
+IsInsideServed serves (in_sequence s) = AreServed serves s.members
+
+abbrev pub IsWaitingServed : (Key → Bool) → Waiting → Type 0
+IsWaitingServed serves w = AreServed serves w.body.rest × IsInsideServed serves w.inside
+
+abbrev pub AreAllServed : (Key → Bool) → List Waiting → Type 0
+AreAllServed serves [] = Unit {0}
+AreAllServed serves (w ∷ ws) = IsWaitingServed serves w × AreAllServed serves ws
+
+-- Each key that the walk may ask for is served.
+pub record IsReady (serves : Key → Bool) (w : WalkNow) : Type 0 where
+  pub next : IsNextServed serves (next_of w.next)
+  pub rest : AreServed serves (list_of w.rest.now)
+  pub around : AreAllServed serves (map frame_of w.around.items)
+
+-- ---- the end
+
+-- Each piece makes this less.
+abbrev pub weight_of : NextNow → ℕ
+weight_of next.Instruction = 1
+weight_of n = 2
+
+abbrev pub rank_of : WalkNow → ℕ
+rank_of w = 4 * w.spare + 2 * length w.around.items + weight_of w.next
+
+-- The message's own body has not ended.
+abbrev pub IsInside : WalkNow → Type 0
+IsInside w = w.next ≡ next.Instruction → w.around.items ≡ [] → w.rest.now ≡ [] → ⊥
+
+abbrev pub IsElement : NextNow → SequelNow → Type 0
+IsElement n s = n ≡ next.Element s

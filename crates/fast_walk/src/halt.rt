@@ -1,0 +1,58 @@
+//! Why a piece was not read.
+
+ghost use Rattle.std.specs.Prelude.{◌≡◌};
+ghost use Rattle.fast_stream.specs.Faults.{cause_of_field, cause_of_wire};
+
+use fast_field::FieldFault;
+use fast_stream::Cause;
+use fast_wire::WireFault;
+use std::alloc::AllocError;
+
+/// Why a piece was not read, with the number of its instruction.
+#[derive(Clone, Copy, Debug, PartialEq, Eq, Drop)]
+pub struct Halt {
+    pub cause: Cause,
+    pub number: u32,
+}
+
+impl From<AllocError> for Halt {
+    ghost use Rattle.fast_stream.specs.declared.fault.Cause.TheVariants.{Memory};
+
+    ghost from_gives = { λ _ e. e.cause ≡ Memory };
+
+    fn from(_: AllocError) -> Self {
+        Halt {
+            cause: Cause::Memory,
+            number: 0,
+        }
+    }
+}
+
+/// The cause that a fault of a field is in a stream.
+pub(crate) fn field_cause(fault: FieldFault) -> Cause
+    ensures { result ≡ cause_of_field fault }
+{
+    match fault {
+        FieldFault::D2 => Cause::D2,
+        FieldFault::D4 => Cause::D4,
+        FieldFault::D5 => Cause::D5,
+        FieldFault::D6 => Cause::D6,
+        FieldFault::D7 => Cause::D7,
+        FieldFault::R1 => Cause::R1,
+        FieldFault::R2 => Cause::R2,
+        FieldFault::Limit => Cause::Limit,
+        FieldFault::NeedMore => Cause::Truncated,
+        FieldFault::Memory => Cause::Memory,
+    }
+}
+
+/// The cause that a fault of a presence map is in a stream.
+pub(crate) fn map_cause(fault: WireFault) -> Cause
+    ensures { result ≡ cause_of_wire fault }
+{
+    match fault {
+        WireFault::NeedMore => Cause::Truncated,
+        WireFault::TooLong => Cause::Limit,
+        WireFault::Range | WireFault::NotUtf8 | WireFault::Memory => Cause::Memory,
+    }
+}

@@ -1,0 +1,21 @@
+//! The walk over the pieces of one message, whatever is done with what is read.
+//!
+//! A [`Receiver`] is handed each piece. A [`Walk`] goes through the open segments of a message, and a [`Traversal`]
+//! reads the map and the identifier in front of them; both stop anywhere and go on where they stopped.
+//! The definitions stand in `specs/`: what is still to be done with a message that has begun (`OpenSegments`), what a
+//! receiver has (`Received`), and what a walk and a traversal answer (`Walks`, `Traversals`).
+//! The calls of a traversal are for `fast_machine`, which runs one over a stream that comes in chunks.
+#![tactic(auto)]
+
+mod bits;
+mod halt;
+mod part;
+mod receiver;
+mod traversal;
+mod walk;
+
+pub use halt::Halt;
+pub use part::{exponent_in, mantissa_in, take_part, unsigned_in};
+pub use receiver::Receiver;
+pub use traversal::{Stage, Traversal};
+pub use walk::{Frame, Inside, Next, Sequel, Walk};

@@ -1,0 +1,272 @@
+//! What receives the fields of a message.
+
+ghost use Rattle.std.specs.Prelude.{◌≡◌, ◌≢◌, ◌≤◌, ◌<◌, ◌++◌, ◌∷◌, [], ℕ, ℤ, Bool, true, false, List, Option, Some, None, IfOk, IfErr, OnOk, OnErr, IsTrue, Err, length, drop};
+ghost use Rattle.fast_value.specs.declared.scalar.Scalar.{Scalar as ScalarOf};
+ghost use Rattle.fast_value.specs.declared.scalar.Scalar.TheVariants.{U32, I64, Decimal};
+ghost use Rattle.fast_template.specs.declared.resolved.FieldPart.{FieldPart as PartOf};
+ghost use Rattle.fast_value.specs.declared.kind.Presence.{Presence as PresenceOf};
+ghost use Rattle.fast_template.specs.Resolved.{Instructions, Resolved, whole_field, field_in_parts, group_of, sequence_of, no_instructions, then_instruction, has_map, is_optional, part_needs_bit};
+ghost use Rattle.fast_dictionary.specs.Dictionary.{Dictionary, entry_at};
+ghost use Rattle.fast_field.specs.FieldReading.{field_at};
+ghost use Rattle.fast_stream.specs.Nodes.{single, items_of, nodes_in, node_limit, Content};
+ghost use Rattle.fast_stream.specs.Streams.{members_of};
+ghost use Rattle.fast_walk.specs.OpenSegments.{Sequel, Waiting, at_instruction, at_mantissa, at_element, in_group, in_sequence};
+ghost use Rattle.fast_walk.specs.Received.{Received, Took, IsExponent, after_exponent, after_length, after_sequence, content_received, ended_in, entered, in_element, length_of, opened, passed};
+
+use fast_dictionary::Entries;
+use fast_field::FieldFault;
+use fast_template::FieldPart;
+use std::alloc::{AllocError, Global};
+
+/// Receives the fields of messages, and takes each from the bytes itself.
+///
+/// A call that fails for want of memory leaves no message that is open; `back` then forgets it.
+pub trait Receiver: Drop {
+    // Of the message that is open this has been received, and this is the dictionary behind it.
+    ghost has: { Self → Received → Dictionary → Type 0 };
+
+    // Between messages of this set: these have been received, and this is the dictionary behind them.
+    ghost stands: { Self → List Resolved → List Content → Dictionary → Type 0 };
+
+    // Whatever is open: these have been received before it, and this is the dictionary behind them.
+    ghost keeps: { Self → List Resolved → List Content → Dictionary → Type 0 };
+
+    /// Takes a message's identifier from the bytes, and puts its entry; answers it and the place behind it.
+    fn begin<E: Entries>(
+        &mut self,
+        alloc: Global,
+        entries: &mut E,
+        identifier: &FieldPart,
+        bit: bool,
+        bytes: &[u8],
+        at: usize,
+    ) -> Result<(u32, usize), FieldFault>
+        requires place { at ≤ length bytes.now }
+        requires bit { part_needs_bit identifier.now ≡ false → bit ≡ true }
+        requires served { IsTrue (E.serves entries.now identifier.now.key) }
+        ensures place { IfOk result (λ x. (at ≤ x.1) × (x.1 ≤ length bytes.now)) }
+        ensures goes { IfOk result (λ x. Took identifier.now bit (E.contents entries.old)
+            (E.contents entries.new)
+            (Some (U32 x.0)) (drop at bytes.now) (drop x.1 bytes.now)
+            × ((set : List Resolved) (ms : List Content) (members : Instructions)
+            → stands self.old set ms (E.contents entries.old)
+            → has self.new (opened set ms x.0 members (E.contents entries.old)) (E.contents
+            entries.new))) }
+        ensures stops { IfErr result (λ f. f ≢ FieldFault.Memory
+            → (field_at identifier.now (entry_at (E.contents entries.old) identifier.now.key) bit
+            (drop at bytes.now)
+            ≡ Err f) × (E.contents entries.new ≡ E.contents entries.old)
+            × ((set : List Resolved) (ms : List Content) (d : Dictionary)
+            → stands self.old set ms d → stands self.new set ms d)) }
+        ensures keeps { (set : List Resolved) (ms : List Content) (d : Dictionary)
+            → stands self.old set ms d → keeps self.new set ms d }
+        ensures same_keys { E.serves entries.new ≡ E.serves entries.old };
+
+    /// The end of a message.
+    fn finish(&mut self, alloc: Global) -> Result<(), AllocError>
+        ensures stands { OnOk result ((o : Received) (d : Dictionary) → o.next ≡ at_instruction
+            → o.body.rest ≡ no_instructions → o.around ≡ [] → members_of o.set o.template
+            ≡ Some o.members
+            → nodes_in (items_of o.body.done) ≤ node_limit → has self.old o d
+            → stands self.new o.set (o.before ++ content_received o ∷ []) d) }
+        ensures keeps { OnErr result ((set : List Resolved) (ms : List Content) (d : Dictionary)
+            → keeps self.old set ms d → keeps self.new set ms d) };
+
+    /// Forgets what was received of the message that is open.
+    fn back(&mut self, alloc: Global)
+        ensures open { (set : List Resolved) (ms : List Content) (d : Dictionary)
+            → keeps self.old set ms d → stands self.new set ms d }
+        ensures between { (set : List Resolved) (ms : List Content) (d : Dictionary)
+            → stands self.old set ms d → stands self.new set ms d };
+
+    /// Takes a field from the bytes, and puts its entry; answers the place behind it.
+    fn field<E: Entries>(
+        &mut self,
+        alloc: Global,
+        entries: &mut E,
+        part: &FieldPart,
+        bit: bool,
+        bytes: &[u8],
+        at: usize,
+    ) -> Result<usize, FieldFault>
+        requires place { at ≤ length bytes.now }
+        requires bit { part_needs_bit part.now ≡ false → bit ≡ true }
+        requires served { IsTrue (E.serves entries.now part.now.key) }
+        ensures place { IfOk result (λ n. (at ≤ n) × (n ≤ length bytes.now)) }
+        ensures goes { IfOk result (λ n. (v : Option ScalarOf)
+            × Took part.now bit (E.contents entries.old) (E.contents entries.new) v
+            (drop at bytes.now) (drop n bytes.now)
+            × ((name : List ℕ) (number : ℕ) (presence : PresenceOf) (is : Instructions) (o :
+            Received)
+            → o.next ≡ at_instruction
+            → o.body.rest ≡ then_instruction (whole_field name number presence part.now) is
+            → has self.old o (E.contents entries.old)
+            → has self.new (passed o is (single v)) (E.contents entries.new))) }
+        ensures stops { IfErr result (λ f. f ≢ FieldFault.Memory
+            → (field_at part.now (entry_at (E.contents entries.old) part.now.key) bit (drop at
+            bytes.now) ≡ Err f)
+            × (E.contents entries.new ≡ E.contents entries.old)
+            × ((o : Received) (d : Dictionary) → has self.old o d → has self.new o d)) }
+        ensures keeps { (set : List Resolved) (ms : List Content) (d : Dictionary)
+            → keeps self.old set ms d → keeps self.new set ms d }
+        ensures same_keys { E.serves entries.new ≡ E.serves entries.old };
+
+    /// Takes the exponent of a decimal in parts; answers whether it is there, and the place behind it.
+    fn exponent<E: Entries>(
+        &mut self,
+        alloc: Global,
+        entries: &mut E,
+        part: &FieldPart,
+        bit: bool,
+        bytes: &[u8],
+        at: usize,
+    ) -> Result<(bool, usize), FieldFault>
+        requires place { at ≤ length bytes.now }
+        requires bit { part_needs_bit part.now ≡ false → bit ≡ true }
+        requires served { IsTrue (E.serves entries.now part.now.key) }
+        ensures place { IfOk result (λ x. (at ≤ x.1) × (x.1 ≤ length bytes.now)) }
+        ensures goes { IfOk result (λ x. (v : Option ScalarOf)
+            × Took part.now bit (E.contents entries.old) (E.contents entries.new) v
+            (drop at bytes.now) (drop x.1 bytes.now)
+            × IsExponent x.0 v
+            × ((name : List ℕ) (number : ℕ) (presence : PresenceOf) (mantissa : PartOf) (is :
+            Instructions)
+            (o : Received) → o.next ≡ at_instruction
+            → o.body.rest ≡ then_instruction (field_in_parts name number presence part.now
+            mantissa) is
+            → has self.old o (E.contents entries.old)
+            → has self.new (after_exponent o is mantissa v) (E.contents entries.new))) }
+        ensures stops { IfErr result (λ f. f ≢ FieldFault.Memory
+            → (field_at part.now (entry_at (E.contents entries.old) part.now.key) bit (drop at
+            bytes.now) ≡ Err f)
+            × (E.contents entries.new ≡ E.contents entries.old)
+            × ((o : Received) (d : Dictionary) → has self.old o d → has self.new o d)) }
+        ensures keeps { (set : List Resolved) (ms : List Content) (d : Dictionary)
+            → keeps self.old set ms d → keeps self.new set ms d }
+        ensures same_keys { E.serves entries.new ≡ E.serves entries.old };
+
+    /// Takes the mantissa of a decimal whose exponent is there; answers the place behind it.
+    fn mantissa<E: Entries>(
+        &mut self,
+        alloc: Global,
+        entries: &mut E,
+        part: &FieldPart,
+        bit: bool,
+        bytes: &[u8],
+        at: usize,
+    ) -> Result<usize, FieldFault>
+        requires place { at ≤ length bytes.now }
+        requires bit { part_needs_bit part.now ≡ false → bit ≡ true }
+        requires served { IsTrue (E.serves entries.now part.now.key) }
+        ensures place { IfOk result (λ n. (at ≤ n) × (n ≤ length bytes.now)) }
+        ensures goes { IfOk result (λ n. (m : ℤ)
+            × Took part.now bit (E.contents entries.old) (E.contents entries.new) (Some (I64 m))
+            (drop at bytes.now) (drop n bytes.now)
+            × ((e : ℤ) (o : Received) → o.next ≡ at_mantissa e part.now
+            → has self.old o (E.contents entries.old)
+            → has self.new (passed o o.body.rest (single (Some (Decimal e m)))) (E.contents
+            entries.new))) }
+        ensures stops { IfErr result (λ f. f ≢ FieldFault.Memory
+            → (field_at part.now (entry_at (E.contents entries.old) part.now.key) bit (drop at
+            bytes.now) ≡ Err f)
+            × (E.contents entries.new ≡ E.contents entries.old)
+            × ((o : Received) (d : Dictionary) → has self.old o d → has self.new o d)) }
+        ensures keeps { (set : List Resolved) (ms : List Content) (d : Dictionary)
+            → keeps self.old set ms d → keeps self.new set ms d }
+        ensures same_keys { E.serves entries.new ≡ E.serves entries.old };
+
+    /// Takes the length of a sequence; answers it, none where the sequence is absent, and the place behind it.
+    fn begin_sequence<E: Entries>(
+        &mut self,
+        alloc: Global,
+        entries: &mut E,
+        part: &FieldPart,
+        bit: bool,
+        bytes: &[u8],
+        at: usize,
+    ) -> Result<(Option<u32>, usize), FieldFault>
+        requires place { at ≤ length bytes.now }
+        requires bit { part_needs_bit part.now ≡ false → bit ≡ true }
+        requires served { IsTrue (E.serves entries.now part.now.key) }
+        ensures place { IfOk result (λ x. (at ≤ x.1) × (x.1 ≤ length bytes.now)) }
+        ensures goes { IfOk result (λ x.
+            Took part.now bit (E.contents entries.old) (E.contents entries.new) (length_of x.0)
+            (drop at bytes.now) (drop x.1 bytes.now)
+            × ((name : List ℕ) (number : ℕ) (presence : PresenceOf) (members is : Instructions) (o
+            : Received)
+            → o.next ≡ at_instruction
+            → o.body.rest ≡ then_instruction (sequence_of name number presence part.now members) is
+            → has self.old o (E.contents entries.old)
+            → has self.new (after_length o number members is x.0) (E.contents entries.new))) }
+        ensures stops { IfErr result (λ f. f ≢ FieldFault.Memory
+            → (field_at part.now (entry_at (E.contents entries.old) part.now.key) bit (drop at
+            bytes.now) ≡ Err f)
+            × (E.contents entries.new ≡ E.contents entries.old)
+            × ((o : Received) (d : Dictionary) → has self.old o d → has self.new o d)) }
+        ensures keeps { (set : List Resolved) (ms : List Content) (d : Dictionary)
+            → keeps self.old set ms d → keeps self.new set ms d }
+        ensures same_keys { E.serves entries.new ≡ E.serves entries.old };
+
+    /// A group that is left out.
+    fn left_out(&mut self) -> Result<(), AllocError>
+        ensures has { OnOk result ((name : List ℕ) (number : ℕ) (presence : PresenceOf) (members is
+            : Instructions)
+            (o : Received) (d : Dictionary) → o.next ≡ at_instruction
+            → o.body.rest ≡ then_instruction (group_of name number presence members) is
+            → is_optional presence ≡ true → has self.old o d
+            → has self.new (passed o is (single None)) d) }
+        ensures keeps { (set : List Resolved) (ms : List Content) (d : Dictionary)
+            → keeps self.old set ms d → keeps self.new set ms d };
+
+    /// The beginning of a group, whether it is optional and has a map of its own, and how many instructions it has.
+    fn enter(
+        &mut self,
+        alloc: Global,
+        optional: bool,
+        own_map: bool,
+        size: usize,
+    ) -> Result<(), AllocError>
+        ensures has { OnOk result ((name : List ℕ) (number : ℕ) (presence : PresenceOf) (members is
+            : Instructions)
+            (bits : List Bool) (o : Received) (d : Dictionary) → o.next ≡ at_instruction
+            → o.body.rest ≡ then_instruction (group_of name number presence members) is
+            → optional ≡ is_optional presence → own_map ≡ has_map members
+            → has self.old o d → has self.new (entered o bits members is) d) }
+        ensures keeps { (set : List Resolved) (ms : List Content) (d : Dictionary)
+            → keeps self.old set ms d → keeps self.new set ms d };
+
+    /// The end of a group.
+    fn leave(&mut self, alloc: Global) -> Result<(), AllocError>
+        ensures has { OnOk result ((o : Received) (d : Dictionary) (ws : List Waiting) (w : Waiting)
+            → o.next ≡ at_instruction → o.body.rest ≡ no_instructions → o.around ≡ ws ++ w ∷ []
+            → w.inside ≡ in_group → has self.old o d
+            → has self.new (ended_in o ws w.body in_group) d) }
+        ensures keeps { (set : List Resolved) (ms : List Content) (d : Dictionary)
+            → keeps self.old set ms d → keeps self.new set ms d };
+
+    /// The beginning of an element, whether it has a map of its own, and how many instructions it has.
+    fn enter_element(&mut self, alloc: Global, own_map: bool, size: usize) -> Result<(), AllocError>
+        ensures has { OnOk result ((s : Sequel) (bits : List Bool) (o : Received) (d : Dictionary)
+            → o.next ≡ at_element s → own_map ≡ s.own_map → 0 < s.left
+            → has self.old o d → has self.new (in_element o bits s) d) }
+        ensures keeps { (set : List Resolved) (ms : List Content) (d : Dictionary)
+            → keeps self.old set ms d → keeps self.new set ms d };
+
+    /// The end of an element.
+    fn leave_element(&mut self, alloc: Global) -> Result<(), AllocError>
+        ensures has { OnOk result ((o : Received) (d : Dictionary) (ws : List Waiting) (w :
+            Waiting) (s : Sequel)
+            → o.next ≡ at_instruction → o.body.rest ≡ no_instructions → o.around ≡ ws ++ w ∷ []
+            → w.inside ≡ in_sequence s → has self.old o d
+            → has self.new (ended_in o ws w.body (in_sequence s)) d) }
+        ensures keeps { (set : List Resolved) (ms : List Content) (d : Dictionary)
+            → keeps self.old set ms d → keeps self.new set ms d };
+
+    /// The end of a sequence, behind its last element.
+    fn end_sequence(&mut self, alloc: Global) -> Result<(), AllocError>
+        ensures has { OnOk result ((o : Received) (d : Dictionary) (s : Sequel)
+            → o.next ≡ at_element s → s.left ≡ 0 → has self.old o d
+            → has self.new (after_sequence o s) d) }
+        ensures keeps { (set : List Resolved) (ms : List Content) (d : Dictionary)
+            → keeps self.old set ms d → keeps self.new set ms d };
+}

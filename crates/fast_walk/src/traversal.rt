@@ -1,0 +1,426 @@
+//! The one traversal of a stream, message by message.
+
+ghost use Rattle.std.specs.Prelude.{◌≡◌, ◌≢◌, ◌≤◌, ◌<◌, ◌+◌, ◌++◌, ◌∷◌, [], ℕ, true, List, OnErr, IfOk, IfErr, OnOk, Ok, Err, ◌⊎◌, length, drop};
+ghost use Rattle.fast_template.specs.Resolved.{Resolved};
+ghost use Rattle.fast_template.specs.TemplateSets.{IsSound, templates_in};
+ghost use Rattle.fast_dictionary.specs.Dictionary.{Dictionary};
+ghost use Rattle.fast_stream.specs.Nodes.{Content, nodes_in, node_limit};
+ghost use Rattle.fast_stream.specs.Streams.{identifier as identifier_part};
+ghost use Rattle.fast_stream.specs.Reading.{message_at};
+ghost use Rattle.fast_walk.specs.OpenSegments.{Reading};
+
+use crate::bits::{first_for, read_own_map};
+use crate::halt::Halt;
+use crate::receiver::Receiver;
+use crate::walk::{Walk, part_halt};
+use fast_dictionary::Entries;
+use fast_stream::Cause;
+use fast_template::{
+    FieldPart, Key, Kind, Name, Operator, Part, Presence, Scope, TemplateSet, part_needs_bit,
+};
+use fast_wire::Bits;
+use std::alloc::Global;
+
+/// The most nodes of a message.
+const NODE_LIMIT: u32 = 65_536;
+
+/// What is next: a message's map, its identifier, or a piece of its body.
+#[derive(Clone, Copy, Debug, PartialEq, Eq)]
+pub enum Stage {
+    Map,
+    Identifier,
+    Body,
+}
+
+/// A traversal of a stream of messages of one template set.
+///
+/// It can stop behind each piece. It keeps which segments are open and no bytes; what is read of them its receiver
+/// has.
+#[derive(Drop)]
+pub struct Traversal<'a> {
+    alloc: Global,
+    set: &'a TemplateSet,
+    identifier: FieldPart,
+    stage: Stage,
+    // 0 until the identifier is known
+    template: u32,
+    walk: Walk<'a>,
+    ghost identifier_is: { identifier ≡ identifier_part },
+}
+
+impl<'a> Traversal<'a> {
+    ghost use Rattle.fast_walk.specs.Traversals.{CanGoOn, Continues, IsOpen, ServesAll, begun_of, identifier_on, stop_of};
+
+    /// At the beginning of a stream. Takes no memory.
+    pub fn new(alloc: Global, set: &'a TemplateSet) -> Traversal<'a>
+        ensures set { result.set.now ≡ set.now }
+        ensures stage { result.stage ≡ Stage.Map }
+    {
+        Traversal {
+            alloc,
+            set,
+            identifier: FieldPart {
+                number: 0,
+                part: Part::Whole,
+                kind: Kind::UInt32,
+                presence: Presence::Mandatory,
+                operator: Operator::Copy,
+                key: Key {
+                    slot: 0,
+                    scope: Scope::Global,
+                    name: Name::from_string(String::new(alloc)),
+                    part: Part::Whole,
+                },
+                initial: None,
+            },
+            stage: Stage::Map,
+            template: 0,
+            walk: Walk::new(alloc, &[], Bits::none(alloc), 0),
+        }
+    }
+
+    /// The identifier of the open message's template; 0 until it is known, and between messages.
+    pub fn template(&self) -> u32
+        ensures { result ≡ self.now.template }
+    {
+        self.template
+    }
+
+    /// Whether a message has begun.
+    pub fn has_begun(&self) -> bool
+        ensures yes { result ≡ true → begun_of self.now ≡ 1 }
+        ensures no { result ≢ true → self.now.stage ≡ Stage.Map }
+    {
+        match self.stage {
+            Stage::Map => false,
+            Stage::Identifier | Stage::Body => true,
+        }
+    }
+
+    /// What is true of each set; it does nothing.
+    pub fn set_is_sound(&self)
+        ensures { IsSound self.now.set.now }
+    {
+        let _slots = self.set.slots();
+    }
+
+    /// Goes back to the beginning of a stream.
+    pub fn reset(&mut self)
+        ensures set { self.new.set ≡ self.old.set }
+        ensures stage { self.new.stage ≡ Stage.Map }
+    {
+        self.stage = Stage::Map;
+        self.template = 0;
+    }
+
+    // Reads a message's map.
+    #[inline(always)]
+    fn map(&mut self, bytes: &[u8], at: usize) -> Result<usize, Halt>
+        requires place { at ≤ length bytes.now }
+        ensures place { IfOk result (λ n. (at < n) × (n ≤ length bytes.now)) }
+        ensures goes { IfOk result (λ n. (d : Dictionary) (more : List ℕ)
+            → message_at (templates_in self.old.set.now) d (drop at bytes.now ++ more)
+            ≡ identifier_on (templates_in self.old.set.now) d self.new.walk.bits (drop n bytes.now
+            ++ more)) }
+        ensures stops { IfErr result (λ h. h.cause ≢ Cause.Memory → (d : Dictionary)
+            → message_at (templates_in self.old.set.now) d (drop at bytes.now)
+            ≡ Err (stop_of 0 h (drop at bytes.now))) }
+        ensures stage { OnOk result (self.new.stage ≡ Stage.Identifier) }
+        ensures spare { OnOk result (self.new.walk.spare ≡ node_limit) }
+        ensures waits { OnErr result (self.new.stage ≡ self.old.stage) }
+        ensures template { self.new.template ≡ 0 }
+        ensures set { self.new.set ≡ self.old.set }
+    {
+        self.template = 0;
+        match read_own_map(self.alloc, 0, true, bytes, at) {
+            Err(halt) => Err(halt),
+            Ok((bits, next)) => {
+                // the rest of the walk begins with the body, in the memory of the last one
+                self.walk.bits = bits;
+                self.walk.spare = NODE_LIMIT;
+                self.stage = Stage::Identifier;
+                Ok(next)
+            }
+        }
+    }
+
+    // Reads a message's identifier, and opens the body of the template that it names.
+    fn identifier<R: Receiver, E: Entries>(
+        &mut self,
+        receiver: &mut R,
+        entries: &mut E,
+        bytes: &[u8],
+        at: usize,
+    ) -> Result<usize, Halt>
+        requires place { at ≤ length bytes.now }
+        requires spare { self.now.walk.spare ≡ node_limit }
+        requires template { self.now.template ≡ 0 }
+        requires served { ServesAll (E.serves entries.now) self.now.set.now }
+        ensures place { IfOk result (λ n. (at ≤ n) × (n ≤ length bytes.now)) }
+        ensures goes { IfOk result (λ n. (before : List Content)
+            → R.stands receiver.old (templates_in self.old.set.now) before (E.contents entries.old)
+            → (later : List ℕ → Reading)
+            × IsOpen R.has R.keeps self.new receiver.new (templates_in self.old.set.now)
+            (E.contents entries.new)
+            before (E.contents entries.old) later
+            × ((more : List ℕ) → identifier_on (templates_in self.old.set.now) (E.contents
+            entries.old)
+            self.old.walk.bits (drop at bytes.now ++ more) ≡ later (drop n bytes.now ++ more))) }
+        ensures stops { IfErr result (λ h. h.cause ≢ Cause.Memory
+            → identifier_on (templates_in self.old.set.now) (E.contents entries.old)
+            self.old.walk.bits
+            (drop at bytes.now) ≡ Err (stop_of 0 h (drop at bytes.now))) }
+        ensures stage { OnOk result (self.new.stage ≡ Stage.Body) }
+        ensures ready { OnOk result (CanGoOn (E.serves entries.old) self.new) }
+        ensures waits { IfErr result (λ h. h.cause ≡ Cause.Truncated → (self.new ≡ self.old)
+            × (E.contents entries.new ≡ E.contents entries.old)
+            × ((set : List Resolved) (ms : List Content) (d : Dictionary)
+            → R.stands receiver.old set ms d
+            → R.stands receiver.new set ms d)) }
+        ensures template { OnErr result (self.new.template ≡ 0) }
+        ensures keeps { (set : List Resolved) (ms : List Content) (d : Dictionary)
+            → R.stands receiver.old set ms d → R.keeps receiver.new set ms d }
+        ensures set { self.new.set ≡ self.old.set }
+        ensures same_keys { E.serves entries.new ≡ E.serves entries.old }
+    {
+        let needs = part_needs_bit(&self.identifier);
+        let bit = first_for(&self.walk.bits, needs);
+        match receiver.begin(self.alloc, entries, &self.identifier, bit, bytes, at) {
+            Err(fault) => Err(part_halt(&self.identifier, fault)),
+            Ok((id, next)) => match self.set.find(id) {
+                None => Err(Halt {
+                    cause: Cause::D9,
+                    number: 0,
+                }),
+                Some(template) => {
+                    self.template = id;
+                    self.walk.open_message(needs, &template.members);
+                    self.stage = Stage::Body;
+                    Ok(next)
+                }
+            },
+        }
+    }
+
+    // Reads what is left of a message's body.
+    #[inline(always)]
+    fn body<R: Receiver, E: Entries>(
+        &mut self,
+        receiver: &mut R,
+        entries: &mut E,
+        bytes: &[u8],
+        at: usize,
+    ) -> Result<usize, (usize, Halt)>
+        requires place { at ≤ length bytes.now }
+        requires stage { self.now.stage ≡ Stage.Body }
+        requires ready { CanGoOn (E.serves entries.now) self.now }
+        ensures place { IfOk result (λ n. (at ≤ n) × (n ≤ length bytes.now)) }
+        ensures goes { IfOk result (λ n. (set : List Resolved) (before : List Content) (start :
+            Dictionary)
+            (read : List ℕ → Reading)
+            → IsOpen R.has R.keeps self.old receiver.old set (E.contents entries.old) before start
+            read
+            → (m : Content)
+            × ((more : List ℕ) → read (drop at bytes.now ++ more)
+            ≡ Ok (m, E.contents entries.new, drop n bytes.now ++ more))
+            × (nodes_in m.items ≤ node_limit → R.stands receiver.new set (before
+            ++ m ∷ []) (E.contents entries.new))) }
+        ensures between { OnOk result (self.new.stage ≡ Stage.Map) }
+        ensures held_place { IfErr result (λ x. (at ≤ x.0) × (x.0 ≤ length bytes.now)) }
+        ensures stops { IfErr result (λ x. (x.1).cause ≢ Cause.Memory
+            → (set : List Resolved) (before : List Content)
+            (start : Dictionary) (read : List ℕ → Reading)
+            → IsOpen R.has R.keeps self.old receiver.old set (E.contents entries.old) before start
+            read
+            → read (drop at bytes.now) ≡ Err (stop_of self.new.template x.1 (drop x.0 bytes.now))) }
+        ensures held { IfErr result (λ x. (x.1).cause ≢ Cause.Memory
+            → (set : List Resolved) (before : List Content)
+            (start : Dictionary) (read : List ℕ → Reading)
+            → IsOpen R.has R.keeps self.old receiver.old set (E.contents entries.old) before start
+            read
+            → (later : List ℕ → Reading)
+            × IsOpen R.has R.keeps self.new receiver.new set (E.contents entries.new) before start
+            later
+            × ((more : List ℕ) → read (drop at bytes.now ++ more) ≡ later (drop x.0 bytes.now
+            ++ more))) }
+        // few bytes are left where more are wanted
+        ensures few { IfErr result (λ x. (x.1).cause ≡ Cause.Truncated
+            → length bytes.now ≤ x.0 + 65554) }
+        ensures ready { IfErr result (λ x. (x.1).cause ≢ Cause.Memory
+            → CanGoOn (E.serves entries.new) self.new) }
+        ensures stage { OnErr result (self.new.stage ≡ Stage.Body) }
+        ensures keeps { OnErr result ((set : List Resolved) (ms : List Content) (d : Dictionary)
+            → R.keeps receiver.old set ms d → R.keeps receiver.new set ms d) }
+        ensures set { self.new.set ≡ self.old.set }
+        ensures same_keys { E.serves entries.new ≡ E.serves entries.old }
+    {
+        match self.walk.run(self.alloc, receiver, entries, bytes, at) {
+            Err(halt) => Err(halt),
+            Ok(next) => match receiver.finish(self.alloc) {
+                Err(_) => Err((
+                    next,
+                    Halt {
+                        cause: Cause::Memory,
+                        number: 0,
+                    },
+                )),
+                Ok(()) => {
+                    self.stage = Stage::Map;
+                    Ok(next)
+                }
+            },
+        }
+    }
+
+    // Reads a message from its identifier on.
+    #[inline(always)]
+    fn behind_map<R: Receiver, E: Entries>(
+        &mut self,
+        receiver: &mut R,
+        entries: &mut E,
+        bytes: &[u8],
+        at: usize,
+    ) -> Result<usize, (usize, Halt)>
+        requires place { at ≤ length bytes.now }
+        requires stage { self.now.stage ≡ Stage.Identifier }
+        requires ready { CanGoOn (E.serves entries.now) self.now }
+        requires served { ServesAll (E.serves entries.now) self.now.set.now }
+        ensures place { IfOk result (λ n. (at ≤ n) × (n ≤ length bytes.now)) }
+        ensures goes { IfOk result (λ n. (before : List Content) (start : Dictionary) (read : List
+            ℕ → Reading)
+            → Continues R.has R.stands R.keeps self.old receiver.old (templates_in self.old.set.now)
+            (E.contents entries.old) before start read
+            → (m : Content)
+            × ((more : List ℕ) → read (drop at bytes.now ++ more)
+            ≡ Ok (m, E.contents entries.new, drop n bytes.now ++ more))
+            × (nodes_in m.items ≤ node_limit → R.stands receiver.new (templates_in self.old.set.now)
+            (before ++ m ∷ []) (E.contents entries.new))) }
+        ensures between { OnOk result (self.new.stage ≡ Stage.Map) }
+        ensures held_place { IfErr result (λ x. (at ≤ x.0) × (x.0 ≤ length bytes.now)) }
+        ensures stops { IfErr result (λ x. (x.1).cause ≢ Cause.Memory
+            → (before : List Content) (start : Dictionary)
+            (read : List ℕ → Reading)
+            → Continues R.has R.stands R.keeps self.old receiver.old (templates_in self.old.set.now)
+            (E.contents entries.old) before start read
+            → read (drop at bytes.now) ≡ Err (stop_of self.new.template x.1 (drop x.0 bytes.now))) }
+        ensures held { IfErr result (λ x. (x.1).cause ≡ Cause.Truncated
+            → (before : List Content) (start : Dictionary)
+            (read : List ℕ → Reading)
+            → Continues R.has R.stands R.keeps self.old receiver.old (templates_in self.old.set.now)
+            (E.contents entries.old) before start read
+            → (later : List ℕ → Reading)
+            × Continues R.has R.stands R.keeps self.new receiver.new (templates_in self.old.set.now)
+            (E.contents entries.new) before start later
+            × ((more : List ℕ) → read (drop at bytes.now ++ more) ≡ later (drop x.0 bytes.now
+            ++ more))) }
+        // few bytes are left where more are wanted
+        ensures few { IfErr result (λ x. (x.1).cause ≡ Cause.Truncated
+            → length bytes.now ≤ x.0 + 65554) }
+        ensures ready { IfErr result (λ x. (x.1).cause ≡ Cause.Truncated
+            → CanGoOn (E.serves entries.new) self.new) }
+        ensures keeps { OnErr result ((before : List Content) (start : Dictionary) (read : List ℕ
+            → Reading)
+            → Continues R.has R.stands R.keeps self.old receiver.old (templates_in self.old.set.now)
+            (E.contents entries.old) before start read
+            → R.keeps receiver.new (templates_in self.old.set.now) before start
+            ⊎ R.stands receiver.new (templates_in self.old.set.now) before start) }
+        ensures set { self.new.set ≡ self.old.set }
+        ensures same_keys { E.serves entries.new ≡ E.serves entries.old }
+        ensures begun { IfErr result (λ x. (x.1).cause ≡ Cause.Truncated
+            → self.new.stage ≢ Stage.Map) }
+    {
+        match self.identifier(receiver, entries, bytes, at) {
+            Err(halt) => Err((at, halt)),
+            Ok(next) => match self.body(receiver, entries, bytes, next) {
+                Err(halt) => Err(halt),
+                Ok(next) => Ok(next),
+            },
+        }
+    }
+
+    /// Reads the next message, or what is left of the open one, to its end, and answers the place behind it.
+    ///
+    /// # Errors
+    ///
+    /// Why a piece was not read, and where that begins. Truncated: the bytes end before it does. Then the traversal
+    /// has stopped there, and goes on with the bytes from there on and those that follow. Memory: a growth was
+    /// refused.
+    pub fn message<R: Receiver, E: Entries>(
+        &mut self,
+        receiver: &mut R,
+        entries: &mut E,
+        bytes: &[u8],
+        at: usize,
+    ) -> Result<usize, (usize, Halt)>
+        requires place { at ≤ length bytes.now }
+        requires ready { CanGoOn (E.serves entries.now) self.now }
+        requires served { ServesAll (E.serves entries.now) self.now.set.now }
+        ensures place { IfOk result (λ n. (at ≤ n) × (n ≤ length bytes.now)) }
+        ensures goes { IfOk result (λ n. (before : List Content) (start : Dictionary) (read : List
+            ℕ → Reading)
+            → Continues R.has R.stands R.keeps self.old receiver.old (templates_in self.old.set.now)
+            (E.contents entries.old) before start read
+            → (m : Content)
+            × ((more : List ℕ) → read (drop at bytes.now ++ more)
+            ≡ Ok (m, E.contents entries.new, drop n bytes.now ++ more))
+            × (nodes_in m.items ≤ node_limit → R.stands receiver.new (templates_in self.old.set.now)
+            (before ++ m ∷ []) (E.contents entries.new))) }
+        ensures between { OnOk result (self.new.stage ≡ Stage.Map) }
+        ensures held_place { IfErr result (λ x. (at ≤ x.0) × (x.0 ≤ length bytes.now)) }
+        ensures stops { IfErr result (λ x. (x.1).cause ≢ Cause.Memory
+            → (before : List Content) (start : Dictionary)
+            (read : List ℕ → Reading)
+            → Continues R.has R.stands R.keeps self.old receiver.old (templates_in self.old.set.now)
+            (E.contents entries.old) before start read
+            → read (drop at bytes.now) ≡ Err (stop_of self.new.template x.1 (drop x.0 bytes.now))) }
+        ensures held { IfErr result (λ x. (x.1).cause ≡ Cause.Truncated
+            → (before : List Content) (start : Dictionary)
+            (read : List ℕ → Reading)
+            → Continues R.has R.stands R.keeps self.old receiver.old (templates_in self.old.set.now)
+            (E.contents entries.old) before start read
+            → (later : List ℕ → Reading)
+            × Continues R.has R.stands R.keeps self.new receiver.new (templates_in self.old.set.now)
+            (E.contents entries.new) before start later
+            × ((more : List ℕ) → read (drop at bytes.now ++ more) ≡ later (drop x.0 bytes.now
+            ++ more))) }
+        // few bytes are left where more are wanted
+        ensures few { IfErr result (λ x. (x.1).cause ≡ Cause.Truncated
+            → length bytes.now ≤ x.0 + 65554) }
+        ensures ready { IfErr result (λ x. (x.1).cause ≡ Cause.Truncated
+            → CanGoOn (E.serves entries.new) self.new) }
+        ensures keeps { OnErr result ((before : List Content) (start : Dictionary) (read : List ℕ
+            → Reading)
+            → Continues R.has R.stands R.keeps self.old receiver.old (templates_in self.old.set.now)
+            (E.contents entries.old) before start read
+            → R.keeps receiver.new (templates_in self.old.set.now) before start
+            ⊎ R.stands receiver.new (templates_in self.old.set.now) before start) }
+        ensures set { self.new.set ≡ self.old.set }
+        ensures same_keys { E.serves entries.new ≡ E.serves entries.old }
+        // a message has a byte
+        ensures took { IfOk result (λ n. self.old.stage ≡ Stage.Map → at < n) }
+        ensures held_between { IfErr result (λ x. (x.1).cause ≡ Cause.Truncated → self.new.stage
+            ≡ Stage.Map
+            → (self.old.stage ≡ Stage.Map) × (x.0 ≡ at)) }
+        ensures begun { IfErr result (λ x. (x.1).cause ≡ Cause.Truncated → self.old.stage
+            ≡ Stage.Map
+            → self.new.stage ≢ Stage.Map → at < x.0) }
+    {
+        match self.stage {
+            Stage::Map => match self.map(bytes, at) {
+                Err(halt) => Err((at, halt)),
+                Ok(next) => match self.behind_map(receiver, entries, bytes, next) {
+                    Err(halt) => Err(halt),
+                    Ok(next) => Ok(next),
+                },
+            },
+            Stage::Identifier => match self.behind_map(receiver, entries, bytes, at) {
+                Err(halt) => Err(halt),
+                Ok(next) => Ok(next),
+            },
+            Stage::Body => match self.body(receiver, entries, bytes, at) {
+                Err(halt) => Err(halt),
+                Ok(next) => Ok(next),
+            },
+        }
+    }
+}

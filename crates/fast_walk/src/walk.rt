@@ -1,0 +1,725 @@
+//! A walk through the open segments of a message, without its items.
+
+ghost use Rattle.std.specs.Prelude.{◌≡◌, ◌≢◌, ◌≤◌, ◌<◌, ◌++◌, ◌∷◌, ◌-◌, ◌+◌, [], ℕ, Bool, true, false, List, OnErr, IfOk, IfErr, OnOk, length, drop, map};
+ghost use Rattle.fast_value.specs.declared.key.Key as key_type;
+ghost use Rattle.fast_value.specs.declared.kind.Presence.{Presence as PresenceOf};
+ghost use Rattle.fast_template.specs.Resolved.{Resolved, list_of, then_instruction, no_instructions, whole_field, field_in_parts, group_of, sequence_of, is_optional as is_optional_of};
+ghost use Rattle.fast_dictionary.specs.Dictionary.{Dictionary};
+ghost use Rattle.fast_stream.specs.Nodes.{Content};
+ghost use Rattle.fast_stream.specs.Bits.{after_bit};
+ghost use Rattle.fast_stream.specs.Faults.{cause_of_field};
+ghost use Rattle.fast_stream.specs.Reading.{node_at, stopped};
+ghost use Rattle.fast_walk.specs.OpenSegments.{Waiting, at_instruction, cursor, fewer, in_sequence};
+ghost use Rattle.fast_walk.specs.Received.{Received, ended_in};
+
+use crate::bits::{first_for, read_own_map, take_for};
+use crate::halt::{Halt, field_cause};
+use crate::receiver::Receiver;
+use fast_dictionary::Entries;
+use fast_field::FieldFault;
+use fast_stream::Cause;
+use fast_template::{FieldPart, Flat, Presence, has_map, part_needs_bit};
+use fast_wire::Bits;
+use std::alloc::{AllocError, Global};
+use std::mem;
+
+/// The elements of a sequence that are still to come.
+#[derive(Clone, Copy)]
+pub struct Sequel<'a> {
+    pub number: u32,
+    /// Whether each has a map of its own.
+    pub own_map: bool,
+    pub members: &'a [Flat],
+    pub left: u32,
+}
+
+/// What a segment is to the body around it: a group, or an element with others to come.
+#[derive(Clone, Copy)]
+pub enum Inside<'a> {
+    Group,
+    Element(Sequel<'a>),
+}
+
+/// The piece that is next: of an instruction, a mantissa whose exponent is read, or an element.
+#[derive(Clone, Copy)]
+pub enum Next<'a> {
+    Instruction,
+    Mantissa(&'a FieldPart),
+    Element(Sequel<'a>),
+}
+
+/// A body that waits for the segment inside it.
+#[derive(Drop)]
+pub struct Frame<'a> {
+    bits: Bits,
+    rest: &'a [Flat],
+    inside: Inside<'a>,
+}
+
+/// The innermost open segment, and those around it, the message's own first.
+#[derive(Drop)]
+pub struct Walk<'a> {
+    pub(crate) bits: Bits,
+    // how many nodes may still come
+    pub(crate) spare: u32,
+    next: Next<'a>,
+    rest: &'a [Flat],
+    around: Vec<Frame<'a>>,
+}
+
+/// A fault of a part.
+#[inline(always)]
+pub(crate) fn part_halt(part: &FieldPart, fault: FieldFault) -> Halt
+    ensures cause { result.cause ≡ cause_of_field fault }
+    ensures number { result.number ≡ part.now.number }
+{
+    Halt {
+        cause: field_cause(fault),
+        number: part.number,
+    }
+}
+
+// Whether what has this presence may be left out.
+#[inline(always)]
+fn is_optional(presence: Presence) -> bool
+    ensures { result ≡ is_optional_of presence }
+{
+    presence == Presence::Optional
+}
+
+impl<'a> Walk<'a> {
+    ghost use Rattle.fast_walk.specs.Walks.{At, HaltsAs, IsElement, IsInside, IsInsideServed, IsNextServed, IsReady, Moves, bare_inside, bare_next, frame_of, inside_of, next_of, rank_of, sequel_of, weight_of};
+
+    /// At the beginning of a list of instructions.
+    pub(crate) fn new(alloc: Global, members: &'a [Flat], bits: Bits, spare: u32) -> Walk<'a>
+        ensures bits { result.bits ≡ bits }
+        ensures spare { result.spare ≡ spare }
+        ensures next { result.next ≡ Next.Instruction }
+        ensures rest { result.rest.now ≡ members.now }
+        ensures around { result.around.items ≡ [] }
+    {
+        Walk {
+            bits,
+            spare,
+            next: Next::Instruction,
+            rest: members,
+            around: Vec::new(alloc),
+        }
+    }
+
+    /// Begins a message's body, where its identifier has taken a bit where it needs one.
+    pub(crate) fn open_message(&mut self, needs: bool, members: &'a [Flat])
+        ensures bits { self.new.bits ≡ after_bit needs self.old.bits }
+        ensures spare { self.new.spare ≡ self.old.spare }
+        ensures next { self.new.next ≡ Next.Instruction }
+        ensures rest { self.new.rest.now ≡ members.now }
+        ensures around { self.new.around.items ≡ [] }
+    {
+        take_for(&mut self.bits, needs);
+        self.next = Next::Instruction;
+        self.rest = members;
+        self.around.clear();
+    }
+
+    // Whether one node more may come.
+    #[inline(always)]
+    fn count(&self, number: u32) -> Result<(), Halt>
+        ensures ok { OnOk result (0 < self.now.spare) }
+        ensures goes { OnOk result ((d : Dictionary) (bits : List Bool) (bytes : List ℕ)
+            → node_at number (cursor d bits self.now.spare bytes)
+            ≡ Ok (cursor d bits (self.now.spare - 1) bytes)) }
+        ensures stops { IfErr result (λ h. (d : Dictionary) (bits : List Bool) (bytes : List ℕ)
+            → node_at number (cursor d bits self.now.spare bytes)
+            ≡ stopped h.number bytes h.cause) }
+    {
+        if self.spare == 0 {
+            return Err(Halt {
+                cause: Cause::Limit,
+                number,
+            });
+        }
+        Ok(())
+    }
+
+    // Goes on behind the first part of an instruction: a node is counted, and its bit taken.
+    #[inline(always)]
+    fn pass(&mut self, needs: bool, others: &'a [Flat], next: Next<'a>)
+        requires spare { 0 < self.now.spare }
+        ensures bits { self.new.bits ≡ after_bit needs self.old.bits }
+        ensures spare { self.new.spare ≡ self.old.spare - 1 }
+        ensures next { self.new.next ≡ next.entry }
+        ensures rest { self.new.rest.now ≡ others.now }
+        ensures around { self.new.around ≡ self.old.around }
+    {
+        take_for(&mut self.bits, needs);
+        self.spare -= 1;
+        self.rest = others;
+        self.next = next;
+    }
+
+    // The same behind a field, where an instruction is next as before.
+    #[inline(always)]
+    fn pass_field(&mut self, needs: bool, others: &'a [Flat])
+        requires spare { 0 < self.now.spare }
+        ensures bits { self.new.bits ≡ after_bit needs self.old.bits }
+        ensures spare { self.new.spare ≡ self.old.spare - 1 }
+        ensures next { self.new.next ≡ self.old.next }
+        ensures rest { self.new.rest.now ≡ others.now }
+        ensures around { self.new.around ≡ self.old.around }
+    {
+        take_for(&mut self.bits, needs);
+        self.spare -= 1;
+        self.rest = others;
+    }
+
+    // Opens a segment inside the one that is open; its node is counted.
+    #[inline(always)]
+    fn open(
+        &mut self,
+        members: &'a [Flat],
+        others: &'a [Flat],
+        bits: Bits,
+        inside: Inside<'a>,
+    ) -> Result<(), AllocError>
+        requires spare { 0 < self.now.spare }
+        ensures bits { OnOk result (self.new.bits ≡ bits) }
+        ensures spare { OnOk result (self.new.spare ≡ self.old.spare - 1) }
+        ensures next { OnOk result (self.new.next ≡ Next.Instruction) }
+        ensures rest { OnOk result (self.new.rest.now ≡ members.now) }
+        ensures around { OnOk result (map frame_of self.new.around.items
+            ≡ map frame_of self.old.around.items ++ record {
+              bits = self.old.bits;
+              body = record { rest = list_of others.now; done = [] };
+              inside = inside_of inside.entry;
+            } ∷ []) }
+        ensures depth { OnOk result (length self.new.around.items
+            ≡ length self.old.around.items + 1) }
+    {
+        let outer = mem::replace(&mut self.bits, bits);
+        self.around.push(Frame {
+            bits: outer,
+            rest: others,
+            inside,
+        })?;
+        self.spare -= 1;
+        self.rest = members;
+        self.next = Next::Instruction;
+        Ok(())
+    }
+
+    // Takes a field.
+    #[inline(always)]
+    fn field<R: Receiver, E: Entries>(
+        &mut self,
+        alloc: Global,
+        receiver: &mut R,
+        entries: &mut E,
+        number: u32,
+        whole: &FieldPart,
+        others: &'a [Flat],
+        bytes: &[u8],
+        at: usize,
+    ) -> Result<usize, Halt>
+        requires place { at ≤ length bytes.now }
+        requires next { self.now.next ≡ Next.Instruction }
+        requires first { (name : List ℕ) × (presence : PresenceOf) × (list_of self.now.rest.now
+            ≡ then_instruction (whole_field name number presence whole.now) (list_of others.now)) }
+        requires ready { IsReady (E.serves entries.now) self.now }
+        ensures place { IfOk result (λ n. (at ≤ n) × (n ≤ length bytes.now)) }
+        ensures goes { IfOk result (λ n. Moves R.has self.old receiver.old (E.contents entries.old)
+            self.new receiver.new (E.contents entries.new) (drop at bytes.now) (drop n bytes.now)) }
+        ensures stops { IfErr result (λ h. h.cause ≢ Cause.Memory
+            → HaltsAs self.old (E.contents entries.old) (drop at bytes.now) h) }
+        ensures waits { IfErr result (λ h. h.cause ≢ Cause.Memory
+            → (self.new ≡ self.old) × (E.contents entries.new ≡ E.contents entries.old)
+            × ((o : Received) (d : Dictionary) → R.has receiver.old o d → R.has receiver.new o d)) }
+        ensures ready { OnOk result (IsReady (E.serves entries.old) self.new) }
+        ensures keeps { (set : List Resolved) (ms : List Content) (d : Dictionary)
+            → R.keeps receiver.old set ms d → R.keeps receiver.new set ms d }
+        ensures same_keys { E.serves entries.new ≡ E.serves entries.old }
+        ensures rank { OnOk result (rank_of self.new < rank_of self.old) }
+    {
+        match self.count(number) {
+            Err(halt) => Err(halt),
+            Ok(()) => {
+                let needs = part_needs_bit(whole);
+                let bit = first_for(&self.bits, needs);
+                match receiver.field(alloc, entries, whole, bit, bytes, at) {
+                    Err(fault) => Err(part_halt(whole, fault)),
+                    Ok(next) => {
+                        self.pass_field(needs, others);
+                        Ok(next)
+                    }
+                }
+            }
+        }
+    }
+
+    // Takes the exponent of a decimal in parts.
+    #[inline(always)]
+    fn exponent<R: Receiver, E: Entries>(
+        &mut self,
+        alloc: Global,
+        receiver: &mut R,
+        entries: &mut E,
+        number: u32,
+        exponent: &FieldPart,
+        mantissa: &'a FieldPart,
+        others: &'a [Flat],
+        bytes: &[u8],
+        at: usize,
+    ) -> Result<usize, Halt>
+        requires place { at ≤ length bytes.now }
+        requires next { self.now.next ≡ Next.Instruction }
+        requires first { (name : List ℕ) × (presence : PresenceOf) × (list_of self.now.rest.now
+            ≡ then_instruction (field_in_parts name number presence exponent.now mantissa.now)
+            (list_of others.now)) }
+        requires ready { IsReady (E.serves entries.now) self.now }
+        ensures place { IfOk result (λ n. (at ≤ n) × (n ≤ length bytes.now)) }
+        ensures goes { IfOk result (λ n. Moves R.has self.old receiver.old (E.contents entries.old)
+            self.new receiver.new (E.contents entries.new) (drop at bytes.now) (drop n bytes.now)) }
+        ensures stops { IfErr result (λ h. h.cause ≢ Cause.Memory
+            → HaltsAs self.old (E.contents entries.old) (drop at bytes.now) h) }
+        ensures waits { IfErr result (λ h. h.cause ≢ Cause.Memory
+            → (self.new ≡ self.old) × (E.contents entries.new ≡ E.contents entries.old)
+            × ((o : Received) (d : Dictionary) → R.has receiver.old o d → R.has receiver.new o d)) }
+        ensures ready { OnOk result (IsReady (E.serves entries.old) self.new) }
+        ensures keeps { (set : List Resolved) (ms : List Content) (d : Dictionary)
+            → R.keeps receiver.old set ms d → R.keeps receiver.new set ms d }
+        ensures same_keys { E.serves entries.new ≡ E.serves entries.old }
+        ensures rank { OnOk result (rank_of self.new < rank_of self.old) }
+    {
+        match self.count(number) {
+            Err(halt) => Err(halt),
+            Ok(()) => {
+                let needs = part_needs_bit(exponent);
+                let bit = first_for(&self.bits, needs);
+                match receiver.exponent(alloc, entries, exponent, bit, bytes, at) {
+                    Err(fault) => Err(part_halt(exponent, fault)),
+                    Ok((present, next)) => {
+                        if present {
+                            self.pass(needs, others, Next::Mantissa(mantissa));
+                            Ok(next)
+                        } else {
+                            self.pass(needs, others, Next::Instruction);
+                            Ok(next)
+                        }
+                    }
+                }
+            }
+        }
+    }
+
+    // Takes the mantissa of a decimal whose exponent is there.
+    #[inline(always)]
+    fn mantissa<R: Receiver, E: Entries>(
+        &mut self,
+        alloc: Global,
+        receiver: &mut R,
+        entries: &mut E,
+        mantissa: &'a FieldPart,
+        bytes: &[u8],
+        at: usize,
+    ) -> Result<usize, Halt>
+        requires place { at ≤ length bytes.now }
+        requires next { self.now.next ≡ Next.Mantissa mantissa }
+        requires ready { IsReady (E.serves entries.now) self.now }
+        ensures place { IfOk result (λ n. (at ≤ n) × (n ≤ length bytes.now)) }
+        ensures goes { IfOk result (λ n. Moves R.has self.old receiver.old (E.contents entries.old)
+            self.new receiver.new (E.contents entries.new) (drop at bytes.now) (drop n bytes.now)) }
+        ensures stops { IfErr result (λ h. h.cause ≢ Cause.Memory
+            → HaltsAs self.old (E.contents entries.old) (drop at bytes.now) h) }
+        ensures waits { IfErr result (λ h. h.cause ≢ Cause.Memory
+            → (self.new ≡ self.old) × (E.contents entries.new ≡ E.contents entries.old)
+            × ((o : Received) (d : Dictionary) → R.has receiver.old o d → R.has receiver.new o d)) }
+        ensures ready { OnOk result (IsReady (E.serves entries.old) self.new) }
+        ensures keeps { (set : List Resolved) (ms : List Content) (d : Dictionary)
+            → R.keeps receiver.old set ms d → R.keeps receiver.new set ms d }
+        ensures same_keys { E.serves entries.new ≡ E.serves entries.old }
+        ensures rank { OnOk result (rank_of self.new < rank_of self.old) }
+    {
+        let needs = part_needs_bit(mantissa);
+        let bit = first_for(&self.bits, needs);
+        match receiver.mantissa(alloc, entries, mantissa, bit, bytes, at) {
+            Err(fault) => Err(part_halt(mantissa, fault)),
+            Ok(next) => {
+                take_for(&mut self.bits, needs);
+                self.next = Next::Instruction;
+                Ok(next)
+            }
+        }
+    }
+
+    // Takes the length of a sequence.
+    fn sequence<R: Receiver, E: Entries>(
+        &mut self,
+        alloc: Global,
+        receiver: &mut R,
+        entries: &mut E,
+        number: u32,
+        part: &FieldPart,
+        members: &'a [Flat],
+        others: &'a [Flat],
+        bytes: &[u8],
+        at: usize,
+    ) -> Result<usize, Halt>
+        requires place { at ≤ length bytes.now }
+        requires next { self.now.next ≡ Next.Instruction }
+        requires first { (name : List ℕ) × (presence : PresenceOf) × (list_of self.now.rest.now
+            ≡ then_instruction (sequence_of name number presence part.now (list_of members.now))
+            (list_of others.now)) }
+        requires ready { IsReady (E.serves entries.now) self.now }
+        ensures place { IfOk result (λ n. (at ≤ n) × (n ≤ length bytes.now)) }
+        ensures goes { IfOk result (λ n. Moves R.has self.old receiver.old (E.contents entries.old)
+            self.new receiver.new (E.contents entries.new) (drop at bytes.now) (drop n bytes.now)) }
+        ensures stops { IfErr result (λ h. h.cause ≢ Cause.Memory
+            → HaltsAs self.old (E.contents entries.old) (drop at bytes.now) h) }
+        ensures waits { IfErr result (λ h. h.cause ≢ Cause.Memory
+            → (self.new ≡ self.old) × (E.contents entries.new ≡ E.contents entries.old)
+            × ((o : Received) (d : Dictionary) → R.has receiver.old o d → R.has receiver.new o d)) }
+        ensures ready { OnOk result (IsReady (E.serves entries.old) self.new) }
+        ensures keeps { (set : List Resolved) (ms : List Content) (d : Dictionary)
+            → R.keeps receiver.old set ms d → R.keeps receiver.new set ms d }
+        ensures same_keys { E.serves entries.new ≡ E.serves entries.old }
+        ensures rank { OnOk result (rank_of self.new < rank_of self.old) }
+    {
+        match self.count(number) {
+            Err(halt) => Err(halt),
+            Ok(()) => {
+                let needs = part_needs_bit(part);
+                let bit = first_for(&self.bits, needs);
+                match receiver.begin_sequence(alloc, entries, part, bit, bytes, at) {
+                    Err(fault) => Err(part_halt(part, fault)),
+                    Ok((length, next)) => match length {
+                        None => {
+                            self.pass(needs, others, Next::Instruction);
+                            Ok(next)
+                        }
+                        Some(left) => {
+                            let own_map = has_map(members);
+                            let elements = Sequel {
+                                number,
+                                own_map,
+                                members,
+                                left,
+                            };
+                            self.pass(needs, others, Next::Element(elements));
+                            Ok(next)
+                        }
+                    },
+                }
+            }
+        }
+    }
+
+    // Enters a group, or passes it where it is left out.
+    fn group<R: Receiver>(
+        &mut self,
+        alloc: Global,
+        receiver: &mut R,
+        number: u32,
+        presence: Presence,
+        members: &'a [Flat],
+        others: &'a [Flat],
+        bytes: &[u8],
+        at: usize,
+    ) -> Result<usize, Halt>
+        requires place { at ≤ length bytes.now }
+        requires next { self.now.next ≡ Next.Instruction }
+        requires first { (name : List ℕ) × (list_of self.now.rest.now
+            ≡ then_instruction (group_of name number presence (list_of members.now)) (list_of
+            others.now)) }
+        ensures place { IfOk result (λ n. (at ≤ n) × (n ≤ length bytes.now)) }
+        ensures goes { IfOk result (λ n. (d : Dictionary) → Moves R.has self.old receiver.old d
+            self.new receiver.new d (drop at bytes.now) (drop n bytes.now)) }
+        ensures stops { IfErr result (λ h. h.cause ≢ Cause.Memory
+            → (d : Dictionary) → HaltsAs self.old d (drop at bytes.now) h) }
+        ensures waits { IfErr result (λ h. h.cause ≢ Cause.Memory
+            → (self.new ≡ self.old) × (receiver.new ≡ receiver.old)) }
+        ensures ready { OnOk result ((serves : key_type.Key → Bool) → IsReady serves self.old
+            → IsReady serves self.new) }
+        ensures keeps { (set : List Resolved) (ms : List Content) (d : Dictionary)
+            → R.keeps receiver.old set ms d → R.keeps receiver.new set ms d }
+        ensures rank { OnOk result (rank_of self.new < rank_of self.old) }
+    {
+        match self.count(number) {
+            Err(halt) => Err(halt),
+            Ok(()) => {
+                let optional = is_optional(presence);
+                let present = first_for(&self.bits, optional);
+                if present {
+                    let own_map = has_map(members);
+                    match read_own_map(alloc, number, own_map, bytes, at) {
+                        Err(halt) => Err(halt),
+                        Ok((bits, next)) => {
+                            receiver.enter(alloc, optional, own_map, members.len())?;
+                            take_for(&mut self.bits, optional);
+                            self.open(members, others, bits, Inside::Group)?;
+                            Ok(next)
+                        }
+                    }
+                } else {
+                    receiver.left_out()?;
+                    self.pass(optional, others, Next::Instruction);
+                    Ok(at)
+                }
+            }
+        }
+    }
+
+    // Enters the next element of a sequence, or ends the sequence.
+    fn element<R: Receiver>(
+        &mut self,
+        alloc: Global,
+        receiver: &mut R,
+        sequel: Sequel<'a>,
+        bytes: &[u8],
+        at: usize,
+    ) -> Result<usize, Halt>
+        requires place { at ≤ length bytes.now }
+        requires next { IsElement self.now.next sequel }
+        ensures place { IfOk result (λ n. (at ≤ n) × (n ≤ length bytes.now)) }
+        ensures goes { IfOk result (λ n. (d : Dictionary) → Moves R.has self.old receiver.old d
+            self.new receiver.new d (drop at bytes.now) (drop n bytes.now)) }
+        ensures stops { IfErr result (λ h. h.cause ≢ Cause.Memory
+            → (d : Dictionary) → HaltsAs self.old d (drop at bytes.now) h) }
+        ensures waits { IfErr result (λ h. h.cause ≢ Cause.Memory
+            → (self.new ≡ self.old) × (receiver.new ≡ receiver.old)) }
+        ensures ready { OnOk result ((serves : key_type.Key → Bool) → IsReady serves self.old
+            → IsReady serves self.new) }
+        ensures keeps { (set : List Resolved) (ms : List Content) (d : Dictionary)
+            → R.keeps receiver.old set ms d → R.keeps receiver.new set ms d }
+        ensures rank { OnOk result (rank_of self.new < rank_of self.old) }
+    {
+        if sequel.left == 0 {
+            receiver.end_sequence(alloc)?;
+            self.next = Next::Instruction;
+            return Ok(at);
+        }
+        match self.count(sequel.number) {
+            Err(halt) => Err(halt),
+            Ok(()) => match read_own_map(alloc, sequel.number, sequel.own_map, bytes, at) {
+                Err(halt) => Err(halt),
+                Ok((bits, next)) => {
+                    receiver.enter_element(alloc, sequel.own_map, sequel.members.len())?;
+                    self.one_more(sequel, bits)?;
+                    Ok(next)
+                }
+            },
+        }
+    }
+
+    // Opens the next element of a sequence.
+    #[inline(always)]
+    fn one_more(&mut self, sequel: Sequel<'a>, bits: Bits) -> Result<(), AllocError>
+        requires spare { 0 < self.now.spare }
+        requires left { 0 < sequel.left }
+        ensures bits { OnOk result (self.new.bits ≡ bits) }
+        ensures spare { OnOk result (self.new.spare ≡ self.old.spare - 1) }
+        ensures next { OnOk result (self.new.next ≡ Next.Instruction) }
+        ensures rest { OnOk result (self.new.rest.now ≡ sequel.entry.members.now) }
+        ensures around { OnOk result (map frame_of self.new.around.items
+            ≡ map frame_of self.old.around.items ++ record {
+              bits = self.old.bits;
+              body = record { rest = list_of self.old.rest.now; done = [] };
+              inside = in_sequence (fewer (sequel_of sequel.entry));
+            } ∷ []) }
+        ensures depth { OnOk result (length self.new.around.items
+            ≡ length self.old.around.items + 1) }
+    {
+        let others = Sequel {
+            number: sequel.number,
+            own_map: sequel.own_map,
+            members: sequel.members,
+            left: sequel.left - 1,
+        };
+        self.open(sequel.members, self.rest, bits, Inside::Element(others))
+    }
+
+    // Ends the segment that is open, and goes on in the one around it.
+    #[inline(always)]
+    fn end<R: Receiver>(&mut self, alloc: Global, receiver: &mut R) -> Result<(), AllocError>
+        requires next { self.now.next ≡ Next.Instruction }
+        requires rest { self.now.rest.now ≡ [] }
+        ensures goes { OnOk result ((d : Dictionary) (bytes : List ℕ)
+            → Moves R.has self.old receiver.old d
+            self.new receiver.new d bytes bytes) }
+        ensures ready { OnOk result ((serves : key_type.Key → Bool) → IsReady serves self.old
+            → IsReady serves self.new) }
+        ensures keeps { (set : List Resolved) (ms : List Content) (d : Dictionary)
+            → R.keeps receiver.old set ms d → R.keeps receiver.new set ms d }
+        ensures rank { OnOk result (rank_of self.new < rank_of self.old) }
+    {
+        match self.around.pop() {
+            None => Err(AllocError),
+            Some(Frame { bits, rest, inside }) => {
+                self.bits = bits;
+                self.rest = rest;
+                self.take_up(alloc, receiver, inside)?;
+                Ok(())
+            }
+        }
+    }
+
+    // Takes up what the segment that ends was to the body around it.
+    #[inline(always)]
+    fn take_up<R: Receiver>(
+        &mut self,
+        alloc: Global,
+        receiver: &mut R,
+        inside: Inside<'a>,
+    ) -> Result<(), AllocError>
+        requires next { self.now.next ≡ Next.Instruction }
+        ensures has { OnOk result ((o : Received) (d : Dictionary) (ws : List Waiting) (w : Waiting)
+            → o.next ≡ at_instruction → o.body.rest ≡ no_instructions → o.around ≡ ws ++ w ∷ []
+            → bare_inside w.inside ≡ inside_of inside.entry → R.has receiver.old o d
+            → R.has receiver.new (ended_in o ws w.body w.inside) d
+            × (bare_next (ended_in o ws w.body w.inside).next ≡ next_of self.new.next)) }
+        ensures bits { self.new.bits ≡ self.old.bits }
+        ensures spare { self.new.spare ≡ self.old.spare }
+        ensures rest { self.new.rest ≡ self.old.rest }
+        ensures around { self.new.around ≡ self.old.around }
+        ensures served { OnOk result ((serves : key_type.Key → Bool)
+            → IsInsideServed serves (inside_of inside.entry)
+            → IsNextServed serves (next_of self.new.next)) }
+        ensures keeps { (set : List Resolved) (ms : List Content) (d : Dictionary)
+            → R.keeps receiver.old set ms d → R.keeps receiver.new set ms d }
+        ensures weight { weight_of self.new.next ≤ 2 }
+    {
+        match inside {
+            Inside::Group => {
+                receiver.leave(alloc)?;
+                Ok(())
+            }
+            Inside::Element(sequel) => {
+                receiver.leave_element(alloc)?;
+                self.next = Next::Element(sequel);
+                Ok(())
+            }
+        }
+    }
+
+    // Whether the message's own body has ended.
+    fn is_whole(&self) -> bool
+        ensures yes { result ≡ true → (self.now.next ≡ Next.Instruction) × (self.now.around.items
+            ≡ [])
+            × (self.now.rest.now ≡ []) }
+        ensures no { result ≡ false → IsInside self.now }
+    {
+        match self.next {
+            Next::Instruction => self.around.is_empty() && self.rest.is_empty(),
+            _ => false,
+        }
+    }
+
+    // Takes the next piece, or ends a segment.
+    fn step<R: Receiver, E: Entries>(
+        &mut self,
+        alloc: Global,
+        receiver: &mut R,
+        entries: &mut E,
+        bytes: &[u8],
+        at: usize,
+    ) -> Result<usize, Halt>
+        requires place { at ≤ length bytes.now }
+        requires ready { IsReady (E.serves entries.now) self.now }
+        ensures place { IfOk result (λ n. (at ≤ n) × (n ≤ length bytes.now)) }
+        ensures goes { IfOk result (λ n. Moves R.has self.old receiver.old (E.contents entries.old)
+            self.new receiver.new (E.contents entries.new) (drop at bytes.now) (drop n bytes.now)) }
+        ensures stops { IfErr result (λ h. h.cause ≢ Cause.Memory
+            → HaltsAs self.old (E.contents entries.old) (drop at bytes.now) h) }
+        ensures waits { IfErr result (λ h. h.cause ≢ Cause.Memory
+            → (self.new ≡ self.old) × (E.contents entries.new ≡ E.contents entries.old)
+            × ((o : Received) (d : Dictionary) → R.has receiver.old o d → R.has receiver.new o d)) }
+        ensures ready { OnOk result (IsReady (E.serves entries.old) self.new) }
+        ensures keeps { (set : List Resolved) (ms : List Content) (d : Dictionary)
+            → R.keeps receiver.old set ms d → R.keeps receiver.new set ms d }
+        ensures same_keys { E.serves entries.new ≡ E.serves entries.old }
+        ensures rank { OnOk result (rank_of self.new < rank_of self.old) }
+    {
+        match self.next {
+            Next::Mantissa(mantissa) => self.mantissa(
+                alloc, receiver, entries, mantissa, bytes, at,
+            ),
+            Next::Element(sequel) => match self.element(alloc, receiver, sequel, bytes, at) {
+                Err(halt) => Err(halt),
+                Ok(next) => Ok(next),
+            },
+            Next::Instruction => match self.rest.split_first() {
+                None => {
+                    self.end(alloc, receiver)?;
+                    Ok(at)
+                }
+                Some((flat, others)) => match flat {
+                    Flat::Field { number, whole, .. } => {
+                        self.field(alloc, receiver, entries, *number, whole, others, bytes, at)
+                    }
+                    Flat::Parts {
+                        number,
+                        exponent,
+                        mantissa,
+                        ..
+                    } => self.exponent(
+                        alloc, receiver, entries, *number, exponent, mantissa, others, bytes, at,
+                    ),
+                    Flat::Group {
+                        number,
+                        presence,
+                        members,
+                        ..
+                    } => match self.group(
+                        alloc, receiver, *number, *presence, members, others, bytes, at,
+                    ) {
+                        Err(halt) => Err(halt),
+                        Ok(next) => Ok(next),
+                    },
+                    Flat::Sequence {
+                        number,
+                        length,
+                        members,
+                        ..
+                    } => self.sequence(
+                        alloc, receiver, entries, *number, length, members, others, bytes, at,
+                    ),
+                },
+            },
+        }
+    }
+
+    /// Takes what is left of the message, up to its end.
+    pub(crate) fn run<R: Receiver, E: Entries>(
+        &mut self,
+        alloc: Global,
+        receiver: &mut R,
+        entries: &mut E,
+        bytes: &[u8],
+        at: usize,
+    ) -> Result<usize, (usize, Halt)>
+        requires place { at ≤ length bytes.now }
+        requires ready { IsReady (E.serves entries.now) self.now }
+        ensures place { IfOk result (λ n. (at ≤ n) × (n ≤ length bytes.now)) }
+        ensures goes { IfOk result (λ n. Moves R.has self.old receiver.old (E.contents entries.old)
+            self.new receiver.new (E.contents entries.new) (drop at bytes.now) (drop n bytes.now)) }
+        ensures whole { OnOk result ((self.new.next ≡ Next.Instruction) × (self.new.around.items
+            ≡ [])
+            × (self.new.rest.now ≡ [])) }
+        ensures held_place { IfErr result (λ x. (at ≤ x.0) × (x.0 ≤ length bytes.now)) }
+        ensures held { IfErr result (λ x. (x.1).cause ≢ Cause.Memory
+            → Moves R.has self.old receiver.old (E.contents entries.old)
+            self.new receiver.new (E.contents entries.new) (drop at bytes.now) (drop x.0 bytes.now)
+            × HaltsAs self.new (E.contents entries.new) (drop x.0 bytes.now) x.1
+            × IsReady (E.serves entries.new) self.new) }
+        ensures keeps { (set : List Resolved) (ms : List Content) (d : Dictionary)
+            → R.keeps receiver.old set ms d → R.keeps receiver.new set ms d }
+        ensures same_keys { E.serves entries.new ≡ E.serves entries.old }
+    {
+        let mut place = at;
+        'pieces: while !self.is_whole() {
+            match self.step(alloc, receiver, entries, bytes, place) {
+                Ok(next) => place = next,
+                Err(halt) => return Err((place, halt)),
+            }
+        }
+        Ok(place)
+    }
+}

@@ -1,0 +1,2 @@
+pub mod JsonReading
+pub mod WorkedTemplates

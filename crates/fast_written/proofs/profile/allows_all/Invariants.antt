@@ -1,0 +1,7 @@
+use Rattle.std.proofs.Common.{◌≡◌}
+use Rattle.serde_json.specs.View.{members_view}
+use Rattle.fast_written.specs.Profile.{all_allowed}
+use Rattle.fast_written.proofs.profile.allows_all.Given as goal
+
+abbrev pub invariant-loop-key : goal.invariant-loop-key
+invariant-loop-key l = all_allowed l.row (members_view l.key-iterator) ≡ all_allowed l.row (members_view l.initial.key-iterator)

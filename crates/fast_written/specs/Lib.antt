@@ -1,0 +1,5 @@
+pub mod Names
+pub mod LoadFaults
+pub mod Written
+pub mod JsonTemplates
+pub mod Profile
