@@ -8,4 +8,6 @@ mod same;
 #[cfg(test)]
 mod slots;
 #[cfg(test)]
+mod steps;
+#[cfg(test)]
 mod streams;

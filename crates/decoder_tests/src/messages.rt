@@ -1,37 +1,56 @@
 //! Messages, and the calls that read one.
 
-ghost use Rattle.fast_stream.specs.Traversals.{ServesAll};
-
 use crate::same::same;
 use crate::slots::slots_of;
-use fast_decoder::Decoder;
-use fast_dictionary::{Entries, MapEntries};
-use fast_stream::{Cause, Fault, Message, Node, Place};
+use crate::steps::{End, Step, follow};
+use fast_dictionary::MapEntries;
+use fast_stream::{Cause, Message, Node};
 use fast_template::{ByteString, LoadFault, Scalar, TemplateSet};
 use std::alloc::{AllocError, Global};
+use std::process::Abort;
+
+// This text and nothing, in a vector with at least this much room.
+fn texts(alloc: Global, text: &[u8], room: usize) -> Result<Vec<Node>, AllocError> {
+    let text = ByteString::from_vec(text.to_vec(alloc)?);
+    let mut nodes = Vec::with_capacity(alloc, room)?;
+    nodes.push(Node::Value(Scalar::Ascii(text)))?;
+    nodes.push(Node::Absent)?;
+    Ok(nodes)
+}
+
+// An empty group and a number.
+fn others(alloc: Global) -> Result<Vec<Node>, AllocError> {
+    Ok(vec![in alloc; Node::Group(Vec::new(alloc)), Node::Value(Scalar::U32(7))]?)
+}
 
 // Two elements, of which the first has this text, in vectors with at least this much room.
-fn message(alloc: Global, text: &[u8], room: usize) -> Result<Message, AllocError> {
-    let text = text.to_vec(alloc)?;
-    let mut first = Vec::with_capacity(alloc, room)?;
-    first.push(Node::Value(Scalar::Ascii(ByteString::from_vec(text))))?;
-    first.push(Node::Absent)?;
-    let second = vec![in alloc; Node::Group(Vec::new(alloc)), Node::Value(Scalar::U32(7))]?;
+fn elements(alloc: Global, text: &[u8], room: usize) -> Result<Vec<Vec<Node>>, AllocError> {
     let mut elements = Vec::with_capacity(alloc, room)?;
-    elements.push(first)?;
-    elements.push(second)?;
+    elements.push(texts(alloc, text, room)?)?;
+    elements.push(others(alloc)?)?;
+    Ok(elements)
+}
+
+// A message of them.
+fn message(alloc: Global, text: &[u8], room: usize) -> Result<Message, AllocError> {
+    let elements = elements(alloc, text, room)?;
     Ok(Message {
         template: 1,
         fields: vec![in alloc; Node::Sequence(elements)]?,
     })
 }
 
+// Whether a message of this text in vectors with at least this much room is equal to one.
+fn equals(alloc: Global, one: &Message, text: &[u8], room: usize) -> Result<bool, AllocError> {
+    let other = message(alloc, text, room)?;
+    Ok(*one == other)
+}
+
 #[test]
 fn messages_are_equal_by_their_contents(rt: HostRuntime) -> Result<(), AllocError> {
-    let alloc = rt.alloc();
-    let one = message(alloc, b"GEM", 0)?;
-    same(&rt, &one, &message(alloc, b"GEM", 9)?);
-    assert_ne!(rt; &one, &message(alloc, b"GEM4", 0)?);
+    let one = message(rt.alloc(), b"GEM", 0)?;
+    same(&rt, equals(rt.alloc(), &one, b"GEM", 9), Ok(true));
+    same(&rt, equals(rt.alloc(), &one, b"GEM4", 0), Ok(false));
     Ok(())
 }
 
@@ -46,7 +65,7 @@ fn quotes(alloc: Global) -> Result<TemplateSet, LoadFault> {
     TemplateSet::from_json(alloc, QUOTES.as_bytes())
 }
 
-const STREAM: [u8; 8] = [0xF0, 0x81, 0x81, 0x41, 0xC2, 0xFE, 0x00, 0xE4];
+const STREAM: &[u8] = &[0xF0, 0x81, 0x81, 0x41, 0xC2, 0xFE, 0x00, 0xE4];
 
 // Seq=1 Sym="AB" Px=100e-2, and no Qty.
 fn quote(alloc: Global) -> Result<Message, AllocError> {
@@ -66,99 +85,76 @@ fn quote(alloc: Global) -> Result<Message, AllocError> {
     })
 }
 
-// Whether the stream is taken whole, with nothing held at its end.
-fn takes_all<E: Entries>(decoder: &mut Decoder<'_, E>, messages: &mut Vec<Message>) -> bool {
-    decoder.fed() == 0
-        && decoder.feed(&STREAM, messages).is_ok()
-        && decoder.fed() == 8
-        && decoder.held() == 0
-        && decoder.finish().is_ok()
+const TAKEN: &[Step] = &[
+    Step::Fed(0),
+    Step::Feed(STREAM, End::Whole),
+    Step::Fed(8),
+    Step::Held(0),
+    Step::Finish(End::Whole),
+];
+
+// This message alone was read.
+fn is_only(rt: &impl Abort, messages: &[Message], want: &Message) {
+    same(rt, messages.len(), 1);
+    same(rt, messages.first(), Some(want));
 }
 
-// Whether the stream gives its message, over these entries.
-fn reads_quote<E: Entries>(alloc: Global, set: &TemplateSet, entries: E) -> Result<bool, AllocError>
-    requires { ServesAll (E.serves entries) set.now }
-{
-    let mut messages = Vec::new(alloc);
-    let mut decoder = Decoder::new(alloc, set, entries);
-    let taken = takes_all(&mut decoder, &mut messages);
-    let want = quote(alloc)?;
-    Ok(taken && messages.as_slice() == [want].as_slice())
+// The stream gives this message, over both kinds of entries.
+fn both_read_quote(
+    rt: &impl Abort,
+    alloc: Global,
+    set: &TemplateSet,
+    want: &Message,
+) -> Result<(), AllocError> {
+    let map = MapEntries::new(alloc);
+    is_only(rt, &follow(rt, alloc, set, map, TAKEN), want);
+    let slots = slots_of(alloc, set)?;
+    is_only(rt, &follow(rt, alloc, set, slots, TAKEN), want);
+    Ok(())
 }
 
 #[test]
 fn a_stream_is_read(rt: HostRuntime) -> Result<(), AllocError> {
-    let alloc = rt.alloc();
-    let Ok(set) = quotes(alloc) else {
-        panic!(rt; "refused");
-    };
-    assert!(rt; reads_quote(alloc, &set, MapEntries::new(alloc))?);
-    assert!(rt; reads_quote(alloc, &set, slots_of(alloc, &set)?)?);
-    Ok(())
+    let want = quote(rt.alloc())?;
+    match quotes(rt.alloc()) {
+        Ok(set) => both_read_quote(&rt, rt.alloc(), &set, &want),
+        Err(_) => panic!(rt; "refused"),
+    }
 }
 
-// A fault at an offset of the first message.
-fn at(cause: Cause, offset: u64, template: u32, instruction: u32) -> Result<(), Fault> {
-    let place = Place {
-        message: 1,
-        offset,
-        template,
-        instruction,
-    };
-    Err(Fault { cause, place })
-}
-
-// Whether a stream is refused with this fault, at its end too.
-fn keeps<E: Entries>(
-    decoder: &mut Decoder<'_, E>,
-    stream: &[u8],
-    messages: &mut Vec<Message>,
-    fault: Result<(), Fault>,
-) -> bool {
-    decoder.fed() == 0
-        && stream.len() < 1000
-        && decoder.feed(stream, messages) == fault
-        && decoder.finish() == fault
+// The number of messages of the template Quote of a decoder that answers all steps so.
+fn count(rt: &impl Abort, alloc: Global, steps: &[Step]) -> usize {
+    match quotes(alloc) {
+        Ok(set) => follow(rt, alloc, &set, MapEntries::new(alloc), steps).len(),
+        Err(_) => panic!(rt; "refused"),
+    }
 }
 
 #[test]
-fn a_stream_is_refused_and_begun_again(rt: HostRuntime) -> Result<(), AllocError> {
-    let alloc = rt.alloc();
-    let Ok(set) = quotes(alloc) else {
-        panic!(rt; "refused");
-    };
-    let mut decoder = Decoder::new(alloc, &set, MapEntries::new(alloc));
-    let mut messages = Vec::new(alloc);
-    let fault = at(Cause::D5, 1, 0, 0);
-    assert!(rt; keeps(&mut decoder, &[0x80], &mut messages, fault));
-    decoder.reset();
-    assert!(rt; takes_all(&mut decoder, &mut messages));
-    same(&rt, messages.len(), 1);
-    Ok(())
+fn a_stream_is_refused_and_begun_again(rt: HostRuntime) {
+    const REFUSED: End = End::Fault(Cause::D5, 1, 1, 0, 0);
+    const STEPS: &[Step] = &[
+        Step::Fed(0),
+        Step::Feed(&[0x80], REFUSED),
+        Step::Finish(REFUSED),
+        Step::Reset,
+        Step::Fed(0),
+        Step::Feed(STREAM, End::Whole),
+        Step::Fed(8),
+        Step::Held(0),
+        Step::Finish(End::Whole),
+    ];
+    same(&rt, count(&rt, rt.alloc(), STEPS), 1);
 }
 
-// Whether a stream that ends within the decimal, of which one byte has come, has this fault at its end.
-fn is_cut<E: Entries>(
-    decoder: &mut Decoder<'_, E>,
-    messages: &mut Vec<Message>,
-    fault: Result<(), Fault>,
-) -> bool {
-    decoder.fed() == 0
-        && decoder.feed(&STREAM[..6], messages).is_ok()
-        && decoder.held() == 1
-        && decoder.finish() == fault
-}
-
+// A stream that ends within the decimal, of which one byte has come.
 #[test]
-fn a_stream_that_is_cut_is_truncated(rt: HostRuntime) -> Result<(), AllocError> {
-    let alloc = rt.alloc();
-    let Ok(set) = quotes(alloc) else {
-        panic!(rt; "refused");
-    };
-    let mut decoder = Decoder::new(alloc, &set, MapEntries::new(alloc));
-    let mut messages = Vec::new(alloc);
-    let fault = at(Cause::Truncated, 5, 1, 3);
-    assert!(rt; is_cut(&mut decoder, &mut messages, fault));
-    same(&rt, messages.len(), 0);
-    Ok(())
+fn a_stream_that_is_cut_is_truncated(rt: HostRuntime) {
+    const STEPS: &[Step] = &[
+        Step::Fed(0),
+        Step::Feed(&[0xF0, 0x81, 0x81, 0x41, 0xC2, 0xFE], End::Whole),
+        Step::Held(1),
+        Step::Finish(End::Fault(Cause::Truncated, 1, 5, 1, 3)),
+    ];
+    same(&rt, count(&rt, rt.alloc(), STEPS), 0);
 }

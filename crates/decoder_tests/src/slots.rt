@@ -1,7 +1,7 @@
 //! Slots for a decoder.
 
 ghost use Rattle.std.specs.Prelude.{IfOk};
-ghost use Rattle.fast_stream.specs.Traversals.{ServesAll};
+ghost use Rattle.fast_walk.specs.Traversals.{ServesAll};
 
 use fast_dictionary::{Entries, SlotEntries};
 use fast_template::TemplateSet;

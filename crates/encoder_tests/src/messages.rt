@@ -1,14 +1,14 @@
 //! Messages through the calls of an encoder and of a stream of messages.
 
 ghost use Rattle.std.specs.Prelude.{IfOk};
-ghost use Rattle.fast_stream.specs.Traversals.{ServesAll};
+ghost use Rattle.fast_walk.specs.Traversals.{ServesAll};
 
 use crate::same::same;
-use crate::worked::{WORKED, quote};
+use crate::worked::{long_quote, quote, worked};
 use fast_decoder::Decoder;
 use fast_dictionary::{Entries, MapEntries, SlotEntries};
 use fast_encoder::{EncodeCause, EncodeFault, Encoder, MessageOutputStream};
-use fast_io::{Counted, ScriptOutput};
+use fast_io::{ByteOutput, Counted, ScriptOutput};
 use fast_stream::{Message, Node};
 use fast_template::{ByteString, Scalar, TemplateSet, UnicodeText};
 use std::alloc::{AllocError, Global};
@@ -35,6 +35,20 @@ fn decoded(alloc: Global, set: &TemplateSet, stream: &[u8]) -> Vec<Message> {
     messages
 }
 
+// Whether all messages are encoded.
+fn encodes_all<E: Entries>(
+    encoder: &mut Encoder<'_, E>,
+    messages: &[Message],
+    out: &mut Vec<u8>,
+) -> bool {
+    for message in messages {
+        if encoder.encode(message, out).is_err() {
+            return false;
+        }
+    }
+    true
+}
+
 // Whether messages have these canonical bytes, over these entries.
 fn encodes<E: Entries>(
     alloc: Global,
@@ -47,51 +61,92 @@ fn encodes<E: Entries>(
 {
     let mut encoder = Encoder::new(alloc, set, entries);
     let mut out = Vec::new(alloc);
-    for message in messages {
-        if encoder.encode(message, &mut out).is_err() {
-            return false;
-        }
+    encodes_all(&mut encoder, messages, &mut out) && out.as_slice() == canonical
+}
+
+// The messages of a stream have these canonical bytes, over both kinds of entries.
+fn has_canonical(
+    rt: &impl Abort,
+    alloc: Global,
+    set: &TemplateSet,
+    stream: &[u8],
+    canonical: &[u8],
+) -> Result<(), AllocError> {
+    let messages = decoded(alloc, set, stream);
+    let map = MapEntries::new(alloc);
+    same(rt, encodes(alloc, set, map, &messages, canonical), true);
+    let slots = slots_of(alloc, set)?;
+    same(rt, encodes(alloc, set, slots, &messages, canonical), true);
+    Ok(())
+}
+
+// Streams, and their canonical bytes.
+fn all_have_canonical(
+    rt: &impl Abort,
+    alloc: Global,
+    rows: &[(&[u8], &[u8])],
+) -> Result<(), AllocError> {
+    let Some(set) = worked(alloc) else {
+        panic!(rt; "refused");
+    };
+    for (stream, canonical) in rows {
+        has_canonical(rt, alloc, &set, stream, canonical)?;
     }
-    out.as_slice() == canonical
-}
-
-// Whether the messages of a stream have these canonical bytes, over both kinds of entries.
-fn has_canonical(alloc: Global, stream: &[u8], canonical: &[u8]) -> bool {
-    let Ok(set) = TemplateSet::from_json(alloc, WORKED.as_bytes()) else {
-        return false;
-    };
-    let messages = decoded(alloc, &set, stream);
-    let Ok(slots) = slots_of(alloc, &set) else {
-        return false;
-    };
-    encodes(alloc, &set, MapEntries::new(alloc), &messages, canonical)
-        && encodes(alloc, &set, slots, &messages, canonical)
+    Ok(())
 }
 
 #[test]
-fn messages_of_streams(rt: HostRuntime) {
-    let alloc = rt.alloc();
-    let first = b"\xf0\x81\x81\x41\xc2\xfe\x00\xe4";
-    assert!(rt; has_canonical(alloc, first, first));
-    let two = b"\xf0\x81\x81\x41\xc2\xfe\x00\xe4\x80\x80\x81";
-    assert!(rt; has_canonical(alloc, two, two));
-    let spelled = b"\xf0\x81\x81\x41\xc2\xfe\x00\xe4\xf8\x81\x82\x41\xc2\x80\x81\x80";
-    assert!(rt; has_canonical(alloc, spelled, two));
-    let deltas = b"\xc0\x8a\x80\x47\x45\x48\xb6\x80\x82\x4d\xb6\x80\xfd\x45\xd3";
-    assert!(rt; has_canonical(alloc, deltas, deltas));
+fn messages_of_streams(rt: HostRuntime) -> Result<(), AllocError> {
+    const ROWS: &[(&[u8], &[u8])] = &[
+        (
+            b"\xf0\x81\x81\x41\xc2\xfe\x00\xe4",
+            b"\xf0\x81\x81\x41\xc2\xfe\x00\xe4",
+        ),
+        (
+            b"\xf0\x81\x81\x41\xc2\xfe\x00\xe4\x80\x80\x81",
+            b"\xf0\x81\x81\x41\xc2\xfe\x00\xe4\x80\x80\x81",
+        ),
+        (
+            b"\xf0\x81\x81\x41\xc2\xfe\x00\xe4\xf8\x81\x82\x41\xc2\x80\x81\x80",
+            b"\xf0\x81\x81\x41\xc2\xfe\x00\xe4\x80\x80\x81",
+        ),
+        (
+            b"\xc0\x8a\x80\x47\x45\x48\xb6\x80\x82\x4d\xb6\x80\xfd\x45\xd3",
+            b"\xc0\x8a\x80\x47\x45\x48\xb6\x80\x82\x4d\xb6\x80\xfd\x45\xd3",
+        ),
+    ];
+    all_have_canonical(&rt, rt.alloc(), ROWS)
 }
 
 #[test]
-fn messages_with_others_inside(rt: HostRuntime) {
-    let alloc = rt.alloc();
-    let parts = b"\xf0\x83\x80\x85\x90\x39\x45\xa3";
-    assert!(rt; has_canonical(alloc, parts, parts));
-    let legs = b"\xc0\x84\x80\x80\x81\x80\x83\x85\x86";
-    assert!(rt; has_canonical(alloc, legs, legs));
-    let marks = b"\xc0\x85\x82\xc0\x85\x80";
-    assert!(rt; has_canonical(alloc, marks, marks));
-    let groups = b"\xf0\x8b\xc0\x85\x86\x80\xa0\x80";
-    assert!(rt; has_canonical(alloc, groups, groups));
+fn messages_with_others_inside(rt: HostRuntime) -> Result<(), AllocError> {
+    const ROWS: &[(&[u8], &[u8])] = &[
+        (
+            b"\xf0\x83\x80\x85\x90\x39\x45\xa3",
+            b"\xf0\x83\x80\x85\x90\x39\x45\xa3",
+        ),
+        (
+            b"\xc0\x84\x80\x80\x81\x80\x83\x85\x86",
+            b"\xc0\x84\x80\x80\x81\x80\x83\x85\x86",
+        ),
+        (b"\xc0\x85\x82\xc0\x85\x80", b"\xc0\x85\x82\xc0\x85\x80"),
+        (
+            b"\xf0\x8b\xc0\x85\x86\x80\xa0\x80",
+            b"\xf0\x8b\xc0\x85\x86\x80\xa0\x80",
+        ),
+    ];
+    all_have_canonical(&rt, rt.alloc(), ROWS)
+}
+
+// Whether a message is refused so, and nothing appended.
+fn refuses_one<E: Entries>(
+    encoder: &mut Encoder<'_, E>,
+    message: &Message,
+    fault: EncodeFault,
+    out: &mut Vec<u8>,
+) -> bool {
+    let size = out.len();
+    encoder.encode(message, out) == Err(fault) && out.len() == size
 }
 
 // Whether a message is refused for this behind others, and nothing appended, over these entries.
@@ -107,31 +162,47 @@ fn refuses_over<E: Entries>(
 {
     let mut encoder = Encoder::new(alloc, set, entries);
     let mut out = Vec::new(alloc);
-    for message in before {
-        if encoder.encode(message, &mut out).is_err() {
-            return false;
-        }
-    }
-    let size = out.len();
-    encoder.encode(message, &mut out) == Err(fault) && out.len() == size
+    encodes_all(&mut encoder, before, &mut out)
+        && refuses_one(&mut encoder, message, fault, &mut out)
 }
 
-fn refuses(
+fn both_refuse(
+    rt: &impl Abort,
     alloc: Global,
+    set: &TemplateSet,
     before: &[Message],
     message: &Message,
+    fault: EncodeFault,
+) -> Result<(), AllocError> {
+    let map = MapEntries::new(alloc);
+    same(
+        rt,
+        refuses_over(alloc, set, map, before, message, fault),
+        true,
+    );
+    let slots = slots_of(alloc, set)?;
+    same(
+        rt,
+        refuses_over(alloc, set, slots, before, message, fault),
+        true,
+    );
+    Ok(())
+}
+
+// A message is refused for this behind others, over both kinds of entries.
+pub(crate) fn is_refused(
+    rt: &impl Abort,
+    alloc: Global,
+    before: &[Message],
+    message: Message,
     cause: EncodeCause,
     instruction: u32,
-) -> bool {
-    let Ok(set) = TemplateSet::from_json(alloc, WORKED.as_bytes()) else {
-        return false;
-    };
-    let Ok(slots) = slots_of(alloc, &set) else {
-        return false;
-    };
+) -> Result<(), AllocError> {
     let fault = EncodeFault { cause, instruction };
-    refuses_over(alloc, &set, MapEntries::new(alloc), before, message, fault)
-        && refuses_over(alloc, &set, slots, before, message, fault)
+    match worked(alloc) {
+        Some(set) => both_refuse(rt, alloc, &set, before, &message, fault),
+        None => panic!(rt; "refused"),
+    }
 }
 
 fn message(template: u32, fields: Vec<Node>) -> Message {
@@ -148,15 +219,13 @@ fn text(alloc: Global, template: u32, text: &[u8]) -> Result<Message, AllocError
 fn messages_of_another_shape(rt: HostRuntime) -> Result<(), AllocError> {
     let alloc = rt.alloc();
     let unknown = message(100, Vec::new(alloc));
-    assert!(rt; refuses(alloc, &[], &unknown, EncodeCause::D9, 0));
+    is_refused(&rt, alloc, &[], unknown, EncodeCause::D9, 0)?;
     let short = quote(alloc, b"AB", 3)?;
-    assert!(rt; refuses(alloc, &[], &short, EncodeCause::Mismatch, 0));
-    let long = vec![in alloc; b'A'; 65_536]?;
-    let large = quote(alloc, &long, 4)?;
-    assert!(rt; refuses(alloc, &[], &large, EncodeCause::Limit, 0));
+    is_refused(&rt, alloc, &[], short, EncodeCause::Mismatch, 0)?;
+    let large = long_quote(alloc, 4)?;
+    is_refused(&rt, alloc, &[], large, EncodeCause::Limit, 0)?;
     let far = quote(alloc, b"AB", 4)?;
-    assert!(rt; refuses(alloc, &[], &far, EncodeCause::R1, 3));
-    Ok(())
+    is_refused(&rt, alloc, &[], far, EncodeCause::R1, 3)
 }
 
 // A message of constants with another first value.
@@ -195,24 +264,52 @@ fn unicode(alloc: Global) -> Result<Message, AllocError> {
 #[test]
 fn fields_without_a_form(rt: HostRuntime) -> Result<(), AllocError> {
     let alloc = rt.alloc();
-    assert!(rt; refuses(alloc, &[], &constants(alloc)?, EncodeCause::NotConstant, 1));
-    assert!(rt; refuses(alloc, &[], &fixed(alloc)?, EncodeCause::D3, 1));
-    assert!(rt; refuses(alloc, &[], &emptied(alloc)?, EncodeCause::D6, 2));
-    let before = vec![in alloc; text(alloc, 8, b"xab")?]?;
-    assert!(rt; refuses(alloc, &before, &unicode(alloc)?, EncodeCause::D4, 1));
-    assert!(rt;
-        refuses(
-            alloc,
-            &before,
-            &text(alloc, 8, b"x")?,
-            EncodeCause::TooShort,
-            1
-        )
-    );
-    Ok(())
+    is_refused(
+        &rt,
+        alloc,
+        &[],
+        constants(alloc)?,
+        EncodeCause::NotConstant,
+        1,
+    )?;
+    is_refused(&rt, alloc, &[], fixed(alloc)?, EncodeCause::D3, 1)?;
+    is_refused(&rt, alloc, &[], emptied(alloc)?, EncodeCause::D6, 2)
+}
+
+// The same behind a message of a string.
+fn is_refused_behind(
+    rt: &impl Abort,
+    alloc: Global,
+    message: Message,
+    cause: EncodeCause,
+) -> Result<(), AllocError> {
+    let before = text(alloc, 8, b"xab")?;
+    is_refused(rt, alloc, &[before], message, cause, 1)
+}
+
+#[test]
+fn fields_without_a_form_behind_others(rt: HostRuntime) -> Result<(), AllocError> {
+    let alloc = rt.alloc();
+    is_refused_behind(&rt, alloc, unicode(alloc)?, EncodeCause::D4)?;
+    is_refused_behind(&rt, alloc, text(alloc, 8, b"x")?, EncodeCause::TooShort)
 }
 
 // Whether a refusal leaves the entries as they were, and a reset makes them undefined.
+fn goes_on_with<E: Entries>(
+    encoder: &mut Encoder<'_, E>,
+    long: &Message,
+    short: &Message,
+    out: &mut Vec<u8>,
+) -> bool {
+    let first = encoder.encode(long, out).is_ok();
+    let second = encoder.encode(short, out).is_err();
+    let third = encoder.encode(long, out).is_ok();
+    encoder.reset();
+    let fourth = encoder.encode(long, out).is_ok();
+    first && second && third && fourth
+}
+
+// The same over these entries, and what is written.
 fn goes_on<E: Entries>(
     alloc: Global,
     set: &TemplateSet,
@@ -222,28 +319,34 @@ fn goes_on<E: Entries>(
 ) -> bool
     requires { ServesAll (E.serves entries) set.now }
 {
+    const WANT: &[u8] = b"\xe0\x88\x78\x61\xe2\x80\xe0\x88\x78\x61\xe2";
     let mut encoder = Encoder::new(alloc, set, entries);
     let mut out = Vec::new(alloc);
-    let first = encoder.encode(long, &mut out).is_ok();
-    let second = encoder.encode(short, &mut out).is_err();
-    let third = encoder.encode(long, &mut out).is_ok();
-    encoder.reset();
-    let fourth = encoder.encode(long, &mut out).is_ok();
-    let want = b"\xe0\x88\x78\x61\xe2\x80\xe0\x88\x78\x61\xe2";
-    first && second && third && fourth && out.as_slice() == want.as_slice()
+    goes_on_with(&mut encoder, long, short, &mut out) && out.as_slice() == WANT
+}
+
+fn both_go_on(
+    rt: &impl Abort,
+    alloc: Global,
+    set: &TemplateSet,
+    long: &Message,
+    short: &Message,
+) -> Result<(), AllocError> {
+    let map = MapEntries::new(alloc);
+    same(rt, goes_on(alloc, set, map, long, short), true);
+    let slots = slots_of(alloc, set)?;
+    same(rt, goes_on(alloc, set, slots, long, short), true);
+    Ok(())
 }
 
 #[test]
 fn a_refusal_changes_nothing(rt: HostRuntime) -> Result<(), AllocError> {
-    let alloc = rt.alloc();
-    let Ok(set) = TemplateSet::from_json(alloc, WORKED.as_bytes()) else {
+    let long = text(rt.alloc(), 8, b"xab")?;
+    let short = text(rt.alloc(), 8, b"x")?;
+    let Some(set) = worked(rt.alloc()) else {
         panic!(rt; "refused");
     };
-    let long = text(alloc, 8, b"xab")?;
-    let short = text(alloc, 8, b"x")?;
-    assert!(rt; goes_on(alloc, &set, MapEntries::new(alloc), &long, &short));
-    assert!(rt; goes_on(alloc, &set, slots_of(alloc, &set)?, &long, &short));
-    Ok(())
+    both_go_on(&rt, rt.alloc(), &set, &long, &short)
 }
 
 const WRITE: EncodeFault = EncodeFault {
@@ -252,6 +355,16 @@ const WRITE: EncodeFault = EncodeFault {
 };
 
 // Whether a write that fails is kept, also behind a reset.
+fn fails_thrice<W: ByteOutput, E: Entries>(
+    stream: &mut MessageOutputStream<'_, W, E>,
+    first: &Message,
+) -> bool {
+    let once = stream.write_message(first) == Err(WRITE);
+    let twice = stream.write_message(first) == Err(WRITE);
+    stream.reset();
+    once && twice && stream.write_message(first) == Err(WRITE)
+}
+
 fn keeps_failing(
     alloc: Global,
     set: &TemplateSet,
@@ -260,35 +373,51 @@ fn keeps_failing(
 ) -> bool {
     let writer = Counted::new(out);
     let mut stream = MessageOutputStream::new(alloc, writer, set, MapEntries::new(alloc));
-    let once = stream.write_message(first) == Err(WRITE);
-    let twice = stream.write_message(first) == Err(WRITE);
-    stream.reset();
-    once && twice && stream.write_message(first) == Err(WRITE)
+    fails_thrice(&mut stream, first)
+}
+
+// A writer keeps failing, and has taken these bytes.
+fn fails_behind(
+    rt: &impl Abort,
+    alloc: Global,
+    set: &TemplateSet,
+    first: &Message,
+    writer: ScriptOutput,
+    taken: &[u8],
+) {
+    let mut out = writer;
+    same(rt, keeps_failing(alloc, set, first, &mut out), true);
+    same(rt, out.bytes(), taken);
+}
+
+fn writers_fail(rt: &impl Abort, alloc: Global, set: &TemplateSet, first: &Message) {
+    let full = ScriptOutput::new(alloc, 3, false, false);
+    fails_behind(rt, alloc, set, first, full, &[0xf0, 0x81, 0x81]);
+    let none = ScriptOutput::new(alloc, 0, true, false);
+    fails_behind(rt, alloc, set, first, none, &[]);
+}
+
+fn writers_fail_at(rt: &impl Abort, alloc: Global, set: &TemplateSet, stream: &[u8]) {
+    let messages = decoded(alloc, set, stream);
+    match messages.first() {
+        Some(first) => writers_fail(rt, alloc, set, first),
+        None => panic!(rt; "no message"),
+    }
 }
 
 #[test]
-fn a_writer_that_fails(rt: HostRuntime) -> Result<(), AllocError> {
-    let alloc = rt.alloc();
-    let Ok(set) = TemplateSet::from_json(alloc, WORKED.as_bytes()) else {
-        panic!(rt; "refused");
-    };
-    let messages = decoded(alloc, &set, b"\xf0\x81\x81\x41\xc2\xfe\x00\xe4");
-    let Some(first) = messages.first() else {
-        panic!(rt; "no message");
-    };
-    let mut out = ScriptOutput::new(alloc, 3, false, false);
-    assert!(rt; keeps_failing(alloc, &set, first, &mut out));
-    same(&rt, out.bytes(), [0xf0, 0x81, 0x81].as_slice());
-    let mut none = ScriptOutput::new(alloc, 0, true, false);
-    assert!(rt; keeps_failing(alloc, &set, first, &mut none));
-    same(&rt, none.bytes().len(), 0);
-    Ok(())
+fn a_writer_that_fails(rt: HostRuntime) {
+    match worked(rt.alloc()) {
+        Some(set) => writers_fail_at(&rt, rt.alloc(), &set, b"\xf0\x81\x81\x41\xc2\xfe\x00\xe4"),
+        None => panic!(rt; "refused"),
+    }
 }
 
 // Whether the messages are written one behind the other, and anew behind a reset.
-fn writes_all(alloc: Global, set: &TemplateSet, two: &[Message], out: &mut ScriptOutput) -> bool {
-    let writer = Counted::new(out);
-    let mut stream = MessageOutputStream::new(alloc, writer, set, MapEntries::new(alloc));
+fn writes_each<W: ByteOutput, E: Entries>(
+    stream: &mut MessageOutputStream<'_, W, E>,
+    two: &[Message],
+) -> bool {
     for message in two {
         if stream.write_message(message).is_err() {
             return false;
@@ -301,18 +430,29 @@ fn writes_all(alloc: Global, set: &TemplateSet, two: &[Message], out: &mut Scrip
     }
 }
 
-#[test]
-fn a_writer_that_takes_all(rt: HostRuntime) -> Result<(), AllocError> {
-    let alloc = rt.alloc();
-    let Ok(set) = TemplateSet::from_json(alloc, WORKED.as_bytes()) else {
-        panic!(rt; "refused");
-    };
-    let two = decoded(alloc, &set, b"\xf0\x81\x81\x41\xc2\xfe\x00\xe4\x80\x80\x81");
+fn writes_all(alloc: Global, set: &TemplateSet, two: &[Message], out: &mut ScriptOutput) -> bool {
+    let writer = Counted::new(out);
+    let mut stream = MessageOutputStream::new(alloc, writer, set, MapEntries::new(alloc));
+    writes_each(&mut stream, two)
+}
+
+// The messages of a stream are written so.
+fn are_written(rt: &impl Abort, alloc: Global, set: &TemplateSet, stream: &[u8], want: &[u8]) {
+    let two = decoded(alloc, set, stream);
     let mut out = ScriptOutput::new(alloc, 100, false, false);
-    assert!(rt; writes_all(alloc, &set, &two, &mut out));
-    let want = b"\xf0\x81\x81\x41\xc2\xfe\x00\xe4\x80\x80\x81\xf0\x81\x81\x41\xc2\xfe\x00\xe4";
-    same(&rt, out.bytes(), want.as_slice());
-    Ok(())
+    same(rt, writes_all(alloc, set, &two, &mut out), true);
+    same(rt, out.bytes(), want);
+}
+
+#[test]
+fn a_writer_that_takes_all(rt: HostRuntime) {
+    const TWO: &[u8] = b"\xf0\x81\x81\x41\xc2\xfe\x00\xe4\x80\x80\x81";
+    const WANT: &[u8] =
+        b"\xf0\x81\x81\x41\xc2\xfe\x00\xe4\x80\x80\x81\xf0\x81\x81\x41\xc2\xfe\x00\xe4";
+    match worked(rt.alloc()) {
+        Some(set) => are_written(&rt, rt.alloc(), &set, TWO, WANT),
+        None => panic!(rt; "refused"),
+    }
 }
 
 // The last digit of a number, as a character.
@@ -320,20 +460,29 @@ fn digit(number: u32) -> u8 {
     b'0' + (number % 10) as u8
 }
 
-// A template of so many mandatory copy fields of different names.
+// A mandatory copy field with this number in its name.
+fn push_field(text: &mut Vec<u8>, number: u32) -> Result<(), AllocError> {
+    let digits = [
+        digit(number / 1000),
+        digit(number / 100),
+        digit(number / 10),
+        digit(number),
+    ];
+    if number > 0 {
+        text.extend_from_slice(b",")?;
+    }
+    text.extend_from_slice(b"{\"kind\":\"uInt32\",\"operator\":\"copy\",\"name\":\"f")?;
+    text.extend_from_slice(&digits)?;
+    text.extend_from_slice(b"\"}")?;
+    Ok(())
+}
+
+// A template of so many such fields.
 fn wide_template(alloc: Global, fields: u32) -> Result<Vec<u8>, AllocError> {
     let mut text = Vec::new(alloc);
     text.extend_from_slice(b"{\"templates\":[{\"name\":\"Wide\",\"id\":1,\"instructions\":[")?;
     for number in 0..fields {
-        if number > 0 {
-            text.push(b',')?;
-        }
-        text.extend_from_slice(b"{\"kind\":\"uInt32\",\"operator\":\"copy\",\"name\":\"f")?;
-        text.push(digit(number / 1000))?;
-        text.push(digit(number / 100))?;
-        text.push(digit(number / 10))?;
-        text.push(digit(number))?;
-        text.extend_from_slice(b"\"}")?;
+        push_field(&mut text, number)?;
     }
     text.extend_from_slice(b"]}]}")?;
     Ok(text)
@@ -349,20 +498,21 @@ fn wide_message(alloc: Global, fields: u32) -> Result<Message, AllocError> {
 }
 
 // Whether a message with a map bit too many is refused.
-fn refuses_wide(alloc: Global, template: &[u8], wide: &Message) -> bool {
-    let Ok(set) = TemplateSet::from_json(alloc, template) else {
-        return false;
+fn refuses_wide(alloc: Global, set: &TemplateSet, wide: &Message) -> bool {
+    let fault = EncodeFault {
+        cause: EncodeCause::Limit,
+        instruction: 0,
     };
-    let cause = EncodeCause::Limit;
-    let instruction = 0;
-    let fault = EncodeFault { cause, instruction };
-    refuses_over(alloc, &set, MapEntries::new(alloc), &[], wide, fault)
+    refuses_over(alloc, set, MapEntries::new(alloc), &[], wide, fault)
 }
 
 #[test]
 fn a_map_without_room(rt: HostRuntime) -> Result<(), AllocError> {
-    let alloc = rt.alloc();
-    let template = wide_template(alloc, 1792)?;
-    assert!(rt; refuses_wide(alloc, &template, &wide_message(alloc, 1792)?));
+    let template = wide_template(rt.alloc(), 1792)?;
+    let wide = wide_message(rt.alloc(), 1792)?;
+    match TemplateSet::from_json(rt.alloc(), &template) {
+        Ok(set) => same(&rt, refuses_wide(rt.alloc(), &set, &wide), true),
+        Err(_) => panic!(rt; "refused"),
+    }
     Ok(())
 }

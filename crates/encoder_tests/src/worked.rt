@@ -1,11 +1,11 @@
 //! The worked templates, and a message of them.
 
 use fast_stream::{Message, Node};
-use fast_template::{ByteString, Scalar};
+use fast_template::{ByteString, Scalar, TemplateSet};
 use std::alloc::{AllocError, Global};
 
 // The templates of the worked streams.
-pub(crate) const WORKED: &str = r#"{"templates":[
+const WORKED: &str = r#"{"templates":[
 {"name":"Quote","id":1,"instructions":[
  {"kind":"uInt32","name":"Seq","operator":"increment"},
  {"kind":"string","name":"Sym","operator":"copy"},
@@ -58,21 +58,38 @@ pub(crate) const WORKED: &str = r#"{"templates":[
  {"kind":"uInt32","name":"A"},
  {"kind":"uInt32","name":"B","operator":"copy"}]}]}"#;
 
-// A Quote with this symbol, as far as so many nodes.
-pub(crate) fn quote(alloc: Global, symbol: &[u8], nodes: usize) -> Result<Message, AllocError> {
+// Their set.
+pub(crate) fn worked(alloc: Global) -> Option<TemplateSet> {
+    TemplateSet::from_json(alloc, WORKED.as_bytes()).ok()
+}
+
+// The nodes of a Quote with this symbol.
+fn quoted(alloc: Global, symbol: &[u8]) -> Result<Vec<Node>, AllocError> {
     let symbol = ByteString::from_vec(symbol.to_vec(alloc)?);
-    let mut fields = vec![in alloc;
+    let decimal = Scalar::Decimal {
+        exponent: 64,
+        mantissa: 1,
+    };
+    Ok(vec![in alloc;
         Node::Value(Scalar::U32(1)),
         Node::Value(Scalar::Ascii(symbol)),
-        Node::Value(Scalar::Decimal {
-            exponent: 64,
-            mantissa: 1,
-        }),
+        Node::Value(decimal),
         Node::Absent,
-    ]?;
+    ]?)
+}
+
+// A Quote with this symbol, as far as so many nodes.
+pub(crate) fn quote(alloc: Global, symbol: &[u8], nodes: usize) -> Result<Message, AllocError> {
+    let mut fields = quoted(alloc, symbol)?;
     fields.truncate(nodes);
     Ok(Message {
         template: 1,
         fields,
     })
+}
+
+// A Quote with a symbol that is too long.
+pub(crate) fn long_quote(alloc: Global, nodes: usize) -> Result<Message, AllocError> {
+    let symbol = vec![in alloc; b'A'; 65_536]?;
+    quote(alloc, &symbol, nodes)
 }

@@ -71,6 +71,42 @@ fn differences_are_relayed(rt: HostRuntime) -> Result<(), AllocError> {
 }
 
 #[test]
+fn whole_decimals_are_relayed(rt: HostRuntime) -> Result<(), AllocError> {
+    const ROWS: &[Relayed] = &[
+        Relayed {
+            of: Shape::Mandatory(Kind::Decimal, Operator::Copy),
+            before: Kept::Assigned(Value::Decimal(-2, 7)),
+            bytes: &[0xff, 0x81, 0xfe],
+            appended: &[0x81, 0xfe],
+            after: Kept::Assigned(Value::Decimal(1, -2)),
+        },
+        // a nullable exponent, an overlong mantissa
+        Relayed {
+            of: Shape::Optional(Kind::Decimal, Operator::Copy),
+            before: Kept::Empty,
+            bytes: &[0xff, 0x82, 0x7f, 0xfe],
+            appended: &[0x82, 0xfe],
+            after: Kept::Assigned(Value::Decimal(1, -2)),
+        },
+        Relayed {
+            of: Shape::Mandatory(Kind::Decimal, Operator::Plain),
+            before: Kept::Undefined,
+            bytes: &[0xff, 0xfe, 0x87],
+            appended: &[0xfe, 0x87],
+            after: Kept::Undefined,
+        },
+        Relayed {
+            of: Shape::Optional(Kind::Decimal, Operator::Default),
+            before: Kept::Undefined,
+            bytes: &[0xff, 0xfe, 0x87],
+            appended: &[0xfe, 0x87],
+            after: Kept::Undefined,
+        },
+    ];
+    all_relayed(&rt, rt.alloc(), ROWS)
+}
+
+#[test]
 fn the_rest_goes_the_general_way(rt: HostRuntime) -> Result<(), AllocError> {
     const ROWS: &[NotRelayed] = &[
         // NULL
@@ -96,10 +132,17 @@ fn the_rest_goes_the_general_way(rt: HostRuntime) -> Result<(), AllocError> {
             before: Kept::Undefined,
             bytes: &[0xff, 0x81, 0xfe],
         },
+        // what bit 0 gives
+        NotRelayed {
+            of: Shape::Mandatory(Kind::Decimal, Operator::Copy),
+            before: Kept::Assigned(Value::Decimal(1, -2)),
+            bytes: &[0xff, 0x81, 0xfe],
+        },
+        // an exponent of -64
         NotRelayed {
             of: Shape::Mandatory(Kind::Decimal, Operator::Copy),
             before: Kept::Assigned(Value::Decimal(-2, 7)),
-            bytes: &[0xff, 0x81, 0xfe],
+            bytes: &[0xff, 0xc0, 0x81],
         },
         NotRelayed {
             of: Shape::Mandatory(Kind::Int64, Operator::Delta),

@@ -6,6 +6,8 @@ mod decimals;
 #[cfg(test)]
 mod fields;
 #[cfg(test)]
+mod nulls;
+#[cfg(test)]
 mod numbers;
 #[cfg(test)]
 mod reading;
@@ -14,6 +16,10 @@ mod relaying;
 #[cfg(test)]
 mod same;
 #[cfg(test)]
+mod taken;
+#[cfg(test)]
 mod texts;
+#[cfg(test)]
+mod vectors;
 #[cfg(test)]
 mod writing;

@@ -25,7 +25,11 @@ fn relay(alloc: Global, of: Shape, before: Kept, bytes: &[u8]) -> Result<Answer,
     relay_with(alloc, &instr, before, bytes)
 }
 
-fn all_relayed(rt: &impl Abort, alloc: Global, rows: &[Relayed]) -> Result<(), AllocError> {
+pub(crate) fn all_relayed(
+    rt: &impl Abort,
+    alloc: Global,
+    rows: &[Relayed],
+) -> Result<(), AllocError> {
     for row in rows {
         let answer = relay(alloc, row.of, row.before, row.bytes)?;
         is_relayed(rt, alloc, answer, row)?;
@@ -33,7 +37,11 @@ fn all_relayed(rt: &impl Abort, alloc: Global, rows: &[Relayed]) -> Result<(), A
     Ok(())
 }
 
-fn none_relayed(rt: &impl Abort, alloc: Global, rows: &[NotRelayed]) -> Result<(), AllocError> {
+pub(crate) fn none_relayed(
+    rt: &impl Abort,
+    alloc: Global,
+    rows: &[NotRelayed],
+) -> Result<(), AllocError> {
     for row in rows {
         let answer = relay(alloc, row.of, row.before, row.bytes)?;
         is_left(rt, alloc, answer, row.before)?;
@@ -68,13 +76,22 @@ fn copies_of_texts_are_relayed(rt: HostRuntime) -> Result<(), AllocError> {
 
 #[test]
 fn optional_copies_of_texts_are_relayed(rt: HostRuntime) -> Result<(), AllocError> {
-    const RELAYED: &[Relayed] = &[Relayed {
-        of: Shape::Optional(Kind::Ascii, Operator::Copy),
-        before: Kept::Assigned(Value::Ascii(b"AB")),
-        bytes: &[0, 0x00, 0x80],
-        appended: &[0x00, 0x80],
-        after: Kept::Assigned(Value::Ascii(b"")),
-    }];
+    const RELAYED: &[Relayed] = &[
+        Relayed {
+            of: Shape::Optional(Kind::Ascii, Operator::Copy),
+            before: Kept::Assigned(Value::Ascii(b"AB")),
+            bytes: &[0, 0x00, 0x80],
+            appended: &[0x00, 0x80],
+            after: Kept::Assigned(Value::Ascii(b"")),
+        },
+        Relayed {
+            of: Shape::Optional(Kind::Ascii, Operator::Copy),
+            before: Kept::Empty,
+            bytes: &[0, 0x43, 0xc4],
+            appended: &[0x43, 0xc4],
+            after: Kept::Assigned(Value::Ascii(b"CD")),
+        },
+    ];
     const OTHERS: &[NotRelayed] = &[NotRelayed {
         of: Shape::Optional(Kind::Ascii, Operator::Copy),
         before: Kept::Assigned(Value::Ascii(b"AB")),
@@ -105,6 +122,22 @@ fn deltas_of_texts_are_relayed(rt: HostRuntime) -> Result<(), AllocError> {
             bytes: &[0, 0x81, 0xb7],
             appended: &[0x81, 0xb7],
             after: Kept::Assigned(Value::Ascii(b"ESM7")),
+        },
+        // the same end, and as short a removal
+        Relayed {
+            of: Shape::Mandatory(Kind::Ascii, Operator::Delta),
+            before: Kept::Assigned(Value::Ascii(b"0012")),
+            bytes: &[0, 0x82, 0x32, 0xb2],
+            appended: &[0x82, 0x32, 0xb2],
+            after: Kept::Assigned(Value::Ascii(b"0022")),
+        },
+        // the same end: removed in front are fewer
+        Relayed {
+            of: Shape::Mandatory(Kind::Ascii, Operator::Delta),
+            before: Kept::Assigned(Value::Ascii(b"0012")),
+            bytes: &[0, 0x84, 0x31, 0x30, 0x31, 0xb2],
+            appended: &[0xfe, 0xb1],
+            after: Kept::Assigned(Value::Ascii(b"1012")),
         },
         Relayed {
             of: Shape::Mandatory(Kind::Ascii, Operator::Delta),

@@ -1,12 +1,13 @@
 //! Templates that are built.
 
-use crate::loads::{at, granted};
+use crate::loads::{Wanted, answers, granted};
 use crate::same::same;
 use fast_template::{
-    FieldPart, Flat, Instruction, Kind, LoadCause, LoadFault, Operation, Operator, Presence,
-    Scalar, Template, TemplateSet,
+    FieldPart, Flat, Instruction, Kind, LoadCause, Operation, Operator, Presence, Scalar, Template,
+    TemplateSet,
 };
 use std::alloc::{AllocError, Global};
+use std::process::Abort;
 
 fn text(alloc: Global, given: Option<&str>) -> Result<Option<String>, AllocError> {
     match given {
@@ -123,215 +124,282 @@ fn referring(alloc: Global, name: &str, to: &[&str]) -> Result<Template, AllocEr
     template(alloc, name, None, members)
 }
 
-// The fault of templates, if they have one; want of memory ends the test.
-fn fault_of(alloc: Global, templates: Vec<Template>) -> Result<Option<LoadFault>, AllocError> {
-    Ok(granted(TemplateSet::build(alloc, templates))?.err())
+// Templates are loaded, or have this fault.
+fn are_judged(
+    rt: &impl Abort,
+    alloc: Global,
+    templates: Vec<Template>,
+    wanted: Wanted,
+) -> Result<(), AllocError> {
+    answers(rt, TemplateSet::build(alloc, templates), wanted)
 }
 
-// The fault of a field, if it has one.
-fn fault_of_field(
-    alloc: Global,
+// A field of a template, and what is wanted of the template.
+struct FieldRow {
     kind: Kind,
     presence: Presence,
     operator: Operator,
-    initial: Option<&str>,
-) -> Result<Option<LoadFault>, AllocError> {
-    let field = field(alloc, kind, presence, operator, initial)?;
-    fault_of(alloc, one(alloc, field)?)
+    initial: Option<&'static str>,
+    wanted: Wanted,
+}
+
+impl FieldRow {
+    fn templates(&self, alloc: Global) -> Result<Vec<Template>, AllocError> {
+        let field = field(alloc, self.kind, self.presence, self.operator, self.initial)?;
+        one(alloc, field)
+    }
 }
 
 #[test]
 fn fields_are_judged(rt: HostRuntime) -> Result<(), AllocError> {
-    let alloc = rt.alloc();
-    let mandatory = Presence::Mandatory;
-    let rows = [
-        (
-            Kind::Ascii,
-            mandatory,
-            Operator::Increment,
-            None,
-            at(LoadCause::S2, 1, 1),
-        ),
-        (
-            Kind::UInt32,
-            mandatory,
-            Operator::Copy,
-            Some("x"),
-            at(LoadCause::S3, 1, 1),
-        ),
-        (
-            Kind::UInt32,
-            mandatory,
-            Operator::Copy,
-            Some("4294967296"),
-            at(LoadCause::S3, 1, 1),
-        ),
-        (
-            Kind::UInt32,
-            mandatory,
-            Operator::Constant,
-            None,
-            at(LoadCause::S4, 1, 1),
-        ),
-        (
-            Kind::UInt32,
-            mandatory,
-            Operator::Default,
-            None,
-            at(LoadCause::S5, 1, 1),
-        ),
-        (
-            Kind::UInt32,
-            Presence::Optional,
-            Operator::Default,
-            None,
-            None,
-        ),
+    const ROWS: &[FieldRow] = &[
+        FieldRow {
+            kind: Kind::Ascii,
+            presence: Presence::Mandatory,
+            operator: Operator::Increment,
+            initial: None,
+            wanted: Wanted::Fault(LoadCause::S2, 1, 1),
+        },
+        FieldRow {
+            kind: Kind::UInt32,
+            presence: Presence::Mandatory,
+            operator: Operator::Copy,
+            initial: Some("x"),
+            wanted: Wanted::Fault(LoadCause::S3, 1, 1),
+        },
+        FieldRow {
+            kind: Kind::UInt32,
+            presence: Presence::Mandatory,
+            operator: Operator::Copy,
+            initial: Some("4294967296"),
+            wanted: Wanted::Fault(LoadCause::S3, 1, 1),
+        },
+        FieldRow {
+            kind: Kind::UInt32,
+            presence: Presence::Mandatory,
+            operator: Operator::Constant,
+            initial: None,
+            wanted: Wanted::Fault(LoadCause::S4, 1, 1),
+        },
+        FieldRow {
+            kind: Kind::UInt32,
+            presence: Presence::Mandatory,
+            operator: Operator::Default,
+            initial: None,
+            wanted: Wanted::Fault(LoadCause::S5, 1, 1),
+        },
+        FieldRow {
+            kind: Kind::UInt32,
+            presence: Presence::Optional,
+            operator: Operator::Default,
+            initial: None,
+            wanted: Wanted::Loaded,
+        },
     ];
-    for (kind, presence, operator, initial, expected) in rows {
-        let fault = fault_of_field(alloc, kind, presence, operator, initial)?;
-        assert_eq!(rt; fault, expected, "{operator:?}");
+    for row in ROWS {
+        are_judged(&rt, rt.alloc(), row.templates(rt.alloc())?, row.wanted)?;
     }
     Ok(())
 }
 
-// The fault of a decimal with this text beside its exponent, and a mantissa that no operator applies to.
-fn fault_of_parts(alloc: Global, exponent: &str) -> Result<Option<LoadFault>, AllocError> {
+// A decimal with this text beside its exponent, and a mantissa that no operator applies to.
+fn decimal(alloc: Global, exponent: &str) -> Result<Instruction, AllocError> {
     let exponent = operation(alloc, Operator::Copy, Some(exponent))?;
     let mantissa = operation(alloc, Operator::Tail, None)?;
-    let parts = parts(alloc, exponent, mantissa)?;
-    fault_of(alloc, one(alloc, parts)?)
+    parts(alloc, exponent, mantissa)
+}
+
+fn of_decimal(alloc: Global, exponent: &str) -> Result<Vec<Template>, AllocError> {
+    one(alloc, decimal(alloc, exponent)?)
 }
 
 #[test]
 fn an_exponent_is_judged_before_its_mantissa(rt: HostRuntime) -> Result<(), AllocError> {
-    let alloc = rt.alloc();
-    same(&rt, fault_of_parts(alloc, "64")?, at(LoadCause::S3, 1, 1));
-    same(&rt, fault_of_parts(alloc, "-63")?, at(LoadCause::S2, 1, 1));
+    const ROWS: &[(&str, Wanted)] = &[
+        ("64", Wanted::Fault(LoadCause::S3, 1, 1)),
+        ("-63", Wanted::Fault(LoadCause::S2, 1, 1)),
+    ];
+    for (exponent, wanted) in ROWS {
+        are_judged(&rt, rt.alloc(), of_decimal(rt.alloc(), exponent)?, *wanted)?;
+    }
     Ok(())
 }
 
-// Two templates of these names and identifiers.
-fn two(
-    alloc: Global,
-    names: (&str, &str),
-    ids: (Option<u32>, Option<u32>),
-) -> Result<Vec<Template>, AllocError> {
-    let first = template(alloc, names.0, ids.0, Vec::new(alloc))?;
-    let second = template(alloc, names.1, ids.1, Vec::new(alloc))?;
-    Ok(vec![in alloc; first, second]?)
+// Templates of these names and identifiers, and what is wanted of them.
+struct NamedRow {
+    named: &'static [(&'static str, Option<u32>)],
+    wanted: Wanted,
+}
+
+impl NamedRow {
+    fn templates(&self, alloc: Global) -> Result<Vec<Template>, AllocError> {
+        let mut templates = Vec::new(alloc);
+        for (name, id) in self.named {
+            templates.push(template(alloc, name, *id, Vec::new(alloc))?)?;
+        }
+        Ok(templates)
+    }
 }
 
 #[test]
 fn names_and_identifiers_are_new(rt: HostRuntime) -> Result<(), AllocError> {
-    let alloc = rt.alloc();
-    same(&rt, fault_of(alloc, Vec::new(alloc))?, None);
-    let set = two(alloc, ("A", "A"), (None, None))?;
-    same(
-        &rt,
-        fault_of(alloc, set)?,
-        at(LoadCause::DuplicateName, 2, 0),
-    );
-    let set = two(alloc, ("A", "B"), (Some(1), Some(1)))?;
-    same(&rt, fault_of(alloc, set)?, at(LoadCause::DuplicateId, 2, 0));
-    let set = two(alloc, ("A", "B b"), (None, None))?;
-    same(&rt, fault_of(alloc, set)?, at(LoadCause::S1, 2, 0));
+    const ROWS: &[NamedRow] = &[
+        NamedRow {
+            named: &[],
+            wanted: Wanted::Loaded,
+        },
+        NamedRow {
+            named: &[("A", None), ("A", None)],
+            wanted: Wanted::Fault(LoadCause::DuplicateName, 2, 0),
+        },
+        NamedRow {
+            named: &[("A", Some(1)), ("B", Some(1))],
+            wanted: Wanted::Fault(LoadCause::DuplicateId, 2, 0),
+        },
+        NamedRow {
+            named: &[("A", None), ("B b", None)],
+            wanted: Wanted::Fault(LoadCause::S1, 2, 0),
+        },
+    ];
+    for row in ROWS {
+        are_judged(&rt, rt.alloc(), row.templates(rt.alloc())?, row.wanted)?;
+    }
     Ok(())
 }
 
-// Templates that refer to others, each with its own name first.
-fn referring_all(alloc: Global, rows: &[&[&str]]) -> Result<Vec<Template>, AllocError> {
-    let mut templates = Vec::new(alloc);
-    for row in rows {
-        if let Some((name, to)) = row.split_first() {
-            templates.push(referring(alloc, name, to)?)?;
+// Templates that refer to others, each with its own name first, and what is wanted of them.
+struct ReferringRow {
+    referring: &'static [&'static [&'static str]],
+    wanted: Wanted,
+}
+
+impl ReferringRow {
+    fn templates(&self, alloc: Global) -> Result<Vec<Template>, AllocError> {
+        let mut templates = Vec::new(alloc);
+        for names in self.referring {
+            if let Some((name, to)) = names.split_first() {
+                templates.push(referring(alloc, name, to)?)?;
+            }
         }
+        Ok(templates)
     }
-    Ok(templates)
 }
 
 #[test]
 fn references_lead_to_templates_and_not_back(rt: HostRuntime) -> Result<(), AllocError> {
-    let alloc = rt.alloc();
-    let set = referring_all(alloc, &[&["A", "Nobody"]])?;
-    same(&rt, fault_of(alloc, set)?, at(LoadCause::D8, 1, 1));
-    let set = referring_all(alloc, &[&["A", "A"]])?;
-    same(&rt, fault_of(alloc, set)?, at(LoadCause::Cycle, 1, 0));
-    // the first leads to a cycle, and the second leads from one cycle to another
-    let set = referring_all(
-        alloc,
-        &[
-            &["A", "D", "B"],
-            &["B", "E"],
-            &["C", "D", "B"],
-            &["D", "C"],
-            &["E", "E"],
-        ],
-    )?;
-    same(&rt, fault_of(alloc, set)?, at(LoadCause::Cycle, 3, 0));
+    const ROWS: &[ReferringRow] = &[
+        ReferringRow {
+            referring: &[&["A", "Nobody"]],
+            wanted: Wanted::Fault(LoadCause::D8, 1, 1),
+        },
+        ReferringRow {
+            referring: &[&["A", "A"]],
+            wanted: Wanted::Fault(LoadCause::Cycle, 1, 0),
+        },
+        // the first leads to a cycle, and the second leads from one cycle to another
+        ReferringRow {
+            referring: &[
+                &["A", "D", "B"],
+                &["B", "E"],
+                &["C", "D", "B"],
+                &["D", "C"],
+                &["E", "E"],
+            ],
+            wanted: Wanted::Fault(LoadCause::Cycle, 3, 0),
+        },
+    ];
+    for row in ROWS {
+        are_judged(&rt, rt.alloc(), row.templates(rt.alloc())?, row.wanted)?;
+    }
     Ok(())
+}
+
+// A template whose innermost group of so many has this member.
+fn around(
+    alloc: Global,
+    name: &str,
+    levels: u32,
+    member: Instruction,
+) -> Result<Template, AllocError> {
+    let innermost = vec![in alloc; member]?;
+    template(alloc, name, None, groups(alloc, levels, innermost)?)
+}
+
+fn two(alloc: Global, first: Template, second: Template) -> Result<Vec<Template>, AllocError> {
+    Ok(vec![in alloc; first, second]?)
 }
 
 // A template of so many levels, and one of so many whose innermost group refers to it.
 fn nested(alloc: Global, inner: u32, outer: u32) -> Result<Vec<Template>, AllocError> {
-    let first = groups(alloc, inner, vec![in alloc; plain(alloc)?]?)?;
-    let second = groups(alloc, outer, vec![in alloc; reference(alloc, "A")?]?)?;
-    Ok(vec![in alloc;
-        template(alloc, "A", None, first)?,
-        template(alloc, "B", None, second)?,
-    ]?)
+    let first = around(alloc, "A", inner, plain(alloc)?)?;
+    let second = around(alloc, "B", outer, reference(alloc, "A")?)?;
+    two(alloc, first, second)
 }
 
 #[test]
 fn depth_goes_through_references(rt: HostRuntime) -> Result<(), AllocError> {
-    let alloc = rt.alloc();
-    let rows = [
-        (8, 0, None),
-        (9, 0, at(LoadCause::TooDeep, 1, 0)),
-        (4, 4, None),
-        (4, 5, at(LoadCause::TooDeep, 2, 0)),
+    const ROWS: &[(u32, u32, Wanted)] = &[
+        (8, 0, Wanted::Loaded),
+        (9, 0, Wanted::Fault(LoadCause::TooDeep, 1, 0)),
+        (4, 4, Wanted::Loaded),
+        (4, 5, Wanted::Fault(LoadCause::TooDeep, 2, 0)),
     ];
-    for (inner, outer, expected) in rows {
-        assert_eq!(rt;
-            fault_of(alloc, nested(alloc, inner, outer)?)?,
-            expected,
-            "{inner} {outer}"
-        );
+    for (inner, outer, wanted) in ROWS {
+        are_judged(
+            &rt,
+            rt.alloc(),
+            nested(rt.alloc(), *inner, *outer)?,
+            *wanted,
+        )?;
     }
     Ok(())
+}
+
+fn numbered(alloc: Global, number: u32) -> Result<String, AllocError> {
+    format!(in alloc; "N{number}")
+}
+
+// A template that refers to the next one twice.
+fn twice(alloc: Global, number: u32) -> Result<Template, AllocError> {
+    let name = numbered(alloc, number)?;
+    let next = numbered(alloc, number.saturating_add(1))?;
+    referring(alloc, &name, &[next.as_str(), next.as_str()])
+}
+
+// A template of so many fields.
+fn of_fields(alloc: Global, number: u32, fields: u32) -> Result<Template, AllocError> {
+    let mut members = Vec::new(alloc);
+    for _ in 0..fields {
+        members.push(plain(alloc)?)?;
+    }
+    template(alloc, &numbered(alloc, number)?, None, members)
 }
 
 // Templates, each of which refers to the next one twice; the last has so many fields.
 fn doubling(alloc: Global, count: u32, fields: u32) -> Result<Vec<Template>, AllocError> {
     let mut templates = Vec::new(alloc);
     for number in 1..count {
-        let name = format!(in alloc; "N{number}")?;
-        let next = format!(in alloc; "N{}", number + 1)?;
-        templates.push(referring(alloc, &name, &[next.as_str(), next.as_str()])?)?;
+        templates.push(twice(alloc, number)?)?;
     }
-    let mut members = Vec::new(alloc);
-    for _ in 0..fields {
-        members.push(plain(alloc)?)?;
-    }
-    let name = format!(in alloc; "N{count}")?;
-    templates.push(template(alloc, &name, None, members)?)?;
+    templates.push(of_fields(alloc, count, fields)?)?;
     Ok(templates)
 }
 
 #[test]
 fn counts_stop(rt: HostRuntime) -> Result<(), AllocError> {
-    let alloc = rt.alloc();
-    same(
-        &rt,
-        fault_of(alloc, doubling(alloc, 17, 1)?)?,
-        at(LoadCause::TooMany, 1, 0),
-    );
-    same(
-        &rt,
-        fault_of(alloc, doubling(alloc, 130, 1)?)?,
-        at(LoadCause::TooMany, 1, 0),
-    );
-    same(&rt, fault_of(alloc, doubling(alloc, 130, 0)?)?, None);
+    const ROWS: &[(u32, u32, Wanted)] = &[
+        (17, 1, Wanted::Fault(LoadCause::TooMany, 1, 0)),
+        (130, 1, Wanted::Fault(LoadCause::TooMany, 1, 0)),
+        (130, 0, Wanted::Loaded),
+    ];
+    for (count, fields, wanted) in ROWS {
+        are_judged(
+            &rt,
+            rt.alloc(),
+            doubling(rt.alloc(), *count, *fields)?,
+            *wanted,
+        )?;
+    }
     Ok(())
 }
 
@@ -343,17 +411,20 @@ fn part_of(flat: &Flat) -> Option<&FieldPart> {
     }
 }
 
+fn entry_of(alloc: Global, part: &FieldPart) -> Result<String, AllocError> {
+    format!(in alloc;
+        "{} {} {}, ",
+        part.number,
+        part.key.slot,
+        part.key.name.as_str()
+    )
+}
+
 // The number, the slot and the name of the key of each field and sequence, and those inside.
 fn described(alloc: Global, flats: &[Flat], line: &mut String) -> Result<(), AllocError> {
     for flat in flats {
         if let Some(part) = part_of(flat) {
-            let entry = format!(in alloc;
-                "{} {} {}, ",
-                part.number,
-                part.key.slot,
-                part.key.name.as_str()
-            )?;
-            line.push_str(&entry)?;
+            line.push_str(&entry_of(alloc, part)?)?;
         }
         if let Flat::Sequence { members, .. } = flat {
             described(alloc, members, line)?;
@@ -362,64 +433,92 @@ fn described(alloc: Global, flats: &[Flat], line: &mut String) -> Result<(), All
     Ok(())
 }
 
+fn in_dictionary(alloc: Global, dictionary: &str) -> Result<Operation, AllocError> {
+    let dictionary = text(alloc, Some(dictionary))?;
+    Ok(Operation {
+        operator: Operator::Copy,
+        initial: text(alloc, Some("007"))?,
+        dictionary,
+        key: None,
+    })
+}
+
 fn field_in(alloc: Global, name: &str, dictionary: &str) -> Result<Instruction, AllocError> {
+    let operation = in_dictionary(alloc, dictionary)?;
     Ok(Instruction::Field {
         name: String::from_str(alloc, name)?,
         kind: Kind::UInt32,
         presence: Presence::Mandatory,
-        operation: Operation {
-            operator: Operator::Copy,
-            initial: text(alloc, Some("007"))?,
-            dictionary: text(alloc, Some(dictionary))?,
-            key: None,
-        },
+        operation,
     })
 }
 
 fn sequence(alloc: Global, members: Vec<Instruction>) -> Result<Instruction, AllocError> {
+    let dictionary = text(alloc, Some("mine"))?;
     Ok(Instruction::Sequence {
         name: String::from_str(alloc, "L")?,
         presence: Presence::Mandatory,
-        dictionary: text(alloc, Some("mine"))?,
+        dictionary,
         type_ref: None,
         length_name: None,
-        length: operation(alloc, Operator::Copy, None)?,
+        length: Operation {
+            operator: Operator::Copy,
+            initial: None,
+            dictionary: None,
+            key: None,
+        },
         members,
     })
 }
 
+// A sequence of another template.
+fn sequence_of(alloc: Global, name: &str) -> Result<Instruction, AllocError> {
+    let members = vec![in alloc; reference(alloc, name)?]?;
+    sequence(alloc, members)
+}
+
 // A template that refers twice to another, once inside a sequence.
 fn referrer(alloc: Global) -> Result<Template, AllocError> {
-    let inner = sequence(alloc, vec![in alloc; reference(alloc, "Shared")?]?)?;
-    let members = vec![in alloc; reference(alloc, "Shared")?, inner, plain(alloc)?]?;
+    let mut members = Vec::new(alloc);
+    members.push(reference(alloc, "Shared")?)?;
+    members.push(sequence_of(alloc, "Shared")?)?;
+    members.push(plain(alloc)?)?;
     template(alloc, "A", Some(5), members)
 }
 
 // The template that it refers to.
 fn shared(alloc: Global) -> Result<Template, AllocError> {
-    let members = vec![in alloc;
-        field_in(alloc, "X", "template")?,
-        field_in(alloc, "Y", "type")?,
-    ]?;
+    let mut members = Vec::new(alloc);
+    members.push(field_in(alloc, "X", "template")?)?;
+    members.push(field_in(alloc, "Y", "type")?)?;
     template(alloc, "Shared", Some(6), members)
 }
 
-fn sharing(alloc: Global) -> Result<Vec<Template>, AllocError> {
-    Ok(vec![in alloc; referrer(alloc)?, shared(alloc)?]?)
+// Their set, if it is not refused.
+fn sharing(alloc: Global) -> Result<Option<TemplateSet>, AllocError> {
+    let first = referrer(alloc)?;
+    let templates = two(alloc, first, shared(alloc)?)?;
+    Ok(granted(TemplateSet::build(alloc, templates))?.ok())
+}
+
+// A template's line, or none.
+fn line_of(alloc: Global, set: &TemplateSet, id: u32) -> Result<String, AllocError> {
+    let mut line = String::new(alloc);
+    if let Some(found) = set.find(id) {
+        described(alloc, &found.members, &mut line)?;
+    }
+    Ok(line)
 }
 
 #[test]
 fn keys_are_those_where_an_instruction_was_written(rt: HostRuntime) -> Result<(), AllocError> {
-    let alloc = rt.alloc();
-    let mut line = String::new(alloc);
-    if let Ok(set) = granted(TemplateSet::build(alloc, sharing(alloc)?))? {
-        if let Some(first) = set.find(5) {
-            described(alloc, &first.members, &mut line)?;
-        }
-        same(&rt, set.slots(), 5);
-        same(&rt, set.name(6), Some("Shared"));
-        assert!(rt; set.find(7).is_none());
-    }
+    let Some(set) = sharing(rt.alloc())? else {
+        panic!(rt; "refused");
+    };
+    same(&rt, set.slots(), 5);
+    same(&rt, set.name(6), Some("Shared"));
+    same(&rt, set.find(7).is_none(), true);
+    let line = line_of(rt.alloc(), &set, 5)?;
     same(
         &rt,
         line.as_str(),
@@ -428,20 +527,30 @@ fn keys_are_those_where_an_instruction_was_written(rt: HostRuntime) -> Result<()
     Ok(())
 }
 
-#[test]
-fn initial_values_are_read(rt: HostRuntime) -> Result<(), AllocError> {
-    let alloc = rt.alloc();
+fn begins_with_seven(rt: &impl Abort, part: &FieldPart) {
+    same(rt, &part.initial, &Some(Scalar::U32(7)));
+}
+
+// Each field begins with the number 7, and there are so many.
+fn all_begin_with_seven(rt: &impl Abort, flats: &[Flat], count: u32) {
     let mut fields = 0u32;
-    if let Ok(set) = granted(TemplateSet::build(alloc, sharing(alloc)?))? {
-        if let Some(shared) = set.find(6) {
-            for flat in &shared.members {
-                if let Some(part) = part_of(flat) {
-                    same(&rt, &part.initial, &Some(Scalar::U32(7)));
-                    fields = fields.saturating_add(1);
-                }
-            }
+    for flat in flats {
+        if let Some(part) = part_of(flat) {
+            begins_with_seven(rt, part);
+            fields = fields.saturating_add(1);
         }
     }
-    same(&rt, fields, 2);
+    same(rt, fields, count);
+}
+
+#[test]
+fn initial_values_are_read(rt: HostRuntime) -> Result<(), AllocError> {
+    let Some(set) = sharing(rt.alloc())? else {
+        panic!(rt; "refused");
+    };
+    let Some(shared) = set.find(6) else {
+        panic!(rt; "not found");
+    };
+    all_begin_with_seven(&rt, &shared.members, 2);
     Ok(())
 }

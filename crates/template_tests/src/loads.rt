@@ -1,7 +1,9 @@
 //! What a load answers.
 
+use crate::same::same;
 use fast_template::{LoadCause, LoadFault, TemplateSet};
 use std::alloc::AllocError;
+use std::process::Abort;
 
 // What a load answers, where it is not refused for memory. Want of memory ends a test, so that one whose
 // allocations fail in turn ends with that error or with its row.
@@ -20,10 +22,32 @@ pub(crate) fn granted(
     }
 }
 
-pub(crate) fn at(cause: LoadCause, template: u32, instruction: u32) -> Option<LoadFault> {
-    Some(LoadFault {
-        cause,
-        template,
-        instruction,
-    })
+// What is wanted of a load: a set, or a fault at this template and instruction.
+#[derive(Clone, Copy)]
+pub(crate) enum Wanted {
+    Loaded,
+    Fault(LoadCause, u32, u32),
+}
+
+impl Wanted {
+    fn fault(self) -> Option<LoadFault> {
+        match self {
+            Wanted::Loaded => None,
+            Wanted::Fault(cause, template, instruction) => Some(LoadFault {
+                cause,
+                template,
+                instruction,
+            }),
+        }
+    }
+}
+
+// A load has the fault that is wanted, or none. Want of memory ends the test.
+pub(crate) fn answers(
+    rt: &impl Abort,
+    loaded: Result<TemplateSet, LoadFault>,
+    wanted: Wanted,
+) -> Result<(), AllocError> {
+    same(rt, granted(loaded)?.err(), wanted.fault());
+    Ok(())
 }

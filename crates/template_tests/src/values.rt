@@ -6,6 +6,7 @@ use fast_template::{
     UnicodeText, has_map, needs_bit, part_needs_bit,
 };
 use std::alloc::{AllocError, Global};
+use std::process::Abort;
 
 fn name(alloc: Global, text: &str) -> Result<Name, AllocError> {
     Ok(Name::from_string(String::from_str(alloc, text)?))
@@ -37,65 +38,81 @@ fn part(
     })
 }
 
-// Whether a value has an equal copy.
-fn has_a_copy(alloc: Global, value: &Scalar) -> Result<bool, AllocError> {
-    let copy = value.copy(alloc)?;
-    Ok(copy == *value)
+// A value has an equal copy.
+fn has_a_copy(rt: &impl Abort, alloc: Global, value: Scalar) -> Result<(), AllocError> {
+    same(rt, value.copy(alloc)?, value);
+    Ok(())
+}
+
+// A number of a row.
+#[derive(Clone, Copy)]
+enum Number {
+    U32(u32),
+    I32(i32),
+    U64(u64),
+    I64(i64),
+    Decimal(i32, i64),
+}
+
+impl Number {
+    fn scalar(self) -> Scalar {
+        match self {
+            Number::U32(number) => Scalar::U32(number),
+            Number::I32(number) => Scalar::I32(number),
+            Number::U64(number) => Scalar::U64(number),
+            Number::I64(number) => Scalar::I64(number),
+            Number::Decimal(exponent, mantissa) => Scalar::Decimal { exponent, mantissa },
+        }
+    }
 }
 
 #[test]
 fn copies_of_numbers_are_equal(rt: HostRuntime) -> Result<(), AllocError> {
-    let alloc = rt.alloc();
-    let decimal = Scalar::Decimal {
-        exponent: -2,
-        mantissa: 942755,
-    };
-    assert!(rt; has_a_copy(alloc, &Scalar::U32(4294967295))?);
-    assert!(rt; has_a_copy(alloc, &Scalar::I32(-7942755))?);
-    assert!(rt; has_a_copy(alloc, &Scalar::U64(18446744073709551615))?);
-    assert!(rt; has_a_copy(alloc, &Scalar::I64(-9223372036854775808))?);
-    assert!(rt; has_a_copy(alloc, &decimal)?);
+    const NUMBERS: &[Number] = &[
+        Number::U32(4294967295),
+        Number::I32(-7942755),
+        Number::U64(18446744073709551615),
+        Number::I64(-9223372036854775808),
+        Number::Decimal(-2, 942755),
+    ];
+    for number in NUMBERS {
+        has_a_copy(&rt, rt.alloc(), number.scalar())?;
+    }
     Ok(())
 }
 
 #[test]
 fn copies_of_characters_are_equal(rt: HostRuntime) -> Result<(), AllocError> {
-    let alloc = rt.alloc();
-    let text = vec![in alloc; 0x47, 0x45, 0x4D, 0x36]?;
+    let text = vec![in rt.alloc(); 0x47, 0x45, 0x4D, 0x36]?;
     let text = Scalar::Ascii(ByteString::from_vec(text));
-    assert!(rt; has_a_copy(alloc, &text)?);
-    Ok(())
+    has_a_copy(&rt, rt.alloc(), text)
 }
 
 #[test]
 fn copies_of_texts_are_equal(rt: HostRuntime) -> Result<(), AllocError> {
-    let alloc = rt.alloc();
-    let text = String::from_str(alloc, "é")?;
+    let text = String::from_str(rt.alloc(), "é")?;
     let text = Scalar::Unicode(UnicodeText::from_string(text));
-    assert!(rt; has_a_copy(alloc, &text)?);
-    Ok(())
+    has_a_copy(&rt, rt.alloc(), text)
 }
 
 #[test]
 fn copies_of_bytes_are_equal(rt: HostRuntime) -> Result<(), AllocError> {
-    let alloc = rt.alloc();
-    let bytes = vec![in alloc; 0x0A, 0xFF]?;
+    let bytes = vec![in rt.alloc(); 0x0A, 0xFF]?;
     let bytes = Scalar::Bytes(ByteString::from_vec(bytes));
-    assert!(rt; has_a_copy(alloc, &bytes)?);
-    Ok(())
+    has_a_copy(&rt, rt.alloc(), bytes)
 }
 
 #[test]
 fn copies_of_keys_are_equal(rt: HostRuntime) -> Result<(), AllocError> {
     let alloc = rt.alloc();
-    let length_key = Key {
+    let scope = Scope::User(name(alloc, "mine")?);
+    let key = Key {
         slot: 3,
-        scope: Scope::User(name(alloc, "mine")?),
+        scope,
         name: name(alloc, "L")?,
         part: Part::Length,
     };
-    let copy = length_key.copy(alloc)?;
-    same(&rt, copy, length_key);
+    same(&rt, key.copy(alloc)?, key);
     Ok(())
 }
 
@@ -112,42 +129,88 @@ fn a_text_is_filled_again(rt: HostRuntime) -> Result<(), AllocError> {
     Ok(())
 }
 
-// Whether a field of this presence and operator asks for a bit.
-fn asks(alloc: Global, presence: Presence, operator: Operator) -> Result<bool, AllocError> {
+// An operator, and whether a mandatory and an optional field of it ask for a bit.
+struct Asking {
+    operator: Operator,
+    mandatory: bool,
+    optional: bool,
+}
+
+fn asks(
+    rt: &impl Abort,
+    alloc: Global,
+    presence: Presence,
+    operator: Operator,
+    wanted: bool,
+) -> Result<(), AllocError> {
     let of = part(alloc, Part::Whole, presence, operator)?;
-    Ok(part_needs_bit(&of))
+    same(rt, part_needs_bit(&of), wanted);
+    Ok(())
 }
 
 #[test]
 fn bits_are_asked_for(rt: HostRuntime) -> Result<(), AllocError> {
-    let alloc = rt.alloc();
-    let rows = [
-        (Operator::Plain, false, false),
-        (Operator::Constant, false, true),
-        (Operator::Default, true, true),
-        (Operator::Copy, true, true),
-        (Operator::Increment, true, true),
-        (Operator::Delta, false, false),
-        (Operator::Tail, true, true),
+    const ROWS: &[Asking] = &[
+        Asking {
+            operator: Operator::Plain,
+            mandatory: false,
+            optional: false,
+        },
+        Asking {
+            operator: Operator::Constant,
+            mandatory: false,
+            optional: true,
+        },
+        Asking {
+            operator: Operator::Default,
+            mandatory: true,
+            optional: true,
+        },
+        Asking {
+            operator: Operator::Copy,
+            mandatory: true,
+            optional: true,
+        },
+        Asking {
+            operator: Operator::Increment,
+            mandatory: true,
+            optional: true,
+        },
+        Asking {
+            operator: Operator::Delta,
+            mandatory: false,
+            optional: false,
+        },
+        Asking {
+            operator: Operator::Tail,
+            mandatory: true,
+            optional: true,
+        },
     ];
-    for (operator, mandatory, optional) in rows {
-        let asked = asks(alloc, Presence::Mandatory, operator)?;
-        assert_eq!(rt; asked, mandatory, "{operator:?}");
-        let asked = asks(alloc, Presence::Optional, operator)?;
-        assert_eq!(rt; asked, optional, "{operator:?}");
+    let alloc = rt.alloc();
+    for row in ROWS {
+        asks(&rt, alloc, Presence::Mandatory, row.operator, row.mandatory)?;
+        asks(&rt, alloc, Presence::Optional, row.operator, row.optional)?;
     }
     Ok(())
 }
 
-// A decimal whose mantissa alone asks for a bit.
-fn decimal(alloc: Global) -> Result<Flat, AllocError> {
-    Ok(Flat::Parts {
-        name: name(alloc, "Px")?,
+fn parts(name: Name, exponent: FieldPart, mantissa: FieldPart) -> Flat {
+    Flat::Parts {
+        name,
         number: 1,
         presence: Presence::Mandatory,
-        exponent: part(alloc, Part::Exponent, Presence::Mandatory, Operator::Delta)?,
-        mantissa: part(alloc, Part::Mantissa, Presence::Mandatory, Operator::Copy)?,
-    })
+        exponent,
+        mantissa,
+    }
+}
+
+// A decimal whose mantissa alone asks for a bit.
+fn decimal(alloc: Global) -> Result<Flat, AllocError> {
+    let name = name(alloc, "Px")?;
+    let exponent = part(alloc, Part::Exponent, Presence::Mandatory, Operator::Delta)?;
+    let mantissa = part(alloc, Part::Mantissa, Presence::Mandatory, Operator::Copy)?;
+    Ok(parts(name, exponent, mantissa))
 }
 
 #[test]
@@ -159,12 +222,14 @@ fn a_map_is_asked_for_by_a_mantissa(rt: HostRuntime) -> Result<(), AllocError> {
     Ok(())
 }
 
+fn is_before(rt: &impl Abort, first: &Key, second: &Key) {
+    same(rt, first < second, true);
+    same(rt, first != second, true);
+}
+
 #[test]
 fn keys_are_ordered(rt: HostRuntime) -> Result<(), AllocError> {
-    let alloc = rt.alloc();
-    let exponent = key(alloc, "Px", Part::Exponent)?;
-    let mantissa = key(alloc, "Px", Part::Mantissa)?;
-    assert!(rt; exponent < mantissa);
-    assert!(rt; exponent != mantissa);
+    let exponent = key(rt.alloc(), "Px", Part::Exponent)?;
+    is_before(&rt, &exponent, &key(rt.alloc(), "Px", Part::Mantissa)?);
     Ok(())
 }

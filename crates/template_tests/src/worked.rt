@@ -4,6 +4,7 @@ use crate::loads::granted;
 use crate::same::same;
 use fast_template::{FieldPart, Flat, Scalar, TemplateSet};
 use std::alloc::{AllocError, Global};
+use std::process::Abort;
 
 // The text of the worked templates.
 const WORKED: &str = r#"{"templates":[
@@ -59,73 +60,105 @@ const WORKED: &str = r#"{"templates":[
  {"kind":"uInt32","name":"A"},
  {"kind":"uInt32","name":"B","operator":"copy"}]}]}"#;
 
-// What one value is read and written by: its kind, presence and operator, the name of its key, and its initial value.
-fn part_line(alloc: Global, part: &FieldPart) -> Result<String, AllocError> {
-    let line = format!(in alloc;
+// An initial value.
+fn initial_line(alloc: Global, initial: &Scalar) -> Result<String, AllocError> {
+    match initial {
+        Scalar::U32(number) => format!(in alloc; "{number}"),
+        Scalar::I32(number) => format!(in alloc; "{number}"),
+        Scalar::Ascii(text) => format!(in alloc; "{:?}", text.as_slice()),
+        _ => String::from_str(alloc, "of another kind"),
+    }
+}
+
+// What one value is read and written by: its kind, presence and operator, and the name of its key.
+fn keyed_line(alloc: Global, part: &FieldPart) -> Result<String, AllocError> {
+    format!(in alloc;
         "{:?} {:?} {:?} {}",
         part.kind,
         part.presence,
         part.operator,
         part.key.name.as_str()
-    )?;
-    match &part.initial {
-        None => Ok(line),
-        Some(Scalar::U32(number)) => format!(in alloc; "{line} {number}"),
-        Some(Scalar::I32(number)) => format!(in alloc; "{line} {number}"),
-        Some(Scalar::Ascii(text)) => format!(in alloc; "{line} {:?}", text.as_slice()),
-        Some(_) => format!(in alloc; "{line} of another kind"),
-    }
+    )
 }
 
-// An instruction: its name and number, its presence, and its parts.
-fn line_of(alloc: Global, flat: &Flat) -> Result<String, AllocError> {
+// The same, and its initial value behind it.
+fn part_line(alloc: Global, part: &FieldPart) -> Result<String, AllocError> {
+    let mut line = keyed_line(alloc, part)?;
+    if let Some(initial) = &part.initial {
+        line.push_str(" ")?;
+        line.push_str(&initial_line(alloc, initial)?)?;
+    }
+    Ok(line)
+}
+
+// An instruction's name and number, and its presence.
+fn head_of(alloc: Global, flat: &Flat) -> Result<String, AllocError> {
     match flat {
         Flat::Field {
             name,
             number,
             presence,
-            whole,
-        } => {
-            let whole = part_line(alloc, whole)?;
-            format!(in alloc; "{} {number} {presence:?}: {whole}", name.as_str())
+            ..
         }
-        Flat::Parts {
+        | Flat::Parts {
             name,
             number,
             presence,
-            exponent,
-            mantissa,
-        } => {
-            let exponent = part_line(alloc, exponent)?;
-            let mantissa = part_line(alloc, mantissa)?;
-            format!(in alloc;
-                "{} {number} {presence:?}: {exponent}, {mantissa}",
-                name.as_str()
-            )
+            ..
         }
-        Flat::Group {
+        | Flat::Group {
+            name,
+            number,
+            presence,
+            ..
+        }
+        | Flat::Sequence {
             name,
             number,
             presence,
             ..
         } => format!(in alloc; "{} {number} {presence:?}", name.as_str()),
-        Flat::Sequence {
-            name,
-            number,
-            presence,
-            length,
+    }
+}
+
+// One part behind a mark.
+fn list_part(
+    alloc: Global,
+    mark: &str,
+    part: &FieldPart,
+    text: &mut String,
+) -> Result<(), AllocError> {
+    text.push_str(mark)?;
+    text.push_str(&part_line(alloc, part)?)
+}
+
+// An instruction's parts.
+fn list_parts(alloc: Global, flat: &Flat, text: &mut String) -> Result<(), AllocError> {
+    match flat {
+        Flat::Field { whole, .. } => list_part(alloc, ": ", whole, text),
+        Flat::Parts {
+            exponent,
+            mantissa,
             ..
         } => {
-            let length = part_line(alloc, length)?;
-            format!(in alloc; "{} {number} {presence:?}: {length}", name.as_str())
+            list_part(alloc, ": ", exponent, text)?;
+            list_part(alloc, ", ", mantissa, text)
         }
+        Flat::Group { .. } => Ok(()),
+        Flat::Sequence { length, .. } => list_part(alloc, ": ", length, text),
     }
+}
+
+// An instruction: its name and number, its presence, and its parts.
+fn list_one(alloc: Global, flat: &Flat, text: &mut String) -> Result<(), AllocError> {
+    text.push_str(&head_of(alloc, flat)?)?;
+    list_parts(alloc, flat, text)
 }
 
 // A flat list, that of a group or a sequence in brackets.
 fn list_of(alloc: Global, flats: &[Flat], text: &mut String) -> Result<(), AllocError> {
     for flat in flats {
-        text.push_str(&line_of(alloc, flat)?)?;
+        list_one(alloc, flat, text)?;
         if let Flat::Group { members, .. } | Flat::Sequence { members, .. } = flat {
             text.push_str(" [")?;
             list_of(alloc, members, text)?;
@@ -136,13 +169,45 @@ fn list_of(alloc: Global, flats: &[Flat], text: &mut String) -> Result<(), Alloc
     Ok(())
 }
 
+// A template's identifier and name, and its flat list.
+type Row = (u32, &'static str, &'static str);
+
+// The flat list of a template, if it is there.
+fn listed(alloc: Global, set: &TemplateSet, id: u32) -> Result<String, AllocError> {
+    let mut list = String::new(alloc);
+    if let Some(template) = set.find(id) {
+        list_of(alloc, &template.members, &mut list)?;
+    }
+    Ok(list)
+}
+
+fn is_listed(
+    rt: &impl Abort,
+    alloc: Global,
+    set: &TemplateSet,
+    row: &Row,
+) -> Result<(), AllocError> {
+    same(rt, set.name(row.0), Some(row.1));
+    let list = listed(alloc, set, row.0)?;
+    same(rt, list.as_str(), row.2);
+    Ok(())
+}
+
+fn all_listed(
+    rt: &impl Abort,
+    alloc: Global,
+    set: &TemplateSet,
+    rows: &[Row],
+) -> Result<(), AllocError> {
+    for row in rows {
+        is_listed(rt, alloc, set, row)?;
+    }
+    Ok(())
+}
+
 #[test]
 fn the_worked_templates_have_these_flat_lists(rt: HostRuntime) -> Result<(), AllocError> {
-    let alloc = rt.alloc();
-    let Ok(set) = granted(TemplateSet::from_json(alloc, WORKED.as_bytes()))? else {
-        panic!(rt; "refused");
-    };
-    let rows = [
+    const ROWS: &[Row] = &[
         (
             1,
             "Quote",
@@ -216,16 +281,11 @@ fn the_worked_templates_have_these_flat_lists(rt: HostRuntime) -> Result<(), All
             B 2 Mandatory: UInt32 Mandatory Copy B; ",
         ),
     ];
-    for (id, name, expected) in rows {
-        let Some(template) = set.find(id) else {
-            panic!(rt; "no template {id}");
-        };
-        same(&rt, set.name(id), Some(name));
-        let mut list = String::new(alloc);
-        list_of(alloc, &template.members, &mut list)?;
-        same(&rt, list.as_str(), expected);
-    }
-    assert!(rt; set.find(17).is_none());
+    let Ok(set) = granted(TemplateSet::from_json(rt.alloc(), WORKED.as_bytes()))? else {
+        panic!(rt; "refused");
+    };
+    all_listed(&rt, rt.alloc(), &set, ROWS)?;
+    same(&rt, set.find(17).is_none(), true);
     same(&rt, set.name(17), None);
     Ok(())
 }

@@ -1,4 +1,5 @@
-//! The vectors of every form, read, written and sized, and calls at their limits.
+//! The vectors of every form, read, written and sized, and calls at their limits. A test has a table of rows, and what
+//! takes memory is made in a function of its own: each value that lies at a `?` makes a proof longer.
 
 use crate::same::same;
 use fast_wire::*;
@@ -6,68 +7,66 @@ use std::alloc::{AllocError, Global};
 use std::process::Abort;
 use std::test::Fail;
 
-/// A value, and its shortest form.
-#[derive(Drop)]
-struct Vector<'a> {
+// Writes into an empty output, and compares the bytes, what is read of them, and their number.
+fn unsigned_vector(
+    rt: &impl Abort,
+    alloc: Global,
     value: u128,
-    bytes: &'a [u8],
+    bytes: &[u8],
+) -> Result<(), WireFault> {
+    let mut out = Vec::new(alloc);
+    write_unsigned(value, &mut out)?;
+    same(rt, out.as_slice(), bytes);
+    same(rt, read_unsigned(bytes, 0), Ok((value, bytes.len())));
+    assert!(rt; value < 1 << 70);
+    same(rt, size_unsigned(value), bytes.len());
+    Ok(())
 }
 
 #[test]
 fn unsigned_vectors(rt: HostRuntime) -> Result<(), Fail> {
-    let vectors = [
-        Vector {
-            value: 942_755,
-            bytes: &[0x39, 0x45, 0xa3],
-        },
-        Vector {
-            value: 4_294_967_295,
-            bytes: &[0x0f, 0x7f, 0x7f, 0x7f, 0xff],
-        },
-        Vector {
-            value: 0,
-            bytes: &[0x80],
-        },
-        Vector {
-            value: (1 << 70) - 1,
-            bytes: &[0x7f, 0x7f, 0x7f, 0x7f, 0x7f, 0x7f, 0x7f, 0x7f, 0x7f, 0xff],
-        },
+    const VECTORS: &[(u128, &[u8])] = &[
+        (942_755, &[0x39, 0x45, 0xa3]),
+        (4_294_967_295, &[0x0f, 0x7f, 0x7f, 0x7f, 0xff]),
+        (0, &[0x80]),
+        (
+            (1 << 70) - 1,
+            &[0x7f, 0x7f, 0x7f, 0x7f, 0x7f, 0x7f, 0x7f, 0x7f, 0x7f, 0xff],
+        ),
     ];
-    for vector in &vectors {
-        let mut out = Vec::new(rt.alloc());
-        write_unsigned(vector.value, &mut out)?;
-        same(&rt, out.as_slice(), vector.bytes);
-        same(
-            &rt,
-            read_unsigned(vector.bytes, 0)?,
-            (vector.value, vector.bytes.len()),
-        );
-        assert!(rt; vector.value < 1 << 70);
-        same(&rt, size_unsigned(vector.value), vector.bytes.len());
+    for (value, bytes) in VECTORS {
+        unsigned_vector(&rt, rt.alloc(), *value, bytes)?;
     }
     Ok(())
 }
 
 #[test]
-fn unsigned_limits(rt: HostRuntime) -> Result<(), Fail> {
-    same(&rt, read_unsigned(&[0x00, 0x00, 0x81], 0)?, (1, 3));
-    same(&rt, read_unsigned(&[0xff, 0x81], 1)?, (1, 2));
+fn unsigned_limits(rt: HostRuntime) {
+    same(&rt, read_unsigned(&[0x00, 0x00, 0x81], 0), Ok((1, 3)));
+    same(&rt, read_unsigned(&[0xff, 0x81], 1), Ok((1, 2)));
     same(&rt, read_unsigned(&[0x00; 9], 0), Err(WireFault::NeedMore));
     same(&rt, read_unsigned(&[0x00; 10], 0), Err(WireFault::TooLong));
     same(&rt, read_unsigned(&[0x80], 1), Err(WireFault::NeedMore));
-    let mut out = Vec::new(rt.alloc());
-    same(
-        &rt,
-        write_unsigned(1 << 70, &mut out),
-        Err(WireFault::Range),
-    );
-    assert!(rt; out.is_empty());
+    is_refused(&rt, rt.alloc(), Form::Unsigned(1 << 70), WireFault::Range);
+}
+
+fn signed_vector(
+    rt: &impl Abort,
+    alloc: Global,
+    value: i128,
+    bytes: &[u8],
+) -> Result<(), WireFault> {
+    let mut out = Vec::new(alloc);
+    write_signed(value, &mut out)?;
+    same(rt, out.as_slice(), bytes);
+    same(rt, read_signed(bytes, 0), Ok((value, bytes.len())));
+    same(rt, size_signed(value), bytes.len());
     Ok(())
 }
 
 #[test]
 fn signed_vectors(rt: HostRuntime) -> Result<(), Fail> {
-    let vectors: [(i128, &[u8]); 7] = [
+    const VECTORS: &[(i128, &[u8])] = &[
         (942_755, &[0x39, 0x45, 0xa3]),
         (-942_755, &[0x46, 0x3a, 0xdd]),
         (-7_942_755, &[0x7c, 0x1b, 0x1b, 0x9d]),
@@ -79,44 +78,68 @@ fn signed_vectors(rt: HostRuntime) -> Result<(), Fail> {
             &[0x3f, 0x7f, 0x7f, 0x7f, 0x7f, 0x7f, 0x7f, 0x7f, 0x7f, 0xff],
         ),
     ];
-    for (value, bytes) in vectors {
-        let mut out = Vec::new(rt.alloc());
-        write_signed(value, &mut out)?;
-        same(&rt, out.as_slice(), bytes);
-        same(&rt, read_signed(bytes, 0)?, (value, bytes.len()));
-        same(&rt, size_signed(value), bytes.len());
+    for (value, bytes) in VECTORS {
+        signed_vector(&rt, rt.alloc(), *value, bytes)?;
     }
-    let mut out = Vec::new(rt.alloc());
-    same(&rt, write_signed(1 << 69, &mut out), Err(WireFault::Range));
-    same(
-        &rt,
-        write_signed(-(1 << 69) - 1, &mut out),
-        Err(WireFault::Range),
-    );
-    assert!(rt; out.is_empty());
+    Ok(())
+}
+
+#[test]
+fn signed_limits(rt: HostRuntime) {
+    const REFUSED: &[(Form, WireFault)] = &[
+        (Form::Signed(1 << 69), WireFault::Range),
+        (Form::Signed(-(1 << 69) - 1), WireFault::Range),
+    ];
+    all_refused(&rt, rt.alloc(), REFUSED);
     same(&rt, read_signed(&[0x00; 10], 0), Err(WireFault::TooLong));
     same(&rt, read_signed(&[0x00; 9], 0), Err(WireFault::NeedMore));
-    Ok(())
+}
+
+// Reads two signed integers, one behind the other.
+fn decimal_read(bytes: &[u8]) -> Result<(i128, i128, usize), WireFault> {
+    let (exponent, next) = read_signed(bytes, 0)?;
+    let (mantissa, next) = read_signed(bytes, next)?;
+    Ok((exponent, mantissa, next))
+}
+
+// Writes two signed integers, and answers their size.
+fn write_decimal(out: &mut Vec<u8>) -> Result<usize, WireFault> {
+    write_signed(2, out)?;
+    write_signed(942_755, out)?;
+    Ok(size_signed(2) + size_signed(942_755))
 }
 
 /// A decimal is two signed integers, the exponent and then the mantissa.
 #[test]
-fn decimal_vector(rt: HostRuntime) -> Result<(), Fail> {
-    let bytes = [0x82, 0x39, 0x45, 0xa3];
+fn decimal_vector(rt: HostRuntime) {
+    const BYTES: &[u8] = &[0x82, 0x39, 0x45, 0xa3];
     let mut out = Vec::new(rt.alloc());
-    write_signed(2, &mut out)?;
-    write_signed(942_755, &mut out)?;
-    same(&rt, out.as_slice(), bytes.as_slice());
-    let (exponent, next) = read_signed(&bytes, 0)?;
-    same(&rt, (exponent, next), (2, 1));
-    same(&rt, read_signed(&bytes, next)?, (942_755, 4));
-    same(&rt, size_signed(2) + size_signed(942_755), 4);
+    same(&rt, write_decimal(&mut out), Ok(4));
+    same(&rt, out.as_slice(), BYTES);
+    same(&rt, decimal_read(BYTES), Ok((2, 942_755, 4)));
+}
+
+fn unsigned_nullable_vector(
+    rt: &impl Abort,
+    alloc: Global,
+    value: Nullable<u128>,
+    bytes: &[u8],
+) -> Result<(), WireFault> {
+    let mut out = Vec::new(alloc);
+    write_unsigned_nullable(value, &mut out)?;
+    same(rt, out.as_slice(), bytes);
+    same(
+        rt,
+        read_unsigned_nullable(bytes, 0),
+        Ok((value, bytes.len())),
+    );
+    same(rt, size_unsigned_nullable(value), bytes.len());
     Ok(())
 }
 
 #[test]
 fn unsigned_nullable_vectors(rt: HostRuntime) -> Result<(), Fail> {
-    let vectors: [(Nullable<u128>, &[u8]); 4] = [
+    const VECTORS: &[(Nullable<u128>, &[u8])] = &[
         (Nullable::Null, &[0x80]),
         (Nullable::Value(0), &[0x81]),
         (
@@ -128,38 +151,48 @@ fn unsigned_nullable_vectors(rt: HostRuntime) -> Result<(), Fail> {
             &[0x7f, 0x7f, 0x7f, 0x7f, 0x7f, 0x7f, 0x7f, 0x7f, 0x7f, 0xff],
         ),
     ];
-    for (value, bytes) in vectors {
-        let mut out = Vec::new(rt.alloc());
-        write_unsigned_nullable(value, &mut out)?;
-        same(&rt, out.as_slice(), bytes);
-        same(&rt, read_unsigned_nullable(bytes, 0)?, (value, bytes.len()));
-        same(&rt, size_unsigned_nullable(value), bytes.len());
+    for (value, bytes) in VECTORS {
+        unsigned_nullable_vector(&rt, rt.alloc(), *value, bytes)?;
     }
-    same(
-        &rt,
-        read_unsigned_nullable(&[0x00, 0x80], 0)?,
-        (Nullable::Null, 2),
-    );
-    same(
-        &rt,
-        read_unsigned_nullable(&[0x00; 10], 0),
-        Err(WireFault::TooLong),
-    );
-    let mut out = Vec::new(rt.alloc());
-    for value in [(1 << 70) - 1, u128::MAX] {
-        same(
-            &rt,
-            write_unsigned_nullable(Nullable::Value(value), &mut out),
-            Err(WireFault::Range),
-        );
-    }
-    assert!(rt; out.is_empty());
+    Ok(())
+}
+
+#[test]
+fn unsigned_nullable_limits(rt: HostRuntime) {
+    const REFUSED: &[(Form, WireFault)] = &[
+        (
+            Form::UnsignedNullable(Nullable::Value((1 << 70) - 1)),
+            WireFault::Range,
+        ),
+        (
+            Form::UnsignedNullable(Nullable::Value(u128::MAX)),
+            WireFault::Range,
+        ),
+    ];
+    let overlong = read_unsigned_nullable(&[0x00, 0x80], 0);
+    same(&rt, overlong, Ok((Nullable::Null, 2)));
+    let endless = read_unsigned_nullable(&[0x00; 10], 0);
+    same(&rt, endless, Err(WireFault::TooLong));
+    all_refused(&rt, rt.alloc(), REFUSED);
+}
+
+fn signed_nullable_vector(
+    rt: &impl Abort,
+    alloc: Global,
+    value: Nullable<i128>,
+    bytes: &[u8],
+) -> Result<(), WireFault> {
+    let mut out = Vec::new(alloc);
+    write_signed_nullable(value, &mut out)?;
+    same(rt, out.as_slice(), bytes);
+    same(rt, read_signed_nullable(bytes, 0), Ok((value, bytes.len())));
+    same(rt, size_signed_nullable(value), bytes.len());
     Ok(())
 }
 
 #[test]
 fn signed_nullable_vectors(rt: HostRuntime) -> Result<(), Fail> {
-    let vectors: [(Nullable<i128>, &[u8]); 6] = [
+    const VECTORS: &[(Nullable<i128>, &[u8])] = &[
         (Nullable::Value(942_755), &[0x39, 0x45, 0xa4]),
         (Nullable::Value(-942_755), &[0x46, 0x3a, 0xdd]),
         (Nullable::Null, &[0x80]),
@@ -167,131 +200,199 @@ fn signed_nullable_vectors(rt: HostRuntime) -> Result<(), Fail> {
         (Nullable::Value(63), &[0x00, 0xc0]),
         (Nullable::Value(-64), &[0xc0]),
     ];
-    for (value, bytes) in vectors {
-        let mut out = Vec::new(rt.alloc());
-        write_signed_nullable(value, &mut out)?;
-        same(&rt, out.as_slice(), bytes);
-        same(&rt, read_signed_nullable(bytes, 0)?, (value, bytes.len()));
-        same(&rt, size_signed_nullable(value), bytes.len());
+    for (value, bytes) in VECTORS {
+        signed_nullable_vector(&rt, rt.alloc(), *value, bytes)?;
     }
-    same(
-        &rt,
-        read_signed_nullable(&[0x00, 0x80], 0)?,
-        (Nullable::Null, 2),
-    );
-    same(
-        &rt,
-        read_signed_nullable(&[0x7f], 0),
-        Err(WireFault::NeedMore),
-    );
-    let mut out = Vec::new(rt.alloc());
-    for value in [(1 << 69) - 1, i128::MAX, i128::MIN] {
-        same(
-            &rt,
-            write_signed_nullable(Nullable::Value(value), &mut out),
-            Err(WireFault::Range),
-        );
-    }
-    assert!(rt; out.is_empty());
     Ok(())
+}
+
+#[test]
+fn signed_nullable_limits(rt: HostRuntime) {
+    const REFUSED: &[(Form, WireFault)] = &[
+        (
+            Form::SignedNullable(Nullable::Value((1 << 69) - 1)),
+            WireFault::Range,
+        ),
+        (
+            Form::SignedNullable(Nullable::Value(i128::MAX)),
+            WireFault::Range,
+        ),
+        (
+            Form::SignedNullable(Nullable::Value(i128::MIN)),
+            WireFault::Range,
+        ),
+    ];
+    let overlong = read_signed_nullable(&[0x00, 0x80], 0);
+    same(&rt, overlong, Ok((Nullable::Null, 2)));
+    let cut = read_signed_nullable(&[0x7f], 0);
+    same(&rt, cut, Err(WireFault::NeedMore));
+    all_refused(&rt, rt.alloc(), REFUSED);
+}
+
+const U64S: &[u64] = &[0, 127, 128, 942_755, u64::MAX];
+
+const I64S: &[i64] = &[0, 62, 63, 64, -1, -64, -65, -942_755, i64::MAX, i64::MIN];
+
+fn write_short_unsigned(out: &mut Vec<u8>) -> Result<(), WireFault> {
+    for value in U64S {
+        write_u64(*value, out)?;
+        write_u64_nullable(Nullable::Value(*value), out)?;
+    }
+    write_u64_nullable(Nullable::Null, out)
+}
+
+fn write_wide_unsigned(out: &mut Vec<u8>) -> Result<(), WireFault> {
+    for value in U64S {
+        write_unsigned(u128::from(*value), out)?;
+        write_unsigned_nullable(Nullable::Value(u128::from(*value)), out)?;
+    }
+    out.extend_from_slice(&[0x80])?;
+    Ok(())
+}
+
+fn write_short_signed(out: &mut Vec<u8>) -> Result<(), WireFault> {
+    for value in I64S {
+        write_i64(*value, out)?;
+        write_i64_nullable(Nullable::Value(*value), out)?;
+    }
+    write_i64_nullable(Nullable::Null, out)
+}
+
+fn write_wide_signed(out: &mut Vec<u8>) -> Result<(), WireFault> {
+    for value in I64S {
+        write_signed(i128::from(*value), out)?;
+        write_signed_nullable(Nullable::Value(i128::from(*value)), out)?;
+    }
+    out.extend_from_slice(&[0x80])?;
+    Ok(())
+}
+
+fn short_ones(out: &mut Vec<u8>) -> Result<(), WireFault> {
+    write_i64(-1, out)?;
+    write_i64_nullable(Nullable::Value(62), out)?;
+    write_u64_nullable(Nullable::Value(126), out)
 }
 
 /// The writers in 64 bits append what the others do.
 #[test]
-fn short_forms(rt: HostRuntime) -> Result<(), Fail> {
-    let mut out = Vec::new(rt.alloc());
-    for value in [0, 127, 128, 942_755, u64::MAX] {
-        write_u64(value, &mut out)?;
-        write_u64_nullable(Nullable::Value(value), &mut out)?;
-    }
-    for value in [0, 62, 63, 64, -1, -64, -65, -942_755, i64::MAX, i64::MIN] {
-        write_i64(value, &mut out)?;
-        write_i64_nullable(Nullable::Value(value), &mut out)?;
-    }
-    write_u64_nullable(Nullable::Null, &mut out)?;
-    write_i64_nullable(Nullable::Null, &mut out)?;
+fn short_unsigned_forms(rt: HostRuntime) {
+    let mut short = Vec::new(rt.alloc());
+    same(&rt, write_short_unsigned(&mut short), Ok(()));
     let mut wide = Vec::new(rt.alloc());
-    for value in [0, 127, 128, 942_755, u128::from(u64::MAX)] {
-        write_unsigned(value, &mut wide)?;
-        write_unsigned_nullable(Nullable::Value(value), &mut wide)?;
-    }
-    for value in [
-        0,
-        62,
-        63,
-        64,
-        -1,
-        -64,
-        -65,
-        -942_755,
-        i128::from(i64::MAX),
-        i128::from(i64::MIN),
-    ] {
-        write_signed(value, &mut wide)?;
-        write_signed_nullable(Nullable::Value(value), &mut wide)?;
-    }
-    wide.extend_from_slice(&[0x80, 0x80])?;
-    same(&rt, out.as_slice(), wide.as_slice());
-    out.clear();
-    write_i64(-1, &mut out)?;
-    write_i64_nullable(Nullable::Value(62), &mut out)?;
-    write_u64_nullable(Nullable::Value(126), &mut out)?;
+    same(&rt, write_wide_unsigned(&mut wide), Ok(()));
+    same(&rt, short, wide);
+}
+
+#[test]
+fn short_signed_forms(rt: HostRuntime) {
+    let mut short = Vec::new(rt.alloc());
+    same(&rt, write_short_signed(&mut short), Ok(()));
+    let mut wide = Vec::new(rt.alloc());
+    same(&rt, write_wide_signed(&mut wide), Ok(()));
+    same(&rt, short, wide);
+}
+
+#[test]
+fn short_forms_of_one_byte(rt: HostRuntime) {
+    let mut out = Vec::new(rt.alloc());
+    same(&rt, short_ones(&mut out), Ok(()));
     same(&rt, out.as_slice(), [0xff, 0xbf, 0xff].as_slice());
-    Ok(())
+}
+
+// Reads a map, once more where memory was refused.
+fn map_read(alloc: Global, bytes: &[u8]) -> Result<(Bits, usize), WireFault> {
+    match read_map(alloc, bytes, 0) {
+        Err(WireFault::Memory) => read_map(alloc, bytes, 0),
+        read => read,
+    }
+}
+
+fn bit_is(rt: &impl Abort, bits: &mut Bits, wanted: bool) {
+    if wanted {
+        same(rt, bits.left_set(), true);
+    }
+    same(rt, bits.first(), wanted);
+    same(rt, bits.take(), wanted);
+}
+
+fn no_bit_left(rt: &impl Abort, bits: &mut Bits) {
+    same(rt, bits.left_set(), false);
+    bit_is(rt, bits, false);
+}
+
+fn bits_are(rt: &impl Abort, bits: &mut Bits, wanted: &[bool]) {
+    for bit in wanted {
+        bit_is(rt, bits, *bit);
+    }
+    no_bit_left(rt, bits);
+}
+
+// The seven bits of each byte.
+fn bytes_are(rt: &impl Abort, bits: &mut Bits, wanted: &[u8]) {
+    const MASKS: &[u8] = &[64, 32, 16, 8, 4, 2, 1];
+    for byte in wanted {
+        for mask in MASKS {
+            bit_is(rt, bits, *byte & *mask != 0);
+        }
+    }
+    no_bit_left(rt, bits);
 }
 
 /// A map of nine bytes, whose bits stand in one word, and one of ten.
 #[test]
 fn wide_maps(rt: HostRuntime) -> Result<(), Fail> {
-    let map = [0x41, 0x00, 0x7f, 0x02, 0x00, 0x00, 0x00, 0x01, 0x20, 0xc1];
-    for size in [9, 10] {
-        let mut bytes = map;
-        bytes[size - 1] |= 0x80;
-        let read = match read_map(rt.alloc(), &bytes, 0) {
-            Err(WireFault::Memory) => read_map(rt.alloc(), &bytes, 0),
-            read => read,
-        };
-        let (mut bits, next) = read?;
-        same(&rt, next, size);
-        for byte in &bytes[..size] {
-            for mask in [64, 32, 16, 8, 4, 2, 1] {
-                let set = *byte & mask != 0;
-                assert!(rt; bits.first() == set && (bits.left_set() || !set));
-                same(&rt, bits.take(), set);
-            }
-        }
-        assert!(rt; !bits.left_set() && !bits.take());
+    const MAPS: &[&[u8]] = &[
+        &[0x41, 0x00, 0x7f, 0x02, 0x00, 0x00, 0x00, 0x01, 0xa0],
+        &[0x41, 0x00, 0x7f, 0x02, 0x00, 0x00, 0x00, 0x01, 0x20, 0xc1],
+    ];
+    for map in MAPS {
+        let (mut bits, next) = map_read(rt.alloc(), map)?;
+        same(&rt, next, map.len());
+        bytes_are(&rt, &mut bits, map);
     }
     Ok(())
 }
 
-/// Where texts and vectors stand, and a vector that is filled again.
+/// Where texts and vectors stand.
 #[test]
-fn spans(rt: HostRuntime) -> Result<(), Fail> {
-    let empty = Span { start: 1, end: 1 };
-    same(&rt, find_ascii(&[0x80], 0)?, (empty, 1));
-    same(
-        &rt,
-        find_ascii(&[0x00, 0xc1], 0)?,
-        (Span { start: 1, end: 2 }, 2),
-    );
-    same(
-        &rt,
-        find_ascii(&[0x48, 0x65, 0xf9, 0x80], 0)?,
-        (Span { start: 0, end: 3 }, 3),
-    );
-    same(&rt, find_ascii(b"Hey", 0), Err(WireFault::NeedMore));
-    same(&rt, find_ascii_nullable(&[0x80], 0)?, (Nullable::Null, 1));
-    let letter = Nullable::Value(Span { start: 1, end: 2 });
-    same(&rt, find_ascii_nullable(&[0x00, 0xc1], 0)?, (letter, 2));
-    same(
-        &rt,
-        find_vector(&[0x82, 0xc3, 0xa9], 0)?,
-        (Span { start: 1, end: 3 }, 3),
-    );
-    same(&rt, find_vector(&[0x83, 0xc3], 0), Err(WireFault::NeedMore));
-    same(&rt, find_vector_nullable(&[0x80], 0)?, (Nullable::Null, 1));
-    same(&rt, find_vector_nullable(&[0x82, 0x41], 0)?, (letter, 2));
+fn spans(rt: HostRuntime) {
+    const TEXTS: &[(&[u8], Result<(Span, usize), WireFault>)] = &[
+        (&[0x80], Ok((Span { start: 1, end: 1 }, 1))),
+        (&[0x00, 0xc1], Ok((Span { start: 1, end: 2 }, 2))),
+        (
+            &[0x48, 0x65, 0xf9, 0x80],
+            Ok((Span { start: 0, end: 3 }, 3)),
+        ),
+        (b"Hey", Err(WireFault::NeedMore)),
+    ];
+    const VECTORS: &[(&[u8], Result<(Span, usize), WireFault>)] = &[
+        (&[0x82, 0xc3, 0xa9], Ok((Span { start: 1, end: 3 }, 3))),
+        (&[0x83, 0xc3], Err(WireFault::NeedMore)),
+    ];
+    for (bytes, wanted) in TEXTS {
+        same(&rt, find_ascii(bytes, 0), *wanted);
+    }
+    for (bytes, wanted) in VECTORS {
+        same(&rt, find_vector(bytes, 0), *wanted);
+    }
+}
+
+#[test]
+fn nullable_spans(rt: HostRuntime) {
+    const NULL: Result<(Nullable<Span>, usize), WireFault> = Ok((Nullable::Null, 1));
+    const LETTER: Result<(Nullable<Span>, usize), WireFault> = Ok((
+        Nullable::Value(Span { start: 1, end: 2 }),
+        2,
+    ));
+    same(&rt, find_ascii_nullable(&[0x80], 0), NULL);
+    same(&rt, find_ascii_nullable(&[0x00, 0xc1], 0), LETTER);
+    same(&rt, find_vector_nullable(&[0x80], 0), NULL);
+    same(&rt, find_vector_nullable(&[0x82, 0x41], 0), LETTER);
+}
+
+/// A vector that is filled again.
+#[test]
+fn tails(rt: HostRuntime) -> Result<(), Fail> {
     let mut text = Vec::new(rt.alloc());
     for (tail, characters) in [
         ([0x48, 0x65, 0xf9].as_slice(), b"Hey".as_slice()),
@@ -307,101 +408,179 @@ fn spans(rt: HostRuntime) -> Result<(), Fail> {
 
 /// The readers in 64 bits answer what the others do, at one byte, at nine, and beyond.
 #[test]
-fn short_integers(rt: HostRuntime) -> Result<(), Fail> {
-    let widest = [0x01, 0x7f, 0x7f, 0x7f, 0x7f, 0x7f, 0x7f, 0x7f, 0x7f, 0xff];
-    let unsigned: [(u64, &[u8]); 4] = [
-        (0, &[0x80]),
-        (942_755, &[0x39, 0x45, 0xa3]),
+fn short_unsigned_integers(rt: HostRuntime) {
+    const ROWS: &[(&[u8], Result<(u64, usize), WireFault>)] = &[
+        (&[0x80], Ok((0, 1))),
+        (&[0x39, 0x45, 0xa3], Ok((942_755, 3))),
         (
-            (1 << 63) - 1,
             &[0x7f, 0x7f, 0x7f, 0x7f, 0x7f, 0x7f, 0x7f, 0x7f, 0xff],
+            Ok(((1 << 63) - 1, 9)),
         ),
-        (u64::MAX, &widest),
-    ];
-    for (value, bytes) in unsigned {
-        same(&rt, read_u64(bytes, 0)?, (value, bytes.len()));
-    }
-    let signed: [(i64, &[u8]); 6] = [
-        (2, &[0x82]),
-        (-1, &[0xff]),
-        (-942_755, &[0x46, 0x3a, 0xdd]),
         (
-            (1 << 62) - 1,
+            &[0x01, 0x7f, 0x7f, 0x7f, 0x7f, 0x7f, 0x7f, 0x7f, 0x7f, 0xff],
+            Ok((u64::MAX, 10)),
+        ),
+        (
+            &[0x02, 0x00, 0x00, 0x00, 0x00, 0x00, 0x00, 0x00, 0x00, 0x81],
+            Err(WireFault::Range),
+        ),
+        (&[0x00; 9], Err(WireFault::NeedMore)),
+    ];
+    for (bytes, wanted) in ROWS {
+        same(&rt, read_u64(bytes, 0), *wanted);
+    }
+}
+
+#[test]
+fn short_signed_integers(rt: HostRuntime) {
+    const ROWS: &[(&[u8], Result<(i64, usize), WireFault>)] = &[
+        (&[0x82], Ok((2, 1))),
+        (&[0xff], Ok((-1, 1))),
+        (&[0x46, 0x3a, 0xdd], Ok((-942_755, 3))),
+        (
             &[0x3f, 0x7f, 0x7f, 0x7f, 0x7f, 0x7f, 0x7f, 0x7f, 0xff],
+            Ok(((1 << 62) - 1, 9)),
         ),
         (
-            -(1 << 62),
             &[0x40, 0x00, 0x00, 0x00, 0x00, 0x00, 0x00, 0x00, 0x80],
+            Ok((-(1 << 62), 9)),
         ),
         (
-            i64::MIN,
             &[0x7f, 0x00, 0x00, 0x00, 0x00, 0x00, 0x00, 0x00, 0x00, 0x80],
+            Ok((i64::MIN, 10)),
         ),
+        (
+            &[0x01, 0x7f, 0x7f, 0x7f, 0x7f, 0x7f, 0x7f, 0x7f, 0x7f, 0xff],
+            Err(WireFault::Range),
+        ),
+        (&[0x00; 10], Err(WireFault::TooLong)),
     ];
-    for (value, bytes) in signed {
-        same(&rt, read_i64(bytes, 0)?, (value, bytes.len()));
+    for (bytes, wanted) in ROWS {
+        same(&rt, read_i64(bytes, 0), *wanted);
     }
-    same(&rt, read_u64_nullable(&[0x80], 0)?, (Nullable::Null, 1));
-    same(
-        &rt,
-        read_u64_nullable(&[0x00, 0x80], 0)?,
-        (Nullable::Null, 2),
-    );
-    same(
-        &rt,
-        read_u64_nullable(
+}
+
+#[test]
+fn short_unsigned_nullable_integers(rt: HostRuntime) {
+    const ROWS: &[(&[u8], Result<(Nullable<u64>, usize), WireFault>)] = &[
+        (&[0x80], Ok((Nullable::Null, 1))),
+        (&[0x00, 0x80], Ok((Nullable::Null, 2))),
+        (
             &[0x02, 0x00, 0x00, 0x00, 0x00, 0x00, 0x00, 0x00, 0x00, 0x80],
-            0,
-        )?,
-        (Nullable::Value(u64::MAX), 10),
-    );
-    same(&rt, read_i64_nullable(&[0x80], 0)?, (Nullable::Null, 1));
-    same(
-        &rt,
-        read_i64_nullable(&[0xc0], 0)?,
-        (Nullable::Value(-64), 1),
-    );
-    same(
-        &rt,
-        read_i64_nullable(&[0x00, 0xc0], 0)?,
-        (Nullable::Value(63), 2),
-    );
-    let beyond = [0x02, 0x00, 0x00, 0x00, 0x00, 0x00, 0x00, 0x00, 0x00, 0x81];
-    same(&rt, read_u64(&beyond, 0), Err(WireFault::Range));
-    same(&rt, read_u64_nullable(&beyond, 0), Err(WireFault::Range));
-    same(&rt, read_i64(&widest, 0), Err(WireFault::Range));
-    same(&rt, read_i64_nullable(&widest, 0), Err(WireFault::Range));
-    same(&rt, read_u64(&[0x00; 9], 0), Err(WireFault::NeedMore));
-    same(&rt, read_i64(&[0x00; 10], 0), Err(WireFault::TooLong));
-    same(&rt, read_u64_nullable(&[], 0), Err(WireFault::NeedMore));
-    same(&rt, read_i64_nullable(&[0x7f], 0), Err(WireFault::NeedMore));
+            Ok((Nullable::Value(u64::MAX), 10)),
+        ),
+        (
+            &[0x02, 0x00, 0x00, 0x00, 0x00, 0x00, 0x00, 0x00, 0x00, 0x81],
+            Err(WireFault::Range),
+        ),
+        (&[], Err(WireFault::NeedMore)),
+    ];
+    for (bytes, wanted) in ROWS {
+        same(&rt, read_u64_nullable(bytes, 0), *wanted);
+    }
+}
+
+#[test]
+fn short_signed_nullable_integers(rt: HostRuntime) {
+    const ROWS: &[(&[u8], Result<(Nullable<i64>, usize), WireFault>)] = &[
+        (&[0x80], Ok((Nullable::Null, 1))),
+        (&[0xc0], Ok((Nullable::Value(-64), 1))),
+        (&[0x00, 0xc0], Ok((Nullable::Value(63), 2))),
+        (
+            &[0x01, 0x7f, 0x7f, 0x7f, 0x7f, 0x7f, 0x7f, 0x7f, 0x7f, 0xff],
+            Err(WireFault::Range),
+        ),
+        (&[0x7f], Err(WireFault::NeedMore)),
+    ];
+    for (bytes, wanted) in ROWS {
+        same(&rt, read_i64_nullable(bytes, 0), *wanted);
+    }
+}
+
+// The size of a text that has a form.
+fn ascii_size(text: &[u8]) -> Option<usize> {
+    if text.len() > 65_535 || !text.is_ascii() {
+        return None;
+    }
+    Some(size_ascii(text))
+}
+
+fn ascii_is_written(
+    rt: &impl Abort,
+    alloc: Global,
+    text: &[u8],
+    bytes: &[u8],
+) -> Result<(), WireFault> {
+    let mut out = Vec::new(alloc);
+    write_ascii(text, &mut out)?;
+    same(rt, out.as_slice(), bytes);
+    same(rt, ascii_size(text), Some(bytes.len()));
+    Ok(())
+}
+
+// Reads a text, once more where memory was refused.
+fn ascii_read(alloc: Global, bytes: &[u8]) -> Result<(Vec<u8>, usize), WireFault> {
+    match read_ascii(alloc, bytes, 0) {
+        Err(WireFault::Memory) => read_ascii(alloc, bytes, 0),
+        read => read,
+    }
+}
+
+fn ascii_is_read(
+    rt: &impl Abort,
+    alloc: Global,
+    text: &[u8],
+    bytes: &[u8],
+) -> Result<(), WireFault> {
+    let (read, next) = ascii_read(alloc, bytes)?;
+    same(rt, read.as_slice(), text);
+    same(rt, next, bytes.len());
     Ok(())
 }
 
 #[test]
 fn ascii_vectors(rt: HostRuntime) -> Result<(), Fail> {
-    let vectors: [(&[u8], &[u8]); 4] = [
+    const VECTORS: &[(&[u8], &[u8])] = &[
         (b"", &[0x80]),
         (b"\0", &[0x00, 0x80]),
         (b"\0A", &[0x00, 0x00, 0xc1]),
         (b"A", &[0xc1]),
     ];
-    for (text, bytes) in vectors {
-        let mut out = Vec::new(rt.alloc());
-        write_ascii(text, &mut out)?;
-        same(&rt, out.as_slice(), bytes);
-        let (read, next) = read_ascii(rt.alloc(), bytes, 0)?;
-        same(&rt, read.as_slice(), text);
-        same(&rt, next, bytes.len());
-        same(&rt, size_ascii(text), bytes.len());
+    for (text, bytes) in VECTORS {
+        ascii_is_written(&rt, rt.alloc(), text, bytes)?;
+        ascii_is_read(&rt, rt.alloc(), text, bytes)?;
     }
-    let (overlong, next) = read_ascii(rt.alloc(), &[0x00, 0xc1], 0)?;
-    same(&rt, overlong.as_slice(), b"A".as_slice());
-    same(&rt, next, 2);
+    ascii_is_read(&rt, rt.alloc(), b"A", &[0x00, 0xc1])?;
     Ok(())
 }
 
-/// The bytes of a value that was read, where there is one.
+// The size of a text that has a form, or of NULL.
+fn ascii_nullable_size(value: Nullable<&[u8]>) -> Option<usize> {
+    match value {
+        Nullable::Null => Some(size_ascii_nullable(Nullable::Null)),
+        Nullable::Value(text) => {
+            if text.len() > 65_535 || !text.is_ascii() {
+                return None;
+            }
+            Some(size_ascii_nullable(Nullable::Value(text)))
+        }
+    }
+}
+
+fn ascii_nullable_is_written(
+    rt: &impl Abort,
+    alloc: Global,
+    value: Nullable<&[u8]>,
+    bytes: &[u8],
+) -> Result<(), WireFault> {
+    let mut out = Vec::new(alloc);
+    write_ascii_nullable(value, &mut out)?;
+    same(rt, out.as_slice(), bytes);
+    same(rt, ascii_nullable_size(value), Some(bytes.len()));
+    Ok(())
+}
+
+// The bytes of a value that was read, where there is one.
 fn shown(value: &Nullable<Vec<u8>>) -> Nullable<&[u8]> {
     match value {
         Nullable::Null => Nullable::Null,
@@ -409,127 +588,235 @@ fn shown(value: &Nullable<Vec<u8>>) -> Nullable<&[u8]> {
     }
 }
 
+// Reads a text or NULL, once more where memory was refused.
+fn ascii_nullable_read(
+    alloc: Global,
+    bytes: &[u8],
+) -> Result<(Nullable<Vec<u8>>, usize), WireFault> {
+    match read_ascii_nullable(alloc, bytes, 0) {
+        Err(WireFault::Memory) => read_ascii_nullable(alloc, bytes, 0),
+        read => read,
+    }
+}
+
+fn ascii_nullable_is_read(
+    rt: &impl Abort,
+    alloc: Global,
+    value: Nullable<&[u8]>,
+    bytes: &[u8],
+) -> Result<(), WireFault> {
+    let (read, next) = ascii_nullable_read(alloc, bytes)?;
+    same(rt, shown(&read), value);
+    same(rt, next, bytes.len());
+    Ok(())
+}
+
 #[test]
 fn ascii_nullable_vectors(rt: HostRuntime) -> Result<(), Fail> {
-    let vectors: [(Nullable<&[u8]>, &[u8]); 5] = [
+    const VECTORS: &[(Nullable<&[u8]>, &[u8])] = &[
         (Nullable::Null, &[0x80]),
         (Nullable::Value(b""), &[0x00, 0x80]),
         (Nullable::Value(b"\0"), &[0x00, 0x00, 0x80]),
         (Nullable::Value(b"\0A"), &[0x00, 0x00, 0x00, 0xc1]),
         (Nullable::Value(b"A"), &[0xc1]),
     ];
-    for (value, bytes) in vectors {
-        let mut out = Vec::new(rt.alloc());
-        write_ascii_nullable(value, &mut out)?;
-        same(&rt, out.as_slice(), bytes);
-        let (read, next) = read_ascii_nullable(rt.alloc(), bytes, 0)?;
-        same(&rt, shown(&read), value);
-        same(&rt, next, bytes.len());
-        same(&rt, size_ascii_nullable(value), bytes.len());
+    for (value, bytes) in VECTORS {
+        ascii_nullable_is_written(&rt, rt.alloc(), *value, bytes)?;
+        ascii_nullable_is_read(&rt, rt.alloc(), *value, bytes)?;
     }
     Ok(())
 }
 
 #[test]
 fn ascii_overlong(rt: HostRuntime) -> Result<(), Fail> {
-    let overlong: [&[u8]; 2] = [&[0x00, 0xc1], &[0x00, 0x00, 0xc1]];
-    for bytes in overlong {
-        let (read, next) = read_ascii_nullable(rt.alloc(), bytes, 0)?;
-        same(&rt, shown(&read), Nullable::Value(b"A".as_slice()));
-        same(&rt, next, bytes.len());
+    const OVERLONG: &[&[u8]] = &[&[0x00, 0xc1], &[0x00, 0x00, 0xc1]];
+    for bytes in OVERLONG {
+        ascii_nullable_is_read(&rt, rt.alloc(), Nullable::Value(b"A"), bytes)?;
     }
     Ok(())
 }
 
+fn ascii_fault(alloc: Global, bytes: &[u8]) -> Option<WireFault> {
+    read_ascii(alloc, bytes, 0).err()
+}
+
+fn ascii_nullable_fault(alloc: Global, bytes: &[u8]) -> Option<WireFault> {
+    read_ascii_nullable(alloc, bytes, 0).err()
+}
+
+#[test]
+fn ascii_is_not_written(rt: HostRuntime) {
+    let alloc = rt.alloc();
+    let long = [0x41; 65_536];
+    is_refused(&rt, alloc, Form::Ascii(&[0x80]), WireFault::Range);
+    is_refused(&rt, alloc, Form::Ascii(&long), WireFault::TooLong);
+    let long = Form::AsciiNullable(Nullable::Value(&long));
+    is_refused(&rt, alloc, long, WireFault::TooLong);
+}
+
 #[test]
 fn ascii_limits(rt: HostRuntime) -> Result<(), Fail> {
-    let mut out = Vec::new(rt.alloc());
-    same(&rt, write_ascii(&[0x80], &mut out), Err(WireFault::Range));
-    let long = [0x41; 65_536];
-    same(&rt, write_ascii(&long, &mut out), Err(WireFault::TooLong));
-    same(
-        &rt,
-        write_ascii_nullable(Nullable::Value(&long), &mut out),
-        Err(WireFault::TooLong),
-    );
-    assert!(rt; out.is_empty());
+    let alloc = rt.alloc();
     let mut groups = [0x00; 65_540];
-    assert!(rt;
-        matches!(
-            read_ascii(rt.alloc(), &groups[..65_539], 0),
-            Err(WireFault::NeedMore)
-        )
-    );
-    assert!(rt; matches!(read_ascii(rt.alloc(), &groups, 0), Err(WireFault::TooLong)));
+    let cut = ascii_fault(alloc, &groups[..65_539]);
+    same(&rt, cut, Some(WireFault::NeedMore));
+    same(&rt, ascii_fault(alloc, &groups), Some(WireFault::TooLong));
     groups[65_536] = 0x80;
-    assert!(rt; matches!(read_ascii(rt.alloc(), &groups, 0), Err(WireFault::TooLong)));
-    let (text, next) = read_ascii_nullable(rt.alloc(), &groups, 0)?;
+    same(&rt, ascii_fault(alloc, &groups), Some(WireFault::TooLong));
+    let (text, next) = ascii_nullable_read(alloc, &groups)?;
     same(&rt, shown(&text), Nullable::Value(&groups[..65_535]));
     same(&rt, next, 65_537);
     Ok(())
 }
 
+fn vector_is_written(
+    rt: &impl Abort,
+    alloc: Global,
+    items: &[u8],
+    bytes: &[u8],
+) -> Result<(), WireFault> {
+    let mut out = Vec::new(alloc);
+    write_vector(items, &mut out)?;
+    same(rt, out.as_slice(), bytes);
+    same(rt, size_vector(items), bytes.len());
+    Ok(())
+}
+
+// Reads a vector, once more where memory was refused.
+fn vector_read(alloc: Global, bytes: &[u8]) -> Result<(Vec<u8>, usize), WireFault> {
+    match read_vector(alloc, bytes, 0) {
+        Err(WireFault::Memory) => read_vector(alloc, bytes, 0),
+        read => read,
+    }
+}
+
+fn vector_is_read(
+    rt: &impl Abort,
+    alloc: Global,
+    items: &[u8],
+    bytes: &[u8],
+) -> Result<(), WireFault> {
+    let (read, next) = vector_read(alloc, bytes)?;
+    same(rt, read.as_slice(), items);
+    same(rt, next, bytes.len());
+    Ok(())
+}
+
+fn vector_fault(alloc: Global, bytes: &[u8]) -> Option<WireFault> {
+    read_vector(alloc, bytes, 0).err()
+}
+
 #[test]
 fn vector_vectors(rt: HostRuntime) -> Result<(), Fail> {
-    let bytes = [0x82, 0xc3, 0xa9];
-    let items = [0xc3, 0xa9];
-    let mut out = Vec::new(rt.alloc());
-    write_vector(&items, &mut out)?;
-    same(&rt, out.as_slice(), bytes.as_slice());
-    let (read, next) = read_vector(rt.alloc(), &bytes, 0)?;
-    same(&rt, read.as_slice(), items.as_slice());
-    same(&rt, next, 3);
-    same(&rt, size_vector(&items), 3);
-    let refused: [(&[u8], WireFault); 3] = [
+    const REFUSED: &[(&[u8], WireFault)] = &[
         (&[0x82, 0xc3], WireFault::NeedMore),
         (&[0x04, 0x00, 0x80], WireFault::TooLong),
         (&[0x04], WireFault::NeedMore),
     ];
-    for (bytes, fault) in refused {
-        assert!(rt; matches!(read_vector(rt.alloc(), bytes, 0), Err(found) if found == fault));
+    let bytes = [0x82, 0xc3, 0xa9];
+    vector_is_written(&rt, rt.alloc(), &[0xc3, 0xa9], &bytes)?;
+    vector_is_read(&rt, rt.alloc(), &[0xc3, 0xa9], &bytes)?;
+    for (bytes, fault) in REFUSED {
+        same(&rt, vector_fault(rt.alloc(), bytes), Some(*fault));
     }
-    let long = [0x00; 65_536];
-    let mut none = Vec::new(rt.alloc());
-    same(&rt, write_vector(&long, &mut none), Err(WireFault::TooLong));
-    assert!(rt; none.is_empty());
     Ok(())
+}
+
+#[test]
+fn long_vectors_are_not_written(rt: HostRuntime) {
+    let long = [0x00; 65_536];
+    is_refused(&rt, rt.alloc(), Form::Vector(&long), WireFault::TooLong);
+}
+
+fn vector_nullable_is_written(
+    rt: &impl Abort,
+    alloc: Global,
+    value: Nullable<&[u8]>,
+    bytes: &[u8],
+) -> Result<(), WireFault> {
+    let mut out = Vec::new(alloc);
+    write_vector_nullable(value, &mut out)?;
+    same(rt, out.as_slice(), bytes);
+    same(rt, size_vector_nullable(value), bytes.len());
+    Ok(())
+}
+
+// Reads a vector or NULL, once more where memory was refused.
+fn vector_nullable_read(
+    alloc: Global,
+    bytes: &[u8],
+) -> Result<(Nullable<Vec<u8>>, usize), WireFault> {
+    match read_vector_nullable(alloc, bytes, 0) {
+        Err(WireFault::Memory) => read_vector_nullable(alloc, bytes, 0),
+        read => read,
+    }
+}
+
+fn vector_nullable_is_read(
+    rt: &impl Abort,
+    alloc: Global,
+    value: Nullable<&[u8]>,
+    bytes: &[u8],
+) -> Result<(), WireFault> {
+    let (read, next) = vector_nullable_read(alloc, bytes)?;
+    same(rt, shown(&read), value);
+    same(rt, next, bytes.len());
+    Ok(())
+}
+
+fn vector_nullable_fault(alloc: Global, bytes: &[u8]) -> Option<WireFault> {
+    read_vector_nullable(alloc, bytes, 0).err()
 }
 
 #[test]
 fn vector_nullable_vectors(rt: HostRuntime) -> Result<(), Fail> {
-    let vectors: [(Nullable<&[u8]>, &[u8]); 3] = [
+    const VECTORS: &[(Nullable<&[u8]>, &[u8])] = &[
         (Nullable::Value(&[0xc3, 0xa9]), &[0x83, 0xc3, 0xa9]),
         (Nullable::Value(b""), &[0x81]),
         (Nullable::Null, &[0x80]),
     ];
-    for (value, bytes) in vectors {
-        let mut out = Vec::new(rt.alloc());
-        write_vector_nullable(value, &mut out)?;
-        same(&rt, out.as_slice(), bytes);
-        let (read, next) = read_vector_nullable(rt.alloc(), bytes, 0)?;
-        same(&rt, shown(&read), value);
-        same(&rt, next, bytes.len());
-        same(&rt, size_vector_nullable(value), bytes.len());
+    for (value, bytes) in VECTORS {
+        vector_nullable_is_written(&rt, rt.alloc(), *value, bytes)?;
+        vector_nullable_is_read(&rt, rt.alloc(), *value, bytes)?;
     }
-    assert!(rt;
-        matches!(
-            read_vector_nullable(rt.alloc(), &[0x04, 0x00, 0x81], 0),
-            Err(WireFault::TooLong)
-        )
-    );
+    let long = vector_nullable_fault(rt.alloc(), &[0x04, 0x00, 0x81]);
+    same(&rt, long, Some(WireFault::TooLong));
     Ok(())
 }
 
 #[test]
-fn texts(rt: HostRuntime) -> Result<(), Fail> {
+fn texts(rt: HostRuntime) {
     same(&rt, check_text(&[0xc3, 0xa9]), Ok(()));
     same(&rt, check_text(&[0xc3, 0x41]), Err(WireFault::NotUtf8));
+}
+
+fn map_is_written(
+    rt: &impl Abort,
+    alloc: Global,
+    bits: &[bool],
+    bytes: &[u8],
+) -> Result<(), WireFault> {
+    let mut out = Vec::new(alloc);
+    write_map(bits, &mut out)?;
+    same(rt, out.as_slice(), bytes);
+    Ok(())
+}
+
+fn map_is_read(
+    rt: &impl Abort,
+    alloc: Global,
+    bits: &[bool],
+    bytes: &[u8],
+) -> Result<(), WireFault> {
+    let (mut read, next) = map_read(alloc, bytes)?;
+    same(rt, next, bytes.len());
+    bits_are(rt, &mut read, bits);
     Ok(())
 }
 
 #[test]
 fn map_vectors(rt: HostRuntime) -> Result<(), Fail> {
-    let vectors: [(&[bool], &[u8]); 4] = [
+    const VECTORS: &[(&[bool], &[u8])] = &[
         (&[true, true, true, false], &[0xf0]),
         (&[], &[0x80]),
         (
@@ -538,41 +825,32 @@ fn map_vectors(rt: HostRuntime) -> Result<(), Fail> {
         ),
         (&[false; 20], &[0x80]),
     ];
-    for (bits, bytes) in vectors {
-        let mut out = Vec::new(rt.alloc());
-        write_map(bits, &mut out)?;
-        same(&rt, out.as_slice(), bytes);
-        let (mut read, next) = read_map(rt.alloc(), bytes, 0)?;
-        same(&rt, next, bytes.len());
-        for bit in bits {
-            same(&rt, read.first(), *bit);
-            same(&rt, read.take(), *bit);
-        }
-        assert!(rt; !read.left_set() && !read.first() && !read.take());
+    for (bits, bytes) in VECTORS {
+        map_is_written(&rt, rt.alloc(), bits, bytes)?;
+        map_is_read(&rt, rt.alloc(), bits, bytes)?;
     }
+    map_is_read(&rt, rt.alloc(), &[true, true, true], &[0x70, 0x00, 0x80])?;
     Ok(())
+}
+
+fn map_fault(alloc: Global, bytes: &[u8]) -> Option<WireFault> {
+    read_map(alloc, bytes, 0).err()
+}
+
+#[test]
+fn maps_that_are_not_read(rt: HostRuntime) {
+    no_bit_left(&rt, &mut Bits::none(rt.alloc()));
+    let zeros = [0u8; 256];
+    let cut = map_fault(rt.alloc(), &zeros[..255]);
+    same(&rt, cut, Some(WireFault::NeedMore));
+    same(&rt, map_fault(rt.alloc(), &zeros), Some(WireFault::TooLong));
 }
 
 #[test]
 fn map_limits(rt: HostRuntime) -> Result<(), Fail> {
-    let (mut long, next) = read_map(rt.alloc(), &[0x70, 0x00, 0x80], 0)?;
-    same(&rt, next, 3);
-    assert!(rt; long.left_set() && long.take() && long.take() && long.take());
-    assert!(rt; !long.left_set() && !long.take());
-    let mut none = Bits::none(rt.alloc());
-    assert!(rt; !none.left_set() && !none.first() && !none.take());
-    let zeros = [0u8; 256];
-    assert!(rt;
-        matches!(
-            read_map(rt.alloc(), &zeros[..255], 0),
-            Err(WireFault::NeedMore)
-        )
-    );
-    assert!(rt; matches!(read_map(rt.alloc(), &zeros, 0), Err(WireFault::TooLong)));
     let ones = [true; 1793];
+    is_refused(&rt, rt.alloc(), Form::Map(&ones), WireFault::TooLong);
     let mut out = Vec::new(rt.alloc());
-    same(&rt, write_map(&ones, &mut out), Err(WireFault::TooLong));
-    assert!(rt; out.is_empty());
     write_map(&ones[..1792], &mut out)?;
     same(&rt, out.len(), 256);
     Ok(())
@@ -597,6 +875,57 @@ fn stop_bits(rt: HostRuntime) -> Result<(), Fail> {
     Ok(())
 }
 
+/// A value and the form that it is written in.
+#[derive(Clone, Copy)]
+enum Form<'a> {
+    Unsigned(u128),
+    Signed(i128),
+    UnsignedNullable(Nullable<u128>),
+    SignedNullable(Nullable<i128>),
+    U64(u64),
+    I64(i64),
+    U64Nullable(Nullable<u64>),
+    I64Nullable(Nullable<i64>),
+    Ascii(&'a [u8]),
+    AsciiNullable(Nullable<&'a [u8]>),
+    Vector(&'a [u8]),
+    VectorNullable(Nullable<&'a [u8]>),
+    Map(&'a [bool]),
+}
+
+impl Form<'_> {
+    fn write(self, out: &mut Vec<u8>) -> Result<(), WireFault> {
+        match self {
+            Form::Unsigned(value) => write_unsigned(value, out),
+            Form::Signed(value) => write_signed(value, out),
+            Form::UnsignedNullable(value) => write_unsigned_nullable(value, out),
+            Form::SignedNullable(value) => write_signed_nullable(value, out),
+            Form::U64(value) => write_u64(value, out),
+            Form::I64(value) => write_i64(value, out),
+            Form::U64Nullable(value) => write_u64_nullable(value, out),
+            Form::I64Nullable(value) => write_i64_nullable(value, out),
+            Form::Ascii(text) => write_ascii(text, out),
+            Form::AsciiNullable(value) => write_ascii_nullable(value, out),
+            Form::Vector(items) => write_vector(items, out),
+            Form::VectorNullable(value) => write_vector_nullable(value, out),
+            Form::Map(bits) => write_map(bits, out),
+        }
+    }
+}
+
+// A value without such a form is refused, and nothing is appended.
+fn is_refused(rt: &impl Abort, alloc: Global, form: Form, fault: WireFault) {
+    let mut out = Vec::new(alloc);
+    same(rt, form.write(&mut out), Err(fault));
+    same(rt, out.len(), 0);
+}
+
+fn all_refused(rt: &impl Abort, alloc: Global, rows: &[(Form, WireFault)]) {
+    for (form, fault) in rows {
+        is_refused(rt, alloc, *form, *fault);
+    }
+}
+
 /// Bytes that stand in an output before a form is written.
 const FRONT: [u8; 3] = [0xd5, 0x00, 0x80];
 
@@ -611,176 +940,163 @@ fn begun(alloc: Global) -> Result<Vec<u8>, AllocError> {
 
 /// A refused growth is Memory, and nothing was appended.
 fn nothing_written(rt: &impl Abort, fault: WireFault, out: &[u8]) {
-    assert_eq!(rt; fault, WireFault::Memory);
-    assert_eq!(rt; out, FRONT.as_slice());
+    same(rt, fault, WireFault::Memory);
+    same(rt, out, FRONT.as_slice());
+}
+
+/// Writes behind bytes that are there, and once more where memory was refused.
+fn append(rt: &impl Abort, form: Form, out: &mut Vec<u8>) -> Result<(), WireFault> {
+    match form.write(out) {
+        Ok(()) => Ok(()),
+        Err(fault) => {
+            nothing_written(rt, fault, out);
+            form.write(out)
+        }
+    }
 }
 
 /// Behind the bytes that stood there stand these.
 fn stands_behind(rt: &impl Abort, out: &[u8], bytes: &[u8]) {
-    assert!(rt; out.starts_with(&FRONT) && out.ends_with(bytes));
-    assert_eq!(rt; out.len().saturating_sub(FRONT.len()), bytes.len());
+    same(rt, out.get(..FRONT.len()), Some(FRONT.as_slice()));
+    same(rt, out.get(FRONT.len()..), Some(bytes));
 }
 
-/// Writes behind bytes that are there, once more where memory was refused, and compares the bytes.
-macro_rules! written {
-    ($rt:ident, $bytes:expr, $out:ident => $call:expr) => {
-        let mut $out = begun($rt.alloc())?;
-        if let Err(fault) = $call {
-            nothing_written(&$rt, fault, &$out);
-            $call?;
-        }
-        stands_behind(&$rt, &$out, $bytes.as_slice());
-    };
+fn is_appended(rt: &impl Abort, alloc: Global, form: Form, bytes: &[u8]) -> Result<(), WireFault> {
+    let mut out = begun(alloc)?;
+    append(rt, form, &mut out)?;
+    stands_behind(rt, &out, bytes);
+    Ok(())
 }
 
-/// Reads, once more where memory was refused, and compares the bytes of the value.
-macro_rules! taken {
-    ($rt:ident, $bytes:expr, $call:expr) => {
-        let read = match $call {
-            Err(WireFault::Memory) => $call,
-            read => read,
-        };
-        let (value, _) = read?;
-        same(&$rt, value.as_slice(), $bytes.as_slice());
-    };
+fn all_appended(
+    rt: &impl Abort,
+    alloc: Global,
+    rows: &[(Form, &'static [u8])],
+) -> Result<(), WireFault> {
+    for (form, bytes) in rows {
+        is_appended(rt, alloc, *form, bytes)?;
+    }
+    Ok(())
 }
 
 /// A refused growth appends nothing, and the same call then gives the row's answer: run with the first, the
 /// second and each later allocation refused, until a run meets no refusal.
 #[test]
 fn refused_growths(rt: HostRuntime) -> Result<(), Fail> {
-    written!(rt, [0x39, 0x45, 0xa3], out => write_unsigned(942_755, &mut out));
-    written!(rt, [0x39, 0x45, 0xa3], out => write_signed(942_755, &mut out));
-    written!(rt, [0x83], out => write_unsigned_nullable(Nullable::Value(2), &mut out));
-    written!(rt, [0xfe], out => write_signed_nullable(Nullable::Value(-2), &mut out));
+    const ROWS: &[(Form, &[u8])] = &[
+        (Form::Unsigned(942_755), &[0x39, 0x45, 0xa3]),
+        (Form::Signed(942_755), &[0x39, 0x45, 0xa3]),
+        (Form::UnsignedNullable(Nullable::Value(2)), &[0x83]),
+        (Form::SignedNullable(Nullable::Value(-2)), &[0xfe]),
+    ];
+    all_appended(&rt, rt.alloc(), ROWS)?;
     Ok(())
 }
 
 #[test]
 fn refused_growths_in_64_bits(rt: HostRuntime) -> Result<(), Fail> {
-    written!(rt, [0x82], out => write_u64(2, &mut out));
-    written!(rt, [0xfe], out => write_i64(-2, &mut out));
-    written!(rt, [0x83], out => write_u64_nullable(Nullable::Value(2), &mut out));
-    written!(rt, [0x80], out => write_i64_nullable(Nullable::Null, &mut out));
+    const ROWS: &[(Form, &[u8])] = &[
+        (Form::U64(2), &[0x82]),
+        (Form::I64(-2), &[0xfe]),
+        (Form::U64Nullable(Nullable::Value(2)), &[0x83]),
+        (Form::I64Nullable(Nullable::Null), &[0x80]),
+    ];
+    all_appended(&rt, rt.alloc(), ROWS)?;
     Ok(())
 }
 
 #[test]
 fn refused_growths_of_strings(rt: HostRuntime) -> Result<(), Fail> {
-    written!(rt, [0x48, 0x65, 0xf9], out => write_ascii(b"Hey", &mut out));
-    written!(rt, [0x00, 0x00, 0xc1], out => write_ascii(b"\0A", &mut out));
-    written!(rt, [0x00, 0x80], out => write_ascii_nullable(Nullable::Value(b""), &mut out));
-    written!(rt, [0x80], out => write_ascii_nullable(Nullable::Null, &mut out));
+    const ROWS: &[(Form, &[u8])] = &[
+        (Form::Ascii(b"Hey"), &[0x48, 0x65, 0xf9]),
+        (Form::Ascii(b"\0A"), &[0x00, 0x00, 0xc1]),
+        (Form::AsciiNullable(Nullable::Value(b"")), &[0x00, 0x80]),
+        (Form::AsciiNullable(Nullable::Null), &[0x80]),
+    ];
+    all_appended(&rt, rt.alloc(), ROWS)?;
     Ok(())
 }
 
 #[test]
 fn refused_growths_of_vectors(rt: HostRuntime) -> Result<(), Fail> {
-    let vector = Nullable::Value([0xc3, 0xa9].as_slice());
-    written!(rt, [0x82, 0xc3, 0xa9], out => write_vector(&[0xc3, 0xa9], &mut out));
-    written!(rt, [0x83, 0xc3, 0xa9], out => write_vector_nullable(vector, &mut out));
-    written!(rt, [0x80], out => write_vector_nullable(Nullable::Null, &mut out));
+    const ROWS: &[(Form, &[u8])] = &[
+        (Form::Vector(&[0xc3, 0xa9]), &[0x82, 0xc3, 0xa9]),
+        (
+            Form::VectorNullable(Nullable::Value(&[0xc3, 0xa9])),
+            &[0x83, 0xc3, 0xa9],
+        ),
+        (Form::VectorNullable(Nullable::Null), &[0x80]),
+    ];
+    all_appended(&rt, rt.alloc(), ROWS)?;
     Ok(())
 }
 
 #[test]
 fn refused_growths_of_maps(rt: HostRuntime) -> Result<(), Fail> {
-    let eight = [false, false, false, false, false, false, false, true];
-    written!(rt, [0x00, 0xc0], out => write_map(&eight, &mut out));
-    written!(rt, [0xf0], out => write_map(&[true, true, true], &mut out));
+    const ROWS: &[(Form, &[u8])] = &[
+        (
+            Form::Map(&[false, false, false, false, false, false, false, true]),
+            &[0x00, 0xc0],
+        ),
+        (Form::Map(&[true, true, true]), &[0xf0]),
+    ];
+    all_appended(&rt, rt.alloc(), ROWS)?;
     Ok(())
 }
 
 /// A refused copy is Memory, and the same call then gives the row's answer.
 #[test]
 fn refused_copies(rt: HostRuntime) -> Result<(), Fail> {
-    taken!(rt, b"A", read_ascii(rt.alloc(), &[0xc1], 0));
-    taken!(
-        rt,
-        [0xc3, 0xa9],
-        read_vector(rt.alloc(), &[0x82, 0xc3, 0xa9], 0)
-    );
-    let read = match read_map(rt.alloc(), &[0xf0], 0) {
-        Err(WireFault::Memory) => read_map(rt.alloc(), &[0xf0], 0),
-        read => read,
-    };
-    let (bits, next) = read?;
-    assert!(rt; next == 1 && bits.left_set());
-    let text = match read_ascii_nullable(rt.alloc(), &[0xc1], 0) {
-        Err(WireFault::Memory) => read_ascii_nullable(rt.alloc(), &[0xc1], 0),
-        read => read,
-    };
-    same(&rt, shown(&text?.0), Nullable::Value(b"A".as_slice()));
-    let vector = match read_vector_nullable(rt.alloc(), &[0x82, 0x41], 0) {
-        Err(WireFault::Memory) => read_vector_nullable(rt.alloc(), &[0x82, 0x41], 0),
-        read => read,
-    };
-    same(&rt, shown(&vector?.0), Nullable::Value(b"A".as_slice()));
+    let alloc = rt.alloc();
+    let letter = Nullable::Value(b"A".as_slice());
+    ascii_is_read(&rt, alloc, b"A", &[0xc1])?;
+    vector_is_read(&rt, alloc, &[0xc3, 0xa9], &[0x82, 0xc3, 0xa9])?;
+    map_is_read(&rt, alloc, &[true, true, true], &[0xf0])?;
+    ascii_nullable_is_read(&rt, alloc, letter, &[0xc1])?;
+    vector_nullable_is_read(&rt, alloc, letter, &[0x82, 0x41])?;
     Ok(())
 }
 
 /// Where no value stands no memory is asked for: the answer is the same, whichever allocation is refused.
 #[test]
-fn no_memory_for_no_value(rt: HostRuntime) -> Result<(), Fail> {
-    let long = [0u8; 65_540];
-    assert!(rt; matches!(read_ascii(rt.alloc(), b"Hey", 0), Err(WireFault::NeedMore)));
-    assert!(rt; matches!(read_ascii(rt.alloc(), &long, 0), Err(WireFault::TooLong)));
-    assert!(rt;
-        matches!(
-            read_ascii_nullable(rt.alloc(), b"Hey", 0),
-            Err(WireFault::NeedMore)
-        )
-    );
-    assert!(rt;
-        matches!(
-            read_vector(rt.alloc(), &[0x83, 0x41, 0x42], 0),
-            Err(WireFault::NeedMore)
-        )
-    );
-    assert!(rt;
-        matches!(
-            read_vector(rt.alloc(), &[0x04, 0x00, 0x80], 0),
-            Err(WireFault::TooLong)
-        )
-    );
-    assert!(rt;
-        matches!(
-            read_vector_nullable(rt.alloc(), &[0x84, 0x41], 0),
-            Err(WireFault::NeedMore)
-        )
-    );
-    assert!(rt; matches!(read_map(rt.alloc(), &[0x40], 0), Err(WireFault::NeedMore)));
-    assert!(rt;
-        matches!(
-            read_map(rt.alloc(), &long[..256], 0),
-            Err(WireFault::TooLong)
-        )
-    );
-    Ok(())
+fn no_memory_for_no_value(rt: HostRuntime) {
+    let alloc = rt.alloc();
+    let more = Some(WireFault::NeedMore);
+    let long = Some(WireFault::TooLong);
+    let zeros = [0u8; 65_540];
+    same(&rt, ascii_fault(alloc, b"Hey"), more);
+    same(&rt, ascii_fault(alloc, &zeros), long);
+    same(&rt, ascii_nullable_fault(alloc, b"Hey"), more);
+    same(&rt, vector_fault(alloc, &[0x83, 0x41, 0x42]), more);
+    same(&rt, vector_fault(alloc, &[0x04, 0x00, 0x80]), long);
+    same(&rt, vector_nullable_fault(alloc, &[0x84, 0x41]), more);
+    same(&rt, map_fault(alloc, &[0x40]), more);
+    same(&rt, map_fault(alloc, &zeros[..256]), long);
+}
+
+// Forms of sixteen bytes.
+fn write_small(out: &mut Vec<u8>) -> Result<(), WireFault> {
+    write_unsigned(942_755, out)?;
+    write_signed(-942_755, out)?;
+    write_ascii(b"Hey", out)?;
+    write_ascii_nullable(Nullable::Value(b""), out)?;
+    write_vector(&[0xc3, 0xa9], out)?;
+    write_vector_nullable(Nullable::Null, out)?;
+    write_map(&[true], out)
 }
 
 /// A form that fits the room that is there asks for no memory.
 #[test]
 fn no_memory_where_it_fits(rt: HostRuntime) -> Result<(), Fail> {
+    const WANTED: &[u8] = &[
+        0x39, 0x45, 0xa3, 0x46, 0x3a, 0xdd, 0x48, 0x65, 0xf9, 0x00, 0x80, 0x82, 0xc3, 0xa9, 0x80,
+        0xc0,
+    ];
     let mut out = Vec::new(rt.alloc());
     if out.reserve(64).is_err() {
         out.reserve(64)?;
     }
-    write_unsigned(942_755, &mut out)?;
-    write_signed(-942_755, &mut out)?;
-    write_ascii(b"Hey", &mut out)?;
-    write_ascii_nullable(Nullable::Value(b""), &mut out)?;
-    write_vector(&[0xc3, 0xa9], &mut out)?;
-    write_vector_nullable(Nullable::Null, &mut out)?;
-    write_map(&[true], &mut out)?;
-    same(
-        &rt,
-        out.as_slice(),
-        [
-            0x39, 0x45, 0xa3, 0x46, 0x3a, 0xdd, 0x48, 0x65, 0xf9, 0x00, 0x80, 0x82, 0xc3, 0xa9,
-            0x80, 0xc0,
-        ]
-        .as_slice(),
-    );
+    write_small(&mut out)?;
+    same(&rt, out.as_slice(), WANTED);
     Ok(())
 }
