@@ -22,7 +22,7 @@ use Rattle.fast_canon.proofs.StreamLaws.{none_shorter}
 use Rattle.fast_writer.specs.declared.writer.Writer.{Writer}
 use Rattle.fast_writer.specs.Canonical.{IsCanonical}
 use Rattle.fast_writer.specs.Levels.{HasFinished, HasWritten}
-use Rattle.fast_writer.specs.Written.{handed_on}
+use Rattle.fast_walk.specs.Received.{handed_on}
 
 -- the writer has the canonical bytes of the messages that ended, but for those handed on
 pub canonical_of : (fault : Option Fault) (t : Traversal) (w : Writer) (d : Dictionary) (held : List ℕ) (waiting : ℕ) (handed bytes : List ℕ) (messages : List Content)

@@ -13,7 +13,7 @@ use Rattle.fast_decoder.specs.Inputs.{HasReached, IsCaused, Reader, Reads}
 use Rattle.fast_machine.specs.Standing.{Carried}
 use Rattle.fast_writer.specs.declared.writer.Writer.{Writer}
 use Rattle.fast_writer.specs.Canonical.{IsCanonical}
-use Rattle.fast_writer.specs.Written.{handed_on}
+use Rattle.fast_walk.specs.Received.{handed_on}
 
 -- a machine with no fault has been fed these bytes, in which these messages ended; each read gave a byte
 pub record GoesOn {E : Type 0} {receiver : Receiving Writer} {entries : Ghosts E} (m : Machine Writer E receiver entries) (reads : ℕ) (handed input : List ℕ) (messages : List Content) : Type 0 where

@@ -11,16 +11,11 @@ use Rattle.fast_canon.specs.Canonicalised.{Canonicalises, Ends, Stops}
 use Rattle.fast_canon.specs.declared.fault.CanonFault.{CanonFault}
 use Rattle.fast_canon.specs.declared.fault.CanonFault.TheVariants as refusal
 use Rattle.fast_canon.specs.declared.summary.Summary.{Summary}
-use Rattle.fast_lines.specs.Lines.{joined, line_in, ok_text}
+use Rattle.fast_lines.specs.Lines.{lines_in, ok_text}
 use Rattle.fast_command.specs.declared.command.Command.{Command}
 use Rattle.fast_command.specs.declared.command.Command.TheVariants.{Show, Check, Canon}
 
 -- ---- show
-
--- the lines of messages, one behind another; none where a message has none
-abbrev pub lines_in : TemplateList → List Content → Option (List ℕ)
-lines_in set [] = Some []
-lines_in set (m ∷ ms) = joined (line_in set m) (lines_in set ms)
 
 -- The reader has ended, and the bytes read carry the messages; their lines were written, and all is counted: the bytes
 -- written up to the greatest number that a count has.

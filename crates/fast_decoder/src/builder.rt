@@ -6,7 +6,7 @@ ghost use Rattle.fast_stream.specs.Nodes.{item_of, single};
 use fast_dictionary::Entries;
 use fast_field::FieldFault;
 use fast_stream::{Message, Node};
-use fast_template::{FieldPart, Scalar};
+use fast_template::{FieldPart, Name, Presence, Scalar};
 use fast_walk::{Receiver, exponent_in, mantissa_in, take_part, unsigned_in};
 use std::alloc::{AllocError, Global};
 use std::mem;
@@ -134,6 +134,8 @@ impl Receiver for Builder {
     fn field<E: Entries>(
         &mut self,
         alloc: Global,
+        _name: &Name,
+        _presence: Presence,
         entries: &mut E,
         part: &FieldPart,
         bit: bool,
@@ -152,6 +154,8 @@ impl Receiver for Builder {
     fn exponent<E: Entries>(
         &mut self,
         alloc: Global,
+        _name: &Name,
+        _presence: Presence,
         entries: &mut E,
         part: &FieldPart,
         bit: bool,
@@ -204,6 +208,8 @@ impl Receiver for Builder {
     fn begin_sequence<E: Entries>(
         &mut self,
         alloc: Global,
+        _name: &Name,
+        _presence: Presence,
         entries: &mut E,
         part: &FieldPart,
         bit: bool,
@@ -226,7 +232,7 @@ impl Receiver for Builder {
         }
     }
 
-    fn left_out(&mut self) -> Result<(), AllocError> {
+    fn left_out(&mut self, _name: &Name) -> Result<(), AllocError> {
         self.nodes.push(Node::Absent)?;
         Ok(())
     }
@@ -234,6 +240,7 @@ impl Receiver for Builder {
     fn enter(
         &mut self,
         alloc: Global,
+        _name: &Name,
         _optional: bool,
         _own_map: bool,
         size: usize,

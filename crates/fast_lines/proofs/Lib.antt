@@ -1,3 +1,6 @@
 pub mod Written
 pub mod Nested
+pub mod SameLines
+mod Telling
+mod Writing
 mod LineRows

@@ -134,6 +134,11 @@ line_if None m = None
 abbrev pub line_in : TemplateList → Content → Option (List ℕ)
 line_in set m = line_if (template_of m.template set) m
 
+-- the lines of messages, one behind another; none where a message has none
+abbrev pub lines_in : TemplateList → List Content → Option (List ℕ)
+lines_in set [] = Some []
+lines_in set (m ∷ ms) = joined (line_in set m) (lines_in set ms)
+
 -- ---- a check
 
 -- what a check says that ended well: the messages, the bytes read and the canonical bytes

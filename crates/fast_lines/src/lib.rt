@@ -1,8 +1,10 @@
-//! Messages as lines of text, and what a check says.
-//!
-//! What the line of a message is stands in `specs/Lines`.
+//! Messages of any template set as lines of text: of a message that is at hand, and of messages as they are read; and
+//! what a check says.
 #![tactic(auto)]
 
+mod line;
 mod lines;
+mod writer;
 
 pub use lines::{ShowFault, push_ok_line, show_line};
+pub use writer::LineWriter;

@@ -2,6 +2,7 @@
 
 ghost use Rattle.std.specs.Prelude.{◌≡◌, ◌++◌, ◌∷◌, ◌&&◌, [], ℕ, List, Some, None, Option, OnOk, OnErr, IfOk, IfErr, codes, decimal, map, option_map};
 ghost use Rattle.std.specs.Fmt.{signed_decimal};
+ghost use Rattle.std.specs.Option.{option_copied};
 ghost use Rattle.std.specs.List.{flat_map, list_all};
 ghost use Rattle.hex.specs.Hex.{encode_lower};
 ghost use Rattle.fast_template.specs.Resolved.{instruction_of, list_of, resolved_of};
@@ -41,7 +42,7 @@ impl From<AllocError> for ShowFault {
 const DIGITS: [u8; 16] = *b"0123456789abcdef";
 
 /// Appends bytes as they are.
-fn push(text: &[u8], out: &mut Vec<u8>) -> Result<(), AllocError>
+pub(crate) fn push(text: &[u8], out: &mut Vec<u8>) -> Result<(), AllocError>
     ensures { Writes text.now result out.old.items out.new.items }
 {
     out.extend_from_slice(text)
@@ -49,7 +50,7 @@ fn push(text: &[u8], out: &mut Vec<u8>) -> Result<(), AllocError>
 
 /// Appends one byte.
 #[inline(always)]
-fn push_byte(byte: u8, out: &mut Vec<u8>) -> Result<(), AllocError>
+pub(crate) fn push_byte(byte: u8, out: &mut Vec<u8>) -> Result<(), AllocError>
     ensures { Writes (byte ∷ []) result out.old.items out.new.items }
 {
     out.push(byte)?;
@@ -161,7 +162,11 @@ fn push_signed(number: i64, out: &mut Vec<u8>) -> Result<(), AllocError>
     push_unsigned(number.unsigned_abs(), out)
 }
 
-fn push_decimal(mantissa: i64, exponent: i32, out: &mut Vec<u8>) -> Result<(), AllocError>
+pub(crate) fn push_decimal(
+    mantissa: i64,
+    exponent: i32,
+    out: &mut Vec<u8>,
+) -> Result<(), AllocError>
     ensures { Writes (decimal_text mantissa exponent) result out.old.items out.new.items }
 {
     push_signed(mantissa, out)?;
@@ -212,7 +217,7 @@ fn show_value(kind: Kind, value: &Scalar, out: &mut Vec<u8>) -> Result<(), ShowF
 }
 
 /// Appends what stands for an absent field, group or sequence.
-fn show_absent(presence: Presence, out: &mut Vec<u8>) -> Result<(), ShowFault>
+pub(crate) fn show_absent(presence: Presence, out: &mut Vec<u8>) -> Result<(), ShowFault>
     ensures { Shows (absent_text presence) result out.old.items out.new.items }
 {
     match presence {
@@ -221,6 +226,23 @@ fn show_absent(presence: Presence, out: &mut Vec<u8>) -> Result<(), ShowFault>
             push_byte(b'-', out)?;
             Ok(())
         }
+    }
+}
+
+/// Appends the value of a field of a type, or what stands for its absence.
+#[inline(always)]
+pub(crate) fn show_item(
+    kind: Kind,
+    presence: Presence,
+    value: Option<&Scalar>,
+    out: &mut Vec<u8>,
+) -> Result<(), ShowFault>
+    ensures { Shows (field_text kind presence (single (option_copied value.entry))) result
+        out.old.items out.new.items }
+{
+    match value {
+        Some(value) => show_value(kind, value, out),
+        None => show_absent(presence, out),
     }
 }
 
@@ -400,7 +422,7 @@ fn show_members(
 }
 
 /// Appends what a line begins with: the template's identifier and name.
-fn push_head(id: u32, name: &str, out: &mut Vec<u8>) -> Result<(), AllocError>
+pub(crate) fn push_head(id: u32, name: &str, out: &mut Vec<u8>) -> Result<(), AllocError>
     ensures { Writes (decimal id ++ codes " " ++ name.now) result out.old.items out.new.items }
 {
     push_unsigned(u64::from(id), out)?;

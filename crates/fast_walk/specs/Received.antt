@@ -1,17 +1,16 @@
 -- What a receiver has been handed of a message that has begun.
 use Rattle.std.specs.Prelude.{◌≡◌, ℕ, ℤ, Bool, true, false, List, [], ◌∷◌, ◌++◌, Option, Some, None, Ok}
 use Rattle.fast_value.specs.declared.scalar.Scalar.{Scalar}
-use Rattle.fast_value.specs.declared.scalar.Scalar.TheVariants.{U32, I32}
+use Rattle.fast_value.specs.declared.scalar.Scalar.TheVariants.{U32, I32, Bytes}
 use Rattle.fast_template.specs.declared.resolved.FieldPart.{FieldPart}
 use Rattle.fast_template.specs.Resolved.{Instructions, has_map, Resolved}
 use Rattle.fast_dictionary.specs.declared.entry.Entry.{Entry}
 use Rattle.fast_dictionary.specs.Dictionary.{Dictionary, entry_at}
 use Rattle.fast_field.specs.Bases.{next}
 use Rattle.fast_field.specs.FieldReading.{field_at}
-use Rattle.fast_stream.specs.Nodes.{Item, single, group_items, sequence_elements, items_of, elements_of, Content}
+use Rattle.fast_stream.specs.Nodes.{Item, single, group_items, sequence_elements, items_of, elements_of, Content, Items, no_items, then_item}
 use Rattle.fast_stream.specs.Bodies.{written}
 use Rattle.fast_stream.specs.Reading.{Reads}
-use Rattle.fast_stream.specs.Nodes.{Items}
 use Rattle.fast_walk.specs.OpenSegments.{Body, Sequel, Inside, in_group, in_sequence, Waiting, Next, at_instruction, at_mantissa, at_element, with_item, with_element, fewer}
 
 -- The template set; the messages before; the template and its instructions; the dictionary before the message; the
@@ -74,6 +73,16 @@ ended_in o ws b (in_sequence s) = moved o (at_element (with_element s (items_of 
 -- the message that has been received, once its own body has ended
 abbrev pub content_received : Received → Content
 content_received o = record { template = o.template; items = items_of o.body.done }
+
+-- ---- the messages that are finished
+
+-- Of the output for the messages these bytes were handed on. It stands in front of the messages as if it were one.
+abbrev pub handed_on : List ℕ → Content
+handed_on bytes = record { template = 0; items = then_item (single (Some (Bytes bytes))) no_items }
+
+abbrev pub bytes_in : Items → List ℕ
+bytes_in (then_item (single (Some (Bytes bytes))) ns) = bytes
+bytes_in ns = []
 
 -- ---- values
 

@@ -12,9 +12,10 @@ use fast_relay::take_number;
 use fast_template::{FieldPart, Scalar};
 use std::alloc::Global;
 
-/// Takes an integer under bit 1 at once.
+/// Takes an integer under bit 1 at once; the entry is the one afterwards. None: nothing has changed, and the part goes
+/// the general way.
 #[inline(always)]
-fn take_quickly(
+pub fn take_quickly(
     part: &FieldPart,
     entry: &mut Entry,
     bit: bool,

@@ -15,7 +15,7 @@ ghost use Rattle.fast_walk.specs.Received.{Received, Took, IsExponent, after_exp
 
 use fast_dictionary::Entries;
 use fast_field::FieldFault;
-use fast_template::FieldPart;
+use fast_template::{FieldPart, Name, Presence};
 use std::alloc::{AllocError, Global};
 
 /// Receives the fields of messages, and takes each from the bytes itself.
@@ -79,10 +79,12 @@ pub trait Receiver: Drop {
         ensures between { (set : List Resolved) (ms : List Content) (d : Dictionary)
             → stands self.old set ms d → stands self.new set ms d };
 
-    /// Takes a field from the bytes, and puts its entry; answers the place behind it.
+    /// Takes a field of this name from the bytes, and puts its entry; answers the place behind it.
     fn field<E: Entries>(
         &mut self,
         alloc: Global,
+        name: &Name,
+        presence: Presence,
         entries: &mut E,
         part: &FieldPart,
         bit: bool,
@@ -96,10 +98,9 @@ pub trait Receiver: Drop {
         ensures goes { IfOk result (λ n. (v : Option ScalarOf)
             × Took part.now bit (E.contents entries.old) (E.contents entries.new) v
             (drop at bytes.now) (drop n bytes.now)
-            × ((name : List ℕ) (number : ℕ) (presence : PresenceOf) (is : Instructions) (o :
-            Received)
+            × ((number : ℕ) (is : Instructions) (o : Received)
             → o.next ≡ at_instruction
-            → o.body.rest ≡ then_instruction (whole_field name number presence part.now) is
+            → o.body.rest ≡ then_instruction (whole_field name.now number presence part.now) is
             → has self.old o (E.contents entries.old)
             → has self.new (passed o is (single v)) (E.contents entries.new))) }
         ensures stops { IfErr result (λ f. f ≢ FieldFault.Memory
@@ -115,6 +116,8 @@ pub trait Receiver: Drop {
     fn exponent<E: Entries>(
         &mut self,
         alloc: Global,
+        name: &Name,
+        presence: Presence,
         entries: &mut E,
         part: &FieldPart,
         bit: bool,
@@ -129,10 +132,9 @@ pub trait Receiver: Drop {
             × Took part.now bit (E.contents entries.old) (E.contents entries.new) v
             (drop at bytes.now) (drop x.1 bytes.now)
             × IsExponent x.0 v
-            × ((name : List ℕ) (number : ℕ) (presence : PresenceOf) (mantissa : PartOf) (is :
-            Instructions)
-            (o : Received) → o.next ≡ at_instruction
-            → o.body.rest ≡ then_instruction (field_in_parts name number presence part.now
+            × ((number : ℕ) (mantissa : PartOf) (is : Instructions) (o : Received)
+            → o.next ≡ at_instruction
+            → o.body.rest ≡ then_instruction (field_in_parts name.now number presence part.now
             mantissa) is
             → has self.old o (E.contents entries.old)
             → has self.new (after_exponent o is mantissa v) (E.contents entries.new))) }
@@ -179,6 +181,8 @@ pub trait Receiver: Drop {
     fn begin_sequence<E: Entries>(
         &mut self,
         alloc: Global,
+        name: &Name,
+        presence: Presence,
         entries: &mut E,
         part: &FieldPart,
         bit: bool,
@@ -192,10 +196,10 @@ pub trait Receiver: Drop {
         ensures goes { IfOk result (λ x.
             Took part.now bit (E.contents entries.old) (E.contents entries.new) (length_of x.0)
             (drop at bytes.now) (drop x.1 bytes.now)
-            × ((name : List ℕ) (number : ℕ) (presence : PresenceOf) (members is : Instructions) (o
-            : Received)
+            × ((number : ℕ) (members is : Instructions) (o : Received)
             → o.next ≡ at_instruction
-            → o.body.rest ≡ then_instruction (sequence_of name number presence part.now members) is
+            → o.body.rest ≡ then_instruction (sequence_of name.now number presence part.now members)
+            is
             → has self.old o (E.contents entries.old)
             → has self.new (after_length o number members is x.0) (E.contents entries.new))) }
         ensures stops { IfErr result (λ f. f ≢ FieldFault.Memory
@@ -208,11 +212,10 @@ pub trait Receiver: Drop {
         ensures same_keys { E.serves entries.new ≡ E.serves entries.old };
 
     /// A group that is left out.
-    fn left_out(&mut self) -> Result<(), AllocError>
-        ensures has { OnOk result ((name : List ℕ) (number : ℕ) (presence : PresenceOf) (members is
-            : Instructions)
+    fn left_out(&mut self, name: &Name) -> Result<(), AllocError>
+        ensures has { OnOk result ((number : ℕ) (presence : PresenceOf) (members is : Instructions)
             (o : Received) (d : Dictionary) → o.next ≡ at_instruction
-            → o.body.rest ≡ then_instruction (group_of name number presence members) is
+            → o.body.rest ≡ then_instruction (group_of name.now number presence members) is
             → is_optional presence ≡ true → has self.old o d
             → has self.new (passed o is (single None)) d) }
         ensures keeps { (set : List Resolved) (ms : List Content) (d : Dictionary)
@@ -222,14 +225,14 @@ pub trait Receiver: Drop {
     fn enter(
         &mut self,
         alloc: Global,
+        name: &Name,
         optional: bool,
         own_map: bool,
         size: usize,
     ) -> Result<(), AllocError>
-        ensures has { OnOk result ((name : List ℕ) (number : ℕ) (presence : PresenceOf) (members is
-            : Instructions)
+        ensures has { OnOk result ((number : ℕ) (presence : PresenceOf) (members is : Instructions)
             (bits : List Bool) (o : Received) (d : Dictionary) → o.next ≡ at_instruction
-            → o.body.rest ≡ then_instruction (group_of name number presence members) is
+            → o.body.rest ≡ then_instruction (group_of name.now number presence members) is
             → optional ≡ is_optional presence → own_map ≡ has_map members
             → has self.old o d → has self.new (entered o bits members is) d) }
         ensures keeps { (set : List Resolved) (ms : List Content) (d : Dictionary)

@@ -18,7 +18,7 @@ use crate::receiver::Receiver;
 use fast_dictionary::Entries;
 use fast_field::FieldFault;
 use fast_stream::Cause;
-use fast_template::{FieldPart, Flat, Presence, has_map, part_needs_bit};
+use fast_template::{FieldPart, Flat, Name, Presence, has_map, part_needs_bit};
 use fast_wire::Bits;
 use std::alloc::{AllocError, Global};
 use std::mem;
@@ -214,6 +214,8 @@ impl<'a> Walk<'a> {
         alloc: Global,
         receiver: &mut R,
         entries: &mut E,
+        name: &Name,
+        presence: Presence,
         number: u32,
         whole: &FieldPart,
         others: &'a [Flat],
@@ -222,8 +224,8 @@ impl<'a> Walk<'a> {
     ) -> Result<usize, Halt>
         requires place { at ≤ length bytes.now }
         requires next { self.now.next ≡ Next.Instruction }
-        requires first { (name : List ℕ) × (presence : PresenceOf) × (list_of self.now.rest.now
-            ≡ then_instruction (whole_field name number presence whole.now) (list_of others.now)) }
+        requires first { list_of self.now.rest.now
+            ≡ then_instruction (whole_field name.now number presence whole.now) (list_of others.now) }
         requires ready { IsReady (E.serves entries.now) self.now }
         ensures place { IfOk result (λ n. (at ≤ n) × (n ≤ length bytes.now)) }
         ensures goes { IfOk result (λ n. Moves R.has self.old receiver.old (E.contents entries.old)
@@ -244,7 +246,7 @@ impl<'a> Walk<'a> {
             Ok(()) => {
                 let needs = part_needs_bit(whole);
                 let bit = first_for(&self.bits, needs);
-                match receiver.field(alloc, entries, whole, bit, bytes, at) {
+                match receiver.field(alloc, name, presence, entries, whole, bit, bytes, at) {
                     Err(fault) => Err(part_halt(whole, fault)),
                     Ok(next) => {
                         self.pass_field(needs, others);
@@ -262,6 +264,8 @@ impl<'a> Walk<'a> {
         alloc: Global,
         receiver: &mut R,
         entries: &mut E,
+        name: &Name,
+        presence: Presence,
         number: u32,
         exponent: &FieldPart,
         mantissa: &'a FieldPart,
@@ -271,9 +275,9 @@ impl<'a> Walk<'a> {
     ) -> Result<usize, Halt>
         requires place { at ≤ length bytes.now }
         requires next { self.now.next ≡ Next.Instruction }
-        requires first { (name : List ℕ) × (presence : PresenceOf) × (list_of self.now.rest.now
-            ≡ then_instruction (field_in_parts name number presence exponent.now mantissa.now)
-            (list_of others.now)) }
+        requires first { list_of self.now.rest.now
+            ≡ then_instruction (field_in_parts name.now number presence exponent.now mantissa.now)
+            (list_of others.now) }
         requires ready { IsReady (E.serves entries.now) self.now }
         ensures place { IfOk result (λ n. (at ≤ n) × (n ≤ length bytes.now)) }
         ensures goes { IfOk result (λ n. Moves R.has self.old receiver.old (E.contents entries.old)
@@ -294,7 +298,7 @@ impl<'a> Walk<'a> {
             Ok(()) => {
                 let needs = part_needs_bit(exponent);
                 let bit = first_for(&self.bits, needs);
-                match receiver.exponent(alloc, entries, exponent, bit, bytes, at) {
+                match receiver.exponent(alloc, name, presence, entries, exponent, bit, bytes, at) {
                     Err(fault) => Err(part_halt(exponent, fault)),
                     Ok((present, next)) => {
                         if present {
@@ -356,6 +360,8 @@ impl<'a> Walk<'a> {
         alloc: Global,
         receiver: &mut R,
         entries: &mut E,
+        name: &Name,
+        presence: Presence,
         number: u32,
         part: &FieldPart,
         members: &'a [Flat],
@@ -365,9 +371,9 @@ impl<'a> Walk<'a> {
     ) -> Result<usize, Halt>
         requires place { at ≤ length bytes.now }
         requires next { self.now.next ≡ Next.Instruction }
-        requires first { (name : List ℕ) × (presence : PresenceOf) × (list_of self.now.rest.now
-            ≡ then_instruction (sequence_of name number presence part.now (list_of members.now))
-            (list_of others.now)) }
+        requires first { list_of self.now.rest.now
+            ≡ then_instruction (sequence_of name.now number presence part.now (list_of members.now))
+            (list_of others.now) }
         requires ready { IsReady (E.serves entries.now) self.now }
         ensures place { IfOk result (λ n. (at ≤ n) × (n ≤ length bytes.now)) }
         ensures goes { IfOk result (λ n. Moves R.has self.old receiver.old (E.contents entries.old)
@@ -388,7 +394,9 @@ impl<'a> Walk<'a> {
             Ok(()) => {
                 let needs = part_needs_bit(part);
                 let bit = first_for(&self.bits, needs);
-                match receiver.begin_sequence(alloc, entries, part, bit, bytes, at) {
+                match receiver.begin_sequence(
+                    alloc, name, presence, entries, part, bit, bytes, at,
+                ) {
                     Err(fault) => Err(part_halt(part, fault)),
                     Ok((length, next)) => match length {
                         None => {
@@ -417,6 +425,7 @@ impl<'a> Walk<'a> {
         &mut self,
         alloc: Global,
         receiver: &mut R,
+        name: &Name,
         number: u32,
         presence: Presence,
         members: &'a [Flat],
@@ -426,9 +435,9 @@ impl<'a> Walk<'a> {
     ) -> Result<usize, Halt>
         requires place { at ≤ length bytes.now }
         requires next { self.now.next ≡ Next.Instruction }
-        requires first { (name : List ℕ) × (list_of self.now.rest.now
-            ≡ then_instruction (group_of name number presence (list_of members.now)) (list_of
-            others.now)) }
+        requires first { list_of self.now.rest.now
+            ≡ then_instruction (group_of name.now number presence (list_of members.now)) (list_of
+            others.now) }
         ensures place { IfOk result (λ n. (at ≤ n) × (n ≤ length bytes.now)) }
         ensures goes { IfOk result (λ n. (d : Dictionary) → Moves R.has self.old receiver.old d
             self.new receiver.new d (drop at bytes.now) (drop n bytes.now)) }
@@ -452,14 +461,14 @@ impl<'a> Walk<'a> {
                     match read_own_map(alloc, number, own_map, bytes, at) {
                         Err(halt) => Err(halt),
                         Ok((bits, next)) => {
-                            receiver.enter(alloc, optional, own_map, members.len())?;
+                            receiver.enter(alloc, name, optional, own_map, members.len())?;
                             take_for(&mut self.bits, optional);
                             self.open(members, others, bits, Inside::Group)?;
                             Ok(next)
                         }
                     }
                 } else {
-                    receiver.left_out()?;
+                    receiver.left_out(name)?;
                     self.pass(optional, others, Next::Instruction);
                     Ok(at)
                 }
@@ -651,35 +660,45 @@ impl<'a> Walk<'a> {
                     Ok(at)
                 }
                 Some((flat, others)) => match flat {
-                    Flat::Field { number, whole, .. } => {
-                        self.field(alloc, receiver, entries, *number, whole, others, bytes, at)
-                    }
-                    Flat::Parts {
+                    Flat::Field {
+                        name,
                         number,
+                        presence,
+                        whole,
+                    } => self.field(
+                        alloc, receiver, entries, name, *presence, *number, whole, others, bytes,
+                        at,
+                    ),
+                    Flat::Parts {
+                        name,
+                        number,
+                        presence,
                         exponent,
                         mantissa,
-                        ..
                     } => self.exponent(
-                        alloc, receiver, entries, *number, exponent, mantissa, others, bytes, at,
+                        alloc, receiver, entries, name, *presence, *number, exponent, mantissa,
+                        others, bytes, at,
                     ),
                     Flat::Group {
+                        name,
                         number,
                         presence,
                         members,
-                        ..
                     } => match self.group(
-                        alloc, receiver, *number, *presence, members, others, bytes, at,
+                        alloc, receiver, name, *number, *presence, members, others, bytes, at,
                     ) {
                         Err(halt) => Err(halt),
                         Ok(next) => Ok(next),
                     },
                     Flat::Sequence {
+                        name,
                         number,
+                        presence,
                         length,
                         members,
-                        ..
                     } => self.sequence(
-                        alloc, receiver, entries, *number, length, members, others, bytes, at,
+                        alloc, receiver, entries, name, *presence, *number, length, members,
+                        others, bytes, at,
                     ),
                 },
             },

@@ -16,9 +16,9 @@ use Rattle.fast_stream.specs.Nodes.{single, items_of, Content, nodes_in, node_li
 use Rattle.fast_stream.specs.Bodies.{written}
 use Rattle.fast_stream.specs.Streams.{identifier, members_of}
 use Rattle.fast_walk.specs.OpenSegments.{Sequel, Inside, in_group, in_sequence, Waiting, Next, at_instruction, at_mantissa, at_element}
-use Rattle.fast_walk.specs.Received.{Received, IsExponent, opened, passed, entered, after_exponent, after_length, in_element, after_sequence, ended_in, content_received, exponent_of, length_of}
+use Rattle.fast_walk.specs.Received.{Received, IsExponent, opened, passed, entered, after_exponent, after_length, in_element, after_sequence, ended_in, content_received, exponent_of, length_of, bytes_in}
 use Rattle.fast_writer.specs.Canonical.{CanonFrom, CanonMessage}
-use Rattle.fast_writer.specs.Written.{Level, state, bits_for, Opening, of_message, IsWritten, with_bytes, IsTop, IsBehind, Chain, IsOpened, IsFinished, Spelt, Asked, Ended, Closes, bytes_in}
+use Rattle.fast_writer.specs.Written.{Level, state, bits_for, Opening, of_message, IsWritten, with_bytes, IsTop, IsBehind, Chain, IsOpened, IsFinished, Spelt, Asked, Ended, Closes}
 use Rattle.fast_writer.proofs.Leavings.{closed}
 use Rattle.fast_writer.proofs.Writings.{part_by, chain_on, field_written, no_decimal, exponent_waits, mantissa_written, left_out_written, group_entered, ended, segment_left, no_sequence, length_waits, element_entered, elements_written}
 

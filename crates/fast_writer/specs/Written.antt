@@ -14,18 +14,10 @@ use Rattle.fast_stream.specs.Nodes.{single, group_items, sequence_elements, Item
 use Rattle.fast_stream.specs.Bodies.{State, SegmentBy, Then, PartBy, Each, written}
 use Rattle.fast_stream.specs.Streams.{identifier}
 use Rattle.fast_walk.specs.OpenSegments.{items_before, elements_before, Body, Sequel, Inside, in_group, in_sequence, Waiting, Next, at_instruction, at_mantissa, at_element, with_item, with_element}
-use Rattle.fast_walk.specs.Received.{Received}
+use Rattle.fast_walk.specs.Received.{Received, bytes_in}
 use Rattle.fast_writer.specs.Canonical.{CanonBody, CanonFrom, IsShortestMap}
 
 -- ---- the messages that are finished
-
--- Of the messages' bytes these were handed on. It stands in front of the messages as if it were one.
-abbrev pub handed_on : List ℕ → Content
-handed_on bytes = record { template = 0; items = then_item (single (Some (Bytes bytes))) no_items }
-
-abbrev pub bytes_in : Items → List ℕ
-bytes_in (then_item (single (Some (Bytes bytes))) ns) = bytes
-bytes_in ns = []
 
 -- The bytes handed on and those that are not are the canonical bytes of the messages since the beginning.
 abbrev pub IsFinished : List ℕ → List Resolved → List Content → Dictionary → Type 0

@@ -6,7 +6,7 @@ use crate::level::Level;
 use crate::quick::relay_part;
 use fast_dictionary::Entries;
 use fast_field::FieldFault;
-use fast_template::{FieldPart, Kind};
+use fast_template::{FieldPart, Kind, Name, Presence};
 use fast_walk::Receiver;
 use std::alloc::{AllocError, Global};
 use std::mem;
@@ -32,9 +32,9 @@ impl Writer {
     ghost use Rattle.fast_template.specs.Resolved.{Resolved};
     ghost use Rattle.fast_dictionary.specs.Dictionary.{Dictionary};
     ghost use Rattle.fast_stream.specs.Nodes.{Content};
-    ghost use Rattle.fast_walk.specs.Received.{Received, behind};
+    ghost use Rattle.fast_walk.specs.Received.{Received, behind, handed_on};
     ghost use Rattle.fast_writer.specs.Levels.{level_of};
-    ghost use Rattle.fast_writer.specs.Written.{Closes, handed_on};
+    ghost use Rattle.fast_writer.specs.Written.{Closes};
 
     /// With no message, and nothing handed on. Takes no memory.
     #[inline(always)]
@@ -182,6 +182,8 @@ impl Receiver for Writer {
     fn field<E: Entries>(
         &mut self,
         alloc: Global,
+        _name: &Name,
+        _presence: Presence,
         entries: &mut E,
         part: &FieldPart,
         bit: bool,
@@ -198,6 +200,8 @@ impl Receiver for Writer {
     fn exponent<E: Entries>(
         &mut self,
         alloc: Global,
+        _name: &Name,
+        _presence: Presence,
         entries: &mut E,
         part: &FieldPart,
         bit: bool,
@@ -242,6 +246,8 @@ impl Receiver for Writer {
     fn begin_sequence<E: Entries>(
         &mut self,
         alloc: Global,
+        _name: &Name,
+        _presence: Presence,
         entries: &mut E,
         part: &FieldPart,
         bit: bool,
@@ -255,7 +261,7 @@ impl Receiver for Writer {
     }
 
     #[inline(always)]
-    fn left_out(&mut self) -> Result<(), AllocError> {
+    fn left_out(&mut self, _name: &Name) -> Result<(), AllocError> {
         self.inner.ask(true, false)?;
         Ok(())
     }
@@ -264,6 +270,7 @@ impl Receiver for Writer {
     fn enter(
         &mut self,
         alloc: Global,
+        _name: &Name,
         optional: bool,
         own_map: bool,
         _size: usize,

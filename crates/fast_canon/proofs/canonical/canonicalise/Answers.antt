@@ -5,7 +5,7 @@ use Rattle.fast_template.specs.TemplateSets.{TemplateList, templates_in}
 use Rattle.fast_decoder.specs.Inputs.{HasReached}
 use Rattle.fast_decoder.proofs.Inputs.{none_read}
 use Rattle.fast_writer.specs.Canonical.{IsCanonical}
-use Rattle.fast_writer.specs.Written.{handed_on}
+use Rattle.fast_walk.specs.Received.{handed_on}
 use Rattle.fast_canon.specs.Canonicalised.{Breaks, Stops}
 use Rattle.fast_io.proofs.Outputs.{Appends-kept, Appends-nil}
 use Rattle.fast_canon.proofs.Relayings.{carried_reached, is_end, no_longer, summary_is}

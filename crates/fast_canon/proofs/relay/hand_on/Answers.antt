@@ -3,7 +3,7 @@ use Rattle.fast_template.specs.TemplateSets.{templates_in}
 use Rattle.fast_machine.proofs.Followings.{follows_behind}
 use Rattle.fast_decoder.proofs.Inputs.{reached_with}
 use Rattle.fast_writer.specs.Levels.{HasFinished, HasWritten}
-use Rattle.fast_writer.specs.Written.{handed_on}
+use Rattle.fast_walk.specs.Received.{handed_on}
 use Rattle.fast_canon.specs.Relays.{GoesOn}
 use Rattle.fast_canon.proofs.relay.hand_on.Goals as goal
 

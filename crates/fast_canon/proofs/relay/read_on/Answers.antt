@@ -4,7 +4,7 @@ use Rattle.fast_decoder.specs.declared.input.Reached.TheVariants as reached
 use Rattle.fast_machine.specs.Following.{Counts}
 use Rattle.fast_decoder.specs.Inputs.{reader_by}
 use Rattle.fast_decoder.proofs.Inputs.{caused_by_end, caused_by_feed, caused_by_read, empty_read, failed_read, of_bytes, one_read, refused_by_bytes, refused_by_end, refused_by_read}
-use Rattle.fast_writer.specs.Written.{handed_on}
+use Rattle.fast_walk.specs.Received.{handed_on}
 use Rattle.fast_canon.proofs.Relayings.{canonical_left, canonical_of}
 use Rattle.fast_canon.proofs.relay.read_on.Goals as goal
 

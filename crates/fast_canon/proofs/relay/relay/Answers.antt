@@ -4,7 +4,7 @@ use Rattle.fast_decoder.specs.declared.input.Reached.TheVariants as reached
 use Rattle.fast_decoder.specs.Inputs.{reader_by}
 use Rattle.fast_decoder.proofs.Inputs.{causes_end, causes_on, causes_weaker, more_read, refused_by_turns}
 use Rattle.fast_writer.specs.Canonical.{IsCanonical}
-use Rattle.fast_writer.specs.Written.{handed_on}
+use Rattle.fast_walk.specs.Received.{handed_on}
 use Rattle.fast_canon.specs.Relays.{GoesOn}
 use Rattle.fast_io.proofs.Outputs.{Appends-trans}
 use Rattle.fast_canon.proofs.Relayings.{carried_by, closed_with, no_longer, shut}

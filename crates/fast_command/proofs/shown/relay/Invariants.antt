@@ -1,9 +1,10 @@
-use Rattle.std.proofs.Common.{◌≡◌, ◌≤◌, ◌-◌, ◌*◌, ℕ, List, []}
+use Rattle.std.proofs.Common.{◌≡◌, ◌≤◌, ◌-◌, ◌*◌, ℕ, List, [], length}
+use Rattle.std.specs.Io.KnownBytes.{Appends}
+use Rattle.fast_io.specs.Counts.{counted_by}
 use Rattle.fast_stream.specs.Nodes.{Content}
 use Rattle.fast_decoder.specs.Inputs.{Causes, Reads, reader_by}
 use Rattle.fast_decoder.specs.declared.input.Reached.TheVariants as reached
-use Rattle.fast_command.specs.Run.{lines_in}
-use Rattle.fast_command.specs.Shown.{Adds, Stands}
+use Rattle.fast_command.specs.Shown.{Shown}
 use Rattle.fast_command.proofs.shown.relay.Given as goal
 
 abbrev pub invariant-reads : goal.invariant-reads
@@ -14,15 +15,13 @@ invariant-reads g l =
       few : l.reads ≤ l.turns;
       fed : l.machine.fed ≤ 4096 * l.reads;
       set : l.machine.traversal.set ≡ l.fn.machine.traversal.set;
-      none : l.messages.items ≡ [];
-      empty : l.page.lines.items ≡ [];
       errors : g.W.ByteOutput.errors l.writer ≡ g.W.ByteOutput.errors l.fn.writer;
       flushes : g.W.ByteOutput.flushes l.writer ≡ g.W.ByteOutput.flushes l.fn.writer;
-      relays : Stands reached.Open l.fn.machine 0 l.turns (g.R.ByteInput.left l.fn.reader) [] []
-          → (input : List ℕ) × (messages : List Content) × Reads a b l.reads input
-          × Stands l.reached l.machine l.reads l.turns (g.R.ByteInput.left l.reader) input messages
-          × Adds (lines_in l.set messages) (g.W.ByteOutput.taken l.fn.writer) (g.W.ByteOutput.taken l.writer) l.fn.page.written l.page.written
-          × Causes reached.Open l.reached ⊥ a b;
+      relays : Shown reached.Open l.fn.machine 0 l.turns (g.R.ByteInput.left l.fn.reader) [] [] []
+          → (handed : List ℕ) × (input : List ℕ) × (messages : List Content) × Reads a b l.reads input
+          × Shown l.reached l.machine l.reads l.turns (g.R.ByteInput.left l.reader) handed input messages
+          × Appends (g.W.ByteOutput.taken l.fn.writer) (g.W.ByteOutput.taken l.writer) handed
+          × (l.written ≡ counted_by 0 (length handed)) × (l.machine.receiver.out.items ≡ []) × Causes reached.Open l.reached ⊥ a b;
     }
 
 abbrev pub decreases-reads : goal.decreases-reads

@@ -1,11 +1,14 @@
-use Rattle.std.proofs.Common.{[], Some, refl, sym, ap, ◌∙◌, append-nil, arith}
+use Rattle.std.proofs.Common.{[], ◌∷◌, ℕ, List, Some, refl, sym, ap, subst, ◌∙◌, append-nil, arith}
 use Rattle.std.specs.FinMap as finite
 use Rattle.fast_io.specs.Counts.{counted}
-use Rattle.fast_template.specs.TemplateSets.{templates_in}
+use Rattle.fast_template.specs.TemplateSets.{TemplateList, templates_in}
+use Rattle.fast_decoder.specs.Inputs.{HasReached, Refuses}
 use Rattle.fast_decoder.proofs.Inputs.{none_read}
-use Rattle.fast_canon.proofs.Relayings.{carried_reached, is_end, summary_is}
+use Rattle.fast_machine.specs.Standing.{Carried}
+use Rattle.fast_walk.specs.Received.{handed_on}
 use Rattle.fast_io.proofs.Outputs.{Appends-kept, Appends-nil}
-use Rattle.fast_command.proofs.Showings.{own_cause, own_front}
+use Rattle.fast_canon.proofs.Relayings.{carried_reached, is_end, summary_is}
+use Rattle.fast_command.proofs.Showings.{lines_are}
 use Rattle.fast_command.proofs.shown.show.Goals as goal
 
 pub returns-in-Err-clause-answer : goal.returns-in-Err-clause-answer
@@ -27,83 +30,104 @@ returns-in-Err-clause-answer g c = (
 
 pub returns-in-Err-relay-clause-answer : goal.returns-in-Err-relay-clause-answer
 returns-in-Err-relay-clause-answer g c =
+    let same = ap (λ x. x.now) c.relay.ensures.set ∙ c.new-machine.ensures.set in
     let b = c.in-Err-relay.ensures.broken (record {
-      holds = record { unrefused = c.new-machine.ensures.fault; follows = c.new-machine.ensures.follows [] (c.new-builder.ensures.stands (templates_in c.args.set.now)); few = omega arith };
+      holds = record { unrefused = c.new-machine.ensures.fault; follows = c.new-machine.ensures.follows (handed_on [] ∷ []) c.new-lines.ensures.stands; few = omega arith };
+      lines = rw (c.new-machine.ensures.receiver, c.new-lines.ensures.empty) refl;
       counts = λ e. absurd cc;
     }) in (
       b.count,
       b.input,
-      b.read.reads,
-      b.read.bounded,
-      own_front c.args.set.now c.args.turns _ _ _ b.input c.in-Err-relay.fault c.in-Err-relay.ensures.own b.front,
-      own_cause c.in-Err-relay.fault _ _ _ c.in-Err-relay.ensures.own,
+      b.moves.reads,
+      b.moves.bounded,
+      record {
+        messages = b.messages;
+        front = b.front;
+        rest = b.rest;
+        carried = subst (λ (s : TemplateList). Carried (templates_in s) b.input b.messages) same b.carried;
+        lines = lines_are _ _ same b.messages _ b.lines;
+        written = b.moves.written;
+      },
+      tt,
     )
 
 pub returns-in-Err-flush-clause-answer : goal.returns-in-Err-flush-clause-answer
 returns-in-Err-flush-clause-answer g c =
+    let same = ap (λ x. x.now) c.relay.ensures.set ∙ c.new-machine.ensures.set in
     let r = c.in-Ok-relay.ensures.relayed (record {
-      holds = record { unrefused = c.new-machine.ensures.fault; follows = c.new-machine.ensures.follows [] (c.new-builder.ensures.stands (templates_in c.args.set.now)); few = omega arith };
+      holds = record { unrefused = c.new-machine.ensures.fault; follows = c.new-machine.ensures.follows (handed_on [] ∷ []) c.new-lines.ensures.stands; few = omega arith };
+      lines = rw (c.new-machine.ensures.receiver, c.new-lines.ensures.empty) refl;
       counts = λ e. absurd cc;
-    }) in (
+    }) in
+    let m = c.relay.new.machine in
+    let carried = carried_reached c.in-Ok-relay.reached (templates_in m.traversal.set.now) c.args.turns (g.R.ByteInput.left c.relay.new.reader) r.input r.messages r.holds in (
       r.count,
       r.input,
-      r.read.reads,
-      r.read.bounded,
+      r.moves.reads,
+      r.moves.bounded,
       record {
         messages = r.messages;
-        front = r.adds.out;
+        front = r.handed;
         rest = [];
-        carried = carried_reached c.in-Ok-relay.reached (templates_in c.args.set.now) c.args.turns (g.R.ByteInput.left c.relay.new.reader) r.input r.messages r.holds;
-        lines = r.adds.lines ∙ ap Some (sym (append-nil r.adds.out));
-        written = Appends-kept _ _ _ r.adds.out r.adds.written c.in-Err-flush.ensures.bytes;
+        carried = subst (λ (s : TemplateList). Carried (templates_in s) r.input r.messages) same carried;
+        lines = lines_are _ _ same r.messages _ r.lines ∙ ap Some (sym (append-nil r.handed));
+        written = Appends-kept _ _ _ r.handed r.moves.written c.in-Err-flush.ensures.bytes;
       },
       tt,
     )
 
 pub returns-in-Fault-clause-answer : goal.returns-in-Fault-clause-answer
 returns-in-Fault-clause-answer g c =
+    let same = ap (λ x. x.now) c.relay.ensures.set ∙ c.new-machine.ensures.set in
     let r = c.in-Ok-relay.ensures.relayed (record {
-      holds = record { unrefused = c.new-machine.ensures.fault; follows = c.new-machine.ensures.follows [] (c.new-builder.ensures.stands (templates_in c.args.set.now)); few = omega arith };
+      holds = record { unrefused = c.new-machine.ensures.fault; follows = c.new-machine.ensures.follows (handed_on [] ∷ []) c.new-lines.ensures.stands; few = omega arith };
+      lines = rw (c.new-machine.ensures.receiver, c.new-lines.ensures.empty) refl;
       counts = λ e. absurd cc;
-    }) in (
+    }) in
+    let left = g.R.ByteInput.left c.relay.new.reader in (
       r.count,
       r.input,
-      r.read.reads,
-      r.read.bounded,
+      r.moves.reads,
+      r.moves.bounded,
       record {
         messages = r.messages;
-        out = r.adds.out;
-        refuses = rw (c.in-Fault.is) at r.holds;
-        lines = r.adds.lines;
-        written = Appends-kept _ _ _ r.adds.out r.adds.written c.in-Ok-flush.ensures.bytes;
+        out = r.handed;
+        refuses = subst (λ (s : TemplateList). Refuses (templates_in s) c.args.turns left r.input r.messages c.in-Fault.fault) same (rw (c.in-Fault.is) at r.holds);
+        lines = lines_are _ _ same r.messages _ r.lines;
+        written = Appends-kept _ _ _ r.handed r.moves.written c.in-Ok-flush.ensures.bytes;
       },
       rw (c.in-Fault.is) at r.caused,
     )
 
 pub returns : goal.returns
 returns g c =
+    let same = ap (λ x. x.now) c.relay.ensures.set ∙ c.new-machine.ensures.set in
     let r = c.in-Ok-relay.ensures.relayed (record {
-      holds = record { unrefused = c.new-machine.ensures.fault; follows = c.new-machine.ensures.follows [] (c.new-builder.ensures.stands (templates_in c.args.set.now)); few = omega arith };
+      holds = record { unrefused = c.new-machine.ensures.fault; follows = c.new-machine.ensures.follows (handed_on [] ∷ []) c.new-lines.ensures.stands; few = omega arith };
+      lines = rw (c.new-machine.ensures.receiver, c.new-lines.ensures.empty) refl;
       counts = λ e. absurd cc;
     }) in
-    let is = is_end c.in-Ok-relay.reached (templates_in c.args.set.now) c.args.turns (g.R.ByteInput.left c.relay.new.reader) r.input r.messages c.in-End.is r.holds in
+    let m = c.relay.new.machine in
+    let left = g.R.ByteInput.left c.relay.new.reader in
+    let is = is_end c.in-Ok-relay.reached (templates_in m.traversal.set.now) c.args.turns left r.input r.messages c.in-End.is r.holds in
+    let now = subst (λ (x : TemplateList). HasReached c.in-Ok-relay.reached ⊥ (templates_in x) c.args.turns left r.input r.messages) same r.holds in
     let k = r.counts is in
     record {
       answer = (
         r.count,
         r.input,
-        r.read.reads,
-        r.read.bounded,
+        r.moves.reads,
+        r.moves.bounded,
         record {
           messages = r.messages;
-          out = r.adds.out;
-          ends = rw (is) at r.holds;
-          lines = r.adds.lines;
-          written = Appends-kept _ _ _ r.adds.out r.adds.written c.in-Ok-flush.ensures.bytes;
-          counts = summary_is _ _ _ _ _ _ (c.messages.ensures ∙ k.count_is) (c.fed.ensures ∙ k.fed_is) r.adds.counts;
+          out = r.handed;
+          ends = rw (is) at now;
+          lines = lines_are _ _ same r.messages _ r.lines;
+          written = Appends-kept _ _ _ r.handed r.moves.written c.in-Ok-flush.ensures.bytes;
+          counts = summary_is _ _ _ _ _ _ (c.messages.ensures ∙ k.count_is) (c.fed.ensures ∙ k.fed_is) r.size_is;
         },
         rw (is) at r.caused,
       );
-      write = c.in-Ok-flush.ensures.error ∙ c.in-Ok-relay.ensures.errors;
+      write = c.in-Ok-flush.ensures.error ∙ c.in-Ok-relay.ensures.failed;
       flush = c.in-Ok-flush.ensures.flush ∙ ap counted c.relay.ensures.flushes;
     }

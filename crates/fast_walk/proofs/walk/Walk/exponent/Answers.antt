@@ -13,23 +13,21 @@ use Rattle.fast_walk.proofs.walk.Walk.exponent.Goals as goal
 pub returns-in-Err-clause-stops : goal.returns-in-Err-clause-stops
 returns-in-Err-clause-stops g c = λ other o at.
     let old = c.args.self.now in
-    let f = c.requires.first in
     let d = g.E.Entries.contents c.args.entries.now in
-    piece_stops_on o.around o.next o.body (field_in_parts f.0 c.args.number f.1 c.args.exponent.now c.args.mantissa.now) (list_of c.args.others.now) (cursor d old.bits old.spare (drop c.args.at c.args.bytes.now)) _
-    (is_instruction o.next (at.next ∙ ap next_of c.requires.next)) (at.rest ∙ f.2)
+    piece_stops_on o.around o.next o.body (field_in_parts c.args.name.now c.args.number c.args.presence c.args.exponent.now c.args.mantissa.now) (list_of c.args.others.now) (cursor d old.bits old.spare (drop c.args.at c.args.bytes.now)) _
+    (is_instruction o.next (at.next ∙ ap next_of c.requires.next)) (at.rest ∙ c.requires.first)
     (rw (c.in-Err.ensures.stops d old.bits (drop c.args.at c.args.bytes.now)) refl)
 
 pub returns-in-Err-exponent-clause-stops : goal.returns-in-Err-exponent-clause-stops
 returns-in-Err-exponent-clause-stops g c = λ other o at.
     let old = c.args.self.now in
-    let f = c.requires.first in
     let d = g.E.Entries.contents c.args.entries.now in
     let bytes = drop c.args.at c.args.bytes.now in
     let stops = (c.in-Err-exponent.ensures.stops (λ e. other (c.part_halt.ensures.cause ∙ ap cause_of_field e))).0 in
     let part = part_stops c.args.exponent.now d old.bits (old.spare - 1) bytes c.in-Err-exponent.fault (rw (c.first_for-bit.ensures, c.part_needs_bit-needs.ensures) at stops) in
     rw (c.part_halt.ensures.cause, c.part_halt.ensures.number)
-    (piece_stops_on o.around o.next o.body (field_in_parts f.0 c.args.number f.1 c.args.exponent.now c.args.mantissa.now) (list_of c.args.others.now) (cursor d old.bits old.spare bytes) _
-    (is_instruction o.next (at.next ∙ ap next_of c.requires.next)) (at.rest ∙ f.2)
+    (piece_stops_on o.around o.next o.body (field_in_parts c.args.name.now c.args.number c.args.presence c.args.exponent.now c.args.mantissa.now) (list_of c.args.others.now) (cursor d old.bits old.spare bytes) _
+    (is_instruction o.next (at.next ∙ ap next_of c.requires.next)) (at.rest ∙ c.requires.first)
     (rw (c.in-Ok.ensures.goes d old.bits bytes, part) refl))
 
 pub returns-in-Err-exponent-clause-waits : goal.returns-in-Err-exponent-clause-waits
@@ -40,7 +38,6 @@ returns-in-Err-exponent-clause-waits g c = λ other.
 pub returns-then-present-clause-goes : goal.returns-then-present-clause-goes
 returns-then-present-clause-goes g c = λ o at.
     let old = c.args.self.now in
-    let f = c.requires.first in
     let d = g.E.Entries.contents c.args.entries.now in
     let took = c.in-Ok-exponent.ensures.goes in
     let others = list_of c.args.others.now in
@@ -49,7 +46,7 @@ returns-then-present-clause-goes g c = λ o at.
     let there = is_there c.in-Ok-exponent.present took.0 c.if-present.true took.2 in
     let e = there.exponent in
     let end = c.pass.ensures in
-    let had = took.3 f.0 c.args.number f.1 mantissa others o next (at.0.rest ∙ f.2) at.1 in (
+    let had = took.3 c.args.number mantissa others o next (at.0.rest ∙ c.requires.first) at.1 in (
       moved o (at_mantissa e mantissa) (record { rest = others; done = o.body.done }) o.around,
       (
         record { next = ap next_of (sym end.next); rest = ap list_of (sym end.rest); around = rw end.around at.0.around },
@@ -59,7 +56,7 @@ returns-then-present-clause-goes g c = λ o at.
       λ more.
           let bytes = drop c.args.at c.args.bytes.now ++ more in
           rw (end.bits, end.spare, c.part_needs_bit-needs.ensures, took.1.entry)
-          (exponent_on o.around o.next o.body f.0 c.args.number f.1 c.args.exponent.now mantissa others (cursor d old.bits old.spare bytes) (cursor d old.bits (old.spare - 1) bytes) _ took.0 e next (at.0.rest ∙ f.2) there.is
+          (exponent_on o.around o.next o.body c.args.name.now c.args.number c.args.presence c.args.exponent.now mantissa others (cursor d old.bits old.spare bytes) (cursor d old.bits (old.spare - 1) bytes) _ took.0 e next (at.0.rest ∙ c.requires.first) there.is
           (c.in-Ok.ensures.goes d old.bits bytes)
           (part_goes c.args.exponent.now d old.bits (old.spare - 1) bytes (drop c.in-Ok-exponent.next c.args.bytes.now ++ more) took.0
           (rw (c.first_for-bit.ensures, c.part_needs_bit-needs.ensures) at took.1.value more))),
@@ -68,7 +65,6 @@ returns-then-present-clause-goes g c = λ o at.
 pub returns-else-present-clause-goes : goal.returns-else-present-clause-goes
 returns-else-present-clause-goes g c = λ o at.
     let old = c.args.self.now in
-    let f = c.requires.first in
     let d = g.E.Entries.contents c.args.entries.now in
     let took = c.in-Ok-exponent.ensures.goes in
     let others = list_of c.args.others.now in
@@ -76,7 +72,7 @@ returns-else-present-clause-goes g c = λ o at.
     let mantissa = c.args.mantissa.now in
     let none = not_there c.in-Ok-exponent.present took.0 c.if-present.false took.2 in
     let end = c.pass-else-present.ensures in
-    let had = took.3 f.0 c.args.number f.1 mantissa others o next (at.0.rest ∙ f.2) at.1 in (
+    let had = took.3 c.args.number mantissa others o next (at.0.rest ∙ c.requires.first) at.1 in (
       passed o others (single None),
       (
         record { next = ap next_of (sym end.next); rest = ap list_of (sym end.rest); around = rw end.around at.0.around },
@@ -86,7 +82,7 @@ returns-else-present-clause-goes g c = λ o at.
       λ more.
           let bytes = drop c.args.at c.args.bytes.now ++ more in
           rw (end.bits, end.spare, c.part_needs_bit-needs.ensures, took.1.entry)
-          (no_exponent_on o.around o.next o.body f.0 c.args.number f.1 c.args.exponent.now mantissa others (cursor d old.bits old.spare bytes) (cursor d old.bits (old.spare - 1) bytes) _ took.0 next (at.0.rest ∙ f.2) none
+          (no_exponent_on o.around o.next o.body c.args.name.now c.args.number c.args.presence c.args.exponent.now mantissa others (cursor d old.bits old.spare bytes) (cursor d old.bits (old.spare - 1) bytes) _ took.0 next (at.0.rest ∙ c.requires.first) none
           (c.in-Ok.ensures.goes d old.bits bytes)
           (part_goes c.args.exponent.now d old.bits (old.spare - 1) bytes (drop c.in-Ok-exponent.next c.args.bytes.now ++ more) took.0
           (rw (c.first_for-bit.ensures, c.part_needs_bit-needs.ensures) at took.1.value more))),

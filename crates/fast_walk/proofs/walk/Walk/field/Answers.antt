@@ -12,23 +12,21 @@ use Rattle.fast_walk.proofs.walk.Walk.field.Goals as goal
 pub returns-in-Err-clause-stops : goal.returns-in-Err-clause-stops
 returns-in-Err-clause-stops g c = λ other o at.
     let old = c.args.self.now in
-    let f = c.requires.first in
     let d = g.E.Entries.contents c.args.entries.now in
-    piece_stops_on o.around o.next o.body (whole_field f.0 c.args.number f.1 c.args.whole.now) (list_of c.args.others.now) (cursor d old.bits old.spare (drop c.args.at c.args.bytes.now)) _
-    (is_instruction o.next (at.next ∙ ap next_of c.requires.next)) (at.rest ∙ f.2)
+    piece_stops_on o.around o.next o.body (whole_field c.args.name.now c.args.number c.args.presence c.args.whole.now) (list_of c.args.others.now) (cursor d old.bits old.spare (drop c.args.at c.args.bytes.now)) _
+    (is_instruction o.next (at.next ∙ ap next_of c.requires.next)) (at.rest ∙ c.requires.first)
     (rw (c.in-Err.ensures.stops d old.bits (drop c.args.at c.args.bytes.now)) refl)
 
 pub returns-in-Err-field-clause-stops : goal.returns-in-Err-field-clause-stops
 returns-in-Err-field-clause-stops g c = λ other o at.
     let old = c.args.self.now in
-    let f = c.requires.first in
     let d = g.E.Entries.contents c.args.entries.now in
     let bytes = drop c.args.at c.args.bytes.now in
     let stops = (c.in-Err-field.ensures.stops (λ e. other (c.part_halt.ensures.cause ∙ ap cause_of_field e))).0 in
     let part = part_stops c.args.whole.now d old.bits (old.spare - 1) bytes c.in-Err-field.fault (rw (c.first_for-bit.ensures, c.part_needs_bit-needs.ensures) at stops) in
     rw (c.part_halt.ensures.cause, c.part_halt.ensures.number)
-    (piece_stops_on o.around o.next o.body (whole_field f.0 c.args.number f.1 c.args.whole.now) (list_of c.args.others.now) (cursor d old.bits old.spare bytes) _
-    (is_instruction o.next (at.next ∙ ap next_of c.requires.next)) (at.rest ∙ f.2)
+    (piece_stops_on o.around o.next o.body (whole_field c.args.name.now c.args.number c.args.presence c.args.whole.now) (list_of c.args.others.now) (cursor d old.bits old.spare bytes) _
+    (is_instruction o.next (at.next ∙ ap next_of c.requires.next)) (at.rest ∙ c.requires.first)
     (rw (c.in-Ok.ensures.goes d old.bits bytes, part) refl))
 
 pub returns-in-Err-field-clause-waits : goal.returns-in-Err-field-clause-waits
@@ -39,7 +37,6 @@ returns-in-Err-field-clause-waits g c = λ other.
 pub returns-in-Ok-field-clause-goes : goal.returns-in-Ok-field-clause-goes
 returns-in-Ok-field-clause-goes g c = λ o at.
     let old = c.args.self.now in
-    let f = c.requires.first in
     let d = g.E.Entries.contents c.args.entries.now in
     let took = c.in-Ok-field.ensures.goes in
     let others = list_of c.args.others.now in
@@ -48,13 +45,13 @@ returns-in-Ok-field-clause-goes g c = λ o at.
       passed o others (single took.0),
       (
         record { next = ap next_of (sym (end.next ∙ c.requires.next)); rest = ap list_of (sym end.rest); around = rw end.around at.0.around },
-        took.2 f.0 c.args.number f.1 others o next (at.0.rest ∙ f.2) at.1,
+        took.2 c.args.number others o next (at.0.rest ∙ c.requires.first) at.1,
       ),
       record { set = refl; before = refl; template = refl; members = refl; start = refl },
       λ more.
           let bytes = drop c.args.at c.args.bytes.now ++ more in
           rw (end.bits, end.spare, c.part_needs_bit-needs.ensures, took.1.entry)
-          (field_on o.around o.next o.body f.0 c.args.number f.1 c.args.whole.now others (cursor d old.bits old.spare bytes) (cursor d old.bits (old.spare - 1) bytes) _ took.0 next (at.0.rest ∙ f.2)
+          (field_on o.around o.next o.body c.args.name.now c.args.number c.args.presence c.args.whole.now others (cursor d old.bits old.spare bytes) (cursor d old.bits (old.spare - 1) bytes) _ took.0 next (at.0.rest ∙ c.requires.first)
           (c.in-Ok.ensures.goes d old.bits bytes)
           (part_goes c.args.whole.now d old.bits (old.spare - 1) bytes (drop c.in-Ok-field.next c.args.bytes.now ++ more) took.0
           (rw (c.first_for-bit.ensures, c.part_needs_bit-needs.ensures) at took.1.value more))),

@@ -13,28 +13,25 @@ use Rattle.fast_walk.proofs.walk.Walk.group.Goals as goal
 pub returns-in-Err-clause-stops : goal.returns-in-Err-clause-stops
 returns-in-Err-clause-stops g c = λ other d o at.
     let old = c.args.self.now in
-    let f = c.requires.first in
-    piece_stops_on o.around o.next o.body (group_of f.0 c.args.number c.args.presence (list_of c.args.members.now)) (list_of c.args.others.now) (cursor d old.bits old.spare (drop c.args.at c.args.bytes.now)) _
-    (is_instruction o.next (at.next ∙ ap next_of c.requires.next)) (at.rest ∙ f.1)
+    piece_stops_on o.around o.next o.body (group_of c.args.name.now c.args.number c.args.presence (list_of c.args.members.now)) (list_of c.args.others.now) (cursor d old.bits old.spare (drop c.args.at c.args.bytes.now)) _
+    (is_instruction o.next (at.next ∙ ap next_of c.requires.next)) (at.rest ∙ c.requires.first)
     (rw (c.in-Err.ensures.stops d old.bits (drop c.args.at c.args.bytes.now)) refl)
 
 pub returns-in-Err-read_own_map-clause-stops : goal.returns-in-Err-read_own_map-clause-stops
 returns-in-Err-read_own_map-clause-stops g c = λ other d o at.
     let old = c.args.self.now in
-    let f = c.requires.first in
     let bytes = drop c.args.at c.args.bytes.now in
     let members = list_of c.args.members.now in
     let bit : bit_for (is_optional c.args.presence) old.bits ≡ true = rw (← c.is_optional-optional.ensures, ← c.first_for-present.ensures) c.if-present.true in
-    piece_stops_on o.around o.next o.body (group_of f.0 c.args.number c.args.presence members) (list_of c.args.others.now) (cursor d old.bits old.spare bytes) _
-    (is_instruction o.next (at.next ∙ ap next_of c.requires.next)) (at.rest ∙ f.1)
-    (group_stops f.0 c.args.number c.args.presence members (cursor d old.bits old.spare bytes) (cursor d old.bits (old.spare - 1) bytes) _
+    piece_stops_on o.around o.next o.body (group_of c.args.name.now c.args.number c.args.presence members) (list_of c.args.others.now) (cursor d old.bits old.spare bytes) _
+    (is_instruction o.next (at.next ∙ ap next_of c.requires.next)) (at.rest ∙ c.requires.first)
+    (group_stops c.args.name.now c.args.number c.args.presence members (cursor d old.bits old.spare bytes) (cursor d old.bits (old.spare - 1) bytes) _
     (c.in-Ok.ensures.goes d old.bits bytes) bit
     (rw (c.has_map-own_map.ensures) at c.in-Err-read_own_map.ensures.stops other d (after_bit (is_optional c.args.presence) old.bits) (old.spare - 1)))
 
 pub returns-in_ok-left_out-in-Ok-clause-goes : goal.returns-in_ok-left_out-in-Ok-clause-goes
 returns-in_ok-left_out-in-Ok-clause-goes g c = λ d o at.
     let old = c.args.self.now in
-    let f = c.requires.first in
     let others = list_of c.args.others.now in
     let members = list_of c.args.members.now in
     let next = is_instruction o.next (at.0.next ∙ ap next_of c.requires.next) in
@@ -43,13 +40,13 @@ returns-in_ok-left_out-in-Ok-clause-goes g c = λ d o at.
       passed o others (single None),
       (
         record { next = ap next_of (sym end.next); rest = ap list_of (sym end.rest); around = rw end.around at.0.around },
-        c.in_ok-left_out-in-Ok.ensures.has f.0 c.args.number c.args.presence members others o d next (at.0.rest ∙ f.1) (needed (is_optional c.args.presence) old.bits bit) at.1,
+        c.in_ok-left_out-in-Ok.ensures.has c.args.number c.args.presence members others o d next (at.0.rest ∙ c.requires.first) (needed (is_optional c.args.presence) old.bits bit) at.1,
       ),
       record { set = refl; before = refl; template = refl; members = refl; start = refl },
       λ more.
           let bytes = drop c.args.at c.args.bytes.now ++ more in
           rw (end.bits, end.spare, c.is_optional-optional.ensures)
-          (no_group_on o.around o.next o.body f.0 c.args.number c.args.presence members others (cursor d old.bits old.spare bytes) (cursor d old.bits (old.spare - 1) bytes) next (at.0.rest ∙ f.1)
+          (no_group_on o.around o.next o.body c.args.name.now c.args.number c.args.presence members others (cursor d old.bits old.spare bytes) (cursor d old.bits (old.spare - 1) bytes) next (at.0.rest ∙ c.requires.first)
           (c.in-Ok.ensures.goes d old.bits bytes) bit),
     )
   where
@@ -60,7 +57,6 @@ returns-in_ok-left_out-in-Ok-clause-goes g c = λ d o at.
 pub returns-in_ok-open-in-Ok-read_own_map-clause-goes : goal.returns-in_ok-open-in-Ok-read_own_map-clause-goes
 returns-in_ok-open-in-Ok-read_own_map-clause-goes g c = λ d o at.
     let old = c.args.self.now in
-    let f = c.requires.first in
     let others = list_of c.args.others.now in
     let members = list_of c.args.members.now in
     let next = is_instruction o.next (at.0.next ∙ ap next_of c.requires.next) in
@@ -75,13 +71,13 @@ returns-in_ok-open-in-Ok-read_own_map-clause-goes g c = λ d o at.
           around = rw (end.around, c.take_for.ensures, c.is_optional-optional.ensures) (map_push bare o.around (record { bits = bits; body = record { rest = others; done = o.body.done }; inside = in_group })
               ∙ ap (λ (ws : List Waiting). ws ++ record { bits = bits; body = record { rest = others; done = [] }; inside = in_group } ∷ []) at.0.around);
         },
-        c.in_ok-enter-in-Ok-read_own_map.ensures.has f.0 c.args.number c.args.presence members others bits o d next (at.0.rest ∙ f.1) c.is_optional-optional.ensures c.has_map-own_map.ensures at.1,
+        c.in_ok-enter-in-Ok-read_own_map.ensures.has c.args.number c.args.presence members others bits o d next (at.0.rest ∙ c.requires.first) c.is_optional-optional.ensures c.has_map-own_map.ensures at.1,
       ),
       record { set = refl; before = refl; template = refl; members = refl; start = refl },
       λ more.
           let bytes = drop c.args.at c.args.bytes.now ++ more in
           rw (end.bits, end.spare)
-          (group_on o.around o.next o.body f.0 c.args.number c.args.presence members others (cursor d old.bits old.spare bytes) (cursor d old.bits (old.spare - 1) bytes) _ next (at.0.rest ∙ f.1)
+          (group_on o.around o.next o.body c.args.name.now c.args.number c.args.presence members others (cursor d old.bits old.spare bytes) (cursor d old.bits (old.spare - 1) bytes) _ next (at.0.rest ∙ c.requires.first)
           (c.in-Ok.ensures.goes d old.bits bytes) bit
           (rw (c.has_map-own_map.ensures) at c.in-Ok-read_own_map.ensures.goes d bits (old.spare - 1) more)),
     )
@@ -89,5 +85,5 @@ returns-in_ok-open-in-Ok-read_own_map-clause-goes g c = λ d o at.
 pub returns-in_ok-open-in-Ok-read_own_map-clause-ready : goal.returns-in_ok-open-in-Ok-read_own_map-clause-ready
 returns-in_ok-open-in-Ok-read_own_map-clause-ready g c = λ serves ready.
     let end = c.in_ok-open-in-Ok-read_own_map.ensures in
-    let rest = rw (c.requires.first.1) at ready.rest in
+    let rest = rw (c.requires.first) at ready.rest in
     record { next = rw (end.next) tt; rest = rw (end.rest) rest.0; around = rw (end.around) (served_push serves _ _ ready.around (rest.1, tt)) }

@@ -13,23 +13,21 @@ use Rattle.fast_walk.proofs.walk.Walk.sequence.Goals as goal
 pub returns-in-Err-clause-stops : goal.returns-in-Err-clause-stops
 returns-in-Err-clause-stops g c = λ other o at.
     let old = c.args.self.now in
-    let f = c.requires.first in
     let d = g.E.Entries.contents c.args.entries.now in
-    piece_stops_on o.around o.next o.body (sequence_of f.0 c.args.number f.1 c.args.part.now (list_of c.args.members.now)) (list_of c.args.others.now) (cursor d old.bits old.spare (drop c.args.at c.args.bytes.now)) _
-    (is_instruction o.next (at.next ∙ ap next_of c.requires.next)) (at.rest ∙ f.2)
+    piece_stops_on o.around o.next o.body (sequence_of c.args.name.now c.args.number c.args.presence c.args.part.now (list_of c.args.members.now)) (list_of c.args.others.now) (cursor d old.bits old.spare (drop c.args.at c.args.bytes.now)) _
+    (is_instruction o.next (at.next ∙ ap next_of c.requires.next)) (at.rest ∙ c.requires.first)
     (rw (c.in-Err.ensures.stops d old.bits (drop c.args.at c.args.bytes.now)) refl)
 
 pub returns-in-Err-begin_sequence-clause-stops : goal.returns-in-Err-begin_sequence-clause-stops
 returns-in-Err-begin_sequence-clause-stops g c = λ other o at.
     let old = c.args.self.now in
-    let f = c.requires.first in
     let d = g.E.Entries.contents c.args.entries.now in
     let bytes = drop c.args.at c.args.bytes.now in
     let stops = (c.in-Err-begin_sequence.ensures.stops (λ e. other (c.part_halt.ensures.cause ∙ ap cause_of_field e))).0 in
     let part = part_stops c.args.part.now d old.bits (old.spare - 1) bytes c.in-Err-begin_sequence.fault (rw (c.first_for-bit.ensures, c.part_needs_bit-needs.ensures) at stops) in
     rw (c.part_halt.ensures.cause, c.part_halt.ensures.number)
-    (piece_stops_on o.around o.next o.body (sequence_of f.0 c.args.number f.1 c.args.part.now (list_of c.args.members.now)) (list_of c.args.others.now) (cursor d old.bits old.spare bytes) _
-    (is_instruction o.next (at.next ∙ ap next_of c.requires.next)) (at.rest ∙ f.2)
+    (piece_stops_on o.around o.next o.body (sequence_of c.args.name.now c.args.number c.args.presence c.args.part.now (list_of c.args.members.now)) (list_of c.args.others.now) (cursor d old.bits old.spare bytes) _
+    (is_instruction o.next (at.next ∙ ap next_of c.requires.next)) (at.rest ∙ c.requires.first)
     (rw (c.in-Ok.ensures.goes d old.bits bytes, part) refl))
 
 pub returns-in-Err-begin_sequence-clause-waits : goal.returns-in-Err-begin_sequence-clause-waits
@@ -40,7 +38,6 @@ returns-in-Err-begin_sequence-clause-waits g c = λ other.
 pub returns-in-None-clause-goes : goal.returns-in-None-clause-goes
 returns-in-None-clause-goes g c = λ o at.
     let old = c.args.self.now in
-    let f = c.requires.first in
     let d = g.E.Entries.contents c.args.entries.now in
     let took = rw (c.in-None.is) at c.in-Ok-begin_sequence.ensures.goes in
     let others = list_of c.args.others.now in
@@ -50,13 +47,13 @@ returns-in-None-clause-goes g c = λ o at.
       passed o others (single None),
       (
         record { next = ap next_of (sym end.next); rest = ap list_of (sym end.rest); around = rw end.around at.0.around },
-        took.1 f.0 c.args.number f.1 members others o next (at.0.rest ∙ f.2) at.1,
+        took.1 c.args.number members others o next (at.0.rest ∙ c.requires.first) at.1,
       ),
       record { set = refl; before = refl; template = refl; members = refl; start = refl },
       λ more.
           let bytes = drop c.args.at c.args.bytes.now ++ more in
           rw (end.bits, end.spare, c.part_needs_bit-needs.ensures, took.0.entry)
-          (no_length_on o.around o.next o.body f.0 c.args.number f.1 c.args.part.now members others (cursor d old.bits old.spare bytes) (cursor d old.bits (old.spare - 1) bytes) _ next (at.0.rest ∙ f.2)
+          (no_length_on o.around o.next o.body c.args.name.now c.args.number c.args.presence c.args.part.now members others (cursor d old.bits old.spare bytes) (cursor d old.bits (old.spare - 1) bytes) _ next (at.0.rest ∙ c.requires.first)
           (c.in-Ok.ensures.goes d old.bits bytes)
           (part_goes c.args.part.now d old.bits (old.spare - 1) bytes (drop c.in-Ok-begin_sequence.next c.args.bytes.now ++ more) None
           (rw (c.first_for-bit.ensures, c.part_needs_bit-needs.ensures) at took.0.value more))),
@@ -65,7 +62,6 @@ returns-in-None-clause-goes g c = λ o at.
 pub returns-in-Some-clause-goes : goal.returns-in-Some-clause-goes
 returns-in-Some-clause-goes g c = λ o at.
     let old = c.args.self.now in
-    let f = c.requires.first in
     let d = g.E.Entries.contents c.args.entries.now in
     let took = rw (c.in-Some.is) at c.in-Ok-begin_sequence.ensures.goes in
     let others = list_of c.args.others.now in
@@ -76,13 +72,13 @@ returns-in-Some-clause-goes g c = λ o at.
       moved o (at_element (record { number = c.args.number; own_map = has_map members; members = members; left = many; done = [] })) (record { rest = others; done = o.body.done }) o.around,
       (
         record { next = rw (end.next, c.has_map-own_map.ensures) refl; rest = ap list_of (sym end.rest); around = rw end.around at.0.around },
-        took.1 f.0 c.args.number f.1 members others o next (at.0.rest ∙ f.2) at.1,
+        took.1 c.args.number members others o next (at.0.rest ∙ c.requires.first) at.1,
       ),
       record { set = refl; before = refl; template = refl; members = refl; start = refl },
       λ more.
           let bytes = drop c.args.at c.args.bytes.now ++ more in
           rw (end.bits, end.spare, c.part_needs_bit-needs.ensures, took.0.entry)
-          (length_on o.around o.next o.body f.0 c.args.number f.1 c.args.part.now members others (cursor d old.bits old.spare bytes) (cursor d old.bits (old.spare - 1) bytes) _ many next (at.0.rest ∙ f.2)
+          (length_on o.around o.next o.body c.args.name.now c.args.number c.args.presence c.args.part.now members others (cursor d old.bits old.spare bytes) (cursor d old.bits (old.spare - 1) bytes) _ many next (at.0.rest ∙ c.requires.first)
           (c.in-Ok.ensures.goes d old.bits bytes)
           (part_goes c.args.part.now d old.bits (old.spare - 1) bytes (drop c.in-Ok-begin_sequence.next c.args.bytes.now ++ more) (Some (U32 many))
           (rw (c.first_for-bit.ensures, c.part_needs_bit-needs.ensures) at took.0.value more))),

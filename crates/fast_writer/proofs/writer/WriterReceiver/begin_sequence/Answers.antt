@@ -11,8 +11,8 @@ returns-in-Ok-clause-goes g c =
     let n = c.in-Ok.length in
     let took = c.in-Ok.ensures.took in (
       took,
-      λ name number presence members is o next first has. (
+      λ number members is o next first has. (
         length_finished n old.out.items o number members is has.0,
-        has_length n (map level_of old.outer.items) (level_of old.inner) (level_of c.relay_count.new.level) o name number presence c.args.part.now members is d e next first took.entry c.in-Ok.ensures.spelt has.1,
+        has_length n (map level_of old.outer.items) (level_of old.inner) (level_of c.relay_count.new.level) o c.args._name.now number c.args._presence c.args.part.now members is d e next first took.entry c.in-Ok.ensures.spelt has.1,
       ),
     )

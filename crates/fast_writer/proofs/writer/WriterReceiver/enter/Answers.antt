@@ -6,10 +6,10 @@ use Rattle.fast_writer.proofs.Writers.{has_entered}
 use Rattle.fast_writer.proofs.writer.WriterReceiver.enter.Goals as goal
 
 pub returns-clause-has : goal.returns-clause-has
-returns-clause-has c = λ name number presence members is bits o d next first optional own has.
+returns-clause-has c = λ number presence members is bits o d next first optional own has.
     let old = c.args.self.now in
     let new = c.open.new.self in (
       subst (λ (v : Vec ℕ). IsFinished v.items o.set o.before o.start) (sym c.open.ensures.out) has.0,
-      has_entered (map level_of old.outer.items) (map level_of new.outer.items) (level_of old.inner) (level_of c.ask.new.self) (level_of new.inner) o name number presence members is bits d c.args.optional
+      has_entered (map level_of old.outer.items) (map level_of new.outer.items) (level_of old.inner) (level_of c.ask.new.self) (level_of new.inner) o c.args._name.now number presence members is bits d c.args.optional
           next first optional c.in_ok-ask.ensures c.in_ok-open.ensures.outer c.in_ok-open.ensures.bits (c.in_ok-open.ensures.own ∙ own) c.in_ok-open.ensures.bytes has.1,
     )

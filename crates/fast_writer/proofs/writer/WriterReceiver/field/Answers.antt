@@ -11,8 +11,8 @@ returns-in-Ok-clause-goes g c =
     let r = c.in-Ok.ensures.relays in (
       r.0,
       r.2,
-      λ name number presence is o next first has. (
+      λ number is o next first has. (
         has.0,
-        has_field (map level_of old.outer.items) (level_of old.inner) (level_of c.relay_part.new.level) o name number presence c.args.part.now is d e r.0 next first r.2.entry r.3 has.1,
+        has_field (map level_of old.outer.items) (level_of old.inner) (level_of c.relay_part.new.level) o c.args._name.now number c.args._presence c.args.part.now is d e r.0 next first r.2.entry r.3 has.1,
       ),
     )

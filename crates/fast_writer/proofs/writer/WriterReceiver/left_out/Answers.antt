@@ -4,6 +4,6 @@ use Rattle.fast_writer.proofs.Writers.{has_left_out}
 use Rattle.fast_writer.proofs.writer.WriterReceiver.left_out.Goals as goal
 
 pub returns-clause-has : goal.returns-clause-has
-returns-clause-has c = λ name number presence members is o d next first optional has.
+returns-clause-has c = λ number presence members is o d next first optional has.
     let old = c.args.self.now in
-    (has.0, has_left_out (map level_of old.outer.items) (level_of old.inner) (level_of c.ask.new.self) o name number presence members is d next first optional c.in_ok-ask.ensures has.1)
+    (has.0, has_left_out (map level_of old.outer.items) (level_of old.inner) (level_of c.ask.new.self) o c.args._name.now number presence members is d next first optional c.in_ok-ask.ensures has.1)

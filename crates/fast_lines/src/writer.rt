@@ -1,0 +1,406 @@
+//! Writes lines of messages as their fields are read.
+
+ghost use Rattle.std.specs.Prelude.{◌≡◌, ◌≢◌, ◌≤◌, true, Option, Err, IfOk, IfErr, OnOk, IsTrue, length, drop};
+ghost use Rattle.fast_value.specs.declared.scalar.Scalar.{Scalar as ScalarOf};
+ghost use Rattle.fast_dictionary.specs.Dictionary.{entry_at};
+ghost use Rattle.fast_field.specs.FieldReading.{field_at};
+ghost use Rattle.fast_stream.specs.Nodes.{single};
+ghost use Rattle.fast_walk.specs.Received.{Took, TookFrom};
+ghost use Rattle.fast_lines.specs.Lines.{field_text};
+ghost use Rattle.fast_template.specs.TemplateSets.{templates_in};
+ghost use Rattle.fast_lines.specs.Told.{Said, head_in, line_now};
+
+use crate::line::Line;
+use crate::lines::push_decimal;
+use fast_dictionary::{Entries, Entry};
+use fast_field::{FieldFault, read_in_place};
+use fast_template::{FieldPart, Name, Presence, TemplateSet};
+use fast_walk::{Receiver, exponent_in, mantissa_in, take_part, take_quickly, unsigned_in};
+use std::alloc::{AllocError, Global};
+
+// Takes a field's value in the general way, and tells it from where it lies: it is not copied.
+#[inline(always)]
+fn take_generally(
+    alloc: Global,
+    name: &Name,
+    presence: Presence,
+    part: &FieldPart,
+    entry: &mut Entry,
+    bit: bool,
+    bytes: &[u8],
+    at: usize,
+    line: &mut Line,
+) -> Result<usize, FieldFault>
+    requires { at ≤ length bytes.now }
+    ensures place { IfOk result (λ n. (at ≤ n) × (n ≤ length bytes.now)) }
+    ensures told { IfOk result (λ n. (v : Option ScalarOf)
+        × TookFrom part.now bit entry.old entry.new v (drop at bytes.now) (drop n bytes.now)
+        × Said name.now (field_text part.now.kind presence (single v)) (line_now line.old)
+        (line_now line.new)) }
+    ensures stops { IfErr result (λ f. f ≢ FieldFault.Memory
+        → (field_at part.now entry.old bit (drop at bytes.now) ≡ Err f)
+        × (entry.new ≡ entry.old) × (line.new ≡ line.old)) }
+{
+    match read_in_place(alloc, part, entry, bit, bytes, at) {
+        Err(fault) => Err(fault),
+        Ok((found, next)) => {
+            match line.tell(name, part.kind, presence, found.value(part, entry.view())) {
+                Err(_) => Err(FieldFault::Memory),
+                Ok(()) => Ok(next),
+            }
+        }
+    }
+}
+
+// Takes a field's value, an integer at once, and tells it.
+#[inline(always)]
+fn take(
+    alloc: Global,
+    name: &Name,
+    presence: Presence,
+    part: &FieldPart,
+    entry: &mut Entry,
+    bit: bool,
+    bytes: &[u8],
+    at: usize,
+    line: &mut Line,
+) -> Result<usize, FieldFault>
+    requires { at ≤ length bytes.now }
+    ensures place { IfOk result (λ n. (at ≤ n) × (n ≤ length bytes.now)) }
+    ensures told { IfOk result (λ n. (v : Option ScalarOf)
+        × TookFrom part.now bit entry.old entry.new v (drop at bytes.now) (drop n bytes.now)
+        × Said name.now (field_text part.now.kind presence (single v)) (line_now line.old)
+        (line_now line.new)) }
+    ensures stops { IfErr result (λ f. f ≢ FieldFault.Memory
+        → (field_at part.now entry.old bit (drop at bytes.now) ≡ Err f)
+        × (entry.new ≡ entry.old) × (line.new ≡ line.old)) }
+{
+    match take_quickly(part, entry, bit, bytes, at) {
+        None => take_generally(alloc, name, presence, part, entry, bit, bytes, at, line),
+        Some((value, next)) => match line.tell(name, part.kind, presence, Some(&value)) {
+            Err(_) => Err(FieldFault::Memory),
+            Ok(()) => Ok(next),
+        },
+    }
+}
+
+// Takes a field's value from the bytes, makes its entry the one afterwards, and tells the value.
+#[inline(always)]
+fn tell<E: Entries>(
+    alloc: Global,
+    name: &Name,
+    presence: Presence,
+    entries: &mut E,
+    part: &FieldPart,
+    bit: bool,
+    bytes: &[u8],
+    at: usize,
+    line: &mut Line,
+) -> Result<usize, FieldFault>
+    requires place { at ≤ length bytes.now }
+    requires served { IsTrue (E.serves entries.now part.now.key) }
+    ensures place { IfOk result (λ n. (at ≤ n) × (n ≤ length bytes.now)) }
+    ensures told { IfOk result (λ n. (v : Option ScalarOf)
+        × Took part.now bit (E.contents entries.old) (E.contents entries.new) v
+        (drop at bytes.now) (drop n bytes.now)
+        × Said name.now (field_text part.now.kind presence (single v)) (line_now line.old)
+        (line_now line.new)) }
+    ensures stops { IfErr result (λ f. f ≢ FieldFault.Memory
+        → (field_at part.now (entry_at (E.contents entries.old) part.now.key) bit
+        (drop at bytes.now) ≡ Err f)
+        × (E.contents entries.new ≡ E.contents entries.old) × (line.new ≡ line.old)) }
+    ensures same_keys { E.serves entries.new ≡ E.serves entries.old }
+{
+    match entries.entry_mut(&part.key) {
+        Err(_) => Err(FieldFault::Memory),
+        Ok(entry) => match take(alloc, name, presence, part, entry, bit, bytes, at, line) {
+            Err(fault) => Err(fault),
+            Ok(next) => Ok(next),
+        },
+    }
+}
+
+/// Writes a line for each message of a set that it receives, each field as it is read and with no message made.
+///
+/// The lines of the messages that are finished wait in it until they are handed on; what is written of the message
+/// that is open is no part of them.
+#[derive(Drop)]
+pub struct LineWriter<'a> {
+    set: &'a TemplateSet,
+    // of the message that is open
+    line: Line,
+    // of the decimal whose mantissa is next
+    exponent: i32,
+    // of the messages that are finished and not handed on
+    out: Vec<u8>,
+}
+
+impl<'a> LineWriter<'a> {
+    ghost use Rattle.std.specs.Prelude.{[], ◌∷◌, ◌++◌, List, ℕ};
+    ghost use Rattle.std.specs.FinMap as finite;
+    ghost use Rattle.fast_template.specs.Resolved.{Resolved};
+    ghost use Rattle.fast_dictionary.specs.Dictionary.{Dictionary};
+    ghost use Rattle.fast_stream.specs.Nodes.{Content};
+    ghost use Rattle.fast_walk.specs.Received.{Received, behind, handed_on};
+
+    /// For messages of a set: with none, and nothing handed on. Takes no memory.
+    #[inline(always)]
+    pub fn new(alloc: Global, set: &'a TemplateSet) -> LineWriter<'a>
+        ensures stands { ⟦<LineWriter<'a> as Receiver>⟧.stands result (templates_in set.now)
+            (handed_on [] ∷ []) finite.empty }
+        ensures empty { result.out.items ≡ [] }
+    {
+        LineWriter {
+            set,
+            line: Line::new(alloc),
+            exponent: 0,
+            out: Vec::new(alloc),
+        }
+    }
+
+    /// The lines of the messages that are finished and not handed on.
+    #[inline(always)]
+    pub fn finished(&self) -> &[u8]
+        ensures { result.now ≡ self.now.out.items }
+    {
+        &self.out
+    }
+
+    /// Forgets the lines of finished messages, which now are handed on. It keeps their memory.
+    #[inline(always)]
+    pub fn hand_on(&mut self)
+        ensures stands { (set : List Resolved) (handed : List ℕ) (ms : List Content)
+            (d : Dictionary)
+            → ⟦<LineWriter<'a> as Receiver>⟧.stands self.old set (handed_on handed ∷ ms) d
+            → ⟦<LineWriter<'a> as Receiver>⟧.stands self.new set
+            (handed_on (handed ++ self.old.out.items) ∷ ms) d }
+        ensures has { (o : Received) (handed : List ℕ) (ms : List Content) (d : Dictionary)
+            → o.before ≡ handed_on handed ∷ ms → ⟦<LineWriter<'a> as Receiver>⟧.has self.old o d
+            → ⟦<LineWriter<'a> as Receiver>⟧.has self.new
+            (behind o (handed_on (handed ++ self.old.out.items) ∷ ms)) d }
+        ensures keeps { (set : List Resolved) (handed : List ℕ) (ms : List Content)
+            (d : Dictionary)
+            → ⟦<LineWriter<'a> as Receiver>⟧.keeps self.old set (handed_on handed ∷ ms) d
+            → ⟦<LineWriter<'a> as Receiver>⟧.keeps self.new set
+            (handed_on (handed ++ self.old.out.items) ∷ ms) d }
+        ensures empty { self.new.out.items ≡ [] }
+    {
+        self.out.clear();
+    }
+
+    // Begins the line of a message of the template of an identifier; of one that the set has not, there is no name.
+    #[inline(always)]
+    fn open_line(&mut self, id: u32) -> Result<(), AllocError>
+        ensures line { OnOk result (line_now self.new.line
+            ≡ record { text = head_in (templates_in self.old.set.now) id; spaced = true }) }
+        ensures out { self.new.out ≡ self.old.out }
+        ensures set { self.new.set ≡ self.old.set }
+    {
+        match self.set.name(id) {
+            Some(name) => self.line.begin(id, name),
+            None => self.line.begin(id, ""),
+        }
+    }
+}
+
+impl Receiver for LineWriter<'_> {
+    ghost use Rattle.fast_lines.specs.Told.{HasLines, HasTold};
+
+    ghost has = { λ w o d. HasTold w o d };
+
+    ghost stands = { λ w set ms d. HasLines w set ms d };
+
+    ghost keeps = { λ w set ms d. HasLines w set ms d };
+
+    #[inline(always)]
+    fn begin<E: Entries>(
+        &mut self,
+        alloc: Global,
+        entries: &mut E,
+        identifier: &FieldPart,
+        bit: bool,
+        bytes: &[u8],
+        at: usize,
+    ) -> Result<(u32, usize), FieldFault> {
+        match take_part(alloc, entries, identifier, bit, bytes, at) {
+            Err(fault) => Err(fault),
+            Ok((value, next)) => match unsigned_in(&value) {
+                Ok(Some(id)) => match self.open_line(id) {
+                    Err(_) => Err(FieldFault::Memory),
+                    Ok(()) => Ok((id, next)),
+                },
+                _ => Err(FieldFault::Memory),
+            },
+        }
+    }
+
+    #[inline(always)]
+    fn finish(&mut self, _alloc: Global) -> Result<(), AllocError> {
+        self.line.end(&mut self.out)?;
+        Ok(())
+    }
+
+    #[inline(always)]
+    fn back(&mut self, _alloc: Global) {}
+
+    #[inline(always)]
+    fn field<E: Entries>(
+        &mut self,
+        alloc: Global,
+        name: &Name,
+        presence: Presence,
+        entries: &mut E,
+        part: &FieldPart,
+        bit: bool,
+        bytes: &[u8],
+        at: usize,
+    ) -> Result<usize, FieldFault> {
+        match tell(
+            alloc,
+            name,
+            presence,
+            entries,
+            part,
+            bit,
+            bytes,
+            at,
+            &mut self.line,
+        ) {
+            Err(fault) => Err(fault),
+            Ok(next) => Ok(next),
+        }
+    }
+
+    #[inline(always)]
+    fn exponent<E: Entries>(
+        &mut self,
+        alloc: Global,
+        name: &Name,
+        presence: Presence,
+        entries: &mut E,
+        part: &FieldPart,
+        bit: bool,
+        bytes: &[u8],
+        at: usize,
+    ) -> Result<(bool, usize), FieldFault> {
+        match take_part(alloc, entries, part, bit, bytes, at) {
+            Err(fault) => Err(fault),
+            Ok((value, next)) => match exponent_in(&value) {
+                Err(fault) => Err(fault),
+                Ok(None) => match self.line.tell_absent(name, presence) {
+                    Err(_) => Err(FieldFault::Memory),
+                    Ok(()) => Ok((false, next)),
+                },
+                Ok(Some(exponent)) => match self.line.label(name) {
+                    Err(_) => Err(FieldFault::Memory),
+                    Ok(()) => {
+                        self.exponent = exponent;
+                        Ok((true, next))
+                    }
+                },
+            },
+        }
+    }
+
+    #[inline(always)]
+    fn mantissa<E: Entries>(
+        &mut self,
+        alloc: Global,
+        entries: &mut E,
+        part: &FieldPart,
+        bit: bool,
+        bytes: &[u8],
+        at: usize,
+    ) -> Result<usize, FieldFault> {
+        match take_part(alloc, entries, part, bit, bytes, at) {
+            Err(fault) => Err(fault),
+            Ok((value, next)) => match mantissa_in(&value) {
+                Err(fault) => Err(fault),
+                Ok(mantissa) => {
+                    match push_decimal(mantissa, self.exponent, &mut self.line.text) {
+                        Err(_) => Err(FieldFault::Memory),
+                        Ok(()) => Ok(next),
+                    }
+                }
+            },
+        }
+    }
+
+    #[inline(always)]
+    fn begin_sequence<E: Entries>(
+        &mut self,
+        alloc: Global,
+        name: &Name,
+        presence: Presence,
+        entries: &mut E,
+        part: &FieldPart,
+        bit: bool,
+        bytes: &[u8],
+        at: usize,
+    ) -> Result<(Option<u32>, usize), FieldFault> {
+        match take_part(alloc, entries, part, bit, bytes, at) {
+            Err(fault) => Err(fault),
+            Ok((value, next)) => match unsigned_in(&value) {
+                Err(fault) => Err(fault),
+                Ok(None) => match self.line.tell_absent(name, presence) {
+                    Err(_) => Err(FieldFault::Memory),
+                    Ok(()) => Ok((None, next)),
+                },
+                Ok(Some(length)) => match self.line.open_under(name, b'[') {
+                    Err(_) => Err(FieldFault::Memory),
+                    Ok(()) => Ok((Some(length), next)),
+                },
+            },
+        }
+    }
+
+    #[inline(always)]
+    fn left_out(&mut self, name: &Name) -> Result<(), AllocError> {
+        match self.line.tell_absent(name, Presence::Optional) {
+            Err(_) => Err(AllocError),
+            Ok(()) => Ok(()),
+        }
+    }
+
+    #[inline(always)]
+    fn enter(
+        &mut self,
+        _alloc: Global,
+        name: &Name,
+        _optional: bool,
+        _own_map: bool,
+        _size: usize,
+    ) -> Result<(), AllocError> {
+        self.line.open_under(name, b'{')?;
+        Ok(())
+    }
+
+    #[inline(always)]
+    fn leave(&mut self, _alloc: Global) -> Result<(), AllocError> {
+        self.line.close(b'}')?;
+        Ok(())
+    }
+
+    #[inline(always)]
+    fn enter_element(
+        &mut self,
+        _alloc: Global,
+        _own_map: bool,
+        _size: usize,
+    ) -> Result<(), AllocError> {
+        self.line.open_brace()?;
+        Ok(())
+    }
+
+    #[inline(always)]
+    fn leave_element(&mut self, _alloc: Global) -> Result<(), AllocError> {
+        self.line.close(b'}')?;
+        Ok(())
+    }
+
+    #[inline(always)]
+    fn end_sequence(&mut self, _alloc: Global) -> Result<(), AllocError> {
+        self.line.close(b']')?;
+        Ok(())
+    }
+}
