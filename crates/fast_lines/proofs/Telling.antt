@@ -7,11 +7,11 @@ use Rattle.fast_value.specs.declared.kind.Presence.{Presence}
 use Rattle.fast_value.specs.declared.kind.Presence.TheVariants.{Optional}
 use Rattle.fast_template.specs.declared.resolved.FieldPart.{FieldPart}
 use Rattle.fast_template.specs.Resolved.{Instruction, Instructions, whole_field, field_in_parts, group_of, sequence_of, no_instructions, then_instruction, is_optional}
-use Rattle.fast_stream.specs.Nodes.{Item, single, group_items, sequence_elements, Items, no_items, then_item, items_of, Elements, no_elements, then_element, elements_of}
-use Rattle.fast_walk.specs.OpenSegments.{items_before, Body, Sequel, in_group, in_sequence, Waiting, at_instruction, at_element, with_item, fewer}
+use Rattle.fast_stream.specs.Nodes.{Item, single, group_items, sequence_elements, no_items, then_item, items_of, no_elements, then_element, elements_of}
+use Rattle.fast_walk.specs.OpenSegments.{items_before, Body, Sequel, in_group, in_sequence, Waiting, with_item, fewer}
 use Rattle.fast_walk.proofs.Steps.{items_before-more, items_before-end, elements_before-more, elements_before-end}
 use Rattle.fast_lines.specs.Lines.{absent_text, braced, bracketed, decimal_text, elements_text, field_text, joined, label, labelled, members_text, node_text}
-use Rattle.fast_lines.specs.Told.{Line, lead, behind_text, Opening, whole_text, Tells, TellsMantissa, elements_left, TellsElements, IsTop, IsBehind, behind_brace, Waits, Within, Said}
+use Rattle.fast_lines.specs.Told.{Line, lead, behind_text, Opening, whole_text, Tells, TellsMantissa, TellsElements, IsBehind, behind_brace, Waits, Within, Said}
 
 -- ---- texts
 

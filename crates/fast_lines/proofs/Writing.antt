@@ -11,7 +11,7 @@ use Rattle.fast_template.specs.TemplateSets.{has_id}
 use Rattle.fast_stream.specs.Nodes.{single, Items, items_of, Content}
 use Rattle.fast_stream.specs.Streams.{members_of}
 use Rattle.fast_walk.specs.OpenSegments.{Sequel, Inside, in_group, in_sequence, Waiting, Next, at_instruction, at_mantissa, at_element}
-use Rattle.fast_walk.specs.Received.{Received, opened, passed, entered, after_exponent, after_length, in_element, after_sequence, ended_in, content_received, bytes_in}
+use Rattle.fast_walk.specs.Received.{Received, passed, entered, after_exponent, after_length, in_element, after_sequence, ended_in, content_received, bytes_in}
 use Rattle.fast_lines.specs.Lines.{absent_text, decimal_text, field_text, joined, members_text}
 use Rattle.fast_lines.specs.Told.{IsTold, line_as, line_of_set, lines_of_set, Line, lead, Opening, Tells, IsTop, IsBehind, Within, IsOpened, head_by, head_in, message_opening, name_if, Said}
 use Rattle.fast_lines.proofs.Telling.{field_told, no_decimal_told, exponent_told, mantissa_told, within_on, left_out_told, group_entered, ended, segment_left, no_sequence_told, length_told, element_entered, elements_told}

@@ -1,8 +1,7 @@
 //! A walk through the open segments of a message, without its items.
 
-ghost use Rattle.std.specs.Prelude.{◌≡◌, ◌≢◌, ◌≤◌, ◌<◌, ◌++◌, ◌∷◌, ◌-◌, ◌+◌, [], ℕ, Bool, true, false, List, OnErr, IfOk, IfErr, OnOk, length, drop, map};
+ghost use Rattle.std.specs.Prelude.{◌≡◌, ◌≢◌, ◌≤◌, ◌<◌, ◌++◌, ◌∷◌, ◌-◌, ◌+◌, [], ℕ, Bool, true, false, List, IfOk, IfErr, OnOk, length, drop, map};
 ghost use Rattle.fast_value.specs.declared.key.Key as key_type;
-ghost use Rattle.fast_value.specs.declared.kind.Presence.{Presence as PresenceOf};
 ghost use Rattle.fast_template.specs.Resolved.{Resolved, list_of, then_instruction, no_instructions, whole_field, field_in_parts, group_of, sequence_of, is_optional as is_optional_of};
 ghost use Rattle.fast_dictionary.specs.Dictionary.{Dictionary};
 ghost use Rattle.fast_stream.specs.Nodes.{Content};

@@ -2,7 +2,7 @@
 use Rattle.std.specs.Prelude.{◌≡◌, ℕ, ℤ, Bool, true, false, ◌||◌, List, [], ◌∷◌, ◌++◌, Option, Some}
 use Rattle.std.specs.FinMap as map
 use Rattle.fast_value.specs.declared.scalar.Scalar.{Scalar}
-use Rattle.fast_value.specs.declared.scalar.Scalar.TheVariants.{U32, I64, Decimal, Bytes}
+use Rattle.fast_value.specs.declared.scalar.Scalar.TheVariants.{U32, I64, Decimal}
 use Rattle.fast_template.specs.declared.resolved.FieldPart.{FieldPart}
 use Rattle.fast_template.specs.Resolved.{Instructions, Resolved, has_map, part_needs_bit}
 use Rattle.fast_dictionary.specs.Dictionary.{Dictionary, entry_at}
@@ -10,7 +10,7 @@ use Rattle.fast_dictionary.specs.declared.entry.Entry.{Entry}
 use Rattle.fast_wire.specs.PresenceMap.{next_bit, later_bits, IsMap}
 use Rattle.fast_wire.specs.Writing.{IsShortest}
 use Rattle.fast_field.specs.Best.{IsBest}
-use Rattle.fast_stream.specs.Nodes.{single, group_items, sequence_elements, Items, no_items, then_item, Elements, element_count, Content}
+use Rattle.fast_stream.specs.Nodes.{single, group_items, sequence_elements, Items, Elements, element_count, Content}
 use Rattle.fast_stream.specs.Bodies.{State, SegmentBy, Then, PartBy, Each, written}
 use Rattle.fast_stream.specs.Streams.{identifier}
 use Rattle.fast_walk.specs.OpenSegments.{items_before, elements_before, Body, Sequel, Inside, in_group, in_sequence, Waiting, Next, at_instruction, at_mantissa, at_element, with_item, with_element}

@@ -4,7 +4,7 @@ use Rattle.fast_machine.proofs.Followings.{follows_behind}
 use Rattle.fast_decoder.proofs.Inputs.{reached_with}
 use Rattle.fast_lines.specs.Told.{HasLines, HasTold}
 use Rattle.fast_walk.specs.Received.{handed_on}
-use Rattle.fast_command.specs.Shown.{AreLines, GoesOn}
+use Rattle.fast_command.specs.Shown.{GoesOn}
 use Rattle.fast_command.proofs.shown.hand_on.Goals as goal
 
 pub returns-in-Ok-clause-relays : goal.returns-in-Ok-clause-relays

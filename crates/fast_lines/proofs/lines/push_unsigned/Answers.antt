@@ -1,4 +1,4 @@
-use Rattle.std.proofs.Common.{◌≡◌, ◌∷◌, [], ◌+◌, ℕ, arith}
+use Rattle.std.proofs.Common.{arith}
 use Rattle.std.proofs.lemmas.Fmt.{decimal_digit}
 use Rattle.fast_lines.proofs.lines.push_unsigned.Goals as goal
 

@@ -1,4 +1,4 @@
-use Rattle.std.proofs.Common.{List, ℕ, ap, sym, ◌∙◌, true}
+use Rattle.std.proofs.Common.{List, ℕ, true}
 use Rattle.fast_lines.specs.Told.{head_by, Line}
 use Rattle.fast_lines.proofs.SameLines.{name_is, name_is_not}
 use Rattle.fast_lines.proofs.writer.LineWriter.open_line.Goals as goal
