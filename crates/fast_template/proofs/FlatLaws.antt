@@ -19,7 +19,7 @@ use Rattle.fast_template.specs.declared.resolved.Flat.TheOpen.{Flat-F}
 use Rattle.fast_template.specs.declared.resolved.Flat.TheFolds.{fold-roll-Flat}
 use Rattle.fast_written.specs.Written.{WrittenInstruction, written_field, written_parts, written_group, written_sequence, written_step, written_list, written_of, operation_of}
 use Rattle.fast_template.specs.Resolved as resolved
-use Rattle.fast_template.specs.Resolved.{Instructions, whole_field, field_in_parts, group_of, sequence_of, no_instructions, then_instruction, joined, list_of, instruction_of, flat_step}
+use Rattle.fast_template.specs.Resolved.{Instructions, whole_field, field_in_parts, group_of, sequence_of, no_instructions, then_instruction, joined, instructions_of, list_of, instruction_of, flat_step}
 use Rattle.fast_template.specs.NamedLists.{list_at}
 use Rattle.fast_template.specs.FlatLists.{Context, inside, flat_list, flat_one, field_part, exponent_part, mantissa_part, length_part}
 
@@ -63,6 +63,28 @@ field_is name number presence whole = ap instruction_of (sym (flat.rolls-Field n
 
 parts_are : (name : List ℕ) (number : ℕ) (presence : Presence) (exponent mantissa : FieldPart) → instruction_of (flat.Parts name number presence exponent mantissa) ≡ field_in_parts name number presence exponent mantissa
 parts_are name number presence exponent mantissa = ap instruction_of (sym (flat.rolls-Parts name number presence exponent mantissa)) ∙ fold-roll-Flat resolved.Instruction flat_step (Flat-F.Parts name number presence exponent mantissa)
+
+group_is : (name : List ℕ) (number : ℕ) (presence : Presence) (members : Vec Flat Global) → instruction_of (flat.Group name number presence members) ≡ group_of name number presence (list_of members.items)
+group_is name number presence members = ap instruction_of (sym (flat.rolls-Group name number presence members)) ∙ fold-roll-Flat resolved.Instruction flat_step (Flat-F.Group name number presence members)
+
+sequence_is : (name : List ℕ) (number : ℕ) (presence : Presence) (part : FieldPart) (members : Vec Flat Global) → instruction_of (flat.Sequence name number presence part members) ≡ sequence_of name number presence part (list_of members.items)
+sequence_is name number presence part members = ap instruction_of (sym (flat.rolls-Sequence name number presence part members)) ∙ fold-roll-Flat resolved.Instruction flat_step (Flat-F.Sequence name number presence part members)
+
+-- ---- the same instruction once more
+
+pub group_again : (f : Flat) (name n : List ℕ) (number : ℕ) (presence : Presence) (members made : Vec Flat Global) → f ≡ flat.Group name number presence members → n ≡ name → map instruction_of made.items ≡ map instruction_of members.items → instruction_of (flat.Group n number presence made) ≡ instruction_of f
+group_again f name n number presence members made is named same =
+    group_is n number presence made
+    ∙ (λ i. group_of (named i) number presence (instructions_of (same i)))
+    ∙ sym (group_is name number presence members)
+    ∙ ap instruction_of (sym is)
+
+pub sequence_again : (f : Flat) (name n : List ℕ) (number : ℕ) (presence : Presence) (part p : FieldPart) (members made : Vec Flat Global) → f ≡ flat.Sequence name number presence part members → n ≡ name → p ≡ part → map instruction_of made.items ≡ map instruction_of members.items → instruction_of (flat.Sequence n number presence p made) ≡ instruction_of f
+sequence_again f name n number presence part p members made is named parted same =
+    sequence_is n number presence p made
+    ∙ (λ i. sequence_of (named i) number presence (parted i) (instructions_of (same i)))
+    ∙ sym (sequence_is name number presence part members)
+    ∙ ap instruction_of (sym is)
 
 pub field_made : (name n : List ℕ) (presence : Presence) (whole made : FieldPart) → n ≡ name → made ≡ whole → instruction_of (flat.Field n 0 presence made) ≡ whole_field name 0 presence whole
 field_made name n presence whole made named is = field_is n 0 presence made ∙ (λ i. whole_field (named i) 0 presence (is i))

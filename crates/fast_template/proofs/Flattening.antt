@@ -1,10 +1,10 @@
 -- Flat lists, in the order of references.
-use Rattle.std.proofs.Common.{◌≡◌, ◌≢◌, ◌≤◌, ◌<◌, ◌+◌, ℕ, List, length, get_or, map, set, option_map, Option, Some, None, ◌⊎◌, inl, inr, refl, sym, ap, ◌∙◌, arith}
-use Rattle.std.specs.Prelude.{slice_get}
+use Rattle.std.proofs.Common.{◌≡◌, ◌≢◌, ◌≤◌, ◌<◌, ◌+◌, ℕ, List, length, get_or, map, set, option_map, Option, Some, None, ◌⊎◌, inl, inr, refl, sym, ap, subst, ◌∙◌, arith}
+use Rattle.std.specs.Prelude.{slice_get, slice_index_or}
 use Rattle.std.specs.Option.{option_map_or}
 use Rattle.std.specs.BTreeMap.{BTreeMap}
 use Rattle.std.proofs.lemmas.Bool.{cases_lt}
-use Rattle.std.proofs.lemmas.Option.{slice_get_within, slice_get-map}
+use Rattle.std.proofs.lemmas.Option.{slice_get_within, slice_get-get_or, slice_get-map}
 use Rattle.std.proofs.lemmas.List.{length-map, map-set, set-get_or, get_or-map}
 use Rattle.fast_template.specs.declared.resolved.FlatTemplate.{FlatTemplate}
 use Rattle.fast_written.specs.declared.written.Template.{Template}
@@ -80,3 +80,7 @@ headings_kept flats a old t inside is same =
     map-set heading_of flats a t
     ∙ ap (set (map heading_of flats) a) (same ∙ ap heading_of is ∙ sym (get_or-map heading_of flats a old (heading_of old) inside))
     ∙ set-get_or (map heading_of flats) a (heading_of old)
+
+-- the order names templates that there are
+pub placed_within : (templates : List Template) (order : List ℕ) (i : ℕ) → IsBuildOrder (map written_template_of templates) order → i < length order → slice_index_or order i 0 < length templates
+placed_within templates order i o inside = subst (λ n. slice_index_or order i 0 < n) (length-map templates written_template_of) (o.within i (slice_index_or order i 0) (slice_get-get_or order i 0 inside))

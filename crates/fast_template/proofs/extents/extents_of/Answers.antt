@@ -1,4 +1,4 @@
-use Rattle.std.proofs.Common.{◌≡◌, ◌<◌, ℕ, List, map, length, option_map, Some, refl, sym, ap, subst, ◌∙◌}
+use Rattle.std.proofs.Common.{◌≡◌, ◌<◌, ℕ, List, map, length, option_map, Some, refl, sym, ap, subst, ◌∙◌, arith}
 use Rattle.std.specs.Prelude.{slice_get, slice_index_or}
 use Rattle.std.proofs.lemmas.Option.{slice_get-get_or, slice_get_read, slice_get-map}
 use Rattle.std.proofs.lemmas.List.{length-map, length-set}
@@ -8,7 +8,17 @@ use Rattle.fast_template.specs.Resolved.{Instructions}
 use Rattle.fast_template.specs.FlatLists.{AreFlatLists}
 use Rattle.fast_template.specs.Extents.{IsExtentOf, size_with, size_named, stopped_size, depth_with, depth_named, stopped_depth}
 use Rattle.fast_template.proofs.ExtentLaws.{extent_is, extents_more, extents_all}
+use Rattle.fast_template.proofs.Flattening.{placed_within}
 use Rattle.fast_template.proofs.extents.extents_of.Goals as goal
+
+pub bounds-templates-place : goal.bounds-templates-place
+bounds-templates-place c = placed_within c.args.templates.now c.args.order.now c.loop-place.place-index c.requires.in_order c.loop-place-test.true
+
+pub index_mut-requires : goal.index_mut-requires
+index_mut-requires c =
+    let inside = placed_within c.args.templates.now c.args.order.now c.loop-place.place-index c.requires.in_order c.loop-place-test.true in
+    let there = subst (λ n. slice_index_or c.args.order.now c.loop-place.place-index 0 < n) (sym c.loop-place.invariant.len) inside in
+    omega (arith, there, c.loop-place.extents.ok.0)
 
 pub loop-place-preserved : goal.loop-place-preserved
 loop-place-preserved c =

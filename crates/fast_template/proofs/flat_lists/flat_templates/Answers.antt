@@ -1,4 +1,4 @@
-use Rattle.std.proofs.Common.{◌≡◌, ◌<◌, ◌+◌, ℕ, List, map, length, option_map, Some, refl, sym, ap, subst, ◌∙◌}
+use Rattle.std.proofs.Common.{◌≡◌, ◌<◌, ◌+◌, ℕ, List, map, length, option_map, Some, refl, sym, ap, subst, ◌∙◌, arith}
 use Rattle.std.specs.Prelude.{slice_get, slice_index_or}
 use Rattle.std.proofs.lemmas.Option.{slice_get-get_or, slice_get_read, slice_get-map}
 use Rattle.std.proofs.lemmas.List.{length-map}
@@ -10,7 +10,27 @@ use Rattle.fast_template.specs.FlatLists.{AreFlatLists, context_of, flat_list}
 use Rattle.fast_template.specs.NamedLists.{list_named}
 use Rattle.fast_template.specs.Surroundings.{context_in}
 use Rattle.fast_template.proofs.Flattening.{list_is, lists_more, flattened, headings_kept, headings_len}
+use Rattle.fast_template.proofs.Flattening.{placed_within}
 use Rattle.fast_template.proofs.flat_lists.flat_templates.Goals as goal
+
+pub bounds-templates-place : goal.bounds-templates-place
+bounds-templates-place c = placed_within c.args.templates.now c.args.order.now c.loop-place.place-index c.requires.in_order c.loop-place-test.true
+
+pub overflow_cast-place : goal.overflow_cast-place
+overflow_cast-place c =
+    let inside = placed_within c.args.templates.now c.args.order.now c.loop-place.place-index c.requires.in_order c.loop-place-test.true in
+    omega (arith, inside, c.requires.few)
+
+pub overflow_add-place : goal.overflow_add-place
+overflow_add-place c =
+    let inside = placed_within c.args.templates.now c.args.order.now c.loop-place.place-index c.requires.in_order c.loop-place-test.true in
+    omega (arith, inside, c.requires.few)
+
+pub index_mut-requires : goal.index_mut-requires
+index_mut-requires c =
+    let inside = placed_within c.args.templates.now c.args.order.now c.loop-place.place-index c.requires.in_order c.loop-place-test.true in
+    let there = subst (λ n. slice_index_or c.args.order.now c.loop-place.place-index 0 < n) (sym (headings_len c.args.templates.now c.loop-place.flats.items c.loop-place.invariant.headings)) inside in
+    omega (arith, there, c.loop-place.flats.ok.0)
 
 pub loop-place-preserved : goal.loop-place-preserved
 loop-place-preserved c =
