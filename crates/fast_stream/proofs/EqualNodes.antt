@@ -8,6 +8,7 @@ use Rattle.std.specs.Cmp.Lexicographic.{pointwise}
 use Rattle.std.specs.declared.alloc.Global.{Global}
 use Rattle.std.specs.declared.vec.Vec.{Vec}
 use Rattle.std.specs.formers.vec.Vec.{mapped}
+use Rattle.std.proofs.lemmas.Bool.{false≢true}
 use Rattle.fast_value.specs.Scalar.{scalar_eq-exact, scalar_eq-same}
 use Rattle.fast_value.specs.contracts.scalar.ScalarPartialEq.TheImpl as scalar_eq
 use Rattle.fast_stream.specs.declared.message.Message.{Message}
@@ -16,8 +17,8 @@ use Rattle.fast_stream.specs.declared.message.Node.TheOpen.{Node-F}
 use Rattle.fast_stream.specs.contracts.message.NodePartialEq.TheImpl as node_eq
 use Rattle.fast_stream.specs.contracts.message.NodePartialEq.TheImpl.Laws as node_eq_laws
 use Rattle.fast_stream.specs.contracts.message.MessagePartialEq.TheImpl as message_eq
-use Rattle.fast_stream.specs.Nodes.{Item, Items, Elements, single, group_items, sequence_elements, then_element, items_of, elements_of, node_step, item_of, items_in, content_of}
-use Rattle.fast_stream.proofs.SameNodes.{items_same}
+use Rattle.fast_stream.specs.Nodes.{Item, Items, Elements, single, group_items, sequence_elements, no_items, no_elements, then_element, items_of, elements_of, node_step, item_of, items_in, content_of}
+use Rattle.fast_stream.proofs.SameNodes.{alike, items_same}
 
 -- ---- one level
 
@@ -61,28 +62,35 @@ Proved = (b : Node) × Exact b
 abbrev nodes : List Proved → List Node
 nodes = map (λ e. e.0)
 
+-- an equation of lists, taken apart: `cc` searches long here, where the types of nodes compute
+abbrev IsEmpty : List Item → Type 0
+IsEmpty [] = Unit {0}
+IsEmpty (i ∷ is) = ⊥
+
+abbrev first_or : Item → List Item → Item
+first_or d [] = d
+first_or d (i ∷ is) = i
+
+abbrev others : List Item → List Item
+others [] = []
+others (i ∷ is) = is
+
 equal_lists : (ns : List Proved) (ms : List Node) → pointwise eq (nodes ns) ms ≡ true → map item_of (nodes ns) ≡ map item_of ms
 equal_lists [] [] e = refl
-equal_lists [] (m ∷ ms) e = absurd cc
-equal_lists (n ∷ ns) [] e = absurd cc
+equal_lists [] (m ∷ ms) e = absurd (false≢true e)
+equal_lists (n ∷ ns) [] e = absurd (false≢true e)
 equal_lists (n ∷ ns) (m ∷ ms) e = ap₂ (◌∷◌) ((n.1 m).0 (first_so (eq n.0 m) (pointwise eq (nodes ns) ms) e)) (equal_lists ns ms (second_so (eq n.0 m) (pointwise eq (nodes ns) ms) e))
 
 lists_equal : (ns : List Proved) (ms : List Node) → map item_of (nodes ns) ≡ map item_of ms → pointwise eq (nodes ns) ms ≡ true
 lists_equal [] [] e = refl
-lists_equal [] (m ∷ ms) e = absurd cc
-lists_equal (n ∷ ns) [] e = absurd cc
-lists_equal (n ∷ ns) (m ∷ ms) e =
-    let heads : item_of n.0 ≡ item_of m = cc in
-    let tails : map item_of (nodes ns) ≡ map item_of ms = cc in
-    both_true ((n.1 m).1 heads) (lists_equal ns ms tails)
+lists_equal [] (m ∷ ms) e = absurd (subst IsEmpty e tt)
+lists_equal (n ∷ ns) [] e = absurd (subst IsEmpty (sym e) tt)
+lists_equal (n ∷ ns) (m ∷ ms) e = both_true ((n.1 m).1 (ap (first_or (item_of m)) e)) (lists_equal ns ms (ap others e))
 
 -- ---- lists of elements
 
 abbrev without : Vec Proved Global → Vec Node Global
 without = mapped (λ e. e.0)
-
-abbrev seen : Vec Node Global → Items
-seen v = items_of (mapped {H = Global} item_of v).items
 
 abbrev elements_seen : List (Vec Node Global) → Elements
 elements_seen es = elements_of (map (λ e. items_of e.items) (map (mapped {H = Global} item_of) es))
@@ -90,10 +98,26 @@ elements_seen es = elements_of (map (λ e. items_of e.items) (map (mapped {H = G
 abbrev same_items : Vec Node Global → Vec Node Global → Bool
 same_items e f = pointwise eq e.items f.items
 
+abbrev HasNone : Elements → Type 0
+HasNone no_elements = Unit {0}
+HasNone (then_element is es) = ⊥
+
+abbrev first_element : Elements → Items
+first_element no_elements = no_items
+first_element (then_element is es) = is
+
+abbrev other_elements : Elements → Elements
+other_elements no_elements = no_elements
+other_elements (then_element is es) = es
+
+abbrev elements_within : Item → Elements
+elements_within (sequence_elements es) = es
+elements_within i = no_elements
+
 equal_elements : (es : List (Vec Proved Global)) (fs : List (Vec Node Global)) → pointwise same_items (map without es) fs ≡ true → elements_seen (map without es) ≡ elements_seen fs
 equal_elements [] [] e = refl
-equal_elements [] (f ∷ fs) e = absurd cc
-equal_elements (x ∷ xs) [] e = absurd cc
+equal_elements [] (f ∷ fs) e = absurd (false≢true e)
+equal_elements (x ∷ xs) [] e = absurd (false≢true e)
 equal_elements (x ∷ xs) (f ∷ fs) e =
     let first = same_items (without x) f in
     let rest = pointwise same_items (map without xs) fs in
@@ -101,25 +125,25 @@ equal_elements (x ∷ xs) (f ∷ fs) e =
 
 elements_equal : (es : List (Vec Proved Global)) (fs : List (Vec Node Global)) → elements_seen (map without es) ≡ elements_seen fs → pointwise same_items (map without es) fs ≡ true
 elements_equal [] [] e = refl
-elements_equal [] (f ∷ fs) e = absurd cc
-elements_equal (x ∷ xs) [] e = absurd cc
-elements_equal (x ∷ xs) (f ∷ fs) e =
-    let heads : seen (without x) ≡ seen f = cc in
-    let tails : elements_seen (map without xs) ≡ elements_seen fs = cc in
-    both_true (lists_equal x.items f.items (items_same _ _ heads)) (elements_equal xs fs tails)
+elements_equal [] (f ∷ fs) e = absurd (subst HasNone e tt)
+elements_equal (x ∷ xs) [] e = absurd (subst HasNone (sym e) tt)
+elements_equal (x ∷ xs) (f ∷ fs) e = both_true (lists_equal x.items f.items (items_same _ _ (ap first_element e))) (elements_equal xs fs (ap other_elements e))
+
+abbrev inner : Node-F Node → Node-F Item
+inner = map-Node Node Item item_of
 
 abbrev content : Node-F Node → Item
-content z = node_step (map-Node Node Item item_of z)
+content z = node_step (inner z)
 
 abbrev known : Node-F Proved → Node-F Node
 known = map-Node Proved Node (λ e. e.0)
 
 level : (y : Node-F Proved) (z : Node-F Node) → Decides (layer eq (known y) z) (content (known y) ≡ content z)
 level Node-F.Absent Node-F.Absent = (λ e. refl, λ e. refl)
-level (Node-F.Value v) (Node-F.Value w) = (λ e. ap (λ x. single (Some x)) (scalar_eq-exact v w e), λ e. let same : v ≡ w = cc in subst (λ x. (scalar_eq.eq-value).it v x ≡ true) same (scalar_eq-same v))
-level (Node-F.Group ns) (Node-F.Group ms) = (λ e. ap (λ l. group_items (items_of l)) (equal_lists ns.items ms.items e), λ e. let same : seen (without ns) ≡ seen ms = cc in lists_equal ns.items ms.items (items_same _ _ same))
-level (Node-F.Sequence es) (Node-F.Sequence fs) = (λ e. ap sequence_elements (equal_elements es.items fs.items e), λ e. let same : elements_seen (map without es.items) ≡ elements_seen fs.items = cc in elements_equal es.items fs.items same)
-level a b = (λ e. absurd cc, λ e. absurd cc)
+level (Node-F.Value v) (Node-F.Value w) = (λ e. ap (λ x. single (Some x)) (scalar_eq-exact v w e), λ e. subst (λ x. (scalar_eq.eq-value).it v x ≡ true) (alike (inner (Node-F.Value v)) (inner (Node-F.Value w)) e) (scalar_eq-same v))
+level (Node-F.Group ns) (Node-F.Group ms) = (λ e. ap (λ l. group_items (items_of l)) (equal_lists ns.items ms.items e), λ e. lists_equal ns.items ms.items (alike (inner (known (Node-F.Group ns))) (inner (Node-F.Group ms)) e))
+level (Node-F.Sequence es) (Node-F.Sequence fs) = (λ e. ap sequence_elements (equal_elements es.items fs.items e), λ e. elements_equal es.items fs.items (ap elements_within e))
+level a b = (λ e. absurd (false≢true e), λ e. absurd (alike (inner (known a)) (inner b) e))
 
 -- ---- whole nodes
 

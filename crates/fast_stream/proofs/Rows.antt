@@ -62,8 +62,11 @@ abbrev pub refused : Cause → ℕ → ℕ → ℕ → ℕ → Option Fault
 refused cause message offset template instruction = Some (record { cause = cause; place = record { message = message; offset = offset; template = template; instruction = instruction } })
 
 -- the messages of a stream, and its first fault
+abbrev answer : List ℕ → StreamReading → List Content × Option Fault
+answer stream r = (r.messages, fault_in stream r)
+
 abbrev pub read : List ℕ → List Content × Option Fault
-read stream = let r = stream_at worked_set stream in (r.messages, fault_in stream r)
+read stream = answer stream (stream_at worked_set stream)
 
 -- all that reading is made of: who unfolds this unfolds its line
 reading : ℕ
@@ -118,7 +121,7 @@ spelled_out_second = simp put_there
 
 -- behind these bytes F8 81 82 41 C2 80 81 80: Seq=2 Sym="AB" Px=101e-2 Qty=-, spelled out
 pub spelled_out : read (0xf0 ∷ 0x81 ∷ 0x81 ∷ 0x41 ∷ 0xc2 ∷ 0xfe ∷ 0x00 ∷ 0xe4 ∷ 0xf8 ∷ 0x81 ∷ 0x82 ∷ 0x41 ∷ 0xc2 ∷ 0x80 ∷ 0x81 ∷ 0x80 ∷ []) ≡ (quote 1 100 ∷ quote 2 101 ∷ [], None)
-spelled_out = rw (spelled_out_first, spelled_out_second) refl
+spelled_out = ap (answer (0xf0 ∷ 0x81 ∷ 0x81 ∷ 0x41 ∷ 0xc2 ∷ 0xfe ∷ 0x00 ∷ 0xe4 ∷ 0xf8 ∷ 0x81 ∷ 0x82 ∷ 0x41 ∷ 0xc2 ∷ 0x80 ∷ 0x81 ∷ 0x80 ∷ [])) (one_more 15 _ _ _ spelled_out_first (one_more 14 _ _ _ spelled_out_second refl))
 
 left_out_first : message_at worked_set finite.empty (0xf0 ∷ 0x81 ∷ 0x81 ∷ 0x41 ∷ 0xc2 ∷ 0xfe ∷ 0x00 ∷ 0xe4 ∷ 0x80 ∷ 0x80 ∷ 0x81 ∷ []) ≡ Ok (quote 1 100, quoted, 0x80 ∷ 0x80 ∷ 0x81 ∷ [])
 unfolding reading
@@ -130,7 +133,7 @@ left_out_second = simp put_there
 
 -- behind F0 81 81 41 C2 FE 00 E4 the bytes 80 80 81: the same two messages
 pub left_out : read (0xf0 ∷ 0x81 ∷ 0x81 ∷ 0x41 ∷ 0xc2 ∷ 0xfe ∷ 0x00 ∷ 0xe4 ∷ 0x80 ∷ 0x80 ∷ 0x81 ∷ []) ≡ (quote 1 100 ∷ quote 2 101 ∷ [], None)
-left_out = rw (left_out_first, left_out_second) refl
+left_out = ap (answer (0xf0 ∷ 0x81 ∷ 0x81 ∷ 0x41 ∷ 0xc2 ∷ 0xfe ∷ 0x00 ∷ 0xe4 ∷ 0x80 ∷ 0x80 ∷ 0x81 ∷ [])) (one_more 10 _ _ _ left_out_first (one_more 9 _ _ _ left_out_second refl))
 
 -- the empty stream: no message
 pub nothing : read [] ≡ ([], None)
@@ -240,7 +243,7 @@ removes_too_much_fourth = simp put_there
 
 -- behind them 80 85 80: five of four
 pub removes_too_much : read (0xc0 ∷ 0x8a ∷ 0x80 ∷ 0x47 ∷ 0x45 ∷ 0x48 ∷ 0xb6 ∷ 0x80 ∷ 0x82 ∷ 0x4d ∷ 0xb6 ∷ 0x80 ∷ 0xfd ∷ 0x45 ∷ 0xd3 ∷ 0x80 ∷ 0x85 ∷ 0x80 ∷ []) ≡ (message 10 (text (codes "GEH6") ∷ []) ∷ message 10 (text (codes "GEM6") ∷ []) ∷ message 10 (text (codes "ESM6") ∷ []) ∷ [], refused D7 4 16 10 1)
-removes_too_much = ap (λ r. (r.messages, fault_in (0xc0 ∷ 0x8a ∷ 0x80 ∷ 0x47 ∷ 0x45 ∷ 0x48 ∷ 0xb6 ∷ 0x80 ∷ 0x82 ∷ 0x4d ∷ 0xb6 ∷ 0x80 ∷ 0xfd ∷ 0x45 ∷ 0xd3 ∷ 0x80 ∷ 0x85 ∷ 0x80 ∷ []) r)) (one_more 17 _ _ _ removes_too_much_first (one_more 16 _ _ _ removes_too_much_second (one_more 15 _ _ _ removes_too_much_third (last_stop 14 _ _ _ removes_too_much_fourth))))
+removes_too_much = ap (answer (0xc0 ∷ 0x8a ∷ 0x80 ∷ 0x47 ∷ 0x45 ∷ 0x48 ∷ 0xb6 ∷ 0x80 ∷ 0x82 ∷ 0x4d ∷ 0xb6 ∷ 0x80 ∷ 0xfd ∷ 0x45 ∷ 0xd3 ∷ 0x80 ∷ 0x85 ∷ 0x80 ∷ [])) (one_more 17 _ _ _ removes_too_much_first (one_more 16 _ _ _ removes_too_much_second (one_more 15 _ _ _ removes_too_much_third (last_stop 14 _ _ _ removes_too_much_fourth))))
 
 removes_nothing_in_front_first : message_at worked_set finite.empty (0xc0 ∷ 0x8a ∷ 0x80 ∷ 0x47 ∷ 0x45 ∷ 0x48 ∷ 0xb6 ∷ 0x80 ∷ 0x82 ∷ 0x4d ∷ 0xb6 ∷ 0x80 ∷ 0xfd ∷ 0x45 ∷ 0xd3 ∷ 0x80 ∷ 0xff ∷ 0x80 ∷ []) ≡ Ok (message 10 (text (codes "GEH6") ∷ []), geh6, 0x80 ∷ 0x82 ∷ 0x4d ∷ 0xb6 ∷ 0x80 ∷ 0xfd ∷ 0x45 ∷ 0xd3 ∷ 0x80 ∷ 0xff ∷ 0x80 ∷ [])
 unfolding reading
@@ -263,7 +266,7 @@ removes_nothing_in_front_fourth = simp put_there
 
 -- behind them 80 FF 80: S is "ESM6" again
 pub removes_nothing_in_front : read (0xc0 ∷ 0x8a ∷ 0x80 ∷ 0x47 ∷ 0x45 ∷ 0x48 ∷ 0xb6 ∷ 0x80 ∷ 0x82 ∷ 0x4d ∷ 0xb6 ∷ 0x80 ∷ 0xfd ∷ 0x45 ∷ 0xd3 ∷ 0x80 ∷ 0xff ∷ 0x80 ∷ []) ≡ (message 10 (text (codes "GEH6") ∷ []) ∷ message 10 (text (codes "GEM6") ∷ []) ∷ message 10 (text (codes "ESM6") ∷ []) ∷ message 10 (text (codes "ESM6") ∷ []) ∷ [], None)
-removes_nothing_in_front = ap (λ r. (r.messages, fault_in (0xc0 ∷ 0x8a ∷ 0x80 ∷ 0x47 ∷ 0x45 ∷ 0x48 ∷ 0xb6 ∷ 0x80 ∷ 0x82 ∷ 0x4d ∷ 0xb6 ∷ 0x80 ∷ 0xfd ∷ 0x45 ∷ 0xd3 ∷ 0x80 ∷ 0xff ∷ 0x80 ∷ []) r)) (one_more 17 _ _ _ removes_nothing_in_front_first (one_more 16 _ _ _ removes_nothing_in_front_second (one_more 15 _ _ _ removes_nothing_in_front_third (one_more 14 _ _ _ removes_nothing_in_front_fourth refl))))
+removes_nothing_in_front = ap (answer (0xc0 ∷ 0x8a ∷ 0x80 ∷ 0x47 ∷ 0x45 ∷ 0x48 ∷ 0xb6 ∷ 0x80 ∷ 0x82 ∷ 0x4d ∷ 0xb6 ∷ 0x80 ∷ 0xfd ∷ 0x45 ∷ 0xd3 ∷ 0x80 ∷ 0xff ∷ 0x80 ∷ [])) (one_more 17 _ _ _ removes_nothing_in_front_first (one_more 16 _ _ _ removes_nothing_in_front_second (one_more 15 _ _ _ removes_nothing_in_front_third (one_more 14 _ _ _ removes_nothing_in_front_fourth refl))))
 
 -- ---- Tail
 
@@ -297,7 +300,7 @@ tail_in_a_character_third = simp put_there
 
 -- S is C3 A9, then C3 A8, and then C3 41, which is not UTF-8
 pub tail_in_a_character : read (0xe0 ∷ 0x8c ∷ 0x82 ∷ 0xc3 ∷ 0xa9 ∷ 0xa0 ∷ 0x81 ∷ 0xa8 ∷ 0xa0 ∷ 0x81 ∷ 0x41 ∷ []) ≡ (message 12 (unicode (0xc3 ∷ 0xa9 ∷ []) ∷ []) ∷ message 12 (unicode (0xc3 ∷ 0xa8 ∷ []) ∷ []) ∷ [], refused R2 3 9 12 1)
-tail_in_a_character = rw (tail_in_a_character_first, tail_in_a_character_second, tail_in_a_character_third) refl
+tail_in_a_character = ap (answer (0xe0 ∷ 0x8c ∷ 0x82 ∷ 0xc3 ∷ 0xa9 ∷ 0xa0 ∷ 0x81 ∷ 0xa8 ∷ 0xa0 ∷ 0x81 ∷ 0x41 ∷ [])) (one_more 10 _ _ _ tail_in_a_character_first (one_more 9 _ _ _ tail_in_a_character_second (last_stop 8 _ _ _ tail_in_a_character_third)))
 
 -- ---- Increment past the maximum, and a delta past it
 
@@ -321,7 +324,7 @@ wraps_third = simp put_there
 
 -- A=4294967295 B=4294967295; A=0 B=4294967295; and B one more
 pub wraps : read (0xe0 ∷ 0x82 ∷ 0x0f ∷ 0x7f ∷ 0x7f ∷ 0x7f ∷ 0xff ∷ 0x0f ∷ 0x7f ∷ 0x7f ∷ 0x7f ∷ 0xff ∷ 0x80 ∷ 0x80 ∷ 0x80 ∷ 0x81 ∷ []) ≡ (message 2 (u32 4294967295 ∷ u32 4294967295 ∷ []) ∷ message 2 (u32 0 ∷ u32 4294967295 ∷ []) ∷ [], refused D2 3 15 2 2)
-wraps = rw (wraps_first, wraps_second, wraps_third) refl
+wraps = ap (answer (0xe0 ∷ 0x82 ∷ 0x0f ∷ 0x7f ∷ 0x7f ∷ 0x7f ∷ 0xff ∷ 0x0f ∷ 0x7f ∷ 0x7f ∷ 0x7f ∷ 0xff ∷ 0x80 ∷ 0x80 ∷ 0x80 ∷ 0x81 ∷ [])) (one_more 15 _ _ _ wraps_first (one_more 14 _ _ _ wraps_second (last_stop 13 _ _ _ wraps_third)))
 
 -- ---- Decimals in parts
 
@@ -344,7 +347,7 @@ mantissa_takes_a_bit_second = simp (absent_there, put_there)
 
 -- The absent exponent leaves the mantissa's bit to Flag: Px=- Flag=5, and then Px=942755e2 Flag=5
 pub mantissa_takes_a_bit : read (0xf0 ∷ 0x83 ∷ 0x80 ∷ 0x85 ∷ 0x90 ∷ 0x39 ∷ 0x45 ∷ 0xa3 ∷ []) ≡ (message 3 (absent ∷ u32 5 ∷ []) ∷ message 3 (decimal (pos 2) (pos 942755) ∷ u32 5 ∷ []) ∷ [], None)
-mantissa_takes_a_bit = rw (mantissa_takes_a_bit_first, mantissa_takes_a_bit_second) refl
+mantissa_takes_a_bit = ap (answer (0xf0 ∷ 0x83 ∷ 0x80 ∷ 0x85 ∷ 0x90 ∷ 0x39 ∷ 0x45 ∷ 0xa3 ∷ [])) (one_more 7 _ _ _ mantissa_takes_a_bit_first (one_more 6 _ _ _ mantissa_takes_a_bit_second refl))
 
 exponent_spelled_out_first : message_at worked_set finite.empty (0xf0 ∷ 0x83 ∷ 0x80 ∷ 0x85 ∷ 0xb0 ∷ 0x83 ∷ 0x39 ∷ 0x45 ∷ 0xa3 ∷ []) ≡ Ok (message 3 (absent ∷ u32 5 ∷ []), flagged, 0xb0 ∷ 0x83 ∷ 0x39 ∷ 0x45 ∷ 0xa3 ∷ [])
 unfolding reading
@@ -356,7 +359,7 @@ exponent_spelled_out_second = simp (absent_there, put_there)
 
 -- the same with B0 and 83 for an exponent of 2
 pub exponent_spelled_out : read (0xf0 ∷ 0x83 ∷ 0x80 ∷ 0x85 ∷ 0xb0 ∷ 0x83 ∷ 0x39 ∷ 0x45 ∷ 0xa3 ∷ []) ≡ (message 3 (absent ∷ u32 5 ∷ []) ∷ message 3 (decimal (pos 2) (pos 942755) ∷ u32 5 ∷ []) ∷ [], None)
-exponent_spelled_out = rw (exponent_spelled_out_first, exponent_spelled_out_second) refl
+exponent_spelled_out = ap (answer (0xf0 ∷ 0x83 ∷ 0x80 ∷ 0x85 ∷ 0xb0 ∷ 0x83 ∷ 0x39 ∷ 0x45 ∷ 0xa3 ∷ [])) (one_more 8 _ _ _ exponent_spelled_out_first (one_more 7 _ _ _ exponent_spelled_out_second refl))
 
 -- an exponent of 64 is refused before a mantissa has come
 pub exponent_first : read (0xf0 ∷ 0x81 ∷ 0x81 ∷ 0x41 ∷ 0xc2 ∷ 0x00 ∷ 0xc0 ∷ []) ≡ ([], refused R1 1 5 1 3)
@@ -379,7 +382,7 @@ constant_exponent_second = simp (absent_there, put_there)
 
 -- Px=100e-2 Raw=x0aff, and Px=101e-2 Raw=x0aff
 pub constant_exponent : read (0xe0 ∷ 0x8f ∷ 0x00 ∷ 0xe4 ∷ 0x83 ∷ 0x0a ∷ 0xff ∷ 0x80 ∷ 0x81 ∷ []) ≡ (message 15 (decimal (negsuc 1) (pos 100) ∷ vector (0x0a ∷ 0xff ∷ []) ∷ []) ∷ message 15 (decimal (negsuc 1) (pos 101) ∷ vector (0x0a ∷ 0xff ∷ []) ∷ []) ∷ [], None)
-constant_exponent = rw (constant_exponent_first, constant_exponent_second) refl
+constant_exponent = ap (answer (0xe0 ∷ 0x8f ∷ 0x00 ∷ 0xe4 ∷ 0x83 ∷ 0x0a ∷ 0xff ∷ 0x80 ∷ 0x81 ∷ [])) (one_more 8 _ _ _ constant_exponent_first (one_more 7 _ _ _ constant_exponent_second refl))
 
 -- ---- Groups and sequences
 
@@ -421,7 +424,7 @@ groups_third = simp put_there
 
 -- Hd={A=5} B=6, Hd=- B=6, and Hd={A=5} B=6
 pub groups_there : read (0xf0 ∷ 0x8b ∷ 0xc0 ∷ 0x85 ∷ 0x86 ∷ 0x80 ∷ 0xa0 ∷ 0x80 ∷ []) ≡ (message 11 (group (u32 5 ∷ []) ∷ u32 6 ∷ []) ∷ message 11 (absent ∷ u32 6 ∷ []) ∷ message 11 (group (u32 5 ∷ []) ∷ u32 6 ∷ []) ∷ [], None)
-groups_there = rw (groups_first, groups_second, groups_third) refl
+groups_there = ap (answer (0xf0 ∷ 0x8b ∷ 0xc0 ∷ 0x85 ∷ 0x86 ∷ 0x80 ∷ 0xa0 ∷ 0x80 ∷ [])) (one_more 7 _ _ _ groups_first (one_more 6 _ _ _ groups_second (one_more 5 _ _ _ groups_third refl)))
 
 -- ---- One key for two fields
 
@@ -438,7 +441,7 @@ another_type_second = simp put_there
 
 -- A=5 B="A", and then A finds the string
 pub another_type : read (0xf0 ∷ 0x87 ∷ 0x85 ∷ 0xc1 ∷ 0x80 ∷ []) ≡ (message 7 (u32 5 ∷ text (codes "A") ∷ []) ∷ [], refused D4 2 5 7 1)
-another_type = rw (another_type_first, another_type_second) refl
+another_type = ap (answer (0xf0 ∷ 0x87 ∷ 0x85 ∷ 0xc1 ∷ 0x80 ∷ [])) (one_more 4 _ _ _ another_type_first (last_stop 3 _ _ _ another_type_second))
 
 -- A=5 B="A", and A=6 B="A", both spelled out
 pub another_type_unused : read (0xf0 ∷ 0x87 ∷ 0x85 ∷ 0xc1 ∷ 0xb0 ∷ 0x86 ∷ 0xc1 ∷ []) ≡ (message 7 (u32 5 ∷ text (codes "A") ∷ []) ∷ message 7 (u32 6 ∷ text (codes "A") ∷ []) ∷ [], None)
@@ -484,7 +487,7 @@ constants_fourth = simp put_there
 
 -- K=7 O=9 D=3; twice K=7 O=- D=3; and D past its type
 pub constants : read (0xe0 ∷ 0x8e ∷ 0x80 ∷ 0x90 ∷ 0x83 ∷ 0x90 ∷ 0x10 ∷ 0x00 ∷ 0x00 ∷ 0x00 ∷ 0x80 ∷ []) ≡ (message 14 (u32 7 ∷ u32 9 ∷ u32 3 ∷ []) ∷ message 14 (u32 7 ∷ absent ∷ u32 3 ∷ []) ∷ message 14 (u32 7 ∷ absent ∷ u32 3 ∷ []) ∷ [], refused D2 4 6 14 3)
-constants = ap (λ r. (r.messages, fault_in (0xe0 ∷ 0x8e ∷ 0x80 ∷ 0x90 ∷ 0x83 ∷ 0x90 ∷ 0x10 ∷ 0x00 ∷ 0x00 ∷ 0x00 ∷ 0x80 ∷ []) r)) (one_more 10 _ _ _ constants_first (one_more 9 _ _ _ constants_second (one_more 8 _ _ _ constants_third (last_stop 7 _ _ _ constants_fourth))))
+constants = ap (answer (0xe0 ∷ 0x8e ∷ 0x80 ∷ 0x90 ∷ 0x83 ∷ 0x90 ∷ 0x10 ∷ 0x00 ∷ 0x00 ∷ 0x00 ∷ 0x80 ∷ [])) (one_more 10 _ _ _ constants_first (one_more 9 _ _ _ constants_second (one_more 8 _ _ _ constants_third (last_stop 7 _ _ _ constants_fourth))))
 
 -- ---- Entities that do not end
 
