@@ -27,3 +27,9 @@ returns-in-Ok-clause-relays g c = λ at reads turns left handed input messages r
       canonical = rw (h.empty, append-nil all) r.canonical;
       counts = r.counts;
     }
+
+pub returns-in-Ok-clause-written : goal.returns-in-Ok-clause-written
+returns-in-Ok-clause-written g c = rw (c.finished.ensures) at c.in-Ok.ensures.written
+
+pub returns-in-Err-clause-part : goal.returns-in-Err-clause-part
+returns-in-Err-clause-part g c = rw (c.finished.ensures) at c.in-Err.ensures.part

@@ -1,4 +1,4 @@
-use Rattle.std.proofs.Common.{◌∷◌, ◌++◌, append-nil, rules}
+use Rattle.std.proofs.Common.{◌∷◌, ◌++◌, append-nil}
 use Rattle.fast_template.specs.TemplateSets.{templates_in}
 use Rattle.fast_machine.proofs.Followings.{follows_behind}
 use Rattle.fast_decoder.proofs.Inputs.{reached_with}
@@ -29,7 +29,7 @@ returns-in-Ok-clause-relays g c = λ at reads turns left handed input messages r
     }
 
 pub returns-in-Ok-clause-written : goal.returns-in-Ok-clause-written
-returns-in-Ok-clause-written g c = search rules
+returns-in-Ok-clause-written g c = rw (c.finished.ensures) at c.in-Ok.ensures.written
 
 pub returns-in-Err-clause-part : goal.returns-in-Err-clause-part
-returns-in-Err-clause-part g c = search rules
+returns-in-Err-clause-part g c = rw (c.finished.ensures) at c.in-Err.ensures.part
