@@ -1,6 +1,6 @@
 -- The worked rows, computed: what each stream is read as. A refusal is a cause with the message, the offset, the
 -- template and the instruction of the piece.
-use Rattle.std.proofs.Common.{Bool, true, false, ◌≡◌, ap, ℕ, suc, ℤ, pos, negsuc, List, [], ◌∷◌, map, Option, Some, None, Ok, Err, refl}
+use Rattle.std.proofs.Common.{Bool, true, false, ◌≡◌, ap, ◌∙◌, ℕ, suc, ℤ, pos, negsuc, List, [], ◌∷◌, map, Option, Some, None, Ok, Err, refl}
 use Rattle.std.specs.Prelude.{codes, replicate, cond}
 use Rattle.std.specs.FinMap as finite
 use Rattle.std.specs.Ordering.{eq_by_cmp}
@@ -98,26 +98,61 @@ absent_there q = finite.get-empty key_cmp q
 put_there : (d : Dictionary) (k : Key) (v : Option Scalar) (q : Key) → finite.get (finite.insert d k v) q ≡ cond (eq_by_cmp key_cmp q k) (Some v) (finite.get d q)
 put_there d k v q = finite.get-insert key_cmp-total d k v q
 
+-- the same where so many values were put into an empty one: one step for each look at a row's
+-- dictionary, where the two equations above would take one for each value
+abbrev no_values : Dictionary
+no_values = finite.empty
+
+abbrev hit : Key → Key → Option Scalar → Option (Option Scalar) → Option (Option Scalar)
+hit q k v others = cond (eq_by_cmp key_cmp q k) (Some v) others
+
+among_1 : (k1 : Key) (v1 : Option Scalar) (q : Key) → finite.get (finite.insert no_values k1 v1) q ≡ hit q k1 v1 None
+among_1 k1 v1 q = put_there no_values k1 v1 q ∙ ap (hit q k1 v1) (absent_there q)
+
+among_2 : (k1 k2 : Key) (v1 v2 : Option Scalar) (q : Key) → finite.get (finite.insert (finite.insert no_values k1 v1) k2 v2) q ≡ hit q k2 v2 (hit q k1 v1 None)
+among_2 k1 k2 v1 v2 q = put_there (finite.insert no_values k1 v1) k2 v2 q ∙ ap (hit q k2 v2) (among_1 k1 v1 q)
+
+among_3 : (k1 k2 k3 : Key) (v1 v2 v3 : Option Scalar) (q : Key) → finite.get (finite.insert (finite.insert (finite.insert no_values k1 v1) k2 v2) k3 v3) q ≡ hit q k3 v3 (hit q k2 v2 (hit q k1 v1 None))
+among_3 k1 k2 k3 v1 v2 v3 q = put_there (finite.insert (finite.insert no_values k1 v1) k2 v2) k3 v3 q ∙ ap (hit q k3 v3) (among_2 k1 k2 v1 v2 q)
+
+among_4 : (k1 k2 k3 k4 : Key) (v1 v2 v3 v4 : Option Scalar) (q : Key) → finite.get (finite.insert (finite.insert (finite.insert (finite.insert no_values k1 v1) k2 v2) k3 v3) k4 v4) q ≡ hit q k4 v4 (hit q k3 v3 (hit q k2 v2 (hit q k1 v1 None)))
+among_4 k1 k2 k3 k4 v1 v2 v3 v4 q = put_there (finite.insert (finite.insert (finite.insert no_values k1 v1) k2 v2) k3 v3) k4 v4 q ∙ ap (hit q k4 v4) (among_3 k1 k2 k3 v1 v2 v3 q)
+
+among_5 : (k1 k2 k3 k4 k5 : Key) (v1 v2 v3 v4 v5 : Option Scalar) (q : Key) → finite.get (finite.insert (finite.insert (finite.insert (finite.insert (finite.insert no_values k1 v1) k2 v2) k3 v3) k4 v4) k5 v5) q ≡ hit q k5 v5 (hit q k4 v4 (hit q k3 v3 (hit q k2 v2 (hit q k1 v1 None))))
+among_5 k1 k2 k3 k4 k5 v1 v2 v3 v4 v5 q = put_there (finite.insert (finite.insert (finite.insert (finite.insert no_values k1 v1) k2 v2) k3 v3) k4 v4) k5 v5 q ∙ ap (hit q k5 v5) (among_4 k1 k2 k3 k4 v1 v2 v3 v4 q)
+
+among_6 : (k1 k2 k3 k4 k5 k6 : Key) (v1 v2 v3 v4 v5 v6 : Option Scalar) (q : Key) → finite.get (finite.insert (finite.insert (finite.insert (finite.insert (finite.insert (finite.insert no_values k1 v1) k2 v2) k3 v3) k4 v4) k5 v5) k6 v6) q ≡ hit q k6 v6 (hit q k5 v5 (hit q k4 v4 (hit q k3 v3 (hit q k2 v2 (hit q k1 v1 None)))))
+among_6 k1 k2 k3 k4 k5 k6 v1 v2 v3 v4 v5 v6 q = put_there (finite.insert (finite.insert (finite.insert (finite.insert (finite.insert no_values k1 v1) k2 v2) k3 v3) k4 v4) k5 v5) k6 v6 q ∙ ap (hit q k6 v6) (among_5 k1 k2 k3 k4 k5 v1 v2 v3 v4 v5 q)
+
+among_7 : (k1 k2 k3 k4 k5 k6 k7 : Key) (v1 v2 v3 v4 v5 v6 v7 : Option Scalar) (q : Key) → finite.get (finite.insert (finite.insert (finite.insert (finite.insert (finite.insert (finite.insert (finite.insert no_values k1 v1) k2 v2) k3 v3) k4 v4) k5 v5) k6 v6) k7 v7) q ≡ hit q k7 v7 (hit q k6 v6 (hit q k5 v5 (hit q k4 v4 (hit q k3 v3 (hit q k2 v2 (hit q k1 v1 None))))))
+among_7 k1 k2 k3 k4 k5 k6 k7 v1 v2 v3 v4 v5 v6 v7 q = put_there (finite.insert (finite.insert (finite.insert (finite.insert (finite.insert (finite.insert no_values k1 v1) k2 v2) k3 v3) k4 v4) k5 v5) k6 v6) k7 v7 q ∙ ap (hit q k7 v7) (among_6 k1 k2 k3 k4 k5 k6 v1 v2 v3 v4 v5 v6 q)
+
+among_8 : (k1 k2 k3 k4 k5 k6 k7 k8 : Key) (v1 v2 v3 v4 v5 v6 v7 v8 : Option Scalar) (q : Key) → finite.get (finite.insert (finite.insert (finite.insert (finite.insert (finite.insert (finite.insert (finite.insert (finite.insert no_values k1 v1) k2 v2) k3 v3) k4 v4) k5 v5) k6 v6) k7 v7) k8 v8) q ≡ hit q k8 v8 (hit q k7 v7 (hit q k6 v6 (hit q k5 v5 (hit q k4 v4 (hit q k3 v3 (hit q k2 v2 (hit q k1 v1 None)))))))
+among_8 k1 k2 k3 k4 k5 k6 k7 k8 v1 v2 v3 v4 v5 v6 v7 v8 q = put_there (finite.insert (finite.insert (finite.insert (finite.insert (finite.insert (finite.insert (finite.insert no_values k1 v1) k2 v2) k3 v3) k4 v4) k5 v5) k6 v6) k7 v7) k8 v8 q ∙ ap (hit q k8 v8) (among_7 k1 k2 k3 k4 k5 k6 k7 v1 v2 v3 v4 v5 v6 v7 q)
+
+among_9 : (k1 k2 k3 k4 k5 k6 k7 k8 k9 : Key) (v1 v2 v3 v4 v5 v6 v7 v8 v9 : Option Scalar) (q : Key) → finite.get (finite.insert (finite.insert (finite.insert (finite.insert (finite.insert (finite.insert (finite.insert (finite.insert (finite.insert no_values k1 v1) k2 v2) k3 v3) k4 v4) k5 v5) k6 v6) k7 v7) k8 v8) k9 v9) q ≡ hit q k9 v9 (hit q k8 v8 (hit q k7 v7 (hit q k6 v6 (hit q k5 v5 (hit q k4 v4 (hit q k3 v3 (hit q k2 v2 (hit q k1 v1 None))))))))
+among_9 k1 k2 k3 k4 k5 k6 k7 k8 k9 v1 v2 v3 v4 v5 v6 v7 v8 v9 q = put_there (finite.insert (finite.insert (finite.insert (finite.insert (finite.insert (finite.insert (finite.insert (finite.insert no_values k1 v1) k2 v2) k3 v3) k4 v4) k5 v5) k6 v6) k7 v7) k8 v8) k9 v9 q ∙ ap (hit q k9 v9) (among_8 k1 k2 k3 k4 k5 k6 k7 k8 v1 v2 v3 v4 v5 v6 v7 v8 q)
+
 -- ---- Presence map, template identifier, and fields of each kind of operator
 
 -- F0 81 81 41 C2 FE 00 E4: Quote Seq=1 Sym="AB" Px=100e-2 Qty=-
 pub one_message : read (0xf0 ∷ 0x81 ∷ 0x81 ∷ 0x41 ∷ 0xc2 ∷ 0xfe ∷ 0x00 ∷ 0xe4 ∷ []) ≡ (quote 1 100 ∷ [], None)
 unfolding reading
-one_message = simp (absent_there, put_there)
+one_message = rw (among_3, among_4) refl
 
 abbrev quoted : Dictionary
 quoted = puts finite.empty ((identifier_key, Some (U32 1)) ∷ (named (codes "Seq"), Some (U32 1)) ∷ (named (codes "Sym"), Some (Ascii (codes "AB"))) ∷ (named (codes "Px"), Some (Decimal (negsuc 1) (pos 100))) ∷ (named (codes "Qty"), None) ∷ [])
 
 spelled_out_first : message_at worked_set finite.empty (0xf0 ∷ 0x81 ∷ 0x81 ∷ 0x41 ∷ 0xc2 ∷ 0xfe ∷ 0x00 ∷ 0xe4 ∷ 0xf8 ∷ 0x81 ∷ 0x82 ∷ 0x41 ∷ 0xc2 ∷ 0x80 ∷ 0x81 ∷ 0x80 ∷ []) ≡ Ok (quote 1 100, quoted, 0xf8 ∷ 0x81 ∷ 0x82 ∷ 0x41 ∷ 0xc2 ∷ 0x80 ∷ 0x81 ∷ 0x80 ∷ [])
 unfolding reading
-spelled_out_first = simp (absent_there, put_there)
+spelled_out_first = rw (among_3, among_4) refl
 
 abbrev quoted_again : Dictionary
 quoted_again = puts quoted ((identifier_key, Some (U32 1)) ∷ (named (codes "Seq"), Some (U32 2)) ∷ (named (codes "Sym"), Some (Ascii (codes "AB"))) ∷ (named (codes "Px"), Some (Decimal (negsuc 1) (pos 101))) ∷ (named (codes "Qty"), None) ∷ [])
 
 spelled_out_second : message_at worked_set quoted (0xf8 ∷ 0x81 ∷ 0x82 ∷ 0x41 ∷ 0xc2 ∷ 0x80 ∷ 0x81 ∷ 0x80 ∷ []) ≡ Ok (quote 2 101, quoted_again, [])
 unfolding reading
-spelled_out_second = simp put_there
+spelled_out_second = rw among_8 refl
 
 -- behind these bytes F8 81 82 41 C2 80 81 80: Seq=2 Sym="AB" Px=101e-2 Qty=-, spelled out
 pub spelled_out : read (0xf0 ∷ 0x81 ∷ 0x81 ∷ 0x41 ∷ 0xc2 ∷ 0xfe ∷ 0x00 ∷ 0xe4 ∷ 0xf8 ∷ 0x81 ∷ 0x82 ∷ 0x41 ∷ 0xc2 ∷ 0x80 ∷ 0x81 ∷ 0x80 ∷ []) ≡ (quote 1 100 ∷ quote 2 101 ∷ [], None)
@@ -125,11 +160,11 @@ spelled_out = ap (answer (0xf0 ∷ 0x81 ∷ 0x81 ∷ 0x41 ∷ 0xc2 ∷ 0xfe ∷ 
 
 left_out_first : message_at worked_set finite.empty (0xf0 ∷ 0x81 ∷ 0x81 ∷ 0x41 ∷ 0xc2 ∷ 0xfe ∷ 0x00 ∷ 0xe4 ∷ 0x80 ∷ 0x80 ∷ 0x81 ∷ []) ≡ Ok (quote 1 100, quoted, 0x80 ∷ 0x80 ∷ 0x81 ∷ [])
 unfolding reading
-left_out_first = simp (absent_there, put_there)
+left_out_first = rw (among_3, among_4) refl
 
 left_out_second : message_at worked_set quoted (0x80 ∷ 0x80 ∷ 0x81 ∷ []) ≡ Ok (quote 2 101, quoted_again, [])
 unfolding reading
-left_out_second = simp put_there
+left_out_second = rw (among_5, among_6, among_7, among_8, among_9) refl
 
 -- behind F0 81 81 41 C2 FE 00 E4 the bytes 80 80 81: the same two messages
 pub left_out : read (0xf0 ∷ 0x81 ∷ 0x81 ∷ 0x41 ∷ 0xc2 ∷ 0xfe ∷ 0x00 ∷ 0xe4 ∷ 0x80 ∷ 0x80 ∷ 0x81 ∷ []) ≡ (quote 1 100 ∷ quote 2 101 ∷ [], None)
@@ -143,7 +178,7 @@ nothing = refl
 -- 80: no identifier predicted
 pub no_identifier : read (0x80 ∷ []) ≡ ([], refused D5 1 1 0 0)
 unfolding reading
-no_identifier = simp absent_there
+no_identifier = rw absent_there refl
 
 -- C0 E4: no template has the identifier 100
 pub unknown_identifier : read (0xc0 ∷ 0xe4 ∷ []) ≡ ([], refused D9 1 1 0 0)
@@ -153,7 +188,7 @@ unknown_identifier = refl
 -- 80 and behind it a good message: the same fault
 pub fault_stays : read (0x80 ∷ 0xf0 ∷ 0x81 ∷ 0x81 ∷ 0x41 ∷ 0xc2 ∷ 0xfe ∷ 0x00 ∷ 0xe4 ∷ []) ≡ ([], refused D5 1 1 0 0)
 unfolding reading
-fault_stays = simp absent_there
+fault_stays = rw absent_there refl
 
 -- ---- A message that is cut
 
@@ -185,61 +220,61 @@ cut_after_five = refl
 -- the first 6 of F0 81 81 41 C2 FE 00 E4
 pub cut_after_six : read (0xf0 ∷ 0x81 ∷ 0x81 ∷ 0x41 ∷ 0xc2 ∷ 0xfe ∷ []) ≡ ([], refused Truncated 1 5 1 3)
 unfolding reading
-cut_after_six = simp (absent_there, put_there)
+cut_after_six = rw among_3 refl
 
 -- the first 7 of F0 81 81 41 C2 FE 00 E4
 pub cut_after_seven : read (0xf0 ∷ 0x81 ∷ 0x81 ∷ 0x41 ∷ 0xc2 ∷ 0xfe ∷ 0x00 ∷ []) ≡ ([], refused Truncated 1 5 1 3)
 unfolding reading
-cut_after_seven = simp (absent_there, put_there)
+cut_after_seven = rw among_3 refl
 
 -- ---- Overlong forms, and bits that no instruction asks for
 
 -- 00 00 81 for Seq
 pub overlong_integer : read (0xf0 ∷ 0x81 ∷ 0x00 ∷ 0x00 ∷ 0x81 ∷ 0x41 ∷ 0xc2 ∷ 0xfe ∷ 0x00 ∷ 0xe4 ∷ []) ≡ (quote 1 100 ∷ [], None)
 unfolding reading
-overlong_integer = simp (absent_there, put_there)
+overlong_integer = rw (among_3, among_4) refl
 
 -- 70 00 80 for the map
 pub overlong_map : read (0x70 ∷ 0x00 ∷ 0x80 ∷ 0x81 ∷ 0x81 ∷ 0x41 ∷ 0xc2 ∷ 0xfe ∷ 0x00 ∷ 0xe4 ∷ []) ≡ (quote 1 100 ∷ [], None)
 unfolding reading
-overlong_map = simp (absent_there, put_there)
+overlong_map = rw (among_3, among_4) refl
 
 -- F1 for the map
 pub unasked_bit : read (0xf1 ∷ 0x81 ∷ 0x81 ∷ 0x41 ∷ 0xc2 ∷ 0xfe ∷ 0x00 ∷ 0xe4 ∷ []) ≡ (quote 1 100 ∷ [], None)
 unfolding reading
-unasked_bit = simp (absent_there, put_there)
+unasked_bit = rw (among_3, among_4) refl
 
 -- ---- Delta of a string
 
 -- S is "GEH6"; two at the end make way for "M6"; two in front for "ES"
 pub deltas : read (0xc0 ∷ 0x8a ∷ 0x80 ∷ 0x47 ∷ 0x45 ∷ 0x48 ∷ 0xb6 ∷ 0x80 ∷ 0x82 ∷ 0x4d ∷ 0xb6 ∷ 0x80 ∷ 0xfd ∷ 0x45 ∷ 0xd3 ∷ []) ≡ (message 10 (text (codes "GEH6") ∷ []) ∷ message 10 (text (codes "GEM6") ∷ []) ∷ message 10 (text (codes "ESM6") ∷ []) ∷ [], None)
 unfolding reading
-deltas = simp (absent_there, put_there)
+deltas = rw (among_1, among_2, among_3, among_4, among_5) refl
 
 abbrev geh6 : Dictionary
 geh6 = puts finite.empty ((identifier_key, Some (U32 10)) ∷ (named (codes "S"), Some (Ascii (codes "GEH6"))) ∷ [])
 
 removes_too_much_first : message_at worked_set finite.empty (0xc0 ∷ 0x8a ∷ 0x80 ∷ 0x47 ∷ 0x45 ∷ 0x48 ∷ 0xb6 ∷ 0x80 ∷ 0x82 ∷ 0x4d ∷ 0xb6 ∷ 0x80 ∷ 0xfd ∷ 0x45 ∷ 0xd3 ∷ 0x80 ∷ 0x85 ∷ 0x80 ∷ []) ≡ Ok (message 10 (text (codes "GEH6") ∷ []), geh6, 0x80 ∷ 0x82 ∷ 0x4d ∷ 0xb6 ∷ 0x80 ∷ 0xfd ∷ 0x45 ∷ 0xd3 ∷ 0x80 ∷ 0x85 ∷ 0x80 ∷ [])
 unfolding reading
-removes_too_much_first = simp (absent_there, put_there)
+removes_too_much_first = rw among_1 refl
 
 abbrev gem6 : Dictionary
 gem6 = puts geh6 ((identifier_key, Some (U32 10)) ∷ (named (codes "S"), Some (Ascii (codes "GEM6"))) ∷ [])
 
 removes_too_much_second : message_at worked_set geh6 (0x80 ∷ 0x82 ∷ 0x4d ∷ 0xb6 ∷ 0x80 ∷ 0xfd ∷ 0x45 ∷ 0xd3 ∷ 0x80 ∷ 0x85 ∷ 0x80 ∷ []) ≡ Ok (message 10 (text (codes "GEM6") ∷ []), gem6, 0x80 ∷ 0xfd ∷ 0x45 ∷ 0xd3 ∷ 0x80 ∷ 0x85 ∷ 0x80 ∷ [])
 unfolding reading
-removes_too_much_second = simp put_there
+removes_too_much_second = rw (among_2, among_3) refl
 
 abbrev esm6 : Dictionary
 esm6 = puts gem6 ((identifier_key, Some (U32 10)) ∷ (named (codes "S"), Some (Ascii (codes "ESM6"))) ∷ [])
 
 removes_too_much_third : message_at worked_set gem6 (0x80 ∷ 0xfd ∷ 0x45 ∷ 0xd3 ∷ 0x80 ∷ 0x85 ∷ 0x80 ∷ []) ≡ Ok (message 10 (text (codes "ESM6") ∷ []), esm6, 0x80 ∷ 0x85 ∷ 0x80 ∷ [])
 unfolding reading
-removes_too_much_third = simp put_there
+removes_too_much_third = rw (among_4, among_5) refl
 
 removes_too_much_fourth : message_at worked_set esm6 (0x80 ∷ 0x85 ∷ 0x80 ∷ []) ≡ Err (record { template = 10; stop = record { cause = D7; instruction = 1; left = 2 } })
 unfolding reading
-removes_too_much_fourth = simp put_there
+removes_too_much_fourth = rw (among_6, among_7) refl
 
 -- behind them 80 85 80: five of four
 pub removes_too_much : read (0xc0 ∷ 0x8a ∷ 0x80 ∷ 0x47 ∷ 0x45 ∷ 0x48 ∷ 0xb6 ∷ 0x80 ∷ 0x82 ∷ 0x4d ∷ 0xb6 ∷ 0x80 ∷ 0xfd ∷ 0x45 ∷ 0xd3 ∷ 0x80 ∷ 0x85 ∷ 0x80 ∷ []) ≡ (message 10 (text (codes "GEH6") ∷ []) ∷ message 10 (text (codes "GEM6") ∷ []) ∷ message 10 (text (codes "ESM6") ∷ []) ∷ [], refused D7 4 16 10 1)
@@ -247,22 +282,22 @@ removes_too_much = ap (answer (0xc0 ∷ 0x8a ∷ 0x80 ∷ 0x47 ∷ 0x45 ∷ 0x48
 
 removes_nothing_in_front_first : message_at worked_set finite.empty (0xc0 ∷ 0x8a ∷ 0x80 ∷ 0x47 ∷ 0x45 ∷ 0x48 ∷ 0xb6 ∷ 0x80 ∷ 0x82 ∷ 0x4d ∷ 0xb6 ∷ 0x80 ∷ 0xfd ∷ 0x45 ∷ 0xd3 ∷ 0x80 ∷ 0xff ∷ 0x80 ∷ []) ≡ Ok (message 10 (text (codes "GEH6") ∷ []), geh6, 0x80 ∷ 0x82 ∷ 0x4d ∷ 0xb6 ∷ 0x80 ∷ 0xfd ∷ 0x45 ∷ 0xd3 ∷ 0x80 ∷ 0xff ∷ 0x80 ∷ [])
 unfolding reading
-removes_nothing_in_front_first = simp (absent_there, put_there)
+removes_nothing_in_front_first = rw among_1 refl
 
 removes_nothing_in_front_second : message_at worked_set geh6 (0x80 ∷ 0x82 ∷ 0x4d ∷ 0xb6 ∷ 0x80 ∷ 0xfd ∷ 0x45 ∷ 0xd3 ∷ 0x80 ∷ 0xff ∷ 0x80 ∷ []) ≡ Ok (message 10 (text (codes "GEM6") ∷ []), gem6, 0x80 ∷ 0xfd ∷ 0x45 ∷ 0xd3 ∷ 0x80 ∷ 0xff ∷ 0x80 ∷ [])
 unfolding reading
-removes_nothing_in_front_second = simp put_there
+removes_nothing_in_front_second = rw (among_2, among_3) refl
 
 removes_nothing_in_front_third : message_at worked_set gem6 (0x80 ∷ 0xfd ∷ 0x45 ∷ 0xd3 ∷ 0x80 ∷ 0xff ∷ 0x80 ∷ []) ≡ Ok (message 10 (text (codes "ESM6") ∷ []), esm6, 0x80 ∷ 0xff ∷ 0x80 ∷ [])
 unfolding reading
-removes_nothing_in_front_third = simp put_there
+removes_nothing_in_front_third = rw (among_4, among_5) refl
 
 abbrev esm6_again : Dictionary
 esm6_again = puts esm6 ((identifier_key, Some (U32 10)) ∷ (named (codes "S"), Some (Ascii (codes "ESM6"))) ∷ [])
 
 removes_nothing_in_front_fourth : message_at worked_set esm6 (0x80 ∷ 0xff ∷ 0x80 ∷ []) ≡ Ok (message 10 (text (codes "ESM6") ∷ []), esm6_again, [])
 unfolding reading
-removes_nothing_in_front_fourth = simp put_there
+removes_nothing_in_front_fourth = rw (among_6, among_7) refl
 
 -- behind them 80 FF 80: S is "ESM6" again
 pub removes_nothing_in_front : read (0xc0 ∷ 0x8a ∷ 0x80 ∷ 0x47 ∷ 0x45 ∷ 0x48 ∷ 0xb6 ∷ 0x80 ∷ 0x82 ∷ 0x4d ∷ 0xb6 ∷ 0x80 ∷ 0xfd ∷ 0x45 ∷ 0xd3 ∷ 0x80 ∷ 0xff ∷ 0x80 ∷ []) ≡ (message 10 (text (codes "GEH6") ∷ []) ∷ message 10 (text (codes "GEM6") ∷ []) ∷ message 10 (text (codes "ESM6") ∷ []) ∷ message 10 (text (codes "ESM6") ∷ []) ∷ [], None)
@@ -273,30 +308,30 @@ removes_nothing_in_front = ap (answer (0xc0 ∷ 0x8a ∷ 0x80 ∷ 0x47 ∷ 0x45 
 -- S is "xab", and then x, NUL, b by a tail of NUL and b
 pub tail_with_nul : read (0xe0 ∷ 0x88 ∷ 0x78 ∷ 0x61 ∷ 0xe2 ∷ 0xa0 ∷ 0x00 ∷ 0x00 ∷ 0x00 ∷ 0xe2 ∷ []) ≡ (message 8 (text (codes "xab") ∷ []) ∷ message 8 (text (120 ∷ 0 ∷ 98 ∷ []) ∷ []) ∷ [], None)
 unfolding reading
-tail_with_nul = simp (absent_there, put_there)
+tail_with_nul = rw (among_1, among_2, among_3) refl
 
 -- S is absent, and then the initial value "ab" by an empty tail
 pub tail_on_empty : read (0xe0 ∷ 0x89 ∷ 0x80 ∷ 0xa0 ∷ 0x00 ∷ 0x80 ∷ []) ≡ (message 9 (absent ∷ []) ∷ message 9 (text (codes "ab") ∷ []) ∷ [], None)
 unfolding reading
-tail_on_empty = simp put_there
+tail_on_empty = rw (among_2, among_3) refl
 
 abbrev e_acute : Dictionary
 e_acute = puts finite.empty ((identifier_key, Some (U32 12)) ∷ (named (codes "S"), Some (Unicode (0xc3 ∷ 0xa9 ∷ []))) ∷ [])
 
 tail_in_a_character_first : message_at worked_set finite.empty (0xe0 ∷ 0x8c ∷ 0x82 ∷ 0xc3 ∷ 0xa9 ∷ 0xa0 ∷ 0x81 ∷ 0xa8 ∷ 0xa0 ∷ 0x81 ∷ 0x41 ∷ []) ≡ Ok (message 12 (unicode (0xc3 ∷ 0xa9 ∷ []) ∷ []), e_acute, 0xa0 ∷ 0x81 ∷ 0xa8 ∷ 0xa0 ∷ 0x81 ∷ 0x41 ∷ [])
 unfolding reading
-tail_in_a_character_first = simp (absent_there, put_there)
+tail_in_a_character_first = rw among_1 refl
 
 abbrev e_grave : Dictionary
 e_grave = puts e_acute ((identifier_key, Some (U32 12)) ∷ (named (codes "S"), Some (Unicode (0xc3 ∷ 0xa8 ∷ []))) ∷ [])
 
 tail_in_a_character_second : message_at worked_set e_acute (0xa0 ∷ 0x81 ∷ 0xa8 ∷ 0xa0 ∷ 0x81 ∷ 0x41 ∷ []) ≡ Ok (message 12 (unicode (0xc3 ∷ 0xa8 ∷ []) ∷ []), e_grave, 0xa0 ∷ 0x81 ∷ 0x41 ∷ [])
 unfolding reading
-tail_in_a_character_second = simp put_there
+tail_in_a_character_second = rw (among_2, among_3) refl
 
 tail_in_a_character_third : message_at worked_set e_grave (0xa0 ∷ 0x81 ∷ 0x41 ∷ []) ≡ Err (record { template = 12; stop = record { cause = R2; instruction = 1; left = 2 } })
 unfolding reading
-tail_in_a_character_third = simp put_there
+tail_in_a_character_third = rw (among_4, among_5) refl
 
 -- S is C3 A9, then C3 A8, and then C3 41, which is not UTF-8
 pub tail_in_a_character : read (0xe0 ∷ 0x8c ∷ 0x82 ∷ 0xc3 ∷ 0xa9 ∷ 0xa0 ∷ 0x81 ∷ 0xa8 ∷ 0xa0 ∷ 0x81 ∷ 0x41 ∷ []) ≡ (message 12 (unicode (0xc3 ∷ 0xa9 ∷ []) ∷ []) ∷ message 12 (unicode (0xc3 ∷ 0xa8 ∷ []) ∷ []) ∷ [], refused R2 3 9 12 1)
@@ -309,18 +344,18 @@ greatest = puts finite.empty ((identifier_key, Some (U32 2)) ∷ (named (codes "
 
 wraps_first : message_at worked_set finite.empty (0xe0 ∷ 0x82 ∷ 0x0f ∷ 0x7f ∷ 0x7f ∷ 0x7f ∷ 0xff ∷ 0x0f ∷ 0x7f ∷ 0x7f ∷ 0x7f ∷ 0xff ∷ 0x80 ∷ 0x80 ∷ 0x80 ∷ 0x81 ∷ []) ≡ Ok (message 2 (u32 4294967295 ∷ u32 4294967295 ∷ []), greatest, 0x80 ∷ 0x80 ∷ 0x80 ∷ 0x81 ∷ [])
 unfolding reading
-wraps_first = simp (absent_there, put_there)
+wraps_first = rw among_2 refl
 
 abbrev wrapped : Dictionary
 wrapped = puts greatest ((identifier_key, Some (U32 2)) ∷ (named (codes "A"), Some (U32 0)) ∷ (named (codes "B"), Some (U32 4294967295)) ∷ [])
 
 wraps_second : message_at worked_set greatest (0x80 ∷ 0x80 ∷ 0x80 ∷ 0x81 ∷ []) ≡ Ok (message 2 (u32 0 ∷ u32 4294967295 ∷ []), wrapped, 0x80 ∷ 0x81 ∷ [])
 unfolding reading
-wraps_second = simp put_there
+wraps_second = rw (among_3, among_4, among_5) refl
 
 wraps_third : message_at worked_set wrapped (0x80 ∷ 0x81 ∷ []) ≡ Err (record { template = 2; stop = record { cause = D2; instruction = 2; left = 1 } })
 unfolding reading
-wraps_third = simp put_there
+wraps_third = rw (among_6, among_7, among_8) refl
 
 -- A=4294967295 B=4294967295; A=0 B=4294967295; and B one more
 pub wraps : read (0xe0 ∷ 0x82 ∷ 0x0f ∷ 0x7f ∷ 0x7f ∷ 0x7f ∷ 0xff ∷ 0x0f ∷ 0x7f ∷ 0x7f ∷ 0x7f ∷ 0xff ∷ 0x80 ∷ 0x80 ∷ 0x80 ∷ 0x81 ∷ []) ≡ (message 2 (u32 4294967295 ∷ u32 4294967295 ∷ []) ∷ message 2 (u32 0 ∷ u32 4294967295 ∷ []) ∷ [], refused D2 3 15 2 2)
@@ -339,11 +374,11 @@ priced = puts flagged ((identifier_key, Some (U32 3)) ∷ (parted (codes "Px") M
 
 mantissa_takes_a_bit_first : message_at worked_set finite.empty (0xf0 ∷ 0x83 ∷ 0x80 ∷ 0x85 ∷ 0x90 ∷ 0x39 ∷ 0x45 ∷ 0xa3 ∷ []) ≡ Ok (message 3 (absent ∷ u32 5 ∷ []), flagged, 0x90 ∷ 0x39 ∷ 0x45 ∷ 0xa3 ∷ [])
 unfolding reading
-mantissa_takes_a_bit_first = simp (absent_there, put_there)
+mantissa_takes_a_bit_first = rw among_1 refl
 
 mantissa_takes_a_bit_second : message_at worked_set flagged (0x90 ∷ 0x39 ∷ 0x45 ∷ 0xa3 ∷ []) ≡ Ok (message 3 (decimal (pos 2) (pos 942755) ∷ u32 5 ∷ []), priced, [])
 unfolding reading
-mantissa_takes_a_bit_second = simp (absent_there, put_there)
+mantissa_takes_a_bit_second = rw (among_2, among_3, among_4) refl
 
 -- The absent exponent leaves the mantissa's bit to Flag: Px=- Flag=5, and then Px=942755e2 Flag=5
 pub mantissa_takes_a_bit : read (0xf0 ∷ 0x83 ∷ 0x80 ∷ 0x85 ∷ 0x90 ∷ 0x39 ∷ 0x45 ∷ 0xa3 ∷ []) ≡ (message 3 (absent ∷ u32 5 ∷ []) ∷ message 3 (decimal (pos 2) (pos 942755) ∷ u32 5 ∷ []) ∷ [], None)
@@ -351,11 +386,11 @@ mantissa_takes_a_bit = ap (answer (0xf0 ∷ 0x83 ∷ 0x80 ∷ 0x85 ∷ 0x90 ∷ 
 
 exponent_spelled_out_first : message_at worked_set finite.empty (0xf0 ∷ 0x83 ∷ 0x80 ∷ 0x85 ∷ 0xb0 ∷ 0x83 ∷ 0x39 ∷ 0x45 ∷ 0xa3 ∷ []) ≡ Ok (message 3 (absent ∷ u32 5 ∷ []), flagged, 0xb0 ∷ 0x83 ∷ 0x39 ∷ 0x45 ∷ 0xa3 ∷ [])
 unfolding reading
-exponent_spelled_out_first = simp (absent_there, put_there)
+exponent_spelled_out_first = rw among_1 refl
 
 exponent_spelled_out_second : message_at worked_set flagged (0xb0 ∷ 0x83 ∷ 0x39 ∷ 0x45 ∷ 0xa3 ∷ []) ≡ Ok (message 3 (decimal (pos 2) (pos 942755) ∷ u32 5 ∷ []), priced, [])
 unfolding reading
-exponent_spelled_out_second = simp (absent_there, put_there)
+exponent_spelled_out_second = rw (among_2, among_3, among_4) refl
 
 -- the same with B0 and 83 for an exponent of 2
 pub exponent_spelled_out : read (0xf0 ∷ 0x83 ∷ 0x80 ∷ 0x85 ∷ 0xb0 ∷ 0x83 ∷ 0x39 ∷ 0x45 ∷ 0xa3 ∷ []) ≡ (message 3 (absent ∷ u32 5 ∷ []) ∷ message 3 (decimal (pos 2) (pos 942755) ∷ u32 5 ∷ []) ∷ [], None)
@@ -364,7 +399,7 @@ exponent_spelled_out = ap (answer (0xf0 ∷ 0x83 ∷ 0x80 ∷ 0x85 ∷ 0xb0 ∷ 
 -- an exponent of 64 is refused before a mantissa has come
 pub exponent_first : read (0xf0 ∷ 0x81 ∷ 0x81 ∷ 0x41 ∷ 0xc2 ∷ 0x00 ∷ 0xc0 ∷ []) ≡ ([], refused R1 1 5 1 3)
 unfolding reading
-exponent_first = simp (absent_there, put_there)
+exponent_first = rw among_3 refl
 
 abbrev fixed_once : Dictionary
 fixed_once = puts finite.empty ((identifier_key, Some (U32 15)) ∷ (parted (codes "Px") Mantissa, Some (I64 (pos 100))) ∷ (named (codes "Raw"), Some (Bytes (0x0a ∷ 0xff ∷ []))) ∷ [])
@@ -374,11 +409,11 @@ fixed_twice = puts fixed_once ((identifier_key, Some (U32 15)) ∷ (parted (code
 
 constant_exponent_first : message_at worked_set finite.empty (0xe0 ∷ 0x8f ∷ 0x00 ∷ 0xe4 ∷ 0x83 ∷ 0x0a ∷ 0xff ∷ 0x80 ∷ 0x81 ∷ []) ≡ Ok (message 15 (decimal (negsuc 1) (pos 100) ∷ vector (0x0a ∷ 0xff ∷ []) ∷ []), fixed_once, 0x80 ∷ 0x81 ∷ [])
 unfolding reading
-constant_exponent_first = simp (absent_there, put_there)
+constant_exponent_first = rw (among_1, among_1) refl
 
 constant_exponent_second : message_at worked_set fixed_once (0x80 ∷ 0x81 ∷ []) ≡ Ok (message 15 (decimal (negsuc 1) (pos 101) ∷ vector (0x0a ∷ 0xff ∷ []) ∷ []), fixed_twice, [])
 unfolding reading
-constant_exponent_second = simp (absent_there, put_there)
+constant_exponent_second = rw (among_3, among_4, among_4, among_5) refl
 
 -- Px=100e-2 Raw=x0aff, and Px=101e-2 Raw=x0aff
 pub constant_exponent : read (0xe0 ∷ 0x8f ∷ 0x00 ∷ 0xe4 ∷ 0x83 ∷ 0x0a ∷ 0xff ∷ 0x80 ∷ 0x81 ∷ []) ≡ (message 15 (decimal (negsuc 1) (pos 100) ∷ vector (0x0a ∷ 0xff ∷ []) ∷ []) ∷ message 15 (decimal (negsuc 1) (pos 101) ∷ vector (0x0a ∷ 0xff ∷ []) ∷ []) ∷ [], None)
@@ -389,12 +424,12 @@ constant_exponent = ap (answer (0xe0 ∷ 0x8f ∷ 0x00 ∷ 0xe4 ∷ 0x83 ∷ 0x0
 -- L=-, L=[], and L=[{P=5} {P=6}]
 pub lengths : read (0xc0 ∷ 0x84 ∷ 0x80 ∷ 0x80 ∷ 0x81 ∷ 0x80 ∷ 0x83 ∷ 0x85 ∷ 0x86 ∷ []) ≡ (message 4 (absent ∷ []) ∷ message 4 (sequence [] ∷ []) ∷ message 4 (sequence ((u32 5 ∷ []) ∷ (u32 6 ∷ []) ∷ []) ∷ []) ∷ [], None)
 unfolding reading
-lengths = simp (absent_there, put_there)
+lengths = rw (among_1, among_1, among_2, among_2) refl
 
 -- Each element has its own map: L=[{Q=5} {Q=5}]
 pub maps_of_elements : read (0xc0 ∷ 0x85 ∷ 0x82 ∷ 0xc0 ∷ 0x85 ∷ 0x80 ∷ []) ≡ (message 5 (sequence ((u32 5 ∷ []) ∷ (u32 5 ∷ []) ∷ []) ∷ []) ∷ [], None)
 unfolding reading
-maps_of_elements = simp (absent_there, put_there)
+maps_of_elements = rw (among_1, among_2) refl
 
 -- a length of 65,536
 pub too_many_elements : read (0xc0 ∷ 0x84 ∷ 0x04 ∷ 0x00 ∷ 0x81 ∷ []) ≡ ([], refused Limit 1 2 4 1)
@@ -413,14 +448,14 @@ ungrouped = puts grouped ((identifier_key, Some (U32 11)) ∷ (named (codes "B")
 
 groups_second : message_at worked_set grouped (0x80 ∷ 0xa0 ∷ 0x80 ∷ []) ≡ Ok (message 11 (absent ∷ u32 6 ∷ []), ungrouped, 0xa0 ∷ 0x80 ∷ [])
 unfolding reading
-groups_second = simp put_there
+groups_second = rw (among_3, among_4) refl
 
 abbrev grouped_again : Dictionary
 grouped_again = puts ungrouped ((identifier_key, Some (U32 11)) ∷ (named (codes "A"), Some (U32 5)) ∷ (named (codes "B"), Some (U32 6)) ∷ [])
 
 groups_third : message_at worked_set ungrouped (0xa0 ∷ 0x80 ∷ []) ≡ Ok (message 11 (group (u32 5 ∷ []) ∷ u32 6 ∷ []), grouped_again, [])
 unfolding reading
-groups_third = simp put_there
+groups_third = rw (among_5, among_6, among_7) refl
 
 -- Hd={A=5} B=6, Hd=- B=6, and Hd={A=5} B=6
 pub groups_there : read (0xf0 ∷ 0x8b ∷ 0xc0 ∷ 0x85 ∷ 0x86 ∷ 0x80 ∷ 0xa0 ∷ 0x80 ∷ []) ≡ (message 11 (group (u32 5 ∷ []) ∷ u32 6 ∷ []) ∷ message 11 (absent ∷ u32 6 ∷ []) ∷ message 11 (group (u32 5 ∷ []) ∷ u32 6 ∷ []) ∷ [], None)
@@ -437,7 +472,7 @@ another_type_first = refl
 
 another_type_second : message_at worked_set clashed (0x80 ∷ []) ≡ Err (record { template = 7; stop = record { cause = D4; instruction = 1; left = 0 } })
 unfolding reading
-another_type_second = simp put_there
+another_type_second = rw (among_3, among_4) refl
 
 -- A=5 B="A", and then A finds the string
 pub another_type : read (0xf0 ∷ 0x87 ∷ 0x85 ∷ 0xc1 ∷ 0x80 ∷ []) ≡ (message 7 (u32 5 ∷ text (codes "A") ∷ []) ∷ [], refused D4 2 5 7 1)
@@ -446,12 +481,12 @@ another_type = ap (answer (0xf0 ∷ 0x87 ∷ 0x85 ∷ 0xc1 ∷ 0x80 ∷ [])) (on
 -- A=5 B="A", and A=6 B="A", both spelled out
 pub another_type_unused : read (0xf0 ∷ 0x87 ∷ 0x85 ∷ 0xc1 ∷ 0xb0 ∷ 0x86 ∷ 0xc1 ∷ []) ≡ (message 7 (u32 5 ∷ text (codes "A") ∷ []) ∷ message 7 (u32 6 ∷ text (codes "A") ∷ []) ∷ [], None)
 unfolding reading
-another_type_unused = simp put_there
+another_type_unused = rw among_3 refl
 
 -- A is absent, and B a delta on what it left
 pub empty_entry : read (0xc0 ∷ 0x8d ∷ 0x85 ∷ []) ≡ ([], refused D6 1 2 13 2)
 unfolding reading
-empty_entry = simp (absent_there, put_there)
+empty_entry = rw (among_1, among_2) refl
 
 -- ---- Copy, constant and default
 
@@ -465,25 +500,25 @@ fourteen = puts finite.empty ((identifier_key, Some (U32 14)) ∷ [])
 
 constants_first : message_at worked_set finite.empty (0xe0 ∷ 0x8e ∷ 0x80 ∷ 0x90 ∷ 0x83 ∷ 0x90 ∷ 0x10 ∷ 0x00 ∷ 0x00 ∷ 0x00 ∷ 0x80 ∷ []) ≡ Ok (message 14 (u32 7 ∷ u32 9 ∷ u32 3 ∷ []), fourteen, 0x80 ∷ 0x90 ∷ 0x83 ∷ 0x90 ∷ 0x10 ∷ 0x00 ∷ 0x00 ∷ 0x00 ∷ 0x80 ∷ [])
 unfolding reading
-constants_first = simp (absent_there, put_there)
+constants_first = rw (among_1, among_1, among_1) refl
 
 abbrev fourteen_again : Dictionary
 fourteen_again = puts fourteen ((identifier_key, Some (U32 14)) ∷ [])
 
 constants_second : message_at worked_set fourteen (0x80 ∷ 0x90 ∷ 0x83 ∷ 0x90 ∷ 0x10 ∷ 0x00 ∷ 0x00 ∷ 0x00 ∷ 0x80 ∷ []) ≡ Ok (message 14 (u32 7 ∷ absent ∷ u32 3 ∷ []), fourteen_again, 0x90 ∷ 0x83 ∷ 0x90 ∷ 0x10 ∷ 0x00 ∷ 0x00 ∷ 0x00 ∷ 0x80 ∷ [])
 unfolding reading
-constants_second = simp (absent_there, put_there)
+constants_second = rw (among_1, among_2, among_2, among_2) refl
 
 abbrev fourteen_thrice : Dictionary
 fourteen_thrice = puts fourteen_again ((identifier_key, Some (U32 14)) ∷ [])
 
 constants_third : message_at worked_set fourteen_again (0x90 ∷ 0x83 ∷ 0x90 ∷ 0x10 ∷ 0x00 ∷ 0x00 ∷ 0x00 ∷ 0x80 ∷ []) ≡ Ok (message 14 (u32 7 ∷ absent ∷ u32 3 ∷ []), fourteen_thrice, 0x90 ∷ 0x10 ∷ 0x00 ∷ 0x00 ∷ 0x00 ∷ 0x80 ∷ [])
 unfolding reading
-constants_third = simp (absent_there, put_there)
+constants_third = rw (among_2, among_3, among_3, among_3) refl
 
 constants_fourth : message_at worked_set fourteen_thrice (0x90 ∷ 0x10 ∷ 0x00 ∷ 0x00 ∷ 0x00 ∷ 0x80 ∷ []) ≡ Err (record { template = 14; stop = record { cause = D2; instruction = 3; left = 5 } })
 unfolding reading
-constants_fourth = simp put_there
+constants_fourth = rw among_3 refl
 
 -- K=7 O=9 D=3; twice K=7 O=- D=3; and D past its type
 pub constants : read (0xe0 ∷ 0x8e ∷ 0x80 ∷ 0x90 ∷ 0x83 ∷ 0x90 ∷ 0x10 ∷ 0x00 ∷ 0x00 ∷ 0x00 ∷ 0x80 ∷ []) ≡ (message 14 (u32 7 ∷ u32 9 ∷ u32 3 ∷ []) ∷ message 14 (u32 7 ∷ absent ∷ u32 3 ∷ []) ∷ message 14 (u32 7 ∷ absent ∷ u32 3 ∷ []) ∷ [], refused D2 4 6 14 3)
@@ -519,7 +554,7 @@ may_come spare bytes = record { dictionary = finite.empty; bits = []; spare = sp
 -- a sequence of three elements without fields is four nodes: 83
 four_nodes : body_at (resolved 6 bare).members (may_come 4 (0x83 ∷ [])) ≡ Ok (items_of (sequence ([] ∷ [] ∷ [] ∷ []) ∷ []), may_come 0 [])
 unfolding reading
-four_nodes = simp absent_there
+four_nodes = rw absent_there refl
 
 -- the fourth is refused where three may come, at the sequence's number
 three_may_come : body_at (resolved 6 bare).members (may_come 3 (0x83 ∷ [])) ≡ Err (record { cause = Limit; instruction = 1; left = 0 })
@@ -551,7 +586,7 @@ no_field_of_group = refl
 -- F0 8B 80: its A is left out, and no value predicts it
 pub no_value_in_group : read (0xf0 ∷ 0x8b ∷ 0x80 ∷ []) ≡ ([], refused D5 1 3 11 2)
 unfolding reading
-no_value_in_group = simp (absent_there, put_there)
+no_value_in_group = rw among_1 refl
 
 -- C0 85 82: the first element's map is not there
 pub no_map_of_element : read (0xc0 ∷ 0x85 ∷ 0x82 ∷ []) ≡ ([], refused Truncated 1 3 5 1)
