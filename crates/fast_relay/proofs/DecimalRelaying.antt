@@ -3,7 +3,7 @@ use Rattle.std.proofs.Common.{◌≡◌, ◌≤◌, ℕ, nat_le, Bool, true, fal
 use Rattle.std.specs.Prelude.{ℤ, pos, negsuc, ◌&&◌, ◌^◌, ◌<ℤ◌, ◌+ℤ◌, ◌-ℤ◌, Some}
 use Rattle.std.proofs.lemmas.Int.{ints}
 use Rattle.std.proofs.lemmas.Bool.Decides.{nat_tests}
-use Rattle.std.specs.Int.{w32, w64}
+use Rattle.std.specs.Int.{w32, w64, w128}
 use Rattle.std.specs.Int.RustNames.{FitsSigned}
 use Rattle.fast_wire.specs.Reading.{◌>>=◌, signed_at}
 use Rattle.fast_wire.specs.declared.nullable.Nullable.{Nullable}
@@ -42,6 +42,13 @@ use Rattle.fast_relay.proofs.Relaying.{added_back, base_is, delta_out, delta_row
 pub small : (z : ℤ) → negsuc (2 ^ 64) <ℤ z → z <ℤ pos (2 ^ 64) → IsSmall z
 small (pos n) above below = omega (arith, ints, below)
 small (negsuc n) above below = omega (arith, ints, above)
+
+-- numbers of 64 bits, and their sums, are far from the ends of a long type
+pub fits_long : (z : ℤ) → negsuc (2 ^ 64) <ℤ z → z <ℤ pos (2 ^ 64) → FitsSigned w128 z
+fits_long z above below = omega (arith, ints, above, below)
+
+pub sum_fits : (y z : ℤ) → negsuc (2 ^ 64) <ℤ y → y <ℤ pos (2 ^ 64) → negsuc (2 ^ 64) <ℤ z → z <ℤ pos (2 ^ 64) → FitsSigned w128 (y +ℤ z)
+sum_fits y z y_above y_below above below = omega (arith, ints, y_above, y_below, above, below)
 
 -- the parts of a decimal fit their types
 both : (a b : Bool) → (a && b) ≡ true → (a ≡ true) × (b ≡ true)

@@ -1,27 +1,62 @@
 use Rattle.std.specs.Int.{w32, w64, w128}
-use Rattle.std.specs.Int.RustNames.{FitsSigned}
 use Rattle.std.specs.Prelude.{◌+ℤ◌, drop}
 use Rattle.std.proofs.Common.{refl, ap, ◌∙◌, arith}
-use Rattle.std.proofs.lemmas.Int.{ints, to_z-of_z}
+use Rattle.std.proofs.lemmas.Int.{to_z-of_z}
 use Rattle.fast_value.specs.Scalar.{exponent_in_range, in_range}
 use Rattle.fast_value.specs.declared.kind.Kind.TheVariants as kind
 use Rattle.fast_value.specs.declared.scalar.Scalar.TheVariants.{Decimal}
 use Rattle.fast_dictionary.specs.declared.entry.Entry.TheVariants.{Assigned}
-use Rattle.fast_relay.proofs.DecimalRelaying.{decimal_relays, exponent_fits, mantissa_fits, small}
+use Rattle.fast_relay.proofs.DecimalRelaying.{decimal_relays, exponent_fits, fits_long, mantissa_fits, small, sum_fits}
 use Rattle.fast_relay.proofs.decimal.relay_decimal_delta.Goals as goal
+
+pub moved-requires-clause-kept_above : goal.moved-requires-clause-kept_above
+moved-requires-clause-kept_above c =
+    rw (to_z-of_z w128 c.in-Some.kept_exponent (fits_long c.in-Some.kept_exponent c.in-Some.ensures.exponent_above c.in-Some.ensures.exponent_below)) c.in-Some.ensures.exponent_above
+
+pub moved-requires-clause-kept_below : goal.moved-requires-clause-kept_below
+moved-requires-clause-kept_below c =
+    rw (to_z-of_z w128 c.in-Some.kept_exponent (fits_long c.in-Some.kept_exponent c.in-Some.ensures.exponent_above c.in-Some.ensures.exponent_below)) c.in-Some.ensures.exponent_below
+
+pub moved-requires-clause-above : goal.moved-requires-clause-above
+moved-requires-clause-above c =
+    rw (to_z-of_z w128 c.in-Some-read_short.exponent_delta (fits_long c.in-Some-read_short.exponent_delta c.in-Some-read_short.ensures.above c.in-Some-read_short.ensures.below)) c.in-Some-read_short.ensures.above
+
+pub moved-requires-clause-below : goal.moved-requires-clause-below
+moved-requires-clause-below c =
+    rw (to_z-of_z w128 c.in-Some-read_short.exponent_delta (fits_long c.in-Some-read_short.exponent_delta c.in-Some-read_short.ensures.above c.in-Some-read_short.ensures.below)) c.in-Some-read_short.ensures.below
+
+pub moved-requires-2-clause-kept_above : goal.moved-requires-2-clause-kept_above
+moved-requires-2-clause-kept_above c =
+    rw (to_z-of_z w128 c.in-Some.kept_mantissa (fits_long c.in-Some.kept_mantissa c.in-Some.ensures.mantissa_above c.in-Some.ensures.mantissa_below)) c.in-Some.ensures.mantissa_above
+
+pub moved-requires-2-clause-kept_below : goal.moved-requires-2-clause-kept_below
+moved-requires-2-clause-kept_below c =
+    rw (to_z-of_z w128 c.in-Some.kept_mantissa (fits_long c.in-Some.kept_mantissa c.in-Some.ensures.mantissa_above c.in-Some.ensures.mantissa_below)) c.in-Some.ensures.mantissa_below
+
+pub moved-requires-2-clause-above : goal.moved-requires-2-clause-above
+moved-requires-2-clause-above c =
+    rw (to_z-of_z w128 c.in-Some-read_short-2.mantissa_delta (fits_long c.in-Some-read_short-2.mantissa_delta c.in-Some-read_short-2.ensures.above c.in-Some-read_short-2.ensures.below)) c.in-Some-read_short-2.ensures.above
+
+pub moved-requires-2-clause-below : goal.moved-requires-2-clause-below
+moved-requires-2-clause-below c =
+    rw (to_z-of_z w128 c.in-Some-read_short-2.mantissa_delta (fits_long c.in-Some-read_short-2.mantissa_delta c.in-Some-read_short-2.ensures.above c.in-Some-read_short-2.ensures.below)) c.in-Some-read_short-2.ensures.below
+
+pub returns-in-Ok-clause-place : goal.returns-in-Ok-clause-place
+returns-in-Ok-clause-place c =
+    (omega (arith, c.in-Some-read_short.ensures.place, c.in-Some-read_short-2.ensures.place), c.in-Some-read_short-2.ensures.place.1)
 
 pub write_pair-requires-clause-exponent : goal.write_pair-requires-clause-exponent
 write_pair-requires-clause-exponent c =
     let d = c.in-Some-read_short.exponent_delta in
     let read = c.in-Some-read_short.ensures in
-    let fits : FitsSigned w128 d = omega (arith, ints, read.above, read.below) in
+    let fits = fits_long d read.above read.below in
     rw (to_z-of_z w128 d fits) (small d read.above read.below)
 
 pub write_pair-requires-clause-mantissa : goal.write_pair-requires-clause-mantissa
 write_pair-requires-clause-mantissa c =
     let d = c.in-Some-read_short-2.mantissa_delta in
     let read = c.in-Some-read_short-2.ensures in
-    let fits : FitsSigned w128 d = omega (arith, ints, read.above, read.below) in
+    let fits = fits_long d read.above read.below in
     rw (to_z-of_z w128 d fits) (small d read.above read.below)
 
 pub returns-in-Ok-clause-relayed : goal.returns-in-Ok-clause-relayed
@@ -33,12 +68,12 @@ returns-in-Ok-clause-relayed c =
     let kept = c.in-Some.ensures in
     let first = c.in-Some-read_short.ensures in
     let second = c.in-Some-read_short-2.ensures in
-    let x_fits : FitsSigned w128 x = omega (arith, ints, kept.exponent_above, kept.exponent_below) in
-    let m_fits : FitsSigned w128 m = omega (arith, ints, kept.mantissa_above, kept.mantissa_below) in
-    let dx_fits : FitsSigned w128 dx = omega (arith, ints, first.above, first.below) in
-    let dm_fits : FitsSigned w128 dm = omega (arith, ints, second.above, second.below) in
-    let e_fits : FitsSigned w128 (x +ℤ dx) = omega (arith, ints, kept.exponent_above, kept.exponent_below, first.above, first.below) in
-    let n_fits : FitsSigned w128 (m +ℤ dm) = omega (arith, ints, kept.mantissa_above, kept.mantissa_below, second.above, second.below) in
+    let x_fits = fits_long x kept.exponent_above kept.exponent_below in
+    let m_fits = fits_long m kept.mantissa_above kept.mantissa_below in
+    let dx_fits = fits_long dx first.above first.below in
+    let dm_fits = fits_long dm second.above second.below in
+    let e_fits = sum_fits x dx kept.exponent_above kept.exponent_below first.above first.below in
+    let n_fits = sum_fits m dm kept.mantissa_above kept.mantissa_below second.above second.below in
     let dx_is = to_z-of_z w128 dx dx_fits in
     let dm_is = to_z-of_z w128 dm dm_fits in
     let e_sum = rw (to_z-of_z w128 x x_fits, dx_is) at c.moved.ensures in

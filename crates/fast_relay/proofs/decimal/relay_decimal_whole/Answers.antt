@@ -1,27 +1,29 @@
 use Rattle.std.specs.Int.{w32, w64, w128}
-use Rattle.std.specs.Int.RustNames.{FitsSigned}
 use Rattle.std.specs.Prelude.{drop}
 use Rattle.std.proofs.Common.{ap, sym, ◌∙◌, arith}
-use Rattle.std.proofs.lemmas.Int.{ints, to_z-of_z}
+use Rattle.std.proofs.lemmas.Int.{to_z-of_z}
 use Rattle.fast_value.specs.Scalar.{exponent_in_range, in_range}
 use Rattle.fast_value.specs.declared.kind.Kind.TheVariants as kind
 use Rattle.fast_value.specs.declared.scalar.Scalar.TheVariants.{Decimal}
-use Rattle.fast_relay.proofs.DecimalRelaying.{decimal_whole_relays, exponent_fits, mantissa_fits, small}
+use Rattle.fast_relay.proofs.DecimalRelaying.{decimal_whole_relays, exponent_fits, fits_long, mantissa_fits, small}
 use Rattle.fast_relay.proofs.decimal.relay_decimal_whole.Goals as goal
 
 pub write_pair-requires-clause-exponent : goal.write_pair-requires-clause-exponent
 write_pair-requires-clause-exponent c =
     let x = c.in-Some.exponent_sent in
     let read = c.in-Some.ensures in
-    let fits : FitsSigned w128 x = omega (arith, ints, read.above, read.below) in
+    let fits = fits_long x read.above read.below in
     rw (to_z-of_z w128 x fits) (small x read.above read.below)
 
 pub write_pair-requires-clause-mantissa : goal.write_pair-requires-clause-mantissa
 write_pair-requires-clause-mantissa c =
     let m = c.in-Some-read_short.mantissa_sent in
     let read = c.in-Some-read_short.ensures in
-    let fits : FitsSigned w128 m = omega (arith, ints, read.above, read.below) in
+    let fits = fits_long m read.above read.below in
     rw (to_z-of_z w128 m fits) (small m read.above read.below)
+
+pub returns-in-Ok-clause-place : goal.returns-in-Ok-clause-place
+returns-in-Ok-clause-place c = (omega (arith, c.in-Some.ensures.place, c.in-Some-read_short.ensures.place), c.in-Some-read_short.ensures.place.1)
 
 pub returns-in-Ok-clause-relayed : goal.returns-in-Ok-clause-relayed
 returns-in-Ok-clause-relayed c =
@@ -29,8 +31,8 @@ returns-in-Ok-clause-relayed c =
     let m = c.in-Some-read_short.mantissa_sent in
     let first = c.in-Some.ensures in
     let second = c.in-Some-read_short.ensures in
-    let x_fits : FitsSigned w128 x = omega (arith, ints, first.above, first.below) in
-    let m_fits : FitsSigned w128 m = omega (arith, ints, second.above, second.below) in
+    let x_fits = fits_long x first.above first.below in
+    let m_fits = fits_long m second.above second.below in
     let x_is = to_z-of_z w128 x x_fits in
     let m_is = to_z-of_z w128 m m_fits in
     let near = rw x_is at c.in-Some-exponent_within.ensures.some in
