@@ -1,18 +1,9 @@
 use Rattle.std.proofs.Common.{rules, ◌≡◌, ◌∙◌, ◌++◌, ◌-◌, length, slice_range, drop, arith, ap, refl, subst, false}
 use Rattle.std.specs.Prelude.{ℤ, pos}
-use Rattle.std.specs.Int.{w128}
-use Rattle.std.proofs.lemmas.Int.{to_z-of_z}
 use Rattle.fast_field.specs.Chosen.{ShortestSigned}
 use Rattle.fast_relay.specs.Numbers.{Spelt}
-use Rattle.fast_relay.proofs.DecimalRelaying.{fits_long, small}
 use Rattle.fast_relay.proofs.PlainTexts.{characters_text, plain_delta_relays}
 use Rattle.fast_relay.proofs.plain.relay_plain_delta.Goals as goal
-
-pub write_signed-requires : goal.write_signed-requires
-write_signed-requires c =
-    let z = c.in-Some.removal in
-    let read = c.in-Some.ensures in
-    rw (to_z-of_z w128 z (fits_long z read.above read.below)) (small z read.above read.below)
 
 pub returns-then-send-clause-relayed : goal.returns-then-send-clause-relayed
 returns-then-send-clause-relayed c =

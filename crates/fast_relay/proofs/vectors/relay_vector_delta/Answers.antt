@@ -1,19 +1,13 @@
 use Rattle.std.proofs.Common.{arith, drop, false, length, ◌-◌, refl, slice_range, subst, sym, ◌∙◌}
 use Rattle.std.specs.Int.{w128}
+use Rattle.std.specs.Int.RustNames.{FitsSigned}
 use Rattle.std.specs.Prelude.{ℤ}
-use Rattle.std.proofs.lemmas.Int.{to_z-of_z}
+use Rattle.std.proofs.lemmas.Int.{ints, to_z-of_z}
 use Rattle.fast_field.specs.Values.{units_of}
 use Rattle.fast_relay.specs.Numbers.{Spelt}
-use Rattle.fast_relay.proofs.DecimalRelaying.{fits_long, small}
 use Rattle.fast_relay.proofs.TextRelaying.{text_few}
 use Rattle.fast_relay.proofs.VectorTexts.{front_text, put_behind, vector_delta_relays}
 use Rattle.fast_relay.proofs.vectors.relay_vector_delta.Goals as goal
-
-pub write_removal-requires-clause-small : goal.write_removal-requires-clause-small
-write_removal-requires-clause-small c =
-    let z = c.in-Some.removal in
-    let read = c.in-Some.ensures in
-    rw (to_z-of_z w128 z (fits_long z read.above read.below)) (small z read.above read.below)
 
 pub put_units-requires-clause-text : goal.put_units-requires-clause-text
 put_units-requires-clause-text c =
@@ -38,7 +32,7 @@ returns-then-put_units-clause-relayed c =
     let n = length b - r in
     let z = c.in-Some.removal in
     let read = c.in-Some.ensures in
-    let fits = fits_long z read.above read.below in
+    let fits : FitsSigned w128 z = omega (arith, ints, read.above, read.below) in
     let removed = c.in-Some-few_removed.ensures in
     let text = c.is_text.ensures c.if-not-is_text.false in
     let few = text_few i.kind value text in
