@@ -63,3 +63,6 @@ pub read_values-returns : goal.read_values-returns
 read_values-returns t c =
     let l = c.loop-value in
     sym l.invariant ∙ all_read (map written_of l.instructions.items) c.args.values.now l.value-index l.next (omega arith)
+
+pub read_one-returns-in-None : goal.read_one-returns-in-None
+read_one-returns-in-None c = search rules
