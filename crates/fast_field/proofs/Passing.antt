@@ -130,37 +130,53 @@ predicts_empty operator.Increment i e is h = rw is refl
 predicts_empty operator.Tail i e is h = rw is refl
 predicts_empty o i e is h = absurd h
 
-pub kept_passes : (i : FieldPart) (v : Scalar) → Repeats i.operator → is_of i.kind v ≡ true → IsTrue (within_part i.part v) → IsPassed i (Assigned v) (Assigned v) Present
-kept_passes i v h is within =
+pub kept_given : (i : FieldPart) (v : Scalar) → Repeats i.operator → is_of i.kind v ≡ true → IsTrue (within_part i.part v) → Passes i (Assigned v) (Assigned v) (Some v)
+kept_given i v h is within =
     let p = repeats_predicts i.operator h in
-    (v, is, predicted_passes i (Assigned v) (Assigned v) (Some v) p (assigned_predicted i v v is (repeats i.operator v h)) within (sym (predicts_next i.operator i (Assigned v) v refl p)))
+    predicted_passes i (Assigned v) (Assigned v) (Some v) p (assigned_predicted i v v is (repeats i.operator v h)) within (sym (predicts_next i.operator i (Assigned v) v refl p))
 
-assigned_passes : (i : FieldPart) (v : Scalar) (z : ℤ) → i.operator ≡ operator.Increment → IsNumberOf i.kind v z → IsFieldNumber i.kind i.part (next_number i.kind z) → IsPassed i (Assigned v) (Assigned (of_integer i.kind (next_number i.kind z))) Present
-assigned_passes i v z o h n =
+pub kept_passes : (i : FieldPart) (v : Scalar) → Repeats i.operator → is_of i.kind v ≡ true → IsTrue (within_part i.part v) → IsPassed i (Assigned v) (Assigned v) Present
+kept_passes i v h is within = (v, is, kept_given i v h is within)
+
+assigned_given : (i : FieldPart) (v : Scalar) (z : ℤ) → i.operator ≡ operator.Increment → IsNumberOf i.kind v z → IsFieldNumber i.kind i.part (next_number i.kind z)
+    → Passes i (Assigned v) (Assigned (of_integer i.kind (next_number i.kind z))) (Some (of_integer i.kind (next_number i.kind z)))
+assigned_given i v z o h n =
     let w = of_integer i.kind (next_number i.kind z) in
     let p : Predicts i.operator = rw o tt in
     let e : repeated i.operator v ≡ w = rw o (increased_is i.kind v z h) in
-    (w, of_kind i.kind (next_number i.kind z) n.number, predicted_passes i (Assigned v) (Assigned w) (Some w) p (assigned_predicted i v w (kind_is i.kind v z h) e) (within_number i.kind i.part (next_number i.kind z) n) (sym (predicts_next i.operator i (Assigned v) w refl p)))
+    predicted_passes i (Assigned v) (Assigned w) (Some w) p (assigned_predicted i v w (kind_is i.kind v z h) e) (within_number i.kind i.part (next_number i.kind z) n) (sym (predicts_next i.operator i (Assigned v) w refl p))
 
-entry_passes : (i : FieldPart) (e : Entry) (z : ℤ) → i.operator ≡ operator.Increment → HasNumber i.kind e z → IsFieldNumber i.kind i.part (next_number i.kind z) → IsPassed i e (Assigned (of_integer i.kind (next_number i.kind z))) Present
-entry_passes i (Assigned v) z o h n = assigned_passes i v z o h n
-entry_passes i e z o h n = absurd h
+entry_given : (i : FieldPart) (e : Entry) (z : ℤ) → i.operator ≡ operator.Increment → HasNumber i.kind e z → IsFieldNumber i.kind i.part (next_number i.kind z)
+    → Passes i e (Assigned (of_integer i.kind (next_number i.kind z))) (Some (of_integer i.kind (next_number i.kind z)))
+entry_given i (Assigned v) z o h n = assigned_given i v z o h n
+entry_given i e z o h n = absurd h
+
+pub next_given : (k : Kind) (i : FieldPart) (e : Entry) (z : ℤ) → k ≡ i.kind → i.operator ≡ operator.Increment → HasNumber k e z → IsFieldNumber k i.part (next_number k z)
+    → Passes i e (Assigned (of_integer k (next_number k z))) (Some (of_integer k (next_number k z)))
+next_given k i e z same o =
+    subst (λ (k : Kind). HasNumber k e z → IsFieldNumber k i.part (next_number k z) → Passes i e (Assigned (of_integer k (next_number k z))) (Some (of_integer k (next_number k z)))) (sym same) (entry_given i e z o)
+
+next_of_kind : (k : Kind) (i : FieldPart) (z : ℤ) → k ≡ i.kind → IsNumber k z → IsTrue (is_of i.kind (of_integer k z))
+next_of_kind k i z same = subst (λ (k : Kind). IsNumber k z → IsTrue (is_of i.kind (of_integer k z))) (sym same) (of_kind i.kind z)
 
 pub next_passes : (k : Kind) (i : FieldPart) (e : Entry) (z : ℤ) → k ≡ i.kind → i.operator ≡ operator.Increment → HasNumber k e z → IsFieldNumber k i.part (next_number k z) → IsPassed i e (Assigned (of_integer k (next_number k z))) Present
-next_passes k i e z same o = subst (λ (k : Kind). HasNumber k e z → IsFieldNumber k i.part (next_number k z) → IsPassed i e (Assigned (of_integer k (next_number k z))) Present) (sym same) (entry_passes i e z o)
+next_passes k i e z same o h n = (of_integer k (next_number k z), next_of_kind k i (next_number k z) same n.number, next_given k i e z same o h n)
 
 pub empty_passes : (i : FieldPart) → Predicts i.operator → i.presence ≡ Optional → IsPassed i Empty Empty Absent
 empty_passes i h optional =
     let p : predicted i Empty ≡ Ok None = rw optional refl in
     predicted_passes i Empty Empty None h p tt (sym (predicts_empty i.operator i Empty refl h))
 
-pub initial_passes : (i : FieldPart) (e : Entry) (v : Scalar) → i.operator ≡ operator.Default → i.initial ≡ Some v → is_of i.kind v ≡ true → IsTrue (within_part i.part v) → IsPassed i e e Present
-initial_passes i e v o initial is within =
+pub initial_given : (i : FieldPart) (e : Entry) (v : Scalar) → i.operator ≡ operator.Default → i.initial ≡ Some v → IsTrue (within_part i.part v) → Passes i e e (Some v)
+initial_given i e v o initial within =
     let row : FormOf i.operator i e false uncut [] (Some v) = subst (λ (o : Operator). FormOf o i e false uncut [] (Some v)) (sym o) (refl, refl, initial) in
     let bit : IsBitOf i false = rw o (λ h. absurd cc) in
     let default : HasDefault i = λ d m. rw initial refl in
     let entry : e ≡ next i e (Some v) = rw o refl in
-    (v, is, passes i e e (Some v) bit default (record { row = row; within = within }) entry)
+    passes i e e (Some v) bit default (record { row = row; within = within }) entry
+
+pub initial_passes : (i : FieldPart) (e : Entry) (v : Scalar) → i.operator ≡ operator.Default → i.initial ≡ Some v → is_of i.kind v ≡ true → IsTrue (within_part i.part v) → IsPassed i e e Present
+initial_passes i e v o initial is within = (v, is, initial_given i e v o initial within)
 
 pub no_initial_passes : (i : FieldPart) (e : Entry) → i.operator ≡ operator.Default → i.initial ≡ None → i.presence ≡ Optional → IsPassed i e e Absent
 no_initial_passes i e o initial optional =

@@ -5,3 +5,4 @@ mod DecimalRelaying
 mod NullRelaying
 mod VectorTexts
 mod Taking
+pub mod Giving

@@ -1,13 +1,16 @@
 -- Strings that stand in their shortest form, read and written at once.
-use Rattle.std.proofs.Common.{rules, ◌≡◌, ◌≤◌, ◌<◌, ◌+◌, ◌-◌, ◌%◌, true, false, List, ℕ, ◌++◌, Ok, length, take, drop, get_or, zero, suc, [], ◌∷◌, refl, sym, ap, subst, ◌∙◌, arith, inl, inr, length-append, length-drop, append_assoc}
+use Rattle.std.proofs.Common.{rules, ◌≡◌, ◌≤◌, ◌<◌, ◌+◌, ◌-◌, ◌%◌, true, false, List, ℕ, ◌++◌, Ok, length, take, drop, get_or, zero, suc, [], ◌∷◌, refl, sym, ap, subst, ◌∙◌, arith, inl, inr, length-append, length-drop, append_assoc, slice_range, drop-drop}
 use Rattle.std.specs.Prelude.{Some, ℤ, pos, negsuc, nat_le, nat_lt, nat_eq, not}
 use Rattle.std.proofs.lemmas.Bool.{cases_lt}
 use Rattle.std.proofs.lemmas.Bool.Decides.{nat_tests}
-use Rattle.std.proofs.lemmas.List.{get_or-append-add, get_or-drop, length-map, length-take-le}
-use Rattle.std.proofs.Math.Seq.{drop-append_seam, take-append_seam}
+use Rattle.std.proofs.lemmas.List.{drop-map, drop-take, get_or-append-add, get_or-drop, length-map, length-take-le, take-append-drop}
+use Rattle.std.proofs.Math.Seq.{drop-append_seam, take-add, take-append_seam}
 use Rattle.std.specs.List.{AllByRecursion}
+use Rattle.fast_wire.specs.Ascii.{IsAscii, IsAsciiNullable, SpellsAscii, SpellsAsciiNullable}
 use Rattle.fast_wire.specs.Entity.{IsEntity, groups}
 use Rattle.fast_wire.specs.Plain.{IsPlain}
+use Rattle.fast_wire.specs.Reading.{ascii_at, ascii_nullable_at}
+use Rattle.fast_wire.proofs.FormReaders.{ascii_forms, ascii_nullable_forms}
 use Rattle.fast_wire.specs.declared.nullable.Nullable.TheVariants.{Value}
 use Rattle.fast_value.specs.declared.kind.Kind.{Kind}
 use Rattle.fast_value.specs.declared.kind.Kind.TheVariants as kind
@@ -31,7 +34,7 @@ use Rattle.fast_field.specs.FieldReading.{ended_value, limited_value, new_part_b
 use Rattle.fast_relay.specs.Numbers.{SpellsWhole, Spelt}
 use Rattle.fast_field.specs.Planning.{is_same, left_out_of}
 use Rattle.fast_relay.specs.Relayed.{Relays}
-use Rattle.fast_relay.specs.Texts.{IsText, SharesEnd}
+use Rattle.fast_relay.specs.Texts.{GivesCut, GivesTail, IsText, SharesEnd}
 use Rattle.fast_field.proofs.Agreeing.{prefix_ends, prefix_more, prefix_stops, suffix_ends, suffix_none, suffix_stops}
 use Rattle.fast_field.proofs.BestCuts.{best_at_end, longest_suffix}
 use Rattle.fast_field.proofs.BestTails.{shortest_is_best}
@@ -44,7 +47,7 @@ unfolding units_at part_at
 units_plain Mandatory bytes form rest h = rw h.read refl
 units_plain Optional bytes form rest h = rw h.read_nullable refl
 
-spelled_plain : (p : Presence) (bytes form rest : List ℕ) → IsPlain bytes form rest → units_spelled_at kind.Ascii p bytes ≡ Ok (Some (Ascii (groups form)), rest)
+pub spelled_plain : (p : Presence) (bytes form rest : List ℕ) → IsPlain bytes form rest → units_spelled_at kind.Ascii p bytes ≡ Ok (Some (Ascii (groups form)), rest)
 unfolding units_spelled_at unit_value
 spelled_plain p bytes form rest h = rw (units_plain p bytes form rest h) refl
 
@@ -65,6 +68,36 @@ plain_relays i old new bytes form rest before k whole o h entry out =
     (subst (λ (k : Kind). units_spelled_at k i.presence bytes ≡ Ok (Some (Ascii (groups form)), rest)) (sym k) (spelled_plain i.presence bytes form rest h))
     entry out
     (form, refl, subst (λ (k : Kind). ShortestUnits k i.presence (groups form) form) (sym k) (shortest_plain i.presence bytes form rest h))
+
+-- ---- behind a zero group, which is a preamble
+
+nullable_behind : (gs : List ℕ) → SpellsAscii gs gs → SpellsAsciiNullable (zero ∷ gs) (Value gs)
+nullable_behind (suc g ∷ gs) h = refl
+nullable_behind [] h = absurd h
+nullable_behind (zero ∷ gs) h = let long = ap length h in absurd (omega (arith, long))
+
+entity_behind : (form : List ℕ) → IsEntity form → IsEntity (0 ∷ form)
+entity_behind (b ∷ bs) h = (omega arith, h)
+entity_behind [] h = absurd h
+
+long_form : (form : List ℕ) → IsAscii form (groups form) → length form ≤ 65535
+long_form form h = omega (arith, h.limit, length-map form (λ b. b % 128))
+
+pub behind_zero : (bytes form rest : List ℕ) → bytes ≡ form ++ rest → IsPlain bytes form rest → IsPlain (0 ∷ bytes) form rest
+behind_zero bytes form rest parts h =
+    let few = long_form form h.shortest.form in
+    let entity = entity_behind form h.entity in
+    let all : 0 ∷ bytes ≡ (0 ∷ form) ++ rest = ap (λ (x : List ℕ). 0 ∷ x) parts in
+    let f : IsAscii (0 ∷ form) (groups form) = record { spelled = record { entity = entity; short = omega (arith, few); value = refl }; limit = h.shortest.form.limit } in
+    let n : IsAsciiNullable (0 ∷ form) (Value (groups form)) =
+    record { spelled = record { entity = entity; short = omega (arith, few); value = nullable_behind (groups form) h.shortest.form.spelled.value }; limit = h.shortest.form.limit } in
+    record {
+      entity = h.entity;
+      read = ap ascii_at all ∙ ascii_forms.again (0 ∷ form) (groups form) rest f;
+      read_nullable = ap ascii_nullable_at all ∙ ascii_nullable_forms.again (0 ∷ form) (Value (groups form)) rest n;
+      shortest = h.shortest;
+      shortest_nullable = h.shortest_nullable;
+    }
 
 -- ---- deltas that remove few characters at the end
 
@@ -193,19 +226,66 @@ text_together base form n b f few =
     let w = string_within kind.Ascii (take n base ++ groups form) (Ascii (take n base ++ groups form)) tt refl (few, all_append (λ x. x < unit_limit kind.Ascii) (take n base) (groups form) (all_take (λ x. x < unit_limit kind.Ascii) n base us.1) uf.1) in
     record { of_units = tt; of_kind = w.0; within = w.1 }
 
-pub plain_delta_relays : (i : FieldPart) (base : List ℕ) (r n : ℕ) (bytes middle form rest before after : List ℕ) → i.kind ≡ kind.Ascii → i.part ≡ part.Whole → i.operator ≡ operator.Delta → IsText kind.Ascii (Ascii base) → r < 63 → r ≤ length base → n ≡ length base - r
-    → Spelt false i.presence bytes (pos r) middle → IsPlain middle form rest → n + length form ≤ 65535 → IsLongestPrefix base (take n base ++ groups form) n → SharesEnd base (take n base ++ groups form) n
+pub cut_read : (i : FieldPart) (base : List ℕ) (r : ℕ) (bytes middle form rest : List ℕ) → i.kind ≡ kind.Ascii → r < 63 → r ≤ length base → Spelt false i.presence bytes (pos r) middle → IsPlain middle form rest → (length base - r) + length form ≤ 65535 → GivesCut i base bytes r form rest
+cut_read i base r bytes middle form rest k few le removal h short =
+    let long : length (take (length base - r) base ++ groups form) ≤ 65535 =
+    omega (arith, short, length-append (take (length base - r) base) (groups form), length-take-le (length base - r) base (omega arith), length-map form (λ b. b % 128)) in
+    record { behind = middle; plain = h; few = few; within = le; short = short; read = delta_read_plain i base r bytes middle form rest k few le removal h long }
+
+-- the first characters of a text and of a form, where each is the same
+pub agree : (text form : List ℕ) (m : ℕ) → m ≤ length text → m ≤ length form → ((j : ℕ) → j < m → get_or text j 0 ≡ get_or form j 0 % 128) → take m text ≡ take m (groups form)
+agree text form zero p q h = refl
+agree (x ∷ xs) (b ∷ bs) (suc m) p q h = rw (h 0 (omega arith), agree xs bs m (omega (arith, p)) (omega (arith, q)) (λ j lt. h (suc j) (omega (arith, lt)))) refl
+agree [] form (suc m) p q h = absurd (omega (arith, p))
+agree (x ∷ xs) [] (suc m) p q h = absurd (omega (arith, q))
+
+kept_more : (base form : List ℕ) (n m : ℕ) → take m (drop n base) ≡ take m (groups form) → take n base ++ groups form ≡ take (n + m) base ++ groups (drop m form)
+kept_more base form n m same =
+    let parts : groups form ≡ take m (drop n base) ++ groups (drop m form) =
+    sym (take-append-drop m (groups form)) ∙ ap (λ (x : List ℕ). x ++ drop m (groups form)) (sym same) ∙ ap (λ (x : List ℕ). take m (drop n base) ++ x) (drop-map (λ b. b % 128) m form) in
+    let whole : take (n + m) base ≡ take n base ++ take m (drop n base) = take-add n m base in
+    ap (λ (x : List ℕ). take n base ++ x) parts ∙ sym (append_assoc (take n base) (take m (drop n base)) (groups (drop m form))) ∙ ap (λ (x : List ℕ). x ++ groups (drop m form)) (sym whole)
+
+pub slice_length : (xs : List ℕ) (a b : ℕ) → a ≤ b → b ≤ length xs → length (slice_range xs a b) ≡ b - a
+slice_length xs a b h k = length-take-le (b - a) (drop a xs) (omega (arith, h, k, length-drop a xs))
+
+slice_drop : (xs : List ℕ) (a b m : ℕ) → a + m ≤ b → drop m (slice_range xs a b) ≡ slice_range xs (a + m) b
+slice_drop xs a b m h =
+    let on : b - a ≡ m + (b - (a + m)) = omega (arith, h) in
+    ap (λ n. drop m (take n (drop a xs))) on ∙ drop-take m (b - (a + m)) (drop a xs) ∙ ap (λ (l : List ℕ). take (b - (a + m)) l) (drop-drop m a xs)
+
+pub cut_less : (i : FieldPart) (base bytes b behind : List ℕ) (r first next m : ℕ) → m ≤ r → first + m ≤ next → take m (drop (length base - r) base) ≡ take m (groups (slice_range bytes first next)) → IsPlain behind (slice_range bytes (first + m) next) (drop next bytes)
+    → length (slice_range bytes (first + m) next) + m ≤ length (slice_range bytes first next)
+    → GivesCut i base b r (slice_range bytes first next) (drop next bytes) → GivesCut i base b (r - m) (slice_range bytes (first + m) next) (drop next bytes)
+cut_less i base bytes b behind r first next m few le same plain long h =
+    let form = slice_range bytes first next in
+    let kept : length base - (r - m) ≡ (length base - r) + m = omega (arith, few, h.within) in
+    let value : take (length base - r) base ++ groups form ≡ take (length base - (r - m)) base ++ groups (slice_range bytes (first + m) next) =
+    kept_more base form (length base - r) m same
+    ∙ ap (λ (x : List ℕ). take ((length base - r) + m) base ++ groups x) (slice_drop bytes first next m le)
+    ∙ ap (λ n. take n base ++ groups (slice_range bytes (first + m) next)) (sym kept) in
+    record {
+      behind = behind;
+      plain = plain;
+      few = omega (arith, h.few);
+      within = omega (arith, h.within);
+      short = omega (arith, h.short, few, h.within, long);
+      read = subst (λ (x : List ℕ). unit_delta_at i (Assigned (Ascii base)) b ≡ Ok (Some (Ascii x), drop next bytes)) value h.read;
+    }
+
+pub plain_delta_relays : (i : FieldPart) (base : List ℕ) (r n : ℕ) (bytes form rest before after : List ℕ) → i.kind ≡ kind.Ascii → i.part ≡ part.Whole → i.operator ≡ operator.Delta → IsText kind.Ascii (Ascii base) → n ≡ length base - r → GivesCut i base bytes r form rest
+    → IsLongestPrefix base (take n base ++ groups form) n → SharesEnd base (take n base ++ groups form) n
     → (b : List ℕ) × (after ≡ before ++ b ++ form) × ShortestSigned i.presence (pos r) b → Relays i (Assigned (Ascii base)) (Assigned (Ascii (take n base ++ groups form))) (Ascii (take n base ++ groups form)) bytes rest before after
-plain_delta_relays i base r n bytes middle form rest before after k whole o text small le is removal h short prefix suffix appended =
+plain_delta_relays i base r n bytes form rest before after k whole o text is cut prefix suffix appended =
     let v = take n base ++ groups form in
-    let long : length v ≤ 65535 = omega (arith, short, length-append (take n base) (groups form), length-take-le n base (omega (arith, is)), length-map form (λ b. b % 128)) in
-    let t = text_together base form n text (text_plain middle form rest h) long in
-    let read = delta_read_plain i base r bytes middle form rest k small le removal h (subst (λ m. length (take m base ++ groups form) ≤ 65535) is long) in
+    let h = cut.plain in
+    let long : length v ≤ 65535 = omega (arith, is, cut.short, length-append (take n base) (groups form), length-take-le n base (omega (arith, is)), length-map form (λ b. b % 128)) in
+    let t = text_together base form n text (text_plain cut.behind form rest h) long in
     text_delta_relays i (Ascii base) (Ascii v) (pos r) (groups form) bytes rest before after whole o
     (subst (λ (k : Kind). IsText k (Ascii base)) (sym k) text)
     (subst (λ (k : Kind). IsText k (Ascii v)) (sym k) t)
-    (subst (λ m. unit_delta_at i (Assigned (Ascii base)) bytes ≡ Ok (Some (Ascii (take m base ++ groups form)), rest)) (sym is) read)
-    (subst (λ (k : Kind). IsBestCut k i.presence base v (pos r) (groups form)) (sym k) (best_removal kind.Ascii i.presence base (groups form) r n small le is prefix suffix (plain_least middle form rest h)))
+    (subst (λ m. unit_delta_at i (Assigned (Ascii base)) bytes ≡ Ok (Some (Ascii (take m base ++ groups form)), rest)) (sym is) cut.read)
+    (subst (λ (k : Kind). IsBestCut k i.presence base v (pos r) (groups form)) (sym k) (best_removal kind.Ascii i.presence base (groups form) r n cut.few cut.within is prefix suffix (plain_least cut.behind form rest h)))
     (appended.0 ++ form, appended.1 ∙ append_assoc before appended.0 form, record { front = appended.0; back = form; parts = refl; first = appended.2; second = subst (λ (k : Kind). ShortestPart k (groups form) form) (sym k) h.shortest })
 
 -- ---- what a call of the code finds
@@ -260,20 +340,54 @@ no_same_text base part n lt prefix e =
     let all = prefix.longest (length base) (omega arith) (let l = ap length e in omega (arith, l)) (ap (take (length base)) e) in
     omega (arith, all, lt)
 
+pub tail_read : (i : FieldPart) (base bytes form rest : List ℕ) → i.kind ≡ kind.Ascii → length base ≤ 65535 → length form ≤ length base → IsPlain bytes form rest → GivesTail i base bytes form rest
+tail_read i base bytes form rest k short le h =
+    let same = length-map form (λ b. b % 128) in
+    let long : length (take (length base - length (groups form)) base ++ groups form) ≤ 65535 =
+    omega (arith, short, le, same, length-append (take (length base - length (groups form)) base) (groups form), length-take-le (length base - length (groups form)) base (omega arith)) in
+    record {
+      behind = bytes;
+      plain = h;
+      within = le;
+      read = subst (λ m. tail_at i (Assigned (Ascii base)) bytes ≡ Ok (Some (Ascii (take (length base - m) base ++ groups form)), rest)) same (tail_read_plain i base bytes form rest k h long);
+    }
+
+pub tail_less : (i : FieldPart) (base bytes b behind : List ℕ) (first next m : ℕ) → first + m ≤ next → next ≤ length bytes → take m (drop (length base - (next - first)) base) ≡ take m (groups (slice_range bytes first next)) → IsPlain behind (slice_range bytes (first + m) next) (drop next bytes)
+    → GivesTail i base b (slice_range bytes first next) (drop next bytes) → GivesTail i base b (slice_range bytes (first + m) next) (drop next bytes)
+tail_less i base bytes b behind first next m le end same plain h =
+    let form = slice_range bytes first next in
+    let long : length form ≡ next - first = slice_length bytes first next (omega (arith, le)) end in
+    let less : length (slice_range bytes (first + m) next) ≡ next - (first + m) = slice_length bytes (first + m) next le end in
+    let within : next - first ≤ length base = omega (arith, long, h.within) in
+    let kept : length base - length (slice_range bytes (first + m) next) ≡ (length base - (next - first)) + m = omega (arith, less, within, le) in
+    let was : length base - length form ≡ length base - (next - first) = omega (arith, long) in
+    let value : take (length base - length form) base ++ groups form ≡ take (length base - length (slice_range bytes (first + m) next)) base ++ groups (slice_range bytes (first + m) next) =
+    ap (λ n. take n base ++ groups form) was
+    ∙ kept_more base form (length base - (next - first)) m same
+    ∙ ap (λ (x : List ℕ). take ((length base - (next - first)) + m) base ++ groups x) (slice_drop bytes first next m le)
+    ∙ ap (λ n. take n base ++ groups (slice_range bytes (first + m) next)) (sym kept) in
+    record {
+      behind = behind;
+      plain = plain;
+      within = omega (arith, less, within);
+      read = subst (λ (x : List ℕ). tail_at i (Assigned (Ascii base)) b ≡ Ok (Some (Ascii x), drop next bytes)) value h.read;
+    }
+
 pub plain_tail_relays : (i : FieldPart) (base : List ℕ) (n : ℕ) (bytes form rest before : List ℕ) → i.kind ≡ kind.Ascii → i.part ≡ part.Whole → i.operator ≡ operator.Tail → IsText kind.Ascii (Ascii base) → length base ≤ 65535 → n + length form ≡ length base
-    → IsPlain bytes form rest → IsLongestPrefix base (take n base ++ groups form) n → Relays i (Assigned (Ascii base)) (Assigned (Ascii (take n base ++ groups form))) (Ascii (take n base ++ groups form)) bytes rest before (before ++ form)
-plain_tail_relays i base n bytes form rest before k whole o text short is h prefix =
+    → GivesTail i base bytes form rest → IsLongestPrefix base (take n base ++ groups form) n → Relays i (Assigned (Ascii base)) (Assigned (Ascii (take n base ++ groups form))) (Ascii (take n base ++ groups form)) bytes rest before (before ++ form)
+plain_tail_relays i base n bytes form rest before k whole o text short is gives prefix =
     let v = take n base ++ groups form in
+    let h = gives.plain in
     let same = length-map form (λ b. b % 128) in
     let some = entity_some form h.entity in
     let kept : n ≡ length base - length (groups form) = omega (arith, is, same) in
     let long : length v ≤ 65535 = omega (arith, short, is, same, length-append (take n base) (groups form), length-take-le n base (omega (arith, is))) in
-    let t = text_together base form n text (text_plain bytes form rest h) long in
-    let read = tail_read_plain i base bytes form rest k h (subst (λ m. length (take m base ++ groups form) ≤ 65535) kept long) in
+    let t = text_together base form n text (text_plain gives.behind form rest h) long in
+    let read = subst (λ m. tail_at i (Assigned (Ascii base)) bytes ≡ Ok (Some (Ascii (take (length base - m) base ++ groups form)), rest)) (sym same) gives.read in
     tail_relays i (Ascii base) (Ascii v) (groups form) bytes rest before (before ++ form) whole o
     (subst (λ (k : Kind). IsText k (Ascii base)) (sym k) text)
     (subst (λ (k : Kind). IsText k (Ascii v)) (sym k) t)
     (subst (λ m. tail_at i (Assigned (Ascii base)) bytes ≡ Ok (Some (Ascii (take m base ++ groups form)), rest)) (sym kept) read)
     (other_end i base v k o (no_same_text base (groups form) n (omega (arith, is, some)) prefix))
-    (subst (λ (k : Kind). IsBestTail k i.presence base v (groups form)) (sym k) (best_end i.presence base bytes form rest n (omega (arith, is, same)) h prefix))
-    (form, refl, subst (λ (k : Kind). ShortestUnits k i.presence (groups form) form) (sym k) (shortest_plain i.presence bytes form rest h))
+    (subst (λ (k : Kind). IsBestTail k i.presence base v (groups form)) (sym k) (best_end i.presence base gives.behind form rest n (omega (arith, is, same)) h prefix))
+    (form, refl, subst (λ (k : Kind). ShortestUnits k i.presence (groups form) form) (sym k) (shortest_plain i.presence gives.behind form rest h))

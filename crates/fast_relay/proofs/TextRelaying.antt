@@ -34,7 +34,7 @@ use Rattle.fast_field.proofs.Shortest.{units_form}
 use Rattle.fast_field.proofs.StandingForms.{string_is_shortest}
 use Rattle.fast_field.proofs.ValuesWithin.{IsOfType, units_of_string}
 
-whole_within : (p : Part) (v : Scalar) → p ≡ part.Whole → IsTrue (within_part p v)
+pub whole_within : (p : Part) (v : Scalar) → p ≡ part.Whole → IsTrue (within_part p v)
 whole_within p v is = rw is refl
 
 -- ---- what stands whole
@@ -46,7 +46,7 @@ spelled_as pt kind.Unicode p bytes h = refl
 spelled_as pt kind.Bytes p bytes h = refl
 spelled_as pt k p bytes h = absurd h
 
-text_read : (i : FieldPart) (v : Scalar) (bytes rest : List ℕ) → IsUnitKind i.kind → units_spelled_at i.kind i.presence bytes ≡ Ok (Some v, rest) → whole_at i bytes ≡ Ok (Some v, rest)
+pub text_read : (i : FieldPart) (v : Scalar) (bytes rest : List ℕ) → IsUnitKind i.kind → units_spelled_at i.kind i.presence bytes ≡ Ok (Some v, rest) → whole_at i bytes ≡ Ok (Some v, rest)
 unfolding whole_at
 text_read i v bytes rest h read = spelled_as i.part i.kind i.presence bytes h ∙ read
 
@@ -114,7 +114,7 @@ text_delta_relays i base v removal new_part bytes rest before after whole o h l 
 pub tail_fits : (k : Kind) (v : Scalar) (base tail : List ℕ) → IsText k v → units_of v ≡ ended_by base tail → CanBeUnits k tail
 tail_fits k v base tail h made = units_fit k tail (back_is_string k (units_of v) (take (length base - length tail) base) tail (units_of_string k v h.of_units (text_of_type k v h)) made)
 
-tail_row : (o : Operator) (i : FieldPart) (e : Entry) (bytes : List ℕ) → o ≡ operator.Tail → row_at o i e true bytes ≡ tail_at i e bytes
+pub tail_row : (o : Operator) (i : FieldPart) (e : Entry) (bytes : List ℕ) → o ≡ operator.Tail → row_at o i e true bytes ≡ tail_at i e bytes
 unfolding row_at
 tail_row operator.Tail i e bytes o = refl
 tail_row o' i e bytes o = absurd cc

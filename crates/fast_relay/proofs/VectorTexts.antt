@@ -102,7 +102,7 @@ units_back kind.Unicode s h = refl
 units_back kind.Bytes s h = refl
 units_back k s h = absurd h
 
-spelled : (k : Kind) (p : Presence) (bytes s rest : List ℕ) → IsVectorKind k → IsText k (of_units k s) → units_at k p bytes ≡ Ok (Value s, rest) → units_spelled_at k p bytes ≡ Ok (Some (of_units k s), rest)
+pub spelled : (k : Kind) (p : Presence) (bytes s rest : List ℕ) → IsVectorKind k → IsText k (of_units k s) → units_at k p bytes ≡ Ok (Value s, rest) → units_spelled_at k p bytes ≡ Ok (Some (of_units k s), rest)
 unfolding units_spelled_at unit_value
 spelled kind.Unicode p bytes s rest is t h = rw (h, is_utf8-from_IsUtf8 s t.within.2) refl
 spelled kind.Bytes p bytes s rest is t h = rw h refl

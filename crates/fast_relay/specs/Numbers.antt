@@ -1,11 +1,12 @@
 -- What is asked of a field whose value is relayed. (Own.) No public clause names these.
 use Rattle.std.specs.Prelude.{◌≡◌, ℕ, ℤ, Bool, true, List, Option, Some, Ok}
-use Rattle.fast_wire.specs.declared.nullable.Nullable.TheVariants.{Value}
+use Rattle.fast_wire.specs.declared.nullable.Nullable.TheVariants.{Null, Value}
 use Rattle.fast_value.specs.Scalar.{of_integer}
 use Rattle.fast_value.specs.declared.kind.Kind.{Kind}
 use Rattle.fast_value.specs.declared.kind.Operator.{Operator}
 use Rattle.fast_value.specs.declared.kind.Operator.TheVariants as operator
 use Rattle.fast_value.specs.declared.kind.Presence.{Presence}
+use Rattle.fast_value.specs.declared.kind.Presence.TheVariants.{Optional}
 use Rattle.fast_template.specs.declared.resolved.FieldPart.{FieldPart}
 use Rattle.fast_value.specs.declared.scalar.Scalar.{Scalar}
 use Rattle.fast_dictionary.specs.declared.entry.Entry.{Entry}
@@ -24,6 +25,10 @@ SpellsWhole o = ⊥
 -- the bytes spell a number and not NULL
 abbrev pub Spelt : Bool → Presence → List ℕ → ℤ → List ℕ → Type 0
 Spelt unsigned p bytes z rest = integer_at unsigned p bytes ≡ Ok (Value z, rest)
+
+-- the bytes spell NULL, in its shortest form or in a longer one
+abbrev pub SpeltNull : Bool → List ℕ → List ℕ → Type 0
+SpeltNull unsigned bytes rest = integer_at unsigned Optional bytes ≡ Ok (Null, rest)
 
 -- where the value is a number of the type, it is this one
 abbrev pub IsNumberIn : Kind → Option Scalar → Option ℤ → Type 0

@@ -1,11 +1,13 @@
 -- A field that is read and written at once: what was read is a form of its value, the entry is the one afterwards, and
 -- the value's best form was appended. (Own.)
-use Rattle.std.specs.Prelude.{◌≡◌, ℕ, true, List, ◌++◌, Some, None, Ok, IsTrue}
+use Rattle.std.specs.Prelude.{◌≡◌, ℕ, Bool, true, false, List, [], ◌++◌, Option, Some, None, Ok, IsTrue}
 use Rattle.fast_value.specs.Scalar.{is_of}
+use Rattle.fast_value.specs.declared.kind.Kind.{Kind}
 use Rattle.fast_template.specs.declared.resolved.FieldPart.{FieldPart}
 use Rattle.fast_value.specs.declared.scalar.Scalar.{Scalar}
 use Rattle.fast_dictionary.specs.declared.entry.Entry.{Entry}
 use Rattle.fast_field.specs.Bases.{next}
+use Rattle.fast_field.specs.Best.{IsBest}
 use Rattle.fast_field.specs.FieldReading.{field_at}
 use Rattle.fast_field.specs.Written.{AppendsBest}
 
@@ -28,3 +30,15 @@ pub record RelaysNull (i : FieldPart) (old new : Entry) (bytes rest : List ℕ)
 pub record Takes (i : FieldPart) (old new : Entry) (v : Scalar) (bytes rest : List ℕ) : Type 0 where
   pub read : (more : List ℕ) → field_at i old true (bytes ++ more) ≡ Ok (Some v, rest ++ more)
   pub entry : new ≡ next i old (Some v)
+
+-- whether there is a value, which then is of the type
+abbrev pub IsThere : Kind → Bool → Option Scalar → Type 0
+IsThere k true v = (w : Scalar) × (v ≡ Some w) × IsTrue (is_of k w)
+IsThere k false v = v ≡ None
+
+-- the bytes before `rest` give the value under bit 1, the entry is the one afterwards, and the best form is bit 0 and no
+-- byte
+pub record Drops (i : FieldPart) (old new : Entry) (v : Option Scalar) (bytes rest : List ℕ) : Type 0 where
+  pub read : (more : List ℕ) → field_at i old true (bytes ++ more) ≡ Ok (v, rest ++ more)
+  pub entry : new ≡ next i old v
+  pub best : IsBest i old false [] v

@@ -1,10 +1,16 @@
 -- Strings and vectors within their types. (Own.) No public clause names these.
-use Rattle.std.specs.Prelude.{ℕ, ◌≤◌, List, IsTrue}
+use Rattle.std.specs.Prelude.{◌≡◌, ℕ, ◌+◌, ◌-◌, ◌<◌, ◌≤◌, List, ◌++◌, length, take, Some, Ok, IsTrue}
+use Rattle.fast_wire.specs.Entity.{groups}
+use Rattle.fast_wire.specs.Plain.{IsPlain}
 use Rattle.fast_value.specs.Scalar.{IsScalar, is_of}
 use Rattle.fast_value.specs.declared.kind.Kind.{Kind}
 use Rattle.fast_value.specs.declared.kind.Kind.TheVariants as kind
 use Rattle.fast_value.specs.declared.scalar.Scalar.{Scalar}
+use Rattle.fast_value.specs.declared.scalar.Scalar.TheVariants.{Ascii}
+use Rattle.fast_template.specs.declared.resolved.FieldPart.{FieldPart}
+use Rattle.fast_dictionary.specs.declared.entry.Entry.TheVariants.{Assigned}
 use Rattle.fast_field.specs.CommonParts.{IsLongestSuffix}
+use Rattle.fast_field.specs.FieldReading.{tail_at, unit_delta_at}
 use Rattle.fast_field.specs.Values.{IsUnitKind}
 
 -- a string or vector of a type, and within it
@@ -22,3 +28,22 @@ IsVectorKind k = ⊥
 -- two lists have no more than so much in common at their ends
 abbrev pub SharesEnd : List ℕ → List ℕ → ℕ → Type 0
 SharesEnd a b n = (m : ℕ) × IsLongestSuffix a b m × (m ≤ n)
+
+-- the bytes before `rest` give the text without so many characters at its end, and these behind it, which stand in their
+-- shortest form
+pub record GivesCut (i : FieldPart) (base bytes : List ℕ) (removed : ℕ) (form rest : List ℕ) : Type 0 where
+  pub behind : List ℕ
+  pub plain : IsPlain behind form rest
+  pub few : removed < 63
+  pub within : removed ≤ length base
+  pub short : (length base - removed) + length form ≤ 65535
+  pub read : unit_delta_at i (Assigned (Ascii base)) bytes
+      ≡ Ok (Some (Ascii (take (length base - removed) base ++ groups form)), rest)
+
+-- the bytes before `rest` give the text with these at its end in place of as many, and these stand in their shortest form
+pub record GivesTail (i : FieldPart) (base bytes form rest : List ℕ) : Type 0 where
+  pub behind : List ℕ
+  pub plain : IsPlain behind form rest
+  pub within : length form ≤ length base
+  pub read : tail_at i (Assigned (Ascii base)) bytes
+      ≡ Ok (Some (Ascii (take (length base - length form) base ++ groups form)), rest)

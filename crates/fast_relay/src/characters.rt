@@ -1,10 +1,12 @@
 //! Whether bytes are the characters of an ASCII string, and whether they or a value are not too many.
 
-ghost use Rattle.std.specs.Prelude.{◌≡◌, ◌≤◌, ◌<◌, true, length};
+ghost use Rattle.std.specs.Prelude.{◌≡◌, ◌≤◌, ◌<◌, true, length, drop, slice_range, IfSome};
 ghost use Rattle.std.specs.List.{AllByRecursion};
+ghost use Rattle.fast_wire.specs.Plain.{IsPlain};
 ghost use Rattle.fast_relay.specs.Texts.{IsText};
 
 use fast_template::{Kind, Scalar};
+use fast_wire::plain_ascii_end;
 
 /// The most units of a string or vector.
 pub(crate) const UNIT_LIMIT: usize = 65_535;
@@ -25,6 +27,42 @@ pub(crate) fn are_few(bytes: &[u8]) -> bool
         → (length bytes.now ≤ 65535) × AllByRecursion (λ c. c < 256) bytes.now }
 {
     bytes.len() <= UNIT_LIMIT
+}
+
+/// Where a plain string begins and ends that stands behind one zero group, which is a preamble.
+#[inline(never)]
+fn find_behind_zero(bytes: &[u8], at: usize) -> Option<(usize, usize)>
+    requires { at ≤ length bytes.now }
+    ensures place { IfSome result (λ x. (at ≤ x.0) × (x.0 < x.1) × (x.1 ≤ length bytes.now)) }
+    ensures plain { IfSome result (λ x. IsPlain (drop at bytes.now)
+        (slice_range bytes.now x.0 x.1) (drop x.1 bytes.now)) }
+{
+    if at < bytes.len() && bytes[at] == 0 {
+        match plain_ascii_end(bytes, at + 1) {
+            Some(next) => Some((at + 1, next)),
+            None => None,
+        }
+    } else {
+        None
+    }
+}
+
+/// Where the ASCII string that is read from `at` on begins and ends, if its bytes there are the shortest form of it,
+/// with NULL and without. A zero group may stand in front of them.
+#[inline(always)]
+pub(crate) fn find_plain(bytes: &[u8], at: usize) -> Option<(usize, usize)>
+    requires { at ≤ length bytes.now }
+    ensures place { IfSome result (λ x. (at ≤ x.0) × (x.0 < x.1) × (x.1 ≤ length bytes.now)) }
+    ensures plain { IfSome result (λ x. IsPlain (drop at bytes.now)
+        (slice_range bytes.now x.0 x.1) (drop x.1 bytes.now)) }
+{
+    match plain_ascii_end(bytes, at) {
+        Some(next) => Some((at, next)),
+        None => match find_behind_zero(bytes, at) {
+            Some(x) => Some(x),
+            None => None,
+        },
+    }
 }
 
 /// Whether a value is a string or vector of a type, and within it.

@@ -1,19 +1,23 @@
 //! NULL, read and written at once: a field that is sent as absent.
 
-ghost use Rattle.std.specs.Prelude.{◌≡◌, ◌≤◌, ◌<◌, ◌+◌, ◌++◌, ◌∷◌, [], true, false, length, drop, None, IfNone, IfSome};
+ghost use Rattle.std.specs.Prelude.{◌≡◌, ◌≤◌, ◌<◌, ◌+◌, ◌++◌, ◌∷◌, [], true, false, length, drop, None, IfNone, IfSome, IsTrue};
+ghost use Rattle.fast_value.specs.Scalar.{is_integer};
+ghost use Rattle.fast_value.specs.declared.kind.Presence.TheVariants as presence_type;
 ghost use Rattle.fast_field.specs.Bases.{next_of};
 ghost use Rattle.fast_field.specs.Planning.{left_out_of};
+ghost use Rattle.fast_relay.specs.Numbers.{SpellsWhole};
 ghost use Rattle.fast_relay.specs.Relayed.{RelaysNull};
 
+use crate::integers::{is_unsigned, read_null};
 use fast_dictionary::Entry;
-use fast_template::{FieldPart, Operator, Presence};
+use fast_template::{FieldPart, Kind, Operator, Presence};
 
 /// NULL in its shortest form, which is the same for every type.
 const NULL: u8 = 0x80;
 
 /// Whether the bytes from a place on begin with NULL in its shortest form.
 #[inline(always)]
-fn begins_with_null(bytes: &[u8], at: usize) -> bool
+pub(crate) fn begins_with_null(bytes: &[u8], at: usize) -> bool
     requires { at ≤ length bytes.now }
     ensures within { result ≡ true → at < length bytes.now }
     ensures null { result ≡ true → drop at bytes.now ≡ 128 ∷ drop (at + 1) bytes.now }
@@ -73,6 +77,68 @@ fn send_null(instr: &FieldPart, entry: &mut Entry, out: &mut Vec<u8>) -> bool
     }
 }
 
+/// Relays NULL of an integer of a type that is known here, in any form.
+#[inline(always)]
+fn relay_any_null(
+    kind: Kind,
+    instr: &FieldPart,
+    entry: &mut Entry,
+    bytes: &[u8],
+    at: usize,
+    out: &mut Vec<u8>,
+) -> Option<usize>
+    requires at { at ≤ length bytes.now }
+    requires kind { kind ≡ instr.now.kind }
+    requires integer { IsTrue (is_integer kind) }
+    requires operator { SpellsWhole instr.now.operator }
+    requires presence { instr.now.presence ≡ presence_type.Optional }
+    ensures place { IfSome result (λ next. (at ≤ next) × (next ≤ length bytes.now)) }
+    ensures relayed { IfSome result (λ next. RelaysNull instr.now entry.old entry.new
+        (drop at bytes.now) (drop next bytes.now) out.old.items out.new.items) }
+    ensures entry { IfNone result (entry.new ≡ entry.old) }
+    ensures out { IfNone result (out.new.items ≡ out.old.items) }
+{
+    let Some(next) = read_null(is_unsigned(kind), bytes, at) else {
+        return None;
+    };
+    if send_null(instr, entry, out) {
+        Some(next)
+    } else {
+        None
+    }
+}
+
+/// Relays NULL of an integer that is spelled whole, in a form that is not the shortest.
+#[inline(never)]
+fn relay_long_null(
+    instr: &FieldPart,
+    entry: &mut Entry,
+    bytes: &[u8],
+    at: usize,
+    out: &mut Vec<u8>,
+) -> Option<usize>
+    requires at { at ≤ length bytes.now }
+    requires presence { instr.now.presence ≡ presence_type.Optional }
+    ensures place { IfSome result (λ next. (at ≤ next) × (next ≤ length bytes.now)) }
+    ensures relayed { IfSome result (λ next. RelaysNull instr.now entry.old entry.new
+        (drop at bytes.now) (drop next bytes.now) out.old.items out.new.items) }
+    ensures entry { IfNone result (entry.new ≡ entry.old) }
+    ensures out { IfNone result (out.new.items ≡ out.old.items) }
+{
+    match instr.operator {
+        Operator::Plain | Operator::Default | Operator::Copy | Operator::Increment => {
+            match instr.kind {
+                Kind::UInt32 => relay_any_null(Kind::UInt32, instr, entry, bytes, at, out),
+                Kind::Int32 => relay_any_null(Kind::Int32, instr, entry, bytes, at, out),
+                Kind::UInt64 => relay_any_null(Kind::UInt64, instr, entry, bytes, at, out),
+                Kind::Int64 => relay_any_null(Kind::Int64, instr, entry, bytes, at, out),
+                Kind::Decimal | Kind::Ascii | Kind::Unicode | Kind::Bytes => None,
+            }
+        }
+        Operator::Constant | Operator::Delta | Operator::Tail => None,
+    }
+}
+
 /// Reads NULL under bit 1, of a field of any type that may be absent, appends it where it is the best form of that,
 /// makes the entry the one afterwards, and answers the place after it. None: nothing has changed, and another way tells.
 #[inline(always)]
@@ -93,6 +159,9 @@ pub fn relay_null(
     match instr.presence {
         Presence::Mandatory => None,
         Presence::Optional => {
+            if at < bytes.len() && bytes[at] == 0 {
+                return relay_long_null(instr, entry, bytes, at, out);
+            }
             if !begins_with_null(bytes, at) {
                 return None;
             }

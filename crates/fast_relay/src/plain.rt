@@ -16,17 +16,14 @@ ghost use Rattle.fast_field.specs.Planning.{left_out_of};
 ghost use Rattle.fast_relay.specs.Relayed.{Relays};
 ghost use Rattle.fast_relay.specs.Texts.{SharesEnd};
 
-use crate::characters::{UNIT_LIMIT, are_characters};
-use crate::integers::read_short;
+use crate::characters::{are_characters, find_plain};
+use crate::cut::{read_cut, read_tail};
 use fast_dictionary::Entry;
 use fast_field::write_signed;
 use fast_template::{ByteString, FieldPart, Operator, Scalar};
-use fast_wire::{is_text_of, plain_ascii_end};
+use fast_wire::is_text_of;
 use std::alloc::Global;
 use std::mem;
-
-/// A subtraction length below this takes one byte, with NULL and without.
-const FEW: usize = 63;
 
 /// Puts the characters of an entity behind so many characters of a text, in place of the others; answers false, and
 /// leaves the text as it was, where memory is refused.
@@ -163,10 +160,10 @@ fn relay_plain_whole(
     ensures entry { IfNone result (entry.new ≡ entry.old) }
     ensures out { IfNone result (out.new.items ≡ out.old.items) }
 {
-    let Some(next) = plain_ascii_end(bytes, at) else {
+    let Some((first, next)) = find_plain(bytes, at) else {
         return None;
     };
-    let form = &bytes[at..next];
+    let form = &bytes[first..next];
     if may_be_left_out(instr, entry, form) {
         return None;
     }
@@ -231,17 +228,6 @@ fn is_cut_at_end(base: &[u8], kept: usize, form: &[u8]) -> bool
     }
 }
 
-/// How many characters a subtraction length removes at the end, if they are few.
-#[inline(always)]
-pub(crate) fn few_removed(removal: i128) -> Option<usize>
-    ensures { IfSome result (λ n. (removal ≡ pos n) × (n < 63)) }
-{
-    match usize::try_from(removal) {
-        Ok(removed) if removed < FEW => Some(removed),
-        _ => None,
-    }
-}
-
 /// Relays a string by a removal of few characters at the end of the one that the entry has, and a new part.
 #[inline(always)]
 fn relay_plain_delta(
@@ -264,33 +250,24 @@ fn relay_plain_delta(
     ensures text { IfNone result (text.new ≡ text.old) }
     ensures out { IfNone result (out.new.items ≡ out.old.items) }
 {
-    let Some((removal, middle)) = read_short(false, instr.presence, bytes, at) else {
-        return None;
-    };
-    let Some(removed) = few_removed(removal) else {
-        return None;
-    };
     let base = text.as_slice();
-    if removed > base.len() || !are_characters(base) {
+    if !are_characters(base) {
         return None;
     }
-    let Some(next) = plain_ascii_end(bytes, middle) else {
+    let Some(cut) = read_cut(instr, base, bytes, at) else {
         return None;
     };
-    let form = &bytes[middle..next];
-    let kept = base.len() - removed;
-    if form.len() > UNIT_LIMIT - kept || !agrees_no_further(base, kept, form) {
-        return None;
-    }
-    if !is_cut_at_end(base, kept, form) {
+    let form = &bytes[cut.first..cut.next];
+    let kept = base.len() - cut.removed;
+    if !agrees_no_further(base, kept, form) || !is_cut_at_end(base, kept, form) {
         return None;
     }
     let start = out.len();
-    match write_signed(instr.presence, removal, out) {
+    match write_signed(instr.presence, cut.removed as i128, out) {
         Err(_) => None,
         Ok(()) => {
             if send(alloc, text, kept, form, out) {
-                Some(next)
+                Some(cut.next)
             } else {
                 out.truncate(start);
                 None
@@ -322,11 +299,14 @@ fn relay_plain_tail(
     ensures out { IfNone result (out.new.items ≡ out.old.items) }
 {
     let base = text.as_slice();
-    let Some(next) = plain_ascii_end(bytes, at) else {
+    if !are_characters(base) {
+        return None;
+    }
+    let Some((first, next)) = read_tail(instr, base, bytes, at) else {
         return None;
     };
-    let form = &bytes[at..next];
-    if form.len() > base.len() || !are_characters(base) {
+    let form = &bytes[first..next];
+    if form.len() > base.len() {
         return None;
     }
     let kept = base.len() - form.len();

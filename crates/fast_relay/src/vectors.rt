@@ -22,8 +22,8 @@ ghost use Rattle.fast_relay.specs.Relayed.{Relays};
 ghost use Rattle.fast_relay.specs.Texts.{IsText, IsVectorKind, SharesEnd};
 
 use crate::characters::{UNIT_LIMIT, are_few, is_text};
+use crate::cut::few_removed;
 use crate::integers::read_short;
-use crate::plain::few_removed;
 use fast_dictionary::Entry;
 use fast_field::{units, write_signed, write_units};
 use fast_template::{ByteString, FieldPart, Kind, Operator, Presence, Scalar, UnicodeText};
@@ -44,7 +44,12 @@ fn few_bytes(length: i128) -> Option<usize>
 
 /// Where the bytes of a string or vector begin and end; none where it is NULL or not well.
 #[inline(always)]
-fn find_bytes(kind: Kind, presence: Presence, bytes: &[u8], at: usize) -> Option<(usize, usize)>
+pub(crate) fn find_bytes(
+    kind: Kind,
+    presence: Presence,
+    bytes: &[u8],
+    at: usize,
+) -> Option<(usize, usize)>
     requires at { at ≤ length bytes.now }
     requires kind { IsVectorKind kind }
     ensures start { IfSome result (λ x. (at ≤ x.0) × (x.0 ≤ x.1)) }
@@ -66,7 +71,7 @@ fn find_bytes(kind: Kind, presence: Presence, bytes: &[u8], at: usize) -> Option
 
 /// Whether bytes are a string or vector of a type, and within it.
 #[inline(always)]
-fn are_text(kind: Kind, units: &[u8]) -> bool
+pub(crate) fn are_text(kind: Kind, units: &[u8]) -> bool
     requires { IsVectorKind kind }
     ensures { result ≡ true → IsText kind (of_units kind units.now) }
 {

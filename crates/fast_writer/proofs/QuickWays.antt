@@ -8,7 +8,7 @@ use Rattle.fast_value.specs.declared.kind.Kind.TheVariants as kind
 use Rattle.fast_value.specs.declared.scalar.Scalar.{Scalar}
 use Rattle.fast_value.specs.declared.scalar.Scalar.TheVariants.{I32, I64}
 use Rattle.fast_walk.specs.Received.{exponent_of}
-use Rattle.fast_writer.specs.Quick.{IsThere}
+use Rattle.fast_relay.specs.Relayed.{IsThere}
 
 -- what an exponent and a mantissa are
 is_int32 : (w : Scalar) → IsTrue (is_of kind.Int32 w) → (z : ℤ) × (w ≡ I32 z)

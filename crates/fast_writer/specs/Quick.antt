@@ -1,18 +1,11 @@
 -- A part that was relayed with no value in between. (Own.)
-use Rattle.std.specs.Prelude.{◌≡◌, ℕ, Bool, true, false, List, ◌++◌, Option, Some, None, Ok, IsTrue}
-use Rattle.fast_value.specs.Scalar.{is_of}
-use Rattle.fast_value.specs.declared.kind.Kind.{Kind}
+use Rattle.std.specs.Prelude.{◌≡◌, ℕ, Bool, List, ◌++◌, Option, Ok}
 use Rattle.fast_template.specs.declared.resolved.FieldPart.{FieldPart}
 use Rattle.fast_value.specs.declared.scalar.Scalar.{Scalar}
 use Rattle.fast_dictionary.specs.declared.entry.Entry.{Entry}
 use Rattle.fast_field.specs.Bases.{next}
 use Rattle.fast_field.specs.FieldReading.{field_at}
 use Rattle.fast_writer.specs.Written.{AppendsForm}
-
--- whether there is a value, which then is of the type
-abbrev pub IsThere : Kind → Bool → Option Scalar → Type 0
-IsThere k true v = (w : Scalar) × (v ≡ Some w) × IsTrue (is_of k w)
-IsThere k false v = v ≡ None
 
 -- the bytes before `rest` give the value under a bit, the entry is the one that it leaves, and its best form was
 -- appended, which has the other bit

@@ -5,10 +5,10 @@ ghost use Rattle.fast_template.specs.Resolved.{part_needs_bit as part_needs_bit_
 ghost use Rattle.fast_value.specs.declared.scalar.Scalar.{Scalar as ScalarOf};
 ghost use Rattle.fast_dictionary.specs.Dictionary.{entry_at};
 ghost use Rattle.fast_field.specs.FieldReading.{field_at};
-ghost use Rattle.fast_relay.specs.Relayed.{Relays};
 ghost use Rattle.fast_walk.specs.Received.{Took};
 ghost use Rattle.fast_writer.specs.Levels.{level_of};
-ghost use Rattle.fast_writer.specs.Quick.{IsThere, Relayed};
+ghost use Rattle.fast_relay.specs.Relayed.{IsThere};
+ghost use Rattle.fast_writer.specs.Quick.{Relayed};
 ghost use Rattle.fast_writer.specs.Written.{Spelt};
 
 use crate::fit::is_of_kind;
@@ -16,7 +16,7 @@ use crate::level::Level;
 use crate::relay::relay_entry;
 use fast_dictionary::{Entries, Entry};
 use fast_field::{FieldFault, Passed, pass_left_out};
-use fast_relay::{relay_decimal, relay_null, relay_number, relay_text};
+use fast_relay::{drop_given, relay_decimal, relay_null, relay_number, relay_text};
 use fast_template::{FieldPart, part_needs_bit};
 use std::alloc::Global;
 
@@ -56,7 +56,7 @@ fn relay_sent(
 }
 
 // Takes what bit 0 gives, or what was sent; answers whether its value is there, and the place behind it. None: nothing
-// has changed, and the part goes the general way.
+// has changed, and the part goes another way.
 #[inline(always)]
 fn relay_quickly(
     alloc: Global,
@@ -125,7 +125,69 @@ fn relay_generally(
     }
 }
 
-// The same by the quick way, and by the general one where that does not serve.
+// The same of a part that was sent; what bit 0 gives too is dropped.
+fn relay_sent_otherwise(
+    alloc: Global,
+    part: &FieldPart,
+    entry: &mut Entry,
+    bytes: &[u8],
+    at: usize,
+    out: &mut Vec<u8>,
+) -> Result<(bool, bool, usize), FieldFault>
+    requires place { at ≤ length bytes.now }
+    ensures place { IfOk result (λ x. (at ≤ x.2) × (x.2 ≤ length bytes.now)) }
+    ensures relayed { IfOk result (λ x. (v : Option ScalarOf) × IsThere part.now.kind x.0 v
+        × Relayed part.now entry.old entry.new true x.1 v (drop at bytes.now) (drop x.2 bytes.now)
+        out.old.items out.new.items) }
+    ensures stops { IfErr result (λ f. f ≢ FieldFault.Memory
+        → (field_at part.now entry.old true (drop at bytes.now) ≡ Err f)
+        × (entry.new ≡ entry.old) × (out.new.items ≡ out.old.items)) }
+{
+    match drop_given(part, entry, bytes, at) {
+        Some((there, next)) => Ok((there, false, next)),
+        None => match relay_generally(alloc, part, entry, true, bytes, at, out) {
+            Err(fault) => Err(fault),
+            Ok(x) => Ok(x),
+        },
+    }
+}
+
+// The same of any part that the quick way does not serve. (A call of its own, so that the walk over a segment has room
+// for one answer only.)
+#[inline(never)]
+fn relay_otherwise(
+    alloc: Global,
+    part: &FieldPart,
+    entry: &mut Entry,
+    bit: bool,
+    bytes: &[u8],
+    at: usize,
+    out: &mut Vec<u8>,
+) -> Result<(bool, bool, usize), FieldFault>
+    requires place { at ≤ length bytes.now }
+    requires bit { part_needs_bit_of part.now ≡ false → bit ≡ true }
+    ensures place { IfOk result (λ x. (at ≤ x.2) × (x.2 ≤ length bytes.now)) }
+    ensures relayed { IfOk result (λ x. (v : Option ScalarOf) × IsThere part.now.kind x.0 v
+        × Relayed part.now entry.old entry.new bit x.1 v (drop at bytes.now) (drop x.2 bytes.now)
+        out.old.items out.new.items) }
+    ensures stops { IfErr result (λ f. f ≢ FieldFault.Memory
+        → (field_at part.now entry.old bit (drop at bytes.now) ≡ Err f)
+        × (entry.new ≡ entry.old) × (out.new.items ≡ out.old.items)) }
+{
+    if bit {
+        match relay_sent_otherwise(alloc, part, entry, bytes, at, out) {
+            Err(fault) => Err(fault),
+            Ok(x) => Ok(x),
+        }
+    } else {
+        match relay_generally(alloc, part, entry, false, bytes, at, out) {
+            Err(fault) => Err(fault),
+            Ok(x) => Ok(x),
+        }
+    }
+}
+
+// The same by the quick way, and by the others where that does not serve.
 #[inline(always)]
 fn relay_either(
     alloc: Global,
@@ -148,7 +210,7 @@ fn relay_either(
 {
     match relay_quickly(alloc, part, entry, bit, bytes, at, out) {
         Some((there, next)) => Ok((there, bit, next)),
-        None => match relay_generally(alloc, part, entry, bit, bytes, at, out) {
+        None => match relay_otherwise(alloc, part, entry, bit, bytes, at, out) {
             Err(fault) => Err(fault),
             Ok(x) => Ok(x),
         },

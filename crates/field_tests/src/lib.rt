@@ -6,6 +6,8 @@ mod decimals;
 #[cfg(test)]
 mod fields;
 #[cfg(test)]
+mod given;
+#[cfg(test)]
 mod nulls;
 #[cfg(test)]
 mod numbers;

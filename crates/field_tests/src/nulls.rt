@@ -50,6 +50,14 @@ fn null_empties_an_entry(rt: HostRuntime) -> Result<(), AllocError> {
             appended: &[0x80],
             after: Kept::Empty,
         },
+        // an overlong NULL of a number
+        Relayed {
+            of: Shape::Optional(Kind::UInt32, Operator::Copy),
+            before: Kept::Assigned(Value::U32(7)),
+            bytes: &[0xff, 0x00, 0x80],
+            appended: &[0x80],
+            after: Kept::Empty,
+        },
         Relayed {
             of: Shape::Optional(Kind::Ascii, Operator::Copy),
             before: Kept::Assigned(Value::Ascii(b"AB")),
@@ -142,10 +150,10 @@ fn the_rest_is_no_null(rt: HostRuntime) -> Result<(), AllocError> {
             before: Kept::Undefined,
             bytes: &[0xff, 0x80],
         },
-        // an overlong NULL
+        // an overlong NULL of a string
         NotRelayed {
-            of: Shape::Optional(Kind::UInt32, Operator::Copy),
-            before: Kept::Assigned(Value::U32(7)),
+            of: Shape::Optional(Kind::Unicode, Operator::Copy),
+            before: Kept::Assigned(Value::Unicode("ü")),
             bytes: &[0xff, 0x00, 0x80],
         },
         // a value

@@ -51,13 +51,23 @@ pub(crate) fn none_relayed(
 
 #[test]
 fn copies_of_texts_are_relayed(rt: HostRuntime) -> Result<(), AllocError> {
-    const RELAYED: &[Relayed] = &[Relayed {
-        of: Shape::Mandatory(Kind::Ascii, Operator::Copy),
-        before: Kept::Assigned(Value::Ascii(b"AB")),
-        bytes: &[0, 0x43, 0xc4],
-        appended: &[0x43, 0xc4],
-        after: Kept::Assigned(Value::Ascii(b"CD")),
-    }];
+    const RELAYED: &[Relayed] = &[
+        Relayed {
+            of: Shape::Mandatory(Kind::Ascii, Operator::Copy),
+            before: Kept::Assigned(Value::Ascii(b"AB")),
+            bytes: &[0, 0x43, 0xc4],
+            appended: &[0x43, 0xc4],
+            after: Kept::Assigned(Value::Ascii(b"CD")),
+        },
+        // a preamble is not sent on
+        Relayed {
+            of: Shape::Mandatory(Kind::Ascii, Operator::Copy),
+            before: Kept::Assigned(Value::Ascii(b"AB")),
+            bytes: &[0, 0x00, 0x43, 0xc4],
+            appended: &[0x43, 0xc4],
+            after: Kept::Assigned(Value::Ascii(b"CD")),
+        },
+    ];
     const OTHERS: &[NotRelayed] = &[
         NotRelayed {
             of: Shape::Mandatory(Kind::Ascii, Operator::Copy),
@@ -143,6 +153,14 @@ fn deltas_of_texts_are_relayed(rt: HostRuntime) -> Result<(), AllocError> {
             of: Shape::Mandatory(Kind::Ascii, Operator::Delta),
             before: Kept::Assigned(Value::Ascii(b"ESM6")),
             bytes: &[0, 0x82, 0x4d, 0xb7],
+            appended: &[0x81, 0xb7],
+            after: Kept::Assigned(Value::Ascii(b"ESM7")),
+        },
+        // two more are removed than need be, behind an overlong removal, and a preamble stands in front of the part
+        Relayed {
+            of: Shape::Mandatory(Kind::Ascii, Operator::Delta),
+            before: Kept::Assigned(Value::Ascii(b"ESM6")),
+            bytes: &[0, 0x00, 0x83, 0x00, 0x53, 0x4d, 0xb7],
             appended: &[0x81, 0xb7],
             after: Kept::Assigned(Value::Ascii(b"ESM7")),
         },

@@ -1,0 +1,161 @@
+-- What values rest on that were sent although bit 0 gives them.
+use Rattle.std.proofs.Common.{◌≡◌, ◌++◌, ◌-◌, ℕ, true, List, length, take, drop, Ok, refl, sym, ap, subst, ◌∙◌, inl, inr}
+use Rattle.std.specs.Prelude.{false, ℤ, ◌⊎◌, Option, Some, None, IsTrue}
+use Rattle.std.proofs.lemmas.List.{take-append-drop}
+use Rattle.fast_wire.specs.Entity.{groups}
+use Rattle.fast_wire.specs.Plain.{IsPlain}
+use Rattle.fast_value.specs.Scalar.{is_integer, of_integer}
+use Rattle.fast_value.specs.declared.kind.Kind.{Kind}
+use Rattle.fast_value.specs.declared.kind.Kind.TheVariants as kind
+use Rattle.fast_value.specs.declared.kind.Operator.{Operator}
+use Rattle.fast_value.specs.declared.kind.Operator.TheVariants as operator
+use Rattle.fast_value.specs.declared.kind.Part.{Part}
+use Rattle.fast_value.specs.declared.kind.Part.TheVariants as part
+use Rattle.fast_value.specs.declared.kind.Presence.{Presence}
+use Rattle.fast_value.specs.declared.kind.Presence.TheVariants.{Optional}
+use Rattle.fast_template.specs.declared.resolved.FieldPart.{FieldPart}
+use Rattle.fast_value.specs.declared.scalar.Scalar.{Scalar}
+use Rattle.fast_value.specs.declared.scalar.Scalar.TheVariants.{Ascii}
+use Rattle.fast_dictionary.specs.declared.entry.Entry.{Entry}
+use Rattle.fast_dictionary.specs.declared.entry.Entry.TheVariants.{Assigned}
+use Rattle.fast_field.specs.FieldReading.{integer_spelled_at, row_at, spelled_at, tail_at, units_spelled_at, whole_at}
+use Rattle.fast_field.specs.Fields.{IsWithin}
+use Rattle.fast_field.specs.Numbers.{IsFieldNumber, IsNumberOf, Predicts}
+use Rattle.fast_field.specs.Passed.{Passes}
+use Rattle.fast_field.specs.Values.{is_unsigned}
+use Rattle.fast_field.proofs.FieldsGoOn.{field_goes}
+use Rattle.fast_field.proofs.Passing.{initial_given, kept_given, of_kind, within_number}
+use Rattle.fast_relay.specs.Numbers.{SpellsWhole, Spelt, SpeltNull}
+use Rattle.fast_relay.specs.Relayed.{Drops, IsThere}
+use Rattle.fast_relay.specs.Texts.{GivesTail, IsText}
+use Rattle.fast_relay.proofs.PlainTexts.{spelled_plain}
+use Rattle.fast_relay.proofs.Relaying.{row_read, whole_read, whole_row}
+use Rattle.fast_relay.proofs.TextRelaying.{tail_row, text_read, whole_within}
+
+drops : (i : FieldPart) (old new : Entry) (v : Option Scalar) (bytes rest : List ℕ) → IsWithin i.part v → row_at i.operator i old true bytes ≡ Ok (v, rest) → Passes i old new v → Drops i old new v bytes rest
+drops i old new v bytes rest within row p = record {
+  read = λ more. field_goes i old true bytes v rest more (row_read i old bytes rest v row within);
+  entry = p.entry;
+  best = p.best;
+}
+
+-- ---- numbers
+
+typed_drops : (i : FieldPart) (old new : Entry) (z : ℤ) (bytes rest : List ℕ) → SpellsWhole i.operator → IsFieldNumber i.kind i.part z → Spelt (is_unsigned i.kind) i.presence bytes z rest → Passes i old new (Some (of_integer i.kind z))
+    → (v : Option Scalar) × IsThere i.kind true v × Drops i old new v bytes rest
+typed_drops i old new z bytes rest o h read p = (
+  Some (of_integer i.kind z),
+  (of_integer i.kind z, refl, of_kind i.kind z h.number),
+  drops i old new (Some (of_integer i.kind z)) bytes rest (within_number i.kind i.part z h) (whole_row i.operator i old bytes o ∙ whole_read i bytes rest z h.number read) p,
+)
+
+pub number_drops : (k : Kind) (i : FieldPart) (old new : Entry) (z : ℤ) (bytes rest : List ℕ) → k ≡ i.kind → SpellsWhole i.operator → IsFieldNumber k i.part z → Spelt (is_unsigned k) i.presence bytes z rest → Passes i old new (Some (of_integer k z))
+    → (v : Option Scalar) × IsThere i.kind true v × Drops i old new v bytes rest
+number_drops k i old new z bytes rest same o =
+    subst (λ (k : Kind). IsFieldNumber k i.part z → Spelt (is_unsigned k) i.presence bytes z rest → Passes i old new (Some (of_integer k z)) → (v : Option Scalar) × IsThere i.kind true v × Drops i old new v bytes rest)
+    (sym same)
+    (typed_drops i old new z bytes rest o)
+
+typed_repeats : (i : FieldPart) (v : Scalar) (z : ℤ) → i.operator ≡ operator.Copy → IsNumberOf i.kind v z → IsFieldNumber i.kind i.part z → Passes i (Assigned v) (Assigned v) (Some (of_integer i.kind z))
+typed_repeats i v z o is h =
+    let w = of_integer i.kind z in
+    let p = kept_given i w (rw o tt) (of_kind i.kind z h.number) (within_number i.kind i.part z h) in
+    subst (λ (x : Scalar). Passes i (Assigned x) (Assigned x) (Some w)) (sym is.value) p
+
+pub number_repeats : (k : Kind) (i : FieldPart) (v : Scalar) (z : ℤ) → k ≡ i.kind → i.operator ≡ operator.Copy → IsNumberOf k v z → IsFieldNumber k i.part z → Passes i (Assigned v) (Assigned v) (Some (of_integer k z))
+number_repeats k i v z same o = subst (λ (k : Kind). IsNumberOf k v z → IsFieldNumber k i.part z → Passes i (Assigned v) (Assigned v) (Some (of_integer k z))) (sym same) (typed_repeats i v z o)
+
+typed_initial : (i : FieldPart) (e : Entry) (v : Scalar) (z : ℤ) → i.operator ≡ operator.Default → i.initial ≡ Some v → IsNumberOf i.kind v z → IsFieldNumber i.kind i.part z → Passes i e e (Some (of_integer i.kind z))
+typed_initial i e v z o initial is h =
+    initial_given i e (of_integer i.kind z) o (initial ∙ ap (λ (x : Scalar). Some x) is.value) (within_number i.kind i.part z h)
+
+pub number_initial : (k : Kind) (i : FieldPart) (e : Entry) (v : Scalar) (z : ℤ) → k ≡ i.kind → i.operator ≡ operator.Default → i.initial ≡ Some v → IsNumberOf k v z → IsFieldNumber k i.part z → Passes i e e (Some (of_integer k z))
+number_initial k i e v z same o initial = subst (λ (k : Kind). IsNumberOf k v z → IsFieldNumber k i.part z → Passes i e e (Some (of_integer k z))) (sym same) (typed_initial i e v z o initial)
+
+-- ---- NULL of an integer
+
+pub predicts : (o : Operator) → (o ≡ operator.Copy) ⊎ (o ≡ operator.Increment) → Predicts o
+predicts o (inl e) = rw e tt
+predicts o (inr e) = rw e tt
+
+null_spelled : (pt : Part) (k : Kind) (p : Presence) (bytes rest : List ℕ) → p ≡ Optional → SpeltNull (is_unsigned k) bytes rest → integer_spelled_at pt k p bytes ≡ Ok (None, rest)
+unfolding integer_spelled_at
+null_spelled pt k p bytes rest o h = rw (o, h) refl
+
+null_as : (pt : Part) (k : Kind) (p : Presence) (bytes : List ℕ) → IsTrue (is_integer k) → spelled_at pt k p bytes ≡ integer_spelled_at pt k p bytes
+unfolding spelled_at
+null_as pt kind.UInt32 p bytes h = refl
+null_as pt kind.Int32 p bytes h = refl
+null_as pt kind.UInt64 p bytes h = refl
+null_as pt kind.Int64 p bytes h = refl
+null_as pt k p bytes h = absurd cc
+
+null_whole : (i : FieldPart) (bytes rest : List ℕ) → IsTrue (is_integer i.kind) → i.presence ≡ Optional → SpeltNull (is_unsigned i.kind) bytes rest → whole_at i bytes ≡ Ok (None, rest)
+unfolding whole_at
+null_whole i bytes rest n o h = null_as i.part i.kind i.presence bytes n ∙ null_spelled i.part i.kind i.presence bytes rest o h
+
+pub null_row : (k : Kind) (i : FieldPart) (e : Entry) (bytes rest : List ℕ) → k ≡ i.kind → SpellsWhole i.operator → IsTrue (is_integer k) → i.presence ≡ Optional → SpeltNull (is_unsigned k) bytes rest → row_at i.operator i e true bytes ≡ Ok (None, rest)
+null_row k i e bytes rest same o =
+    subst (λ (k : Kind). IsTrue (is_integer k) → i.presence ≡ Optional → SpeltNull (is_unsigned k) bytes rest → row_at i.operator i e true bytes ≡ Ok (None, rest))
+    (sym same)
+    (λ n p h. whole_row i.operator i e bytes o ∙ null_whole i bytes rest n p h)
+
+pub null_drops : (k : Kind) (i : FieldPart) (old new : Entry) (bytes rest : List ℕ) → k ≡ i.kind → SpellsWhole i.operator → IsTrue (is_integer k) → i.presence ≡ Optional → SpeltNull (is_unsigned k) bytes rest → Passes i old new None
+    → (v : Option Scalar) × IsThere i.kind false v × Drops i old new v bytes rest
+null_drops k i old new bytes rest same o n p h passes = (None, refl, drops i old new None bytes rest tt (null_row k i old bytes rest same o n p h) passes)
+
+-- ---- strings
+
+text_repeats : (i : FieldPart) (v : Scalar) (t : List ℕ) → i.operator ≡ operator.Copy → i.kind ≡ kind.Ascii → i.part ≡ part.Whole → v ≡ Ascii t → Passes i (Assigned v) (Assigned v) (Some (Ascii t))
+text_repeats i v t o k whole same =
+    subst (λ (x : Scalar). Passes i (Assigned x) (Assigned x) (Some (Ascii t))) (sym same) (kept_given i (Ascii t) (rw o tt) (rw k refl) (whole_within i.part (Ascii t) whole))
+
+pub copied_text : (i : FieldPart) (e : Entry) (v : Scalar) (t : List ℕ) → i.operator ≡ operator.Copy → i.kind ≡ kind.Ascii → i.part ≡ part.Whole → e ≡ Assigned v → v ≡ Ascii t → Passes i e e (Some (Ascii t))
+copied_text i e v t o k whole is same = subst (λ (x : Entry). Passes i x x (Some (Ascii t))) (sym is) (text_repeats i v t o k whole same)
+
+pub initial_text : (i : FieldPart) (e : Entry) (v : Scalar) (t : List ℕ) → i.operator ≡ operator.Default → i.part ≡ part.Whole → i.initial ≡ Some v → v ≡ Ascii t → Passes i e e (Some (Ascii t))
+initial_text i e v t o whole initial same = initial_given i e (Ascii t) o (initial ∙ ap (λ (x : Scalar). Some x) same) (whole_within i.part (Ascii t) whole)
+
+pub text_drops : (i : FieldPart) (e : Entry) (bytes form rest : List ℕ) → i.kind ≡ kind.Ascii → i.part ≡ part.Whole → SpellsWhole i.operator → IsPlain bytes form rest → Passes i e e (Some (Ascii (groups form)))
+    → (v : Option Scalar) × IsThere i.kind true v × Drops i e e v bytes rest
+text_drops i e bytes form rest k whole o h p =
+    let v = Ascii (groups form) in
+    let read = subst (λ (k : Kind). units_spelled_at k i.presence bytes ≡ Ok (Some v, rest)) (sym k) (spelled_plain i.presence bytes form rest h) in (
+      Some v,
+      (v, refl, rw k refl),
+      drops i e e (Some v) bytes rest (whole_within i.part v whole) (whole_row i.operator i e bytes o ∙ text_read i v bytes rest (rw k tt) read) p,
+    )
+
+-- ---- Unicode strings and byte vectors
+
+value_repeats : (i : FieldPart) (v w : Scalar) → i.operator ≡ operator.Copy → i.part ≡ part.Whole → IsText i.kind w → v ≡ w → Passes i (Assigned v) (Assigned v) (Some w)
+value_repeats i v w o whole t same =
+    subst (λ (x : Scalar). Passes i (Assigned x) (Assigned x) (Some w)) (sym same) (kept_given i w (rw o tt) t.of_kind (whole_within i.part w whole))
+
+pub copied_units : (i : FieldPart) (e : Entry) (v w : Scalar) → i.operator ≡ operator.Copy → i.part ≡ part.Whole → IsText i.kind w → e ≡ Assigned v → v ≡ w → Passes i e e (Some w)
+copied_units i e v w o whole t is same = subst (λ (x : Entry). Passes i x x (Some w)) (sym is) (value_repeats i v w o whole t same)
+
+pub initial_units : (i : FieldPart) (e : Entry) (v w : Scalar) → i.operator ≡ operator.Default → i.part ≡ part.Whole → i.initial ≡ Some v → v ≡ w → Passes i e e (Some w)
+initial_units i e v w o whole initial same = initial_given i e w o (initial ∙ ap (λ (x : Scalar). Some x) same) (whole_within i.part w whole)
+
+pub units_drop : (i : FieldPart) (e : Entry) (bytes rest : List ℕ) (w : Scalar) → i.part ≡ part.Whole → SpellsWhole i.operator → IsText i.kind w → units_spelled_at i.kind i.presence bytes ≡ Ok (Some w, rest) → Passes i e e (Some w)
+    → (v : Option Scalar) × IsThere i.kind true v × Drops i e e v bytes rest
+units_drop i e bytes rest w whole o t read p = (
+  Some w,
+  (w, refl, t.of_kind),
+  drops i e e (Some w) bytes rest (whole_within i.part w whole) (whole_row i.operator i e bytes o ∙ text_read i w bytes rest t.of_units read) p,
+)
+
+-- ---- tails
+
+pub tail_drops : (i : FieldPart) (base bytes form rest : List ℕ) → i.kind ≡ kind.Ascii → i.part ≡ part.Whole → i.operator ≡ operator.Tail → GivesTail i base bytes form rest → drop (length base - length form) base ≡ groups form
+    → (v : Option Scalar) × IsThere i.kind true v × Drops i (Assigned (Ascii base)) (Assigned (Ascii base)) v bytes rest
+tail_drops i base bytes form rest k whole o h same =
+    let v = Ascii base in
+    let e = Assigned v in
+    let value : take (length base - length form) base ++ groups form ≡ base = ap (λ (x : List ℕ). take (length base - length form) base ++ x) (sym same) ∙ take-append-drop (length base - length form) base in
+    let read = subst (λ (x : List ℕ). tail_at i e bytes ≡ Ok (Some (Ascii x), rest)) value h.read in (
+      Some v,
+      (v, refl, rw k refl),
+      drops i e e (Some v) bytes rest (whole_within i.part v whole) (tail_row i.operator i e bytes o ∙ read) (kept_given i v (rw o tt) (rw k refl) (whole_within i.part v whole)),
+    )

@@ -1,0 +1,467 @@
+//! Values that were sent although bit 0 gives them: they are read, and nothing is written, since bit 0 is their best form.
+//! Integers, ASCII strings in their shortest form, vectors and NULL are served here; what is not goes the general way of
+//! `find_field` and `write_found`.
+
+ghost use Rattle.std.specs.Prelude.{◌≡◌, ◌≤◌, true, false, length, drop, Option, Some, None, IfNone, IfSome, IsTrue};
+ghost use Rattle.fast_value.specs.Scalar.{is_integer, of_integer};
+ghost use Rattle.fast_value.specs.declared.kind.Kind.TheVariants as kind_type;
+ghost use Rattle.fast_value.specs.declared.kind.Operator.TheVariants as operator_type;
+ghost use Rattle.fast_value.specs.declared.kind.Part.TheVariants as part_type;
+ghost use Rattle.fast_value.specs.declared.kind.Presence.TheVariants as presence_type;
+ghost use Rattle.fast_value.specs.declared.scalar.Scalar.{Scalar as ScalarOf};
+ghost use Rattle.fast_value.specs.declared.scalar.Scalar.TheVariants.{Ascii};
+ghost use Rattle.fast_wire.specs.Entity.{groups};
+ghost use Rattle.fast_dictionary.specs.declared.entry.Entry.TheVariants as entry_type;
+ghost use Rattle.fast_field.specs.Numbers.{IsFieldNumber};
+ghost use Rattle.fast_field.specs.Passed.{Passes};
+ghost use Rattle.fast_relay.specs.Numbers.{SpellsWhole};
+ghost use Rattle.fast_relay.specs.Relayed.{Drops, IsThere};
+ghost use Rattle.fast_relay.specs.Texts.{IsText, IsVectorKind};
+ghost use Rattle.fast_field.specs.Values.{of_units};
+
+use crate::characters::{are_characters, find_plain};
+use crate::cut::find_tail;
+use crate::integers::{is_unsigned, read_null, read_short};
+use crate::null::begins_with_null;
+use crate::vectors::{are_text, find_bytes};
+use fast_dictionary::Entry;
+use fast_field::{is_field_number, kept_number, number_after, number_of, set_number};
+use fast_template::{ByteString, FieldPart, Kind, Operator, Part, Presence, Scalar};
+use fast_wire::is_text_of;
+
+/// Whether an entry has this number, which bit 0 then repeats.
+#[inline(always)]
+fn repeats_number(kind: Kind, instr: &FieldPart, entry: &Entry, number: i128) -> bool
+    requires kind { kind ≡ instr.now.kind }
+    requires operator { instr.now.operator ≡ operator_type.Copy }
+    requires number { IsFieldNumber kind instr.now.part number }
+    ensures { result ≡ true
+        → Passes instr.now entry.now entry.now (Some (of_integer kind number)) }
+{
+    match entry {
+        Entry::Assigned(value) => match number_of(kind, value) {
+            Some(kept) => kept == number,
+            None => false,
+        },
+        Entry::Undefined | Entry::Empty => false,
+    }
+}
+
+/// Whether this number is one more than an entry's, as bit 0 then gives; the entry then becomes the one afterwards.
+#[inline(always)]
+fn goes_on_to(kind: Kind, instr: &FieldPart, entry: &mut Entry, number: i128) -> bool
+    requires kind { kind ≡ instr.now.kind }
+    requires operator { instr.now.operator ≡ operator_type.Increment }
+    requires number { IsFieldNumber kind instr.now.part number }
+    ensures passed { result ≡ true
+        → Passes instr.now entry.old entry.new (Some (of_integer kind number)) }
+    ensures entry { result ≡ false → entry.new ≡ entry.old }
+{
+    let Some(kept) = kept_number(kind, entry) else {
+        return false;
+    };
+    if number_after(kind, kept) != number {
+        return false;
+    }
+    set_number(kind, entry, number);
+    true
+}
+
+/// Whether this number is the initial one, which bit 0 then gives.
+#[inline(always)]
+fn is_initial(kind: Kind, instr: &FieldPart, entry: &Entry, number: i128) -> bool
+    requires kind { kind ≡ instr.now.kind }
+    requires operator { instr.now.operator ≡ operator_type.Default }
+    requires number { IsFieldNumber kind instr.now.part number }
+    ensures { result ≡ true
+        → Passes instr.now entry.now entry.now (Some (of_integer kind number)) }
+{
+    match &instr.initial {
+        Some(value) => match number_of(kind, value) {
+            Some(initial) => initial == number,
+            None => false,
+        },
+        None => false,
+    }
+}
+
+/// Whether bit 0 gives this number; the entry then becomes the one afterwards.
+#[inline(always)]
+fn gives_number(kind: Kind, instr: &FieldPart, entry: &mut Entry, number: i128) -> bool
+    requires kind { kind ≡ instr.now.kind }
+    requires number { IsFieldNumber kind instr.now.part number }
+    ensures passed { result ≡ true
+        → Passes instr.now entry.old entry.new (Some (of_integer kind number)) }
+    ensures entry { result ≡ false → entry.new ≡ entry.old }
+{
+    match instr.operator {
+        Operator::Copy => repeats_number(kind, instr, entry, number),
+        Operator::Increment => goes_on_to(kind, instr, entry, number),
+        Operator::Default => is_initial(kind, instr, entry, number),
+        Operator::Plain | Operator::Constant | Operator::Delta | Operator::Tail => false,
+    }
+}
+
+/// Whether bit 0 gives that a field is absent, which leaves the entry as it is.
+#[inline(always)]
+fn gives_absent(instr: &FieldPart, entry: &Entry) -> bool
+    requires presence { instr.now.presence ≡ presence_type.Optional }
+    ensures { result ≡ true → Passes instr.now entry.now entry.now None }
+{
+    match instr.operator {
+        Operator::Copy | Operator::Increment => match entry {
+            Entry::Empty => true,
+            Entry::Undefined | Entry::Assigned(_) => false,
+        },
+        Operator::Default => match &instr.initial {
+            None => true,
+            Some(_) => false,
+        },
+        Operator::Plain | Operator::Constant | Operator::Delta | Operator::Tail => false,
+    }
+}
+
+/// Drops NULL of an integer.
+#[inline(always)]
+fn drop_null(kind: Kind, instr: &FieldPart, entry: &Entry, bytes: &[u8], at: usize) -> Option<usize>
+    requires at { at ≤ length bytes.now }
+    requires kind { kind ≡ instr.now.kind }
+    requires integer { IsTrue (is_integer kind) }
+    requires operator { SpellsWhole instr.now.operator }
+    ensures place { IfSome result (λ next. (at ≤ next) × (next ≤ length bytes.now)) }
+    ensures dropped { IfSome result (λ next. (v : Option ScalarOf) × IsThere instr.now.kind false v
+        × Drops instr.now entry.now entry.now v (drop at bytes.now) (drop next bytes.now)) }
+{
+    match instr.presence {
+        Presence::Mandatory => None,
+        Presence::Optional => {
+            if !gives_absent(instr, entry) {
+                return None;
+            }
+            match read_null(is_unsigned(kind), bytes, at) {
+                Some(next) => Some(next),
+                None => None,
+            }
+        }
+    }
+}
+
+/// Whether a value is the string or vector of a type that these bytes are.
+#[inline(always)]
+fn is_made_of(kind: Kind, value: &Scalar, part: &[u8]) -> bool
+    ensures { result ≡ true → value.now ≡ of_units kind part.now }
+{
+    match (kind, value) {
+        (Kind::Unicode, Scalar::Unicode(text)) => *text.as_bytes() == *part,
+        (Kind::Bytes, Scalar::Bytes(bytes)) => *bytes.as_slice() == *part,
+        _ => false,
+    }
+}
+
+/// Whether bit 0 gives the string or vector that bytes are, which leaves the entry as it is.
+#[inline(always)]
+fn gives_units(instr: &FieldPart, entry: &Entry, part: &[u8]) -> bool
+    requires text { IsText instr.now.kind (of_units instr.now.kind part.now) }
+    requires whole { instr.now.part ≡ part_type.Whole }
+    ensures { result ≡ true
+        → Passes instr.now entry.now entry.now (Some (of_units instr.now.kind part.now)) }
+{
+    match instr.operator {
+        Operator::Copy => match entry {
+            Entry::Assigned(value) => is_made_of(instr.kind, value, part),
+            Entry::Undefined | Entry::Empty => false,
+        },
+        Operator::Default => match &instr.initial {
+            Some(value) => is_made_of(instr.kind, value, part),
+            None => false,
+        },
+        Operator::Plain
+        | Operator::Constant
+        | Operator::Increment
+        | Operator::Delta
+        | Operator::Tail => false,
+    }
+}
+
+/// Drops a Unicode string or a byte vector.
+#[inline(always)]
+fn drop_units(instr: &FieldPart, entry: &Entry, bytes: &[u8], at: usize) -> Option<usize>
+    requires at { at ≤ length bytes.now }
+    requires kind { IsVectorKind instr.now.kind }
+    requires whole { instr.now.part ≡ part_type.Whole }
+    requires operator { SpellsWhole instr.now.operator }
+    ensures place { IfSome result (λ next. (at ≤ next) × (next ≤ length bytes.now)) }
+    ensures dropped { IfSome result (λ next. (v : Option ScalarOf) × IsThere instr.now.kind true v
+        × Drops instr.now entry.now entry.now v (drop at bytes.now) (drop next bytes.now)) }
+{
+    let Some((start, next)) = find_bytes(instr.kind, instr.presence, bytes, at) else {
+        return None;
+    };
+    let part = &bytes[start..next];
+    if !are_text(instr.kind, part) {
+        return None;
+    }
+    if gives_units(instr, entry, part) {
+        Some(next)
+    } else {
+        None
+    }
+}
+
+/// Drops a tail of the string that the entry has, which ends so already.
+#[inline(always)]
+fn drop_plain_tail(instr: &FieldPart, text: &ByteString, bytes: &[u8], at: usize) -> Option<usize>
+    requires at { at ≤ length bytes.now }
+    requires kind { instr.now.kind ≡ kind_type.Ascii }
+    requires whole { instr.now.part ≡ part_type.Whole }
+    requires operator { instr.now.operator ≡ operator_type.Tail }
+    ensures place { IfSome result (λ next. (at ≤ next) × (next ≤ length bytes.now)) }
+    ensures dropped { IfSome result (λ next. (v : Option ScalarOf) × IsThere instr.now.kind true v
+        × Drops instr.now (entry_type.Assigned (Ascii text.now))
+        (entry_type.Assigned (Ascii text.now)) v (drop at bytes.now) (drop next bytes.now)) }
+{
+    let base = text.as_slice();
+    if !are_characters(base) {
+        return None;
+    }
+    let Some((first, next)) = find_tail(instr, base, bytes, at) else {
+        return None;
+    };
+    let form = &bytes[first..next];
+    if is_text_of(&base[base.len() - form.len()..], form) {
+        Some(next)
+    } else {
+        None
+    }
+}
+
+/// The same of an entry.
+#[inline(always)]
+fn drop_tail(instr: &FieldPart, entry: &Entry, bytes: &[u8], at: usize) -> Option<usize>
+    requires at { at ≤ length bytes.now }
+    requires operator { instr.now.operator ≡ operator_type.Tail }
+    ensures place { IfSome result (λ next. (at ≤ next) × (next ≤ length bytes.now)) }
+    ensures dropped { IfSome result (λ next. (v : Option ScalarOf) × IsThere instr.now.kind true v
+        × Drops instr.now entry.now entry.now v (drop at bytes.now) (drop next bytes.now)) }
+{
+    match (instr.kind, instr.part, entry) {
+        (Kind::Ascii, Part::Whole, Entry::Assigned(Scalar::Ascii(text))) => {
+            match drop_plain_tail(instr, text, bytes, at) {
+                Some(next) => Some(next),
+                None => None,
+            }
+        }
+        _ => None,
+    }
+}
+
+/// Drops NULL of any type, in its shortest form.
+#[inline(always)]
+fn drop_short_null(instr: &FieldPart, entry: &Entry, bytes: &[u8], at: usize) -> Option<usize>
+    requires at { at ≤ length bytes.now }
+    requires operator { SpellsWhole instr.now.operator }
+    ensures place { IfSome result (λ next. (at ≤ next) × (next ≤ length bytes.now)) }
+    ensures dropped { IfSome result (λ next. (v : Option ScalarOf) × IsThere instr.now.kind false v
+        × Drops instr.now entry.now entry.now v (drop at bytes.now) (drop next bytes.now)) }
+{
+    match instr.presence {
+        Presence::Mandatory => None,
+        Presence::Optional => {
+            if !begins_with_null(bytes, at) {
+                return None;
+            }
+            if gives_absent(instr, entry) {
+                Some(at + 1)
+            } else {
+                None
+            }
+        }
+    }
+}
+
+/// Drops a number.
+#[inline(always)]
+fn drop_number(
+    kind: Kind,
+    instr: &FieldPart,
+    entry: &mut Entry,
+    bytes: &[u8],
+    at: usize,
+) -> Option<usize>
+    requires at { at ≤ length bytes.now }
+    requires kind { kind ≡ instr.now.kind }
+    requires integer { IsTrue (is_integer kind) }
+    requires operator { SpellsWhole instr.now.operator }
+    ensures place { IfSome result (λ next. (at ≤ next) × (next ≤ length bytes.now)) }
+    ensures dropped { IfSome result (λ next. (v : Option ScalarOf) × IsThere instr.now.kind true v
+        × Drops instr.now entry.old entry.new v (drop at bytes.now) (drop next bytes.now)) }
+    ensures entry { IfNone result (entry.new ≡ entry.old) }
+{
+    let Some((number, next)) = read_short(is_unsigned(kind), instr.presence, bytes, at) else {
+        return None;
+    };
+    if !is_field_number(kind, instr.part, number) {
+        return None;
+    }
+    if gives_number(kind, instr, entry, number) {
+        Some(next)
+    } else {
+        None
+    }
+}
+
+/// Drops a number or NULL of a type that is known here.
+#[inline(always)]
+fn drop_either(
+    kind: Kind,
+    instr: &FieldPart,
+    entry: &mut Entry,
+    bytes: &[u8],
+    at: usize,
+) -> Option<(bool, usize)>
+    requires at { at ≤ length bytes.now }
+    requires kind { kind ≡ instr.now.kind }
+    requires integer { IsTrue (is_integer kind) }
+    requires operator { SpellsWhole instr.now.operator }
+    ensures place { IfSome result (λ x. (at ≤ x.1) × (x.1 ≤ length bytes.now)) }
+    ensures dropped { IfSome result (λ x. (v : Option ScalarOf) × IsThere instr.now.kind x.0 v
+        × Drops instr.now entry.old entry.new v (drop at bytes.now) (drop x.1 bytes.now)) }
+    ensures entry { IfNone result (entry.new ≡ entry.old) }
+{
+    match drop_number(kind, instr, entry, bytes, at) {
+        Some(next) => Some((true, next)),
+        None => match drop_null(kind, instr, entry, bytes, at) {
+            Some(next) => Some((false, next)),
+            None => None,
+        },
+    }
+}
+
+/// Whether a value is the string that bytes spell.
+#[inline(always)]
+fn is_string_of(value: &Scalar, form: &[u8]) -> bool
+    ensures { result ≡ true → value.now ≡ Ascii (groups form.now) }
+{
+    match value {
+        Scalar::Ascii(text) => is_text_of(text.as_slice(), form),
+        _ => false,
+    }
+}
+
+/// Whether bit 0 gives the string that bytes spell, which leaves the entry as it is.
+#[inline(always)]
+fn gives_text(instr: &FieldPart, entry: &Entry, form: &[u8]) -> bool
+    requires kind { instr.now.kind ≡ kind_type.Ascii }
+    requires part { instr.now.part ≡ part_type.Whole }
+    ensures { result ≡ true
+        → Passes instr.now entry.now entry.now (Some (Ascii (groups form.now))) }
+{
+    match instr.operator {
+        Operator::Copy => match entry {
+            Entry::Assigned(value) => is_string_of(value, form),
+            Entry::Undefined | Entry::Empty => false,
+        },
+        Operator::Default => match &instr.initial {
+            Some(value) => is_string_of(value, form),
+            None => false,
+        },
+        Operator::Plain
+        | Operator::Constant
+        | Operator::Increment
+        | Operator::Delta
+        | Operator::Tail => false,
+    }
+}
+
+/// Drops a string that stands in its shortest form.
+#[inline(always)]
+fn drop_text(instr: &FieldPart, entry: &Entry, bytes: &[u8], at: usize) -> Option<usize>
+    requires at { at ≤ length bytes.now }
+    requires kind { instr.now.kind ≡ kind_type.Ascii }
+    requires part { instr.now.part ≡ part_type.Whole }
+    requires operator { SpellsWhole instr.now.operator }
+    ensures place { IfSome result (λ next. (at ≤ next) × (next ≤ length bytes.now)) }
+    ensures dropped { IfSome result (λ next. (v : Option ScalarOf) × IsThere instr.now.kind true v
+        × Drops instr.now entry.now entry.now v (drop at bytes.now) (drop next bytes.now)) }
+{
+    let Some((first, next)) = find_plain(bytes, at) else {
+        return None;
+    };
+    if gives_text(instr, entry, &bytes[first..next]) {
+        Some(next)
+    } else {
+        None
+    }
+}
+
+/// Drops a value of the type that a field has.
+#[inline(always)]
+fn drop_typed(
+    instr: &FieldPart,
+    entry: &mut Entry,
+    bytes: &[u8],
+    at: usize,
+) -> Option<(bool, usize)>
+    requires at { at ≤ length bytes.now }
+    requires operator { SpellsWhole instr.now.operator }
+    ensures place { IfSome result (λ x. (at ≤ x.1) × (x.1 ≤ length bytes.now)) }
+    ensures dropped { IfSome result (λ x. (v : Option ScalarOf) × IsThere instr.now.kind x.0 v
+        × Drops instr.now entry.old entry.new v (drop at bytes.now) (drop x.1 bytes.now)) }
+    ensures entry { IfNone result (entry.new ≡ entry.old) }
+{
+    match instr.kind {
+        Kind::UInt32 => drop_either(Kind::UInt32, instr, entry, bytes, at),
+        Kind::Int32 => drop_either(Kind::Int32, instr, entry, bytes, at),
+        Kind::UInt64 => drop_either(Kind::UInt64, instr, entry, bytes, at),
+        Kind::Int64 => drop_either(Kind::Int64, instr, entry, bytes, at),
+        Kind::Ascii => match instr.part {
+            Part::Whole => match drop_text(instr, entry, bytes, at) {
+                Some(next) => Some((true, next)),
+                None => None,
+            },
+            Part::Exponent | Part::Mantissa | Part::Length => None,
+        },
+        Kind::Unicode | Kind::Bytes => match instr.part {
+            Part::Whole => match drop_units(instr, entry, bytes, at) {
+                Some(next) => Some((true, next)),
+                None => None,
+            },
+            Part::Exponent | Part::Mantissa | Part::Length => None,
+        },
+        Kind::Decimal => None,
+    }
+}
+
+/// Reads an integer, a string, a vector or NULL under bit 1 that bit 0 gives too, makes the entry the one afterwards, and
+/// answers whether there is a value and the place after it. Nothing is to be written, since bit 0 is the best form. None:
+/// nothing has changed, and the general way tells.
+#[inline(never)]
+pub fn drop_given(
+    instr: &FieldPart,
+    entry: &mut Entry,
+    bytes: &[u8],
+    at: usize,
+) -> Option<(bool, usize)>
+    requires { at ≤ length bytes.now }
+    ensures place { IfSome result (λ x. (at ≤ x.1) × (x.1 ≤ length bytes.now)) }
+    ensures dropped { IfSome result (λ x. (v : Option ScalarOf) × IsThere instr.now.kind x.0 v
+        × Drops instr.now entry.old entry.new v (drop at bytes.now) (drop x.1 bytes.now)) }
+    ensures entry { IfNone result (entry.new ≡ entry.old) }
+{
+    match instr.operator {
+        Operator::Copy | Operator::Increment | Operator::Default => {
+            match drop_short_null(instr, entry, bytes, at) {
+                Some(next) => Some((false, next)),
+                None => match drop_typed(instr, entry, bytes, at) {
+                    Some(x) => Some(x),
+                    None => None,
+                },
+            }
+        }
+        Operator::Tail => match drop_tail(instr, entry, bytes, at) {
+            Some(next) => Some((true, next)),
+            None => None,
+        },
+        Operator::Plain | Operator::Constant | Operator::Delta => None,
+    }
+}
