@@ -1,13 +1,12 @@
 -- The checks of a load, their order, and the first that fails.
 -- FAST 1.1, Errors, Static Errors, and D8. The order and the causes without a number are this project's own.
-use Rattle.std.specs.Prelude.{◌≡◌, ◌≢◌, ◌<◌, ◌+◌, ℕ, zero, suc, Bool, false, List, [], ◌∷◌, ◌++◌, length, take, slice_get, option_to_list, Option, Some, None, IsSome}
+use Rattle.std.specs.Prelude.{◌≡◌, ◌≢◌, ◌<◌, ◌+◌, ℕ, zero, suc, false, List, [], ◌∷◌, ◌++◌, length, take, slice_get, option_to_list, Option, Some, None, IsSome}
 use Rattle.std.specs.List.{list_all}
 use Rattle.std.specs.Ordering.{nat_cmp}
 use Rattle.std.specs.declared.cmp.Ordering.TheVariants.{Less}
 use Rattle.std.specs.Cmp.Lexicographic.{slice_cmp}
 use Rattle.fast_value.specs.declared.kind.Operator.TheVariants.{Constant, Default}
 use Rattle.fast_value.specs.declared.kind.Presence.TheVariants.{Mandatory}
-use Rattle.fast_written.specs.declared.fault.LoadCause.{LoadCause}
 use Rattle.fast_written.specs.declared.fault.LoadCause.TheVariants as cause
 use Rattle.fast_written.specs.declared.fault.LoadFault.{LoadFault}
 use Rattle.fast_written.specs.Names.{is_name}

@@ -1,30 +1,15 @@
 -- A walk that waits for more bytes has few of them before it.
-use Rattle.std.proofs.Common.{◌≡◌, ◌≤◌, ◌+◌, ℕ, zero, suc, ℤ, Bool, true, false, List, [], ◌∷◌, length, length-drop, drop, map, Option, Some, None, Result, Ok, Err, refl, sym, ap, subst, ◌∙◌, arith}
+use Rattle.std.proofs.Common.{◌≡◌, ◌≤◌, ◌+◌, ℕ, Bool, List, [], ◌∷◌, length, length-drop, drop, map, Err, refl, sym, ap, ◌∙◌, arith}
 use Rattle.std.specs.FinMap as finite
-use Rattle.std.specs.List.{AllByRecursion}
-use Rattle.fast_template.specs.TemplateSets.{HaveTypedParts}
-use Rattle.fast_value.specs.declared.scalar.Scalar.{Scalar}
-use Rattle.fast_value.specs.declared.scalar.Scalar.TheVariants.{U32, I32, U64, I64, Decimal, Ascii, Unicode, Bytes}
-use Rattle.fast_template.specs.declared.resolved.FieldPart.{FieldPart}
-use Rattle.fast_template.specs.Resolved.{Instruction, Instructions, whole_field, field_in_parts, group_of, sequence_of, no_instructions, then_instruction, part_needs_bit, is_optional, has_map, Resolved, list_of}
-use Rattle.fast_dictionary.specs.Dictionary.{Dictionary, entry_at}
-use Rattle.fast_wire.specs.Reading.{◌>>=◌, map_at}
-use Rattle.fast_wire.specs.declared.fault.WireFault.{WireFault}
-use Rattle.fast_wire.specs.declared.fault.WireFault.TheVariants as wire
-use Rattle.fast_wire.proofs.FormReaders.{err_is}
-use Rattle.fast_field.specs.declared.fault.FieldFault.{FieldFault}
-use Rattle.fast_field.specs.declared.fault.FieldFault.TheVariants as field
-use Rattle.fast_field.specs.FieldReading.{field_at}
-use Rattle.fast_field.proofs.Waits.{field_waits}
+use Rattle.fast_template.specs.Resolved.{no_instructions, Resolved, list_of}
+use Rattle.fast_dictionary.specs.Dictionary.{Dictionary}
+use Rattle.fast_wire.specs.Reading.{◌>>=◌}
 use Rattle.fast_stream.specs.declared.fault.Cause.{Cause}
-use Rattle.fast_stream.specs.declared.fault.Cause.TheVariants.{Truncated, Limit, Memory, D9}
+use Rattle.fast_stream.specs.declared.fault.Cause.TheVariants.{Truncated, Memory}
 use Rattle.fast_walk.specs.declared.halt.Halt.{Halt}
-use Rattle.fast_stream.specs.declared.place.Place.{Place}
 use Rattle.fast_stream.specs.Nodes.{Items, node_limit}
-use Rattle.fast_stream.specs.Bits.{bit_for}
-use Rattle.fast_stream.specs.Streams.{members_of, identifier}
-use Rattle.fast_stream.specs.Faults.{cause_of_wire, cause_of_field, Stop, MessageStop, FirstFault}
-use Rattle.fast_stream.specs.Reading.{Cursor, Reads, stopped, placed, counted, node_at, field_part_at, never, decimal_of, mantissa_at, own_map_at, segment_at, each_at, elements_at, group_at, behind_bit, piece_at, body_at, known, named_at, head_at, in_template, message_at}
+use Rattle.fast_stream.specs.Streams.{identifier}
+use Rattle.fast_stream.specs.Reading.{Cursor, Reads, field_part_at, decimal_of, segment_at, each_at, body_at, named_at, in_template, message_at}
 use Rattle.fast_walk.specs.OpenSegments.{Body, Inside, in_group, in_sequence, Waiting, Next, at_instruction, at_mantissa, at_element, Sequel, body_on, elements_on, top_on, behind_inside, all_around, cursor}
 use Rattle.fast_walk.specs.Received.{Received}
 use Rattle.fast_walk.specs.Traversals.{identifier_on, stop_of}
@@ -35,8 +20,6 @@ use Rattle.fast_walk.specs.declared.walk.Inside.{Inside as InsideNow}
 use Rattle.fast_walk.specs.declared.walk.Inside.TheVariants as inside
 use Rattle.fast_walk.specs.declared.walk.Frame.{Frame as FrameNow}
 use Rattle.fast_walk.specs.declared.walk.Walk.{Walk as WalkNow}
-use Rattle.fast_stream.proofs.MapFaults.{map_refused}
-use Rattle.fast_stream.proofs.MessageReaders.{message_stopped}
 use Rattle.fast_stream.proofs.ShortPieces.{IsShort, short_ok, short_then, part_short, decimal_short, each_short, segment_short, body_short, short_in, message_then, message_ok, identifier_short, message_short}
 
 -- ---- what is left of a message that has begun
