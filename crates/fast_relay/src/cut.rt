@@ -82,8 +82,8 @@ fn less_removed(base: &[u8], bytes: &[u8], cut: Cut) -> Cut
     }
 }
 
-/// Reads a removal of few characters at the end of a text, and a new part; no character is removed that the new part
-/// begins with.
+/// Reads a removal of few characters at the end of a text, and a new part. Characters that the new part begins with are
+/// not removed where what is left of it stands in its shortest form.
 #[inline(always)]
 pub(crate) fn read_cut(instr: &FieldPart, base: &[u8], bytes: &[u8], at: usize) -> Option<Cut>
     requires at { at ≤ length bytes.now }
@@ -166,7 +166,7 @@ pub(crate) fn find_tail(
     Some((first, next))
 }
 
-/// The same, and the tail begins with no character that is there already.
+/// The same, without the characters in front that are there already, where the rest stands in its shortest form.
 #[inline(always)]
 pub(crate) fn read_tail(
     instr: &FieldPart,

@@ -1,6 +1,6 @@
 //! Values that were sent although bit 0 gives them: they are read, and nothing is written, since bit 0 is their best form.
-//! Integers, ASCII strings in their shortest form, vectors and NULL are served here; what is not goes the general way of
-//! `find_field` and `write_found`.
+//! Integers, ASCII strings in their shortest form, tails of them, vectors and NULL are served here; what is not goes the
+//! general way of `find_field` and `write_found`.
 
 ghost use Rattle.std.specs.Prelude.{◌≡◌, ◌≤◌, true, false, length, drop, Option, Some, None, IfNone, IfSome, IsTrue};
 ghost use Rattle.fast_value.specs.Scalar.{is_integer, of_integer};
