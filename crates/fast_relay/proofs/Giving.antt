@@ -25,8 +25,9 @@ use Rattle.fast_field.specs.Passed.{Passes}
 use Rattle.fast_field.specs.Values.{is_unsigned}
 use Rattle.fast_field.proofs.FieldsGoOn.{field_goes}
 use Rattle.fast_field.proofs.Passing.{initial_given, kept_given, of_kind, within_number}
+use Rattle.fast_value.specs.Scalar.{is_of}
 use Rattle.fast_relay.specs.Numbers.{SpellsWhole, Spelt, SpeltNull}
-use Rattle.fast_relay.specs.Relayed.{Drops, IsThere}
+use Rattle.fast_relay.specs.Relayed.{Drops}
 use Rattle.fast_relay.specs.Texts.{GivesTail, IsText}
 use Rattle.fast_relay.proofs.PlainTexts.{spelled_plain}
 use Rattle.fast_relay.proofs.Relaying.{row_read, whole_read, whole_row}
@@ -42,17 +43,16 @@ drops i old new v bytes rest within row p = record {
 -- ---- numbers
 
 typed_drops : (i : FieldPart) (old new : Entry) (z : ℤ) (bytes rest : List ℕ) → SpellsWhole i.operator → IsFieldNumber i.kind i.part z → Spelt (is_unsigned i.kind) i.presence bytes z rest → Passes i old new (Some (of_integer i.kind z))
-    → (v : Option Scalar) × IsThere i.kind true v × Drops i old new v bytes rest
+    → IsTrue (is_of i.kind (of_integer i.kind z)) × Drops i old new (Some (of_integer i.kind z)) bytes rest
 typed_drops i old new z bytes rest o h read p = (
-  Some (of_integer i.kind z),
-  (of_integer i.kind z, refl, of_kind i.kind z h.number),
+  of_kind i.kind z h.number,
   drops i old new (Some (of_integer i.kind z)) bytes rest (within_number i.kind i.part z h) (whole_row i.operator i old bytes o ∙ whole_read i bytes rest z h.number read) p,
 )
 
 pub number_drops : (k : Kind) (i : FieldPart) (old new : Entry) (z : ℤ) (bytes rest : List ℕ) → k ≡ i.kind → SpellsWhole i.operator → IsFieldNumber k i.part z → Spelt (is_unsigned k) i.presence bytes z rest → Passes i old new (Some (of_integer k z))
-    → (v : Option Scalar) × IsThere i.kind true v × Drops i old new v bytes rest
+    → IsTrue (is_of i.kind (of_integer k z)) × Drops i old new (Some (of_integer k z)) bytes rest
 number_drops k i old new z bytes rest same o =
-    subst (λ (k : Kind). IsFieldNumber k i.part z → Spelt (is_unsigned k) i.presence bytes z rest → Passes i old new (Some (of_integer k z)) → (v : Option Scalar) × IsThere i.kind true v × Drops i old new v bytes rest)
+    subst (λ (k : Kind). IsFieldNumber k i.part z → Spelt (is_unsigned k) i.presence bytes z rest → Passes i old new (Some (of_integer k z)) → IsTrue (is_of i.kind (of_integer k z)) × Drops i old new (Some (of_integer k z)) bytes rest)
     (sym same)
     (typed_drops i old new z bytes rest o)
 
@@ -101,8 +101,8 @@ null_row k i e bytes rest same o =
     (λ n p h. whole_row i.operator i e bytes o ∙ null_whole i bytes rest n p h)
 
 pub null_drops : (k : Kind) (i : FieldPart) (old new : Entry) (bytes rest : List ℕ) → k ≡ i.kind → SpellsWhole i.operator → IsTrue (is_integer k) → i.presence ≡ Optional → SpeltNull (is_unsigned k) bytes rest → Passes i old new None
-    → (v : Option Scalar) × IsThere i.kind false v × Drops i old new v bytes rest
-null_drops k i old new bytes rest same o n p h passes = (None, refl, drops i old new None bytes rest tt (null_row k i old bytes rest same o n p h) passes)
+    → Drops i old new None bytes rest
+null_drops k i old new bytes rest same o n p h passes = drops i old new None bytes rest tt (null_row k i old bytes rest same o n p h) passes
 
 -- ---- strings
 
@@ -117,12 +117,11 @@ pub initial_text : (i : FieldPart) (e : Entry) (v : Scalar) (t : List ℕ) → i
 initial_text i e v t o whole initial same = initial_given i e (Ascii t) o (initial ∙ ap (λ (x : Scalar). Some x) same) (whole_within i.part (Ascii t) whole)
 
 pub text_drops : (i : FieldPart) (e : Entry) (bytes form rest : List ℕ) → i.kind ≡ kind.Ascii → i.part ≡ part.Whole → SpellsWhole i.operator → IsPlain bytes form rest → Passes i e e (Some (Ascii (groups form)))
-    → (v : Option Scalar) × IsThere i.kind true v × Drops i e e v bytes rest
+    → IsTrue (is_of i.kind (Ascii (groups form))) × Drops i e e (Some (Ascii (groups form))) bytes rest
 text_drops i e bytes form rest k whole o h p =
     let v = Ascii (groups form) in
     let read = subst (λ (k : Kind). units_spelled_at k i.presence bytes ≡ Ok (Some v, rest)) (sym k) (spelled_plain i.presence bytes form rest h) in (
-      Some v,
-      (v, refl, rw k refl),
+      rw k refl,
       drops i e e (Some v) bytes rest (whole_within i.part v whole) (whole_row i.operator i e bytes o ∙ text_read i v bytes rest (rw k tt) read) p,
     )
 
@@ -139,23 +138,19 @@ pub initial_units : (i : FieldPart) (e : Entry) (v w : Scalar) → i.operator �
 initial_units i e v w o whole initial same = initial_given i e w o (initial ∙ ap (λ (x : Scalar). Some x) same) (whole_within i.part w whole)
 
 pub units_drop : (i : FieldPart) (e : Entry) (bytes rest : List ℕ) (w : Scalar) → i.part ≡ part.Whole → SpellsWhole i.operator → IsText i.kind w → units_spelled_at i.kind i.presence bytes ≡ Ok (Some w, rest) → Passes i e e (Some w)
-    → (v : Option Scalar) × IsThere i.kind true v × Drops i e e v bytes rest
+    → IsTrue (is_of i.kind w) × Drops i e e (Some w) bytes rest
 units_drop i e bytes rest w whole o t read p = (
-  Some w,
-  (w, refl, t.of_kind),
+  t.of_kind,
   drops i e e (Some w) bytes rest (whole_within i.part w whole) (whole_row i.operator i e bytes o ∙ text_read i w bytes rest t.of_units read) p,
 )
 
 -- ---- tails
 
 pub tail_drops : (i : FieldPart) (base bytes form rest : List ℕ) → i.kind ≡ kind.Ascii → i.part ≡ part.Whole → i.operator ≡ operator.Tail → GivesTail i base bytes form rest → drop (length base - length form) base ≡ groups form
-    → (v : Option Scalar) × IsThere i.kind true v × Drops i (Assigned (Ascii base)) (Assigned (Ascii base)) v bytes rest
+    → Drops i (Assigned (Ascii base)) (Assigned (Ascii base)) (Some (Ascii base)) bytes rest
 tail_drops i base bytes form rest k whole o h same =
     let v = Ascii base in
     let e = Assigned v in
     let value : take (length base - length form) base ++ groups form ≡ base = ap (λ (x : List ℕ). take (length base - length form) base ++ x) (sym same) ∙ take-append-drop (length base - length form) base in
-    let read = subst (λ (x : List ℕ). tail_at i e bytes ≡ Ok (Some (Ascii x), rest)) value h.read in (
-      Some v,
-      (v, refl, rw k refl),
-      drops i e e (Some v) bytes rest (whole_within i.part v whole) (tail_row i.operator i e bytes o ∙ read) (kept_given i v (rw o tt) (rw k refl) (whole_within i.part v whole)),
-    )
+    let read = subst (λ (x : List ℕ). tail_at i e bytes ≡ Ok (Some (Ascii x), rest)) value h.read in
+    drops i e e (Some v) bytes rest (whole_within i.part v whole) (tail_row i.operator i e bytes o ∙ read) (kept_given i v (rw o tt) (rw k refl) (whole_within i.part v whole))

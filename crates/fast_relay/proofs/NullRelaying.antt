@@ -23,7 +23,7 @@ use Rattle.fast_field.proofs.FieldForms.{field_forms}
 use Rattle.fast_field.proofs.FieldsGoOn.{field_goes}
 use Rattle.fast_field.proofs.WrittenForms.{appends_best}
 use Rattle.fast_relay.specs.Numbers.{SpellsWhole, SpeltNull}
-use Rattle.fast_relay.specs.Relayed.{Drops, IsThere, RelaysNull}
+use Rattle.fast_relay.specs.Relayed.{Drops, RelaysNull}
 use Rattle.fast_relay.proofs.Giving.{null_row}
 use Rattle.fast_relay.proofs.Relaying.{row_read, whole_row}
 
@@ -77,5 +77,5 @@ any_null_relays k i old new bytes rest before after same o n optional spelt out 
 
 -- ---- NULL that bit 0 gives
 
-pub short_null_drops : (i : FieldPart) (e : Entry) (rest : List ℕ) → SpellsWhole i.operator → i.presence ≡ Optional → Passes i e e None → (v : Option Scalar) × IsThere i.kind false v × Drops i e e v (128 ∷ rest) rest
-short_null_drops i e rest o optional p = (None, refl, record { read = λ more. null_read i e (rest ++ more) o optional; entry = p.entry; best = p.best })
+pub short_null_drops : (i : FieldPart) (e : Entry) (rest : List ℕ) → SpellsWhole i.operator → i.presence ≡ Optional → Passes i e e None → Drops i e e None (128 ∷ rest) rest
+short_null_drops i e rest o optional p = record { read = λ more. null_read i e (rest ++ more) o optional; entry = p.entry; best = p.best }

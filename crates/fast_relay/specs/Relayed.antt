@@ -1,6 +1,6 @@
 -- A field that is read and written at once: what was read is a form of its value, the entry is the one afterwards, and
 -- the value's best form was appended. (Own.)
-use Rattle.std.specs.Prelude.{◌≡◌, ℕ, Bool, true, false, List, [], ◌++◌, Option, Some, None, Ok, IsTrue}
+use Rattle.std.specs.Prelude.{◌≡◌, ℕ, Bool, true, false, List, [], ◌++◌, Option, Some, None, Ok, IsTrue, ⊤}
 use Rattle.fast_value.specs.Scalar.{is_of}
 use Rattle.fast_value.specs.declared.kind.Kind.{Kind}
 use Rattle.fast_template.specs.declared.resolved.FieldPart.{FieldPart}
@@ -10,6 +10,8 @@ use Rattle.fast_field.specs.Bases.{next}
 use Rattle.fast_field.specs.Best.{IsBest}
 use Rattle.fast_field.specs.FieldReading.{field_at}
 use Rattle.fast_field.specs.Written.{AppendsBest}
+use Rattle.fast_relay.specs.declared.relayed.Relayed.{Relayed}
+use Rattle.fast_relay.specs.declared.relayed.Relayed.TheVariants.{Sent, Given, Elsewhere}
 
 -- the bytes before `rest` give the value under bit 1, and behind what was written its best form was appended
 pub record Relays (i : FieldPart) (old new : Entry) (v : Scalar) (bytes rest : List ℕ)
@@ -42,3 +44,26 @@ pub record Drops (i : FieldPart) (old new : Entry) (v : Option Scalar) (bytes re
   pub read : (more : List ℕ) → field_at i old true (bytes ++ more) ≡ Ok (v, rest ++ more)
   pub entry : new ≡ next i old v
   pub best : IsBest i old false [] v
+
+-- the best form of the value that was read has this bit: bit 1 and what was appended, or bit 0, and nothing was
+abbrev pub RelaysAs : Bool → FieldPart → Entry → Entry → Scalar → List ℕ → List ℕ → List ℕ → List ℕ → Type 0
+RelaysAs true i old new v bytes rest before after = Relays i old new v bytes rest before after
+RelaysAs false i old new v bytes rest before after =
+    IsTrue (is_of i.kind v) × Drops i old new (Some v) bytes rest × (after ≡ before)
+
+-- the same of NULL
+abbrev pub RelaysNullAs : Bool → FieldPart → Entry → Entry → List ℕ → List ℕ → List ℕ → List ℕ → Type 0
+RelaysNullAs true i old new bytes rest before after = RelaysNull i old new bytes rest before after
+RelaysNullAs false i old new bytes rest before after = Drops i old new None bytes rest × (after ≡ before)
+
+-- what holds of the bit and of the place behind what was read, where a field was relayed
+abbrev pub IfRelayed : Relayed → (Bool → ℕ → Type 0) → Type 0
+IfRelayed (Sent next) holds = holds true next
+IfRelayed (Given next) holds = holds false next
+IfRelayed Elsewhere holds = ⊤
+
+-- what holds where it was not
+abbrev pub IfElsewhere : Relayed → Type 0 → Type 0
+IfElsewhere (Sent next) holds = ⊤
+IfElsewhere (Given next) holds = ⊤
+IfElsewhere Elsewhere holds = holds

@@ -1,6 +1,5 @@
-//! Values that were sent although bit 0 gives them: they are read, and nothing is written, since bit 0 is their best form.
-//! Integers, ASCII strings in their shortest form, tails of them, vectors and NULL are served here; what is not goes the
-//! general way of `find_field` and `write_found`.
+//! Whether a value that was sent is what bit 0 gives too; it then has bit 0 for its best form. Integers, ASCII strings in
+//! their shortest form, tails of them, vectors and NULL are compared here.
 
 ghost use Rattle.std.specs.Prelude.{◌≡◌, ◌≤◌, true, false, length, drop, Option, Some, None, IfNone, IfSome, IsTrue};
 ghost use Rattle.fast_value.specs.Scalar.{is_integer, of_integer};
@@ -87,7 +86,7 @@ fn is_initial(kind: Kind, instr: &FieldPart, entry: &Entry, number: i128) -> boo
 
 /// Whether bit 0 gives this number; the entry then becomes the one afterwards.
 #[inline(always)]
-fn gives_number(kind: Kind, instr: &FieldPart, entry: &mut Entry, number: i128) -> bool
+pub(crate) fn gives_number(kind: Kind, instr: &FieldPart, entry: &mut Entry, number: i128) -> bool
     requires kind { kind ≡ instr.now.kind }
     requires number { IsFieldNumber kind instr.now.part number }
     ensures passed { result ≡ true
@@ -104,9 +103,10 @@ fn gives_number(kind: Kind, instr: &FieldPart, entry: &mut Entry, number: i128) 
 
 /// Whether bit 0 gives that a field is absent, which leaves the entry as it is.
 #[inline(always)]
-fn gives_absent(instr: &FieldPart, entry: &Entry) -> bool
+pub(crate) fn gives_absent(instr: &FieldPart, entry: &Entry) -> bool
     requires presence { instr.now.presence ≡ presence_type.Optional }
-    ensures { result ≡ true → Passes instr.now entry.now entry.now None }
+    ensures passed { result ≡ true → Passes instr.now entry.now entry.now None }
+    ensures operator { result ≡ true → SpellsWhole instr.now.operator }
 {
     match instr.operator {
         Operator::Copy | Operator::Increment => match entry {
@@ -118,31 +118,6 @@ fn gives_absent(instr: &FieldPart, entry: &Entry) -> bool
             Some(_) => false,
         },
         Operator::Plain | Operator::Constant | Operator::Delta | Operator::Tail => false,
-    }
-}
-
-/// Drops NULL of an integer.
-#[inline(always)]
-fn drop_null(kind: Kind, instr: &FieldPart, entry: &Entry, bytes: &[u8], at: usize) -> Option<usize>
-    requires at { at ≤ length bytes.now }
-    requires kind { kind ≡ instr.now.kind }
-    requires integer { IsTrue (is_integer kind) }
-    requires operator { SpellsWhole instr.now.operator }
-    ensures place { IfSome result (λ next. (at ≤ next) × (next ≤ length bytes.now)) }
-    ensures dropped { IfSome result (λ next. (v : Option ScalarOf) × IsThere instr.now.kind false v
-        × Drops instr.now entry.now entry.now v (drop at bytes.now) (drop next bytes.now)) }
-{
-    match instr.presence {
-        Presence::Mandatory => None,
-        Presence::Optional => {
-            if !gives_absent(instr, entry) {
-                return None;
-            }
-            match read_null(is_unsigned(kind), bytes, at) {
-                Some(next) => Some(next),
-                None => None,
-            }
-        }
     }
 }
 
@@ -160,7 +135,7 @@ fn is_made_of(kind: Kind, value: &Scalar, part: &[u8]) -> bool
 
 /// Whether bit 0 gives the string or vector that bytes are, which leaves the entry as it is.
 #[inline(always)]
-fn gives_units(instr: &FieldPart, entry: &Entry, part: &[u8]) -> bool
+pub(crate) fn gives_units(instr: &FieldPart, entry: &Entry, part: &[u8]) -> bool
     requires text { IsText instr.now.kind (of_units instr.now.kind part.now) }
     requires whole { instr.now.part ≡ part_type.Whole }
     ensures { result ≡ true
@@ -183,42 +158,22 @@ fn gives_units(instr: &FieldPart, entry: &Entry, part: &[u8]) -> bool
     }
 }
 
-/// Drops a Unicode string or a byte vector.
-#[inline(always)]
-fn drop_units(instr: &FieldPart, entry: &Entry, bytes: &[u8], at: usize) -> Option<usize>
-    requires at { at ≤ length bytes.now }
-    requires kind { IsVectorKind instr.now.kind }
-    requires whole { instr.now.part ≡ part_type.Whole }
-    requires operator { SpellsWhole instr.now.operator }
-    ensures place { IfSome result (λ next. (at ≤ next) × (next ≤ length bytes.now)) }
-    ensures dropped { IfSome result (λ next. (v : Option ScalarOf) × IsThere instr.now.kind true v
-        × Drops instr.now entry.now entry.now v (drop at bytes.now) (drop next bytes.now)) }
-{
-    let Some((start, next)) = find_bytes(instr.kind, instr.presence, bytes, at) else {
-        return None;
-    };
-    let part = &bytes[start..next];
-    if !are_text(instr.kind, part) {
-        return None;
-    }
-    if gives_units(instr, entry, part) {
-        Some(next)
-    } else {
-        None
-    }
-}
-
 /// Drops a tail of the string that the entry has, which ends so already.
 #[inline(always)]
-fn drop_plain_tail(instr: &FieldPart, text: &ByteString, bytes: &[u8], at: usize) -> Option<usize>
+pub(crate) fn drop_plain_tail(
+    instr: &FieldPart,
+    text: &ByteString,
+    bytes: &[u8],
+    at: usize,
+) -> Option<usize>
     requires at { at ≤ length bytes.now }
     requires kind { instr.now.kind ≡ kind_type.Ascii }
     requires whole { instr.now.part ≡ part_type.Whole }
     requires operator { instr.now.operator ≡ operator_type.Tail }
     ensures place { IfSome result (λ next. (at ≤ next) × (next ≤ length bytes.now)) }
-    ensures dropped { IfSome result (λ next. (v : Option ScalarOf) × IsThere instr.now.kind true v
-        × Drops instr.now (entry_type.Assigned (Ascii text.now))
-        (entry_type.Assigned (Ascii text.now)) v (drop at bytes.now) (drop next bytes.now)) }
+    ensures dropped { IfSome result (λ next. Drops instr.now (entry_type.Assigned (Ascii text.now))
+        (entry_type.Assigned (Ascii text.now)) (Some (Ascii text.now))
+        (drop at bytes.now) (drop next bytes.now)) }
 {
     let base = text.as_slice();
     if !are_characters(base) {
@@ -235,108 +190,6 @@ fn drop_plain_tail(instr: &FieldPart, text: &ByteString, bytes: &[u8], at: usize
     }
 }
 
-/// The same of an entry.
-#[inline(always)]
-fn drop_tail(instr: &FieldPart, entry: &Entry, bytes: &[u8], at: usize) -> Option<usize>
-    requires at { at ≤ length bytes.now }
-    requires operator { instr.now.operator ≡ operator_type.Tail }
-    ensures place { IfSome result (λ next. (at ≤ next) × (next ≤ length bytes.now)) }
-    ensures dropped { IfSome result (λ next. (v : Option ScalarOf) × IsThere instr.now.kind true v
-        × Drops instr.now entry.now entry.now v (drop at bytes.now) (drop next bytes.now)) }
-{
-    match (instr.kind, instr.part, entry) {
-        (Kind::Ascii, Part::Whole, Entry::Assigned(Scalar::Ascii(text))) => {
-            match drop_plain_tail(instr, text, bytes, at) {
-                Some(next) => Some(next),
-                None => None,
-            }
-        }
-        _ => None,
-    }
-}
-
-/// Drops NULL of any type, in its shortest form.
-#[inline(always)]
-fn drop_short_null(instr: &FieldPart, entry: &Entry, bytes: &[u8], at: usize) -> Option<usize>
-    requires at { at ≤ length bytes.now }
-    requires operator { SpellsWhole instr.now.operator }
-    ensures place { IfSome result (λ next. (at ≤ next) × (next ≤ length bytes.now)) }
-    ensures dropped { IfSome result (λ next. (v : Option ScalarOf) × IsThere instr.now.kind false v
-        × Drops instr.now entry.now entry.now v (drop at bytes.now) (drop next bytes.now)) }
-{
-    match instr.presence {
-        Presence::Mandatory => None,
-        Presence::Optional => {
-            if !begins_with_null(bytes, at) {
-                return None;
-            }
-            if gives_absent(instr, entry) {
-                Some(at + 1)
-            } else {
-                None
-            }
-        }
-    }
-}
-
-/// Drops a number.
-#[inline(always)]
-fn drop_number(
-    kind: Kind,
-    instr: &FieldPart,
-    entry: &mut Entry,
-    bytes: &[u8],
-    at: usize,
-) -> Option<usize>
-    requires at { at ≤ length bytes.now }
-    requires kind { kind ≡ instr.now.kind }
-    requires integer { IsTrue (is_integer kind) }
-    requires operator { SpellsWhole instr.now.operator }
-    ensures place { IfSome result (λ next. (at ≤ next) × (next ≤ length bytes.now)) }
-    ensures dropped { IfSome result (λ next. (v : Option ScalarOf) × IsThere instr.now.kind true v
-        × Drops instr.now entry.old entry.new v (drop at bytes.now) (drop next bytes.now)) }
-    ensures entry { IfNone result (entry.new ≡ entry.old) }
-{
-    let Some((number, next)) = read_short(is_unsigned(kind), instr.presence, bytes, at) else {
-        return None;
-    };
-    if !is_field_number(kind, instr.part, number) {
-        return None;
-    }
-    if gives_number(kind, instr, entry, number) {
-        Some(next)
-    } else {
-        None
-    }
-}
-
-/// Drops a number or NULL of a type that is known here.
-#[inline(always)]
-fn drop_either(
-    kind: Kind,
-    instr: &FieldPart,
-    entry: &mut Entry,
-    bytes: &[u8],
-    at: usize,
-) -> Option<(bool, usize)>
-    requires at { at ≤ length bytes.now }
-    requires kind { kind ≡ instr.now.kind }
-    requires integer { IsTrue (is_integer kind) }
-    requires operator { SpellsWhole instr.now.operator }
-    ensures place { IfSome result (λ x. (at ≤ x.1) × (x.1 ≤ length bytes.now)) }
-    ensures dropped { IfSome result (λ x. (v : Option ScalarOf) × IsThere instr.now.kind x.0 v
-        × Drops instr.now entry.old entry.new v (drop at bytes.now) (drop x.1 bytes.now)) }
-    ensures entry { IfNone result (entry.new ≡ entry.old) }
-{
-    match drop_number(kind, instr, entry, bytes, at) {
-        Some(next) => Some((true, next)),
-        None => match drop_null(kind, instr, entry, bytes, at) {
-            Some(next) => Some((false, next)),
-            None => None,
-        },
-    }
-}
-
 /// Whether a value is the string that bytes spell.
 #[inline(always)]
 fn is_string_of(value: &Scalar, form: &[u8]) -> bool
@@ -350,7 +203,7 @@ fn is_string_of(value: &Scalar, form: &[u8]) -> bool
 
 /// Whether bit 0 gives the string that bytes spell, which leaves the entry as it is.
 #[inline(always)]
-fn gives_text(instr: &FieldPart, entry: &Entry, form: &[u8]) -> bool
+pub(crate) fn gives_text(instr: &FieldPart, entry: &Entry, form: &[u8]) -> bool
     requires kind { instr.now.kind ≡ kind_type.Ascii }
     requires part { instr.now.part ≡ part_type.Whole }
     ensures { result ≡ true
@@ -370,98 +223,5 @@ fn gives_text(instr: &FieldPart, entry: &Entry, form: &[u8]) -> bool
         | Operator::Increment
         | Operator::Delta
         | Operator::Tail => false,
-    }
-}
-
-/// Drops a string that stands in its shortest form.
-#[inline(always)]
-fn drop_text(instr: &FieldPart, entry: &Entry, bytes: &[u8], at: usize) -> Option<usize>
-    requires at { at ≤ length bytes.now }
-    requires kind { instr.now.kind ≡ kind_type.Ascii }
-    requires part { instr.now.part ≡ part_type.Whole }
-    requires operator { SpellsWhole instr.now.operator }
-    ensures place { IfSome result (λ next. (at ≤ next) × (next ≤ length bytes.now)) }
-    ensures dropped { IfSome result (λ next. (v : Option ScalarOf) × IsThere instr.now.kind true v
-        × Drops instr.now entry.now entry.now v (drop at bytes.now) (drop next bytes.now)) }
-{
-    let Some((first, next)) = find_plain(bytes, at) else {
-        return None;
-    };
-    if gives_text(instr, entry, &bytes[first..next]) {
-        Some(next)
-    } else {
-        None
-    }
-}
-
-/// Drops a value of the type that a field has.
-#[inline(always)]
-fn drop_typed(
-    instr: &FieldPart,
-    entry: &mut Entry,
-    bytes: &[u8],
-    at: usize,
-) -> Option<(bool, usize)>
-    requires at { at ≤ length bytes.now }
-    requires operator { SpellsWhole instr.now.operator }
-    ensures place { IfSome result (λ x. (at ≤ x.1) × (x.1 ≤ length bytes.now)) }
-    ensures dropped { IfSome result (λ x. (v : Option ScalarOf) × IsThere instr.now.kind x.0 v
-        × Drops instr.now entry.old entry.new v (drop at bytes.now) (drop x.1 bytes.now)) }
-    ensures entry { IfNone result (entry.new ≡ entry.old) }
-{
-    match instr.kind {
-        Kind::UInt32 => drop_either(Kind::UInt32, instr, entry, bytes, at),
-        Kind::Int32 => drop_either(Kind::Int32, instr, entry, bytes, at),
-        Kind::UInt64 => drop_either(Kind::UInt64, instr, entry, bytes, at),
-        Kind::Int64 => drop_either(Kind::Int64, instr, entry, bytes, at),
-        Kind::Ascii => match instr.part {
-            Part::Whole => match drop_text(instr, entry, bytes, at) {
-                Some(next) => Some((true, next)),
-                None => None,
-            },
-            Part::Exponent | Part::Mantissa | Part::Length => None,
-        },
-        Kind::Unicode | Kind::Bytes => match instr.part {
-            Part::Whole => match drop_units(instr, entry, bytes, at) {
-                Some(next) => Some((true, next)),
-                None => None,
-            },
-            Part::Exponent | Part::Mantissa | Part::Length => None,
-        },
-        Kind::Decimal => None,
-    }
-}
-
-/// Reads an integer, a string, a vector or NULL under bit 1 that bit 0 gives too, makes the entry the one afterwards, and
-/// answers whether there is a value and the place after it. Nothing is to be written, since bit 0 is the best form. None:
-/// nothing has changed, and the general way tells.
-#[inline(never)]
-pub fn drop_given(
-    instr: &FieldPart,
-    entry: &mut Entry,
-    bytes: &[u8],
-    at: usize,
-) -> Option<(bool, usize)>
-    requires { at ≤ length bytes.now }
-    ensures place { IfSome result (λ x. (at ≤ x.1) × (x.1 ≤ length bytes.now)) }
-    ensures dropped { IfSome result (λ x. (v : Option ScalarOf) × IsThere instr.now.kind x.0 v
-        × Drops instr.now entry.old entry.new v (drop at bytes.now) (drop x.1 bytes.now)) }
-    ensures entry { IfNone result (entry.new ≡ entry.old) }
-{
-    match instr.operator {
-        Operator::Copy | Operator::Increment | Operator::Default => {
-            match drop_short_null(instr, entry, bytes, at) {
-                Some(next) => Some((false, next)),
-                None => match drop_typed(instr, entry, bytes, at) {
-                    Some(x) => Some(x),
-                    None => None,
-                },
-            }
-        }
-        Operator::Tail => match drop_tail(instr, entry, bytes, at) {
-            Some(next) => Some((true, next)),
-            None => None,
-        },
-        Operator::Plain | Operator::Constant | Operator::Delta => None,
     }
 }

@@ -6,9 +6,11 @@ ghost use Rattle.fast_value.specs.declared.kind.Presence.TheVariants as presence
 ghost use Rattle.fast_field.specs.Bases.{next_of};
 ghost use Rattle.fast_field.specs.Planning.{left_out_of};
 ghost use Rattle.fast_relay.specs.Numbers.{SpellsWhole};
-ghost use Rattle.fast_relay.specs.Relayed.{RelaysNull};
+ghost use Rattle.fast_relay.specs.Relayed.{IfElsewhere, IfRelayed, RelaysNullAs};
 
+use crate::given::gives_absent;
 use crate::integers::{is_unsigned, read_null};
+use crate::relayed::Relayed;
 use fast_dictionary::Entry;
 use fast_template::{FieldPart, Kind, Operator, Presence};
 
@@ -86,25 +88,27 @@ fn relay_any_null(
     bytes: &[u8],
     at: usize,
     out: &mut Vec<u8>,
-) -> Option<usize>
+) -> Relayed
     requires at { at ≤ length bytes.now }
     requires kind { kind ≡ instr.now.kind }
     requires integer { IsTrue (is_integer kind) }
     requires operator { SpellsWhole instr.now.operator }
     requires presence { instr.now.presence ≡ presence_type.Optional }
-    ensures place { IfSome result (λ next. (at ≤ next) × (next ≤ length bytes.now)) }
-    ensures relayed { IfSome result (λ next. RelaysNull instr.now entry.old entry.new
+    ensures place { IfRelayed result (λ bit next. (at ≤ next) × (next ≤ length bytes.now)) }
+    ensures relayed { IfRelayed result (λ bit next. RelaysNullAs bit instr.now entry.old entry.new
         (drop at bytes.now) (drop next bytes.now) out.old.items out.new.items) }
-    ensures entry { IfNone result (entry.new ≡ entry.old) }
-    ensures out { IfNone result (out.new.items ≡ out.old.items) }
+    ensures entry { IfElsewhere result (entry.new ≡ entry.old) }
+    ensures out { IfElsewhere result (out.new.items ≡ out.old.items) }
 {
     let Some(next) = read_null(is_unsigned(kind), bytes, at) else {
-        return None;
+        return Relayed::Elsewhere;
     };
     if send_null(instr, entry, out) {
-        Some(next)
+        Relayed::Sent(next)
+    } else if gives_absent(instr, entry) {
+        Relayed::Given(next)
     } else {
-        None
+        Relayed::Elsewhere
     }
 }
 
@@ -116,14 +120,14 @@ fn relay_long_null(
     bytes: &[u8],
     at: usize,
     out: &mut Vec<u8>,
-) -> Option<usize>
+) -> Relayed
     requires at { at ≤ length bytes.now }
     requires presence { instr.now.presence ≡ presence_type.Optional }
-    ensures place { IfSome result (λ next. (at ≤ next) × (next ≤ length bytes.now)) }
-    ensures relayed { IfSome result (λ next. RelaysNull instr.now entry.old entry.new
+    ensures place { IfRelayed result (λ bit next. (at ≤ next) × (next ≤ length bytes.now)) }
+    ensures relayed { IfRelayed result (λ bit next. RelaysNullAs bit instr.now entry.old entry.new
         (drop at bytes.now) (drop next bytes.now) out.old.items out.new.items) }
-    ensures entry { IfNone result (entry.new ≡ entry.old) }
-    ensures out { IfNone result (out.new.items ≡ out.old.items) }
+    ensures entry { IfElsewhere result (entry.new ≡ entry.old) }
+    ensures out { IfElsewhere result (out.new.items ≡ out.old.items) }
 {
     match instr.operator {
         Operator::Plain | Operator::Default | Operator::Copy | Operator::Increment => {
@@ -132,15 +136,15 @@ fn relay_long_null(
                 Kind::Int32 => relay_any_null(Kind::Int32, instr, entry, bytes, at, out),
                 Kind::UInt64 => relay_any_null(Kind::UInt64, instr, entry, bytes, at, out),
                 Kind::Int64 => relay_any_null(Kind::Int64, instr, entry, bytes, at, out),
-                Kind::Decimal | Kind::Ascii | Kind::Unicode | Kind::Bytes => None,
+                Kind::Decimal | Kind::Ascii | Kind::Unicode | Kind::Bytes => Relayed::Elsewhere,
             }
         }
-        Operator::Constant | Operator::Delta | Operator::Tail => None,
+        Operator::Constant | Operator::Delta | Operator::Tail => Relayed::Elsewhere,
     }
 }
 
-/// Reads NULL under bit 1, of a field of any type that may be absent, appends it where it is the best form of that,
-/// makes the entry the one afterwards, and answers the place after it. None: nothing has changed, and another way tells.
+/// Reads NULL under bit 1, of a field of any type that may be absent, appends it where it is the best form of that, and
+/// makes the entry the one afterwards. Elsewhere: nothing has changed, and another way tells.
 #[inline(always)]
 pub fn relay_null(
     instr: &FieldPart,
@@ -148,27 +152,29 @@ pub fn relay_null(
     bytes: &[u8],
     at: usize,
     out: &mut Vec<u8>,
-) -> Option<usize>
+) -> Relayed
     requires { at ≤ length bytes.now }
-    ensures place { IfSome result (λ next. (at ≤ next) × (next ≤ length bytes.now)) }
-    ensures relayed { IfSome result (λ next. RelaysNull instr.now entry.old entry.new
+    ensures place { IfRelayed result (λ bit next. (at ≤ next) × (next ≤ length bytes.now)) }
+    ensures relayed { IfRelayed result (λ bit next. RelaysNullAs bit instr.now entry.old entry.new
         (drop at bytes.now) (drop next bytes.now) out.old.items out.new.items) }
-    ensures entry { IfNone result (entry.new ≡ entry.old) }
-    ensures out { IfNone result (out.new.items ≡ out.old.items) }
+    ensures entry { IfElsewhere result (entry.new ≡ entry.old) }
+    ensures out { IfElsewhere result (out.new.items ≡ out.old.items) }
 {
     match instr.presence {
-        Presence::Mandatory => None,
+        Presence::Mandatory => Relayed::Elsewhere,
         Presence::Optional => {
             if at < bytes.len() && bytes[at] == 0 {
                 return relay_long_null(instr, entry, bytes, at, out);
             }
             if !begins_with_null(bytes, at) {
-                return None;
+                return Relayed::Elsewhere;
             }
             if send_null(instr, entry, out) {
-                Some(at + 1)
+                Relayed::Sent(at + 1)
+            } else if gives_absent(instr, entry) {
+                Relayed::Given(at + 1)
             } else {
-                None
+                Relayed::Elsewhere
             }
         }
     }

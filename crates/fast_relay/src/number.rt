@@ -11,9 +11,11 @@ ghost use Rattle.fast_field.specs.Bases.{next_of};
 ghost use Rattle.fast_field.specs.Numbers.{IsNumber};
 ghost use Rattle.fast_field.specs.Planning.{left_out_of};
 ghost use Rattle.fast_relay.specs.Numbers.{IsNumberIn, MayGive, SpellsWhole};
-ghost use Rattle.fast_relay.specs.Relayed.{Relays};
+ghost use Rattle.fast_relay.specs.Relayed.{IfElsewhere, IfRelayed, Relays, RelaysAs};
 
+use crate::given::gives_number;
 use crate::integers::{is_unsigned, read_short, write_number};
+use crate::relayed::Relayed;
 use fast_dictionary::Entry;
 use fast_field::{
     fits, is_field_number, kept_number, number_after, number_of, set_number, write_signed,
@@ -99,7 +101,7 @@ pub(crate) fn keep_whole(kind: Kind, operator: Operator, entry: &mut Entry, numb
     }
 }
 
-/// Relays a number that is spelled whole.
+/// Relays a number that is spelled whole; answers it, the bit of its best form, and the place.
 #[inline(always)]
 fn relay_whole(
     kind: Kind,
@@ -108,16 +110,16 @@ fn relay_whole(
     bytes: &[u8],
     at: usize,
     out: &mut Vec<u8>,
-) -> Option<(i128, usize)>
+) -> Option<(i128, bool, usize)>
     requires at { at ≤ length bytes.now }
     requires kind { kind ≡ instr.now.kind }
     requires integer { IsTrue (is_integer kind) }
     requires operator { SpellsWhole instr.now.operator }
-    ensures place { IfSome result (λ x. (at ≤ x.1) × (x.1 ≤ length bytes.now)) }
+    ensures place { IfSome result (λ x. (at ≤ x.2) × (x.2 ≤ length bytes.now)) }
     ensures number { IfSome result (λ x. IsNumber kind x.0) }
     ensures relayed { IfSome result (λ x.
-        Relays instr.now entry.old entry.new (of_integer kind x.0)
-        (drop at bytes.now) (drop x.1 bytes.now) out.old.items out.new.items) }
+        RelaysAs x.1 instr.now entry.old entry.new (of_integer kind x.0)
+        (drop at bytes.now) (drop x.2 bytes.now) out.old.items out.new.items) }
     ensures entry { IfNone result (entry.new ≡ entry.old) }
     ensures out { IfNone result (out.new.items ≡ out.old.items) }
 {
@@ -128,12 +130,15 @@ fn relay_whole(
         return None;
     }
     if is_given(kind, instr, entry, number) {
+        if gives_number(kind, instr, entry, number) {
+            return Some((number, false, next));
+        }
         return None;
     }
     match write_number(kind, instr.presence, number, out) {
         Ok(()) => {
             keep_whole(kind, instr.operator, entry, number);
-            Some((number, next))
+            Some((number, true, next))
         }
         Err(_) => None,
     }
@@ -193,7 +198,7 @@ fn gives_constant(instr: &FieldPart, entry: &Entry) -> bool
     }
 }
 
-/// Relays a number of a type that is known here, and answers it.
+/// Relays a number of a type that is known here; answers it, the bit of its best form, and the place.
 #[inline(always)]
 fn relay_value(
     kind: Kind,
@@ -202,20 +207,23 @@ fn relay_value(
     bytes: &[u8],
     at: usize,
     out: &mut Vec<u8>,
-) -> Option<(i128, usize)>
+) -> Option<(i128, bool, usize)>
     requires at { at ≤ length bytes.now }
     requires kind { kind ≡ instr.now.kind }
     requires integer { IsTrue (is_integer kind) }
-    ensures place { IfSome result (λ x. (at ≤ x.1) × (x.1 ≤ length bytes.now)) }
+    ensures place { IfSome result (λ x. (at ≤ x.2) × (x.2 ≤ length bytes.now)) }
     ensures number { IfSome result (λ x. IsNumber kind x.0) }
     ensures relayed { IfSome result (λ x.
-        Relays instr.now entry.old entry.new (of_integer kind x.0)
-        (drop at bytes.now) (drop x.1 bytes.now) out.old.items out.new.items) }
+        RelaysAs x.1 instr.now entry.old entry.new (of_integer kind x.0)
+        (drop at bytes.now) (drop x.2 bytes.now) out.old.items out.new.items) }
     ensures entry { IfNone result (entry.new ≡ entry.old) }
     ensures out { IfNone result (out.new.items ≡ out.old.items) }
 {
     match instr.operator {
-        Operator::Delta => relay_delta(kind, instr, entry, bytes, at, out),
+        Operator::Delta => match relay_delta(kind, instr, entry, bytes, at, out) {
+            Some((number, next)) => Some((number, true, next)),
+            None => None,
+        },
         Operator::Plain | Operator::Default | Operator::Copy | Operator::Increment => {
             relay_whole(kind, instr, entry, bytes, at, out)
         }
@@ -223,7 +231,7 @@ fn relay_value(
     }
 }
 
-/// Relays a number of a type that is known here; answers the place alone.
+/// The same without the number.
 #[inline(always)]
 fn relay(
     kind: Kind,
@@ -232,20 +240,21 @@ fn relay(
     bytes: &[u8],
     at: usize,
     out: &mut Vec<u8>,
-) -> Option<usize>
+) -> Relayed
     requires at { at ≤ length bytes.now }
     requires kind { kind ≡ instr.now.kind }
     requires integer { IsTrue (is_integer kind) }
-    ensures place { IfSome result (λ next. (at ≤ next) × (next ≤ length bytes.now)) }
-    ensures relayed { IfSome result (λ next. (v : ScalarOf)
-        × Relays instr.now entry.old entry.new v (drop at bytes.now) (drop next bytes.now)
+    ensures place { IfRelayed result (λ bit next. (at ≤ next) × (next ≤ length bytes.now)) }
+    ensures relayed { IfRelayed result (λ bit next. (v : ScalarOf)
+        × RelaysAs bit instr.now entry.old entry.new v (drop at bytes.now) (drop next bytes.now)
         out.old.items out.new.items) }
-    ensures entry { IfNone result (entry.new ≡ entry.old) }
-    ensures out { IfNone result (out.new.items ≡ out.old.items) }
+    ensures entry { IfElsewhere result (entry.new ≡ entry.old) }
+    ensures out { IfElsewhere result (out.new.items ≡ out.old.items) }
 {
     match relay_value(kind, instr, entry, bytes, at, out) {
-        Some((_number, next)) => Some(next),
-        None => None,
+        Some((_number, true, next)) => Relayed::Sent(next),
+        Some((_number, false, next)) => Relayed::Given(next),
+        None => Relayed::Elsewhere,
     }
 }
 
@@ -257,26 +266,26 @@ fn relay_integer(
     bytes: &[u8],
     at: usize,
     out: &mut Vec<u8>,
-) -> Option<usize>
+) -> Relayed
     requires { at ≤ length bytes.now }
-    ensures place { IfSome result (λ next. (at ≤ next) × (next ≤ length bytes.now)) }
-    ensures relayed { IfSome result (λ next. (v : ScalarOf)
-        × Relays instr.now entry.old entry.new v (drop at bytes.now) (drop next bytes.now)
+    ensures place { IfRelayed result (λ bit next. (at ≤ next) × (next ≤ length bytes.now)) }
+    ensures relayed { IfRelayed result (λ bit next. (v : ScalarOf)
+        × RelaysAs bit instr.now entry.old entry.new v (drop at bytes.now) (drop next bytes.now)
         out.old.items out.new.items) }
-    ensures entry { IfNone result (entry.new ≡ entry.old) }
-    ensures out { IfNone result (out.new.items ≡ out.old.items) }
+    ensures entry { IfElsewhere result (entry.new ≡ entry.old) }
+    ensures out { IfElsewhere result (out.new.items ≡ out.old.items) }
 {
     match instr.kind {
         Kind::UInt32 => relay(Kind::UInt32, instr, entry, bytes, at, out),
         Kind::Int32 => relay(Kind::Int32, instr, entry, bytes, at, out),
         Kind::UInt64 => relay(Kind::UInt64, instr, entry, bytes, at, out),
         Kind::Int64 => relay(Kind::Int64, instr, entry, bytes, at, out),
-        Kind::Decimal | Kind::Ascii | Kind::Unicode | Kind::Bytes => None,
+        Kind::Decimal | Kind::Ascii | Kind::Unicode | Kind::Bytes => Relayed::Elsewhere,
     }
 }
 
-/// Reads an integer or a constant under bit 1, appends its best form where that has bit 1 too, makes the entry the one
-/// afterwards, and answers the place after it. None: nothing has changed, and the general way tells.
+/// Reads an integer or a constant under bit 1, appends its best form where that has bit 1 too, and makes the entry the one
+/// afterwards. Elsewhere: nothing has changed, and the general way tells.
 #[inline(always)]
 pub fn relay_number(
     instr: &FieldPart,
@@ -284,21 +293,21 @@ pub fn relay_number(
     bytes: &[u8],
     at: usize,
     out: &mut Vec<u8>,
-) -> Option<usize>
+) -> Relayed
     requires { at ≤ length bytes.now }
-    ensures place { IfSome result (λ next. (at ≤ next) × (next ≤ length bytes.now)) }
-    ensures relayed { IfSome result (λ next. (v : ScalarOf)
-        × Relays instr.now entry.old entry.new v (drop at bytes.now) (drop next bytes.now)
+    ensures place { IfRelayed result (λ bit next. (at ≤ next) × (next ≤ length bytes.now)) }
+    ensures relayed { IfRelayed result (λ bit next. (v : ScalarOf)
+        × RelaysAs bit instr.now entry.old entry.new v (drop at bytes.now) (drop next bytes.now)
         out.old.items out.new.items) }
-    ensures entry { IfNone result (entry.new ≡ entry.old) }
-    ensures out { IfNone result (out.new.items ≡ out.old.items) }
+    ensures entry { IfElsewhere result (entry.new ≡ entry.old) }
+    ensures out { IfElsewhere result (out.new.items ≡ out.old.items) }
 {
     match instr.operator {
         Operator::Constant => {
             if gives_constant(instr, entry) {
-                Some(at)
+                Relayed::Sent(at)
             } else {
-                None
+                Relayed::Elsewhere
             }
         }
         Operator::Plain
@@ -311,13 +320,13 @@ pub fn relay_number(
             Kind::UInt32 | Kind::Int32 | Kind::UInt64 | Kind::Int64 => {
                 relay_integer(instr, entry, bytes, at, out)
             }
-            Kind::Decimal | Kind::Ascii | Kind::Unicode | Kind::Bytes => None,
+            Kind::Decimal | Kind::Ascii | Kind::Unicode | Kind::Bytes => Relayed::Elsewhere,
         },
     }
 }
 
 /// The same of a number without sign of 32 bits, as the identifier of a template and the length of a sequence are; it
-/// answers the number too. None where the field is of another type, or has a constant.
+/// answers the number too, and the bit of its best form. None where the field is of another type, or has a constant.
 #[inline(always)]
 pub fn relay_unsigned(
     instr: &FieldPart,
@@ -325,17 +334,18 @@ pub fn relay_unsigned(
     bytes: &[u8],
     at: usize,
     out: &mut Vec<u8>,
-) -> Option<(u32, usize)>
+) -> Option<(u32, bool, usize)>
     requires { at ≤ length bytes.now }
-    ensures place { IfSome result (λ x. (at ≤ x.1) × (x.1 ≤ length bytes.now)) }
-    ensures relayed { IfSome result (λ x. Relays instr.now entry.old entry.new (scalar.U32 x.0)
-        (drop at bytes.now) (drop x.1 bytes.now) out.old.items out.new.items) }
+    ensures place { IfSome result (λ x. (at ≤ x.2) × (x.2 ≤ length bytes.now)) }
+    ensures relayed { IfSome result (λ x.
+        RelaysAs x.1 instr.now entry.old entry.new (scalar.U32 x.0)
+        (drop at bytes.now) (drop x.2 bytes.now) out.old.items out.new.items) }
     ensures entry { IfNone result (entry.new ≡ entry.old) }
     ensures out { IfNone result (out.new.items ≡ out.old.items) }
 {
     match instr.kind {
         Kind::UInt32 => match relay_value(Kind::UInt32, instr, entry, bytes, at, out) {
-            Some((number, next)) => Some((number as u32, next)),
+            Some((number, bit, next)) => Some((number as u32, bit, next)),
             None => None,
         },
         _ => None,

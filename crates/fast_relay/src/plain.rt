@@ -13,11 +13,13 @@ ghost use Rattle.fast_field.specs.Bases.{next_of};
 ghost use Rattle.fast_field.specs.CommonParts.{IsLongestPrefix, IsLongestSuffix};
 ghost use Rattle.fast_relay.specs.Numbers.{SpellsWhole};
 ghost use Rattle.fast_field.specs.Planning.{left_out_of};
-ghost use Rattle.fast_relay.specs.Relayed.{Relays};
+ghost use Rattle.fast_relay.specs.Relayed.{IfElsewhere, IfRelayed, Relays, RelaysAs};
 ghost use Rattle.fast_relay.specs.Texts.{SharesEnd};
 
 use crate::characters::{are_characters, find_plain};
 use crate::cut::{read_cut, read_tail};
+use crate::given::{drop_plain_tail, gives_text};
+use crate::relayed::Relayed;
 use fast_dictionary::Entry;
 use fast_field::write_signed;
 use fast_template::{ByteString, FieldPart, Operator, Scalar};
@@ -148,34 +150,37 @@ fn relay_plain_whole(
     bytes: &[u8],
     at: usize,
     out: &mut Vec<u8>,
-) -> Option<usize>
+) -> Relayed
     requires at { at ≤ length bytes.now }
     requires part { instr.now.part ≡ part_type.Whole }
     requires operator { SpellsWhole instr.now.operator }
     requires kind { instr.now.kind ≡ kind_type.Ascii }
-    ensures place { IfSome result (λ next. (at ≤ next) × (next ≤ length bytes.now)) }
-    ensures relayed { IfSome result (λ next. (v : ScalarOf)
-        × Relays instr.now entry.old entry.new v (drop at bytes.now) (drop next bytes.now)
+    ensures place { IfRelayed result (λ bit next. (at ≤ next) × (next ≤ length bytes.now)) }
+    ensures relayed { IfRelayed result (λ bit next. (v : ScalarOf)
+        × RelaysAs bit instr.now entry.old entry.new v (drop at bytes.now) (drop next bytes.now)
         out.old.items out.new.items) }
-    ensures entry { IfNone result (entry.new ≡ entry.old) }
-    ensures out { IfNone result (out.new.items ≡ out.old.items) }
+    ensures entry { IfElsewhere result (entry.new ≡ entry.old) }
+    ensures out { IfElsewhere result (out.new.items ≡ out.old.items) }
 {
     let Some((first, next)) = find_plain(bytes, at) else {
-        return None;
+        return Relayed::Elsewhere;
     };
     let form = &bytes[first..next];
     if may_be_left_out(instr, entry, form) {
-        return None;
+        if gives_text(instr, entry, form) {
+            return Relayed::Given(next);
+        }
+        return Relayed::Elsewhere;
     }
     let start = out.len();
     match out.extend_from_slice(form) {
-        Err(_) => None,
+        Err(_) => Relayed::Elsewhere,
         Ok(()) => {
             if keep_plain(alloc, instr.operator, entry, form) {
-                Some(next)
+                Relayed::Sent(next)
             } else {
                 out.truncate(start);
-                None
+                Relayed::Elsewhere
             }
         }
     }
@@ -320,7 +325,37 @@ fn relay_plain_tail(
     }
 }
 
-/// Relays a string that stands in its shortest form; None: nothing has changed. (A call of its own: inlined, it makes the
+/// Relays a string by a new end of the one that the entry has, or leaves out one that it has already.
+#[inline(always)]
+fn relay_either_tail(
+    alloc: Global,
+    instr: &FieldPart,
+    text: &mut ByteString,
+    bytes: &[u8],
+    at: usize,
+    out: &mut Vec<u8>,
+) -> Relayed
+    requires at { at ≤ length bytes.now }
+    requires part { instr.now.part ≡ part_type.Whole }
+    requires operator { instr.now.operator ≡ operator_type.Tail }
+    requires kind { instr.now.kind ≡ kind_type.Ascii }
+    ensures place { IfRelayed result (λ bit next. (at ≤ next) × (next ≤ length bytes.now)) }
+    ensures relayed { IfRelayed result (λ bit next. (v : ScalarOf) × RelaysAs bit instr.now
+        (entry_type.Assigned (Ascii text.old)) (entry_type.Assigned (Ascii text.new)) v
+        (drop at bytes.now) (drop next bytes.now) out.old.items out.new.items) }
+    ensures text { IfElsewhere result (text.new ≡ text.old) }
+    ensures out { IfElsewhere result (out.new.items ≡ out.old.items) }
+{
+    match relay_plain_tail(alloc, instr, text, bytes, at, out) {
+        Some(next) => Relayed::Sent(next),
+        None => match drop_plain_tail(instr, text, bytes, at) {
+            Some(next) => Relayed::Given(next),
+            None => Relayed::Elsewhere,
+        },
+    }
+}
+
+/// Relays a string that stands in its shortest form. (A call of its own: inlined, it makes the
 /// walk over a segment so long that the compiler no longer inlines the rest.)
 #[inline(never)]
 pub(crate) fn relay_plain(
@@ -330,16 +365,16 @@ pub(crate) fn relay_plain(
     bytes: &[u8],
     at: usize,
     out: &mut Vec<u8>,
-) -> Option<usize>
+) -> Relayed
     requires at { at ≤ length bytes.now }
     requires part { instr.now.part ≡ part_type.Whole }
     requires kind { instr.now.kind ≡ kind_type.Ascii }
-    ensures place { IfSome result (λ next. (at ≤ next) × (next ≤ length bytes.now)) }
-    ensures relayed { IfSome result (λ next. (v : ScalarOf)
-        × Relays instr.now entry.old entry.new v (drop at bytes.now) (drop next bytes.now)
+    ensures place { IfRelayed result (λ bit next. (at ≤ next) × (next ≤ length bytes.now)) }
+    ensures relayed { IfRelayed result (λ bit next. (v : ScalarOf)
+        × RelaysAs bit instr.now entry.old entry.new v (drop at bytes.now) (drop next bytes.now)
         out.old.items out.new.items) }
-    ensures entry { IfNone result (entry.new ≡ entry.old) }
-    ensures out { IfNone result (out.new.items ≡ out.old.items) }
+    ensures entry { IfElsewhere result (entry.new ≡ entry.old) }
+    ensures out { IfElsewhere result (out.new.items ≡ out.old.items) }
 {
     match instr.operator {
         Operator::Plain | Operator::Default | Operator::Copy => {
@@ -347,16 +382,19 @@ pub(crate) fn relay_plain(
         }
         Operator::Delta => match entry {
             Entry::Assigned(Scalar::Ascii(text)) => {
-                relay_plain_delta(alloc, instr, text, bytes, at, out)
+                match relay_plain_delta(alloc, instr, text, bytes, at, out) {
+                    Some(next) => Relayed::Sent(next),
+                    None => Relayed::Elsewhere,
+                }
             }
-            _ => None,
+            _ => Relayed::Elsewhere,
         },
         Operator::Tail => match entry {
             Entry::Assigned(Scalar::Ascii(text)) => {
-                relay_plain_tail(alloc, instr, text, bytes, at, out)
+                relay_either_tail(alloc, instr, text, bytes, at, out)
             }
-            _ => None,
+            _ => Relayed::Elsewhere,
         },
-        Operator::Constant | Operator::Increment => None,
+        Operator::Constant | Operator::Increment => Relayed::Elsewhere,
     }
 }

@@ -7,11 +7,12 @@ ghost use Rattle.fast_value.specs.declared.kind.Part.TheVariants as part_type;
 ghost use Rattle.fast_value.specs.declared.scalar.Scalar.{Scalar as ScalarOf};
 ghost use Rattle.fast_dictionary.specs.declared.entry.Entry.TheVariants as entry_type;
 ghost use Rattle.fast_relay.specs.Numbers.{SpellsWhole};
-ghost use Rattle.fast_relay.specs.Relayed.{Relays};
+ghost use Rattle.fast_relay.specs.Relayed.{IfElsewhere, IfRelayed, Relays, RelaysAs};
 
 use crate::characters::is_text;
 use crate::kept::keep_value;
 use crate::plain::relay_plain;
+use crate::relayed::Relayed;
 use crate::vectors::relay_vector;
 use fast_dictionary::{Entry, EntryRef};
 use fast_field::{
@@ -233,8 +234,33 @@ fn relay_field_text(
     }
 }
 
-/// Reads a string or vector under bit 1, appends its best form where that has bit 1 too, makes the entry the one
-/// afterwards, and answers the place after it. None: nothing has changed, and the general way tells.
+/// Relays a string or vector that is made on the way.
+#[inline(always)]
+fn relay_made(
+    alloc: Global,
+    instr: &FieldPart,
+    entry: &mut Entry,
+    bytes: &[u8],
+    at: usize,
+    out: &mut Vec<u8>,
+) -> Relayed
+    requires at { at ≤ length bytes.now }
+    requires part { instr.now.part ≡ part_type.Whole }
+    ensures place { IfRelayed result (λ bit next. (at ≤ next) × (next ≤ length bytes.now)) }
+    ensures relayed { IfRelayed result (λ bit next. (v : ScalarOf)
+        × RelaysAs bit instr.now entry.old entry.new v (drop at bytes.now) (drop next bytes.now)
+        out.old.items out.new.items) }
+    ensures entry { IfElsewhere result (entry.new ≡ entry.old) }
+    ensures out { IfElsewhere result (out.new.items ≡ out.old.items) }
+{
+    match relay_field_text(alloc, instr, entry, bytes, at, out) {
+        Some(next) => Relayed::Sent(next),
+        None => Relayed::Elsewhere,
+    }
+}
+
+/// Reads a string or vector under bit 1, appends its best form where that has bit 1 too, and makes the entry the one
+/// afterwards. Elsewhere: nothing has changed, and the general way tells.
 #[inline(always)]
 pub fn relay_text(
     alloc: Global,
@@ -243,27 +269,29 @@ pub fn relay_text(
     bytes: &[u8],
     at: usize,
     out: &mut Vec<u8>,
-) -> Option<usize>
+) -> Relayed
     requires { at ≤ length bytes.now }
-    ensures place { IfSome result (λ next. (at ≤ next) × (next ≤ length bytes.now)) }
-    ensures relayed { IfSome result (λ next. (v : ScalarOf)
-        × Relays instr.now entry.old entry.new v (drop at bytes.now) (drop next bytes.now)
+    ensures place { IfRelayed result (λ bit next. (at ≤ next) × (next ≤ length bytes.now)) }
+    ensures relayed { IfRelayed result (λ bit next. (v : ScalarOf)
+        × RelaysAs bit instr.now entry.old entry.new v (drop at bytes.now) (drop next bytes.now)
         out.old.items out.new.items) }
-    ensures entry { IfNone result (entry.new ≡ entry.old) }
-    ensures out { IfNone result (out.new.items ≡ out.old.items) }
+    ensures entry { IfElsewhere result (entry.new ≡ entry.old) }
+    ensures out { IfElsewhere result (out.new.items ≡ out.old.items) }
 {
     match instr.part {
         Part::Whole => match instr.kind {
             Kind::Ascii => match relay_plain(alloc, instr, entry, bytes, at, out) {
-                Some(next) => Some(next),
-                None => relay_field_text(alloc, instr, entry, bytes, at, out),
+                Relayed::Elsewhere => relay_made(alloc, instr, entry, bytes, at, out),
+                relayed => relayed,
             },
             Kind::Unicode | Kind::Bytes => match relay_vector(alloc, instr, entry, bytes, at, out) {
-                Some(next) => Some(next),
-                None => relay_field_text(alloc, instr, entry, bytes, at, out),
+                Relayed::Elsewhere => relay_made(alloc, instr, entry, bytes, at, out),
+                relayed => relayed,
             },
-            Kind::UInt32 | Kind::Int32 | Kind::UInt64 | Kind::Int64 | Kind::Decimal => None,
+            Kind::UInt32 | Kind::Int32 | Kind::UInt64 | Kind::Int64 | Kind::Decimal => {
+                Relayed::Elsewhere
+            }
         },
-        Part::Exponent | Part::Mantissa | Part::Length => None,
+        Part::Exponent | Part::Mantissa | Part::Length => Relayed::Elsewhere,
     }
 }

@@ -18,12 +18,14 @@ ghost use Rattle.fast_field.specs.FieldReading.{units_at};
 ghost use Rattle.fast_field.specs.Planning.{left_out_of};
 ghost use Rattle.fast_field.specs.Values.{of_units, units_of};
 ghost use Rattle.fast_relay.specs.Numbers.{SpellsWhole};
-ghost use Rattle.fast_relay.specs.Relayed.{Relays};
+ghost use Rattle.fast_relay.specs.Relayed.{IfElsewhere, IfRelayed, Relays, RelaysAs};
 ghost use Rattle.fast_relay.specs.Texts.{IsText, IsVectorKind, SharesEnd};
 
 use crate::characters::{UNIT_LIMIT, are_few, is_text};
 use crate::cut::few_removed;
+use crate::given::gives_units;
 use crate::integers::read_short;
+use crate::relayed::Relayed;
 use fast_dictionary::Entry;
 use fast_field::{units, write_signed, write_units};
 use fast_template::{ByteString, FieldPart, Kind, Operator, Presence, Scalar, UnicodeText};
@@ -255,34 +257,40 @@ fn relay_vector_whole(
     bytes: &[u8],
     at: usize,
     out: &mut Vec<u8>,
-) -> Option<usize>
+) -> Relayed
     requires at { at ≤ length bytes.now }
     requires part { instr.now.part ≡ part_type.Whole }
     requires operator { SpellsWhole instr.now.operator }
     requires kind { IsVectorKind instr.now.kind }
-    ensures place { IfSome result (λ next. (at ≤ next) × (next ≤ length bytes.now)) }
-    ensures relayed { IfSome result (λ next. (v : ScalarOf)
-        × Relays instr.now entry.old entry.new v (drop at bytes.now) (drop next bytes.now)
+    ensures place { IfRelayed result (λ bit next. (at ≤ next) × (next ≤ length bytes.now)) }
+    ensures relayed { IfRelayed result (λ bit next. (v : ScalarOf)
+        × RelaysAs bit instr.now entry.old entry.new v (drop at bytes.now) (drop next bytes.now)
         out.old.items out.new.items) }
-    ensures entry { IfNone result (entry.new ≡ entry.old) }
-    ensures out { IfNone result (out.new.items ≡ out.old.items) }
+    ensures entry { IfElsewhere result (entry.new ≡ entry.old) }
+    ensures out { IfElsewhere result (out.new.items ≡ out.old.items) }
 {
     let Some((start, next)) = find_bytes(instr.kind, instr.presence, bytes, at) else {
-        return None;
+        return Relayed::Elsewhere;
     };
     let part = &bytes[start..next];
-    if !are_text(instr.kind, part) || may_be_left_out(instr, entry, part) {
-        return None;
+    if !are_text(instr.kind, part) {
+        return Relayed::Elsewhere;
+    }
+    if may_be_left_out(instr, entry, part) {
+        if gives_units(instr, entry, part) {
+            return Relayed::Given(next);
+        }
+        return Relayed::Elsewhere;
     }
     let begin = out.len();
     if !copy_units(instr.kind, instr.presence, bytes, at, start, next, out) {
-        return None;
+        return Relayed::Elsewhere;
     }
     if keep_bytes(alloc, instr.kind, instr.operator, entry, part) {
-        Some(next)
+        Relayed::Sent(next)
     } else {
         out.truncate(begin);
-        None
+        Relayed::Elsewhere
     }
 }
 
@@ -537,9 +545,9 @@ fn relay_vector_delta(
 }
 
 /// Relays a string or vector whose bytes stand behind their length; None: nothing has changed. (A call of its own, as
-/// `relay_plain`.)
-#[inline(never)]
-pub(crate) fn relay_vector(
+/// Relays a vector by its difference from the one that the entry has, or by a new end of it.
+#[inline(always)]
+fn relay_vector_on(
     alloc: Global,
     instr: &FieldPart,
     entry: &mut Entry,
@@ -558,9 +566,6 @@ pub(crate) fn relay_vector(
     ensures out { IfNone result (out.new.items ≡ out.old.items) }
 {
     match instr.operator {
-        Operator::Plain | Operator::Default | Operator::Copy => {
-            relay_vector_whole(alloc, instr, entry, bytes, at, out)
-        }
         Operator::Delta => match entry {
             Entry::Assigned(value) => relay_vector_delta(alloc, instr, value, bytes, at, out),
             _ => None,
@@ -570,6 +575,37 @@ pub(crate) fn relay_vector(
             Entry::Empty => relay_vector_first(alloc, instr, entry, bytes, at, out),
             Entry::Undefined => None,
         },
-        Operator::Constant | Operator::Increment => None,
+        _ => None,
+    }
+}
+
+/// `relay_plain`.)
+#[inline(never)]
+pub(crate) fn relay_vector(
+    alloc: Global,
+    instr: &FieldPart,
+    entry: &mut Entry,
+    bytes: &[u8],
+    at: usize,
+    out: &mut Vec<u8>,
+) -> Relayed
+    requires at { at ≤ length bytes.now }
+    requires part { instr.now.part ≡ part_type.Whole }
+    requires kind { IsVectorKind instr.now.kind }
+    ensures place { IfRelayed result (λ bit next. (at ≤ next) × (next ≤ length bytes.now)) }
+    ensures relayed { IfRelayed result (λ bit next. (v : ScalarOf)
+        × RelaysAs bit instr.now entry.old entry.new v (drop at bytes.now) (drop next bytes.now)
+        out.old.items out.new.items) }
+    ensures entry { IfElsewhere result (entry.new ≡ entry.old) }
+    ensures out { IfElsewhere result (out.new.items ≡ out.old.items) }
+{
+    match instr.operator {
+        Operator::Plain | Operator::Default | Operator::Copy => {
+            relay_vector_whole(alloc, instr, entry, bytes, at, out)
+        }
+        _ => match relay_vector_on(alloc, instr, entry, bytes, at, out) {
+            Some(next) => Relayed::Sent(next),
+            None => Relayed::Elsewhere,
+        },
     }
 }

@@ -5,7 +5,6 @@ ghost use Rattle.fast_template.specs.Resolved.{part_needs_bit as part_needs_bit_
 ghost use Rattle.fast_dictionary.specs.Dictionary.{entry_at};
 ghost use Rattle.fast_field.specs.FieldReading.{field_at};
 ghost use Rattle.fast_field.specs.Passed.{Passes};
-ghost use Rattle.fast_relay.specs.Relayed.{Drops};
 ghost use Rattle.fast_walk.specs.Received.{Took, length_of};
 ghost use Rattle.fast_writer.specs.Levels.{level_of};
 ghost use Rattle.fast_writer.specs.Quick.{Relayed};
@@ -15,7 +14,7 @@ use crate::level::Level;
 use crate::relay::relay_entry;
 use fast_dictionary::{Entries, Entry};
 use fast_field::{FieldFault, Passed, pass_left_out};
-use fast_relay::{drop_given, relay_null, relay_unsigned};
+use fast_relay::{Relayed as Answer, relay_null, relay_unsigned};
 use fast_template::{FieldPart, Kind, Operator, Scalar, part_needs_bit};
 use std::alloc::Global;
 
@@ -40,8 +39,8 @@ fn repeat_count(part: &FieldPart, entry: &mut Entry) -> Option<Option<u32>>
     }
 }
 
-// Takes what bit 0 repeats, or what was sent; answers the number and the place behind it. None: nothing has changed,
-// and the part goes another way.
+// Takes what bit 0 repeats, or what was sent; answers the number, the bit of its best form and the place behind it. None:
+// nothing has changed, and the part goes another way.
 #[inline(always)]
 fn count_quickly(
     part: &FieldPart,
@@ -50,60 +49,35 @@ fn count_quickly(
     bytes: &[u8],
     at: usize,
     out: &mut Vec<u8>,
-) -> Option<(Option<u32>, usize)>
+) -> Option<(Option<u32>, bool, usize)>
     requires place { at ≤ length bytes.now }
     requires bit { part_needs_bit_of part.now ≡ false → bit ≡ true }
-    ensures place { IfSome result (λ x. (at ≤ x.1) × (x.1 ≤ length bytes.now)) }
+    ensures place { IfSome result (λ x. (at ≤ x.2) × (x.2 ≤ length bytes.now)) }
     ensures relayed { IfSome result (λ x.
-        Relayed part.now entry.old entry.new bit bit (length_of x.0) (drop at bytes.now)
-        (drop x.1 bytes.now) out.old.items out.new.items) }
+        Relayed part.now entry.old entry.new bit x.1 (length_of x.0) (drop at bytes.now)
+        (drop x.2 bytes.now) out.old.items out.new.items) }
     ensures entry { IfNone result (entry.new ≡ entry.old) }
     ensures out { IfNone result (out.new.items ≡ out.old.items) }
 {
     if bit {
         match relay_unsigned(part, entry, bytes, at, out) {
-            Some((number, next)) => Some((Some(number), next)),
+            Some((number, best, next)) => Some((Some(number), best, next)),
             None => match relay_null(part, entry, bytes, at, out) {
-                Some(next) => Some((None, next)),
-                None => None,
+                Answer::Sent(next) => Some((None, true, next)),
+                Answer::Given(next) => Some((None, false, next)),
+                Answer::Elsewhere => None,
             },
         }
     } else {
         match repeat_count(part, entry) {
             None => None,
-            Some(count) => Some((count, at)),
+            Some(count) => Some((count, false, at)),
         }
     }
 }
 
-// Takes a number that was sent although bit 0 repeats it; answers it and the place behind it. None: nothing has changed.
-#[inline(always)]
-fn drop_count(
-    part: &FieldPart,
-    entry: &mut Entry,
-    bytes: &[u8],
-    at: usize,
-) -> Option<(Option<u32>, usize)>
-    requires place { at ≤ length bytes.now }
-    ensures place { IfSome result (λ x. (at ≤ x.1) × (x.1 ≤ length bytes.now)) }
-    ensures dropped { IfSome result (λ x. Drops part.now entry.old entry.new (length_of x.0)
-        (drop at bytes.now) (drop x.1 bytes.now)) }
-    ensures entry { IfNone result (entry.new ≡ entry.old) }
-{
-    match (part.operator, part.kind) {
-        (Operator::Copy, Kind::UInt32) => match drop_given(part, entry, bytes, at) {
-            None => None,
-            Some((false, next)) => Some((None, next)),
-            Some((true, next)) => match entry {
-                Entry::Assigned(Scalar::U32(number)) => Some((Some(*number), next)),
-                _ => unreachable!(),
-            },
-        },
-        _ => None,
-    }
-}
-
-// The same of any part, the general way; answers the bit of the best form too.
+// The same of any part, the general way.
+#[inline(never)]
 fn count_generally(
     alloc: Global,
     part: &FieldPart,
@@ -133,44 +107,7 @@ fn count_generally(
     }
 }
 
-// The same of a part that the quick way does not serve; a number that bit 0 repeats too is dropped.
-#[inline(never)]
-fn count_otherwise(
-    alloc: Global,
-    part: &FieldPart,
-    entry: &mut Entry,
-    bit: bool,
-    bytes: &[u8],
-    at: usize,
-    out: &mut Vec<u8>,
-) -> Result<(Option<u32>, bool, usize), FieldFault>
-    requires place { at ≤ length bytes.now }
-    requires bit { part_needs_bit_of part.now ≡ false → bit ≡ true }
-    ensures place { IfOk result (λ x. (at ≤ x.2) × (x.2 ≤ length bytes.now)) }
-    ensures relayed { IfOk result (λ x.
-        Relayed part.now entry.old entry.new bit x.1 (length_of x.0) (drop at bytes.now)
-        (drop x.2 bytes.now) out.old.items out.new.items) }
-    ensures stops { IfErr result (λ f. f ≢ FieldFault.Memory
-        → (field_at part.now entry.old bit (drop at bytes.now) ≡ Err f)
-        × (entry.new ≡ entry.old) × (out.new.items ≡ out.old.items)) }
-{
-    if bit {
-        match drop_count(part, entry, bytes, at) {
-            Some((count, next)) => Ok((count, false, next)),
-            None => match count_generally(alloc, part, entry, true, bytes, at, out) {
-                Err(fault) => Err(fault),
-                Ok(x) => Ok(x),
-            },
-        }
-    } else {
-        match count_generally(alloc, part, entry, false, bytes, at, out) {
-            Err(fault) => Err(fault),
-            Ok(x) => Ok(x),
-        }
-    }
-}
-
-// The same by the quick way, and by the others where that does not serve.
+// The same by the quick way, and by the general one where that does not serve.
 #[inline(always)]
 fn count_either(
     alloc: Global,
@@ -192,8 +129,8 @@ fn count_either(
         × (entry.new ≡ entry.old) × (out.new.items ≡ out.old.items)) }
 {
     match count_quickly(part, entry, bit, bytes, at, out) {
-        Some((count, next)) => Ok((count, bit, next)),
-        None => match count_otherwise(alloc, part, entry, bit, bytes, at, out) {
+        Some(x) => Ok(x),
+        None => match count_generally(alloc, part, entry, bit, bytes, at, out) {
             Err(fault) => Err(fault),
             Ok(x) => Ok(x),
         },

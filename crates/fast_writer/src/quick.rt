@@ -16,13 +16,13 @@ use crate::level::Level;
 use crate::relay::relay_entry;
 use fast_dictionary::{Entries, Entry};
 use fast_field::{FieldFault, Passed, pass_left_out};
-use fast_relay::{drop_given, relay_decimal, relay_null, relay_number, relay_text};
+use fast_relay::{Relayed as Answer, relay_decimal, relay_null, relay_number, relay_text};
 use fast_template::{FieldPart, part_needs_bit};
 use std::alloc::Global;
 
 // Reads what was sent under bit 1 and appends its best form: an integer, a constant, NULL, a string, a vector or a
-// difference of decimals. Answers whether the value is there, and the place behind it. None: nothing has changed, and
-// the part goes the general way.
+// difference of decimals. Answers whether the value is there, the bit of its best form, and the place behind it. None:
+// nothing has changed, and the part goes another way.
 #[inline(always)]
 fn relay_sent(
     alloc: Global,
@@ -31,32 +31,56 @@ fn relay_sent(
     bytes: &[u8],
     at: usize,
     out: &mut Vec<u8>,
-) -> Option<(bool, usize)>
+) -> Option<(bool, bool, usize)>
     requires place { at ≤ length bytes.now }
-    ensures place { IfSome result (λ x. (at ≤ x.1) × (x.1 ≤ length bytes.now)) }
+    ensures place { IfSome result (λ x. (at ≤ x.2) × (x.2 ≤ length bytes.now)) }
     ensures relayed { IfSome result (λ x. (v : Option ScalarOf) × IsThere part.now.kind x.0 v
-        × Relayed part.now entry.old entry.new true true v (drop at bytes.now)
-        (drop x.1 bytes.now) out.old.items out.new.items) }
+        × Relayed part.now entry.old entry.new true x.1 v (drop at bytes.now)
+        (drop x.2 bytes.now) out.old.items out.new.items) }
     ensures entry { IfNone result (entry.new ≡ entry.old) }
     ensures out { IfNone result (out.new.items ≡ out.old.items) }
 {
     match relay_number(part, entry, bytes, at, out) {
-        Some(next) => Some((true, next)),
-        None => match relay_null(part, entry, bytes, at, out) {
-            Some(next) => Some((false, next)),
-            None => match relay_text(alloc, part, entry, bytes, at, out) {
-                Some(next) => Some((true, next)),
-                None => match relay_decimal(part, entry, bytes, at, out) {
-                    Some(next) => Some((true, next)),
-                    None => None,
-                },
-            },
+        Answer::Sent(next) => Some((true, true, next)),
+        Answer::Given(next) => Some((true, false, next)),
+        Answer::Elsewhere => match relay_null(part, entry, bytes, at, out) {
+            Answer::Sent(next) => Some((false, true, next)),
+            Answer::Given(next) => Some((false, false, next)),
+            Answer::Elsewhere => relay_long(alloc, part, entry, bytes, at, out),
         },
     }
 }
 
-// Takes what bit 0 gives, or what was sent; answers whether its value is there, and the place behind it. None: nothing
-// has changed, and the part goes another way.
+// The same of a string, a vector or a decimal.
+#[inline(always)]
+fn relay_long(
+    alloc: Global,
+    part: &FieldPart,
+    entry: &mut Entry,
+    bytes: &[u8],
+    at: usize,
+    out: &mut Vec<u8>,
+) -> Option<(bool, bool, usize)>
+    requires place { at ≤ length bytes.now }
+    ensures place { IfSome result (λ x. (at ≤ x.2) × (x.2 ≤ length bytes.now)) }
+    ensures relayed { IfSome result (λ x. (v : Option ScalarOf) × IsThere part.now.kind x.0 v
+        × Relayed part.now entry.old entry.new true x.1 v (drop at bytes.now)
+        (drop x.2 bytes.now) out.old.items out.new.items) }
+    ensures entry { IfNone result (entry.new ≡ entry.old) }
+    ensures out { IfNone result (out.new.items ≡ out.old.items) }
+{
+    match relay_text(alloc, part, entry, bytes, at, out) {
+        Answer::Sent(next) => Some((true, true, next)),
+        Answer::Given(next) => Some((true, false, next)),
+        Answer::Elsewhere => match relay_decimal(part, entry, bytes, at, out) {
+            Some(next) => Some((true, true, next)),
+            None => None,
+        },
+    }
+}
+
+// Takes what bit 0 gives, or what was sent; answers whether its value is there, the bit of its best form, and the place
+// behind it. None: nothing has changed, and the part goes another way.
 #[inline(always)]
 fn relay_quickly(
     alloc: Global,
@@ -66,12 +90,12 @@ fn relay_quickly(
     bytes: &[u8],
     at: usize,
     out: &mut Vec<u8>,
-) -> Option<(bool, usize)>
+) -> Option<(bool, bool, usize)>
     requires place { at ≤ length bytes.now }
     requires bit { part_needs_bit_of part.now ≡ false → bit ≡ true }
-    ensures place { IfSome result (λ x. (at ≤ x.1) × (x.1 ≤ length bytes.now)) }
+    ensures place { IfSome result (λ x. (at ≤ x.2) × (x.2 ≤ length bytes.now)) }
     ensures relayed { IfSome result (λ x. (v : Option ScalarOf) × IsThere part.now.kind x.0 v
-        × Relayed part.now entry.old entry.new bit bit v (drop at bytes.now) (drop x.1 bytes.now)
+        × Relayed part.now entry.old entry.new bit x.1 v (drop at bytes.now) (drop x.2 bytes.now)
         out.old.items out.new.items) }
     ensures entry { IfNone result (entry.new ≡ entry.old) }
     ensures out { IfNone result (out.new.items ≡ out.old.items) }
@@ -84,13 +108,15 @@ fn relay_quickly(
     } else {
         match pass_left_out(part, entry) {
             Passed::Elsewhere => None,
-            Passed::Absent => Some((false, at)),
-            Passed::Present => Some((true, at)),
+            Passed::Absent => Some((false, false, at)),
+            Passed::Present => Some((true, false, at)),
         }
     }
 }
 
-// The same of any part, the general way; answers the bit of the best form too.
+// The same of any part, the general way. (A call of its own, so that the walk over a segment has room for one answer
+// only.)
+#[inline(never)]
 fn relay_generally(
     alloc: Global,
     part: &FieldPart,
@@ -125,69 +151,7 @@ fn relay_generally(
     }
 }
 
-// The same of a part that was sent; what bit 0 gives too is dropped.
-fn relay_sent_otherwise(
-    alloc: Global,
-    part: &FieldPart,
-    entry: &mut Entry,
-    bytes: &[u8],
-    at: usize,
-    out: &mut Vec<u8>,
-) -> Result<(bool, bool, usize), FieldFault>
-    requires place { at ≤ length bytes.now }
-    ensures place { IfOk result (λ x. (at ≤ x.2) × (x.2 ≤ length bytes.now)) }
-    ensures relayed { IfOk result (λ x. (v : Option ScalarOf) × IsThere part.now.kind x.0 v
-        × Relayed part.now entry.old entry.new true x.1 v (drop at bytes.now) (drop x.2 bytes.now)
-        out.old.items out.new.items) }
-    ensures stops { IfErr result (λ f. f ≢ FieldFault.Memory
-        → (field_at part.now entry.old true (drop at bytes.now) ≡ Err f)
-        × (entry.new ≡ entry.old) × (out.new.items ≡ out.old.items)) }
-{
-    match drop_given(part, entry, bytes, at) {
-        Some((there, next)) => Ok((there, false, next)),
-        None => match relay_generally(alloc, part, entry, true, bytes, at, out) {
-            Err(fault) => Err(fault),
-            Ok(x) => Ok(x),
-        },
-    }
-}
-
-// The same of any part that the quick way does not serve. (A call of its own, so that the walk over a segment has room
-// for one answer only.)
-#[inline(never)]
-fn relay_otherwise(
-    alloc: Global,
-    part: &FieldPart,
-    entry: &mut Entry,
-    bit: bool,
-    bytes: &[u8],
-    at: usize,
-    out: &mut Vec<u8>,
-) -> Result<(bool, bool, usize), FieldFault>
-    requires place { at ≤ length bytes.now }
-    requires bit { part_needs_bit_of part.now ≡ false → bit ≡ true }
-    ensures place { IfOk result (λ x. (at ≤ x.2) × (x.2 ≤ length bytes.now)) }
-    ensures relayed { IfOk result (λ x. (v : Option ScalarOf) × IsThere part.now.kind x.0 v
-        × Relayed part.now entry.old entry.new bit x.1 v (drop at bytes.now) (drop x.2 bytes.now)
-        out.old.items out.new.items) }
-    ensures stops { IfErr result (λ f. f ≢ FieldFault.Memory
-        → (field_at part.now entry.old bit (drop at bytes.now) ≡ Err f)
-        × (entry.new ≡ entry.old) × (out.new.items ≡ out.old.items)) }
-{
-    if bit {
-        match relay_sent_otherwise(alloc, part, entry, bytes, at, out) {
-            Err(fault) => Err(fault),
-            Ok(x) => Ok(x),
-        }
-    } else {
-        match relay_generally(alloc, part, entry, false, bytes, at, out) {
-            Err(fault) => Err(fault),
-            Ok(x) => Ok(x),
-        }
-    }
-}
-
-// The same by the quick way, and by the others where that does not serve.
+// The same by the quick way, and by the general one where that does not serve.
 #[inline(always)]
 fn relay_either(
     alloc: Global,
@@ -209,8 +173,8 @@ fn relay_either(
         × (entry.new ≡ entry.old) × (out.new.items ≡ out.old.items)) }
 {
     match relay_quickly(alloc, part, entry, bit, bytes, at, out) {
-        Some((there, next)) => Ok((there, bit, next)),
-        None => match relay_otherwise(alloc, part, entry, bit, bytes, at, out) {
+        Some(x) => Ok(x),
+        None => match relay_generally(alloc, part, entry, bit, bytes, at, out) {
             Err(fault) => Err(fault),
             Ok(x) => Ok(x),
         },

@@ -2,7 +2,7 @@
 
 use crate::fields::{Kept, Shape, Value};
 use crate::relaying::{Answer, NotRelayed, Relayed, is_left, is_relayed};
-use fast_relay::relay_decimal;
+use fast_relay::{Relayed as Told, relay_decimal};
 use fast_template::{FieldPart, Kind, Operator};
 use std::alloc::{AllocError, Global};
 use std::process::Abort;
@@ -15,8 +15,11 @@ fn relay_with(
 ) -> Result<Answer, AllocError> {
     let mut out = vec![in alloc; 0x2a]?;
     let mut entry = before.entry(alloc)?;
-    let next = relay_decimal(instr, &mut entry, bytes, bytes.len().min(1), &mut out);
-    Ok(Answer { next, entry, out })
+    let told = match relay_decimal(instr, &mut entry, bytes, bytes.len().min(1), &mut out) {
+        Some(next) => Told::Sent(next),
+        None => Told::Elsewhere,
+    };
+    Ok(Answer { told, entry, out })
 }
 
 fn relay(alloc: Global, of: Shape, before: Kept, bytes: &[u8]) -> Result<Answer, AllocError> {

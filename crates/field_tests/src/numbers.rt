@@ -51,11 +51,16 @@ fn relay_with(
 ) -> Result<Answer, AllocError> {
     let mut out = vec![in alloc; 0x2a]?;
     let mut entry = before.entry(alloc)?;
-    let next = relay_number(instr, &mut entry, bytes, bytes.len().min(1), &mut out);
-    Ok(Answer { next, entry, out })
+    let told = relay_number(instr, &mut entry, bytes, bytes.len().min(1), &mut out);
+    Ok(Answer { told, entry, out })
 }
 
-fn relay(alloc: Global, of: Shape, before: Kept, bytes: &[u8]) -> Result<Answer, AllocError> {
+pub(crate) fn relay(
+    alloc: Global,
+    of: Shape,
+    before: Kept,
+    bytes: &[u8],
+) -> Result<Answer, AllocError> {
     let instr = of.instr(alloc)?;
     relay_with(alloc, &instr, before, bytes)
 }
@@ -94,8 +99,8 @@ fn counts_with(
     let mut entry = Entry::Undefined;
     let start = row.bytes.len().min(1);
     match relay_unsigned(instr, &mut entry, row.bytes, start, &mut out) {
-        Some((number, next)) => {
-            same(rt, Some(number), row.number);
+        Some((number, bit, next)) => {
+            same(rt, (Some(number), bit), (row.number, true));
             same(rt, next, row.bytes.len());
             same(rt, entry, Kept::Assigned(Value::U32(number)).entry(alloc)?);
         }
@@ -764,36 +769,10 @@ fn exponents_are_relayed(rt: HostRuntime) -> Result<(), AllocError> {
     none_relayed(&rt, rt.alloc(), OTHERS)
 }
 
-#[test]
-fn what_entries_give_is_not_relayed(rt: HostRuntime) -> Result<(), AllocError> {
-    const ROWS: &[NotRelayed] = &[
-        NotRelayed {
-            of: Shape::Mandatory(Kind::UInt32, Operator::Copy),
-            before: Kept::Assigned(Value::U32(7)),
-            bytes: &[0xff, 0x87],
-        },
-        NotRelayed {
-            of: Shape::Mandatory(Kind::UInt32, Operator::Increment),
-            before: Kept::Assigned(Value::U32(6)),
-            bytes: &[0xff, 0x87],
-        },
-        NotRelayed {
-            of: Shape::Mandatory(Kind::UInt32, Operator::Increment),
-            before: Kept::Assigned(Value::U32(u32::MAX)),
-            bytes: &[0xff, 0x80],
-        },
-    ];
-    none_relayed(&rt, rt.alloc(), ROWS)
-}
-
+// bit 0 gives these too, but not of the entry
 #[test]
 fn initial_values_are_not_relayed(rt: HostRuntime) -> Result<(), AllocError> {
     const ROWS: &[NotRelayed] = &[
-        NotRelayed {
-            of: Shape::Initial(Presence::Mandatory, Operator::Default, 7),
-            before: Kept::Undefined,
-            bytes: &[0xff, 0x87],
-        },
         NotRelayed {
             of: Shape::Initial(Presence::Mandatory, Operator::Copy, 7),
             before: Kept::Undefined,

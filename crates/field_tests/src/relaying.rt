@@ -3,6 +3,7 @@
 use crate::fields::{Kept, Shape};
 use crate::same::same;
 use fast_dictionary::Entry;
+use fast_relay::Relayed as Told;
 use std::alloc::{AllocError, Global};
 use std::process::Abort;
 
@@ -22,16 +23,24 @@ pub(crate) struct NotRelayed {
     pub(crate) bytes: &'static [u8],
 }
 
+// Bit 0 gives what the bytes behind the first spell to their end, and nothing is appended.
+pub(crate) struct Given {
+    pub(crate) of: Shape,
+    pub(crate) before: Kept,
+    pub(crate) bytes: &'static [u8],
+    pub(crate) after: Kept,
+}
+
 // What a call answered, the entry afterwards, and what was written behind a byte that was there.
 #[derive(Drop)]
 pub(crate) struct Answer {
-    pub(crate) next: Option<usize>,
+    pub(crate) told: Told,
     pub(crate) entry: Entry,
     pub(crate) out: Vec<u8>,
 }
 
-fn answered(rt: &impl Abort, answer: Answer, next: Option<usize>, appended: &[u8], after: Entry) {
-    same(rt, answer.next, next);
+fn answered(rt: &impl Abort, answer: Answer, told: Told, appended: &[u8], after: Entry) {
+    same(rt, answer.told, told);
     same(rt, answer.out.split_first(), Some((&0x2a, appended)));
     same(rt, answer.entry, after);
 }
@@ -43,7 +52,7 @@ pub(crate) fn is_left(
     answer: Answer,
     before: Kept,
 ) -> Result<(), AllocError> {
-    answered(rt, answer, None, &[], before.entry(alloc)?);
+    answered(rt, answer, Told::Elsewhere, &[], before.entry(alloc)?);
     Ok(())
 }
 
@@ -54,11 +63,23 @@ pub(crate) fn is_relayed(
     answer: Answer,
     row: &Relayed,
 ) -> Result<(), AllocError> {
-    if answer.next.is_none() {
+    if answer.told == Told::Elsewhere {
         is_left(rt, alloc, answer, row.before)?;
         return Err(AllocError);
     }
     let after = row.after.entry(alloc)?;
-    answered(rt, answer, Some(row.bytes.len()), row.appended, after);
+    answered(rt, answer, Told::Sent(row.bytes.len()), row.appended, after);
+    Ok(())
+}
+
+// The same of a row whose value bit 0 gives.
+pub(crate) fn is_given(
+    rt: &impl Abort,
+    alloc: Global,
+    answer: Answer,
+    row: &Given,
+) -> Result<(), AllocError> {
+    let after = row.after.entry(alloc)?;
+    answered(rt, answer, Told::Given(row.bytes.len()), &[], after);
     Ok(())
 }

@@ -75,12 +75,6 @@ fn whole_vectors_are_relayed(rt: HostRuntime) -> Result<(), AllocError> {
 #[test]
 fn other_whole_values_go_the_general_way(rt: HostRuntime) -> Result<(), AllocError> {
     const ROWS: &[NotRelayed] = &[
-        // what bit 0 gives
-        NotRelayed {
-            of: Shape::Mandatory(Kind::Unicode, Operator::Copy),
-            before: Kept::Assigned(Value::Unicode("ü")),
-            bytes: &[0, 0x82, 0xc3, 0xbc],
-        },
         // no UTF-8
         NotRelayed {
             of: Shape::Mandatory(Kind::Unicode, Operator::Copy),
