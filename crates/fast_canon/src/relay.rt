@@ -56,6 +56,7 @@ pub(crate) fn hand_on<W: ByteOutput, E: Entries>(
 pub(crate) fn read_on<R: ByteInput, E: Entries>(
     machine: &mut Machine<'_, Writer, E>,
     reader: &mut R,
+    chunk: &mut [u8; CHUNK],
 ) -> Reached
     requires room { machine.now.fed + CHUNK ≤ 2 ^ 60 }
     ensures read { (got : List ℕ)
@@ -71,8 +72,7 @@ pub(crate) fn read_on<R: ByteInput, E: Entries>(
     ensures set { machine.new.traversal.set ≡ machine.old.traversal.set }
     ensures fed { machine.new.fed ≤ machine.old.fed + CHUNK }
 {
-    let mut chunk = [0u8; CHUNK];
-    match reader.pull(&mut chunk) {
+    match reader.pull(chunk) {
         Ok(0) => match machine.finish() {
             Ok(()) => Reached::End,
             Err(fault) => Reached::Fault(fault),
@@ -123,8 +123,10 @@ pub(crate) fn relay<R: ByteInput, W: ByteOutput, E: Entries>(
     let mut reached = Reached::Open;
     let mut reads = 0;
     let mut written = 0u64;
+    // (one for all reads, since to make one anew is to fill it)
+    let mut chunk = [0u8; CHUNK];
     'reads: while is_open(reached) && reads < turns {
-        reached = read_on(machine, reader);
+        reached = read_on(machine, reader, &mut chunk);
         reads += 1;
         match hand_on(machine, writer) {
             Err(failed) => return Err(failed),
