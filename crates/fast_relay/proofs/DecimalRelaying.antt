@@ -35,7 +35,11 @@ use Rattle.fast_field.proofs.BestValues.{delta_is_first, whole_is_first}
 use Rattle.fast_field.proofs.ChosenForms.{decimal_value as decimal_is_first, whole_shortest}
 use Rattle.fast_field.proofs.ValuesWithin.{IsOfType}
 use Rattle.fast_relay.specs.Numbers.{SpellsWhole, Spelt}
-use Rattle.fast_relay.specs.Relayed.{Relays}
+use Rattle.fast_value.specs.Scalar.{is_of}
+use Rattle.fast_field.specs.Passed.{Passes}
+use Rattle.fast_relay.specs.Relayed.{Drops, Relays}
+use Rattle.fast_relay.proofs.Giving.{drops}
+use Rattle.fast_relay.proofs.TextRelaying.{whole_within}
 use Rattle.fast_relay.proofs.Relaying.{added_back, base_is, delta_out, delta_row, relays, whole_row}
 
 -- a number of 64 bits can be sent
@@ -155,3 +159,13 @@ decimal_whole_relays i old new x m bytes mid rest before after k p o exponent ne
     out
     (λ b s. whole_first i.operator i old v b o (of_type i.kind x m k near fits) s)
     appended
+
+pub decimal_of : (i : FieldPart) (x m : ℤ) → i.kind ≡ kind.Decimal → is_of i.kind (Decimal x m) ≡ true
+decimal_of i x m k = rw k refl
+
+-- where bit 0 gives it
+pub decimal_whole_drops : (i : FieldPart) (e : Entry) (x m : ℤ) (bytes mid rest : List ℕ) → i.kind ≡ kind.Decimal → i.part ≡ part.Whole → SpellsWhole i.operator → Spelt false i.presence bytes x mid → exponent_in_range x ≡ true → Spelt false Mandatory mid m rest → in_range kind.Int64 m ≡ true
+    → Passes i e e (Some (Decimal x m)) → Drops i e e (Some (Decimal x m)) bytes rest
+decimal_whole_drops i e x m bytes mid rest k p o exponent near mantissa fits passes =
+    let v = Decimal x m in
+    drops i e e (Some v) bytes rest (whole_within i.part v p) (whole_row i.operator i e bytes o ∙ whole_read i x m bytes mid rest k exponent near mantissa fits) passes

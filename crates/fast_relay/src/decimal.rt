@@ -9,10 +9,12 @@ ghost use Rattle.fast_value.specs.declared.scalar.Scalar.{Scalar as ScalarOf};
 ghost use Rattle.fast_value.specs.declared.scalar.Scalar.TheVariants as scalar;
 ghost use Rattle.fast_dictionary.specs.declared.entry.Entry.TheVariants as entry_type;
 ghost use Rattle.fast_relay.specs.Numbers.{SpellsWhole};
-ghost use Rattle.fast_relay.specs.Relayed.{Relays};
+ghost use Rattle.fast_relay.specs.Relayed.{IfElsewhere, IfRelayed, Relays, RelaysAs};
 
+use crate::given::gives_decimal;
 use crate::integers::read_short;
 use crate::kept::keep_value;
+use crate::relayed::Relayed;
 use fast_dictionary::Entry;
 use fast_field::{exponent_within, is_left_out, mantissa_within, write_pair};
 use fast_template::{FieldPart, Kind, Operator, Part, Presence, Scalar};
@@ -99,44 +101,48 @@ fn relay_decimal_whole(
     bytes: &[u8],
     at: usize,
     out: &mut Vec<u8>,
-) -> Option<usize>
+) -> Relayed
     requires at { at ≤ length bytes.now }
     requires kind { instr.now.kind ≡ kind_type.Decimal }
     requires operator { SpellsWhole instr.now.operator }
     requires part { instr.now.part ≡ part_type.Whole }
-    ensures place { IfSome result (λ next. (at ≤ next) × (next ≤ length bytes.now)) }
-    ensures relayed { IfSome result (λ next. (v : ScalarOf)
-        × Relays instr.now entry.old entry.new v (drop at bytes.now) (drop next bytes.now)
+    ensures place { IfRelayed result (λ bit next. (at ≤ next) × (next ≤ length bytes.now)) }
+    ensures relayed { IfRelayed result (λ bit next. (v : ScalarOf)
+        × RelaysAs bit instr.now entry.old entry.new v (drop at bytes.now) (drop next bytes.now)
         out.old.items out.new.items) }
-    ensures entry { IfNone result (entry.new ≡ entry.old) }
-    ensures out { IfNone result (out.new.items ≡ out.old.items) }
+    ensures entry { IfElsewhere result (entry.new ≡ entry.old) }
+    ensures out { IfElsewhere result (out.new.items ≡ out.old.items) }
 {
     let Some((exponent_sent, behind)) = read_short(false, instr.presence, bytes, at) else {
-        return None;
+        return Relayed::Elsewhere;
     };
     let Some((mantissa_sent, next)) = read_short(false, Presence::Mandatory, bytes, behind) else {
-        return None;
+        return Relayed::Elsewhere;
     };
     let Some(exponent) = exponent_within(exponent_sent) else {
-        return None;
+        return Relayed::Elsewhere;
     };
     let Some(mantissa) = mantissa_within(mantissa_sent) else {
-        return None;
+        return Relayed::Elsewhere;
     };
     let value = Scalar::Decimal { exponent, mantissa };
     if is_left_out(instr, entry.view(), Some(&value)) {
-        return None;
+        if gives_decimal(instr, entry, &value) {
+            return Relayed::Given(next);
+        }
+        return Relayed::Elsewhere;
     }
     match write_pair(instr.presence, exponent_sent, mantissa_sent, out) {
         Ok(()) => {
             keep_value(instr.operator, entry, value);
-            Some(next)
+            Relayed::Sent(next)
         }
-        Err(_) => None,
+        Err(_) => Relayed::Elsewhere,
     }
 }
 
-/// Reads a decimal in one piece under bit 1, which is sent whole or as a difference, appends its best form, makes the entry the one afterwards, and answers the place after it. None: nothing has changed, and the general way tells.
+/// Reads a decimal in one piece under bit 1, which is sent whole or as a difference, appends its best form where that has
+/// bit 1 too, and makes the entry the one afterwards. Elsewhere: nothing has changed, and the general way tells.
 #[inline(never)]
 pub fn relay_decimal(
     instr: &FieldPart,
@@ -144,22 +150,25 @@ pub fn relay_decimal(
     bytes: &[u8],
     at: usize,
     out: &mut Vec<u8>,
-) -> Option<usize>
+) -> Relayed
     requires { at ≤ length bytes.now }
-    ensures place { IfSome result (λ next. (at ≤ next) × (next ≤ length bytes.now)) }
-    ensures relayed { IfSome result (λ next. (v : ScalarOf)
-        × Relays instr.now entry.old entry.new v (drop at bytes.now) (drop next bytes.now)
+    ensures place { IfRelayed result (λ bit next. (at ≤ next) × (next ≤ length bytes.now)) }
+    ensures relayed { IfRelayed result (λ bit next. (v : ScalarOf)
+        × RelaysAs bit instr.now entry.old entry.new v (drop at bytes.now) (drop next bytes.now)
         out.old.items out.new.items) }
-    ensures entry { IfNone result (entry.new ≡ entry.old) }
-    ensures out { IfNone result (out.new.items ≡ out.old.items) }
+    ensures entry { IfElsewhere result (entry.new ≡ entry.old) }
+    ensures out { IfElsewhere result (out.new.items ≡ out.old.items) }
 {
     match (instr.kind, instr.operator, instr.part) {
         (Kind::Decimal, Operator::Delta, Part::Whole) => {
-            relay_decimal_delta(instr, entry, bytes, at, out)
+            match relay_decimal_delta(instr, entry, bytes, at, out) {
+                Some(next) => Relayed::Sent(next),
+                None => Relayed::Elsewhere,
+            }
         }
         (Kind::Decimal, Operator::Plain | Operator::Default | Operator::Copy, Part::Whole) => {
             relay_decimal_whole(instr, entry, bytes, at, out)
         }
-        (_, _, _) => None,
+        (_, _, _) => Relayed::Elsewhere,
     }
 }

@@ -1,8 +1,8 @@
 //! Whether a value that was sent is what bit 0 gives too; it then has bit 0 for its best form. Integers, ASCII strings in
-//! their shortest form, tails of them, vectors and NULL are compared here.
+//! their shortest form, tails of them, vectors, decimals and NULL are compared here.
 
 ghost use Rattle.std.specs.Prelude.{◌≡◌, ◌≤◌, true, false, length, drop, Option, Some, None, IfNone, IfSome, IsTrue};
-ghost use Rattle.fast_value.specs.Scalar.{is_integer, of_integer};
+ghost use Rattle.fast_value.specs.Scalar.{is_integer, is_of, of_integer};
 ghost use Rattle.fast_value.specs.declared.kind.Kind.TheVariants as kind_type;
 ghost use Rattle.fast_value.specs.declared.kind.Operator.TheVariants as operator_type;
 ghost use Rattle.fast_value.specs.declared.kind.Part.TheVariants as part_type;
@@ -187,6 +187,47 @@ pub(crate) fn drop_plain_tail(
         Some(next)
     } else {
         None
+    }
+}
+
+/// Whether both values are one decimal.
+#[inline(always)]
+fn is_same_decimal(kept: &Scalar, value: &Scalar) -> bool
+    ensures { result ≡ true → kept.now ≡ value.now }
+{
+    match (kept, value) {
+        (
+            Scalar::Decimal {
+                exponent: kept_exponent,
+                mantissa: kept_mantissa,
+            },
+            Scalar::Decimal { exponent, mantissa },
+        ) => *kept_exponent == *exponent && *kept_mantissa == *mantissa,
+        _ => false,
+    }
+}
+
+/// Whether bit 0 gives a decimal, which leaves the entry as it is.
+#[inline(always)]
+pub(crate) fn gives_decimal(instr: &FieldPart, entry: &Entry, value: &Scalar) -> bool
+    requires of_kind { is_of instr.now.kind value.now ≡ true }
+    requires whole { instr.now.part ≡ part_type.Whole }
+    ensures { result ≡ true → Passes instr.now entry.now entry.now (Some value.now) }
+{
+    match instr.operator {
+        Operator::Copy => match entry {
+            Entry::Assigned(kept) => is_same_decimal(kept, value),
+            Entry::Undefined | Entry::Empty => false,
+        },
+        Operator::Default => match &instr.initial {
+            Some(initial) => is_same_decimal(initial, value),
+            None => false,
+        },
+        Operator::Plain
+        | Operator::Constant
+        | Operator::Increment
+        | Operator::Delta
+        | Operator::Tail => false,
     }
 }
 

@@ -73,8 +73,9 @@ fn relay_long(
         Answer::Sent(next) => Some((true, true, next)),
         Answer::Given(next) => Some((true, false, next)),
         Answer::Elsewhere => match relay_decimal(part, entry, bytes, at, out) {
-            Some(next) => Some((true, true, next)),
-            None => None,
+            Answer::Sent(next) => Some((true, true, next)),
+            Answer::Given(next) => Some((true, false, next)),
+            Answer::Elsewhere => None,
         },
     }
 }

@@ -2,7 +2,7 @@
 
 use crate::fields::{Kept, Shape, Value};
 use crate::relaying::{Answer, NotRelayed, Relayed, is_left, is_relayed};
-use fast_relay::{Relayed as Told, relay_decimal};
+use fast_relay::relay_decimal;
 use fast_template::{FieldPart, Kind, Operator};
 use std::alloc::{AllocError, Global};
 use std::process::Abort;
@@ -15,14 +15,16 @@ fn relay_with(
 ) -> Result<Answer, AllocError> {
     let mut out = vec![in alloc; 0x2a]?;
     let mut entry = before.entry(alloc)?;
-    let told = match relay_decimal(instr, &mut entry, bytes, bytes.len().min(1), &mut out) {
-        Some(next) => Told::Sent(next),
-        None => Told::Elsewhere,
-    };
+    let told = relay_decimal(instr, &mut entry, bytes, bytes.len().min(1), &mut out);
     Ok(Answer { told, entry, out })
 }
 
-fn relay(alloc: Global, of: Shape, before: Kept, bytes: &[u8]) -> Result<Answer, AllocError> {
+pub(crate) fn relay(
+    alloc: Global,
+    of: Shape,
+    before: Kept,
+    bytes: &[u8],
+) -> Result<Answer, AllocError> {
     let instr = of.instr(alloc)?;
     relay_with(alloc, &instr, before, bytes)
 }
@@ -133,12 +135,6 @@ fn the_rest_goes_the_general_way(rt: HostRuntime) -> Result<(), AllocError> {
         NotRelayed {
             of: Shape::Mandatory(Kind::Decimal, Operator::Delta),
             before: Kept::Undefined,
-            bytes: &[0xff, 0x81, 0xfe],
-        },
-        // what bit 0 gives
-        NotRelayed {
-            of: Shape::Mandatory(Kind::Decimal, Operator::Copy),
-            before: Kept::Assigned(Value::Decimal(1, -2)),
             bytes: &[0xff, 0x81, 0xfe],
         },
         // an exponent of -64

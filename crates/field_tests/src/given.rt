@@ -2,7 +2,7 @@
 
 use crate::fields::{Kept, Shape, Value};
 use crate::relaying::{Given, is_given};
-use crate::{nulls, numbers, texts};
+use crate::{decimals, nulls, numbers, texts};
 use fast_template::{Kind, Operator, Presence};
 use std::alloc::{AllocError, Global};
 use std::process::Abort;
@@ -26,6 +26,14 @@ fn nulls_are_given(rt: &impl Abort, alloc: Global, rows: &[Given]) -> Result<(),
 fn texts_are_given(rt: &impl Abort, alloc: Global, rows: &[Given]) -> Result<(), AllocError> {
     for row in rows {
         let answer = texts::relay(alloc, row.of, row.before, row.bytes)?;
+        is_given(rt, alloc, answer, row)?;
+    }
+    Ok(())
+}
+
+fn decimals_are_given(rt: &impl Abort, alloc: Global, rows: &[Given]) -> Result<(), AllocError> {
+    for row in rows {
+        let answer = decimals::relay(alloc, row.of, row.before, row.bytes)?;
         is_given(rt, alloc, answer, row)?;
     }
     Ok(())
@@ -144,4 +152,15 @@ fn texts_that_bit_0_gives(rt: HostRuntime) -> Result<(), AllocError> {
         },
     ];
     texts_are_given(&rt, rt.alloc(), ROWS)
+}
+
+#[test]
+fn decimals_that_bit_0_gives(rt: HostRuntime) -> Result<(), AllocError> {
+    const ROWS: &[Given] = &[Given {
+        of: Shape::Mandatory(Kind::Decimal, Operator::Copy),
+        before: Kept::Assigned(Value::Decimal(1, -2)),
+        bytes: &[0xff, 0x81, 0xfe],
+        after: Kept::Assigned(Value::Decimal(1, -2)),
+    }];
+    decimals_are_given(&rt, rt.alloc(), ROWS)
 }

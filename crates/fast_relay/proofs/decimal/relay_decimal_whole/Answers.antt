@@ -1,11 +1,11 @@
 use Rattle.std.specs.Int.{w32, w64, w128}
 use Rattle.std.specs.Prelude.{drop}
-use Rattle.std.proofs.Common.{ap, sym, ◌∙◌, arith}
+use Rattle.std.proofs.Common.{ap, sym, refl, ◌∙◌, arith}
 use Rattle.std.proofs.lemmas.Int.{to_z-of_z}
 use Rattle.fast_value.specs.Scalar.{exponent_in_range, in_range}
 use Rattle.fast_value.specs.declared.kind.Kind.TheVariants as kind
 use Rattle.fast_value.specs.declared.scalar.Scalar.TheVariants.{Decimal}
-use Rattle.fast_relay.proofs.DecimalRelaying.{decimal_whole_relays, exponent_fits, fits_long, mantissa_fits, small}
+use Rattle.fast_relay.proofs.DecimalRelaying.{decimal_of, decimal_whole_drops, decimal_whole_relays, exponent_fits, fits_long, mantissa_fits, small}
 use Rattle.fast_relay.proofs.decimal.relay_decimal_whole.Goals as goal
 
 pub write_pair-requires-clause-exponent : goal.write_pair-requires-clause-exponent
@@ -49,4 +49,53 @@ returns-in-Ok-clause-relayed c =
           (rw (e_is, n_is, c.view.ensures) at (sym c.is_left_out.ensures ∙ c.if-is_left_out.false))
           (rw (e_is, n_is) at c.keep_value.ensures)
           (rw (x_is, m_is) at c.in-Ok.ensures),
+    )
+
+pub gives_decimal-requires-clause-of_kind : goal.gives_decimal-requires-clause-of_kind
+gives_decimal-requires-clause-of_kind c =
+    let x = c.in-Some.exponent_sent in
+    let m = c.in-Some-read_short.mantissa_sent in
+    let first = c.in-Some.ensures in
+    let second = c.in-Some-read_short.ensures in
+    let x_fits = fits_long x first.above first.below in
+    let m_fits = fits_long m second.above second.below in
+    let x_is = to_z-of_z w128 x x_fits in
+    let m_is = to_z-of_z w128 m m_fits in
+    let near = rw x_is at c.in-Some-exponent_within.ensures.some in
+    let within = rw m_is at c.in-Some-mantissa_within.ensures.some in
+    let e = c.in-Some-exponent_within.exponent in
+    let n = c.in-Some-mantissa_within.mantissa in
+    let e_is = to_z-of_z w32 e (exponent_fits e (ap exponent_in_range near.0 ∙ near.1)) ∙ near.0 in
+    let n_is = to_z-of_z w64 n (mantissa_fits n (ap (in_range kind.Int64) within.0 ∙ within.1)) ∙ within.0 in
+    rw (e_is, n_is) (decimal_of c.args.instr.now x m c.requires.kind)
+
+pub returns-then-gives_decimal-clause-place : goal.returns-then-gives_decimal-clause-place
+returns-then-gives_decimal-clause-place c = (omega (arith, c.in-Some.ensures.place, c.in-Some-read_short.ensures.place), c.in-Some-read_short.ensures.place.1)
+
+pub returns-then-gives_decimal-clause-relayed : goal.returns-then-gives_decimal-clause-relayed
+returns-then-gives_decimal-clause-relayed c =
+    let x = c.in-Some.exponent_sent in
+    let m = c.in-Some-read_short.mantissa_sent in
+    let first = c.in-Some.ensures in
+    let second = c.in-Some-read_short.ensures in
+    let x_fits = fits_long x first.above first.below in
+    let m_fits = fits_long m second.above second.below in
+    let x_is = to_z-of_z w128 x x_fits in
+    let m_is = to_z-of_z w128 m m_fits in
+    let near = rw x_is at c.in-Some-exponent_within.ensures.some in
+    let within = rw m_is at c.in-Some-mantissa_within.ensures.some in
+    let e = c.in-Some-exponent_within.exponent in
+    let n = c.in-Some-mantissa_within.mantissa in
+    let e_is = to_z-of_z w32 e (exponent_fits e (ap exponent_in_range near.0 ∙ near.1)) ∙ near.0 in
+    let n_is = to_z-of_z w64 n (mantissa_fits n (ap (in_range kind.Int64) within.0 ∙ within.1)) ∙ within.0 in
+    let bytes = c.args.bytes.now in
+    let i = c.args.instr.now in (
+      Decimal x m,
+      (
+        decimal_of i x m c.requires.kind,
+        decimal_whole_drops i c.args.entry.now x m (drop c.args.at bytes) (drop c.in-Some.behind bytes) (drop c.in-Some-read_short.next bytes)
+            c.requires.kind c.requires.part c.requires.operator first.gives near.1 second.gives within.1
+            (rw (e_is, n_is) at (c.gives_decimal.ensures c.if-gives_decimal.true)),
+        refl,
+      ),
     )
