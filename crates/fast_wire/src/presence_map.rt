@@ -122,27 +122,107 @@ fn used_bits(bits: &[bool]) -> usize
     0
 }
 
-/// Bit `i` as a number, which is 0 past the end.
-fn bit_value(bits: &[bool], i: usize) -> u8
+/// Bit `i`, which is there, as a number.
+#[inline(always)]
+fn bit_there(bits: &[bool], i: usize) -> u8
+    requires { i < length bits.now }
     ensures value { result ≡ bit_number (bit_at bits.now i) }
     ensures small { result ≤ 1 }
 {
-    if i < bits.len() && bits[i] { 1 } else { 0 }
+    if bits[i] { 1 } else { 0 }
 }
 
-/// The group of the seven bits from `from` on.
+/// Bit `i` past the end, which is 0.
+#[inline(always)]
+fn bit_past(bits: &[bool], i: usize) -> u8
+    requires { length bits.now ≤ i }
+    ensures value { result ≡ bit_number (bit_at bits.now i) }
+    ensures small { result ≡ 0 }
+{
+    let _bits = bits;
+    0
+}
+
+/// The group of the seven bits from `from` on, told by how many of them are there.
 fn group_at(bits: &[bool], from: usize) -> u8
-    requires { from < 2000 }
+    requires { from ≤ length bits.now }
     ensures value { result ≡ group_from bits.now from }
     ensures small { result < 128 }
 {
-    64 * bit_value(bits, from)
-        + 32 * bit_value(bits, from + 1)
-        + 16 * bit_value(bits, from + 2)
-        + 8 * bit_value(bits, from + 3)
-        + 4 * bit_value(bits, from + 4)
-        + 2 * bit_value(bits, from + 5)
-        + bit_value(bits, from + 6)
+    match bits.len() - from {
+        0 => {
+            64 * bit_past(bits, from)
+                + 32 * bit_past(bits, from + 1)
+                + 16 * bit_past(bits, from + 2)
+                + 8 * bit_past(bits, from + 3)
+                + 4 * bit_past(bits, from + 4)
+                + 2 * bit_past(bits, from + 5)
+                + bit_past(bits, from + 6)
+        }
+        1 => {
+            64 * bit_there(bits, from)
+                + 32 * bit_past(bits, from + 1)
+                + 16 * bit_past(bits, from + 2)
+                + 8 * bit_past(bits, from + 3)
+                + 4 * bit_past(bits, from + 4)
+                + 2 * bit_past(bits, from + 5)
+                + bit_past(bits, from + 6)
+        }
+        2 => {
+            64 * bit_there(bits, from)
+                + 32 * bit_there(bits, from + 1)
+                + 16 * bit_past(bits, from + 2)
+                + 8 * bit_past(bits, from + 3)
+                + 4 * bit_past(bits, from + 4)
+                + 2 * bit_past(bits, from + 5)
+                + bit_past(bits, from + 6)
+        }
+        3 => {
+            64 * bit_there(bits, from)
+                + 32 * bit_there(bits, from + 1)
+                + 16 * bit_there(bits, from + 2)
+                + 8 * bit_past(bits, from + 3)
+                + 4 * bit_past(bits, from + 4)
+                + 2 * bit_past(bits, from + 5)
+                + bit_past(bits, from + 6)
+        }
+        4 => {
+            64 * bit_there(bits, from)
+                + 32 * bit_there(bits, from + 1)
+                + 16 * bit_there(bits, from + 2)
+                + 8 * bit_there(bits, from + 3)
+                + 4 * bit_past(bits, from + 4)
+                + 2 * bit_past(bits, from + 5)
+                + bit_past(bits, from + 6)
+        }
+        5 => {
+            64 * bit_there(bits, from)
+                + 32 * bit_there(bits, from + 1)
+                + 16 * bit_there(bits, from + 2)
+                + 8 * bit_there(bits, from + 3)
+                + 4 * bit_there(bits, from + 4)
+                + 2 * bit_past(bits, from + 5)
+                + bit_past(bits, from + 6)
+        }
+        6 => {
+            64 * bit_there(bits, from)
+                + 32 * bit_there(bits, from + 1)
+                + 16 * bit_there(bits, from + 2)
+                + 8 * bit_there(bits, from + 3)
+                + 4 * bit_there(bits, from + 4)
+                + 2 * bit_there(bits, from + 5)
+                + bit_past(bits, from + 6)
+        }
+        _ => {
+            64 * bit_there(bits, from)
+                + 32 * bit_there(bits, from + 1)
+                + 16 * bit_there(bits, from + 2)
+                + 8 * bit_there(bits, from + 3)
+                + 4 * bit_there(bits, from + 4)
+                + 2 * bit_there(bits, from + 5)
+                + bit_there(bits, from + 6)
+        }
+    }
 }
 
 /// Appends the shortest map with these bits, the fewest groups that reach the last 1 and at least one, or
@@ -173,6 +253,7 @@ fn map_size(used: usize) -> usize
 fn append_map(bits: &[bool], size: usize, out: &mut Vec<u8>) -> Result<(), WireFault>
     requires some { 0 < size }
     requires few { size ≤ 256 }
+    requires within { 7 * (size - 1) ≤ length bits.now }
     ensures { Appends (map_of size bits.now 0) out.old out.new result }
 {
     out.reserve(size)?;
