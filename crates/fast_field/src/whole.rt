@@ -495,6 +495,7 @@ pub(crate) fn size_pair(presence: Presence, exponent: i128, mantissa: i128) -> u
 /// # Errors
 ///
 /// Memory: a growth was refused.
+#[inline(always)]
 pub fn write_pair(
     presence: Presence,
     exponent: i128,

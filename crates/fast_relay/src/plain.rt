@@ -325,8 +325,9 @@ fn relay_plain_tail(
     }
 }
 
-/// Relays a string by a new end of the one that the entry has, or leaves out one that it has already.
-#[inline(always)]
+/// Relays a string by a new end of the one that the entry has, or leaves out one that it has already. (A call of its own:
+/// inlined, it makes strings that stand whole and deltas pay for it.)
+#[inline(never)]
 fn relay_either_tail(
     alloc: Global,
     instr: &FieldPart,

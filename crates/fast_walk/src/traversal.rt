@@ -145,6 +145,7 @@ impl<'a> Traversal<'a> {
     }
 
     // Reads a message's identifier, and opens the body of the template that it names.
+    #[inline(always)]
     fn identifier<R: Receiver, E: Entries>(
         &mut self,
         receiver: &mut R,

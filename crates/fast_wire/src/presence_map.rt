@@ -79,6 +79,7 @@ impl Bits {
 /// Reads a presence map of at most 256 bytes that begins at `at`, and answers its bits with the place after
 /// it. NeedMore: the bytes end, fewer than 256, with no stop bit. TooLong: the first 256 have none. Memory:
 /// the copy of a map of more than nine bytes was refused.
+#[inline(always)]
 pub fn read_map(alloc: Global, bytes: &[u8], at: usize) -> Result<(Bits, usize), WireFault>
     requires { at ≤ length bytes.now }
     ensures { IsReadAt OrMemory map_at IsWholeMap CanBeMap
@@ -88,6 +89,7 @@ pub fn read_map(alloc: Global, bytes: &[u8], at: usize) -> Result<(Bits, usize),
 }
 
 /// The map that stands at `at`, and the place after it.
+#[inline(always)]
 fn map_from(alloc: Global, bytes: &[u8], at: usize) -> Result<(Bits, usize), WireFault>
     requires { at ≤ length bytes.now }
     ensures place { IfOk result (λ x. (at < x.1) × (x.1 ≤ length bytes.now)) }

@@ -42,7 +42,7 @@ pub(crate) fn short_entity(bytes: &[u8], at: usize) -> Option<(u64, usize)>
 
 /// Reads an unsigned integer as `read_unsigned` does, in 64 bits. Range: the number has more. It takes no
 /// memory.
-#[inline]
+#[inline(always)]
 pub fn read_u64(bytes: &[u8], at: usize) -> Result<(u64, usize), WireFault>
     requires { at ≤ length bytes.now }
     ensures place { IfOk result (λ x. (at < x.1) × (x.1 ≤ length bytes.now)) }
@@ -85,7 +85,7 @@ fn received(sent: u64) -> Nullable<u64>
 
 /// Reads a nullable unsigned integer as `read_unsigned_nullable` does, in 64 bits. Range: the number has more.
 /// It takes no memory.
-#[inline]
+#[inline(always)]
 pub fn read_u64_nullable(bytes: &[u8], at: usize) -> Result<(Nullable<u64>, usize), WireFault>
     requires { at ≤ length bytes.now }
     ensures place { IfOk result (λ x. (at < x.1) × (x.1 ≤ length bytes.now)) }
@@ -136,7 +136,7 @@ fn with_sign(value: u64, size: usize, negative: bool) -> i64
 }
 
 /// Reads a signed integer as `read_signed` does, in 64 bits. Range: the number has more. It takes no memory.
-#[inline]
+#[inline(always)]
 pub fn read_i64(bytes: &[u8], at: usize) -> Result<(i64, usize), WireFault>
     requires { at ≤ length bytes.now }
     ensures place { IfOk result (λ x. (at < x.1) × (x.1 ≤ length bytes.now)) }
@@ -182,7 +182,7 @@ fn received_signed(sent: i64) -> Nullable<i64>
 
 /// Reads a nullable signed integer as `read_signed_nullable` does, in 64 bits. Range: the number has more. It
 /// takes no memory.
-#[inline]
+#[inline(always)]
 pub fn read_i64_nullable(bytes: &[u8], at: usize) -> Result<(Nullable<i64>, usize), WireFault>
     requires { at ≤ length bytes.now }
     ensures place { IfOk result (λ x. (at < x.1) × (x.1 ≤ length bytes.now)) }
