@@ -113,7 +113,7 @@ fn relay_any_null(
 }
 
 /// Relays NULL of an integer that is spelled whole, in a form that is not the shortest.
-#[inline(always)]
+#[inline(never)]
 fn relay_long_null(
     instr: &FieldPart,
     entry: &mut Entry,
