@@ -1,6 +1,6 @@
 -- What values rest on that were sent although bit 0 gives them.
 use Rattle.std.proofs.Common.{◌≡◌, ◌++◌, ◌-◌, ℕ, true, List, length, take, drop, Ok, refl, sym, ap, subst, ◌∙◌, inl, inr}
-use Rattle.std.specs.Prelude.{false, ℤ, ◌⊎◌, Option, Some, None, IsTrue}
+use Rattle.std.specs.Prelude.{ℤ, ◌⊎◌, Option, Some, None, IsTrue}
 use Rattle.std.proofs.lemmas.List.{take-append-drop}
 use Rattle.fast_wire.specs.Entity.{groups}
 use Rattle.fast_wire.specs.Plain.{IsPlain}

@@ -1,31 +1,27 @@
 //! Whether a value that was sent is what bit 0 gives too; it then has bit 0 for its best form. Integers, ASCII strings in
 //! their shortest form, tails of them, vectors, decimals and NULL are compared here.
 
-ghost use Rattle.std.specs.Prelude.{◌≡◌, ◌≤◌, true, false, length, drop, Option, Some, None, IfNone, IfSome, IsTrue};
-ghost use Rattle.fast_value.specs.Scalar.{is_integer, is_of, of_integer};
+ghost use Rattle.std.specs.Prelude.{◌≡◌, ◌≤◌, true, false, length, drop, Option, Some, None, IfSome};
+ghost use Rattle.fast_value.specs.Scalar.{is_of, of_integer};
 ghost use Rattle.fast_value.specs.declared.kind.Kind.TheVariants as kind_type;
 ghost use Rattle.fast_value.specs.declared.kind.Operator.TheVariants as operator_type;
 ghost use Rattle.fast_value.specs.declared.kind.Part.TheVariants as part_type;
 ghost use Rattle.fast_value.specs.declared.kind.Presence.TheVariants as presence_type;
-ghost use Rattle.fast_value.specs.declared.scalar.Scalar.{Scalar as ScalarOf};
 ghost use Rattle.fast_value.specs.declared.scalar.Scalar.TheVariants.{Ascii};
 ghost use Rattle.fast_wire.specs.Entity.{groups};
 ghost use Rattle.fast_dictionary.specs.declared.entry.Entry.TheVariants as entry_type;
 ghost use Rattle.fast_field.specs.Numbers.{IsFieldNumber};
 ghost use Rattle.fast_field.specs.Passed.{Passes};
 ghost use Rattle.fast_relay.specs.Numbers.{SpellsWhole};
-ghost use Rattle.fast_relay.specs.Relayed.{Drops, IsThere};
-ghost use Rattle.fast_relay.specs.Texts.{IsText, IsVectorKind};
+ghost use Rattle.fast_relay.specs.Relayed.{Drops};
+ghost use Rattle.fast_relay.specs.Texts.{IsText};
 ghost use Rattle.fast_field.specs.Values.{of_units};
 
-use crate::characters::{are_characters, find_plain};
+use crate::characters::are_characters;
 use crate::cut::find_tail;
-use crate::integers::{is_unsigned, read_null, read_short};
-use crate::null::begins_with_null;
-use crate::vectors::{are_text, find_bytes};
 use fast_dictionary::Entry;
-use fast_field::{is_field_number, kept_number, number_after, number_of, set_number};
-use fast_template::{ByteString, FieldPart, Kind, Operator, Part, Presence, Scalar};
+use fast_field::{kept_number, number_after, number_of, set_number};
+use fast_template::{ByteString, FieldPart, Kind, Operator, Scalar};
 use fast_wire::is_text_of;
 
 /// Whether an entry has this number, which bit 0 then repeats.

@@ -1,6 +1,6 @@
 //! NULL, read and written at once: a field that is sent as absent.
 
-ghost use Rattle.std.specs.Prelude.{◌≡◌, ◌≤◌, ◌<◌, ◌+◌, ◌++◌, ◌∷◌, [], true, false, length, drop, None, IfNone, IfSome, IsTrue};
+ghost use Rattle.std.specs.Prelude.{◌≡◌, ◌≤◌, ◌<◌, ◌+◌, ◌++◌, ◌∷◌, [], true, false, length, drop, None, IsTrue};
 ghost use Rattle.fast_value.specs.Scalar.{is_integer};
 ghost use Rattle.fast_value.specs.declared.kind.Presence.TheVariants as presence_type;
 ghost use Rattle.fast_field.specs.Bases.{next_of};
