@@ -1,11 +1,11 @@
 //! Fields that are read from one stream and written to another at once, with no value in between.
 //!
 //! These are most fields of a feed. [`relay_number`] serves integers and constants, [`relay_text`] strings and vectors,
-//! [`relay_decimal`] decimals in one piece, [`relay_null`] NULL of any type: each reads a field under bit 1, makes the entry the one afterwards, and appends the best
-//! form of its value, or nothing where that is bit 0, since bit 0 gives the value too; it answers what became of the field
-//! ([`Relayed`]). [`relay_unsigned`] answers the number too. What bit 0 gives is `pass_left_out` of `fast_field`. Where nothing has changed the field goes the
-//! general way of `fast_field`: `find_field` and `write_found`.
-//! [`take_number`] reads an integer in the same way and writes nothing; it is for those who make messages.
+//! [`relay_decimal`] decimals in one piece, [`relay_null`] NULL of any type: each reads a field under bit 1, makes the entry
+//! the one afterwards, and appends the best form of its value, or nothing where that is bit 0, since bit 0 gives the value
+//! too; it answers what became of the field ([`Relayed`]). [`relay_unsigned`] answers the number too. What bit 0 gives is
+//! `pass_left_out` of `fast_field`. Where nothing has changed the field goes the general way of `fast_field`: `find_field`
+//! and `write_found`. [`take_number`] reads an integer in the same way and writes nothing; it is for those who make messages.
 //! What a field's forms are is defined there; `specs/Relayed` says what it is to have relayed one.
 #![tactic(auto)]
 
