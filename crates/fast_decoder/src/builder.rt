@@ -5,9 +5,10 @@ ghost use Rattle.fast_stream.specs.Nodes.{item_of, single};
 
 use fast_dictionary::Entries;
 use fast_field::FieldFault;
+use fast_part::{exponent_in, mantissa_in, take_part, unsigned_in};
 use fast_stream::{Message, Node};
 use fast_template::{FieldPart, Name, Presence, Scalar};
-use fast_walk::{Receiver, exponent_in, mantissa_in, take_part, unsigned_in};
+use fast_walk::Receiver;
 use std::alloc::{AllocError, Global};
 use std::mem;
 

@@ -14,8 +14,9 @@ use crate::line::Line;
 use crate::lines::push_decimal;
 use fast_dictionary::{Entries, Entry};
 use fast_field::{FieldFault, read_in_place};
+use fast_part::{exponent_in, mantissa_in, take_part, take_quickly, unsigned_in};
 use fast_template::{FieldPart, Name, Presence, TemplateSet};
-use fast_walk::{Receiver, exponent_in, mantissa_in, take_part, take_quickly, unsigned_in};
+use fast_walk::Receiver;
 use std::alloc::{AllocError, Global};
 
 // Takes a field's value in the general way, and tells it from where it lies: it is not copied.

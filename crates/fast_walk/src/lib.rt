@@ -9,13 +9,11 @@
 
 mod bits;
 mod halt;
-mod part;
 mod receiver;
 mod traversal;
 mod walk;
 
 pub use halt::Halt;
-pub use part::{exponent_in, mantissa_in, take_part, take_quickly, unsigned_in};
 pub use receiver::Receiver;
 pub use traversal::{Stage, Traversal};
 pub use walk::{Frame, Inside, Next, Sequel, Walk};

@@ -1,0 +1,30 @@
+use Rattle.std.proofs.Common.{◌≡◌, ◌≢◌, Option, inl, inr, Result, Err, drop, sym, ap, ◌∙◌}
+use Rattle.fast_value.specs.declared.scalar.Scalar.{Scalar}
+use Rattle.fast_dictionary.specs.declared.entry.Entry.{Entry}
+use Rattle.fast_field.specs.FieldReading.{field_at}
+use Rattle.fast_field.specs.Found.{value_found}
+use Rattle.fast_field.specs.Bases.{next}
+use Rattle.fast_field.specs.declared.fault.FieldFault.{FieldFault}
+use Rattle.fast_field.specs.declared.fault.FieldFault.TheVariants as fault
+use Rattle.fast_field.specs.Calls.{OrRefused}
+use Rattle.fast_wire.specs.Reading.{Fails}
+use Rattle.fast_part.proofs.part.take_generally.Goals as goal
+
+failed : {Y : Type 0} (f : FieldFault) (read : Result Y FieldFault) → Fails OrRefused f read → f ≢ fault.Memory → read ≡ Err f
+failed f read (inl is) other = is
+failed f read (inr refused) other = absurd (other refused.0)
+
+pub returns-in-Err-clause-stops : goal.returns-in-Err-clause-stops
+returns-in-Err-clause-stops c = λ other. (
+  failed c.in-Err.fault (field_at c.args.part.now c.args.entry.now c.args.bit (drop c.args.at c.args.bytes.now)) c.in-Err.ensures.gives other,
+  c.in-Err.ensures.unchanged,
+)
+
+pub returns-in-Ok-into_value-clause-taken : goal.returns-in-Ok-into_value-clause-taken
+returns-in-Ok-into_value-clause-taken c =
+    let i = c.args.part.now in
+    let value = c.in-Ok-into_value.ensures ∙ ap (λ (e : Entry). value_found i e c.in-Ok.found) c.view.ensures in
+    record {
+      value = λ more. rw (value) (c.in-Ok.ensures.goes more);
+      entry = c.in-Ok.ensures.entry ∙ ap (λ (v : Option Scalar). next i c.args.entry.now v) (sym value);
+    }
