@@ -23,3 +23,6 @@ returns-clause-len c =
     let before : vec_len c.loop-left.out ≡ length c.loop-left.out.items = search rules in
     let entry : vec_len c.args.out.now ≡ length c.args.out.now.items = search rules in
     omega (arith, length-append c.loop-left.out.items (entity_of left v), length-append c.args.out.now.items (entity_of c.args.size v), entity_length left v, entity_length c.args.size v)
+
+pub returns-clause-items : goal.returns-clause-items
+returns-clause-items c = search rules

@@ -6,3 +6,6 @@ returns-then-run-lt-LANES c = search rules
 
 pub returns : goal.returns
 returns c = search rules
+
+pub loop-at-preserved : goal.loop-at-preserved
+loop-at-preserved c = search rules
