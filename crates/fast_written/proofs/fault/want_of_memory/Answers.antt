@@ -1,5 +1,4 @@
-use Rattle.std.proofs.Common.{rules}
 use Rattle.fast_written.proofs.fault.want_of_memory.Goals as goal
 
 pub returns : goal.returns
-returns c = search rules
+returns c = c.fault_at.ensures
