@@ -1,4 +1,4 @@
-use Rattle.std.proofs.Common.{arith, length-append, drop}
+use Rattle.std.proofs.Common.{arith, rules, length-append, drop}
 use Rattle.std.proofs.lemmas.List.{length-take}
 use Rattle.fast_io.proofs.Scripts.{reads_front}
 use Rattle.fast_io.proofs.script.ScriptInputRead.read.Goals as goal
@@ -14,3 +14,6 @@ returns-clause-bytes c =
       c.min-len.ensures,
       c.args.self.now.steps,
     ))
+
+pub returns-clause-fails : goal.returns-clause-fails
+returns-clause-fails c = search (rules, arith)
