@@ -25,17 +25,17 @@ found_in : (ts : List FlatTemplate) (id : ℕ) (t : FlatTemplate) (k : Key) → 
 found_in [] id t k e there = absurd cc
 found_in (x ∷ ts) id t k e there = chosen (has_id id x.id) x t ts (find (λ f. has_id id f.id) ts) k (λ e. found_in ts id t k e there) e there
 
-pub key_found : (set : TemplateList) (id : ℕ) (t : FlatTemplate) (k : Key) → template_of id set ≡ Some t → Contains (keys_of_template t) k → Contains (keys_in set) k
+key_found : (set : TemplateList) (id : ℕ) (t : FlatTemplate) (k : Key) → template_of id set ≡ Some t → Contains (keys_of_template t) k → Contains (keys_in set) k
 key_found set id t k e found = Contains-append_right (identifier_key ∷ []) (keys_of_all (templates_in set)) k (found_in set.templates id t k e found)
 
 -- ---- the key of one of its instructions
 
-pub key_in_list : (flats : List Flat) (i : ℕ) (d : Flat) (k : Key) → i < length flats → Contains (keys_of_one (instruction_of (get_or flats i d))) k → Contains (keys_of (list_of flats)) k
+key_in_list : (flats : List Flat) (i : ℕ) (d : Flat) (k : Key) → i < length flats → Contains (keys_of_one (instruction_of (get_or flats i d))) k → Contains (keys_of (list_of flats)) k
 key_in_list [] i d k lt found = absurd (omega (arith, lt))
 key_in_list (f ∷ fs) zero d k lt found = Contains-append_left (keys_of_one (instruction_of f)) (keys_of (list_of fs)) k found
 key_in_list (f ∷ fs) (suc i) d k lt found = Contains-append_right (keys_of_one (instruction_of f)) (keys_of (list_of fs)) k (key_in_list fs i d k (omega (arith, lt)) found)
 
-pub key_of_item : (flats : List Flat) (i : ℕ) (d : Flat) (r : Option (Bor Key)) → i < length flats → IfSome r (λ k. Contains (keys_of_one (instruction_of (get_or flats i d))) k.now)
-    → IfSome r (λ k. Contains (keys_of (list_of flats)) k.now)
-key_of_item flats i d (Some k) lt found = key_in_list flats i d k.now lt found
-key_of_item flats i d None lt found = found
+pub key_of_found : (set : TemplateList) (id : ℕ) (t : FlatTemplate) (i : ℕ) (d : Flat) (r : Option (Bor Key)) → template_of id set ≡ Some t → i < length t.members.items
+    → IfSome r (λ k. Contains (keys_of_one (instruction_of (get_or t.members.items i d))) k.now) → IfSome r (λ k. Contains (keys_in set) k.now)
+key_of_found set id t i d (Some k) e lt found = key_found set id t k.now e (key_in_list t.members.items i d k.now lt found)
+key_of_found set id t i d None e lt found = found

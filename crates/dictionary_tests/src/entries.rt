@@ -1,13 +1,13 @@
 //! Entries through the trait, over both kinds, and copies of references.
 
-ghost use Rattle.std.specs.Prelude.{Contains, IfSome, IsTrue};
-ghost use Rattle.fast_template.specs.Resolved.{instruction_of, keys_of, keys_of_one, list_of};
+ghost use Rattle.std.specs.Prelude.{◌≡◌, Contains, IfSome, IsTrue};
+ghost use Rattle.fast_template.specs.Resolved.{instruction_of, keys_of_one};
+ghost use Rattle.fast_template.specs.TemplateSets.{keys_in};
 
 use crate::same::same;
 use fast_dictionary::{Entries, Entry, EntryRef, MapEntries, SlotEntries};
 use fast_template::{
-    Flat, FlatTemplate, Key, LoadCause, LoadFault, Name, Part, Scalar, Scope, TemplateSet,
-    UnicodeText,
+    Flat, Key, LoadCause, LoadFault, Name, Part, Scalar, Scope, TemplateSet, UnicodeText,
 };
 use std::alloc::{AllocError, Global};
 use std::process::Abort;
@@ -21,23 +21,98 @@ fn key(alloc: Global, slot: u32, name: &str) -> Result<Key, AllocError> {
     })
 }
 
-fn text(alloc: Global, text: &str) -> Result<Scalar, AllocError> {
-    let text = String::from_str(alloc, text)?;
+const TEXT: &str = "é";
+
+fn text(alloc: Global) -> Result<Scalar, AllocError> {
+    let text = String::from_str(alloc, TEXT)?;
     Ok(Scalar::Unicode(UnicodeText::from_string(text)))
 }
 
-// Whether a key's entry is the one that is wanted.
-fn has<E: Entries>(entries: &E, key: &Key, wanted: &Entry) -> bool
-    requires { IsTrue (E.serves entries.now key.now) }
-{
-    match (entries.get(key), wanted.view()) {
-        (EntryRef::Undefined, EntryRef::Undefined) | (EntryRef::Empty, EntryRef::Empty) => true,
-        (EntryRef::Assigned(value), EntryRef::Assigned(other)) => *value == *other,
+// What is wanted of an entry: that it is undefined, or empty, or has that text.
+#[derive(Drop)]
+enum Wanted {
+    Undefined,
+    Empty,
+    Text,
+}
+
+fn agree(entry: EntryRef, wanted: Wanted) -> bool {
+    match (entry, wanted) {
+        (EntryRef::Undefined, Wanted::Undefined) | (EntryRef::Empty, Wanted::Empty) => true,
+        (EntryRef::Assigned(Scalar::Unicode(text)), Wanted::Text) => text.as_str() == TEXT,
         _ => false,
     }
 }
 
-// Puts and changes the entries of two keys, copies and resets. A refusal changes nothing.
+// The entry of a key is as wanted.
+fn is<E: Entries>(rt: &impl Abort, entries: &E, key: &Key, wanted: Wanted)
+    requires { IsTrue (E.serves entries.now key.now) }
+{
+    same(rt, agree(entries.get(key), wanted), true);
+}
+
+// Puts the text under a key. A refusal changes nothing.
+fn put_text<E: Entries>(
+    rt: &impl Abort,
+    alloc: Global,
+    entries: &mut E,
+    key: &Key,
+) -> Result<(), AllocError>
+    requires { IsTrue (E.serves entries.old key.now) }
+    ensures { E.serves entries.new ≡ E.serves entries.old }
+{
+    if entries.put(key, Entry::Assigned(text(alloc)?)).is_err() {
+        is(rt, entries, key, Wanted::Undefined);
+        return Err(AllocError);
+    }
+    Ok(())
+}
+
+// Puts the text under two keys, and an empty entry in place of the first.
+fn fill<E: Entries>(
+    rt: &impl Abort,
+    alloc: Global,
+    entries: &mut E,
+    first: &Key,
+    second: &Key,
+) -> Result<(), AllocError>
+    requires first { IsTrue (E.serves entries.old first.now) }
+    requires second { IsTrue (E.serves entries.old second.now) }
+    ensures { E.serves entries.new ≡ E.serves entries.old }
+{
+    is(rt, entries, first, Wanted::Undefined);
+    put_text(rt, alloc, entries, first)?;
+    put_text(rt, alloc, entries, second)?;
+    same(rt, entries.put(first, Entry::Empty).is_ok(), true);
+    is(rt, entries, first, Wanted::Empty);
+    is(rt, entries, second, Wanted::Text);
+    Ok(())
+}
+
+// Changes the second entry and then resets all, beside a copy from before.
+fn change<E: Entries>(
+    rt: &impl Abort,
+    alloc: Global,
+    entries: &mut E,
+    first: &Key,
+    second: &Key,
+) -> Result<(), AllocError>
+    requires first { IsTrue (E.serves entries.old first.now) }
+    requires second { IsTrue (E.serves entries.old second.now) }
+{
+    let copy = entries.copy(alloc)?;
+    *entries.entry_mut(second)? = Entry::Undefined;
+    is(rt, entries, first, Wanted::Empty);
+    is(rt, entries, second, Wanted::Undefined);
+    is(rt, &copy, first, Wanted::Empty);
+    is(rt, &copy, second, Wanted::Text);
+    entries.reset();
+    is(rt, entries, first, Wanted::Undefined);
+    is(rt, &copy, second, Wanted::Text);
+    Ok(())
+}
+
+// Walks over entries: puts, copies, changes and resets those of two keys.
 fn walk<E: Entries>(
     rt: &impl Abort,
     alloc: Global,
@@ -48,56 +123,34 @@ fn walk<E: Entries>(
     requires first { IsTrue (E.serves entries first.now) }
     requires second { IsTrue (E.serves entries second.now) }
 {
-    let value = Entry::Assigned(text(alloc, "é")?);
-    assert!(rt; has(&entries, first, &Entry::Undefined));
-    if entries
-        .put(first, Entry::Assigned(text(alloc, "é")?))
-        .is_err()
-    {
-        assert!(rt; has(&entries, first, &Entry::Undefined));
-        return Err(AllocError);
-    }
-    if entries
-        .put(second, Entry::Assigned(text(alloc, "é")?))
-        .is_err()
-    {
-        assert!(rt; has(&entries, second, &Entry::Undefined));
-        return Err(AllocError);
-    }
-    assert!(rt; entries.put(first, Entry::Empty).is_ok());
-    assert!(rt; has(&entries, first, &Entry::Empty));
-    assert!(rt; has(&entries, second, &value));
-    let copy = entries.copy(alloc)?;
-    *entries.entry_mut(second)? = Entry::Undefined;
-    assert!(rt; has(&entries, first, &Entry::Empty));
-    assert!(rt; has(&entries, second, &Entry::Undefined));
-    assert!(rt; has(&copy, first, &Entry::Empty));
-    assert!(rt; has(&copy, second, &value));
-    entries.reset();
-    assert!(rt; has(&entries, first, &Entry::Undefined));
-    assert!(rt; has(&copy, second, &value));
-    Ok(())
+    fill(rt, alloc, &mut entries, first, second)?;
+    change(rt, alloc, &mut entries, first, second)
 }
 
 #[test]
 fn entries_in_a_map(rt: HostRuntime) -> Result<(), AllocError> {
-    let alloc = rt.alloc();
-    let first = key(alloc, 1, "A")?;
-    let second = key(alloc, 2, "B")?;
-    walk(&rt, alloc, MapEntries::new(alloc), &first, &second)
+    let first = key(rt.alloc(), 1, "A")?;
+    let second = key(rt.alloc(), 2, "B")?;
+    walk(
+        &rt,
+        rt.alloc(),
+        MapEntries::new(rt.alloc()),
+        &first,
+        &second,
+    )
+}
+
+// A reference to an entry is copied to an equal one.
+fn is_copied(rt: &impl Abort, alloc: Global, entry: Entry) -> Result<(), AllocError> {
+    same(rt, entry.view().copy(alloc)?, entry);
+    Ok(())
 }
 
 #[test]
 fn entries_of_a_reference(rt: HostRuntime) -> Result<(), AllocError> {
-    let alloc = rt.alloc();
-    for entry in [
-        Entry::Undefined,
-        Entry::Empty,
-        Entry::Assigned(text(alloc, "é")?),
-    ] {
-        same(&rt, entry.view().copy(alloc)?, entry);
-    }
-    Ok(())
+    is_copied(&rt, rt.alloc(), Entry::Undefined)?;
+    is_copied(&rt, rt.alloc(), Entry::Empty)?;
+    is_copied(&rt, rt.alloc(), Entry::Assigned(text(rt.alloc())?))
 }
 
 // The key of an instruction that is a field.
@@ -110,16 +163,30 @@ fn key_of(flat: &Flat) -> Option<&Key>
     }
 }
 
-// The key of a template's instruction at a place, where it is a field.
-fn key_at(template: &FlatTemplate, place: usize) -> Option<&Key>
-    ensures { IfSome result
-        (λ k. Contains (keys_of (list_of template.now.members.items)) k.now) }
+// The key of an instruction of the template 1, where it is a field.
+fn key_at(set: &TemplateSet, place: usize) -> Option<&Key>
+    ensures { IfSome result (λ k. Contains (keys_in set.now) k.now) }
 {
-    if place < template.members.len() {
-        key_of(&template.members[place])
-    } else {
-        None
+    match set.find(1) {
+        Some(template) if place < template.members.len() => key_of(&template.members[place]),
+        _ => None,
     }
+}
+
+// Walks over the entries of the set's own keys.
+fn walk_slots(rt: &impl Abort, alloc: Global, set: &TemplateSet) -> Result<(), AllocError> {
+    match (key_at(set, 0), key_at(set, 1)) {
+        (Some(first), Some(second)) => {
+            walk(rt, alloc, SlotEntries::new(alloc, set)?, first, second)
+        }
+        _ => panic!(rt; "other fields"),
+    }
+}
+
+// Want of memory ends the test, and no other fault comes.
+fn refused(rt: &impl Abort, fault: LoadFault) -> Result<(), AllocError> {
+    same(rt, fault.cause, LoadCause::Memory);
+    Err(AllocError)
 }
 
 const TWO_FIELDS: &str = r#"{"templates":[{"name":"Two","id":1,"instructions":[
@@ -128,25 +195,8 @@ const TWO_FIELDS: &str = r#"{"templates":[{"name":"Two","id":1,"instructions":[
 
 #[test]
 fn entries_in_slots(rt: HostRuntime) -> Result<(), AllocError> {
-    let alloc = rt.alloc();
-    let set = match TemplateSet::from_json(alloc, TWO_FIELDS.as_bytes()) {
-        Ok(set) => set,
-        Err(
-            LoadFault {
-                cause: LoadCause::Memory,
-                ..
-            },
-        ) => return Err(AllocError),
-        Err(_) => panic!(rt; "refused"),
-    };
-    let Some(template) = set.find(1) else {
-        panic!(rt; "no template");
-    };
-    let Some(first) = key_at(template, 0) else {
-        panic!(rt; "another field");
-    };
-    let Some(second) = key_at(template, 1) else {
-        panic!(rt; "another second field");
-    };
-    walk(&rt, alloc, SlotEntries::new(alloc, &set)?, first, second)
+    match TemplateSet::from_json(rt.alloc(), TWO_FIELDS.as_bytes()) {
+        Ok(set) => walk_slots(&rt, rt.alloc(), &set),
+        Err(fault) => refused(&rt, fault),
+    }
 }
