@@ -61,7 +61,7 @@ flat_end stands c is new all i le h = sym (joined_none (list_of new)) ∙ ap (λ
 field_is : (name : List ℕ) (number : ℕ) (presence : Presence) (whole : FieldPart) → instruction_of (flat.Field name number presence whole) ≡ whole_field name number presence whole
 field_is name number presence whole = ap instruction_of (sym (flat.rolls-Field name number presence whole)) ∙ fold-roll-Flat resolved.Instruction flat_step (Flat-F.Field name number presence whole)
 
-parts_are : (name : List ℕ) (number : ℕ) (presence : Presence) (exponent mantissa : FieldPart) → instruction_of (flat.Parts name number presence exponent mantissa) ≡ field_in_parts name number presence exponent mantissa
+pub parts_are : (name : List ℕ) (number : ℕ) (presence : Presence) (exponent mantissa : FieldPart) → instruction_of (flat.Parts name number presence exponent mantissa) ≡ field_in_parts name number presence exponent mantissa
 parts_are name number presence exponent mantissa = ap instruction_of (sym (flat.rolls-Parts name number presence exponent mantissa)) ∙ fold-roll-Flat resolved.Instruction flat_step (Flat-F.Parts name number presence exponent mantissa)
 
 group_is : (name : List ℕ) (number : ℕ) (presence : Presence) (members : Vec Flat Global) → instruction_of (flat.Group name number presence members) ≡ group_of name number presence (list_of members.items)

@@ -9,7 +9,7 @@ returns-then-contains_key c = key_there c.args.slots.now c.args.key.now (sym c.c
 
 pub returns : goal.returns
 returns c =
-    let none : get key_cmp c.args.slots.now c.args.key.now ≡ None = search rules in
-    let updates : Updates key_cmp c.args.slots.now c.insert.new.self c.args.key.now (Some (btree_map_len c.args.slots.now)) = search rules in
-    let longer : btree_map_len c.insert.new.self ≡ btree_map_len c.args.slots.now + 1 = search rules in
+    let none : get key_cmp c.args.slots.now c.args.key.now ≡ None = search rules depth 3 in
+    let updates : Updates key_cmp c.args.slots.now c.insert.new.self c.args.key.now (Some (btree_map_len c.args.slots.now)) = search rules depth 3 in
+    let longer : btree_map_len c.insert.new.self ≡ btree_map_len c.args.slots.now + 1 = search rules depth 3 in
     key_new c.args.slots.now c.insert.new.self c.args.key.now none updates longer

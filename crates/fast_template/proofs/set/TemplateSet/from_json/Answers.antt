@@ -2,4 +2,4 @@ use Rattle.std.proofs.Common.{rules}
 use Rattle.fast_template.proofs.set.TemplateSet.from_json.Goals as goal
 
 pub returns-clause-read : goal.returns-clause-read
-returns-clause-read c = search rules
+returns-clause-read c = search rules depth 3
