@@ -1,10 +1,11 @@
-//! Templates that are built.
+//! Templates that are built. A row describes them in constants, and what takes memory is made of it in a function for
+//! each kind of thing.
 
-use crate::loads::{Wanted, answers, granted};
+use crate::loads::{Wanted, answers, loaded};
 use crate::same::same;
 use fast_template::{
-    FieldPart, Flat, Instruction, Kind, LoadCause, Operation, Operator, Presence, Scalar, Template,
-    TemplateSet,
+    FieldPart, Flat, FlatTemplate, Instruction, Kind, LoadCause, Operation, Operator, Presence,
+    Scalar, Template, TemplateSet,
 };
 use std::alloc::{AllocError, Global};
 use std::process::Abort;
@@ -20,38 +21,46 @@ fn operation(
     alloc: Global,
     operator: Operator,
     initial: Option<&str>,
+    dictionary: Option<&str>,
 ) -> Result<Operation, AllocError> {
     Ok(Operation {
         operator,
         initial: text(alloc, initial)?,
-        dictionary: None,
+        dictionary: text(alloc, dictionary)?,
         key: None,
     })
 }
 
-fn field(
-    alloc: Global,
+// A field of a row.
+#[derive(Clone, Copy)]
+struct Field {
+    name: &'static str,
     kind: Kind,
     presence: Presence,
     operator: Operator,
-    initial: Option<&str>,
-) -> Result<Instruction, AllocError> {
-    Ok(Instruction::Field {
-        name: String::from_str(alloc, "F")?,
-        kind,
-        presence,
-        operation: operation(alloc, operator, initial)?,
-    })
+    initial: Option<&'static str>,
+    dictionary: Option<&'static str>,
 }
 
-fn plain(alloc: Global) -> Result<Instruction, AllocError> {
-    field(
-        alloc,
-        Kind::UInt32,
-        Presence::Mandatory,
-        Operator::Plain,
-        None,
-    )
+const PLAIN: Field = Field {
+    name: "F",
+    kind: Kind::UInt32,
+    presence: Presence::Mandatory,
+    operator: Operator::Plain,
+    initial: None,
+    dictionary: None,
+};
+
+impl Field {
+    fn instruction(&self, alloc: Global) -> Result<Instruction, AllocError> {
+        let operation = operation(alloc, self.operator, self.initial, self.dictionary)?;
+        Ok(Instruction::Field {
+            name: String::from_str(alloc, self.name)?,
+            kind: self.kind,
+            presence: self.presence,
+            operation,
+        })
+    }
 }
 
 fn parts(
@@ -67,7 +76,15 @@ fn parts(
     })
 }
 
-fn group(alloc: Global, members: Vec<Instruction>) -> Result<Instruction, AllocError> {
+// A decimal with this text beside its exponent, and a mantissa that no operator applies to.
+fn decimal(alloc: Global, exponent: &str) -> Result<Instruction, AllocError> {
+    let exponent = operation(alloc, Operator::Copy, Some(exponent), None)?;
+    let mantissa = operation(alloc, Operator::Tail, None, None)?;
+    parts(alloc, exponent, mantissa)
+}
+
+fn group(alloc: Global, member: Instruction) -> Result<Instruction, AllocError> {
+    let members = vec![in alloc; member]?;
     Ok(Instruction::Group {
         name: String::from_str(alloc, "G")?,
         presence: Presence::Mandatory,
@@ -77,380 +94,17 @@ fn group(alloc: Global, members: Vec<Instruction>) -> Result<Instruction, AllocE
     })
 }
 
-// Groups, each in the one before.
-fn groups(
+// An instruction in so many groups, each in the one before.
+fn in_groups(
     alloc: Global,
     levels: u32,
-    innermost: Vec<Instruction>,
-) -> Result<Vec<Instruction>, AllocError> {
-    let mut members = innermost;
+    innermost: Instruction,
+) -> Result<Instruction, AllocError> {
+    let mut member = innermost;
     for _ in 0..levels {
-        members = vec![in alloc; group(alloc, members)?]?;
+        member = group(alloc, member)?;
     }
-    Ok(members)
-}
-
-fn reference(alloc: Global, name: &str) -> Result<Instruction, AllocError> {
-    Ok(Instruction::Reference {
-        name: String::from_str(alloc, name)?,
-    })
-}
-
-fn template(
-    alloc: Global,
-    name: &str,
-    id: Option<u32>,
-    members: Vec<Instruction>,
-) -> Result<Template, AllocError> {
-    Ok(Template {
-        name: String::from_str(alloc, name)?,
-        id,
-        dictionary: None,
-        type_ref: None,
-        members,
-    })
-}
-
-fn one(alloc: Global, member: Instruction) -> Result<Vec<Template>, AllocError> {
-    let members = vec![in alloc; member]?;
-    Ok(vec![in alloc; template(alloc, "A", None, members)?]?)
-}
-
-fn referring(alloc: Global, name: &str, to: &[&str]) -> Result<Template, AllocError> {
-    let mut members = Vec::new(alloc);
-    for other in to {
-        members.push(reference(alloc, other)?)?;
-    }
-    template(alloc, name, None, members)
-}
-
-// Templates are loaded, or have this fault.
-fn are_judged(
-    rt: &impl Abort,
-    alloc: Global,
-    templates: Vec<Template>,
-    wanted: Wanted,
-) -> Result<(), AllocError> {
-    answers(rt, TemplateSet::build(alloc, templates), wanted)
-}
-
-// A field of a template, and what is wanted of the template.
-struct FieldRow {
-    kind: Kind,
-    presence: Presence,
-    operator: Operator,
-    initial: Option<&'static str>,
-    wanted: Wanted,
-}
-
-impl FieldRow {
-    fn templates(&self, alloc: Global) -> Result<Vec<Template>, AllocError> {
-        let field = field(alloc, self.kind, self.presence, self.operator, self.initial)?;
-        one(alloc, field)
-    }
-}
-
-#[test]
-fn fields_are_judged(rt: HostRuntime) -> Result<(), AllocError> {
-    const ROWS: &[FieldRow] = &[
-        FieldRow {
-            kind: Kind::Ascii,
-            presence: Presence::Mandatory,
-            operator: Operator::Increment,
-            initial: None,
-            wanted: Wanted::Fault(LoadCause::S2, 1, 1),
-        },
-        FieldRow {
-            kind: Kind::UInt32,
-            presence: Presence::Mandatory,
-            operator: Operator::Copy,
-            initial: Some("x"),
-            wanted: Wanted::Fault(LoadCause::S3, 1, 1),
-        },
-        FieldRow {
-            kind: Kind::UInt32,
-            presence: Presence::Mandatory,
-            operator: Operator::Copy,
-            initial: Some("4294967296"),
-            wanted: Wanted::Fault(LoadCause::S3, 1, 1),
-        },
-        FieldRow {
-            kind: Kind::UInt32,
-            presence: Presence::Mandatory,
-            operator: Operator::Constant,
-            initial: None,
-            wanted: Wanted::Fault(LoadCause::S4, 1, 1),
-        },
-        FieldRow {
-            kind: Kind::UInt32,
-            presence: Presence::Mandatory,
-            operator: Operator::Default,
-            initial: None,
-            wanted: Wanted::Fault(LoadCause::S5, 1, 1),
-        },
-        FieldRow {
-            kind: Kind::UInt32,
-            presence: Presence::Optional,
-            operator: Operator::Default,
-            initial: None,
-            wanted: Wanted::Loaded,
-        },
-    ];
-    for row in ROWS {
-        are_judged(&rt, rt.alloc(), row.templates(rt.alloc())?, row.wanted)?;
-    }
-    Ok(())
-}
-
-// A decimal with this text beside its exponent, and a mantissa that no operator applies to.
-fn decimal(alloc: Global, exponent: &str) -> Result<Instruction, AllocError> {
-    let exponent = operation(alloc, Operator::Copy, Some(exponent))?;
-    let mantissa = operation(alloc, Operator::Tail, None)?;
-    parts(alloc, exponent, mantissa)
-}
-
-fn of_decimal(alloc: Global, exponent: &str) -> Result<Vec<Template>, AllocError> {
-    one(alloc, decimal(alloc, exponent)?)
-}
-
-#[test]
-fn an_exponent_is_judged_before_its_mantissa(rt: HostRuntime) -> Result<(), AllocError> {
-    const ROWS: &[(&str, Wanted)] = &[
-        ("64", Wanted::Fault(LoadCause::S3, 1, 1)),
-        ("-63", Wanted::Fault(LoadCause::S2, 1, 1)),
-    ];
-    for (exponent, wanted) in ROWS {
-        are_judged(&rt, rt.alloc(), of_decimal(rt.alloc(), exponent)?, *wanted)?;
-    }
-    Ok(())
-}
-
-// Templates of these names and identifiers, and what is wanted of them.
-struct NamedRow {
-    named: &'static [(&'static str, Option<u32>)],
-    wanted: Wanted,
-}
-
-impl NamedRow {
-    fn templates(&self, alloc: Global) -> Result<Vec<Template>, AllocError> {
-        let mut templates = Vec::new(alloc);
-        for (name, id) in self.named {
-            templates.push(template(alloc, name, *id, Vec::new(alloc))?)?;
-        }
-        Ok(templates)
-    }
-}
-
-#[test]
-fn names_and_identifiers_are_new(rt: HostRuntime) -> Result<(), AllocError> {
-    const ROWS: &[NamedRow] = &[
-        NamedRow {
-            named: &[],
-            wanted: Wanted::Loaded,
-        },
-        NamedRow {
-            named: &[("A", None), ("A", None)],
-            wanted: Wanted::Fault(LoadCause::DuplicateName, 2, 0),
-        },
-        NamedRow {
-            named: &[("A", Some(1)), ("B", Some(1))],
-            wanted: Wanted::Fault(LoadCause::DuplicateId, 2, 0),
-        },
-        NamedRow {
-            named: &[("A", None), ("B b", None)],
-            wanted: Wanted::Fault(LoadCause::S1, 2, 0),
-        },
-    ];
-    for row in ROWS {
-        are_judged(&rt, rt.alloc(), row.templates(rt.alloc())?, row.wanted)?;
-    }
-    Ok(())
-}
-
-// Templates that refer to others, each with its own name first, and what is wanted of them.
-struct ReferringRow {
-    referring: &'static [&'static [&'static str]],
-    wanted: Wanted,
-}
-
-impl ReferringRow {
-    fn templates(&self, alloc: Global) -> Result<Vec<Template>, AllocError> {
-        let mut templates = Vec::new(alloc);
-        for names in self.referring {
-            if let Some((name, to)) = names.split_first() {
-                templates.push(referring(alloc, name, to)?)?;
-            }
-        }
-        Ok(templates)
-    }
-}
-
-#[test]
-fn references_lead_to_templates_and_not_back(rt: HostRuntime) -> Result<(), AllocError> {
-    const ROWS: &[ReferringRow] = &[
-        ReferringRow {
-            referring: &[&["A", "Nobody"]],
-            wanted: Wanted::Fault(LoadCause::D8, 1, 1),
-        },
-        ReferringRow {
-            referring: &[&["A", "A"]],
-            wanted: Wanted::Fault(LoadCause::Cycle, 1, 0),
-        },
-        // the first leads to a cycle, and the second leads from one cycle to another
-        ReferringRow {
-            referring: &[
-                &["A", "D", "B"],
-                &["B", "E"],
-                &["C", "D", "B"],
-                &["D", "C"],
-                &["E", "E"],
-            ],
-            wanted: Wanted::Fault(LoadCause::Cycle, 3, 0),
-        },
-    ];
-    for row in ROWS {
-        are_judged(&rt, rt.alloc(), row.templates(rt.alloc())?, row.wanted)?;
-    }
-    Ok(())
-}
-
-// A template whose innermost group of so many has this member.
-fn around(
-    alloc: Global,
-    name: &str,
-    levels: u32,
-    member: Instruction,
-) -> Result<Template, AllocError> {
-    let innermost = vec![in alloc; member]?;
-    template(alloc, name, None, groups(alloc, levels, innermost)?)
-}
-
-fn two(alloc: Global, first: Template, second: Template) -> Result<Vec<Template>, AllocError> {
-    Ok(vec![in alloc; first, second]?)
-}
-
-// A template of so many levels, and one of so many whose innermost group refers to it.
-fn nested(alloc: Global, inner: u32, outer: u32) -> Result<Vec<Template>, AllocError> {
-    let first = around(alloc, "A", inner, plain(alloc)?)?;
-    let second = around(alloc, "B", outer, reference(alloc, "A")?)?;
-    two(alloc, first, second)
-}
-
-#[test]
-fn depth_goes_through_references(rt: HostRuntime) -> Result<(), AllocError> {
-    const ROWS: &[(u32, u32, Wanted)] = &[
-        (8, 0, Wanted::Loaded),
-        (9, 0, Wanted::Fault(LoadCause::TooDeep, 1, 0)),
-        (4, 4, Wanted::Loaded),
-        (4, 5, Wanted::Fault(LoadCause::TooDeep, 2, 0)),
-    ];
-    for (inner, outer, wanted) in ROWS {
-        are_judged(
-            &rt,
-            rt.alloc(),
-            nested(rt.alloc(), *inner, *outer)?,
-            *wanted,
-        )?;
-    }
-    Ok(())
-}
-
-fn numbered(alloc: Global, number: u32) -> Result<String, AllocError> {
-    format!(in alloc; "N{number}")
-}
-
-// A template that refers to the next one twice.
-fn twice(alloc: Global, number: u32) -> Result<Template, AllocError> {
-    let name = numbered(alloc, number)?;
-    let next = numbered(alloc, number.saturating_add(1))?;
-    referring(alloc, &name, &[next.as_str(), next.as_str()])
-}
-
-// A template of so many fields.
-fn of_fields(alloc: Global, number: u32, fields: u32) -> Result<Template, AllocError> {
-    let mut members = Vec::new(alloc);
-    for _ in 0..fields {
-        members.push(plain(alloc)?)?;
-    }
-    template(alloc, &numbered(alloc, number)?, None, members)
-}
-
-// Templates, each of which refers to the next one twice; the last has so many fields.
-fn doubling(alloc: Global, count: u32, fields: u32) -> Result<Vec<Template>, AllocError> {
-    let mut templates = Vec::new(alloc);
-    for number in 1..count {
-        templates.push(twice(alloc, number)?)?;
-    }
-    templates.push(of_fields(alloc, count, fields)?)?;
-    Ok(templates)
-}
-
-#[test]
-fn counts_stop(rt: HostRuntime) -> Result<(), AllocError> {
-    const ROWS: &[(u32, u32, Wanted)] = &[
-        (17, 1, Wanted::Fault(LoadCause::TooMany, 1, 0)),
-        (130, 1, Wanted::Fault(LoadCause::TooMany, 1, 0)),
-        (130, 0, Wanted::Loaded),
-    ];
-    for (count, fields, wanted) in ROWS {
-        are_judged(
-            &rt,
-            rt.alloc(),
-            doubling(rt.alloc(), *count, *fields)?,
-            *wanted,
-        )?;
-    }
-    Ok(())
-}
-
-fn part_of(flat: &Flat) -> Option<&FieldPart> {
-    match flat {
-        Flat::Field { whole, .. } => Some(whole),
-        Flat::Sequence { length, .. } => Some(length),
-        _ => None,
-    }
-}
-
-fn entry_of(alloc: Global, part: &FieldPart) -> Result<String, AllocError> {
-    format!(in alloc;
-        "{} {} {}, ",
-        part.number,
-        part.key.slot,
-        part.key.name.as_str()
-    )
-}
-
-// The number, the slot and the name of the key of each field and sequence, and those inside.
-fn described(alloc: Global, flats: &[Flat], line: &mut String) -> Result<(), AllocError> {
-    for flat in flats {
-        if let Some(part) = part_of(flat) {
-            line.push_str(&entry_of(alloc, part)?)?;
-        }
-        if let Flat::Sequence { members, .. } = flat {
-            described(alloc, members, line)?;
-        }
-    }
-    Ok(())
-}
-
-fn in_dictionary(alloc: Global, dictionary: &str) -> Result<Operation, AllocError> {
-    let dictionary = text(alloc, Some(dictionary))?;
-    Ok(Operation {
-        operator: Operator::Copy,
-        initial: text(alloc, Some("007"))?,
-        dictionary,
-        key: None,
-    })
-}
-
-fn field_in(alloc: Global, name: &str, dictionary: &str) -> Result<Instruction, AllocError> {
-    let operation = in_dictionary(alloc, dictionary)?;
-    Ok(Instruction::Field {
-        name: String::from_str(alloc, name)?,
-        kind: Kind::UInt32,
-        presence: Presence::Mandatory,
-        operation,
-    })
+    Ok(member)
 }
 
 fn sequence(alloc: Global, members: Vec<Instruction>) -> Result<Instruction, AllocError> {
@@ -477,44 +131,389 @@ fn sequence_of(alloc: Global, name: &str) -> Result<Instruction, AllocError> {
     sequence(alloc, members)
 }
 
-// A template that refers twice to another, once inside a sequence.
-fn referrer(alloc: Global) -> Result<Template, AllocError> {
-    let mut members = Vec::new(alloc);
-    members.push(reference(alloc, "Shared")?)?;
-    members.push(sequence_of(alloc, "Shared")?)?;
-    members.push(plain(alloc)?)?;
-    template(alloc, "A", Some(5), members)
+fn reference(alloc: Global, name: &str) -> Result<Instruction, AllocError> {
+    Ok(Instruction::Reference {
+        name: String::from_str(alloc, name)?,
+    })
 }
 
-// The template that it refers to.
-fn shared(alloc: Global) -> Result<Template, AllocError> {
-    let mut members = Vec::new(alloc);
-    members.push(field_in(alloc, "X", "template")?)?;
-    members.push(field_in(alloc, "Y", "type")?)?;
-    template(alloc, "Shared", Some(6), members)
+// An instruction of a row.
+#[derive(Clone, Copy)]
+enum Made<'a> {
+    Field(Field),
+    // with this text beside the exponent
+    Decimal(&'static str),
+    // of the template of this name
+    Sequence(&'static str),
+    Reference(&'a str),
+    // in so many groups
+    Groups(u32, &'a Made<'a>),
 }
 
-// Their set, if it is not refused.
-fn sharing(alloc: Global) -> Result<Option<TemplateSet>, AllocError> {
-    let first = referrer(alloc)?;
-    let templates = two(alloc, first, shared(alloc)?)?;
-    Ok(granted(TemplateSet::build(alloc, templates))?.ok())
+impl Made<'_> {
+    fn instruction(&self, alloc: Global) -> Result<Instruction, AllocError> {
+        match self {
+            Made::Field(field) => field.instruction(alloc),
+            Made::Decimal(exponent) => decimal(alloc, exponent),
+            Made::Sequence(name) => sequence_of(alloc, name),
+            Made::Reference(name) => reference(alloc, name),
+            Made::Groups(levels, made) => in_groups(alloc, *levels, made.instruction(alloc)?),
+        }
+    }
+}
+
+fn instructions(alloc: Global, made: &[Made]) -> Result<Vec<Instruction>, AllocError> {
+    let mut members = Vec::new(alloc);
+    for one in made {
+        members.push(one.instruction(alloc)?)?;
+    }
+    Ok(members)
+}
+
+// A template of a row: its name, its identifier and its instructions.
+type Described<'a> = (&'a str, Option<u32>, &'a [Made<'a>]);
+
+fn template(alloc: Global, row: Described) -> Result<Template, AllocError> {
+    let (name, id, made) = row;
+    let members = instructions(alloc, made)?;
+    Ok(Template {
+        name: String::from_str(alloc, name)?,
+        id,
+        dictionary: None,
+        type_ref: None,
+        members,
+    })
+}
+
+fn templates(alloc: Global, rows: &[Described]) -> Result<Vec<Template>, AllocError> {
+    let mut templates = Vec::new(alloc);
+    for row in rows {
+        templates.push(template(alloc, *row)?)?;
+    }
+    Ok(templates)
+}
+
+// What is wanted of templates.
+struct Row {
+    templates: &'static [Described<'static>],
+    wanted: Wanted,
+}
+
+// Templates are loaded, or have this fault.
+fn all_judged(rt: &impl Abort, alloc: Global, rows: &[Row]) -> Result<(), AllocError> {
+    for row in rows {
+        let built = TemplateSet::build(alloc, templates(alloc, row.templates)?);
+        answers(rt, built, row.wanted)?;
+    }
+    Ok(())
+}
+
+#[test]
+fn fields_are_judged(rt: HostRuntime) -> Result<(), AllocError> {
+    const ROWS: &[Row] = &[
+        Row {
+            templates: &[(
+                "A",
+                None,
+                &[Made::Field(Field {
+                    kind: Kind::Ascii,
+                    operator: Operator::Increment,
+                    ..PLAIN
+                })],
+            )],
+            wanted: Wanted::Fault(LoadCause::S2, 1, 1),
+        },
+        Row {
+            templates: &[(
+                "A",
+                None,
+                &[Made::Field(Field {
+                    operator: Operator::Copy,
+                    initial: Some("x"),
+                    ..PLAIN
+                })],
+            )],
+            wanted: Wanted::Fault(LoadCause::S3, 1, 1),
+        },
+        Row {
+            templates: &[(
+                "A",
+                None,
+                &[Made::Field(Field {
+                    operator: Operator::Copy,
+                    initial: Some("4294967296"),
+                    ..PLAIN
+                })],
+            )],
+            wanted: Wanted::Fault(LoadCause::S3, 1, 1),
+        },
+        Row {
+            templates: &[(
+                "A",
+                None,
+                &[Made::Field(Field {
+                    operator: Operator::Constant,
+                    ..PLAIN
+                })],
+            )],
+            wanted: Wanted::Fault(LoadCause::S4, 1, 1),
+        },
+        Row {
+            templates: &[(
+                "A",
+                None,
+                &[Made::Field(Field {
+                    operator: Operator::Default,
+                    ..PLAIN
+                })],
+            )],
+            wanted: Wanted::Fault(LoadCause::S5, 1, 1),
+        },
+        Row {
+            templates: &[(
+                "A",
+                None,
+                &[Made::Field(Field {
+                    presence: Presence::Optional,
+                    operator: Operator::Default,
+                    ..PLAIN
+                })],
+            )],
+            wanted: Wanted::Loaded,
+        },
+    ];
+    all_judged(&rt, rt.alloc(), ROWS)
+}
+
+#[test]
+fn an_exponent_is_judged_before_its_mantissa(rt: HostRuntime) -> Result<(), AllocError> {
+    const ROWS: &[Row] = &[
+        Row {
+            templates: &[("A", None, &[Made::Decimal("64")])],
+            wanted: Wanted::Fault(LoadCause::S3, 1, 1),
+        },
+        Row {
+            templates: &[("A", None, &[Made::Decimal("-63")])],
+            wanted: Wanted::Fault(LoadCause::S2, 1, 1),
+        },
+    ];
+    all_judged(&rt, rt.alloc(), ROWS)
+}
+
+#[test]
+fn names_and_identifiers_are_new(rt: HostRuntime) -> Result<(), AllocError> {
+    const ROWS: &[Row] = &[
+        Row {
+            templates: &[],
+            wanted: Wanted::Loaded,
+        },
+        Row {
+            templates: &[("A", None, &[]), ("A", None, &[])],
+            wanted: Wanted::Fault(LoadCause::DuplicateName, 2, 0),
+        },
+        Row {
+            templates: &[("A", Some(1), &[]), ("B", Some(1), &[])],
+            wanted: Wanted::Fault(LoadCause::DuplicateId, 2, 0),
+        },
+        Row {
+            templates: &[("A", None, &[]), ("B b", None, &[])],
+            wanted: Wanted::Fault(LoadCause::S1, 2, 0),
+        },
+    ];
+    all_judged(&rt, rt.alloc(), ROWS)
+}
+
+#[test]
+fn references_lead_to_templates_and_not_back(rt: HostRuntime) -> Result<(), AllocError> {
+    const ROWS: &[Row] = &[
+        Row {
+            templates: &[("A", None, &[Made::Reference("Nobody")])],
+            wanted: Wanted::Fault(LoadCause::D8, 1, 1),
+        },
+        Row {
+            templates: &[("A", None, &[Made::Reference("A")])],
+            wanted: Wanted::Fault(LoadCause::Cycle, 1, 0),
+        },
+        // the first leads to a cycle, and the second leads from one cycle to another
+        Row {
+            templates: &[
+                ("A", None, &[Made::Reference("D"), Made::Reference("B")]),
+                ("B", None, &[Made::Reference("E")]),
+                ("C", None, &[Made::Reference("D"), Made::Reference("B")]),
+                ("D", None, &[Made::Reference("C")]),
+                ("E", None, &[Made::Reference("E")]),
+            ],
+            wanted: Wanted::Fault(LoadCause::Cycle, 3, 0),
+        },
+    ];
+    all_judged(&rt, rt.alloc(), ROWS)
+}
+
+#[test]
+fn depth_goes_through_references(rt: HostRuntime) -> Result<(), AllocError> {
+    const ROWS: &[Row] = &[
+        Row {
+            templates: &[
+                ("A", None, &[Made::Groups(8, &Made::Field(PLAIN))]),
+                ("B", None, &[Made::Reference("A")]),
+            ],
+            wanted: Wanted::Loaded,
+        },
+        Row {
+            templates: &[
+                ("A", None, &[Made::Groups(9, &Made::Field(PLAIN))]),
+                ("B", None, &[Made::Reference("A")]),
+            ],
+            wanted: Wanted::Fault(LoadCause::TooDeep, 1, 0),
+        },
+        Row {
+            templates: &[
+                ("A", None, &[Made::Groups(4, &Made::Field(PLAIN))]),
+                ("B", None, &[Made::Groups(4, &Made::Reference("A"))]),
+            ],
+            wanted: Wanted::Loaded,
+        },
+        Row {
+            templates: &[
+                ("A", None, &[Made::Groups(4, &Made::Field(PLAIN))]),
+                ("B", None, &[Made::Groups(5, &Made::Reference("A"))]),
+            ],
+            wanted: Wanted::Fault(LoadCause::TooDeep, 2, 0),
+        },
+    ];
+    all_judged(&rt, rt.alloc(), ROWS)
+}
+
+fn numbered(alloc: Global, number: u32) -> Result<String, AllocError> {
+    format!(in alloc; "N{number}")
+}
+
+// The template of this number, with these instructions.
+fn of_number(alloc: Global, number: u32, members: &[Made]) -> Result<Template, AllocError> {
+    let name = numbered(alloc, number)?;
+    template(alloc, (&name, None, members))
+}
+
+// A template that refers to the next one twice.
+fn twice(alloc: Global, number: u32) -> Result<Template, AllocError> {
+    let next = numbered(alloc, number.saturating_add(1))?;
+    of_number(alloc, number, &[Made::Reference(&next); 2])
+}
+
+// Templates, each of which refers to the next one twice; the last has these instructions.
+fn doubling(alloc: Global, count: u32, members: &[Made]) -> Result<Vec<Template>, AllocError> {
+    let mut templates = Vec::new(alloc);
+    for number in 1..count {
+        templates.push(twice(alloc, number)?)?;
+    }
+    templates.push(of_number(alloc, count, members)?)?;
+    Ok(templates)
+}
+
+#[test]
+fn counts_stop(rt: HostRuntime) -> Result<(), AllocError> {
+    const ROWS: &[(u32, &[Made], Wanted)] = &[
+        (
+            17,
+            &[Made::Field(PLAIN)],
+            Wanted::Fault(LoadCause::TooMany, 1, 0),
+        ),
+        (
+            130,
+            &[Made::Field(PLAIN)],
+            Wanted::Fault(LoadCause::TooMany, 1, 0),
+        ),
+        (130, &[], Wanted::Loaded),
+    ];
+    for (count, members, wanted) in ROWS {
+        let built = TemplateSet::build(rt.alloc(), doubling(rt.alloc(), *count, members)?);
+        answers(&rt, built, *wanted)?;
+    }
+    Ok(())
+}
+
+// A copy that begins with the number 7.
+const SEVEN: Field = Field {
+    operator: Operator::Copy,
+    initial: Some("007"),
+    ..PLAIN
+};
+
+// A template that refers twice to another, once inside a sequence, and that other.
+const SHARING: &[Described] = &[
+    (
+        "A",
+        Some(5),
+        &[
+            Made::Reference("Shared"),
+            Made::Sequence("Shared"),
+            Made::Field(PLAIN),
+        ],
+    ),
+    (
+        "Shared",
+        Some(6),
+        &[
+            Made::Field(Field {
+                name: "X",
+                dictionary: Some("template"),
+                ..SEVEN
+            }),
+            Made::Field(Field {
+                name: "Y",
+                dictionary: Some("type"),
+                ..SEVEN
+            }),
+        ],
+    ),
+];
+
+fn sharing(rt: &impl Abort, alloc: Global) -> Result<TemplateSet, AllocError> {
+    loaded(rt, TemplateSet::build(alloc, templates(alloc, SHARING)?))
+}
+
+fn part_of(flat: &Flat) -> Option<&FieldPart> {
+    match flat {
+        Flat::Field { whole, .. } => Some(whole),
+        Flat::Sequence { length, .. } => Some(length),
+        _ => None,
+    }
+}
+
+fn entry_of(alloc: Global, part: &FieldPart) -> Result<String, AllocError> {
+    format!(in alloc;
+        "{} {} {}, ",
+        part.number,
+        part.key.slot,
+        part.key.name.as_str()
+    )
+}
+
+// The number, the slot and the name of the key of each field and sequence, and those inside.
+fn list(alloc: Global, flats: &[Flat], line: &mut String) -> Result<(), AllocError> {
+    for flat in flats {
+        if let Some(part) = part_of(flat) {
+            line.push_str(&entry_of(alloc, part)?)?;
+        }
+        if let Flat::Sequence { members, .. } = flat {
+            list(alloc, members, line)?;
+        }
+    }
+    Ok(())
 }
 
 // A template's line, or none.
 fn line_of(alloc: Global, set: &TemplateSet, id: u32) -> Result<String, AllocError> {
     let mut line = String::new(alloc);
     if let Some(found) = set.find(id) {
-        described(alloc, &found.members, &mut line)?;
+        list(alloc, &found.members, &mut line)?;
     }
     Ok(line)
 }
 
 #[test]
 fn keys_are_those_where_an_instruction_was_written(rt: HostRuntime) -> Result<(), AllocError> {
-    let Some(set) = sharing(rt.alloc())? else {
-        panic!(rt; "refused");
-    };
+    let set = sharing(&rt, rt.alloc())?;
     same(&rt, set.slots(), 5);
     same(&rt, set.name(6), Some("Shared"));
     same(&rt, set.find(7).is_none(), true);
@@ -531,13 +530,15 @@ fn begins_with_seven(rt: &impl Abort, part: &FieldPart) {
     same(rt, &part.initial, &Some(Scalar::U32(7)));
 }
 
-// Each field begins with the number 7, and there are so many.
-fn all_begin_with_seven(rt: &impl Abort, flats: &[Flat], count: u32) {
+// Each field of a template begins with the number 7, and there are so many.
+fn all_begin_with_seven(rt: &impl Abort, template: Option<&FlatTemplate>, count: u32) {
     let mut fields = 0u32;
-    for flat in flats {
-        if let Some(part) = part_of(flat) {
-            begins_with_seven(rt, part);
-            fields = fields.saturating_add(1);
+    if let Some(template) = template {
+        for flat in &template.members {
+            if let Some(part) = part_of(flat) {
+                begins_with_seven(rt, part);
+                fields = fields.saturating_add(1);
+            }
         }
     }
     same(rt, fields, count);
@@ -545,12 +546,7 @@ fn all_begin_with_seven(rt: &impl Abort, flats: &[Flat], count: u32) {
 
 #[test]
 fn initial_values_are_read(rt: HostRuntime) -> Result<(), AllocError> {
-    let Some(set) = sharing(rt.alloc())? else {
-        panic!(rt; "refused");
-    };
-    let Some(shared) = set.find(6) else {
-        panic!(rt; "not found");
-    };
-    all_begin_with_seven(&rt, &shared.members, 2);
+    let set = sharing(&rt, rt.alloc())?;
+    all_begin_with_seven(&rt, set.find(6), 2);
     Ok(())
 }

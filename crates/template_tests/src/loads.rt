@@ -22,6 +22,17 @@ pub(crate) fn granted(
     }
 }
 
+// The set that is loaded.
+pub(crate) fn loaded(
+    rt: &impl Abort,
+    loaded: Result<TemplateSet, LoadFault>,
+) -> Result<TemplateSet, AllocError> {
+    match granted(loaded)? {
+        Ok(set) => Ok(set),
+        Err(_) => panic!(rt; "refused"),
+    }
+}
+
 // What is wanted of a load: a set, or a fault at this template and instruction.
 #[derive(Clone, Copy)]
 pub(crate) enum Wanted {

@@ -1,6 +1,6 @@
 //! The worked templates.
 
-use crate::loads::granted;
+use crate::loads::loaded;
 use crate::same::same;
 use fast_template::{FieldPart, Flat, Scalar, TemplateSet};
 use std::alloc::{AllocError, Global};
@@ -281,9 +281,7 @@ fn the_worked_templates_have_these_flat_lists(rt: HostRuntime) -> Result<(), All
             B 2 Mandatory: UInt32 Mandatory Copy B; ",
         ),
     ];
-    let Ok(set) = granted(TemplateSet::from_json(rt.alloc(), WORKED.as_bytes()))? else {
-        panic!(rt; "refused");
-    };
+    let set = loaded(&rt, TemplateSet::from_json(rt.alloc(), WORKED.as_bytes()))?;
     all_listed(&rt, rt.alloc(), &set, ROWS)?;
     same(&rt, set.find(17).is_none(), true);
     same(&rt, set.name(17), None);
