@@ -6,4 +6,4 @@ pub returns-in-Err-clause-unchanged : goal.returns-in-Err-clause-unchanged
 returns-in-Err-clause-unchanged c = grind (arith, common_steps)
 
 pub returns-in-Err-clause-kept : goal.returns-in-Err-clause-kept
-returns-in-Err-clause-kept c = search rules
+returns-in-Err-clause-kept c = search rules depth 2
