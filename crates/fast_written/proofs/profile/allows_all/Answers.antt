@@ -5,4 +5,4 @@ pub returns : goal.returns
 returns c = search rules
 
 pub returns-then-not-allows : goal.returns-then-not-allows
-returns-then-not-allows c = search rules
+returns-then-not-allows c = search rules depth 2
