@@ -2,13 +2,12 @@
 use Rattle.std.proofs.Common.{◌≡◌, ℕ, ◌≤◌, Bool, true, false, List, [], ◌++◌, length, Result, Ok, Err, refl, sym, subst, arith, append-nil}
 use Rattle.std.specs.Prelude.{ℤ, ◌+ℤ◌, Option, Some, None, nat_le, nat_lt, if◌then◌else◌}
 use Rattle.std.proofs.lemmas.Bool.Decides.{nat_tests}
-use Rattle.fast_wire.specs.Integer.{IsSigned}
+use Rattle.fast_wire.specs.declared.level.Level.{Level}
 use Rattle.fast_wire.specs.Reader.{IsReader, Both}
-use Rattle.fast_wire.specs.Reading.{◌>>=◌, signed_at}
+use Rattle.fast_wire.specs.Reading.{◌>>=◌}
 use Rattle.fast_wire.specs.declared.nullable.Nullable.{Nullable}
 use Rattle.fast_wire.specs.declared.nullable.Nullable.TheVariants.{Null, Value}
 use Rattle.fast_wire.proofs.Readers.{bind_ok, reader_then, reader_as, reader_after}
-use Rattle.fast_wire.proofs.FormReaders.{signed_forms}
 use Rattle.fast_value.specs.Scalar.{in_range, exponent_in_range}
 use Rattle.fast_value.specs.declared.kind.Kind.{Kind}
 use Rattle.fast_value.specs.declared.kind.Kind.TheVariants as kind
@@ -19,23 +18,23 @@ use Rattle.fast_field.specs.declared.fault.FieldFault.{FieldFault}
 use Rattle.fast_field.specs.declared.fault.FieldFault.TheVariants as fault
 use Rattle.fast_field.specs.Values.{integer_of, exponent_of, mantissa_of, units_of}
 use Rattle.fast_field.specs.Bases.{delta_base, tail_base}
-use Rattle.fast_field.specs.Spelled.{SpellsInteger, SpellsPart, SpellsUnits}
+use Rattle.fast_field.specs.Spelled.{SpellsMantissa, SpellsInteger, SpellsPart, SpellsUnits}
 use Rattle.fast_field.specs.Deltas.{Cut, uncut, at_end, side_of, removed_of, put_together, ended_by, SpellsDelta, SpellsDeltas, SpellsCut, IsOfFewUnits, DeltaValue, DeltaForm, TailForm}
-use Rattle.fast_field.specs.FieldReading.{in_field, check, as_value, unless_null, integer_at, part_at, units_at, integer_value, decimal_value, unit_value, limited_value, integer_sum, integer_delta_at, mantissa_delta_behind, decimal_delta_at, new_part_behind, unit_delta_at, delta_at, ended_value, tail_at}
-use Rattle.fast_field.proofs.FieldLaws.{reader_in_field, reader_check, reader_null, reader_value, NullOr, IsMade, whole}
-use Rattle.fast_field.proofs.SpelledForms.{integer_forms, part_forms, units_forms, integer_value_ok, integer_value_is, unit_value_ok, unit_value_is, decimal_value_ok, decimal_value_is, made_forms}
+use Rattle.fast_field.specs.FieldReading.{mantissa_entity_at, check, as_value, unless_null, integer_at, part_at, units_at, integer_value, decimal_value, unit_value, limited_value, integer_sum, integer_delta_at, mantissa_delta_behind, decimal_delta_at, new_part_behind, unit_delta_at, delta_at, ended_value, tail_at}
+use Rattle.fast_field.proofs.FieldLaws.{reader_check, reader_null, reader_value, NullOr, IsMade, whole}
+use Rattle.fast_field.proofs.SpelledForms.{mantissa_entities, integer_forms, part_forms, units_forms, integer_value_ok, integer_value_is, unit_value_ok, unit_value_is, decimal_value_ok, decimal_value_is, made_forms}
 
 -- NULL, or a value on a base, whatever the cut
-abbrev OnBase : (Scalar → Cut → List ℕ → Scalar → Type 0) → FieldPart → Entry → List ℕ → Option Scalar → Type 0
-OnBase Makes i e b None = SpellsInteger false i.presence b Null
-OnBase Makes i e b (Some v) = (cut : Cut) × ((base : Scalar) × (delta_base i e ≡ Ok base) × Makes base cut b v)
+abbrev OnBase : (level : Level) → (Scalar → Cut → List ℕ → Scalar → Type 0) → FieldPart → Entry → List ℕ → Option Scalar → Type 0
+OnBase level Makes i e b None = SpellsInteger level false i.presence b Null
+OnBase level Makes i e b (Some v) = (cut : Cut) × ((base : Scalar) × (delta_base i e ≡ Ok base) × Makes base cut b v)
 
 -- ---- integers
 
-number_deltas : (i : FieldPart) (e : Entry) → IsReader fault.NeedMore (integer_delta_at i e) (OnBase (SpellsDelta i.kind i.presence) i e)
+number_deltas : (level : Level) → (i : FieldPart) (e : Entry) → IsReader fault.NeedMore (integer_delta_at level i e) (OnBase level (SpellsDelta level i.kind i.presence) i e)
 unfolding integer_delta_at integer_sum
-number_deltas i e =
-    made_forms (integer_at false i.presence) (SpellsInteger false i.presence) (integer_sum i e) (OnBase (SpellsDelta i.kind i.presence) i e) (integer_forms false i.presence) (λ b h. h) (λ b h. h)
+number_deltas level i e =
+    made_forms (integer_at level false i.presence) (SpellsInteger level false i.presence) (integer_sum i e) (OnBase level (SpellsDelta level i.kind i.presence) i e) (integer_forms level false i.presence) (λ b h. h) (λ b h. h)
     (λ b d v h made.
     let sum = bind_ok (delta_base i e) (λ base. integer_value i.part i.kind (integer_of base +ℤ d)) v made in
     let w = integer_value_ok i.part i.kind (integer_of sum.0 +ℤ d) v sum.2 in
@@ -45,25 +44,25 @@ number_deltas i e =
 -- ---- decimals
 
 -- what stands behind an exponent's delta
-abbrev IsMantissaDelta : ℤ → ℤ → List ℕ → Option Scalar → Type 0
-IsMantissaDelta e l b v = (exponent_in_range e ≡ true) × Both IsSigned (λ d. IsMade (decimal_value e (l +ℤ d))) b v
+abbrev IsMantissaDelta : (level : Level) → ℤ → ℤ → List ℕ → Option Scalar → Type 0
+IsMantissaDelta level e l b v = (exponent_in_range e ≡ true) × Both (SpellsMantissa level) (λ d. IsMade (decimal_value e (l +ℤ d))) b v
 
-mantissa_deltas : (e l : ℤ) → IsReader fault.NeedMore (mantissa_delta_behind e l) (IsMantissaDelta e l)
+mantissa_deltas : (level : Level) → (e l : ℤ) → IsReader fault.NeedMore (mantissa_delta_behind level e l) (IsMantissaDelta level e l)
 unfolding mantissa_delta_behind
-mantissa_deltas e l =
-    reader_check (exponent_in_range e) fault.R1 (λ rest. in_field (signed_at rest) >>= λ d. as_value (decimal_value e (l +ℤ d.0)) d.1) (Both IsSigned (λ d. IsMade (decimal_value e (l +ℤ d))))
-    (reader_then fault.NeedMore (λ rest. in_field (signed_at rest)) (λ d. as_value (decimal_value e (l +ℤ d))) IsSigned (λ d. IsMade (decimal_value e (l +ℤ d))) (reader_in_field signed_at IsSigned signed_forms) (λ d. reader_value (decimal_value e (l +ℤ d))))
+mantissa_deltas level e l =
+    reader_check (exponent_in_range e) fault.R1 (λ rest. mantissa_entity_at level rest >>= λ d. as_value (decimal_value e (l +ℤ d.0)) d.1) (Both (SpellsMantissa level) (λ d. IsMade (decimal_value e (l +ℤ d))))
+    (reader_then fault.NeedMore (λ rest. mantissa_entity_at level rest) (λ d. as_value (decimal_value e (l +ℤ d))) (SpellsMantissa level) (λ d. IsMade (decimal_value e (l +ℤ d))) (mantissa_entities level) (λ d. reader_value (decimal_value e (l +ℤ d))))
 
-abbrev BehindExponent : FieldPart → Entry → ℤ → List ℕ → Option Scalar → Type 0
-BehindExponent i e d b v = (base : Scalar) × (delta_base i e ≡ Ok base) × IsMantissaDelta (exponent_of base +ℤ d) (mantissa_of base) b v
+abbrev BehindExponent : (level : Level) → FieldPart → Entry → ℤ → List ℕ → Option Scalar → Type 0
+BehindExponent level i e d b v = (base : Scalar) × (delta_base i e ≡ Ok base) × IsMantissaDelta level (exponent_of base +ℤ d) (mantissa_of base) b v
 
-decimal_to : (i : FieldPart) (e : Entry) (b front back : List ℕ) (x : Nullable ℤ) (v : Option Scalar) → b ≡ front ++ back → SpellsInteger false i.presence front x → NullOr (BehindExponent i e) x back v → OnBase (SpellsDeltas i.presence) i e b v
-decimal_to i e b front back Null v parts first h = rw h.1 (subst (λ (z : List ℕ). SpellsInteger false i.presence z Null) (whole b front back parts h.0) first)
-decimal_to i e b front back (Value d) v parts first h =
+decimal_to : (level : Level) → (i : FieldPart) (e : Entry) (b front back : List ℕ) (x : Nullable ℤ) (v : Option Scalar) → b ≡ front ++ back → SpellsInteger level false i.presence front x → NullOr (BehindExponent level i e) x back v → OnBase level (SpellsDeltas level i.presence) i e b v
+decimal_to level i e b front back Null v parts first h = rw h.1 (subst (λ (z : List ℕ). SpellsInteger level false i.presence z Null) (whole b front back parts h.0) first)
+decimal_to level i e b front back (Value d) v parts first h =
     let m = h.2.1 in
     let made = m.second.1 in
     let value = decimal_value_ok (exponent_of h.0 +ℤ d) (mantissa_of h.0 +ℤ m.x) made.0 made.1 in
-    let mantissa : IsSigned back m.x = subst (λ (z : List ℕ). IsSigned z m.x) (whole back m.front m.back m.parts m.second.0) m.first in
+    let mantissa : SpellsMantissa level back m.x = subst (λ (z : List ℕ). SpellsMantissa level z m.x) (whole back m.front m.back m.parts m.second.0) m.first in
     rw made.2 (
       uncut,
       (
@@ -79,9 +78,9 @@ decimal_to i e b front back (Value d) v parts first h =
       ),
     )
 
-decimal_from : (i : FieldPart) (e : Entry) (b : List ℕ) (v : Option Scalar) → OnBase (SpellsDeltas i.presence) i e b v → Both (SpellsInteger false i.presence) (NullOr (BehindExponent i e)) b v
-decimal_from i e b None h = record { x = Null; front = b; back = []; parts = sym (append-nil b); first = h; second = (refl, refl) }
-decimal_from i e b (Some v) h =
+decimal_from : (level : Level) → (i : FieldPart) (e : Entry) (b : List ℕ) (v : Option Scalar) → OnBase level (SpellsDeltas level i.presence) i e b v → Both (SpellsInteger level false i.presence) (NullOr (BehindExponent level i e)) b v
+decimal_from level i e b None h = record { x = Null; front = b; back = []; parts = sym (append-nil b); first = h; second = (refl, refl) }
+decimal_from level i e b (Some v) h =
     let s = h.1.2 in
     let pair = s.form in
     let made = decimal_value_is (exponent_of h.1.0 +ℤ s.exponent_delta) (mantissa_of h.1.0 +ℤ s.mantissa_delta) v s.value.1 s.value.2 in record {
@@ -93,15 +92,15 @@ decimal_from i e b (Some v) h =
       second = (h.1.0, h.1.1, (s.value.0, record { x = s.mantissa_delta; front = pair.back; back = []; parts = sym (append-nil pair.back); first = pair.mantissa_form; second = (refl, (v, made, refl)) }));
     }
 
-decimal_deltas : (i : FieldPart) (e : Entry) → IsReader fault.NeedMore (decimal_delta_at i e) (OnBase (SpellsDeltas i.presence) i e)
+decimal_deltas : (level : Level) → (i : FieldPart) (e : Entry) → IsReader fault.NeedMore (decimal_delta_at level i e) (OnBase level (SpellsDeltas level i.presence) i e)
 unfolding decimal_delta_at
-decimal_deltas i e =
-    reader_as fault.NeedMore (decimal_delta_at i e) (Both (SpellsInteger false i.presence) (NullOr (BehindExponent i e))) (OnBase (SpellsDeltas i.presence) i e)
-    (λ b v h. decimal_to i e b h.front h.back h.x v h.parts h.first h.second)
-    (decimal_from i e)
-    (reader_then fault.NeedMore (integer_at false i.presence) (λ x rest. unless_null (x, rest) (λ d rest. delta_base i e >>= λ base. mantissa_delta_behind (exponent_of base +ℤ d) (mantissa_of base) rest)) (SpellsInteger false i.presence) (NullOr (BehindExponent i e)) (integer_forms false i.presence)
-    (reader_null (λ d rest. delta_base i e >>= λ base. mantissa_delta_behind (exponent_of base +ℤ d) (mantissa_of base) rest) (BehindExponent i e)
-    (λ d. reader_after fault.NeedMore (delta_base i e) (λ base. mantissa_delta_behind (exponent_of base +ℤ d) (mantissa_of base)) (λ base. IsMantissaDelta (exponent_of base +ℤ d) (mantissa_of base)) (λ base. mantissa_deltas (exponent_of base +ℤ d) (mantissa_of base)))))
+decimal_deltas level i e =
+    reader_as fault.NeedMore (decimal_delta_at level i e) (Both (SpellsInteger level false i.presence) (NullOr (BehindExponent level i e))) (OnBase level (SpellsDeltas level i.presence) i e)
+    (λ b v h. decimal_to level i e b h.front h.back h.x v h.parts h.first h.second)
+    (decimal_from level i e)
+    (reader_then fault.NeedMore (integer_at level false i.presence) (λ x rest. unless_null (x, rest) (λ d rest. delta_base i e >>= λ base. mantissa_delta_behind level (exponent_of base +ℤ d) (mantissa_of base) rest)) (SpellsInteger level false i.presence) (NullOr (BehindExponent level i e)) (integer_forms level false i.presence)
+    (reader_null (λ d rest. delta_base i e >>= λ base. mantissa_delta_behind level (exponent_of base +ℤ d) (mantissa_of base) rest) (BehindExponent level i e)
+    (λ d. reader_after fault.NeedMore (delta_base i e) (λ base. mantissa_delta_behind level (exponent_of base +ℤ d) (mantissa_of base)) (λ base. IsMantissaDelta level (exponent_of base +ℤ d) (mantissa_of base)) (λ base. mantissa_deltas level (exponent_of base +ℤ d) (mantissa_of base)))))
 
 -- ---- strings and vectors
 
@@ -124,30 +123,30 @@ is_at_most : (m n : ℕ) → m ≤ n → nat_le m n ≡ true
 is_at_most m n h = grind (arith, nat_tests)
 
 -- what stands behind a subtraction length
-abbrev IsNewPart : Kind → ℤ → List ℕ → List ℕ → Option Scalar → Type 0
-IsNewPart k removal base b v = (nat_le (removed_of removal) (length base) ≡ true) × Both (SpellsPart k) (λ s. IsMade (limited_value k (put_together removal base s))) b v
+abbrev IsNewPart : (level : Level) → Kind → ℤ → List ℕ → List ℕ → Option Scalar → Type 0
+IsNewPart level k removal base b v = (nat_le (removed_of removal) (length base) ≡ true) × Both (SpellsPart level k) (λ s. IsMade (limited_value k (put_together removal base s))) b v
 
-new_parts : (k : Kind) (removal : ℤ) (base : List ℕ) → IsReader fault.NeedMore (new_part_behind k removal base) (IsNewPart k removal base)
+new_parts : (level : Level) → (k : Kind) (removal : ℤ) (base : List ℕ) → IsReader fault.NeedMore (new_part_behind level k removal base) (IsNewPart level k removal base)
 unfolding new_part_behind
-new_parts k removal base =
-    reader_check (nat_le (removed_of removal) (length base)) fault.D7 (λ rest. part_at k rest >>= λ s. as_value (limited_value k (put_together removal base s.0)) s.1) (Both (SpellsPart k) (λ s. IsMade (limited_value k (put_together removal base s))))
-    (reader_then fault.NeedMore (part_at k) (λ s. as_value (limited_value k (put_together removal base s))) (SpellsPart k) (λ s. IsMade (limited_value k (put_together removal base s))) (part_forms k) (λ s. reader_value (limited_value k (put_together removal base s))))
+new_parts level k removal base =
+    reader_check (nat_le (removed_of removal) (length base)) fault.D7 (λ rest. part_at level k rest >>= λ s. as_value (limited_value k (put_together removal base s.0)) s.1) (Both (SpellsPart level k) (λ s. IsMade (limited_value k (put_together removal base s))))
+    (reader_then fault.NeedMore (part_at level k) (λ s. as_value (limited_value k (put_together removal base s))) (SpellsPart level k) (λ s. IsMade (limited_value k (put_together removal base s))) (part_forms level k) (λ s. reader_value (limited_value k (put_together removal base s))))
 
-abbrev WithBase : FieldPart → Entry → ℤ → List ℕ → Option Scalar → Type 0
-WithBase i e removal b v = (base : Scalar) × (delta_base i e ≡ Ok base) × IsNewPart i.kind removal (units_of base) b v
+abbrev WithBase : (level : Level) → FieldPart → Entry → ℤ → List ℕ → Option Scalar → Type 0
+WithBase level i e removal b v = (base : Scalar) × (delta_base i e ≡ Ok base) × IsNewPart level i.kind removal (units_of base) b v
 
-abbrev BehindRemoval : FieldPart → Entry → ℤ → List ℕ → Option Scalar → Type 0
-BehindRemoval i e removal b v = (in_range kind.Int32 removal ≡ true) × WithBase i e removal b v
+abbrev BehindRemoval : (level : Level) → FieldPart → Entry → ℤ → List ℕ → Option Scalar → Type 0
+BehindRemoval level i e removal b v = (in_range kind.Int32 removal ≡ true) × WithBase level i e removal b v
 
-behind_removal : (i : FieldPart) (e : Entry) (removal : ℤ)
-    → IsReader fault.NeedMore (λ rest. check (in_range kind.Int32 removal) fault.D7 >>= λ fits. (delta_base i e >>= λ base. new_part_behind i.kind removal (units_of base) rest)) (BehindRemoval i e removal)
-behind_removal i e removal =
-    reader_check (in_range kind.Int32 removal) fault.D7 (λ rest. delta_base i e >>= λ base. new_part_behind i.kind removal (units_of base) rest) (WithBase i e removal)
-    (reader_after fault.NeedMore (delta_base i e) (λ base. new_part_behind i.kind removal (units_of base)) (λ base. IsNewPart i.kind removal (units_of base)) (λ base. new_parts i.kind removal (units_of base)))
+behind_removal : (level : Level) → (i : FieldPart) (e : Entry) (removal : ℤ)
+    → IsReader fault.NeedMore (λ rest. check (in_range kind.Int32 removal) fault.D7 >>= λ fits. (delta_base i e >>= λ base. new_part_behind level i.kind removal (units_of base) rest)) (BehindRemoval level i e removal)
+behind_removal level i e removal =
+    reader_check (in_range kind.Int32 removal) fault.D7 (λ rest. delta_base i e >>= λ base. new_part_behind level i.kind removal (units_of base) rest) (WithBase level i e removal)
+    (reader_after fault.NeedMore (delta_base i e) (λ base. new_part_behind level i.kind removal (units_of base)) (λ base. IsNewPart level i.kind removal (units_of base)) (λ base. new_parts level i.kind removal (units_of base)))
 
-cut_to : (i : FieldPart) (e : Entry) (b front back : List ℕ) (x : Nullable ℤ) (v : Option Scalar) → b ≡ front ++ back → SpellsInteger false i.presence front x → NullOr (BehindRemoval i e) x back v → OnBase (SpellsCut i.kind i.presence) i e b v
-cut_to i e b front back Null v parts first h = rw h.1 (subst (λ (z : List ℕ). SpellsInteger false i.presence z Null) (whole b front back parts h.0) first)
-cut_to i e b front back (Value removal) v parts first h =
+cut_to : (level : Level) → (i : FieldPart) (e : Entry) (b front back : List ℕ) (x : Nullable ℤ) (v : Option Scalar) → b ≡ front ++ back → SpellsInteger level false i.presence front x → NullOr (BehindRemoval level i e) x back v → OnBase level (SpellsCut level i.kind i.presence) i e b v
+cut_to level i e b front back Null v parts first h = rw h.1 (subst (λ (z : List ℕ). SpellsInteger level false i.presence z Null) (whole b front back parts h.0) first)
+cut_to level i e b front back (Value removal) v parts first h =
     let base = h.1.0 in
     let m = h.1.2.1 in
     let made = m.second.1 in
@@ -166,16 +165,16 @@ cut_to i e b front back (Value removal) v parts first h =
           removal_form = first;
           is_int32 = h.0;
           there = at_most (removed_of removal) (length (units_of base)) h.1.2.0;
-          part_form = subst (λ (z : List ℕ). SpellsPart i.kind z m.x) (whole back m.front m.back m.parts m.second.0) m.first;
+          part_form = subst (λ (z : List ℕ). SpellsPart level i.kind z m.x) (whole back m.front m.back m.parts m.second.0) m.first;
           value = limited_ok i.kind (put_together removal (units_of base) m.x) made.0 made.1;
           cut_is = refl;
         },
       ),
     )
 
-cut_from : (i : FieldPart) (e : Entry) (b : List ℕ) (v : Option Scalar) → OnBase (SpellsCut i.kind i.presence) i e b v → Both (SpellsInteger false i.presence) (NullOr (BehindRemoval i e)) b v
-cut_from i e b None h = record { x = Null; front = b; back = []; parts = sym (append-nil b); first = h; second = (refl, refl) }
-cut_from i e b (Some v) h =
+cut_from : (level : Level) → (i : FieldPart) (e : Entry) (b : List ℕ) (v : Option Scalar) → OnBase level (SpellsCut level i.kind i.presence) i e b v → Both (SpellsInteger level false i.presence) (NullOr (BehindRemoval level i e)) b v
+cut_from level i e b None h = record { x = Null; front = b; back = []; parts = sym (append-nil b); first = h; second = (refl, refl) }
+cut_from level i e b (Some v) h =
     let c = h.1.2 in
     let base = units_of h.1.0 in
     let made = limited_is i.kind (put_together c.removal base c.new_part) v c.value in record {
@@ -187,39 +186,39 @@ cut_from i e b (Some v) h =
       second = (c.is_int32, (h.1.0, h.1.1, (is_at_most (removed_of c.removal) (length base) c.there, record { x = c.new_part; front = c.back; back = []; parts = sym (append-nil c.back); first = c.part_form; second = (refl, (v, made, refl)) })));
     }
 
-unit_deltas : (i : FieldPart) (e : Entry) → IsReader fault.NeedMore (unit_delta_at i e) (OnBase (SpellsCut i.kind i.presence) i e)
+unit_deltas : (level : Level) → (i : FieldPart) (e : Entry) → IsReader fault.NeedMore (unit_delta_at level i e) (OnBase level (SpellsCut level i.kind i.presence) i e)
 unfolding unit_delta_at
-unit_deltas i e =
-    reader_as fault.NeedMore (unit_delta_at i e) (Both (SpellsInteger false i.presence) (NullOr (BehindRemoval i e))) (OnBase (SpellsCut i.kind i.presence) i e)
-    (λ b v h. cut_to i e b h.front h.back h.x v h.parts h.first h.second)
-    (cut_from i e)
-    (reader_then fault.NeedMore (integer_at false i.presence) (λ x rest. unless_null (x, rest) (λ removal rest. check (in_range kind.Int32 removal) fault.D7 >>= λ fits. (delta_base i e >>= λ base. new_part_behind i.kind removal (units_of base) rest))) (SpellsInteger false i.presence) (NullOr (BehindRemoval i e)) (integer_forms false i.presence)
-    (reader_null (λ removal rest. check (in_range kind.Int32 removal) fault.D7 >>= λ fits. (delta_base i e >>= λ base. new_part_behind i.kind removal (units_of base) rest)) (BehindRemoval i e) (behind_removal i e)))
+unit_deltas level i e =
+    reader_as fault.NeedMore (unit_delta_at level i e) (Both (SpellsInteger level false i.presence) (NullOr (BehindRemoval level i e))) (OnBase level (SpellsCut level i.kind i.presence) i e)
+    (λ b v h. cut_to level i e b h.front h.back h.x v h.parts h.first h.second)
+    (cut_from level i e)
+    (reader_then fault.NeedMore (integer_at level false i.presence) (λ x rest. unless_null (x, rest) (λ removal rest. check (in_range kind.Int32 removal) fault.D7 >>= λ fits. (delta_base i e >>= λ base. new_part_behind level i.kind removal (units_of base) rest))) (SpellsInteger level false i.presence) (NullOr (BehindRemoval level i e)) (integer_forms level false i.presence)
+    (reader_null (λ removal rest. check (in_range kind.Int32 removal) fault.D7 >>= λ fits. (delta_base i e >>= λ base. new_part_behind level i.kind removal (units_of base) rest)) (BehindRemoval level i e) (behind_removal level i e)))
 
 -- ---- all types
 
-abbrev DeltaOf : Kind → FieldPart → Entry → List ℕ → Option Scalar → Type 0
-DeltaOf k i e = OnBase (λ base cut b v. DeltaValue k i.presence base cut b v) i e
+abbrev DeltaOf : (level : Level) → Kind → FieldPart → Entry → List ℕ → Option Scalar → Type 0
+DeltaOf level k i e = OnBase level (λ base cut b v. DeltaValue level k i.presence base cut b v) i e
 
-by_kind : (k : Kind) (i : FieldPart) (e : Entry) → i.kind ≡ k → IsReader fault.NeedMore (delta_at k i e) (DeltaOf k i e)
+by_kind : (level : Level) → (k : Kind) (i : FieldPart) (e : Entry) → i.kind ≡ k → IsReader fault.NeedMore (delta_at level k i e) (DeltaOf level k i e)
 unfolding delta_at
-by_kind kind.Decimal i e is = decimal_deltas i e
-by_kind kind.Ascii i e is = subst (λ (k : Kind). IsReader fault.NeedMore (unit_delta_at i e) (OnBase (SpellsCut k i.presence) i e)) is (unit_deltas i e)
-by_kind kind.Unicode i e is = subst (λ (k : Kind). IsReader fault.NeedMore (unit_delta_at i e) (OnBase (SpellsCut k i.presence) i e)) is (unit_deltas i e)
-by_kind kind.Bytes i e is = subst (λ (k : Kind). IsReader fault.NeedMore (unit_delta_at i e) (OnBase (SpellsCut k i.presence) i e)) is (unit_deltas i e)
-by_kind k i e is = subst (λ (k : Kind). IsReader fault.NeedMore (integer_delta_at i e) (OnBase (SpellsDelta k i.presence) i e)) is (number_deltas i e)
+by_kind level kind.Decimal i e is = decimal_deltas level i e
+by_kind level kind.Ascii i e is = subst (λ (k : Kind). IsReader fault.NeedMore (unit_delta_at level i e) (OnBase level (SpellsCut level k i.presence) i e)) is (unit_deltas level i e)
+by_kind level kind.Unicode i e is = subst (λ (k : Kind). IsReader fault.NeedMore (unit_delta_at level i e) (OnBase level (SpellsCut level k i.presence) i e)) is (unit_deltas level i e)
+by_kind level kind.Bytes i e is = subst (λ (k : Kind). IsReader fault.NeedMore (unit_delta_at level i e) (OnBase level (SpellsCut level k i.presence) i e)) is (unit_deltas level i e)
+by_kind level k i e is = subst (λ (k : Kind). IsReader fault.NeedMore (integer_delta_at level i e) (OnBase level (SpellsDelta level k i.presence) i e)) is (number_deltas level i e)
 
-pub deltas : (i : FieldPart) (e : Entry) → IsReader fault.NeedMore (delta_at i.kind i e) (λ b v. (cut : Cut) × DeltaForm i e cut b v)
-deltas i e =
-    reader_as fault.NeedMore (delta_at i.kind i e) (DeltaOf i.kind i e) (λ b v. (cut : Cut) × DeltaForm i e cut b v)
-    (λ b v. elim v as (λ v. DeltaOf i.kind i e b v → (cut : Cut) × DeltaForm i e cut b v) [ None ↦ λ h. (uncut, (refl, h)) | Some w ↦ λ h. h ])
-    (λ b v. elim v as (λ v. (cut : Cut) × DeltaForm i e cut b v → DeltaOf i.kind i e b v) [ None ↦ λ h. h.1.1 | Some w ↦ λ h. h ])
-    (by_kind i.kind i e refl)
+pub deltas : (level : Level) → (i : FieldPart) (e : Entry) → IsReader fault.NeedMore (delta_at level i.kind i e) (λ b v. (cut : Cut) × DeltaForm level i e cut b v)
+deltas level i e =
+    reader_as fault.NeedMore (delta_at level i.kind i e) (DeltaOf level i.kind i e) (λ b v. (cut : Cut) × DeltaForm level i e cut b v)
+    (λ b v. elim v as (λ v. DeltaOf level i.kind i e b v → (cut : Cut) × DeltaForm level i e cut b v) [ None ↦ λ h. (uncut, (refl, h)) | Some w ↦ λ h. h ])
+    (λ b v. elim v as (λ v. (cut : Cut) × DeltaForm level i e cut b v → DeltaOf level i.kind i e b v) [ None ↦ λ h. h.1.1 | Some w ↦ λ h. h ])
+    (by_kind level i.kind i e refl)
 
-pub tails : (i : FieldPart) (e : Entry) → IsReader fault.NeedMore (tail_at i e) (λ b v. (cut : Cut) × TailForm i e cut b v)
+pub tails : (level : Level) → (i : FieldPart) (e : Entry) → IsReader fault.NeedMore (tail_at level i e) (λ b v. (cut : Cut) × TailForm level i e cut b v)
 unfolding tail_at ended_value
-tails i e =
-    made_forms (units_at i.kind i.presence) (SpellsUnits i.kind i.presence) (ended_value i e) (λ b v. (cut : Cut) × TailForm i e cut b v) (units_forms i.kind i.presence)
+tails level i e =
+    made_forms (units_at level i.kind i.presence) (SpellsUnits level i.kind i.presence) (ended_value i e) (λ b v. (cut : Cut) × TailForm level i e cut b v) (units_forms level i.kind i.presence)
     (λ b h. (uncut, (refl, h)))
     (λ b h. h.1.1)
     (λ b t v h made.

@@ -5,6 +5,7 @@ use Rattle.std.specs.Prelude.{ℤ, pos, negsuc, nat_le, ◌&&◌, if◌then◌el
 use Rattle.std.proofs.Math.Dec.{eqb}
 use Rattle.std.proofs.lemmas.Bool.{cases_lt}
 use Rattle.std.proofs.lemmas.Bool.Decides.{nat_tests, eqb_tells}
+use Rattle.fast_wire.specs.declared.level.Level.TheVariants.{Usual}
 use Rattle.fast_wire.specs.Integer.{magnitude}
 use Rattle.fast_wire.specs.Sizes.{unsigned_size}
 use Rattle.fast_wire.specs.declared.nullable.Nullable.TheVariants.{Value}
@@ -40,16 +41,16 @@ pub parts : (k : Kind) → IsPartCost (part_size k)
 parts kind.Ascii = ascii_parts
 parts k = vector_parts unsigned_size unsigned_size-grows
 
-pub length_least : (p : Presence) (z : ℤ) (b : List ℕ) → SpellsInteger false p b (Value z) → length_size p z ≤ length b
+pub length_least : (p : Presence) (z : ℤ) (b : List ℕ) → SpellsInteger Usual false p b (Value z) → length_size p z ≤ length b
 length_least Mandatory z b h = signed_sizes.least b z h
 length_least Optional z b h = signed_nullable_sizes.least b (Value z) h
 
-pub part_least : (k : Kind) (s b : List ℕ) → SpellsPart k b s → part_size k s ≤ length b
+pub part_least : (k : Kind) (s b : List ℕ) → SpellsPart Usual k b s → part_size k s ≤ length b
 part_least kind.Ascii s b h = ascii_sizes.least b s h
 part_least k s b h = vector_sizes.least b s h
 
 -- no form of a cut has fewer bytes than its two parts
-cut_least : (k : Kind) (p : Presence) (base : Scalar) (cut : Cut) (b : List ℕ) (v : Scalar) (h : SpellsCut k p base cut b v) → length_size p h.removal + part_size k h.new_part ≤ length b
+cut_least : (k : Kind) (p : Presence) (base : Scalar) (cut : Cut) (b : List ℕ) (v : Scalar) (h : SpellsCut Usual k p base cut b v) → length_size p h.removal + part_size k h.new_part ≤ length b
 cut_least k p base cut b v h =
     omega (arith, ap length h.parts, length-append h.front h.back, length_least p h.removal h.front h.removal_form, part_least k h.new_part h.back h.part_form)
 
@@ -162,7 +163,7 @@ removal_small base z few le = (removal_fits z (omega (arith, le, few))).0
 
 -- the bytes of the best cut come before all other forms
 pub cut_is_first : (k : Kind) (p : Presence) (base v : Scalar) (removal : ℤ) (part b : List ℕ) → IsUnitKind k → IsOfType k base → IsOfType k v → IsBestCut k p (units_of base) (units_of v) removal part → Both (ShortestSigned p removal) (ShortestPart k part) b
-    → IsFirst (λ c b. SpellsCut k p base c b v) b
+    → IsFirst (λ c b. SpellsCut Usual k p base c b v) b
 cut_is_first k p base v removal part b u h l best spelled =
     let few_base = units_of_string k base u h in
     let few_value = units_of_string k v u l in
@@ -197,13 +198,13 @@ take_fits k n s h = let less = h.0 in (omega (arith, length-take n s), all_take 
 
 -- each value has one on each base
 cut_stands : (k : Kind) (p : Presence) (base v : Scalar) (removal : ℤ) (part : List ℕ) → IsUnitKind k → IsOfType k base → IsOfType k v → IsString k part → IsBestCut k p (units_of base) (units_of v) removal part
-    → First (λ c b. SpellsCut k p base c b v)
+    → First (λ c b. SpellsCut Usual k p base c b v)
 cut_stands k p base v removal part u h l fits best =
     let first = shortest_signed p removal (removal_small (units_of base) removal (units_of_string k base u h).0 best.few) in
     let second = shortest_part k part fits in
     (first.0 ++ second.0, cut_is_first k p base v removal part (first.0 ++ second.0) u h l best (record { front = first.0; back = second.0; parts = refl; first = first.1; second = second.1 }))
 
-pub string_delta_first : (k : Kind) (p : Presence) (base v : Scalar) → IsUnitKind k → IsOfType k base → IsOfType k v → First (λ c b. SpellsCut k p base c b v)
+pub string_delta_first : (k : Kind) (p : Presence) (base v : Scalar) → IsUnitKind k → IsOfType k base → IsOfType k v → First (λ c b. SpellsCut Usual k p base c b v)
 string_delta_first k p base v u h l =
     let s = units_of base in
     let t = units_of v in

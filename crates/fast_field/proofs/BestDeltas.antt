@@ -2,6 +2,7 @@
 use Rattle.std.proofs.Common.{◌≡◌, ℕ, ◌^◌, ◌<◌, ◌≤◌, true, false, List, length, refl, sym, ap, subst, ◌∙◌, arith}
 use Rattle.std.specs.Prelude.{ℤ, pos, negsuc, ◌+ℤ◌, ◌-ℤ◌, ◌<ℤ◌, IsTrue}
 use Rattle.std.proofs.lemmas.Int.{ints}
+use Rattle.fast_wire.specs.declared.level.Level.TheVariants.{Usual}
 use Rattle.fast_wire.specs.Integer.{magnitude}
 use Rattle.fast_wire.specs.declared.nullable.Nullable.TheVariants.{Value}
 use Rattle.fast_value.specs.Scalar.{is_integer}
@@ -65,19 +66,19 @@ one_difference a c d e = omega (arith, ints, e)
 pub difference_fits : (k : Kind) (base v : Scalar) → IsTrue (is_integer k) → IsOfType k base → IsOfType k v → magnitude (integer_of v -ℤ integer_of base) < 2 ^ 68
 difference_fits k base v i h l = difference_small (integer_of v) (integer_of base) (range_small k (integer_of v) i (number_is k v i l).range) (range_small k (integer_of base) i (number_is k base i h).range)
 
-pub number_delta_is_first : (k : Kind) (p : Presence) (base v : Scalar) (b : List ℕ) → IsTrue (is_integer k) → IsOfType k v → ShortestSigned p (integer_of v -ℤ integer_of base) b → IsFirst (λ c b. SpellsDelta k p base c b v) b
+pub number_delta_is_first : (k : Kind) (p : Presence) (base v : Scalar) (b : List ℕ) → IsTrue (is_integer k) → IsOfType k v → ShortestSigned p (integer_of v -ℤ integer_of base) b → IsFirst (λ c b. SpellsDelta Usual k p base c b v) b
 number_delta_is_first k p base v b i l h =
     let n = number_is k v i l in
     let a = integer_of v in
     let c = integer_of base in
     let s = signed_form p (a -ℤ c) b h in
-    shortest_is_first (λ c b. SpellsDelta k p base c b v) b
+    shortest_is_first (λ c b. SpellsDelta Usual k p base c b v) b
     (record { delta = a -ℤ c; form = s.form; range = rw (back_again a c) n.range; value = rw (back_again a c) n.made; cut_is = refl })
     (λ cut o d.
     let sum : c +ℤ d.delta ≡ a = sym (number_of k (c +ℤ d.delta) i d.range) ∙ ap integer_of (sym d.value) in
-    (d.cut_is, s.least o (subst (λ (z : ℤ). SpellsInteger false p o (Value z)) (one_difference a c d.delta sum) d.form)))
+    (d.cut_is, s.least o (subst (λ (z : ℤ). SpellsInteger Usual false p o (Value z)) (one_difference a c d.delta sum) d.form)))
 
-pub number_delta_first : (k : Kind) (p : Presence) (base v : Scalar) → IsTrue (is_integer k) → IsOfType k base → IsOfType k v → First (λ c b. SpellsDelta k p base c b v)
+pub number_delta_first : (k : Kind) (p : Presence) (base v : Scalar) → IsTrue (is_integer k) → IsOfType k base → IsOfType k v → First (λ c b. SpellsDelta Usual k p base c b v)
 number_delta_first k p base v i h l = let s = shortest_signed p (integer_of v -ℤ integer_of base) (difference_fits k base v i h l) in (s.0, number_delta_is_first k p base v s.0 i l s.1)
 
 -- ---- decimals
@@ -92,19 +93,19 @@ differences_fit base v h l =
     let less = decimal_small v l in
     (difference_small (exponent_of v) (exponent_of base) less.0 small.0, difference_small (mantissa_of v) (mantissa_of base) less.1 small.1)
 
-pub decimal_delta_is_first : (p : Presence) (base v : Scalar) (b : List ℕ) → IsOfType kind.Decimal v → ShortestPair p (exponent_of v -ℤ exponent_of base) (mantissa_of v -ℤ mantissa_of base) b → IsFirst (λ c b. SpellsDeltas p base c b v) b
+pub decimal_delta_is_first : (p : Presence) (base v : Scalar) (b : List ℕ) → IsOfType kind.Decimal v → ShortestPair p (exponent_of v -ℤ exponent_of base) (mantissa_of v -ℤ mantissa_of base) b → IsFirst (λ c b. SpellsDeltas Usual p base c b v) b
 decimal_delta_is_first p base (Decimal e m) b l h =
     let x = exponent_of base in
     let y = mantissa_of base in
-    shortest_is_first (λ c b. SpellsDeltas p base c b (Decimal e m)) b
+    shortest_is_first (λ c b. SpellsDeltas Usual p base c b (Decimal e m)) b
     (record { exponent_delta = e -ℤ x; mantissa_delta = m -ℤ y; form = pair_form p (e -ℤ x) (m -ℤ y) b h; value = rw (back_again e x, back_again m y) (l.1.0, l.1.1, refl); cut_is = refl })
     (λ cut o d.
     let same_e : d.exponent_delta ≡ e -ℤ x = one_difference e x d.exponent_delta (sym (ap exponent_of d.value.2)) in
     let same_m : d.mantissa_delta ≡ m -ℤ y = one_difference m y d.mantissa_delta (sym (ap mantissa_of d.value.2)) in
-    (d.cut_is, pair_least p (e -ℤ x) (m -ℤ y) b h o (subst (λ (z : ℤ). SpellsPair p o z (m -ℤ y)) same_e (subst (λ (z : ℤ). SpellsPair p o d.exponent_delta z) same_m d.form))))
+    (d.cut_is, pair_least p (e -ℤ x) (m -ℤ y) b h o (subst (λ (z : ℤ). SpellsPair Usual p o z (m -ℤ y)) same_e (subst (λ (z : ℤ). SpellsPair Usual p o d.exponent_delta z) same_m d.form))))
 decimal_delta_is_first p base v b l h = let e = l.0 in absurd cc
 
-pub decimal_delta_first : (p : Presence) (base v : Scalar) → IsOfType kind.Decimal base → IsOfType kind.Decimal v → First (λ c b. SpellsDeltas p base c b v)
+pub decimal_delta_first : (p : Presence) (base v : Scalar) → IsOfType kind.Decimal base → IsOfType kind.Decimal v → First (λ c b. SpellsDeltas Usual p base c b v)
 decimal_delta_first p base v h l =
     let fit = differences_fit base v h l in
     let s = shortest_pair p (exponent_of v -ℤ exponent_of base) (mantissa_of v -ℤ mantissa_of base) fit.0 fit.1 in

@@ -1,6 +1,7 @@
 -- How a form is shown to be the best.
 use Rattle.std.proofs.Common.{◌≡◌, ℕ, ◌<◌, ◌≤◌, Bool, true, false, List, [], length, Option, refl, arith, inl, inr, ◌⊎◌}
 use Rattle.std.proofs.lemmas.Bool.{cases_lt}
+use Rattle.fast_wire.specs.declared.level.Level.TheVariants.{Usual}
 use Rattle.fast_value.specs.declared.kind.Operator.{Operator}
 use Rattle.fast_value.specs.declared.kind.Operator.TheVariants as operator
 use Rattle.fast_template.specs.declared.resolved.FieldPart.{FieldPart}
@@ -12,7 +13,7 @@ use Rattle.fast_field.specs.Best.{NoLater, IsBest, side_rank}
 
 -- ---- bit 0
 
-pub bit_zero_row : (o : Operator) (i : FieldPart) (e : Entry) (cut : Cut) (b : List ℕ) (v : Option Scalar) → FormOf o i e false cut b v → (cut ≡ uncut) × (b ≡ [])
+pub bit_zero_row : (o : Operator) (i : FieldPart) (e : Entry) (cut : Cut) (b : List ℕ) (v : Option Scalar) → FormOf Usual o i e false cut b v → (cut ≡ uncut) × (b ≡ [])
 bit_zero_row operator.Plain i e cut b v h = absurd h
 bit_zero_row operator.Constant i e cut b v h = (h.0, h.1)
 bit_zero_row operator.Default i e cut b v h = (h.0, h.1)
@@ -21,12 +22,12 @@ bit_zero_row operator.Increment i e cut b v h = (h.0, h.1)
 bit_zero_row operator.Delta i e cut b v h = absurd h
 bit_zero_row operator.Tail i e cut b v h = (h.0, h.1)
 
-bit_zero_first : (i : FieldPart) (e : Entry) (v : Option Scalar) (bit : Bool) (cut : Cut) (b : List ℕ) → FormBy i e bit cut b v → NoLater false 0 uncut bit (length b) cut
+bit_zero_first : (i : FieldPart) (e : Entry) (v : Option Scalar) (bit : Bool) (cut : Cut) (b : List ℕ) → FormBy Usual i e bit cut b v → NoLater false 0 uncut bit (length b) cut
 bit_zero_first i e v true cut b h = inl (omega arith)
 bit_zero_first i e v false cut b h = let z = bit_zero_row i.operator i e cut b v h.row in rw (z.0, z.1) (inr (refl, inr (refl, inr (refl, omega arith))))
 
 -- where bit 0 gives the value, that is the best form
-pub bit_zero_is_best : (i : FieldPart) (e : Entry) (v : Option Scalar) → FormBy i e false uncut [] v → IsBest i e false [] v
+pub bit_zero_is_best : (i : FieldPart) (e : Entry) (v : Option Scalar) → FormBy Usual i e false uncut [] v → IsBest i e false [] v
 bit_zero_is_best i e v h = record { cut = uncut; form = h; first = bit_zero_first i e v }
 
 -- ---- bit 1

@@ -2,6 +2,7 @@
 use Rattle.std.proofs.Common.{◌≡◌, ℕ, zero, suc, ◌+◌, ◌-◌, ◌<◌, ◌≤◌, List, [], ◌∷◌, length, take, drop, refl, sym, ap, subst, ◌∙◌, arith, inl, inr, length-drop, take-append-drop, drop-drop}
 use Rattle.std.proofs.lemmas.Bool.{cases_lt}
 use Rattle.std.proofs.lemmas.List.{take-take}
+use Rattle.fast_wire.specs.declared.level.Level.TheVariants.{Usual}
 use Rattle.fast_wire.specs.Sizes.{ascii_nullable_size, vector_nullable_size, unsigned_size}
 use Rattle.fast_wire.specs.declared.nullable.Nullable.TheVariants.{Value}
 use Rattle.fast_wire.proofs.FormSizes.{ascii_nullable_sizes, vector_nullable_sizes}
@@ -27,7 +28,7 @@ use Rattle.fast_field.proofs.StandingForms.{of_units_is}
 
 -- ---- sizes
 
-pub tail_least : (k : Kind) (p : Presence) (s b : List ℕ) → SpellsUnits k p b (Value s) → tail_size k p s ≤ length b
+pub tail_least : (k : Kind) (p : Presence) (s b : List ℕ) → SpellsUnits Usual k p b (Value s) → tail_size k p s ≤ length b
 tail_least k Mandatory s b h = part_least k s b h
 tail_least kind.Ascii Optional s b h = ascii_nullable_sizes.least b (Value s) h
 tail_least k Optional s b h = vector_nullable_sizes.least b (Value s) h
@@ -38,7 +39,7 @@ worse_first : (m n m' n' part : ℕ) (c : Cut) → n ≡ m → m' ≤ n' → NoW
 worse_first m n m' n' part c e le (inl lt) = (omega arith, λ same. absurd (omega arith))
 worse_first m n m' n' part c e le (inr h) = let same_size = h.0 in (omega arith, λ same. h.1)
 
-pub tail_is_first : (k : Kind) (p : Presence) (base v : Scalar) (tail b : List ℕ) → IsUnitKind k → IsOfType k v → IsBestTail k p (units_of base) (units_of v) tail → ShortestUnits k p tail b → IsFirst (λ c b. SpellsTail k p base c b v) b
+pub tail_is_first : (k : Kind) (p : Presence) (base v : Scalar) (tail b : List ℕ) → IsUnitKind k → IsOfType k v → IsBestTail k p (units_of base) (units_of v) tail → ShortestUnits k p tail b → IsFirst (λ c b. SpellsTail Usual k p base c b v) b
 tail_is_first k p base v tail b u l best spelled =
     let few = units_of_string k v u l in
     record {
@@ -172,10 +173,10 @@ shortest_is_best kind.Ascii Optional base v (suc m) prefix same no_less =
 shortest_is_best k Optional base v n prefix same no_less = shortest k Optional base v n prefix same vector_nullable_parts
 
 -- each value that is no shorter than its base has one
-tail_stands : (k : Kind) (p : Presence) (base v : Scalar) (tail : List ℕ) → IsUnitKind k → IsOfType k v → IsString k tail → IsBestTail k p (units_of base) (units_of v) tail → First (λ c b. SpellsTail k p base c b v)
+tail_stands : (k : Kind) (p : Presence) (base v : Scalar) (tail : List ℕ) → IsUnitKind k → IsOfType k v → IsString k tail → IsBestTail k p (units_of base) (units_of v) tail → First (λ c b. SpellsTail Usual k p base c b v)
 tail_stands k p base v tail u l fits best = let s = shortest_units k p tail fits in (s.0, tail_is_first k p base v tail s.0 u l best s.1)
 
-pub tail_first : (k : Kind) (p : Presence) (base v : Scalar) → IsUnitKind k → IsOfType k v → length (units_of base) ≤ length (units_of v) → First (λ c b. SpellsTail k p base c b v)
+pub tail_first : (k : Kind) (p : Presence) (base v : Scalar) → IsUnitKind k → IsOfType k v → length (units_of base) ≤ length (units_of v) → First (λ c b. SpellsTail Usual k p base c b v)
 tail_first k p base v u l le =
     let fits = units_of_string k v u l in
     elim (cases_lt (length (units_of base)) (length (units_of v))) [

@@ -3,6 +3,7 @@ use Rattle.std.proofs.Common.{◌≡◌, ℕ, ◌<◌, ◌≤◌, Bool, true, fa
 use Rattle.std.specs.Prelude.{ℤ, pos, negsuc, int_lt, int_le, nat_lt, nat_le, ◌&&◌, not, Option, Some, None, IsTrue, if◌then◌else◌}
 use Rattle.std.specs.List.{AllByRecursion}
 use Rattle.std.proofs.lemmas.Bool.Decides.{nat_tests}
+use Rattle.fast_wire.specs.declared.level.Level.TheVariants.{Usual}
 use Rattle.fast_wire.proofs.Readers.{ok_is}
 use Rattle.fast_wire.specs.Writing.{IsShortest}
 use Rattle.fast_wire.specs.declared.nullable.Nullable.TheVariants.{Null}
@@ -83,7 +84,7 @@ constant_given : (i : FieldPart) (v : Option Scalar) → constant_gives i.presen
 constant_given i None e = (optional i.presence e, refl)
 constant_given i (Some v) e = absurd cc
 
-pub left_out : (o : Operator) (i : FieldPart) (e : Entry) (v : Option Scalar) → left_out_of o i e v ≡ true → FormOf o i e false uncut [] v
+pub left_out : (o : Operator) (i : FieldPart) (e : Entry) (v : Option Scalar) → left_out_of o i e v ≡ true → FormOf Usual o i e false uncut [] v
 left_out operator.Plain i e v h = absurd cc
 left_out operator.Constant i e v h = let w = constant_given i v h in (refl, refl, w.0, w.1)
 left_out operator.Default i e v h = (refl, refl, default_given i i.initial v refl h)
@@ -92,7 +93,7 @@ left_out operator.Increment i e v h = (refl, refl, given (predicted i e) v h)
 left_out operator.Delta i e v h = absurd cc
 left_out operator.Tail i e v h = (refl, refl, given (predicted i e) v h)
 
-pub can_be_left_out : (o : Operator) (i : FieldPart) (e : Entry) (cut : Cut) (b : List ℕ) (v : Option Scalar) → FormOf o i e false cut b v → left_out_of o i e v ≡ true
+pub can_be_left_out : (o : Operator) (i : FieldPart) (e : Entry) (cut : Cut) (b : List ℕ) (v : Option Scalar) → FormOf Usual o i e false cut b v → left_out_of o i e v ≡ true
 can_be_left_out operator.Plain i e cut b v f = absurd f
 can_be_left_out operator.Constant i e cut b v f = rw (f.3, f.2) refl
 can_be_left_out operator.Default i e cut b v f = gives_default i v f.2
@@ -106,17 +107,17 @@ can_be_left_out operator.Tail i e cut b v f = gives (predicted i e) v f.2
 pub is_first_as : (F G : Cut → List ℕ → Type 0) (b : List ℕ) → ((c : Cut) (b : List ℕ) → F c b → G c b) → ((c : Cut) (b : List ℕ) → G c b → F c b) → IsFirst F b → IsFirst G b
 is_first_as F G b to from f = record { cut = f.cut; form = to f.cut b f.form; first = λ c o h. f.first c o (from c o h) }
 
-pub whole_is_first : (k : Kind) (p : Presence) (v : Option Scalar) (b : List ℕ) → IsShortest (Spelled k p) b v → IsFirst (λ c b. (c ≡ uncut) × Spelled k p b v) b
-whole_is_first k p v b s = shortest_is_first (λ c b. (c ≡ uncut) × Spelled k p b v) b (refl, s.form) (λ c o h. (h.0, s.least o h.1))
+pub whole_is_first : (k : Kind) (p : Presence) (v : Option Scalar) (b : List ℕ) → IsShortest (Spelled Usual k p) b v → IsFirst (λ c b. (c ≡ uncut) × Spelled Usual k p b v) b
+whole_is_first k p v b s = shortest_is_first (λ c b. (c ≡ uncut) × Spelled Usual k p b v) b (refl, s.form) (λ c o h. (h.0, s.least o h.1))
 
-whole_first : (k : Kind) (p : Presence) (v : Option Scalar) → Stands (Spelled k p) v → First (λ c b. (c ≡ uncut) × Spelled k p b v)
+whole_first : (k : Kind) (p : Presence) (v : Option Scalar) → Stands (Spelled Usual k p) v → First (λ c b. (c ≡ uncut) × Spelled Usual k p b v)
 whole_first k p v s = (s.0, whole_is_first k p v s.0 s.1)
 
-value_first : (i : FieldPart) (v : Option Scalar) → IsOfField i v → First (λ c b. (c ≡ uncut) × Spelled i.kind i.presence b v)
-value_first i None h = subst (λ (p : Presence). First (λ c b. (c ≡ uncut) × Spelled i.kind p b None)) (sym h) (whole_first i.kind Optional None (null_whole_stands i.kind))
+value_first : (i : FieldPart) (v : Option Scalar) → IsOfField i v → First (λ c b. (c ≡ uncut) × Spelled Usual i.kind i.presence b v)
+value_first i None h = subst (λ (p : Presence). First (λ c b. (c ≡ uncut) × Spelled Usual i.kind p b None)) (sym h) (whole_first i.kind Optional None (null_whole_stands i.kind))
 value_first i (Some v) h = whole_first i.kind i.presence (Some v) (whole_stands i.kind i.presence v h)
 
-delta_value_first : (k : Kind) (p : Presence) (base v : Scalar) → IsOfType k base → IsOfType k v → First (λ c b. DeltaValue k p base c b v)
+delta_value_first : (k : Kind) (p : Presence) (base v : Scalar) → IsOfType k base → IsOfType k v → First (λ c b. DeltaValue Usual k p base c b v)
 delta_value_first kind.UInt32 p base v h l = number_delta_first kind.UInt32 p base v refl h l
 delta_value_first kind.Int32 p base v h l = number_delta_first kind.Int32 p base v refl h l
 delta_value_first kind.UInt64 p base v h l = number_delta_first kind.UInt64 p base v refl h l
@@ -130,19 +131,19 @@ has_base : (r : Result Scalar FieldFault) → delta_refusal r ≡ None → (base
 has_base (Ok base) e = (base, refl)
 has_base (Err f) e = absurd cc
 
-pub delta_is_first : (i : FieldPart) (e : Entry) (base v : Scalar) (b : List ℕ) → delta_base i e ≡ Ok base → IsFirst (λ c b. DeltaValue i.kind i.presence base c b v) b → IsFirst (λ c b. DeltaForm i e c b (Some v)) b
+pub delta_is_first : (i : FieldPart) (e : Entry) (base v : Scalar) (b : List ℕ) → delta_base i e ≡ Ok base → IsFirst (λ c b. DeltaValue Usual i.kind i.presence base c b v) b → IsFirst (λ c b. DeltaForm Usual i e c b (Some v)) b
 delta_is_first i e base v b is f =
-    is_first_as (λ c b. DeltaValue i.kind i.presence base c b v) (λ c b. DeltaForm i e c b (Some v)) b
+    is_first_as (λ c b. DeltaValue Usual i.kind i.presence base c b v) (λ c b. DeltaForm Usual i e c b (Some v)) b
     (λ c o h. (base, is, h))
-    (λ c o h. let same : h.0 ≡ base = ok_is {F = FieldFault} h.0 base (sym h.1 ∙ is) in subst (λ (x : Scalar). DeltaValue i.kind i.presence x c o v) same h.2)
+    (λ c o h. let same : h.0 ≡ base = ok_is {F = FieldFault} h.0 base (sym h.1 ∙ is) in subst (λ (x : Scalar). DeltaValue Usual i.kind i.presence x c o v) same h.2)
     f
 
-pub delta_null_is_first : (i : FieldPart) (e : Entry) (b : List ℕ) → IsShortest (SpellsInteger false i.presence) b Null → IsFirst (λ c b. DeltaForm i e c b None) b
-delta_null_is_first i e b s = shortest_is_first (λ c b. DeltaForm i e c b None) b (refl, s.form) (λ c o f. (f.0, s.least o f.1))
+pub delta_null_is_first : (i : FieldPart) (e : Entry) (b : List ℕ) → IsShortest (SpellsInteger Usual false i.presence) b Null → IsFirst (λ c b. DeltaForm Usual i e c b None) b
+delta_null_is_first i e b s = shortest_is_first (λ c b. DeltaForm Usual i e c b None) b (refl, s.form) (λ c o f. (f.0, s.least o f.1))
 
-delta_first : (i : FieldPart) (e : Entry) (v : Option Scalar) → IsFieldPart i → HoldsScalar e → IsOfField i v → ((w : Scalar) → v ≡ Some w → delta_refusal (delta_base i e) ≡ None) → First (λ c b. DeltaForm i e c b v)
+delta_first : (i : FieldPart) (e : Entry) (v : Option Scalar) → IsFieldPart i → HoldsScalar e → IsOfField i v → ((w : Scalar) → v ≡ Some w → delta_refusal (delta_base i e) ≡ None) → First (λ c b. DeltaForm Usual i e c b v)
 delta_first i e None is h l none =
-    let s = subst (λ (p : Presence). Stands (SpellsInteger false p) Null) (sym l) (null_stands false) in
+    let s = subst (λ (p : Presence). Stands (SpellsInteger Usual false p) Null) (sym l) (null_stands false) in
     (s.0, delta_null_is_first i e s.0 s.1)
 delta_first i e (Some v) is h l none =
     let base = has_base (delta_base i e) (none v refl) in
@@ -157,19 +158,19 @@ long_enough (Ok base) v e = (base, refl, not_short (nat_lt (length (units_of v))
     not_short false h e = grind (arith, nat_tests)
 long_enough (Err f) v e = absurd cc
 
-pub tail_form_is_first : (i : FieldPart) (e : Entry) (base v : Scalar) (b : List ℕ) → tail_base i e ≡ Ok base → IsFirst (λ c b. SpellsTail i.kind i.presence base c b v) b → IsFirst (λ c b. TailForm i e c b (Some v)) b
+pub tail_form_is_first : (i : FieldPart) (e : Entry) (base v : Scalar) (b : List ℕ) → tail_base i e ≡ Ok base → IsFirst (λ c b. SpellsTail Usual i.kind i.presence base c b v) b → IsFirst (λ c b. TailForm Usual i e c b (Some v)) b
 tail_form_is_first i e base v b is f =
-    is_first_as (λ c b. SpellsTail i.kind i.presence base c b v) (λ c b. TailForm i e c b (Some v)) b
+    is_first_as (λ c b. SpellsTail Usual i.kind i.presence base c b v) (λ c b. TailForm Usual i e c b (Some v)) b
     (λ c o h. (base, is, h))
-    (λ c o h. let same : h.0 ≡ base = ok_is {F = FieldFault} h.0 base (sym h.1 ∙ is) in subst (λ (x : Scalar). SpellsTail i.kind i.presence x c o v) same h.2)
+    (λ c o h. let same : h.0 ≡ base = ok_is {F = FieldFault} h.0 base (sym h.1 ∙ is) in subst (λ (x : Scalar). SpellsTail Usual i.kind i.presence x c o v) same h.2)
     f
 
-pub tail_null_is_first : (i : FieldPart) (e : Entry) (b : List ℕ) → IsShortest (SpellsUnits i.kind i.presence) b Null → IsFirst (λ c b. TailForm i e c b None) b
-tail_null_is_first i e b s = shortest_is_first (λ c b. TailForm i e c b None) b (refl, s.form) (λ c o f. (f.0, s.least o f.1))
+pub tail_null_is_first : (i : FieldPart) (e : Entry) (b : List ℕ) → IsShortest (SpellsUnits Usual i.kind i.presence) b Null → IsFirst (λ c b. TailForm Usual i e c b None) b
+tail_null_is_first i e b s = shortest_is_first (λ c b. TailForm Usual i e c b None) b (refl, s.form) (λ c o f. (f.0, s.least o f.1))
 
-tail_form_first : (i : FieldPart) (e : Entry) (v : Option Scalar) → IsFieldPart i → IsTrue (applies operator.Tail i.kind) → IsOfField i v → ((w : Scalar) → v ≡ Some w → tail_refusal (tail_base i e) w ≡ None) → First (λ c b. TailForm i e c b v)
+tail_form_first : (i : FieldPart) (e : Entry) (v : Option Scalar) → IsFieldPart i → IsTrue (applies operator.Tail i.kind) → IsOfField i v → ((w : Scalar) → v ≡ Some w → tail_refusal (tail_base i e) w ≡ None) → First (λ c b. TailForm Usual i e c b v)
 tail_form_first i e None is fits l none =
-    let s = subst (λ (p : Presence). Stands (SpellsUnits i.kind p) Null) (sym l) (null_units_stand i.kind) in
+    let s = subst (λ (p : Presence). Stands (SpellsUnits Usual i.kind p) Null) (sym l) (null_units_stand i.kind) in
     (s.0, tail_null_is_first i e s.0 s.1)
 tail_form_first i e (Some v) is fits l none =
     let base = long_enough (tail_base i e) v (none v refl) in
@@ -268,12 +269,12 @@ constant_is p (Some w) v e = same ((scalar_eq.eq-value).it v w) refl e
     same true h e = ap (λ (x : Scalar). Some x) (scalar_eq-exact v w h)
     same false h e = absurd cc
 
-pub constant_is_first : (i : FieldPart) (e : Entry) (v : Scalar) → Some v ≡ i.initial → IsFirst (λ c b. FormOf operator.Constant i e true c b (Some v)) []
-constant_is_first i e v is = shortest_is_first (λ c b. FormOf operator.Constant i e true c b (Some v)) [] (refl, refl, is) (λ c o f. (f.0, omega arith))
+pub constant_is_first : (i : FieldPart) (e : Entry) (v : Scalar) → Some v ≡ i.initial → IsFirst (λ c b. FormOf Usual operator.Constant i e true c b (Some v)) []
+constant_is_first i e v is = shortest_is_first (λ c b. FormOf Usual operator.Constant i e true c b (Some v)) [] (refl, refl, is) (λ c o f. (f.0, omega arith))
 
 -- under bit 1, where bit 0 does not give the value
 under_one : (o : Operator) (i : FieldPart) (e : Entry) (v : Option Scalar) → i.operator ≡ o → IsFieldPart i → HoldsScalar e → IsOfField i v → ((w : Scalar) → v ≡ Some w → operator_refusal o i e w ≡ None) → left_out_of o i e v ≡ false
-    → First (λ c b. FormOf o i e true c b v)
+    → First (λ c b. FormOf Usual o i e true c b v)
 under_one operator.Plain i e v o is h l none out = value_first i v l
 under_one operator.Default i e v o is h l none out = value_first i v l
 under_one operator.Copy i e v o is h l none out = value_first i v l
@@ -283,10 +284,10 @@ under_one operator.Constant i e (Some v) o is h l none out = ([], constant_is_fi
 under_one operator.Delta i e v o is h l none out = delta_first i e v is h l none
 under_one operator.Tail i e v o is h l none out = tail_form_first i e v is (subst (λ (x : Operator). IsTrue (applies x i.kind)) o is.typed.operator_applies) l none
 
-pub best_under_one : (i : FieldPart) (e : Entry) (v : Option Scalar) (best : List ℕ) → IsWithin i.part v → IsFirst (λ c b. FormOf i.operator i e true c b v) best → left_out_of i.operator i e v ≡ false → IsBest i e true best v
+pub best_under_one : (i : FieldPart) (e : Entry) (v : Option Scalar) (best : List ℕ) → IsWithin i.part v → IsFirst (λ c b. FormOf Usual i.operator i e true c b v) best → left_out_of i.operator i e v ≡ false → IsBest i e true best v
 best_under_one i e v best within f out = record { cut = f.cut; form = record { row = f.form; within = within }; first = later }
   where
-    later : (bit : Bool) (c : Cut) (b : List ℕ) → FormBy i e bit c b v → NoLater true (length best) f.cut bit (length b) c
+    later : (bit : Bool) (c : Cut) (b : List ℕ) → FormBy Usual i e bit c b v → NoLater true (length best) f.cut bit (length b) c
     later true c b h = f.first c b h.row
     later false c b h = absurd (let w = can_be_left_out i.operator i e c b v h.row in cc)
 
@@ -334,7 +335,7 @@ range_of_value : (i : FieldPart) (v : Option Scalar) → IsFieldValue i v → Ha
 range_of_value i None h = tt
 range_of_value i (Some v) h = range_of_scalar v h.of_field.1
 
-pub form_has_best : (i : FieldPart) (e : Entry) (bit : Bool) (b : List ℕ) (v : Option Scalar) → IsFieldPart i → HoldsScalar e → Form i e bit b v → (bit : Bool) × (b : List ℕ) × IsBest i e bit b v
+pub form_has_best : (i : FieldPart) (e : Entry) (bit : Bool) (b : List ℕ) (v : Option Scalar) → IsFieldPart i → HoldsScalar e → Form Usual i e bit b v → (bit : Bool) × (b : List ℕ) × IsBest i e bit b v
 form_has_best i e bit b v is h f = best_stands i e v is h (range_of_value i v (values_within i e bit b v is h f)) (not_refused i e bit b v is h f)
 
 -- ---- no form is shorter
@@ -357,11 +358,11 @@ size_no_later bit bit' n n' c c' empty (inr h) = elim h.1 [
   | inr same ↦ let e = same.0 in omega arith
 ]
 
-no_bytes : (i : FieldPart) (e : Entry) (bit : Bool) (cut : Cut) (b : List ℕ) (v : Option Scalar) → FormOf i.operator i e bit cut b v → bit ≡ false → length b ≡ 0
+no_bytes : (i : FieldPart) (e : Entry) (bit : Bool) (cut : Cut) (b : List ℕ) (v : Option Scalar) → FormOf Usual i.operator i e bit cut b v → bit ≡ false → length b ≡ 0
 no_bytes i e false cut b v f is = rw (bit_zero_row i.operator i e cut b v f).1 refl
 no_bytes i e true cut b v f is = absurd cc
 
-pub none_shorter : (i : FieldPart) (e : Entry) (bit other : Bool) (b c : List ℕ) (v : Option Scalar) → IsBest i e bit b v → Form i e other c v → (other ≡ false → bit ≡ false) × (length b ≤ length c)
+pub none_shorter : (i : FieldPart) (e : Entry) (bit other : Bool) (b c : List ℕ) (v : Option Scalar) → IsBest i e bit b v → Form Usual i e other c v → (other ≡ false → bit ≡ false) × (length b ≤ length c)
 none_shorter i e bit other b c v best f =
     let later = best.first other f.0 c f.1 in
     (bit_no_later bit other (length b) (length c) best.cut f.0 later, size_no_later bit other (length b) (length c) best.cut f.0 (no_bytes i e bit best.cut b v best.form.row) later)

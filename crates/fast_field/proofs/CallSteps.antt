@@ -3,6 +3,8 @@ use Rattle.std.proofs.Common.{◌≡◌, ℕ, Bool, true, false, List, Result, O
 use Rattle.std.specs.Prelude.{IsUtf8}
 use Rattle.std.specs.Str.{is_utf8}
 use Rattle.std.proofs.lemmas.Str.{is_utf8-from_IsUtf8, IsUtf8-from_is_utf8}
+use Rattle.fast_wire.specs.Level.{verdict}
+use Rattle.fast_wire.specs.declared.level.Level.{Level}
 use Rattle.fast_wire.specs.Reading.{◌>>=◌, Fails, NothingElse}
 use Rattle.fast_wire.specs.declared.fault.WireFault.{WireFault}
 use Rattle.fast_value.specs.declared.kind.Kind.{Kind}
@@ -25,6 +27,11 @@ pub wire_fails : {A : Type 0} (e : WireFault) (r : Result A WireFault) → Fails
 wire_fails e r (inl h) = rw h refl
 wire_fails e r (inr h) = absurd h
 
+-- an entity that was looked for and is not there
+pub verdict_fails : (e : WireFault) (overlong : List ℕ → Bool) (f : FieldFault) (r : Result (List ℕ × List ℕ) WireFault) → Fails NothingElse e r → verdict overlong field_fault f r ≡ Err (field_fault e)
+verdict_fails e overlong f r (inl h) = rw h refl
+verdict_fails e overlong f r (inr h) = absurd h
+
 -- a first step that failed, where what follows needs no more bytes
 pub refused_then : {A B : Type 0} (e : FieldFault) (r : Result A FieldFault) (k : A → Result B FieldFault) → Fails OrRefused e r → ((x : A) → IsOther fault.NeedMore (k x)) → Fails OrRefused e (r >>= k)
 refused_then e r k (inl h) behind = inl (rw h refl)
@@ -46,13 +53,13 @@ unicode_refused k s e never = rw (e, no_text s (is_utf8 s) never refl) refl
 
 -- ---- strings
 
-pub string_fails : (e : FieldFault) (k : Kind) (p : Presence) (bytes : List ℕ) → Fails OrRefused e (units_at k p bytes) → Fails OrRefused e (units_spelled_at k p bytes)
+pub string_fails : (level : Level) (e : FieldFault) (k : Kind) (p : Presence) (bytes : List ℕ) → Fails OrRefused e (units_at level k p bytes) → Fails OrRefused e (units_spelled_at level k p bytes)
 unfolding units_spelled_at
-string_fails e k p bytes h = refused_then e (units_at k p bytes) _ h (λ s. null_or fault.NeedMore s.0 s.1 _ (λ s rest. value fault.NeedMore _ rest (unit_made fault.NeedMore tt k s)))
+string_fails level e k p bytes h = refused_then e (units_at level k p bytes) _ h (λ s. null_or fault.NeedMore s.0 s.1 _ (λ s rest. value fault.NeedMore _ rest (unit_made fault.NeedMore tt k s)))
 
-pub row_fails : (e : FieldFault) (i : FieldPart) (kept : Entry) (bit : Bool) (bytes : List ℕ) → Fails OrRefused e (row_at i.operator i kept bit bytes) → Fails OrRefused e (field_at i kept bit bytes)
+pub row_fails : (level : Level) (e : FieldFault) (i : FieldPart) (kept : Entry) (bit : Bool) (bytes : List ℕ) → Fails OrRefused e (row_at level i.operator i kept bit bytes) → Fails OrRefused e (field_at level i kept bit bytes)
 unfolding field_at
-row_fails e i kept bit bytes h =
-    refused_then e (row_at i.operator i kept bit bytes) _ h (λ x. other_then fault.NeedMore (part_checked i.part x.0) _ (part_allowed fault.NeedMore tt i.part x.0) (λ v. done fault.NeedMore _))
+row_fails level e i kept bit bytes h =
+    refused_then e (row_at level i.operator i kept bit bytes) _ h (λ x. other_then fault.NeedMore (part_checked i.part x.0) _ (part_allowed fault.NeedMore tt i.part x.0) (λ v. done fault.NeedMore _))
 
-pub ruleset call_steps = (wire_fails, unicode_value, unicode_refused)
+pub ruleset call_steps = (wire_fails, verdict_fails, unicode_value, unicode_refused)

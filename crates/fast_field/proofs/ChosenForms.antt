@@ -2,6 +2,7 @@
 use Rattle.std.proofs.Common.{◌≡◌, ℕ, ◌-◌, ◌<◌, ◌≤◌, Bool, true, false, List, [], ◌∷◌, ◌++◌, length, take, drop, refl, subst, arith, Ok, Err, Result, length-append}
 use Rattle.std.specs.Prelude.{ℤ, pos, negsuc, ◌-ℤ◌, Option, Some, None, IsTrue}
 use Rattle.std.specs.List.{AllByRecursion}
+use Rattle.fast_wire.specs.declared.level.Level.TheVariants.{Usual}
 use Rattle.fast_wire.specs.Nullable.{IsUnsignedNullable, IsSignedNullable}
 use Rattle.fast_wire.specs.Writing.{IsShortest}
 use Rattle.fast_wire.specs.declared.nullable.Nullable.TheVariants.{Null}
@@ -63,15 +64,15 @@ null_is_byte b h =
     let some = entity_some b h.form.entity in
     unsigned_nullable_sizes.one b null_byte Null h.form unsigned_null (omega (arith, most, some))
 
-null_integer : (u : Bool) → IsShortest (SpellsInteger u Optional) null_byte Null
+null_integer : (u : Bool) → IsShortest (SpellsInteger Usual u Optional) null_byte Null
 null_integer true = record { form = unsigned_null; least = λ o h. entity_some o h.entity }
 null_integer false = record { form = signed_null; least = λ o h. entity_some o h.entity }
 
-null_units : (k : Kind) → IsShortest (SpellsUnits k Optional) null_byte Null
+null_units : (k : Kind) → IsShortest (SpellsUnits Usual k Optional) null_byte Null
 null_units kind.Ascii = record { form = ascii_null_shortest.form; least = ascii_null_shortest.least }
 null_units k = record { form = vector_null_shortest.form; least = vector_null_shortest.least }
 
-null_spelled : (k : Kind) → IsShortest (Spelled k Optional) null_byte None
+null_spelled : (k : Kind) → IsShortest (Spelled Usual k Optional) null_byte None
 null_spelled kind.UInt32 = record { form = (null_integer true).form; least = (null_integer true).least }
 null_spelled kind.Int32 = record { form = (null_integer false).form; least = (null_integer false).least }
 null_spelled kind.UInt64 = record { form = (null_integer true).form; least = (null_integer true).least }
@@ -81,7 +82,7 @@ null_spelled kind.Ascii = record { form = (null_units kind.Ascii).form; least = 
 null_spelled kind.Unicode = record { form = (null_units kind.Unicode).form; least = (null_units kind.Unicode).least }
 null_spelled kind.Bytes = record { form = (null_units kind.Bytes).form; least = (null_units kind.Bytes).least }
 
-null_first : (o : Operator) (i : FieldPart) (e : Entry) → i.presence ≡ Optional → left_out_of o i e None ≡ false → IsFirst (λ c b. FormOf o i e true c b None) null_byte
+null_first : (o : Operator) (i : FieldPart) (e : Entry) → i.presence ≡ Optional → left_out_of o i e None ≡ false → IsFirst (λ c b. FormOf Usual o i e true c b None) null_byte
 null_first operator.Plain i e p out = whole_is_first i.kind i.presence None null_byte (rw p (null_spelled i.kind))
 null_first operator.Default i e p out = whole_is_first i.kind i.presence None null_byte (rw p (null_spelled i.kind))
 null_first operator.Copy i e p out = whole_is_first i.kind i.presence None null_byte (rw p (null_spelled i.kind))
@@ -92,7 +93,7 @@ null_first operator.Tail i e p out = tail_null_is_first i e null_byte (rw p (nul
 
 -- ---- what stands whole
 
-pub whole_shortest : (k : Kind) (p : Presence) (v : Scalar) (b : List ℕ) → IsOfType k v → ShortestWhole p v b → IsShortest (Spelled k p) b (Some v)
+pub whole_shortest : (k : Kind) (p : Presence) (v : Scalar) (b : List ℕ) → IsOfType k v → ShortestWhole p v b → IsShortest (Spelled Usual k p) b (Some v)
 whole_shortest kind.UInt32 p (U32 n) b h s = number_is_shortest kind.UInt32 p (U32 n) b refl h (unsigned_form p n b s)
 whole_shortest kind.UInt64 p (U64 n) b h s = number_is_shortest kind.UInt64 p (U64 n) b refl h (unsigned_form p n b s)
 whole_shortest kind.Int32 p (I32 z) b h s = number_is_shortest kind.Int32 p (I32 z) b refl h (signed_form p z b s)
@@ -103,31 +104,31 @@ whole_shortest kind.Unicode p (Unicode t) b h s = string_is_shortest kind.Unicod
 whole_shortest kind.Bytes p (Bytes t) b h s = string_is_shortest kind.Bytes p (Bytes t) b tt h (units_form kind.Bytes p t b s)
 whole_shortest k p v b h s = absurd (let e = h.0 in cc)
 
-whole_first : (i : FieldPart) (v : Scalar) (x : Pieces) (b : List ℕ) → IsOfType i.kind v → IsWhole v x → ShortestPieces i x b → IsFirst (λ c b. (c ≡ uncut) × Spelled i.kind i.presence b (Some v)) b
+whole_first : (i : FieldPart) (v : Scalar) (x : Pieces) (b : List ℕ) → IsOfType i.kind v → IsWhole v x → ShortestPieces i x b → IsFirst (λ c b. (c ≡ uncut) × Spelled Usual i.kind i.presence b (Some v)) b
 whole_first i v (pieces.Whole w) b h made s = whole_is_first i.kind i.presence (Some v) b (whole_shortest i.kind i.presence v b h (subst (λ (y : Scalar). ShortestWhole i.presence y b) made s))
 whole_first i v x b h made s = absurd made
 
 -- ---- deltas
 
-pub number_value : (k : Kind) (p : Presence) (base v : Scalar) (b : List ℕ) → IsTrue (is_integer k) → IsOfType k v → ShortestSigned p (integer_of v -ℤ integer_of base) b → IsFirst (λ c b. DeltaValue k p base c b v) b
+pub number_value : (k : Kind) (p : Presence) (base v : Scalar) (b : List ℕ) → IsTrue (is_integer k) → IsOfType k v → ShortestSigned p (integer_of v -ℤ integer_of base) b → IsFirst (λ c b. DeltaValue Usual k p base c b v) b
 number_value kind.UInt32 p base v b i l s = number_delta_is_first kind.UInt32 p base v b i l s
 number_value kind.Int32 p base v b i l s = number_delta_is_first kind.Int32 p base v b i l s
 number_value kind.UInt64 p base v b i l s = number_delta_is_first kind.UInt64 p base v b i l s
 number_value kind.Int64 p base v b i l s = number_delta_is_first kind.Int64 p base v b i l s
 number_value k p base v b i l s = absurd cc
 
-pub decimal_value : (k : Kind) (p : Presence) (base v : Scalar) (b : List ℕ) → k ≡ kind.Decimal → IsOfType k v → ShortestPair p (exponent_of v -ℤ exponent_of base) (mantissa_of v -ℤ mantissa_of base) b → IsFirst (λ c b. DeltaValue k p base c b v) b
+pub decimal_value : (k : Kind) (p : Presence) (base v : Scalar) (b : List ℕ) → k ≡ kind.Decimal → IsOfType k v → ShortestPair p (exponent_of v -ℤ exponent_of base) (mantissa_of v -ℤ mantissa_of base) b → IsFirst (λ c b. DeltaValue Usual k p base c b v) b
 decimal_value kind.Decimal p base v b i l s = decimal_delta_is_first p base v b l s
 decimal_value k p base v b i l s = absurd cc
 
 pub string_value : (k : Kind) (p : Presence) (base v : Scalar) (removal : ℤ) (part b : List ℕ) → IsUnitKind k → IsOfType k base → IsOfType k v → IsBestCut k p (units_of base) (units_of v) removal part → Both (ShortestSigned p removal) (ShortestPart k part) b
-    → IsFirst (λ c b. DeltaValue k p base c b v) b
+    → IsFirst (λ c b. DeltaValue Usual k p base c b v) b
 string_value kind.Ascii p base v removal part b u h l best s = cut_is_first kind.Ascii p base v removal part b u h l best s
 string_value kind.Unicode p base v removal part b u h l best s = cut_is_first kind.Unicode p base v removal part b u h l best s
 string_value kind.Bytes p base v removal part b u h l best s = cut_is_first kind.Bytes p base v removal part b u h l best s
 string_value k p base v removal part b u h l best s = absurd u
 
-delta_value : (i : FieldPart) (base v : Scalar) (x : Pieces) (b : List ℕ) → IsOfType i.kind base → IsOfType i.kind v → IsDelta i.kind i.presence base v x → ShortestPieces i x b → IsFirst (λ c b. DeltaValue i.kind i.presence base c b v) b
+delta_value : (i : FieldPart) (base v : Scalar) (x : Pieces) (b : List ℕ) → IsOfType i.kind base → IsOfType i.kind v → IsDelta i.kind i.presence base v x → ShortestPieces i x b → IsFirst (λ c b. DeltaValue Usual i.kind i.presence base c b v) b
 delta_value i base v (pieces.Difference d) b h l made s = number_value i.kind i.presence base v b made.0 l (subst (λ (z : ℤ). ShortestSigned i.presence z b) made.1 s)
 delta_value i base v (pieces.Differences e m) b h l made s =
     decimal_value i.kind i.presence base v b made.0 l
@@ -139,32 +140,32 @@ on_base : (r : Result Scalar FieldFault) (P : Scalar → Type 0) → OnBase r P 
 on_base (Ok base) P h = (base, refl, h)
 on_base (Err f) P h = absurd h
 
-delta_first : (i : FieldPart) (e : Entry) (v : Scalar) (x : Pieces) (b : List ℕ) → IsFieldPart i → HoldsScalar e → IsOfType i.kind v → IsMadeOf operator.Delta i e v x → ShortestPieces i x b → IsFirst (λ c b. DeltaForm i e c b (Some v)) b
+delta_first : (i : FieldPart) (e : Entry) (v : Scalar) (x : Pieces) (b : List ℕ) → IsFieldPart i → HoldsScalar e → IsOfType i.kind v → IsMadeOf operator.Delta i e v x → ShortestPieces i x b → IsFirst (λ c b. DeltaForm Usual i e c b (Some v)) b
 delta_first i e v x b is h l made s =
     let base = on_base (delta_base i e) (λ base. IsDelta i.kind i.presence base v x) made in
     delta_is_first i e base.0 v b base.1 (delta_value i base.0 v x b (delta_base_within i e base.0 is h base.1) l base.2 s)
 
 -- ---- tails
 
-tail_value : (i : FieldPart) (base v : Scalar) (x : Pieces) (b : List ℕ) → IsUnitKind i.kind → IsOfType i.kind v → IsTail i.kind i.presence base v x → ShortestPieces i x b → IsFirst (λ c b. SpellsTail i.kind i.presence base c b v) b
+tail_value : (i : FieldPart) (base v : Scalar) (x : Pieces) (b : List ℕ) → IsUnitKind i.kind → IsOfType i.kind v → IsTail i.kind i.presence base v x → ShortestPieces i x b → IsFirst (λ c b. SpellsTail Usual i.kind i.presence base c b v) b
 tail_value i base v (pieces.Tail t) b u l made s = tail_is_first i.kind i.presence base v t.now b u l made s
 tail_value i base v x b u l made s = absurd made
 
-tail_first : (i : FieldPart) (e : Entry) (v : Scalar) (x : Pieces) (b : List ℕ) → IsTrue (applies operator.Tail i.kind) → IsOfType i.kind v → IsMadeOf operator.Tail i e v x → ShortestPieces i x b → IsFirst (λ c b. TailForm i e c b (Some v)) b
+tail_first : (i : FieldPart) (e : Entry) (v : Scalar) (x : Pieces) (b : List ℕ) → IsTrue (applies operator.Tail i.kind) → IsOfType i.kind v → IsMadeOf operator.Tail i e v x → ShortestPieces i x b → IsFirst (λ c b. TailForm Usual i e c b (Some v)) b
 tail_first i e v x b fits l made s =
     let base = on_base (tail_base i e) (λ base. IsTail i.kind i.presence base v x) made in
     tail_form_is_first i e base.0 v b base.1 (tail_value i base.0 v x b (unit_kind i.kind fits) l base.2 s)
 
 -- ---- constants
 
-constant_first : (i : FieldPart) (e : Entry) (v : Scalar) (x : Pieces) (b : List ℕ) → operator_refusal operator.Constant i e v ≡ None → IsNothing x → ShortestPieces i x b → IsFirst (λ c b. FormOf operator.Constant i e true c b (Some v)) b
+constant_first : (i : FieldPart) (e : Entry) (v : Scalar) (x : Pieces) (b : List ℕ) → operator_refusal operator.Constant i e v ≡ None → IsNothing x → ShortestPieces i x b → IsFirst (λ c b. FormOf Usual operator.Constant i e true c b (Some v)) b
 constant_first i e v pieces.Nothing b none made s = rw s (constant_is_first i e v (constant_is i.part i.initial v none))
 constant_first i e v x b none made s = absurd made
 
 -- ---- all operators
 
 chosen_first : (o : Operator) (i : FieldPart) (e : Entry) (v : Scalar) (x : Pieces) (b : List ℕ) → IsTrue (applies o i.kind) → IsFieldPart i → HoldsScalar e → IsOfType i.kind v → operator_refusal o i e v ≡ None → IsMadeOf o i e v x → ShortestPieces i x b
-    → IsFirst (λ c b. FormOf o i e true c b (Some v)) b
+    → IsFirst (λ c b. FormOf Usual o i e true c b (Some v)) b
 chosen_first operator.Plain i e v x b a is h l none made s = whole_first i v x b l made s
 chosen_first operator.Default i e v x b a is h l none made s = whole_first i v x b l made s
 chosen_first operator.Copy i e v x b a is h l none made s = whole_first i v x b l made s

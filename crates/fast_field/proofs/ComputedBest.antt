@@ -5,6 +5,7 @@ use Rattle.std.specs.Prelude.{ℤ, pos, negsuc, nat_le, nat_lt, ◌&&◌, Option
 use Rattle.std.specs.List.{AllByRecursion}
 use Rattle.std.proofs.lemmas.Bool.Decides.{nat_tests}
 use Rattle.std.proofs.lemmas.List.{append-nil}
+use Rattle.fast_wire.specs.declared.level.Level.TheVariants.{Usual}
 use Rattle.fast_wire.specs.Reader.{IsReader}
 use Rattle.fast_wire.specs.Sizes.{ascii_size}
 use Rattle.fast_wire.specs.declared.nullable.Nullable.TheVariants.{Value}
@@ -61,20 +62,20 @@ read_is_form wait read Form is b x bytes e =
     let t = is.found b x [] (all_below_is 256 b bytes) e in
     subst (λ (z : List ℕ). Form z x) (sym (t.parts ∙ append-nil t.front)) t.form
 
-signed_read : (p : Presence) (z : ℤ) (b : List ℕ) → all_below 256 b ≡ true → integer_at false p b ≡ Ok (Value z, []) → length b ≡ length_size p z → ShortestSigned p z b
+signed_read : (p : Presence) (z : ℤ) (b : List ℕ) → all_below 256 b ≡ true → integer_at Usual false p b ≡ Ok (Value z, []) → length b ≡ length_size p z → ShortestSigned p z b
 signed_read Mandatory z b bytes e n =
-    record { form = read_is_form fault.NeedMore _ _ (integer_forms false Mandatory) b (Value z) bytes e; least = λ o f. rw n (length_least Mandatory z o f) }
+    record { form = read_is_form fault.NeedMore _ _ (integer_forms Usual false Mandatory) b (Value z) bytes e; least = λ o f. rw n (length_least Mandatory z o f) }
 signed_read Optional z b bytes e n =
-    record { form = read_is_form fault.NeedMore _ _ (integer_forms false Optional) b (Value z) bytes e; least = λ o f. rw n (length_least Optional z o f) }
+    record { form = read_is_form fault.NeedMore _ _ (integer_forms Usual false Optional) b (Value z) bytes e; least = λ o f. rw n (length_least Optional z o f) }
 
-text_read : (s b : List ℕ) → all_below 256 b ≡ true → part_at kind.Ascii b ≡ Ok (s, []) → length b ≡ ascii_size s → ShortestPart kind.Ascii s b
-text_read s b bytes e n = record { form = read_is_form fault.NeedMore _ _ (part_forms kind.Ascii) b s bytes e; least = λ o f. rw n (part_least kind.Ascii s o f) }
+text_read : (s b : List ℕ) → all_below 256 b ≡ true → part_at Usual kind.Ascii b ≡ Ok (s, []) → length b ≡ ascii_size s → ShortestPart kind.Ascii s b
+text_read s b bytes e n = record { form = read_is_form fault.NeedMore _ _ (part_forms Usual kind.Ascii) b s bytes e; least = λ o f. rw n (part_least kind.Ascii s o f) }
 
-texts_read : (p : Presence) (s b : List ℕ) → all_below 256 b ≡ true → units_at kind.Ascii p b ≡ Ok (Value s, []) → length b ≡ tail_size kind.Ascii p s → ShortestUnits kind.Ascii p s b
+texts_read : (p : Presence) (s b : List ℕ) → all_below 256 b ≡ true → units_at Usual kind.Ascii p b ≡ Ok (Value s, []) → length b ≡ tail_size kind.Ascii p s → ShortestUnits kind.Ascii p s b
 texts_read Mandatory s b bytes e n =
-    record { form = read_is_form fault.NeedMore _ _ (units_forms kind.Ascii Mandatory) b (Value s) bytes e; least = λ o f. rw n (tail_least kind.Ascii Mandatory s o f) }
+    record { form = read_is_form fault.NeedMore _ _ (units_forms Usual kind.Ascii Mandatory) b (Value s) bytes e; least = λ o f. rw n (tail_least kind.Ascii Mandatory s o f) }
 texts_read Optional s b bytes e n =
-    record { form = read_is_form fault.NeedMore _ _ (units_forms kind.Ascii Optional) b (Value s) bytes e; least = λ o f. rw n (tail_least kind.Ascii Optional s o f) }
+    record { form = read_is_form fault.NeedMore _ _ (units_forms Usual kind.Ascii Optional) b (Value s) bytes e; least = λ o f. rw n (tail_least kind.Ascii Optional s o f) }
 
 -- ---- deltas of a text
 
@@ -103,8 +104,8 @@ cut_is p base v true e = best_at_end kind.Ascii p base v (agree_front base v) (a
 cut_is p base v false e = best_in_front kind.Ascii p base v (agree_front base v) (agree_back base v) (front_agrees base v) (back_agrees base v) (fewer _ _ e)
 
 pub delta_row : (p : Presence) (initial : Option Scalar) (e : Entry) (base v front back : List ℕ) (t : Bool) → delta_base (part_of Whole kind.Ascii p Delta initial) e ≡ Ok (Ascii base) → is_text base ≡ true → is_text v ≡ true
-    → ends_first p base v ≡ t → all_below 256 front ≡ true → integer_at false p front ≡ Ok (Value (removal_by t base v), []) → length front ≡ length_size p (removal_by t base v)
-    → all_below 256 back ≡ true → part_at kind.Ascii back ≡ Ok (part_by t base v, []) → length back ≡ ascii_size (part_by t base v)
+    → ends_first p base v ≡ t → all_below 256 front ≡ true → integer_at Usual false p front ≡ Ok (Value (removal_by t base v), []) → length front ≡ length_size p (removal_by t base v)
+    → all_below 256 back ≡ true → part_at Usual kind.Ascii back ≡ Ok (part_by t base v, []) → length back ≡ ascii_size (part_by t base v)
     → IsBest (part_of Whole kind.Ascii p Delta initial) e true (front ++ back) (Some (Ascii v))
 delta_row p initial e base v front back t is base_text text end front_bytes removal front_size back_bytes part back_size =
     let i = part_of Whole kind.Ascii p Delta initial in
@@ -143,7 +144,7 @@ tail_is p base v true long e =
 tail_is p base v false long e = shortest_is_best kind.Ascii p base v (agree_front base v) (front_agrees base v) long (not_below _ _ _ e)
 
 pub tail_row : (p : Presence) (initial : Option Scalar) (e : Entry) (base v b : List ℕ) (t : Bool) → tail_base (part_of Whole kind.Ascii p Tail initial) e ≡ Ok (Ascii base) → is_text v ≡ true → length v ≡ length base
-    → more_first p base v ≡ t → all_below 256 b ≡ true → units_at kind.Ascii p b ≡ Ok (Value (tail_by t base v), []) → length b ≡ tail_size kind.Ascii p (tail_by t base v)
+    → more_first p base v ≡ t → all_below 256 b ≡ true → units_at Usual kind.Ascii p b ≡ Ok (Value (tail_by t base v), []) → length b ≡ tail_size kind.Ascii p (tail_by t base v)
     → left_out_of Tail (part_of Whole kind.Ascii p Tail initial) e (Some (Ascii v)) ≡ false → IsBest (part_of Whole kind.Ascii p Tail initial) e true b (Some (Ascii v))
 tail_row p initial e base v b t is text long more bytes tail size out =
     let i = part_of Whole kind.Ascii p Tail initial in

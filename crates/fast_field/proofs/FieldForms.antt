@@ -1,6 +1,7 @@
 -- The forms of each operator are read, and nothing else is.
 use Rattle.std.proofs.Common.{◌≡◌, ℕ, Bool, true, false, List, [], ◌++◌, Result, Ok, Err, refl, sym, ap, subst}
 use Rattle.std.specs.Prelude.{Option, Some, None, IsSome}
+use Rattle.fast_wire.specs.declared.level.Level.{Level}
 use Rattle.fast_wire.specs.Reader.{IsBytes, IsReader}
 use Rattle.fast_wire.specs.Reading.{◌>>=◌}
 use Rattle.fast_wire.proofs.Readers.{ok_is, reader_of, reader_as, reader_checked, one_form, no_form}
@@ -28,16 +29,16 @@ use Rattle.fast_field.proofs.BaseForms.{deltas, tails}
 abbrev done : {A : Type 0} → A → Result A FieldFault
 done x = Ok x
 
-abbrev Row : Operator → FieldPart → Entry → Bool → List ℕ → Option Scalar → Type 0
-Row o i e bit b v = (cut : Cut) × FormOf o i e bit cut b v
+abbrev Row : (level : Level) → Operator → FieldPart → Entry → Bool → List ℕ → Option Scalar → Type 0
+Row level o i e bit b v = (cut : Cut) × FormOf level o i e bit cut b v
 
 -- ---- the rows
 
-whole_row : (i : FieldPart) → IsReader fault.NeedMore (whole_at i) (λ b v. (cut : Cut) × ((cut ≡ uncut) × Spelled i.kind i.presence b v))
+whole_row : (level : Level) → (i : FieldPart) → IsReader fault.NeedMore (whole_at level i) (λ b v. (cut : Cut) × ((cut ≡ uncut) × Spelled level i.kind i.presence b v))
 unfolding whole_at
-whole_row i =
-    reader_as fault.NeedMore (whole_at i) (Spelled i.kind i.presence) (λ b v. (cut : Cut) × ((cut ≡ uncut) × Spelled i.kind i.presence b v)) (λ b v h. (uncut, (refl, h))) (λ b v h. h.1.1)
-    (spelled_forms i.part i.kind i.presence)
+whole_row level i =
+    reader_as fault.NeedMore (whole_at level i) (Spelled level i.kind i.presence) (λ b v. (cut : Cut) × ((cut ≡ uncut) × Spelled level i.kind i.presence b v)) (λ b v h. (uncut, (refl, h))) (λ b v h. h.1.1)
+    (spelled_forms level i.part i.kind i.presence)
 
 -- a value that takes no bytes
 given : (m : Result (Option Scalar) FieldFault) (Is : Cut → List ℕ → Option Scalar → Type 0) → ((v : Option Scalar) → m ≡ Ok v → Is uncut [] v) → ((cut : Cut) (b : List ℕ) (v : Option Scalar) → Is cut b v → (b ≡ []) × (m ≡ Ok v))
@@ -75,22 +76,22 @@ initial_from : (i : FieldPart) (v : Option Scalar) → InitialOrAbsent i v → i
 initial_from i None h = h.0
 initial_from i (Some v) h = h
 
-row : (o : Operator) (i : FieldPart) (e : Entry) (bit : Bool) → (operator_needs_bit o i.presence ≡ false → bit ≡ true) → (o ≡ operator.Default → i.presence ≡ Mandatory → IsSome i.initial) → IsReader fault.NeedMore (row_at o i e bit) (Row o i e bit)
+row : (level : Level) → (o : Operator) (i : FieldPart) (e : Entry) (bit : Bool) → (operator_needs_bit o i.presence ≡ false → bit ≡ true) → (o ≡ operator.Default → i.presence ≡ Mandatory → IsSome i.initial) → IsReader fault.NeedMore (row_at level o i e bit) (Row level o i e bit)
 unfolding row_at
-row operator.Plain i e false h d = let b = h refl in absurd cc
-row operator.Plain i e true h d = whole_row i
-row operator.Constant i e false h d = given (done None) (λ cut b v. FormOf operator.Constant i e false cut b v) (λ v w. (refl, refl, optional_constant i.presence h, made_so None v w)) (λ cut b v w. (w.1, so_made None v w.3))
-row operator.Constant i e true h d = given (done i.initial) (λ cut b v. FormOf operator.Constant i e true cut b v) (λ v w. (refl, refl, made_so i.initial v w)) (λ cut b v w. (w.1, so_made i.initial v w.2))
-row operator.Default i e false h d = given (done i.initial) (λ cut b v. FormOf operator.Default i e false cut b v) (λ v w. (refl, refl, initial_to i v (d refl) (sym (made_so i.initial v w)))) (λ cut b v w. (w.1, so_made i.initial v (sym (initial_from i v w.2))))
-row operator.Default i e true h d = whole_row i
-row operator.Copy i e false h d = predicted_row i e
-row operator.Copy i e true h d = whole_row i
-row operator.Increment i e false h d = predicted_row i e
-row operator.Increment i e true h d = whole_row i
-row operator.Delta i e false h d = let b = h refl in absurd cc
-row operator.Delta i e true h d = deltas i e
-row operator.Tail i e false h d = predicted_row i e
-row operator.Tail i e true h d = tails i e
+row level operator.Plain i e false h d = let b = h refl in absurd cc
+row level operator.Plain i e true h d = whole_row level i
+row level operator.Constant i e false h d = given (done None) (λ cut b v. FormOf level operator.Constant i e false cut b v) (λ v w. (refl, refl, optional_constant i.presence h, made_so None v w)) (λ cut b v w. (w.1, so_made None v w.3))
+row level operator.Constant i e true h d = given (done i.initial) (λ cut b v. FormOf level operator.Constant i e true cut b v) (λ v w. (refl, refl, made_so i.initial v w)) (λ cut b v w. (w.1, so_made i.initial v w.2))
+row level operator.Default i e false h d = given (done i.initial) (λ cut b v. FormOf level operator.Default i e false cut b v) (λ v w. (refl, refl, initial_to i v (d refl) (sym (made_so i.initial v w)))) (λ cut b v w. (w.1, so_made i.initial v (sym (initial_from i v w.2))))
+row level operator.Default i e true h d = whole_row level i
+row level operator.Copy i e false h d = predicted_row i e
+row level operator.Copy i e true h d = whole_row level i
+row level operator.Increment i e false h d = predicted_row i e
+row level operator.Increment i e true h d = whole_row level i
+row level operator.Delta i e false h d = let b = h refl in absurd cc
+row level operator.Delta i e true h d = deltas level i e
+row level operator.Tail i e false h d = predicted_row i e
+row level operator.Tail i e true h d = tails level i e
 
 -- ---- the limits of parts
 
@@ -110,31 +111,31 @@ checked_is part.Length (Some v) h = if_holds (within_part part.Length v) (Some v
 checked_is part.Whole (Some v) h = refl
 checked_is part.Mantissa (Some v) h = refl
 
-pub field_forms : (i : FieldPart) (e : Entry) (bit : Bool) → IsBitOf i bit → HasDefault i → IsReader fault.NeedMore (field_at i e bit) (Form i e bit)
+pub field_forms : (level : Level) → (i : FieldPart) (e : Entry) (bit : Bool) → IsBitOf i bit → HasDefault i → IsReader fault.NeedMore (field_at level i e bit) (Form level i e bit)
 unfolding field_at
-field_forms i e bit h d =
-    reader_as fault.NeedMore (field_at i e bit) (λ b y. (x : Option Scalar) × Row i.operator i e bit b x × (part_checked i.part x ≡ Ok y)) (Form i e bit)
-    (λ b y h. let w = checked_ok i.part h.0 y h.2 in subst (λ (y : Option Scalar). Form i e bit b y) w.0 (h.1.0, record { row = h.1.1; within = w.1 }))
+field_forms level i e bit h d =
+    reader_as fault.NeedMore (field_at level i e bit) (λ b y. (x : Option Scalar) × Row level i.operator i e bit b x × (part_checked i.part x ≡ Ok y)) (Form level i e bit)
+    (λ b y h. let w = checked_ok i.part h.0 y h.2 in subst (λ (y : Option Scalar). Form level i e bit b y) w.0 (h.1.0, record { row = h.1.1; within = w.1 }))
     (λ b y h. (y, (h.0, h.1.row), checked_is i.part y h.1.within))
-    (reader_checked fault.NeedMore (row_at i.operator i e bit) (part_checked i.part) (Row i.operator i e bit) (row i.operator i e bit h d))
+    (reader_checked fault.NeedMore (row_at level i.operator i e bit) (part_checked i.part) (Row level i.operator i e bit) (row level i.operator i e bit h d))
 
 -- ---- what follows
 
-pub one_field_form : (i : FieldPart) (e : Entry) (bit : Bool) → IsBitOf i bit → HasDefault i
-    → (b c rest others : List ℕ) (v w : Option Scalar) → Form i e bit b v → Form i e bit c w → b ++ rest ≡ c ++ others → (v ≡ w) × (rest ≡ others)
-one_field_form i e bit h d b c rest others v w = one_form fault.NeedMore (field_at i e bit) (Form i e bit) (field_forms i e bit h d) b c rest others v w
+pub one_field_form : (level : Level) → (i : FieldPart) (e : Entry) (bit : Bool) → IsBitOf i bit → HasDefault i
+    → (b c rest others : List ℕ) (v w : Option Scalar) → Form level i e bit b v → Form level i e bit c w → b ++ rest ≡ c ++ others → (v ≡ w) × (rest ≡ others)
+one_field_form level i e bit h d b c rest others v w = one_form fault.NeedMore (field_at level i e bit) (Form level i e bit) (field_forms level i e bit h d) b c rest others v w
 
-pub fault_is_no_form : (i : FieldPart) (e : Entry) (bit : Bool) → IsBitOf i bit → HasDefault i
-    → (bytes b rest : List ℕ) (v : Option Scalar) (f : FieldFault) → IsFieldFault i e bit bytes f → bytes ≡ b ++ rest → Form i e bit b v → ⊥
-fault_is_no_form i e bit h d bytes b rest v f = no_form fault.NeedMore (field_at i e bit) (Form i e bit) (field_forms i e bit h d) bytes b rest v f
+pub fault_is_no_form : (level : Level) → (i : FieldPart) (e : Entry) (bit : Bool) → IsBitOf i bit → HasDefault i
+    → (bytes b rest : List ℕ) (v : Option Scalar) (f : FieldFault) → IsFieldFault level i e bit bytes f → bytes ≡ b ++ rest → Form level i e bit b v → ⊥
+fault_is_no_form level i e bit h d bytes b rest v f = no_form fault.NeedMore (field_at level i e bit) (Form level i e bit) (field_forms level i e bit h d) bytes b rest v f
 
 ok_or_fault : {A : Type 0} (r : Result A FieldFault) → ((x : A) → r ≡ Ok x → ⊥) → (f : FieldFault) × (r ≡ Err f)
 ok_or_fault (Ok x) none = absurd (none x refl)
 ok_or_fault (Err f) none = (f, refl)
 
 -- a list that no form begins has a fault
-pub no_form_is_fault : (i : FieldPart) (e : Entry) (bit : Bool) → IsBitOf i bit → HasDefault i
-    → (bytes : List ℕ) → IsBytes bytes → ((b rest : List ℕ) (v : Option Scalar) → bytes ≡ b ++ rest → Form i e bit b v → ⊥) → (f : FieldFault) × IsFieldFault i e bit bytes f
-no_form_is_fault i e bit h d bytes fits none =
-    ok_or_fault (field_at i e bit bytes)
-    (λ x read. let t = (field_forms i e bit h d).found bytes x.0 x.1 fits read in none t.front x.1 x.0 t.parts t.form)
+pub no_form_is_fault : (level : Level) → (i : FieldPart) (e : Entry) (bit : Bool) → IsBitOf i bit → HasDefault i
+    → (bytes : List ℕ) → IsBytes bytes → ((b rest : List ℕ) (v : Option Scalar) → bytes ≡ b ++ rest → Form level i e bit b v → ⊥) → (f : FieldFault) × IsFieldFault level i e bit bytes f
+no_form_is_fault level i e bit h d bytes fits none =
+    ok_or_fault (field_at level i e bit bytes)
+    (λ x read. let t = (field_forms level i e bit h d).found bytes x.0 x.1 fits read in none t.front x.1 x.0 t.parts t.form)

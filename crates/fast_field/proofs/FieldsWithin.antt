@@ -6,6 +6,7 @@ use Rattle.std.specs.List.{AllByRecursion}
 use Rattle.std.proofs.lemmas.Bool.Decides.{nat_tests}
 use Rattle.std.proofs.lemmas.Int.{ints}
 use Rattle.std.proofs.lemmas.Str.{IsUtf8-from_is_utf8}
+use Rattle.fast_wire.specs.declared.level.Level.TheVariants.{Usual}
 use Rattle.fast_wire.proofs.Readers.{ok_is}
 use Rattle.fast_value.specs.Scalar.{is_of, is_integer, in_range, least_of, greatest_of, kind_of, of_integer, IsScalar}
 use Rattle.fast_template.specs.TemplateSets.{applies, IsInitial}
@@ -158,13 +159,13 @@ put_within : (P : ℕ → Type 0) (removal : ℤ) (base part : List ℕ) → All
 put_within P (pos n) base part h l = all_append P (take (length base - n) base) part (all_take P (length base - n) base h) l
 put_within P (negsuc n) base part h l = all_append P part (drop n base) l (all_drop P n base h)
 
-cut_within : (k : Kind) (p : Presence) (base : Scalar) (cut : Cut) (b : List ℕ) (v : Scalar) → IsUnitKind k → IsOfType k base → SpellsCut k p base cut b v → IsOfType k v
+cut_within : (k : Kind) (p : Presence) (base : Scalar) (cut : Cut) (b : List ℕ) (v : Scalar) → IsUnitKind k → IsOfType k base → SpellsCut Usual k p base cut b v → IsOfType k v
 cut_within k p base cut b v u h c =
     let units = units_of_string k base u h in
     let part = part_within k c.back c.new_part c.part_form in
     string_within k (put_together c.removal (units_of base) c.new_part) v u c.value.1 (c.value.0, put_within (λ x. x < unit_limit k) c.removal (units_of base) c.new_part units.1 part.1)
 
-delta_within : (k : Kind) (p : Presence) (base : Scalar) (cut : Cut) (b : List ℕ) (v : Scalar) → IsOfType k base → DeltaValue k p base cut b v → IsOfType k v
+delta_within : (k : Kind) (p : Presence) (base : Scalar) (cut : Cut) (b : List ℕ) (v : Scalar) → IsOfType k base → DeltaValue Usual k p base cut b v → IsOfType k v
 delta_within kind.UInt32 p base cut b v h d = rw d.value (number_within kind.UInt32 (integer_of base +ℤ d.delta) refl d.range)
 delta_within kind.Int32 p base cut b v h d = rw d.value (number_within kind.Int32 (integer_of base +ℤ d.delta) refl d.range)
 delta_within kind.UInt64 p base cut b v h d = rw d.value (number_within kind.UInt64 (integer_of base +ℤ d.delta) refl d.range)
@@ -174,7 +175,7 @@ delta_within kind.Ascii p base cut b v h d = cut_within kind.Ascii p base cut b 
 delta_within kind.Unicode p base cut b v h d = cut_within kind.Unicode p base cut b v tt h d
 delta_within kind.Bytes p base cut b v h d = cut_within kind.Bytes p base cut b v tt h d
 
-delta_form_within : (i : FieldPart) (e : Entry) (cut : Cut) (b : List ℕ) (v : Option Scalar) → IsFieldPart i → HoldsScalar e → DeltaForm i e cut b v → IsOfTypeOr i.kind i.presence v
+delta_form_within : (i : FieldPart) (e : Entry) (cut : Cut) (b : List ℕ) (v : Option Scalar) → IsFieldPart i → HoldsScalar e → DeltaForm Usual i e cut b v → IsOfTypeOr i.kind i.presence v
 delta_form_within i e cut b None is h d = null_optional false i.presence b d.1
 delta_form_within i e cut b (Some v) is h d = delta_within i.kind i.presence d.0 cut b v (delta_base_within i e d.0 is h d.1) d.2
 
@@ -184,7 +185,7 @@ unit_kind kind.Unicode h = tt
 unit_kind kind.Bytes h = tt
 unit_kind k h = absurd cc
 
-tail_form_within : (i : FieldPart) (e : Entry) (cut : Cut) (b : List ℕ) (v : Option Scalar) → IsFieldPart i → HoldsScalar e → IsTrue (applies operator.Tail i.kind) → TailForm i e cut b v → IsOfTypeOr i.kind i.presence v
+tail_form_within : (i : FieldPart) (e : Entry) (cut : Cut) (b : List ℕ) (v : Option Scalar) → IsFieldPart i → HoldsScalar e → IsTrue (applies operator.Tail i.kind) → TailForm Usual i e cut b v → IsOfTypeOr i.kind i.presence v
 tail_form_within i e cut b None is h fits t = null_units_optional i.kind i.presence b t.1
 tail_form_within i e cut b (Some v) is h fits t =
     let u = unit_kind i.kind fits in
@@ -196,7 +197,7 @@ tail_form_within i e cut b (Some v) is h fits t =
 
 -- ---- the table
 
-row_within : (o : Operator) (i : FieldPart) (e : Entry) (bit : Bool) (cut : Cut) (b : List ℕ) (v : Option Scalar) → IsFieldPart i → HoldsScalar e → i.operator ≡ o → FormOf o i e bit cut b v → IsOfTypeOr i.kind i.presence v
+row_within : (o : Operator) (i : FieldPart) (e : Entry) (bit : Bool) (cut : Cut) (b : List ℕ) (v : Option Scalar) → IsFieldPart i → HoldsScalar e → i.operator ≡ o → FormOf Usual o i e bit cut b v → IsOfTypeOr i.kind i.presence v
 row_within operator.Plain i e false cut b v is h o f = absurd f
 row_within operator.Plain i e true cut b v is h o f = spelled_within i.kind i.presence b v f.1
 row_within operator.Constant i e false cut b v is h o f = rw f.3 f.2
@@ -216,7 +217,7 @@ of_field : (i : FieldPart) (v : Option Scalar) → IsOfTypeOr i.kind i.presence 
 of_field i None h = h
 of_field i (Some v) h = h
 
-pub values_within : (i : FieldPart) (e : Entry) (bit : Bool) (b : List ℕ) (v : Option Scalar) → IsFieldPart i → HoldsScalar e → Form i e bit b v → IsFieldValue i v
+pub values_within : (i : FieldPart) (e : Entry) (bit : Bool) (b : List ℕ) (v : Option Scalar) → IsFieldPart i → HoldsScalar e → Form Usual i e bit b v → IsFieldValue i v
 values_within i e bit b v is h f = record { of_field = of_field i v (row_within i.operator i e bit f.0 b v is h refl f.1.row); within = f.1.within }
 
 -- ---- the entry afterwards

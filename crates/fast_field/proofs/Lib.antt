@@ -39,3 +39,8 @@ pub mod SpelledForms
 pub mod BaseForms
 pub mod FieldForms
 pub mod ValueKinds
+pub mod LevelsAgree
+pub mod UsualForms
+pub mod StrictForms
+pub mod OneEntity
+pub mod TwoEntities

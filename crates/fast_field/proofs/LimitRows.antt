@@ -1,6 +1,7 @@
 -- Worked rows by limit and by base: what one field reads, computed by the definitions.
 use Rattle.std.proofs.Common.{◌^◌, ◌-◌, true, false, [], ◌∷◌, Some, None, pos, negsuc, refl}
 use Rattle.std.specs.Prelude.{codes}
+use Rattle.fast_wire.specs.declared.level.Level.TheVariants.{Usual}
 use Rattle.fast_wire.specs.Reading.{entity_at, unsigned_at, signed_at, unsigned_nullable_at, signed_nullable_at, ascii_at, bytes_at, vector_at}
 use Rattle.fast_value.specs.declared.kind.Kind.TheVariants as kind
 use Rattle.fast_value.specs.declared.kind.Presence.TheVariants.{Mandatory, Optional}
@@ -15,15 +16,15 @@ use Rattle.fast_field.proofs.WorkedFields.{Reads, part_of, field, field_with, te
 -- ---- parts of decimals and lengths
 
 -- a mantissa part out of int64 is a decimal out of range, and an integer is an integer out of range
-mantissa_part : IsFieldFault (part_of Mantissa kind.Int64 Mandatory Plain None) Undefined true (0x01 ∷ 0x00 ∷ 0x00 ∷ 0x00 ∷ 0x00 ∷ 0x00 ∷ 0x00 ∷ 0x00 ∷ 0x00 ∷ 0x80 ∷ []) fault.R1
+mantissa_part : IsFieldFault Usual (part_of Mantissa kind.Int64 Mandatory Plain None) Undefined true (0x01 ∷ 0x00 ∷ 0x00 ∷ 0x00 ∷ 0x00 ∷ 0x00 ∷ 0x00 ∷ 0x00 ∷ 0x00 ∷ 0x80 ∷ []) fault.R1
 unfolding field_at row_at whole_at spelled_at integer_spelled_at integer_at signed_at entity_at integer_value part_checked
 mantissa_part = refl
 
-whole_int64 : IsFieldFault (field kind.Int64 Mandatory Plain) Undefined true (0x01 ∷ 0x00 ∷ 0x00 ∷ 0x00 ∷ 0x00 ∷ 0x00 ∷ 0x00 ∷ 0x00 ∷ 0x00 ∷ 0x80 ∷ []) fault.D2
+whole_int64 : IsFieldFault Usual (field kind.Int64 Mandatory Plain) Undefined true (0x01 ∷ 0x00 ∷ 0x00 ∷ 0x00 ∷ 0x00 ∷ 0x00 ∷ 0x00 ∷ 0x00 ∷ 0x00 ∷ 0x80 ∷ []) fault.D2
 unfolding field_at row_at whole_at spelled_at integer_spelled_at integer_at signed_at entity_at integer_value part_checked
 whole_int64 = refl
 
-mantissa_part_by_delta : IsFieldFault (part_of Mantissa kind.Int64 Mandatory Delta None) (Assigned (I64 (pos (2 ^ 63 - 1)))) true (0x81 ∷ []) fault.R1
+mantissa_part_by_delta : IsFieldFault Usual (part_of Mantissa kind.Int64 Mandatory Delta None) (Assigned (I64 (pos (2 ^ 63 - 1)))) true (0x81 ∷ []) fault.R1
 unfolding field_at row_at delta_at integer_delta_at integer_sum integer_at signed_at entity_at integer_value part_checked
 mantissa_part_by_delta = refl
 
@@ -32,7 +33,7 @@ mantissa_part_in_int64 : Reads (part_of Mantissa kind.Int64 Mandatory Plain None
 unfolding field_at row_at whole_at spelled_at integer_spelled_at integer_at signed_at entity_at integer_value part_checked
 mantissa_part_in_int64 = (refl, refl)
 
-exponent_part_out_of_int32 : IsFieldFault (part_of Exponent kind.Int32 Mandatory Plain None) Undefined true (0x08 ∷ 0x00 ∷ 0x00 ∷ 0x00 ∷ 0x80 ∷ []) fault.R1
+exponent_part_out_of_int32 : IsFieldFault Usual (part_of Exponent kind.Int32 Mandatory Plain None) Undefined true (0x08 ∷ 0x00 ∷ 0x00 ∷ 0x00 ∷ 0x80 ∷ []) fault.R1
 unfolding field_at row_at whole_at spelled_at integer_spelled_at integer_at signed_at entity_at integer_value part_checked
 exponent_part_out_of_int32 = refl
 
@@ -40,12 +41,12 @@ exponent_part_least : Reads (part_of Exponent kind.Int32 Mandatory Copy None) Un
 unfolding field_at row_at whole_at spelled_at integer_spelled_at integer_at signed_at entity_at integer_value part_checked
 exponent_part_least = (refl, refl)
 
-exponent_part_below : IsFieldFault (part_of Exponent kind.Int32 Mandatory Copy None) Undefined true (0xC0 ∷ []) fault.R1
+exponent_part_below : IsFieldFault Usual (part_of Exponent kind.Int32 Mandatory Copy None) Undefined true (0xC0 ∷ []) fault.R1
 unfolding field_at row_at whole_at spelled_at integer_spelled_at integer_at signed_at entity_at integer_value part_checked
 exponent_part_below = refl
 
 -- an int32 of another field under the same key, which bit 0 gives
-exponent_of_another_field : IsFieldFault (part_of Exponent kind.Int32 Mandatory Copy None) (Assigned (I32 (pos 100))) false [] fault.R1
+exponent_of_another_field : IsFieldFault Usual (part_of Exponent kind.Int32 Mandatory Copy None) (Assigned (I32 (pos 100))) false [] fault.R1
 unfolding field_at row_at predicted_at part_checked
 exponent_of_another_field = refl
 
@@ -55,7 +56,7 @@ unfolding field_at row_at delta_at integer_delta_at integer_sum integer_at signe
 exponent_from_another_field = (refl, refl)
 
 -- a length of 65,536 that bit 0 gives, and one of 65,535
-length_by_copy : IsFieldFault (part_of Length kind.UInt32 Mandatory Copy None) (number 65536) false [] fault.Limit
+length_by_copy : IsFieldFault Usual (part_of Length kind.UInt32 Mandatory Copy None) (number 65536) false [] fault.Limit
 unfolding field_at row_at predicted_at part_checked
 length_by_copy = refl
 
@@ -63,20 +64,20 @@ length_by_copy_within : Reads (part_of Length kind.UInt32 Mandatory Copy None) (
 unfolding field_at row_at predicted_at part_checked
 length_by_copy_within = (refl, refl)
 
-length_by_increment : IsFieldFault (part_of Length kind.UInt32 Mandatory Increment None) (number 65535) false [] fault.Limit
+length_by_increment : IsFieldFault Usual (part_of Length kind.UInt32 Mandatory Increment None) (number 65535) false [] fault.Limit
 unfolding field_at row_at predicted_at part_checked
 length_by_increment = refl
 
-length_by_initial : IsFieldFault (part_of Length kind.UInt32 Mandatory Default (Some (U32 65536))) Undefined false [] fault.Limit
+length_by_initial : IsFieldFault Usual (part_of Length kind.UInt32 Mandatory Default (Some (U32 65536))) Undefined false [] fault.Limit
 unfolding field_at row_at predicted_at part_checked
 length_by_initial = refl
 
-length_in_the_stream : IsFieldFault (part_of Length kind.UInt32 Mandatory Plain None) Undefined true (0x04 ∷ 0x00 ∷ 0x80 ∷ []) fault.Limit
+length_in_the_stream : IsFieldFault Usual (part_of Length kind.UInt32 Mandatory Plain None) Undefined true (0x04 ∷ 0x00 ∷ 0x80 ∷ []) fault.Limit
 unfolding field_at row_at whole_at spelled_at integer_spelled_at integer_at unsigned_at entity_at integer_value part_checked
 length_in_the_stream = refl
 
 -- a length out of its type is an integer out of range
-length_out_of_uint32 : IsFieldFault (part_of Length kind.UInt32 Mandatory Plain None) Undefined true (0x10 ∷ 0x00 ∷ 0x00 ∷ 0x00 ∷ 0x80 ∷ []) fault.D2
+length_out_of_uint32 : IsFieldFault Usual (part_of Length kind.UInt32 Mandatory Plain None) Undefined true (0x10 ∷ 0x00 ∷ 0x00 ∷ 0x00 ∷ 0x80 ∷ []) fault.D2
 unfolding field_at row_at whole_at spelled_at integer_spelled_at integer_at unsigned_at entity_at integer_value part_checked
 length_out_of_uint32 = refl
 
@@ -86,33 +87,33 @@ length_absent = (refl, refl)
 
 -- ---- a value of another type
 
-another_type_under_copy : IsFieldFault (field kind.Int32 Mandatory Copy) (number 5) false [] fault.D4
+another_type_under_copy : IsFieldFault Usual (field kind.Int32 Mandatory Copy) (number 5) false [] fault.D4
 unfolding field_at row_at predicted_at part_checked
 another_type_under_copy = refl
 
-another_type_under_increment : IsFieldFault (field kind.UInt64 Optional Increment) (number 5) false [] fault.D4
+another_type_under_increment : IsFieldFault Usual (field kind.UInt64 Optional Increment) (number 5) false [] fault.D4
 unfolding field_at row_at predicted_at part_checked
 another_type_under_increment = refl
 
-another_type_under_tail_left_out : IsFieldFault (field kind.Bytes Optional Tail) (text (codes "A")) false [] fault.D4
+another_type_under_tail_left_out : IsFieldFault Usual (field kind.Bytes Optional Tail) (text (codes "A")) false [] fault.D4
 unfolding field_at row_at predicted_at part_checked
 another_type_under_tail_left_out = refl
 
 -- a tail that has come, also one that is longer than any base
-another_type_under_tail : IsFieldFault (field kind.Bytes Mandatory Tail) (text (codes "A")) true (0x82 ∷ 0x08 ∷ 0x09 ∷ []) fault.D4
+another_type_under_tail : IsFieldFault Usual (field kind.Bytes Mandatory Tail) (text (codes "A")) true (0x82 ∷ 0x08 ∷ 0x09 ∷ []) fault.D4
 unfolding field_at row_at tail_at ended_value limited_value units_at part_at vector_at unsigned_at entity_at bytes_at unit_value part_checked
 another_type_under_tail = refl
 
-another_type_under_delta : IsFieldFault (field kind.UInt32 Mandatory Delta) (text (codes "A")) true (0x81 ∷ []) fault.D4
+another_type_under_delta : IsFieldFault Usual (field kind.UInt32 Mandatory Delta) (text (codes "A")) true (0x81 ∷ []) fault.D4
 unfolding field_at row_at delta_at integer_delta_at integer_sum integer_at signed_at entity_at integer_value part_checked
 another_type_under_delta = refl
 
-another_type_under_string_delta : IsFieldFault (field kind.Ascii Mandatory Delta) (number 5) true (0x80 ∷ []) fault.D4
+another_type_under_string_delta : IsFieldFault Usual (field kind.Ascii Mandatory Delta) (number 5) true (0x80 ∷ []) fault.D4
 unfolding field_at row_at delta_at unit_delta_at integer_at signed_at entity_at new_part_behind part_at ascii_at limited_value unit_value part_checked
 another_type_under_string_delta = refl
 
 -- a subtraction length is judged before the base is asked for
-no_int32_before_another_type : IsFieldFault (field kind.Ascii Mandatory Delta) (number 5) true (0x77 ∷ 0x7F ∷ 0x7F ∷ 0x7F ∷ 0xFF ∷ []) fault.D7
+no_int32_before_another_type : IsFieldFault Usual (field kind.Ascii Mandatory Delta) (number 5) true (0x77 ∷ 0x7F ∷ 0x7F ∷ 0x7F ∷ 0xFF ∷ []) fault.D7
 unfolding field_at row_at delta_at unit_delta_at integer_at signed_at entity_at new_part_behind part_at ascii_at limited_value unit_value part_checked
 no_int32_before_another_type = refl
 
@@ -140,11 +141,11 @@ tail_left_out_on_empty : Reads (field_with kind.Ascii Optional Tail (Ascii (code
 unfolding field_at row_at predicted_at part_checked
 tail_left_out_on_empty = (refl, refl)
 
-mandatory_tail_on_empty : IsFieldFault (field_with kind.Ascii Mandatory Tail (Ascii (codes "ab"))) Empty false [] fault.D6
+mandatory_tail_on_empty : IsFieldFault Usual (field_with kind.Ascii Mandatory Tail (Ascii (codes "ab"))) Empty false [] fault.D6
 unfolding field_at row_at predicted_at part_checked
 mandatory_tail_on_empty = refl
 
-mandatory_tail_of_nothing : IsFieldFault (field kind.Ascii Mandatory Tail) Undefined false [] fault.D5
+mandatory_tail_of_nothing : IsFieldFault Usual (field kind.Ascii Mandatory Tail) Undefined false [] fault.D5
 unfolding field_at row_at predicted_at part_checked
 mandatory_tail_of_nothing = refl
 
@@ -173,7 +174,7 @@ string_delta_on_nothing : Reads (field kind.Ascii Mandatory Delta) Undefined tru
 unfolding field_at row_at delta_at unit_delta_at integer_at signed_at entity_at new_part_behind part_at ascii_at limited_value unit_value part_checked
 string_delta_on_nothing = (refl, refl)
 
-string_delta_removes_of_nothing : IsFieldFault (field kind.Bytes Mandatory Delta) Undefined true (0x81 ∷ []) fault.D7
+string_delta_removes_of_nothing : IsFieldFault Usual (field kind.Bytes Mandatory Delta) Undefined true (0x81 ∷ []) fault.D7
 unfolding field_at row_at delta_at unit_delta_at integer_at signed_at unsigned_at entity_at new_part_behind part_at vector_at bytes_at limited_value unit_value part_checked
 string_delta_removes_of_nothing = refl
 
@@ -202,7 +203,7 @@ uint64_to_zero : Reads (field kind.UInt64 Mandatory Delta) (Assigned (U64 (2 ^ 6
 unfolding field_at row_at delta_at integer_delta_at integer_sum integer_at signed_at entity_at integer_value part_checked
 uint64_to_zero = (refl, refl)
 
-uint64_below_zero : IsFieldFault (field kind.UInt64 Mandatory Delta) (Assigned (U64 0)) true (0xFF ∷ []) fault.D2
+uint64_below_zero : IsFieldFault Usual (field kind.UInt64 Mandatory Delta) (Assigned (U64 0)) true (0xFF ∷ []) fault.D2
 unfolding field_at row_at delta_at integer_delta_at integer_sum integer_at signed_at entity_at integer_value part_checked
 uint64_below_zero = refl
 
@@ -226,24 +227,24 @@ increment_past_uint64 = (refl, refl)
 -- ---- subtraction lengths: which are int32, and how many units they remove
 
 -- the nullable 2^31 is 2^31 - 1, an int32, for which an empty entry has no base; the next is none
-nullable_length_in_int32 : IsFieldFault (field kind.Ascii Optional Delta) Empty true (0x08 ∷ 0x00 ∷ 0x00 ∷ 0x00 ∷ 0x80 ∷ []) fault.D6
+nullable_length_in_int32 : IsFieldFault Usual (field kind.Ascii Optional Delta) Empty true (0x08 ∷ 0x00 ∷ 0x00 ∷ 0x00 ∷ 0x80 ∷ []) fault.D6
 unfolding field_at row_at delta_at unit_delta_at integer_at signed_nullable_at signed_at entity_at new_part_behind part_at ascii_at limited_value unit_value part_checked
 nullable_length_in_int32 = refl
 
-nullable_length_past_int32 : IsFieldFault (field kind.Ascii Optional Delta) Empty true (0x08 ∷ 0x00 ∷ 0x00 ∷ 0x00 ∷ 0x81 ∷ []) fault.D7
+nullable_length_past_int32 : IsFieldFault Usual (field kind.Ascii Optional Delta) Empty true (0x08 ∷ 0x00 ∷ 0x00 ∷ 0x00 ∷ 0x81 ∷ []) fault.D7
 unfolding field_at row_at delta_at unit_delta_at integer_at signed_nullable_at signed_at entity_at new_part_behind part_at ascii_at limited_value unit_value part_checked
 nullable_length_past_int32 = refl
 
-nullable_length_too_many : IsFieldFault (field kind.Ascii Optional Delta) (text (codes "ab")) true (0x08 ∷ 0x00 ∷ 0x00 ∷ 0x00 ∷ 0x80 ∷ []) fault.D7
+nullable_length_too_many : IsFieldFault Usual (field kind.Ascii Optional Delta) (text (codes "ab")) true (0x08 ∷ 0x00 ∷ 0x00 ∷ 0x00 ∷ 0x80 ∷ []) fault.D7
 unfolding field_at row_at delta_at unit_delta_at integer_at signed_nullable_at signed_at entity_at new_part_behind part_at ascii_at limited_value unit_value part_checked
 nullable_length_too_many = refl
 
 -- -2^31 removes 2^31 - 1 units in front
-least_length : IsFieldFault (field kind.Ascii Mandatory Delta) Empty true (0x78 ∷ 0x00 ∷ 0x00 ∷ 0x00 ∷ 0x80 ∷ []) fault.D6
+least_length : IsFieldFault Usual (field kind.Ascii Mandatory Delta) Empty true (0x78 ∷ 0x00 ∷ 0x00 ∷ 0x00 ∷ 0x80 ∷ []) fault.D6
 unfolding field_at row_at delta_at unit_delta_at integer_at signed_at entity_at new_part_behind part_at ascii_at limited_value unit_value part_checked
 least_length = refl
 
-below_least_length : IsFieldFault (field kind.Ascii Mandatory Delta) Empty true (0x77 ∷ 0x7F ∷ 0x7F ∷ 0x7F ∷ 0xFF ∷ []) fault.D7
+below_least_length : IsFieldFault Usual (field kind.Ascii Mandatory Delta) Empty true (0x77 ∷ 0x7F ∷ 0x7F ∷ 0x7F ∷ 0xFF ∷ []) fault.D7
 unfolding field_at row_at delta_at unit_delta_at integer_at signed_at entity_at new_part_behind part_at ascii_at limited_value unit_value part_checked
 below_least_length = refl
 
@@ -256,6 +257,6 @@ all_in_front : Reads (field kind.Ascii Mandatory Delta) (text (codes "ab")) true
 unfolding field_at row_at delta_at unit_delta_at integer_at signed_at entity_at new_part_behind part_at ascii_at limited_value unit_value part_checked
 all_in_front = (refl, refl)
 
-more_in_front : IsFieldFault (field kind.Ascii Mandatory Delta) (text (codes "ab")) true (0xFC ∷ []) fault.D7
+more_in_front : IsFieldFault Usual (field kind.Ascii Mandatory Delta) (text (codes "ab")) true (0xFC ∷ []) fault.D7
 unfolding field_at row_at delta_at unit_delta_at integer_at signed_at entity_at new_part_behind part_at ascii_at limited_value unit_value part_checked
 more_in_front = refl

@@ -1,6 +1,7 @@
 -- Reading answers no want of memory: that is an answer of calls alone.
 use Rattle.std.proofs.Common.{ℕ, zero, suc, Bool, true, false, List, [], ◌∷◌, length, Result, Ok, Err, refl}
 use Rattle.std.specs.Prelude.{ℤ, ◌+ℤ◌, nat_le, nat_lt}
+use Rattle.fast_wire.specs.declared.level.Level.TheVariants.{Usual}
 use Rattle.fast_wire.specs.Entity.{groups}
 use Rattle.fast_wire.specs.Nullable.{units}
 use Rattle.fast_wire.specs.Reading.{◌>>=◌, entity_at, unsigned_at, signed_at, unsigned_nullable_at, signed_nullable_at, characters, nullable_characters, within_limit, ascii_at, ascii_nullable_at, bytes_at, vector_at, behind_length, vector_nullable_at}
@@ -103,79 +104,79 @@ as_field (Err wire.Range) h e = cc
 as_field (Err wire.NotUtf8) h e = cc
 as_field (Err wire.Memory) h e = h refl
 
-integer : (u : Bool) (p : Presence) (bytes : List ℕ) → IsNoWant (integer_at u p bytes)
+integer : (u : Bool) (p : Presence) (bytes : List ℕ) → IsNoWant (integer_at Usual u p bytes)
 unfolding integer_at
 integer true Mandatory bytes = other_then fault.Memory (in_field (unsigned_at bytes)) _ (as_field (unsigned_at bytes) (unsigned bytes)) (λ x. done fault.Memory _)
 integer true Optional bytes = other_then fault.Memory (in_field (unsigned_nullable_at bytes)) _ (as_field (unsigned_nullable_at bytes) (unsigned_nullable bytes)) (λ x. done fault.Memory _)
 integer false Mandatory bytes = other_then fault.Memory (in_field (signed_at bytes)) _ (as_field (signed_at bytes) (signed bytes)) (λ x. done fault.Memory _)
 integer false Optional bytes = as_field (signed_nullable_at bytes) (signed_nullable bytes)
 
-new_part : (k : Kind) (bytes : List ℕ) → IsNoWant (part_at k bytes)
+new_part : (k : Kind) (bytes : List ℕ) → IsNoWant (part_at Usual k bytes)
 unfolding part_at
 new_part kind.Ascii bytes = as_field (ascii_at bytes) (ascii bytes)
 new_part k bytes = as_field (vector_at bytes) (vector bytes)
 
-string : (k : Kind) (p : Presence) (bytes : List ℕ) → IsNoWant (units_at k p bytes)
+string : (k : Kind) (p : Presence) (bytes : List ℕ) → IsNoWant (units_at Usual k p bytes)
 unfolding units_at
-string k Mandatory bytes = other_then fault.Memory (part_at k bytes) _ (new_part k bytes) (λ x. done fault.Memory _)
+string k Mandatory bytes = other_then fault.Memory (part_at Usual k bytes) _ (new_part k bytes) (λ x. done fault.Memory _)
 string kind.Ascii Optional bytes = as_field (ascii_nullable_at bytes) (ascii_nullable bytes)
 string k Optional bytes = as_field (vector_nullable_at bytes) (vector_nullable bytes)
 
 -- ---- what stands whole
 
-spelled : (pt : Part) (k : Kind) (p : Presence) (bytes : List ℕ) → IsNoWant (integer_spelled_at pt k p bytes)
+spelled : (pt : Part) (k : Kind) (p : Presence) (bytes : List ℕ) → IsNoWant (integer_spelled_at Usual pt k p bytes)
 unfolding integer_spelled_at
-spelled pt k p bytes = other_then fault.Memory (integer_at (is_unsigned k) p bytes) _ (integer (is_unsigned k) p bytes) (λ z. null_or fault.Memory z.0 z.1 _ (λ z rest. value fault.Memory _ rest (integer_made fault.Memory tt pt k z)))
+spelled pt k p bytes = other_then fault.Memory (integer_at Usual (is_unsigned k) p bytes) _ (integer (is_unsigned k) p bytes) (λ z. null_or fault.Memory z.0 z.1 _ (λ z rest. value fault.Memory _ rest (integer_made fault.Memory tt pt k z)))
 
-mantissa : (e : ℤ) (rest : List ℕ) → IsNoWant (mantissa_behind e rest)
+mantissa : (e : ℤ) (rest : List ℕ) → IsNoWant (mantissa_behind Usual e rest)
 unfolding mantissa_behind
 mantissa e rest =
     other_then fault.Memory (check (exponent_in_range e) fault.R1) _ (tested fault.Memory tt (exponent_in_range e) fault.R1 (λ h. h))
     (λ ok. other_then fault.Memory (in_field (signed_at rest)) _ (as_field (signed_at rest) (signed rest)) (λ m. value fault.Memory _ m.1 (decimal_made fault.Memory tt e m.0)))
 
-whole : (pt : Part) (k : Kind) (p : Presence) (bytes : List ℕ) → IsNoWant (spelled_at pt k p bytes)
+whole : (pt : Part) (k : Kind) (p : Presence) (bytes : List ℕ) → IsNoWant (spelled_at Usual pt k p bytes)
 unfolding spelled_at decimal_spelled_at units_spelled_at
-whole pt kind.Decimal p bytes = other_then fault.Memory (integer_at false p bytes) _ (integer false p bytes) (λ e. null_or fault.Memory e.0 e.1 _ mantissa)
-whole pt kind.Ascii p bytes = other_then fault.Memory (units_at kind.Ascii p bytes) _ (string kind.Ascii p bytes) (λ s. null_or fault.Memory s.0 s.1 _ (λ s rest. value fault.Memory _ rest (unit_made fault.Memory tt kind.Ascii s)))
-whole pt kind.Unicode p bytes = other_then fault.Memory (units_at kind.Unicode p bytes) _ (string kind.Unicode p bytes) (λ s. null_or fault.Memory s.0 s.1 _ (λ s rest. value fault.Memory _ rest (unit_made fault.Memory tt kind.Unicode s)))
-whole pt kind.Bytes p bytes = other_then fault.Memory (units_at kind.Bytes p bytes) _ (string kind.Bytes p bytes) (λ s. null_or fault.Memory s.0 s.1 _ (λ s rest. value fault.Memory _ rest (unit_made fault.Memory tt kind.Bytes s)))
+whole pt kind.Decimal p bytes = other_then fault.Memory (integer_at Usual false p bytes) _ (integer false p bytes) (λ e. null_or fault.Memory e.0 e.1 _ mantissa)
+whole pt kind.Ascii p bytes = other_then fault.Memory (units_at Usual kind.Ascii p bytes) _ (string kind.Ascii p bytes) (λ s. null_or fault.Memory s.0 s.1 _ (λ s rest. value fault.Memory _ rest (unit_made fault.Memory tt kind.Ascii s)))
+whole pt kind.Unicode p bytes = other_then fault.Memory (units_at Usual kind.Unicode p bytes) _ (string kind.Unicode p bytes) (λ s. null_or fault.Memory s.0 s.1 _ (λ s rest. value fault.Memory _ rest (unit_made fault.Memory tt kind.Unicode s)))
+whole pt kind.Bytes p bytes = other_then fault.Memory (units_at Usual kind.Bytes p bytes) _ (string kind.Bytes p bytes) (λ s. null_or fault.Memory s.0 s.1 _ (λ s rest. value fault.Memory _ rest (unit_made fault.Memory tt kind.Bytes s)))
 whole pt k p bytes = spelled pt k p bytes
 
 -- ---- deltas and tails
 
-number_delta : (i : FieldPart) (e : Entry) (bytes : List ℕ) → IsNoWant (integer_delta_at i e bytes)
+number_delta : (i : FieldPart) (e : Entry) (bytes : List ℕ) → IsNoWant (integer_delta_at Usual i e bytes)
 unfolding integer_delta_at
 number_delta i e bytes =
-    other_then fault.Memory (integer_at false i.presence bytes) _ (integer false i.presence bytes)
+    other_then fault.Memory (integer_at Usual false i.presence bytes) _ (integer false i.presence bytes)
     (λ d. null_or fault.Memory d.0 d.1 _ (λ d rest. value fault.Memory _ rest (summed fault.Memory tt i e d)))
 
-mantissa_delta : (e base : ℤ) (rest : List ℕ) → IsNoWant (mantissa_delta_behind e base rest)
+mantissa_delta : (e base : ℤ) (rest : List ℕ) → IsNoWant (mantissa_delta_behind Usual e base rest)
 unfolding mantissa_delta_behind
 mantissa_delta e base rest =
     other_then fault.Memory (check (exponent_in_range e) fault.R1) _ (tested fault.Memory tt (exponent_in_range e) fault.R1 (λ h. h))
     (λ ok. other_then fault.Memory (in_field (signed_at rest)) _ (as_field (signed_at rest) (signed rest)) (λ d. value fault.Memory _ d.1 (decimal_made fault.Memory tt e (base +ℤ d.0))))
 
-decimal_delta : (i : FieldPart) (e : Entry) (bytes : List ℕ) → IsNoWant (decimal_delta_at i e bytes)
+decimal_delta : (i : FieldPart) (e : Entry) (bytes : List ℕ) → IsNoWant (decimal_delta_at Usual i e bytes)
 unfolding decimal_delta_at
 decimal_delta i e bytes =
-    other_then fault.Memory (integer_at false i.presence bytes) _ (integer false i.presence bytes)
+    other_then fault.Memory (integer_at Usual false i.presence bytes) _ (integer false i.presence bytes)
     (λ d. null_or fault.Memory d.0 d.1 _ (λ d rest. other_then fault.Memory (delta_base i e) _ (base_of_delta fault.Memory tt i e) (λ base. mantissa_delta (exponent_of base +ℤ d) (mantissa_of base) rest)))
 
-part_behind : (k : Kind) (removal : ℤ) (base rest : List ℕ) → IsNoWant (new_part_behind k removal base rest)
+part_behind : (k : Kind) (removal : ℤ) (base rest : List ℕ) → IsNoWant (new_part_behind Usual k removal base rest)
 unfolding new_part_behind
 part_behind k removal base rest =
     other_then fault.Memory (check (nat_le (removed_of removal) (length base)) fault.D7) _ (tested fault.Memory tt (nat_le (removed_of removal) (length base)) fault.D7 (λ h. h))
-    (λ ok. other_then fault.Memory (part_at k rest) _ (new_part k rest) (λ s. value fault.Memory _ s.1 (few_made fault.Memory tt k (put_together removal base s.0))))
+    (λ ok. other_then fault.Memory (part_at Usual k rest) _ (new_part k rest) (λ s. value fault.Memory _ s.1 (few_made fault.Memory tt k (put_together removal base s.0))))
 
-string_delta : (i : FieldPart) (e : Entry) (bytes : List ℕ) → IsNoWant (unit_delta_at i e bytes)
+string_delta : (i : FieldPart) (e : Entry) (bytes : List ℕ) → IsNoWant (unit_delta_at Usual i e bytes)
 unfolding unit_delta_at
 string_delta i e bytes =
-    other_then fault.Memory (integer_at false i.presence bytes) _ (integer false i.presence bytes)
+    other_then fault.Memory (integer_at Usual false i.presence bytes) _ (integer false i.presence bytes)
     (λ removal. null_or fault.Memory removal.0 removal.1 _
     (λ removal rest. other_then fault.Memory (check (in_range kind.Int32 removal) fault.D7) _ (tested fault.Memory tt (in_range kind.Int32 removal) fault.D7 (λ h. h))
     (λ fits. other_then fault.Memory (delta_base i e) _ (base_of_delta fault.Memory tt i e) (λ base. part_behind i.kind removal (units_of base) rest))))
 
-delta : (k : Kind) (i : FieldPart) (e : Entry) (bytes : List ℕ) → IsNoWant (delta_at k i e bytes)
+delta : (k : Kind) (i : FieldPart) (e : Entry) (bytes : List ℕ) → IsNoWant (delta_at Usual k i e bytes)
 unfolding delta_at
 delta kind.Decimal i e bytes = decimal_delta i e bytes
 delta kind.Ascii i e bytes = string_delta i e bytes
@@ -183,10 +184,10 @@ delta kind.Unicode i e bytes = string_delta i e bytes
 delta kind.Bytes i e bytes = string_delta i e bytes
 delta k i e bytes = number_delta i e bytes
 
-tail : (i : FieldPart) (e : Entry) (bytes : List ℕ) → IsNoWant (tail_at i e bytes)
+tail : (i : FieldPart) (e : Entry) (bytes : List ℕ) → IsNoWant (tail_at Usual i e bytes)
 unfolding tail_at
 tail i e bytes =
-    other_then fault.Memory (units_at i.kind i.presence bytes) _ (string i.kind i.presence bytes)
+    other_then fault.Memory (units_at Usual i.kind i.presence bytes) _ (string i.kind i.presence bytes)
     (λ t. null_or fault.Memory t.0 t.1 _ (λ t rest. value fault.Memory _ rest (ended fault.Memory tt i e t)))
 
 -- ---- the operators
@@ -195,11 +196,11 @@ left_out : (i : FieldPart) (e : Entry) (bytes : List ℕ) → IsNoWant (predicte
 unfolding predicted_at
 left_out i e bytes = other_then fault.Memory (predicted i e) _ (foretold fault.Memory tt i e) (λ v. done fault.Memory _)
 
-stands : (i : FieldPart) (bytes : List ℕ) → IsNoWant (whole_at i bytes)
+stands : (i : FieldPart) (bytes : List ℕ) → IsNoWant (whole_at Usual i bytes)
 unfolding whole_at
 stands i bytes = whole i.part i.kind i.presence bytes
 
-row : (o : Operator) (i : FieldPart) (e : Entry) (bit : Bool) (bytes : List ℕ) → IsNoWant (row_at o i e bit bytes)
+row : (o : Operator) (i : FieldPart) (e : Entry) (bit : Bool) (bytes : List ℕ) → IsNoWant (row_at Usual o i e bit bytes)
 unfolding row_at
 row operator.Plain i e bit bytes = stands i bytes
 row operator.Constant i e false bytes = done fault.Memory _
@@ -214,7 +215,7 @@ row operator.Delta i e bit bytes = delta i.kind i e bytes
 row operator.Tail i e false bytes = left_out i e bytes
 row operator.Tail i e true bytes = tail i e bytes
 
-pub field_no_memory : (i : FieldPart) (e : Entry) (bit : Bool) (bytes : List ℕ) → IsFieldFault i e bit bytes fault.Memory → ⊥
+pub field_no_memory : (i : FieldPart) (e : Entry) (bit : Bool) (bytes : List ℕ) → IsFieldFault Usual i e bit bytes fault.Memory → ⊥
 unfolding field_at
 field_no_memory i e bit bytes =
-    other_then fault.Memory (row_at i.operator i e bit bytes) _ (row i.operator i e bit bytes) (λ x. other_then fault.Memory (part_checked i.part x.0) _ (part_allowed fault.Memory tt i.part x.0) (λ v. done fault.Memory _))
+    other_then fault.Memory (row_at Usual i.operator i e bit bytes) _ (row i.operator i e bit bytes) (λ x. other_then fault.Memory (part_checked i.part x.0) _ (part_allowed fault.Memory tt i.part x.0) (λ v. done fault.Memory _))

@@ -1,6 +1,7 @@
 -- Worked rows: forms as short as the best that are not the best, by each of the last two rules.
 use Rattle.std.proofs.Common.{◌≡◌, ℕ, ◌≤◌, true, List, [], ◌∷◌, ◌++◌, length, Some, pos, negsuc, refl, sym, ap, ◌∙◌, arith, inl, inr}
 use Rattle.std.specs.Prelude.{ℤ, codes}
+use Rattle.fast_wire.specs.declared.level.Level.TheVariants.{Usual}
 use Rattle.fast_wire.specs.Integer.{IsSigned}
 use Rattle.fast_wire.specs.Ascii.{IsAscii}
 use Rattle.fast_wire.specs.Reading.{signed_at, ascii_at}
@@ -17,7 +18,7 @@ use Rattle.fast_field.specs.Best.{side_rank, NoLater, IsBest}
 use Rattle.fast_field.proofs.WorkedFields.{text, delta_s}
 
 -- which cut bytes make is seen from them
-cut_of : (base v : Scalar) (cut : Cut) (front back : List ℕ) (z : ℤ) (s : List ℕ) → IsSigned front z → IsAscii back s → SpellsCut kind.Ascii Mandatory base cut (front ++ back) v → cut ≡ record { side = side_of z; part = length s }
+cut_of : (base v : Scalar) (cut : Cut) (front back : List ℕ) (z : ℤ) (s : List ℕ) → IsSigned front z → IsAscii back s → SpellsCut Usual kind.Ascii Mandatory base cut (front ++ back) v → cut ≡ record { side = side_of z; part = length s }
 cut_of base v cut front back z s first second h =
     let one = one_form wire.NeedMore signed_at IsSigned signed_forms front h.front back h.back z h.removal first h.removal_form h.parts in
     let whole : back ++ [] ≡ h.back ++ [] = ap (λ (x : List ℕ). x ++ []) one.1 in
@@ -35,7 +36,7 @@ is_uncut n c h = elim h [
 ]
 
 -- "ab" on "ab" with nothing removed and no new part
-nothing_at_end : FormBy delta_s (text (codes "ab")) true (record { side = at_end; part = 0 }) (0x80 ∷ 0x80 ∷ []) (Some (Ascii (codes "ab")))
+nothing_at_end : FormBy Usual delta_s (text (codes "ab")) true (record { side = at_end; part = 0 }) (0x80 ∷ 0x80 ∷ []) (Some (Ascii (codes "ab")))
 nothing_at_end = record {
   row = (
     Ascii (codes "ab"),

@@ -1,6 +1,8 @@
 -- What fields that bit 0 gives rest on, and numbers as values.
 use Rattle.std.proofs.Common.{◌≡◌, Bool, true, false, [], Result, Ok, refl, sym, ap, subst, ◌∙◌}
 use Rattle.std.specs.Prelude.{ℤ, pos, ◌+ℤ◌, int_lt, if◌then◌else◌, Option, Some, None, IsTrue}
+use Rattle.fast_wire.specs.declared.level.Level.{Level}
+use Rattle.fast_wire.specs.declared.level.Level.TheVariants.{Usual}
 use Rattle.fast_template.specs.Resolved.{operator_needs_bit}
 use Rattle.fast_value.specs.Scalar.{is_of, kind_of, least_of, greatest_of, of_integer}
 use Rattle.fast_value.specs.declared.kind.Kind.{Kind}
@@ -83,15 +85,25 @@ no_default operator.Increment h e = cc
 no_default operator.Tail h e = cc
 no_default o h e = h
 
-predicted_row : (o : Operator) (i : FieldPart) (e : Entry) (v : Option Scalar) → Predicts o → predicted i e ≡ Ok v → FormOf o i e false uncut [] v
+predicted_row : (o : Operator) (i : FieldPart) (e : Entry) (v : Option Scalar) → Predicts o → predicted i e ≡ Ok v → FormOf Usual o i e false uncut [] v
 predicted_row operator.Copy i e v h p = (refl, refl, p)
 predicted_row operator.Increment i e v h p = (refl, refl, p)
 predicted_row operator.Tail i e v h p = (refl, refl, p)
 predicted_row o i e v h p = absurd h
 
-passes : (i : FieldPart) (old new : Entry) (v : Option Scalar) → IsBitOf i false → HasDefault i → FormBy i old false uncut [] v → new ≡ next i old v → Passes i old new v
+-- bit 0 takes no bytes, so no level judges it
+bit_zero_row_at : (level : Level) (o : Operator) (i : FieldPart) (e : Entry) (v : Option Scalar) → FormOf Usual o i e false uncut [] v → FormOf level o i e false uncut [] v
+bit_zero_row_at level operator.Plain i e v h = h
+bit_zero_row_at level operator.Constant i e v h = h
+bit_zero_row_at level operator.Default i e v h = h
+bit_zero_row_at level operator.Copy i e v h = h
+bit_zero_row_at level operator.Increment i e v h = h
+bit_zero_row_at level operator.Delta i e v h = h
+bit_zero_row_at level operator.Tail i e v h = h
+
+passes : (i : FieldPart) (old new : Entry) (v : Option Scalar) → IsBitOf i false → HasDefault i → FormBy Usual i old false uncut [] v → new ≡ next i old v → Passes i old new v
 passes i old new v bit default form entry = record {
-  read = λ bytes. (field_forms i old false bit default).again [] v bytes (uncut, form);
+  read = λ level bytes. (field_forms level i old false bit default).again [] v bytes (uncut, record { row = bit_zero_row_at level i.operator i old v form.row; within = form.within });
   entry = entry;
   best = bit_zero_is_best i old v form;
 }
@@ -169,7 +181,7 @@ empty_passes i h optional =
 
 pub initial_given : (i : FieldPart) (e : Entry) (v : Scalar) → i.operator ≡ operator.Default → i.initial ≡ Some v → IsTrue (within_part i.part v) → Passes i e e (Some v)
 initial_given i e v o initial within =
-    let row : FormOf i.operator i e false uncut [] (Some v) = subst (λ (o : Operator). FormOf o i e false uncut [] (Some v)) (sym o) (refl, refl, initial) in
+    let row : FormOf Usual i.operator i e false uncut [] (Some v) = subst (λ (o : Operator). FormOf Usual o i e false uncut [] (Some v)) (sym o) (refl, refl, initial) in
     let bit : IsBitOf i false = rw o (λ h. absurd cc) in
     let default : HasDefault i = λ d m. rw initial refl in
     let entry : e ≡ next i e (Some v) = rw o refl in
@@ -180,7 +192,7 @@ initial_passes i e v o initial is within = (v, is, initial_given i e v o initial
 
 pub no_initial_passes : (i : FieldPart) (e : Entry) → i.operator ≡ operator.Default → i.initial ≡ None → i.presence ≡ Optional → IsPassed i e e Absent
 no_initial_passes i e o initial optional =
-    let row : FormOf i.operator i e false uncut [] None = subst (λ (o : Operator). FormOf o i e false uncut [] None) (sym o) (refl, refl, (initial, optional)) in
+    let row : FormOf Usual i.operator i e false uncut [] None = subst (λ (o : Operator). FormOf Usual o i e false uncut [] None) (sym o) (refl, refl, (initial, optional)) in
     let bit : IsBitOf i false = rw o (λ h. absurd cc) in
     let default : HasDefault i = λ d m. absurd (let no : Mandatory ≡ Optional = sym m ∙ optional in cc) in
     let entry : e ≡ next i e None = rw o refl in
@@ -188,7 +200,7 @@ no_initial_passes i e o initial optional =
 
 pub constant_passes : (i : FieldPart) (e : Entry) → i.operator ≡ operator.Constant → i.presence ≡ Optional → IsPassed i e e Absent
 constant_passes i e o optional =
-    let row : FormOf i.operator i e false uncut [] None = subst (λ (o : Operator). FormOf o i e false uncut [] None) (sym o) (refl, refl, optional, refl) in
+    let row : FormOf Usual i.operator i e false uncut [] None = subst (λ (o : Operator). FormOf Usual o i e false uncut [] None) (sym o) (refl, refl, optional, refl) in
     let bit : IsBitOf i false = rw (o, optional) (λ h. absurd cc) in
     let default : HasDefault i = λ d m. absurd (let no : operator.Constant ≡ operator.Default = sym o ∙ d in cc) in
     let entry : e ≡ next i e None = rw o refl in
@@ -196,8 +208,8 @@ constant_passes i e o optional =
 
 -- ---- where what bit 0 gave is found
 
-passed_row : (i : FieldPart) (old new : Entry) (v : Scalar) (o : Operator) → i.operator ≡ o → (p : Passes i old new (Some v)) → FormOf o i old false p.best.cut [] (Some v)
-passed_row i old new v o is p = subst (λ (o : Operator). FormOf o i old false p.best.cut [] (Some v)) is p.best.form.row
+passed_row : (i : FieldPart) (old new : Entry) (v : Scalar) (o : Operator) → i.operator ≡ o → (p : Passes i old new (Some v)) → FormOf Usual o i old false p.best.cut [] (Some v)
+passed_row i old new v o is p = subst (λ (o : Operator). FormOf Usual o i old false p.best.cut [] (Some v)) is p.best.form.row
 
 pub initial_found : (i : FieldPart) (old new : Entry) → i.operator ≡ operator.Default → IsPassed i old new Present → Passes i old new i.initial
 initial_found i old new o h = subst (λ (v : Option Scalar). Passes i old new v) (sym (passed_row i old new h.0 operator.Default o h.2).2) h.2

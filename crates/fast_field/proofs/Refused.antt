@@ -3,6 +3,7 @@ use Rattle.std.proofs.Common.{◌≡◌, ℕ, ◌-◌, ◌<◌, ◌≤◌, Bool,
 use Rattle.std.specs.Prelude.{ℤ, pos, negsuc, int_lt, int_le, nat_lt, Option, Some, None, IsTrue, unwrap_or}
 use Rattle.std.specs.List.{AllByRecursion}
 use Rattle.std.proofs.lemmas.Bool.Decides.{nat_tests}
+use Rattle.fast_wire.specs.declared.level.Level.TheVariants.{Usual}
 use Rattle.fast_wire.proofs.Readers.{ok_is}
 use Rattle.fast_value.specs.Scalar.{is_of, scalar_eq-same, IsScalar}
 use Rattle.fast_value.specs.contracts.scalar.ScalarPartialEq.TheImpl as scalar_eq
@@ -117,7 +118,7 @@ tail_same i (Assigned w) v h o =
     let kept : w ≡ v = subst (λ (x : Operator). repeated x w ≡ v) o same in
     rw t.0 (as_long w v (rw kept (omega arith)))
 
-form_not_refused : (o : Operator) (i : FieldPart) (e : Entry) (bit : Bool) (cut : Cut) (b : List ℕ) (v : Scalar) → i.operator ≡ o → FormOf o i e bit cut b (Some v) → operator_refusal o i e v ≡ None
+form_not_refused : (o : Operator) (i : FieldPart) (e : Entry) (bit : Bool) (cut : Cut) (b : List ℕ) (v : Scalar) → i.operator ≡ o → FormOf Usual o i e bit cut b (Some v) → operator_refusal o i e v ≡ None
 form_not_refused operator.Constant i e false cut b v o f = let w = f.3 in absurd cc
 form_not_refused operator.Constant i e true cut b v o f = constant_same i.part i.initial v f.2
 form_not_refused operator.Delta i e false cut b v o f = absurd f
@@ -137,10 +138,10 @@ value_not_refused : (i : FieldPart) (e : Entry) (v : Scalar) → IsFieldValue i 
 unfolding value_refusal
 value_not_refused i e v h o = rw (h.of_field.0, characters_there v h.of_field.1, few_enough i.part v h.of_field.1 h.within, near i.part v h.of_field.1 h.within) o
 
-pub not_refused : (i : FieldPart) (e : Entry) (bit : Bool) (b : List ℕ) (v : Option Scalar) → IsFieldPart i → HoldsScalar e → Form i e bit b v → refusal_of i e v ≡ None
+pub not_refused : (i : FieldPart) (e : Entry) (bit : Bool) (b : List ℕ) (v : Option Scalar) → IsFieldPart i → HoldsScalar e → Form Usual i e bit b v → refusal_of i e v ≡ None
 not_refused i e bit b None is h f = let w = values_within i e bit b None is h f in rw w.of_field refl
 not_refused i e bit b (Some v) is h f = value_not_refused i e v (values_within i e bit b (Some v) is h f) (form_not_refused i.operator i e bit f.0 b v refl f.1.row)
 
 -- what is refused has no form
-pub refused_has_none : (i : FieldPart) (e : Entry) (v : Option Scalar) (r : FieldRefusal) → IsFieldPart i → HoldsScalar e → refusal_of i e v ≡ Some r → (bit : Bool) (b : List ℕ) → Form i e bit b v → ⊥
+pub refused_has_none : (i : FieldPart) (e : Entry) (v : Option Scalar) (r : FieldRefusal) → IsFieldPart i → HoldsScalar e → refusal_of i e v ≡ Some r → (bit : Bool) (b : List ℕ) → Form Usual i e bit b v → ⊥
 refused_has_none i e v r is h e' bit b f = let w = not_refused i e bit b v is h f in absurd cc

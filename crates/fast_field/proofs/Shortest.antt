@@ -1,6 +1,7 @@
 -- The shortest bytes of pieces, as forms of a field's parts.
 use Rattle.std.proofs.Common.{◌≡◌, ℕ, ◌^◌, ◌<◌, ◌≤◌, true, false, List, ◌++◌, length, refl, ap, arith, length-append}
 use Rattle.std.specs.Prelude.{ℤ, pos}
+use Rattle.fast_wire.specs.declared.level.Level.TheVariants.{Usual}
 use Rattle.fast_wire.specs.Ascii.{IsAscii, IsAsciiNullable}
 use Rattle.fast_wire.specs.Integer.{IsSigned, magnitude}
 use Rattle.fast_wire.specs.Nullable.{IsSignedNullable}
@@ -20,27 +21,27 @@ use Rattle.fast_field.proofs.StandingForms.{signed_stands, part_stands, units_st
 
 -- ---- a shortest form is a form, and the shortest
 
-pub unsigned_form : (p : Presence) (n : ℕ) (b : List ℕ) → ShortestUnsigned p n b → IsShortest (SpellsInteger true p) b (Value (pos n))
+pub unsigned_form : (p : Presence) (n : ℕ) (b : List ℕ) → ShortestUnsigned p n b → IsShortest (SpellsInteger Usual true p) b (Value (pos n))
 unsigned_form Mandatory n b h = record { form = h.form; least = h.least }
 unsigned_form Optional n b h = record { form = h.form; least = h.least }
 
-pub signed_form : (p : Presence) (z : ℤ) (b : List ℕ) → ShortestSigned p z b → IsShortest (SpellsInteger false p) b (Value z)
+pub signed_form : (p : Presence) (z : ℤ) (b : List ℕ) → ShortestSigned p z b → IsShortest (SpellsInteger Usual false p) b (Value z)
 signed_form Mandatory z b h = record { form = h.form; least = h.least }
 signed_form Optional z b h = record { form = h.form; least = h.least }
 
-pub part_form : (k : Kind) (s b : List ℕ) → ShortestPart k s b → IsShortest (SpellsPart k) b s
+pub part_form : (k : Kind) (s b : List ℕ) → ShortestPart k s b → IsShortest (SpellsPart Usual k) b s
 part_form kind.Ascii s b h = record { form = h.form; least = h.least }
 part_form k s b h = record { form = h.form; least = h.least }
 
-pub units_form : (k : Kind) (p : Presence) (s b : List ℕ) → ShortestUnits k p s b → IsShortest (SpellsUnits k p) b (Value s)
+pub units_form : (k : Kind) (p : Presence) (s b : List ℕ) → ShortestUnits k p s b → IsShortest (SpellsUnits Usual k p) b (Value s)
 units_form k Mandatory s b h = let f = part_form k s b h in record { form = f.form; least = f.least }
 units_form kind.Ascii Optional s b h = record { form = h.form; least = h.least }
 units_form k Optional s b h = record { form = h.form; least = h.least }
 
-pub pair_form : (p : Presence) (e m : ℤ) (b : List ℕ) → ShortestPair p e m b → SpellsPair p b e m
+pub pair_form : (p : Presence) (e m : ℤ) (b : List ℕ) → ShortestPair p e m b → SpellsPair Usual p b e m
 pair_form p e m b h = record { front = h.front; back = h.back; parts = h.parts; exponent_form = (signed_form p e h.front h.first).form; mantissa_form = h.second.form }
 
-pub pair_least : (p : Presence) (e m : ℤ) (b : List ℕ) → ShortestPair p e m b → (o : List ℕ) → SpellsPair p o e m → length b ≤ length o
+pub pair_least : (p : Presence) (e m : ℤ) (b : List ℕ) → ShortestPair p e m b → (o : List ℕ) → SpellsPair Usual p o e m → length b ≤ length o
 pair_least p e m b h o f =
     omega (arith, ap length h.parts, length-append h.front h.back, ap length f.parts, length-append f.front f.back, (signed_form p e h.front h.first).least f.front f.exponent_form, h.second.least f.back f.mantissa_form)
 

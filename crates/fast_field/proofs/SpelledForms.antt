@@ -3,6 +3,10 @@ use Rattle.std.proofs.Common.{◌≡◌, ℕ, Bool, true, false, List, [], ◌++
 use Rattle.std.specs.Prelude.{ℤ, pos, negsuc, Option, Some, None, IsTrue, if◌then◌else◌}
 use Rattle.std.specs.Str.{is_utf8}
 use Rattle.std.proofs.lemmas.Str.{IsUtf8-from_is_utf8, is_utf8-from_IsUtf8}
+use Rattle.fast_wire.specs.Level.{overlong_signed}
+use Rattle.fast_wire.specs.declared.level.Level.{Level}
+use Rattle.fast_wire.specs.declared.level.Level.TheVariants.{Usual}
+use Rattle.fast_wire.proofs.Levels.{BeginsWithin, judged_reader, unsigned_begins, signed_begins, unsigned_nullable_begins, signed_nullable_begins, ascii_begins, ascii_nullable_begins, vector_begins, vector_nullable_begins}
 use Rattle.fast_wire.specs.Integer.{IsUnsigned, IsSigned}
 use Rattle.fast_wire.specs.Nullable.{IsUnsignedNullable, IsSignedNullable}
 use Rattle.fast_wire.specs.Ascii.{IsAscii, IsAsciiNullable}
@@ -25,70 +29,104 @@ use Rattle.fast_value.specs.declared.scalar.Scalar.TheVariants.{Decimal}
 use Rattle.fast_value.specs.Scalar.{in_range, exponent_in_range, of_integer}
 use Rattle.fast_field.specs.declared.fault.FieldFault.{FieldFault}
 use Rattle.fast_field.specs.declared.fault.FieldFault.TheVariants as fault
+use Rattle.fast_field.specs.Faults.{field_fault}
 use Rattle.fast_field.specs.Values.{is_unsigned, of_units}
-use Rattle.fast_field.specs.Spelled.{SpellsInteger, SpellsPart, SpellsUnits, IsOfUnits, SpelledNumber, SpelledString, SpelledDecimal, Spelled}
-use Rattle.fast_field.specs.FieldReading.{in_field, signless, integer_at, part_at, units_at, range_fault, integer_value, decimal_value, unit_value, as_value, unless_null, integer_spelled_at, mantissa_behind, decimal_spelled_at, units_spelled_at, spelled_at}
+use Rattle.fast_field.specs.Spelled.{overlong_number, overlong_units, SpellsInteger, SpellsIntegerUsually, SpellsMantissa, SpellsPart, SpellsPartUsually, SpellsUnits, SpellsUnitsUsually, IsOfUnits, SpelledNumber, SpelledString, SpelledDecimal, Spelled}
+use Rattle.fast_field.specs.FieldReading.{in_field, signless, integer_at, integer_usually_at, mantissa_entity_at, entity_limit, overlong_fault, part_at, part_usually_at, units_at, units_usually_at, range_fault, integer_value, decimal_value, unit_value, as_value, unless_null, integer_spelled_at, mantissa_behind, decimal_spelled_at, units_spelled_at, spelled_at}
 use Rattle.fast_field.proofs.FieldLaws.{reader_in_field, reader_check, reader_made, reader_null, reader_value, Made, NullOr, IsMade, whole}
 
 -- ---- integers
 
-mandatory_from : (b : List ℕ) (y : Nullable ℤ) → SpellsInteger true Mandatory b y → (n : ℕ) × IsUnsigned b n × (Value (pos n) ≡ y)
+mandatory_from : (b : List ℕ) (y : Nullable ℤ) → SpellsIntegerUsually true Mandatory b y → (n : ℕ) × IsUnsigned b n × (Value (pos n) ≡ y)
 mandatory_from b Null h = absurd h
 mandatory_from b (Value (pos n)) h = (n, h, refl)
 mandatory_from b (Value (negsuc n)) h = absurd h
 
-optional_to : (b : List ℕ) (n : Nullable ℕ) → IsUnsignedNullable b n → SpellsInteger true Optional b (signless n)
+optional_to : (b : List ℕ) (n : Nullable ℕ) → IsUnsignedNullable b n → SpellsIntegerUsually true Optional b (signless n)
 optional_to b Null h = h
 optional_to b (Value n) h = h
 
-optional_from : (b : List ℕ) (y : Nullable ℤ) → SpellsInteger true Optional b y → (n : Nullable ℕ) × IsUnsignedNullable b n × (signless n ≡ y)
+optional_from : (b : List ℕ) (y : Nullable ℤ) → SpellsIntegerUsually true Optional b y → (n : Nullable ℕ) × IsUnsignedNullable b n × (signless n ≡ y)
 optional_from b Null h = (Null, h, refl)
 optional_from b (Value (pos n)) h = (Value n, h, refl)
 optional_from b (Value (negsuc n)) h = absurd h
 
-signed_from : (b : List ℕ) (y : Nullable ℤ) → SpellsInteger false Mandatory b y → (z : ℤ) × IsSigned b z × (Value z ≡ y)
+signed_from : (b : List ℕ) (y : Nullable ℤ) → SpellsIntegerUsually false Mandatory b y → (z : ℤ) × IsSigned b z × (Value z ≡ y)
 signed_from b Null h = absurd h
 signed_from b (Value z) h = (z, h, refl)
 
-pub integer_forms : (u : Bool) (p : Presence) → IsReader fault.NeedMore (integer_at u p) (SpellsInteger u p)
-unfolding integer_at
-integer_forms true Mandatory =
-    reader_as fault.NeedMore (λ bytes. in_field (unsigned_at bytes) >>= λ x. Ok (Value (pos x.0), x.1)) (λ b y. (n : ℕ) × IsUnsigned b n × (Value (pos n) ≡ y)) (SpellsInteger true Mandatory)
-    (λ b y h. subst (λ (z : Nullable ℤ). SpellsInteger true Mandatory b z) h.2 h.1)
+usual_integers : (u : Bool) (p : Presence) → IsReader fault.NeedMore (integer_usually_at u p) (SpellsIntegerUsually u p)
+usual_integers true Mandatory =
+    reader_as fault.NeedMore (λ bytes. in_field (unsigned_at bytes) >>= λ x. Ok (Value (pos x.0), x.1)) (λ b y. (n : ℕ) × IsUnsigned b n × (Value (pos n) ≡ y)) (SpellsIntegerUsually true Mandatory)
+    (λ b y h. subst (λ (z : Nullable ℤ). SpellsIntegerUsually true Mandatory b z) h.2 h.1)
     mandatory_from
     (reader_map fault.NeedMore (λ bytes. in_field (unsigned_at bytes)) (λ n. Value (pos n)) IsUnsigned (reader_in_field unsigned_at IsUnsigned unsigned_forms))
-integer_forms true Optional =
-    reader_as fault.NeedMore (λ bytes. in_field (unsigned_nullable_at bytes) >>= λ x. Ok (signless x.0, x.1)) (λ b y. (n : Nullable ℕ) × IsUnsignedNullable b n × (signless n ≡ y)) (SpellsInteger true Optional)
-    (λ b y h. subst (λ (z : Nullable ℤ). SpellsInteger true Optional b z) h.2 (optional_to b h.0 h.1))
+usual_integers true Optional =
+    reader_as fault.NeedMore (λ bytes. in_field (unsigned_nullable_at bytes) >>= λ x. Ok (signless x.0, x.1)) (λ b y. (n : Nullable ℕ) × IsUnsignedNullable b n × (signless n ≡ y)) (SpellsIntegerUsually true Optional)
+    (λ b y h. subst (λ (z : Nullable ℤ). SpellsIntegerUsually true Optional b z) h.2 (optional_to b h.0 h.1))
     optional_from
     (reader_map fault.NeedMore (λ bytes. in_field (unsigned_nullable_at bytes)) signless IsUnsignedNullable (reader_in_field unsigned_nullable_at IsUnsignedNullable unsigned_nullable_forms))
-integer_forms false Mandatory =
-    reader_as fault.NeedMore (λ bytes. in_field (signed_at bytes) >>= λ x. Ok (Value x.0, x.1)) (λ b y. (z : ℤ) × IsSigned b z × (Value z ≡ y)) (SpellsInteger false Mandatory)
-    (λ b y h. subst (λ (z : Nullable ℤ). SpellsInteger false Mandatory b z) h.2 h.1)
+usual_integers false Mandatory =
+    reader_as fault.NeedMore (λ bytes. in_field (signed_at bytes) >>= λ x. Ok (Value x.0, x.1)) (λ b y. (z : ℤ) × IsSigned b z × (Value z ≡ y)) (SpellsIntegerUsually false Mandatory)
+    (λ b y h. subst (λ (z : Nullable ℤ). SpellsIntegerUsually false Mandatory b z) h.2 h.1)
     signed_from
     (reader_map fault.NeedMore (λ bytes. in_field (signed_at bytes)) (λ z. Value z) IsSigned (reader_in_field signed_at IsSigned signed_forms))
-integer_forms false Optional = reader_in_field signed_nullable_at IsSignedNullable signed_nullable_forms
+usual_integers false Optional = reader_in_field signed_nullable_at IsSignedNullable signed_nullable_forms
 
 -- ---- strings and vectors
 
-pub part_forms : (k : Kind) → IsReader fault.NeedMore (part_at k) (SpellsPart k)
-unfolding part_at
-part_forms kind.Ascii = reader_in_field ascii_at IsAscii ascii_forms
-part_forms k = reader_in_field vector_at IsVector vector_forms
+usual_parts : (k : Kind) → IsReader fault.NeedMore (part_usually_at k) (SpellsPartUsually k)
+usual_parts kind.Ascii = reader_in_field ascii_at IsAscii ascii_forms
+usual_parts k = reader_in_field vector_at IsVector vector_forms
 
-units_from : (k : Kind) (b : List ℕ) (y : Nullable (List ℕ)) → SpellsUnits k Mandatory b y → (s : List ℕ) × SpellsPart k b s × (Value s ≡ y)
+part_begins : (k : Kind) (b s : List ℕ) → SpellsPartUsually k b s → BeginsWithin (entity_limit k) b
+part_begins kind.Ascii b s h = ascii_begins b s h
+part_begins k b s h = vector_begins b s h
+
+pub part_forms : (level : Level) (k : Kind) → IsReader fault.NeedMore (part_at level k) (SpellsPart level k)
+unfolding part_at
+part_forms level k = judged_reader fault.NeedMore (entity_limit k) (overlong_units k Mandatory) field_fault (overlong_fault k) (part_usually_at k) (SpellsPartUsually k) refl (part_begins k) (usual_parts k) level
+
+units_from : (k : Kind) (b : List ℕ) (y : Nullable (List ℕ)) → SpellsUnitsUsually k Mandatory b y → (s : List ℕ) × SpellsPart Usual k b s × (Value s ≡ y)
 units_from k b Null h = absurd h
 units_from k b (Value s) h = (s, h, refl)
 
-pub units_forms : (k : Kind) (p : Presence) → IsReader fault.NeedMore (units_at k p) (SpellsUnits k p)
-unfolding units_at
-units_forms k Mandatory =
-    reader_as fault.NeedMore (λ bytes. part_at k bytes >>= λ x. Ok (Value x.0, x.1)) (λ b y. (s : List ℕ) × SpellsPart k b s × (Value s ≡ y)) (SpellsUnits k Mandatory)
-    (λ b y h. subst (λ (z : Nullable (List ℕ)). SpellsUnits k Mandatory b z) h.2 h.1)
+usual_units : (k : Kind) (p : Presence) → IsReader fault.NeedMore (units_usually_at k p) (SpellsUnitsUsually k p)
+usual_units k Mandatory =
+    reader_as fault.NeedMore (λ bytes. part_at Usual k bytes >>= λ x. Ok (Value x.0, x.1)) (λ b y. (s : List ℕ) × SpellsPart Usual k b s × (Value s ≡ y)) (SpellsUnitsUsually k Mandatory)
+    (λ b y h. subst (λ (z : Nullable (List ℕ)). SpellsUnitsUsually k Mandatory b z) h.2 h.1)
     (units_from k)
-    (reader_map fault.NeedMore (part_at k) (λ s. Value s) (SpellsPart k) (part_forms k))
-units_forms kind.Ascii Optional = reader_in_field ascii_nullable_at IsAsciiNullable ascii_nullable_forms
-units_forms k Optional = reader_in_field vector_nullable_at IsVectorNullable vector_nullable_forms
+    (reader_map fault.NeedMore (part_at Usual k) (λ s. Value s) (SpellsPart Usual k) (part_forms Usual k))
+usual_units kind.Ascii Optional = reader_in_field ascii_nullable_at IsAsciiNullable ascii_nullable_forms
+usual_units k Optional = reader_in_field vector_nullable_at IsVectorNullable vector_nullable_forms
+
+units_begin : (k : Kind) (p : Presence) (b : List ℕ) (s : Nullable (List ℕ)) → SpellsUnitsUsually k p b s → BeginsWithin (entity_limit k) b
+units_begin k Mandatory b Null h = absurd h
+units_begin k Mandatory b (Value s) h = part_begins k b s h
+units_begin kind.Ascii Optional b s h = ascii_nullable_begins b s h
+units_begin k Optional b s h = vector_nullable_begins b s h
+
+pub units_forms : (level : Level) (k : Kind) (p : Presence) → IsReader fault.NeedMore (units_at level k p) (SpellsUnits level k p)
+unfolding units_at
+units_forms level k p = judged_reader fault.NeedMore (entity_limit k) (overlong_units k p) field_fault (overlong_fault k) (units_usually_at k p) (SpellsUnitsUsually k p) refl (units_begin k p) (usual_units k p) level
+
+integer_begins : (u : Bool) (p : Presence) (b : List ℕ) (z : Nullable ℤ) → SpellsIntegerUsually u p b z → BeginsWithin 10 b
+integer_begins true Mandatory b Null h = absurd h
+integer_begins true Mandatory b (Value (pos n)) h = unsigned_begins b n h
+integer_begins true Mandatory b (Value (negsuc n)) h = absurd h
+integer_begins true Optional b Null h = unsigned_nullable_begins b Null h
+integer_begins true Optional b (Value (pos n)) h = unsigned_nullable_begins b (Value n) h
+integer_begins true Optional b (Value (negsuc n)) h = absurd h
+integer_begins false Mandatory b Null h = absurd h
+integer_begins false Mandatory b (Value z) h = signed_begins b z h
+integer_begins false Optional b z h = signed_nullable_begins b z h
+
+pub integer_forms : (level : Level) (u : Bool) (p : Presence) → IsReader fault.NeedMore (integer_at level u p) (SpellsInteger level u p)
+unfolding integer_at
+integer_forms level u p = judged_reader fault.NeedMore 10 (overlong_number u) field_fault fault.R6 (integer_usually_at u p) (SpellsIntegerUsually u p) refl (integer_begins u p) (usual_integers u p) level
+
+pub mantissa_entities : (level : Level) → IsReader fault.NeedMore (mantissa_entity_at level) (SpellsMantissa level)
+mantissa_entities level = judged_reader fault.NeedMore 10 overlong_signed field_fault fault.R6 (λ b. in_field (signed_at b)) IsSigned refl signed_begins (reader_in_field signed_at IsSigned signed_forms) level
 
 -- ---- values
 
@@ -139,44 +177,44 @@ made_forms {A} r First make Form is null_to null_from to from =
     (λ b y. elim y as (λ y. Form b y → Made First make b y) [ None ↦ λ h. null_from b h | Some v ↦ λ h. from b v h ])
     (reader_made r First make is)
 
-numbers : (pt : Part) (k : Kind) (p : Presence) → IsReader fault.NeedMore (integer_spelled_at pt k p) (SpelledNumber k p)
+numbers : (level : Level) → (pt : Part) (k : Kind) (p : Presence) → IsReader fault.NeedMore (integer_spelled_at level pt k p) (SpelledNumber level k p)
 unfolding integer_spelled_at
-numbers pt k p =
-    made_forms (integer_at (is_unsigned k) p) (SpellsInteger (is_unsigned k) p) (integer_value pt k) (SpelledNumber k p) (integer_forms (is_unsigned k) p) (λ b h. h) (λ b h. h)
+numbers level pt k p =
+    made_forms (integer_at level (is_unsigned k) p) (SpellsInteger level (is_unsigned k) p) (integer_value pt k) (SpelledNumber level k p) (integer_forms level (is_unsigned k) p) (λ b h. h) (λ b h. h)
     (λ b z v h e. let w = integer_value_ok pt k z v e in record { number = z; form = h; range = w.0; value = sym w.1 })
     (λ b v h. (h.number, h.form, rw h.value (integer_value_is pt k h.number h.range)))
 
-strings : (k : Kind) (p : Presence) → IsReader fault.NeedMore (units_spelled_at k p) (SpelledString k p)
+strings : (level : Level) → (k : Kind) (p : Presence) → IsReader fault.NeedMore (units_spelled_at level k p) (SpelledString level k p)
 unfolding units_spelled_at
-strings k p =
-    made_forms (units_at k p) (SpellsUnits k p) (unit_value k) (SpelledString k p) (units_forms k p) (λ b h. h) (λ b h. h)
+strings level k p =
+    made_forms (units_at level k p) (SpellsUnits level k p) (unit_value k) (SpelledString level k p) (units_forms level k p) (λ b h. h) (λ b h. h)
     (λ b s v h e. record { string = s; form = h; value = unit_value_ok k s v e })
     (λ b v h. (h.string, h.form, unit_value_is k h.string v h.value))
 
 -- ---- decimals
 
 -- a mantissa behind an exponent
-abbrev IsMantissa : ℤ → List ℕ → Option Scalar → Type 0
-IsMantissa e b y = (exponent_in_range e ≡ true) × Both IsSigned (λ m. IsMade (decimal_value e m)) b y
+abbrev IsMantissa : (level : Level) → ℤ → List ℕ → Option Scalar → Type 0
+IsMantissa level e b y = (exponent_in_range e ≡ true) × Both (SpellsMantissa level) (λ m. IsMade (decimal_value e m)) b y
 
-mantissa_forms : (e : ℤ) → IsReader fault.NeedMore (mantissa_behind e) (IsMantissa e)
+mantissa_forms : (level : Level) → (e : ℤ) → IsReader fault.NeedMore (mantissa_behind level e) (IsMantissa level e)
 unfolding mantissa_behind
-mantissa_forms e =
-    reader_check (exponent_in_range e) fault.R1 (λ rest. in_field (signed_at rest) >>= λ m. as_value (decimal_value e m.0) m.1) (Both IsSigned (λ m. IsMade (decimal_value e m)))
-    (reader_then fault.NeedMore (λ rest. in_field (signed_at rest)) (λ m. as_value (decimal_value e m)) IsSigned (λ m. IsMade (decimal_value e m)) (reader_in_field signed_at IsSigned signed_forms) (λ m. reader_value (decimal_value e m)))
+mantissa_forms level e =
+    reader_check (exponent_in_range e) fault.R1 (λ rest. mantissa_entity_at level rest >>= λ m. as_value (decimal_value e m.0) m.1) (Both (SpellsMantissa level) (λ m. IsMade (decimal_value e m)))
+    (reader_then fault.NeedMore (λ rest. mantissa_entity_at level rest) (λ m. as_value (decimal_value e m)) (SpellsMantissa level) (λ m. IsMade (decimal_value e m)) (mantissa_entities level) (λ m. reader_value (decimal_value e m)))
 
-decimal_to : (p : Presence) (b front back : List ℕ) (x : Nullable ℤ) (y : Option Scalar) → b ≡ front ++ back → SpellsInteger false p front x → NullOr IsMantissa x back y → SpelledDecimal p b y
-decimal_to p b front back Null y parts first h = rw h.1 (subst (λ (z : List ℕ). SpellsInteger false p z Null) (whole b front back parts h.0) first)
-decimal_to p b front back (Value e) y parts first h =
+decimal_to : (level : Level) → (p : Presence) (b front back : List ℕ) (x : Nullable ℤ) (y : Option Scalar) → b ≡ front ++ back → SpellsInteger level false p front x → NullOr (IsMantissa level) x back y → SpelledDecimal level p b y
+decimal_to level p b front back Null y parts first h = rw h.1 (subst (λ (z : List ℕ). SpellsInteger level false p z Null) (whole b front back parts h.0) first)
+decimal_to level p b front back (Value e) y parts first h =
     let m = h.1 in
     let made = m.second.1 in
     let value = decimal_value_ok e m.x made.0 made.1 in
-    let mantissa : IsSigned back m.x = subst (λ (z : List ℕ). IsSigned z m.x) (whole back m.front m.back m.parts m.second.0) m.first in
+    let mantissa : SpellsMantissa level back m.x = subst (λ (z : List ℕ). SpellsMantissa level z m.x) (whole back m.front m.back m.parts m.second.0) m.first in
     rw made.2 (record { exponent = e; mantissa = m.x; form = record { front = front; back = back; parts = parts; exponent_form = first; mantissa_form = mantissa }; value = (h.0, value.0, sym value.1) })
 
-decimal_from : (p : Presence) (b : List ℕ) (y : Option Scalar) → SpelledDecimal p b y → Both (SpellsInteger false p) (NullOr IsMantissa) b y
-decimal_from p b None h = record { x = Null; front = b; back = []; parts = sym (append-nil b); first = h; second = (refl, refl) }
-decimal_from p b (Some v) h =
+decimal_from : (level : Level) → (p : Presence) (b : List ℕ) (y : Option Scalar) → SpelledDecimal level p b y → Both (SpellsInteger level false p) (NullOr (IsMantissa level)) b y
+decimal_from level p b None h = record { x = Null; front = b; back = []; parts = sym (append-nil b); first = h; second = (refl, refl) }
+decimal_from level p b (Some v) h =
     let pair = h.form in
     let made = decimal_value_is h.exponent h.mantissa v h.value.1 h.value.2 in record {
       x = Value h.exponent;
@@ -187,20 +225,20 @@ decimal_from p b (Some v) h =
       second = (h.value.0, record { x = h.mantissa; front = pair.back; back = []; parts = sym (append-nil pair.back); first = pair.mantissa_form; second = (refl, (v, made, refl)) });
     }
 
-decimals : (p : Presence) → IsReader fault.NeedMore (decimal_spelled_at p) (SpelledDecimal p)
+decimals : (level : Level) → (p : Presence) → IsReader fault.NeedMore (decimal_spelled_at level p) (SpelledDecimal level p)
 unfolding decimal_spelled_at
-decimals p =
-    reader_as fault.NeedMore (λ bytes. integer_at false p bytes >>= λ e. unless_null e mantissa_behind) (Both (SpellsInteger false p) (NullOr IsMantissa)) (SpelledDecimal p)
-    (λ b y h. decimal_to p b h.front h.back h.x y h.parts h.first h.second)
-    (decimal_from p)
-    (reader_then fault.NeedMore (integer_at false p) (λ x rest. unless_null (x, rest) mantissa_behind) (SpellsInteger false p) (NullOr IsMantissa) (integer_forms false p) (reader_null mantissa_behind IsMantissa mantissa_forms))
+decimals level p =
+    reader_as fault.NeedMore (λ bytes. integer_at level false p bytes >>= λ e. unless_null e (mantissa_behind level)) (Both (SpellsInteger level false p) (NullOr (IsMantissa level))) (SpelledDecimal level p)
+    (λ b y h. decimal_to level p b h.front h.back h.x y h.parts h.first h.second)
+    (decimal_from level p)
+    (reader_then fault.NeedMore (integer_at level false p) (λ x rest. unless_null (x, rest) (mantissa_behind level)) (SpellsInteger level false p) (NullOr (IsMantissa level)) (integer_forms level false p) (reader_null (mantissa_behind level) (IsMantissa level) (mantissa_forms level)))
 
 -- ---- all types
 
-pub spelled_forms : (pt : Part) (k : Kind) (p : Presence) → IsReader fault.NeedMore (spelled_at pt k p) (Spelled k p)
+pub spelled_forms : (level : Level) → (pt : Part) (k : Kind) (p : Presence) → IsReader fault.NeedMore (spelled_at level pt k p) (Spelled level k p)
 unfolding spelled_at
-spelled_forms pt kind.Decimal p = decimals p
-spelled_forms pt kind.Ascii p = strings kind.Ascii p
-spelled_forms pt kind.Unicode p = strings kind.Unicode p
-spelled_forms pt kind.Bytes p = strings kind.Bytes p
-spelled_forms pt k p = numbers pt k p
+spelled_forms level pt kind.Decimal p = decimals level p
+spelled_forms level pt kind.Ascii p = strings level kind.Ascii p
+spelled_forms level pt kind.Unicode p = strings level kind.Unicode p
+spelled_forms level pt kind.Bytes p = strings level kind.Bytes p
+spelled_forms level pt k p = numbers level pt k p

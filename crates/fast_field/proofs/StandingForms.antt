@@ -4,6 +4,7 @@ use Rattle.std.specs.Prelude.{ℤ, pos, negsuc, nat_le, int_le, ◌&&◌, Some, 
 use Rattle.std.specs.List.{AllByRecursion}
 use Rattle.std.proofs.lemmas.Bool.Decides.{nat_tests}
 use Rattle.std.proofs.lemmas.List.Elements.{All-from_recursion}
+use Rattle.fast_wire.specs.declared.level.Level.TheVariants.{Usual}
 use Rattle.fast_wire.specs.Ascii.{IsAscii, IsAsciiNullable, IsAsciiText}
 use Rattle.fast_wire.specs.Integer.{IsUnsigned, IsSigned, magnitude}
 use Rattle.fast_wire.specs.Nullable.{IsUnsignedNullable, IsSignedNullable, sent_signed}
@@ -39,43 +40,43 @@ stands_as Form Other v w to from s = (s.0, record { form = to s.0 s.1.form; leas
 
 -- ---- integers
 
-unsigned_stands : (p : Presence) (n : ℕ) → n < 2 ^ 64 → Stands (SpellsInteger true p) (Value (pos n))
-unsigned_stands Mandatory n lt = stands_as IsUnsigned (SpellsInteger true Mandatory) n (Value (pos n)) (λ b h. h) (λ b h. h) (stands_of IsUnsigned _ _ unsigned_sizes n (omega arith))
-unsigned_stands Optional n lt = stands_as IsUnsignedNullable (SpellsInteger true Optional) (Value n) (Value (pos n)) (λ b h. h) (λ b h. h) (stands_of IsUnsignedNullable _ _ unsigned_nullable_sizes (Value n) (omega arith))
+unsigned_stands : (p : Presence) (n : ℕ) → n < 2 ^ 64 → Stands (SpellsInteger Usual true p) (Value (pos n))
+unsigned_stands Mandatory n lt = stands_as IsUnsigned (SpellsInteger Usual true Mandatory) n (Value (pos n)) (λ b h. h) (λ b h. h) (stands_of IsUnsigned _ _ unsigned_sizes n (omega arith))
+unsigned_stands Optional n lt = stands_as IsUnsignedNullable (SpellsInteger Usual true Optional) (Value n) (Value (pos n)) (λ b h. h) (λ b h. h) (stands_of IsUnsignedNullable _ _ unsigned_nullable_sizes (Value n) (omega arith))
 
 nullable_magnitude : (z : ℤ) → magnitude z < 2 ^ 68 → magnitude (sent_signed (Value z)) < 64 * 128 ^ 9
 nullable_magnitude (pos n) lt = omega arith
 nullable_magnitude (negsuc n) lt = omega arith
 
-pub signed_stands : (p : Presence) (z : ℤ) → magnitude z < 2 ^ 68 → Stands (SpellsInteger false p) (Value z)
-signed_stands Mandatory z lt = stands_as IsSigned (SpellsInteger false Mandatory) z (Value z) (λ b h. h) (λ b h. h) (stands_of IsSigned _ _ signed_sizes z (omega arith))
-signed_stands Optional z lt = stands_as IsSignedNullable (SpellsInteger false Optional) (Value z) (Value z) (λ b h. h) (λ b h. h) (stands_of IsSignedNullable _ _ signed_nullable_sizes (Value z) (nullable_magnitude z lt))
+pub signed_stands : (p : Presence) (z : ℤ) → magnitude z < 2 ^ 68 → Stands (SpellsInteger Usual false p) (Value z)
+signed_stands Mandatory z lt = stands_as IsSigned (SpellsInteger Usual false Mandatory) z (Value z) (λ b h. h) (λ b h. h) (stands_of IsSigned _ _ signed_sizes z (omega arith))
+signed_stands Optional z lt = stands_as IsSignedNullable (SpellsInteger Usual false Optional) (Value z) (Value z) (λ b h. h) (λ b h. h) (stands_of IsSignedNullable _ _ signed_nullable_sizes (Value z) (nullable_magnitude z lt))
 
-pub null_stands : (u : Bool) → Stands (SpellsInteger u Optional) Null
-null_stands true = stands_as IsUnsignedNullable (SpellsInteger true Optional) Null Null (λ b h. h) (λ b h. h) (stands_of IsUnsignedNullable _ _ unsigned_nullable_sizes Null (omega arith))
-null_stands false = stands_as IsSignedNullable (SpellsInteger false Optional) Null Null (λ b h. h) (λ b h. h) (stands_of IsSignedNullable _ _ signed_nullable_sizes Null (omega arith))
+pub null_stands : (u : Bool) → Stands (SpellsInteger Usual u Optional) Null
+null_stands true = stands_as IsUnsignedNullable (SpellsInteger Usual true Optional) Null Null (λ b h. h) (λ b h. h) (stands_of IsUnsignedNullable _ _ unsigned_nullable_sizes Null (omega arith))
+null_stands false = stands_as IsSignedNullable (SpellsInteger Usual false Optional) Null Null (λ b h. h) (λ b h. h) (stands_of IsSignedNullable _ _ signed_nullable_sizes Null (omega arith))
 
 -- ---- strings
 
 pub text_of : (s : List ℕ) → (length s ≤ 65535) × AllByRecursion (λ c. c < 128) s → IsAsciiText s
 text_of s h = (All-from_recursion (λ c. c < 128) s h.1, h.0)
 
-pub part_stands : (k : Kind) (s : List ℕ) → IsString k s → Stands (SpellsPart k) s
+pub part_stands : (k : Kind) (s : List ℕ) → IsString k s → Stands (SpellsPart Usual k) s
 part_stands kind.Ascii s h = stands_of IsAscii _ _ ascii_sizes s (text_of s h)
 part_stands k s h = stands_of IsVector _ _ vector_sizes s (h.1, h.0)
 
-pub units_stand : (k : Kind) (p : Presence) (s : List ℕ) → IsString k s → Stands (SpellsUnits k p) (Value s)
-units_stand k Mandatory s h = stands_as (SpellsPart k) (SpellsUnits k Mandatory) s (Value s) (λ b h. h) (λ b h. h) (part_stands k s h)
+pub units_stand : (k : Kind) (p : Presence) (s : List ℕ) → IsString k s → Stands (SpellsUnits Usual k p) (Value s)
+units_stand k Mandatory s h = stands_as (SpellsPart Usual k) (SpellsUnits Usual k Mandatory) s (Value s) (λ b h. h) (λ b h. h) (part_stands k s h)
 units_stand kind.Ascii Optional s h = stands_of IsAsciiNullable _ _ ascii_nullable_sizes (Value s) (text_of s h)
 units_stand k Optional s h = stands_of IsVectorNullable _ _ vector_nullable_sizes (Value s) (h.1, h.0)
 
-pub null_units_stand : (k : Kind) → Stands (SpellsUnits k Optional) Null
+pub null_units_stand : (k : Kind) → Stands (SpellsUnits Usual k Optional) Null
 null_units_stand kind.Ascii = stands_of IsAsciiNullable _ _ ascii_nullable_sizes Null tt
 null_units_stand k = stands_of IsVectorNullable _ _ vector_nullable_sizes Null tt
 
 -- ---- pairs of signed numbers
 
-pub pair_stands : (p : Presence) (e m : ℤ) → magnitude e < 2 ^ 68 → magnitude m < 2 ^ 68 → (b : List ℕ) × SpellsPair p b e m × ((other : List ℕ) → SpellsPair p other e m → length b ≤ length other)
+pub pair_stands : (p : Presence) (e m : ℤ) → magnitude e < 2 ^ 68 → magnitude m < 2 ^ 68 → (b : List ℕ) × SpellsPair Usual p b e m × ((other : List ℕ) → SpellsPair Usual p other e m → length b ≤ length other)
 pair_stands p e m small_e small_m =
     let first = signed_stands p e small_e in
     let second = signed_stands Mandatory m small_m in (
@@ -138,7 +139,7 @@ range_small k z i h = absurd cc
 
 -- ---- what stands whole
 
-number_stands : (k : Kind) (p : Presence) (z : ℤ) → IsTrue (is_integer k) → IsTrue (in_range k z) → Stands (SpellsInteger (is_unsigned k) p) (Value z)
+number_stands : (k : Kind) (p : Presence) (z : ℤ) → IsTrue (is_integer k) → IsTrue (in_range k z) → Stands (SpellsInteger Usual (is_unsigned k) p) (Value z)
 number_stands kind.UInt32 p (pos n) i h = unsigned_stands p n (omega (arith, range_small kind.UInt32 (pos n) i h))
 number_stands kind.UInt64 p (pos n) i h = unsigned_stands p n (omega (arith, range_small kind.UInt64 (pos n) i h))
 number_stands kind.UInt32 p (negsuc n) i h = absurd cc
@@ -147,17 +148,17 @@ number_stands kind.Int32 p z i h = signed_stands p z (omega (arith, range_small 
 number_stands kind.Int64 p z i h = signed_stands p z (omega (arith, range_small kind.Int64 z i h))
 number_stands k p z i h = absurd cc
 
-number_shortest : (k : Kind) (p : Presence) (v : Scalar) (b : List ℕ) → IsTrue (is_integer k) → IsOfType k v → IsShortest (SpellsInteger (is_unsigned k) p) b (Value (integer_of v)) → IsShortest (SpelledNumber k p) b (Some v)
+number_shortest : (k : Kind) (p : Presence) (v : Scalar) (b : List ℕ) → IsTrue (is_integer k) → IsOfType k v → IsShortest (SpellsInteger Usual (is_unsigned k) p) b (Value (integer_of v)) → IsShortest (SpelledNumber Usual k p) b (Some v)
 number_shortest k p v b i h s =
     let n = number_is k v i h in
     record {
       form = record { number = integer_of v; form = s.form; range = n.range; value = n.made };
       least = λ other o.
           let same : o.number ≡ integer_of v = sym (number_of k o.number i o.range) ∙ ap integer_of (sym o.value) in
-          s.least other (subst (λ (z : ℤ). SpellsInteger (is_unsigned k) p other (Value z)) same o.form);
+          s.least other (subst (λ (z : ℤ). SpellsInteger Usual (is_unsigned k) p other (Value z)) same o.form);
     }
 
-pub number_is_shortest : (k : Kind) (p : Presence) (v : Scalar) (b : List ℕ) → IsTrue (is_integer k) → IsOfType k v → IsShortest (SpellsInteger (is_unsigned k) p) b (Value (integer_of v)) → IsShortest (Spelled k p) b (Some v)
+pub number_is_shortest : (k : Kind) (p : Presence) (v : Scalar) (b : List ℕ) → IsTrue (is_integer k) → IsOfType k v → IsShortest (SpellsInteger Usual (is_unsigned k) p) b (Value (integer_of v)) → IsShortest (Spelled Usual k p) b (Some v)
 number_is_shortest kind.UInt32 p v b i h s = let n = number_shortest kind.UInt32 p v b i h s in record { form = n.form; least = n.least }
 number_is_shortest kind.Int32 p v b i h s = let n = number_shortest kind.Int32 p v b i h s in record { form = n.form; least = n.least }
 number_is_shortest kind.UInt64 p v b i h s = let n = number_shortest kind.UInt64 p v b i h s in record { form = n.form; least = n.least }
@@ -173,13 +174,13 @@ of_units_is kind.Unicode v u h = let e = h.0 in absurd cc
 of_units_is kind.Bytes v u h = let e = h.0 in absurd cc
 of_units_is k v u h = absurd u
 
-string_shortest : (k : Kind) (p : Presence) (v : Scalar) (b : List ℕ) → IsUnitKind k → IsOfType k v → IsShortest (SpellsUnits k p) b (Value (units_of v)) → IsShortest (SpelledString k p) b (Some v)
+string_shortest : (k : Kind) (p : Presence) (v : Scalar) (b : List ℕ) → IsUnitKind k → IsOfType k v → IsShortest (SpellsUnits Usual k p) b (Value (units_of v)) → IsShortest (SpelledString Usual k p) b (Some v)
 string_shortest k p v b u h s = record {
   form = record { string = units_of v; form = s.form; value = of_units_is k v u h };
-  least = λ other o. s.least other (subst (λ (x : List ℕ). SpellsUnits k p other (Value x)) (sym (units_are k o.string v o.value)) o.form);
+  least = λ other o. s.least other (subst (λ (x : List ℕ). SpellsUnits Usual k p other (Value x)) (sym (units_are k o.string v o.value)) o.form);
 }
 
-pub string_is_shortest : (k : Kind) (p : Presence) (v : Scalar) (b : List ℕ) → IsUnitKind k → IsOfType k v → IsShortest (SpellsUnits k p) b (Value (units_of v)) → IsShortest (Spelled k p) b (Some v)
+pub string_is_shortest : (k : Kind) (p : Presence) (v : Scalar) (b : List ℕ) → IsUnitKind k → IsOfType k v → IsShortest (SpellsUnits Usual k p) b (Value (units_of v)) → IsShortest (Spelled Usual k p) b (Some v)
 string_is_shortest kind.Ascii p v b u h s = let n = string_shortest kind.Ascii p v b u h s in record { form = n.form; least = n.least }
 string_is_shortest kind.Unicode p v b u h s = let n = string_shortest kind.Unicode p v b u h s in record { form = n.form; least = n.least }
 string_is_shortest kind.Bytes p v b u h s = let n = string_shortest kind.Bytes p v b u h s in record { form = n.form; least = n.least }
@@ -188,30 +189,30 @@ string_is_shortest k p v b u h s = absurd u
 pub exponent_small : (e : ℤ) → IsTrue (exponent_in_range e) → magnitude e < 2 ^ 64
 exponent_small e h = signed_small e 62 63 h (omega arith) (omega arith)
 
-pub decimal_is_shortest : (p : Presence) (e m : ℤ) (b : List ℕ) → IsOfType kind.Decimal (Decimal e m) → SpellsPair p b e m → ((o : List ℕ) → SpellsPair p o e m → length b ≤ length o) → IsShortest (Spelled kind.Decimal p) b (Some (Decimal e m))
+pub decimal_is_shortest : (p : Presence) (e m : ℤ) (b : List ℕ) → IsOfType kind.Decimal (Decimal e m) → SpellsPair Usual p b e m → ((o : List ℕ) → SpellsPair Usual p o e m → length b ≤ length o) → IsShortest (Spelled Usual kind.Decimal p) b (Some (Decimal e m))
 decimal_is_shortest p e m b h form least = record {
   form = record { exponent = e; mantissa = m; form = form; value = (h.1.0, h.1.1, refl) };
   least = λ other o.
       let same_e : o.exponent ≡ e = sym (ap exponent_of o.value.2) in
       let same_m : o.mantissa ≡ m = sym (ap mantissa_of o.value.2) in
-      least other (subst (λ (x : ℤ). SpellsPair p other x m) same_e (subst (λ (x : ℤ). SpellsPair p other o.exponent x) same_m o.form));
+      least other (subst (λ (x : ℤ). SpellsPair Usual p other x m) same_e (subst (λ (x : ℤ). SpellsPair Usual p other o.exponent x) same_m o.form));
 }
 
 -- a shortest form of each value stands
 
-whole_number : (k : Kind) (p : Presence) (v : Scalar) → IsTrue (is_integer k) → IsOfType k v → Stands (Spelled k p) (Some v)
+whole_number : (k : Kind) (p : Presence) (v : Scalar) → IsTrue (is_integer k) → IsOfType k v → Stands (Spelled Usual k p) (Some v)
 whole_number k p v i h = let s = number_stands k p (integer_of v) i (number_is k v i h).range in (s.0, number_is_shortest k p v s.0 i h s.1)
 
-whole_string : (k : Kind) (p : Presence) (v : Scalar) → IsUnitKind k → IsOfType k v → Stands (Spelled k p) (Some v)
+whole_string : (k : Kind) (p : Presence) (v : Scalar) → IsUnitKind k → IsOfType k v → Stands (Spelled Usual k p) (Some v)
 whole_string k p v u h = let s = units_stand k p (units_of v) (units_of_string k v u h) in (s.0, string_is_shortest k p v s.0 u h s.1)
 
-whole_decimal : (p : Presence) (v : Scalar) → IsOfType kind.Decimal v → Stands (Spelled kind.Decimal p) (Some v)
+whole_decimal : (p : Presence) (v : Scalar) → IsOfType kind.Decimal v → Stands (Spelled Usual kind.Decimal p) (Some v)
 whole_decimal p (Decimal e m) h =
     let s = pair_stands p e m (omega (arith, exponent_small e h.1.0)) (omega (arith, range_small kind.Int64 m refl h.1.1)) in
     (s.0, decimal_is_shortest p e m s.0 h s.1 s.2)
 whole_decimal p v h = let e = h.0 in absurd cc
 
-pub whole_stands : (k : Kind) (p : Presence) (v : Scalar) → IsOfType k v → Stands (Spelled k p) (Some v)
+pub whole_stands : (k : Kind) (p : Presence) (v : Scalar) → IsOfType k v → Stands (Spelled Usual k p) (Some v)
 whole_stands kind.UInt32 p v h = whole_number kind.UInt32 p v refl h
 whole_stands kind.Int32 p v h = whole_number kind.Int32 p v refl h
 whole_stands kind.UInt64 p v h = whole_number kind.UInt64 p v refl h
@@ -221,12 +222,12 @@ whole_stands kind.Ascii p v h = whole_string kind.Ascii p v tt h
 whole_stands kind.Unicode p v h = whole_string kind.Unicode p v tt h
 whole_stands kind.Bytes p v h = whole_string kind.Bytes p v tt h
 
-pub null_whole_stands : (k : Kind) → Stands (Spelled k Optional) None
-null_whole_stands kind.UInt32 = stands_as (SpellsInteger true Optional) (Spelled kind.UInt32 Optional) Null None (λ b h. h) (λ b h. h) (null_stands true)
-null_whole_stands kind.Int32 = stands_as (SpellsInteger false Optional) (Spelled kind.Int32 Optional) Null None (λ b h. h) (λ b h. h) (null_stands false)
-null_whole_stands kind.UInt64 = stands_as (SpellsInteger true Optional) (Spelled kind.UInt64 Optional) Null None (λ b h. h) (λ b h. h) (null_stands true)
-null_whole_stands kind.Int64 = stands_as (SpellsInteger false Optional) (Spelled kind.Int64 Optional) Null None (λ b h. h) (λ b h. h) (null_stands false)
-null_whole_stands kind.Decimal = stands_as (SpellsInteger false Optional) (Spelled kind.Decimal Optional) Null None (λ b h. h) (λ b h. h) (null_stands false)
-null_whole_stands kind.Ascii = stands_as (SpellsUnits kind.Ascii Optional) (Spelled kind.Ascii Optional) Null None (λ b h. h) (λ b h. h) (null_units_stand kind.Ascii)
-null_whole_stands kind.Unicode = stands_as (SpellsUnits kind.Unicode Optional) (Spelled kind.Unicode Optional) Null None (λ b h. h) (λ b h. h) (null_units_stand kind.Unicode)
-null_whole_stands kind.Bytes = stands_as (SpellsUnits kind.Bytes Optional) (Spelled kind.Bytes Optional) Null None (λ b h. h) (λ b h. h) (null_units_stand kind.Bytes)
+pub null_whole_stands : (k : Kind) → Stands (Spelled Usual k Optional) None
+null_whole_stands kind.UInt32 = stands_as (SpellsInteger Usual true Optional) (Spelled Usual kind.UInt32 Optional) Null None (λ b h. h) (λ b h. h) (null_stands true)
+null_whole_stands kind.Int32 = stands_as (SpellsInteger Usual false Optional) (Spelled Usual kind.Int32 Optional) Null None (λ b h. h) (λ b h. h) (null_stands false)
+null_whole_stands kind.UInt64 = stands_as (SpellsInteger Usual true Optional) (Spelled Usual kind.UInt64 Optional) Null None (λ b h. h) (λ b h. h) (null_stands true)
+null_whole_stands kind.Int64 = stands_as (SpellsInteger Usual false Optional) (Spelled Usual kind.Int64 Optional) Null None (λ b h. h) (λ b h. h) (null_stands false)
+null_whole_stands kind.Decimal = stands_as (SpellsInteger Usual false Optional) (Spelled Usual kind.Decimal Optional) Null None (λ b h. h) (λ b h. h) (null_stands false)
+null_whole_stands kind.Ascii = stands_as (SpellsUnits Usual kind.Ascii Optional) (Spelled Usual kind.Ascii Optional) Null None (λ b h. h) (λ b h. h) (null_units_stand kind.Ascii)
+null_whole_stands kind.Unicode = stands_as (SpellsUnits Usual kind.Unicode Optional) (Spelled Usual kind.Unicode Optional) Null None (λ b h. h) (λ b h. h) (null_units_stand kind.Unicode)
+null_whole_stands kind.Bytes = stands_as (SpellsUnits Usual kind.Bytes Optional) (Spelled Usual kind.Bytes Optional) Null None (λ b h. h) (λ b h. h) (null_units_stand kind.Bytes)

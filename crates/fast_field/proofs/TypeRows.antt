@@ -2,6 +2,7 @@
 use Rattle.std.proofs.Common.{◌^◌, ◌-◌, true, [], ◌∷◌, Some, None, pos, negsuc, refl}
 use Rattle.std.specs.Prelude.{codes}
 use Rattle.std.specs.Str.{is_utf8, chars}
+use Rattle.fast_wire.specs.declared.level.Level.TheVariants.{Usual}
 use Rattle.fast_wire.specs.Reading.{entity_at, unsigned_at, signed_at, unsigned_nullable_at, signed_nullable_at, ascii_at, ascii_nullable_at, bytes_at, vector_at, behind_length, vector_nullable_at}
 use Rattle.fast_value.specs.declared.kind.Kind.TheVariants as kind
 use Rattle.fast_value.specs.declared.kind.Presence.TheVariants.{Mandatory, Optional}
@@ -18,7 +19,7 @@ greatest_uint64 : Reads (field kind.UInt64 Mandatory Plain) Undefined true (0x01
 unfolding field_at row_at whole_at spelled_at integer_spelled_at integer_at unsigned_at entity_at integer_value part_checked
 greatest_uint64 = (refl, refl)
 
-past_uint64 : IsFieldFault (field kind.UInt64 Mandatory Plain) Undefined true (0x02 ∷ 0x00 ∷ 0x00 ∷ 0x00 ∷ 0x00 ∷ 0x00 ∷ 0x00 ∷ 0x00 ∷ 0x00 ∷ 0x80 ∷ []) fault.D2
+past_uint64 : IsFieldFault Usual (field kind.UInt64 Mandatory Plain) Undefined true (0x02 ∷ 0x00 ∷ 0x00 ∷ 0x00 ∷ 0x00 ∷ 0x00 ∷ 0x00 ∷ 0x00 ∷ 0x00 ∷ 0x80 ∷ []) fault.D2
 unfolding field_at row_at whole_at spelled_at integer_spelled_at integer_at unsigned_at entity_at integer_value part_checked
 past_uint64 = refl
 
@@ -31,7 +32,7 @@ greatest_uint32_nullable : Reads (field kind.UInt32 Optional Plain) Undefined tr
 unfolding field_at row_at whole_at spelled_at integer_spelled_at integer_at unsigned_nullable_at unsigned_at entity_at integer_value part_checked
 greatest_uint32_nullable = (refl, refl)
 
-past_uint32_nullable : IsFieldFault (field kind.UInt32 Optional Plain) Undefined true (0x10 ∷ 0x00 ∷ 0x00 ∷ 0x00 ∷ 0x81 ∷ []) fault.D2
+past_uint32_nullable : IsFieldFault Usual (field kind.UInt32 Optional Plain) Undefined true (0x10 ∷ 0x00 ∷ 0x00 ∷ 0x00 ∷ 0x81 ∷ []) fault.D2
 unfolding field_at row_at whole_at spelled_at integer_spelled_at integer_at unsigned_nullable_at unsigned_at entity_at integer_value part_checked
 past_uint32_nullable = refl
 
@@ -44,7 +45,7 @@ least_int64 : Reads (field kind.Int64 Mandatory Plain) Undefined true (0x7F ∷ 
 unfolding field_at row_at whole_at spelled_at integer_spelled_at integer_at signed_at entity_at integer_value part_checked
 least_int64 = (refl, refl)
 
-below_int64 : IsFieldFault (field kind.Int64 Mandatory Plain) Undefined true (0x7E ∷ 0x7F ∷ 0x7F ∷ 0x7F ∷ 0x7F ∷ 0x7F ∷ 0x7F ∷ 0x7F ∷ 0x7F ∷ 0xFF ∷ []) fault.D2
+below_int64 : IsFieldFault Usual (field kind.Int64 Mandatory Plain) Undefined true (0x7E ∷ 0x7F ∷ 0x7F ∷ 0x7F ∷ 0x7F ∷ 0x7F ∷ 0x7F ∷ 0x7F ∷ 0x7F ∷ 0xFF ∷ []) fault.D2
 unfolding field_at row_at whole_at spelled_at integer_spelled_at integer_at signed_at entity_at integer_value part_checked
 below_int64 = refl
 
@@ -57,11 +58,11 @@ least_int32 : Reads (field kind.Int32 Optional Plain) Undefined true (0x78 ∷ 0
 unfolding field_at row_at whole_at spelled_at integer_spelled_at integer_at signed_nullable_at signed_at entity_at integer_value part_checked
 least_int32 = (refl, refl)
 
-below_int32 : IsFieldFault (field kind.Int32 Mandatory Plain) Undefined true (0x77 ∷ 0x7F ∷ 0x7F ∷ 0x7F ∷ 0xFF ∷ []) fault.D2
+below_int32 : IsFieldFault Usual (field kind.Int32 Mandatory Plain) Undefined true (0x77 ∷ 0x7F ∷ 0x7F ∷ 0x7F ∷ 0xFF ∷ []) fault.D2
 unfolding field_at row_at whole_at spelled_at integer_spelled_at integer_at signed_at entity_at integer_value part_checked
 below_int32 = refl
 
-past_int32 : IsFieldFault (field kind.Int32 Mandatory Plain) Undefined true (0x08 ∷ 0x00 ∷ 0x00 ∷ 0x00 ∷ 0x80 ∷ []) fault.D2
+past_int32 : IsFieldFault Usual (field kind.Int32 Mandatory Plain) Undefined true (0x08 ∷ 0x00 ∷ 0x00 ∷ 0x00 ∷ 0x80 ∷ []) fault.D2
 unfolding field_at row_at whole_at spelled_at integer_spelled_at integer_at signed_at entity_at integer_value part_checked
 past_int32 = refl
 
@@ -70,15 +71,15 @@ unfolding field_at row_at whole_at spelled_at integer_spelled_at integer_at unsi
 more_bytes_than_it_needs = (refl, refl)
 
 -- ten bytes with no stop bit are too many; nine may go on
-no_stop_in_ten : IsFieldFault (field kind.UInt32 Mandatory Plain) Undefined true (0x00 ∷ 0x00 ∷ 0x00 ∷ 0x00 ∷ 0x00 ∷ 0x00 ∷ 0x00 ∷ 0x00 ∷ 0x00 ∷ 0x00 ∷ 0x81 ∷ []) fault.Limit
+no_stop_in_ten : IsFieldFault Usual (field kind.UInt32 Mandatory Plain) Undefined true (0x00 ∷ 0x00 ∷ 0x00 ∷ 0x00 ∷ 0x00 ∷ 0x00 ∷ 0x00 ∷ 0x00 ∷ 0x00 ∷ 0x00 ∷ 0x81 ∷ []) fault.Limit
 unfolding field_at row_at whole_at spelled_at integer_spelled_at integer_at unsigned_at entity_at integer_value part_checked
 no_stop_in_ten = refl
 
-no_stop_in_nine : IsFieldFault (field kind.UInt32 Mandatory Plain) Undefined true (0x00 ∷ 0x00 ∷ 0x00 ∷ 0x00 ∷ 0x00 ∷ 0x00 ∷ 0x00 ∷ 0x00 ∷ 0x00 ∷ []) fault.NeedMore
+no_stop_in_nine : IsFieldFault Usual (field kind.UInt32 Mandatory Plain) Undefined true (0x00 ∷ 0x00 ∷ 0x00 ∷ 0x00 ∷ 0x00 ∷ 0x00 ∷ 0x00 ∷ 0x00 ∷ 0x00 ∷ []) fault.NeedMore
 unfolding field_at row_at whole_at spelled_at integer_spelled_at integer_at unsigned_at entity_at integer_value part_checked
 no_stop_in_nine = refl
 
-no_stop_in_ten_signed : IsFieldFault (field kind.Int32 Mandatory Plain) Undefined true (0x00 ∷ 0x00 ∷ 0x00 ∷ 0x00 ∷ 0x00 ∷ 0x00 ∷ 0x00 ∷ 0x00 ∷ 0x00 ∷ 0x00 ∷ []) fault.Limit
+no_stop_in_ten_signed : IsFieldFault Usual (field kind.Int32 Mandatory Plain) Undefined true (0x00 ∷ 0x00 ∷ 0x00 ∷ 0x00 ∷ 0x00 ∷ 0x00 ∷ 0x00 ∷ 0x00 ∷ 0x00 ∷ 0x00 ∷ []) fault.Limit
 unfolding field_at row_at whole_at spelled_at integer_spelled_at integer_at signed_at entity_at integer_value part_checked
 no_stop_in_ten_signed = refl
 
@@ -97,16 +98,16 @@ decimal_least_exponent : Reads (field kind.Decimal Mandatory Plain) Undefined tr
 unfolding field_at row_at whole_at spelled_at decimal_spelled_at mantissa_behind integer_at signed_at entity_at decimal_value part_checked
 decimal_least_exponent = (refl, refl)
 
-decimal_exponent_below : IsFieldFault (field kind.Decimal Mandatory Plain) Undefined true (0xC0 ∷ []) fault.R1
+decimal_exponent_below : IsFieldFault Usual (field kind.Decimal Mandatory Plain) Undefined true (0xC0 ∷ []) fault.R1
 unfolding field_at row_at whole_at spelled_at decimal_spelled_at mantissa_behind integer_at signed_at entity_at decimal_value part_checked
 decimal_exponent_below = refl
 
 -- a mantissa out of int64
-mantissa_of_whole : IsFieldFault (field kind.Decimal Mandatory Plain) Undefined true (0x80 ∷ 0x01 ∷ 0x00 ∷ 0x00 ∷ 0x00 ∷ 0x00 ∷ 0x00 ∷ 0x00 ∷ 0x00 ∷ 0x00 ∷ 0x80 ∷ []) fault.R1
+mantissa_of_whole : IsFieldFault Usual (field kind.Decimal Mandatory Plain) Undefined true (0x80 ∷ 0x01 ∷ 0x00 ∷ 0x00 ∷ 0x00 ∷ 0x00 ∷ 0x00 ∷ 0x00 ∷ 0x00 ∷ 0x00 ∷ 0x80 ∷ []) fault.R1
 unfolding field_at row_at whole_at spelled_at decimal_spelled_at mantissa_behind integer_at signed_at entity_at decimal_value part_checked
 mantissa_of_whole = refl
 
-mantissa_of_delta : IsFieldFault (field kind.Decimal Mandatory Delta) (Assigned (Decimal (pos 0) (pos (2 ^ 63 - 1)))) true (0x80 ∷ 0x81 ∷ []) fault.R1
+mantissa_of_delta : IsFieldFault Usual (field kind.Decimal Mandatory Delta) (Assigned (Decimal (pos 0) (pos (2 ^ 63 - 1)))) true (0x80 ∷ 0x81 ∷ []) fault.R1
 unfolding field_at row_at delta_at decimal_delta_at mantissa_delta_behind integer_at signed_at entity_at decimal_value part_checked
 mantissa_of_delta = refl
 
@@ -124,11 +125,11 @@ unfolding field_at row_at delta_at decimal_delta_at mantissa_delta_behind intege
 decimal_delta_absent = (refl, refl)
 
 -- the base is asked for before the mantissa
-decimal_delta_on_empty : IsFieldFault (field kind.Decimal Mandatory Delta) Empty true (0x80 ∷ []) fault.D6
+decimal_delta_on_empty : IsFieldFault Usual (field kind.Decimal Mandatory Delta) Empty true (0x80 ∷ []) fault.D6
 unfolding field_at row_at delta_at decimal_delta_at mantissa_delta_behind integer_at signed_at entity_at decimal_value part_checked
 decimal_delta_on_empty = refl
 
-decimal_delta_on_another_type : IsFieldFault (field kind.Decimal Mandatory Delta) (number 5) true (0x80 ∷ []) fault.D4
+decimal_delta_on_another_type : IsFieldFault Usual (field kind.Decimal Mandatory Delta) (number 5) true (0x80 ∷ []) fault.D4
 unfolding field_at row_at delta_at decimal_delta_at mantissa_delta_behind integer_at signed_at entity_at decimal_value part_checked
 decimal_delta_on_another_type = refl
 
@@ -148,11 +149,11 @@ unfolding field_at row_at whole_at spelled_at units_spelled_at units_at vector_n
 vector_null = (refl, refl)
 
 -- a length of 65,536 is too long before a byte of it has come; one of 65,535 is not
-vector_too_long : IsFieldFault (field kind.Bytes Mandatory Plain) Undefined true (0x04 ∷ 0x00 ∷ 0x80 ∷ []) fault.Limit
+vector_too_long : IsFieldFault Usual (field kind.Bytes Mandatory Plain) Undefined true (0x04 ∷ 0x00 ∷ 0x80 ∷ []) fault.Limit
 unfolding field_at row_at whole_at spelled_at units_spelled_at units_at part_at vector_at unsigned_at entity_at bytes_at unit_value part_checked
 vector_too_long = refl
 
-vector_long : IsFieldFault (field kind.Bytes Mandatory Plain) Undefined true (0x03 ∷ 0x7F ∷ 0xFF ∷ []) fault.NeedMore
+vector_long : IsFieldFault Usual (field kind.Bytes Mandatory Plain) Undefined true (0x03 ∷ 0x7F ∷ 0xFF ∷ []) fault.NeedMore
 unfolding field_at row_at whole_at spelled_at units_spelled_at units_at part_at vector_at unsigned_at entity_at bytes_at unit_value part_checked
 vector_long = refl
 
@@ -172,7 +173,7 @@ vector_delta_in_front : Reads (field kind.Bytes Mandatory Delta) (Assigned (Byte
 unfolding field_at row_at delta_at unit_delta_at integer_at signed_at unsigned_at entity_at new_part_behind part_at vector_at bytes_at limited_value unit_value part_checked
 vector_delta_in_front = (refl, refl)
 
-vector_delta_needs_more : IsFieldFault (field kind.Bytes Mandatory Delta) (Assigned (Bytes (1 ∷ 2 ∷ 3 ∷ []))) true (0x82 ∷ 0x81 ∷ []) fault.NeedMore
+vector_delta_needs_more : IsFieldFault Usual (field kind.Bytes Mandatory Delta) (Assigned (Bytes (1 ∷ 2 ∷ 3 ∷ []))) true (0x82 ∷ 0x81 ∷ []) fault.NeedMore
 unfolding field_at row_at delta_at unit_delta_at integer_at signed_at unsigned_at entity_at new_part_behind part_at vector_at bytes_at limited_value unit_value part_checked
 vector_delta_needs_more = refl
 
@@ -181,11 +182,11 @@ unicode_delta : Reads (field kind.Unicode Mandatory Delta) (Assigned (Unicode (0
 unfolding field_at row_at delta_at unit_delta_at integer_at signed_at unsigned_at entity_at new_part_behind part_at vector_at bytes_at limited_value unit_value part_checked is_utf8 chars lib.Utf8.encode
 unicode_delta = (refl, refl)
 
-unicode_delta_of_no_text : IsFieldFault (field kind.Unicode Mandatory Delta) (Assigned (Unicode (0xC3 ∷ 0xA9 ∷ []))) true (0x81 ∷ 0x80 ∷ []) fault.R2
+unicode_delta_of_no_text : IsFieldFault Usual (field kind.Unicode Mandatory Delta) (Assigned (Unicode (0xC3 ∷ 0xA9 ∷ []))) true (0x81 ∷ 0x80 ∷ []) fault.R2
 unfolding field_at row_at delta_at unit_delta_at integer_at signed_at unsigned_at entity_at new_part_behind part_at vector_at bytes_at limited_value unit_value part_checked is_utf8 chars lib.Utf8.encode
 unicode_delta_of_no_text = refl
 
-unicode_of_no_text : IsFieldFault (field kind.Unicode Mandatory Plain) Undefined true (0x81 ∷ 0xC3 ∷ []) fault.R2
+unicode_of_no_text : IsFieldFault Usual (field kind.Unicode Mandatory Plain) Undefined true (0x81 ∷ 0xC3 ∷ []) fault.R2
 unfolding field_at row_at whole_at spelled_at units_spelled_at units_at part_at vector_at unsigned_at entity_at bytes_at unit_value part_checked is_utf8 chars lib.Utf8.encode
 unicode_of_no_text = refl
 

@@ -1,6 +1,7 @@
 -- The value of a form is of the field's type, and a mandatory field has one.
 use Rattle.std.proofs.Common.{◌≡◌, ℕ, Bool, true, false, List, Option, Some, None, Result, Ok, Err, refl, sym, subst, ◌∙◌, IsTrue}
 use Rattle.std.specs.Prelude.{ℤ, int_lt, pos, ◌+ℤ◌, if◌then◌else◌, IsSome}
+use Rattle.fast_wire.specs.declared.level.Level.TheVariants.{Usual}
 use Rattle.fast_value.specs.Scalar.{kind_of, is_of, is_integer, of_integer, least_of, greatest_of}
 use Rattle.fast_template.specs.TemplateSets.{applies, IsTyped}
 use Rattle.fast_value.specs.declared.kind.Kind.{Kind}
@@ -44,7 +45,7 @@ string_kind kind.UInt64 s v is e = absurd cc
 string_kind kind.Int64 s v is e = absurd cc
 string_kind kind.Decimal s v is e = absurd cc
 
-spelled_kind : (k : Kind) (p : Presence) (b : List ℕ) (v : Scalar) → Spelled k p b (Some v) → IsTrue (is_of k v)
+spelled_kind : (k : Kind) (p : Presence) (b : List ℕ) (v : Scalar) → Spelled Usual k p b (Some v) → IsTrue (is_of k v)
 spelled_kind kind.UInt32 p b v h = number_kind kind.UInt32 h.number v refl h.value
 spelled_kind kind.Int32 p b v h = number_kind kind.Int32 h.number v refl h.value
 spelled_kind kind.UInt64 p b v h = number_kind kind.UInt64 h.number v refl h.value
@@ -54,7 +55,7 @@ spelled_kind kind.Ascii p b v h = string_kind kind.Ascii h.string v refl h.value
 spelled_kind kind.Unicode p b v h = string_kind kind.Unicode h.string v refl h.value
 spelled_kind kind.Bytes p b v h = string_kind kind.Bytes h.string v refl h.value
 
-delta_kind : (k : Kind) (p : Presence) (base : Scalar) (c : Cut) (b : List ℕ) (v : Scalar) → DeltaValue k p base c b v → IsTrue (is_of k v)
+delta_kind : (k : Kind) (p : Presence) (base : Scalar) (c : Cut) (b : List ℕ) (v : Scalar) → DeltaValue Usual k p base c b v → IsTrue (is_of k v)
 delta_kind kind.UInt32 p base c b v h = number_kind kind.UInt32 (integer_of base +ℤ h.delta) v refl h.value
 delta_kind kind.Int32 p base c b v h = number_kind kind.Int32 (integer_of base +ℤ h.delta) v refl h.value
 delta_kind kind.UInt64 p base c b v h = number_kind kind.UInt64 (integer_of base +ℤ h.delta) v refl h.value
@@ -122,7 +123,7 @@ predicted_kind i typed Undefined v h = undefined_kind i typed i.presence i.initi
 predicted_kind i typed Empty v h = empty_kind i i.presence v h
 predicted_kind i typed (Assigned w) v h = assigned_kind i typed w v (is_of i.kind w) refl h
 
-row_kind : (o : Operator) (i : FieldPart) → IsTyped i → i.operator ≡ o → (e : Entry) (bit : Bool) (c : Cut) (b : List ℕ) (v : Scalar) → FormOf o i e bit c b (Some v) → IsTrue (is_of i.kind v)
+row_kind : (o : Operator) (i : FieldPart) → IsTyped i → i.operator ≡ o → (e : Entry) (bit : Bool) (c : Cut) (b : List ℕ) (v : Scalar) → FormOf Usual o i e bit c b (Some v) → IsTrue (is_of i.kind v)
 row_kind operator.Plain i typed is e false c b v h = absurd h
 row_kind operator.Plain i typed is e true c b v h = spelled_kind i.kind i.presence b v h.1
 row_kind operator.Constant i typed is e false c b v h = let none = h.3 in absurd cc
@@ -139,12 +140,12 @@ row_kind operator.Tail i typed is e false c b v h = predicted_kind i typed e v h
 row_kind operator.Tail i typed is e true c b v h = string_kind i.kind _ v (rw is at typed.operator_applies) h.2.value.1
 
 -- a value of a form is of the field's type
-pub value_kind : (i : FieldPart) → IsTyped i → (e : Entry) (bit : Bool) (b : List ℕ) (v : Scalar) → Form i e bit b (Some v) → IsTrue (is_of i.kind v)
+pub value_kind : (i : FieldPart) → IsTyped i → (e : Entry) (bit : Bool) (b : List ℕ) (v : Scalar) → Form Usual i e bit b (Some v) → IsTrue (is_of i.kind v)
 value_kind i typed e bit b v h = row_kind i.operator i typed refl e bit h.0 b v h.1.row
 
 -- ---- and there
 
-spelled_there : (k : Kind) (b : List ℕ) → Spelled k Mandatory b None → ⊥
+spelled_there : (k : Kind) (b : List ℕ) → Spelled Usual k Mandatory b None → ⊥
 spelled_there kind.UInt32 b h = h
 spelled_there kind.Int32 b h = h
 spelled_there kind.UInt64 b h = h
@@ -171,7 +172,7 @@ constant_there : (i : FieldPart) (o : Option Scalar) → i.initial ≡ o → IsS
 constant_there i None e some h = let no = rw e at some in cc
 constant_there i (Some v) e some h = cc
 
-row_there : (o : Operator) (i : FieldPart) → IsTyped i → i.operator ≡ o → i.presence ≡ Mandatory → (e : Entry) (bit : Bool) (c : Cut) (b : List ℕ) → FormOf o i e bit c b None → ⊥
+row_there : (o : Operator) (i : FieldPart) → IsTyped i → i.operator ≡ o → i.presence ≡ Mandatory → (e : Entry) (bit : Bool) (c : Cut) (b : List ℕ) → FormOf Usual o i e bit c b None → ⊥
 row_there operator.Plain i typed is m e false c b h = h
 row_there operator.Plain i typed is m e true c b h = spelled_there i.kind b (rw m at h.1)
 row_there operator.Constant i typed is m e false c b h = let optional = h.2 in let no : Mandatory ≡ Optional = sym m ∙ optional in cc
@@ -188,5 +189,5 @@ row_there operator.Tail i typed is m e false c b h = predicted_there i m e h.2
 row_there operator.Tail i typed is m e true c b h = let no = h.1 in rw m at no
 
 -- a mandatory field has a value in each form
-pub value_there : (i : FieldPart) → IsTyped i → i.presence ≡ Mandatory → (e : Entry) (bit : Bool) (b : List ℕ) → Form i e bit b None → ⊥
+pub value_there : (i : FieldPart) → IsTyped i → i.presence ≡ Mandatory → (e : Entry) (bit : Bool) (b : List ℕ) → Form Usual i e bit b None → ⊥
 value_there i typed m e bit b h = row_there i.operator i typed refl m e bit h.0 b h.1.row

@@ -4,6 +4,7 @@ use Rattle.std.specs.Prelude.{ℤ, pos, negsuc, nat_le, int_le, Option, Some, No
 use Rattle.std.specs.List.{AllByRecursion}
 use Rattle.std.proofs.lemmas.Bool.Decides.{nat_tests}
 use Rattle.std.proofs.lemmas.List.Elements.{recursion_from_All}
+use Rattle.fast_wire.specs.declared.level.Level.TheVariants.{Usual}
 use Rattle.fast_wire.specs.declared.nullable.Nullable.TheVariants.{Null, Value}
 use Rattle.fast_wire.proofs.FormSizes.{ascii_sizes, ascii_nullable_sizes}
 use Rattle.fast_value.specs.Scalar.{is_of, is_integer, in_range, of_integer, IsScalar}
@@ -72,11 +73,11 @@ all_drop P zero s h = h
 all_drop P (suc n) [] h = tt
 all_drop P (suc n) (c ∷ s) h = all_drop P n s h.1
 
-pub part_within : (k : Kind) (b s : List ℕ) → SpellsPart k b s → IsString k s
+pub part_within : (k : Kind) (b s : List ℕ) → SpellsPart Usual k b s → IsString k s
 part_within kind.Ascii b s h = let w = ascii_sizes.within b s h in (w.1, recursion_from_All (λ c. c < 128) s w.0)
 part_within k b s h = (h.limit, h.bytes_fit)
 
-pub units_within : (k : Kind) (p : Presence) (b s : List ℕ) → SpellsUnits k p b (Value s) → IsString k s
+pub units_within : (k : Kind) (p : Presence) (b s : List ℕ) → SpellsUnits Usual k p b (Value s) → IsString k s
 units_within k Mandatory b s h = part_within k b s h
 units_within kind.Ascii Optional b s h = let w = ascii_nullable_sizes.within b (Value s) h in (w.1, recursion_from_All (λ c. c < 128) s w.0)
 units_within k Optional b s h = (h.limit, h.bytes_fit)
@@ -98,12 +99,12 @@ units_of_string k v u h = absurd u
 
 -- ---- what stands whole
 
-pub null_optional : (u : Bool) (p : Presence) (b : List ℕ) → SpellsInteger u p b Null → p ≡ Optional
+pub null_optional : (u : Bool) (p : Presence) (b : List ℕ) → SpellsInteger Usual u p b Null → p ≡ Optional
 null_optional true Mandatory b h = absurd h
 null_optional false Mandatory b h = absurd h
 null_optional u Optional b h = refl
 
-pub null_units_optional : (k : Kind) (p : Presence) (b : List ℕ) → SpellsUnits k p b Null → p ≡ Optional
+pub null_units_optional : (k : Kind) (p : Presence) (b : List ℕ) → SpellsUnits Usual k p b Null → p ≡ Optional
 null_units_optional k Mandatory b h = absurd h
 null_units_optional k Optional b h = refl
 
@@ -112,19 +113,19 @@ abbrev pub IsOfTypeOr : Kind → Presence → Option Scalar → Type 0
 IsOfTypeOr k p None = p ≡ Optional
 IsOfTypeOr k p (Some v) = IsOfType k v
 
-numbers_within : (k : Kind) (p : Presence) (b : List ℕ) (v : Option Scalar) → IsTrue (is_integer k) → SpelledNumber k p b v → IsOfTypeOr k p v
+numbers_within : (k : Kind) (p : Presence) (b : List ℕ) (v : Option Scalar) → IsTrue (is_integer k) → SpelledNumber Usual k p b v → IsOfTypeOr k p v
 numbers_within k p b None i h = null_optional (is_unsigned k) p b h
 numbers_within k p b (Some v) i h = rw h.value (number_within k h.number i h.range)
 
-strings_within : (k : Kind) (p : Presence) (b : List ℕ) (v : Option Scalar) → IsUnitKind k → SpelledString k p b v → IsOfTypeOr k p v
+strings_within : (k : Kind) (p : Presence) (b : List ℕ) (v : Option Scalar) → IsUnitKind k → SpelledString Usual k p b v → IsOfTypeOr k p v
 strings_within k p b None u h = null_units_optional k p b h
 strings_within k p b (Some v) u h = string_within k h.string v u h.value (units_within k p b h.string h.form)
 
-decimals_within : (p : Presence) (b : List ℕ) (v : Option Scalar) → SpelledDecimal p b v → IsOfTypeOr kind.Decimal p v
+decimals_within : (p : Presence) (b : List ℕ) (v : Option Scalar) → SpelledDecimal Usual p b v → IsOfTypeOr kind.Decimal p v
 decimals_within p b None h = null_optional false p b h
 decimals_within p b (Some v) h = rw h.value.2 (refl, (h.value.0, h.value.1))
 
-pub spelled_within : (k : Kind) (p : Presence) (b : List ℕ) (v : Option Scalar) → Spelled k p b v → IsOfTypeOr k p v
+pub spelled_within : (k : Kind) (p : Presence) (b : List ℕ) (v : Option Scalar) → Spelled Usual k p b v → IsOfTypeOr k p v
 spelled_within kind.UInt32 p b v h = numbers_within kind.UInt32 p b v refl h
 spelled_within kind.Int32 p b v h = numbers_within kind.Int32 p b v refl h
 spelled_within kind.UInt64 p b v h = numbers_within kind.UInt64 p b v refl h

@@ -2,6 +2,7 @@
 use Rattle.std.proofs.Common.{◌≡◌, ℕ, zero, suc, ◌+◌, ◌≤◌, Bool, true, false, List, [], ◌∷◌, length, Result, Ok, Err, refl, ap, subst, arith, inl, inr}
 use Rattle.std.specs.Prelude.{ℤ, ◌+ℤ◌, nat_le, if◌then◌else◌, Option}
 use Rattle.std.proofs.lemmas.Bool.{cases_lt}
+use Rattle.fast_wire.specs.declared.level.Level.TheVariants.{Usual}
 use Rattle.fast_wire.specs.Entity.{groups}
 use Rattle.fast_wire.specs.Integer.{unsigned_of, signed_of}
 use Rattle.fast_wire.specs.Nullable.{received_unsigned, received_signed, units}
@@ -182,26 +183,26 @@ in_field_takes : {A : Type 0} (most : ℕ) (bytes : List ℕ) (r : Result (A × 
 in_field_takes most bytes (Ok y) h x e = h x (ap (λ z. Ok z) (ok_is {F = FieldFault} y x e))
 in_field_takes most bytes (Err f) h x e = absurd cc
 
-integer_waits : (u : Bool) (p : Presence) (bytes : List ℕ) → Waits fault.NeedMore 10 bytes (integer_at u p bytes)
+integer_waits : (u : Bool) (p : Presence) (bytes : List ℕ) → Waits fault.NeedMore 10 bytes (integer_at Usual u p bytes)
 unfolding integer_at
 integer_waits true Mandatory bytes = waits_made fault.NeedMore 10 bytes (in_field (unsigned_at bytes)) _ (in_field_waits 10 bytes (unsigned_at bytes) (unsigned_waits bytes)) (λ x. done fault.NeedMore _)
 integer_waits true Optional bytes = waits_made fault.NeedMore 10 bytes (in_field (unsigned_nullable_at bytes)) _ (in_field_waits 10 bytes (unsigned_nullable_at bytes) (unsigned_nullable_waits bytes)) (λ x. done fault.NeedMore _)
 integer_waits false Mandatory bytes = waits_made fault.NeedMore 10 bytes (in_field (signed_at bytes)) _ (in_field_waits 10 bytes (signed_at bytes) (signed_waits bytes)) (λ x. done fault.NeedMore _)
 integer_waits false Optional bytes = in_field_waits 10 bytes (signed_nullable_at bytes) (signed_nullable_waits bytes)
 
-sent_takes : (p : Presence) (bytes : List ℕ) → Takes 10 bytes (integer_at false p bytes)
+sent_takes : (p : Presence) (bytes : List ℕ) → Takes 10 bytes (integer_at Usual false p bytes)
 unfolding integer_at
 sent_takes Mandatory bytes = takes_map 10 bytes (in_field (signed_at bytes)) (λ (z : ℤ). Value z) (in_field_takes 10 bytes (signed_at bytes) (signed_takes bytes))
 sent_takes Optional bytes = in_field_takes 10 bytes (signed_nullable_at bytes) (signed_nullable_takes bytes)
 
-part_waits : (k : Kind) (bytes : List ℕ) → Waits fault.NeedMore 65544 bytes (part_at k bytes)
+part_waits : (k : Kind) (bytes : List ℕ) → Waits fault.NeedMore 65544 bytes (part_at Usual k bytes)
 unfolding part_at
 part_waits kind.Ascii bytes = in_field_waits 65544 bytes (ascii_at bytes) (ascii_waits bytes)
 part_waits k bytes = in_field_waits 65544 bytes (vector_at bytes) (vector_waits bytes)
 
-units_waits : (k : Kind) (p : Presence) (bytes : List ℕ) → Waits fault.NeedMore 65544 bytes (units_at k p bytes)
+units_waits : (k : Kind) (p : Presence) (bytes : List ℕ) → Waits fault.NeedMore 65544 bytes (units_at Usual k p bytes)
 unfolding units_at
-units_waits k Mandatory bytes = waits_made fault.NeedMore 65544 bytes (part_at k bytes) _ (part_waits k bytes) (λ x. done fault.NeedMore _)
+units_waits k Mandatory bytes = waits_made fault.NeedMore 65544 bytes (part_at Usual k bytes) _ (part_waits k bytes) (λ x. done fault.NeedMore _)
 units_waits kind.Ascii Optional bytes = in_field_waits 65544 bytes (ascii_nullable_at bytes) (ascii_nullable_waits bytes)
 units_waits k Optional bytes = in_field_waits 65544 bytes (vector_nullable_at bytes) (vector_nullable_waits bytes)
 
@@ -218,104 +219,104 @@ unless_null_waits most (Value a, rest) f h = h a rest
 
 -- ---- what stands whole
 
-number_waits : (pt : Part) (k : Kind) (p : Presence) (bytes : List ℕ) → Waits fault.NeedMore 10 bytes (integer_spelled_at pt k p bytes)
+number_waits : (pt : Part) (k : Kind) (p : Presence) (bytes : List ℕ) → Waits fault.NeedMore 10 bytes (integer_spelled_at Usual pt k p bytes)
 unfolding integer_spelled_at
 number_waits pt k p bytes =
-    waits_made fault.NeedMore 10 bytes (integer_at (is_unsigned k) p bytes) _ (integer_waits (is_unsigned k) p bytes)
+    waits_made fault.NeedMore 10 bytes (integer_at Usual (is_unsigned k) p bytes) _ (integer_waits (is_unsigned k) p bytes)
     (λ z. unless_null_goes_on z (integer_value pt k) (integer_made fault.NeedMore tt pt k))
 
-mantissa_waits : (e : ℤ) (rest : List ℕ) → Waits fault.NeedMore 10 rest (mantissa_behind e rest)
+mantissa_waits : (e : ℤ) (rest : List ℕ) → Waits fault.NeedMore 10 rest (mantissa_behind Usual e rest)
 unfolding mantissa_behind
 mantissa_waits e rest =
     waits_then fault.NeedMore 10 rest (check (exponent_in_range e) fault.R1) _ (never fault.NeedMore 10 rest _ (tested fault.NeedMore tt (exponent_in_range e) fault.R1 (λ h. h)))
     (λ ok t. waits_made fault.NeedMore 10 rest (in_field (signed_at rest)) _ (in_field_waits 10 rest (signed_at rest) (signed_waits rest))
     (λ m. value fault.NeedMore _ m.1 (decimal_made fault.NeedMore tt e m.0)))
 
-decimal_waits : (p : Presence) (bytes : List ℕ) → Waits fault.NeedMore 20 bytes (decimal_spelled_at p bytes)
+decimal_waits : (p : Presence) (bytes : List ℕ) → Waits fault.NeedMore 20 bytes (decimal_spelled_at Usual p bytes)
 unfolding decimal_spelled_at
 decimal_waits p bytes =
-    waits_then fault.NeedMore 20 bytes (integer_at false p bytes) _ (fewer fault.NeedMore 10 20 bytes (integer_at false p bytes) (omega arith) (integer_waits false p bytes))
-    (λ e t. behind fault.NeedMore 10 10 20 bytes (integer_at false p bytes) e _ (sent_takes p bytes) t (omega arith) (unless_null_waits 10 e mantissa_behind mantissa_waits))
+    waits_then fault.NeedMore 20 bytes (integer_at Usual false p bytes) _ (fewer fault.NeedMore 10 20 bytes (integer_at Usual false p bytes) (omega arith) (integer_waits false p bytes))
+    (λ e t. behind fault.NeedMore 10 10 20 bytes (integer_at Usual false p bytes) e _ (sent_takes p bytes) t (omega arith) (unless_null_waits 10 e (mantissa_behind Usual) mantissa_waits))
 
-string_waits : (k : Kind) (p : Presence) (bytes : List ℕ) → Waits fault.NeedMore 65544 bytes (units_spelled_at k p bytes)
+string_waits : (k : Kind) (p : Presence) (bytes : List ℕ) → Waits fault.NeedMore 65544 bytes (units_spelled_at Usual k p bytes)
 unfolding units_spelled_at
 string_waits k p bytes =
-    waits_made fault.NeedMore 65544 bytes (units_at k p bytes) _ (units_waits k p bytes)
+    waits_made fault.NeedMore 65544 bytes (units_at Usual k p bytes) _ (units_waits k p bytes)
     (λ s. unless_null_goes_on s (unit_value k) (unit_made fault.NeedMore tt k))
 
-spelled_waits : (pt : Part) (k : Kind) (p : Presence) (bytes : List ℕ) → Waits fault.NeedMore 65544 bytes (spelled_at pt k p bytes)
+spelled_waits : (pt : Part) (k : Kind) (p : Presence) (bytes : List ℕ) → Waits fault.NeedMore 65544 bytes (spelled_at Usual pt k p bytes)
 unfolding spelled_at
-spelled_waits pt kind.Decimal p bytes = fewer fault.NeedMore 20 65544 bytes (decimal_spelled_at p bytes) (omega arith) (decimal_waits p bytes)
+spelled_waits pt kind.Decimal p bytes = fewer fault.NeedMore 20 65544 bytes (decimal_spelled_at Usual p bytes) (omega arith) (decimal_waits p bytes)
 spelled_waits pt kind.Ascii p bytes = string_waits kind.Ascii p bytes
 spelled_waits pt kind.Unicode p bytes = string_waits kind.Unicode p bytes
 spelled_waits pt kind.Bytes p bytes = string_waits kind.Bytes p bytes
-spelled_waits pt k p bytes = fewer fault.NeedMore 10 65544 bytes (integer_spelled_at pt k p bytes) (omega arith) (number_waits pt k p bytes)
+spelled_waits pt k p bytes = fewer fault.NeedMore 10 65544 bytes (integer_spelled_at Usual pt k p bytes) (omega arith) (number_waits pt k p bytes)
 
 -- ---- deltas and tails
 
-number_delta_waits : (i : FieldPart) (e : Entry) (bytes : List ℕ) → Waits fault.NeedMore 10 bytes (integer_delta_at i e bytes)
+number_delta_waits : (i : FieldPart) (e : Entry) (bytes : List ℕ) → Waits fault.NeedMore 10 bytes (integer_delta_at Usual i e bytes)
 unfolding integer_delta_at
 number_delta_waits i e bytes =
-    waits_made fault.NeedMore 10 bytes (integer_at false i.presence bytes) _ (integer_waits false i.presence bytes)
+    waits_made fault.NeedMore 10 bytes (integer_at Usual false i.presence bytes) _ (integer_waits false i.presence bytes)
     (λ d. unless_null_goes_on d (integer_sum i e) (summed fault.NeedMore tt i e))
 
-mantissa_delta_waits : (e base : ℤ) (rest : List ℕ) → Waits fault.NeedMore 10 rest (mantissa_delta_behind e base rest)
+mantissa_delta_waits : (e base : ℤ) (rest : List ℕ) → Waits fault.NeedMore 10 rest (mantissa_delta_behind Usual e base rest)
 unfolding mantissa_delta_behind
 mantissa_delta_waits e base rest =
     waits_then fault.NeedMore 10 rest (check (exponent_in_range e) fault.R1) _ (never fault.NeedMore 10 rest _ (tested fault.NeedMore tt (exponent_in_range e) fault.R1 (λ h. h)))
     (λ ok t. waits_made fault.NeedMore 10 rest (in_field (signed_at rest)) _ (in_field_waits 10 rest (signed_at rest) (signed_waits rest))
     (λ d. value fault.NeedMore _ d.1 (decimal_made fault.NeedMore tt e (base +ℤ d.0))))
 
-decimal_delta_waits : (i : FieldPart) (e : Entry) (bytes : List ℕ) → Waits fault.NeedMore 20 bytes (decimal_delta_at i e bytes)
+decimal_delta_waits : (i : FieldPart) (e : Entry) (bytes : List ℕ) → Waits fault.NeedMore 20 bytes (decimal_delta_at Usual i e bytes)
 unfolding decimal_delta_at
 decimal_delta_waits i e bytes =
-    waits_then fault.NeedMore 20 bytes (integer_at false i.presence bytes) _ (fewer fault.NeedMore 10 20 bytes (integer_at false i.presence bytes) (omega arith) (integer_waits false i.presence bytes))
-    (λ d t. behind fault.NeedMore 10 10 20 bytes (integer_at false i.presence bytes) d _ (sent_takes i.presence bytes) t (omega arith)
+    waits_then fault.NeedMore 20 bytes (integer_at Usual false i.presence bytes) _ (fewer fault.NeedMore 10 20 bytes (integer_at Usual false i.presence bytes) (omega arith) (integer_waits false i.presence bytes))
+    (λ d t. behind fault.NeedMore 10 10 20 bytes (integer_at Usual false i.presence bytes) d _ (sent_takes i.presence bytes) t (omega arith)
     (unless_null_waits 10 d _ (λ d rest. waits_then fault.NeedMore 10 rest (delta_base i e) _ (never fault.NeedMore 10 rest (delta_base i e) (base_of_delta fault.NeedMore tt i e))
     (λ base t. mantissa_delta_waits (exponent_of base +ℤ d) (mantissa_of base) rest))))
 
-new_part_waits : (k : Kind) (removal : ℤ) (base rest : List ℕ) → Waits fault.NeedMore 65544 rest (new_part_behind k removal base rest)
+new_part_waits : (k : Kind) (removal : ℤ) (base rest : List ℕ) → Waits fault.NeedMore 65544 rest (new_part_behind Usual k removal base rest)
 unfolding new_part_behind
 new_part_waits k removal base rest =
     waits_then fault.NeedMore 65544 rest (check (nat_le (removed_of removal) (length base)) fault.D7) _ (never fault.NeedMore 65544 rest _ (tested fault.NeedMore tt (nat_le (removed_of removal) (length base)) fault.D7 (λ h. h)))
-    (λ ok t. waits_made fault.NeedMore 65544 rest (part_at k rest) _ (part_waits k rest) (λ s. value fault.NeedMore _ s.1 (few_made fault.NeedMore tt k (put_together removal base s.0))))
+    (λ ok t. waits_made fault.NeedMore 65544 rest (part_at Usual k rest) _ (part_waits k rest) (λ s. value fault.NeedMore _ s.1 (few_made fault.NeedMore tt k (put_together removal base s.0))))
 
 -- behind ten bytes of a subtraction length
-string_delta_waits : (i : FieldPart) (e : Entry) (bytes : List ℕ) → Waits fault.NeedMore 65554 bytes (unit_delta_at i e bytes)
+string_delta_waits : (i : FieldPart) (e : Entry) (bytes : List ℕ) → Waits fault.NeedMore 65554 bytes (unit_delta_at Usual i e bytes)
 unfolding unit_delta_at
 string_delta_waits i e bytes =
-    waits_then fault.NeedMore 65554 bytes (integer_at false i.presence bytes) _ (fewer fault.NeedMore 10 65554 bytes (integer_at false i.presence bytes) (omega arith) (integer_waits false i.presence bytes))
-    (λ removal t. behind fault.NeedMore 10 65544 65554 bytes (integer_at false i.presence bytes) removal _ (sent_takes i.presence bytes) t (omega arith)
+    waits_then fault.NeedMore 65554 bytes (integer_at Usual false i.presence bytes) _ (fewer fault.NeedMore 10 65554 bytes (integer_at Usual false i.presence bytes) (omega arith) (integer_waits false i.presence bytes))
+    (λ removal t. behind fault.NeedMore 10 65544 65554 bytes (integer_at Usual false i.presence bytes) removal _ (sent_takes i.presence bytes) t (omega arith)
     (unless_null_waits 65544 removal _ (λ removal rest.
     waits_then fault.NeedMore 65544 rest (check (in_range kind.Int32 removal) fault.D7) _ (never fault.NeedMore 65544 rest _ (tested fault.NeedMore tt (in_range kind.Int32 removal) fault.D7 (λ h. h)))
     (λ fits t. waits_then fault.NeedMore 65544 rest (delta_base i e) _ (never fault.NeedMore 65544 rest (delta_base i e) (base_of_delta fault.NeedMore tt i e))
     (λ base t. new_part_waits i.kind removal (units_of base) rest)))))
 
-delta_waits : (k : Kind) (i : FieldPart) (e : Entry) (bytes : List ℕ) → Waits fault.NeedMore 65554 bytes (delta_at k i e bytes)
+delta_waits : (k : Kind) (i : FieldPart) (e : Entry) (bytes : List ℕ) → Waits fault.NeedMore 65554 bytes (delta_at Usual k i e bytes)
 unfolding delta_at
-delta_waits kind.Decimal i e bytes = fewer fault.NeedMore 20 65554 bytes (decimal_delta_at i e bytes) (omega arith) (decimal_delta_waits i e bytes)
+delta_waits kind.Decimal i e bytes = fewer fault.NeedMore 20 65554 bytes (decimal_delta_at Usual i e bytes) (omega arith) (decimal_delta_waits i e bytes)
 delta_waits kind.Ascii i e bytes = string_delta_waits i e bytes
 delta_waits kind.Unicode i e bytes = string_delta_waits i e bytes
 delta_waits kind.Bytes i e bytes = string_delta_waits i e bytes
-delta_waits k i e bytes = fewer fault.NeedMore 10 65554 bytes (integer_delta_at i e bytes) (omega arith) (number_delta_waits i e bytes)
+delta_waits k i e bytes = fewer fault.NeedMore 10 65554 bytes (integer_delta_at Usual i e bytes) (omega arith) (number_delta_waits i e bytes)
 
-tail_waits : (i : FieldPart) (e : Entry) (bytes : List ℕ) → Waits fault.NeedMore 65554 bytes (tail_at i e bytes)
+tail_waits : (i : FieldPart) (e : Entry) (bytes : List ℕ) → Waits fault.NeedMore 65554 bytes (tail_at Usual i e bytes)
 unfolding tail_at
 tail_waits i e bytes =
-    waits_made fault.NeedMore 65554 bytes (units_at i.kind i.presence bytes) _ (fewer fault.NeedMore 65544 65554 bytes (units_at i.kind i.presence bytes) (omega arith) (units_waits i.kind i.presence bytes))
+    waits_made fault.NeedMore 65554 bytes (units_at Usual i.kind i.presence bytes) _ (fewer fault.NeedMore 65544 65554 bytes (units_at Usual i.kind i.presence bytes) (omega arith) (units_waits i.kind i.presence bytes))
     (λ t. unless_null_goes_on t (ended_value i e) (ended fault.NeedMore tt i e))
 
 -- ---- the operators
 
-whole_waits : (i : FieldPart) (bytes : List ℕ) → Waits fault.NeedMore 65554 bytes (whole_at i bytes)
+whole_waits : (i : FieldPart) (bytes : List ℕ) → Waits fault.NeedMore 65554 bytes (whole_at Usual i bytes)
 unfolding whole_at
-whole_waits i bytes = fewer fault.NeedMore 65544 65554 bytes (spelled_at i.part i.kind i.presence bytes) (omega arith) (spelled_waits i.part i.kind i.presence bytes)
+whole_waits i bytes = fewer fault.NeedMore 65544 65554 bytes (spelled_at Usual i.part i.kind i.presence bytes) (omega arith) (spelled_waits i.part i.kind i.presence bytes)
 
 predicted_waits : (i : FieldPart) (e : Entry) (bytes : List ℕ) → Waits fault.NeedMore 65554 bytes (predicted_at i e bytes)
 unfolding predicted_at
 predicted_waits i e bytes = never fault.NeedMore 65554 bytes _ (other_then fault.NeedMore (predicted i e) _ (foretold fault.NeedMore tt i e) (λ v. done fault.NeedMore _))
 
-row_waits : (o : Operator) (i : FieldPart) (e : Entry) (bit : Bool) (bytes : List ℕ) → Waits fault.NeedMore 65554 bytes (row_at o i e bit bytes)
+row_waits : (o : Operator) (i : FieldPart) (e : Entry) (bit : Bool) (bytes : List ℕ) → Waits fault.NeedMore 65554 bytes (row_at Usual o i e bit bytes)
 unfolding row_at
 row_waits operator.Plain i e bit bytes = whole_waits i bytes
 row_waits operator.Constant i e false bytes = never fault.NeedMore 65554 bytes _ (done fault.NeedMore _)
@@ -330,8 +331,8 @@ row_waits operator.Delta i e bit bytes = delta_waits i.kind i e bytes
 row_waits operator.Tail i e false bytes = predicted_waits i e bytes
 row_waits operator.Tail i e true bytes = tail_waits i e bytes
 
-pub field_waits : (i : FieldPart) (e : Entry) (bit : Bool) (bytes : List ℕ) → IsFieldFault i e bit bytes fault.NeedMore → length bytes ≤ 65554
+pub field_waits : (i : FieldPart) (e : Entry) (bit : Bool) (bytes : List ℕ) → IsFieldFault Usual i e bit bytes fault.NeedMore → length bytes ≤ 65554
 unfolding field_at
 field_waits i e bit bytes =
-    waits_made fault.NeedMore 65554 bytes (row_at i.operator i e bit bytes) _ (row_waits i.operator i e bit bytes)
+    waits_made fault.NeedMore 65554 bytes (row_at Usual i.operator i e bit bytes) _ (row_waits i.operator i e bit bytes)
     (λ x. other_then fault.NeedMore (part_checked i.part x.0) _ (part_allowed fault.NeedMore tt i.part x.0) (λ v. done fault.NeedMore _))

@@ -1,6 +1,7 @@
 -- The fields of the worked rows, and how a row reads.
 use Rattle.std.proofs.Common.{◌≡◌, ℕ, List, drop, Option, Some, None, Bool, Ok, pos, negsuc}
 use Rattle.std.specs.Prelude.{codes}
+use Rattle.fast_wire.specs.declared.level.Level.TheVariants.{Usual}
 use Rattle.fast_value.specs.declared.kind.Kind.{Kind}
 use Rattle.fast_value.specs.declared.kind.Kind.TheVariants as kind
 use Rattle.fast_value.specs.declared.kind.Presence.{Presence}
@@ -97,4 +98,4 @@ number n = Assigned (U32 n)
 
 -- A row: the value that is read, the entry afterwards, and the place after the value.
 abbrev pub Reads : FieldPart → Entry → Bool → List ℕ → Option Scalar → Entry → ℕ → Type 0
-Reads i e bit bytes v after place = (field_at i e bit bytes ≡ Ok (v, drop place bytes)) × (next i e v ≡ after)
+Reads i e bit bytes v after place = (field_at Usual i e bit bytes ≡ Ok (v, drop place bytes)) × (next i e v ≡ after)

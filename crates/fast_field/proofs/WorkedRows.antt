@@ -2,6 +2,7 @@
 use Rattle.std.proofs.Common.{true, false, [], ◌∷◌, Some, None, pos, refl}
 use Rattle.std.specs.Prelude.{codes}
 use Rattle.std.specs.Str.{is_utf8, chars}
+use Rattle.fast_wire.specs.declared.level.Level.TheVariants.{Usual}
 use Rattle.fast_wire.specs.Reading.{entity_at, unsigned_at, signed_at, signed_nullable_at, ascii_at, ascii_nullable_at, bytes_at, vector_at}
 use Rattle.fast_value.specs.declared.kind.Kind.TheVariants as kind
 use Rattle.fast_value.specs.declared.kind.Presence.TheVariants.{Optional}
@@ -20,11 +21,11 @@ unfolding field_at row_at predicted_at part_checked
 increment_wraps = (refl, refl)
 
 -- a mandatory copy that is left out, on an undefined and on an empty entry
-copy_of_nothing : IsFieldFault quote_sym Undefined false ([]) fault.D5
+copy_of_nothing : IsFieldFault Usual quote_sym Undefined false ([]) fault.D5
 unfolding field_at row_at predicted_at part_checked
 copy_of_nothing = refl
 
-copy_of_empty : IsFieldFault quote_sym Empty false ([]) fault.D6
+copy_of_empty : IsFieldFault Usual quote_sym Empty false ([]) fault.D6
 unfolding field_at row_at predicted_at part_checked
 copy_of_empty = refl
 
@@ -34,7 +35,7 @@ unfolding field_at row_at predicted_at part_checked
 copy_absent = (refl, refl)
 
 -- a copy of a value of another type; but a value in the stream asks for no earlier one
-copy_of_another_type : IsFieldFault clash_a (text (codes "A")) false ([]) fault.D4
+copy_of_another_type : IsFieldFault Usual clash_a (text (codes "A")) false ([]) fault.D4
 unfolding field_at row_at predicted_at part_checked
 copy_of_another_type = refl
 
@@ -43,11 +44,11 @@ unfolding field_at row_at whole_at spelled_at integer_spelled_at integer_at unsi
 value_over_another_type = (refl, refl)
 
 -- 2^32, and its first four bytes: a number is judged once its stop bit has come
-out_of_range : IsFieldFault const_d Undefined true (0x10 ∷ 0x00 ∷ 0x00 ∷ 0x00 ∷ 0x80 ∷ []) fault.D2
+out_of_range : IsFieldFault Usual const_d Undefined true (0x10 ∷ 0x00 ∷ 0x00 ∷ 0x00 ∷ 0x80 ∷ []) fault.D2
 unfolding field_at row_at whole_at spelled_at integer_spelled_at integer_at unsigned_at entity_at integer_value part_checked
 out_of_range = refl
 
-too_few : IsFieldFault const_d Undefined true (0x10 ∷ 0x00 ∷ 0x00 ∷ 0x00 ∷ []) fault.NeedMore
+too_few : IsFieldFault Usual const_d Undefined true (0x10 ∷ 0x00 ∷ 0x00 ∷ 0x00 ∷ []) fault.NeedMore
 unfolding field_at row_at whole_at spelled_at integer_spelled_at integer_at unsigned_at entity_at integer_value part_checked
 too_few = refl
 
@@ -81,15 +82,15 @@ unfolding field_at row_at delta_at unit_delta_at integer_at signed_at entity_at 
 nothing_in_front = (refl, refl)
 
 -- five units of four; before a new part has come, and where none can come
-more_than_there : IsFieldFault delta_s (text (codes "ESM6")) true (0x85 ∷ 0x80 ∷ []) fault.D7
+more_than_there : IsFieldFault Usual delta_s (text (codes "ESM6")) true (0x85 ∷ 0x80 ∷ []) fault.D7
 unfolding field_at row_at delta_at unit_delta_at integer_at signed_at entity_at new_part_behind
 more_than_there = refl
 
-more_than_there_at_once : IsFieldFault delta_s (text (codes "ESM6")) true (0x85 ∷ []) fault.D7
+more_than_there_at_once : IsFieldFault Usual delta_s (text (codes "ESM6")) true (0x85 ∷ []) fault.D7
 unfolding field_at row_at delta_at unit_delta_at integer_at signed_at entity_at new_part_behind
 more_than_there_at_once = refl
 
-more_than_there_first : IsFieldFault delta_s (text (codes "ESM6")) true (0x85 ∷ 0x00 ∷ 0x00 ∷ []) fault.D7
+more_than_there_first : IsFieldFault Usual delta_s (text (codes "ESM6")) true (0x85 ∷ 0x00 ∷ 0x00 ∷ []) fault.D7
 unfolding field_at row_at delta_at unit_delta_at integer_at signed_at entity_at new_part_behind
 more_than_there_first = refl
 
@@ -99,7 +100,7 @@ unfolding field_at row_at delta_at unit_delta_at integer_at signed_at entity_at 
 in_front = (refl, refl)
 
 -- one more than the greatest number
-delta_out_of_range : IsFieldFault wrap_b (number 4294967295) true (0x81 ∷ []) fault.D2
+delta_out_of_range : IsFieldFault Usual wrap_b (number 4294967295) true (0x81 ∷ []) fault.D2
 unfolding field_at row_at delta_at integer_delta_at integer_sum integer_at signed_at entity_at integer_value part_checked
 delta_out_of_range = refl
 
@@ -114,7 +115,7 @@ unfolding field_at row_at tail_at ended_value limited_value units_at ascii_nulla
 tail_of_nothing = (refl, refl)
 
 -- a delta has no base on an empty entry
-delta_on_empty : IsFieldFault empty_b Empty true (0x81 ∷ []) fault.D6
+delta_on_empty : IsFieldFault Usual empty_b Empty true (0x81 ∷ []) fault.D6
 unfolding field_at row_at delta_at integer_delta_at integer_sum integer_at signed_at entity_at integer_value part_checked
 delta_on_empty = refl
 
@@ -136,12 +137,12 @@ exponent_63 : Reads opt_px_exponent Undefined true (0x00 ∷ 0xC0 ∷ []) (Some 
 unfolding field_at row_at whole_at spelled_at integer_spelled_at integer_at signed_nullable_at signed_at entity_at integer_value part_checked
 exponent_63 = (refl, refl)
 
-exponent_64 : IsFieldFault opt_px_exponent Undefined true (0x00 ∷ 0xC1 ∷ []) fault.R1
+exponent_64 : IsFieldFault Usual opt_px_exponent Undefined true (0x00 ∷ 0xC1 ∷ []) fault.R1
 unfolding field_at row_at whole_at spelled_at integer_spelled_at integer_at signed_nullable_at signed_at entity_at integer_value part_checked
 exponent_64 = refl
 
 -- an exponent of 64 is refused before a mantissa has come
-exponent_64_alone : IsFieldFault quote_px Undefined true (0x00 ∷ 0xC0 ∷ []) fault.R1
+exponent_64_alone : IsFieldFault Usual quote_px Undefined true (0x00 ∷ 0xC0 ∷ []) fault.R1
 unfolding field_at row_at delta_at decimal_delta_at integer_at signed_at entity_at mantissa_delta_behind
 exponent_64_alone = refl
 
@@ -154,7 +155,7 @@ unicode_tail : Reads uni_s (Assigned (Unicode (0xC3 ∷ 0xA9 ∷ []))) true (0x8
 unfolding field_at row_at tail_at ended_value limited_value units_at part_at vector_at unsigned_at entity_at bytes_at unit_value part_checked is_utf8 chars lib.Utf8.encode
 unicode_tail = (refl, refl)
 
-no_unicode : IsFieldFault uni_s (Assigned (Unicode (0xC3 ∷ 0xA8 ∷ []))) true (0x81 ∷ 0x41 ∷ []) fault.R2
+no_unicode : IsFieldFault Usual uni_s (Assigned (Unicode (0xC3 ∷ 0xA8 ∷ []))) true (0x81 ∷ 0x41 ∷ []) fault.R2
 unfolding field_at row_at tail_at ended_value limited_value units_at part_at vector_at unsigned_at entity_at bytes_at unit_value part_checked is_utf8 chars lib.Utf8.encode
 no_unicode = refl
 
@@ -170,15 +171,15 @@ unfolding field_at row_at tail_at units_at ascii_nullable_at entity_at part_chec
 null_tail_on_another_type = (refl, refl)
 
 -- a subtraction length of 2^31 is no int32, also where there is no base
-no_int32_on_empty : IsFieldFault delta_s Empty true (0x08 ∷ 0x00 ∷ 0x00 ∷ 0x00 ∷ 0x80 ∷ []) fault.D7
+no_int32_on_empty : IsFieldFault Usual delta_s Empty true (0x08 ∷ 0x00 ∷ 0x00 ∷ 0x00 ∷ 0x80 ∷ []) fault.D7
 unfolding field_at row_at delta_at unit_delta_at integer_at signed_at entity_at
 no_int32_on_empty = refl
 
-no_base : IsFieldFault delta_s Empty true (0x80 ∷ 0x80 ∷ []) fault.D6
+no_base : IsFieldFault Usual delta_s Empty true (0x80 ∷ 0x80 ∷ []) fault.D6
 unfolding field_at row_at delta_at unit_delta_at integer_at signed_at entity_at
 no_base = refl
 
 -- an exponent of 64 that bit 0 gives
-exponent_64_by_increment : IsFieldFault counted_exponent (Assigned (I32 (pos 63))) false [] fault.R1
+exponent_64_by_increment : IsFieldFault Usual counted_exponent (Assigned (I32 (pos 63))) false [] fault.R1
 unfolding field_at row_at predicted_at part_checked
 exponent_64_by_increment = refl

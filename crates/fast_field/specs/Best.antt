@@ -1,5 +1,6 @@
 -- The form that a writer chooses. (Own: FAST 1.1 leaves the choice to the writer.)
 use Rattle.std.specs.Prelude.{◌≡◌, ℕ, ◌<◌, ◌≤◌, Bool, true, false, List, length, Option, ◌⊎◌}
+use Rattle.fast_wire.specs.declared.level.Level.TheVariants.{Usual}
 use Rattle.fast_value.specs.declared.kind.Kind.{Kind}
 use Rattle.fast_value.specs.declared.kind.Kind.TheVariants as kind
 use Rattle.fast_value.specs.declared.kind.Operator.{Operator}
@@ -31,8 +32,8 @@ NoLater bit n c bit' n' c' =
 pub record IsBest (i : FieldPart) (e : Entry) (bit : Bool) (b : List ℕ)
     (v : Option Scalar) : Type 0 where
   pub cut : Cut
-  pub form : FormBy i e bit cut b v
-  pub first : (bit' : Bool) (cut' : Cut) (b' : List ℕ) → FormBy i e bit' cut' b' v
+  pub form : FormBy Usual i e bit cut b v
+  pub first : (bit' : Bool) (cut' : Cut) (b' : List ℕ) → FormBy Usual i e bit' cut' b' v
       → NoLater bit (length b) cut bit' (length b') cut'
 
 -- no form of such a field cuts a base: it is no tail, and no delta of a string or vector

@@ -1,6 +1,7 @@
 -- What a delta and a tail make of a base.
 -- FAST 1.1, Field Operators, Delta Operator and Tail Operator.
 use Rattle.std.specs.Prelude.{◌≡◌, ℕ, ◌-◌, ◌≤◌, ℤ, pos, negsuc, ◌+ℤ◌, false, List, ◌++◌, length, take, drop, Option, Ok, IsTrue}
+use Rattle.fast_wire.specs.declared.level.Level.{Level}
 use Rattle.fast_wire.specs.declared.nullable.Nullable.TheVariants.{Null, Value}
 use Rattle.fast_value.specs.Scalar.{in_range, of_integer}
 use Rattle.fast_value.specs.declared.kind.Kind.{Kind}
@@ -49,51 +50,51 @@ abbrev pub IsOfFewUnits : Kind → List ℕ → Scalar → Type 0
 IsOfFewUnits k s v = (length s ≤ 65535) × IsOfUnits k s v
 
 -- a string or vector: a subtraction length, which is an int32, in the form of a presence, followed by a new part
-pub record SpellsCut (k : Kind) (p : Presence) (base : Scalar) (cut : Cut) (b : List ℕ)
+pub record SpellsCut (level : Level) (k : Kind) (p : Presence) (base : Scalar) (cut : Cut) (b : List ℕ)
     (v : Scalar) : Type 0 where
   pub removal : ℤ
   pub new_part : List ℕ
   pub front : List ℕ
   pub back : List ℕ
   pub parts : b ≡ front ++ back
-  pub removal_form : SpellsInteger false p front (Value removal)
+  pub removal_form : SpellsInteger level false p front (Value removal)
   pub is_int32 : IsTrue (in_range kind.Int32 removal)
   pub there : removed_of removal ≤ length (units_of base)
-  pub part_form : SpellsPart k back new_part
+  pub part_form : SpellsPart level k back new_part
   pub value : IsOfFewUnits k (put_together removal (units_of base) new_part) v
   pub cut_is : cut ≡ record { side = side_of removal; part = length new_part }
 
 -- an integer: what is added to the base; it has no range but that of its ten bytes
-pub record SpellsDelta (k : Kind) (p : Presence) (base : Scalar) (cut : Cut) (b : List ℕ)
+pub record SpellsDelta (level : Level) (k : Kind) (p : Presence) (base : Scalar) (cut : Cut) (b : List ℕ)
     (v : Scalar) : Type 0 where
   pub delta : ℤ
-  pub form : SpellsInteger false p b (Value delta)
+  pub form : SpellsInteger level false p b (Value delta)
   pub range : IsTrue (in_range k (integer_of base +ℤ delta))
   pub value : v ≡ of_integer k (integer_of base +ℤ delta)
   pub cut_is : cut ≡ uncut
 
 -- a decimal: a delta of the exponent in the form of a presence, followed by one of the mantissa
-pub record SpellsDeltas (p : Presence) (base : Scalar) (cut : Cut) (b : List ℕ)
+pub record SpellsDeltas (level : Level) (p : Presence) (base : Scalar) (cut : Cut) (b : List ℕ)
     (v : Scalar) : Type 0 where
   pub exponent_delta : ℤ
   pub mantissa_delta : ℤ
-  pub form : SpellsPair p b exponent_delta mantissa_delta
+  pub form : SpellsPair level p b exponent_delta mantissa_delta
   pub value : IsOfPair (exponent_of base +ℤ exponent_delta) (mantissa_of base +ℤ mantissa_delta) v
   pub cut_is : cut ≡ uncut
 
 -- the value that a delta makes of a base
-abbrev pub DeltaValue : Kind → Presence → Scalar → Cut → List ℕ → Scalar → Type 0
-DeltaValue kind.Decimal p base c b v = SpellsDeltas p base c b v
-DeltaValue kind.Ascii p base c b v = SpellsCut kind.Ascii p base c b v
-DeltaValue kind.Unicode p base c b v = SpellsCut kind.Unicode p base c b v
-DeltaValue kind.Bytes p base c b v = SpellsCut kind.Bytes p base c b v
-DeltaValue k p base c b v = SpellsDelta k p base c b v
+abbrev pub DeltaValue : (level : Level) → Kind → Presence → Scalar → Cut → List ℕ → Scalar → Type 0
+DeltaValue level kind.Decimal p base c b v = SpellsDeltas level p base c b v
+DeltaValue level kind.Ascii p base c b v = SpellsCut level kind.Ascii p base c b v
+DeltaValue level kind.Unicode p base c b v = SpellsCut level kind.Unicode p base c b v
+DeltaValue level kind.Bytes p base c b v = SpellsCut level kind.Bytes p base c b v
+DeltaValue level k p base c b v = SpellsDelta level k p base c b v
 
 -- NULL, alone, is absent on every entry, and asks for no base; of a string it is the subtraction length's
-abbrev pub DeltaForm : FieldPart → Entry → Cut → List ℕ → Option Scalar → Type 0
-DeltaForm i e c = OrNull
-    (λ b. (c ≡ uncut) × SpellsInteger false i.presence b Null)
-    (λ b v. (base : Scalar) × (delta_base i e ≡ Ok base) × DeltaValue i.kind i.presence base c b v)
+abbrev pub DeltaForm : (level : Level) → FieldPart → Entry → Cut → List ℕ → Option Scalar → Type 0
+DeltaForm level i e c = OrNull
+    (λ b. (c ≡ uncut) × SpellsInteger level false i.presence b Null)
+    (λ b v. (base : Scalar) × (delta_base i e ≡ Ok base) × DeltaValue level i.kind i.presence base c b v)
 
 -- ---- Tails. FAST 1.1, Field Operators, Tail Operator.
 
@@ -101,15 +102,15 @@ DeltaForm i e c = OrNull
 abbrev pub ended_by : List ℕ → List ℕ → List ℕ
 ended_by base tail = take (length base - length tail) base ++ tail
 
-pub record SpellsTail (k : Kind) (p : Presence) (base : Scalar) (cut : Cut) (b : List ℕ)
+pub record SpellsTail (level : Level) (k : Kind) (p : Presence) (base : Scalar) (cut : Cut) (b : List ℕ)
     (v : Scalar) : Type 0 where
   pub tail : List ℕ
-  pub tail_form : SpellsUnits k p b (Value tail)
+  pub tail_form : SpellsUnits level k p b (Value tail)
   pub value : IsOfFewUnits k (ended_by (units_of base) tail) v
   pub cut_is : cut ≡ record { side = at_end; part = length tail }
 
 -- NULL is absent on every entry, and asks for no base
-abbrev pub TailForm : FieldPart → Entry → Cut → List ℕ → Option Scalar → Type 0
-TailForm i e c = OrNull
-    (λ b. (c ≡ uncut) × SpellsUnits i.kind i.presence b Null)
-    (λ b v. (base : Scalar) × (tail_base i e ≡ Ok base) × SpellsTail i.kind i.presence base c b v)
+abbrev pub TailForm : (level : Level) → FieldPart → Entry → Cut → List ℕ → Option Scalar → Type 0
+TailForm level i e c = OrNull
+    (λ b. (c ≡ uncut) × SpellsUnits level i.kind i.presence b Null)
+    (λ b v. (base : Scalar) × (tail_base i e ≡ Ok base) × SpellsTail level i.kind i.presence base c b v)

@@ -2,6 +2,9 @@
 -- FAST 1.1, Field Operators, and Transfer Encoding, Field Encoding. The order of the checks is this project's own.
 use Rattle.std.specs.Prelude.{◌≡◌, ℕ, ℤ, pos, ◌+ℤ◌, Bool, true, false, nat_le, nat_lt, if◌then◌else◌, List, length, Option, Some, None, Result, Ok, Err}
 use Rattle.std.specs.Str.{is_utf8}
+use Rattle.fast_wire.specs.Level.{judged, overlong_signed}
+use Rattle.fast_wire.specs.declared.level.Level.{Level}
+use Rattle.fast_wire.specs.declared.level.Level.TheVariants.{Usual}
 use Rattle.fast_wire.specs.Reading.{◌>>=◌, unsigned_at, signed_at, unsigned_nullable_at, signed_nullable_at, ascii_at, ascii_nullable_at, vector_at, vector_nullable_at}
 use Rattle.fast_wire.specs.declared.fault.WireFault.{WireFault}
 use Rattle.fast_wire.specs.declared.nullable.Nullable.{Nullable}
@@ -25,6 +28,7 @@ use Rattle.fast_field.specs.Faults.{field_fault}
 use Rattle.fast_field.specs.Values.{is_unsigned, integer_of, exponent_of, mantissa_of, units_of, of_units}
 use Rattle.fast_field.specs.Bases.{delta_base, tail_base, predicted}
 use Rattle.fast_field.specs.Deltas.{removed_of, put_together, ended_by}
+use Rattle.fast_field.specs.Spelled.{overlong_number, overlong_units}
 use Rattle.fast_field.specs.Fields.{within_part}
 
 -- ---- Forms and values
@@ -44,23 +48,45 @@ signless Null = Null
 signless (Value n) = Value (pos n)
 
 -- an integer, with no sign where the first argument is true
-unfoldable pub integer_at : Bool → Presence → List ℕ → Result (Nullable ℤ × List ℕ) FieldFault
-integer_at true Mandatory bytes = in_field (unsigned_at bytes) >>= λ x. Ok (Value (pos x.0), x.1)
-integer_at true Optional bytes =
+abbrev pub integer_usually_at : Bool → Presence → List ℕ → Result (Nullable ℤ × List ℕ) FieldFault
+integer_usually_at true Mandatory bytes = in_field (unsigned_at bytes) >>= λ x. Ok (Value (pos x.0), x.1)
+integer_usually_at true Optional bytes =
     in_field (unsigned_nullable_at bytes) >>= λ x. Ok (signless x.0, x.1)
-integer_at false Mandatory bytes = in_field (signed_at bytes) >>= λ x. Ok (Value x.0, x.1)
-integer_at false Optional bytes = in_field (signed_nullable_at bytes)
+integer_usually_at false Mandatory bytes = in_field (signed_at bytes) >>= λ x. Ok (Value x.0, x.1)
+integer_usually_at false Optional bytes = in_field (signed_nullable_at bytes)
+
+-- it is judged once its stop bit has come, before NULL and all else
+unfoldable pub integer_at : (level : Level) → Bool → Presence → List ℕ → Result (Nullable ℤ × List ℕ) FieldFault
+integer_at level u p bytes = judged level 10 (overlong_number u) field_fault fault.R6 (integer_usually_at u p) bytes
+
+abbrev pub mantissa_entity_at : (level : Level) → List ℕ → Result (ℤ × List ℕ) FieldFault
+mantissa_entity_at level bytes = judged level 10 overlong_signed field_fault fault.R6 (λ b. in_field (signed_at b)) bytes
+
+-- the limit of the entity that a string or vector begins with, and what is answered where it is overlong
+abbrev pub entity_limit : Kind → ℕ
+entity_limit kind.Ascii = 65540
+entity_limit k = 10
+
+abbrev pub overlong_fault : Kind → FieldFault
+overlong_fault kind.Ascii = fault.R9
+overlong_fault k = fault.R6
 
 -- characters or bytes, of Unicode its bytes, in the form that is not nullable
-unfoldable pub part_at : Kind → List ℕ → Result (List ℕ × List ℕ) FieldFault
-part_at kind.Ascii bytes = in_field (ascii_at bytes)
-part_at k bytes = in_field (vector_at bytes)
+abbrev pub part_usually_at : Kind → List ℕ → Result (List ℕ × List ℕ) FieldFault
+part_usually_at kind.Ascii bytes = in_field (ascii_at bytes)
+part_usually_at k bytes = in_field (vector_at bytes)
+
+unfoldable pub part_at : (level : Level) → Kind → List ℕ → Result (List ℕ × List ℕ) FieldFault
+part_at level k bytes = judged level (entity_limit k) (overlong_units k Mandatory) field_fault (overlong_fault k) (part_usually_at k) bytes
 
 -- and in the form of a presence
-unfoldable pub units_at : Kind → Presence → List ℕ → Result (Nullable (List ℕ) × List ℕ) FieldFault
-units_at k Mandatory bytes = part_at k bytes >>= λ x. Ok (Value x.0, x.1)
-units_at kind.Ascii Optional bytes = in_field (ascii_nullable_at bytes)
-units_at k Optional bytes = in_field (vector_nullable_at bytes)
+abbrev pub units_usually_at : Kind → Presence → List ℕ → Result (Nullable (List ℕ) × List ℕ) FieldFault
+units_usually_at k Mandatory bytes = part_at Usual k bytes >>= λ x. Ok (Value x.0, x.1)
+units_usually_at kind.Ascii Optional bytes = in_field (ascii_nullable_at bytes)
+units_usually_at k Optional bytes = in_field (vector_nullable_at bytes)
+
+unfoldable pub units_at : (level : Level) → Kind → Presence → List ℕ → Result (Nullable (List ℕ) × List ℕ) FieldFault
+units_at level k p bytes = judged level (entity_limit k) (overlong_units k p) field_fault (overlong_fault k) (units_usually_at k p) bytes
 
 -- a number out of its type's bounds: of a part of a decimal it is the decimal that is out of range
 abbrev pub range_fault : Part → FieldFault
@@ -97,36 +123,36 @@ as_value r rest = r >>= λ v. Ok (Some v, rest)
 
 -- ---- What stands whole
 
-unfoldable pub integer_spelled_at : Part → Kind → Presence → List ℕ
+unfoldable pub integer_spelled_at : (level : Level) → Part → Kind → Presence → List ℕ
     → Result (Option Scalar × List ℕ) FieldFault
-integer_spelled_at pt k p bytes = do
-  z ← integer_at (is_unsigned k) p bytes
+integer_spelled_at level pt k p bytes = do
+  z ← integer_at level (is_unsigned k) p bytes
   unless_null z (λ z. as_value (integer_value pt k z))
 
-unfoldable pub mantissa_behind : ℤ → List ℕ → Result (Option Scalar × List ℕ) FieldFault
-mantissa_behind e rest = do
+unfoldable pub mantissa_behind : (level : Level) → ℤ → List ℕ → Result (Option Scalar × List ℕ) FieldFault
+mantissa_behind level e rest = do
   ok ← check (exponent_in_range e) fault.R1
-  m ← in_field (signed_at rest)
+  m ← mantissa_entity_at level rest
   as_value (decimal_value e m.0) m.1
 
-unfoldable pub decimal_spelled_at : Presence → List ℕ → Result (Option Scalar × List ℕ) FieldFault
-decimal_spelled_at p bytes = do
-  e ← integer_at false p bytes
-  unless_null e mantissa_behind
+unfoldable pub decimal_spelled_at : (level : Level) → Presence → List ℕ → Result (Option Scalar × List ℕ) FieldFault
+decimal_spelled_at level p bytes = do
+  e ← integer_at level false p bytes
+  unless_null e (mantissa_behind level)
 
-unfoldable pub units_spelled_at : Kind → Presence → List ℕ
+unfoldable pub units_spelled_at : (level : Level) → Kind → Presence → List ℕ
     → Result (Option Scalar × List ℕ) FieldFault
-units_spelled_at k p bytes = do
-  s ← units_at k p bytes
+units_spelled_at level k p bytes = do
+  s ← units_at level k p bytes
   unless_null s (λ s. as_value (unit_value k s))
 
-unfoldable pub spelled_at : Part → Kind → Presence → List ℕ
+unfoldable pub spelled_at : (level : Level) → Part → Kind → Presence → List ℕ
     → Result (Option Scalar × List ℕ) FieldFault
-spelled_at pt kind.Decimal p bytes = decimal_spelled_at p bytes
-spelled_at pt kind.Ascii p bytes = units_spelled_at kind.Ascii p bytes
-spelled_at pt kind.Unicode p bytes = units_spelled_at kind.Unicode p bytes
-spelled_at pt kind.Bytes p bytes = units_spelled_at kind.Bytes p bytes
-spelled_at pt k p bytes = integer_spelled_at pt k p bytes
+spelled_at level pt kind.Decimal p bytes = decimal_spelled_at level p bytes
+spelled_at level pt kind.Ascii p bytes = units_spelled_at level kind.Ascii p bytes
+spelled_at level pt kind.Unicode p bytes = units_spelled_at level kind.Unicode p bytes
+spelled_at level pt kind.Bytes p bytes = units_spelled_at level kind.Bytes p bytes
+spelled_at level pt k p bytes = integer_spelled_at level pt k p bytes
 
 -- ---- Deltas. The base is asked for once a delta has come that is not NULL (own).
 
@@ -135,49 +161,49 @@ integer_sum i e d = do
   base ← delta_base i e
   integer_value i.part i.kind (integer_of base +ℤ d)
 
-unfoldable pub integer_delta_at : FieldPart → Entry → List ℕ
+unfoldable pub integer_delta_at : (level : Level) → FieldPart → Entry → List ℕ
     → Result (Option Scalar × List ℕ) FieldFault
-integer_delta_at i e bytes = do
-  d ← integer_at false i.presence bytes
+integer_delta_at level i e bytes = do
+  d ← integer_at level false i.presence bytes
   unless_null d (λ d. as_value (integer_sum i e d))
 
-unfoldable pub mantissa_delta_behind : ℤ → ℤ → List ℕ → Result (Option Scalar × List ℕ) FieldFault
-mantissa_delta_behind e base rest = do
+unfoldable pub mantissa_delta_behind : (level : Level) → ℤ → ℤ → List ℕ → Result (Option Scalar × List ℕ) FieldFault
+mantissa_delta_behind level e base rest = do
   ok ← check (exponent_in_range e) fault.R1
-  d ← in_field (signed_at rest)
+  d ← mantissa_entity_at level rest
   as_value (decimal_value e (base +ℤ d.0)) d.1
 
-unfoldable pub decimal_delta_at : FieldPart → Entry → List ℕ
+unfoldable pub decimal_delta_at : (level : Level) → FieldPart → Entry → List ℕ
     → Result (Option Scalar × List ℕ) FieldFault
-decimal_delta_at i e bytes = do
-  d ← integer_at false i.presence bytes
+decimal_delta_at level i e bytes = do
+  d ← integer_at level false i.presence bytes
   unless_null d (λ d rest. do
     base ← delta_base i e
-    mantissa_delta_behind (exponent_of base +ℤ d) (mantissa_of base) rest)
+    mantissa_delta_behind level (exponent_of base +ℤ d) (mantissa_of base) rest)
 
-unfoldable pub new_part_behind : Kind → ℤ → List ℕ → List ℕ
+unfoldable pub new_part_behind : (level : Level) → Kind → ℤ → List ℕ → List ℕ
     → Result (Option Scalar × List ℕ) FieldFault
-new_part_behind k removal base rest = do
+new_part_behind level k removal base rest = do
   there ← check (nat_le (removed_of removal) (length base)) fault.D7
-  s ← part_at k rest
+  s ← part_at level k rest
   as_value (limited_value k (put_together removal base s.0)) s.1
 
-unfoldable pub unit_delta_at : FieldPart → Entry → List ℕ
+unfoldable pub unit_delta_at : (level : Level) → FieldPart → Entry → List ℕ
     → Result (Option Scalar × List ℕ) FieldFault
-unit_delta_at i e bytes = do
-  removal ← integer_at false i.presence bytes
+unit_delta_at level i e bytes = do
+  removal ← integer_at level false i.presence bytes
   unless_null removal (λ removal rest. do
     fits ← check (in_range kind.Int32 removal) fault.D7
     base ← delta_base i e
-    new_part_behind i.kind removal (units_of base) rest)
+    new_part_behind level i.kind removal (units_of base) rest)
 
-unfoldable pub delta_at : Kind → FieldPart → Entry → List ℕ
+unfoldable pub delta_at : (level : Level) → Kind → FieldPart → Entry → List ℕ
     → Result (Option Scalar × List ℕ) FieldFault
-delta_at kind.Decimal i e bytes = decimal_delta_at i e bytes
-delta_at kind.Ascii i e bytes = unit_delta_at i e bytes
-delta_at kind.Unicode i e bytes = unit_delta_at i e bytes
-delta_at kind.Bytes i e bytes = unit_delta_at i e bytes
-delta_at k i e bytes = integer_delta_at i e bytes
+delta_at level kind.Decimal i e bytes = decimal_delta_at level i e bytes
+delta_at level kind.Ascii i e bytes = unit_delta_at level i e bytes
+delta_at level kind.Unicode i e bytes = unit_delta_at level i e bytes
+delta_at level kind.Bytes i e bytes = unit_delta_at level i e bytes
+delta_at level k i e bytes = integer_delta_at level i e bytes
 
 -- ---- Tails. The base is asked for once a tail has come that is not NULL (own).
 
@@ -186,34 +212,34 @@ ended_value i e tail = do
   base ← tail_base i e
   limited_value i.kind (ended_by (units_of base) tail)
 
-unfoldable pub tail_at : FieldPart → Entry → List ℕ → Result (Option Scalar × List ℕ) FieldFault
-tail_at i e bytes = do
-  tail ← units_at i.kind i.presence bytes
+unfoldable pub tail_at : (level : Level) → FieldPart → Entry → List ℕ → Result (Option Scalar × List ℕ) FieldFault
+tail_at level i e bytes = do
+  tail ← units_at level i.kind i.presence bytes
   unless_null tail (λ tail. as_value (ended_value i e tail))
 
 -- ---- The operators, by bit
 
-unfoldable pub whole_at : FieldPart → List ℕ → Result (Option Scalar × List ℕ) FieldFault
-whole_at i bytes = spelled_at i.part i.kind i.presence bytes
+unfoldable pub whole_at : (level : Level) → FieldPart → List ℕ → Result (Option Scalar × List ℕ) FieldFault
+whole_at level i bytes = spelled_at level i.part i.kind i.presence bytes
 
 unfoldable pub predicted_at : FieldPart → Entry → List ℕ
     → Result (Option Scalar × List ℕ) FieldFault
 predicted_at i e bytes = predicted i e >>= λ v. Ok (v, bytes)
 
-unfoldable pub row_at : Operator → FieldPart → Entry → Bool → List ℕ
+unfoldable pub row_at : (level : Level) → Operator → FieldPart → Entry → Bool → List ℕ
     → Result (Option Scalar × List ℕ) FieldFault
-row_at operator.Plain i e bit bytes = whole_at i bytes
-row_at operator.Constant i e false bytes = Ok (None, bytes)
-row_at operator.Constant i e true bytes = Ok (i.initial, bytes)
-row_at operator.Default i e false bytes = Ok (i.initial, bytes)
-row_at operator.Default i e true bytes = whole_at i bytes
-row_at operator.Copy i e false bytes = predicted_at i e bytes
-row_at operator.Copy i e true bytes = whole_at i bytes
-row_at operator.Increment i e false bytes = predicted_at i e bytes
-row_at operator.Increment i e true bytes = whole_at i bytes
-row_at operator.Delta i e bit bytes = delta_at i.kind i e bytes
-row_at operator.Tail i e false bytes = predicted_at i e bytes
-row_at operator.Tail i e true bytes = tail_at i e bytes
+row_at level operator.Plain i e bit bytes = whole_at level i bytes
+row_at level operator.Constant i e false bytes = Ok (None, bytes)
+row_at level operator.Constant i e true bytes = Ok (i.initial, bytes)
+row_at level operator.Default i e false bytes = Ok (i.initial, bytes)
+row_at level operator.Default i e true bytes = whole_at level i bytes
+row_at level operator.Copy i e false bytes = predicted_at i e bytes
+row_at level operator.Copy i e true bytes = whole_at level i bytes
+row_at level operator.Increment i e false bytes = predicted_at i e bytes
+row_at level operator.Increment i e true bytes = whole_at level i bytes
+row_at level operator.Delta i e bit bytes = delta_at level i.kind i e bytes
+row_at level operator.Tail i e false bytes = predicted_at i e bytes
+row_at level operator.Tail i e true bytes = tail_at level i e bytes
 
 -- an exponent and a length are checked once more, also where bit 0 gave them
 unfoldable pub part_checked : Part → Option Scalar → Result (Option Scalar) FieldFault
@@ -225,13 +251,13 @@ part_checked part.Length (Some v) =
 part_checked p (Some v) = Ok (Some v)
 
 -- the value and the bytes after it, or the first fault; want of memory is no fault of the bytes
-unfoldable pub field_at : FieldPart → Entry → Bool → List ℕ
+unfoldable pub field_at : (level : Level) → FieldPart → Entry → Bool → List ℕ
     → Result (Option Scalar × List ℕ) FieldFault
-field_at i e bit bytes = do
-  x ← row_at i.operator i e bit bytes
+field_at level i e bit bytes = do
+  x ← row_at level i.operator i e bit bytes
   v ← part_checked i.part x.0
   Ok (v, x.1)
 
 -- the first fault of a field under this bit on these bytes
-abbrev pub IsFieldFault : FieldPart → Entry → Bool → List ℕ → FieldFault → Type 0
-IsFieldFault i e bit rest f = field_at i e bit rest ≡ Err f
+abbrev pub IsFieldFault : (level : Level) → FieldPart → Entry → Bool → List ℕ → FieldFault → Type 0
+IsFieldFault level i e bit rest f = field_at level i e bit rest ≡ Err f

@@ -1,6 +1,7 @@
 -- The forms of one field, by operator and bit. Where a field has no bit, the bit is true.
 -- FAST 1.1, Field Operators. The limits are this project's own.
 use Rattle.std.specs.Prelude.{◌≡◌, ℕ, pos, Bool, true, false, int_le, List, [], Option, Some, None, Ok, IsTrue}
+use Rattle.fast_wire.specs.declared.level.Level.{Level}
 use Rattle.fast_value.specs.Scalar.{exponent_in_range}
 use Rattle.fast_value.specs.declared.kind.Operator.{Operator}
 use Rattle.fast_value.specs.declared.kind.Operator.TheVariants as operator
@@ -20,22 +21,22 @@ abbrev pub InitialOrAbsent : FieldPart → Option Scalar → Type 0
 InitialOrAbsent i (Some v) = i.initial ≡ Some v
 InitialOrAbsent i None = (i.initial ≡ None) × (i.presence ≡ Optional)
 
-abbrev pub FormOf : Operator → FieldPart → Entry → Bool → Cut → List ℕ → Option Scalar → Type 0
-FormOf operator.Plain i e false c b v = ⊥
-FormOf operator.Plain i e true c b v = (c ≡ uncut) × Spelled i.kind i.presence b v
-FormOf operator.Constant i e false c b v = (c ≡ uncut) × (b ≡ []) × (i.presence ≡ Optional)
+abbrev pub FormOf : (level : Level) → Operator → FieldPart → Entry → Bool → Cut → List ℕ → Option Scalar → Type 0
+FormOf level operator.Plain i e false c b v = ⊥
+FormOf level operator.Plain i e true c b v = (c ≡ uncut) × Spelled level i.kind i.presence b v
+FormOf level operator.Constant i e false c b v = (c ≡ uncut) × (b ≡ []) × (i.presence ≡ Optional)
     × (v ≡ None)
-FormOf operator.Constant i e true c b v = (c ≡ uncut) × (b ≡ []) × (v ≡ i.initial)
-FormOf operator.Default i e false c b v = (c ≡ uncut) × (b ≡ []) × InitialOrAbsent i v
-FormOf operator.Default i e true c b v = (c ≡ uncut) × Spelled i.kind i.presence b v
-FormOf operator.Copy i e false c b v = (c ≡ uncut) × (b ≡ []) × (predicted i e ≡ Ok v)
-FormOf operator.Copy i e true c b v = (c ≡ uncut) × Spelled i.kind i.presence b v
-FormOf operator.Increment i e false c b v = (c ≡ uncut) × (b ≡ []) × (predicted i e ≡ Ok v)
-FormOf operator.Increment i e true c b v = (c ≡ uncut) × Spelled i.kind i.presence b v
-FormOf operator.Delta i e false c b v = ⊥
-FormOf operator.Delta i e true c b v = DeltaForm i e c b v
-FormOf operator.Tail i e false c b v = (c ≡ uncut) × (b ≡ []) × (predicted i e ≡ Ok v)
-FormOf operator.Tail i e true c b v = TailForm i e c b v
+FormOf level operator.Constant i e true c b v = (c ≡ uncut) × (b ≡ []) × (v ≡ i.initial)
+FormOf level operator.Default i e false c b v = (c ≡ uncut) × (b ≡ []) × InitialOrAbsent i v
+FormOf level operator.Default i e true c b v = (c ≡ uncut) × Spelled level i.kind i.presence b v
+FormOf level operator.Copy i e false c b v = (c ≡ uncut) × (b ≡ []) × (predicted i e ≡ Ok v)
+FormOf level operator.Copy i e true c b v = (c ≡ uncut) × Spelled level i.kind i.presence b v
+FormOf level operator.Increment i e false c b v = (c ≡ uncut) × (b ≡ []) × (predicted i e ≡ Ok v)
+FormOf level operator.Increment i e true c b v = (c ≡ uncut) × Spelled level i.kind i.presence b v
+FormOf level operator.Delta i e false c b v = ⊥
+FormOf level operator.Delta i e true c b v = DeltaForm level i e c b v
+FormOf level operator.Tail i e false c b v = (c ≡ uncut) × (b ≡ []) × (predicted i e ≡ Ok v)
+FormOf level operator.Tail i e true c b v = TailForm level i e c b v
 
 -- limits, also of what bit 0 gives: an exponent's, and a length's
 abbrev pub within_part : Part → Scalar → Bool
@@ -47,11 +48,11 @@ abbrev pub IsWithin : Part → Option Scalar → Type 0
 IsWithin p None = Unit {0}
 IsWithin p (Some v) = IsTrue (within_part p v)
 
-pub record FormBy (i : FieldPart) (e : Entry) (bit : Bool) (cut : Cut) (b : List ℕ)
+pub record FormBy (level : Level) (i : FieldPart) (e : Entry) (bit : Bool) (cut : Cut) (b : List ℕ)
     (v : Option Scalar) : Type 0 where
-  pub row : FormOf i.operator i e bit cut b v
+  pub row : FormOf level i.operator i e bit cut b v
   pub within : IsWithin i.part v
 
 -- under this bit the bytes are a form of the value
-abbrev pub Form : FieldPart → Entry → Bool → List ℕ → Option Scalar → Type 0
-Form i e bit b v = (cut : Cut) × FormBy i e bit cut b v
+abbrev pub Form : (level : Level) → FieldPart → Entry → Bool → List ℕ → Option Scalar → Type 0
+Form level i e bit b v = (cut : Cut) × FormBy level i e bit cut b v

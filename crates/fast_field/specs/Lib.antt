@@ -19,3 +19,4 @@ pub mod Chosen
 pub mod Written
 pub mod Numbers
 pub mod Passed
+pub mod AsUsual

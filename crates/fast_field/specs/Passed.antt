@@ -1,5 +1,6 @@
 -- A field that bit 0 gives, and no byte: its value and the entry afterwards. (Own.)
 use Rattle.std.specs.Prelude.{◌≡◌, ℕ, false, List, [], Option, Some, None, Ok, IsTrue}
+use Rattle.fast_wire.specs.declared.level.Level.{Level}
 use Rattle.fast_value.specs.Scalar.{is_of}
 use Rattle.fast_template.specs.declared.resolved.FieldPart.{FieldPart}
 use Rattle.fast_value.specs.declared.scalar.Scalar.{Scalar}
@@ -10,9 +11,9 @@ use Rattle.fast_field.specs.Bases.{next}
 use Rattle.fast_field.specs.Best.{IsBest}
 use Rattle.fast_field.specs.FieldReading.{field_at}
 
--- bit 0 gives the value, and is its best form
+-- bit 0 gives the value, at each level, and is its best form
 pub record Passes (i : FieldPart) (old new : Entry) (v : Option Scalar) : Type 0 where
-  pub read : (bytes : List ℕ) → field_at i old false bytes ≡ Ok (v, bytes)
+  pub read : (level : Level) (bytes : List ℕ) → field_at level i old false bytes ≡ Ok (v, bytes)
   pub entry : new ≡ next i old v
   pub best : IsBest i old false [] v
 

@@ -1,6 +1,9 @@
 -- What stands whole in a stream for a value of a type: an optional field has the nullable form.
 -- FAST 1.1, Transfer Encoding, Field Encoding.
 use Rattle.std.specs.Prelude.{◌≡◌, ℕ, ℤ, pos, Bool, true, false, List, ◌++◌, Option, Some, None, IsTrue, IsUtf8}
+use Rattle.fast_wire.specs.Level.{AtLevel, overlong_unsigned, overlong_signed, overlong_ascii}
+use Rattle.fast_wire.specs.declared.level.Level.{Level}
+use Rattle.fast_wire.specs.declared.level.Level.TheVariants.{Usual}
 use Rattle.fast_wire.specs.Ascii.{IsAscii, IsAsciiNullable}
 use Rattle.fast_wire.specs.Integer.{IsUnsigned, IsSigned}
 use Rattle.fast_wire.specs.Nullable.{IsUnsignedNullable, IsSignedNullable}
@@ -16,31 +19,57 @@ use Rattle.fast_value.specs.declared.scalar.Scalar.{Scalar}
 use Rattle.fast_value.specs.declared.scalar.Scalar.TheVariants.{Decimal, Unicode}
 use Rattle.fast_field.specs.Values.{is_unsigned, of_units}
 
+-- ---- at any level
+
+-- whether an entity is longer than its number needs, with no sign where the first argument is true
+abbrev pub overlong_number : Bool → List ℕ → Bool
+overlong_number true = overlong_unsigned
+overlong_number false = overlong_signed
+
+-- whether the entity is that a string or vector begins with: an ASCII string's own, or a length
+abbrev pub overlong_units : Kind → Presence → List ℕ → Bool
+overlong_units kind.Ascii Mandatory bytes = overlong_ascii bytes false
+overlong_units kind.Ascii Optional bytes = overlong_ascii bytes true
+overlong_units k p bytes = overlong_unsigned bytes
+
 -- an integer, with no sign where the first argument is true
-abbrev pub SpellsInteger : Bool → Presence → List ℕ → Nullable ℤ → Type 0
-SpellsInteger true Mandatory b (Value (pos n)) = IsUnsigned b n
-SpellsInteger true Optional b (Value (pos n)) = IsUnsignedNullable b (Value n)
-SpellsInteger true Optional b Null = IsUnsignedNullable b Null
-SpellsInteger false Mandatory b (Value z) = IsSigned b z
-SpellsInteger false Optional b z = IsSignedNullable b z
-SpellsInteger unsigned p b z = ⊥
+abbrev pub SpellsIntegerUsually : Bool → Presence → List ℕ → Nullable ℤ → Type 0
+SpellsIntegerUsually true Mandatory b (Value (pos n)) = IsUnsigned b n
+SpellsIntegerUsually true Optional b (Value (pos n)) = IsUnsignedNullable b (Value n)
+SpellsIntegerUsually true Optional b Null = IsUnsignedNullable b Null
+SpellsIntegerUsually false Mandatory b (Value z) = IsSigned b z
+SpellsIntegerUsually false Optional b z = IsSignedNullable b z
+SpellsIntegerUsually unsigned p b z = ⊥
+
+abbrev pub SpellsInteger : (level : Level) → Bool → Presence → List ℕ → Nullable ℤ → Type 0
+SpellsInteger level u p b z = AtLevel level (overlong_number u) (SpellsIntegerUsually u p) b z
+
+-- a number with a sign that is never NULL, as the mantissa of a decimal
+abbrev pub SpellsMantissa : (level : Level) → List ℕ → ℤ → Type 0
+SpellsMantissa level b m = AtLevel level overlong_signed IsSigned b m
 
 -- characters or bytes, of Unicode its bytes, in the form that is not nullable
-abbrev pub SpellsPart : Kind → List ℕ → List ℕ → Type 0
-SpellsPart kind.Ascii b s = IsAscii b s
-SpellsPart k b s = IsVector b s
+abbrev pub SpellsPartUsually : Kind → List ℕ → List ℕ → Type 0
+SpellsPartUsually kind.Ascii b s = IsAscii b s
+SpellsPartUsually k b s = IsVector b s
+
+abbrev pub SpellsPart : (level : Level) → Kind → List ℕ → List ℕ → Type 0
+SpellsPart level k b s = AtLevel level (overlong_units k Mandatory) (SpellsPartUsually k) b s
 
 -- and in the form of a presence
-abbrev pub SpellsUnits : Kind → Presence → List ℕ → Nullable (List ℕ) → Type 0
-SpellsUnits k Mandatory b (Value s) = SpellsPart k b s
-SpellsUnits k Mandatory b Null = ⊥
-SpellsUnits kind.Ascii Optional b s = IsAsciiNullable b s
-SpellsUnits k Optional b s = IsVectorNullable b s
+abbrev pub SpellsUnitsUsually : Kind → Presence → List ℕ → Nullable (List ℕ) → Type 0
+SpellsUnitsUsually k Mandatory b (Value s) = SpellsPart Usual k b s
+SpellsUnitsUsually k Mandatory b Null = ⊥
+SpellsUnitsUsually kind.Ascii Optional b s = IsAsciiNullable b s
+SpellsUnitsUsually k Optional b s = IsVectorNullable b s
+
+abbrev pub SpellsUnits : (level : Level) → Kind → Presence → List ℕ → Nullable (List ℕ) → Type 0
+SpellsUnits level k p b s = AtLevel level (overlong_units k p) (SpellsUnitsUsually k p) b s
 
 -- a number in the range of its type
-pub record SpellsNumber (k : Kind) (p : Presence) (b : List ℕ) (v : Scalar) : Type 0 where
+pub record SpellsNumber (level : Level) (k : Kind) (p : Presence) (b : List ℕ) (v : Scalar) : Type 0 where
   pub number : ℤ
-  pub form : SpellsInteger (is_unsigned k) p b (Value number)
+  pub form : SpellsInteger level (is_unsigned k) p b (Value number)
   pub range : IsTrue (in_range k number)
   pub value : v ≡ of_integer k number
 
@@ -49,27 +78,27 @@ abbrev pub IsOfUnits : Kind → List ℕ → Scalar → Type 0
 IsOfUnits kind.Unicode s v = IsUtf8 s × (v ≡ Unicode s)
 IsOfUnits k s v = v ≡ of_units k s
 
-pub record SpellsString (k : Kind) (p : Presence) (b : List ℕ) (v : Scalar) : Type 0 where
+pub record SpellsString (level : Level) (k : Kind) (p : Presence) (b : List ℕ) (v : Scalar) : Type 0 where
   pub string : List ℕ
-  pub form : SpellsUnits k p b (Value string)
+  pub form : SpellsUnits level k p b (Value string)
   pub value : IsOfUnits k string v
 
 -- a decimal: an exponent in the form of a presence, followed by a mantissa
-pub record SpellsPair (p : Presence) (b : List ℕ) (exponent mantissa : ℤ) : Type 0 where
+pub record SpellsPair (level : Level) (p : Presence) (b : List ℕ) (exponent mantissa : ℤ) : Type 0 where
   pub front : List ℕ
   pub back : List ℕ
   pub parts : b ≡ front ++ back
-  pub exponent_form : SpellsInteger false p front (Value exponent)
-  pub mantissa_form : IsSigned back mantissa
+  pub exponent_form : SpellsInteger level false p front (Value exponent)
+  pub mantissa_form : SpellsMantissa level back mantissa
 
 -- an exponent and a mantissa in range are the value
 abbrev pub IsOfPair : ℤ → ℤ → Scalar → Type 0
 IsOfPair e m v = IsTrue (exponent_in_range e) × IsTrue (in_range kind.Int64 m) × (v ≡ Decimal e m)
 
-pub record SpellsDecimal (p : Presence) (b : List ℕ) (v : Scalar) : Type 0 where
+pub record SpellsDecimal (level : Level) (p : Presence) (b : List ℕ) (v : Scalar) : Type 0 where
   pub exponent : ℤ
   pub mantissa : ℤ
-  pub form : SpellsPair p b exponent mantissa
+  pub form : SpellsPair level p b exponent mantissa
   pub value : IsOfPair exponent mantissa v
 
 -- NULL for an absent value, or what spells a value
@@ -77,20 +106,20 @@ abbrev pub OrNull : (List ℕ → Type 0) → (List ℕ → Scalar → Type 0) �
 OrNull IsNull Spells b None = IsNull b
 OrNull IsNull Spells b (Some v) = Spells b v
 
-abbrev pub SpelledNumber : Kind → Presence → List ℕ → Option Scalar → Type 0
-SpelledNumber k p = OrNull (λ b. SpellsInteger (is_unsigned k) p b Null) (SpellsNumber k p)
+abbrev pub SpelledNumber : (level : Level) → Kind → Presence → List ℕ → Option Scalar → Type 0
+SpelledNumber level k p = OrNull (λ b. SpellsInteger level (is_unsigned k) p b Null) (SpellsNumber level k p)
 
-abbrev pub SpelledString : Kind → Presence → List ℕ → Option Scalar → Type 0
-SpelledString k p = OrNull (λ b. SpellsUnits k p b Null) (SpellsString k p)
+abbrev pub SpelledString : (level : Level) → Kind → Presence → List ℕ → Option Scalar → Type 0
+SpelledString level k p = OrNull (λ b. SpellsUnits level k p b Null) (SpellsString level k p)
 
 -- the NULL of a decimal is the exponent's, and no mantissa follows
-abbrev pub SpelledDecimal : Presence → List ℕ → Option Scalar → Type 0
-SpelledDecimal p = OrNull (λ b. SpellsInteger false p b Null) (SpellsDecimal p)
+abbrev pub SpelledDecimal : (level : Level) → Presence → List ℕ → Option Scalar → Type 0
+SpelledDecimal level p = OrNull (λ b. SpellsInteger level false p b Null) (SpellsDecimal level p)
 
 -- the bytes spell a value of the type, or NULL for an absent one
-abbrev pub Spelled : Kind → Presence → List ℕ → Option Scalar → Type 0
-Spelled kind.Decimal p = SpelledDecimal p
-Spelled kind.Ascii p = SpelledString kind.Ascii p
-Spelled kind.Unicode p = SpelledString kind.Unicode p
-Spelled kind.Bytes p = SpelledString kind.Bytes p
-Spelled k p = SpelledNumber k p
+abbrev pub Spelled : (level : Level) → Kind → Presence → List ℕ → Option Scalar → Type 0
+Spelled level kind.Decimal p = SpelledDecimal level p
+Spelled level kind.Ascii p = SpelledString level kind.Ascii p
+Spelled level kind.Unicode p = SpelledString level kind.Unicode p
+Spelled level kind.Bytes p = SpelledString level kind.Bytes p
+Spelled level k p = SpelledNumber level k p

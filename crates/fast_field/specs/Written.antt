@@ -1,5 +1,6 @@
 -- What a call that writes the best form of a value leaves behind, and why it refuses one. (Own.)
 use Rattle.std.specs.Prelude.{◌≡◌, ◌⊎◌, ℕ, ◌≤◌, Bool, false, List, ◌++◌, length, Option, Some, None}
+use Rattle.fast_wire.specs.declared.level.Level.TheVariants.{Usual}
 use Rattle.fast_template.specs.declared.resolved.FieldPart.{FieldPart}
 use Rattle.fast_value.specs.declared.scalar.Scalar.{Scalar}
 use Rattle.fast_dictionary.specs.declared.entry.Entry.{Entry}
@@ -16,10 +17,10 @@ pub record AppendsBest (i : FieldPart) (e : Entry) (v : Option Scalar) (bit : Bo
   pub appended : new ≡ old ++ bytes
   pub best : IsBest i e bit bytes v
   -- no form of the value has fewer, and none has bit 0 where this bit is 1
-  pub shortest : (other : Bool) (c : List ℕ) → Form i e other c v
+  pub shortest : (other : Bool) (c : List ℕ) → Form Usual i e other c v
       → (other ≡ false → bit ≡ false) × (length bytes ≤ length c)
   -- one that is as long is the same bytes, save of a tail and of a delta of a string or vector
-  pub same : (other : Bool) (c : List ℕ) → CutsNothing i.operator i.kind → Form i e other c v
+  pub same : (other : Bool) (c : List ℕ) → CutsNothing i.operator i.kind → Form Usual i e other c v
       → length bytes ≡ length c → bytes ≡ c
 
 -- the first reason why a value has no form; where it has one, memory was refused

@@ -1,6 +1,7 @@
 //! Deltas: FAST 1.1, Field Operators, Delta Operator.
 
 ghost use Rattle.std.specs.Prelude.{◌≡◌, ◌^◌, ◌≤◌, ◌<ℤ◌, ◌+◌, ◌+ℤ◌, ◌-ℤ◌, pos, negsuc, None, Ok, true, false, length, drop, IfNone, IfOk, IfSome, IsTrue};
+ghost use Rattle.fast_wire.specs.declared.level.Level.TheVariants.{Usual};
 ghost use Rattle.fast_dictionary.specs.Dictionary.{entry_of};
 ghost use Rattle.fast_value.specs.Scalar.{in_range, is_integer};
 ghost use Rattle.fast_value.specs.declared.kind.Kind.TheVariants as kind;
@@ -25,12 +26,12 @@ use crate::fault::FieldFault;
 use crate::pieces::Pieces;
 use crate::string::{find_part, sent_behind, sent_in_front};
 use crate::whole::{
-    exponent_within, mantissa_within, read_integer, read_signed, size_part, size_signed,
+    exponent_within, mantissa_within, read_integer, read_mantissa_entity, size_part, size_signed,
     value_of_integer, write_part, write_signed,
 };
 use fast_dictionary::EntryRef;
 use fast_template::{FieldPart, Kind, Presence, Scalar};
-use fast_wire::{Nullable, WireFault};
+use fast_wire::{Level, Nullable, WireFault};
 use std::alloc::Global;
 
 /// The number that a delta makes of one of at most 64 bits.
@@ -62,16 +63,17 @@ fn sum(instr: &FieldPart, kept: EntryRef, delta: i128) -> Result<Scalar, FieldFa
 fn read_integer_delta(
     instr: &FieldPart,
     kept: EntryRef,
+    level: Level,
     bytes: &[u8],
     at: usize,
 ) -> Result<(Option<Scalar>, usize), FieldFault>
     requires place { at ≤ length bytes.now }
     requires kind { IsTrue (is_integer instr.now.kind) }
     ensures place { IfOk result (λ x. (at ≤ x.1) × (x.1 ≤ length bytes.now)) }
-    ensures gives { AnswersAt (integer_delta_at instr.now (entry_of kept.entry))
+    ensures gives { AnswersAt (integer_delta_at level instr.now (entry_of kept.entry))
         (λ v. v) bytes.now at result }
 {
-    let (delta, next) = read_integer(false, instr.presence, bytes, at)?;
+    let (delta, next) = read_integer(false, instr.presence, level, bytes, at)?;
     match delta {
         Nullable::Null => Ok((None, next)),
         Nullable::Value(delta) => Ok((Some(sum(instr, kept, delta)?), next)),
@@ -83,17 +85,18 @@ fn read_integer_delta(
 fn read_mantissa_delta(
     exponent: i128,
     base: i64,
+    level: Level,
     bytes: &[u8],
     at: usize,
 ) -> Result<(Option<Scalar>, usize), FieldFault>
     requires { at ≤ length bytes.now }
     ensures place { IfOk result (λ x. (at ≤ x.1) × (x.1 ≤ length bytes.now)) }
-    ensures gives { AnswersAt (mantissa_delta_behind exponent base) (λ v. v) bytes.now at result }
+    ensures gives { AnswersAt (mantissa_delta_behind level exponent base) (λ v. v) bytes.now at result }
 {
     let Some(exponent) = exponent_within(exponent) else {
         return Err(FieldFault::R1);
     };
-    let (delta, next) = read_signed(bytes, at)?;
+    let (delta, next) = read_mantissa_entity(level, bytes, at)?;
     match mantissa_within(added(i128::from(base), delta)) {
         Some(mantissa) => Ok((Some(Scalar::Decimal { exponent, mantissa }), next)),
         None => Err(FieldFault::R1),
@@ -105,21 +108,22 @@ fn read_mantissa_delta(
 fn read_decimal_delta(
     instr: &FieldPart,
     kept: EntryRef,
+    level: Level,
     bytes: &[u8],
     at: usize,
 ) -> Result<(Option<Scalar>, usize), FieldFault>
     requires { at ≤ length bytes.now }
     ensures place { IfOk result (λ x. (at ≤ x.1) × (x.1 ≤ length bytes.now)) }
-    ensures gives { AnswersAt (decimal_delta_at instr.now (entry_of kept.entry))
+    ensures gives { AnswersAt (decimal_delta_at level instr.now (entry_of kept.entry))
         (λ v. v) bytes.now at result }
 {
-    let (delta, next) = read_integer(false, instr.presence, bytes, at)?;
+    let (delta, next) = read_integer(false, instr.presence, level, bytes, at)?;
     match delta {
         Nullable::Null => Ok((None, next)),
         Nullable::Value(delta) => {
             let (exponent, mantissa) = base_decimal(base_of_delta(instr, kept)?);
             let exponent = added(i128::from(exponent), delta);
-            read_mantissa_delta(exponent, mantissa, bytes, next)
+            read_mantissa_delta(exponent, mantissa, level, bytes, next)
         }
     }
 }
@@ -185,18 +189,19 @@ fn read_new_part(
     kind: Kind,
     removal: Removal,
     base: &[u8],
+    level: Level,
     bytes: &[u8],
     at: usize,
 ) -> Result<(Option<Scalar>, usize), FieldFault>
     requires { at ≤ length bytes.now }
     ensures place { IfOk result (λ x. (at ≤ x.1) × (x.1 ≤ length bytes.now)) }
-    ensures gives { GivesAt OrRefused (new_part_behind kind (length_of removal) base.now)
+    ensures gives { GivesAt OrRefused (new_part_behind level kind (length_of removal) base.now)
         (λ v. v) bytes.now at result }
 {
     if removed_units(removal) > base.len() {
         return Err(FieldFault::D7);
     }
-    let (span, next) = find_part(kind, bytes, at)?;
+    let (span, next) = find_part(kind, level, bytes, at)?;
     let value = changed(alloc, kind, removal, base, &bytes[span.start..span.end])?;
     Ok((Some(value), next))
 }
@@ -213,15 +218,16 @@ pub fn read_unit_delta(
     alloc: Global,
     instr: &FieldPart,
     kept: EntryRef,
+    level: Level,
     bytes: &[u8],
     at: usize,
 ) -> Result<(Option<Scalar>, usize), FieldFault>
     requires { at ≤ length bytes.now }
     ensures place { IfOk result (λ x. (at ≤ x.1) × (x.1 ≤ length bytes.now)) }
-    ensures gives { GivesAt OrRefused (unit_delta_at instr.now (entry_of kept.entry))
+    ensures gives { GivesAt OrRefused (unit_delta_at level instr.now (entry_of kept.entry))
         (λ v. v) bytes.now at result }
 {
-    let (length, next) = read_integer(false, instr.presence, bytes, at)?;
+    let (length, next) = read_integer(false, instr.presence, level, bytes, at)?;
     match length {
         Nullable::Null => Ok((None, next)),
         Nullable::Value(length) => {
@@ -229,7 +235,7 @@ pub fn read_unit_delta(
                 return Err(FieldFault::D7);
             };
             let base = base_units(base_of_delta(instr, kept)?);
-            read_new_part(alloc, instr.kind, removal, base, bytes, next)
+            read_new_part(alloc, instr.kind, removal, base, level, bytes, next)
         }
     }
 }
@@ -241,21 +247,22 @@ pub(crate) fn read_delta(
     alloc: Global,
     instr: &FieldPart,
     kept: EntryRef,
+    level: Level,
     bytes: &[u8],
     at: usize,
 ) -> Result<(Option<Scalar>, usize), FieldFault>
     requires { at ≤ length bytes.now }
     ensures place { IfOk result (λ x. (at ≤ x.1) × (x.1 ≤ length bytes.now)) }
-    ensures gives { GivesAt OrRefused (delta_at instr.now.kind instr.now (entry_of kept.entry))
+    ensures gives { GivesAt OrRefused (delta_at level instr.now.kind instr.now (entry_of kept.entry))
         (λ v. v) bytes.now at result }
 {
     match instr.kind {
         Kind::UInt32 | Kind::Int32 | Kind::UInt64 | Kind::Int64 => {
-            read_integer_delta(instr, kept, bytes, at)
+            read_integer_delta(instr, kept, level, bytes, at)
         }
-        Kind::Decimal => read_decimal_delta(instr, kept, bytes, at),
+        Kind::Decimal => read_decimal_delta(instr, kept, level, bytes, at),
         Kind::Ascii | Kind::Unicode | Kind::Bytes => {
-            read_unit_delta(alloc, instr, kept, bytes, at)
+            read_unit_delta(alloc, instr, kept, level, bytes, at)
         }
     }
 }

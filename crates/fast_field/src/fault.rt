@@ -33,6 +33,12 @@ pub enum FieldFault {
     /// A text is not UTF-8.
     #[error("R2")]
     R2,
+    /// At the strict level: an integer has more groups than it needs.
+    #[error("R6")]
+    R6,
+    /// At the strict level: an ASCII string has a preamble that it does not need.
+    #[error("R9")]
+    R9,
     /// A limit on bytes, units or elements is passed.
     #[error("Limit")]
     Limit,

@@ -1,7 +1,9 @@
 //! Laws of the forms of fields, each the contract of a function that does nothing.
 
-ghost use Rattle.std.specs.Prelude.{◌≡◌, ℕ, ◌≤◌, ◌++◌, Bool, false, List, length, Option, Some, None};
+ghost use Rattle.std.specs.Prelude.{◌≡◌, ◌≢◌, ℕ, ◌≤◌, ◌++◌, Bool, false, List, length, Option, Some, None, Ok};
 ghost use Rattle.std.specs.List.{AllByRecursion};
+ghost use Rattle.fast_wire.specs.declared.level.Level.{Level};
+ghost use Rattle.fast_wire.specs.declared.level.Level.TheVariants.{Usual};
 ghost use Rattle.fast_wire.specs.Reader.{GoesOn, IsBytes, IsReader};
 ghost use Rattle.fast_template.specs.TemplateSets.{IsSound, TemplateList, templates_in};
 ghost use Rattle.fast_template.specs.declared.resolved.FieldPart.{FieldPart};
@@ -19,48 +21,59 @@ use crate::fault::{FieldFault, FieldRefusal};
 
 /// Every field is read, whatever its operator.
 pub fn fields_are_read()
-    ensures { (i : FieldPart) (e : Entry) (bit : Bool) → IsBitOf i bit → HasDefault i
-        → IsReader FieldFault.NeedMore (field_at i e bit) (Form i e bit) }
+    ensures { (level : Level) (i : FieldPart) (e : Entry) (bit : Bool) → IsBitOf i bit → HasDefault i
+        → IsReader FieldFault.NeedMore (field_at level i e bit) (Form level i e bit) }
+{}
+
+/// A form at a level is one at the usual level. What is read at a level is read at the usual one, and so is a fault that
+/// is not the level's own.
+pub fn levels_agree()
+    ensures forms { (level : Level) (i : FieldPart) (e : Entry) (bit : Bool) (b : List ℕ) (v : Option Scalar)
+        → Form level i e bit b v → Form Usual i e bit b v }
+    ensures read { (level : Level) (i : FieldPart) (e : Entry) (bit : Bool) (bytes : List ℕ) (x : Option Scalar × List ℕ)
+        → field_at level i e bit bytes ≡ Ok x → field_at Usual i e bit bytes ≡ Ok x }
+    ensures refused { (level : Level) (i : FieldPart) (e : Entry) (bit : Bool) (bytes : List ℕ) (f : FieldFault)
+        → IsFieldFault level i e bit bytes f → f ≢ FieldFault.R6 → f ≢ FieldFault.R9 → IsFieldFault Usual i e bit bytes f }
 {}
 
 /// What is read of a field is read whatever follows.
 pub fn fields_go_on()
-    ensures { (i : FieldPart) (e : Entry) (bit : Bool) → GoesOn (field_at i e bit) }
+    ensures { (level : Level) (i : FieldPart) (e : Entry) (bit : Bool) → GoesOn (field_at level i e bit) }
 {}
 
 /// At most one form begins a list, and it has one value.
 pub fn one_form_begins_a_list()
-    ensures { (i : FieldPart) (e : Entry) (bit : Bool) → IsBitOf i bit → HasDefault i
-        → (b c rest others : List ℕ) (v w : Option Scalar) → Form i e bit b v → Form i e bit c w
+    ensures { (level : Level) (i : FieldPart) (e : Entry) (bit : Bool) → IsBitOf i bit → HasDefault i
+        → (b c rest others : List ℕ) (v w : Option Scalar) → Form level i e bit b v → Form level i e bit c w
         → b ++ rest ≡ c ++ others → (v ≡ w) × (rest ≡ others) }
 {}
 
 /// Where a field has a first fault, no form begins the list.
 pub fn no_form_begins_at_a_fault()
-    ensures { (i : FieldPart) (e : Entry) (bit : Bool) → IsBitOf i bit → HasDefault i
+    ensures { (level : Level) (i : FieldPart) (e : Entry) (bit : Bool) → IsBitOf i bit → HasDefault i
         → (bytes b rest : List ℕ) (v : Option Scalar) (f : FieldFault)
-        → IsFieldFault i e bit bytes f → bytes ≡ b ++ rest → Form i e bit b v → ⊥ }
+        → IsFieldFault level i e bit bytes f → bytes ≡ b ++ rest → Form level i e bit b v → ⊥ }
 {}
 
 /// Where no form begins a list of bytes, the field has a first fault.
 pub fn a_fault_where_no_form_begins()
-    ensures { (i : FieldPart) (e : Entry) (bit : Bool) → IsBitOf i bit → HasDefault i
+    ensures { (level : Level) (i : FieldPart) (e : Entry) (bit : Bool) → IsBitOf i bit → HasDefault i
         → (bytes : List ℕ) → IsBytes bytes → ((b rest : List ℕ) (v : Option Scalar)
-        → bytes ≡ b ++ rest → Form i e bit b v → ⊥)
-        → (f : FieldFault) × IsFieldFault i e bit bytes f }
+        → bytes ≡ b ++ rest → Form level i e bit b v → ⊥)
+        → (f : FieldFault) × IsFieldFault level i e bit bytes f }
 {}
 
 /// Want of memory is no fault of the bytes.
 pub fn no_fault_is_want_of_memory()
-    ensures { (i : FieldPart) (e : Entry) (bit : Bool) (bytes : List ℕ)
-        → IsFieldFault i e bit bytes FieldFault.Memory → ⊥ }
+    ensures { (level : Level) (i : FieldPart) (e : Entry) (bit : Bool) (bytes : List ℕ)
+        → IsFieldFault level i e bit bytes FieldFault.Memory → ⊥ }
 {}
 
 /// A field that waits for more bytes has few of them: at most ten of a subtraction length, ten of the
 /// length of a new part, and all but one of that part's 65,535.
 pub fn what_waits_is_short()
-    ensures { (i : FieldPart) (e : Entry) (bit : Bool) (bytes : List ℕ)
-        → IsFieldFault i e bit bytes FieldFault.NeedMore → length bytes ≤ 65554 }
+    ensures { (level : Level) (i : FieldPart) (e : Entry) (bit : Bool) (bytes : List ℕ)
+        → IsFieldFault level i e bit bytes FieldFault.NeedMore → length bytes ≤ 65554 }
 {}
 
 /// Each part of a sound set of templates is a field part; so a mandatory default has an initial value.
@@ -73,8 +86,8 @@ pub fn parts_of_sets_are_field_parts()
 /// The value of a form is one that the field can have: of its type and within it, and within the limits of its part.
 /// So is the entry that it leaves; so entries stay within their types along a stream.
 pub fn values_are_within()
-    ensures values { (i : FieldPart) (e : Entry) (bit : Bool) (b : List ℕ) (v : Option Scalar)
-        → IsFieldPart i → HoldsScalar e → Form i e bit b v → IsFieldValue i v }
+    ensures values { (level : Level) (i : FieldPart) (e : Entry) (bit : Bool) (b : List ℕ) (v : Option Scalar)
+        → IsFieldPart i → HoldsScalar e → Form level i e bit b v → IsFieldValue i v }
     ensures entries { (i : FieldPart) (e : Entry) (v : Option Scalar) → HoldsScalar e
         → IsFieldValue i v → HoldsScalar (next i e v) }
 {}
@@ -82,9 +95,9 @@ pub fn values_are_within()
 /// A value is refused exactly where it has no form: what `refusal_of` refuses has none, and what it does not refuse
 /// has a best one. (That the value is what its type says, its number in range and its text UTF-8, is a premise.)
 pub fn refusals_are_exact()
-    ensures refused { (i : FieldPart) (e : Entry) (v : Option Scalar) (r : FieldRefusal)
+    ensures refused { (level : Level) (i : FieldPart) (e : Entry) (v : Option Scalar) (r : FieldRefusal)
         → IsFieldPart i → HoldsScalar e
-        → refusal_of i e v ≡ Some r → (bit : Bool) (b : List ℕ) → Form i e bit b v → ⊥ }
+        → refusal_of i e v ≡ Some r → (bit : Bool) (b : List ℕ) → Form level i e bit b v → ⊥ }
     ensures allowed { (i : FieldPart) (e : Entry) (v : Option Scalar) → IsFieldPart i
         → HoldsScalar e → HasRangeOr v
         → refusal_of i e v ≡ None → (bit : Bool) × (b : List ℕ) × IsBest i e bit b v }
@@ -93,7 +106,7 @@ pub fn refusals_are_exact()
 /// A value that has a form has a best one, and one only.
 pub fn values_have_one_best_form()
     ensures some { (i : FieldPart) (e : Entry) (bit : Bool) (b : List ℕ) (v : Option Scalar)
-        → IsFieldPart i → HoldsScalar e → Form i e bit b v
+        → IsFieldPart i → HoldsScalar e → Form Usual i e bit b v
         → (best : Bool) × (c : List ℕ) × IsBest i e best c v }
     ensures one { (i : FieldPart) (e : Entry) (bit other : Bool) (b c : List ℕ)
         (v : Option Scalar) → IsBest i e bit b v → IsBest i e other c v
@@ -104,9 +117,15 @@ pub fn values_have_one_best_form()
 /// is the same bytes, save of a tail and of a delta of a string or vector.
 pub fn no_form_is_shorter()
     ensures least { (i : FieldPart) (e : Entry) (bit other : Bool) (b c : List ℕ)
-        (v : Option Scalar) → IsBest i e bit b v → Form i e other c v
+        (v : Option Scalar) → IsBest i e bit b v → Form Usual i e other c v
         → (other ≡ false → bit ≡ false) × (length b ≤ length c) }
     ensures same { (i : FieldPart) (e : Entry) (bit other : Bool) (b c : List ℕ)
         (v : Option Scalar) → CutsNothing i.operator i.kind
-        → IsBest i e bit b v → Form i e other c v → length b ≡ length c → b ≡ c }
+        → IsBest i e bit b v → Form Usual i e other c v → length b ≡ length c → b ≡ c }
+{}
+
+/// The best form of a value is a form at each level: no entity in it is longer than it needs to be.
+pub fn best_forms_are_strict()
+    ensures { (level : Level) (i : FieldPart) (e : Entry) (bit : Bool) (b : List ℕ) (v : Option Scalar)
+        → IsBest i e bit b v → Form level i e bit b v }
 {}

@@ -2,6 +2,7 @@
 
 ghost use Rattle.std.specs.Prelude.{◌≡◌, ◌≤◌, ℕ, Bool, true, false, List, length, None, Some, Ok, IfOk, MatchResult};
 ghost use Rattle.std.specs.Option.{option_copied};
+ghost use Rattle.fast_wire.specs.declared.level.Level.TheVariants.{Usual};
 ghost use Rattle.fast_wire.specs.Reader.{IsBytes};
 ghost use Rattle.fast_dictionary.specs.Dictionary.{entry_of};
 ghost use Rattle.fast_field.specs.Best.{IsBest};
@@ -155,7 +156,7 @@ pub fn plan_field(
         (λ f. refusal_of instr.now (entry_of kept.entry) (option_copied value.entry) ≡ Some f) }
     // no form has fewer bytes, and none has bit 0 where this bit is 1
     ensures shortest { IfOk result (λ plan. (bit : Bool) (c : List ℕ)
-        → Form instr.now (entry_of kept.entry) bit c (option_copied value.entry)
+        → Form Usual instr.now (entry_of kept.entry) bit c (option_copied value.entry)
         → (bit ≡ false → plan.bit ≡ false) × (plan.size ≤ length c)) }
 {
     let (bit, pieces) = choose(instr, kept, value)?;

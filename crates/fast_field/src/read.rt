@@ -1,6 +1,7 @@
 //! Reading one field.
 
 ghost use Rattle.std.specs.Prelude.{◌≡◌, ℕ, ◌≤◌, List, ◌++◌, length, drop, Option, Ok, ◌⊎◌, IfOk, MatchResult, OnErr};
+ghost use Rattle.fast_wire.specs.declared.level.Level.TheVariants.{Usual};
 ghost use Rattle.fast_dictionary.specs.Dictionary.{entry_of};
 ghost use Rattle.fast_value.specs.declared.scalar.Scalar as scalar;
 ghost use Rattle.fast_wire.specs.Reading.{Gives, GivesAt, Reads};
@@ -21,6 +22,7 @@ use crate::tail::read_tail;
 use crate::whole::{exponent_within, read_whole};
 use fast_dictionary::{Entry, EntryRef};
 use fast_template::{FieldPart, Operator, Part, Scalar};
+use fast_wire::Level;
 use std::alloc::Global;
 
 /// The most elements of a sequence.
@@ -34,6 +36,7 @@ fn read_row(
     instr: &FieldPart,
     kept: EntryRef,
     bit: bool,
+    level: Level,
     bytes: &[u8],
     at: usize,
 ) -> Result<(Found, usize), FieldFault>
@@ -41,7 +44,7 @@ fn read_row(
     ensures place { IfOk result (λ x. (at ≤ x.1) × (x.1 ≤ length bytes.now)) }
     ensures lies { IfOk result (λ x. CanLie (entry_of kept.entry) x.0) }
     ensures gives { GivesAt OrRefused
-        (row_at instr.now.operator instr.now (entry_of kept.entry) bit)
+        (row_at level instr.now.operator instr.now (entry_of kept.entry) bit)
         (value_found instr.now (entry_of kept.entry)) bytes.now at result }
 {
     match instr.operator {
@@ -59,17 +62,18 @@ fn read_row(
                 instr.part,
                 instr.kind,
                 instr.presence,
+                level,
                 bytes,
                 at,
             )?;
             Ok((Found::own(value), next))
         }
         Operator::Delta => {
-            let (value, next) = read_delta(alloc, instr, kept, bytes, at)?;
+            let (value, next) = read_delta(alloc, instr, kept, level, bytes, at)?;
             Ok((Found::own(value), next))
         }
         Operator::Tail => {
-            let (value, next) = read_tail(alloc, instr, kept, bytes, at)?;
+            let (value, next) = read_tail(alloc, instr, kept, level, bytes, at)?;
             Ok((Found::own(value), next))
         }
     }
@@ -109,16 +113,17 @@ fn read_checked(
     instr: &FieldPart,
     kept: EntryRef,
     bit: bool,
+    level: Level,
     bytes: &[u8],
     at: usize,
 ) -> Result<(Found, usize), FieldFault>
     requires { at ≤ length bytes.now }
     ensures place { IfOk result (λ x. (at ≤ x.1) × (x.1 ≤ length bytes.now)) }
     ensures lies { IfOk result (λ x. CanLie (entry_of kept.entry) x.0) }
-    ensures gives { GivesAt OrRefused (field_at instr.now (entry_of kept.entry) bit)
+    ensures gives { GivesAt OrRefused (field_at level instr.now (entry_of kept.entry) bit)
         (value_found instr.now (entry_of kept.entry)) bytes.now at result }
 {
-    let (found, next) = read_row(alloc, instr, kept, bit, bytes, at)?;
+    let (found, next) = read_row(alloc, instr, kept, bit, level, bytes, at)?;
     check_part(instr, kept, &found)?;
     Ok((found, next))
 }
@@ -136,20 +141,21 @@ pub fn find_field(
     instr: &FieldPart,
     kept: EntryRef,
     bit: bool,
+    level: Level,
     bytes: &[u8],
     at: usize,
 ) -> Result<(Found, usize), FieldFault>
     requires { at ≤ length bytes.now }
     ensures place { IfOk result (λ x. (at ≤ x.1) × (x.1 ≤ length bytes.now)) }
     ensures lies { IfOk result (λ x. CanLie (entry_of kept.entry) x.0) }
-    ensures gives { GivesAt OrRefused (field_at instr.now (entry_of kept.entry) bit)
+    ensures gives { GivesAt OrRefused (field_at level instr.now (entry_of kept.entry) bit)
         (value_found instr.now (entry_of kept.entry)) bytes.now at result }
     // what is read is read whatever follows
     ensures goes { IfOk result (λ x. (more : List ℕ)
-        → field_at instr.now (entry_of kept.entry) bit (drop at bytes.now ++ more)
+        → field_at level instr.now (entry_of kept.entry) bit (drop at bytes.now ++ more)
         ≡ Ok (value_found instr.now (entry_of kept.entry) x.0, drop x.1 bytes.now ++ more)) }
 {
-    read_checked(alloc, instr, kept, bit, bytes, at)
+    read_checked(alloc, instr, kept, bit, level, bytes, at)
 }
 
 /// Reads a field that begins at `at`, makes its entry the one afterwards where it lies, and answers where the value
@@ -164,6 +170,7 @@ pub fn read_in_place(
     instr: &FieldPart,
     entry: &mut Entry,
     bit: bool,
+    level: Level,
     bytes: &[u8],
     at: usize,
 ) -> Result<(Found, usize), FieldFault>
@@ -172,10 +179,10 @@ pub fn read_in_place(
     ensures entry { IfOk result (λ x. entry.new
         ≡ next instr.now entry.old (value_found instr.now entry.new x.0)) }
     ensures unchanged { OnErr result (entry.new ≡ entry.old) }
-    ensures gives { GivesAt OrRefused (field_at instr.now entry.old bit)
+    ensures gives { GivesAt OrRefused (field_at level instr.now entry.old bit)
         (value_found instr.now entry.new) bytes.now at result }
     ensures goes { IfOk result (λ x. (more : List ℕ)
-        → field_at instr.now entry.old bit (drop at bytes.now ++ more)
+        → field_at level instr.now entry.old bit (drop at bytes.now ++ more)
         ≡ Ok (value_found instr.now entry.new x.0, drop x.1 bytes.now ++ more)) }
 {
     if !bit {
@@ -183,7 +190,7 @@ pub fn read_in_place(
             return Ok((found, at));
         }
     }
-    let (found, next) = find_field(alloc, instr, entry.view(), bit, bytes, at)?;
+    let (found, next) = find_field(alloc, instr, entry.view(), bit, level, bytes, at)?;
     let found = settle(alloc, instr, entry, found)?;
     Ok((found, next))
 }
@@ -194,6 +201,7 @@ fn read_copied(
     instr: &FieldPart,
     kept: EntryRef,
     bit: bool,
+    level: Level,
     bytes: &[u8],
     at: usize,
 ) -> Result<(Option<Scalar>, Entry, usize), FieldFault>
@@ -201,9 +209,9 @@ fn read_copied(
     ensures place { IfOk result (λ x. (at ≤ x.2) × (x.2 ≤ length bytes.now)) }
     ensures entry { IfOk result (λ x. x.1 ≡ next instr.now (entry_of kept.entry) x.0) }
     ensures gives { Gives OrRefused (λ x. (x.0, drop x.2 bytes.now))
-        result (field_at instr.now (entry_of kept.entry) bit (drop at bytes.now)) }
+        result (field_at level instr.now (entry_of kept.entry) bit (drop at bytes.now)) }
 {
-    let (found, place) = find_field(alloc, instr, kept, bit, bytes, at)?;
+    let (found, place) = find_field(alloc, instr, kept, bit, level, bytes, at)?;
     let entry = next_entry(alloc, instr, kept, found.value(instr, kept))?;
     let value = found.into_value(alloc, instr, kept)?;
     Ok((value, entry, place))
@@ -221,6 +229,7 @@ pub fn read_field(
     instr: &FieldPart,
     kept: EntryRef,
     bit: bool,
+    level: Level,
     bytes: &[u8],
     at: usize,
 ) -> Result<(Option<Scalar>, Entry, usize), FieldFault>
@@ -229,26 +238,26 @@ pub fn read_field(
     // what is read is a form of the value, and a refusal is the first fault, or memory's; a field without a bit is
     // read with bit true, and a mandatory default has an initial value
     ensures answer { IsBitOf instr.now bit → HasDefault instr.now
-        → MatchResult result (λ x. Reads (Form instr.now (entry_of kept.entry) bit) bytes.now at
+        → MatchResult result (λ x. Reads (Form level instr.now (entry_of kept.entry) bit) bytes.now at
         (x.0, x.2))
-        (λ f. IsFieldFault instr.now (entry_of kept.entry) bit (drop at bytes.now) f
+        (λ f. IsFieldFault level instr.now (entry_of kept.entry) bit (drop at bytes.now) f
         ⊎ ((f ≡ FieldFault.Memory)
-        × (IsFieldFault instr.now (entry_of kept.entry) bit
+        × (IsFieldFault level instr.now (entry_of kept.entry) bit
         (drop at bytes.now) FieldFault.NeedMore → ⊥))) }
     // what is a form of a value is read, unless memory is refused
     ensures only { IsBitOf instr.now bit → HasDefault instr.now
         → (next : ℕ) (value : Option scalar.Scalar)
-        → Reads (Form instr.now (entry_of kept.entry) bit) bytes.now at (value, next)
+        → Reads (Form level instr.now (entry_of kept.entry) bit) bytes.now at (value, next)
         → MatchResult result (λ x. (x.0 ≡ value) × (x.2 ≡ next)) (λ f. f ≡ FieldFault.Memory) }
     // the entry afterwards follows from the value
     ensures entry { IfOk result (λ x. x.1 ≡ next instr.now (entry_of kept.entry) x.0) }
     // the same by the function that reads the front of a list
     ensures gives { Gives OrRefused (λ x. (x.0, drop x.2 bytes.now))
-        result (field_at instr.now (entry_of kept.entry) bit (drop at bytes.now)) }
+        result (field_at level instr.now (entry_of kept.entry) bit (drop at bytes.now)) }
     // and whatever follows
     ensures goes { IfOk result (λ x. (more : List ℕ)
-        → field_at instr.now (entry_of kept.entry) bit (drop at bytes.now ++ more)
+        → field_at level instr.now (entry_of kept.entry) bit (drop at bytes.now ++ more)
         ≡ Ok (x.0, drop x.2 bytes.now ++ more)) }
 {
-    read_copied(alloc, instr, kept, bit, bytes, at)
+    read_copied(alloc, instr, kept, bit, level, bytes, at)
 }

@@ -1,6 +1,7 @@
 //! Strings and vectors that are put together from a base and from what was sent, which is copied once.
 
 ghost use Rattle.std.specs.Prelude.{◌≡◌, ◌≤◌, ◌<◌, ◌+◌, ◌⊎◌, [], ◌++◌, length, IfErr, IfOk, OnOk};
+ghost use Rattle.fast_wire.specs.declared.level.Level.TheVariants.{Usual};
 ghost use Rattle.fast_wire.specs.Entity.{groups};
 ghost use Rattle.fast_wire.specs.Nullable.{IsNullOr};
 ghost use Rattle.fast_wire.specs.Reading.{Gives};
@@ -11,9 +12,9 @@ ghost use Rattle.fast_field.specs.Sent.{IsSent, IsSentIn, units_in, units_sent};
 ghost use Rattle.fast_field.specs.declared.fault.FieldFault.TheVariants as field_fault;
 
 use crate::fault::FieldFault;
-use crate::whole::value_of_units;
+use crate::whole::{judge_units, value_of_units};
 use fast_template::{Kind, Presence, Scalar};
-use fast_wire::{Nullable, Span};
+use fast_wire::{Level, Nullable, Span};
 use std::alloc::{AllocError, Global};
 
 /// The most units of a string or vector.
@@ -23,13 +24,19 @@ const UNIT_LIMIT: usize = 65_535;
 /// takes no memory.
 #[tactic(auto, using(crate::proofs::CallSteps::call_steps), unfolding(crate::specs::FieldReading::part_at))]
 #[inline(always)]
-pub(crate) fn find_part(kind: Kind, bytes: &[u8], at: usize) -> Result<(Span, usize), FieldFault>
+pub(crate) fn find_part(
+    kind: Kind,
+    level: Level,
+    bytes: &[u8],
+    at: usize,
+) -> Result<(Span, usize), FieldFault>
     requires { at ≤ length bytes.now }
     ensures place { IfOk result (λ x. (at < x.1) × (x.1 ≤ length bytes.now)) }
     ensures between { IfOk result (λ x. IsBetween at x.1 x.0) }
     ensures sent { IfOk result (λ x. IsSentIn kind bytes.now x.0) }
-    ensures gives { AnswersAt (part_at kind) (units_in kind bytes.now) bytes.now at result }
+    ensures gives { AnswersAt (part_at level kind) (units_in kind bytes.now) bytes.now at result }
 {
+    judge_units(level, kind, Presence::Mandatory, bytes, at)?;
     match kind {
         Kind::Ascii => Ok(fast_wire::find_ascii(bytes, at)?),
         _ => Ok(fast_wire::find_vector(bytes, at)?),
@@ -42,6 +49,7 @@ pub(crate) fn find_part(kind: Kind, bytes: &[u8], at: usize) -> Result<(Span, us
 pub(crate) fn find_units(
     kind: Kind,
     presence: Presence,
+    level: Level,
     bytes: &[u8],
     at: usize,
 ) -> Result<(Nullable<Span>, usize), FieldFault>
@@ -49,12 +57,13 @@ pub(crate) fn find_units(
     ensures place { IfOk result (λ x. (at < x.1) × (x.1 ≤ length bytes.now)) }
     ensures between { IfOk result (λ x. IsNullOr (IsBetween at x.1) x.0) }
     ensures sent { IfOk result (λ x. IsNullOr (IsSentIn kind bytes.now) x.0) }
-    ensures gives { AnswersAt (units_at kind presence) (nullable_in (units_in kind bytes.now))
+    ensures gives { AnswersAt (units_at level kind presence) (nullable_in (units_in kind bytes.now))
         bytes.now at result }
 {
+    judge_units(level, kind, presence, bytes, at)?;
     match presence {
         Presence::Mandatory => {
-            let (span, next) = find_part(kind, bytes, at)?;
+            let (span, next) = find_part(kind, Level::Usual, bytes, at)?;
             Ok((Nullable::Value(span), next))
         }
         Presence::Optional => match kind {

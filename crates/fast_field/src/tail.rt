@@ -1,6 +1,7 @@
 //! Tails: FAST 1.1, Field Operators, Tail Operator.
 
 ghost use Rattle.std.specs.Prelude.{◌≡◌, ◌≤◌, length, drop, None, IfOk};
+ghost use Rattle.fast_wire.specs.declared.level.Level.TheVariants.{Usual};
 ghost use Rattle.fast_dictionary.specs.Dictionary.{entry_of};
 ghost use Rattle.fast_wire.specs.Reading.{Gives, GivesAt};
 ghost use Rattle.fast_field.specs.Calls.{OrRefused};
@@ -19,7 +20,7 @@ use crate::string::{find_units, sent_behind};
 use crate::whole::size_units;
 use fast_dictionary::EntryRef;
 use fast_template::{FieldPart, Kind, Presence, Scalar};
-use fast_wire::Nullable;
+use fast_wire::{Level, Nullable};
 use std::alloc::Global;
 
 /// The base, the tail that was sent in place of its end.
@@ -51,15 +52,16 @@ pub fn read_tail(
     alloc: Global,
     instr: &FieldPart,
     kept: EntryRef,
+    level: Level,
     bytes: &[u8],
     at: usize,
 ) -> Result<(Option<Scalar>, usize), FieldFault>
     requires { at ≤ length bytes.now }
     ensures place { IfOk result (λ x. (at ≤ x.1) × (x.1 ≤ length bytes.now)) }
-    ensures gives { GivesAt OrRefused (tail_at instr.now (entry_of kept.entry))
+    ensures gives { GivesAt OrRefused (tail_at level instr.now (entry_of kept.entry))
         (λ v. v) bytes.now at result }
 {
-    let (tail, next) = find_units(instr.kind, instr.presence, bytes, at)?;
+    let (tail, next) = find_units(instr.kind, instr.presence, level, bytes, at)?;
     match tail {
         Nullable::Null => Ok((None, next)),
         Nullable::Value(span) => {

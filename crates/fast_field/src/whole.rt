@@ -1,6 +1,9 @@
 //! What stands whole in a stream: FAST 1.1, Transfer Encoding, Field Encoding.
 
 ghost use Rattle.std.specs.Prelude.{◌≡◌, ◌≤◌, ◌<◌, true, false, length, drop, IfNone, IfOk, IfSome, IsTrue};
+ghost use Rattle.fast_wire.specs.Level.{judge};
+ghost use Rattle.fast_field.specs.Faults.{field_fault};
+ghost use Rattle.fast_field.specs.Spelled.{overlong_number, overlong_units};
 ghost use Rattle.fast_wire.specs.Nullable.{IsNullOr, items_of};
 ghost use Rattle.fast_wire.specs.Reading.{GivesAt, signed_at};
 ghost use Rattle.fast_value.specs.Scalar.{exponent_in_range, in_range, is_integer};
@@ -8,11 +11,11 @@ ghost use Rattle.fast_value.specs.declared.kind.Kind.TheVariants as kind;
 ghost use Rattle.fast_value.specs.declared.kind.Presence.TheVariants.{Mandatory, Optional};
 ghost use Rattle.fast_field.specs.Calls.{Answers, AnswersAt, IsSentRange, OrRefused};
 ghost use Rattle.fast_field.specs.Chosen.{AppendsOne, CanBeUnits, CanBeWhole, HasSize, IsSmall, ShortestPair, ShortestPart, ShortestSigned, ShortestUnits, ShortestUnsigned, ShortestWhole, length_size, part_size, tail_size};
-ghost use Rattle.fast_field.specs.FieldReading.{decimal_spelled_at, in_field, integer_at, integer_spelled_at, integer_value, mantissa_behind, part_at, range_fault, spelled_at, unit_value, units_at, units_spelled_at};
+ghost use Rattle.fast_field.specs.FieldReading.{entity_limit, integer_usually_at, mantissa_entity_at, overlong_fault, decimal_spelled_at, in_field, integer_at, integer_spelled_at, integer_value, mantissa_behind, part_at, range_fault, spelled_at, unit_value, units_at, units_spelled_at};
 
 use crate::fault::FieldFault;
 use fast_template::{ByteString, Kind, Part, Presence, Scalar, UnicodeText};
-use fast_wire::{Nullable, WireFault};
+use fast_wire::{Level, Nullable, WireFault};
 use std::alloc::Global;
 
 /// A number without a sign; one that has more than 64 bits is read once more.
@@ -22,7 +25,7 @@ fn read_unsigned(bytes: &[u8], at: usize) -> Result<(Nullable<i128>, usize), Fie
     requires { at ≤ length bytes.now }
     ensures place { IfOk result (λ x. (at < x.1) × (x.1 ≤ length bytes.now)) }
     ensures range { IfOk result (λ x. IsNullOr IsSentRange x.0) }
-    ensures gives { AnswersAt (integer_at true Mandatory) (λ v. v) bytes.now at result }
+    ensures gives { AnswersAt (integer_usually_at true Mandatory) (λ v. v) bytes.now at result }
 {
     match fast_wire::read_u64(bytes, at) {
         Ok((number, next)) => Ok((Nullable::Value(i128::from(number)), next)),
@@ -41,7 +44,7 @@ fn read_unsigned_nullable(bytes: &[u8], at: usize) -> Result<(Nullable<i128>, us
     requires { at ≤ length bytes.now }
     ensures place { IfOk result (λ x. (at < x.1) × (x.1 ≤ length bytes.now)) }
     ensures range { IfOk result (λ x. IsNullOr IsSentRange x.0) }
-    ensures gives { AnswersAt (integer_at true Optional) (λ v. v) bytes.now at result }
+    ensures gives { AnswersAt (integer_usually_at true Optional) (λ v. v) bytes.now at result }
 {
     match fast_wire::read_u64_nullable(bytes, at) {
         Ok((Nullable::Null, next)) => Ok((Nullable::Null, next)),
@@ -80,7 +83,7 @@ fn read_signed_nullable(bytes: &[u8], at: usize) -> Result<(Nullable<i128>, usiz
     requires { at ≤ length bytes.now }
     ensures place { IfOk result (λ x. (at < x.1) × (x.1 ≤ length bytes.now)) }
     ensures range { IfOk result (λ x. IsNullOr IsSentRange x.0) }
-    ensures gives { AnswersAt (integer_at false Optional) (λ v. v) bytes.now at result }
+    ensures gives { AnswersAt (integer_usually_at false Optional) (λ v. v) bytes.now at result }
 {
     match fast_wire::read_i64_nullable(bytes, at) {
         Ok((Nullable::Null, next)) => Ok((Nullable::Null, next)),
@@ -90,20 +93,100 @@ fn read_signed_nullable(bytes: &[u8], at: usize) -> Result<(Nullable<i128>, usiz
     }
 }
 
+/// Judges the number that begins at `at`, at the strict level: whether its entity is there and no longer than it need be.
+#[tactic(auto, using(crate::proofs::CallSteps::call_steps))]
+fn judge_number(level: Level, unsigned: bool, bytes: &[u8], at: usize) -> Result<(), FieldFault>
+    requires { at ≤ length bytes.now }
+    ensures { Answers (λ x. x) result
+        (judge level 10 (overlong_number unsigned) field_fault FieldFault.R6 (drop at bytes.now)) }
+{
+    match level {
+        Level::Usual => Ok(()),
+        Level::Strict => {
+            let next = fast_wire::entity_end(bytes, at, 10)?;
+            let entity = &bytes[at..next];
+            let overlong = if unsigned {
+                fast_wire::overlong_unsigned(entity)
+            } else {
+                fast_wire::overlong_signed(entity)
+            };
+            if overlong {
+                return Err(FieldFault::R6);
+            }
+            Ok(())
+        }
+    }
+}
+
+/// Judges the entity that a string or vector begins with.
+#[tactic(auto, using(crate::proofs::CallSteps::call_steps))]
+pub(crate) fn judge_units(
+    level: Level,
+    kind: Kind,
+    presence: Presence,
+    bytes: &[u8],
+    at: usize,
+) -> Result<(), FieldFault>
+    requires { at ≤ length bytes.now }
+    ensures { Answers (λ x. x) result
+        (judge level (entity_limit kind) (overlong_units kind presence) field_fault
+        (overlong_fault kind) (drop at bytes.now)) }
+{
+    match level {
+        Level::Usual => Ok(()),
+        Level::Strict => match kind {
+            Kind::Ascii => {
+                let next = fast_wire::entity_end(bytes, at, 65_540)?;
+                let nullable = presence == Presence::Optional;
+                if fast_wire::overlong_ascii(&bytes[at..next], nullable) {
+                    return Err(FieldFault::R9);
+                }
+                Ok(())
+            }
+            _ => {
+                let next = fast_wire::entity_end(bytes, at, 10)?;
+                if fast_wire::overlong_unsigned(&bytes[at..next]) {
+                    return Err(FieldFault::R6);
+                }
+                Ok(())
+            }
+        },
+    }
+}
+
+/// A number with a sign that is never NULL, judged.
+#[tactic(auto, using(crate::proofs::CallSteps::call_steps))]
+#[inline(always)]
+pub(crate) fn read_mantissa_entity(
+    level: Level,
+    bytes: &[u8],
+    at: usize,
+) -> Result<(i128, usize), FieldFault>
+    requires { at ≤ length bytes.now }
+    ensures place { IfOk result (λ x. (at < x.1) × (x.1 ≤ length bytes.now)) }
+    ensures range { IfOk result (λ x. IsSentRange x.0) }
+    ensures gives { AnswersAt (mantissa_entity_at level) (λ v. v) bytes.now at result }
+{
+    judge_number(level, false, bytes, at)?;
+    read_signed(bytes, at)
+}
+
 /// An integer in the form of a presence, with no sign where `unsigned` is true.
 #[tactic(auto, using(crate::proofs::CallSteps::call_steps), unfolding(crate::specs::FieldReading::integer_at))]
 #[inline(always)]
 pub(crate) fn read_integer(
     unsigned: bool,
     presence: Presence,
+    level: Level,
     bytes: &[u8],
     at: usize,
 ) -> Result<(Nullable<i128>, usize), FieldFault>
     requires { at ≤ length bytes.now }
     ensures place { IfOk result (λ x. (at < x.1) × (x.1 ≤ length bytes.now)) }
     ensures range { IfOk result (λ x. IsNullOr IsSentRange x.0) }
-    ensures gives { AnswersAt (integer_at unsigned presence) (λ v. v) bytes.now at result }
+    ensures gives { AnswersAt (integer_at level unsigned presence) (λ v. v) bytes.now at result }
 {
+    judge_number(level, unsigned, bytes, at)?;
     match (unsigned, presence) {
         (true, Presence::Mandatory) => read_unsigned(bytes, at),
         (true, Presence::Optional) => read_unsigned_nullable(bytes, at),
@@ -121,13 +204,15 @@ pub(crate) fn read_integer(
 pub(crate) fn read_part(
     alloc: Global,
     kind: Kind,
+    level: Level,
     bytes: &[u8],
     at: usize,
 ) -> Result<(Vec<u8>, usize), FieldFault>
     requires { at ≤ length bytes.now }
     ensures place { IfOk result (λ x. (at < x.1) × (x.1 ≤ length bytes.now)) }
-    ensures gives { GivesAt OrRefused (part_at kind) (λ v. v.items) bytes.now at result }
+    ensures gives { GivesAt OrRefused (part_at level kind) (λ v. v.items) bytes.now at result }
 {
+    judge_units(level, kind, Presence::Mandatory, bytes, at)?;
     match kind {
         Kind::Ascii => Ok(fast_wire::read_ascii(alloc, bytes, at)?),
         _ => Ok(fast_wire::read_vector(alloc, bytes, at)?),
@@ -140,16 +225,18 @@ pub(crate) fn read_units(
     alloc: Global,
     kind: Kind,
     presence: Presence,
+    level: Level,
     bytes: &[u8],
     at: usize,
 ) -> Result<(Nullable<Vec<u8>>, usize), FieldFault>
     requires { at ≤ length bytes.now }
     ensures place { IfOk result (λ x. (at < x.1) × (x.1 ≤ length bytes.now)) }
-    ensures gives { GivesAt OrRefused (units_at kind presence) items_of bytes.now at result }
+    ensures gives { GivesAt OrRefused (units_at level kind presence) items_of bytes.now at result }
 {
+    judge_units(level, kind, presence, bytes, at)?;
     match presence {
         Presence::Mandatory => {
-            let (units, next) = read_part(alloc, kind, bytes, at)?;
+            let (units, next) = read_part(alloc, kind, Level::Usual, bytes, at)?;
             Ok((Nullable::Value(units), next))
         }
         Presence::Optional => match kind {
@@ -240,17 +327,18 @@ pub fn mantissa_within(mantissa: i128) -> Option<i64>
 #[tactic(auto, using(crate::proofs::CallSteps::call_steps), unfolding(crate::specs::FieldReading::mantissa_behind, crate::specs::FieldReading::decimal_value))]
 fn read_mantissa(
     exponent: i128,
+    level: Level,
     bytes: &[u8],
     at: usize,
 ) -> Result<(Option<Scalar>, usize), FieldFault>
     requires { at ≤ length bytes.now }
     ensures place { IfOk result (λ x. (at ≤ x.1) × (x.1 ≤ length bytes.now)) }
-    ensures gives { AnswersAt (mantissa_behind exponent) (λ v. v) bytes.now at result }
+    ensures gives { AnswersAt (mantissa_behind level exponent) (λ v. v) bytes.now at result }
 {
     let Some(exponent) = exponent_within(exponent) else {
         return Err(FieldFault::R1);
     };
-    let (mantissa, next) = read_signed(bytes, at)?;
+    let (mantissa, next) = read_mantissa_entity(level, bytes, at)?;
     match mantissa_within(mantissa) {
         Some(mantissa) => Ok((Some(Scalar::Decimal { exponent, mantissa }), next)),
         None => Err(FieldFault::R1),
@@ -261,17 +349,18 @@ fn read_mantissa(
 #[tactic(auto, unfolding(crate::specs::FieldReading::decimal_spelled_at))]
 fn read_decimal(
     presence: Presence,
+    level: Level,
     bytes: &[u8],
     at: usize,
 ) -> Result<(Option<Scalar>, usize), FieldFault>
     requires { at ≤ length bytes.now }
     ensures place { IfOk result (λ x. (at ≤ x.1) × (x.1 ≤ length bytes.now)) }
-    ensures gives { AnswersAt (decimal_spelled_at presence) (λ v. v) bytes.now at result }
+    ensures gives { AnswersAt (decimal_spelled_at level presence) (λ v. v) bytes.now at result }
 {
-    let (exponent, next) = read_integer(false, presence, bytes, at)?;
+    let (exponent, next) = read_integer(false, presence, level, bytes, at)?;
     match exponent {
         Nullable::Null => Ok((None, next)),
-        Nullable::Value(exponent) => read_mantissa(exponent, bytes, next),
+        Nullable::Value(exponent) => read_mantissa(exponent, level, bytes, next),
     }
 }
 
@@ -282,16 +371,17 @@ fn read_number(
     part: Part,
     kind: Kind,
     presence: Presence,
+    level: Level,
     bytes: &[u8],
     at: usize,
 ) -> Result<(Option<Scalar>, usize), FieldFault>
     requires place { at ≤ length bytes.now }
     requires kind { IsTrue (is_integer kind) }
     ensures place { IfOk result (λ x. (at ≤ x.1) × (x.1 ≤ length bytes.now)) }
-    ensures gives { AnswersAt (integer_spelled_at part kind presence) (λ v. v) bytes.now at result }
+    ensures gives { AnswersAt (integer_spelled_at level part kind presence) (λ v. v) bytes.now at result }
 {
     let unsigned = matches!(kind, Kind::UInt32 | Kind::UInt64);
-    let (number, next) = read_integer(unsigned, presence, bytes, at)?;
+    let (number, next) = read_integer(unsigned, presence, level, bytes, at)?;
     match number {
         Nullable::Null => Ok((None, next)),
         Nullable::Value(number) => Ok((Some(value_of_integer(part, kind, number)?), next)),
@@ -310,15 +400,16 @@ pub fn read_string(
     alloc: Global,
     kind: Kind,
     presence: Presence,
+    level: Level,
     bytes: &[u8],
     at: usize,
 ) -> Result<(Option<Scalar>, usize), FieldFault>
     requires { at ≤ length bytes.now }
     ensures place { IfOk result (λ x. (at ≤ x.1) × (x.1 ≤ length bytes.now)) }
-    ensures gives { GivesAt OrRefused (units_spelled_at kind presence)
+    ensures gives { GivesAt OrRefused (units_spelled_at level kind presence)
         (λ v. v) bytes.now at result }
 {
-    let (units, next) = read_units(alloc, kind, presence, bytes, at)?;
+    let (units, next) = read_units(alloc, kind, presence, level, bytes, at)?;
     match units {
         Nullable::Null => Ok((None, next)),
         Nullable::Value(units) => Ok((Some(value_of_units(kind, units)?), next)),
@@ -333,20 +424,21 @@ pub(crate) fn read_whole(
     part: Part,
     kind: Kind,
     presence: Presence,
+    level: Level,
     bytes: &[u8],
     at: usize,
 ) -> Result<(Option<Scalar>, usize), FieldFault>
     requires { at ≤ length bytes.now }
     ensures place { IfOk result (λ x. (at ≤ x.1) × (x.1 ≤ length bytes.now)) }
-    ensures gives { GivesAt OrRefused (spelled_at part kind presence) (λ v. v) bytes.now at result }
+    ensures gives { GivesAt OrRefused (spelled_at level part kind presence) (λ v. v) bytes.now at result }
 {
     match kind {
         Kind::UInt32 | Kind::Int32 | Kind::UInt64 | Kind::Int64 => {
-            read_number(part, kind, presence, bytes, at)
+            read_number(part, kind, presence, level, bytes, at)
         }
-        Kind::Decimal => read_decimal(presence, bytes, at),
+        Kind::Decimal => read_decimal(presence, level, bytes, at),
         Kind::Ascii | Kind::Unicode | Kind::Bytes => {
-            read_string(alloc, kind, presence, bytes, at)
+            read_string(alloc, kind, presence, level, bytes, at)
         }
     }
 }

@@ -5,6 +5,7 @@ use Rattle.std.proofs.lemmas.Int.{ints}
 use Rattle.std.proofs.lemmas.Bool.Decides.{nat_tests}
 use Rattle.std.specs.Int.{w32, w64, w128}
 use Rattle.std.specs.Int.RustNames.{FitsSigned}
+use Rattle.fast_wire.specs.declared.level.Level.TheVariants.{Usual}
 use Rattle.fast_wire.specs.Reading.{◌>>=◌, signed_at}
 use Rattle.fast_wire.specs.declared.nullable.Nullable.{Nullable}
 use Rattle.fast_wire.specs.declared.nullable.Nullable.TheVariants.{Null, Value}
@@ -86,13 +87,13 @@ signed_read : (bytes rest : List ℕ) (z : ℤ) → Spelt false Mandatory bytes 
 unfolding integer_at not_null
 signed_read bytes rest z h = sym (stays (in_field (signed_at bytes))) ∙ ap not_null h
 
-delta_as : (k : Kind) (i : FieldPart) (e : Entry) (bytes : List ℕ) → k ≡ kind.Decimal → delta_at k i e bytes ≡ decimal_delta_at i e bytes
+delta_as : (k : Kind) (i : FieldPart) (e : Entry) (bytes : List ℕ) → k ≡ kind.Decimal → delta_at Usual k i e bytes ≡ decimal_delta_at Usual i e bytes
 unfolding delta_at
 delta_as kind.Decimal i e bytes h = refl
 delta_as k i e bytes h = absurd cc
 
 delta_read : (i : FieldPart) (x m dx dm : ℤ) (bytes mid rest : List ℕ) → i.kind ≡ kind.Decimal → Spelt false i.presence bytes dx mid → exponent_in_range (x +ℤ dx) ≡ true → Spelt false Mandatory mid dm rest → in_range kind.Int64 (m +ℤ dm) ≡ true
-    → decimal_delta_at i (Assigned (Decimal x m)) bytes ≡ Ok (Some (Decimal (x +ℤ dx) (m +ℤ dm)), rest)
+    → decimal_delta_at Usual i (Assigned (Decimal x m)) bytes ≡ Ok (Some (Decimal (x +ℤ dx) (m +ℤ dm)), rest)
 unfolding decimal_delta_at mantissa_delta_behind decimal_value
 delta_read i x m dx dm bytes mid rest k exponent near mantissa fits =
     rw (exponent, base_is i (Decimal x m) (rw k refl), near, signed_read mid rest dm mantissa, fits) refl
@@ -101,7 +102,7 @@ of_type : (k : Kind) (e m : ℤ) → k ≡ kind.Decimal → exponent_in_range e 
 of_type k e m same near fits = subst (λ (k : Kind). IsOfType k (Decimal e m)) (sym same) (refl, (near, fits))
 
 delta_first : (i : FieldPart) (x m dx dm : ℤ) (b : List ℕ) → i.kind ≡ kind.Decimal → exponent_in_range (x +ℤ dx) ≡ true → in_range kind.Int64 (m +ℤ dm) ≡ true → ShortestPair i.presence dx dm b
-    → IsFirst (λ c b. DeltaForm i (Assigned (Decimal x m)) c b (Some (Decimal (x +ℤ dx) (m +ℤ dm)))) b
+    → IsFirst (λ c b. DeltaForm Usual i (Assigned (Decimal x m)) c b (Some (Decimal (x +ℤ dx) (m +ℤ dm)))) b
 delta_first i x m dx dm b k near fits s =
     let base = Decimal x m in
     let v = Decimal (x +ℤ dx) (m +ℤ dm) in
@@ -119,7 +120,7 @@ assigned_relays i new x m dx dm bytes mid rest before after k o p exponent near 
     (delta_row i.operator i old bytes o ∙ delta_as i.kind i old bytes k ∙ delta_read i x m dx dm bytes mid rest k exponent near mantissa fits)
     (entry ∙ sym last)
     (delta_out i old (Some v) o)
-    (λ b s. subst (λ (o : Operator). IsFirst (λ c b. FormOf o i old true c b (Some v)) b) (sym o) (delta_first i x m dx dm b k near fits s))
+    (λ b s. subst (λ (o : Operator). IsFirst (λ c b. FormOf Usual o i old true c b (Some v)) b) (sym o) (delta_first i x m dx dm b k near fits s))
     appended
 
 pub decimal_relays : (i : FieldPart) (old new : Entry) (x m dx dm : ℤ) (bytes mid rest before after : List ℕ) → old ≡ Assigned (Decimal x m) → i.kind ≡ kind.Decimal → i.operator ≡ operator.Delta → i.part ≡ part.Whole → Spelt false i.presence bytes dx mid → exponent_in_range (x +ℤ dx) ≡ true
@@ -129,20 +130,20 @@ decimal_relays i old new x m dx dm bytes mid rest before after is k o p exponent
 
 -- ---- what stands whole
 
-spelled_as : (pt : Part) (k : Kind) (p : Presence) (bytes : List ℕ) → k ≡ kind.Decimal → spelled_at pt k p bytes ≡ decimal_spelled_at p bytes
+spelled_as : (pt : Part) (k : Kind) (p : Presence) (bytes : List ℕ) → k ≡ kind.Decimal → spelled_at Usual pt k p bytes ≡ decimal_spelled_at Usual p bytes
 unfolding spelled_at
 spelled_as pt kind.Decimal p bytes h = refl
 spelled_as pt k p bytes h = absurd cc
 
-spelled_read : (p : Presence) (x m : ℤ) (bytes mid rest : List ℕ) → Spelt false p bytes x mid → exponent_in_range x ≡ true → Spelt false Mandatory mid m rest → in_range kind.Int64 m ≡ true → decimal_spelled_at p bytes ≡ Ok (Some (Decimal x m), rest)
+spelled_read : (p : Presence) (x m : ℤ) (bytes mid rest : List ℕ) → Spelt false p bytes x mid → exponent_in_range x ≡ true → Spelt false Mandatory mid m rest → in_range kind.Int64 m ≡ true → decimal_spelled_at Usual p bytes ≡ Ok (Some (Decimal x m), rest)
 unfolding decimal_spelled_at mantissa_behind decimal_value
 spelled_read p x m bytes mid rest exponent near mantissa fits = rw (exponent, near, signed_read mid rest m mantissa, fits) refl
 
-whole_read : (i : FieldPart) (x m : ℤ) (bytes mid rest : List ℕ) → i.kind ≡ kind.Decimal → Spelt false i.presence bytes x mid → exponent_in_range x ≡ true → Spelt false Mandatory mid m rest → in_range kind.Int64 m ≡ true → whole_at i bytes ≡ Ok (Some (Decimal x m), rest)
+whole_read : (i : FieldPart) (x m : ℤ) (bytes mid rest : List ℕ) → i.kind ≡ kind.Decimal → Spelt false i.presence bytes x mid → exponent_in_range x ≡ true → Spelt false Mandatory mid m rest → in_range kind.Int64 m ≡ true → whole_at Usual i bytes ≡ Ok (Some (Decimal x m), rest)
 unfolding whole_at
 whole_read i x m bytes mid rest k exponent near mantissa fits = spelled_as i.part i.kind i.presence bytes k ∙ spelled_read i.presence x m bytes mid rest exponent near mantissa fits
 
-whole_first : (o : Operator) (i : FieldPart) (e : Entry) (v : Scalar) (b : List ℕ) → SpellsWhole o → IsOfType i.kind v → ShortestWhole i.presence v b → IsFirst (λ c b. FormOf o i e true c b (Some v)) b
+whole_first : (o : Operator) (i : FieldPart) (e : Entry) (v : Scalar) (b : List ℕ) → SpellsWhole o → IsOfType i.kind v → ShortestWhole i.presence v b → IsFirst (λ c b. FormOf Usual o i e true c b (Some v)) b
 whole_first operator.Plain i e v b o h s = whole_is_first i.kind i.presence (Some v) b (whole_shortest i.kind i.presence v b h s)
 whole_first operator.Default i e v b o h s = whole_is_first i.kind i.presence (Some v) b (whole_shortest i.kind i.presence v b h s)
 whole_first operator.Copy i e v b o h s = whole_is_first i.kind i.presence (Some v) b (whole_shortest i.kind i.presence v b h s)

@@ -2,6 +2,7 @@
 use Rattle.std.proofs.Common.{◌≡◌, ◌++◌, ◌-◌, ℕ, true, List, length, take, drop, Ok, refl, sym, ap, subst, ◌∙◌, inl, inr}
 use Rattle.std.specs.Prelude.{ℤ, ◌⊎◌, Option, Some, None, IsTrue}
 use Rattle.std.proofs.lemmas.List.{take-append-drop}
+use Rattle.fast_wire.specs.declared.level.Level.TheVariants.{Usual}
 use Rattle.fast_wire.specs.Entity.{groups}
 use Rattle.fast_wire.specs.Plain.{IsPlain}
 use Rattle.fast_value.specs.Scalar.{is_integer, of_integer}
@@ -33,9 +34,9 @@ use Rattle.fast_relay.proofs.PlainTexts.{spelled_plain}
 use Rattle.fast_relay.proofs.Relaying.{row_read, whole_read, whole_row}
 use Rattle.fast_relay.proofs.TextRelaying.{tail_row, text_read, whole_within}
 
-pub drops : (i : FieldPart) (old new : Entry) (v : Option Scalar) (bytes rest : List ℕ) → IsWithin i.part v → row_at i.operator i old true bytes ≡ Ok (v, rest) → Passes i old new v → Drops i old new v bytes rest
+pub drops : (i : FieldPart) (old new : Entry) (v : Option Scalar) (bytes rest : List ℕ) → IsWithin i.part v → row_at Usual i.operator i old true bytes ≡ Ok (v, rest) → Passes i old new v → Drops i old new v bytes rest
 drops i old new v bytes rest within row p = record {
-  read = λ more. field_goes i old true bytes v rest more (row_read i old bytes rest v row within);
+  read = λ more. field_goes Usual i old true bytes v rest more (row_read i old bytes rest v row within);
   entry = p.entry;
   best = p.best;
 }
@@ -78,11 +79,11 @@ pub predicts : (o : Operator) → (o ≡ operator.Copy) ⊎ (o ≡ operator.Incr
 predicts o (inl e) = rw e tt
 predicts o (inr e) = rw e tt
 
-null_spelled : (pt : Part) (k : Kind) (p : Presence) (bytes rest : List ℕ) → p ≡ Optional → SpeltNull (is_unsigned k) bytes rest → integer_spelled_at pt k p bytes ≡ Ok (None, rest)
+null_spelled : (pt : Part) (k : Kind) (p : Presence) (bytes rest : List ℕ) → p ≡ Optional → SpeltNull (is_unsigned k) bytes rest → integer_spelled_at Usual pt k p bytes ≡ Ok (None, rest)
 unfolding integer_spelled_at
 null_spelled pt k p bytes rest o h = rw (o, h) refl
 
-null_as : (pt : Part) (k : Kind) (p : Presence) (bytes : List ℕ) → IsTrue (is_integer k) → spelled_at pt k p bytes ≡ integer_spelled_at pt k p bytes
+null_as : (pt : Part) (k : Kind) (p : Presence) (bytes : List ℕ) → IsTrue (is_integer k) → spelled_at Usual pt k p bytes ≡ integer_spelled_at Usual pt k p bytes
 unfolding spelled_at
 null_as pt kind.UInt32 p bytes h = refl
 null_as pt kind.Int32 p bytes h = refl
@@ -90,13 +91,13 @@ null_as pt kind.UInt64 p bytes h = refl
 null_as pt kind.Int64 p bytes h = refl
 null_as pt k p bytes h = absurd cc
 
-null_whole : (i : FieldPart) (bytes rest : List ℕ) → IsTrue (is_integer i.kind) → i.presence ≡ Optional → SpeltNull (is_unsigned i.kind) bytes rest → whole_at i bytes ≡ Ok (None, rest)
+null_whole : (i : FieldPart) (bytes rest : List ℕ) → IsTrue (is_integer i.kind) → i.presence ≡ Optional → SpeltNull (is_unsigned i.kind) bytes rest → whole_at Usual i bytes ≡ Ok (None, rest)
 unfolding whole_at
 null_whole i bytes rest n o h = null_as i.part i.kind i.presence bytes n ∙ null_spelled i.part i.kind i.presence bytes rest o h
 
-pub null_row : (k : Kind) (i : FieldPart) (e : Entry) (bytes rest : List ℕ) → k ≡ i.kind → SpellsWhole i.operator → IsTrue (is_integer k) → i.presence ≡ Optional → SpeltNull (is_unsigned k) bytes rest → row_at i.operator i e true bytes ≡ Ok (None, rest)
+pub null_row : (k : Kind) (i : FieldPart) (e : Entry) (bytes rest : List ℕ) → k ≡ i.kind → SpellsWhole i.operator → IsTrue (is_integer k) → i.presence ≡ Optional → SpeltNull (is_unsigned k) bytes rest → row_at Usual i.operator i e true bytes ≡ Ok (None, rest)
 null_row k i e bytes rest same o =
-    subst (λ (k : Kind). IsTrue (is_integer k) → i.presence ≡ Optional → SpeltNull (is_unsigned k) bytes rest → row_at i.operator i e true bytes ≡ Ok (None, rest))
+    subst (λ (k : Kind). IsTrue (is_integer k) → i.presence ≡ Optional → SpeltNull (is_unsigned k) bytes rest → row_at Usual i.operator i e true bytes ≡ Ok (None, rest))
     (sym same)
     (λ n p h. whole_row i.operator i e bytes o ∙ null_whole i bytes rest n p h)
 
@@ -120,7 +121,7 @@ pub text_drops : (i : FieldPart) (e : Entry) (bytes form rest : List ℕ) → i.
     → IsTrue (is_of i.kind (Ascii (groups form))) × Drops i e e (Some (Ascii (groups form))) bytes rest
 text_drops i e bytes form rest k whole o h p =
     let v = Ascii (groups form) in
-    let read = subst (λ (k : Kind). units_spelled_at k i.presence bytes ≡ Ok (Some v, rest)) (sym k) (spelled_plain i.presence bytes form rest h) in (
+    let read = subst (λ (k : Kind). units_spelled_at Usual k i.presence bytes ≡ Ok (Some v, rest)) (sym k) (spelled_plain i.presence bytes form rest h) in (
       rw k refl,
       drops i e e (Some v) bytes rest (whole_within i.part v whole) (whole_row i.operator i e bytes o ∙ text_read i v bytes rest (rw k tt) read) p,
     )
@@ -142,7 +143,7 @@ copied_value i e v w o whole t is same =
     let kept : Passes i (Assigned v) (Assigned v) (Some w) = subst (λ (x : Scalar). Passes i (Assigned x) (Assigned x) (Some w)) (sym same) (kept_given i w (rw o tt) t (whole_within i.part w whole)) in
     subst (λ (x : Entry). Passes i x x (Some w)) (sym is) kept
 
-pub units_drop : (i : FieldPart) (e : Entry) (bytes rest : List ℕ) (w : Scalar) → i.part ≡ part.Whole → SpellsWhole i.operator → IsText i.kind w → units_spelled_at i.kind i.presence bytes ≡ Ok (Some w, rest) → Passes i e e (Some w)
+pub units_drop : (i : FieldPart) (e : Entry) (bytes rest : List ℕ) (w : Scalar) → i.part ≡ part.Whole → SpellsWhole i.operator → IsText i.kind w → units_spelled_at Usual i.kind i.presence bytes ≡ Ok (Some w, rest) → Passes i e e (Some w)
     → IsTrue (is_of i.kind w) × Drops i e e (Some w) bytes rest
 units_drop i e bytes rest w whole o t read p = (
   t.of_kind,
@@ -157,5 +158,5 @@ tail_drops i base bytes form rest k whole o h same =
     let v = Ascii base in
     let e = Assigned v in
     let value : take (length base - length form) base ++ groups form ≡ base = ap (λ (x : List ℕ). take (length base - length form) base ++ x) (sym same) ∙ take-append-drop (length base - length form) base in
-    let read = subst (λ (x : List ℕ). tail_at i e bytes ≡ Ok (Some (Ascii x), rest)) value h.read in
+    let read = subst (λ (x : List ℕ). tail_at Usual i e bytes ≡ Ok (Some (Ascii x), rest)) value h.read in
     drops i e e (Some v) bytes rest (whole_within i.part v whole) (tail_row i.operator i e bytes o ∙ read) (kept_given i v (rw o tt) (rw k refl) (whole_within i.part v whole))

@@ -1,6 +1,7 @@
 -- NULL, read and written at once.
 use Rattle.std.proofs.Common.{◌≡◌, ℕ, true, false, List, [], ◌∷◌, ◌++◌, Ok, refl, sym, ◌∙◌, arith}
 use Rattle.std.specs.Prelude.{None, IsTrue}
+use Rattle.fast_wire.specs.declared.level.Level.TheVariants.{Usual}
 use Rattle.fast_wire.specs.Nullable.{IsUnsignedNullable}
 use Rattle.fast_wire.specs.Writing.{IsShortest}
 use Rattle.fast_wire.specs.declared.nullable.Nullable.TheVariants.{Null}
@@ -35,28 +36,28 @@ null_shortest = record { form = null_form; least = λ other h. entity_some other
 best : (i : FieldPart) (e : Entry) (b : List ℕ) → i.presence ≡ Optional → left_out_of i.operator i e None ≡ false → IsShortest IsUnsignedNullable b Null → IsBest i e true b None
 best i e b optional out s = null_best i e (rw optional refl) out b s
 
-read : (i : FieldPart) (e : Entry) (rest : List ℕ) → i.presence ≡ Optional → left_out_of i.operator i e None ≡ false → field_at i e true (128 ∷ rest) ≡ Ok (None, rest)
+read : (i : FieldPart) (e : Entry) (rest : List ℕ) → i.presence ≡ Optional → left_out_of i.operator i e None ≡ false → field_at Usual i e true (128 ∷ rest) ≡ Ok (None, rest)
 read i e rest optional out =
     let b = best i e (128 ∷ []) optional out null_shortest in
-    (field_forms i e true (λ _. refl) (λ _ mandatory. absurd cc)).again (128 ∷ []) None rest (b.cut, b.form)
+    (field_forms Usual i e true (λ _. refl) (λ _ mandatory. absurd cc)).again (128 ∷ []) None rest (b.cut, b.form)
 
 -- the same with no look at what bit 0 gives: what is spelled whole is read as without an operator
 abbrev plain : FieldPart → FieldPart
 plain i = record { number = i.number; part = i.part; kind = i.kind; presence = i.presence; operator = operator.Plain; key = i.key; initial = i.initial }
 
-as_plain : (i : FieldPart) (e : Entry) (bytes : List ℕ) → SpellsWhole i.operator → row_at i.operator i e true bytes ≡ row_at operator.Plain (plain i) e true bytes
+as_plain : (i : FieldPart) (e : Entry) (bytes : List ℕ) → SpellsWhole i.operator → row_at Usual i.operator i e true bytes ≡ row_at Usual operator.Plain (plain i) e true bytes
 unfolding whole_at
 as_plain i e bytes o = whole_row i.operator i e bytes o ∙ sym (whole_row operator.Plain (plain i) e bytes tt)
 
-read_plain : (i : FieldPart) (e : Entry) (bytes : List ℕ) → SpellsWhole i.operator → field_at i e true bytes ≡ field_at (plain i) e true bytes
+read_plain : (i : FieldPart) (e : Entry) (bytes : List ℕ) → SpellsWhole i.operator → field_at Usual i e true bytes ≡ field_at Usual (plain i) e true bytes
 unfolding field_at
 read_plain i e bytes o = rw (as_plain i e bytes o) refl
 
-pub null_read : (i : FieldPart) (e : Entry) (rest : List ℕ) → SpellsWhole i.operator → i.presence ≡ Optional → field_at i e true (128 ∷ rest) ≡ Ok (None, rest)
+pub null_read : (i : FieldPart) (e : Entry) (rest : List ℕ) → SpellsWhole i.operator → i.presence ≡ Optional → field_at Usual i e true (128 ∷ rest) ≡ Ok (None, rest)
 null_read i e rest o optional = read_plain i e (128 ∷ rest) o ∙ read (plain i) e rest optional refl
 
 null_sent : (i : FieldPart) (old new : Entry) (bytes rest before after : List ℕ) → i.presence ≡ Optional → left_out_of i.operator i old None ≡ false → new ≡ next i old None → after ≡ before ++ (128 ∷ [])
-    → ((more : List ℕ) → field_at i old true (bytes ++ more) ≡ Ok (None, rest ++ more)) → RelaysNull i old new bytes rest before after
+    → ((more : List ℕ) → field_at Usual i old true (bytes ++ more) ≡ Ok (None, rest ++ more)) → RelaysNull i old new bytes rest before after
 null_sent i old new bytes rest before after optional out entry appended goes = record {
   read = goes;
   entry = entry;
@@ -72,7 +73,7 @@ pub any_null_relays : (k : Kind) (i : FieldPart) (old new : Entry) (bytes rest b
     → left_out_of i.operator i old None ≡ false → new ≡ next i old None → after ≡ before ++ (128 ∷ []) → RelaysNull i old new bytes rest before after
 any_null_relays k i old new bytes rest before after same o n optional spelt out entry appended =
     null_sent i old new bytes rest before after optional out entry appended
-    (λ more. field_goes i old true bytes None rest more (row_read i old bytes rest None (null_row k i old bytes rest same o n optional spelt) tt))
+    (λ more. field_goes Usual i old true bytes None rest more (row_read i old bytes rest None (null_row k i old bytes rest same o n optional spelt) tt))
 
 -- ---- NULL that bit 0 gives
 

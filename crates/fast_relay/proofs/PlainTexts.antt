@@ -6,6 +6,7 @@ use Rattle.std.proofs.lemmas.Bool.Decides.{nat_tests}
 use Rattle.std.proofs.lemmas.List.{drop-map, drop-take, get_or-append-add, get_or-drop, length-map, length-take-le, take-append-drop}
 use Rattle.std.proofs.Math.Seq.{drop-append_seam, take-add, take-append_seam}
 use Rattle.std.specs.List.{AllByRecursion}
+use Rattle.fast_wire.specs.declared.level.Level.TheVariants.{Usual}
 use Rattle.fast_wire.specs.Ascii.{IsAscii, IsAsciiNullable, SpellsAscii, SpellsAsciiNullable}
 use Rattle.fast_wire.specs.Entity.{IsEntity, groups}
 use Rattle.fast_wire.specs.Plain.{IsPlain}
@@ -42,12 +43,12 @@ use Rattle.fast_field.proofs.Shortest.{units_is}
 use Rattle.fast_relay.proofs.TextRelaying.{tail_relays, text_delta_relays, whole_text_relays}
 use Rattle.fast_field.proofs.ValuesWithin.{all_append, all_take, part_within, string_within, unit_limit, units_of_string}
 
-units_plain : (p : Presence) (bytes form rest : List ℕ) → IsPlain bytes form rest → units_at kind.Ascii p bytes ≡ Ok (Value (groups form), rest)
+units_plain : (p : Presence) (bytes form rest : List ℕ) → IsPlain bytes form rest → units_at Usual kind.Ascii p bytes ≡ Ok (Value (groups form), rest)
 unfolding units_at part_at
 units_plain Mandatory bytes form rest h = rw h.read refl
 units_plain Optional bytes form rest h = rw h.read_nullable refl
 
-pub spelled_plain : (p : Presence) (bytes form rest : List ℕ) → IsPlain bytes form rest → units_spelled_at kind.Ascii p bytes ≡ Ok (Some (Ascii (groups form)), rest)
+pub spelled_plain : (p : Presence) (bytes form rest : List ℕ) → IsPlain bytes form rest → units_spelled_at Usual kind.Ascii p bytes ≡ Ok (Some (Ascii (groups form)), rest)
 unfolding units_spelled_at unit_value
 spelled_plain p bytes form rest h = rw (units_plain p bytes form rest h) refl
 
@@ -65,7 +66,7 @@ pub plain_relays : (i : FieldPart) (old new : Entry) (bytes form rest before : L
 plain_relays i old new bytes form rest before k whole o h entry out =
     whole_text_relays i old new (Ascii (groups form)) bytes rest before (before ++ form) whole o
     (subst (λ (k : Kind). IsText k (Ascii (groups form))) (sym k) (text_plain bytes form rest h))
-    (subst (λ (k : Kind). units_spelled_at k i.presence bytes ≡ Ok (Some (Ascii (groups form)), rest)) (sym k) (spelled_plain i.presence bytes form rest h))
+    (subst (λ (k : Kind). units_spelled_at Usual k i.presence bytes ≡ Ok (Some (Ascii (groups form)), rest)) (sym k) (spelled_plain i.presence bytes form rest h))
     entry out
     (form, refl, subst (λ (k : Kind). ShortestUnits k i.presence (groups form) form) (sym k) (shortest_plain i.presence bytes form rest h))
 
@@ -209,12 +210,12 @@ delta_base_is : (i : FieldPart) (base : List ℕ) → i.kind ≡ kind.Ascii → 
 delta_base_is i base k = rw k refl
 
 new_part_read : (base : List ℕ) (r : ℕ) (middle form rest : List ℕ) → r ≤ length base → IsPlain middle form rest → length (take (length base - r) base ++ groups form) ≤ 65535
-    → new_part_behind kind.Ascii (pos r) base middle ≡ Ok (Some (Ascii (take (length base - r) base ++ groups form)), rest)
+    → new_part_behind Usual kind.Ascii (pos r) base middle ≡ Ok (Some (Ascii (take (length base - r) base ++ groups form)), rest)
 unfolding new_part_behind part_at limited_value unit_value
 new_part_read base r middle form rest le h few = rw (le_true r (length base) le, h.read, lt_false 65535 (length (take (length base - r) base ++ groups form)) few) refl
 
 delta_read_plain : (i : FieldPart) (base : List ℕ) (r : ℕ) (bytes middle form rest : List ℕ) → i.kind ≡ kind.Ascii → r < 63 → r ≤ length base → Spelt false i.presence bytes (pos r) middle → IsPlain middle form rest → length (take (length base - r) base ++ groups form) ≤ 65535
-    → unit_delta_at i (Assigned (Ascii base)) bytes ≡ Ok (Some (Ascii (take (length base - r) base ++ groups form)), rest)
+    → unit_delta_at Usual i (Assigned (Ascii base)) bytes ≡ Ok (Some (Ascii (take (length base - r) base ++ groups form)), rest)
 unfolding unit_delta_at
 delta_read_plain i base r bytes middle form rest k small le removal h few =
     rw (removal, le_true r 2147483647 (omega (arith, small)), delta_base_is i base k, k) (new_part_read base r middle form rest le h few)
@@ -270,7 +271,7 @@ cut_less i base bytes b behind r first next m few le same plain long h =
       few = omega (arith, h.few);
       within = omega (arith, h.within);
       short = omega (arith, h.short, few, h.within, long);
-      read = subst (λ (x : List ℕ). unit_delta_at i (Assigned (Ascii base)) b ≡ Ok (Some (Ascii x), drop next bytes)) value h.read;
+      read = subst (λ (x : List ℕ). unit_delta_at Usual i (Assigned (Ascii base)) b ≡ Ok (Some (Ascii x), drop next bytes)) value h.read;
     }
 
 pub plain_delta_relays : (i : FieldPart) (base : List ℕ) (r n : ℕ) (bytes form rest before after : List ℕ) → i.kind ≡ kind.Ascii → i.part ≡ part.Whole → i.operator ≡ operator.Delta → IsText kind.Ascii (Ascii base) → n ≡ length base - r → GivesCut i base bytes r form rest
@@ -284,7 +285,7 @@ plain_delta_relays i base r n bytes form rest before after k whole o text is cut
     text_delta_relays i (Ascii base) (Ascii v) (pos r) (groups form) bytes rest before after whole o
     (subst (λ (k : Kind). IsText k (Ascii base)) (sym k) text)
     (subst (λ (k : Kind). IsText k (Ascii v)) (sym k) t)
-    (subst (λ m. unit_delta_at i (Assigned (Ascii base)) bytes ≡ Ok (Some (Ascii (take m base ++ groups form)), rest)) (sym is) cut.read)
+    (subst (λ m. unit_delta_at Usual i (Assigned (Ascii base)) bytes ≡ Ok (Some (Ascii (take m base ++ groups form)), rest)) (sym is) cut.read)
     (subst (λ (k : Kind). IsBestCut k i.presence base v (pos r) (groups form)) (sym k) (best_removal kind.Ascii i.presence base (groups form) r n cut.few cut.within is prefix suffix (plain_least cut.behind form rest h)))
     (appended.0 ++ form, appended.1 ∙ append_assoc before appended.0 form, record { front = appended.0; back = form; parts = refl; first = appended.2; second = subst (λ (k : Kind). ShortestPart k (groups form) form) (sym k) h.shortest })
 
@@ -318,7 +319,7 @@ not_same : (s t : List ℕ) → (s ≡ t → ⊥) → is_same (Some (Ascii s)) (
 not_same s t differ = search rules
 
 tail_read_plain : (i : FieldPart) (base : List ℕ) (bytes form rest : List ℕ) → i.kind ≡ kind.Ascii → IsPlain bytes form rest → length (take (length base - length (groups form)) base ++ groups form) ≤ 65535
-    → tail_at i (Assigned (Ascii base)) bytes ≡ Ok (Some (Ascii (take (length base - length (groups form)) base ++ groups form)), rest)
+    → tail_at Usual i (Assigned (Ascii base)) bytes ≡ Ok (Some (Ascii (take (length base - length (groups form)) base ++ groups form)), rest)
 unfolding tail_at ended_value limited_value unit_value
 tail_read_plain i base bytes form rest k h few = rw (k, units_plain i.presence bytes form rest h, lt_false 65535 (length (take (length base - length (groups form)) base ++ groups form)) few) refl
 
@@ -349,7 +350,7 @@ tail_read i base bytes form rest k short le h =
       behind = bytes;
       plain = h;
       within = le;
-      read = subst (λ m. tail_at i (Assigned (Ascii base)) bytes ≡ Ok (Some (Ascii (take (length base - m) base ++ groups form)), rest)) same (tail_read_plain i base bytes form rest k h long);
+      read = subst (λ m. tail_at Usual i (Assigned (Ascii base)) bytes ≡ Ok (Some (Ascii (take (length base - m) base ++ groups form)), rest)) same (tail_read_plain i base bytes form rest k h long);
     }
 
 pub tail_less : (i : FieldPart) (base bytes b behind : List ℕ) (first next m : ℕ) → first + m ≤ next → next ≤ length bytes → take m (drop (length base - (next - first)) base) ≡ take m (groups (slice_range bytes first next)) → IsPlain behind (slice_range bytes (first + m) next) (drop next bytes)
@@ -370,7 +371,7 @@ tail_less i base bytes b behind first next m le end same plain h =
       behind = behind;
       plain = plain;
       within = omega (arith, less, within);
-      read = subst (λ (x : List ℕ). tail_at i (Assigned (Ascii base)) b ≡ Ok (Some (Ascii x), drop next bytes)) value h.read;
+      read = subst (λ (x : List ℕ). tail_at Usual i (Assigned (Ascii base)) b ≡ Ok (Some (Ascii x), drop next bytes)) value h.read;
     }
 
 pub plain_tail_relays : (i : FieldPart) (base : List ℕ) (n : ℕ) (bytes form rest before : List ℕ) → i.kind ≡ kind.Ascii → i.part ≡ part.Whole → i.operator ≡ operator.Tail → IsText kind.Ascii (Ascii base) → length base ≤ 65535 → n + length form ≡ length base
@@ -383,11 +384,11 @@ plain_tail_relays i base n bytes form rest before k whole o text short is gives 
     let kept : n ≡ length base - length (groups form) = omega (arith, is, same) in
     let long : length v ≤ 65535 = omega (arith, short, is, same, length-append (take n base) (groups form), length-take-le n base (omega (arith, is))) in
     let t = text_together base form n text (text_plain gives.behind form rest h) long in
-    let read = subst (λ m. tail_at i (Assigned (Ascii base)) bytes ≡ Ok (Some (Ascii (take (length base - m) base ++ groups form)), rest)) (sym same) gives.read in
+    let read = subst (λ m. tail_at Usual i (Assigned (Ascii base)) bytes ≡ Ok (Some (Ascii (take (length base - m) base ++ groups form)), rest)) (sym same) gives.read in
     tail_relays i (Ascii base) (Ascii v) (groups form) bytes rest before (before ++ form) whole o
     (subst (λ (k : Kind). IsText k (Ascii base)) (sym k) text)
     (subst (λ (k : Kind). IsText k (Ascii v)) (sym k) t)
-    (subst (λ m. tail_at i (Assigned (Ascii base)) bytes ≡ Ok (Some (Ascii (take m base ++ groups form)), rest)) (sym kept) read)
+    (subst (λ m. tail_at Usual i (Assigned (Ascii base)) bytes ≡ Ok (Some (Ascii (take m base ++ groups form)), rest)) (sym kept) read)
     (other_end i base v k o (no_same_text base (groups form) n (omega (arith, is, some)) prefix))
     (subst (λ (k : Kind). IsBestTail k i.presence base v (groups form)) (sym k) (best_end i.presence base gives.behind form rest n (omega (arith, is, same)) h prefix))
     (form, refl, subst (λ (k : Kind). ShortestUnits k i.presence (groups form) form) (sym k) (shortest_plain i.presence gives.behind form rest h))

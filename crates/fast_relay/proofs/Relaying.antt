@@ -2,6 +2,7 @@
 use Rattle.std.proofs.Common.{◌≡◌, ℕ, true, false, List, [], ◌++◌, Ok, refl, sym, subst, ◌∙◌, arith, append-nil}
 use Rattle.std.specs.Prelude.{ℤ, ◌+ℤ◌, ◌-ℤ◌, Option, Some, IsTrue}
 use Rattle.std.proofs.lemmas.Int.{ints}
+use Rattle.fast_wire.specs.declared.level.Level.TheVariants.{Usual}
 use Rattle.fast_value.specs.Scalar.{is_of, is_integer, in_range, of_integer}
 use Rattle.fast_value.specs.declared.kind.Kind.{Kind}
 use Rattle.fast_value.specs.declared.kind.Kind.TheVariants as kind
@@ -33,11 +34,11 @@ use Rattle.fast_relay.specs.Relayed.{Relays}
 
 -- ---- bit 1
 
-spelled_number : (pt : Part) (k : Kind) (p : Presence) (bytes rest : List ℕ) (z : ℤ) → IsNumber k z → Spelt (is_unsigned k) p bytes z rest → integer_spelled_at pt k p bytes ≡ Ok (Some (of_integer k z), rest)
+spelled_number : (pt : Part) (k : Kind) (p : Presence) (bytes rest : List ℕ) (z : ℤ) → IsNumber k z → Spelt (is_unsigned k) p bytes z rest → integer_spelled_at Usual pt k p bytes ≡ Ok (Some (of_integer k z), rest)
 unfolding integer_spelled_at integer_value
 spelled_number pt k p bytes rest z n h = rw (h, n.range) refl
 
-spelled_as : (pt : Part) (k : Kind) (p : Presence) (bytes : List ℕ) → IsTrue (is_integer k) → spelled_at pt k p bytes ≡ integer_spelled_at pt k p bytes
+spelled_as : (pt : Part) (k : Kind) (p : Presence) (bytes : List ℕ) → IsTrue (is_integer k) → spelled_at Usual pt k p bytes ≡ integer_spelled_at Usual pt k p bytes
 unfolding spelled_at
 spelled_as pt kind.UInt32 p bytes h = refl
 spelled_as pt kind.Int32 p bytes h = refl
@@ -45,11 +46,11 @@ spelled_as pt kind.UInt64 p bytes h = refl
 spelled_as pt kind.Int64 p bytes h = refl
 spelled_as pt k p bytes h = absurd cc
 
-pub whole_read : (i : FieldPart) (bytes rest : List ℕ) (z : ℤ) → IsNumber i.kind z → Spelt (is_unsigned i.kind) i.presence bytes z rest → whole_at i bytes ≡ Ok (Some (of_integer i.kind z), rest)
+pub whole_read : (i : FieldPart) (bytes rest : List ℕ) (z : ℤ) → IsNumber i.kind z → Spelt (is_unsigned i.kind) i.presence bytes z rest → whole_at Usual i bytes ≡ Ok (Some (of_integer i.kind z), rest)
 unfolding whole_at
 whole_read i bytes rest z n h = spelled_as i.part i.kind i.presence bytes n.integer ∙ spelled_number i.part i.kind i.presence bytes rest z n h
 
-pub whole_row : (o : Operator) (i : FieldPart) (e : Entry) (bytes : List ℕ) → SpellsWhole o → row_at o i e true bytes ≡ whole_at i bytes
+pub whole_row : (o : Operator) (i : FieldPart) (e : Entry) (bytes : List ℕ) → SpellsWhole o → row_at Usual o i e true bytes ≡ whole_at Usual i bytes
 unfolding row_at
 whole_row operator.Plain i e bytes h = refl
 whole_row operator.Default i e bytes h = refl
@@ -57,27 +58,27 @@ whole_row operator.Copy i e bytes h = refl
 whole_row operator.Increment i e bytes h = refl
 whole_row o i e bytes h = absurd h
 
-pub row_read : (i : FieldPart) (e : Entry) (bytes rest : List ℕ) (v : Option Scalar) → row_at i.operator i e true bytes ≡ Ok (v, rest) → IsWithin i.part v → field_at i e true bytes ≡ Ok (v, rest)
+pub row_read : (i : FieldPart) (e : Entry) (bytes rest : List ℕ) (v : Option Scalar) → row_at Usual i.operator i e true bytes ≡ Ok (v, rest) → IsWithin i.part v → field_at Usual i e true bytes ≡ Ok (v, rest)
 unfolding field_at
 row_read i e bytes rest v h within = rw (h, checked_is i.part v within) refl
 
-whole_first : (o : Operator) (i : FieldPart) (e : Entry) (z : ℤ) (b : List ℕ) → SpellsWhole o → IsNumber i.kind z → ShortestWhole i.presence (of_integer i.kind z) b → IsFirst (λ c b. FormOf o i e true c b (Some (of_integer i.kind z))) b
+whole_first : (o : Operator) (i : FieldPart) (e : Entry) (z : ℤ) (b : List ℕ) → SpellsWhole o → IsNumber i.kind z → ShortestWhole i.presence (of_integer i.kind z) b → IsFirst (λ c b. FormOf Usual o i e true c b (Some (of_integer i.kind z))) b
 whole_first operator.Plain i e z b o h s = whole_is_first i.kind i.presence (Some (of_integer i.kind z)) b (whole_shortest i.kind i.presence (of_integer i.kind z) b (of_type i.kind z h) s)
 whole_first operator.Default i e z b o h s = whole_is_first i.kind i.presence (Some (of_integer i.kind z)) b (whole_shortest i.kind i.presence (of_integer i.kind z) b (of_type i.kind z h) s)
 whole_first operator.Copy i e z b o h s = whole_is_first i.kind i.presence (Some (of_integer i.kind z)) b (whole_shortest i.kind i.presence (of_integer i.kind z) b (of_type i.kind z h) s)
 whole_first operator.Increment i e z b o h s = whole_is_first i.kind i.presence (Some (of_integer i.kind z)) b (whole_shortest i.kind i.presence (of_integer i.kind z) b (of_type i.kind z h) s)
 whole_first o' i e z b o h s = absurd o
 
-pub relays : (i : FieldPart) (old new : Entry) (v : Scalar) (bytes rest before after : List ℕ) (Spells : List ℕ → Type 0) → IsTrue (is_of i.kind v) → IsTrue (within_part i.part v) → row_at i.operator i old true bytes ≡ Ok (Some v, rest) → new ≡ next i old (Some v)
-    → left_out_of i.operator i old (Some v) ≡ false → ((b : List ℕ) → Spells b → IsFirst (λ c b. FormOf i.operator i old true c b (Some v)) b) → (b : List ℕ) × (after ≡ before ++ b) × Spells b → Relays i old new v bytes rest before after
+pub relays : (i : FieldPart) (old new : Entry) (v : Scalar) (bytes rest before after : List ℕ) (Spells : List ℕ → Type 0) → IsTrue (is_of i.kind v) → IsTrue (within_part i.part v) → row_at Usual i.operator i old true bytes ≡ Ok (Some v, rest) → new ≡ next i old (Some v)
+    → left_out_of i.operator i old (Some v) ≡ false → ((b : List ℕ) → Spells b → IsFirst (λ c b. FormOf Usual i.operator i old true c b (Some v)) b) → (b : List ℕ) × (after ≡ before ++ b) × Spells b → Relays i old new v bytes rest before after
 relays i old new v bytes rest before after Spells of_kind within row entry out first appended = record {
   of_kind = of_kind;
-  read = λ more. field_goes i old true bytes (Some v) rest more (row_read i old bytes rest (Some v) row within);
+  read = λ more. field_goes Usual i old true bytes (Some v) rest more (row_read i old bytes rest (Some v) row within);
   entry = entry;
   best = appends_best i old (Some v) true Spells before after (λ b s. best_under_one i old (Some v) b within (first b s) out) appended;
 }
 
-constant_row : (o : Operator) (i : FieldPart) (e : Entry) (v : Scalar) (bytes : List ℕ) → o ≡ operator.Constant → i.initial ≡ Some v → row_at o i e true bytes ≡ Ok (Some v, bytes)
+constant_row : (o : Operator) (i : FieldPart) (e : Entry) (v : Scalar) (bytes : List ℕ) → o ≡ operator.Constant → i.initial ≡ Some v → row_at Usual o i e true bytes ≡ Ok (Some v, bytes)
 unfolding row_at
 constant_row operator.Constant i e v bytes o initial = rw initial refl
 constant_row o' i e v bytes o initial = absurd cc
@@ -85,7 +86,7 @@ constant_row o' i e v bytes o initial = absurd cc
 pub constant_relays : (i : FieldPart) (e : Entry) (v : Scalar) (bytes out : List ℕ) → i.operator ≡ operator.Constant → i.initial ≡ Some v → is_of i.kind v ≡ true → IsTrue (within_part i.part v) → Relays i e e v bytes bytes out out
 constant_relays i e v bytes out o initial is within =
     relays i e e v bytes bytes out out (λ b. b ≡ []) is within (constant_row i.operator i e v bytes o initial) (rw o refl) (rw o refl)
-    (λ b s. rw s (subst (λ (o : Operator). IsFirst (λ c b. FormOf o i e true c b (Some v)) []) (sym o) (constant_is_first i e v (sym initial))))
+    (λ b s. rw s (subst (λ (o : Operator). IsFirst (λ c b. FormOf Usual o i e true c b (Some v)) []) (sym o) (constant_is_first i e v (sym initial))))
     ([], sym (append-nil out), refl)
 
 typed_relays : (i : FieldPart) (old new : Entry) (z : ℤ) (bytes rest before after : List ℕ) → SpellsWhole i.operator → IsFieldNumber i.kind i.part z → Spelt (is_unsigned i.kind) i.presence bytes z rest → new ≡ next i old (Some (of_integer i.kind z))
@@ -106,7 +107,7 @@ whole_relays k i old new z bytes rest before after same o =
 
 -- ---- deltas
 
-pub delta_as : (k : Kind) (i : FieldPart) (e : Entry) (bytes : List ℕ) → IsTrue (is_integer k) → delta_at k i e bytes ≡ integer_delta_at i e bytes
+pub delta_as : (k : Kind) (i : FieldPart) (e : Entry) (bytes : List ℕ) → IsTrue (is_integer k) → delta_at Usual k i e bytes ≡ integer_delta_at Usual i e bytes
 unfolding delta_at
 delta_as kind.UInt32 i e bytes h = refl
 delta_as kind.Int32 i e bytes h = refl
@@ -118,11 +119,11 @@ pub base_is : (i : FieldPart) (v : Scalar) → is_of i.kind v ≡ true → delta
 base_is i v is = rw is refl
 
 pub delta_read : (i : FieldPart) (e : Entry) (base : Scalar) (bytes rest : List ℕ) (d : ℤ) → delta_base i e ≡ Ok base → IsTrue (in_range i.kind (integer_of base +ℤ d)) → Spelt false i.presence bytes d rest
-    → integer_delta_at i e bytes ≡ Ok (Some (of_integer i.kind (integer_of base +ℤ d)), rest)
+    → integer_delta_at Usual i e bytes ≡ Ok (Some (of_integer i.kind (integer_of base +ℤ d)), rest)
 unfolding integer_delta_at integer_sum integer_value
 delta_read i e base bytes rest d is range h = rw (h, is, range) refl
 
-pub delta_row : (o : Operator) (i : FieldPart) (e : Entry) (bytes : List ℕ) → o ≡ operator.Delta → row_at o i e true bytes ≡ delta_at i.kind i e bytes
+pub delta_row : (o : Operator) (i : FieldPart) (e : Entry) (bytes : List ℕ) → o ≡ operator.Delta → row_at Usual o i e true bytes ≡ delta_at Usual i.kind i e bytes
 unfolding row_at
 delta_row operator.Delta i e bytes o = refl
 delta_row o' i e bytes o = absurd cc
@@ -130,7 +131,7 @@ delta_row o' i e bytes o = absurd cc
 pub added_back : (z d : ℤ) → d ≡ (z +ℤ d) -ℤ z
 added_back z d = omega (arith, ints)
 
-delta_first : (i : FieldPart) (v : Scalar) (z d : ℤ) (b : List ℕ) → IsNumberOf i.kind v z → IsNumber i.kind (z +ℤ d) → ShortestSigned i.presence d b → IsFirst (λ c b. DeltaForm i (Assigned v) c b (Some (of_integer i.kind (z +ℤ d)))) b
+delta_first : (i : FieldPart) (v : Scalar) (z d : ℤ) (b : List ℕ) → IsNumberOf i.kind v z → IsNumber i.kind (z +ℤ d) → ShortestSigned i.presence d b → IsFirst (λ c b. DeltaForm Usual i (Assigned v) c b (Some (of_integer i.kind (z +ℤ d)))) b
 delta_first i v z d b is h s =
     let w = of_integer i.kind (z +ℤ d) in
     let e : d ≡ integer_of w -ℤ integer_of v = rw (number_back i.kind (z +ℤ d) h, number_is i.kind v z is) (added_back z d) in
@@ -151,7 +152,7 @@ assigned_relays i v new z d bytes rest before after o is h read entry appended =
     (rw n at row)
     (entry ∙ sym last)
     (delta_out i (Assigned v) (Some w) o)
-    (λ b s. subst (λ (o : Operator). IsFirst (λ c b. FormOf o i (Assigned v) true c b (Some w)) b) (sym o) (delta_first i v z d b is h.number s))
+    (λ b s. subst (λ (o : Operator). IsFirst (λ c b. FormOf Usual o i (Assigned v) true c b (Some w)) b) (sym o) (delta_first i v z d b is h.number s))
     appended
 
 entry_relays : (i : FieldPart) (old new : Entry) (z d : ℤ) (bytes rest before after : List ℕ) → i.operator ≡ operator.Delta → HasNumber i.kind old z → IsFieldNumber i.kind i.part (z +ℤ d) → Spelt false i.presence bytes d rest

@@ -1,6 +1,7 @@
 -- What integers that are read at once rest on.
 use Rattle.std.proofs.Common.{◌≡◌, ℕ, true, false, List, Ok, refl, sym, subst, ◌∙◌}
 use Rattle.std.specs.Prelude.{ℤ, ◌+ℤ◌, Some, IsTrue}
+use Rattle.fast_wire.specs.declared.level.Level.TheVariants.{Usual}
 use Rattle.fast_value.specs.Scalar.{in_range, of_integer}
 use Rattle.fast_value.specs.declared.kind.Kind.{Kind}
 use Rattle.fast_value.specs.declared.kind.Operator.TheVariants as operator
@@ -19,9 +20,9 @@ use Rattle.fast_relay.specs.Numbers.{SpellsWhole, Spelt}
 use Rattle.fast_relay.specs.Relayed.{Takes}
 use Rattle.fast_relay.proofs.Relaying.{whole_row, whole_read, row_read, base_is, delta_as, delta_read, delta_row}
 
-takes : (i : FieldPart) (old new : Entry) (v : Scalar) (bytes rest : List ℕ) → IsTrue (within_part i.part v) → row_at i.operator i old true bytes ≡ Ok (Some v, rest) → new ≡ next i old (Some v) → Takes i old new v bytes rest
+takes : (i : FieldPart) (old new : Entry) (v : Scalar) (bytes rest : List ℕ) → IsTrue (within_part i.part v) → row_at Usual i.operator i old true bytes ≡ Ok (Some v, rest) → new ≡ next i old (Some v) → Takes i old new v bytes rest
 takes i old new v bytes rest within row entry = record {
-  read = λ more. field_goes i old true bytes (Some v) rest more (row_read i old bytes rest (Some v) row within);
+  read = λ more. field_goes Usual i old true bytes (Some v) rest more (row_read i old bytes rest (Some v) row within);
   entry = entry;
 }
 

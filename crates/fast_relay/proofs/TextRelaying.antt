@@ -1,6 +1,7 @@
 -- What strings and vectors that are read and written at once rest on.
 use Rattle.std.proofs.Common.{◌≡◌, ◌≤◌, true, false, List, ℕ, ◌-◌, ◌++◌, Ok, length, take, refl, sym, subst, ◌∙◌}
 use Rattle.std.specs.Prelude.{ℤ, Some, IsTrue}
+use Rattle.fast_wire.specs.declared.level.Level.TheVariants.{Usual}
 use Rattle.fast_wire.specs.Writing.{IsShortest}
 use Rattle.fast_value.specs.Scalar.{is_of}
 use Rattle.fast_value.specs.declared.kind.Kind.{Kind}
@@ -39,28 +40,28 @@ whole_within p v is = rw is refl
 
 -- ---- what stands whole
 
-spelled_as : (pt : Part) (k : Kind) (p : Presence) (bytes : List ℕ) → IsUnitKind k → spelled_at pt k p bytes ≡ units_spelled_at k p bytes
+spelled_as : (pt : Part) (k : Kind) (p : Presence) (bytes : List ℕ) → IsUnitKind k → spelled_at Usual pt k p bytes ≡ units_spelled_at Usual k p bytes
 unfolding spelled_at
 spelled_as pt kind.Ascii p bytes h = refl
 spelled_as pt kind.Unicode p bytes h = refl
 spelled_as pt kind.Bytes p bytes h = refl
 spelled_as pt k p bytes h = absurd h
 
-pub text_read : (i : FieldPart) (v : Scalar) (bytes rest : List ℕ) → IsUnitKind i.kind → units_spelled_at i.kind i.presence bytes ≡ Ok (Some v, rest) → whole_at i bytes ≡ Ok (Some v, rest)
+pub text_read : (i : FieldPart) (v : Scalar) (bytes rest : List ℕ) → IsUnitKind i.kind → units_spelled_at Usual i.kind i.presence bytes ≡ Ok (Some v, rest) → whole_at Usual i bytes ≡ Ok (Some v, rest)
 unfolding whole_at
 text_read i v bytes rest h read = spelled_as i.part i.kind i.presence bytes h ∙ read
 
-text_shortest : (k : Kind) (p : Presence) (v : Scalar) (b : List ℕ) → IsText k v → ShortestUnits k p (units_of v) b → IsShortest (Spelled k p) b (Some v)
+text_shortest : (k : Kind) (p : Presence) (v : Scalar) (b : List ℕ) → IsText k v → ShortestUnits k p (units_of v) b → IsShortest (Spelled Usual k p) b (Some v)
 text_shortest k p v b h s = string_is_shortest k p v b h.of_units (h.of_kind, h.within) (units_form k p (units_of v) b s)
 
-text_first : (o : Operator) (i : FieldPart) (e : Entry) (v : Scalar) (b : List ℕ) → SpellsWhole o → IsText i.kind v → ShortestUnits i.kind i.presence (units_of v) b → IsFirst (λ c b. FormOf o i e true c b (Some v)) b
+text_first : (o : Operator) (i : FieldPart) (e : Entry) (v : Scalar) (b : List ℕ) → SpellsWhole o → IsText i.kind v → ShortestUnits i.kind i.presence (units_of v) b → IsFirst (λ c b. FormOf Usual o i e true c b (Some v)) b
 text_first operator.Plain i e v b o h s = whole_is_first i.kind i.presence (Some v) b (text_shortest i.kind i.presence v b h s)
 text_first operator.Default i e v b o h s = whole_is_first i.kind i.presence (Some v) b (text_shortest i.kind i.presence v b h s)
 text_first operator.Copy i e v b o h s = whole_is_first i.kind i.presence (Some v) b (text_shortest i.kind i.presence v b h s)
 text_first operator.Increment i e v b o h s = whole_is_first i.kind i.presence (Some v) b (text_shortest i.kind i.presence v b h s)
 text_first o' i e v b o h s = absurd o
 
-pub whole_text_relays : (i : FieldPart) (old new : Entry) (v : Scalar) (bytes rest before after : List ℕ) → i.part ≡ part.Whole → SpellsWhole i.operator → IsText i.kind v → units_spelled_at i.kind i.presence bytes ≡ Ok (Some v, rest)
+pub whole_text_relays : (i : FieldPart) (old new : Entry) (v : Scalar) (bytes rest before after : List ℕ) → i.part ≡ part.Whole → SpellsWhole i.operator → IsText i.kind v → units_spelled_at Usual i.kind i.presence bytes ≡ Ok (Some v, rest)
     → new ≡ next i old (Some v) → left_out_of i.operator i old (Some v) ≡ false → (b : List ℕ) × (after ≡ before ++ b) × ShortestUnits i.kind i.presence (units_of v) b → Relays i old new v bytes rest before after
 whole_text_relays i old new v bytes rest before after whole o h read entry out appended =
     relays i old new v bytes rest before after (ShortestUnits i.kind i.presence (units_of v)) h.of_kind (whole_within i.part v whole)
@@ -84,7 +85,7 @@ text_units k v h = value_fits k v (text_of_type k v h)
 pub cut_fits : (k : Kind) (v : Scalar) (removal : ℤ) (base new_part : List ℕ) → IsText k v → units_of v ≡ put_together removal base new_part → CanBeUnits k new_part
 cut_fits k v removal base new_part h made = units_fit k new_part (part_is_string k removal base new_part (units_of v) (units_of_string k v h.of_units (text_of_type k v h)) made)
 
-delta_as : (k : Kind) (i : FieldPart) (e : Entry) (bytes : List ℕ) → IsUnitKind k → delta_at k i e bytes ≡ unit_delta_at i e bytes
+delta_as : (k : Kind) (i : FieldPart) (e : Entry) (bytes : List ℕ) → IsUnitKind k → delta_at Usual k i e bytes ≡ unit_delta_at Usual i e bytes
 unfolding delta_at
 delta_as kind.Ascii i e bytes h = refl
 delta_as kind.Unicode i e bytes h = refl
@@ -92,12 +93,12 @@ delta_as kind.Bytes i e bytes h = refl
 delta_as k i e bytes h = absurd h
 
 cut_first : (i : FieldPart) (base v : Scalar) (removal : ℤ) (new_part b : List ℕ) → IsText i.kind base → IsText i.kind v → IsBestCut i.kind i.presence (units_of base) (units_of v) removal new_part
-    → Both (ShortestSigned i.presence removal) (ShortestPart i.kind new_part) b → IsFirst (λ c b. DeltaForm i (Assigned base) c b (Some v)) b
+    → Both (ShortestSigned i.presence removal) (ShortestPart i.kind new_part) b → IsFirst (λ c b. DeltaForm Usual i (Assigned base) c b (Some v)) b
 cut_first i base v removal new_part b h l best s =
     delta_is_first i (Assigned base) base v b (base_is i base h.of_kind)
     (string_value i.kind i.presence base v removal new_part b h.of_units (text_of_type i.kind base h) (text_of_type i.kind v l) best s)
 
-pub text_delta_relays : (i : FieldPart) (base v : Scalar) (removal : ℤ) (new_part bytes rest before after : List ℕ) → i.part ≡ part.Whole → i.operator ≡ operator.Delta → IsText i.kind base → IsText i.kind v → unit_delta_at i (Assigned base) bytes ≡ Ok (Some v, rest)
+pub text_delta_relays : (i : FieldPart) (base v : Scalar) (removal : ℤ) (new_part bytes rest before after : List ℕ) → i.part ≡ part.Whole → i.operator ≡ operator.Delta → IsText i.kind base → IsText i.kind v → unit_delta_at Usual i (Assigned base) bytes ≡ Ok (Some v, rest)
     → IsBestCut i.kind i.presence (units_of base) (units_of v) removal new_part → (b : List ℕ) × (after ≡ before ++ b) × Both (ShortestSigned i.presence removal) (ShortestPart i.kind new_part) b → Relays i (Assigned base) (Assigned v) v bytes rest before after
 text_delta_relays i base v removal new_part bytes rest before after whole o h l read best appended =
     let last : next i (Assigned base) (Some v) ≡ Assigned v = rw o refl in
@@ -105,7 +106,7 @@ text_delta_relays i base v removal new_part bytes rest before after whole o h l 
     (delta_row i.operator i (Assigned base) bytes o ∙ delta_as i.kind i (Assigned base) bytes h.of_units ∙ read)
     (sym last)
     (delta_out i (Assigned base) (Some v) o)
-    (λ b s. subst (λ (o : Operator). IsFirst (λ c b. FormOf o i (Assigned base) true c b (Some v)) b) (sym o) (cut_first i base v removal new_part b h l best s))
+    (λ b s. subst (λ (o : Operator). IsFirst (λ c b. FormOf Usual o i (Assigned base) true c b (Some v)) b) (sym o) (cut_first i base v removal new_part b h l best s))
     appended
 
 -- ---- tails
@@ -114,7 +115,7 @@ text_delta_relays i base v removal new_part bytes rest before after whole o h l 
 pub tail_fits : (k : Kind) (v : Scalar) (base tail : List ℕ) → IsText k v → units_of v ≡ ended_by base tail → CanBeUnits k tail
 tail_fits k v base tail h made = units_fit k tail (back_is_string k (units_of v) (take (length base - length tail) base) tail (units_of_string k v h.of_units (text_of_type k v h)) made)
 
-pub tail_row : (o : Operator) (i : FieldPart) (e : Entry) (bytes : List ℕ) → o ≡ operator.Tail → row_at o i e true bytes ≡ tail_at i e bytes
+pub tail_row : (o : Operator) (i : FieldPart) (e : Entry) (bytes : List ℕ) → o ≡ operator.Tail → row_at Usual o i e true bytes ≡ tail_at Usual i e bytes
 unfolding row_at
 tail_row operator.Tail i e bytes o = refl
 tail_row o' i e bytes o = absurd cc
@@ -123,12 +124,12 @@ tail_base_is : (i : FieldPart) (v : Scalar) → is_of i.kind v ≡ true → tail
 tail_base_is i v is = rw is refl
 
 ended_first : (i : FieldPart) (base v : Scalar) (tail b : List ℕ) → IsText i.kind base → IsText i.kind v → IsBestTail i.kind i.presence (units_of base) (units_of v) tail
-    → ShortestUnits i.kind i.presence tail b → IsFirst (λ c b. TailForm i (Assigned base) c b (Some v)) b
+    → ShortestUnits i.kind i.presence tail b → IsFirst (λ c b. TailForm Usual i (Assigned base) c b (Some v)) b
 ended_first i base v tail b h l best s =
     tail_form_is_first i (Assigned base) base v b (tail_base_is i base h.of_kind)
     (tail_is_first i.kind i.presence base v tail b h.of_units (text_of_type i.kind v l) best s)
 
-pub tail_relays : (i : FieldPart) (base v : Scalar) (tail bytes rest before after : List ℕ) → i.part ≡ part.Whole → i.operator ≡ operator.Tail → IsText i.kind base → IsText i.kind v → tail_at i (Assigned base) bytes ≡ Ok (Some v, rest)
+pub tail_relays : (i : FieldPart) (base v : Scalar) (tail bytes rest before after : List ℕ) → i.part ≡ part.Whole → i.operator ≡ operator.Tail → IsText i.kind base → IsText i.kind v → tail_at Usual i (Assigned base) bytes ≡ Ok (Some v, rest)
     → left_out_of i.operator i (Assigned base) (Some v) ≡ false → IsBestTail i.kind i.presence (units_of base) (units_of v) tail → (b : List ℕ) × (after ≡ before ++ b) × ShortestUnits i.kind i.presence tail b
     → Relays i (Assigned base) (Assigned v) v bytes rest before after
 tail_relays i base v tail bytes rest before after whole o h l read out best appended =
@@ -137,11 +138,11 @@ tail_relays i base v tail bytes rest before after whole o h l read out best appe
     (tail_row i.operator i (Assigned base) bytes o ∙ read)
     (sym last)
     out
-    (λ b s. subst (λ (o : Operator). IsFirst (λ c b. FormOf o i (Assigned base) true c b (Some v)) b) (sym o) (ended_first i base v tail b h l best s))
+    (λ b s. subst (λ (o : Operator). IsFirst (λ c b. FormOf Usual o i (Assigned base) true c b (Some v)) b) (sym o) (ended_first i base v tail b h l best s))
     appended
 
 -- of an entry that gives a tail another base than its value
-pub first_tail_relays : (i : FieldPart) (e : Entry) (base v : Scalar) (tail bytes rest before after : List ℕ) → i.part ≡ part.Whole → i.operator ≡ operator.Tail → tail_base i e ≡ Ok base → IsText i.kind v → tail_at i e bytes ≡ Ok (Some v, rest)
+pub first_tail_relays : (i : FieldPart) (e : Entry) (base v : Scalar) (tail bytes rest before after : List ℕ) → i.part ≡ part.Whole → i.operator ≡ operator.Tail → tail_base i e ≡ Ok base → IsText i.kind v → tail_at Usual i e bytes ≡ Ok (Some v, rest)
     → left_out_of i.operator i e (Some v) ≡ false → IsBestTail i.kind i.presence (units_of base) (units_of v) tail → (b : List ℕ) × (after ≡ before ++ b) × ShortestUnits i.kind i.presence tail b
     → Relays i e (Assigned v) v bytes rest before after
 first_tail_relays i e base v tail bytes rest before after whole o given l read out best appended =
@@ -150,5 +151,5 @@ first_tail_relays i e base v tail bytes rest before after whole o given l read o
     (tail_row i.operator i e bytes o ∙ read)
     (sym last)
     out
-    (λ b s. subst (λ (o : Operator). IsFirst (λ c b. FormOf o i e true c b (Some v)) b) (sym o) (tail_form_is_first i e base v b given (tail_is_first i.kind i.presence base v tail b l.of_units (text_of_type i.kind v l) best s)))
+    (λ b s. subst (λ (o : Operator). IsFirst (λ c b. FormOf Usual o i e true c b (Some v)) b) (sym o) (tail_form_is_first i e base v b given (tail_is_first i.kind i.presence base v tail b l.of_units (text_of_type i.kind v l) best s)))
     appended

@@ -4,6 +4,7 @@ use Rattle.std.specs.Prelude.{Some, None, ℤ, pos, IsCharBoundary}
 use Rattle.std.proofs.lemmas.List.{drop_more, length-take-le}
 use Rattle.std.proofs.lemmas.Str.{IsUtf8-append, IsUtf8-take, is_utf8-from_IsUtf8}
 use Rattle.std.proofs.Math.Seq.{take-nil}
+use Rattle.fast_wire.specs.declared.level.Level.TheVariants.{Usual}
 use Rattle.fast_wire.specs.Reading.{◌>>=◌, behind_length, bytes_at, unsigned_at, unsigned_nullable_at, vector_at, vector_nullable_at}
 use Rattle.fast_wire.specs.declared.fault.WireFault.{WireFault}
 use Rattle.fast_wire.specs.declared.fault.WireFault.TheVariants as wire
@@ -78,7 +79,7 @@ sent_nullable (Ok (Value m, more)) n rest h = ap number_or_null h
 sent_nullable (Ok (Null, more)) n rest h = ap number_or_null h
 sent_nullable (Err f) n rest h = absurd cc
 
-behind : (k : Kind) (p : Presence) (bytes rest : List ℕ) (n : ℕ) → IsVectorKind k → Spelt true p bytes (pos n) rest → n ≤ 65535 → n ≤ length rest → units_at k p bytes ≡ Ok (Value (take n rest), drop n rest)
+behind : (k : Kind) (p : Presence) (bytes rest : List ℕ) (n : ℕ) → IsVectorKind k → Spelt true p bytes (pos n) rest → n ≤ 65535 → n ≤ length rest → units_at Usual k p bytes ≡ Ok (Value (take n rest), drop n rest)
 unfolding integer_at units_at part_at vector_at vector_nullable_at behind_length bytes_at
 behind kind.Unicode Mandatory bytes rest n k h few there = rw (sent (unsigned_at bytes) n rest h, lt_false 65535 n few, lt_false (length rest) n there) refl
 behind kind.Bytes Mandatory bytes rest n k h few there = rw (sent (unsigned_at bytes) n rest h, lt_false 65535 n few, lt_false (length rest) n there) refl
@@ -87,7 +88,7 @@ behind kind.Bytes Optional bytes rest n k h few there = rw (sent_nullable (unsig
 behind k' p bytes rest n k h few there = absurd k
 
 pub bytes_found : (k : Kind) (p : Presence) (bytes : List ℕ) (at start n : ℕ) → IsVectorKind k → Spelt true p (drop at bytes) (pos n) (drop start bytes) → n ≤ 65535 → n ≤ length bytes - start → start ≤ length bytes
-    → units_at k p (drop at bytes) ≡ Ok (Value (slice_range bytes start (start + n)), drop (start + n) bytes)
+    → units_at Usual k p (drop at bytes) ≡ Ok (Value (slice_range bytes start (start + n)), drop (start + n) bytes)
 bytes_found k p bytes at start n is h few there within =
     let there' : n ≤ length (drop start bytes) = omega (arith, there, within, length-drop start bytes) in
     let on : start + n - start ≡ n = omega arith in
@@ -102,13 +103,13 @@ units_back kind.Unicode s h = refl
 units_back kind.Bytes s h = refl
 units_back k s h = absurd h
 
-pub spelled : (k : Kind) (p : Presence) (bytes s rest : List ℕ) → IsVectorKind k → IsText k (of_units k s) → units_at k p bytes ≡ Ok (Value s, rest) → units_spelled_at k p bytes ≡ Ok (Some (of_units k s), rest)
+pub spelled : (k : Kind) (p : Presence) (bytes s rest : List ℕ) → IsVectorKind k → IsText k (of_units k s) → units_at Usual k p bytes ≡ Ok (Value s, rest) → units_spelled_at Usual k p bytes ≡ Ok (Some (of_units k s), rest)
 unfolding units_spelled_at unit_value
 spelled kind.Unicode p bytes s rest is t h = rw (h, is_utf8-from_IsUtf8 s t.within.2) refl
 spelled kind.Bytes p bytes s rest is t h = rw h refl
 spelled k p bytes s rest is t h = absurd is
 
-pub vector_relays : (i : FieldPart) (old new : Entry) (s bytes rest before after : List ℕ) → IsVectorKind i.kind → i.part ≡ part.Whole → SpellsWhole i.operator → IsText i.kind (of_units i.kind s) → units_at i.kind i.presence bytes ≡ Ok (Value s, rest)
+pub vector_relays : (i : FieldPart) (old new : Entry) (s bytes rest before after : List ℕ) → IsVectorKind i.kind → i.part ≡ part.Whole → SpellsWhole i.operator → IsText i.kind (of_units i.kind s) → units_at Usual i.kind i.presence bytes ≡ Ok (Value s, rest)
     → new ≡ next i old (Some (of_units i.kind s)) → left_out_of i.operator i old (Some (of_units i.kind s)) ≡ false → (b : List ℕ) × (after ≡ before ++ b) × ShortestUnits i.kind i.presence s b → Relays i old new (of_units i.kind s) bytes rest before after
 vector_relays i old new s bytes rest before after is whole o t read entry out appended =
     whole_text_relays i old new (of_units i.kind s) bytes rest before after whole o t (spelled i.kind i.presence bytes s rest is t read) entry out
@@ -139,7 +140,7 @@ limited k s is t = absurd is
 
 -- ---- tails
 
-tail_read : (i : FieldPart) (base v : Scalar) (s bytes rest : List ℕ) → is_of i.kind base ≡ true → units_at i.kind i.presence bytes ≡ Ok (Value s, rest) → limited_value i.kind (ended_by (units_of base) s) ≡ Ok v → tail_at i (Assigned base) bytes ≡ Ok (Some v, rest)
+tail_read : (i : FieldPart) (base v : Scalar) (s bytes rest : List ℕ) → is_of i.kind base ≡ true → units_at Usual i.kind i.presence bytes ≡ Ok (Value s, rest) → limited_value i.kind (ended_by (units_of base) s) ≡ Ok v → tail_at Usual i (Assigned base) bytes ≡ Ok (Some v, rest)
 unfolding tail_at ended_value
 tail_read i base v s bytes rest is read made = rw (read, is, made) refl
 
@@ -174,7 +175,7 @@ best_end k p base s n is size prefix =
     rw (behind_kept base s n within) at (shortest_is_best k p base v n prefix whole (λ some. no_more k p v n is some))
 
 pub vector_tail_relays : (i : FieldPart) (base : Scalar) (n : ℕ) (s bytes rest before after : List ℕ) → IsVectorKind i.kind → i.part ≡ part.Whole → i.operator ≡ operator.Tail → IsText i.kind base → n + length s ≡ length (units_of base) → 0 < length s
-    → IsLongestPrefix (units_of base) (take n (units_of base) ++ s) n → IsText i.kind (of_units i.kind (take n (units_of base) ++ s)) → units_at i.kind i.presence bytes ≡ Ok (Value s, rest) → (b : List ℕ) × (after ≡ before ++ b) × ShortestUnits i.kind i.presence s b
+    → IsLongestPrefix (units_of base) (take n (units_of base) ++ s) n → IsText i.kind (of_units i.kind (take n (units_of base) ++ s)) → units_at Usual i.kind i.presence bytes ≡ Ok (Value s, rest) → (b : List ℕ) × (after ≡ before ++ b) × ShortestUnits i.kind i.presence s b
     → Relays i (Assigned base) (Assigned (of_units i.kind (take n (units_of base) ++ s))) (of_units i.kind (take n (units_of base) ++ s)) bytes rest before after
 vector_tail_relays i base n s bytes rest before after is whole o text size some prefix t read appended =
     let b = units_of base in
@@ -199,7 +200,7 @@ default_none k is = absurd is
 start_none : (i : FieldPart) → IsVectorKind i.kind → i.initial ≡ None → units_of (start_of i) ≡ []
 start_none i is none = rw none (default_none i.kind is)
 
-first_read : (i : FieldPart) (v : Scalar) (s bytes rest : List ℕ) → units_at i.kind i.presence bytes ≡ Ok (Value s, rest) → limited_value i.kind (ended_by (units_of (start_of i)) s) ≡ Ok v → tail_at i Empty bytes ≡ Ok (Some v, rest)
+first_read : (i : FieldPart) (v : Scalar) (s bytes rest : List ℕ) → units_at Usual i.kind i.presence bytes ≡ Ok (Value s, rest) → limited_value i.kind (ended_by (units_of (start_of i)) s) ≡ Ok v → tail_at Usual i Empty bytes ≡ Ok (Some v, rest)
 unfolding tail_at ended_value
 first_read i v s bytes rest read made = rw (read, made) refl
 
@@ -207,7 +208,7 @@ first_out : (p : Presence) (i : FieldPart) (v : Scalar) → i.operator ≡ opera
 first_out Mandatory i v o is = rw (o, is) refl
 first_out Optional i v o is = rw (o, is) refl
 
-pub vector_first_relays : (i : FieldPart) (s bytes rest before after : List ℕ) → IsVectorKind i.kind → i.part ≡ part.Whole → i.operator ≡ operator.Tail → i.initial ≡ None → IsText i.kind (of_units i.kind s) → 0 < length s → units_at i.kind i.presence bytes ≡ Ok (Value s, rest)
+pub vector_first_relays : (i : FieldPart) (s bytes rest before after : List ℕ) → IsVectorKind i.kind → i.part ≡ part.Whole → i.operator ≡ operator.Tail → i.initial ≡ None → IsText i.kind (of_units i.kind s) → 0 < length s → units_at Usual i.kind i.presence bytes ≡ Ok (Value s, rest)
     → (b : List ℕ) × (after ≡ before ++ b) × ShortestUnits i.kind i.presence s b → Relays i Empty (Assigned (of_units i.kind s)) (of_units i.kind s) bytes rest before after
 vector_first_relays i s bytes rest before after is whole o none t some read appended =
     let v = of_units i.kind s in
@@ -241,22 +242,22 @@ unfolding part_of
 part_sent (Ok (t, more)) s rest h = ap part_of h
 part_sent (Err f) s rest h = absurd cc
 
-part_read : (k : Kind) (bytes s rest : List ℕ) → units_at k Mandatory bytes ≡ Ok (Value s, rest) → part_at k bytes ≡ Ok (s, rest)
+part_read : (k : Kind) (bytes s rest : List ℕ) → units_at Usual k Mandatory bytes ≡ Ok (Value s, rest) → part_at Usual k bytes ≡ Ok (s, rest)
 unfolding units_at
-part_read k bytes s rest h = part_sent (part_at k bytes) s rest h
+part_read k bytes s rest h = part_sent (part_at Usual k bytes) s rest h
 
-new_part_read : (k : Kind) (base : List ℕ) (v : Scalar) (r : ℕ) (s middle rest : List ℕ) → r ≤ length base → part_at k middle ≡ Ok (s, rest) → limited_value k (take (length base - r) base ++ s) ≡ Ok v → new_part_behind k (pos r) base middle ≡ Ok (Some v, rest)
+new_part_read : (k : Kind) (base : List ℕ) (v : Scalar) (r : ℕ) (s middle rest : List ℕ) → r ≤ length base → part_at Usual k middle ≡ Ok (s, rest) → limited_value k (take (length base - r) base ++ s) ≡ Ok v → new_part_behind Usual k (pos r) base middle ≡ Ok (Some v, rest)
 unfolding new_part_behind
 new_part_read k base v r s middle rest le read made = rw (le_true r (length base) le, read, made) refl
 
-delta_read : (i : FieldPart) (base v : Scalar) (r : ℕ) (s bytes middle rest : List ℕ) → is_of i.kind base ≡ true → r < 63 → r ≤ length (units_of base) → Spelt false i.presence bytes (pos r) middle → part_at i.kind middle ≡ Ok (s, rest) → limited_value i.kind (take (length (units_of base) - r) (units_of base) ++ s) ≡ Ok v
-    → unit_delta_at i (Assigned base) bytes ≡ Ok (Some v, rest)
+delta_read : (i : FieldPart) (base v : Scalar) (r : ℕ) (s bytes middle rest : List ℕ) → is_of i.kind base ≡ true → r < 63 → r ≤ length (units_of base) → Spelt false i.presence bytes (pos r) middle → part_at Usual i.kind middle ≡ Ok (s, rest) → limited_value i.kind (take (length (units_of base) - r) (units_of base) ++ s) ≡ Ok v
+    → unit_delta_at Usual i (Assigned base) bytes ≡ Ok (Some v, rest)
 unfolding unit_delta_at
 delta_read i base v r s bytes middle rest is small le removal read made =
     rw (removal, le_true r 2147483647 (omega (arith, small)), base_is i base is) (new_part_read i.kind (units_of base) v r s middle rest le read made)
 
 pub vector_delta_relays : (i : FieldPart) (base : Scalar) (r n : ℕ) (s bytes middle rest before after : List ℕ) → IsVectorKind i.kind → i.part ≡ part.Whole → i.operator ≡ operator.Delta → IsText i.kind base → r < 63 → r ≤ length (units_of base) → n ≡ length (units_of base) - r
-    → IsLongestPrefix (units_of base) (take n (units_of base) ++ s) n → SharesEnd (units_of base) (take n (units_of base) ++ s) n → IsText i.kind (of_units i.kind (take n (units_of base) ++ s)) → Spelt false i.presence bytes (pos r) middle → units_at i.kind Mandatory middle ≡ Ok (Value s, rest)
+    → IsLongestPrefix (units_of base) (take n (units_of base) ++ s) n → SharesEnd (units_of base) (take n (units_of base) ++ s) n → IsText i.kind (of_units i.kind (take n (units_of base) ++ s)) → Spelt false i.presence bytes (pos r) middle → units_at Usual i.kind Mandatory middle ≡ Ok (Value s, rest)
     → (b : List ℕ) × (after ≡ before ++ b) × Both (ShortestSigned i.presence (pos r)) (ShortestPart i.kind s) b
     → Relays i (Assigned base) (Assigned (of_units i.kind (take n (units_of base) ++ s))) (of_units i.kind (take n (units_of base) ++ s)) bytes rest before after
 vector_delta_relays i base r n s bytes middle rest before after is whole o text small le kept prefix suffix t removal read appended =

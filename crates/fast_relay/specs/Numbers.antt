@@ -1,5 +1,6 @@
 -- What is asked of a field whose value is relayed. (Own.) No public clause names these.
 use Rattle.std.specs.Prelude.{◌≡◌, ℕ, ℤ, Bool, true, List, Option, Some, Ok}
+use Rattle.fast_wire.specs.declared.level.Level.TheVariants.{Usual}
 use Rattle.fast_wire.specs.declared.nullable.Nullable.TheVariants.{Null, Value}
 use Rattle.fast_value.specs.Scalar.{of_integer}
 use Rattle.fast_value.specs.declared.kind.Kind.{Kind}
@@ -24,11 +25,11 @@ SpellsWhole o = ⊥
 
 -- the bytes spell a number and not NULL
 abbrev pub Spelt : Bool → Presence → List ℕ → ℤ → List ℕ → Type 0
-Spelt unsigned p bytes z rest = integer_at unsigned p bytes ≡ Ok (Value z, rest)
+Spelt unsigned p bytes z rest = integer_at Usual unsigned p bytes ≡ Ok (Value z, rest)
 
 -- the bytes spell NULL, in its shortest form or in a longer one
 abbrev pub SpeltNull : Bool → List ℕ → List ℕ → Type 0
-SpeltNull unsigned bytes rest = integer_at unsigned Optional bytes ≡ Ok (Null, rest)
+SpeltNull unsigned bytes rest = integer_at Usual unsigned Optional bytes ≡ Ok (Null, rest)
 
 -- where the value is a number of the type, it is this one
 abbrev pub IsNumberIn : Kind → Option Scalar → Option ℤ → Type 0

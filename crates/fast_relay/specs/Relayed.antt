@@ -1,6 +1,7 @@
 -- A field that is read and written at once: what was read is a form of its value, the entry is the one afterwards, and
 -- the value's best form was appended. (Own.)
 use Rattle.std.specs.Prelude.{◌≡◌, ℕ, Bool, true, false, List, [], ◌++◌, Option, Some, None, Ok, IsTrue, ⊤}
+use Rattle.fast_wire.specs.declared.level.Level.TheVariants.{Usual}
 use Rattle.fast_value.specs.Scalar.{is_of}
 use Rattle.fast_value.specs.declared.kind.Kind.{Kind}
 use Rattle.fast_template.specs.declared.resolved.FieldPart.{FieldPart}
@@ -17,20 +18,20 @@ use Rattle.fast_relay.specs.declared.relayed.Relayed.TheVariants.{Sent, Given, E
 pub record Relays (i : FieldPart) (old new : Entry) (v : Scalar) (bytes rest : List ℕ)
     (before after : List ℕ) : Type 0 where
   pub of_kind : IsTrue (is_of i.kind v)
-  pub read : (more : List ℕ) → field_at i old true (bytes ++ more) ≡ Ok (Some v, rest ++ more)
+  pub read : (more : List ℕ) → field_at Usual i old true (bytes ++ more) ≡ Ok (Some v, rest ++ more)
   pub entry : new ≡ next i old (Some v)
   pub best : AppendsBest i old (Some v) true before after
 
 -- the same of NULL, which gives that there is no value
 pub record RelaysNull (i : FieldPart) (old new : Entry) (bytes rest : List ℕ)
     (before after : List ℕ) : Type 0 where
-  pub read : (more : List ℕ) → field_at i old true (bytes ++ more) ≡ Ok (None, rest ++ more)
+  pub read : (more : List ℕ) → field_at Usual i old true (bytes ++ more) ≡ Ok (None, rest ++ more)
   pub entry : new ≡ next i old None
   pub best : AppendsBest i old None true before after
 
 -- the bytes before `rest` give the value under bit 1, and the entry is the one afterwards; nothing is written
 pub record Takes (i : FieldPart) (old new : Entry) (v : Scalar) (bytes rest : List ℕ) : Type 0 where
-  pub read : (more : List ℕ) → field_at i old true (bytes ++ more) ≡ Ok (Some v, rest ++ more)
+  pub read : (more : List ℕ) → field_at Usual i old true (bytes ++ more) ≡ Ok (Some v, rest ++ more)
   pub entry : new ≡ next i old (Some v)
 
 -- whether there is a value, which then is of the type
@@ -41,7 +42,7 @@ IsThere k false v = v ≡ None
 -- the bytes before `rest` give the value under bit 1, the entry is the one afterwards, and the best form is bit 0 and no
 -- byte
 pub record Drops (i : FieldPart) (old new : Entry) (v : Option Scalar) (bytes rest : List ℕ) : Type 0 where
-  pub read : (more : List ℕ) → field_at i old true (bytes ++ more) ≡ Ok (v, rest ++ more)
+  pub read : (more : List ℕ) → field_at Usual i old true (bytes ++ more) ≡ Ok (v, rest ++ more)
   pub entry : new ≡ next i old v
   pub best : IsBest i old false [] v
 

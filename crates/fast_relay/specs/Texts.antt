@@ -1,5 +1,6 @@
 -- Strings and vectors within their types. (Own.) No public clause names these.
 use Rattle.std.specs.Prelude.{◌≡◌, ℕ, ◌+◌, ◌-◌, ◌<◌, ◌≤◌, List, ◌++◌, length, take, Some, Ok, IsTrue}
+use Rattle.fast_wire.specs.declared.level.Level.TheVariants.{Usual}
 use Rattle.fast_wire.specs.Entity.{groups}
 use Rattle.fast_wire.specs.Plain.{IsPlain}
 use Rattle.fast_value.specs.Scalar.{IsScalar, is_of}
@@ -37,7 +38,7 @@ pub record GivesCut (i : FieldPart) (base bytes : List ℕ) (removed : ℕ) (for
   pub few : removed < 63
   pub within : removed ≤ length base
   pub short : (length base - removed) + length form ≤ 65535
-  pub read : unit_delta_at i (Assigned (Ascii base)) bytes
+  pub read : unit_delta_at Usual i (Assigned (Ascii base)) bytes
       ≡ Ok (Some (Ascii (take (length base - removed) base ++ groups form)), rest)
 
 -- the bytes before `rest` give the text with these at its end in place of as many, and these stand in their shortest form
@@ -45,5 +46,5 @@ pub record GivesTail (i : FieldPart) (base bytes form rest : List ℕ) : Type 0 
   pub behind : List ℕ
   pub plain : IsPlain behind form rest
   pub within : length form ≤ length base
-  pub read : tail_at i (Assigned (Ascii base)) bytes
+  pub read : tail_at Usual i (Assigned (Ascii base)) bytes
       ≡ Ok (Some (Ascii (take (length base - length form) base ++ groups form)), rest)

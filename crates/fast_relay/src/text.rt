@@ -20,6 +20,7 @@ use fast_field::{
     write_units,
 };
 use fast_template::{FieldPart, Kind, Operator, Part, Scalar};
+use fast_wire::Level;
 use std::alloc::Global;
 
 /// Relays a string or vector that is spelled whole.
@@ -41,7 +42,8 @@ fn relay_whole_text(
     ensures entry { IfNone result (entry.new ≡ entry.old) }
     ensures out { IfNone result (out.new.items ≡ out.old.items) }
 {
-    let Ok((read, next)) = read_string(alloc, instr.kind, instr.presence, bytes, at) else {
+    let Ok((read, next)) = read_string(alloc, instr.kind, instr.presence, Level::Usual, bytes, at)
+    else {
         return None;
     };
     let Some(value) = read else {
@@ -85,7 +87,7 @@ fn rewrite_text_delta(
         return None;
     }
     let kept = EntryRef::Assigned(base);
-    let Ok((read, next)) = read_unit_delta(alloc, instr, kept, bytes, at) else {
+    let Ok((read, next)) = read_unit_delta(alloc, instr, kept, Level::Usual, bytes, at) else {
         return None;
     };
     let Some(value) = read else {
@@ -155,7 +157,7 @@ fn rewrite_tail(
         return None;
     }
     let kept = EntryRef::Assigned(base);
-    let Ok((read, next)) = read_tail(alloc, instr, kept, bytes, at) else {
+    let Ok((read, next)) = read_tail(alloc, instr, kept, Level::Usual, bytes, at) else {
         return None;
     };
     let Some(value) = read else {

@@ -3,6 +3,7 @@
 
 ghost use Rattle.std.specs.Prelude.{◌≡◌, ◌≤◌, ◌<◌, ◌+◌, ◌++◌, ℕ, List, Ok, pos, true, false, length, drop, slice_range, take, Some, IfNone, IfSome, IsTrue, IsUtf8, IsCharBoundary};
 ghost use Rattle.std.specs.List.{AllByRecursion};
+ghost use Rattle.fast_wire.specs.declared.level.Level.TheVariants.{Usual};
 ghost use Rattle.fast_wire.specs.declared.nullable.Nullable.TheVariants.{Value};
 ghost use Rattle.fast_value.specs.Scalar.{is_of};
 ghost use Rattle.fast_value.specs.declared.kind.Kind.TheVariants as kind_type;
@@ -56,7 +57,7 @@ pub(crate) fn find_bytes(
     requires kind { IsVectorKind kind }
     ensures start { IfSome result (λ x. (at ≤ x.0) × (x.0 ≤ x.1)) }
     ensures end { IfSome result (λ x. x.1 ≤ length bytes.now) }
-    ensures gives { IfSome result (λ x. units_at kind presence (drop at bytes.now)
+    ensures gives { IfSome result (λ x. units_at Usual kind presence (drop at bytes.now)
         ≡ Ok (Value (slice_range bytes.now x.0 x.1), drop x.1 bytes.now)) }
 {
     let Some((length, start)) = read_short(true, presence, bytes, at) else {

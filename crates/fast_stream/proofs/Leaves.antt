@@ -1,5 +1,6 @@
 -- What a message leaves behind it, in the dictionary and of its map, follows from its items alone.
 use Rattle.std.proofs.Common.{◌≡◌, ℕ, Bool, true, false, List, [], ◌∷◌, drop, Option, Some, None, refl, sym, ap, ◌∙◌, drop-drop, ◌||◌}
+use Rattle.fast_wire.specs.declared.level.Level.{Level}
 use Rattle.fast_value.specs.declared.scalar.Scalar.TheVariants.{U32, I32, I64, Decimal}
 use Rattle.fast_template.specs.Resolved.{Instruction, Instructions, whole_field, field_in_parts, group_of, sequence_of, no_instructions, then_instruction, part_needs_bit, is_optional, has_map, Resolved, takes_bit}
 use Rattle.fast_dictionary.specs.Dictionary.{Dictionary}
@@ -7,7 +8,7 @@ use Rattle.fast_field.specs.Fields.{Form}
 use Rattle.fast_stream.specs.Nodes.{Item, single, group_items, sequence_elements, Items, no_items, then_item, Elements, no_elements, then_element, element_count, Content}
 use Rattle.fast_stream.specs.Bits.{after_bit, bits_taken, takes_one, takes}
 use Rattle.fast_stream.specs.Bodies.{Spelling, Mapping, State, Each, written, SegmentBy, PieceBy, BodyBy}
-use Rattle.fast_stream.specs.Streams.{members_of, identifier, AnyMap, Body, BodyOfBy, MessageFormBy, CarriesBy, CarriesFrom}
+use Rattle.fast_stream.specs.Streams.{members_of, identifier, MapAt, Body, BodyOfBy, MessageFormBy, CarriesBy, CarriesFrom}
 
 -- ---- the dictionary
 
@@ -90,9 +91,9 @@ module _ (P : Spelling) (M : Mapping) where
   carries_left set (m ∷ ms) d b after h =
       carries_left set ms h.between h.back after h.second ∙ ap (λ e. messages_leave set e ms) (message_left set d h.front m h.between h.first)
 
-pub same_dictionary : (set : List Resolved) (d : Dictionary) (stream other : List ℕ) (messages : List Content) (after later : Dictionary)
-    → CarriesFrom set d stream messages after → CarriesFrom set d other messages later → after ≡ later
-same_dictionary set d stream other messages after later h k = carries_left Form AnyMap set messages d stream after h ∙ sym (carries_left Form AnyMap set messages d other later k)
+pub same_dictionary : (level : Level) → (set : List Resolved) (d : Dictionary) (stream other : List ℕ) (messages : List Content) (after later : Dictionary)
+    → CarriesFrom level set d stream messages after → CarriesFrom level set d other messages later → after ≡ later
+same_dictionary level set d stream other messages after later h k = carries_left (Form level) (MapAt level) set messages d stream after h ∙ sym (carries_left (Form level) (MapAt level) set messages d other later k)
 
 -- ---- the map
 
@@ -122,9 +123,9 @@ module _ (P : Spelling) (M : Mapping) where
       body_bits is h.between h.back ns after h.second ∙ ap (drop (takes is ns)) (piece_bits i s h.front n h.between h.first) ∙ drop-drop (takes is ns) (takes_one i n) s.bits
   body_bits is s b ns after h = absurd h
 
-pub bits_taken_are : (members : Instructions) (before after : State) (bytes : List ℕ) (items : Items)
-    → Body members before bytes items after → after.bits ≡ drop (takes members items) before.bits
-bits_taken_are members before after bytes items h = body_bits Form AnyMap members before bytes items after h
+pub bits_taken_are : (level : Level) → (members : Instructions) (before after : State) (bytes : List ℕ) (items : Items)
+    → Body level members before bytes items after → after.bits ≡ drop (takes members items) before.bits
+bits_taken_are level members before after bytes items h = body_bits (Form level) (MapAt level) members before bytes items after h
 
 -- ---- a list that asks for no map takes no bits
 

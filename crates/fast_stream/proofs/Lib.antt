@@ -13,3 +13,12 @@ pub mod StreamReaders
 pub mod Leaves
 mod SameNodes
 mod EqualNodes
+pub mod Ends
+pub mod Levels
+pub mod BlockSizes
+pub mod BlockReaders
+pub mod ModeReaders
+pub mod Framings
+pub mod BlockSteps
+pub mod Runs
+pub mod ModeStreams

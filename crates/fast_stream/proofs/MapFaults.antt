@@ -45,7 +45,7 @@ at_byte limit b bs f later false h e =
     let low : b < 128 = grind (arith, h) in
     behind_byte limit b bs f later low (entity_at limit bs) refl e
 
-entity_refused : (limit : ℕ) (bytes : List ℕ) (f : WireFault) → entity_at limit bytes ≡ Err f → EntityFault limit bytes 0 f
+pub entity_refused : (limit : ℕ) (bytes : List ℕ) (f : WireFault) → entity_at limit bytes ≡ Err f → EntityFault limit bytes 0 f
 unfolding entity_at
 entity_refused zero bytes f e =
     let same : wire.TooLong ≡ f = cc in
@@ -71,3 +71,6 @@ map_refused bytes f e = map_stopped bytes f (entity_at 256 bytes) refl e
 pub map_faulty : (bytes : List ℕ) (f : WireFault) → EntityFault 256 bytes 0 f → map_at bytes ≡ Err f
 unfolding map_at
 map_faulty bytes f h = rw (fault_given 256 bytes 0 f (omega arith) h) refl
+
+pub entity_faulty : (limit : ℕ) (bytes : List ℕ) (f : WireFault) → EntityFault limit bytes 0 f → entity_at limit bytes ≡ Err f
+entity_faulty limit bytes f h = fault_given limit bytes 0 f (omega arith) h

@@ -4,6 +4,7 @@ use Rattle.std.proofs.Common.{Bool, true, false, ◌≡◌, ap, ◌∙◌, ℕ, 
 use Rattle.std.specs.Prelude.{codes, replicate, cond}
 use Rattle.std.specs.FinMap as finite
 use Rattle.std.specs.Ordering.{eq_by_cmp}
+use Rattle.fast_wire.specs.declared.level.Level.TheVariants.{Usual, Strict}
 use Rattle.fast_value.specs.Key.{key_cmp, key_cmp-total}
 use Rattle.fast_value.specs.declared.key.Key.{Key}
 use Rattle.fast_value.specs.declared.scalar.Scalar.{Scalar}
@@ -12,11 +13,13 @@ use Rattle.fast_dictionary.specs.Dictionary.{Dictionary}
 use Rattle.fast_wire.specs.Reading.{entity_at, unsigned_at, signed_at, unsigned_nullable_at, signed_nullable_at, ascii_at, ascii_nullable_at, bytes_at, vector_at, behind_length, vector_nullable_at, map_at}
 use Rattle.fast_field.specs.FieldReading.{integer_at, part_at, units_at, integer_value, decimal_value, unit_value, integer_spelled_at, mantissa_behind, decimal_spelled_at, units_spelled_at, spelled_at, integer_delta_at, mantissa_delta_behind, decimal_delta_at, new_part_behind, unit_delta_at, delta_at, limited_value, integer_sum, ended_value, tail_at, whole_at, predicted_at, row_at, part_checked, field_at}
 use Rattle.fast_stream.specs.declared.fault.Cause.{Cause}
-use Rattle.fast_stream.specs.declared.fault.Cause.TheVariants.{D2, D4, D5, D6, D7, D9, R1, R2, Truncated, Limit}
+use Rattle.fast_stream.specs.declared.fault.Cause.TheVariants.{D2, D4, D5, D6, D7, D9, D12, BlockEnd, R1, R2, R6, R7, R8, R9, Truncated, Limit}
 use Rattle.fast_stream.specs.declared.fault.Fault.{Fault}
 use Rattle.fast_stream.specs.Nodes.{Item, single, group_items, sequence_elements, items_of, elements_of, Content, node_limit}
 use Rattle.fast_stream.specs.Faults.{MessageStop}
-use Rattle.fast_stream.specs.Reading.{Cursor, field_part_at, body_at, head_at, message_at, StreamReading, messages_at, stream_at, fault_in}
+use Rattle.fast_stream.specs.Reading.{Cursor, field_part_at, body_at, head_at, message_at}
+use Rattle.fast_stream.specs.Blocks.{Stand, outside, at_start, in_block_at}
+use Rattle.fast_stream.specs.Modes.{plainly, in_blocks, StreamReading, messages_at, stream_at, fault_in}
 use Rattle.std.specs.Str.{is_utf8, chars}
 use Rattle.fast_template.specs.TemplateSets.{identifier_key}
 use Rattle.fast_value.specs.declared.key.Scope.TheVariants.{Global}
@@ -66,7 +69,7 @@ abbrev answer : List ℕ → StreamReading → List Content × Option Fault
 answer stream r = (r.messages, fault_in stream r)
 
 abbrev pub read : List ℕ → List Content × Option Fault
-read stream = answer stream (stream_at worked_set stream)
+read stream = answer stream (stream_at (plainly Usual) worked_set stream)
 
 -- all that reading is made of: who unfolds this unfolds its line
 reading : ℕ
@@ -83,12 +86,12 @@ puts d (w ∷ ws) = puts (finite.insert d w.0 w.1) ws
 
 -- a stream of one message more, and one that stops
 one_more : (n : ℕ) (d : Dictionary) (b : ℕ) (bytes : List ℕ) {rest : List ℕ} {e : Dictionary} {m : Content} {r : StreamReading}
-    → message_at worked_set d (b ∷ bytes) ≡ Ok (m, e, rest) → messages_at n worked_set e rest ≡ r
-    → messages_at (suc n) worked_set d (b ∷ bytes) ≡ record { messages = m ∷ r.messages; fault = r.fault }
+    → message_at Usual worked_set d (b ∷ bytes) ≡ Ok (m, e, rest) → messages_at (plainly Usual) n worked_set (outside e) rest ≡ r
+    → messages_at (plainly Usual) (suc n) worked_set (outside d) (b ∷ bytes) ≡ record { messages = m ∷ r.messages; fault = r.fault }
 one_more n d b bytes h t = rw (h, t) refl
 
 last_stop : (n : ℕ) (d : Dictionary) (b : ℕ) (bytes : List ℕ) {s : MessageStop}
-    → message_at worked_set d (b ∷ bytes) ≡ Err s → messages_at (suc n) worked_set d (b ∷ bytes) ≡ record { messages = []; fault = Some s }
+    → message_at Usual worked_set d (b ∷ bytes) ≡ Err s → messages_at (plainly Usual) (suc n) worked_set (outside d) (b ∷ bytes) ≡ record { messages = []; fault = Some s }
 last_stop n d b bytes h = rw h refl
 
 -- what a dictionary has under a key, where it is empty and where a value was put: a finite map computes by these
@@ -143,32 +146,32 @@ one_message = rw (among_3, among_4) refl
 abbrev quoted : Dictionary
 quoted = puts finite.empty ((identifier_key, Some (U32 1)) ∷ (named (codes "Seq"), Some (U32 1)) ∷ (named (codes "Sym"), Some (Ascii (codes "AB"))) ∷ (named (codes "Px"), Some (Decimal (negsuc 1) (pos 100))) ∷ (named (codes "Qty"), None) ∷ [])
 
-spelled_out_first : message_at worked_set finite.empty (0xf0 ∷ 0x81 ∷ 0x81 ∷ 0x41 ∷ 0xc2 ∷ 0xfe ∷ 0x00 ∷ 0xe4 ∷ 0xf8 ∷ 0x81 ∷ 0x82 ∷ 0x41 ∷ 0xc2 ∷ 0x80 ∷ 0x81 ∷ 0x80 ∷ []) ≡ Ok (quote 1 100, quoted, 0xf8 ∷ 0x81 ∷ 0x82 ∷ 0x41 ∷ 0xc2 ∷ 0x80 ∷ 0x81 ∷ 0x80 ∷ [])
+spelled_out_first : message_at Usual worked_set finite.empty (0xf0 ∷ 0x81 ∷ 0x81 ∷ 0x41 ∷ 0xc2 ∷ 0xfe ∷ 0x00 ∷ 0xe4 ∷ 0xf8 ∷ 0x81 ∷ 0x82 ∷ 0x41 ∷ 0xc2 ∷ 0x80 ∷ 0x81 ∷ 0x80 ∷ []) ≡ Ok (quote 1 100, quoted, 0xf8 ∷ 0x81 ∷ 0x82 ∷ 0x41 ∷ 0xc2 ∷ 0x80 ∷ 0x81 ∷ 0x80 ∷ [])
 unfolding reading
 spelled_out_first = rw (among_3, among_4) refl
 
 abbrev quoted_again : Dictionary
 quoted_again = puts quoted ((identifier_key, Some (U32 1)) ∷ (named (codes "Seq"), Some (U32 2)) ∷ (named (codes "Sym"), Some (Ascii (codes "AB"))) ∷ (named (codes "Px"), Some (Decimal (negsuc 1) (pos 101))) ∷ (named (codes "Qty"), None) ∷ [])
 
-spelled_out_second : message_at worked_set quoted (0xf8 ∷ 0x81 ∷ 0x82 ∷ 0x41 ∷ 0xc2 ∷ 0x80 ∷ 0x81 ∷ 0x80 ∷ []) ≡ Ok (quote 2 101, quoted_again, [])
+spelled_out_second : message_at Usual worked_set quoted (0xf8 ∷ 0x81 ∷ 0x82 ∷ 0x41 ∷ 0xc2 ∷ 0x80 ∷ 0x81 ∷ 0x80 ∷ []) ≡ Ok (quote 2 101, quoted_again, [])
 unfolding reading
 spelled_out_second = rw among_8 refl
 
 -- behind these bytes F8 81 82 41 C2 80 81 80: Seq=2 Sym="AB" Px=101e-2 Qty=-, spelled out
 pub spelled_out : read (0xf0 ∷ 0x81 ∷ 0x81 ∷ 0x41 ∷ 0xc2 ∷ 0xfe ∷ 0x00 ∷ 0xe4 ∷ 0xf8 ∷ 0x81 ∷ 0x82 ∷ 0x41 ∷ 0xc2 ∷ 0x80 ∷ 0x81 ∷ 0x80 ∷ []) ≡ (quote 1 100 ∷ quote 2 101 ∷ [], None)
-spelled_out = ap (answer (0xf0 ∷ 0x81 ∷ 0x81 ∷ 0x41 ∷ 0xc2 ∷ 0xfe ∷ 0x00 ∷ 0xe4 ∷ 0xf8 ∷ 0x81 ∷ 0x82 ∷ 0x41 ∷ 0xc2 ∷ 0x80 ∷ 0x81 ∷ 0x80 ∷ [])) (one_more 15 _ _ _ spelled_out_first (one_more 14 _ _ _ spelled_out_second refl))
+spelled_out = ap (answer (0xf0 ∷ 0x81 ∷ 0x81 ∷ 0x41 ∷ 0xc2 ∷ 0xfe ∷ 0x00 ∷ 0xe4 ∷ 0xf8 ∷ 0x81 ∷ 0x82 ∷ 0x41 ∷ 0xc2 ∷ 0x80 ∷ 0x81 ∷ 0x80 ∷ [])) (one_more 16 _ _ _ spelled_out_first (one_more 15 _ _ _ spelled_out_second refl))
 
-left_out_first : message_at worked_set finite.empty (0xf0 ∷ 0x81 ∷ 0x81 ∷ 0x41 ∷ 0xc2 ∷ 0xfe ∷ 0x00 ∷ 0xe4 ∷ 0x80 ∷ 0x80 ∷ 0x81 ∷ []) ≡ Ok (quote 1 100, quoted, 0x80 ∷ 0x80 ∷ 0x81 ∷ [])
+left_out_first : message_at Usual worked_set finite.empty (0xf0 ∷ 0x81 ∷ 0x81 ∷ 0x41 ∷ 0xc2 ∷ 0xfe ∷ 0x00 ∷ 0xe4 ∷ 0x80 ∷ 0x80 ∷ 0x81 ∷ []) ≡ Ok (quote 1 100, quoted, 0x80 ∷ 0x80 ∷ 0x81 ∷ [])
 unfolding reading
 left_out_first = rw (among_3, among_4) refl
 
-left_out_second : message_at worked_set quoted (0x80 ∷ 0x80 ∷ 0x81 ∷ []) ≡ Ok (quote 2 101, quoted_again, [])
+left_out_second : message_at Usual worked_set quoted (0x80 ∷ 0x80 ∷ 0x81 ∷ []) ≡ Ok (quote 2 101, quoted_again, [])
 unfolding reading
 left_out_second = rw (among_5, among_6, among_7, among_8, among_9) refl
 
 -- behind F0 81 81 41 C2 FE 00 E4 the bytes 80 80 81: the same two messages
 pub left_out : read (0xf0 ∷ 0x81 ∷ 0x81 ∷ 0x41 ∷ 0xc2 ∷ 0xfe ∷ 0x00 ∷ 0xe4 ∷ 0x80 ∷ 0x80 ∷ 0x81 ∷ []) ≡ (quote 1 100 ∷ quote 2 101 ∷ [], None)
-left_out = ap (answer (0xf0 ∷ 0x81 ∷ 0x81 ∷ 0x41 ∷ 0xc2 ∷ 0xfe ∷ 0x00 ∷ 0xe4 ∷ 0x80 ∷ 0x80 ∷ 0x81 ∷ [])) (one_more 10 _ _ _ left_out_first (one_more 9 _ _ _ left_out_second refl))
+left_out = ap (answer (0xf0 ∷ 0x81 ∷ 0x81 ∷ 0x41 ∷ 0xc2 ∷ 0xfe ∷ 0x00 ∷ 0xe4 ∷ 0x80 ∷ 0x80 ∷ 0x81 ∷ [])) (one_more 11 _ _ _ left_out_first (one_more 10 _ _ _ left_out_second refl))
 
 -- the empty stream: no message
 pub nothing : read [] ≡ ([], None)
@@ -246,62 +249,73 @@ unasked_bit = rw (among_3, among_4) refl
 
 -- ---- Delta of a string
 
--- S is "GEH6"; two at the end make way for "M6"; two in front for "ES"
-pub deltas : read (0xc0 ∷ 0x8a ∷ 0x80 ∷ 0x47 ∷ 0x45 ∷ 0x48 ∷ 0xb6 ∷ 0x80 ∷ 0x82 ∷ 0x4d ∷ 0xb6 ∷ 0x80 ∷ 0xfd ∷ 0x45 ∷ 0xd3 ∷ []) ≡ (message 10 (text (codes "GEH6") ∷ []) ∷ message 10 (text (codes "GEM6") ∷ []) ∷ message 10 (text (codes "ESM6") ∷ []) ∷ [], None)
-unfolding reading
-deltas = rw (among_1, among_2, among_3, among_4, among_5) refl
-
 abbrev geh6 : Dictionary
 geh6 = puts finite.empty ((identifier_key, Some (U32 10)) ∷ (named (codes "S"), Some (Ascii (codes "GEH6"))) ∷ [])
 
-removes_too_much_first : message_at worked_set finite.empty (0xc0 ∷ 0x8a ∷ 0x80 ∷ 0x47 ∷ 0x45 ∷ 0x48 ∷ 0xb6 ∷ 0x80 ∷ 0x82 ∷ 0x4d ∷ 0xb6 ∷ 0x80 ∷ 0xfd ∷ 0x45 ∷ 0xd3 ∷ 0x80 ∷ 0x85 ∷ 0x80 ∷ []) ≡ Ok (message 10 (text (codes "GEH6") ∷ []), geh6, 0x80 ∷ 0x82 ∷ 0x4d ∷ 0xb6 ∷ 0x80 ∷ 0xfd ∷ 0x45 ∷ 0xd3 ∷ 0x80 ∷ 0x85 ∷ 0x80 ∷ [])
+removes_too_much_first : message_at Usual worked_set finite.empty (0xc0 ∷ 0x8a ∷ 0x80 ∷ 0x47 ∷ 0x45 ∷ 0x48 ∷ 0xb6 ∷ 0x80 ∷ 0x82 ∷ 0x4d ∷ 0xb6 ∷ 0x80 ∷ 0xfd ∷ 0x45 ∷ 0xd3 ∷ 0x80 ∷ 0x85 ∷ 0x80 ∷ []) ≡ Ok (message 10 (text (codes "GEH6") ∷ []), geh6, 0x80 ∷ 0x82 ∷ 0x4d ∷ 0xb6 ∷ 0x80 ∷ 0xfd ∷ 0x45 ∷ 0xd3 ∷ 0x80 ∷ 0x85 ∷ 0x80 ∷ [])
 unfolding reading
 removes_too_much_first = rw among_1 refl
 
 abbrev gem6 : Dictionary
 gem6 = puts geh6 ((identifier_key, Some (U32 10)) ∷ (named (codes "S"), Some (Ascii (codes "GEM6"))) ∷ [])
 
-removes_too_much_second : message_at worked_set geh6 (0x80 ∷ 0x82 ∷ 0x4d ∷ 0xb6 ∷ 0x80 ∷ 0xfd ∷ 0x45 ∷ 0xd3 ∷ 0x80 ∷ 0x85 ∷ 0x80 ∷ []) ≡ Ok (message 10 (text (codes "GEM6") ∷ []), gem6, 0x80 ∷ 0xfd ∷ 0x45 ∷ 0xd3 ∷ 0x80 ∷ 0x85 ∷ 0x80 ∷ [])
+removes_too_much_second : message_at Usual worked_set geh6 (0x80 ∷ 0x82 ∷ 0x4d ∷ 0xb6 ∷ 0x80 ∷ 0xfd ∷ 0x45 ∷ 0xd3 ∷ 0x80 ∷ 0x85 ∷ 0x80 ∷ []) ≡ Ok (message 10 (text (codes "GEM6") ∷ []), gem6, 0x80 ∷ 0xfd ∷ 0x45 ∷ 0xd3 ∷ 0x80 ∷ 0x85 ∷ 0x80 ∷ [])
 unfolding reading
 removes_too_much_second = rw (among_2, among_3) refl
 
 abbrev esm6 : Dictionary
 esm6 = puts gem6 ((identifier_key, Some (U32 10)) ∷ (named (codes "S"), Some (Ascii (codes "ESM6"))) ∷ [])
 
-removes_too_much_third : message_at worked_set gem6 (0x80 ∷ 0xfd ∷ 0x45 ∷ 0xd3 ∷ 0x80 ∷ 0x85 ∷ 0x80 ∷ []) ≡ Ok (message 10 (text (codes "ESM6") ∷ []), esm6, 0x80 ∷ 0x85 ∷ 0x80 ∷ [])
+removes_too_much_third : message_at Usual worked_set gem6 (0x80 ∷ 0xfd ∷ 0x45 ∷ 0xd3 ∷ 0x80 ∷ 0x85 ∷ 0x80 ∷ []) ≡ Ok (message 10 (text (codes "ESM6") ∷ []), esm6, 0x80 ∷ 0x85 ∷ 0x80 ∷ [])
 unfolding reading
 removes_too_much_third = rw (among_4, among_5) refl
 
-removes_too_much_fourth : message_at worked_set esm6 (0x80 ∷ 0x85 ∷ 0x80 ∷ []) ≡ Err (record { template = 10; stop = record { cause = D7; instruction = 1; left = 2 } })
+deltas_first : message_at Usual worked_set finite.empty (0xc0 ∷ 0x8a ∷ 0x80 ∷ 0x47 ∷ 0x45 ∷ 0x48 ∷ 0xb6 ∷ 0x80 ∷ 0x82 ∷ 0x4d ∷ 0xb6 ∷ 0x80 ∷ 0xfd ∷ 0x45 ∷ 0xd3 ∷ []) ≡ Ok (message 10 (text (codes "GEH6") ∷ []), geh6, 0x80 ∷ 0x82 ∷ 0x4d ∷ 0xb6 ∷ 0x80 ∷ 0xfd ∷ 0x45 ∷ 0xd3 ∷ [])
+unfolding reading
+deltas_first = rw among_1 refl
+
+deltas_second : message_at Usual worked_set geh6 (0x80 ∷ 0x82 ∷ 0x4d ∷ 0xb6 ∷ 0x80 ∷ 0xfd ∷ 0x45 ∷ 0xd3 ∷ []) ≡ Ok (message 10 (text (codes "GEM6") ∷ []), gem6, 0x80 ∷ 0xfd ∷ 0x45 ∷ 0xd3 ∷ [])
+unfolding reading
+deltas_second = rw (among_2, among_3) refl
+
+deltas_third : message_at Usual worked_set gem6 (0x80 ∷ 0xfd ∷ 0x45 ∷ 0xd3 ∷ []) ≡ Ok (message 10 (text (codes "ESM6") ∷ []), esm6, [])
+unfolding reading
+deltas_third = rw (among_4, among_5) refl
+
+-- S is "GEH6"; two at the end make way for "M6"; two in front for "ES"
+pub deltas : read (0xc0 ∷ 0x8a ∷ 0x80 ∷ 0x47 ∷ 0x45 ∷ 0x48 ∷ 0xb6 ∷ 0x80 ∷ 0x82 ∷ 0x4d ∷ 0xb6 ∷ 0x80 ∷ 0xfd ∷ 0x45 ∷ 0xd3 ∷ []) ≡ (message 10 (text (codes "GEH6") ∷ []) ∷ message 10 (text (codes "GEM6") ∷ []) ∷ message 10 (text (codes "ESM6") ∷ []) ∷ [], None)
+deltas = ap (answer (0xc0 ∷ 0x8a ∷ 0x80 ∷ 0x47 ∷ 0x45 ∷ 0x48 ∷ 0xb6 ∷ 0x80 ∷ 0x82 ∷ 0x4d ∷ 0xb6 ∷ 0x80 ∷ 0xfd ∷ 0x45 ∷ 0xd3 ∷ [])) (one_more 15 _ _ _ deltas_first (one_more 14 _ _ _ deltas_second (one_more 13 _ _ _ deltas_third refl)))
+
+removes_too_much_fourth : message_at Usual worked_set esm6 (0x80 ∷ 0x85 ∷ 0x80 ∷ []) ≡ Err (record { template = 10; stop = record { cause = D7; instruction = 1; left = 2 } })
 unfolding reading
 removes_too_much_fourth = rw (among_6, among_7) refl
 
 -- behind them 80 85 80: five of four
 pub removes_too_much : read (0xc0 ∷ 0x8a ∷ 0x80 ∷ 0x47 ∷ 0x45 ∷ 0x48 ∷ 0xb6 ∷ 0x80 ∷ 0x82 ∷ 0x4d ∷ 0xb6 ∷ 0x80 ∷ 0xfd ∷ 0x45 ∷ 0xd3 ∷ 0x80 ∷ 0x85 ∷ 0x80 ∷ []) ≡ (message 10 (text (codes "GEH6") ∷ []) ∷ message 10 (text (codes "GEM6") ∷ []) ∷ message 10 (text (codes "ESM6") ∷ []) ∷ [], refused D7 4 16 10 1)
-removes_too_much = ap (answer (0xc0 ∷ 0x8a ∷ 0x80 ∷ 0x47 ∷ 0x45 ∷ 0x48 ∷ 0xb6 ∷ 0x80 ∷ 0x82 ∷ 0x4d ∷ 0xb6 ∷ 0x80 ∷ 0xfd ∷ 0x45 ∷ 0xd3 ∷ 0x80 ∷ 0x85 ∷ 0x80 ∷ [])) (one_more 17 _ _ _ removes_too_much_first (one_more 16 _ _ _ removes_too_much_second (one_more 15 _ _ _ removes_too_much_third (last_stop 14 _ _ _ removes_too_much_fourth))))
+removes_too_much = ap (answer (0xc0 ∷ 0x8a ∷ 0x80 ∷ 0x47 ∷ 0x45 ∷ 0x48 ∷ 0xb6 ∷ 0x80 ∷ 0x82 ∷ 0x4d ∷ 0xb6 ∷ 0x80 ∷ 0xfd ∷ 0x45 ∷ 0xd3 ∷ 0x80 ∷ 0x85 ∷ 0x80 ∷ [])) (one_more 18 _ _ _ removes_too_much_first (one_more 17 _ _ _ removes_too_much_second (one_more 16 _ _ _ removes_too_much_third (last_stop 15 _ _ _ removes_too_much_fourth))))
 
-removes_nothing_in_front_first : message_at worked_set finite.empty (0xc0 ∷ 0x8a ∷ 0x80 ∷ 0x47 ∷ 0x45 ∷ 0x48 ∷ 0xb6 ∷ 0x80 ∷ 0x82 ∷ 0x4d ∷ 0xb6 ∷ 0x80 ∷ 0xfd ∷ 0x45 ∷ 0xd3 ∷ 0x80 ∷ 0xff ∷ 0x80 ∷ []) ≡ Ok (message 10 (text (codes "GEH6") ∷ []), geh6, 0x80 ∷ 0x82 ∷ 0x4d ∷ 0xb6 ∷ 0x80 ∷ 0xfd ∷ 0x45 ∷ 0xd3 ∷ 0x80 ∷ 0xff ∷ 0x80 ∷ [])
+removes_nothing_in_front_first : message_at Usual worked_set finite.empty (0xc0 ∷ 0x8a ∷ 0x80 ∷ 0x47 ∷ 0x45 ∷ 0x48 ∷ 0xb6 ∷ 0x80 ∷ 0x82 ∷ 0x4d ∷ 0xb6 ∷ 0x80 ∷ 0xfd ∷ 0x45 ∷ 0xd3 ∷ 0x80 ∷ 0xff ∷ 0x80 ∷ []) ≡ Ok (message 10 (text (codes "GEH6") ∷ []), geh6, 0x80 ∷ 0x82 ∷ 0x4d ∷ 0xb6 ∷ 0x80 ∷ 0xfd ∷ 0x45 ∷ 0xd3 ∷ 0x80 ∷ 0xff ∷ 0x80 ∷ [])
 unfolding reading
 removes_nothing_in_front_first = rw among_1 refl
 
-removes_nothing_in_front_second : message_at worked_set geh6 (0x80 ∷ 0x82 ∷ 0x4d ∷ 0xb6 ∷ 0x80 ∷ 0xfd ∷ 0x45 ∷ 0xd3 ∷ 0x80 ∷ 0xff ∷ 0x80 ∷ []) ≡ Ok (message 10 (text (codes "GEM6") ∷ []), gem6, 0x80 ∷ 0xfd ∷ 0x45 ∷ 0xd3 ∷ 0x80 ∷ 0xff ∷ 0x80 ∷ [])
+removes_nothing_in_front_second : message_at Usual worked_set geh6 (0x80 ∷ 0x82 ∷ 0x4d ∷ 0xb6 ∷ 0x80 ∷ 0xfd ∷ 0x45 ∷ 0xd3 ∷ 0x80 ∷ 0xff ∷ 0x80 ∷ []) ≡ Ok (message 10 (text (codes "GEM6") ∷ []), gem6, 0x80 ∷ 0xfd ∷ 0x45 ∷ 0xd3 ∷ 0x80 ∷ 0xff ∷ 0x80 ∷ [])
 unfolding reading
 removes_nothing_in_front_second = rw (among_2, among_3) refl
 
-removes_nothing_in_front_third : message_at worked_set gem6 (0x80 ∷ 0xfd ∷ 0x45 ∷ 0xd3 ∷ 0x80 ∷ 0xff ∷ 0x80 ∷ []) ≡ Ok (message 10 (text (codes "ESM6") ∷ []), esm6, 0x80 ∷ 0xff ∷ 0x80 ∷ [])
+removes_nothing_in_front_third : message_at Usual worked_set gem6 (0x80 ∷ 0xfd ∷ 0x45 ∷ 0xd3 ∷ 0x80 ∷ 0xff ∷ 0x80 ∷ []) ≡ Ok (message 10 (text (codes "ESM6") ∷ []), esm6, 0x80 ∷ 0xff ∷ 0x80 ∷ [])
 unfolding reading
 removes_nothing_in_front_third = rw (among_4, among_5) refl
 
 abbrev esm6_again : Dictionary
 esm6_again = puts esm6 ((identifier_key, Some (U32 10)) ∷ (named (codes "S"), Some (Ascii (codes "ESM6"))) ∷ [])
 
-removes_nothing_in_front_fourth : message_at worked_set esm6 (0x80 ∷ 0xff ∷ 0x80 ∷ []) ≡ Ok (message 10 (text (codes "ESM6") ∷ []), esm6_again, [])
+removes_nothing_in_front_fourth : message_at Usual worked_set esm6 (0x80 ∷ 0xff ∷ 0x80 ∷ []) ≡ Ok (message 10 (text (codes "ESM6") ∷ []), esm6_again, [])
 unfolding reading
 removes_nothing_in_front_fourth = rw (among_6, among_7) refl
 
 -- behind them 80 FF 80: S is "ESM6" again
 pub removes_nothing_in_front : read (0xc0 ∷ 0x8a ∷ 0x80 ∷ 0x47 ∷ 0x45 ∷ 0x48 ∷ 0xb6 ∷ 0x80 ∷ 0x82 ∷ 0x4d ∷ 0xb6 ∷ 0x80 ∷ 0xfd ∷ 0x45 ∷ 0xd3 ∷ 0x80 ∷ 0xff ∷ 0x80 ∷ []) ≡ (message 10 (text (codes "GEH6") ∷ []) ∷ message 10 (text (codes "GEM6") ∷ []) ∷ message 10 (text (codes "ESM6") ∷ []) ∷ message 10 (text (codes "ESM6") ∷ []) ∷ [], None)
-removes_nothing_in_front = ap (answer (0xc0 ∷ 0x8a ∷ 0x80 ∷ 0x47 ∷ 0x45 ∷ 0x48 ∷ 0xb6 ∷ 0x80 ∷ 0x82 ∷ 0x4d ∷ 0xb6 ∷ 0x80 ∷ 0xfd ∷ 0x45 ∷ 0xd3 ∷ 0x80 ∷ 0xff ∷ 0x80 ∷ [])) (one_more 17 _ _ _ removes_nothing_in_front_first (one_more 16 _ _ _ removes_nothing_in_front_second (one_more 15 _ _ _ removes_nothing_in_front_third (one_more 14 _ _ _ removes_nothing_in_front_fourth refl))))
+removes_nothing_in_front = ap (answer (0xc0 ∷ 0x8a ∷ 0x80 ∷ 0x47 ∷ 0x45 ∷ 0x48 ∷ 0xb6 ∷ 0x80 ∷ 0x82 ∷ 0x4d ∷ 0xb6 ∷ 0x80 ∷ 0xfd ∷ 0x45 ∷ 0xd3 ∷ 0x80 ∷ 0xff ∷ 0x80 ∷ [])) (one_more 18 _ _ _ removes_nothing_in_front_first (one_more 17 _ _ _ removes_nothing_in_front_second (one_more 16 _ _ _ removes_nothing_in_front_third (one_more 15 _ _ _ removes_nothing_in_front_fourth refl))))
 
 -- ---- Tail
 
@@ -318,48 +332,48 @@ tail_on_empty = rw (among_2, among_3) refl
 abbrev e_acute : Dictionary
 e_acute = puts finite.empty ((identifier_key, Some (U32 12)) ∷ (named (codes "S"), Some (Unicode (0xc3 ∷ 0xa9 ∷ []))) ∷ [])
 
-tail_in_a_character_first : message_at worked_set finite.empty (0xe0 ∷ 0x8c ∷ 0x82 ∷ 0xc3 ∷ 0xa9 ∷ 0xa0 ∷ 0x81 ∷ 0xa8 ∷ 0xa0 ∷ 0x81 ∷ 0x41 ∷ []) ≡ Ok (message 12 (unicode (0xc3 ∷ 0xa9 ∷ []) ∷ []), e_acute, 0xa0 ∷ 0x81 ∷ 0xa8 ∷ 0xa0 ∷ 0x81 ∷ 0x41 ∷ [])
+tail_in_a_character_first : message_at Usual worked_set finite.empty (0xe0 ∷ 0x8c ∷ 0x82 ∷ 0xc3 ∷ 0xa9 ∷ 0xa0 ∷ 0x81 ∷ 0xa8 ∷ 0xa0 ∷ 0x81 ∷ 0x41 ∷ []) ≡ Ok (message 12 (unicode (0xc3 ∷ 0xa9 ∷ []) ∷ []), e_acute, 0xa0 ∷ 0x81 ∷ 0xa8 ∷ 0xa0 ∷ 0x81 ∷ 0x41 ∷ [])
 unfolding reading
 tail_in_a_character_first = rw among_1 refl
 
 abbrev e_grave : Dictionary
 e_grave = puts e_acute ((identifier_key, Some (U32 12)) ∷ (named (codes "S"), Some (Unicode (0xc3 ∷ 0xa8 ∷ []))) ∷ [])
 
-tail_in_a_character_second : message_at worked_set e_acute (0xa0 ∷ 0x81 ∷ 0xa8 ∷ 0xa0 ∷ 0x81 ∷ 0x41 ∷ []) ≡ Ok (message 12 (unicode (0xc3 ∷ 0xa8 ∷ []) ∷ []), e_grave, 0xa0 ∷ 0x81 ∷ 0x41 ∷ [])
+tail_in_a_character_second : message_at Usual worked_set e_acute (0xa0 ∷ 0x81 ∷ 0xa8 ∷ 0xa0 ∷ 0x81 ∷ 0x41 ∷ []) ≡ Ok (message 12 (unicode (0xc3 ∷ 0xa8 ∷ []) ∷ []), e_grave, 0xa0 ∷ 0x81 ∷ 0x41 ∷ [])
 unfolding reading
 tail_in_a_character_second = rw (among_2, among_3) refl
 
-tail_in_a_character_third : message_at worked_set e_grave (0xa0 ∷ 0x81 ∷ 0x41 ∷ []) ≡ Err (record { template = 12; stop = record { cause = R2; instruction = 1; left = 2 } })
+tail_in_a_character_third : message_at Usual worked_set e_grave (0xa0 ∷ 0x81 ∷ 0x41 ∷ []) ≡ Err (record { template = 12; stop = record { cause = R2; instruction = 1; left = 2 } })
 unfolding reading
 tail_in_a_character_third = rw (among_4, among_5) refl
 
 -- S is C3 A9, then C3 A8, and then C3 41, which is not UTF-8
 pub tail_in_a_character : read (0xe0 ∷ 0x8c ∷ 0x82 ∷ 0xc3 ∷ 0xa9 ∷ 0xa0 ∷ 0x81 ∷ 0xa8 ∷ 0xa0 ∷ 0x81 ∷ 0x41 ∷ []) ≡ (message 12 (unicode (0xc3 ∷ 0xa9 ∷ []) ∷ []) ∷ message 12 (unicode (0xc3 ∷ 0xa8 ∷ []) ∷ []) ∷ [], refused R2 3 9 12 1)
-tail_in_a_character = ap (answer (0xe0 ∷ 0x8c ∷ 0x82 ∷ 0xc3 ∷ 0xa9 ∷ 0xa0 ∷ 0x81 ∷ 0xa8 ∷ 0xa0 ∷ 0x81 ∷ 0x41 ∷ [])) (one_more 10 _ _ _ tail_in_a_character_first (one_more 9 _ _ _ tail_in_a_character_second (last_stop 8 _ _ _ tail_in_a_character_third)))
+tail_in_a_character = ap (answer (0xe0 ∷ 0x8c ∷ 0x82 ∷ 0xc3 ∷ 0xa9 ∷ 0xa0 ∷ 0x81 ∷ 0xa8 ∷ 0xa0 ∷ 0x81 ∷ 0x41 ∷ [])) (one_more 11 _ _ _ tail_in_a_character_first (one_more 10 _ _ _ tail_in_a_character_second (last_stop 9 _ _ _ tail_in_a_character_third)))
 
 -- ---- Increment past the maximum, and a delta past it
 
 abbrev greatest : Dictionary
 greatest = puts finite.empty ((identifier_key, Some (U32 2)) ∷ (named (codes "A"), Some (U32 4294967295)) ∷ (named (codes "B"), Some (U32 4294967295)) ∷ [])
 
-wraps_first : message_at worked_set finite.empty (0xe0 ∷ 0x82 ∷ 0x0f ∷ 0x7f ∷ 0x7f ∷ 0x7f ∷ 0xff ∷ 0x0f ∷ 0x7f ∷ 0x7f ∷ 0x7f ∷ 0xff ∷ 0x80 ∷ 0x80 ∷ 0x80 ∷ 0x81 ∷ []) ≡ Ok (message 2 (u32 4294967295 ∷ u32 4294967295 ∷ []), greatest, 0x80 ∷ 0x80 ∷ 0x80 ∷ 0x81 ∷ [])
+wraps_first : message_at Usual worked_set finite.empty (0xe0 ∷ 0x82 ∷ 0x0f ∷ 0x7f ∷ 0x7f ∷ 0x7f ∷ 0xff ∷ 0x0f ∷ 0x7f ∷ 0x7f ∷ 0x7f ∷ 0xff ∷ 0x80 ∷ 0x80 ∷ 0x80 ∷ 0x81 ∷ []) ≡ Ok (message 2 (u32 4294967295 ∷ u32 4294967295 ∷ []), greatest, 0x80 ∷ 0x80 ∷ 0x80 ∷ 0x81 ∷ [])
 unfolding reading
 wraps_first = rw among_2 refl
 
 abbrev wrapped : Dictionary
 wrapped = puts greatest ((identifier_key, Some (U32 2)) ∷ (named (codes "A"), Some (U32 0)) ∷ (named (codes "B"), Some (U32 4294967295)) ∷ [])
 
-wraps_second : message_at worked_set greatest (0x80 ∷ 0x80 ∷ 0x80 ∷ 0x81 ∷ []) ≡ Ok (message 2 (u32 0 ∷ u32 4294967295 ∷ []), wrapped, 0x80 ∷ 0x81 ∷ [])
+wraps_second : message_at Usual worked_set greatest (0x80 ∷ 0x80 ∷ 0x80 ∷ 0x81 ∷ []) ≡ Ok (message 2 (u32 0 ∷ u32 4294967295 ∷ []), wrapped, 0x80 ∷ 0x81 ∷ [])
 unfolding reading
 wraps_second = rw (among_3, among_4, among_5) refl
 
-wraps_third : message_at worked_set wrapped (0x80 ∷ 0x81 ∷ []) ≡ Err (record { template = 2; stop = record { cause = D2; instruction = 2; left = 1 } })
+wraps_third : message_at Usual worked_set wrapped (0x80 ∷ 0x81 ∷ []) ≡ Err (record { template = 2; stop = record { cause = D2; instruction = 2; left = 1 } })
 unfolding reading
 wraps_third = rw (among_6, among_7, among_8) refl
 
 -- A=4294967295 B=4294967295; A=0 B=4294967295; and B one more
 pub wraps : read (0xe0 ∷ 0x82 ∷ 0x0f ∷ 0x7f ∷ 0x7f ∷ 0x7f ∷ 0xff ∷ 0x0f ∷ 0x7f ∷ 0x7f ∷ 0x7f ∷ 0xff ∷ 0x80 ∷ 0x80 ∷ 0x80 ∷ 0x81 ∷ []) ≡ (message 2 (u32 4294967295 ∷ u32 4294967295 ∷ []) ∷ message 2 (u32 0 ∷ u32 4294967295 ∷ []) ∷ [], refused D2 3 15 2 2)
-wraps = ap (answer (0xe0 ∷ 0x82 ∷ 0x0f ∷ 0x7f ∷ 0x7f ∷ 0x7f ∷ 0xff ∷ 0x0f ∷ 0x7f ∷ 0x7f ∷ 0x7f ∷ 0xff ∷ 0x80 ∷ 0x80 ∷ 0x80 ∷ 0x81 ∷ [])) (one_more 15 _ _ _ wraps_first (one_more 14 _ _ _ wraps_second (last_stop 13 _ _ _ wraps_third)))
+wraps = ap (answer (0xe0 ∷ 0x82 ∷ 0x0f ∷ 0x7f ∷ 0x7f ∷ 0x7f ∷ 0xff ∷ 0x0f ∷ 0x7f ∷ 0x7f ∷ 0x7f ∷ 0xff ∷ 0x80 ∷ 0x80 ∷ 0x80 ∷ 0x81 ∷ [])) (one_more 16 _ _ _ wraps_first (one_more 15 _ _ _ wraps_second (last_stop 14 _ _ _ wraps_third)))
 
 -- ---- Decimals in parts
 
@@ -372,29 +386,29 @@ flagged = puts finite.empty ((identifier_key, Some (U32 3)) ∷ (named (codes "F
 abbrev priced : Dictionary
 priced = puts flagged ((identifier_key, Some (U32 3)) ∷ (parted (codes "Px") Mantissa, Some (I64 (pos 942755))) ∷ (named (codes "Flag"), Some (U32 5)) ∷ [])
 
-mantissa_takes_a_bit_first : message_at worked_set finite.empty (0xf0 ∷ 0x83 ∷ 0x80 ∷ 0x85 ∷ 0x90 ∷ 0x39 ∷ 0x45 ∷ 0xa3 ∷ []) ≡ Ok (message 3 (absent ∷ u32 5 ∷ []), flagged, 0x90 ∷ 0x39 ∷ 0x45 ∷ 0xa3 ∷ [])
+mantissa_takes_a_bit_first : message_at Usual worked_set finite.empty (0xf0 ∷ 0x83 ∷ 0x80 ∷ 0x85 ∷ 0x90 ∷ 0x39 ∷ 0x45 ∷ 0xa3 ∷ []) ≡ Ok (message 3 (absent ∷ u32 5 ∷ []), flagged, 0x90 ∷ 0x39 ∷ 0x45 ∷ 0xa3 ∷ [])
 unfolding reading
 mantissa_takes_a_bit_first = rw among_1 refl
 
-mantissa_takes_a_bit_second : message_at worked_set flagged (0x90 ∷ 0x39 ∷ 0x45 ∷ 0xa3 ∷ []) ≡ Ok (message 3 (decimal (pos 2) (pos 942755) ∷ u32 5 ∷ []), priced, [])
+mantissa_takes_a_bit_second : message_at Usual worked_set flagged (0x90 ∷ 0x39 ∷ 0x45 ∷ 0xa3 ∷ []) ≡ Ok (message 3 (decimal (pos 2) (pos 942755) ∷ u32 5 ∷ []), priced, [])
 unfolding reading
 mantissa_takes_a_bit_second = rw (among_2, among_3, among_4) refl
 
 -- The absent exponent leaves the mantissa's bit to Flag: Px=- Flag=5, and then Px=942755e2 Flag=5
 pub mantissa_takes_a_bit : read (0xf0 ∷ 0x83 ∷ 0x80 ∷ 0x85 ∷ 0x90 ∷ 0x39 ∷ 0x45 ∷ 0xa3 ∷ []) ≡ (message 3 (absent ∷ u32 5 ∷ []) ∷ message 3 (decimal (pos 2) (pos 942755) ∷ u32 5 ∷ []) ∷ [], None)
-mantissa_takes_a_bit = ap (answer (0xf0 ∷ 0x83 ∷ 0x80 ∷ 0x85 ∷ 0x90 ∷ 0x39 ∷ 0x45 ∷ 0xa3 ∷ [])) (one_more 7 _ _ _ mantissa_takes_a_bit_first (one_more 6 _ _ _ mantissa_takes_a_bit_second refl))
+mantissa_takes_a_bit = ap (answer (0xf0 ∷ 0x83 ∷ 0x80 ∷ 0x85 ∷ 0x90 ∷ 0x39 ∷ 0x45 ∷ 0xa3 ∷ [])) (one_more 8 _ _ _ mantissa_takes_a_bit_first (one_more 7 _ _ _ mantissa_takes_a_bit_second refl))
 
-exponent_spelled_out_first : message_at worked_set finite.empty (0xf0 ∷ 0x83 ∷ 0x80 ∷ 0x85 ∷ 0xb0 ∷ 0x83 ∷ 0x39 ∷ 0x45 ∷ 0xa3 ∷ []) ≡ Ok (message 3 (absent ∷ u32 5 ∷ []), flagged, 0xb0 ∷ 0x83 ∷ 0x39 ∷ 0x45 ∷ 0xa3 ∷ [])
+exponent_spelled_out_first : message_at Usual worked_set finite.empty (0xf0 ∷ 0x83 ∷ 0x80 ∷ 0x85 ∷ 0xb0 ∷ 0x83 ∷ 0x39 ∷ 0x45 ∷ 0xa3 ∷ []) ≡ Ok (message 3 (absent ∷ u32 5 ∷ []), flagged, 0xb0 ∷ 0x83 ∷ 0x39 ∷ 0x45 ∷ 0xa3 ∷ [])
 unfolding reading
 exponent_spelled_out_first = rw among_1 refl
 
-exponent_spelled_out_second : message_at worked_set flagged (0xb0 ∷ 0x83 ∷ 0x39 ∷ 0x45 ∷ 0xa3 ∷ []) ≡ Ok (message 3 (decimal (pos 2) (pos 942755) ∷ u32 5 ∷ []), priced, [])
+exponent_spelled_out_second : message_at Usual worked_set flagged (0xb0 ∷ 0x83 ∷ 0x39 ∷ 0x45 ∷ 0xa3 ∷ []) ≡ Ok (message 3 (decimal (pos 2) (pos 942755) ∷ u32 5 ∷ []), priced, [])
 unfolding reading
 exponent_spelled_out_second = rw (among_2, among_3, among_4) refl
 
 -- the same with B0 and 83 for an exponent of 2
 pub exponent_spelled_out : read (0xf0 ∷ 0x83 ∷ 0x80 ∷ 0x85 ∷ 0xb0 ∷ 0x83 ∷ 0x39 ∷ 0x45 ∷ 0xa3 ∷ []) ≡ (message 3 (absent ∷ u32 5 ∷ []) ∷ message 3 (decimal (pos 2) (pos 942755) ∷ u32 5 ∷ []) ∷ [], None)
-exponent_spelled_out = ap (answer (0xf0 ∷ 0x83 ∷ 0x80 ∷ 0x85 ∷ 0xb0 ∷ 0x83 ∷ 0x39 ∷ 0x45 ∷ 0xa3 ∷ [])) (one_more 8 _ _ _ exponent_spelled_out_first (one_more 7 _ _ _ exponent_spelled_out_second refl))
+exponent_spelled_out = ap (answer (0xf0 ∷ 0x83 ∷ 0x80 ∷ 0x85 ∷ 0xb0 ∷ 0x83 ∷ 0x39 ∷ 0x45 ∷ 0xa3 ∷ [])) (one_more 9 _ _ _ exponent_spelled_out_first (one_more 8 _ _ _ exponent_spelled_out_second refl))
 
 -- an exponent of 64 is refused before a mantissa has come
 pub exponent_first : read (0xf0 ∷ 0x81 ∷ 0x81 ∷ 0x41 ∷ 0xc2 ∷ 0x00 ∷ 0xc0 ∷ []) ≡ ([], refused R1 1 5 1 3)
@@ -407,17 +421,17 @@ fixed_once = puts finite.empty ((identifier_key, Some (U32 15)) ∷ (parted (cod
 abbrev fixed_twice : Dictionary
 fixed_twice = puts fixed_once ((identifier_key, Some (U32 15)) ∷ (parted (codes "Px") Mantissa, Some (I64 (pos 101))) ∷ (named (codes "Raw"), Some (Bytes (0x0a ∷ 0xff ∷ []))) ∷ [])
 
-constant_exponent_first : message_at worked_set finite.empty (0xe0 ∷ 0x8f ∷ 0x00 ∷ 0xe4 ∷ 0x83 ∷ 0x0a ∷ 0xff ∷ 0x80 ∷ 0x81 ∷ []) ≡ Ok (message 15 (decimal (negsuc 1) (pos 100) ∷ vector (0x0a ∷ 0xff ∷ []) ∷ []), fixed_once, 0x80 ∷ 0x81 ∷ [])
+constant_exponent_first : message_at Usual worked_set finite.empty (0xe0 ∷ 0x8f ∷ 0x00 ∷ 0xe4 ∷ 0x83 ∷ 0x0a ∷ 0xff ∷ 0x80 ∷ 0x81 ∷ []) ≡ Ok (message 15 (decimal (negsuc 1) (pos 100) ∷ vector (0x0a ∷ 0xff ∷ []) ∷ []), fixed_once, 0x80 ∷ 0x81 ∷ [])
 unfolding reading
 constant_exponent_first = rw (among_1, among_1) refl
 
-constant_exponent_second : message_at worked_set fixed_once (0x80 ∷ 0x81 ∷ []) ≡ Ok (message 15 (decimal (negsuc 1) (pos 101) ∷ vector (0x0a ∷ 0xff ∷ []) ∷ []), fixed_twice, [])
+constant_exponent_second : message_at Usual worked_set fixed_once (0x80 ∷ 0x81 ∷ []) ≡ Ok (message 15 (decimal (negsuc 1) (pos 101) ∷ vector (0x0a ∷ 0xff ∷ []) ∷ []), fixed_twice, [])
 unfolding reading
 constant_exponent_second = rw (among_3, among_4, among_4, among_5) refl
 
 -- Px=100e-2 Raw=x0aff, and Px=101e-2 Raw=x0aff
 pub constant_exponent : read (0xe0 ∷ 0x8f ∷ 0x00 ∷ 0xe4 ∷ 0x83 ∷ 0x0a ∷ 0xff ∷ 0x80 ∷ 0x81 ∷ []) ≡ (message 15 (decimal (negsuc 1) (pos 100) ∷ vector (0x0a ∷ 0xff ∷ []) ∷ []) ∷ message 15 (decimal (negsuc 1) (pos 101) ∷ vector (0x0a ∷ 0xff ∷ []) ∷ []) ∷ [], None)
-constant_exponent = ap (answer (0xe0 ∷ 0x8f ∷ 0x00 ∷ 0xe4 ∷ 0x83 ∷ 0x0a ∷ 0xff ∷ 0x80 ∷ 0x81 ∷ [])) (one_more 8 _ _ _ constant_exponent_first (one_more 7 _ _ _ constant_exponent_second refl))
+constant_exponent = ap (answer (0xe0 ∷ 0x8f ∷ 0x00 ∷ 0xe4 ∷ 0x83 ∷ 0x0a ∷ 0xff ∷ 0x80 ∷ 0x81 ∷ [])) (one_more 9 _ _ _ constant_exponent_first (one_more 8 _ _ _ constant_exponent_second refl))
 
 -- ---- Groups and sequences
 
@@ -439,44 +453,44 @@ too_many_elements = refl
 abbrev grouped : Dictionary
 grouped = puts finite.empty ((identifier_key, Some (U32 11)) ∷ (named (codes "A"), Some (U32 5)) ∷ (named (codes "B"), Some (U32 6)) ∷ [])
 
-groups_first : message_at worked_set finite.empty (0xf0 ∷ 0x8b ∷ 0xc0 ∷ 0x85 ∷ 0x86 ∷ 0x80 ∷ 0xa0 ∷ 0x80 ∷ []) ≡ Ok (message 11 (group (u32 5 ∷ []) ∷ u32 6 ∷ []), grouped, 0x80 ∷ 0xa0 ∷ 0x80 ∷ [])
+groups_first : message_at Usual worked_set finite.empty (0xf0 ∷ 0x8b ∷ 0xc0 ∷ 0x85 ∷ 0x86 ∷ 0x80 ∷ 0xa0 ∷ 0x80 ∷ []) ≡ Ok (message 11 (group (u32 5 ∷ []) ∷ u32 6 ∷ []), grouped, 0x80 ∷ 0xa0 ∷ 0x80 ∷ [])
 unfolding reading
 groups_first = refl
 
 abbrev ungrouped : Dictionary
 ungrouped = puts grouped ((identifier_key, Some (U32 11)) ∷ (named (codes "B"), Some (U32 6)) ∷ [])
 
-groups_second : message_at worked_set grouped (0x80 ∷ 0xa0 ∷ 0x80 ∷ []) ≡ Ok (message 11 (absent ∷ u32 6 ∷ []), ungrouped, 0xa0 ∷ 0x80 ∷ [])
+groups_second : message_at Usual worked_set grouped (0x80 ∷ 0xa0 ∷ 0x80 ∷ []) ≡ Ok (message 11 (absent ∷ u32 6 ∷ []), ungrouped, 0xa0 ∷ 0x80 ∷ [])
 unfolding reading
 groups_second = rw (among_3, among_4) refl
 
 abbrev grouped_again : Dictionary
 grouped_again = puts ungrouped ((identifier_key, Some (U32 11)) ∷ (named (codes "A"), Some (U32 5)) ∷ (named (codes "B"), Some (U32 6)) ∷ [])
 
-groups_third : message_at worked_set ungrouped (0xa0 ∷ 0x80 ∷ []) ≡ Ok (message 11 (group (u32 5 ∷ []) ∷ u32 6 ∷ []), grouped_again, [])
+groups_third : message_at Usual worked_set ungrouped (0xa0 ∷ 0x80 ∷ []) ≡ Ok (message 11 (group (u32 5 ∷ []) ∷ u32 6 ∷ []), grouped_again, [])
 unfolding reading
 groups_third = rw (among_5, among_6, among_7) refl
 
 -- Hd={A=5} B=6, Hd=- B=6, and Hd={A=5} B=6
 pub groups_there : read (0xf0 ∷ 0x8b ∷ 0xc0 ∷ 0x85 ∷ 0x86 ∷ 0x80 ∷ 0xa0 ∷ 0x80 ∷ []) ≡ (message 11 (group (u32 5 ∷ []) ∷ u32 6 ∷ []) ∷ message 11 (absent ∷ u32 6 ∷ []) ∷ message 11 (group (u32 5 ∷ []) ∷ u32 6 ∷ []) ∷ [], None)
-groups_there = ap (answer (0xf0 ∷ 0x8b ∷ 0xc0 ∷ 0x85 ∷ 0x86 ∷ 0x80 ∷ 0xa0 ∷ 0x80 ∷ [])) (one_more 7 _ _ _ groups_first (one_more 6 _ _ _ groups_second (one_more 5 _ _ _ groups_third refl)))
+groups_there = ap (answer (0xf0 ∷ 0x8b ∷ 0xc0 ∷ 0x85 ∷ 0x86 ∷ 0x80 ∷ 0xa0 ∷ 0x80 ∷ [])) (one_more 8 _ _ _ groups_first (one_more 7 _ _ _ groups_second (one_more 6 _ _ _ groups_third refl)))
 
 -- ---- One key for two fields
 
 abbrev clashed : Dictionary
 clashed = puts finite.empty ((identifier_key, Some (U32 7)) ∷ (named (codes "K"), Some (U32 5)) ∷ (named (codes "K"), Some (Ascii (codes "A"))) ∷ [])
 
-another_type_first : message_at worked_set finite.empty (0xf0 ∷ 0x87 ∷ 0x85 ∷ 0xc1 ∷ 0x80 ∷ []) ≡ Ok (message 7 (u32 5 ∷ text (codes "A") ∷ []), clashed, 0x80 ∷ [])
+another_type_first : message_at Usual worked_set finite.empty (0xf0 ∷ 0x87 ∷ 0x85 ∷ 0xc1 ∷ 0x80 ∷ []) ≡ Ok (message 7 (u32 5 ∷ text (codes "A") ∷ []), clashed, 0x80 ∷ [])
 unfolding reading
 another_type_first = refl
 
-another_type_second : message_at worked_set clashed (0x80 ∷ []) ≡ Err (record { template = 7; stop = record { cause = D4; instruction = 1; left = 0 } })
+another_type_second : message_at Usual worked_set clashed (0x80 ∷ []) ≡ Err (record { template = 7; stop = record { cause = D4; instruction = 1; left = 0 } })
 unfolding reading
 another_type_second = rw (among_3, among_4) refl
 
 -- A=5 B="A", and then A finds the string
 pub another_type : read (0xf0 ∷ 0x87 ∷ 0x85 ∷ 0xc1 ∷ 0x80 ∷ []) ≡ (message 7 (u32 5 ∷ text (codes "A") ∷ []) ∷ [], refused D4 2 5 7 1)
-another_type = ap (answer (0xf0 ∷ 0x87 ∷ 0x85 ∷ 0xc1 ∷ 0x80 ∷ [])) (one_more 4 _ _ _ another_type_first (last_stop 3 _ _ _ another_type_second))
+another_type = ap (answer (0xf0 ∷ 0x87 ∷ 0x85 ∷ 0xc1 ∷ 0x80 ∷ [])) (one_more 5 _ _ _ another_type_first (last_stop 4 _ _ _ another_type_second))
 
 -- A=5 B="A", and A=6 B="A", both spelled out
 pub another_type_unused : read (0xf0 ∷ 0x87 ∷ 0x85 ∷ 0xc1 ∷ 0xb0 ∷ 0x86 ∷ 0xc1 ∷ []) ≡ (message 7 (u32 5 ∷ text (codes "A") ∷ []) ∷ message 7 (u32 6 ∷ text (codes "A") ∷ []) ∷ [], None)
@@ -498,31 +512,31 @@ copied = refl
 abbrev fourteen : Dictionary
 fourteen = puts finite.empty ((identifier_key, Some (U32 14)) ∷ [])
 
-constants_first : message_at worked_set finite.empty (0xe0 ∷ 0x8e ∷ 0x80 ∷ 0x90 ∷ 0x83 ∷ 0x90 ∷ 0x10 ∷ 0x00 ∷ 0x00 ∷ 0x00 ∷ 0x80 ∷ []) ≡ Ok (message 14 (u32 7 ∷ u32 9 ∷ u32 3 ∷ []), fourteen, 0x80 ∷ 0x90 ∷ 0x83 ∷ 0x90 ∷ 0x10 ∷ 0x00 ∷ 0x00 ∷ 0x00 ∷ 0x80 ∷ [])
+constants_first : message_at Usual worked_set finite.empty (0xe0 ∷ 0x8e ∷ 0x80 ∷ 0x90 ∷ 0x83 ∷ 0x90 ∷ 0x10 ∷ 0x00 ∷ 0x00 ∷ 0x00 ∷ 0x80 ∷ []) ≡ Ok (message 14 (u32 7 ∷ u32 9 ∷ u32 3 ∷ []), fourteen, 0x80 ∷ 0x90 ∷ 0x83 ∷ 0x90 ∷ 0x10 ∷ 0x00 ∷ 0x00 ∷ 0x00 ∷ 0x80 ∷ [])
 unfolding reading
 constants_first = rw (among_1, among_1, among_1) refl
 
 abbrev fourteen_again : Dictionary
 fourteen_again = puts fourteen ((identifier_key, Some (U32 14)) ∷ [])
 
-constants_second : message_at worked_set fourteen (0x80 ∷ 0x90 ∷ 0x83 ∷ 0x90 ∷ 0x10 ∷ 0x00 ∷ 0x00 ∷ 0x00 ∷ 0x80 ∷ []) ≡ Ok (message 14 (u32 7 ∷ absent ∷ u32 3 ∷ []), fourteen_again, 0x90 ∷ 0x83 ∷ 0x90 ∷ 0x10 ∷ 0x00 ∷ 0x00 ∷ 0x00 ∷ 0x80 ∷ [])
+constants_second : message_at Usual worked_set fourteen (0x80 ∷ 0x90 ∷ 0x83 ∷ 0x90 ∷ 0x10 ∷ 0x00 ∷ 0x00 ∷ 0x00 ∷ 0x80 ∷ []) ≡ Ok (message 14 (u32 7 ∷ absent ∷ u32 3 ∷ []), fourteen_again, 0x90 ∷ 0x83 ∷ 0x90 ∷ 0x10 ∷ 0x00 ∷ 0x00 ∷ 0x00 ∷ 0x80 ∷ [])
 unfolding reading
 constants_second = rw (among_1, among_2, among_2, among_2) refl
 
 abbrev fourteen_thrice : Dictionary
 fourteen_thrice = puts fourteen_again ((identifier_key, Some (U32 14)) ∷ [])
 
-constants_third : message_at worked_set fourteen_again (0x90 ∷ 0x83 ∷ 0x90 ∷ 0x10 ∷ 0x00 ∷ 0x00 ∷ 0x00 ∷ 0x80 ∷ []) ≡ Ok (message 14 (u32 7 ∷ absent ∷ u32 3 ∷ []), fourteen_thrice, 0x90 ∷ 0x10 ∷ 0x00 ∷ 0x00 ∷ 0x00 ∷ 0x80 ∷ [])
+constants_third : message_at Usual worked_set fourteen_again (0x90 ∷ 0x83 ∷ 0x90 ∷ 0x10 ∷ 0x00 ∷ 0x00 ∷ 0x00 ∷ 0x80 ∷ []) ≡ Ok (message 14 (u32 7 ∷ absent ∷ u32 3 ∷ []), fourteen_thrice, 0x90 ∷ 0x10 ∷ 0x00 ∷ 0x00 ∷ 0x00 ∷ 0x80 ∷ [])
 unfolding reading
 constants_third = rw (among_2, among_3, among_3, among_3) refl
 
-constants_fourth : message_at worked_set fourteen_thrice (0x90 ∷ 0x10 ∷ 0x00 ∷ 0x00 ∷ 0x00 ∷ 0x80 ∷ []) ≡ Err (record { template = 14; stop = record { cause = D2; instruction = 3; left = 5 } })
+constants_fourth : message_at Usual worked_set fourteen_thrice (0x90 ∷ 0x10 ∷ 0x00 ∷ 0x00 ∷ 0x00 ∷ 0x80 ∷ []) ≡ Err (record { template = 14; stop = record { cause = D2; instruction = 3; left = 5 } })
 unfolding reading
 constants_fourth = rw among_3 refl
 
 -- K=7 O=9 D=3; twice K=7 O=- D=3; and D past its type
 pub constants : read (0xe0 ∷ 0x8e ∷ 0x80 ∷ 0x90 ∷ 0x83 ∷ 0x90 ∷ 0x10 ∷ 0x00 ∷ 0x00 ∷ 0x00 ∷ 0x80 ∷ []) ≡ (message 14 (u32 7 ∷ u32 9 ∷ u32 3 ∷ []) ∷ message 14 (u32 7 ∷ absent ∷ u32 3 ∷ []) ∷ message 14 (u32 7 ∷ absent ∷ u32 3 ∷ []) ∷ [], refused D2 4 6 14 3)
-constants = ap (answer (0xe0 ∷ 0x8e ∷ 0x80 ∷ 0x90 ∷ 0x83 ∷ 0x90 ∷ 0x10 ∷ 0x00 ∷ 0x00 ∷ 0x00 ∷ 0x80 ∷ [])) (one_more 10 _ _ _ constants_first (one_more 9 _ _ _ constants_second (one_more 8 _ _ _ constants_third (last_stop 7 _ _ _ constants_fourth))))
+constants = ap (answer (0xe0 ∷ 0x8e ∷ 0x80 ∷ 0x90 ∷ 0x83 ∷ 0x90 ∷ 0x10 ∷ 0x00 ∷ 0x00 ∷ 0x00 ∷ 0x80 ∷ [])) (one_more 11 _ _ _ constants_first (one_more 10 _ _ _ constants_second (one_more 9 _ _ _ constants_third (last_stop 8 _ _ _ constants_fourth))))
 
 -- ---- Entities that do not end
 
@@ -552,22 +566,22 @@ abbrev may_come : ℕ → List ℕ → Cursor
 may_come spare bytes = record { dictionary = finite.empty; bits = []; spare = spare; bytes = bytes }
 
 -- a sequence of three elements without fields is four nodes: 83
-four_nodes : body_at (resolved 6 bare).members (may_come 4 (0x83 ∷ [])) ≡ Ok (items_of (sequence ([] ∷ [] ∷ [] ∷ []) ∷ []), may_come 0 [])
+four_nodes : body_at Usual (resolved 6 bare).members (may_come 4 (0x83 ∷ [])) ≡ Ok (items_of (sequence ([] ∷ [] ∷ [] ∷ []) ∷ []), may_come 0 [])
 unfolding reading
 four_nodes = rw absent_there refl
 
 -- the fourth is refused where three may come, at the sequence's number
-three_may_come : body_at (resolved 6 bare).members (may_come 3 (0x83 ∷ [])) ≡ Err (record { cause = Limit; instruction = 1; left = 0 })
+three_may_come : body_at Usual (resolved 6 bare).members (may_come 3 (0x83 ∷ [])) ≡ Err (record { cause = Limit; instruction = 1; left = 0 })
 unfolding reading
 three_may_come = refl
 
 -- a node is counted before its bytes are looked at: 83 85, where an element's P would be the fourth
-counted_first : body_at (resolved 4 legs).members (may_come 2 (0x83 ∷ 0x85 ∷ [])) ≡ Err (record { cause = Limit; instruction = 2; left = 1 })
+counted_first : body_at Usual (resolved 4 legs).members (may_come 2 (0x83 ∷ 0x85 ∷ [])) ≡ Err (record { cause = Limit; instruction = 2; left = 1 })
 unfolding reading
 counted_first = refl
 
 -- and 83, where an element's P is not there: still the limit
-counted_before_the_end : body_at (resolved 4 legs).members (may_come 2 (0x83 ∷ [])) ≡ Err (record { cause = Limit; instruction = 2; left = 0 })
+counted_before_the_end : body_at Usual (resolved 4 legs).members (may_come 2 (0x83 ∷ [])) ≡ Err (record { cause = Limit; instruction = 2; left = 0 })
 unfolding reading
 counted_before_the_end = refl
 
@@ -619,33 +633,236 @@ abbrev under_bits : List Bool → ℕ → List ℕ → Cursor
 under_bits bits spare bytes = record { dictionary = finite.empty; bits = bits; spare = spare; bytes = bytes }
 
 -- C0 85 86 under 1 1: the group is a node, its A another
-group_counts : body_at (resolved 12 grp).members (under_bits (true ∷ true ∷ []) 1 (0xc0 ∷ 0x85 ∷ 0x86 ∷ [])) ≡ Err (record { cause = Limit; instruction = 2; left = 2 })
+group_counts : body_at Usual (resolved 12 grp).members (under_bits (true ∷ true ∷ []) 1 (0xc0 ∷ 0x85 ∷ 0x86 ∷ [])) ≡ Err (record { cause = Limit; instruction = 2; left = 2 })
 unfolding reading
 group_counts = refl
 
 -- and B the third
-third_of_two : body_at (resolved 12 grp).members (under_bits (true ∷ true ∷ []) 2 (0xc0 ∷ 0x85 ∷ 0x86 ∷ [])) ≡ Err (record { cause = Limit; instruction = 3; left = 1 })
+third_of_two : body_at Usual (resolved 12 grp).members (under_bits (true ∷ true ∷ []) 2 (0xc0 ∷ 0x85 ∷ 0x86 ∷ [])) ≡ Err (record { cause = Limit; instruction = 3; left = 1 })
 unfolding reading
 third_of_two = refl
 
 -- 86 under 0 1: an absent group is a node
-absent_group_counts : body_at (resolved 12 grp).members (under_bits (false ∷ true ∷ []) 1 (0x86 ∷ [])) ≡ Err (record { cause = Limit; instruction = 3; left = 1 })
+absent_group_counts : body_at Usual (resolved 12 grp).members (under_bits (false ∷ true ∷ []) 1 (0x86 ∷ [])) ≡ Err (record { cause = Limit; instruction = 3; left = 1 })
 unfolding reading
 absent_group_counts = refl
 
-no_node_for_a_group : body_at (resolved 12 grp).members (under_bits (false ∷ true ∷ []) 0 (0x86 ∷ [])) ≡ Err (record { cause = Limit; instruction = 1; left = 1 })
+no_node_for_a_group : body_at Usual (resolved 12 grp).members (under_bits (false ∷ true ∷ []) 0 (0x86 ∷ [])) ≡ Err (record { cause = Limit; instruction = 1; left = 1 })
 unfolding reading
 no_node_for_a_group = refl
 
 -- 39 45 A3 under 0 1: a decimal in parts is one node
-parts_count_once : body_at (resolved 3 opt).members (under_bits (false ∷ true ∷ []) 1 (0x39 ∷ 0x45 ∷ 0xa3 ∷ [])) ≡ Err (record { cause = Limit; instruction = 2; left = 0 })
+parts_count_once : body_at Usual (resolved 3 opt).members (under_bits (false ∷ true ∷ []) 1 (0x39 ∷ 0x45 ∷ 0xa3 ∷ [])) ≡ Err (record { cause = Limit; instruction = 2; left = 0 })
 unfolding reading
 parts_count_once = refl
 
-no_node_for_parts : body_at (resolved 3 opt).members (under_bits (false ∷ true ∷ []) 0 (0x39 ∷ 0x45 ∷ 0xa3 ∷ [])) ≡ Err (record { cause = Limit; instruction = 1; left = 3 })
+no_node_for_parts : body_at Usual (resolved 3 opt).members (under_bits (false ∷ true ∷ []) 0 (0x39 ∷ 0x45 ∷ 0xa3 ∷ [])) ≡ Err (record { cause = Limit; instruction = 1; left = 3 })
 unfolding reading
 no_node_for_parts = refl
 
 -- a message has at most so many nodes
 limit_of_nodes : node_limit ≡ 65536
 limit_of_nodes = refl
+
+-- ---- The strict level
+
+abbrev pub read_strictly : List ℕ → List Content × Option Fault
+read_strictly stream = answer stream (stream_at (plainly Strict) worked_set stream)
+
+-- F0 81 81 41 C2 FE 00 E4
+pub one_message_strictly : read_strictly (0xf0 ∷ 0x81 ∷ 0x81 ∷ 0x41 ∷ 0xc2 ∷ 0xfe ∷ 0x00 ∷ 0xe4 ∷ []) ≡ (quote 1 100 ∷ [], None)
+unfolding reading
+one_message_strictly = rw (among_3, among_4) refl
+
+-- F0 81 00 00 81 41 C2 FE 00 E4
+pub overlong_integer_strictly : read_strictly (0xf0 ∷ 0x81 ∷ 0x00 ∷ 0x00 ∷ 0x81 ∷ 0x41 ∷ 0xc2 ∷ 0xfe ∷ 0x00 ∷ 0xe4 ∷ []) ≡ ([], refused R6 1 2 1 1)
+unfolding reading
+overlong_integer_strictly = refl
+
+-- 70 00 80 81 81 41 C2 FE 00 E4
+pub overlong_map_strictly : read_strictly (0x70 ∷ 0x00 ∷ 0x80 ∷ 0x81 ∷ 0x81 ∷ 0x41 ∷ 0xc2 ∷ 0xfe ∷ 0x00 ∷ 0xe4 ∷ []) ≡ ([], refused R7 1 0 0 0)
+unfolding reading
+overlong_map_strictly = refl
+
+-- F1 81 81 41 C2 FE 00 E4
+pub unasked_bit_strictly : read_strictly (0xf1 ∷ 0x81 ∷ 0x81 ∷ 0x41 ∷ 0xc2 ∷ 0xfe ∷ 0x00 ∷ 0xe4 ∷ []) ≡ ([], refused R8 1 8 1 0)
+unfolding reading
+unasked_bit_strictly = rw (among_3, among_4) refl
+
+-- F0 81 81 00 C1 FE 00 E4
+pub overlong_text_strictly : read_strictly (0xf0 ∷ 0x81 ∷ 0x81 ∷ 0x00 ∷ 0xc1 ∷ 0xfe ∷ 0x00 ∷ 0xe4 ∷ []) ≡ ([], refused R9 1 3 1 2)
+unfolding reading
+overlong_text_strictly = refl
+
+-- F8 81 81 41 C2 FE 00 E4 00 80
+pub overlong_null_strictly : read_strictly (0xf8 ∷ 0x81 ∷ 0x81 ∷ 0x41 ∷ 0xc2 ∷ 0xfe ∷ 0x00 ∷ 0xe4 ∷ 0x00 ∷ 0x80 ∷ []) ≡ ([], refused R6 1 8 1 4)
+unfolding reading
+overlong_null_strictly = rw among_3 refl
+
+-- F0 81 81 41 C2 7F FE 00 E4
+pub overlong_delta_strictly : read_strictly (0xf0 ∷ 0x81 ∷ 0x81 ∷ 0x41 ∷ 0xc2 ∷ 0x7f ∷ 0xfe ∷ 0x00 ∷ 0xe4 ∷ []) ≡ ([], refused R6 1 5 1 3)
+unfolding reading
+overlong_delta_strictly = refl
+
+-- F8 83 80 85
+pub bit_of_no_mantissa_strictly : read_strictly (0xf8 ∷ 0x83 ∷ 0x80 ∷ 0x85 ∷ []) ≡ ([], refused R8 1 4 3 0)
+unfolding reading
+bit_of_no_mantissa_strictly = refl
+
+-- F8 83 83 39 45 A3 85
+pub bit_of_a_mantissa_strictly : read_strictly (0xf8 ∷ 0x83 ∷ 0x83 ∷ 0x39 ∷ 0x45 ∷ 0xa3 ∷ 0x85 ∷ []) ≡ (message 3 (decimal (pos 2) (pos 942755) ∷ u32 5 ∷ []) ∷ [], None)
+unfolding reading
+bit_of_a_mantissa_strictly = refl
+
+-- ---- Blocks: a size, and as many bytes
+
+abbrev pub read_blocks : List ℕ → List Content × Option Fault
+read_blocks stream = answer stream (stream_at (in_blocks Usual) worked_set stream)
+
+abbrev pub read_blocks_strictly : List ℕ → List Content × Option Fault
+read_blocks_strictly stream = answer stream (stream_at (in_blocks Strict) worked_set stream)
+
+-- a stream of one message more, and one that stops
+block_more : (n : ℕ) (s : Stand) (b : ℕ) (bytes : List ℕ) {rest : List ℕ} {t : Stand} {m : Content} {r : StreamReading}
+    → in_block_at Usual worked_set s (b ∷ bytes) ≡ Ok (m, t, rest) → messages_at (in_blocks Usual) n worked_set t rest ≡ r
+    → messages_at (in_blocks Usual) (suc n) worked_set s (b ∷ bytes) ≡ record { messages = m ∷ r.messages; fault = r.fault }
+block_more n s b bytes h t = rw (h, t) refl
+
+block_stop : (n : ℕ) (s : Stand) (b : ℕ) (bytes : List ℕ) {stop : MessageStop}
+    → in_block_at Usual worked_set s (b ∷ bytes) ≡ Err stop → messages_at (in_blocks Usual) (suc n) worked_set s (b ∷ bytes) ≡ record { messages = []; fault = Some stop }
+block_stop n s b bytes h = rw h refl
+
+-- nothing
+pub no_block : read_blocks ([]) ≡ ([], None)
+unfolding reading in_block_at
+no_block = refl
+
+-- 88 F0 81 81 41 C2 FE 00 E4
+pub one_block : read_blocks (0x88 ∷ 0xf0 ∷ 0x81 ∷ 0x81 ∷ 0x41 ∷ 0xc2 ∷ 0xfe ∷ 0x00 ∷ 0xe4 ∷ []) ≡ (quote 1 100 ∷ [], None)
+unfolding reading in_block_at
+one_block = rw (among_3, among_4) refl
+
+-- 00 88 F0 81 81 41 C2 FE 00 E4
+pub long_size : read_blocks (0x00 ∷ 0x88 ∷ 0xf0 ∷ 0x81 ∷ 0x81 ∷ 0x41 ∷ 0xc2 ∷ 0xfe ∷ 0x00 ∷ 0xe4 ∷ []) ≡ (quote 1 100 ∷ [], None)
+unfolding reading in_block_at
+long_size = rw (among_3, among_4) refl
+
+-- 00 88 F0 81 81 41 C2 FE 00 E4
+pub long_size_strictly : read_blocks_strictly (0x00 ∷ 0x88 ∷ 0xf0 ∷ 0x81 ∷ 0x81 ∷ 0x41 ∷ 0xc2 ∷ 0xfe ∷ 0x00 ∷ 0xe4 ∷ []) ≡ ([], refused R6 1 0 0 0)
+unfolding reading in_block_at
+long_size_strictly = refl
+
+-- 88 F0 81 81 41 C2 FE 00 E4
+pub one_block_strictly : read_blocks_strictly (0x88 ∷ 0xf0 ∷ 0x81 ∷ 0x81 ∷ 0x41 ∷ 0xc2 ∷ 0xfe ∷ 0x00 ∷ 0xe4 ∷ []) ≡ (quote 1 100 ∷ [], None)
+unfolding reading in_block_at
+one_block_strictly = rw (among_3, among_4) refl
+
+-- 80
+pub empty_block : read_blocks (0x80 ∷ []) ≡ ([], refused D12 1 0 0 0)
+unfolding reading in_block_at
+empty_block = refl
+
+-- 00 80
+pub long_zero : read_blocks (0x00 ∷ 0x80 ∷ []) ≡ ([], refused D12 1 0 0 0)
+unfolding reading in_block_at
+long_zero = refl
+
+-- 00 80
+pub long_zero_strictly : read_blocks_strictly (0x00 ∷ 0x80 ∷ []) ≡ ([], refused R6 1 0 0 0)
+unfolding reading in_block_at
+long_zero_strictly = refl
+
+-- 87 F0 81 81 41 C2 FE 00 E4
+pub block_too_short : read_blocks (0x87 ∷ 0xf0 ∷ 0x81 ∷ 0x81 ∷ 0x41 ∷ 0xc2 ∷ 0xfe ∷ 0x00 ∷ 0xe4 ∷ []) ≡ ([], refused BlockEnd 1 6 1 3)
+unfolding reading in_block_at
+block_too_short = rw among_3 refl
+
+-- 88 F0 81 81 41 C2 FE 00
+pub block_cut : read_blocks (0x88 ∷ 0xf0 ∷ 0x81 ∷ 0x81 ∷ 0x41 ∷ 0xc2 ∷ 0xfe ∷ 0x00 ∷ []) ≡ ([], refused Truncated 1 6 1 3)
+unfolding reading in_block_at
+block_cut = rw among_3 refl
+
+-- 81 C0
+pub block_ends_at_once : read_blocks (0x81 ∷ 0xc0 ∷ []) ≡ ([], refused BlockEnd 1 2 0 0)
+unfolding reading in_block_at
+block_ends_at_once = refl
+
+-- 81 80
+pub fault_without_bytes : read_blocks (0x81 ∷ 0x80 ∷ []) ≡ ([], refused D5 1 2 0 0)
+unfolding reading in_block_at
+fault_without_bytes = rw absent_there refl
+
+-- 85 and ten bytes 00: five of them are in the block
+pub block_of_five : read_blocks (0x85 ∷ replicate 10 0x00) ≡ ([], refused BlockEnd 1 1 0 0)
+unfolding reading in_block_at
+block_of_five = refl
+
+-- ten bytes 00 between blocks
+pub size_too_long : read_blocks (replicate 10 0x00) ≡ ([], refused Limit 1 0 0 0)
+unfolding reading in_block_at
+size_too_long = refl
+
+pub size_not_whole : read_blocks (replicate 9 0x00) ≡ ([], refused Truncated 1 0 0 0)
+unfolding reading in_block_at
+size_not_whole = refl
+
+two_first : in_block_at Usual worked_set at_start (0x8b ∷ 0xf0 ∷ 0x81 ∷ 0x81 ∷ 0x41 ∷ 0xc2 ∷ 0xfe ∷ 0x00 ∷ 0xe4 ∷ 0x80 ∷ 0x80 ∷ 0x81 ∷ []) ≡ Ok (quote 1 100, record { dictionary = quoted; left = 3 }, 0x80 ∷ 0x80 ∷ 0x81 ∷ [])
+unfolding reading in_block_at
+two_first = rw (among_3, among_4) refl
+
+two_second : in_block_at Usual worked_set (record { dictionary = quoted; left = 3 }) (0x80 ∷ 0x80 ∷ 0x81 ∷ []) ≡ Ok (quote 2 101, record { dictionary = quoted_again; left = 0 }, [])
+unfolding reading in_block_at
+two_second = rw (among_5, among_6, among_7, among_8, among_9) refl
+
+-- 8B F0 81 81 41 C2 FE 00 E4 80 80 81
+pub two_in_a_block : read_blocks (0x8b ∷ 0xf0 ∷ 0x81 ∷ 0x81 ∷ 0x41 ∷ 0xc2 ∷ 0xfe ∷ 0x00 ∷ 0xe4 ∷ 0x80 ∷ 0x80 ∷ 0x81 ∷ []) ≡ (quote 1 100 ∷ quote 2 101 ∷ [], None)
+two_in_a_block = ap (answer (0x8b ∷ 0xf0 ∷ 0x81 ∷ 0x81 ∷ 0x41 ∷ 0xc2 ∷ 0xfe ∷ 0x00 ∷ 0xe4 ∷ 0x80 ∷ 0x80 ∷ 0x81 ∷ [])) (block_more 12 _ _ _ two_first (block_more 11 _ _ _ two_second refl))
+
+blocks_first : in_block_at Usual worked_set at_start (0x88 ∷ 0xf0 ∷ 0x81 ∷ 0x81 ∷ 0x41 ∷ 0xc2 ∷ 0xfe ∷ 0x00 ∷ 0xe4 ∷ 0x83 ∷ 0x80 ∷ 0x80 ∷ 0x81 ∷ []) ≡ Ok (quote 1 100, record { dictionary = quoted; left = 0 }, 0x83 ∷ 0x80 ∷ 0x80 ∷ 0x81 ∷ [])
+unfolding reading in_block_at
+blocks_first = rw (among_3, among_4) refl
+
+blocks_second : in_block_at Usual worked_set (record { dictionary = quoted; left = 0 }) (0x83 ∷ 0x80 ∷ 0x80 ∷ 0x81 ∷ []) ≡ Ok (quote 2 101, record { dictionary = quoted_again; left = 0 }, [])
+unfolding reading in_block_at
+blocks_second = rw (among_5, among_6, among_7, among_8, among_9) refl
+
+-- the dictionary goes on from block to block
+-- 88 F0 81 81 41 C2 FE 00 E4 83 80 80 81
+pub two_blocks : read_blocks (0x88 ∷ 0xf0 ∷ 0x81 ∷ 0x81 ∷ 0x41 ∷ 0xc2 ∷ 0xfe ∷ 0x00 ∷ 0xe4 ∷ 0x83 ∷ 0x80 ∷ 0x80 ∷ 0x81 ∷ []) ≡ (quote 1 100 ∷ quote 2 101 ∷ [], None)
+two_blocks = ap (answer (0x88 ∷ 0xf0 ∷ 0x81 ∷ 0x81 ∷ 0x41 ∷ 0xc2 ∷ 0xfe ∷ 0x00 ∷ 0xe4 ∷ 0x83 ∷ 0x80 ∷ 0x80 ∷ 0x81 ∷ [])) (block_more 13 _ _ _ blocks_first (block_more 12 _ _ _ blocks_second refl))
+
+zero_first : in_block_at Usual worked_set at_start (0x88 ∷ 0xf0 ∷ 0x81 ∷ 0x81 ∷ 0x41 ∷ 0xc2 ∷ 0xfe ∷ 0x00 ∷ 0xe4 ∷ 0x80 ∷ []) ≡ Ok (quote 1 100, record { dictionary = quoted; left = 0 }, 0x80 ∷ [])
+unfolding reading in_block_at
+zero_first = rw (among_3, among_4) refl
+
+zero_second : in_block_at Usual worked_set (record { dictionary = quoted; left = 0 }) (0x80 ∷ []) ≡ Err (record { template = 0; stop = record { cause = D12; instruction = 0; left = 1 } })
+unfolding reading in_block_at
+zero_second = refl
+
+-- 88 F0 81 81 41 C2 FE 00 E4 80
+pub empty_second_block : read_blocks (0x88 ∷ 0xf0 ∷ 0x81 ∷ 0x81 ∷ 0x41 ∷ 0xc2 ∷ 0xfe ∷ 0x00 ∷ 0xe4 ∷ 0x80 ∷ []) ≡ (quote 1 100 ∷ [], refused D12 2 9 0 0)
+empty_second_block = ap (answer (0x88 ∷ 0xf0 ∷ 0x81 ∷ 0x81 ∷ 0x41 ∷ 0xc2 ∷ 0xfe ∷ 0x00 ∷ 0xe4 ∷ 0x80 ∷ [])) (block_more 10 _ _ _ zero_first (block_stop 9 _ _ _ zero_second))
+
+over_first : in_block_at Usual worked_set at_start (0x89 ∷ 0xf0 ∷ 0x81 ∷ 0x81 ∷ 0x41 ∷ 0xc2 ∷ 0xfe ∷ 0x00 ∷ 0xe4 ∷ 0x80 ∷ []) ≡ Ok (quote 1 100, record { dictionary = quoted; left = 1 }, 0x80 ∷ [])
+unfolding reading in_block_at
+over_first = rw (among_3, among_4) refl
+
+over_second : in_block_at Usual worked_set (record { dictionary = quoted; left = 1 }) (0x80 ∷ []) ≡ Err (record { template = 1; stop = record { cause = BlockEnd; instruction = 3; left = 0 } })
+unfolding reading in_block_at
+over_second = rw (among_5, among_6, among_7) refl
+
+-- 89 F0 81 81 41 C2 FE 00 E4 80
+pub message_past_its_block : read_blocks (0x89 ∷ 0xf0 ∷ 0x81 ∷ 0x81 ∷ 0x41 ∷ 0xc2 ∷ 0xfe ∷ 0x00 ∷ 0xe4 ∷ 0x80 ∷ []) ≡ (quote 1 100 ∷ [], refused BlockEnd 2 10 1 3)
+message_past_its_block = ap (answer (0x89 ∷ 0xf0 ∷ 0x81 ∷ 0x81 ∷ 0x41 ∷ 0xc2 ∷ 0xfe ∷ 0x00 ∷ 0xe4 ∷ 0x80 ∷ [])) (block_more 10 _ _ _ over_first (block_stop 9 _ _ _ over_second))
+
+unended_first : in_block_at Usual worked_set at_start (0x89 ∷ 0xf0 ∷ 0x81 ∷ 0x81 ∷ 0x41 ∷ 0xc2 ∷ 0xfe ∷ 0x00 ∷ 0xe4 ∷ []) ≡ Ok (quote 1 100, record { dictionary = quoted; left = 1 }, [])
+unfolding reading in_block_at
+unended_first = rw (among_3, among_4) refl
+
+unended_second : messages_at (in_blocks Usual) 9 worked_set (record { dictionary = quoted; left = 1 }) [] ≡ record { messages = []; fault = Some (record { template = 0; stop = record { cause = Truncated; instruction = 0; left = 0 } }) }
+unfolding reading in_block_at
+unended_second = refl
+
+-- 89 F0 81 81 41 C2 FE 00 E4
+pub unended_block : read_blocks (0x89 ∷ 0xf0 ∷ 0x81 ∷ 0x81 ∷ 0x41 ∷ 0xc2 ∷ 0xfe ∷ 0x00 ∷ 0xe4 ∷ []) ≡ (quote 1 100 ∷ [], refused Truncated 2 9 0 0)
+unended_block = ap (answer (0x89 ∷ 0xf0 ∷ 0x81 ∷ 0x81 ∷ 0x41 ∷ 0xc2 ∷ 0xfe ∷ 0x00 ∷ 0xe4 ∷ [])) (block_more 9 _ _ _ unended_first unended_second)

@@ -4,4 +4,6 @@ pub mod Bodies
 pub mod Streams
 pub mod Faults
 pub mod Reading
+pub mod Blocks
+pub mod Modes
 pub mod Readers

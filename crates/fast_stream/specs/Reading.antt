@@ -1,7 +1,9 @@
--- Reading a stream from left to right: its messages, and the first fault that is met.
+-- Reading a message from left to right: its pieces, and the first fault that is met.
 -- FAST 1.1, Transfer Encoding. Which check comes first is this project's own.
-use Rattle.std.specs.Prelude.{ℕ, zero, suc, ℤ, Bool, true, false, List, [], ◌∷◌, length, Option, Some, None, option_map, Result, Ok, Err}
-use Rattle.std.specs.FinMap as map
+use Rattle.std.specs.Prelude.{if◌then◌else◌, ℕ, zero, suc, ℤ, Bool, true, false, List, [], length, Option, Some, None, Result, Ok, Err}
+use Rattle.fast_wire.specs.Level.{judge, overlong_map, some_set}
+use Rattle.fast_wire.specs.declared.level.Level.{Level}
+use Rattle.fast_wire.specs.declared.level.Level.TheVariants.{Usual, Strict}
 use Rattle.fast_value.specs.declared.scalar.Scalar.{Scalar}
 use Rattle.fast_value.specs.declared.scalar.Scalar.TheVariants.{U32, I32, I64, Decimal}
 use Rattle.fast_template.specs.declared.resolved.FieldPart.{FieldPart}
@@ -10,13 +12,12 @@ use Rattle.fast_dictionary.specs.Dictionary.{Dictionary, entry_at}
 use Rattle.fast_wire.specs.Reading.{◌>>=◌, map_at}
 use Rattle.fast_field.specs.FieldReading.{field_at}
 use Rattle.fast_stream.specs.declared.fault.Cause.{Cause}
-use Rattle.fast_stream.specs.declared.fault.Cause.TheVariants.{D9, Limit, Memory}
-use Rattle.fast_stream.specs.declared.fault.Fault.{Fault}
+use Rattle.fast_stream.specs.declared.fault.Cause.TheVariants.{D9, R7, R8, Limit, Memory}
 use Rattle.fast_stream.specs.Nodes.{Item, single, group_items, sequence_elements, Items, no_items, then_item, Elements, no_elements, then_element, Content, node_limit}
 use Rattle.fast_stream.specs.Bits.{bit_for, after_bit}
 use Rattle.fast_stream.specs.Bodies.{State, after_part}
 use Rattle.fast_stream.specs.Streams.{members_of, identifier}
-use Rattle.fast_stream.specs.Faults.{cause_of_wire, cause_of_field, Stop, MessageStop, place_of}
+use Rattle.fast_stream.specs.Faults.{cause_of_wire, cause_of_field, Stop, MessageStop}
 
 -- what reading has before it: the dictionary, the bits left of the map, how many nodes may still come, and the bytes
 pub record Cursor : Type 0 where
@@ -53,9 +54,9 @@ abbrev pub node_at : ℕ → Cursor → Result Cursor Stop
 node_at number c = counted number c.spare c
 
 -- a part's value
-unfoldable pub field_part_at : FieldPart → Cursor → Reads (Option Scalar)
-field_part_at p c =
-    placed cause_of_field p.number c.bytes (field_at p (entry_at c.dictionary p.key) (bit_for (part_needs_bit p) c.bits) c.bytes) >>= λ v.
+unfoldable pub field_part_at : (level : Level) → FieldPart → Cursor → Reads (Option Scalar)
+field_part_at level p c =
+    placed cause_of_field p.number c.bytes (field_at level p (entry_at c.dictionary p.key) (bit_for (part_needs_bit p) c.bits) c.bytes) >>= λ v.
     Ok (v.0, behind c (after_part p (state_of c) v.0) v.1)
 
 -- what no part of its type gives
@@ -67,19 +68,27 @@ abbrev pub decimal_of : ℤ → Option Scalar × Cursor → Reads Item
 decimal_of e (Some (I64 m), c) = Ok (single (Some (Decimal e m)), c)
 decimal_of e (v, c) = never c
 
-abbrev pub mantissa_at : FieldPart → Option Scalar × Cursor → Reads Item
-mantissa_at p (None, c) = Ok (single None, c)
-mantissa_at p (Some (I32 e), c) = field_part_at p c >>= decimal_of e
-mantissa_at p (Some v, c) = never c
+abbrev pub mantissa_at : (level : Level) → FieldPart → Option Scalar × Cursor → Reads Item
+mantissa_at level p (None, c) = Ok (single None, c)
+mantissa_at level p (Some (I32 e), c) = field_part_at level p c >>= decimal_of e
+mantissa_at level p (Some v, c) = never c
 
 -- a segment's own map, or none
-abbrev pub own_map_at : ℕ → Bool → Cursor → Result Cursor Stop
-own_map_at number true c = placed cause_of_wire number c.bytes (map_at c.bytes) >>= λ m. Ok (record { dictionary = c.dictionary; bits = m.0; spare = c.spare; bytes = m.1 })
-own_map_at number false c = Ok (record { dictionary = c.dictionary; bits = []; spare = c.spare; bytes = c.bytes })
+abbrev pub own_map_at : (level : Level) → ℕ → Bool → Cursor → Result Cursor Stop
+own_map_at level number true c = placed (λ (f : Cause). f) number c.bytes (judge level 256 overlong_map cause_of_wire R7 c.bytes) >>= λ ok. placed cause_of_wire number c.bytes (map_at c.bytes) >>= λ m. Ok (record { dictionary = c.dictionary; bits = m.0; spare = c.spare; bytes = m.1 })
+own_map_at level number false c = Ok (record { dictionary = c.dictionary; bits = []; spare = c.spare; bytes = c.bytes })
+
+-- the end of a segment, behind what stands in it
+abbrev pub end_at : {A : Type 0} → ℕ → A × Cursor → Reads A
+end_at number x = if some_set x.1.bits then stopped number x.1.bytes R8 else Ok x
+
+abbrev pub closing : (level : Level) → {A : Type 0} → ℕ → (Cursor → Reads A) → Cursor → Reads A
+closing Usual number inside c = inside c
+closing Strict number inside c = inside c >>= end_at number
 
 -- the bits of the map around a segment stand as they were behind it
-abbrev pub segment_at : {A : Type 0} → ℕ → Bool → (Cursor → Reads A) → Cursor → Reads A
-segment_at number has inside c = own_map_at number has c >>= inside >>= λ r. Ok (r.0, record { dictionary = r.1.dictionary; bits = c.bits; spare = r.1.spare; bytes = r.1.bytes })
+abbrev pub segment_at : (level : Level) → {A : Type 0} → ℕ → Bool → (Cursor → Reads A) → Cursor → Reads A
+segment_at level number has inside c = own_map_at level number has c >>= inside >>= λ r. Ok (r.0, record { dictionary = r.1.dictionary; bits = c.bits; spare = r.1.spare; bytes = r.1.bytes })
 
 -- so many elements
 abbrev pub each_at : ℕ → (Cursor → Reads Items) → ℕ → Cursor → Reads Elements
@@ -100,17 +109,17 @@ abbrev pub behind_bit : Bool → Cursor → Cursor
 behind_bit needs c = record { dictionary = c.dictionary; bits = after_bit needs c.bits; spare = c.spare; bytes = c.bytes }
 
 abbrev mutual
-  pub piece_at : Instruction → Cursor → Reads Item
-  piece_at (whole_field name number presence whole) c = node_at number c >>= field_part_at whole >>= λ v. Ok (single v.0, v.1)
-  piece_at (field_in_parts name number presence exponent mantissa) c = node_at number c >>= field_part_at exponent >>= mantissa_at mantissa
-  piece_at (group_of name number presence members) c =
-      node_at number c >>= λ k. group_at (bit_for (is_optional presence) k.bits) (segment_at number (has_map members) (λ j. body_at members j)) (behind_bit (is_optional presence) k)
-  piece_at (sequence_of name number presence length members) c =
-      node_at number c >>= field_part_at length >>= elements_at number (segment_at number (has_map members) (λ j. body_at members j))
+  pub piece_at : (level : Level) → Instruction → Cursor → Reads Item
+  piece_at level (whole_field name number presence whole) c = node_at number c >>= field_part_at level whole >>= λ v. Ok (single v.0, v.1)
+  piece_at level (field_in_parts name number presence exponent mantissa) c = node_at number c >>= field_part_at level exponent >>= mantissa_at level mantissa
+  piece_at level (group_of name number presence members) c =
+      node_at number c >>= λ k. group_at (bit_for (is_optional presence) k.bits) (segment_at level number (has_map members) (closing level number (λ j. body_at level members j))) (behind_bit (is_optional presence) k)
+  piece_at level (sequence_of name number presence length members) c =
+      node_at number c >>= field_part_at level length >>= elements_at number (segment_at level number (has_map members) (closing level number (λ j. body_at level members j)))
 
-  pub body_at : Instructions → Cursor → Reads Items
-  body_at no_instructions c = Ok (no_items, c)
-  body_at (then_instruction i is) c = piece_at i c >>= λ n. body_at is n.1 >>= λ ns. Ok (then_item n.0 ns.0, ns.1)
+  pub body_at : (level : Level) → Instructions → Cursor → Reads Items
+  body_at level no_instructions c = Ok (no_items, c)
+  body_at level (then_instruction i is) c = piece_at level i c >>= λ n. body_at level is n.1 >>= λ ns. Ok (then_item n.0 ns.0, ns.1)
 
 -- what a message names: its template, with the instructions of that
 pub record Named : Type 0 where
@@ -126,41 +135,18 @@ named_at set bytes (Some (U32 id), c) = known id bytes c (members_of set id)
 named_at set bytes (v, c) = never c
 
 -- a message's map and identifier
-unfoldable pub head_at : List Resolved → Dictionary → List ℕ → Reads Named
-head_at set d bytes =
-    own_map_at 0 true (record { dictionary = d; bits = []; spare = node_limit; bytes = bytes }) >>= λ c.
-    field_part_at identifier c >>= named_at set c.bytes
+unfoldable pub head_at : (level : Level) → List Resolved → Dictionary → List ℕ → Reads Named
+head_at level set d bytes =
+    own_map_at level 0 true (record { dictionary = d; bits = []; spare = node_limit; bytes = bytes }) >>= λ c.
+    field_part_at level identifier c >>= named_at set c.bytes
 
 abbrev pub in_template : {A : Type 0} → ℕ → Result A Stop → Result A MessageStop
 in_template id (Ok x) = Ok x
 in_template id (Err s) = Err (record { template = id; stop = s })
 
 -- a message, the dictionary after it, and the bytes behind it
-unfoldable pub message_at : List Resolved → Dictionary → List ℕ → Result (Content × Dictionary × List ℕ) MessageStop
-message_at set d bytes =
-    in_template 0 (head_at set d bytes) >>= λ h.
-    in_template h.0.template (body_at h.0.members h.1) >>= λ r.
+unfoldable pub message_at : (level : Level) → List Resolved → Dictionary → List ℕ → Result (Content × Dictionary × List ℕ) MessageStop
+message_at level set d bytes =
+    in_template 0 (head_at level set d bytes) >>= λ h.
+    in_template h.0.template (closing level 0 (λ j. body_at level h.0.members j) h.1) >>= λ r.
     Ok (record { template = h.0.template; items = r.0 }, r.1.dictionary, r.1.bytes)
-
--- the messages of a stream, and why there are no more, where it does not end behind the last one
-pub record StreamReading : Type 0 where
-  pub messages : List Content
-  pub fault : Option MessageStop
-
-abbrev pub and_then : Result (Content × Dictionary × List ℕ) MessageStop → (Dictionary → List ℕ → StreamReading) → StreamReading
-and_then (Err s) later = record { messages = []; fault = Some s }
-and_then (Ok m) later = let r = later m.1 m.2 in record { messages = m.0 ∷ r.messages; fault = r.fault }
-
--- at most so many messages
-abbrev pub messages_at : ℕ → List Resolved → Dictionary → List ℕ → StreamReading
-messages_at n set d [] = record { messages = []; fault = None }
-messages_at zero set d (b ∷ bytes) = record { messages = []; fault = None }
-messages_at (suc n) set d (b ∷ bytes) = and_then (message_at set d (b ∷ bytes)) (λ e rest. messages_at n set e rest)
-
--- Each message has a byte at least.
-abbrev pub stream_at : List Resolved → List ℕ → StreamReading
-stream_at set stream = messages_at (length stream) set map.empty stream
-
--- the fault as it is answered
-abbrev pub fault_in : List ℕ → StreamReading → Option Fault
-fault_in stream r = option_map (λ s. record { cause = s.stop.cause; place = place_of (length stream) (length r.messages) s }) r.fault

@@ -1,7 +1,10 @@
 -- What a stream carries.
 -- FAST 1.1, Transfer Encoding, Streams and Messages, and Template Identifier.
-use Rattle.std.specs.Prelude.{◌≡◌, ◌≤◌, ℕ, List, [], ◌∷◌, find, Option, Some, None, option_map}
+use Rattle.std.specs.Prelude.{◌≡◌, ◌≤◌, ℕ, Bool, false, List, [], ◌∷◌, find, Option, Some, None, option_map}
 use Rattle.std.specs.FinMap as map
+use Rattle.fast_wire.specs.Level.{AtLevel, overlong_map, some_set}
+use Rattle.fast_wire.specs.declared.level.Level.{Level}
+use Rattle.fast_wire.specs.declared.level.Level.TheVariants.{Usual, Strict}
 use Rattle.fast_value.specs.declared.kind.Kind.TheVariants.{UInt32}
 use Rattle.fast_value.specs.declared.kind.Presence.TheVariants.{Mandatory}
 use Rattle.fast_value.specs.declared.kind.Operator.TheVariants.{Copy}
@@ -43,19 +46,25 @@ module _ (Spells : Spelling) (Maps : Mapping) where
   CarriesBy set d bytes [] after = (bytes ≡ []) × (after ≡ d)
   CarriesBy set d bytes (m ∷ ms) after = Then (λ x between. MessageFormBy set d x m between) (λ between y. CarriesBy set between y ms after) bytes
 
--- any map of these bits: bits that no instruction asked for may be 1
-abbrev pub AnyMap : Mapping
-AnyMap bits left bytes = IsWholeMap bytes bits
+-- a map's bytes and its bits
+abbrev pub MapEntity : (level : Level) → List ℕ → List Bool → Type 0
+MapEntity level bytes bits = AtLevel level overlong_map IsWholeMap bytes bits
 
-abbrev pub Body : Instructions → State → List ℕ → Items → State → Type 0
-Body = BodyBy Form AnyMap
+-- At the usual level any map of these bits may stand, and bits that no instruction asked for may be 1. At the strict one
+-- the map is not overlong, and they are 0.
+abbrev pub MapAt : (level : Level) → Mapping
+MapAt Usual bits left bytes = IsWholeMap bytes bits
+MapAt Strict bits left bytes = MapEntity Strict bytes bits × (some_set left ≡ false)
 
-abbrev pub MessageForm : List Resolved → Dictionary → List ℕ → Content → Dictionary → Type 0
-MessageForm = MessageFormBy Form AnyMap
+abbrev pub Body : (level : Level) → Instructions → State → List ℕ → Items → State → Type 0
+Body level = BodyBy (Form level) (MapAt level)
 
-abbrev pub CarriesFrom : List Resolved → Dictionary → List ℕ → List Content → Dictionary → Type 0
-CarriesFrom = CarriesBy Form AnyMap
+abbrev pub MessageForm : (level : Level) → List Resolved → Dictionary → List ℕ → Content → Dictionary → Type 0
+MessageForm level = MessageFormBy (Form level) (MapAt level)
+
+abbrev pub CarriesFrom : (level : Level) → List Resolved → Dictionary → List ℕ → List Content → Dictionary → Type 0
+CarriesFrom level = CarriesBy (Form level) (MapAt level)
 
 -- the stream carries these messages, from the dictionary in which every entry is undefined
-abbrev pub Carries : List Resolved → List ℕ → List Content → Type 0
-Carries set stream messages = (after : Dictionary) × CarriesFrom set map.empty stream messages after
+abbrev pub Carries : (level : Level) → List Resolved → List ℕ → List Content → Type 0
+Carries level set stream messages = (after : Dictionary) × CarriesFrom level set map.empty stream messages after

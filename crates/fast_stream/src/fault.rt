@@ -24,12 +24,30 @@ pub enum Cause {
     /// No template has the identifier.
     #[error("D9")]
     D9,
+    /// A block has a size of zero.
+    #[error("D12")]
+    D12,
+    /// A block ends inside a message.
+    #[error("BlockEnd")]
+    BlockEnd,
     /// A decimal is out of range.
     #[error("R1")]
     R1,
     /// A Unicode string is not UTF-8.
     #[error("R2")]
     R2,
+    /// At the strict level: an integer has more groups than it needs.
+    #[error("R6")]
+    R6,
+    /// At the strict level: a presence map has more groups than it needs.
+    #[error("R7")]
+    R7,
+    /// At the strict level: a bit of a presence map is 1 that no instruction asked for.
+    #[error("R8")]
+    R8,
+    /// At the strict level: an ASCII string has a preamble that it does not need.
+    #[error("R9")]
+    R9,
     /// The input ended inside a message.
     #[error("Truncated")]
     Truncated,

@@ -24,3 +24,6 @@ pub mod Written
 pub mod ShortIntegers
 pub mod WordBits
 pub mod Rows
+pub mod Levels
+pub mod NotOverlong
+pub mod ShortMaps

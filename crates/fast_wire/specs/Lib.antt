@@ -11,3 +11,4 @@ pub mod Sizes
 pub mod Spellings
 pub mod Spans
 pub mod Plain
+pub mod Level

@@ -12,6 +12,7 @@ mod bits;
 mod fault;
 mod integer;
 pub mod laws;
+mod level;
 mod nullable;
 mod plain;
 mod presence_map;
@@ -29,6 +30,7 @@ pub use fault::WireFault;
 pub use integer::{
     read_signed, read_unsigned, size_signed, size_unsigned, write_signed, write_unsigned,
 };
+pub use level::{Level, overlong_ascii, overlong_map, overlong_signed, overlong_unsigned};
 pub use nullable::{
     Nullable, read_signed_nullable, read_unsigned_nullable, size_signed_nullable,
     size_unsigned_nullable, write_signed_nullable, write_unsigned_nullable,
@@ -40,7 +42,7 @@ pub use short_integer::{
     write_u64, write_u64_nullable,
 };
 pub use span::Span;
-pub use stop_bit::find_stop;
+pub use stop_bit::{entity_end, find_stop};
 pub use text::check_text;
 pub use vector::{
     find_vector, find_vector_nullable, read_vector, read_vector_nullable, size_vector,

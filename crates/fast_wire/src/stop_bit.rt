@@ -58,7 +58,7 @@ pub fn find_stop(bytes: &[u8]) -> Option<usize>
 
 /// The place after the entity that begins at `at`, of at most `limit` bytes. An entity is judged only once
 /// its stop bit has come or the limit is passed.
-pub(crate) fn entity_end(bytes: &[u8], at: usize, limit: usize) -> Result<usize, WireFault>
+pub fn entity_end(bytes: &[u8], at: usize, limit: usize) -> Result<usize, WireFault>
     requires place { at ≤ length bytes.now }
     requires some { 0 < limit }
     ensures answer { MatchResult result

@@ -11,7 +11,7 @@ pub returns-clause-answer : goal.returns-clause-answer
 returns-clause-answer c bit default =
     let i = c.args.instr.now in
     let e = entry_of c.args.kept in
-    call_answers (field_at i e c.args.bit) (Form i e c.args.bit) (field_forms i e c.args.bit bit default) c.args.bytes.now c.args.at (λ x. x.0) (λ x. x.2) c.read_copied.result
+    call_answers (field_at c.args.level i e c.args.bit) (Form c.args.level i e c.args.bit) (field_forms c.args.level i e c.args.bit bit default) c.args.bytes.now c.args.at (λ x. x.0) (λ x. x.2) c.read_copied.result
     (bytes_from c.args.bytes.now c.args.at (λ k. omega (arith, c.type_inv.bytes k)))
     c.read_copied.ensures.place
     c.read_copied.ensures.gives
@@ -20,7 +20,7 @@ pub returns-clause-only : goal.returns-clause-only
 returns-clause-only c bit default =
     let i = c.args.instr.now in
     let e = entry_of c.args.kept in
-    call_only (field_at i e c.args.bit) (Form i e c.args.bit) (field_forms i e c.args.bit bit default) c.args.bytes.now c.args.at (λ x. x.0) (λ x. x.2) c.read_copied.result
+    call_only (field_at c.args.level i e c.args.bit) (Form c.args.level i e c.args.bit) (field_forms c.args.level i e c.args.bit bit default) c.args.bytes.now c.args.at (λ x. x.0) (λ x. x.2) c.read_copied.result
     c.read_copied.ensures.place
     c.read_copied.ensures.gives
 
@@ -28,4 +28,4 @@ pub returns-clause-goes : goal.returns-clause-goes
 returns-clause-goes c =
     let i = c.args.instr.now in
     let e = entry_of c.args.kept in
-    call_goes (field_at i e c.args.bit) (field_goes i e c.args.bit) c.args.bytes.now c.args.at (λ x. x.0) (λ x. x.2) c.read_copied.result c.read_copied.ensures.gives
+    call_goes (field_at c.args.level i e c.args.bit) (field_goes c.args.level i e c.args.bit) c.args.bytes.now c.args.at (λ x. x.0) (λ x. x.2) c.read_copied.result c.read_copied.ensures.gives
