@@ -1,7 +1,6 @@
 -- How a stream of messages follows its reader.
 use Rattle.std.proofs.Common.{◌≡◌, ◌≢◌, ◌≤◌, ℕ, ◌+◌, List, [], ◌∷◌, ◌++◌, length, take, map, reverse, Option, None, Some, refl, sym, ap, subst, ◌∙◌, arith, append_assoc, append-nil, length-append, length-take, ◌⊎◌, inl, inr}
 use Rattle.std.proofs.lemmas.List.{reverse-reverse, reverse-append}
-use Rattle.std.specs.FinMap as finite
 use Rattle.std.specs.Io.KnownBytes.{Consumes, Keeps, IsAtEnd}
 use Rattle.fast_io.specs.Counts.{counted}
 use Rattle.fast_template.specs.Resolved.{Resolved}
@@ -10,67 +9,79 @@ use Rattle.fast_decoder.specs.declared.input.Reached.TheVariants as reached
 use Rattle.fast_stream.specs.declared.fault.Cause.{Cause}
 use Rattle.fast_stream.specs.declared.fault.Cause.TheVariants as cause
 use Rattle.fast_stream.specs.declared.fault.Fault.{Fault}
+use Rattle.fast_stream.specs.declared.mode.Mode.{Mode}
 use Rattle.fast_stream.specs.declared.place.Place.{Place}
 use Rattle.fast_decoder.specs.declared.decoder.Decoder.{Decoder}
 use Rattle.fast_stream.specs.declared.message.Message.{Message}
 use Rattle.fast_template.specs.TemplateSets.{templates_in}
 use Rattle.fast_dictionary.specs.declared.entries.Entries.{Ghosts}
 use Rattle.fast_stream.specs.Nodes.{Content, content_of}
-use Rattle.fast_machine.specs.Following.{Follows as HasFed, IsCutAt}
-use Rattle.fast_stream.specs.Faults.{FirstFault}
+use Rattle.fast_machine.specs.Following.{Follows as HasFed, IsCutAt, mode_of}
+use Rattle.fast_stream.specs.Blocks.{Stand, at_start}
+use Rattle.fast_stream.specs.Modes.{CarriesFrom, FirstFault}
 use Rattle.fast_machine.specs.Standing.{Carried, ReadsOn}
 use Rattle.fast_decoder.proofs.Builders.{BuilderHas, BuilderStands}
 use Rattle.fast_decoder.specs.Inputs.{Causes, Follows, HasReached, IsCaused, IsFaultOf, OnFault, Reader, Reads, RefusedBy, Refuses, Stands, waiting_in}
-use Rattle.fast_stream.specs.Streams.{CarriesFrom}
-use Rattle.fast_dictionary.specs.Dictionary.{Dictionary}
 use Rattle.fast_machine.proofs.Standings.{carried_of}
 use Rattle.fast_machine.proofs.Followings.{all_carried}
-use Rattle.fast_stream.proofs.Causes.{IsOfBytes, of_stream}
+use Rattle.fast_stream.proofs.Causes.{IsOfBytes, of_mode}
 
-by_bytes : (c : Cause) (set : List Resolved) (turns : ℕ) (left : Option (List ℕ)) (bytes : List ℕ) (place : Place) → c ≢ cause.Truncated → (c ≢ cause.Memory → FirstFault set bytes place c)
-    → (c ≡ cause.Memory → (place.offset ≡ 0) × (place.template ≡ 0) × (place.instruction ≡ 0)) → RefusedBy c set turns left bytes place
-by_bytes cause.D2 set turns left bytes place more first memory = first (λ e. absurd cc)
-by_bytes cause.D4 set turns left bytes place more first memory = first (λ e. absurd cc)
-by_bytes cause.D5 set turns left bytes place more first memory = first (λ e. absurd cc)
-by_bytes cause.D6 set turns left bytes place more first memory = first (λ e. absurd cc)
-by_bytes cause.D7 set turns left bytes place more first memory = first (λ e. absurd cc)
-by_bytes cause.D9 set turns left bytes place more first memory = first (λ e. absurd cc)
-by_bytes cause.R1 set turns left bytes place more first memory = first (λ e. absurd cc)
-by_bytes cause.R2 set turns left bytes place more first memory = first (λ e. absurd cc)
-by_bytes cause.Limit set turns left bytes place more first memory = first (λ e. absurd cc)
-by_bytes cause.Truncated set turns left bytes place more first memory = absurd (more refl)
-by_bytes cause.Read set turns left bytes place more first memory = absurd (of_stream set bytes place cause.Read (first (λ e. absurd cc)))
-by_bytes cause.Turns set turns left bytes place more first memory = absurd (of_stream set bytes place cause.Turns (first (λ e. absurd cc)))
-by_bytes cause.Memory set turns left bytes place more first memory = memory refl
+by_bytes : (c : Cause) (mode : Mode) (set : List Resolved) (turns : ℕ) (left : Option (List ℕ)) (bytes : List ℕ) (place : Place) → c ≢ cause.Truncated → (c ≢ cause.Memory → FirstFault mode set bytes place c)
+    → (c ≡ cause.Memory → (place.offset ≡ 0) × (place.template ≡ 0) × (place.instruction ≡ 0)) → RefusedBy c mode set turns left bytes place
+by_bytes cause.D2 mode set turns left bytes place more first memory = first (λ e. absurd cc)
+by_bytes cause.D4 mode set turns left bytes place more first memory = first (λ e. absurd cc)
+by_bytes cause.D5 mode set turns left bytes place more first memory = first (λ e. absurd cc)
+by_bytes cause.D6 mode set turns left bytes place more first memory = first (λ e. absurd cc)
+by_bytes cause.D7 mode set turns left bytes place more first memory = first (λ e. absurd cc)
+by_bytes cause.D9 mode set turns left bytes place more first memory = first (λ e. absurd cc)
+by_bytes cause.D12 mode set turns left bytes place more first memory = first (λ e. absurd cc)
+by_bytes cause.BlockEnd mode set turns left bytes place more first memory = first (λ e. absurd cc)
+by_bytes cause.R1 mode set turns left bytes place more first memory = first (λ e. absurd cc)
+by_bytes cause.R2 mode set turns left bytes place more first memory = first (λ e. absurd cc)
+by_bytes cause.R6 mode set turns left bytes place more first memory = first (λ e. absurd cc)
+by_bytes cause.R7 mode set turns left bytes place more first memory = first (λ e. absurd cc)
+by_bytes cause.R8 mode set turns left bytes place more first memory = first (λ e. absurd cc)
+by_bytes cause.R9 mode set turns left bytes place more first memory = first (λ e. absurd cc)
+by_bytes cause.Limit mode set turns left bytes place more first memory = first (λ e. absurd cc)
+by_bytes cause.Truncated mode set turns left bytes place more first memory = absurd (more refl)
+by_bytes cause.Read mode set turns left bytes place more first memory = absurd (of_mode mode set bytes place cause.Read (first (λ e. absurd cc)))
+by_bytes cause.Turns mode set turns left bytes place more first memory = absurd (of_mode mode set bytes place cause.Turns (first (λ e. absurd cc)))
+by_bytes cause.Memory mode set turns left bytes place more first memory = memory refl
 
 -- a fault of the bytes, or want of memory
-pub refused_by_bytes : (f : Fault) (set : List Resolved) (turns : ℕ) (left : Option (List ℕ)) (bytes : List ℕ) (messages : List Content) → f.cause ≢ cause.Truncated → Carried set bytes messages
-    → f.place.message ≡ length messages + 1 → (f.cause ≢ cause.Memory → FirstFault set bytes f.place f.cause)
-    → (f.cause ≡ cause.Memory → (f.place.offset ≡ 0) × (f.place.template ≡ 0) × (f.place.instruction ≡ 0)) → Refuses set turns left bytes messages f
-refused_by_bytes f set turns left bytes messages more carried behind first memory =
-    record { carried = carried; behind = behind; refused = by_bytes f.cause set turns left bytes f.place more first memory }
+pub refused_by_bytes : (f : Fault) (mode : Mode) (set : List Resolved) (turns : ℕ) (left : Option (List ℕ)) (bytes : List ℕ) (messages : List Content) → f.cause ≢ cause.Truncated → Carried mode set bytes messages
+    → f.place.message ≡ length messages + 1 → (f.cause ≢ cause.Memory → FirstFault mode set bytes f.place f.cause)
+    → (f.cause ≡ cause.Memory → (f.place.offset ≡ 0) × (f.place.template ≡ 0) × (f.place.instruction ≡ 0)) → Refuses mode set turns left bytes messages f
+refused_by_bytes f mode set turns left bytes messages more carried behind first memory =
+    record { carried = carried; behind = behind; refused = by_bytes f.cause mode set turns left bytes f.place more first memory }
 
-by_end : (c : Cause) (set : List Resolved) (turns : ℕ) (left : Option (List ℕ)) (bytes : List ℕ) (place : Place) → c ≡ cause.Truncated → IsAtEnd left → (c ≢ cause.Memory → FirstFault set bytes place c)
-    → RefusedBy c set turns left bytes place
-by_end cause.Truncated set turns left bytes place is ended first = (first (λ e. absurd cc), ended)
-by_end cause.D2 set turns left bytes place is ended first = absurd cc
-by_end cause.D4 set turns left bytes place is ended first = absurd cc
-by_end cause.D5 set turns left bytes place is ended first = absurd cc
-by_end cause.D6 set turns left bytes place is ended first = absurd cc
-by_end cause.D7 set turns left bytes place is ended first = absurd cc
-by_end cause.D9 set turns left bytes place is ended first = absurd cc
-by_end cause.R1 set turns left bytes place is ended first = absurd cc
-by_end cause.R2 set turns left bytes place is ended first = absurd cc
-by_end cause.Limit set turns left bytes place is ended first = absurd cc
-by_end cause.Read set turns left bytes place is ended first = absurd cc
-by_end cause.Turns set turns left bytes place is ended first = absurd cc
-by_end cause.Memory set turns left bytes place is ended first = absurd cc
+by_end : (c : Cause) (mode : Mode) (set : List Resolved) (turns : ℕ) (left : Option (List ℕ)) (bytes : List ℕ) (place : Place) → c ≡ cause.Truncated → IsAtEnd left → (c ≢ cause.Memory → FirstFault mode set bytes place c)
+    → RefusedBy c mode set turns left bytes place
+by_end cause.Truncated mode set turns left bytes place is ended first = (first (λ e. absurd cc), ended)
+by_end cause.D2 mode set turns left bytes place is ended first = absurd cc
+by_end cause.D4 mode set turns left bytes place is ended first = absurd cc
+by_end cause.D5 mode set turns left bytes place is ended first = absurd cc
+by_end cause.D6 mode set turns left bytes place is ended first = absurd cc
+by_end cause.D7 mode set turns left bytes place is ended first = absurd cc
+by_end cause.D9 mode set turns left bytes place is ended first = absurd cc
+by_end cause.D12 mode set turns left bytes place is ended first = absurd cc
+by_end cause.BlockEnd mode set turns left bytes place is ended first = absurd cc
+by_end cause.R1 mode set turns left bytes place is ended first = absurd cc
+by_end cause.R2 mode set turns left bytes place is ended first = absurd cc
+by_end cause.R6 mode set turns left bytes place is ended first = absurd cc
+by_end cause.R7 mode set turns left bytes place is ended first = absurd cc
+by_end cause.R8 mode set turns left bytes place is ended first = absurd cc
+by_end cause.R9 mode set turns left bytes place is ended first = absurd cc
+by_end cause.Limit mode set turns left bytes place is ended first = absurd cc
+by_end cause.Read mode set turns left bytes place is ended first = absurd cc
+by_end cause.Turns mode set turns left bytes place is ended first = absurd cc
+by_end cause.Memory mode set turns left bytes place is ended first = absurd cc
 
 -- the reader has ended inside a message
-pub refused_by_end : (f : Fault) (set : List Resolved) (turns : ℕ) (left : Option (List ℕ)) (bytes : List ℕ) (messages : List Content) → f.cause ≡ cause.Truncated → IsAtEnd left → Carried set bytes messages
-    → f.place.message ≡ length messages + 1 → (f.cause ≢ cause.Memory → FirstFault set bytes f.place f.cause) → Refuses set turns left bytes messages f
-refused_by_end f set turns left bytes messages is ended carried behind first =
-    record { carried = carried; behind = behind; refused = by_end f.cause set turns left bytes f.place is ended first }
+pub refused_by_end : (f : Fault) (mode : Mode) (set : List Resolved) (turns : ℕ) (left : Option (List ℕ)) (bytes : List ℕ) (messages : List Content) → f.cause ≡ cause.Truncated → IsAtEnd left → Carried mode set bytes messages
+    → f.place.message ≡ length messages + 1 → (f.cause ≢ cause.Memory → FirstFault mode set bytes f.place f.cause) → Refuses mode set turns left bytes messages f
+refused_by_end f mode set turns left bytes messages is ended carried behind first =
+    record { carried = carried; behind = behind; refused = by_end f.cause mode set turns left bytes f.place is ended first }
 
 -- ---- what waits
 
@@ -84,15 +95,15 @@ goes_on_with d bytes messages pushed waiting none same follows = rw same (record
 
 pub refused_with : {E : Type 0} {ghosts : Ghosts E} (d : Decoder E ghosts) (f : Fault) (turns : ℕ) (left : Option (List ℕ)) (bytes : List ℕ) (messages pushed waiting : List Content) → d.machine.fault ≡ Some f → f.cause ≢ cause.Truncated
     → waiting ≡ pushed → HasFed d.machine [] bytes (messages ++ pushed)
-    → Refuses (templates_in d.machine.traversal.set.now) turns left bytes (messages ++ waiting) f
+    → Refuses (mode_of d.machine) (templates_in d.machine.traversal.set.now) turns left bytes (messages ++ waiting) f
 refused_with d f turns left bytes messages pushed waiting is more same follows =
     let refused = rw is at follows.at in
-    rw same (refused_by_bytes f (templates_in d.machine.traversal.set.now) turns left bytes (messages ++ pushed) more refused.0.0 refused.0.1 refused.0.2 refused.0.3)
+    rw same (refused_by_bytes f (mode_of d.machine) (templates_in d.machine.traversal.set.now) turns left bytes (messages ++ pushed) more refused.0.0 refused.0.1 refused.0.2 refused.0.3)
 
 -- a first fault is none that bytes cannot have
-pub of_bytes : (f : Fault) (set : List Resolved) (bytes : List ℕ) → (f.cause ≢ cause.Memory → FirstFault set bytes f.place f.cause) → f.cause ≢ cause.Truncated
+pub of_bytes : (f : Fault) (mode : Mode) (set : List Resolved) (bytes : List ℕ) → (f.cause ≢ cause.Memory → FirstFault mode set bytes f.place f.cause) → f.cause ≢ cause.Truncated
     → (f.cause ≢ cause.Truncated) × (f.cause ≢ cause.Read) × (f.cause ≢ cause.Turns)
-of_bytes f set bytes first more = (more, (λ e. subst IsOfBytes e (of_stream set bytes f.place f.cause (first (λ m. read_not_memory (sym e ∙ m))))), (λ e. subst IsOfBytes e (of_stream set bytes f.place f.cause (first (λ m. turns_not_memory (sym e ∙ m))))))
+of_bytes f mode set bytes first more = (more, (λ e. subst (IsOfBytes mode.level) e (of_mode mode set bytes f.place f.cause (first (λ m. read_not_memory (sym e ∙ m))))), (λ e. subst (IsOfBytes mode.level) e (of_mode mode set bytes f.place f.cause (first (λ m. turns_not_memory (sym e ∙ m))))))
   where
     read_not_memory : cause.Read ≡ cause.Memory → ⊥
     read_not_memory e = absurd cc
@@ -102,7 +113,7 @@ of_bytes f set bytes first more = (more, (λ e. subst IsOfBytes e (of_stream set
 
 pub cause_with : {E : Type 0} {ghosts : Ghosts E} (d : Decoder E ghosts) (f : Fault) (bytes : List ℕ) (messages : List Content) → d.machine.fault ≡ Some f → f.cause ≢ cause.Truncated
     → HasFed d.machine [] bytes messages → (f.cause ≢ cause.Truncated) × (f.cause ≢ cause.Read) × (f.cause ≢ cause.Turns)
-cause_with d f bytes messages is more follows = let refused = rw is at follows.at in of_bytes f (templates_in d.machine.traversal.set.now) bytes refused.0.2 more
+cause_with d f bytes messages is more follows = let refused = rw is at follows.at in of_bytes f (mode_of d.machine) (templates_in d.machine.traversal.set.now) bytes refused.0.2 more
 
 -- ---- one read
 
@@ -142,20 +153,20 @@ more_read a b c k got more r one = record {
 
 -- ---- where it has come to
 
-pub reached_with : (at : Reached) (P Q : Type 0) (set : List Resolved) (turns : ℕ) (left : Option (List ℕ)) (bytes : List ℕ) (messages : List Content) → (P → Q) → HasReached at P set turns left bytes messages
-    → HasReached at Q set turns left bytes messages
-reached_with reached.Open P Q set turns left bytes messages f h = f h
-reached_with reached.End P Q set turns left bytes messages f h = h
-reached_with (reached.Fault x) P Q set turns left bytes messages f h = h
+pub reached_with : (at : Reached) (P Q : Type 0) (mode : Mode) (set : List Resolved) (turns : ℕ) (left : Option (List ℕ)) (bytes : List ℕ) (messages : List Content) → (P → Q) → HasReached at P mode set turns left bytes messages
+    → HasReached at Q mode set turns left bytes messages
+reached_with reached.Open P Q mode set turns left bytes messages f h = f h
+reached_with reached.End P Q mode set turns left bytes messages f h = h
+reached_with (reached.Fault x) P Q mode set turns left bytes messages f h = h
 
-pub refused_by_read : (f : Fault) (set : List Resolved) (turns : ℕ) (left : Option (List ℕ)) (bytes : List ℕ) (messages : List Content) → f.cause ≡ cause.Read → IsCutAt set bytes messages f.place → Refuses set turns left bytes messages f
-refused_by_read f set turns left bytes messages is cut =
-    record { carried = cut.carried; behind = cut.behind; refused = subst (λ (c : Cause). RefusedBy c set turns left bytes f.place) (sym is) cut.at }
+pub refused_by_read : (f : Fault) (mode : Mode) (set : List Resolved) (turns : ℕ) (left : Option (List ℕ)) (bytes : List ℕ) (messages : List Content) → f.cause ≡ cause.Read → IsCutAt mode set bytes messages f.place → Refuses mode set turns left bytes messages f
+refused_by_read f mode set turns left bytes messages is cut =
+    record { carried = cut.carried; behind = cut.behind; refused = subst (λ (c : Cause). RefusedBy c mode set turns left bytes f.place) (sym is) cut.at }
 
-pub refused_by_turns : (f : Fault) (set : List Resolved) (turns : ℕ) (left : Option (List ℕ)) (bytes : List ℕ) (messages : List Content) → f.cause ≡ cause.Turns → IsCutAt set bytes messages f.place → turns ≤ length bytes
-    → Refuses set turns left bytes messages f
-refused_by_turns f set turns left bytes messages is cut many =
-    record { carried = cut.carried; behind = cut.behind; refused = subst (λ (c : Cause). RefusedBy c set turns left bytes f.place) (sym is) (cut.at, many) }
+pub refused_by_turns : (f : Fault) (mode : Mode) (set : List Resolved) (turns : ℕ) (left : Option (List ℕ)) (bytes : List ℕ) (messages : List Content) → f.cause ≡ cause.Turns → IsCutAt mode set bytes messages f.place → turns ≤ length bytes
+    → Refuses mode set turns left bytes messages f
+refused_by_turns f mode set turns left bytes messages is cut many =
+    record { carried = cut.carried; behind = cut.behind; refused = subst (λ (c : Cause). RefusedBy c mode set turns left bytes f.place) (sym is) (cut.at, many) }
 
 pub caused_by_feed : (at : Reached) (old new : Reader) → at ≢ reached.End → OnFault at (λ c. (c ≢ cause.Truncated) × (c ≢ cause.Read) × (c ≢ cause.Turns)) → new.errors ≡ old.errors → new.ends ≡ old.ends → IsCaused at ⊥ old new
 caused_by_feed reached.Open old new some of same none = (same, none)
@@ -171,11 +182,11 @@ cause_is c is P Q p = ((λ e. absurd (read_not (sym e ∙ is))), (λ e. p), (λ 
     turns_not : cause.Turns ≡ cause.Truncated → ⊥
     turns_not e = absurd cc
 
-pub caused_by_end : (at : Reached) (set : List Resolved) (turns : ℕ) (left : Option (List ℕ)) (bytes : List ℕ) (messages : List Content) (old new : Reader) → HasReached at ⊥ set turns left bytes messages
+pub caused_by_end : (at : Reached) (mode : Mode) (set : List Resolved) (turns : ℕ) (left : Option (List ℕ)) (bytes : List ℕ) (messages : List Content) (old new : Reader) → HasReached at ⊥ mode set turns left bytes messages
     → OnFault at (λ c. c ≡ cause.Truncated) → new.ends ≡ counted old.ends → IsCaused at ⊥ old new
-caused_by_end reached.Open set turns left bytes messages old new h of met = absurd h
-caused_by_end reached.End set turns left bytes messages old new h of met = met
-caused_by_end (reached.Fault f) set turns left bytes messages old new h of met =
+caused_by_end reached.Open mode set turns left bytes messages old new h of met = absurd h
+caused_by_end reached.End mode set turns left bytes messages old new h of met = met
+caused_by_end (reached.Fault f) mode set turns left bytes messages old new h of met =
     let c = cause_is f.cause of (new.ends ≡ counted old.ends) (new.errors ≡ counted old.errors) met in (c.0, c.1, (λ e. absurd (c.2 e)))
 
 pub caused_by_read : (f : Fault) (old new : Reader) → f.cause ≡ cause.Read → new.errors ≡ counted old.errors → IsCaused (reached.Fault f) ⊥ old new
@@ -192,11 +203,11 @@ none_waits answered waiting none = ap (λ (ms : List Message). answered ++ waiti
 
 -- ---- what was answered
 
-front_carries : (set : List Resolved) (xs ys : List Content) (d : Dictionary) (bytes : List ℕ) (after : Dictionary) → CarriesFrom set d bytes (xs ++ ys) after
-    → (front : List ℕ) × (rest : List ℕ) × (mid : Dictionary) × (bytes ≡ front ++ rest) × CarriesFrom set d front xs mid
-front_carries set [] ys d bytes after h = ([], bytes, d, refl, (refl, refl))
-front_carries set (x ∷ xs) ys d bytes after h =
-    let f = front_carries set xs ys h.between h.back after h.second in (
+front_carries : (mode : Mode) (set : List Resolved) (xs ys : List Content) (s : Stand) (bytes : List ℕ) (after : Stand) → CarriesFrom mode set s bytes (xs ++ ys) after
+    → (front : List ℕ) × (rest : List ℕ) × (mid : Stand) × (bytes ≡ front ++ rest) × CarriesFrom mode set s front xs mid
+front_carries mode set [] ys s bytes after h = ([], bytes, s, refl, (refl, refl))
+front_carries mode set (x ∷ xs) ys s bytes after h =
+    let f = front_carries mode set xs ys h.between h.back after h.second in (
       h.front ++ f.0,
       f.1,
       f.2,
@@ -204,17 +215,17 @@ front_carries set (x ∷ xs) ys d bytes after h =
       record { between = h.between; front = h.front; back = f.0; parts = refl; first = h.first; second = f.4 },
     )
 
-pub front_carried : (set : List Resolved) (bytes : List ℕ) (xs ys : List Content) → Carried set bytes (xs ++ ys) → Carried set bytes xs
-front_carried set bytes xs ys c =
-    let f = front_carries set xs ys finite.empty c.front c.start c.carried in
+pub front_carried : (mode : Mode) (set : List Resolved) (bytes : List ℕ) (xs ys : List Content) → Carried mode set bytes (xs ++ ys) → Carried mode set bytes xs
+front_carried mode set bytes xs ys c =
+    let f = front_carries mode set xs ys at_start c.front c.start c.carried in
     record { front = f.0; rest = f.1 ++ c.rest; start = f.2; parts = c.parts ∙ ap (λ (zs : List ℕ). zs ++ c.rest) f.3 ∙ append_assoc f.0 f.1 c.rest; carried = f.4; ends = tt }
 
 reached_carried : {E : Type 0} {ghosts : Ghosts E} (at : Reached) (d : Decoder E ghosts) (reads turns : ℕ) (left : Option (List ℕ)) (bytes : List ℕ) (messages : List Content)
-    → HasReached at (Follows d bytes messages × (reads ≤ length bytes)) (templates_in d.machine.traversal.set.now) turns left bytes messages → Carried (templates_in d.machine.traversal.set.now) bytes messages
+    → HasReached at (Follows d bytes messages × (reads ≤ length bytes)) (mode_of d.machine) (templates_in d.machine.traversal.set.now) turns left bytes messages → Carried (mode_of d.machine) (templates_in d.machine.traversal.set.now) bytes messages
 reached_carried {ghosts = ghosts} reached.Open d reads turns left bytes messages h =
     let at = rw (h.0.goes_on) at h.0.follows.at in
-    carried_of (ReadsOn BuilderHas BuilderStands BuilderStands d.machine.traversal d.machine.receiver (ghosts.contents d.machine.entries) []) d.machine.traversal d.machine.held.items bytes messages at.0
-reached_carried reached.End d reads turns left bytes messages h = all_carried (templates_in d.machine.traversal.set.now) bytes messages h.carried
+    carried_of d.machine.framing d.machine.left (ReadsOn BuilderHas BuilderStands BuilderStands d.machine.traversal d.machine.receiver (ghosts.contents d.machine.entries) []) d.machine.traversal d.machine.held.items bytes messages at.0
+reached_carried reached.End d reads turns left bytes messages h = all_carried (mode_of d.machine) (templates_in d.machine.traversal.set.now) bytes messages h.carried
 reached_carried (reached.Fault f) d reads turns left bytes messages h = h.carried
 
 -- the message that waited last in the list is answered
@@ -225,10 +236,10 @@ popped answered old rest m is =
 
 pub stands_popped : {E : Type 0} {ghosts : Ghosts E} (at : Reached) (d : Decoder E ghosts) (old rest : List Message) (m : Message) (turns reads : ℕ) (left : Option (List ℕ)) (bytes : List ℕ) (answered : List Content) → old ≡ rest ++ m ∷ []
     → Stands at d old turns reads left bytes answered
-    → Stands at d rest turns reads left bytes (answered ++ content_of m ∷ []) × Carried (templates_in d.machine.traversal.set.now) bytes (answered ++ content_of m ∷ [])
+    → Stands at d rest turns reads left bytes (answered ++ content_of m ∷ []) × Carried (mode_of d.machine) (templates_in d.machine.traversal.set.now) bytes (answered ++ content_of m ∷ [])
 stands_popped at d old rest m turns reads left bytes answered is stands =
-    let now = subst (λ (ms : List Content). HasReached at (Follows d bytes ms × (reads ≤ length bytes)) (templates_in d.machine.traversal.set.now) turns left bytes ms) (popped answered old rest m is) stands in
-    (now, front_carried (templates_in d.machine.traversal.set.now) bytes (answered ++ content_of m ∷ []) (waiting_in rest) (reached_carried at d reads turns left bytes ((answered ++ content_of m ∷ []) ++ waiting_in rest) now))
+    let now = subst (λ (ms : List Content). HasReached at (Follows d bytes ms × (reads ≤ length bytes)) (mode_of d.machine) (templates_in d.machine.traversal.set.now) turns left bytes ms) (popped answered old rest m is) stands in
+    (now, front_carried (mode_of d.machine) (templates_in d.machine.traversal.set.now) bytes (answered ++ content_of m ∷ []) (waiting_in rest) (reached_carried at d reads turns left bytes ((answered ++ content_of m ∷ []) ++ waiting_in rest) now))
 
 -- ---- causes
 

@@ -3,7 +3,7 @@ use Rattle.std.specs.Prelude.{◌≡◌, List, [], map}
 use Rattle.std.specs.Global.{Vec}
 use Rattle.fast_stream.specs.declared.message.Message.{Message}
 use Rattle.fast_stream.specs.declared.message.Node.{Node}
-use Rattle.fast_decoder.specs.declared.builder.Level.{Level}
+use Rattle.fast_decoder.specs.declared.builder.Outer.{Outer}
 use Rattle.fast_decoder.specs.declared.builder.Builder.{Builder}
 use Rattle.fast_stream.specs.Nodes.{Item, Items, items_of, item_of, content_of}
 use Rattle.fast_walk.specs.OpenSegments.{Inside, in_group, in_sequence, Waiting, Next, at_instruction, at_mantissa, at_element}
@@ -21,8 +21,8 @@ inside_done (in_sequence s) = s.done
 abbrev pub waiting_done : Waiting → List Item × List Items
 waiting_done w = (w.body.done, inside_done w.inside)
 
-abbrev pub level_done : Level → List Item × List Items
-level_done l = (map item_of l.nodes.items, elements_built l.elements.items)
+abbrev pub outer_done : Outer → List Item × List Items
+outer_done o = (map item_of o.nodes.items, elements_built o.elements.items)
 
 -- the exponent of the mantissa that is next, or the elements before the one that is next
 abbrev pub IsNextBuilt : Builder → Next → Type 0
@@ -35,7 +35,7 @@ pub record IsBuilt (b : Builder) (o : Received) : Type 0 where
   pub template : o.template ≡ b.template
   pub next : IsNextBuilt b o.next
   pub done : o.body.done ≡ map item_of b.nodes.items
-  pub around : map waiting_done o.around ≡ map level_done b.outer.items
+  pub around : map waiting_done o.around ≡ map outer_done b.outer.items
 
 -- with other messages in place of those that are finished
 abbrev pub with_whole : Builder → Vec Message → Builder

@@ -7,6 +7,7 @@ use Rattle.fast_template.specs.TemplateSets.{templates_in}
 use Rattle.fast_stream.specs.declared.fault.Cause.{Cause}
 use Rattle.fast_stream.specs.declared.fault.Cause.TheVariants as cause
 use Rattle.fast_stream.specs.declared.fault.Fault.{Fault}
+use Rattle.fast_stream.specs.declared.mode.Mode.{Mode}
 use Rattle.fast_stream.specs.declared.place.Place.{Place}
 use Rattle.fast_stream.specs.declared.message.Message.{Message}
 use Rattle.fast_decoder.specs.declared.input.Reached.{Reached}
@@ -14,10 +15,9 @@ use Rattle.fast_decoder.specs.declared.input.Reached.TheVariants as reached
 use Rattle.fast_dictionary.specs.declared.entries.Entries.{Ghosts}
 use Rattle.fast_decoder.specs.declared.decoder.Decoder.{Decoder}
 use Rattle.fast_stream.specs.Nodes.{Content, content_of}
-use Rattle.fast_stream.specs.Streams.{Carries}
-use Rattle.fast_stream.specs.Faults.{FirstFault, EndsBetween}
+use Rattle.fast_stream.specs.Modes.{Carries, FirstFault, EndsBetween}
 use Rattle.fast_machine.specs.Standing.{Carried}
-use Rattle.fast_machine.specs.Following.{Follows as HasFed}
+use Rattle.fast_machine.specs.Following.{Follows as HasFed, mode_of}
 
 -- what a reader tells of itself: the bytes left where they are told, how many calls were made, how many of them
 -- failed, and how many met the end
@@ -37,32 +37,39 @@ pub record Reads (old new : Reader) (count : ℕ) (got : List ℕ) : Type 0 wher
   pub few : length got ≤ 4096 * count
 
 -- Where and why the bytes read are refused. Truncated comes only where the reader ended; of a read that failed or was
--- used up the place is where Truncated would be put in the bytes read, or their end between two messages; each of the
--- reads that are used up gave a byte, so none met the end; and want of memory has no place but the message.
-abbrev pub RefusedBy : Cause → List Resolved → ℕ → Option (List ℕ) → List ℕ → Place → Type 0
-RefusedBy cause.D2 set turns left bytes place = FirstFault set bytes place cause.D2
-RefusedBy cause.D4 set turns left bytes place = FirstFault set bytes place cause.D4
-RefusedBy cause.D5 set turns left bytes place = FirstFault set bytes place cause.D5
-RefusedBy cause.D6 set turns left bytes place = FirstFault set bytes place cause.D6
-RefusedBy cause.D7 set turns left bytes place = FirstFault set bytes place cause.D7
-RefusedBy cause.D9 set turns left bytes place = FirstFault set bytes place cause.D9
-RefusedBy cause.R1 set turns left bytes place = FirstFault set bytes place cause.R1
-RefusedBy cause.R2 set turns left bytes place = FirstFault set bytes place cause.R2
-RefusedBy cause.Limit set turns left bytes place = FirstFault set bytes place cause.Limit
-RefusedBy cause.Truncated set turns left bytes place = FirstFault set bytes place cause.Truncated × IsAtEnd left
-RefusedBy cause.Read set turns left bytes place = FirstFault set bytes place cause.Truncated ⊎ EndsBetween set bytes place
-RefusedBy cause.Turns set turns left bytes place = (FirstFault set bytes place cause.Truncated ⊎ EndsBetween set bytes place) × (turns ≤ length bytes)
-RefusedBy cause.Memory set turns left bytes place = (place.offset ≡ 0) × (place.template ≡ 0) × (place.instruction ≡ 0)
+-- used up the place is where Truncated would be put in the bytes read, or their end between two messages, and between
+-- two blocks; each of the reads that are used up gave a byte, so none met the end; and want of memory has no place but
+-- the message.
+abbrev pub RefusedBy : Cause → Mode → List Resolved → ℕ → Option (List ℕ) → List ℕ → Place → Type 0
+RefusedBy cause.D2 mode set turns left bytes place = FirstFault mode set bytes place cause.D2
+RefusedBy cause.D4 mode set turns left bytes place = FirstFault mode set bytes place cause.D4
+RefusedBy cause.D5 mode set turns left bytes place = FirstFault mode set bytes place cause.D5
+RefusedBy cause.D6 mode set turns left bytes place = FirstFault mode set bytes place cause.D6
+RefusedBy cause.D7 mode set turns left bytes place = FirstFault mode set bytes place cause.D7
+RefusedBy cause.D9 mode set turns left bytes place = FirstFault mode set bytes place cause.D9
+RefusedBy cause.D12 mode set turns left bytes place = FirstFault mode set bytes place cause.D12
+RefusedBy cause.BlockEnd mode set turns left bytes place = FirstFault mode set bytes place cause.BlockEnd
+RefusedBy cause.R1 mode set turns left bytes place = FirstFault mode set bytes place cause.R1
+RefusedBy cause.R2 mode set turns left bytes place = FirstFault mode set bytes place cause.R2
+RefusedBy cause.R6 mode set turns left bytes place = FirstFault mode set bytes place cause.R6
+RefusedBy cause.R7 mode set turns left bytes place = FirstFault mode set bytes place cause.R7
+RefusedBy cause.R8 mode set turns left bytes place = FirstFault mode set bytes place cause.R8
+RefusedBy cause.R9 mode set turns left bytes place = FirstFault mode set bytes place cause.R9
+RefusedBy cause.Limit mode set turns left bytes place = FirstFault mode set bytes place cause.Limit
+RefusedBy cause.Truncated mode set turns left bytes place = FirstFault mode set bytes place cause.Truncated × IsAtEnd left
+RefusedBy cause.Read mode set turns left bytes place = FirstFault mode set bytes place cause.Truncated ⊎ EndsBetween mode set bytes place
+RefusedBy cause.Turns mode set turns left bytes place = (FirstFault mode set bytes place cause.Truncated ⊎ EndsBetween mode set bytes place) × (turns ≤ length bytes)
+RefusedBy cause.Memory mode set turns left bytes place = (place.offset ≡ 0) × (place.template ≡ 0) × (place.instruction ≡ 0)
 
 -- a prefix of the bytes carries the messages, and behind them is the fault
-pub record Refuses (set : List Resolved) (turns : ℕ) (left : Option (List ℕ)) (bytes : List ℕ) (messages : List Content) (f : Fault) : Type 0 where
-  pub carried : Carried set bytes messages
+pub record Refuses (mode : Mode) (set : List Resolved) (turns : ℕ) (left : Option (List ℕ)) (bytes : List ℕ) (messages : List Content) (f : Fault) : Type 0 where
+  pub carried : Carried mode set bytes messages
   pub behind : f.place.message ≡ length messages + 1
-  pub refused : RefusedBy f.cause set turns left bytes f.place
+  pub refused : RefusedBy f.cause mode set turns left bytes f.place
 
 -- the reader has ended, and its bytes carry just the messages
-pub record EndsWith (set : List Resolved) (left : Option (List ℕ)) (bytes : List ℕ) (messages : List Content) : Type 0 where
-  pub carried : Carries set bytes messages
+pub record EndsWith (mode : Mode) (set : List Resolved) (left : Option (List ℕ)) (bytes : List ℕ) (messages : List Content) : Type 0 where
+  pub carried : Carries mode set bytes messages
   pub ended : IsAtEnd left
 
 -- a decoder with no fault follows these bytes, fed since its reset, and these messages, pushed since
@@ -71,10 +78,10 @@ pub record Follows {E : Type 0} {ghosts : Ghosts E} (d : Decoder E ghosts) (byte
   pub follows : HasFed d.machine [] bytes messages
 
 -- How far a stream came, that has found these messages in these bytes; while it is open its decoder goes on from them.
-abbrev pub HasReached : Reached → Type 0 → List Resolved → ℕ → Option (List ℕ) → List ℕ → List Content → Type 0
-HasReached reached.Open GoesOn set turns left bytes messages = GoesOn
-HasReached reached.End GoesOn set turns left bytes messages = EndsWith set left bytes messages
-HasReached (reached.Fault f) GoesOn set turns left bytes messages = Refuses set turns left bytes messages f
+abbrev pub HasReached : Reached → Type 0 → Mode → List Resolved → ℕ → Option (List ℕ) → List ℕ → List Content → Type 0
+HasReached reached.Open GoesOn mode set turns left bytes messages = GoesOn
+HasReached reached.End GoesOn mode set turns left bytes messages = EndsWith mode set left bytes messages
+HasReached (reached.Fault f) GoesOn mode set turns left bytes messages = Refuses mode set turns left bytes messages f
 
 -- a fact on the cause of a fault, where one was reached
 abbrev pub OnFault : Reached → (Cause → Type 0) → Type 0
@@ -96,7 +103,7 @@ waiting_in waiting = map content_of (reverse waiting)
 -- byte while it was open.
 abbrev pub Stands : {E : Type 0} {ghosts : Ghosts E} → Reached → Decoder E ghosts → List Message → ℕ → ℕ → Option (List ℕ) → List ℕ → List Content → Type 0
 Stands at decoder waiting turns reads left bytes answered =
-    HasReached at (Follows decoder bytes (answered ++ waiting_in waiting) × (reads ≤ length bytes)) (templates_in decoder.machine.traversal.set.now) turns left bytes (answered ++ waiting_in waiting)
+    HasReached at (Follows decoder bytes (answered ++ waiting_in waiting) × (reads ≤ length bytes)) (mode_of decoder.machine) (templates_in decoder.machine.traversal.set.now) turns left bytes (answered ++ waiting_in waiting)
 
 -- the message that is answered, if there is one
 abbrev pub answered_in : Result (Option Message) Fault → List Content
@@ -106,10 +113,10 @@ answered_in (Err f) = []
 
 -- What an answer says of the bytes read and of the messages answered since the reset, its own included: a prefix of
 -- the bytes carries them; with none, all the bytes do and the reader has ended; with a fault, they are those before it.
-abbrev pub Tells : Result (Option Message) Fault → List Resolved → ℕ → Option (List ℕ) → List ℕ → List Content → Type 0
-Tells (Ok (Some m)) set turns left bytes answered = Carried set bytes answered
-Tells (Ok None) set turns left bytes answered = EndsWith set left bytes answered
-Tells (Err f) set turns left bytes answered = Refuses set turns left bytes answered f
+abbrev pub Tells : Result (Option Message) Fault → Mode → List Resolved → ℕ → Option (List ℕ) → List ℕ → List Content → Type 0
+Tells (Ok (Some m)) mode set turns left bytes answered = Carried mode set bytes answered
+Tells (Ok None) mode set turns left bytes answered = EndsWith mode set left bytes answered
+Tells (Err f) mode set turns left bytes answered = Refuses mode set turns left bytes answered f
 
 -- What the counts of a reader show of a stream that was open: none failed or met the end while it is open; and there
 -- is a cause where it is not: a failed read, one that met the end, or all reads made of which none met it.

@@ -9,13 +9,14 @@ use fast_part::{exponent_in, mantissa_in, take_part, unsigned_in};
 use fast_stream::{Message, Node};
 use fast_template::{FieldPart, Name, Presence, Scalar};
 use fast_walk::Receiver;
+use fast_wire::Level;
 use std::alloc::{AllocError, Global};
 use std::mem;
 
 /// What is built of a body that waits for the segment inside it: its nodes, and the elements of the sequence where
 /// the segment is one.
 #[derive(Drop)]
-pub struct Level {
+pub struct Outer {
     nodes: Vec<Node>,
     elements: Vec<Vec<Node>>,
 }
@@ -31,7 +32,7 @@ pub struct Builder {
     // of the sequence whose element is next
     elements: Vec<Vec<Node>>,
     // of the bodies around
-    outer: Vec<Level>,
+    outer: Vec<Outer>,
     whole: Vec<Message>,
 }
 
@@ -100,10 +101,11 @@ impl Receiver for Builder {
         entries: &mut E,
         identifier: &FieldPart,
         bit: bool,
+        level: Level,
         bytes: &[u8],
         at: usize,
     ) -> Result<(u32, usize), FieldFault> {
-        match take_part(alloc, entries, identifier, bit, bytes, at) {
+        match take_part(alloc, entries, identifier, bit, level, bytes, at) {
             Err(fault) => Err(fault),
             Ok((value, next)) => match unsigned_in(&value) {
                 Ok(Some(id)) => {
@@ -140,10 +142,11 @@ impl Receiver for Builder {
         entries: &mut E,
         part: &FieldPart,
         bit: bool,
+        level: Level,
         bytes: &[u8],
         at: usize,
     ) -> Result<usize, FieldFault> {
-        match take_part(alloc, entries, part, bit, bytes, at) {
+        match take_part(alloc, entries, part, bit, level, bytes, at) {
             Err(fault) => Err(fault),
             Ok((value, next)) => match self.nodes.push(node_of(value)) {
                 Err(_) => Err(FieldFault::Memory),
@@ -160,10 +163,11 @@ impl Receiver for Builder {
         entries: &mut E,
         part: &FieldPart,
         bit: bool,
+        level: Level,
         bytes: &[u8],
         at: usize,
     ) -> Result<(bool, usize), FieldFault> {
-        match take_part(alloc, entries, part, bit, bytes, at) {
+        match take_part(alloc, entries, part, bit, level, bytes, at) {
             Err(fault) => Err(fault),
             Ok((value, next)) => match exponent_in(&value) {
                 Err(fault) => Err(fault),
@@ -185,10 +189,11 @@ impl Receiver for Builder {
         entries: &mut E,
         part: &FieldPart,
         bit: bool,
+        level: Level,
         bytes: &[u8],
         at: usize,
     ) -> Result<usize, FieldFault> {
-        match take_part(alloc, entries, part, bit, bytes, at) {
+        match take_part(alloc, entries, part, bit, level, bytes, at) {
             Err(fault) => Err(fault),
             Ok((value, next)) => match mantissa_in(&value) {
                 Err(fault) => Err(fault),
@@ -214,10 +219,11 @@ impl Receiver for Builder {
         entries: &mut E,
         part: &FieldPart,
         bit: bool,
+        level: Level,
         bytes: &[u8],
         at: usize,
     ) -> Result<(Option<u32>, usize), FieldFault> {
-        match take_part(alloc, entries, part, bit, bytes, at) {
+        match take_part(alloc, entries, part, bit, level, bytes, at) {
             Err(fault) => Err(fault),
             Ok((value, next)) => match unsigned_in(&value) {
                 Err(fault) => Err(fault),
@@ -249,14 +255,14 @@ impl Receiver for Builder {
         let inner = Vec::with_capacity(alloc, size)?;
         let nodes = mem::replace(&mut self.nodes, inner);
         let elements = Vec::new(alloc);
-        self.outer.push(Level { nodes, elements })?;
+        self.outer.push(Outer { nodes, elements })?;
         Ok(())
     }
 
     fn leave(&mut self, _alloc: Global) -> Result<(), AllocError> {
         match self.outer.pop() {
             None => Err(AllocError),
-            Some(Level { nodes, .. }) => {
+            Some(Outer { nodes, .. }) => {
                 let inner = mem::replace(&mut self.nodes, nodes);
                 self.nodes.push(Node::Group(inner))?;
                 Ok(())
@@ -273,14 +279,14 @@ impl Receiver for Builder {
         let inner = Vec::with_capacity(alloc, size)?;
         let nodes = mem::replace(&mut self.nodes, inner);
         let elements = mem::replace(&mut self.elements, Vec::new(alloc));
-        self.outer.push(Level { nodes, elements })?;
+        self.outer.push(Outer { nodes, elements })?;
         Ok(())
     }
 
     fn leave_element(&mut self, _alloc: Global) -> Result<(), AllocError> {
         match self.outer.pop() {
             None => Err(AllocError),
-            Some(Level { nodes, elements }) => {
+            Some(Outer { nodes, elements }) => {
                 let inner = mem::replace(&mut self.nodes, nodes);
                 self.elements = elements;
                 self.elements.push(inner)?;

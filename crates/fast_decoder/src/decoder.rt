@@ -3,14 +3,14 @@
 ghost use Rattle.std.specs.Prelude.{◌≡◌, ◌≢◌, ◌≤◌, ◌+◌, ◌^◌, ◌++◌, [], ℕ, List, None, Some, Err, OnOk, IfErr, IfSome, length, map};
 ghost use Rattle.fast_template.specs.TemplateSets.{templates_in};
 ghost use Rattle.fast_stream.specs.Nodes.{Content, content_of};
-ghost use Rattle.fast_stream.specs.Streams.{Carries};
+ghost use Rattle.fast_stream.specs.Modes.{Carries};
 ghost use Rattle.fast_machine.specs.Following.{IsHeld};
 ghost use Rattle.fast_walk.specs.Traversals.{ServesAll};
 
 use crate::builder::Builder;
 use fast_dictionary::Entries;
 use fast_machine::Machine;
-use fast_stream::{Cause, Fault, Message};
+use fast_stream::{Cause, Fault, Message, Mode};
 use fast_template::TemplateSet;
 use std::alloc::Global;
 
@@ -24,17 +24,18 @@ pub struct Decoder<'a, E: Entries> {
 }
 
 impl<'a, E: Entries> Decoder<'a, E> {
-    ghost use Rattle.fast_machine.specs.Following.{Answers, Follows, IsCutAt};
+    ghost use Rattle.fast_machine.specs.Following.{Answers, Follows, IsCutAt, mode_of};
 
     /// A decoder of a set, at the beginning of a stream. The entries are reset. Takes no memory.
-    pub fn new(alloc: Global, set: &'a TemplateSet, entries: E) -> Decoder<'a, E>
+    pub fn new(alloc: Global, set: &'a TemplateSet, mode: Mode, entries: E) -> Decoder<'a, E>
         requires { ServesAll (E.serves entries) set.now }
         ensures set { result.machine.traversal.set.now ≡ set.now }
+        ensures mode { mode_of result.machine ≡ mode }
         ensures fault { result.machine.fault ≡ None }
         ensures follows { Follows result.machine [] [] [] }
     {
         Decoder {
-            machine: Machine::new(alloc, set, Builder::new(alloc), entries),
+            machine: Machine::new(alloc, set, mode, Builder::new(alloc), entries),
         }
     }
 
@@ -53,7 +54,7 @@ impl<'a, E: Entries> Decoder<'a, E> {
         // none where the bytes carry messages, else `fed` less the offset of Truncated
         ensures waits { self.now.machine.fault ≡ None → (fed : List ℕ) (messages : List Content)
             → Follows self.now.machine [] fed messages
-            → IsHeld (templates_in self.now.machine.traversal.set.now) fed self.now.machine.fed
+            → IsHeld (mode_of self.now.machine) (templates_in self.now.machine.traversal.set.now) fed self.now.machine.fed
             result }
     {
         self.machine.held()
@@ -78,6 +79,7 @@ impl<'a, E: Entries> Decoder<'a, E> {
         ensures cause { self.old.machine.fault ≡ None → IfErr result (λ f. f.cause
             ≢ Cause.Truncated) }
         ensures set { self.new.machine.traversal.set ≡ self.old.machine.traversal.set }
+        ensures mode { mode_of self.new.machine ≡ mode_of self.old.machine }
         ensures same_keys { E.serves self.new.machine.entries ≡ E.serves self.old.machine.entries }
         ensures fed { self.old.machine.fault ≡ None
             → self.new.machine.fed ≡ self.old.machine.fed + length chunk.now }
@@ -103,7 +105,7 @@ impl<'a, E: Entries> Decoder<'a, E> {
             × (self.new ≡ self.old)) }
         ensures ok { OnOk result ((self.new ≡ self.old) × ((fed : List ℕ) (messages : List Content)
             → Follows self.old.machine [] fed messages
-            → Carries (templates_in self.old.machine.traversal.set.now) fed messages)) }
+            → Carries (mode_of self.old.machine) (templates_in self.old.machine.traversal.set.now) fed messages)) }
         ensures truncated { self.old.machine.fault ≡ None
             → IfErr result (λ f. (f.cause ≡ Cause.Truncated)
             × ((fed : List ℕ) (messages : List Content) → self.old.machine.fed ≤ 2 ^ 60
@@ -111,6 +113,7 @@ impl<'a, E: Entries> Decoder<'a, E> {
             → Follows self.new.machine [] fed messages)) }
         ensures answer { Answers result self.new.machine.fault }
         ensures set { self.new.machine.traversal.set ≡ self.old.machine.traversal.set }
+        ensures mode { mode_of self.new.machine ≡ mode_of self.old.machine }
         ensures fed { self.new.machine.fed ≡ self.old.machine.fed }
     {
         match self.machine.finish() {
@@ -125,12 +128,13 @@ impl<'a, E: Entries> Decoder<'a, E> {
         ensures cause { result.cause ≡ cause }
         ensures place { self.old.machine.fault ≡ None → (fed : List ℕ)
             (messages : List Content) → Follows self.old.machine [] fed messages
-            → IsCutAt (templates_in self.old.machine.traversal.set.now) fed messages result.place }
+            → IsCutAt (mode_of self.old.machine) (templates_in self.old.machine.traversal.set.now) fed messages result.place }
         ensures kept { IfSome self.old.machine.fault (λ f. self.new ≡ self.old) }
         ensures follows { self.old.machine.fault ≡ None → (fed : List ℕ)
             (messages : List Content) → Follows self.old.machine [] fed messages
             → Follows self.new.machine [] fed messages }
         ensures set { self.new.machine.traversal.set ≡ self.old.machine.traversal.set }
+        ensures mode { mode_of self.new.machine ≡ mode_of self.old.machine }
         ensures fed { self.new.machine.fed ≡ self.old.machine.fed }
     {
         self.machine.cut(cause)
@@ -139,6 +143,7 @@ impl<'a, E: Entries> Decoder<'a, E> {
     /// Begins a new stream, with all entries undefined. Takes no memory.
     pub fn reset(&mut self)
         ensures set { self.new.machine.traversal.set ≡ self.old.machine.traversal.set }
+        ensures mode { mode_of self.new.machine ≡ mode_of self.old.machine }
         ensures same_keys { E.serves self.new.machine.entries ≡ E.serves self.old.machine.entries }
         ensures fault { self.new.machine.fault ≡ None }
         ensures follows { Follows self.new.machine [] [] [] }

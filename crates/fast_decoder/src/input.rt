@@ -5,12 +5,13 @@ ghost use Rattle.std.specs.Io.KnownBytes.{IsAtEnd};
 ghost use Rattle.fast_template.specs.TemplateSets.{templates_in};
 ghost use Rattle.fast_stream.specs.Nodes.{Content};
 ghost use Rattle.fast_walk.specs.Traversals.{ServesAll};
+ghost use Rattle.fast_machine.specs.Following.{mode_of};
 ghost use Rattle.fast_decoder.specs.Inputs.{Causes, Follows, HasReached, IsCaused, IsFaultOf, OnFault, Reads, Stands, Tells, answered_in, reader_by, waiting_in};
 
 use crate::decoder::Decoder;
 use fast_dictionary::Entries;
 use fast_io::{ByteInput, Failed};
-use fast_stream::{Cause, Fault, Message};
+use fast_stream::{Cause, Fault, Message, Mode};
 use fast_template::TemplateSet;
 use std::alloc::Global;
 
@@ -54,11 +55,12 @@ fn feed<E: Entries>(
     ensures follows { (fed : List ℕ) (messages : List Content) (turns : ℕ) (left : Option (List ℕ))
         → Follows decoder.old fed messages
         → HasReached result (Follows decoder.new (fed ++ bytes.now) (messages
-        ++ waiting_in waiting.new.items)) (templates_in decoder.new.machine.traversal.set.now) turns left
+        ++ waiting_in waiting.new.items)) (mode_of decoder.new.machine) (templates_in decoder.new.machine.traversal.set.now) turns left
         (fed ++ bytes.now) (messages ++ waiting_in waiting.new.items)
         × OnFault result (λ c. (c ≢ Cause.Truncated) × (c ≢ Cause.Read) × (c ≢ Cause.Turns)) }
     ensures end { result ≢ Reached.End }
     ensures set { decoder.new.machine.traversal.set ≡ decoder.old.machine.traversal.set }
+    ensures mode { mode_of decoder.new.machine ≡ mode_of decoder.old.machine }
     ensures fed { decoder.new.machine.fed ≤ decoder.old.machine.fed + length bytes.now }
 {
     let fed = decoder.feed(bytes, waiting);
@@ -74,9 +76,10 @@ fn end<E: Entries>(decoder: &mut Decoder<'_, E>) -> Reached
     requires few { decoder.now.machine.fed ≤ 2 ^ 60 }
     ensures follows { (fed : List ℕ) (messages : List Content) (turns : ℕ) (left : Option (List ℕ))
         → Follows decoder.old fed messages → IsAtEnd left
-        → HasReached result ⊥ (templates_in decoder.new.machine.traversal.set.now) turns left fed messages
+        → HasReached result ⊥ (mode_of decoder.new.machine) (templates_in decoder.new.machine.traversal.set.now) turns left fed messages
         × OnFault result (λ c. c ≡ Cause.Truncated) }
     ensures set { decoder.new.machine.traversal.set ≡ decoder.old.machine.traversal.set }
+    ensures mode { mode_of decoder.new.machine ≡ mode_of decoder.old.machine }
     ensures fed { decoder.new.machine.fed ≡ decoder.old.machine.fed }
 {
     match decoder.finish() {
@@ -92,6 +95,7 @@ impl<'a, R: ByteInput, E: Entries> MessageInputStream<'a, R, E> {
         alloc: Global,
         reader: R,
         set: &'a TemplateSet,
+        mode: Mode,
         entries: E,
         turns: u64,
     ) -> MessageInputStream<'a, R, E>
@@ -100,6 +104,7 @@ impl<'a, R: ByteInput, E: Entries> MessageInputStream<'a, R, E> {
         ensures reader { result.reader ≡ reader }
         ensures turns { result.turns ≡ turns }
         ensures set { result.decoder.machine.traversal.set.now ≡ set.now }
+        ensures mode { mode_of result.decoder.machine ≡ mode }
         ensures reached { result.reached ≡ Reached.Open }
         ensures reads { result.reads ≡ 0 }
         ensures waiting { result.waiting.items ≡ [] }
@@ -108,7 +113,7 @@ impl<'a, R: ByteInput, E: Entries> MessageInputStream<'a, R, E> {
     {
         MessageInputStream {
             reader,
-            decoder: Decoder::new(alloc, set, entries),
+            decoder: Decoder::new(alloc, set, mode, entries),
             waiting: Vec::new(alloc),
             turns,
             reads: 0,
@@ -137,6 +142,7 @@ impl<'a, R: ByteInput, E: Entries> MessageInputStream<'a, R, E> {
         ensures reads { self.new.reads ≡ self.old.reads + 1 }
         ensures turns { self.new.turns ≡ self.old.turns }
         ensures set { self.new.decoder.machine.traversal.set ≡ self.old.decoder.machine.traversal.set }
+        ensures mode { mode_of self.new.decoder.machine ≡ mode_of self.old.decoder.machine }
         ensures read { (got : List ℕ)
             × Reads (reader_by R.left R.calls R.errors R.ends self.old.reader)
             (reader_by R.left R.calls R.errors R.ends self.new.reader) 1 got
@@ -168,7 +174,7 @@ impl<'a, R: ByteInput, E: Entries> MessageInputStream<'a, R, E> {
             self.old.reads (R.left self.old.reader) bytes answered
             → Stands self.new.reached self.new.decoder self.new.waiting.items self.new.turns
             self.new.reads (R.left self.new.reader) bytes answered
-            × Tells result (templates_in self.new.decoder.machine.traversal.set.now) self.new.turns
+            × Tells result (mode_of self.new.decoder.machine) (templates_in self.new.decoder.machine.traversal.set.now) self.new.turns
             (R.left self.new.reader) bytes answered }
         ensures open { self.old.reached ≡ Reached.Open → IsFaultOf Cause.Turns self.new.reached }
         ensures closed { self.old.reached ≢ Reached.Open → self.new ≡ self.old }
@@ -179,6 +185,7 @@ impl<'a, R: ByteInput, E: Entries> MessageInputStream<'a, R, E> {
         ensures reads { self.new.reads ≡ self.old.reads }
         ensures turns { self.new.turns ≡ self.old.turns }
         ensures set { self.new.decoder.machine.traversal.set ≡ self.old.decoder.machine.traversal.set }
+        ensures mode { mode_of self.new.decoder.machine ≡ mode_of self.old.decoder.machine }
     {
         match self.reached {
             Reached::End => Ok(None),
@@ -203,6 +210,7 @@ impl<'a, R: ByteInput, E: Entries> MessageInputStream<'a, R, E> {
     pub fn read_message(&mut self) -> Result<Option<Message>, Fault>
         ensures turns { self.new.turns ≡ self.old.turns }
         ensures set { self.new.decoder.machine.traversal.set ≡ self.old.decoder.machine.traversal.set }
+        ensures mode { mode_of self.new.decoder.machine ≡ mode_of self.old.decoder.machine }
         ensures waits { self.old.waiting.items ≢ [] → self.new.reader ≡ self.old.reader }
         ensures read { (got : List ℕ) × (count : ℕ)
             × Reads (reader_by R.left R.calls R.errors R.ends self.old.reader)
@@ -213,7 +221,7 @@ impl<'a, R: ByteInput, E: Entries> MessageInputStream<'a, R, E> {
             self.old.reads (R.left self.old.reader) bytes answered
             → Stands self.new.reached self.new.decoder self.new.waiting.items self.new.turns
             self.new.reads (R.left self.new.reader) (bytes ++ got) (answered ++ answered_in result)
-            × Tells result (templates_in self.new.decoder.machine.traversal.set.now) self.new.turns
+            × Tells result (mode_of self.new.decoder.machine) (templates_in self.new.decoder.machine.traversal.set.now) self.new.turns
             (R.left self.new.reader) (bytes ++ got) (answered ++ answered_in result)
             × Causes self.old.reached self.new.reached (self.new.reads ≡ self.new.turns)
             (reader_by R.left R.calls R.errors R.ends self.old.reader)
@@ -239,6 +247,7 @@ impl<'a, R: ByteInput, E: Entries> MessageInputStream<'a, R, E> {
         ensures reader { self.new.reader ≡ self.old.reader }
         ensures turns { self.new.turns ≡ self.old.turns }
         ensures set { self.new.decoder.machine.traversal.set ≡ self.old.decoder.machine.traversal.set }
+        ensures mode { mode_of self.new.decoder.machine ≡ mode_of self.old.decoder.machine }
         ensures reached { self.new.reached ≡ Reached.Open }
         ensures reads { self.new.reads ≡ 0 }
         ensures waiting { self.new.waiting.items ≡ [] }

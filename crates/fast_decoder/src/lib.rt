@@ -9,9 +9,10 @@ mod builder;
 mod decoder;
 mod input;
 
-pub use builder::{Builder, Level};
+pub use builder::{Builder, Outer};
 pub use decoder::Decoder;
 pub use fast_machine::Machine;
-pub use fast_stream::{Cause, Fault, Message, Node, Place};
+pub use fast_stream::{Cause, Fault, Framing, Message, Mode, Node, Place};
 pub use fast_walk::Receiver;
+pub use fast_wire::Level;
 pub use input::{MessageInputStream, Reached};

@@ -2,6 +2,7 @@
 use Rattle.std.proofs.Common.{◌≡◌, ◌+◌, ◌-◌, ◌/◌, ◌<◌, ◌≤◌, ℕ, zero, suc, Bool, true, false, ◌&&◌, List, [], ◌∷◌, ◌++◌, length, drop, Option, Some, None, Result, Ok, Err, refl, sym, ap, ◌∙◌, arith, inl, inr}
 use Rattle.std.specs.Prelude.{if◌then◌else◌}
 use Rattle.std.proofs.lemmas.Bool.{cases_lt}
+use Rattle.fast_wire.specs.declared.level.Level.TheVariants.{Usual}
 use Rattle.fast_value.specs.declared.kind.Operator.{Operator}
 use Rattle.fast_value.specs.declared.kind.Operator.TheVariants as operator
 use Rattle.fast_value.specs.declared.scalar.Scalar.{Scalar}
@@ -34,7 +35,7 @@ use Rattle.fast_encoder.specs.Added.{Standing, Judging, Adds, AddsBytes, HoldSca
 use Rattle.fast_writer.specs.Canonical.{CanonBody, CanonMessage, IsShortestMap}
 use Rattle.fast_encoder.specs.FirstRefusal.{item_fits, items_fit, elements_fit, whole_refusal, judged, part_judged, segment_judged, item_judged, items_judged, elements_judged, or_else, error_in, message_refusal, first_refusal}
 use Rattle.fast_encoder.specs.Ranges.{HasRanges, HaveRanges, HaveRangesIn, IsInRange}
-use Rattle.fast_writer.specs.Written.{has_set, Level, state, bits_for, Segment, Spelt, Asked, Ended}
+use Rattle.fast_writer.specs.Written.{has_set, Segment, state, bits_for, CanonSegment, Spelt, Asked, Ended}
 use Rattle.fast_encoder.proofs.Additions.{adds_then, body_none, body_more, part_added, no_group_added, group_added, sequence_added, elements_none, elements_more, segment_added}
 use Rattle.fast_encoder.proofs.Changes.{best_holds}
 use Rattle.fast_encoder.proofs.Messages.{fitting, message_added, written_is}
@@ -85,7 +86,7 @@ shortest_map bits room =
     let n = size_of u.number u.few in
     (map_of n.0 bits 0, map_shortest bits u.number n.0 u.used n.1)
 
-ended_by : (own : Bool) (l : Level) (old : List ℕ) → l.own ≡ own → (own && has_set (drop 1792 l.bits)) ≡ false → (new : List ℕ) × Ended l old new
+ended_by : (own : Bool) (l : Segment) (old : List ℕ) → l.own ≡ own → (own && has_set (drop 1792 l.bits)) ≡ false → (new : List ℕ) × Ended l old new
 ended_by true l old is room =
     let m = shortest_map l.bits room in
     (old ++ (m.0 ++ l.bytes), record { map = m.0; bytes = refl; shortest = λ own. m.1; none = λ none. absurd (let both : true ≡ false = sym is ∙ none in cc) })
@@ -108,9 +109,9 @@ room_ok true f d e h = absurd cc
 
 -- ---- what is added
 
-record Added (Stands : Standing) (judge : Judging) (d : Dictionary) (l : Level) : Type 0 where
+record Added (Stands : Standing) (judge : Judging) (d : Dictionary) (l : Segment) : Type 0 where
   entries : Dictionary
-  level : Level
+  level : Segment
   adds : Adds Stands judge d l entries level
   holds : HoldScalars entries
 
@@ -121,7 +122,7 @@ record AddedBytes (Stands : Dictionary → List ℕ → Dictionary → Type 0) (
   holds : HoldScalars entries
 
 -- a form stands under bit 1 where its part takes no bit
-row_bit : (o : Operator) (i : FieldPart) (e : Entry) (bit : Bool) (cut : Cut) (b : List ℕ) (v : Option Scalar) → FormOf o i e bit cut b v → operator_needs_bit o i.presence ≡ false → bit ≡ true
+row_bit : (o : Operator) (i : FieldPart) (e : Entry) (bit : Bool) (cut : Cut) (b : List ℕ) (v : Option Scalar) → FormOf Usual o i e bit cut b v → operator_needs_bit o i.presence ≡ false → bit ≡ true
 row_bit o i e true cut b v h none = refl
 row_bit operator.Plain i e false cut b v h none = absurd h
 row_bit operator.Constant i e false cut b v h none = let asks : operator_needs_bit operator.Constant i.presence ≡ true = ap (operator_needs_bit operator.Constant) h.2 in absurd cc
@@ -131,7 +132,7 @@ row_bit operator.Increment i e false cut b v h none = absurd cc
 row_bit operator.Delta i e false cut b v h none = absurd h
 row_bit operator.Tail i e false cut b v h none = absurd cc
 
-add_part : (p : FieldPart) (v : Option Scalar) (d : Dictionary) (l : Level) (t : State) → IsFieldPart p → HoldScalars d → HasRangeOr v → part_judged p (state d l.bits) v ≡ Ok t
+add_part : (p : FieldPart) (v : Option Scalar) (d : Dictionary) (l : Segment) (t : State) → IsFieldPart p → HoldScalars d → HasRangeOr v → part_judged p (state d l.bits) v ≡ Ok t
     → Added (λ s x t. PartBy IsBest p s x v t) (λ s. part_judged p s v) d l
 add_part p v d l t is holds range h =
     let needs = part_needs_bit p in
@@ -139,7 +140,7 @@ add_part p v d l t is holds range h =
     let none : refusal_of p e v ≡ None = part_ok p (state d l.bits) v t (refusal_of p e v) h in
     let best = best_stands p e v is (holds p.key) range none in
     let bit = best.0 in
-    let k : Level = record { bits = l.bits ++ bits_for needs bit; own = l.own; bytes = l.bytes ++ best.1 } in
+    let k : Segment = record { bits = l.bits ++ bits_for needs bit; own = l.own; bytes = l.bytes ++ best.1 } in
     let spelt : Spelt p e v l k = record {
       bit = bit;
       form = best.1;
@@ -158,11 +159,11 @@ add_part p v d l t is holds range h =
 -- ---- a segment
 
 add_segment : (members : Instructions) (ns : Items) (d : Dictionary) (old : List ℕ) (e : Dictionary)
-    → ((l : Level) (t : State) → items_judged members ns (state d l.bits) ≡ Ok t → Added (λ s x t. CanonBody members s x ns t) (λ s. items_judged members ns s) d l)
+    → ((l : Segment) (t : State) → items_judged members ns (state d l.bits) ≡ Ok t → Added (λ s x t. CanonBody members s x ns t) (λ s. items_judged members ns s) d l)
     → segment_judged (has_map members) (λ t. items_judged members ns t) d ≡ Ok e
-    → AddedBytes (λ d x e. Segment members d x ns e) (λ d. segment_judged (has_map members) (λ t. items_judged members ns t) d) d old
+    → AddedBytes (λ d x e. CanonSegment members d x ns e) (λ d. segment_judged (has_map members) (λ t. items_judged members ns t) d) d old
 add_segment members ns d old e inside h =
-    let k : Level = record { bits = []; own = has_map members; bytes = [] } in
+    let k : Segment = record { bits = []; own = has_map members; bytes = [] } in
     let f = bind_ok (items_judged members ns (state d [])) (λ s. if has_map members && has_set (drop 1792 s.bits) then Err _ else Ok s.dictionary) e h in
     let a = inside k f.0 f.1 in
     let room = room_ok (has_map members && has_set (drop 1792 a.level.bits)) _ a.entries e (rw (a.adds.judged) at h) in
@@ -175,20 +176,20 @@ add_segment members ns d old e inside h =
 count_range : (n : ℕ) → n ≤ 65535 → n < 4294967296
 count_range n h = omega (arith, h)
 
-added_then : (P : Standing) (p : Judging) (Q : Standing) (q : Judging) (d : Dictionary) (l : Level) → (a : Added P p d l) → Added Q q a.entries a.level
+added_then : (P : Standing) (p : Judging) (Q : Standing) (q : Judging) (d : Dictionary) (l : Segment) → (a : Added P p d l) → Added Q q a.entries a.level
     → Added (λ s b t. Then (λ x u. P s x u) (λ u y. Q u y t) b) (λ s. p s >>= λ t. q t) d l
 added_then P p Q q d l a b =
     record { entries = b.entries; level = b.level; adds = adds_then P p Q q d a.entries b.entries l a.level b.level a.adds b.adds; holds = b.holds }
 
 -- a bit more
-abbrev with_bit : Level → Bool → Bool → Level
+abbrev with_bit : Segment → Bool → Bool → Segment
 with_bit l takes bit = record { bits = l.bits ++ bits_for takes bit; own = l.own; bytes = l.bytes }
 
-bit_asked : (l : Level) (takes bit : Bool) → Asked takes bit l (with_bit l takes bit)
+bit_asked : (l : Segment) (takes bit : Bool) → Asked takes bit l (with_bit l takes bit)
 bit_asked l takes bit = record { bits = refl; own = refl; bytes = refl }
 
 mutual
-  add_piece : (i : Instruction) → EachPart IsFieldPart i → (n : Item) → item_fits i n ≡ true → IsSmall n → HasRanges n → (d : Dictionary) (l : Level) (t : State) → HoldScalars d → item_judged i n (state d l.bits) ≡ Ok t
+  add_piece : (i : Instruction) → EachPart IsFieldPart i → (n : Item) → item_fits i n ≡ true → IsSmall n → HasRanges n → (d : Dictionary) (l : Segment) (t : State) → HoldScalars d → item_judged i n (state d l.bits) ≡ Ok t
       → Added (λ s x t. PieceBy IsBest IsShortestMap i s x n t) (λ s. item_judged i n s) d l
   add_piece (whole_field name number presence whole) is (single v) fits small range d l t holds h = add_part whole v d l t is holds range h
   add_piece (field_in_parts name number presence exponent mantissa) is (single None) fits small range d l t holds h = add_part exponent None d l t is.0 holds tt h
@@ -226,7 +227,7 @@ mutual
       }
   add_piece i is n fits small range d l t holds h = absurd cc
 
-  add_body : (members : Instructions) → EachPartIn IsFieldPart members → (ns : Items) → items_fit members ns ≡ true → AreSmall ns → HaveRanges ns → (d : Dictionary) (l : Level) (t : State) → HoldScalars d → items_judged members ns (state d l.bits) ≡ Ok t
+  add_body : (members : Instructions) → EachPartIn IsFieldPart members → (ns : Items) → items_fit members ns ≡ true → AreSmall ns → HaveRanges ns → (d : Dictionary) (l : Segment) (t : State) → HoldScalars d → items_judged members ns (state d l.bits) ≡ Ok t
       → Added (λ s x t. CanonBody members s x ns t) (λ s. items_judged members ns s) d l
   add_body no_instructions is no_items fits small range d l t holds h = record { entries = d; level = l; adds = body_none d l; holds = holds }
   add_body (then_instruction i is) are (then_item n ns) fits small range d l t holds h =
@@ -238,7 +239,7 @@ mutual
   add_body members is ns fits small range d l t holds h = absurd cc
 
   add_elements : (members : Instructions) → EachPartIn IsFieldPart members → (es : Elements) → elements_fit members es ≡ true → AreSmallIn es → HaveRangesIn es → (d : Dictionary) (old : List ℕ) (after : Dictionary) → HoldScalars d
-      → elements_judged members es d ≡ Ok after → AddedBytes (λ d y e. Each (Segment members) d y es e) (λ d. elements_judged members es d) d old
+      → elements_judged members es d ≡ Ok after → AddedBytes (λ d y e. Each (CanonSegment members) d y es e) (λ d. elements_judged members es d) d old
   add_elements members is no_elements fits small range d old after holds h = record { entries = d; bytes = old; adds = elements_none members d old; holds = holds }
   add_elements members is (then_element ns es) fits small range d old after holds h =
       let fit = and_true (items_fit members ns) (elements_fit members es) fits in
@@ -264,7 +265,7 @@ message_bytes : (set : TemplateList) (d : Dictionary) (m : Content) (members : I
     → whole_refusal members m.items ≡ None → message_judged members m (state d []) ≡ Ok s → segment_judged true (message_judged members m) d ≡ Ok after → HasBytes set d m
 message_bytes set d m members s after named parts holds range whole inside h =
     let id : Option Scalar = Some (U32 m.template) in
-    let k : Level = record { bits = []; own = true; bytes = [] } in
+    let k : Segment = record { bits = []; own = true; bytes = [] } in
     let fit = fitting members m.items whole in
     let f = bind_ok (part_judged identifier (state d []) id) (λ u. items_judged members m.items u) s inside in
     let first = add_part identifier id d k f.0 identifier_is holds range.template f.1 in

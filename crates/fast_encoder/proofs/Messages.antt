@@ -20,7 +20,7 @@ use Rattle.fast_encoder.specs.declared.fault.EncodeFault.{EncodeFault}
 use Rattle.fast_encoder.specs.Added.{Adds, AddsBytes, AnswersBytes, CanTry, MessageStands, message_judged}
 use Rattle.fast_writer.specs.Canonical.{CanonBody, CanonMessage, IsShortestMap}
 use Rattle.fast_encoder.specs.FirstRefusal.{refused, part_judged, items_judged, items_fit, is_too_large, has_large, whole_refusal, segment_judged}
-use Rattle.fast_writer.specs.Written.{Level, Ended, has_set}
+use Rattle.fast_writer.specs.Written.{Segment, Ended, has_set}
 use Rattle.fast_encoder.proofs.Additions.{adds_then}
 use Rattle.fast_writer.proofs.Leavings.{closed}
 use Rattle.fast_encoder.proofs.Tries.{or_false, small_all}
@@ -59,7 +59,7 @@ can_try serves set m members sound served named whole =
 
 -- ---- a message
 
-pub message_added : (members : Instructions) (m : Content) (d e f : Dictionary) (k l j : Level) (old new : List ℕ) → k.bits ≡ [] → k.own ≡ true → k.bytes ≡ []
+pub message_added : (members : Instructions) (m : Content) (d e f : Dictionary) (k l j : Segment) (old new : List ℕ) → k.bits ≡ [] → k.own ≡ true → k.bytes ≡ []
     → Adds (λ s x t. PartBy IsBest identifier s x (Some (U32 m.template)) t) (λ s. part_judged identifier s (Some (U32 m.template))) d k e l
     → Adds (λ s x t. CanonBody members s x m.items t) (λ s. items_judged members m.items s) e l f j
     → Ended j old new → (j.own && has_set (drop 1792 j.bits)) ≡ false

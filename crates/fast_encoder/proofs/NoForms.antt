@@ -4,6 +4,7 @@ use Rattle.std.specs.Prelude.{not, nat_lt}
 use Rattle.std.specs.List.{AllByRecursion}
 use Rattle.std.proofs.lemmas.Bool.Decides.{nat_tests}
 use Rattle.std.proofs.lemmas.List.{append_assoc, length-map}
+use Rattle.fast_wire.specs.declared.level.Level.TheVariants.{Usual}
 use Rattle.fast_value.specs.Scalar.{IsScalar}
 use Rattle.fast_value.specs.declared.kind.Presence.{Presence}
 use Rattle.fast_value.specs.declared.kind.Presence.TheVariants.{Mandatory, Optional}
@@ -31,7 +32,7 @@ use Rattle.fast_field.proofs.Refused.{not_refused}
 use Rattle.fast_stream.specs.Bits.{bit_for, after_bit}
 use Rattle.fast_stream.specs.Nodes.{Item, single, group_items, sequence_elements, Items, no_items, then_item, Elements, no_elements, then_element, element_count, nodes_of, nodes_in, nodes_in_elements, node_limit, Content}
 use Rattle.fast_stream.specs.Bodies.{State, Then, Each, WithMap, SegmentBy, PartBy, PieceBy, BodyBy, written}
-use Rattle.fast_stream.specs.Streams.{members_of, identifier, AnyMap, BodyOfBy, MessageForm}
+use Rattle.fast_stream.specs.Streams.{members_of, identifier, MapAt, BodyOfBy, MessageForm}
 use Rattle.fast_stream.proofs.FoundMembers.{members_have}
 use Rattle.fast_encoder.specs.declared.fault.EncodeFault.{EncodeFault}
 use Rattle.fast_encoder.specs.Added.{Judging, HoldScalars}
@@ -106,11 +107,11 @@ passes_then p q s u t h k = record {
 
 -- ---- a part
 
-not_left_out : (p : FieldPart) (e : Entry) (bit : Bool) (b : List ℕ) (v : Option Scalar) → Form p e bit b v → bit ≡ false → not (left_out_of p.operator p e v) ≡ false
+not_left_out : (p : FieldPart) (e : Entry) (bit : Bool) (b : List ℕ) (v : Option Scalar) → Form Usual p e bit b v → bit ≡ false → not (left_out_of p.operator p e v) ≡ false
 not_left_out p e true b v form h = absurd cc
 not_left_out p e false b v form h = rw (can_be_left_out p.operator p e form.0 b v form.1.row) refl
 
-part_passes : (p : FieldPart) (v : Option Scalar) (s : State) (b : List ℕ) (t : State) → IsFieldPart p → HoldScalars s.dictionary → PartBy Form p s b v t → Passes (λ u. part_judged p u v) s t
+part_passes : (p : FieldPart) (v : Option Scalar) (s : State) (b : List ℕ) (t : State) → IsFieldPart p → HoldScalars s.dictionary → PartBy (Form Usual) p s b v t → Passes (λ u. part_judged p u v) s t
 part_passes p v s b t is holds h =
     let needs = part_needs_bit p in
     let e = entry_at s.dictionary p.key in
@@ -156,20 +157,20 @@ value_allowed : (p : FieldPart) (v : Option Scalar) → IsOfField p v → (value
 value_allowed p None h = (optional p.presence h, refl)
 value_allowed p (Some v) h = (rw (h.0, characters v h.1) refl, units_few v h.1)
 
-part_value : (p : FieldPart) (v : Option Scalar) (s : State) (b : List ℕ) (t : State) → IsFieldPart p → HoldScalars s.dictionary → PartBy Form p s b v t → IsOfField p v
+part_value : (p : FieldPart) (v : Option Scalar) (s : State) (b : List ℕ) (t : State) → IsFieldPart p → HoldScalars s.dictionary → PartBy (Form Usual) p s b v t → IsOfField p v
 part_value p v s b t is holds h = (values_within p (entry_at s.dictionary p.key) (bit_for (part_needs_bit p) s.bits) b v is (holds p.key) h.0).of_field
 
 -- ---- a segment
 
 with_map_passes : (Inside : State → List ℕ → State → Type 0) (judge : Judging) (d : Dictionary) (b : List ℕ) (after : Dictionary)
-    → (m : WithMap AnyMap Inside d b after) → Passes judge (state d m.bits) (state after m.left) → PassesWhole (segment_judged true judge d) after
+    → (m : WithMap (MapAt Usual) Inside d b after) → Passes judge (state d m.bits) (state after m.left) → PassesWhole (segment_judged true judge d) after
 with_map_passes Inside judge d b after m k =
     let room = has_room 1792 k.asked m.bits m.left k.below (map_few m.map m.bits m.map_form) in
     record { is = rw (k.judged [], room) refl; holds = k.holds }
 
 segment_allowed : (fits large has : Bool) (Inside : State → List ℕ → State → Type 0) (judge : Judging) (d : Dictionary) (b : List ℕ) (after : Dictionary) → HoldScalars d
     → ((s : State) (x : List ℕ) (t : State) → HoldScalars s.dictionary → Inside s x t → Allowed fits large (Passes judge s t))
-    → SegmentBy AnyMap has Inside d b after → Allowed fits large (PassesWhole (segment_judged has judge d) after)
+    → SegmentBy (MapAt Usual) has Inside d b after → Allowed fits large (PassesWhole (segment_judged has judge d) after)
 segment_allowed fits large true Inside judge d b after holds inside m =
     let k = inside (state d m.bits) m.body (state after m.left) holds m.inside in
     record { shape = k.shape; size = k.size; passes = with_map_passes Inside judge d b after m k.passes }
@@ -219,10 +220,10 @@ sequence_small : (es : Elements) → nodes_of (sequence_elements es) ≤ 65536 �
 sequence_small es few small = let h = counted es in rw (not_many (element_count es) (omega (arith, h, few)), small) refl
 
 abbrev Segments : Instructions → Dictionary → List ℕ → Items → Dictionary → Type 0
-Segments members d x ns e = SegmentBy AnyMap (has_map members) (λ t z u. BodyBy Form AnyMap members t z ns u) d x e
+Segments members d x ns e = SegmentBy (MapAt Usual) (has_map members) (λ t z u. BodyBy (Form Usual) (MapAt Usual) members t z ns u) d x e
 
 mutual
-  piece_allowed : (i : Instruction) → EachPart IsFieldPart i → (n : Item) → nodes_of n ≤ 65536 → (s : State) (b : List ℕ) (t : State) → HoldScalars s.dictionary → PieceBy Form AnyMap i s b n t
+  piece_allowed : (i : Instruction) → EachPart IsFieldPart i → (n : Item) → nodes_of n ≤ 65536 → (s : State) (b : List ℕ) (t : State) → HoldScalars s.dictionary → PieceBy (Form Usual) (MapAt Usual) i s b n t
       → Allowed (item_fits i n) (item_is_large n) (Passes (λ u. item_judged i n u) s t)
   piece_allowed (whole_field name number presence whole) is (single v) few s b t holds h =
       let r = value_allowed whole v (part_value whole v s b t is holds h) in
@@ -236,7 +237,7 @@ mutual
   piece_allowed (group_of name number presence members) is (single None) few s b t holds h =
       record { shape = left_out_optional presence s.bits h.0; size = refl; passes = left_out_passes presence s t holds h.0 h.2 }
   piece_allowed (group_of name number presence members) is (group_items ns) few s b t holds h =
-      let k = segment_allowed (items_fit members ns) (has_large ns) (has_map members) (λ u x v. BodyBy Form AnyMap members u x ns v) (λ u. items_judged members ns u) s.dictionary b t.dictionary holds
+      let k = segment_allowed (items_fit members ns) (has_large ns) (has_map members) (λ u x v. BodyBy (Form Usual) (MapAt Usual) members u x ns v) (λ u. items_judged members ns u) s.dictionary b t.dictionary holds
       (λ u x v inner o. body_allowed members is ns (omega (arith, few)) u x v inner o) h.2 in
       record { shape = k.shape; size = k.size; passes = group_passes presence (λ d. segment_judged (has_map members) (λ u. items_judged members ns u) d) s t h.0 h.1 k.passes }
   piece_allowed (sequence_of name number presence length members) is (single None) few s b t holds h =
@@ -253,7 +254,7 @@ mutual
       }
   piece_allowed i is n few s b t holds h = absurd h
 
-  body_allowed : (members : Instructions) → EachPartIn IsFieldPart members → (ns : Items) → nodes_in ns ≤ 65536 → (s : State) (b : List ℕ) (t : State) → HoldScalars s.dictionary → BodyBy Form AnyMap members s b ns t
+  body_allowed : (members : Instructions) → EachPartIn IsFieldPart members → (ns : Items) → nodes_in ns ≤ 65536 → (s : State) (b : List ℕ) (t : State) → HoldScalars s.dictionary → BodyBy (Form Usual) (MapAt Usual) members s b ns t
       → Allowed (items_fit members ns) (has_large ns) (Passes (λ u. items_judged members ns u) s t)
   body_allowed no_instructions is no_items few s b t holds h =
       let after : t.dictionary ≡ s.dictionary = ap (λ t. t.dictionary) h.1 in record {
@@ -281,7 +282,7 @@ mutual
   elements_allowed members is no_elements few d b after holds h =
       record { shape = refl; size = refl; passes = record { is = ap (λ (x : Dictionary). Ok x) (sym h.1); holds = subst HoldScalars (sym h.1) holds } }
   elements_allowed members is (then_element ns es) few d b after holds h =
-      let first = segment_allowed (items_fit members ns) (has_large ns) (has_map members) (λ u x v. BodyBy Form AnyMap members u x ns v) (λ u. items_judged members ns u) d h.front h.between holds
+      let first = segment_allowed (items_fit members ns) (has_large ns) (has_map members) (λ u x v. BodyBy (Form Usual) (MapAt Usual) members u x ns v) (λ u. items_judged members ns u) d h.front h.between holds
       (λ u x v inner o. body_allowed members is ns (omega (arith, few)) u x v inner o) h.first in
       let second = elements_allowed members is es (omega (arith, few)) h.between h.back after first.passes.holds h.second in
       record {
@@ -299,10 +300,10 @@ not_over : (n : ℕ) → n ≤ 65536 → nat_lt 65536 n ≡ false
 not_over n h = grind (arith, nat_tests)
 
 abbrev MessageStandsBy : Option Instructions → Content → State → List ℕ → State → Type 0
-MessageStandsBy found m s x t = Then (λ y u. PartBy Form identifier s y (Some (U32 m.template)) u) (λ u z. BodyOfBy Form AnyMap found u z m.items t) x
+MessageStandsBy found m s x t = Then (λ y u. PartBy (Form Usual) identifier s y (Some (U32 m.template)) u) (λ u z. BodyOfBy (Form Usual) (MapAt Usual) found u z m.items t) x
 
 no_refusal : (found : Option Instructions) (d : Dictionary) (m : Content) (b : List ℕ) (after : Dictionary) → ((members : Instructions) → found ≡ Some members → EachPartIn IsFieldPart members)
-    → HoldScalars d → nodes_in m.items ≤ node_limit → WithMap AnyMap (MessageStandsBy found m) d b after → message_refusal found d m ≡ None
+    → HoldScalars d → nodes_in m.items ≤ node_limit → WithMap (MapAt Usual) (MessageStandsBy found m) d b after → message_refusal found d m ≡ None
 no_refusal None d m b after parts holds few h = absurd h.inside.second
 no_refusal (Some members) d m b after parts holds few h =
     let id : Option Scalar = Some (U32 m.template) in
@@ -319,7 +320,7 @@ none_some o f h k = absurd (let both : None ≡ Some f = sym h ∙ k in cc)
 
 -- what is refused has no form
 pub refused_has_no_form : (set : TemplateList) (d : Dictionary) (m : Content) (f : EncodeFault) (bytes : List ℕ) (after : Dictionary) → IsSound set → HoldScalars d
-    → first_refusal (templates_in set) d m ≡ Some f → MessageForm (templates_in set) d bytes m after → ⊥
+    → first_refusal (templates_in set) d m ≡ Some f → MessageForm Usual (templates_in set) d bytes m after → ⊥
 refused_has_no_form set d m f bytes after sound holds refused h =
     none_some (first_refusal (templates_in set) d m) f
     (no_refusal (members_of (templates_in set) m.template) d m bytes after

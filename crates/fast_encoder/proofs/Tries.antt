@@ -21,7 +21,7 @@ use Rattle.fast_encoder.specs.declared.fault.EncodeFault.{EncodeFault}
 use Rattle.fast_encoder.specs.Added.{Adds, AddsBytes, Answers, AnswersBytes, CanTry, CanTryOne, CanTryEach, IsSmall, AreSmall, AreSmallIn}
 use Rattle.fast_writer.specs.Canonical.{CanonBody, IsShortestMap}
 use Rattle.fast_encoder.specs.FirstRefusal.{refused, item_is_large, has_large, has_large_in, part_judged, segment_judged, item_judged, items_judged, elements_judged}
-use Rattle.fast_writer.specs.Written.{Level, state, Segment, Asked}
+use Rattle.fast_writer.specs.Written.{Segment, state, CanonSegment, Asked}
 use Rattle.fast_encoder.proofs.Additions.{body_none, body_more, group_added, sequence_added, elements_none, elements_more}
 
 pub and_true : (b c : Bool) → (b && c) ≡ true → (b ≡ true) × (c ≡ true)
@@ -66,25 +66,25 @@ count_is f (e ∷ es) = let h = count_is f es in omega (arith, h)
 
 -- ---- instructions with others inside
 
-pub group_answers : (name : List ℕ) (number : ℕ) (presence : Presence) (members : Instructions) (ns : Items) (d e : Dictionary) (l k : Level) (new : List ℕ) (r : Result (Unit {0}) EncodeFault)
+pub group_answers : (name : List ℕ) (number : ℕ) (presence : Presence) (members : Instructions) (ns : Items) (d e : Dictionary) (l k : Segment) (new : List ℕ) (r : Result (Unit {0}) EncodeFault)
     → Asked (is_optional presence) true l k
-    → AnswersBytes (λ d x e. Segment members d x ns e) (λ d. segment_judged (has_map members) (λ t. items_judged members ns t) d) d k.bytes e new r
+    → AnswersBytes (λ d x e. CanonSegment members d x ns e) (λ d. segment_judged (has_map members) (λ t. items_judged members ns t) d) d k.bytes e new r
     → Answers (λ s x t. PieceBy IsBest IsShortestMap (group_of name number presence members) s x (group_items ns) t) (λ s. item_judged (group_of name number presence members) (group_items ns) s)
     d l e (record { bits = k.bits; own = k.own; bytes = new }) r
 group_answers name number presence members ns d e l k new (Ok x) asked a = group_added name number presence members ns d e l k new asked a
 group_answers name number presence members ns d e l k new (Err f) asked (inl h) = inl h
 group_answers name number presence members ns d e l k new (Err f) asked (inr h) = inr (rw (h) refl)
 
-pub sequence_answers : (name : List ℕ) (number : ℕ) (presence : Presence) (p : FieldPart) (members : Instructions) (es : Elements) (d e f : Dictionary) (l k : Level) (new : List ℕ) (r : Result (Unit {0}) EncodeFault)
+pub sequence_answers : (name : List ℕ) (number : ℕ) (presence : Presence) (p : FieldPart) (members : Instructions) (es : Elements) (d e f : Dictionary) (l k : Segment) (new : List ℕ) (r : Result (Unit {0}) EncodeFault)
     → Adds (λ s x t. PartBy IsBest p s x (Some (U32 (element_count es))) t) (λ s. part_judged p s (Some (U32 (element_count es)))) d l e k
-    → AnswersBytes (λ d y f. Each (Segment members) d y es f) (λ d. elements_judged members es d) e k.bytes f new r
+    → AnswersBytes (λ d y f. Each (CanonSegment members) d y es f) (λ d. elements_judged members es d) e k.bytes f new r
     → Answers (λ s x t. PieceBy IsBest IsShortestMap (sequence_of name number presence p members) s x (sequence_elements es) t) (λ s. item_judged (sequence_of name number presence p members) (sequence_elements es) s)
     d l f (record { bits = k.bits; own = k.own; bytes = new }) r
 sequence_answers name number presence p members es d e f l k new (Ok x) a b = sequence_added name number presence p members es d e f l k new a b
 sequence_answers name number presence p members es d e f l k new (Err g) a (inl h) = inl h
 sequence_answers name number presence p members es d e f l k new (Err g) a (inr h) = inr (rw (a.judged, h) refl)
 
-pub length_refused : (name : List ℕ) (number : ℕ) (presence : Presence) (p : FieldPart) (members : Instructions) (es : Elements) (d : Dictionary) (l : Level) (f : EncodeFault)
+pub length_refused : (name : List ℕ) (number : ℕ) (presence : Presence) (p : FieldPart) (members : Instructions) (es : Elements) (d : Dictionary) (l : Segment) (f : EncodeFault)
     → (f ≡ refused cause.Memory) ⊎ (part_judged p (state d l.bits) (Some (U32 (element_count es))) ≡ Err f)
     → (f ≡ refused cause.Memory) ⊎ (item_judged (sequence_of name number presence p members) (sequence_elements es) (state d l.bits) ≡ Err f)
 length_refused name number presence p members es d l f (inl h) = inl h
@@ -93,13 +93,13 @@ length_refused name number presence p members es d l f (inr h) = inr (rw (h) ref
 -- ---- nodes in a row
 
 -- Of these nodes the last ones are left, from this dictionary and level.
-pub record Reached (serves : Key → Bool) (all : Instructions) (every : Items) (d : Dictionary) (l : Level) (is : Instructions) (ns : Items) (e : Dictionary) (k : Level) : Type 0 where
+pub record Reached (serves : Key → Bool) (all : Instructions) (every : Items) (d : Dictionary) (l : Segment) (is : Instructions) (ns : Items) (e : Dictionary) (k : Segment) : Type 0 where
   pub ready : CanTry serves is ns
   pub judged : items_judged all every (state d l.bits) ≡ items_judged is ns (state e k.bits)
-  pub adds : (f : Dictionary) (j : Level) → Adds (λ s x t. CanonBody is s x ns t) (λ s. items_judged is ns s) e k f j
+  pub adds : (f : Dictionary) (j : Segment) → Adds (λ s x t. CanonBody is s x ns t) (λ s. items_judged is ns s) e k f j
       → Adds (λ s x t. CanonBody all s x every t) (λ s. items_judged all every s) d l f j
 
-pub reached_more : (serves : Key → Bool) (all : Instructions) (every : Items) (d : Dictionary) (l : Level) (i : Instruction) (is : Instructions) (n : Item) (ns : Items) (e f : Dictionary) (k j : Level)
+pub reached_more : (serves : Key → Bool) (all : Instructions) (every : Items) (d : Dictionary) (l : Segment) (i : Instruction) (is : Instructions) (n : Item) (ns : Items) (e f : Dictionary) (k j : Segment)
     → Reached serves all every d l (then_instruction i is) (then_item n ns) e k
     → Adds (λ s x t. PieceBy IsBest IsShortestMap i s x n t) (λ s. item_judged i n s) e k f j
     → Reached serves all every d l is ns f j
@@ -109,7 +109,7 @@ reached_more serves all every d l i is n ns e f k j r a = record {
   adds = λ g m h. r.adds g m (body_more i is n ns e f g k j m a h);
 }
 
-pub reached_end : (serves : Key → Bool) (all : Instructions) (every : Items) (d : Dictionary) (l : Level) (e : Dictionary) (k : Level)
+pub reached_end : (serves : Key → Bool) (all : Instructions) (every : Items) (d : Dictionary) (l : Segment) (e : Dictionary) (k : Segment)
     → Reached serves all every d l no_instructions no_items e k → Adds (λ s x t. CanonBody all s x every t) (λ s. items_judged all every s) d l e k
 reached_end serves all every d l e k r = r.adds e k (body_none e k)
 
@@ -119,12 +119,12 @@ reached_end serves all every d l e k r = r.adds e k (body_none e k)
 pub record ReachedElement (serves : Key → Bool) (members : Instructions) (every : Elements) (d : Dictionary) (old : List ℕ) (es : Elements) (e : Dictionary) (now : List ℕ) : Type 0 where
   pub ready : CanTryEach serves members es
   pub judged : elements_judged members every d ≡ elements_judged members es e
-  pub adds : (f : Dictionary) (new : List ℕ) → AddsBytes (λ d y f. Each (Segment members) d y es f) (λ d. elements_judged members es d) e now f new
-      → AddsBytes (λ d y f. Each (Segment members) d y every f) (λ d. elements_judged members every d) d old f new
+  pub adds : (f : Dictionary) (new : List ℕ) → AddsBytes (λ d y f. Each (CanonSegment members) d y es f) (λ d. elements_judged members es d) e now f new
+      → AddsBytes (λ d y f. Each (CanonSegment members) d y every f) (λ d. elements_judged members every d) d old f new
 
 pub element_more : (serves : Key → Bool) (members : Instructions) (every : Elements) (d : Dictionary) (old : List ℕ) (ns : Items) (es : Elements) (e f : Dictionary) (now new : List ℕ)
     → ReachedElement serves members every d old (then_element ns es) e now
-    → AddsBytes (λ d x e. Segment members d x ns e) (λ d. segment_judged (has_map members) (λ t. items_judged members ns t) d) e now f new
+    → AddsBytes (λ d x e. CanonSegment members d x ns e) (λ d. segment_judged (has_map members) (λ t. items_judged members ns t) d) e now f new
     → ReachedElement serves members every d old es f new
 element_more serves members every d old ns es e f now new r a = record {
   ready = can_others serves members ns es r.ready;
@@ -133,7 +133,7 @@ element_more serves members every d old ns es e f now new r a = record {
 }
 
 pub element_end : (serves : Key → Bool) (members : Instructions) (every : Elements) (d : Dictionary) (old : List ℕ) (e : Dictionary) (now : List ℕ)
-    → ReachedElement serves members every d old no_elements e now → AddsBytes (λ d y f. Each (Segment members) d y every f) (λ d. elements_judged members every d) d old e now
+    → ReachedElement serves members every d old no_elements e now → AddsBytes (λ d y f. Each (CanonSegment members) d y every f) (λ d. elements_judged members every d) d old e now
 element_end serves members every d old e now r = r.adds e now (elements_none members e now)
 
 -- ---- the elements of a sequence, as they stand in memory

@@ -18,7 +18,7 @@ use Rattle.fast_encoder.specs.declared.fault.EncodeFault.{EncodeFault}
 use Rattle.fast_encoder.specs.declared.journal.Change.{Change}
 use Rattle.fast_encoder.specs.FirstRefusal.{refused, item_fits, items_fit, elements_fit, part_judged, items_judged}
 use Rattle.fast_writer.specs.Canonical.{CanonBody}
-use Rattle.fast_writer.specs.Written.{Level, Leaves, state, has_set}
+use Rattle.fast_writer.specs.Written.{Segment, Leaves, state, has_set}
 
 -- ---- to a segment
 
@@ -30,7 +30,7 @@ abbrev pub Judging : Type 0
 Judging = State → Result State EncodeFault
 
 -- Bits and bytes, which are such a form under each map that goes on with these bits; and nothing of it was refused.
-pub record Adds (Stands : Standing) (judge : Judging) (d : Dictionary) (l : Level) (e : Dictionary) (k : Level) : Type 0 where
+pub record Adds (Stands : Standing) (judge : Judging) (d : Dictionary) (l : Segment) (e : Dictionary) (k : Segment) : Type 0 where
   pub used : List Bool
   pub form : List ℕ
   pub bits : k.bits ≡ l.bits ++ used
@@ -40,7 +40,7 @@ pub record Adds (Stands : Standing) (judge : Judging) (d : Dictionary) (l : Leve
   pub judged : judge (state d l.bits) ≡ Ok (state e k.bits)
 
 -- what is answered where something is added: all of it is, or this is what is refused
-abbrev pub Answers : {A : Type 0} → Standing → Judging → Dictionary → Level → Dictionary → Level → Result A EncodeFault → Type 0
+abbrev pub Answers : {A : Type 0} → Standing → Judging → Dictionary → Segment → Dictionary → Segment → Result A EncodeFault → Type 0
 Answers Stands judge d l e k (Ok x) = Adds Stands judge d l e k
 Answers Stands judge d l e k (Err f) = (f ≡ refused cause.Memory) ⊎ (judge (state d l.bits) ≡ Err f)
 

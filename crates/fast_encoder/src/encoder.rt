@@ -11,7 +11,7 @@ ghost use Rattle.fast_encoder.specs.OneProof.{KeepScalars, KeepScalars-prop};
 use crate::journal::Journal;
 use fast_dictionary::Entries;
 use fast_template::{FieldPart, TemplateSet};
-use fast_writer::Level;
+use fast_writer::Segment;
 use std::alloc::Global;
 
 /// Writes messages of a template set in canonical form, each from the entries that the ones before left.
@@ -22,7 +22,7 @@ pub struct Encoder<'a, E: Entries> {
     identifier: FieldPart,
     journal: Journal<'a, E>,
     // of the message that is being written, kept for its memory
-    level: Level,
+    level: Segment,
     ghost identifier_is: { identifier ≡ identifier_part },
     ghost served: { ServesAll (E.serves journal.entries) set.now } by { ServesAll-prop (E.serves journal.entries) set.now },
     ghost kept: { KeepScalars (E.contents journal.entries) } by { KeepScalars-prop (E.contents journal.entries) },

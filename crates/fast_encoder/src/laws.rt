@@ -1,6 +1,7 @@
 //! Laws of canonical bytes, each the contract of a function that does nothing.
 
 ghost use Rattle.std.specs.Prelude.{◌≡◌, ℕ, List, None, Some};
+ghost use Rattle.fast_wire.specs.declared.level.Level.TheVariants.{Usual};
 ghost use Rattle.fast_template.specs.TemplateSets.{IsSound, TemplateList, templates_in};
 ghost use Rattle.fast_dictionary.specs.Dictionary.{Dictionary};
 ghost use Rattle.fast_stream.specs.Nodes.{Content};
@@ -17,7 +18,7 @@ pub fn refused_messages_have_no_form()
     ensures { (set : TemplateList) (d : Dictionary) (m : Content) (f : EncodeFault)
         (bytes : List ℕ) (after : Dictionary) → IsSound set → HoldScalars d
         → first_refusal (templates_in set) d m ≡ Some f
-        → MessageForm (templates_in set) d bytes m after → ⊥ }
+        → MessageForm Usual (templates_in set) d bytes m after → ⊥ }
 {}
 
 /// A message that is not refused has canonical bytes. (That its numbers are in the range of their types and its texts

@@ -20,7 +20,7 @@ use crate::put::seal;
 use fast_dictionary::Entries;
 use fast_stream::{Message, Node};
 use fast_template::{FieldPart, Flat, Scalar};
-use fast_writer::Level;
+use fast_writer::Segment;
 use std::alloc::Global;
 
 // Writes the nodes of a message behind its identifier, and appends the whole behind its map, or nothing.
@@ -29,7 +29,7 @@ fn put_rest<'a, E: Entries>(
     nodes: &[Node],
     alloc: Global,
     journal: &mut Journal<'a, E>,
-    level: &mut Level,
+    level: &mut Segment,
     out: &mut Vec<u8>,
 ) -> Result<(), EncodeFault>
     requires ready { CanTry (E.serves journal.now.entries) (list_of members.now)
@@ -78,7 +78,7 @@ pub(crate) fn put_message<'a, E: Entries>(
     alloc: Global,
     identifier: &FieldPart,
     journal: &mut Journal<'a, E>,
-    level: &mut Level,
+    level: &mut Segment,
     out: &mut Vec<u8>,
 ) -> Result<(), EncodeFault>
     requires identifier { identifier.now ≡ identifier_part }

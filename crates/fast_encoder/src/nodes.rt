@@ -12,7 +12,7 @@ ghost use Rattle.fast_encoder.specs.Added.{Answers, AnswersBytes, CanTry, CanTry
 ghost use Rattle.fast_writer.specs.Canonical.{CanonBody, IsShortestMap};
 ghost use Rattle.fast_encoder.specs.FirstRefusal.{elements_judged, item_judged, items_judged, part_judged, refused, segment_judged};
 ghost use Rattle.fast_writer.specs.Levels.{level_of};
-ghost use Rattle.fast_writer.specs.Written.{Segment};
+ghost use Rattle.fast_writer.specs.Written.{CanonSegment};
 
 use crate::fault::{EncodeCause, EncodeFault};
 use crate::journal::Journal;
@@ -21,7 +21,7 @@ use crate::shape::may_be_absent;
 use fast_dictionary::Entries;
 use fast_stream::Node;
 use fast_template::{FieldPart, Flat, Scalar, has_map};
-use fast_writer::Level;
+use fast_writer::Segment;
 use std::alloc::Global;
 
 // A node that is not of its instruction's shape.
@@ -54,7 +54,7 @@ fn put_length<'a, E: Entries>(
     part: &'a FieldPart,
     elements: &[Vec<Node>],
     journal: &mut Journal<'a, E>,
-    level: &mut Level,
+    level: &mut Segment,
 ) -> Result<(), EncodeFault>
     requires few { length elements.now ≤ 65535 }
     requires part { IsFieldPart part.now }
@@ -96,7 +96,7 @@ fn put_decimal<'a, E: Entries>(
     mantissa: &'a FieldPart,
     value: &Scalar,
     journal: &mut Journal<'a, E>,
-    level: &mut Level,
+    level: &mut Segment,
 ) -> Result<(), EncodeFault>
     requires exponent { IsFieldPart exponent.now }
     requires mantissa { IsFieldPart mantissa.now }
@@ -135,7 +135,7 @@ fn put_node<'a, E: Entries>(
     node: &Node,
     alloc: Global,
     journal: &mut Journal<'a, E>,
-    level: &mut Level,
+    level: &mut Segment,
 ) -> Result<(), EncodeFault>
     requires ready { CanTryOne (E.serves journal.now.entries) (instruction_of flat.now)
         (item_of node.now) }
@@ -207,7 +207,7 @@ pub(crate) fn put_nodes<'a, E: Entries>(
     nodes: &[Node],
     alloc: Global,
     journal: &mut Journal<'a, E>,
-    level: &mut Level,
+    level: &mut Segment,
 ) -> Result<(), EncodeFault>
     requires ready { CanTry (E.serves journal.now.entries) (list_of flats.now)
         (items_in nodes.now) }
@@ -244,7 +244,7 @@ fn put_segment<'a, E: Entries>(
     requires ready { CanTry (E.serves journal.now.entries) (list_of members.now)
         (items_in nodes.now) }
     requires holds { HoldScalars (E.contents journal.now.entries) }
-    ensures answer { AnswersBytes (λ d x e. Segment (list_of members.now) d x (items_in nodes.now)
+    ensures answer { AnswersBytes (λ d x e. CanonSegment (list_of members.now) d x (items_in nodes.now)
         e) (λ d. segment_judged (has_map_of (list_of members.now))
         (λ t. items_judged (list_of members.now) (items_in nodes.now) t) d)
         (E.contents journal.old.entries) out.old.items (E.contents journal.new.entries)
@@ -253,7 +253,7 @@ fn put_segment<'a, E: Entries>(
         (E.contents journal.old.entries) (E.serves journal.new.entries) journal.new.changes.items
         (E.contents journal.new.entries) }
 {
-    let mut level = Level::new(alloc, has_map(members));
+    let mut level = Segment::new(alloc, has_map(members));
     match put_nodes(members, nodes, alloc, journal, &mut level) {
         Err(fault) => Err(fault),
         Ok(()) => match seal(&level, out) {
@@ -275,7 +275,7 @@ fn put_elements<'a, E: Entries>(
     requires ready { CanTryEach (E.serves journal.now.entries) (list_of members.now)
         (elements_of (map (λ e. items_in e.items) elements.now)) }
     requires holds { HoldScalars (E.contents journal.now.entries) }
-    ensures answer { AnswersBytes (λ d y e. Each (Segment (list_of members.now)) d y
+    ensures answer { AnswersBytes (λ d y e. Each (CanonSegment (list_of members.now)) d y
         (elements_of (map (λ e. items_in e.items) elements.now)) e)
         (λ d. elements_judged (list_of members.now)
         (elements_of (map (λ e. items_in e.items) elements.now)) d)

@@ -18,7 +18,7 @@ use fast_dictionary::Entry;
 use fast_field::{FieldRefusal, next_entry, plan_field, write_field};
 use fast_template::{FieldPart, Scalar, part_needs_bit};
 use fast_wire::WireFault;
-use fast_writer::Level;
+use fast_writer::Segment;
 use std::alloc::Global;
 use std::mem;
 
@@ -83,7 +83,7 @@ fn no_room() -> EncodeFault
 /// # Errors
 ///
 /// Limit: a bit is 1 for which the map has no room. Memory: a growth was refused.
-pub(crate) fn seal(level: &Level, out: &mut Vec<u8>) -> Result<(), EncodeFault>
+pub(crate) fn seal(level: &Segment, out: &mut Vec<u8>) -> Result<(), EncodeFault>
     ensures ended { OnOk result (Ended (level_of level.now) out.old.items out.new.items) }
     ensures room { OnOk result
         ((level.now.own && has_set (drop 1792 level.now.bits.items)) ≡ false) }
@@ -110,7 +110,7 @@ pub(crate) fn put_part(
     part: &FieldPart,
     entry: &mut Entry,
     value: Option<&Scalar>,
-    level: &mut Level,
+    level: &mut Segment,
 ) -> Result<Entry, EncodeFault>
     requires part { IsFieldPart part.now }
     requires entry { HoldsScalar entry.old }

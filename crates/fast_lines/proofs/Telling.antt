@@ -132,7 +132,7 @@ in_braces x a t = append_assoc x (a ++ codes "{") (t ++ codes "}") ∙ ap (λ y.
 
 group_waits : (g : Opening) (l k : Line) (b : Body) (name : List ℕ) (number : ℕ) (presence : Presence) (members is : Instructions) (bits : List Bool)
     → b.rest ≡ then_instruction (group_of name number presence members) is → k.text ≡ l.text ++ ((lead l.spaced ++ (name ++ codes "=")) ++ codes "{")
-    → Tells g l b → Waits g (record { bits = bits; body = record { rest = is; done = b.done }; inside = in_group }) (begun k members)
+    → Tells g l b → Waits g (record { bits = bits; number = number; body = record { rest = is; done = b.done }; inside = in_group }) (begun k members)
 group_waits g l k b name number presence members is bits first told t ns text there =
     item_told g l (behind_brace k.text text) (group_of name number presence members) is b.done (group_items ns) (codes "{" ++ text ++ codes "}") (ap braced there)
     (ap (λ x. x ++ (text ++ codes "}")) told ∙ in_braces l.text (lead l.spaced ++ (name ++ codes "=")) text) refl (body_is g l b _ first t)
@@ -140,9 +140,9 @@ group_waits g l k b name number presence members is bits first told t ns text th
 pub group_entered : (g : Opening) (ws : List Waiting) (l k : Line) (b : Body) (name : List ℕ) (number : ℕ) (presence : Presence) (members is : Instructions) (bits : List Bool)
     → b.rest ≡ then_instruction (group_of name number presence members) is → k.text ≡ l.text ++ ((lead l.spaced ++ (name ++ codes "=")) ++ codes "{") → k.spaced ≡ false
     → Within g ws (λ h. Tells h l b)
-    → Within g (ws ++ record { bits = bits; body = record { rest = is; done = b.done }; inside = in_group } ∷ []) (λ h. Tells h k (record { rest = members; done = [] }))
+    → Within g (ws ++ record { bits = bits; number = number; body = record { rest = is; done = b.done }; inside = in_group } ∷ []) (λ h. Tells h k (record { rest = members; done = [] }))
 group_entered g ws l k b name number presence members is bits first told spaced c =
-    let w : Waiting = record { bits = bits; body = record { rest = is; done = b.done }; inside = in_group } in
+    let w : Waiting = record { bits = bits; number = number; body = record { rest = is; done = b.done }; inside = in_group } in
     let J : Opening → Type 0 = λ h. Tells h k (record { rest = members; done = [] }) in
     within_push g ws w J (within_on g ws (λ h. Tells h l b) (Inner w J) (λ h t. (begun k members, group_waits h l k b name number presence members is bits first told t, new_segment k members spaced)) c)
 
@@ -218,7 +218,7 @@ element_behind x a t (Some s) (Some u) =
     ∙ ap (λ y. y ++ ((s ++ codes "]") ++ u)) (sym (append_assoc x (a ++ codes "{") (t ++ codes "}") ∙ ap (λ y. x ++ y) (append_assoc a (codes "{") (t ++ codes "}")))))
 
 element_waits : (g : Opening) (l k : Line) (b : Body) (s : Sequel) (bits : List Bool) → k.text ≡ l.text ++ (lead l.spaced ++ codes "{")
-    → TellsElements g l b s → Waits g (record { bits = bits; body = b; inside = in_sequence (fewer s) }) (begun k s.members)
+    → TellsElements g l b s → Waits g (record { bits = bits; number = s.number; body = b; inside = in_sequence (fewer s) }) (begun k s.members)
 element_waits g l k b s bits told t ns text there = record {
   so_far = λ es more.
       let o = elements_text (λ ns. members_text [] s.members ns) (codes " ") es in
@@ -232,9 +232,9 @@ element_waits g l k b s bits told t ns text there = record {
 
 pub element_entered : (g : Opening) (ws : List Waiting) (l k : Line) (b : Body) (s : Sequel) (bits : List Bool) → k.text ≡ l.text ++ (lead l.spaced ++ codes "{") → k.spaced ≡ false
     → Within g ws (λ h. TellsElements h l b s)
-    → Within g (ws ++ record { bits = bits; body = b; inside = in_sequence (fewer s) } ∷ []) (λ h. Tells h k (record { rest = s.members; done = [] }))
+    → Within g (ws ++ record { bits = bits; number = s.number; body = b; inside = in_sequence (fewer s) } ∷ []) (λ h. Tells h k (record { rest = s.members; done = [] }))
 element_entered g ws l k b s bits told spaced c =
-    let w : Waiting = record { bits = bits; body = b; inside = in_sequence (fewer s) } in
+    let w : Waiting = record { bits = bits; number = s.number; body = b; inside = in_sequence (fewer s) } in
     let J : Opening → Type 0 = λ h. Tells h k (record { rest = s.members; done = [] }) in
     within_push g ws w J (within_on g ws (λ h. TellsElements h l b s) (Inner w J) (λ h t. (begun k s.members, element_waits h l k b s bits told t, new_segment k s.members spaced)) c)
 

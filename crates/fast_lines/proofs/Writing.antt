@@ -79,7 +79,7 @@ has_left_out z l k o name number presence members is next first optional s c =
 pub has_entered : (z : ℤ) (l k : Line) (o : Received) (name : List ℕ) (number : ℕ) (presence : Presence) (members is : Instructions) (bits : List Bool)
     → o.next ≡ at_instruction → o.body.rest ≡ then_instruction (group_of name number presence members) is
     → k.text ≡ l.text ++ ((lead l.spaced ++ (name ++ codes "=")) ++ codes "{") → k.spaced ≡ false
-    → IsOpened z l o → IsOpened z k (entered o bits members is)
+    → IsOpened z l o → IsOpened z k (entered o number bits members is)
 has_entered z l k o name number presence members is bits next first told spaced c =
     group_entered (message_of o) o.around l k o.body name number presence members is bits first told spaced (at_next z l o at_instruction next c)
 

@@ -17,6 +17,7 @@ use fast_field::{FieldFault, read_in_place};
 use fast_part::{exponent_in, mantissa_in, take_part, take_quickly, unsigned_in};
 use fast_template::{FieldPart, Name, Presence, TemplateSet};
 use fast_walk::Receiver;
+use fast_wire::Level;
 use std::alloc::{AllocError, Global};
 
 // Takes a field's value in the general way, and tells it from where it lies: it is not copied.
@@ -28,6 +29,7 @@ fn take_generally(
     part: &FieldPart,
     entry: &mut Entry,
     bit: bool,
+    level: Level,
     bytes: &[u8],
     at: usize,
     line: &mut Line,
@@ -35,14 +37,14 @@ fn take_generally(
     requires { at ≤ length bytes.now }
     ensures place { IfOk result (λ n. (at ≤ n) × (n ≤ length bytes.now)) }
     ensures told { IfOk result (λ n. (v : Option ScalarOf)
-        × TookFrom part.now bit entry.old entry.new v (drop at bytes.now) (drop n bytes.now)
+        × TookFrom level part.now bit entry.old entry.new v (drop at bytes.now) (drop n bytes.now)
         × Said name.now (field_text part.now.kind presence (single v)) (line_now line.old)
         (line_now line.new)) }
     ensures stops { IfErr result (λ f. f ≢ FieldFault.Memory
-        → (field_at part.now entry.old bit (drop at bytes.now) ≡ Err f)
+        → (field_at level part.now entry.old bit (drop at bytes.now) ≡ Err f)
         × (entry.new ≡ entry.old) × (line.new ≡ line.old)) }
 {
-    match read_in_place(alloc, part, entry, bit, bytes, at) {
+    match read_in_place(alloc, part, entry, bit, level, bytes, at) {
         Err(fault) => Err(fault),
         Ok((found, next)) => {
             match line.tell(name, part.kind, presence, found.value(part, entry.view())) {
@@ -62,6 +64,7 @@ fn take(
     part: &FieldPart,
     entry: &mut Entry,
     bit: bool,
+    level: Level,
     bytes: &[u8],
     at: usize,
     line: &mut Line,
@@ -69,15 +72,17 @@ fn take(
     requires { at ≤ length bytes.now }
     ensures place { IfOk result (λ n. (at ≤ n) × (n ≤ length bytes.now)) }
     ensures told { IfOk result (λ n. (v : Option ScalarOf)
-        × TookFrom part.now bit entry.old entry.new v (drop at bytes.now) (drop n bytes.now)
+        × TookFrom level part.now bit entry.old entry.new v (drop at bytes.now) (drop n bytes.now)
         × Said name.now (field_text part.now.kind presence (single v)) (line_now line.old)
         (line_now line.new)) }
     ensures stops { IfErr result (λ f. f ≢ FieldFault.Memory
-        → (field_at part.now entry.old bit (drop at bytes.now) ≡ Err f)
+        → (field_at level part.now entry.old bit (drop at bytes.now) ≡ Err f)
         × (entry.new ≡ entry.old) × (line.new ≡ line.old)) }
 {
-    match take_quickly(part, entry, bit, bytes, at) {
-        None => take_generally(alloc, name, presence, part, entry, bit, bytes, at, line),
+    match take_quickly(part, entry, bit, level, bytes, at) {
+        None => take_generally(
+            alloc, name, presence, part, entry, bit, level, bytes, at, line,
+        ),
         Some((value, next)) => match line.tell(name, part.kind, presence, Some(&value)) {
             Err(_) => Err(FieldFault::Memory),
             Ok(()) => Ok(next),
@@ -94,6 +99,7 @@ fn tell<E: Entries>(
     entries: &mut E,
     part: &FieldPart,
     bit: bool,
+    level: Level,
     bytes: &[u8],
     at: usize,
     line: &mut Line,
@@ -102,19 +108,21 @@ fn tell<E: Entries>(
     requires served { IsTrue (E.serves entries.now part.now.key) }
     ensures place { IfOk result (λ n. (at ≤ n) × (n ≤ length bytes.now)) }
     ensures told { IfOk result (λ n. (v : Option ScalarOf)
-        × Took part.now bit (E.contents entries.old) (E.contents entries.new) v
+        × Took level part.now bit (E.contents entries.old) (E.contents entries.new) v
         (drop at bytes.now) (drop n bytes.now)
         × Said name.now (field_text part.now.kind presence (single v)) (line_now line.old)
         (line_now line.new)) }
     ensures stops { IfErr result (λ f. f ≢ FieldFault.Memory
-        → (field_at part.now (entry_at (E.contents entries.old) part.now.key) bit
+        → (field_at level part.now (entry_at (E.contents entries.old) part.now.key) bit
         (drop at bytes.now) ≡ Err f)
         × (E.contents entries.new ≡ E.contents entries.old) × (line.new ≡ line.old)) }
     ensures same_keys { E.serves entries.new ≡ E.serves entries.old }
 {
     match entries.entry_mut(&part.key) {
         Err(_) => Err(FieldFault::Memory),
-        Ok(entry) => match take(alloc, name, presence, part, entry, bit, bytes, at, line) {
+        Ok(entry) => match take(
+            alloc, name, presence, part, entry, bit, level, bytes, at, line,
+        ) {
             Err(fault) => Err(fault),
             Ok(next) => Ok(next),
         },
@@ -220,10 +228,11 @@ impl Receiver for LineWriter<'_> {
         entries: &mut E,
         identifier: &FieldPart,
         bit: bool,
+        level: Level,
         bytes: &[u8],
         at: usize,
     ) -> Result<(u32, usize), FieldFault> {
-        match take_part(alloc, entries, identifier, bit, bytes, at) {
+        match take_part(alloc, entries, identifier, bit, level, bytes, at) {
             Err(fault) => Err(fault),
             Ok((value, next)) => match unsigned_in(&value) {
                 Ok(Some(id)) => match self.open_line(id) {
@@ -253,6 +262,7 @@ impl Receiver for LineWriter<'_> {
         entries: &mut E,
         part: &FieldPart,
         bit: bool,
+        level: Level,
         bytes: &[u8],
         at: usize,
     ) -> Result<usize, FieldFault> {
@@ -263,6 +273,7 @@ impl Receiver for LineWriter<'_> {
             entries,
             part,
             bit,
+            level,
             bytes,
             at,
             &mut self.line,
@@ -281,10 +292,11 @@ impl Receiver for LineWriter<'_> {
         entries: &mut E,
         part: &FieldPart,
         bit: bool,
+        level: Level,
         bytes: &[u8],
         at: usize,
     ) -> Result<(bool, usize), FieldFault> {
-        match take_part(alloc, entries, part, bit, bytes, at) {
+        match take_part(alloc, entries, part, bit, level, bytes, at) {
             Err(fault) => Err(fault),
             Ok((value, next)) => match exponent_in(&value) {
                 Err(fault) => Err(fault),
@@ -310,10 +322,11 @@ impl Receiver for LineWriter<'_> {
         entries: &mut E,
         part: &FieldPart,
         bit: bool,
+        level: Level,
         bytes: &[u8],
         at: usize,
     ) -> Result<usize, FieldFault> {
-        match take_part(alloc, entries, part, bit, bytes, at) {
+        match take_part(alloc, entries, part, bit, level, bytes, at) {
             Err(fault) => Err(fault),
             Ok((value, next)) => match mantissa_in(&value) {
                 Err(fault) => Err(fault),
@@ -336,10 +349,11 @@ impl Receiver for LineWriter<'_> {
         entries: &mut E,
         part: &FieldPart,
         bit: bool,
+        level: Level,
         bytes: &[u8],
         at: usize,
     ) -> Result<(Option<u32>, usize), FieldFault> {
-        match take_part(alloc, entries, part, bit, bytes, at) {
+        match take_part(alloc, entries, part, bit, level, bytes, at) {
             Err(fault) => Err(fault),
             Ok((value, next)) => match unsigned_in(&value) {
                 Err(fault) => Err(fault),

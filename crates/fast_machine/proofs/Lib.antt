@@ -1,3 +1,5 @@
+pub mod Runs
 pub mod Standings
 pub mod Followings
-pub mod FaultPlaces
+pub mod PlainReads
+pub mod BlockReads

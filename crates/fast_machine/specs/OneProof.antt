@@ -51,7 +51,7 @@ ready-prop serves w r s = λ i. record {
 }
 
 at-prop : (at : Stage) (serves : Key → Bool) (t : Traversal) → IsProp (IsReadyAt at serves t)
-at-prop stage.Map serves t = Unit-prop
+at-prop stage.Map serves t = Coded-set coded_ℕ t.template 0
 at-prop stage.Identifier serves t = ×_prop (Coded-set coded_ℕ t.template 0) (Coded-set coded_ℕ t.walk.spare 65536)
 at-prop stage.Body serves t = ready-prop serves t.walk
 

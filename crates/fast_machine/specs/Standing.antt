@@ -1,73 +1,82 @@
--- How a traversal with its receiver stands to the bytes read since the reset and the messages found in them.
-use Rattle.std.specs.Prelude.{◌≡◌, ◌≢◌, ◌<◌, ℕ, List, [], ◌++◌, length, Option, Some, None, Err}
-use Rattle.std.specs.FinMap as finite
+-- How a traversal with its receiver stands to the bytes read since the reset and the messages found in them, in each mode.
+use Rattle.std.specs.Prelude.{◌≡◌, ◌≢◌, ◌<◌, ◌⊎◌, ℕ, ◌+◌, List, [], ◌++◌, length, take, Err}
 use Rattle.fast_wire.specs.Reader.{IsBytes}
 use Rattle.fast_template.specs.Resolved.{Resolved}
 use Rattle.fast_template.specs.TemplateSets.{templates_in}
 use Rattle.fast_dictionary.specs.Dictionary.{Dictionary}
 use Rattle.fast_stream.specs.declared.fault.Cause.TheVariants.{Truncated, Memory}
+use Rattle.fast_stream.specs.declared.mode.Framing.{Framing}
+use Rattle.fast_stream.specs.declared.mode.Framing.TheVariants.{Plain, Blocks}
+use Rattle.fast_stream.specs.declared.mode.Mode.{Mode}
+use Rattle.fast_stream.specs.Blocks.{Stand, at_start, Opens}
+use Rattle.fast_stream.specs.Modes.{CarriesFrom, GoesOn, next_at}
+use Rattle.fast_stream.specs.Nodes.{Content}
+use Rattle.fast_stream.specs.Faults.{MessageStop}
 use Rattle.fast_walk.specs.declared.halt.Halt.{Halt}
 use Rattle.fast_walk.specs.declared.traversal.Stage.TheVariants as stage
 use Rattle.fast_walk.specs.declared.traversal.Traversal.{Traversal}
-use Rattle.fast_stream.specs.Nodes.{Content}
-use Rattle.fast_stream.specs.Streams.{CarriesFrom}
-use Rattle.fast_stream.specs.Faults.{MessageStop}
-use Rattle.fast_stream.specs.Reading.{message_at}
 use Rattle.fast_walk.specs.OpenSegments.{Reading}
-use Rattle.fast_walk.specs.Received.{Received}
-use Rattle.fast_walk.specs.Traversals.{Continues, stop_of}
+use Rattle.fast_walk.specs.Traversals.{stop_of}
+pub use Rattle.fast_machine.specs.Runs.{Having, Standing, ReadsOn, Unfinished}
 
--- message forms of the messages, and behind them a rest of which this is so
-pub record Behind (set : List Resolved) (bytes : List ℕ) (messages : List Content) (Ends : Dictionary → List ℕ → Type 0) : Type 0 where
+-- a framing, at the level of a traversal
+abbrev pub framed_as : Framing → Traversal → Mode
+framed_as framing t = record { level = t.level; framing = framing }
+
+-- the messages, each in its form, and behind them a rest of which this is so
+pub record Behind (mode : Mode) (set : List Resolved) (bytes : List ℕ) (messages : List Content) (Ends : Stand → List ℕ → Type 0) : Type 0 where
   pub front : List ℕ
   pub rest : List ℕ
-  pub start : Dictionary
+  pub start : Stand
   pub parts : bytes ≡ front ++ rest
-  pub carried : CarriesFrom set finite.empty front messages start
+  pub carried : CarriesFrom mode set at_start front messages start
   pub ends : Ends start rest
 
 -- a prefix of the bytes carries the messages
-abbrev pub Carried : List Resolved → List ℕ → List Content → Type 0
-Carried set bytes messages = Behind set bytes messages (λ d rest. Unit {0})
+abbrev pub Carried : Mode → List Resolved → List ℕ → List Content → Type 0
+Carried mode set bytes messages = Behind mode set bytes messages (λ s rest. Unit {0})
 
 -- and the reading of the next message stops
-abbrev pub StopsBehind : List Resolved → List ℕ → List Content → MessageStop → Type 0
-StopsBehind set bytes messages stop = Behind set bytes messages (λ d rest. (0 < length rest) × IsBytes rest × (message_at set d rest ≡ Err stop))
+abbrev pub StopsBehind : Mode → List Resolved → List ℕ → List Content → MessageStop → Type 0
+StopsBehind mode set bytes messages stop = Behind mode set bytes messages (λ s rest. GoesOn s rest × IsBytes rest × (next_at mode set s rest ≡ Err stop))
 
--- what is true of a receiver: while a message is open, between messages, and whatever is open
-abbrev pub Having : Type 0 → Type 1
-Having R = R → Received → Dictionary → Type 0
-
-abbrev pub Standing : Type 0 → Type 1
-Standing R = R → List Resolved → List Content → Dictionary → Type 0
-
--- what a traversal and its receiver still read: of messages behind these, which the receiver has
-abbrev pub ReadsOn : {R : Type 0} → Having R → Standing R → Standing R → Traversal → R → Dictionary → List Content → Dictionary → (List ℕ → Reading) → Type 0
-ReadsOn has stands keeps t r d before start read = Continues has stands keeps t r (templates_in t.set.now) d before start read
-
--- The next message, of which a part may be read: with any bytes behind it, it reads as what is left, behind the bytes
--- that are not read.
-pub record Unfinished (GoesOn : Dictionary → (List ℕ → Reading) → Type 0) (t : Traversal) (unread : List ℕ) (start : Dictionary) (rest : List ℕ) : Type 0 where
-  pub read : List ℕ → Reading
-  pub goes : GoesOn start read
+-- No block is open, and no message: what is unread may be the front of a size.
+pub record BetweenBlocks (Goes : Dictionary → (List ℕ → Reading) → Type 0) (left : ℕ) (t : Traversal) (unread : List ℕ) (s : Stand) (rest : List ℕ) : Type 0 where
+  pub none : left ≡ 0
+  pub outside : s.left ≡ 0
+  pub stage : t.stage ≡ stage.Map
+  pub same : rest ≡ unread
   pub fits : IsBytes rest
-  pub reads : (more : List ℕ) → message_at (templates_in t.set.now) start (rest ++ more) ≡ read (unread ++ more)
-  pub between : t.stage ≡ stage.Map → rest ≡ unread
-  pub some : t.stage ≢ stage.Map → 0 < length rest
+  pub next : Unfinished Goes t [] s.dictionary []
 
-abbrev pub Stands : (Dictionary → (List ℕ → Reading) → Type 0) → Traversal → List ℕ → List ℕ → List Content → Type 0
-Stands GoesOn t unread bytes messages = Behind (templates_in t.set.now) bytes messages (λ start rest. Unfinished GoesOn t unread start rest)
+-- A block is open, of which so many bytes are left from the unread ones on. The next message, with its block's size where
+-- it is the block's first, is what is taken of it, and the rest of it is read in those bytes.
+pub record InsideBlock (Goes : Dictionary → (List ℕ → Reading) → Type 0) (left : ℕ) (t : Traversal) (unread : List ℕ) (s : Stand) (rest : List ℕ) : Type 0 where
+  pub some : 0 < left
+  pub size : List ℕ
+  pub within : List ℕ
+  pub next : Unfinished Goes t (take left unread) s.dictionary within
+  pub opens : Opens t.level s.left size (length next.taken + left)
+  pub parts : rest ≡ size ++ (next.taken ++ unread)
+  pub fits : IsBytes rest
+
+-- the rest of a stream, of which these bytes are unread
+abbrev pub GoesIn : Framing → ℕ → (Dictionary → (List ℕ → Reading) → Type 0) → Traversal → List ℕ → Stand → List ℕ → Type 0
+GoesIn Plain left Goes t unread s rest = Unfinished Goes t unread s.dictionary rest × (s.left ≡ 0) × (left ≡ 0)
+GoesIn Blocks left Goes t unread s rest = BetweenBlocks Goes left t unread s rest ⊎ InsideBlock Goes left t unread s rest
+
+abbrev pub Stands : Framing → ℕ → (Dictionary → (List ℕ → Reading) → Type 0) → Traversal → List ℕ → List ℕ → List Content → Type 0
+Stands framing left Goes t unread bytes messages = Behind (framed_as framing t) (templates_in t.set.now) bytes messages (λ s rest. GoesIn framing left Goes t unread s rest)
 
 -- The receiver has these messages, from the dictionary behind a prefix of the bytes that carries the messages.
-abbrev pub HasAll : {R : Type 0} → Standing R → Traversal → R → List Content → List ℕ → List Content → Type 0
-HasAll stands t r before bytes messages = Behind (templates_in t.set.now) bytes messages (λ d rest. stands r (templates_in t.set.now) before d)
+abbrev pub HasAll : {R : Type 0} → Standing R → Framing → Traversal → R → List Content → List ℕ → List Content → Type 0
+HasAll stands framing t r before bytes messages = Behind (framed_as framing t) (templates_in t.set.now) bytes messages (λ s rest. stands r (templates_in t.set.now) before s.dictionary)
 
--- How the reading of messages ends: between two with no byte unread, or at a piece, where it can go on if more bytes
--- come; else the receiver has forgotten what was open.
-abbrev pub Ended : {R : Type 0} → Having R → Standing R → Standing R → Option Halt → Traversal → R → Dictionary → List Content → List ℕ → List ℕ → List Content → Type 0
-Ended has stands keeps None t r d before unread bytes messages = Stands (ReadsOn has stands keeps t r d before) t [] bytes messages × (t.stage ≡ stage.Map)
-Ended has stands keeps (Some h) t r d before unread bytes messages =
-    Carried (templates_in t.set.now) bytes messages
-    × (h.cause ≢ Memory → StopsBehind (templates_in t.set.now) bytes messages (stop_of t.template h unread))
-    × (h.cause ≡ Truncated → Stands (ReadsOn has stands keeps t r d before) t unread bytes messages)
-    × (h.cause ≢ Truncated → HasAll stands t r before bytes messages)
+-- How the reading of a stream ends at a piece: it can go on if more bytes come, or the receiver has forgotten what was
+-- open.
+abbrev pub Halted : {R : Type 0} → Having R → Standing R → Standing R → Halt → Framing → ℕ → Traversal → R → Dictionary → List Content → List ℕ → List ℕ → List Content → Type 0
+Halted has stands keeps h framing left t r d before unread bytes messages =
+    Carried (framed_as framing t) (templates_in t.set.now) bytes messages
+    × (h.cause ≢ Memory → StopsBehind (framed_as framing t) (templates_in t.set.now) bytes messages (stop_of t.template h unread))
+    × (h.cause ≡ Truncated → Stands framing left (ReadsOn has stands keeps t r d before) t unread bytes messages)
+    × (h.cause ≢ Truncated → HasAll stands framing t r before bytes messages)

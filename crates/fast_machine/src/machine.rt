@@ -9,7 +9,7 @@ ghost use Rattle.fast_walk.specs.Traversals.{CanGoOn, ServesAll};
 ghost use Rattle.fast_machine.specs.OneProof.{CanGoOn-prop, ServesAll-prop};
 
 use fast_dictionary::Entries;
-use fast_stream::Fault;
+use fast_stream::{Fault, Framing};
 use fast_walk::{Receiver, Traversal};
 use std::alloc::Global;
 
@@ -21,14 +21,17 @@ use std::alloc::Global;
 pub struct Machine<'a, R: Receiver, E: Entries> {
     alloc: Global,
     traversal: Traversal<'a>,
+    framing: Framing,
     /// What has the messages that ended; whoever takes them from it leaves what is open.
     pub receiver: R,
     entries: E,
     // at most ten bytes of a subtraction length, ten of the length of a new part, and all but one
     // of that part's 65,535
     held: Vec<u8>,
-    // the number of the instruction of the piece that is not whole
+    // the number of the instruction of the piece that is not whole; 0 where nothing of one has come
     waiting: u32,
+    // how many bytes are left of the open block, those that are held among them; none between two blocks
+    left: u128,
     fault: Option<Fault>,
     fed: u64,
     messages: u64,

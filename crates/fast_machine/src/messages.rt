@@ -5,7 +5,8 @@ ghost use Rattle.fast_template.specs.Resolved.{Resolved};
 ghost use Rattle.fast_template.specs.TemplateSets.{IsSound};
 ghost use Rattle.fast_dictionary.specs.Dictionary.{Dictionary};
 ghost use Rattle.fast_stream.specs.Nodes.{Content};
-ghost use Rattle.fast_machine.specs.Standing.{Ended, ReadsOn, Stands};
+ghost use Rattle.fast_machine.specs.Runs.{Ended, ReadsOn, RunStands};
+ghost use Rattle.fast_walk.specs.declared.traversal.Stage.TheVariants as stage;
 ghost use Rattle.fast_walk.specs.Traversals.{CanGoOn, ServesAll, begun_of};
 
 use fast_dictionary::Entries;
@@ -47,13 +48,16 @@ pub(crate) fn read_messages<R: Receiver, E: Entries>(
     requires served { ServesAll (E.serves entries.now) traversal.now.set.now }
     ensures place { result.at ≤ length bytes.now }
     ensures many { result.messages ≤ length bytes.now + 1 }
-    ensures ended { (before : List Content) (fed : List ℕ) (messages : List Content)
-        → Stands (ReadsOn R.has R.stands R.keeps traversal.old receiver.old (E.contents entries.old)
-        before) traversal.old bytes.now fed messages
+    ensures ended { (before : List Content) (origin : Dictionary) (run : List ℕ) (messages : List Content)
+        → RunStands (ReadsOn R.has R.stands R.keeps traversal.old receiver.old (E.contents
+        entries.old)
+        before) traversal.old bytes.now origin run messages
         → (ended : List Content) × (length ended ≡ result.messages)
         × Ended R.has R.stands R.keeps result.halt traversal.new receiver.new
-        (E.contents entries.new) (before ++ ended) (drop result.at bytes.now) fed
+        (E.contents entries.new) (before ++ ended) (drop result.at bytes.now) origin run
         (messages ++ ended) }
+    ensures whole { IfNone result.halt ((result.at ≡ length bytes.now) × (traversal.new.stage
+        ≡ stage.Map)) }
     ensures ready { IfNone result.halt (CanGoOn (E.serves entries.new) traversal.new) }
     ensures waits { IfSome result.halt (λ h. h.cause ≡ Cause.Truncated
         → CanGoOn (E.serves entries.new) traversal.new) }
@@ -61,6 +65,7 @@ pub(crate) fn read_messages<R: Receiver, E: Entries>(
     ensures few { IfSome result.halt (λ h. h.cause ≡ Cause.Truncated
         → length bytes.now ≤ result.at + 65554) }
     ensures set { traversal.new.set ≡ traversal.old.set }
+    ensures level { traversal.new.level ≡ traversal.old.level }
     ensures sound { IsSound traversal.new.set.now }
     ensures same_keys { E.serves entries.new ≡ E.serves entries.old }
 {

@@ -7,28 +7,30 @@ ghost use Rattle.fast_field.specs.FieldReading.{field_at};
 ghost use Rattle.fast_walk.specs.Received.{Took, TookFrom, exponent_of, length_of};
 
 use fast_dictionary::{Entries, Entry};
-use fast_field::{FieldFault, read_in_place};
+use fast_field::{FieldFault, read_in_place, reads_as_usual};
 use fast_relay::take_number;
 use fast_template::{FieldPart, Scalar};
+use fast_wire::Level;
 use std::alloc::Global;
 
-/// Takes an integer under bit 1 at once; the entry is the one afterwards. None: nothing has changed, and the part goes
-/// the general way.
+/// Takes an integer under bit 1 at once, where it is read as at the usual level; the entry is the one afterwards. None: nothing has changed,
+/// and the part goes the general way.
 #[inline(always)]
 pub fn take_quickly(
     part: &FieldPart,
     entry: &mut Entry,
     bit: bool,
+    level: Level,
     bytes: &[u8],
     at: usize,
 ) -> Option<(Scalar, usize)>
     requires { at ≤ length bytes.now }
     ensures place { IfSome result (λ x. (at ≤ x.1) × (x.1 ≤ length bytes.now)) }
-    ensures taken { IfSome result (λ x. TookFrom part.now bit entry.old entry.new (Some x.0)
+    ensures taken { IfSome result (λ x. TookFrom level part.now bit entry.old entry.new (Some x.0)
         (drop at bytes.now) (drop x.1 bytes.now)) }
     ensures entry { IfNone result (entry.new ≡ entry.old) }
 {
-    if bit {
+    if bit && reads_as_usual(level, part, bytes, at) {
         take_number(part, entry, bytes, at)
     } else {
         None
@@ -42,18 +44,19 @@ fn take_generally(
     part: &FieldPart,
     entry: &mut Entry,
     bit: bool,
+    level: Level,
     bytes: &[u8],
     at: usize,
 ) -> Result<(Option<Scalar>, usize), FieldFault>
     requires { at ≤ length bytes.now }
     ensures place { IfOk result (λ x. (at ≤ x.1) × (x.1 ≤ length bytes.now)) }
-    ensures taken { IfOk result (λ x. TookFrom part.now bit entry.old entry.new x.0
+    ensures taken { IfOk result (λ x. TookFrom level part.now bit entry.old entry.new x.0
         (drop at bytes.now) (drop x.1 bytes.now)) }
     ensures stops { IfErr result (λ f. f ≢ FieldFault.Memory
-        → (field_at part.now entry.old bit (drop at bytes.now) ≡ Err f)
+        → (field_at level part.now entry.old bit (drop at bytes.now) ≡ Err f)
         × (entry.new ≡ entry.old)) }
 {
-    match read_in_place(alloc, part, entry, bit, bytes, at) {
+    match read_in_place(alloc, part, entry, bit, level, bytes, at) {
         Err(fault) => Err(fault),
         Ok((found, next)) => match found.into_value(alloc, part, entry.view()) {
             Err(_) => Err(FieldFault::Memory),
@@ -69,20 +72,21 @@ fn take_value(
     part: &FieldPart,
     entry: &mut Entry,
     bit: bool,
+    level: Level,
     bytes: &[u8],
     at: usize,
 ) -> Result<(Option<Scalar>, usize), FieldFault>
     requires { at ≤ length bytes.now }
     ensures place { IfOk result (λ x. (at ≤ x.1) × (x.1 ≤ length bytes.now)) }
-    ensures taken { IfOk result (λ x. TookFrom part.now bit entry.old entry.new x.0
+    ensures taken { IfOk result (λ x. TookFrom level part.now bit entry.old entry.new x.0
         (drop at bytes.now) (drop x.1 bytes.now)) }
     ensures stops { IfErr result (λ f. f ≢ FieldFault.Memory
-        → (field_at part.now entry.old bit (drop at bytes.now) ≡ Err f)
+        → (field_at level part.now entry.old bit (drop at bytes.now) ≡ Err f)
         × (entry.new ≡ entry.old)) }
 {
-    match take_quickly(part, entry, bit, bytes, at) {
+    match take_quickly(part, entry, bit, level, bytes, at) {
         Some((value, next)) => Ok((Some(value), next)),
-        None => take_generally(alloc, part, entry, bit, bytes, at),
+        None => take_generally(alloc, part, entry, bit, level, bytes, at),
     }
 }
 
@@ -98,24 +102,25 @@ pub fn take_part<E: Entries>(
     entries: &mut E,
     part: &FieldPart,
     bit: bool,
+    level: Level,
     bytes: &[u8],
     at: usize,
 ) -> Result<(Option<Scalar>, usize), FieldFault>
     requires place { at ≤ length bytes.now }
     requires served { IsTrue (E.serves entries.now part.now.key) }
     ensures place { IfOk result (λ x. (at ≤ x.1) × (x.1 ≤ length bytes.now)) }
-    ensures took { IfOk result (λ x. Took part.now bit (E.contents entries.old) (E.contents
+    ensures took { IfOk result (λ x. Took level part.now bit (E.contents entries.old) (E.contents
         entries.new) x.0
         (drop at bytes.now) (drop x.1 bytes.now)) }
     ensures stops { IfErr result (λ f. f ≢ FieldFault.Memory
-        → (field_at part.now (entry_at (E.contents entries.old) part.now.key) bit (drop at
+        → (field_at level part.now (entry_at (E.contents entries.old) part.now.key) bit (drop at
         bytes.now) ≡ Err f)
         × (E.contents entries.new ≡ E.contents entries.old)) }
     ensures same_keys { E.serves entries.new ≡ E.serves entries.old }
 {
     match entries.entry_mut(&part.key) {
         Err(_) => Err(FieldFault::Memory),
-        Ok(entry) => match take_value(alloc, part, entry, bit, bytes, at) {
+        Ok(entry) => match take_value(alloc, part, entry, bit, level, bytes, at) {
             Err(fault) => Err(fault),
             Ok((value, next)) => Ok((value, next)),
         },

@@ -1,3 +1,4 @@
+mod SetBits
 pub mod ShortWalks
 pub mod Steps
 pub mod Walking

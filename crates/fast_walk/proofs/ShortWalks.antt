@@ -4,48 +4,26 @@ use Rattle.std.specs.FinMap as finite
 use Rattle.fast_template.specs.Resolved.{no_instructions, Resolved, list_of}
 use Rattle.fast_dictionary.specs.Dictionary.{Dictionary}
 use Rattle.fast_wire.specs.Reading.{◌>>=◌}
+use Rattle.fast_wire.specs.Level.{some_set}
+use Rattle.fast_wire.specs.declared.level.Level.{Level}
+use Rattle.fast_wire.specs.declared.level.Level.TheVariants.{Usual, Strict}
 use Rattle.fast_stream.specs.declared.fault.Cause.{Cause}
-use Rattle.fast_stream.specs.declared.fault.Cause.TheVariants.{Truncated, Memory}
+use Rattle.fast_stream.specs.declared.fault.Cause.TheVariants.{R8, Truncated, Memory}
 use Rattle.fast_walk.specs.declared.halt.Halt.{Halt}
 use Rattle.fast_stream.specs.Nodes.{Items, node_limit}
 use Rattle.fast_stream.specs.Streams.{identifier}
-use Rattle.fast_stream.specs.Reading.{Cursor, Reads, field_part_at, decimal_of, segment_at, each_at, body_at, named_at, in_template, message_at}
-use Rattle.fast_walk.specs.OpenSegments.{Body, Inside, in_group, in_sequence, Waiting, Next, at_instruction, at_mantissa, at_element, Sequel, body_on, elements_on, top_on, behind_inside, all_around, cursor}
+use Rattle.fast_stream.specs.Reading.{Cursor, Reads, field_part_at, decimal_of, segment_at, closing, end_at, each_at, body_at, named_at, in_template, message_at}
+use Rattle.fast_walk.specs.OpenSegments.{Body, Inside, in_group, in_sequence, Waiting, ended_on, Next, at_instruction, at_mantissa, at_element, Sequel, body_on, elements_on, top_on, behind_inside, all_around, cursor}
 use Rattle.fast_walk.specs.Received.{Received}
 use Rattle.fast_walk.specs.Traversals.{identifier_on, stop_of}
-use Rattle.fast_walk.specs.Walks.{IsAt, HaltsAs, bare, bare_next, bare_inside, next_of, inside_of, frame_of}
+use Rattle.fast_walk.specs.Walks.{IsAt, HaltsAs, bare, bare_next, bare_inside, next_of, inside_of, number_of, frame_of}
 use Rattle.fast_walk.specs.declared.walk.Next.{Next as NextNow}
 use Rattle.fast_walk.specs.declared.walk.Next.TheVariants as next
 use Rattle.fast_walk.specs.declared.walk.Inside.{Inside as InsideNow}
 use Rattle.fast_walk.specs.declared.walk.Inside.TheVariants as inside
 use Rattle.fast_walk.specs.declared.walk.Frame.{Frame as FrameNow}
 use Rattle.fast_walk.specs.declared.walk.Walk.{Walk as WalkNow}
-use Rattle.fast_stream.proofs.ShortPieces.{IsShort, short_ok, short_then, part_short, decimal_short, each_short, segment_short, body_short, short_in, message_then, message_ok, identifier_short, message_short}
-
--- ---- what is left of a message that has begun
-
-body_left_short : (b : Body) (c : Cursor) → IsShort (body_on b c)
-body_left_short b c = short_then (body_at b.rest c) _ (body_short b.rest c) (λ r. short_ok _)
-
-elements_left_short : (q : Sequel) (b : Body) (c : Cursor) → IsShort (elements_on q b c)
-elements_left_short q b c =
-    short_then (each_at q.number (segment_at q.number q.own_map (λ j. body_at q.members j)) q.left c) _
-    (each_short q.number (segment_at q.number q.own_map (λ j. body_at q.members j)) (λ j. segment_short q.number q.own_map (λ j. body_at q.members j) j (λ j. body_short q.members j)) q.left c)
-    (λ es. body_left_short _ es.1)
-
-top_short : (n : Next) (b : Body) (c : Cursor) → IsShort (top_on n b c)
-top_short at_instruction b c = body_left_short b c
-top_short (at_mantissa e mantissa) b c =
-    short_then (field_part_at mantissa c >>= decimal_of e) _ (short_then (field_part_at mantissa c) (decimal_of e) (part_short mantissa c) (decimal_short e)) (λ n. body_left_short _ n.1)
-top_short (at_element q) b c = elements_left_short q b c
-
-inside_short : (i : Inside) (b : Body) (ns : Items) (c : Cursor) → IsShort (behind_inside i b ns c)
-inside_short in_group b ns c = body_left_short _ c
-inside_short (in_sequence q) b ns c = elements_left_short _ b c
-
-all_short : (ws : List Waiting) (r : Reads Items) → IsShort r → IsShort (all_around ws r)
-all_short [] r h = h
-all_short (w ∷ ws) r h = short_then (all_around ws r) _ (all_short ws r h) (λ ns. inside_short w.inside w.body ns.0 _)
+use Rattle.fast_stream.proofs.ShortPieces.{IsShort, short_ok, short_then, part_short, decimal_short, each_short, segment_short, closing_short, end_short, body_short, short_in, message_then, message_ok, identifier_short, message_short}
 
 -- ---- a walk, whatever was received
 
@@ -55,11 +33,11 @@ next_is_bare (next.Mantissa p) = refl
 next_is_bare (next.Element q) = refl
 
 inside_is_bare : (i : InsideNow) → bare_inside (inside_of i) ≡ inside_of i
-inside_is_bare inside.Group = refl
+inside_is_bare (inside.Group number) = refl
 inside_is_bare (inside.Element q) = refl
 
 frame_is_bare : (f : FrameNow) → bare (frame_of f) ≡ frame_of f
-frame_is_bare f = ap (λ (i : Inside). record { bits = f.bits; body = record { rest = list_of f.rest.now; done = [] }; inside = i }) (inside_is_bare f.inside)
+frame_is_bare f = ap (λ (i : Inside). record { bits = f.bits; number = number_of f.inside; body = record { rest = list_of f.rest.now; done = [] }; inside = i }) (inside_is_bare f.inside)
 
 frames_are_bare : (fs : List FrameNow) → map bare (map frame_of fs) ≡ map frame_of fs
 frames_are_bare [] = refl
@@ -80,29 +58,65 @@ something w = record {
 is_at_something : (w : WalkNow) → IsAt w (something w)
 is_at_something w = record { next = next_is_bare w.next; rest = refl; around = frames_are_bare w.around.items }
 
--- where a walk halts for want of bytes they are few
-pub walk_few : (w : WalkNow) (d : Dictionary) (bytes : List ℕ) (h : Halt) → HaltsAs w d bytes h → h.cause ≡ Truncated → length bytes ≤ 65554
-walk_few w d bytes h halts t =
-    let o = something w in
-    all_short o.around (top_on o.next o.body (cursor d w.bits w.spare bytes)) (top_short o.next o.body (cursor d w.bits w.spare bytes))
-    (record { cause = h.cause; instruction = h.number; left = length bytes }) (halts o (is_at_something w)) t
-
--- ---- messages
-
-pub map_few_at : (set : List Resolved) (bytes : List ℕ) (h : Halt) → ((d : Dictionary) → message_at set d bytes ≡ Err (stop_of 0 h bytes)) → h.cause ≡ Truncated → length bytes ≤ 65554
-map_few_at set bytes h stops t = message_short set finite.empty bytes (stop_of 0 h bytes) (stops finite.empty) t
-
-pub identifier_few_at : (set : List Resolved) (d : Dictionary) (bits : List Bool) (bytes : List ℕ) (h : Halt) → identifier_on set d bits bytes ≡ Err (stop_of 0 h bytes) → h.cause ≡ Truncated → length bytes ≤ 65554
-identifier_few_at set d bits bytes h stops t =
-    message_then (in_template 0 (field_part_at identifier (cursor d bits node_limit bytes) >>= named_at set bytes)) _
-    (short_in 0 (field_part_at identifier (cursor d bits node_limit bytes) >>= named_at set bytes) (identifier_short set (cursor d bits node_limit bytes)))
-    (λ h. message_then (in_template h.0.template (body_at h.0.members h.1)) _ (short_in h.0.template (body_at h.0.members h.1) (body_short h.0.members h.1)) (λ r. message_ok _))
-    (stop_of 0 h bytes) stops t
-
 -- ---- places
 
 pub behind_few : (bytes : List ℕ) (at : ℕ) → length (drop at bytes) ≤ 65554 → length bytes ≤ at + 65554
 behind_few bytes at few = let size = length-drop at bytes in omega (arith, size, few)
 
+pub no_want : (cause : Cause) → cause ≡ Truncated → cause ≡ R8 → ⊥
+no_want cause t r = let k : Truncated ≡ R8 = sym t ∙ r in absurd cc
+
 pub want_of_bytes : (cause : Cause) → cause ≡ Truncated → cause ≡ Memory → ⊥
 want_of_bytes cause t m = let k : Truncated ≡ Memory = sym t ∙ m in absurd cc
+
+module _ (level : Level) where
+  -- ---- what is left of a message that has begun
+
+  body_left_short : (b : Body) (c : Cursor) → IsShort level (body_on level b c)
+  body_left_short b c = short_then level (body_at level b.rest c) _ (body_short level b.rest c) (λ r. short_ok level _)
+
+  elements_left_short : (q : Sequel) (b : Body) (c : Cursor) → IsShort level (elements_on level q b c)
+  elements_left_short q b c =
+      short_then level (each_at q.number (segment_at level q.number q.own_map (closing level q.number (λ j. body_at level q.members j))) q.left c) _
+      (each_short level q.number (segment_at level q.number q.own_map (closing level q.number (λ j. body_at level q.members j))) (λ j. segment_short level q.number q.own_map (closing level q.number (λ j. body_at level q.members j)) j (λ j. closing_short level level q.number (λ j. body_at level q.members j) j (λ j. body_short level q.members j))) q.left c)
+      (λ es. body_left_short _ es.1)
+
+  top_short : (n : Next) (b : Body) (c : Cursor) → IsShort level (top_on level n b c)
+  top_short at_instruction b c = body_left_short b c
+  top_short (at_mantissa e mantissa) b c =
+      short_then level (field_part_at level mantissa c >>= decimal_of e) _ (short_then level (field_part_at level mantissa c) (decimal_of e) (part_short level mantissa c) (decimal_short level e)) (λ n. body_left_short _ n.1)
+  top_short (at_element q) b c = elements_left_short q b c
+
+  inside_short : (i : Inside) (b : Body) (ns : Items) (c : Cursor) → IsShort level (behind_inside level i b ns c)
+  inside_short in_group b ns c = body_left_short _ c
+  inside_short (in_sequence q) b ns c = elements_left_short _ b c
+
+  ended_short : (l : Level) (number : ℕ) (r : Reads Items) → IsShort level r → IsShort level (ended_on l number r)
+  ended_short Usual number r h = h
+  ended_short Strict number r h = short_then level r (end_at number) h (λ x. end_short level number x (some_set x.1.bits))
+
+  all_short : (ws : List Waiting) (r : Reads Items) → IsShort level r → IsShort level (all_around level ws r)
+  all_short [] r h = h
+  all_short (w ∷ ws) r h = short_then level (ended_on level w.number (all_around level ws r)) _ (ended_short level w.number (all_around level ws r) (all_short ws r h)) (λ ns. inside_short w.inside w.body ns.0 _)
+
+  -- ---- a walk that halts
+
+  -- where a walk halts for want of bytes they are few
+  pub walk_few : (w : WalkNow) (d : Dictionary) (bytes : List ℕ) (h : Halt) → HaltsAs level w d bytes h → h.cause ≡ Truncated → length bytes ≤ 65554
+  walk_few w d bytes h halts t =
+      let o = something w in
+      all_short o.around (top_on level o.next o.body (cursor d w.bits w.spare bytes)) (top_short o.next o.body (cursor d w.bits w.spare bytes))
+      (record { cause = h.cause; instruction = h.number; left = length bytes }) (halts o (is_at_something w)) t
+
+  -- ---- messages
+
+  pub map_few_at : (set : List Resolved) (bytes : List ℕ) (h : Halt) → ((d : Dictionary) → message_at level set d bytes ≡ Err (stop_of 0 h bytes)) → h.cause ≡ Truncated → length bytes ≤ 65554
+  map_few_at set bytes h stops t = message_short level set finite.empty bytes (stop_of 0 h bytes) (stops finite.empty) t
+
+  pub identifier_few_at : (set : List Resolved) (d : Dictionary) (bits : List Bool) (bytes : List ℕ) (h : Halt) → identifier_on level set d bits bytes ≡ Err (stop_of 0 h bytes) → h.cause ≡ Truncated → length bytes ≤ 65554
+  identifier_few_at set d bits bytes h stops t =
+      message_then level (in_template 0 (field_part_at level identifier (cursor d bits node_limit bytes) >>= named_at set bytes)) _
+      (short_in level 0 (field_part_at level identifier (cursor d bits node_limit bytes) >>= named_at set bytes) (identifier_short level set (cursor d bits node_limit bytes)))
+      (λ h. message_then level (in_template h.0.template (closing level 0 (λ j. body_at level h.0.members j) h.1)) _
+      (short_in level h.0.template (closing level 0 (λ j. body_at level h.0.members j) h.1) (closing_short level level 0 (λ j. body_at level h.0.members j) h.1 (λ j. body_short level h.0.members j))) (λ r. message_ok level _))
+      (stop_of 0 h bytes) stops t

@@ -9,16 +9,20 @@ use Rattle.fast_value.specs.declared.kind.Presence.{Presence}
 use Rattle.fast_template.specs.declared.resolved.FieldPart.{FieldPart}
 use Rattle.fast_template.specs.Resolved.{Instruction, Instructions, whole_field, field_in_parts, group_of, sequence_of, no_instructions, then_instruction, is_optional, has_map, Resolved}
 use Rattle.fast_wire.specs.Reading.{◌>>=◌}
+use Rattle.fast_wire.specs.Level.{IsLeftClear, some_set}
+use Rattle.fast_wire.specs.declared.level.Level.{Level}
+use Rattle.fast_wire.specs.declared.level.Level.TheVariants.{Strict}
+use Rattle.fast_stream.specs.declared.fault.Cause.TheVariants.{R8}
 use Rattle.fast_stream.specs.Nodes.{single, Items, items_of, sequence_elements, elements_of}
 use Rattle.fast_stream.specs.Bits.{bit_for, after_bit}
 use Rattle.fast_stream.specs.Faults.{Stop}
 use Rattle.fast_stream.specs.Streams.{members_of}
-use Rattle.fast_stream.specs.Reading.{Cursor, Reads, node_at, field_part_at, own_map_at, behind_bit, piece_at}
+use Rattle.fast_stream.specs.Reading.{Cursor, Reads, node_at, field_part_at, own_map_at, behind_bit, piece_at, stopped}
 use Rattle.fast_walk.specs.OpenSegments.{items_before, Body, Sequel, Waiting, Inside, in_group, in_sequence, Next, at_instruction, at_mantissa, at_element, with_item, fewer, under_bits, body_on, mantissa_on, elements_on, top_on, behind_inside, all_around}
 use Rattle.fast_walk.specs.Received.{Received, Same, Goes, IsExponent, ended_in}
 use Rattle.fast_walk.specs.Walks.{bare_inside, bare, bare_next, bare_sequel, frame_of, AreAllServed, IsWaitingServed}
 use Rattle.fast_walk.specs.declared.walk.Frame.{Frame as FrameNow}
-use Rattle.fast_walk.proofs.Steps.{field_goes, no_group_goes, group_goes, piece_stops, end_goes, whole_goes, exponent_goes, no_exponent_goes, length_goes, no_length_goes, mantissa_goes, mantissa_stops, element_goes, no_map_stops, no_node_stops, no_more_goes}
+use Rattle.fast_walk.proofs.Steps.{field_goes, no_group_goes, group_goes, piece_stops, end_goes, whole_goes, exponent_goes, no_exponent_goes, length_goes, no_length_goes, mantissa_goes, mantissa_stops, element_goes, no_map_stops, no_node_stops, no_more_goes, end_stops, set_stops}
 
 -- ---- what is next
 
@@ -88,75 +92,10 @@ pub not_there : (b : Bool) (v : Option Scalar) → b ≡ false → IsExponent b 
 not_there true v h k = absurd cc
 not_there false v h k = k
 
--- ---- one piece
+-- ---- an element
 
 abbrev part_read : Cursor → Option Scalar → Reads (Option Scalar)
 part_read k v = Ok (v, k)
-
-body_is : (b : Body) (is : Instructions) (c : Cursor) → b.rest ≡ is → body_on b c ≡ body_on (record { rest = is; done = b.done }) c
-body_is b is c h = ap (λ (is : Instructions). body_on (record { rest = is; done = b.done }) c) h
-
--- at an instruction what is left is that of its body
-top_is : (n : Next) (b : Body) (is : Instructions) (c : Cursor) → n ≡ at_instruction → b.rest ≡ is → top_on n b c ≡ body_on (record { rest = is; done = b.done }) c
-top_is n b is c next h = ap (λ (n : Next). top_on n b c) next ∙ body_is b is c h
-
-pub field_on : (ws : List Waiting) (n : Next) (b : Body) (name : List ℕ) (number : ℕ) (presence : Presence) (whole : FieldPart) (is : Instructions) (c d e : Cursor) (v : Option Scalar)
-    → n ≡ at_instruction → b.rest ≡ then_instruction (whole_field name number presence whole) is → node_at number c ≡ Ok d → field_part_at whole d ≡ Ok (v, e)
-    → all_around ws (top_on n b c) ≡ all_around ws (body_on (record { rest = is; done = b.done ++ single v ∷ [] }) e)
-field_on ws n b name number presence whole is c d e v next first h k =
-    ap (λ (r : Reads Items). all_around ws r) (top_is n b _ c next first ∙ field_goes name number presence whole is b.done c d e v h k)
-
-pub exponent_on : (ws : List Waiting) (n : Next) (b : Body) (name : List ℕ) (number : ℕ) (presence : Presence) (exponent mantissa : FieldPart) (is : Instructions) (c d k : Cursor) (v : Option Scalar) (e : ℤ)
-    → n ≡ at_instruction → b.rest ≡ then_instruction (field_in_parts name number presence exponent mantissa) is → v ≡ Some (I32 e) → node_at number c ≡ Ok d → field_part_at exponent d ≡ Ok (v, k)
-    → all_around ws (top_on n b c) ≡ all_around ws (mantissa_on e mantissa (record { rest = is; done = b.done }) k)
-exponent_on ws n b name number presence exponent mantissa is c d k v e next first there h m =
-    ap (λ (r : Reads Items). all_around ws r) (top_is n b _ c next first ∙ exponent_goes name number presence exponent mantissa is b.done c d k e h (m ∙ ap (part_read k) there))
-
-pub no_exponent_on : (ws : List Waiting) (n : Next) (b : Body) (name : List ℕ) (number : ℕ) (presence : Presence) (exponent mantissa : FieldPart) (is : Instructions) (c d k : Cursor) (v : Option Scalar)
-    → n ≡ at_instruction → b.rest ≡ then_instruction (field_in_parts name number presence exponent mantissa) is → v ≡ None → node_at number c ≡ Ok d → field_part_at exponent d ≡ Ok (v, k)
-    → all_around ws (top_on n b c) ≡ all_around ws (body_on (record { rest = is; done = b.done ++ single None ∷ [] }) k)
-no_exponent_on ws n b name number presence exponent mantissa is c d k v next first there h m =
-    ap (λ (r : Reads Items). all_around ws r) (top_is n b _ c next first ∙ no_exponent_goes name number presence exponent mantissa is b.done c d k h (m ∙ ap (part_read k) there))
-
-pub mantissa_on_goes : (ws : List Waiting) (n : Next) (e m : ℤ) (mantissa : FieldPart) (b : Body) (c k : Cursor) → n ≡ at_mantissa e mantissa → field_part_at mantissa c ≡ Ok (Some (I64 m), k)
-    → all_around ws (top_on n b c) ≡ all_around ws (body_on (with_item b (single (Some (Decimal e m)))) k)
-mantissa_on_goes ws n e m mantissa b c k next h =
-    ap (λ (r : Reads Items). all_around ws r) (ap (λ (n : Next). top_on n b c) next ∙ mantissa_goes e m mantissa b c k h)
-
-pub mantissa_on_stops : (ws : List Waiting) (n : Next) (e : ℤ) (mantissa : FieldPart) (b : Body) (c : Cursor) (s : Stop) → n ≡ at_mantissa e mantissa → field_part_at mantissa c ≡ Err s
-    → all_around ws (top_on n b c) ≡ Err s
-mantissa_on_stops ws n e mantissa b c s next h = ap (λ (n : Next). all_around ws (top_on n b c)) next ∙ mantissa_stops ws e mantissa b c s h
-
-pub length_on : (ws : List Waiting) (n : Next) (b : Body) (name : List ℕ) (number : ℕ) (presence : Presence) (part : FieldPart) (members is : Instructions) (c d k : Cursor) (many : ℕ)
-    → n ≡ at_instruction → b.rest ≡ then_instruction (sequence_of name number presence part members) is → node_at number c ≡ Ok d → field_part_at part d ≡ Ok (Some (U32 many), k)
-    → all_around ws (top_on n b c)
-    ≡ all_around ws (elements_on (record { number = number; own_map = has_map members; members = members; left = many; done = [] }) (record { rest = is; done = b.done }) k)
-length_on ws n b name number presence part members is c d k many next first h m =
-    ap (λ (r : Reads Items). all_around ws r) (top_is n b _ c next first ∙ length_goes name number presence part members is b.done c d k many h m)
-
-pub no_length_on : (ws : List Waiting) (n : Next) (b : Body) (name : List ℕ) (number : ℕ) (presence : Presence) (part : FieldPart) (members is : Instructions) (c d k : Cursor)
-    → n ≡ at_instruction → b.rest ≡ then_instruction (sequence_of name number presence part members) is → node_at number c ≡ Ok d → field_part_at part d ≡ Ok (None, k)
-    → all_around ws (top_on n b c) ≡ all_around ws (body_on (record { rest = is; done = b.done ++ single None ∷ [] }) k)
-no_length_on ws n b name number presence part members is c d k next first h m =
-    ap (λ (r : Reads Items). all_around ws r) (top_is n b _ c next first ∙ no_length_goes name number presence part members is b.done c d k h m)
-
-pub piece_stops_on : (ws : List Waiting) (n : Next) (b : Body) (i : Instruction) (is : Instructions) (c : Cursor) (s : Stop)
-    → n ≡ at_instruction → b.rest ≡ then_instruction i is → piece_at i c ≡ Err s → all_around ws (top_on n b c) ≡ Err s
-piece_stops_on ws n b i is c s next first h = ap (λ (r : Reads Items). all_around ws r) (top_is n b _ c next first) ∙ piece_stops ws i is b.done c s h
-
-pub no_group_on : (ws : List Waiting) (n : Next) (b : Body) (name : List ℕ) (number : ℕ) (presence : Presence) (members is : Instructions) (c d : Cursor)
-    → n ≡ at_instruction → b.rest ≡ then_instruction (group_of name number presence members) is → node_at number c ≡ Ok d → bit_for (is_optional presence) d.bits ≡ false
-    → all_around ws (top_on n b c) ≡ all_around ws (body_on (record { rest = is; done = b.done ++ single None ∷ [] }) (behind_bit (is_optional presence) d))
-no_group_on ws n b name number presence members is c d next first h k =
-    ap (λ (r : Reads Items). all_around ws r) (top_is n b _ c next first ∙ no_group_goes name number presence members is b.done c d h k)
-
-pub group_on : (ws : List Waiting) (n : Next) (b : Body) (name : List ℕ) (number : ℕ) (presence : Presence) (members is : Instructions) (c d e : Cursor)
-    → n ≡ at_instruction → b.rest ≡ then_instruction (group_of name number presence members) is → node_at number c ≡ Ok d → bit_for (is_optional presence) d.bits ≡ true
-    → own_map_at number (has_map members) (behind_bit (is_optional presence) d) ≡ Ok e
-    → all_around ws (top_on n b c)
-    ≡ all_around (ws ++ record { bits = after_bit (is_optional presence) d.bits; body = record { rest = is; done = b.done }; inside = in_group } ∷ []) (body_on (record { rest = members; done = [] }) e)
-group_on ws n b name number presence members is c d e next first h k m =
-    ap (λ (r : Reads Items). all_around ws r) (top_is n b _ c next first) ∙ group_goes name number presence members is b.done ws c d e h k m
 
 left_is : (s t : Sequel) → bare_sequel s ≡ t → t.left ≡ s.left
 left_is s t same = sym (ap (λ (x : Sequel). x.left) same)
@@ -164,36 +103,16 @@ left_is s t same = sym (ap (λ (x : Sequel). x.left) same)
 node_is : (s t : Sequel) (c : Cursor) (r : Result Cursor Stop) → bare_sequel s ≡ t → node_at t.number c ≡ r → node_at s.number c ≡ r
 node_is s t c r same h = ap (λ (x : Sequel). node_at x.number c) same ∙ h
 
-map_is : (s t : Sequel) (c : Cursor) (r : Result Cursor Stop) → bare_sequel s ≡ t → own_map_at t.number t.own_map c ≡ r → own_map_at s.number s.own_map c ≡ r
-map_is s t c r same h = ap (λ (x : Sequel). own_map_at x.number x.own_map c) same ∙ h
-
 some_is : (s t : Sequel) → bare_sequel s ≡ t → 0 < t.left → 0 < s.left
 some_is s t same some = let left = left_is s t same in omega (arith, left, some)
 
-pub element_on : (ws : List Waiting) (n : Next) (b : Body) (s t : Sequel) (c d e : Cursor) → n ≡ at_element s → bare_sequel s ≡ t → 0 < t.left → node_at t.number c ≡ Ok d → own_map_at t.number t.own_map d ≡ Ok e
-    → all_around ws (top_on n b c) ≡ all_around (ws ++ record { bits = d.bits; body = b; inside = in_sequence (fewer s) } ∷ []) (body_on (record { rest = s.members; done = [] }) e)
-element_on ws n b s t c d e next same some h k =
-    ap (λ (n : Next). all_around ws (top_on n b c)) next ∙ element_goes s b ws c d e (some_is s t same some) (node_is s t c (Ok d) same h) (map_is s t d (Ok e) same k)
-
-pub no_node_on : (ws : List Waiting) (n : Next) (b : Body) (s t : Sequel) (c : Cursor) (f : Stop) → n ≡ at_element s → bare_sequel s ≡ t → 0 < t.left → node_at t.number c ≡ Err f → all_around ws (top_on n b c) ≡ Err f
-no_node_on ws n b s t c f next same some h = ap (λ (n : Next). all_around ws (top_on n b c)) next ∙ no_node_stops s b ws c f (some_is s t same some) (node_is s t c (Err f) same h)
-
-pub no_map_on : (ws : List Waiting) (n : Next) (b : Body) (s t : Sequel) (c d : Cursor) (f : Stop) → n ≡ at_element s → bare_sequel s ≡ t → 0 < t.left → node_at t.number c ≡ Ok d → own_map_at t.number t.own_map d ≡ Err f
-    → all_around ws (top_on n b c) ≡ Err f
-no_map_on ws n b s t c d f next same some h k =
-    ap (λ (n : Next). all_around ws (top_on n b c)) next ∙ no_map_stops s b ws c d f (some_is s t same some) (node_is s t c (Ok d) same h) (map_is s t d (Err f) same k)
-
-pub no_more_on : (ws : List Waiting) (n : Next) (b : Body) (s : Sequel) (c : Cursor) → n ≡ at_element s → s.left ≡ 0
-    → all_around ws (top_on n b c) ≡ all_around ws (body_on (with_item b (sequence_elements (elements_of s.done))) c)
-no_more_on ws n b s c next none = ap (λ (n : Next). all_around ws (top_on n b c)) next ∙ ap (λ (r : Reads Items). all_around ws r) (no_more_goes s b c none)
-
 pub around_element : (us fs : List Waiting) (bits : List Bool) (b : Body) (is : Instructions) (s t : Sequel) → map bare us ≡ fs → b.rest ≡ is → bare_sequel s ≡ t
-    → map bare (us ++ record { bits = bits; body = b; inside = in_sequence (fewer s) } ∷ []) ≡ fs ++ record { bits = bits; body = record { rest = is; done = [] }; inside = in_sequence (fewer t) } ∷ []
+    → map bare (us ++ record { bits = bits; number = s.number; body = b; inside = in_sequence (fewer s) } ∷ []) ≡ fs ++ record { bits = bits; number = t.number; body = record { rest = is; done = [] }; inside = in_sequence (fewer t) } ∷ []
 around_element us fs bits b is s t h k same =
-    map_push bare us (record { bits = bits; body = b; inside = in_sequence (fewer s) })
-    ∙ ap (λ (ws : List Waiting). ws ++ record { bits = bits; body = record { rest = b.rest; done = [] }; inside = in_sequence (fewer (bare_sequel s)) } ∷ []) h
-    ∙ ap (λ (x : Instructions). fs ++ record { bits = bits; body = record { rest = x; done = [] }; inside = in_sequence (fewer (bare_sequel s)) } ∷ []) k
-    ∙ ap (λ (x : Sequel). fs ++ record { bits = bits; body = record { rest = is; done = [] }; inside = in_sequence (fewer x) } ∷ []) same
+    map_push bare us (record { bits = bits; number = s.number; body = b; inside = in_sequence (fewer s) })
+    ∙ ap (λ (ws : List Waiting). ws ++ record { bits = bits; number = s.number; body = record { rest = b.rest; done = [] }; inside = in_sequence (fewer (bare_sequel s)) } ∷ []) h
+    ∙ ap (λ (x : Instructions). fs ++ record { bits = bits; number = s.number; body = record { rest = x; done = [] }; inside = in_sequence (fewer (bare_sequel s)) } ∷ []) k
+    ∙ ap (λ (x : Sequel). fs ++ record { bits = bits; number = x.number; body = record { rest = is; done = [] }; inside = in_sequence (fewer x) } ∷ []) same
 
 -- ---- the end of a segment
 
@@ -233,27 +152,9 @@ rest_of_last us fs f l = ap (λ (w : Waiting). w.body.rest) l.same
 pub inside_of_last : (us fs : List Waiting) (f : Waiting) (l : Last us fs f) → bare_inside l.last.inside ≡ f.inside
 inside_of_last us fs f l = ap (λ (w : Waiting). w.inside) l.same
 
--- what is left behind it, in the body that waited
-ended_top : (o : Received) (ws : List Waiting) (b : Body) (i : Inside) (ns : Items) (c : Cursor) → items_of o.body.done ≡ ns
-    → behind_inside i b ns c ≡ top_on (ended_in o ws b i).next (ended_in o ws b i).body c
-ended_top o ws b in_group ns c h = rw (sym h) refl
-ended_top o ws b (in_sequence s) ns c h = rw (sym h) refl
-
 ended_around : (o : Received) (ws : List Waiting) (b : Body) (i : Inside) → (ended_in o ws b i).around ≡ ws
 ended_around o ws b in_group = refl
 ended_around o ws b (in_sequence s) = refl
-
-pub end_on : (o : Received) (ws fs : List Waiting) (f : Waiting) (l : Last o.around fs f) (c : Cursor) → o.next ≡ at_instruction → o.body.rest ≡ no_instructions
-    → all_around o.around (top_on o.next o.body c)
-    ≡ all_around (ended_in o l.before l.last.body l.last.inside).around
-    (top_on (ended_in o l.before l.last.body l.last.inside).next (ended_in o l.before l.last.body l.last.inside).body (under_bits f.bits c))
-end_on o ws fs f l c next rest =
-    ap (λ (n : Next). all_around o.around (top_on n o.body c)) next
-    ∙ end_goes o.around l.before l.last o.body c l.is rest
-    ∙ ap (λ (w : Waiting). all_around l.before (behind_inside l.last.inside l.last.body (items_of o.body.done) (under_bits w.bits c))) l.same
-    ∙ ap (λ (r : Reads Items). all_around l.before r) (ended_top o l.before l.last.body l.last.inside (items_of o.body.done) (under_bits f.bits c) refl)
-    ∙ ap (λ (ws : List Waiting). all_around ws (top_on (ended_in o l.before l.last.body l.last.inside).next (ended_in o l.before l.last.body l.last.inside).body (under_bits f.bits c)))
-    (sym (ended_around o l.before l.last.body l.last.inside))
 
 pub ended_rest : (o : Received) (ws : List Waiting) (b : Body) (i : Inside) → (ended_in o ws b i).body.rest ≡ b.rest
 ended_rest o ws b in_group = refl
@@ -309,10 +210,143 @@ no_frames (u ∷ us) h = absurd cc
 pub around_none : (us : List Waiting) (fs : List FrameNow) → map bare us ≡ map frame_of fs → fs ≡ [] → us ≡ []
 around_none us fs h none = no_frames us (h ∙ ap (map frame_of) none)
 
--- the end of the message's own body
-pub all_read : (us : List Waiting) (n : Next) (b : Body) (c : Cursor) → us ≡ [] → n ≡ at_instruction → b.rest ≡ no_instructions → all_around us (top_on n b c) ≡ Ok (items_of b.done, c)
-all_read us n b c none next rest = ap (λ (ws : List Waiting). all_around ws (top_on n b c)) none ∙ top_is n b no_instructions c next rest ∙ whole_goes b.done c
+-- ---- at a level
 
-pub from_none : (r : Reads Items) → (r >>= λ x. Ok (items_before [] x.0, x.1)) ≡ r
-from_none (Err s) = refl
-from_none (Ok x) = refl
+-- the last of those that wait, where any does
+pub record HasLast (us : List Waiting) : Type 0 where
+  pub before : List Waiting
+  pub last : Waiting
+  pub is : us ≡ before ++ last ∷ []
+
+has_last : (us : List Waiting) → (us ≡ [] → ⊥) → HasLast us
+has_last [] some = absurd (some refl)
+has_last (u ∷ []) some = record { before = []; last = u; is = refl }
+has_last (u ∷ v ∷ us) some =
+    let l = has_last (v ∷ us) (λ e. absurd cc) in
+    record { before = u ∷ l.before; last = l.last; is = ap (λ (ws : List Waiting). u ∷ ws) l.is }
+
+pub no_frame : (fs : List FrameNow) → map frame_of fs ≡ [] → fs ≡ []
+no_frame [] h = refl
+no_frame (f ∷ fs) h = absurd cc
+
+module _ (level : Level) where
+  -- ---- one piece
+
+  body_is : (b : Body) (is : Instructions) (c : Cursor) → b.rest ≡ is → body_on level b c ≡ body_on level (record { rest = is; done = b.done }) c
+  body_is b is c h = ap (λ (is : Instructions). body_on level (record { rest = is; done = b.done }) c) h
+
+  -- at an instruction what is left is that of its body
+  top_is : (n : Next) (b : Body) (is : Instructions) (c : Cursor) → n ≡ at_instruction → b.rest ≡ is → top_on level n b c ≡ body_on level (record { rest = is; done = b.done }) c
+  top_is n b is c next h = ap (λ (n : Next). top_on level n b c) next ∙ body_is b is c h
+
+  pub field_on : (ws : List Waiting) (n : Next) (b : Body) (name : List ℕ) (number : ℕ) (presence : Presence) (whole : FieldPart) (is : Instructions) (c d e : Cursor) (v : Option Scalar)
+      → n ≡ at_instruction → b.rest ≡ then_instruction (whole_field name number presence whole) is → node_at number c ≡ Ok d → field_part_at level whole d ≡ Ok (v, e)
+      → all_around level ws (top_on level n b c) ≡ all_around level ws (body_on level (record { rest = is; done = b.done ++ single v ∷ [] }) e)
+  field_on ws n b name number presence whole is c d e v next first h k =
+      ap (λ (r : Reads Items). all_around level ws r) (top_is n b _ c next first ∙ field_goes level name number presence whole is b.done c d e v h k)
+
+  pub exponent_on : (ws : List Waiting) (n : Next) (b : Body) (name : List ℕ) (number : ℕ) (presence : Presence) (exponent mantissa : FieldPart) (is : Instructions) (c d k : Cursor) (v : Option Scalar) (e : ℤ)
+      → n ≡ at_instruction → b.rest ≡ then_instruction (field_in_parts name number presence exponent mantissa) is → v ≡ Some (I32 e) → node_at number c ≡ Ok d → field_part_at level exponent d ≡ Ok (v, k)
+      → all_around level ws (top_on level n b c) ≡ all_around level ws (mantissa_on level e mantissa (record { rest = is; done = b.done }) k)
+  exponent_on ws n b name number presence exponent mantissa is c d k v e next first there h m =
+      ap (λ (r : Reads Items). all_around level ws r) (top_is n b _ c next first ∙ exponent_goes level name number presence exponent mantissa is b.done c d k e h (m ∙ ap (part_read k) there))
+
+  pub no_exponent_on : (ws : List Waiting) (n : Next) (b : Body) (name : List ℕ) (number : ℕ) (presence : Presence) (exponent mantissa : FieldPart) (is : Instructions) (c d k : Cursor) (v : Option Scalar)
+      → n ≡ at_instruction → b.rest ≡ then_instruction (field_in_parts name number presence exponent mantissa) is → v ≡ None → node_at number c ≡ Ok d → field_part_at level exponent d ≡ Ok (v, k)
+      → all_around level ws (top_on level n b c) ≡ all_around level ws (body_on level (record { rest = is; done = b.done ++ single None ∷ [] }) k)
+  no_exponent_on ws n b name number presence exponent mantissa is c d k v next first there h m =
+      ap (λ (r : Reads Items). all_around level ws r) (top_is n b _ c next first ∙ no_exponent_goes level name number presence exponent mantissa is b.done c d k h (m ∙ ap (part_read k) there))
+
+  pub mantissa_on_goes : (ws : List Waiting) (n : Next) (e m : ℤ) (mantissa : FieldPart) (b : Body) (c k : Cursor) → n ≡ at_mantissa e mantissa → field_part_at level mantissa c ≡ Ok (Some (I64 m), k)
+      → all_around level ws (top_on level n b c) ≡ all_around level ws (body_on level (with_item b (single (Some (Decimal e m)))) k)
+  mantissa_on_goes ws n e m mantissa b c k next h =
+      ap (λ (r : Reads Items). all_around level ws r) (ap (λ (n : Next). top_on level n b c) next ∙ mantissa_goes level e m mantissa b c k h)
+
+  pub mantissa_on_stops : (ws : List Waiting) (n : Next) (e : ℤ) (mantissa : FieldPart) (b : Body) (c : Cursor) (s : Stop) → n ≡ at_mantissa e mantissa → field_part_at level mantissa c ≡ Err s
+      → all_around level ws (top_on level n b c) ≡ Err s
+  mantissa_on_stops ws n e mantissa b c s next h = ap (λ (n : Next). all_around level ws (top_on level n b c)) next ∙ mantissa_stops level ws e mantissa b c s h
+
+  pub length_on : (ws : List Waiting) (n : Next) (b : Body) (name : List ℕ) (number : ℕ) (presence : Presence) (part : FieldPart) (members is : Instructions) (c d k : Cursor) (many : ℕ)
+      → n ≡ at_instruction → b.rest ≡ then_instruction (sequence_of name number presence part members) is → node_at number c ≡ Ok d → field_part_at level part d ≡ Ok (Some (U32 many), k)
+      → all_around level ws (top_on level n b c)
+      ≡ all_around level ws (elements_on level (record { number = number; own_map = has_map members; members = members; left = many; done = [] }) (record { rest = is; done = b.done }) k)
+  length_on ws n b name number presence part members is c d k many next first h m =
+      ap (λ (r : Reads Items). all_around level ws r) (top_is n b _ c next first ∙ length_goes level name number presence part members is b.done c d k many h m)
+
+  pub no_length_on : (ws : List Waiting) (n : Next) (b : Body) (name : List ℕ) (number : ℕ) (presence : Presence) (part : FieldPart) (members is : Instructions) (c d k : Cursor)
+      → n ≡ at_instruction → b.rest ≡ then_instruction (sequence_of name number presence part members) is → node_at number c ≡ Ok d → field_part_at level part d ≡ Ok (None, k)
+      → all_around level ws (top_on level n b c) ≡ all_around level ws (body_on level (record { rest = is; done = b.done ++ single None ∷ [] }) k)
+  no_length_on ws n b name number presence part members is c d k next first h m =
+      ap (λ (r : Reads Items). all_around level ws r) (top_is n b _ c next first ∙ no_length_goes level name number presence part members is b.done c d k h m)
+
+  pub piece_stops_on : (ws : List Waiting) (n : Next) (b : Body) (i : Instruction) (is : Instructions) (c : Cursor) (s : Stop)
+      → n ≡ at_instruction → b.rest ≡ then_instruction i is → piece_at level i c ≡ Err s → all_around level ws (top_on level n b c) ≡ Err s
+  piece_stops_on ws n b i is c s next first h = ap (λ (r : Reads Items). all_around level ws r) (top_is n b _ c next first) ∙ piece_stops level ws i is b.done c s h
+
+  pub no_group_on : (ws : List Waiting) (n : Next) (b : Body) (name : List ℕ) (number : ℕ) (presence : Presence) (members is : Instructions) (c d : Cursor)
+      → n ≡ at_instruction → b.rest ≡ then_instruction (group_of name number presence members) is → node_at number c ≡ Ok d → bit_for (is_optional presence) d.bits ≡ false
+      → all_around level ws (top_on level n b c) ≡ all_around level ws (body_on level (record { rest = is; done = b.done ++ single None ∷ [] }) (behind_bit (is_optional presence) d))
+  no_group_on ws n b name number presence members is c d next first h k =
+      ap (λ (r : Reads Items). all_around level ws r) (top_is n b _ c next first ∙ no_group_goes level name number presence members is b.done c d h k)
+
+  pub group_on : (ws : List Waiting) (n : Next) (b : Body) (name : List ℕ) (number : ℕ) (presence : Presence) (members is : Instructions) (c d e : Cursor)
+      → n ≡ at_instruction → b.rest ≡ then_instruction (group_of name number presence members) is → node_at number c ≡ Ok d → bit_for (is_optional presence) d.bits ≡ true
+      → own_map_at level number (has_map members) (behind_bit (is_optional presence) d) ≡ Ok e
+      → all_around level ws (top_on level n b c)
+      ≡ all_around level (ws ++ record { bits = after_bit (is_optional presence) d.bits; number = number; body = record { rest = is; done = b.done }; inside = in_group } ∷ []) (body_on level (record { rest = members; done = [] }) e)
+  group_on ws n b name number presence members is c d e next first h k m =
+      ap (λ (r : Reads Items). all_around level ws r) (top_is n b _ c next first) ∙ group_goes level name number presence members is b.done ws c d e h k m
+
+  map_is : (s t : Sequel) (c : Cursor) (r : Result Cursor Stop) → bare_sequel s ≡ t → own_map_at level t.number t.own_map c ≡ r → own_map_at level s.number s.own_map c ≡ r
+  map_is s t c r same h = ap (λ (x : Sequel). own_map_at level x.number x.own_map c) same ∙ h
+
+  pub element_on : (ws : List Waiting) (n : Next) (b : Body) (s t : Sequel) (c d e : Cursor) → n ≡ at_element s → bare_sequel s ≡ t → 0 < t.left → node_at t.number c ≡ Ok d → own_map_at level t.number t.own_map d ≡ Ok e
+      → all_around level ws (top_on level n b c) ≡ all_around level (ws ++ record { bits = d.bits; number = s.number; body = b; inside = in_sequence (fewer s) } ∷ []) (body_on level (record { rest = s.members; done = [] }) e)
+  element_on ws n b s t c d e next same some h k =
+      ap (λ (n : Next). all_around level ws (top_on level n b c)) next ∙ element_goes level s b ws c d e (some_is s t same some) (node_is s t c (Ok d) same h) (map_is s t d (Ok e) same k)
+
+  pub no_node_on : (ws : List Waiting) (n : Next) (b : Body) (s t : Sequel) (c : Cursor) (f : Stop) → n ≡ at_element s → bare_sequel s ≡ t → 0 < t.left → node_at t.number c ≡ Err f → all_around level ws (top_on level n b c) ≡ Err f
+  no_node_on ws n b s t c f next same some h = ap (λ (n : Next). all_around level ws (top_on level n b c)) next ∙ no_node_stops level s b ws c f (some_is s t same some) (node_is s t c (Err f) same h)
+
+  pub no_map_on : (ws : List Waiting) (n : Next) (b : Body) (s t : Sequel) (c d : Cursor) (f : Stop) → n ≡ at_element s → bare_sequel s ≡ t → 0 < t.left → node_at t.number c ≡ Ok d → own_map_at level t.number t.own_map d ≡ Err f
+      → all_around level ws (top_on level n b c) ≡ Err f
+  no_map_on ws n b s t c d f next same some h k =
+      ap (λ (n : Next). all_around level ws (top_on level n b c)) next ∙ no_map_stops level s b ws c d f (some_is s t same some) (node_is s t c (Ok d) same h) (map_is s t d (Err f) same k)
+
+  pub no_more_on : (ws : List Waiting) (n : Next) (b : Body) (s : Sequel) (c : Cursor) → n ≡ at_element s → s.left ≡ 0
+      → all_around level ws (top_on level n b c) ≡ all_around level ws (body_on level (with_item b (sequence_elements (elements_of s.done))) c)
+  no_more_on ws n b s c next none = ap (λ (n : Next). all_around level ws (top_on level n b c)) next ∙ ap (λ (r : Reads Items). all_around level ws r) (no_more_goes level s b c none)
+
+  -- ---- the end of a segment
+
+  -- what is left behind it, in the body that waited
+  ended_top : (o : Received) (ws : List Waiting) (b : Body) (i : Inside) (ns : Items) (c : Cursor) → items_of o.body.done ≡ ns
+      → behind_inside level i b ns c ≡ top_on level (ended_in o ws b i).next (ended_in o ws b i).body c
+  ended_top o ws b in_group ns c h = rw (sym h) refl
+  ended_top o ws b (in_sequence s) ns c h = rw (sym h) refl
+
+  pub end_on : (o : Received) (ws fs : List Waiting) (f : Waiting) (l : Last o.around fs f) (c : Cursor) → IsLeftClear level c.bits → o.next ≡ at_instruction → o.body.rest ≡ no_instructions
+      → all_around level o.around (top_on level o.next o.body c)
+      ≡ all_around level (ended_in o l.before l.last.body l.last.inside).around
+      (top_on level (ended_in o l.before l.last.body l.last.inside).next (ended_in o l.before l.last.body l.last.inside).body (under_bits f.bits c))
+  end_on o ws fs f l c clear next rest =
+      ap (λ (n : Next). all_around level o.around (top_on level n o.body c)) next
+      ∙ end_goes level o.around l.before l.last o.body c clear l.is rest
+      ∙ ap (λ (w : Waiting). all_around level l.before (behind_inside level l.last.inside l.last.body (items_of o.body.done) (under_bits w.bits c))) l.same
+      ∙ ap (λ (r : Reads Items). all_around level l.before r) (ended_top o l.before l.last.body l.last.inside (items_of o.body.done) (under_bits f.bits c) refl)
+      ∙ ap (λ (ws : List Waiting). all_around level ws (top_on level (ended_in o l.before l.last.body l.last.inside).next (ended_in o l.before l.last.body l.last.inside).body (under_bits f.bits c)))
+      (sym (ended_around o l.before l.last.body l.last.inside))
+
+  -- the end of a segment that leaves a bit that is 1
+  pub end_on_stops : (o : Received) (fs : List Waiting) (number : ℕ) (c : Cursor) → map bare o.around ≡ fs → (fs ≡ [] → ⊥) → ((ws : List Waiting) (w : Waiting) → fs ≡ ws ++ w ∷ [] → number ≡ w.number)
+      → o.next ≡ at_instruction → o.body.rest ≡ no_instructions → level ≡ Strict → some_set c.bits ≡ true
+      → all_around level o.around (top_on level o.next o.body c) ≡ stopped number c.bytes R8
+  end_on_stops o fs number c same some named next rest strict left =
+      let l = has_last o.around (λ none. some (sym same ∙ ap (map bare) none)) in
+      let numbered = named (map bare l.before) (bare l.last) (sym same ∙ ap (map bare) l.is ∙ map_push bare l.before l.last) in
+      ap (all_around level o.around) (top_is o.next o.body no_instructions c next rest ∙ whole_goes level o.body.done c)
+      ∙ end_stops level o.around l.before l.last number _ _ l.is numbered (set_stops level number (items_of o.body.done) c strict left)
+
+  -- the end of the message's own body
+  pub all_read : (us : List Waiting) (n : Next) (b : Body) (c : Cursor) → us ≡ [] → n ≡ at_instruction → b.rest ≡ no_instructions → all_around level us (top_on level n b c) ≡ Ok (items_of b.done, c)
+  all_read us n b c none next rest = ap (λ (ws : List Waiting). all_around level ws (top_on level n b c)) none ∙ top_is n b no_instructions c next rest ∙ whole_goes level b.done c

@@ -4,9 +4,11 @@ use Rattle.fast_template.specs.declared.resolved.FieldPart.{FieldPart}
 use Rattle.fast_template.specs.Resolved.{Instructions}
 use Rattle.fast_dictionary.specs.Dictionary.{Dictionary}
 use Rattle.fast_wire.specs.Reading.{◌>>=◌}
+use Rattle.fast_wire.specs.declared.level.Level.{Level}
+use Rattle.fast_wire.specs.declared.level.Level.TheVariants.{Usual, Strict}
 use Rattle.fast_stream.specs.Nodes.{Item, group_items, sequence_elements, Items, then_item, Elements, then_element, Content}
 use Rattle.fast_stream.specs.Faults.{MessageStop}
-use Rattle.fast_stream.specs.Reading.{Cursor, Reads, field_part_at, decimal_of, segment_at, each_at, body_at, Named, in_template}
+use Rattle.fast_stream.specs.Reading.{Cursor, Reads, field_part_at, decimal_of, segment_at, closing, end_at, each_at, body_at, Named, in_template}
 
 -- items in front of others
 abbrev pub items_before : List Item → Items → Items
@@ -36,9 +38,10 @@ pub data Inside : Type 0 where
   in_group : Inside
   in_sequence : Sequel → Inside
 
--- a body that waits for the segment inside it, with the bits that are left of its map
+-- a body that waits for the segment inside it, with the bits that are left of its map, and that segment's number
 pub record Waiting : Type 0 where
   pub bits : List Bool
+  pub number : ℕ
   pub body : Body
   pub inside : Inside
 
@@ -67,35 +70,40 @@ abbrev pub under_bits : List Bool → Cursor → Cursor
 under_bits bits c = cursor c.dictionary bits c.spare c.bytes
 
 -- what is left of a body, behind what is read of it
-abbrev pub body_on : Body → Cursor → Reads Items
-body_on b c = body_at b.rest c >>= λ r. Ok (items_before b.done r.0, r.1)
+abbrev pub body_on : Level → Body → Cursor → Reads Items
+body_on level b c = body_at level b.rest c >>= λ r. Ok (items_before b.done r.0, r.1)
 
-abbrev pub mantissa_on : ℤ → FieldPart → Body → Cursor → Reads Items
-mantissa_on e mantissa b c = field_part_at mantissa c >>= decimal_of e >>= λ n. body_on (with_item b n.0) n.1
+abbrev pub mantissa_on : Level → ℤ → FieldPart → Body → Cursor → Reads Items
+mantissa_on level e mantissa b c = field_part_at level mantissa c >>= decimal_of e >>= λ n. body_on level (with_item b n.0) n.1
 
-abbrev pub elements_on : Sequel → Body → Cursor → Reads Items
-elements_on s b c =
-    each_at s.number (segment_at s.number s.own_map (λ j. body_at s.members j)) s.left c >>= λ es.
-    body_on (with_item b (sequence_elements (elements_before s.done es.0))) es.1
+abbrev pub elements_on : Level → Sequel → Body → Cursor → Reads Items
+elements_on level s b c =
+    each_at s.number (segment_at level s.number s.own_map (closing level s.number (λ j. body_at level s.members j))) s.left c >>= λ es.
+    body_on level (with_item b (sequence_elements (elements_before s.done es.0))) es.1
 
 -- what is left inside the innermost open segment
-abbrev pub top_on : Next → Body → Cursor → Reads Items
-top_on at_instruction b c = body_on b c
-top_on (at_mantissa e mantissa) b c = mantissa_on e mantissa b c
-top_on (at_element s) b c = elements_on s b c
+abbrev pub top_on : Level → Next → Body → Cursor → Reads Items
+top_on level at_instruction b c = body_on level b c
+top_on level (at_mantissa e mantissa) b c = mantissa_on level e mantissa b c
+top_on level (at_element s) b c = elements_on level s b c
 
 -- what is left of the body around a segment that has ended with these items
-abbrev pub behind_inside : Inside → Body → Items → Cursor → Reads Items
-behind_inside in_group b ns c = body_on (with_item b (group_items ns)) c
-behind_inside (in_sequence s) b ns c = elements_on (with_element s ns) b c
+abbrev pub behind_inside : Level → Inside → Body → Items → Cursor → Reads Items
+behind_inside level in_group b ns c = body_on level (with_item b (group_items ns)) c
+behind_inside level (in_sequence s) b ns c = elements_on level (with_element s ns) b c
 
-abbrev pub around_on : Waiting → Reads Items → Reads Items
-around_on w r = r >>= λ ns. behind_inside w.inside w.body ns.0 (under_bits w.bits ns.1)
+-- what is read of a segment, and its end
+abbrev pub ended_on : Level → ℕ → Reads Items → Reads Items
+ended_on Usual number r = r
+ended_on Strict number r = r >>= end_at number
+
+abbrev pub around_on : Level → Waiting → Reads Items → Reads Items
+around_on level w r = ended_on level w.number r >>= λ ns. behind_inside level w.inside w.body ns.0 (under_bits w.bits ns.1)
 
 -- what is left of all bodies around, the message's own first
-abbrev pub all_around : List Waiting → Reads Items → Reads Items
-all_around [] r = r
-all_around (w ∷ ws) r = around_on w (all_around ws r)
+abbrev pub all_around : Level → List Waiting → Reads Items → Reads Items
+all_around level [] r = r
+all_around level (w ∷ ws) r = around_on level w (all_around level ws r)
 
 -- ---- messages
 
@@ -103,9 +111,10 @@ all_around (w ∷ ws) r = around_on w (all_around ws r)
 abbrev pub Reading : Type 0
 Reading = Result (Content × Dictionary × List ℕ) MessageStop
 
-abbrev pub message_of : ℕ → Reads Items → Reading
-message_of id r = in_template id r >>= λ x. Ok (record { template = id; items = x.0 }, x.1.dictionary, x.1.bytes)
+-- its own segment ends behind the last of its pieces
+abbrev pub message_of : Level → ℕ → Reads Items → Reading
+message_of level id r = in_template id (ended_on level 0 r) >>= λ x. Ok (record { template = id; items = x.0 }, x.1.dictionary, x.1.bytes)
 
 -- a message of the template that its head has named
-abbrev pub named_on : Result (Named × Cursor) MessageStop → Reading
-named_on h = h >>= λ h. in_template h.0.template (body_at h.0.members h.1) >>= λ r. Ok (record { template = h.0.template; items = r.0 }, r.1.dictionary, r.1.bytes)
+abbrev pub named_on : Level → Result (Named × Cursor) MessageStop → Reading
+named_on level h = h >>= λ h. in_template h.0.template (closing level 0 (λ j. body_at level h.0.members j) h.1) >>= λ r. Ok (record { template = h.0.template; items = r.0 }, r.1.dictionary, r.1.bytes)

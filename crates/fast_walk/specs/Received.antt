@@ -6,6 +6,7 @@ use Rattle.fast_template.specs.declared.resolved.FieldPart.{FieldPart}
 use Rattle.fast_template.specs.Resolved.{Instructions, has_map, Resolved}
 use Rattle.fast_dictionary.specs.declared.entry.Entry.{Entry}
 use Rattle.fast_dictionary.specs.Dictionary.{Dictionary, entry_at}
+use Rattle.fast_wire.specs.declared.level.Level.{Level}
 use Rattle.fast_field.specs.Bases.{next}
 use Rattle.fast_field.specs.FieldReading.{field_at}
 use Rattle.fast_stream.specs.Nodes.{Item, single, group_items, sequence_elements, items_of, elements_of, Content, Items, no_items, then_item}
@@ -42,9 +43,9 @@ abbrev pub passed : Received → Instructions → Item → Received
 passed o is n = moved o at_instruction (record { rest = is; done = o.body.done ++ n ∷ [] }) o.around
 
 -- in a group
-abbrev pub entered : Received → List Bool → Instructions → Instructions → Received
-entered o bits members is = moved o at_instruction (record { rest = members; done = [] })
-    (o.around ++ record { bits = bits; body = record { rest = is; done = o.body.done }; inside = in_group } ∷ [])
+abbrev pub entered : Received → ℕ → List Bool → Instructions → Instructions → Received
+entered o number bits members is = moved o at_instruction (record { rest = members; done = [] })
+    (o.around ++ record { bits = bits; number = number; body = record { rest = is; done = o.body.done }; inside = in_group } ∷ [])
 
 -- behind an exponent: at the mantissa, or behind a decimal that is absent
 abbrev pub after_exponent : Received → Instructions → FieldPart → Option Scalar → Received
@@ -59,7 +60,7 @@ after_length o number members is None = passed o is (single None)
 
 -- in the next element of a sequence
 abbrev pub in_element : Received → List Bool → Sequel → Received
-in_element o bits s = moved o at_instruction (record { rest = s.members; done = [] }) (o.around ++ record { bits = bits; body = o.body; inside = in_sequence (fewer s) } ∷ [])
+in_element o bits s = moved o at_instruction (record { rest = s.members; done = [] }) (o.around ++ record { bits = bits; number = s.number; body = o.body; inside = in_sequence (fewer s) } ∷ [])
 
 -- behind the last element
 abbrev pub after_sequence : Received → Sequel → Received
@@ -87,13 +88,13 @@ bytes_in ns = []
 -- ---- values
 
 -- a value taken from the bytes, and its entry the one afterwards
-pub record TookFrom (p : FieldPart) (bit : Bool) (old new : Entry) (v : Option Scalar) (bytes rest : List ℕ) : Type 0 where
-  pub value : (more : List ℕ) → field_at p old bit (bytes ++ more) ≡ Ok (v, rest ++ more)
+pub record TookFrom (level : Level) (p : FieldPart) (bit : Bool) (old new : Entry) (v : Option Scalar) (bytes rest : List ℕ) : Type 0 where
+  pub value : (more : List ℕ) → field_at level p old bit (bytes ++ more) ≡ Ok (v, rest ++ more)
   pub entry : new ≡ next p old v
 
 -- a value taken from the bytes, and its entry put
-pub record Took (p : FieldPart) (bit : Bool) (d e : Dictionary) (v : Option Scalar) (bytes rest : List ℕ) : Type 0 where
-  pub value : (more : List ℕ) → field_at p (entry_at d p.key) bit (bytes ++ more) ≡ Ok (v, rest ++ more)
+pub record Took (level : Level) (p : FieldPart) (bit : Bool) (d e : Dictionary) (v : Option Scalar) (bytes rest : List ℕ) : Type 0 where
+  pub value : (more : List ℕ) → field_at level p (entry_at d p.key) bit (bytes ++ more) ≡ Ok (v, rest ++ more)
   pub entry : e ≡ written p d v
 
 -- whether an exponent is there

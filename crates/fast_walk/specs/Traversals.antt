@@ -4,6 +4,7 @@ use Rattle.fast_value.specs.declared.key.Key.{Key}
 use Rattle.fast_template.specs.Resolved.{Resolved}
 use Rattle.fast_template.specs.TemplateSets.{TemplateList, keys_in}
 use Rattle.fast_dictionary.specs.Dictionary.{Dictionary}
+use Rattle.fast_wire.specs.declared.level.Level.{Level}
 use Rattle.fast_wire.specs.Reading.{◌>>=◌}
 use Rattle.fast_stream.specs.Nodes.{Content, node_limit}
 use Rattle.fast_stream.specs.Streams.{members_of, identifier}
@@ -18,8 +19,8 @@ use Rattle.fast_walk.specs.declared.traversal.Stage.TheVariants as stage
 use Rattle.fast_walk.specs.declared.traversal.Traversal.{Traversal as TraversalNow}
 
 -- what is left of a message behind its map
-abbrev pub identifier_on : List Resolved → Dictionary → List Bool → List ℕ → Reading
-identifier_on set d bits bytes = named_on (in_template 0 (field_part_at identifier (cursor d bits node_limit bytes) >>= named_at set bytes))
+abbrev pub identifier_on : Level → List Resolved → Dictionary → List Bool → List ℕ → Reading
+identifier_on level set d bits bytes = named_on level (in_template 0 (field_part_at level identifier (cursor d bits node_limit bytes) >>= named_at set bytes))
 
 -- the fault of the piece that is first of these bytes
 abbrev pub stop_of : ℕ → Halt → List ℕ → MessageStop
@@ -36,7 +37,7 @@ pub record IsOpen {R : Type 0} (Has : R → Received → Dictionary → Type 0) 
   pub before_is : received.before ≡ before
   pub template_is : received.template ≡ t.template
   pub named : members_of received.set received.template ≡ Some received.members
-  pub reads : (bytes : List ℕ) → read bytes ≡ message_of t.template (reads_on t.walk d received bytes)
+  pub reads : (bytes : List ℕ) → read bytes ≡ message_of t.level t.template (reads_on t.level t.walk d received bytes)
 
 -- No message is open, or only its map is read.
 pub record IsBetween (Stands : Type 0) (d start : Dictionary) (read now : List ℕ → Reading) : Type 0 where
@@ -47,8 +48,8 @@ pub record IsBetween (Stands : Type 0) (d start : Dictionary) (read now : List �
 -- What a traversal, its receiver and its dictionary still read: behind these messages, from the dictionary there.
 abbrev pub ContinuesAt : {R : Type 0} → (R → Received → Dictionary → Type 0) → (R → List Resolved → List Content → Dictionary → Type 0) → (R → List Resolved → List Content → Dictionary → Type 0)
     → StageNow → TraversalNow → R → List Resolved → Dictionary → List Content → Dictionary → (List ℕ → Reading) → Type 0
-ContinuesAt has stands keeps stage.Map t r set d before start read = IsBetween (stands r set before d) d start read (message_at set d)
-ContinuesAt has stands keeps stage.Identifier t r set d before start read = IsBetween (stands r set before d) d start read (identifier_on set d t.walk.bits)
+ContinuesAt has stands keeps stage.Map t r set d before start read = IsBetween (stands r set before d) d start read (message_at t.level set d)
+ContinuesAt has stands keeps stage.Identifier t r set d before start read = IsBetween (stands r set before d) d start read (identifier_on t.level set d t.walk.bits)
 ContinuesAt has stands keeps stage.Body t r set d before start read = IsOpen has keeps t r set d before start read
 
 abbrev pub Continues : {R : Type 0} → (R → Received → Dictionary → Type 0) → (R → List Resolved → List Content → Dictionary → Type 0) → (R → List Resolved → List Content → Dictionary → Type 0)
@@ -63,7 +64,7 @@ ServesAll serves set = (k : Key) → Contains (keys_in set) k → IsTrue (serves
 
 -- Each key that an open body may ask for is served; before it no template is known, and no node counted.
 abbrev pub IsReadyAt : StageNow → (Key → Bool) → TraversalNow → Type 0
-IsReadyAt stage.Map serves t = Unit {0}
+IsReadyAt stage.Map serves t = t.template ≡ 0
 IsReadyAt stage.Identifier serves t = (t.template ≡ 0) × (t.walk.spare ≡ node_limit)
 IsReadyAt stage.Body serves t = IsReady serves t.walk
 

@@ -3,6 +3,7 @@ use Rattle.std.specs.Prelude.{◌≡◌, ℕ, ◌+◌, ◌*◌, pos, Bool, List,
 use Rattle.fast_value.specs.declared.key.Key.{Key}
 use Rattle.fast_template.specs.Resolved.{Instruction, Instructions, whole_field, field_in_parts, group_of, sequence_of, no_instructions, then_instruction, list_of}
 use Rattle.fast_dictionary.specs.Dictionary.{Dictionary}
+use Rattle.fast_wire.specs.declared.level.Level.{Level}
 use Rattle.fast_stream.specs.Nodes.{Items}
 use Rattle.fast_stream.specs.Reading.{Reads, stopped}
 use Rattle.fast_walk.specs.OpenSegments.{Sequel, Inside, in_group, in_sequence, Waiting, Next, at_instruction, at_mantissa, at_element, all_around, top_on, cursor}
@@ -26,7 +27,7 @@ bare_inside in_group = in_group
 bare_inside (in_sequence s) = in_sequence (bare_sequel s)
 
 abbrev pub bare : Waiting → Waiting
-bare w = record { bits = w.bits; body = record { rest = w.body.rest; done = [] }; inside = bare_inside w.inside }
+bare w = record { bits = w.bits; number = w.number; body = record { rest = w.body.rest; done = [] }; inside = bare_inside w.inside }
 
 abbrev pub bare_next : Next → Next
 bare_next at_instruction = at_instruction
@@ -39,11 +40,16 @@ abbrev pub sequel_of : SequelNow → Sequel
 sequel_of s = record { number = s.number; own_map = s.own_map; members = list_of s.members.now; left = s.left; done = [] }
 
 abbrev pub inside_of : InsideNow → Inside
-inside_of inside.Group = in_group
+inside_of (inside.Group number) = in_group
 inside_of (inside.Element s) = in_sequence (sequel_of s)
 
+-- the number of the segment
+abbrev pub number_of : InsideNow → ℕ
+number_of (inside.Group number) = number
+number_of (inside.Element s) = s.number
+
 abbrev pub frame_of : FrameNow → Waiting
-frame_of f = record { bits = f.bits; body = record { rest = list_of f.rest.now; done = [] }; inside = inside_of f.inside }
+frame_of f = record { bits = f.bits; number = number_of f.inside; body = record { rest = list_of f.rest.now; done = [] }; inside = inside_of f.inside }
 
 abbrev pub next_of : NextNow → Next
 next_of next.Instruction = at_instruction
@@ -57,20 +63,20 @@ pub record IsAt (w : WalkNow) (o : Received) : Type 0 where
   pub around : map bare o.around ≡ map frame_of w.around.items
 
 -- what is left to be read
-abbrev pub reads_on : WalkNow → Dictionary → Received → List ℕ → Reads Items
-reads_on w d o bytes = all_around o.around (top_on o.next o.body (cursor d w.bits w.spare bytes))
+abbrev pub reads_on : Level → WalkNow → Dictionary → Received → List ℕ → Reads Items
+reads_on level w d o bytes = all_around level o.around (top_on level o.next o.body (cursor d w.bits w.spare bytes))
 
 -- where a walk is and what its receiver has
 abbrev pub At : {R : Type 0} → (R → Received → Dictionary → Type 0) → WalkNow → R → Dictionary → Received → Type 0
 At has w r d o = IsAt w o × has r o d
 
 -- From one walk, receiver and dictionary to others: reading goes on, from these bytes to the rest.
-abbrev pub Moves : {R : Type 0} → (R → Received → Dictionary → Type 0) → WalkNow → R → Dictionary → WalkNow → R → Dictionary → List ℕ → List ℕ → Type 0
-Moves has w r d v s e bytes rest = Goes (At has w r d) (reads_on w d) (At has v s e) (reads_on v e) bytes rest
+abbrev pub Moves : Level → {R : Type 0} → (R → Received → Dictionary → Type 0) → WalkNow → R → Dictionary → WalkNow → R → Dictionary → List ℕ → List ℕ → Type 0
+Moves level has w r d v s e bytes rest = Goes (At has w r d) (reads_on level w d) (At has v s e) (reads_on level v e) bytes rest
 
 -- Reading stops at the first of these bytes.
-abbrev pub HaltsAs : WalkNow → Dictionary → List ℕ → Halt → Type 0
-HaltsAs w d bytes h = (o : Received) → IsAt w o → reads_on w d o bytes ≡ stopped h.number bytes h.cause
+abbrev pub HaltsAs : Level → WalkNow → Dictionary → List ℕ → Halt → Type 0
+HaltsAs level w d bytes h = (o : Received) → IsAt w o → reads_on level w d o bytes ≡ stopped h.number bytes h.cause
 
 -- ---- keys
 

@@ -1,14 +1,17 @@
 //! The bits of a segment's map, as pieces take them.
 
-ghost use Rattle.std.specs.Prelude.{◌≡◌, ◌≢◌, ◌≤◌, ◌<◌, ◌++◌, ℕ, Bool, List, Ok, IfOk, IfErr, IsTrue, length, drop};
+ghost use Rattle.std.specs.Prelude.{◌≡◌, ◌≢◌, ◌≤◌, ◌<◌, ◌++◌, ℕ, Bool, List, Ok, true, false, IfOk, IfErr, OnOk, IsTrue, length, drop};
 ghost use Rattle.fast_dictionary.specs.Dictionary.{Dictionary};
 ghost use Rattle.fast_stream.specs.Bits.{after_bit, bit_for};
 ghost use Rattle.fast_walk.specs.OpenSegments.{cursor};
+ghost use Rattle.fast_stream.specs.Faults.{cause_of_wire};
 ghost use Rattle.fast_stream.specs.Reading.{own_map_at, stopped};
+ghost use Rattle.fast_wire.specs.Level.{judge, overlong_map as overlong_map_of, some_set};
+ghost use Rattle.fast_field.specs.Calls.{Answers};
 
-use crate::halt::{Halt, map_cause};
+use crate::halt::{Halt, wire_cause};
 use fast_stream::Cause;
-use fast_wire::{Bits, read_map};
+use fast_wire::{Bits, Level, entity_end, overlong_map, read_map};
 use std::alloc::Global;
 
 /// The next bit where one is needed, or else 1; it stays the next.
@@ -29,6 +32,46 @@ pub(crate) fn take_for(bits: &mut Bits, needed: bool)
     }
 }
 
+/// The most bytes of a presence map.
+const MAP_LIMIT: usize = 256;
+
+/// Judges the map that begins at `at`, at the strict level: whether it is there and has no more groups than reach its
+/// last 1.
+fn judge_map(level: Level, bytes: &[u8], at: usize) -> Result<(), Cause>
+    requires { at ≤ length bytes.now }
+    ensures { Answers (λ x. x) result
+        (judge level 256 overlong_map_of cause_of_wire Cause.R7 (drop at bytes.now)) }
+{
+    match level {
+        Level::Usual => Ok(()),
+        Level::Strict => match entity_end(bytes, at, MAP_LIMIT) {
+            Err(fault) => Err(wire_cause(fault)),
+            Ok(next) => {
+                if overlong_map(&bytes[at..next]) {
+                    Err(Cause::R7)
+                } else {
+                    Ok(())
+                }
+            }
+        },
+    }
+}
+
+/// Judges the bits that a segment leaves: none may be 1. `number` is the segment's.
+pub(crate) fn judge_left(number: u32, bits: &Bits) -> Result<(), Halt>
+    ensures clear { OnOk result (some_set bits.now ≡ false) }
+    ensures refused { IfErr result (λ h. (h.cause ≡ Cause.R8) × (some_set bits.now ≡ true)) }
+    ensures number { IfErr result (λ h. h.number ≡ number) }
+{
+    if bits.left_set() {
+        return Err(Halt {
+            cause: Cause::R8,
+            number,
+        });
+    }
+    Ok(())
+}
+
 /// Reads a segment's own map that begins at `at`, or none where it has none, and answers its bits and the place
 /// after it. `number` is the segment's, for a fault.
 #[inline(always)]
@@ -36,6 +79,7 @@ pub(crate) fn read_own_map(
     alloc: Global,
     number: u32,
     own_map: bool,
+    level: Level,
     bytes: &[u8],
     at: usize,
 ) -> Result<(Bits, usize), Halt>
@@ -43,20 +87,23 @@ pub(crate) fn read_own_map(
     ensures place { IfOk result (λ x. (at ≤ x.1) × (x.1 ≤ length bytes.now)) }
     ensures took { IfOk result (λ x. IsTrue own_map → at < x.1) }
     ensures goes { IfOk result (λ x. (d : Dictionary) (bits : List Bool) (spare : ℕ) (more : List ℕ)
-        → own_map_at number own_map (cursor d bits spare (drop at bytes.now ++ more))
+        → own_map_at level number own_map (cursor d bits spare (drop at bytes.now ++ more))
         ≡ Ok (cursor d x.0 spare (drop x.1 bytes.now ++ more))) }
     ensures stops { IfErr result (λ h. h.cause ≢ Cause.Memory
         → (d : Dictionary) (bits : List Bool) (spare : ℕ)
-        → own_map_at number own_map (cursor d bits spare (drop at bytes.now))
+        → own_map_at level number own_map (cursor d bits spare (drop at bytes.now))
         ≡ stopped h.number (drop at bytes.now) h.cause) }
 {
     if own_map {
-        match read_map(alloc, bytes, at) {
-            Ok(x) => Ok(x),
-            Err(fault) => Err(Halt {
-                cause: map_cause(fault),
-                number,
-            }),
+        match judge_map(level, bytes, at) {
+            Err(cause) => Err(Halt { cause, number }),
+            Ok(()) => match read_map(alloc, bytes, at) {
+                Ok(x) => Ok(x),
+                Err(fault) => Err(Halt {
+                    cause: wire_cause(fault),
+                    number,
+                }),
+            },
         }
     } else {
         Ok((Bits::none(alloc), at))

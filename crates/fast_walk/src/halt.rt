@@ -40,14 +40,16 @@ pub(crate) fn field_cause(fault: FieldFault) -> Cause
         FieldFault::D7 => Cause::D7,
         FieldFault::R1 => Cause::R1,
         FieldFault::R2 => Cause::R2,
+        FieldFault::R6 => Cause::R6,
+        FieldFault::R9 => Cause::R9,
         FieldFault::Limit => Cause::Limit,
         FieldFault::NeedMore => Cause::Truncated,
         FieldFault::Memory => Cause::Memory,
     }
 }
 
-/// The cause that a fault of a presence map is in a stream.
-pub(crate) fn map_cause(fault: WireFault) -> Cause
+/// The cause that a fault of an entity outside of fields is in a stream: of a presence map, or of a block's size.
+pub fn wire_cause(fault: WireFault) -> Cause
     ensures { result ≡ cause_of_wire fault }
 {
     match fault {

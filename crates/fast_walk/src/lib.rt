@@ -9,11 +9,12 @@
 
 mod bits;
 mod halt;
+mod leveled;
 mod receiver;
 mod traversal;
 mod walk;
 
-pub use halt::Halt;
+pub use halt::{Halt, wire_cause};
 pub use receiver::Receiver;
 pub use traversal::{Stage, Traversal};
 pub use walk::{Frame, Inside, Next, Sequel, Walk};

@@ -16,6 +16,7 @@ ghost use Rattle.fast_walk.specs.Received.{Received, Took, IsExponent, after_exp
 use fast_dictionary::Entries;
 use fast_field::FieldFault;
 use fast_template::{FieldPart, Name, Presence};
+use fast_wire::Level;
 use std::alloc::{AllocError, Global};
 
 /// Receives the fields of messages, and takes each from the bytes itself.
@@ -38,6 +39,7 @@ pub trait Receiver: Drop {
         entries: &mut E,
         identifier: &FieldPart,
         bit: bool,
+        level: Level,
         bytes: &[u8],
         at: usize,
     ) -> Result<(u32, usize), FieldFault>
@@ -45,7 +47,7 @@ pub trait Receiver: Drop {
         requires bit { part_needs_bit identifier.now ≡ false → bit ≡ true }
         requires served { IsTrue (E.serves entries.now identifier.now.key) }
         ensures place { IfOk result (λ x. (at ≤ x.1) × (x.1 ≤ length bytes.now)) }
-        ensures goes { IfOk result (λ x. Took identifier.now bit (E.contents entries.old)
+        ensures goes { IfOk result (λ x. Took level identifier.now bit (E.contents entries.old)
             (E.contents entries.new)
             (Some (U32 x.0)) (drop at bytes.now) (drop x.1 bytes.now)
             × ((set : List Resolved) (ms : List Content) (members : Instructions)
@@ -53,7 +55,7 @@ pub trait Receiver: Drop {
             → has self.new (opened set ms x.0 members (E.contents entries.old)) (E.contents
             entries.new))) }
         ensures stops { IfErr result (λ f. f ≢ FieldFault.Memory
-            → (field_at identifier.now (entry_at (E.contents entries.old) identifier.now.key) bit
+            → (field_at level identifier.now (entry_at (E.contents entries.old) identifier.now.key) bit
             (drop at bytes.now)
             ≡ Err f) × (E.contents entries.new ≡ E.contents entries.old)
             × ((set : List Resolved) (ms : List Content) (d : Dictionary)
@@ -88,6 +90,7 @@ pub trait Receiver: Drop {
         entries: &mut E,
         part: &FieldPart,
         bit: bool,
+        level: Level,
         bytes: &[u8],
         at: usize,
     ) -> Result<usize, FieldFault>
@@ -96,7 +99,7 @@ pub trait Receiver: Drop {
         requires served { IsTrue (E.serves entries.now part.now.key) }
         ensures place { IfOk result (λ n. (at ≤ n) × (n ≤ length bytes.now)) }
         ensures goes { IfOk result (λ n. (v : Option ScalarOf)
-            × Took part.now bit (E.contents entries.old) (E.contents entries.new) v
+            × Took level part.now bit (E.contents entries.old) (E.contents entries.new) v
             (drop at bytes.now) (drop n bytes.now)
             × ((number : ℕ) (is : Instructions) (o : Received)
             → o.next ≡ at_instruction
@@ -104,7 +107,7 @@ pub trait Receiver: Drop {
             → has self.old o (E.contents entries.old)
             → has self.new (passed o is (single v)) (E.contents entries.new))) }
         ensures stops { IfErr result (λ f. f ≢ FieldFault.Memory
-            → (field_at part.now (entry_at (E.contents entries.old) part.now.key) bit (drop at
+            → (field_at level part.now (entry_at (E.contents entries.old) part.now.key) bit (drop at
             bytes.now) ≡ Err f)
             × (E.contents entries.new ≡ E.contents entries.old)
             × ((o : Received) (d : Dictionary) → has self.old o d → has self.new o d)) }
@@ -121,6 +124,7 @@ pub trait Receiver: Drop {
         entries: &mut E,
         part: &FieldPart,
         bit: bool,
+        level: Level,
         bytes: &[u8],
         at: usize,
     ) -> Result<(bool, usize), FieldFault>
@@ -129,7 +133,7 @@ pub trait Receiver: Drop {
         requires served { IsTrue (E.serves entries.now part.now.key) }
         ensures place { IfOk result (λ x. (at ≤ x.1) × (x.1 ≤ length bytes.now)) }
         ensures goes { IfOk result (λ x. (v : Option ScalarOf)
-            × Took part.now bit (E.contents entries.old) (E.contents entries.new) v
+            × Took level part.now bit (E.contents entries.old) (E.contents entries.new) v
             (drop at bytes.now) (drop x.1 bytes.now)
             × IsExponent x.0 v
             × ((number : ℕ) (mantissa : PartOf) (is : Instructions) (o : Received)
@@ -139,7 +143,7 @@ pub trait Receiver: Drop {
             → has self.old o (E.contents entries.old)
             → has self.new (after_exponent o is mantissa v) (E.contents entries.new))) }
         ensures stops { IfErr result (λ f. f ≢ FieldFault.Memory
-            → (field_at part.now (entry_at (E.contents entries.old) part.now.key) bit (drop at
+            → (field_at level part.now (entry_at (E.contents entries.old) part.now.key) bit (drop at
             bytes.now) ≡ Err f)
             × (E.contents entries.new ≡ E.contents entries.old)
             × ((o : Received) (d : Dictionary) → has self.old o d → has self.new o d)) }
@@ -154,6 +158,7 @@ pub trait Receiver: Drop {
         entries: &mut E,
         part: &FieldPart,
         bit: bool,
+        level: Level,
         bytes: &[u8],
         at: usize,
     ) -> Result<usize, FieldFault>
@@ -162,14 +167,14 @@ pub trait Receiver: Drop {
         requires served { IsTrue (E.serves entries.now part.now.key) }
         ensures place { IfOk result (λ n. (at ≤ n) × (n ≤ length bytes.now)) }
         ensures goes { IfOk result (λ n. (m : ℤ)
-            × Took part.now bit (E.contents entries.old) (E.contents entries.new) (Some (I64 m))
+            × Took level part.now bit (E.contents entries.old) (E.contents entries.new) (Some (I64 m))
             (drop at bytes.now) (drop n bytes.now)
             × ((e : ℤ) (o : Received) → o.next ≡ at_mantissa e part.now
             → has self.old o (E.contents entries.old)
             → has self.new (passed o o.body.rest (single (Some (Decimal e m)))) (E.contents
             entries.new))) }
         ensures stops { IfErr result (λ f. f ≢ FieldFault.Memory
-            → (field_at part.now (entry_at (E.contents entries.old) part.now.key) bit (drop at
+            → (field_at level part.now (entry_at (E.contents entries.old) part.now.key) bit (drop at
             bytes.now) ≡ Err f)
             × (E.contents entries.new ≡ E.contents entries.old)
             × ((o : Received) (d : Dictionary) → has self.old o d → has self.new o d)) }
@@ -186,6 +191,7 @@ pub trait Receiver: Drop {
         entries: &mut E,
         part: &FieldPart,
         bit: bool,
+        level: Level,
         bytes: &[u8],
         at: usize,
     ) -> Result<(Option<u32>, usize), FieldFault>
@@ -194,7 +200,7 @@ pub trait Receiver: Drop {
         requires served { IsTrue (E.serves entries.now part.now.key) }
         ensures place { IfOk result (λ x. (at ≤ x.1) × (x.1 ≤ length bytes.now)) }
         ensures goes { IfOk result (λ x.
-            Took part.now bit (E.contents entries.old) (E.contents entries.new) (length_of x.0)
+            Took level part.now bit (E.contents entries.old) (E.contents entries.new) (length_of x.0)
             (drop at bytes.now) (drop x.1 bytes.now)
             × ((number : ℕ) (members is : Instructions) (o : Received)
             → o.next ≡ at_instruction
@@ -203,7 +209,7 @@ pub trait Receiver: Drop {
             → has self.old o (E.contents entries.old)
             → has self.new (after_length o number members is x.0) (E.contents entries.new))) }
         ensures stops { IfErr result (λ f. f ≢ FieldFault.Memory
-            → (field_at part.now (entry_at (E.contents entries.old) part.now.key) bit (drop at
+            → (field_at level part.now (entry_at (E.contents entries.old) part.now.key) bit (drop at
             bytes.now) ≡ Err f)
             × (E.contents entries.new ≡ E.contents entries.old)
             × ((o : Received) (d : Dictionary) → has self.old o d → has self.new o d)) }
@@ -234,7 +240,7 @@ pub trait Receiver: Drop {
             (bits : List Bool) (o : Received) (d : Dictionary) → o.next ≡ at_instruction
             → o.body.rest ≡ then_instruction (group_of name.now number presence members) is
             → optional ≡ is_optional presence → own_map ≡ has_map members
-            → has self.old o d → has self.new (entered o bits members is) d) }
+            → has self.old o d → has self.new (entered o number bits members is) d) }
         ensures keeps { (set : List Resolved) (ms : List Content) (d : Dictionary)
             → keeps self.old set ms d → keeps self.new set ms d };
 

@@ -1,13 +1,15 @@
 //! The one traversal of a stream, message by message.
 
-ghost use Rattle.std.specs.Prelude.{◌≡◌, ◌≢◌, ◌≤◌, ◌<◌, ◌+◌, ◌++◌, ◌∷◌, [], ℕ, true, List, OnErr, IfOk, IfErr, OnOk, Ok, Err, ◌⊎◌, length, drop};
-ghost use Rattle.fast_template.specs.Resolved.{Resolved};
+ghost use Rattle.std.specs.Prelude.{◌≡◌, ◌≢◌, ◌≤◌, ◌<◌, ◌+◌, ◌++◌, ◌∷◌, [], ℕ, true, List, OnErr, IfOk, IfErr, OnOk, Some, Ok, Err, ◌⊎◌, length, drop};
+ghost use Rattle.fast_template.specs.Resolved.{Resolved, no_instructions};
 ghost use Rattle.fast_template.specs.TemplateSets.{IsSound, templates_in};
 ghost use Rattle.fast_dictionary.specs.Dictionary.{Dictionary};
-ghost use Rattle.fast_stream.specs.Nodes.{Content, nodes_in, node_limit};
-ghost use Rattle.fast_stream.specs.Streams.{identifier as identifier_part};
+ghost use Rattle.fast_stream.specs.Nodes.{Content, items_of, nodes_in, node_limit};
+ghost use Rattle.fast_stream.specs.Streams.{identifier as identifier_part, members_of};
 ghost use Rattle.fast_stream.specs.Reading.{message_at};
-ghost use Rattle.fast_walk.specs.OpenSegments.{Reading};
+ghost use Rattle.fast_wire.specs.Level.{IsLeftClear, some_set};
+ghost use Rattle.fast_walk.specs.OpenSegments.{Reading, at_instruction};
+ghost use Rattle.fast_walk.specs.Received.{Received, content_received};
 
 use crate::bits::{first_for, read_own_map};
 use crate::halt::Halt;
@@ -18,7 +20,7 @@ use fast_stream::Cause;
 use fast_template::{
     FieldPart, Key, Kind, Name, Operator, Part, Presence, Scope, TemplateSet, part_needs_bit,
 };
-use fast_wire::Bits;
+use fast_wire::{Bits, Level};
 use std::alloc::Global;
 
 /// The most nodes of a message.
@@ -40,6 +42,7 @@ pub enum Stage {
 pub struct Traversal<'a> {
     alloc: Global,
     set: &'a TemplateSet,
+    level: Level,
     identifier: FieldPart,
     stage: Stage,
     // 0 until the identifier is known
@@ -52,13 +55,16 @@ impl<'a> Traversal<'a> {
     ghost use Rattle.fast_walk.specs.Traversals.{CanGoOn, Continues, IsOpen, ServesAll, begun_of, identifier_on, stop_of};
 
     /// At the beginning of a stream. Takes no memory.
-    pub fn new(alloc: Global, set: &'a TemplateSet) -> Traversal<'a>
+    pub fn new(alloc: Global, set: &'a TemplateSet, level: Level) -> Traversal<'a>
         ensures set { result.set.now ≡ set.now }
+        ensures level { result.level ≡ level }
         ensures stage { result.stage ≡ Stage.Map }
+        ensures template { result.template ≡ 0 }
     {
         Traversal {
             alloc,
             set,
+            level,
             identifier: FieldPart {
                 number: 0,
                 part: Part::Whole,
@@ -86,6 +92,13 @@ impl<'a> Traversal<'a> {
         self.template
     }
 
+    /// How strictly the stream is read.
+    pub fn level(&self) -> Level
+        ensures { result ≡ self.now.level }
+    {
+        self.level
+    }
+
     /// Whether a message has begun.
     pub fn has_begun(&self) -> bool
         ensures yes { result ≡ true → begun_of self.now ≡ 1 }
@@ -107,7 +120,9 @@ impl<'a> Traversal<'a> {
     /// Goes back to the beginning of a stream.
     pub fn reset(&mut self)
         ensures set { self.new.set ≡ self.old.set }
+        ensures level { self.new.level ≡ self.old.level }
         ensures stage { self.new.stage ≡ Stage.Map }
+        ensures template { self.new.template ≡ 0 }
     {
         self.stage = Stage::Map;
         self.template = 0;
@@ -117,22 +132,23 @@ impl<'a> Traversal<'a> {
     #[inline(always)]
     fn map(&mut self, bytes: &[u8], at: usize) -> Result<usize, Halt>
         requires place { at ≤ length bytes.now }
+        requires template { self.now.template ≡ 0 }
         ensures place { IfOk result (λ n. (at < n) × (n ≤ length bytes.now)) }
         ensures goes { IfOk result (λ n. (d : Dictionary) (more : List ℕ)
-            → message_at (templates_in self.old.set.now) d (drop at bytes.now ++ more)
-            ≡ identifier_on (templates_in self.old.set.now) d self.new.walk.bits (drop n bytes.now
+            → message_at self.old.level (templates_in self.old.set.now) d (drop at bytes.now ++ more)
+            ≡ identifier_on self.old.level (templates_in self.old.set.now) d self.new.walk.bits (drop n bytes.now
             ++ more)) }
         ensures stops { IfErr result (λ h. h.cause ≢ Cause.Memory → (d : Dictionary)
-            → message_at (templates_in self.old.set.now) d (drop at bytes.now)
+            → message_at self.old.level (templates_in self.old.set.now) d (drop at bytes.now)
             ≡ Err (stop_of 0 h (drop at bytes.now))) }
         ensures stage { OnOk result (self.new.stage ≡ Stage.Identifier) }
         ensures spare { OnOk result (self.new.walk.spare ≡ node_limit) }
         ensures waits { OnErr result (self.new.stage ≡ self.old.stage) }
         ensures template { self.new.template ≡ 0 }
         ensures set { self.new.set ≡ self.old.set }
+        ensures level { self.new.level ≡ self.old.level }
     {
-        self.template = 0;
-        match read_own_map(self.alloc, 0, true, bytes, at) {
+        match read_own_map(self.alloc, 0, true, self.level, bytes, at) {
             Err(halt) => Err(halt),
             Ok((bits, next)) => {
                 // the rest of the walk begins with the body, in the memory of the last one
@@ -164,11 +180,11 @@ impl<'a> Traversal<'a> {
             × IsOpen R.has R.keeps self.new receiver.new (templates_in self.old.set.now)
             (E.contents entries.new)
             before (E.contents entries.old) later
-            × ((more : List ℕ) → identifier_on (templates_in self.old.set.now) (E.contents
+            × ((more : List ℕ) → identifier_on self.old.level (templates_in self.old.set.now) (E.contents
             entries.old)
             self.old.walk.bits (drop at bytes.now ++ more) ≡ later (drop n bytes.now ++ more))) }
         ensures stops { IfErr result (λ h. h.cause ≢ Cause.Memory
-            → identifier_on (templates_in self.old.set.now) (E.contents entries.old)
+            → identifier_on self.old.level (templates_in self.old.set.now) (E.contents entries.old)
             self.old.walk.bits
             (drop at bytes.now) ≡ Err (stop_of 0 h (drop at bytes.now))) }
         ensures stage { OnOk result (self.new.stage ≡ Stage.Body) }
@@ -182,11 +198,13 @@ impl<'a> Traversal<'a> {
         ensures keeps { (set : List Resolved) (ms : List Content) (d : Dictionary)
             → R.stands receiver.old set ms d → R.keeps receiver.new set ms d }
         ensures set { self.new.set ≡ self.old.set }
+        ensures level { self.new.level ≡ self.old.level }
         ensures same_keys { E.serves entries.new ≡ E.serves entries.old }
     {
         let needs = part_needs_bit(&self.identifier);
         let bit = first_for(&self.walk.bits, needs);
-        match receiver.begin(self.alloc, entries, &self.identifier, bit, bytes, at) {
+        let level = self.level();
+        match receiver.begin(self.alloc, entries, &self.identifier, bit, level, bytes, at) {
             Err(fault) => Err(part_halt(&self.identifier, fault)),
             Ok((id, next)) => match self.set.find(id) {
                 None => Err(Halt {
@@ -198,6 +216,44 @@ impl<'a> Traversal<'a> {
                     self.walk.open_message(needs, &template.members);
                     self.stage = Stage::Body;
                     Ok(next)
+                }
+            },
+        }
+    }
+
+    // Ends a message whose body has ended.
+    #[inline(always)]
+    fn end<R: Receiver>(&mut self, receiver: &mut R) -> Result<(), Halt>
+        requires whole { self.now.walk.around.items ≡ [] }
+        ensures clear { OnOk result (IsLeftClear self.old.level self.old.walk.bits) }
+        ensures stands { OnOk result ((o : Received) (d : Dictionary) → o.next ≡ at_instruction
+            → o.body.rest ≡ no_instructions → o.around ≡ [] → members_of o.set o.template
+            ≡ Some o.members
+            → nodes_in (items_of o.body.done) ≤ node_limit → R.has receiver.old o d
+            → R.stands receiver.new o.set (o.before ++ content_received o ∷ []) d) }
+        ensures between { OnOk result ((self.new.stage ≡ Stage.Map) × (self.new.template ≡ 0)) }
+        ensures refused { IfErr result (λ h. h.cause ≢ Cause.Memory
+            → (self.old.level ≡ Level.Strict) × (h.cause ≡ Cause.R8) × (h.number ≡ 0)
+            × (some_set self.old.walk.bits ≡ true) × (receiver.new ≡ receiver.old)) }
+        ensures waits { OnErr result ((self.new.stage ≡ self.old.stage)
+            × (self.new.template ≡ self.old.template) × (self.new.walk ≡ self.old.walk)) }
+        ensures keeps { OnErr result ((set : List Resolved) (ms : List Content) (d : Dictionary)
+            → R.keeps receiver.old set ms d → R.keeps receiver.new set ms d) }
+        ensures set { self.new.set ≡ self.old.set }
+        ensures level { self.new.level ≡ self.old.level }
+    {
+        let level = self.level();
+        match self.walk.judge_end(level) {
+            Err(halt) => Err(halt),
+            Ok(()) => match receiver.finish(self.alloc) {
+                Err(_) => Err(Halt {
+                    cause: Cause::Memory,
+                    number: 0,
+                }),
+                Ok(()) => {
+                    self.stage = Stage::Map;
+                    self.template = 0;
+                    Ok(())
                 }
             },
         }
@@ -226,7 +282,7 @@ impl<'a> Traversal<'a> {
             ≡ Ok (m, E.contents entries.new, drop n bytes.now ++ more))
             × (nodes_in m.items ≤ node_limit → R.stands receiver.new set (before
             ++ m ∷ []) (E.contents entries.new))) }
-        ensures between { OnOk result (self.new.stage ≡ Stage.Map) }
+        ensures between { OnOk result ((self.new.stage ≡ Stage.Map) × (self.new.template ≡ 0)) }
         ensures held_place { IfErr result (λ x. (at ≤ x.0) × (x.0 ≤ length bytes.now)) }
         ensures stops { IfErr result (λ x. (x.1).cause ≢ Cause.Memory
             → (set : List Resolved) (before : List Content)
@@ -253,22 +309,17 @@ impl<'a> Traversal<'a> {
         ensures keeps { OnErr result ((set : List Resolved) (ms : List Content) (d : Dictionary)
             → R.keeps receiver.old set ms d → R.keeps receiver.new set ms d) }
         ensures set { self.new.set ≡ self.old.set }
+        ensures level { self.new.level ≡ self.old.level }
         ensures same_keys { E.serves entries.new ≡ E.serves entries.old }
     {
-        match self.walk.run(self.alloc, receiver, entries, bytes, at) {
+        match self
+            .walk
+            .run(self.level, self.alloc, receiver, entries, bytes, at)
+        {
             Err(halt) => Err(halt),
-            Ok(next) => match receiver.finish(self.alloc) {
-                Err(_) => Err((
-                    next,
-                    Halt {
-                        cause: Cause::Memory,
-                        number: 0,
-                    },
-                )),
-                Ok(()) => {
-                    self.stage = Stage::Map;
-                    Ok(next)
-                }
+            Ok(next) => match self.end(receiver) {
+                Err(halt) => Err((next, halt)),
+                Ok(()) => Ok(next),
             },
         }
     }
@@ -296,7 +347,7 @@ impl<'a> Traversal<'a> {
             ≡ Ok (m, E.contents entries.new, drop n bytes.now ++ more))
             × (nodes_in m.items ≤ node_limit → R.stands receiver.new (templates_in self.old.set.now)
             (before ++ m ∷ []) (E.contents entries.new))) }
-        ensures between { OnOk result (self.new.stage ≡ Stage.Map) }
+        ensures between { OnOk result ((self.new.stage ≡ Stage.Map) × (self.new.template ≡ 0)) }
         ensures held_place { IfErr result (λ x. (at ≤ x.0) × (x.0 ≤ length bytes.now)) }
         ensures stops { IfErr result (λ x. (x.1).cause ≢ Cause.Memory
             → (before : List Content) (start : Dictionary)
@@ -326,6 +377,7 @@ impl<'a> Traversal<'a> {
             → R.keeps receiver.new (templates_in self.old.set.now) before start
             ⊎ R.stands receiver.new (templates_in self.old.set.now) before start) }
         ensures set { self.new.set ≡ self.old.set }
+        ensures level { self.new.level ≡ self.old.level }
         ensures same_keys { E.serves entries.new ≡ E.serves entries.old }
         ensures begun { IfErr result (λ x. (x.1).cause ≡ Cause.Truncated
             → self.new.stage ≢ Stage.Map) }
@@ -366,7 +418,7 @@ impl<'a> Traversal<'a> {
             ≡ Ok (m, E.contents entries.new, drop n bytes.now ++ more))
             × (nodes_in m.items ≤ node_limit → R.stands receiver.new (templates_in self.old.set.now)
             (before ++ m ∷ []) (E.contents entries.new))) }
-        ensures between { OnOk result (self.new.stage ≡ Stage.Map) }
+        ensures between { OnOk result ((self.new.stage ≡ Stage.Map) × (self.new.template ≡ 0)) }
         ensures held_place { IfErr result (λ x. (at ≤ x.0) × (x.0 ≤ length bytes.now)) }
         ensures stops { IfErr result (λ x. (x.1).cause ≢ Cause.Memory
             → (before : List Content) (start : Dictionary)
@@ -396,6 +448,7 @@ impl<'a> Traversal<'a> {
             → R.keeps receiver.new (templates_in self.old.set.now) before start
             ⊎ R.stands receiver.new (templates_in self.old.set.now) before start) }
         ensures set { self.new.set ≡ self.old.set }
+        ensures level { self.new.level ≡ self.old.level }
         ensures same_keys { E.serves entries.new ≡ E.serves entries.old }
         // a message has a byte
         ensures took { IfOk result (λ n. self.old.stage ≡ Stage.Map → at < n) }

@@ -6,19 +6,21 @@ ghost use Rattle.fast_template.specs.Resolved.{Resolved, list_of, then_instructi
 ghost use Rattle.fast_dictionary.specs.Dictionary.{Dictionary};
 ghost use Rattle.fast_stream.specs.Nodes.{Content};
 ghost use Rattle.fast_stream.specs.Bits.{after_bit};
+ghost use Rattle.fast_wire.specs.Level.{IsLeftClear, some_set};
 ghost use Rattle.fast_stream.specs.Faults.{cause_of_field};
 ghost use Rattle.fast_stream.specs.Reading.{node_at, stopped};
 ghost use Rattle.fast_walk.specs.OpenSegments.{Waiting, at_instruction, cursor, fewer, in_sequence};
 ghost use Rattle.fast_walk.specs.Received.{Received, ended_in};
 
-use crate::bits::{first_for, read_own_map, take_for};
+use crate::bits::{first_for, judge_left, read_own_map, take_for};
 use crate::halt::{Halt, field_cause};
+use crate::leveled::{Leveled, Strictly, Usually};
 use crate::receiver::Receiver;
 use fast_dictionary::Entries;
 use fast_field::FieldFault;
 use fast_stream::Cause;
 use fast_template::{FieldPart, Flat, Name, Presence, has_map, part_needs_bit};
-use fast_wire::Bits;
+use fast_wire::{Bits, Level};
 use std::alloc::{AllocError, Global};
 use std::mem;
 
@@ -32,10 +34,10 @@ pub struct Sequel<'a> {
     pub left: u32,
 }
 
-/// What a segment is to the body around it: a group, or an element with others to come.
+/// What a segment is to the body around it: a group, with its number, or an element with others to come.
 #[derive(Clone, Copy)]
 pub enum Inside<'a> {
-    Group,
+    Group(u32),
     Element(Sequel<'a>),
 }
 
@@ -87,7 +89,7 @@ fn is_optional(presence: Presence) -> bool
 }
 
 impl<'a> Walk<'a> {
-    ghost use Rattle.fast_walk.specs.Walks.{At, HaltsAs, IsElement, IsInside, IsInsideServed, IsNextServed, IsReady, Moves, bare_inside, bare_next, frame_of, inside_of, next_of, rank_of, sequel_of, weight_of};
+    ghost use Rattle.fast_walk.specs.Walks.{At, HaltsAs, IsElement, IsInside, IsInsideServed, IsNextServed, IsReady, Moves, bare_inside, bare_next, frame_of, inside_of, next_of, number_of, rank_of, sequel_of, weight_of};
 
     /// At the beginning of a list of instructions.
     pub(crate) fn new(alloc: Global, members: &'a [Flat], bits: Bits, spare: u32) -> Walk<'a>
@@ -188,6 +190,7 @@ impl<'a> Walk<'a> {
         ensures around { OnOk result (map frame_of self.new.around.items
             ≡ map frame_of self.old.around.items ++ record {
               bits = self.old.bits;
+              number = number_of inside.entry;
               body = record { rest = list_of others.now; done = [] };
               inside = inside_of inside.entry;
             } ∷ []) }
@@ -208,8 +211,9 @@ impl<'a> Walk<'a> {
 
     // Takes a field.
     #[inline(always)]
-    fn field<R: Receiver, E: Entries>(
+    fn field<L: Leveled, R: Receiver, E: Entries>(
         &mut self,
+        level: L,
         alloc: Global,
         receiver: &mut R,
         entries: &mut E,
@@ -227,10 +231,10 @@ impl<'a> Walk<'a> {
             ≡ then_instruction (whole_field name.now number presence whole.now) (list_of others.now) }
         requires ready { IsReady (E.serves entries.now) self.now }
         ensures place { IfOk result (λ n. (at ≤ n) × (n ≤ length bytes.now)) }
-        ensures goes { IfOk result (λ n. Moves R.has self.old receiver.old (E.contents entries.old)
+        ensures goes { IfOk result (λ n. Moves L.at R.has self.old receiver.old (E.contents entries.old)
             self.new receiver.new (E.contents entries.new) (drop at bytes.now) (drop n bytes.now)) }
         ensures stops { IfErr result (λ h. h.cause ≢ Cause.Memory
-            → HaltsAs self.old (E.contents entries.old) (drop at bytes.now) h) }
+            → HaltsAs L.at self.old (E.contents entries.old) (drop at bytes.now) h) }
         ensures waits { IfErr result (λ h. h.cause ≢ Cause.Memory
             → (self.new ≡ self.old) × (E.contents entries.new ≡ E.contents entries.old)
             × ((o : Received) (d : Dictionary) → R.has receiver.old o d → R.has receiver.new o d)) }
@@ -245,7 +249,17 @@ impl<'a> Walk<'a> {
             Ok(()) => {
                 let needs = part_needs_bit(whole);
                 let bit = first_for(&self.bits, needs);
-                match receiver.field(alloc, name, presence, entries, whole, bit, bytes, at) {
+                match receiver.field(
+                    alloc,
+                    name,
+                    presence,
+                    entries,
+                    whole,
+                    bit,
+                    level.level(),
+                    bytes,
+                    at,
+                ) {
                     Err(fault) => Err(part_halt(whole, fault)),
                     Ok(next) => {
                         self.pass_field(needs, others);
@@ -258,8 +272,9 @@ impl<'a> Walk<'a> {
 
     // Takes the exponent of a decimal in parts.
     #[inline(always)]
-    fn exponent<R: Receiver, E: Entries>(
+    fn exponent<L: Leveled, R: Receiver, E: Entries>(
         &mut self,
+        level: L,
         alloc: Global,
         receiver: &mut R,
         entries: &mut E,
@@ -279,10 +294,10 @@ impl<'a> Walk<'a> {
             (list_of others.now) }
         requires ready { IsReady (E.serves entries.now) self.now }
         ensures place { IfOk result (λ n. (at ≤ n) × (n ≤ length bytes.now)) }
-        ensures goes { IfOk result (λ n. Moves R.has self.old receiver.old (E.contents entries.old)
+        ensures goes { IfOk result (λ n. Moves L.at R.has self.old receiver.old (E.contents entries.old)
             self.new receiver.new (E.contents entries.new) (drop at bytes.now) (drop n bytes.now)) }
         ensures stops { IfErr result (λ h. h.cause ≢ Cause.Memory
-            → HaltsAs self.old (E.contents entries.old) (drop at bytes.now) h) }
+            → HaltsAs L.at self.old (E.contents entries.old) (drop at bytes.now) h) }
         ensures waits { IfErr result (λ h. h.cause ≢ Cause.Memory
             → (self.new ≡ self.old) × (E.contents entries.new ≡ E.contents entries.old)
             × ((o : Received) (d : Dictionary) → R.has receiver.old o d → R.has receiver.new o d)) }
@@ -297,7 +312,17 @@ impl<'a> Walk<'a> {
             Ok(()) => {
                 let needs = part_needs_bit(exponent);
                 let bit = first_for(&self.bits, needs);
-                match receiver.exponent(alloc, name, presence, entries, exponent, bit, bytes, at) {
+                match receiver.exponent(
+                    alloc,
+                    name,
+                    presence,
+                    entries,
+                    exponent,
+                    bit,
+                    level.level(),
+                    bytes,
+                    at,
+                ) {
                     Err(fault) => Err(part_halt(exponent, fault)),
                     Ok((present, next)) => {
                         if present {
@@ -315,8 +340,9 @@ impl<'a> Walk<'a> {
 
     // Takes the mantissa of a decimal whose exponent is there.
     #[inline(always)]
-    fn mantissa<R: Receiver, E: Entries>(
+    fn mantissa<L: Leveled, R: Receiver, E: Entries>(
         &mut self,
+        level: L,
         alloc: Global,
         receiver: &mut R,
         entries: &mut E,
@@ -328,10 +354,10 @@ impl<'a> Walk<'a> {
         requires next { self.now.next ≡ Next.Mantissa mantissa }
         requires ready { IsReady (E.serves entries.now) self.now }
         ensures place { IfOk result (λ n. (at ≤ n) × (n ≤ length bytes.now)) }
-        ensures goes { IfOk result (λ n. Moves R.has self.old receiver.old (E.contents entries.old)
+        ensures goes { IfOk result (λ n. Moves L.at R.has self.old receiver.old (E.contents entries.old)
             self.new receiver.new (E.contents entries.new) (drop at bytes.now) (drop n bytes.now)) }
         ensures stops { IfErr result (λ h. h.cause ≢ Cause.Memory
-            → HaltsAs self.old (E.contents entries.old) (drop at bytes.now) h) }
+            → HaltsAs L.at self.old (E.contents entries.old) (drop at bytes.now) h) }
         ensures waits { IfErr result (λ h. h.cause ≢ Cause.Memory
             → (self.new ≡ self.old) × (E.contents entries.new ≡ E.contents entries.old)
             × ((o : Received) (d : Dictionary) → R.has receiver.old o d → R.has receiver.new o d)) }
@@ -343,7 +369,7 @@ impl<'a> Walk<'a> {
     {
         let needs = part_needs_bit(mantissa);
         let bit = first_for(&self.bits, needs);
-        match receiver.mantissa(alloc, entries, mantissa, bit, bytes, at) {
+        match receiver.mantissa(alloc, entries, mantissa, bit, level.level(), bytes, at) {
             Err(fault) => Err(part_halt(mantissa, fault)),
             Ok(next) => {
                 take_for(&mut self.bits, needs);
@@ -354,8 +380,9 @@ impl<'a> Walk<'a> {
     }
 
     // Takes the length of a sequence.
-    fn sequence<R: Receiver, E: Entries>(
+    fn sequence<L: Leveled, R: Receiver, E: Entries>(
         &mut self,
+        level: L,
         alloc: Global,
         receiver: &mut R,
         entries: &mut E,
@@ -375,10 +402,10 @@ impl<'a> Walk<'a> {
             (list_of others.now) }
         requires ready { IsReady (E.serves entries.now) self.now }
         ensures place { IfOk result (λ n. (at ≤ n) × (n ≤ length bytes.now)) }
-        ensures goes { IfOk result (λ n. Moves R.has self.old receiver.old (E.contents entries.old)
+        ensures goes { IfOk result (λ n. Moves L.at R.has self.old receiver.old (E.contents entries.old)
             self.new receiver.new (E.contents entries.new) (drop at bytes.now) (drop n bytes.now)) }
         ensures stops { IfErr result (λ h. h.cause ≢ Cause.Memory
-            → HaltsAs self.old (E.contents entries.old) (drop at bytes.now) h) }
+            → HaltsAs L.at self.old (E.contents entries.old) (drop at bytes.now) h) }
         ensures waits { IfErr result (λ h. h.cause ≢ Cause.Memory
             → (self.new ≡ self.old) × (E.contents entries.new ≡ E.contents entries.old)
             × ((o : Received) (d : Dictionary) → R.has receiver.old o d → R.has receiver.new o d)) }
@@ -394,7 +421,15 @@ impl<'a> Walk<'a> {
                 let needs = part_needs_bit(part);
                 let bit = first_for(&self.bits, needs);
                 match receiver.begin_sequence(
-                    alloc, name, presence, entries, part, bit, bytes, at,
+                    alloc,
+                    name,
+                    presence,
+                    entries,
+                    part,
+                    bit,
+                    level.level(),
+                    bytes,
+                    at,
                 ) {
                     Err(fault) => Err(part_halt(part, fault)),
                     Ok((length, next)) => match length {
@@ -420,8 +455,9 @@ impl<'a> Walk<'a> {
     }
 
     // Enters a group, or passes it where it is left out.
-    fn group<R: Receiver>(
+    fn group<L: Leveled, R: Receiver>(
         &mut self,
+        level: L,
         alloc: Global,
         receiver: &mut R,
         name: &Name,
@@ -438,10 +474,10 @@ impl<'a> Walk<'a> {
             ≡ then_instruction (group_of name.now number presence (list_of members.now)) (list_of
             others.now) }
         ensures place { IfOk result (λ n. (at ≤ n) × (n ≤ length bytes.now)) }
-        ensures goes { IfOk result (λ n. (d : Dictionary) → Moves R.has self.old receiver.old d
+        ensures goes { IfOk result (λ n. (d : Dictionary) → Moves L.at R.has self.old receiver.old d
             self.new receiver.new d (drop at bytes.now) (drop n bytes.now)) }
         ensures stops { IfErr result (λ h. h.cause ≢ Cause.Memory
-            → (d : Dictionary) → HaltsAs self.old d (drop at bytes.now) h) }
+            → (d : Dictionary) → HaltsAs L.at self.old d (drop at bytes.now) h) }
         ensures waits { IfErr result (λ h. h.cause ≢ Cause.Memory
             → (self.new ≡ self.old) × (receiver.new ≡ receiver.old)) }
         ensures ready { OnOk result ((serves : key_type.Key → Bool) → IsReady serves self.old
@@ -457,12 +493,12 @@ impl<'a> Walk<'a> {
                 let present = first_for(&self.bits, optional);
                 if present {
                     let own_map = has_map(members);
-                    match read_own_map(alloc, number, own_map, bytes, at) {
+                    match read_own_map(alloc, number, own_map, level.level(), bytes, at) {
                         Err(halt) => Err(halt),
                         Ok((bits, next)) => {
                             receiver.enter(alloc, name, optional, own_map, members.len())?;
                             take_for(&mut self.bits, optional);
-                            self.open(members, others, bits, Inside::Group)?;
+                            self.open(members, others, bits, Inside::Group(number))?;
                             Ok(next)
                         }
                     }
@@ -476,8 +512,9 @@ impl<'a> Walk<'a> {
     }
 
     // Enters the next element of a sequence, or ends the sequence.
-    fn element<R: Receiver>(
+    fn element<L: Leveled, R: Receiver>(
         &mut self,
+        level: L,
         alloc: Global,
         receiver: &mut R,
         sequel: Sequel<'a>,
@@ -487,10 +524,10 @@ impl<'a> Walk<'a> {
         requires place { at ≤ length bytes.now }
         requires next { IsElement self.now.next sequel }
         ensures place { IfOk result (λ n. (at ≤ n) × (n ≤ length bytes.now)) }
-        ensures goes { IfOk result (λ n. (d : Dictionary) → Moves R.has self.old receiver.old d
+        ensures goes { IfOk result (λ n. (d : Dictionary) → Moves L.at R.has self.old receiver.old d
             self.new receiver.new d (drop at bytes.now) (drop n bytes.now)) }
         ensures stops { IfErr result (λ h. h.cause ≢ Cause.Memory
-            → (d : Dictionary) → HaltsAs self.old d (drop at bytes.now) h) }
+            → (d : Dictionary) → HaltsAs L.at self.old d (drop at bytes.now) h) }
         ensures waits { IfErr result (λ h. h.cause ≢ Cause.Memory
             → (self.new ≡ self.old) × (receiver.new ≡ receiver.old)) }
         ensures ready { OnOk result ((serves : key_type.Key → Bool) → IsReady serves self.old
@@ -504,9 +541,10 @@ impl<'a> Walk<'a> {
             self.next = Next::Instruction;
             return Ok(at);
         }
+        let own_map = sequel.own_map;
         match self.count(sequel.number) {
             Err(halt) => Err(halt),
-            Ok(()) => match read_own_map(alloc, sequel.number, sequel.own_map, bytes, at) {
+            Ok(()) => match read_own_map(alloc, sequel.number, own_map, level.level(), bytes, at) {
                 Err(halt) => Err(halt),
                 Ok((bits, next)) => {
                     receiver.enter_element(alloc, sequel.own_map, sequel.members.len())?;
@@ -529,6 +567,7 @@ impl<'a> Walk<'a> {
         ensures around { OnOk result (map frame_of self.new.around.items
             ≡ map frame_of self.old.around.items ++ record {
               bits = self.old.bits;
+              number = sequel.entry.number;
               body = record { rest = list_of self.old.rest.now; done = [] };
               inside = in_sequence (fewer (sequel_of sequel.entry));
             } ∷ []) }
@@ -544,28 +583,75 @@ impl<'a> Walk<'a> {
         self.open(sequel.members, self.rest, bits, Inside::Element(others))
     }
 
+    // The number of the segment that is open; 0 is the message.
+    fn number(&self) -> u32
+        ensures inside { (ws : List Waiting) (w : Waiting)
+            → map frame_of self.now.around.items ≡ ws ++ w ∷ [] → result ≡ w.number }
+        ensures message { self.now.around.items ≡ [] → result ≡ 0 }
+    {
+        match self.around.last() {
+            None => 0,
+            Some(frame) => match frame.inside {
+                Inside::Group(number) => number,
+                Inside::Element(sequel) => sequel.number,
+            },
+        }
+    }
+
+    /// Judges the end of the segment that is open: at the strict level no bit of its map may be left that is 1.
+    #[inline(always)]
+    pub(crate) fn judge_end(&self, level: Level) -> Result<(), Halt>
+        ensures clear { OnOk result (IsLeftClear level self.now.bits) }
+        ensures refused { IfErr result (λ h. (level ≡ Level.Strict) × (h.cause ≡ Cause.R8)
+            × (some_set self.now.bits ≡ true)) }
+        ensures inside { IfErr result (λ h. (ws : List Waiting) (w : Waiting)
+            → map frame_of self.now.around.items ≡ ws ++ w ∷ [] → h.number ≡ w.number) }
+        ensures message { IfErr result (λ h. self.now.around.items ≡ [] → h.number ≡ 0) }
+    {
+        match level {
+            Level::Usual => Ok(()),
+            Level::Strict => judge_left(self.number(), &self.bits),
+        }
+    }
+
     // Ends the segment that is open, and goes on in the one around it.
     #[inline(always)]
-    fn end<R: Receiver>(&mut self, alloc: Global, receiver: &mut R) -> Result<(), AllocError>
+    fn end<L: Leveled, R: Receiver>(
+        &mut self,
+        level: L,
+        alloc: Global,
+        receiver: &mut R,
+    ) -> Result<(), Halt>
+        requires inside { IsInside self.now }
         requires next { self.now.next ≡ Next.Instruction }
         requires rest { self.now.rest.now ≡ [] }
         ensures goes { OnOk result ((d : Dictionary) (bytes : List ℕ)
-            → Moves R.has self.old receiver.old d
+            → Moves L.at R.has self.old receiver.old d
             self.new receiver.new d bytes bytes) }
+        ensures stops { IfErr result (λ h. h.cause ≢ Cause.Memory
+            → (d : Dictionary) (bytes : List ℕ) → HaltsAs L.at self.old d bytes h) }
+        ensures waits { IfErr result (λ h. h.cause ≢ Cause.Memory
+            → (self.new ≡ self.old) × (receiver.new ≡ receiver.old)) }
         ensures ready { OnOk result ((serves : key_type.Key → Bool) → IsReady serves self.old
             → IsReady serves self.new) }
         ensures keeps { (set : List Resolved) (ms : List Content) (d : Dictionary)
             → R.keeps receiver.old set ms d → R.keeps receiver.new set ms d }
         ensures rank { OnOk result (rank_of self.new < rank_of self.old) }
     {
-        match self.around.pop() {
-            None => Err(AllocError),
-            Some(Frame { bits, rest, inside }) => {
-                self.bits = bits;
-                self.rest = rest;
-                self.take_up(alloc, receiver, inside)?;
-                Ok(())
-            }
+        match self.judge_end(level.level()) {
+            Err(halt) => Err(halt),
+            Ok(()) => match self.around.pop() {
+                None => Err(Halt {
+                    cause: Cause::Memory,
+                    number: 0,
+                }),
+                Some(Frame { bits, rest, inside }) => {
+                    self.bits = bits;
+                    self.rest = rest;
+                    self.take_up(alloc, receiver, inside)?;
+                    Ok(())
+                }
+            },
         }
     }
 
@@ -595,7 +681,7 @@ impl<'a> Walk<'a> {
         ensures weight { weight_of self.new.next ≤ 2 }
     {
         match inside {
-            Inside::Group => {
+            Inside::Group(_) => {
                 receiver.leave(alloc)?;
                 Ok(())
             }
@@ -621,21 +707,23 @@ impl<'a> Walk<'a> {
     }
 
     // Takes the next piece, or ends a segment.
-    fn step<R: Receiver, E: Entries>(
+    fn step<L: Leveled, R: Receiver, E: Entries>(
         &mut self,
+        level: L,
         alloc: Global,
         receiver: &mut R,
         entries: &mut E,
         bytes: &[u8],
         at: usize,
     ) -> Result<usize, Halt>
+        requires inside { IsInside self.now }
         requires place { at ≤ length bytes.now }
         requires ready { IsReady (E.serves entries.now) self.now }
         ensures place { IfOk result (λ n. (at ≤ n) × (n ≤ length bytes.now)) }
-        ensures goes { IfOk result (λ n. Moves R.has self.old receiver.old (E.contents entries.old)
+        ensures goes { IfOk result (λ n. Moves L.at R.has self.old receiver.old (E.contents entries.old)
             self.new receiver.new (E.contents entries.new) (drop at bytes.now) (drop n bytes.now)) }
         ensures stops { IfErr result (λ h. h.cause ≢ Cause.Memory
-            → HaltsAs self.old (E.contents entries.old) (drop at bytes.now) h) }
+            → HaltsAs L.at self.old (E.contents entries.old) (drop at bytes.now) h) }
         ensures waits { IfErr result (λ h. h.cause ≢ Cause.Memory
             → (self.new ≡ self.old) × (E.contents entries.new ≡ E.contents entries.old)
             × ((o : Received) (d : Dictionary) → R.has receiver.old o d → R.has receiver.new o d)) }
@@ -647,17 +735,17 @@ impl<'a> Walk<'a> {
     {
         match self.next {
             Next::Mantissa(mantissa) => self.mantissa(
-                alloc, receiver, entries, mantissa, bytes, at,
+                level, alloc, receiver, entries, mantissa, bytes, at,
             ),
-            Next::Element(sequel) => match self.element(alloc, receiver, sequel, bytes, at) {
+            Next::Element(sequel) => match self.element(level, alloc, receiver, sequel, bytes, at) {
                 Err(halt) => Err(halt),
                 Ok(next) => Ok(next),
             },
             Next::Instruction => match self.rest.split_first() {
-                None => {
-                    self.end(alloc, receiver)?;
-                    Ok(at)
-                }
+                None => match self.end(level, alloc, receiver) {
+                    Err(halt) => Err(halt),
+                    Ok(()) => Ok(at),
+                },
                 Some((flat, others)) => match flat {
                     Flat::Field {
                         name,
@@ -665,8 +753,8 @@ impl<'a> Walk<'a> {
                         presence,
                         whole,
                     } => self.field(
-                        alloc, receiver, entries, name, *presence, *number, whole, others, bytes,
-                        at,
+                        level, alloc, receiver, entries, name, *presence, *number, whole, others,
+                        bytes, at,
                     ),
                     Flat::Parts {
                         name,
@@ -675,8 +763,8 @@ impl<'a> Walk<'a> {
                         exponent,
                         mantissa,
                     } => self.exponent(
-                        alloc, receiver, entries, name, *presence, *number, exponent, mantissa,
-                        others, bytes, at,
+                        level, alloc, receiver, entries, name, *presence, *number, exponent,
+                        mantissa, others, bytes, at,
                     ),
                     Flat::Group {
                         name,
@@ -684,7 +772,8 @@ impl<'a> Walk<'a> {
                         presence,
                         members,
                     } => match self.group(
-                        alloc, receiver, name, *number, *presence, members, others, bytes, at,
+                        level, alloc, receiver, name, *number, *presence, members, others, bytes,
+                        at,
                     ) {
                         Err(halt) => Err(halt),
                         Ok(next) => Ok(next),
@@ -696,7 +785,7 @@ impl<'a> Walk<'a> {
                         length,
                         members,
                     } => self.sequence(
-                        alloc, receiver, entries, name, *presence, *number, length, members,
+                        level, alloc, receiver, entries, name, *presence, *number, length, members,
                         others, bytes, at,
                     ),
                 },
@@ -704,9 +793,10 @@ impl<'a> Walk<'a> {
         }
     }
 
-    /// Takes what is left of the message, up to its end.
-    pub(crate) fn run<R: Receiver, E: Entries>(
+    // Takes what is left of the message at a level that is known where the program is made.
+    fn run_leveled<L: Leveled, R: Receiver, E: Entries>(
         &mut self,
+        level: L,
         alloc: Global,
         receiver: &mut R,
         entries: &mut E,
@@ -716,16 +806,16 @@ impl<'a> Walk<'a> {
         requires place { at ≤ length bytes.now }
         requires ready { IsReady (E.serves entries.now) self.now }
         ensures place { IfOk result (λ n. (at ≤ n) × (n ≤ length bytes.now)) }
-        ensures goes { IfOk result (λ n. Moves R.has self.old receiver.old (E.contents entries.old)
+        ensures goes { IfOk result (λ n. Moves L.at R.has self.old receiver.old (E.contents entries.old)
             self.new receiver.new (E.contents entries.new) (drop at bytes.now) (drop n bytes.now)) }
         ensures whole { OnOk result ((self.new.next ≡ Next.Instruction) × (self.new.around.items
             ≡ [])
             × (self.new.rest.now ≡ [])) }
         ensures held_place { IfErr result (λ x. (at ≤ x.0) × (x.0 ≤ length bytes.now)) }
         ensures held { IfErr result (λ x. (x.1).cause ≢ Cause.Memory
-            → Moves R.has self.old receiver.old (E.contents entries.old)
+            → Moves L.at R.has self.old receiver.old (E.contents entries.old)
             self.new receiver.new (E.contents entries.new) (drop at bytes.now) (drop x.0 bytes.now)
-            × HaltsAs self.new (E.contents entries.new) (drop x.0 bytes.now) x.1
+            × HaltsAs L.at self.new (E.contents entries.new) (drop x.0 bytes.now) x.1
             × IsReady (E.serves entries.new) self.new) }
         ensures keeps { (set : List Resolved) (ms : List Content) (d : Dictionary)
             → R.keeps receiver.old set ms d → R.keeps receiver.new set ms d }
@@ -733,11 +823,46 @@ impl<'a> Walk<'a> {
     {
         let mut place = at;
         'pieces: while !self.is_whole() {
-            match self.step(alloc, receiver, entries, bytes, place) {
+            match self.step(level, alloc, receiver, entries, bytes, place) {
                 Ok(next) => place = next,
                 Err(halt) => return Err((place, halt)),
             }
         }
         Ok(place)
+    }
+
+    /// Takes what is left of the message, up to its end. The level is asked for once, here.
+    #[inline(always)]
+    pub(crate) fn run<R: Receiver, E: Entries>(
+        &mut self,
+        level: Level,
+        alloc: Global,
+        receiver: &mut R,
+        entries: &mut E,
+        bytes: &[u8],
+        at: usize,
+    ) -> Result<usize, (usize, Halt)>
+        requires place { at ≤ length bytes.now }
+        requires ready { IsReady (E.serves entries.now) self.now }
+        ensures place { IfOk result (λ n. (at ≤ n) × (n ≤ length bytes.now)) }
+        ensures goes { IfOk result (λ n. Moves level R.has self.old receiver.old (E.contents entries.old)
+            self.new receiver.new (E.contents entries.new) (drop at bytes.now) (drop n bytes.now)) }
+        ensures whole { OnOk result ((self.new.next ≡ Next.Instruction) × (self.new.around.items
+            ≡ [])
+            × (self.new.rest.now ≡ [])) }
+        ensures held_place { IfErr result (λ x. (at ≤ x.0) × (x.0 ≤ length bytes.now)) }
+        ensures held { IfErr result (λ x. (x.1).cause ≢ Cause.Memory
+            → Moves level R.has self.old receiver.old (E.contents entries.old)
+            self.new receiver.new (E.contents entries.new) (drop at bytes.now) (drop x.0 bytes.now)
+            × HaltsAs level self.new (E.contents entries.new) (drop x.0 bytes.now) x.1
+            × IsReady (E.serves entries.new) self.new) }
+        ensures keeps { (set : List Resolved) (ms : List Content) (d : Dictionary)
+            → R.keeps receiver.old set ms d → R.keeps receiver.new set ms d }
+        ensures same_keys { E.serves entries.new ≡ E.serves entries.old }
+    {
+        match level {
+            Level::Usual => self.run_leveled(Usually, alloc, receiver, entries, bytes, at),
+            Level::Strict => self.run_leveled(Strictly, alloc, receiver, entries, bytes, at),
+        }
     }
 }

@@ -1,14 +1,22 @@
--- Canonical bytes are bytes of any form.
-use Rattle.std.proofs.Common.{ℕ, List}
+-- Canonical bytes are bytes of any form, at each level.
+use Rattle.std.proofs.Common.{ℕ, Bool, List}
 use Rattle.std.specs.FinMap as map
+use Rattle.fast_wire.specs.declared.level.Level.{Level}
+use Rattle.fast_wire.specs.declared.level.Level.TheVariants.{Usual, Strict}
+use Rattle.fast_wire.proofs.ShortMaps.{shortest_map_begins, none_set}
 use Rattle.fast_template.specs.Resolved.{Resolved}
 use Rattle.fast_field.specs.Fields.{Form}
 use Rattle.fast_field.specs.Best.{IsBest}
+use Rattle.fast_field.proofs.StrictForms.{best_at_level}
 use Rattle.fast_stream.specs.Nodes.{Content}
-use Rattle.fast_stream.specs.Streams.{AnyMap, Carries}
+use Rattle.fast_stream.specs.Streams.{MapAt, Carries}
 use Rattle.fast_stream.proofs.Weaker.{carries_weaker}
 use Rattle.fast_writer.specs.Canonical.{IsShortestMap, IsCanonical}
 
-pub canonical_carries : (set : List Resolved) (messages : List Content) (bytes : List ℕ) → IsCanonical set messages bytes → Carries set bytes messages
-canonical_carries set messages bytes h =
-    (h.0, carries_weaker IsBest Form IsShortestMap AnyMap (λ p entry bit b v best. (best.cut, best.form)) (λ bits left b shortest. shortest.form) set messages map.empty bytes h.0 h.1)
+shortest_map_at : (level : Level) (bits left : List Bool) (bytes : List ℕ) → IsShortestMap bits left bytes → MapAt level bits left bytes
+shortest_map_at Usual bits left bytes h = h.form
+shortest_map_at Strict bits left bytes h = ((shortest_map_begins bytes bits h.form h.least, h.form), none_set left h.asked)
+
+pub canonical_carries : (level : Level) (set : List Resolved) (messages : List Content) (bytes : List ℕ) → IsCanonical set messages bytes → Carries level set bytes messages
+canonical_carries level set messages bytes h =
+    (h.0, carries_weaker IsBest (Form level) IsShortestMap (MapAt level) (best_at_level level) (shortest_map_at level) set messages map.empty bytes h.0 h.1)

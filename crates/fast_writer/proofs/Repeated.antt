@@ -9,28 +9,31 @@ use Rattle.fast_template.specs.declared.resolved.FieldPart.{FieldPart}
 use Rattle.fast_value.specs.declared.scalar.Scalar.{Scalar}
 use Rattle.fast_template.specs.Resolved.{operator_needs_bit, part_needs_bit}
 use Rattle.fast_dictionary.specs.declared.entry.Entry.{Entry}
+use Rattle.fast_wire.specs.declared.level.Level.{Level}
+use Rattle.fast_wire.specs.declared.level.Level.TheVariants.{Usual}
 use Rattle.fast_field.specs.Deltas.{Cut}
 use Rattle.fast_field.specs.Fields.{FormOf, FormBy}
 use Rattle.fast_field.specs.Best.{IsBest}
 use Rattle.fast_field.specs.Parts.{HasDefault}
 use Rattle.fast_field.specs.FieldReading.{field_at}
 use Rattle.fast_field.proofs.FieldForms.{field_forms}
+use Rattle.fast_field.proofs.LevelsAgree.{read_usually}
 use Rattle.fast_field.proofs.BestForms.{bit_zero_is_best, bit_zero_row}
 
-pub repeated_best : (i : FieldPart) (e : Entry) (bytes rest : List ℕ) (v : Option Scalar) → HasDefault i → IsBytes bytes → part_needs_bit i ≡ true
-    → field_at i e false bytes ≡ Ok (v, rest) → IsBest i e false [] v
-repeated_best i e bytes rest v default fits needs is =
-    let t = (field_forms i e false (λ h. absurd (not_both (sym needs ∙ h))) default).found bytes v rest fits is in
+pub repeated_best : (level : Level) (i : FieldPart) (e : Entry) (bytes rest : List ℕ) (v : Option Scalar) → HasDefault i → IsBytes bytes → part_needs_bit i ≡ true
+    → field_at level i e false bytes ≡ Ok (v, rest) → IsBest i e false [] v
+repeated_best level i e bytes rest v default fits needs is =
+    let t = (field_forms Usual i e false (λ h. absurd (not_both (sym needs ∙ h))) default).found bytes v rest fits (read_usually level i e false bytes (v, rest) is) in
     best t.front t.form.0 t.form.1
   where
     not_both : true ≡ false → ⊥
     not_both h = absurd cc
 
-    best : (b : List ℕ) (cut : Cut) → FormBy i e false cut b v → IsBest i e false [] v
+    best : (b : List ℕ) (cut : Cut) → FormBy Usual i e false cut b v → IsBest i e false [] v
     best b cut h = let z = bit_zero_row i.operator i e cut b v h.row in bit_zero_is_best i e v (rw (z.0, z.1) at h)
 
 -- Where a part has no bit, that of a form is 1.
-no_bit : (o : Operator) (p : Presence) (i : FieldPart) (e : Entry) (c : Cut) (b : List ℕ) (v : Option Scalar) → i.presence ≡ p → operator_needs_bit o p ≡ false → FormOf o i e false c b v → ⊥
+no_bit : (o : Operator) (p : Presence) (i : FieldPart) (e : Entry) (c : Cut) (b : List ℕ) (v : Option Scalar) → i.presence ≡ p → operator_needs_bit o p ≡ false → FormOf Usual o i e false c b v → ⊥
 no_bit operator.Plain p i e c b v is h f = f
 no_bit operator.Constant Mandatory i e c b v is h f = absurd (other (sym is ∙ f.2))
   where

@@ -28,6 +28,7 @@ use Rattle.fast_template.proofs.WorkedSet.{worked_set}
 use Rattle.fast_dictionary.specs.declared.entry.Entry.{Entry}
 use Rattle.fast_dictionary.specs.declared.entry.Entry.TheVariants.{Undefined, Empty, Assigned}
 use Rattle.fast_dictionary.specs.Dictionary.{Dictionary, entry_at}
+use Rattle.fast_wire.specs.declared.level.Level.TheVariants.{Usual}
 use Rattle.fast_field.specs.declared.fault.FieldFault.{FieldFault}
 use Rattle.fast_field.specs.Values.{mantissa_of}
 use Rattle.fast_field.specs.Spelled.{SpellsInteger, SpellsPair, Spelled}
@@ -67,11 +68,11 @@ one_byte_map b n bits stop byte same = record {
 -- ---- fields with bit 1
 
 -- no form with bit 0, and none with fewer bytes
-spelled_best : (i : FieldPart) (e : Entry) (v : Option Scalar) (b : List ℕ) → FormBy i e true uncut b v → ((c : Cut) (x : List ℕ) → FormOf i.operator i e false c x v → ⊥)
-    → ((c : Cut) (x : List ℕ) → FormOf i.operator i e true c x v → length b ≤ length x) → IsBest i e true b v
+spelled_best : (i : FieldPart) (e : Entry) (v : Option Scalar) (b : List ℕ) → FormBy Usual i e true uncut b v → ((c : Cut) (x : List ℕ) → FormOf Usual i.operator i e false c x v → ⊥)
+    → ((c : Cut) (x : List ℕ) → FormOf Usual i.operator i e true c x v → length b ≤ length x) → IsBest i e true b v
 spelled_best i e v b form no_zero least = record { cut = uncut; form = form; first = first }
   where
-    first : (bit : Bool) (c : Cut) (x : List ℕ) → FormBy i e bit c x v → NoLater true (length b) uncut bit (length x) c
+    first : (bit : Bool) (c : Cut) (x : List ℕ) → FormBy Usual i e bit c x v → NoLater true (length b) uncut bit (length x) c
     first false c x h = absurd (no_zero c x h.row)
     first true c x h = at_end_first (length b) (length x) 0 c (least c x h.row) (λ same. omega arith)
 
@@ -81,15 +82,15 @@ small_range n h = grind (arith, h)
 abbrev uint32 : ℕ → ℕ → List ℕ → Operator → FieldPart
 uint32 number slot name operator = record { number = number; part = Whole; kind = kind.UInt32; presence = Mandatory; operator = operator; initial = None; key = record { slot = slot; scope = Global; name = name; part = Whole } }
 
-number_some : (x : List ℕ) (number : ℤ) → SpellsInteger true Mandatory x (Value number) → 1 ≤ length x
+number_some : (x : List ℕ) (number : ℤ) → SpellsInteger Usual true Mandatory x (Value number) → 1 ≤ length x
 number_some x (pos n) h = entity_some x h.entity
 number_some x (negsuc n) h = absurd h
 
-some_byte : (x : List ℕ) (v : Scalar) → Spelled kind.UInt32 Mandatory x (Some v) → 1 ≤ length x
+some_byte : (x : List ℕ) (v : Scalar) → Spelled Usual kind.UInt32 Mandatory x (Some v) → 1 ≤ length x
 some_byte x v h = number_some x h.number h.form
 
 -- the form of a number in one byte
-byte_form : (b n : ℕ) → 128 ≤ b → b < 256 → n ≡ unsigned_of (b ∷ []) → n < 2 ^ 32 → Spelled kind.UInt32 Mandatory (b ∷ []) (Some (U32 n))
+byte_form : (b n : ℕ) → 128 ≤ b → b < 256 → n ≡ unsigned_of (b ∷ []) → n < 2 ^ 32 → Spelled Usual kind.UInt32 Mandatory (b ∷ []) (Some (U32 n))
 byte_form b n stop byte same small = record { number = pos n; form = record { entity = (stop, byte); short = lit≤ tt; value = same }; range = small_range n small; value = refl }
 
 plain_byte : (number slot : ℕ) (name : List ℕ) (e : Entry) (b n : ℕ) → 128 ≤ b → b < 256 → n ≡ unsigned_of (b ∷ []) → n < 2 ^ 32 → IsBest (uint32 number slot name operator.Plain) e true (b ∷ []) (Some (U32 n))
@@ -153,7 +154,7 @@ two_end = after_part first_b two_b (Some (U32 6))
 undefined_at : (i : FieldPart) (d : Dictionary) (b : List ℕ) (v : Option Scalar) → entry_at d i.key ≡ Undefined → IsBest i Undefined true b v → IsBest i (entry_at d i.key) true b v
 undefined_at i d b v is best = subst (λ (e : Entry). IsBest i e true b v) (sym is) best
 
-assigned_at : (i : FieldPart) (d : Dictionary) (w : Scalar) (v : Option Scalar) → entry_at d i.key ≡ Assigned w → FormBy i (Assigned w) false uncut [] v → IsBest i (entry_at d i.key) false [] v
+assigned_at : (i : FieldPart) (d : Dictionary) (w : Scalar) (v : Option Scalar) → entry_at d i.key ≡ Assigned w → FormBy Usual i (Assigned w) false uncut [] v → IsBest i (entry_at d i.key) false [] v
 assigned_at i d w v is form = subst (λ (e : Entry). IsBest i e false [] v) (sym is) (bit_zero_is_best i (Assigned w) v form)
 
 no_identifier : entry_at one_identifier.dictionary identifier.key ≡ Undefined
@@ -278,7 +279,7 @@ abbrev price : ℕ → Scalar
 price m = Decimal (negsuc 1) (pos m)
 
 -- no string of "AB" has fewer bytes
-sym_least : (x : List ℕ) → Spelled kind.Ascii Mandatory x (Some (Ascii (codes "AB"))) → 2 ≤ length x
+sym_least : (x : List ℕ) → Spelled Usual kind.Ascii Mandatory x (Some (Ascii (codes "AB"))) → 2 ≤ length x
 sym_least x h =
     let same : codes "AB" ≡ h.string = let e = h.value in cc in
     subst (λ (s : List ℕ). ascii_size s ≤ length x) (sym same) (ascii_sizes.least x h.string h.form)
@@ -293,7 +294,7 @@ sym_spelled =
 signed_some : (x : List ℕ) (v : ℤ) → IsSigned x v → 1 ≤ length x
 signed_some x v h = entity_some x h.entity
 
-pair_least : (x : List ℕ) (e m : ℤ) (h : SpellsPair Mandatory x e m) (n : ℕ) → n ≤ signed_size m → 1 + n ≤ length x
+pair_least : (x : List ℕ) (e m : ℤ) (h : SpellsPair Usual Mandatory x e m) (n : ℕ) → n ≤ signed_size m → 1 + n ≤ length x
 pair_least x e m h n few =
     let front = signed_some h.front e h.exponent_form in
     let back = signed_sizes.least h.back m h.mantissa_form in
@@ -319,13 +320,13 @@ base_is : (v w : Scalar) → as_base v ≡ Ok w → v ≡ w
 base_is v w e = cc
 
 -- the mantissa's delta, from the base that there is
-mantissa_delta : (base : Scalar) (x : List ℕ) (c : Cut) (v : Scalar) (h : SpellsDeltas Mandatory base c x v) (m : ℕ) → v ≡ price m → mantissa_of base +ℤ h.mantissa_delta ≡ pos m
+mantissa_delta : (base : Scalar) (x : List ℕ) (c : Cut) (v : Scalar) (h : SpellsDeltas Usual Mandatory base c x v) (m : ℕ) → v ≡ price m → mantissa_of base +ℤ h.mantissa_delta ≡ pos m
 mantissa_delta base x c v h m e = let same = sym e ∙ h.value.2 in sym (ap mantissa_of same)
 
-px_least : (x : List ℕ) (c : Cut) → DeltaForm px Undefined c x (Some (price 100)) → 3 ≤ length x
+px_least : (x : List ℕ) (c : Cut) → DeltaForm Usual px Undefined c x (Some (price 100)) → 3 ≤ length x
 px_least x c h =
     let base : Decimal (pos 0) (pos 0) ≡ h.0 = base_is (Decimal (pos 0) (pos 0)) h.0 h.1 in
-    let spelled = subst (λ (w : Scalar). SpellsDeltas Mandatory w c x (price 100)) (sym base) h.2 in
+    let spelled = subst (λ (w : Scalar). SpellsDeltas Usual Mandatory w c x (price 100)) (sym base) h.2 in
     let delta : spelled.mantissa_delta ≡ pos 100 = sym (+ℤ_idl spelled.mantissa_delta) ∙ mantissa_delta (Decimal (pos 0) (pos 0)) x c (price 100) spelled 100 refl in
     pair_least x spelled.exponent_delta spelled.mantissa_delta spelled.form 2 (rw delta hundred_takes_two)
 
@@ -354,13 +355,13 @@ px_spelled =
     })
     (λ c x h. h) px_at_least
   where
-    px_at_least : (c : Cut) (x : List ℕ) → DeltaForm px Undefined c x (Some (price 100)) → 3 ≤ length x
+    px_at_least : (c : Cut) (x : List ℕ) → DeltaForm Usual px Undefined c x (Some (price 100)) → 3 ≤ length x
     px_at_least c x h = px_least x c h
 
-px_again_least : (x : List ℕ) (c : Cut) → DeltaForm px (Assigned (price 100)) c x (Some (price 101)) → 2 ≤ length x
+px_again_least : (x : List ℕ) (c : Cut) → DeltaForm Usual px (Assigned (price 100)) c x (Some (price 101)) → 2 ≤ length x
 px_again_least x c h =
     let base : price 100 ≡ h.0 = base_is (price 100) h.0 h.1 in
-    let spelled = subst (λ (w : Scalar). SpellsDeltas Mandatory w c x (price 101)) (sym base) h.2 in
+    let spelled = subst (λ (w : Scalar). SpellsDeltas Usual Mandatory w c x (price 101)) (sym base) h.2 in
     pair_least x spelled.exponent_delta spelled.mantissa_delta spelled.form 1 (one_at_least spelled.mantissa_delta)
 
 px_again : IsBest px (Assigned (price 100)) true (hex "80 81") (Some (price 101))
@@ -455,7 +456,7 @@ abbrev quote : ℕ → ℕ → Content
 quote n m = record { template = 1; items = items_of (single (Some (U32 n)) ∷ single (Some (Ascii (codes "AB"))) ∷ single (Some (price m)) ∷ single None ∷ []) }
 
 -- absent by bit 0
-qty_absent : (d : Dictionary) (e : Entry) → entry_at d qty.key ≡ e → FormBy qty e false uncut [] None → IsBest qty (entry_at d qty.key) false [] None
+qty_absent : (d : Dictionary) (e : Entry) → entry_at d qty.key ≡ e → FormBy Usual qty e false uncut [] None → IsBest qty (entry_at d qty.key) false [] None
 qty_absent d e is form = subst (λ (x : Entry). IsBest qty x false [] None) (sym is) (bit_zero_is_best qty e None form)
 
 pub quote_one : CanonMessage worked_set finite.empty (hex "F0 81 81 41 C2 FE 00 E4") (quote 1 100) q5.dictionary

@@ -18,19 +18,19 @@ use Rattle.fast_stream.specs.Streams.{identifier, members_of}
 use Rattle.fast_walk.specs.OpenSegments.{Sequel, Inside, in_group, in_sequence, Waiting, Next, at_instruction, at_mantissa, at_element}
 use Rattle.fast_walk.specs.Received.{Received, IsExponent, opened, passed, entered, after_exponent, after_length, in_element, after_sequence, ended_in, content_received, exponent_of, length_of, bytes_in}
 use Rattle.fast_writer.specs.Canonical.{CanonFrom, CanonMessage}
-use Rattle.fast_writer.specs.Written.{Level, state, bits_for, Opening, of_message, IsWritten, with_bytes, IsTop, IsBehind, Chain, IsOpened, IsFinished, Spelt, Asked, Ended, Closes}
+use Rattle.fast_writer.specs.Written.{Segment, state, bits_for, Opening, of_message, IsWritten, with_bytes, IsTop, IsBehind, Chain, IsOpened, IsFinished, Spelt, Asked, Ended, Closes}
 use Rattle.fast_writer.proofs.Leavings.{closed}
 use Rattle.fast_writer.proofs.Writings.{part_by, chain_on, field_written, no_decimal, exponent_waits, mantissa_written, left_out_written, group_entered, ended, segment_left, no_sequence, length_waits, element_entered, elements_written}
 
 abbrev message_of : Received → Opening
 message_of o = of_message o.template o.members o.start
 
-at_next : (outer : List Level) (l : Level) (o : Received) (d : Dictionary) (next : Next) → o.next ≡ next → IsOpened outer l o d → Chain (message_of o) o.around outer (IsTop next l o.body d)
+at_next : (outer : List Segment) (l : Segment) (o : Received) (d : Dictionary) (next : Next) → o.next ≡ next → IsOpened outer l o d → Chain (message_of o) o.around outer (IsTop next l o.body d)
 at_next outer l o d next is c = subst (λ (n : Next). Chain (message_of o) o.around outer (IsTop n l o.body d)) is c
 
 -- ---- fields
 
-pub has_field : (outer : List Level) (l k : Level) (o : Received) (name : List ℕ) (number : ℕ) (presence : Presence) (p : FieldPart) (is : Instructions) (d e : Dictionary) (v : Option Scalar)
+pub has_field : (outer : List Segment) (l k : Segment) (o : Received) (name : List ℕ) (number : ℕ) (presence : Presence) (p : FieldPart) (is : Instructions) (d e : Dictionary) (v : Option Scalar)
     → o.next ≡ at_instruction → o.body.rest ≡ then_instruction (whole_field name number presence p) is → e ≡ written p d v → Spelt p (entry_at d p.key) v l k
     → IsOpened outer l o d → IsOpened outer k (passed o is (single v)) e
 has_field outer l k o name number presence p is d e v next first entry s c =
@@ -43,7 +43,7 @@ is_exponent None false h = refl
 is_exponent (Some e) true h = (e, refl)
 is_exponent (Some e) false h = absurd cc
 
-pub has_exponent : (z : Option ℤ) (outer : List Level) (l k : Level) (o : Received) (name : List ℕ) (number : ℕ) (presence : Presence) (p q : FieldPart) (is : Instructions) (d e : Dictionary)
+pub has_exponent : (z : Option ℤ) (outer : List Segment) (l k : Segment) (o : Received) (name : List ℕ) (number : ℕ) (presence : Presence) (p q : FieldPart) (is : Instructions) (d e : Dictionary)
     → o.next ≡ at_instruction → o.body.rest ≡ then_instruction (field_in_parts name number presence p q) is → e ≡ written p d (exponent_of z) → Spelt p (entry_at d p.key) (exponent_of z) l k
     → IsOpened outer l o d → IsOpened outer k (after_exponent o is q (exponent_of z)) e
 has_exponent None outer l k o name number presence p q is d e next first entry s c =
@@ -63,14 +63,14 @@ pub length_finished : (n : Option ℕ) (out : List ℕ) (o : Received) (number :
 length_finished None out o number members is h = h
 length_finished (Some n) out o number members is h = h
 
-pub has_mantissa : (outer : List Level) (l k : Level) (o : Received) (z m : ℤ) (q : FieldPart) (d e : Dictionary)
+pub has_mantissa : (outer : List Segment) (l k : Segment) (o : Received) (z m : ℤ) (q : FieldPart) (d e : Dictionary)
     → o.next ≡ at_mantissa z q → e ≡ written q d (Some (I64 m)) → Spelt q (entry_at d q.key) (Some (I64 m)) l k
     → IsOpened outer l o d → IsOpened outer k (passed o o.body.rest (single (Some (Decimal z m)))) e
 has_mantissa outer l k o z m q d e next entry s c =
     chain_on (message_of o) o.around outer (IsTop (at_mantissa z q) l o.body d) (IsTop at_instruction k (record { rest = o.body.rest; done = o.body.done ++ single (Some (Decimal z m)) ∷ [] }) e)
     (λ g w. mantissa_written g l k o.body z m q d e entry s w) (at_next outer l o d (at_mantissa z q) next c)
 
-pub has_length : (n : Option ℕ) (outer : List Level) (l k : Level) (o : Received) (name : List ℕ) (number : ℕ) (presence : Presence) (p : FieldPart) (members is : Instructions) (d e : Dictionary)
+pub has_length : (n : Option ℕ) (outer : List Segment) (l k : Segment) (o : Received) (name : List ℕ) (number : ℕ) (presence : Presence) (p : FieldPart) (members is : Instructions) (d e : Dictionary)
     → o.next ≡ at_instruction → o.body.rest ≡ then_instruction (sequence_of name number presence p members) is → e ≡ written p d (length_of n) → Spelt p (entry_at d p.key) (length_of n) l k
     → IsOpened outer l o d → IsOpened outer k (after_length o number members is n) e
 has_length None outer l k o name number presence p members is d e next first entry s c =
@@ -83,54 +83,54 @@ has_length (Some n) outer l k o name number presence p members is d e next first
 
 -- ---- segments
 
-pub has_left_out : (outer : List Level) (l k : Level) (o : Received) (name : List ℕ) (number : ℕ) (presence : Presence) (members is : Instructions) (d : Dictionary)
+pub has_left_out : (outer : List Segment) (l k : Segment) (o : Received) (name : List ℕ) (number : ℕ) (presence : Presence) (members is : Instructions) (d : Dictionary)
     → o.next ≡ at_instruction → o.body.rest ≡ then_instruction (group_of name number presence members) is → is_optional presence ≡ true → Asked true false l k
     → IsOpened outer l o d → IsOpened outer k (passed o is (single None)) d
 has_left_out outer l k o name number presence members is d next first optional asked c =
     chain_on (message_of o) o.around outer (IsTop at_instruction l o.body d) (IsTop at_instruction k (record { rest = is; done = o.body.done ++ single None ∷ [] }) d)
     (λ g w. left_out_written g l k o.body name number presence members is d first optional asked w) (at_next outer l o d at_instruction next c)
 
-pub has_entered : (outer later : List Level) (l k j : Level) (o : Received) (name : List ℕ) (number : ℕ) (presence : Presence) (members is : Instructions) (bits : List Bool) (d : Dictionary) (optional : Bool)
+pub has_entered : (outer later : List Segment) (l k j : Segment) (o : Received) (name : List ℕ) (number : ℕ) (presence : Presence) (members is : Instructions) (bits : List Bool) (d : Dictionary) (optional : Bool)
     → o.next ≡ at_instruction → o.body.rest ≡ then_instruction (group_of name number presence members) is → optional ≡ is_optional presence → Asked optional true l k
     → later ≡ outer ++ k ∷ [] → j.bits ≡ [] → j.own ≡ has_map members → j.bytes ≡ []
-    → IsOpened outer l o d → IsOpened later j (entered o bits members is) d
+    → IsOpened outer l o d → IsOpened later j (entered o number bits members is) d
 has_entered outer later l k j o name number presence members is bits d optional next first is_it asked pushed jbits jown jbytes c =
     rw (pushed)
     (group_entered (message_of o) o.around outer l k j o.body name number presence members is bits d first (rw (is_it) at asked) jbits jown jbytes (at_next outer l o d at_instruction next c))
 
-pub has_element : (outer later : List Level) (l j : Level) (o : Received) (s : Sequel) (bits : List Bool) (d : Dictionary) (own : Bool)
+pub has_element : (outer later : List Segment) (l j : Segment) (o : Received) (s : Sequel) (bits : List Bool) (d : Dictionary) (own : Bool)
     → o.next ≡ at_element s → own ≡ s.own_map → 0 < s.left → later ≡ outer ++ l ∷ [] → j.bits ≡ [] → j.own ≡ own → j.bytes ≡ []
     → IsOpened outer l o d → IsOpened later j (in_element o bits s) d
 has_element outer later l j o s bits d own next is some pushed jbits jown jbytes c =
     rw (pushed) (element_entered (message_of o) o.around outer l j o.body s bits d some jbits (jown ∙ is) jbytes (at_next outer l o d (at_element s) next c))
 
 -- the segment around has what ended
-abbrev EndsIn : List Level → Level → Received → List Waiting → Waiting → Dictionary → Inside → Type 0
+abbrev EndsIn : List Segment → Segment → Received → List Waiting → Waiting → Dictionary → Inside → Type 0
 EndsIn later next o ws w d inside = IsOpened later next (ended_in o ws w.body inside) d
 
-ends_in : (inside : Inside) (later : List Level) (next : Level) (o : Received) (ws : List Waiting) (w : Waiting) (d : Dictionary)
+ends_in : (inside : Inside) (later : List Segment) (next : Segment) (o : Received) (ws : List Waiting) (w : Waiting) (d : Dictionary)
     → Chain (message_of o) ws later (λ h. IsBehind inside h next w.body (items_of o.body.done) d) → EndsIn later next o ws w d inside
 ends_in in_group later next o ws w d c = c
 ends_in (in_sequence s) later next o ws w d c = c
 
-pub has_ended : (inside : Inside) (outer later : List Level) (l k : Level) (o : Received) (ws : List Waiting) (w : Waiting) (d : Dictionary)
+pub has_ended : (inside : Inside) (outer later : List Segment) (l k : Segment) (o : Received) (ws : List Waiting) (w : Waiting) (d : Dictionary)
     → o.next ≡ at_instruction → o.body.rest ≡ no_instructions → o.around ≡ ws ++ w ∷ [] → w.inside ≡ inside → Closes outer l later k
     → IsOpened outer l o d → IsOpened later k (ended_in o ws w.body inside) d
 has_ended inside outer later l k o ws w d next rest is inside_is closes c =
     let behind = segment_left (message_of o) o.around ws w later l closes.around o.body d closes.map rest is closes.shortest closes.none
-    (subst (λ (ls : List Level). Chain (message_of o) o.around ls (IsTop at_instruction l o.body d)) closes.outer_is (at_next outer l o d at_instruction next c)) in
+    (subst (λ (ls : List Segment). Chain (message_of o) o.around ls (IsTop at_instruction l o.body d)) closes.outer_is (at_next outer l o d at_instruction next c)) in
     rw (closes.next_is)
     (ends_in inside later (with_bytes closes.around (closes.map ++ l.bytes)) o ws w d
     (subst (λ (n : Inside). Chain (message_of o) ws later (λ h. IsBehind n h (with_bytes closes.around (closes.map ++ l.bytes)) w.body (items_of o.body.done) d)) inside_is behind))
 
-pub has_elements : (outer : List Level) (l : Level) (o : Received) (d : Dictionary) (s : Sequel) → o.next ≡ at_element s → s.left ≡ 0 → IsOpened outer l o d → IsOpened outer l (after_sequence o s) d
+pub has_elements : (outer : List Segment) (l : Segment) (o : Received) (d : Dictionary) (s : Sequel) → o.next ≡ at_element s → s.left ≡ 0 → IsOpened outer l o d → IsOpened outer l (after_sequence o s) d
 has_elements outer l o d s next none c =
     let at = at_next outer l o d (at_element s) next c in
     chain_on (message_of o) o.around outer (IsTop (at_element s) l o.body d) (IsTop at_instruction l (after_sequence o s).body d) (λ g w. elements_written g l o.body s d none w) at
 
 -- ---- messages
 
-pub has_opened : (outer : List Level) (l k : Level) (set : List Resolved) (ms : List Content) (id : ℕ) (members : Instructions) (d e : Dictionary)
+pub has_opened : (outer : List Segment) (l k : Segment) (set : List Resolved) (ms : List Content) (id : ℕ) (members : Instructions) (d e : Dictionary)
     → outer ≡ [] → l.bits ≡ [] → l.own ≡ true → l.bytes ≡ [] → e ≡ written identifier d (Some (U32 id)) → Spelt identifier (entry_at d identifier.key) (Some (U32 id)) l k
     → IsOpened outer k (opened set ms id members d) e
 has_opened outer l k set ms id members d e none bits own bytes entry s = rw (none) top
@@ -184,12 +184,12 @@ finished_more set [] m out x mid after h form = absurd h
 finished_more set (n ∷ ms) m out x mid after h form =
     rw (sym (append_assoc (bytes_in n.items) out x)) (canon_more set ms m finite.empty (bytes_in n.items ++ out) x mid after h form)
 
-alone : (g : Opening) (ws : List Waiting) (ls : List Level) (I : Opening → Type 0) → ws ≡ [] → Chain g ws ls I → I g
+alone : (g : Opening) (ws : List Waiting) (ls : List Segment) (I : Opening → Type 0) → ws ≡ [] → Chain g ws ls I → I g
 alone g [] [] I h c = c
 alone g [] (l ∷ ls) I h c = absurd c
 alone g (w ∷ ws) ls I h c = absurd cc
 
-message_form : (set : List Resolved) (id : ℕ) (members : Instructions) (start d : Dictionary) (l : Level) (o : Received) (x : List ℕ)
+message_form : (set : List Resolved) (id : ℕ) (members : Instructions) (start d : Dictionary) (l : Segment) (o : Received) (x : List ℕ)
     → o.body.rest ≡ no_instructions → members_of set id ≡ Some members → nodes_in (items_of o.body.done) ≤ node_limit
     → IsShortest IsMap x l.bits → IsWritten (of_message id members start) l o.body d
     → CanonMessage set start (x ++ l.bytes) (record { template = id; items = items_of o.body.done }) d
@@ -208,7 +208,7 @@ message_form set id members start d l o x rest known few shortest w =
       };
     }
 
-pub has_finished : (outer : List Level) (l : Level) (o : Received) (d : Dictionary) (out new : List ℕ)
+pub has_finished : (outer : List Segment) (l : Segment) (o : Received) (d : Dictionary) (out new : List ℕ)
     → o.next ≡ at_instruction → o.body.rest ≡ no_instructions → o.around ≡ [] → members_of o.set o.template ≡ Some o.members → nodes_in (items_of o.body.done) ≤ node_limit
     → Ended l out new → IsFinished out o.set o.before o.start → IsOpened outer l o d → IsFinished new o.set (o.before ++ content_received o ∷ []) d
 has_finished outer l o d out new next rest none known few end before c =

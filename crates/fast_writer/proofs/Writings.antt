@@ -16,7 +16,7 @@ use Rattle.fast_stream.specs.Bodies.{State, SegmentBy, PartBy, PieceBy, Each, wr
 use Rattle.fast_walk.specs.OpenSegments.{Body, Sequel, in_group, in_sequence, Waiting, at_instruction, at_element, with_item, fewer}
 use Rattle.fast_walk.proofs.Steps.{items_before-more, items_before-end, elements_before-more, elements_before-end}
 use Rattle.fast_writer.specs.Canonical.{CanonBody, IsShortestMap}
-use Rattle.fast_writer.specs.Written.{Level, state, bits_for, Leaves, Opening, of_segment, Whole, IsWritten, with_bytes, more_of, WaitsMantissa, Segment, WaitsElements, IsTop, IsBehind, Waits, Chain, Spelt, Asked}
+use Rattle.fast_writer.specs.Written.{Segment, state, bits_for, Leaves, Opening, of_segment, Whole, IsWritten, with_bytes, more_of, WaitsMantissa, CanonSegment, WaitsElements, IsTop, IsBehind, Waits, Chain, Spelt, Asked}
 use Rattle.fast_writer.proofs.Leavings.{leaves_split, bit_of, behind_of, no_bits, closed}
 
 or_false : (a b : Bool) → (a || b) ≡ false → (a ≡ false) × (b ≡ false)
@@ -25,7 +25,7 @@ or_false false b h = (refl, h)
 
 -- ---- one item more
 
-pub piece_written : (g : Opening) (l : Level) (i : Instruction) (is : Instructions) (done : List Item) (d e : Dictionary) (used : List Bool) (x : List ℕ) (n : Item)
+pub piece_written : (g : Opening) (l : Segment) (i : Instruction) (is : Instructions) (done : List Item) (d e : Dictionary) (used : List Bool) (x : List ℕ) (n : Item)
     → IsWritten g l (record { rest = then_instruction i is; done = done }) d
     → ((mid later : List Bool) → Leaves used mid later → PieceBy IsBest IsShortestMap i (state d mid) x n (state e later))
     → (takes_bit i ≡ false → used ≡ [])
@@ -45,36 +45,36 @@ pub part_by : (p : FieldPart) (d : Dictionary) (v : Option Scalar) (bit : Bool) 
 part_by p d v bit x mid later needs best leaves =
     rw (bit_of (part_needs_bit p) bit mid later needs leaves, behind_of (part_needs_bit p) bit mid later leaves) (best, refl)
 
--- the same of a level that is told by its fields
-made : (b c : List Bool) (o p : Bool) (x y : List ℕ) → b ≡ c → o ≡ p → x ≡ y → ◌≡◌ {A = Level} (record { bits = b; own = o; bytes = x }) (record { bits = c; own = p; bytes = y })
+-- the same of a segment that is told by its fields
+made : (b c : List Bool) (o p : Bool) (x y : List ℕ) → b ≡ c → o ≡ p → x ≡ y → ◌≡◌ {A = Segment} (record { bits = b; own = o; bytes = x }) (record { bits = c; own = p; bytes = y })
 made b c o p x y bits own bytes = rw (bits, own, bytes) refl
 
-pub level_is : (g : Opening) (l k : Level) (b : Body) (d : Dictionary) → l.bits ≡ k.bits → l.own ≡ k.own → l.bytes ≡ k.bytes → IsWritten g l b d → IsWritten g k b d
-level_is g l k b d bits own bytes w = subst (λ (m : Level). IsWritten g m b d) (made l.bits k.bits l.own k.own l.bytes k.bytes bits own bytes) w
+pub level_is : (g : Opening) (l k : Segment) (b : Body) (d : Dictionary) → l.bits ≡ k.bits → l.own ≡ k.own → l.bytes ≡ k.bytes → IsWritten g l b d → IsWritten g k b d
+level_is g l k b d bits own bytes w = subst (λ (m : Segment). IsWritten g m b d) (made l.bits k.bits l.own k.own l.bytes k.bytes bits own bytes) w
 
-body_is : (g : Opening) (l : Level) (b : Body) (is : Instructions) (d : Dictionary) → b.rest ≡ is → IsWritten g l b d → IsWritten g l (record { rest = is; done = b.done }) d
+body_is : (g : Opening) (l : Segment) (b : Body) (is : Instructions) (d : Dictionary) → b.rest ≡ is → IsWritten g l b d → IsWritten g l (record { rest = is; done = b.done }) d
 body_is g l b is d h w = rw (sym h) w
 
 -- ---- the segments around
 
-pub chain_on : (g : Opening) (ws : List Waiting) (ls : List Level) (I J : Opening → Type 0)
+pub chain_on : (g : Opening) (ws : List Waiting) (ls : List Segment) (I J : Opening → Type 0)
     → ((h : Opening) → I h → J h) → Chain g ws ls I → Chain g ws ls J
 chain_on g [] [] I J f c = f g c
 chain_on g (w ∷ ws) (l ∷ ls) I J f c = (c.0, c.1, c.2, chain_on (of_segment c.0 c.1) ws ls I J f c.3)
 chain_on g [] (l ∷ ls) I J f c = c
 chain_on g (w ∷ ws) [] I J f c = c
 
-abbrev pub Inner : Level → Waiting → (Opening → Type 0) → Opening → Type 0
+abbrev pub Inner : Segment → Waiting → (Opening → Type 0) → Opening → Type 0
 Inner l w J g = (members : Instructions) × (d : Dictionary) × Waits g l w members d × J (of_segment members d)
 
-pub chain_push : (g : Opening) (ws : List Waiting) (ls : List Level) (w : Waiting) (l : Level) (J : Opening → Type 0)
+pub chain_push : (g : Opening) (ws : List Waiting) (ls : List Segment) (w : Waiting) (l : Segment) (J : Opening → Type 0)
     → Chain g ws ls (Inner l w J) → Chain g (ws ++ w ∷ []) (ls ++ l ∷ []) J
 chain_push g [] [] w l J c = c
 chain_push g (v ∷ ws) (k ∷ ls) w l J c = (c.0, c.1, c.2, chain_push (of_segment c.0 c.1) ws ls w l J c.3)
 chain_push g [] (k ∷ ls) w l J c = absurd c
 chain_push g (v ∷ ws) [] w l J c = absurd c
 
-pub chain_pop : (g : Opening) (ws : List Waiting) (ls : List Level) (w : Waiting) (l : Level) (J : Opening → Type 0)
+pub chain_pop : (g : Opening) (ws : List Waiting) (ls : List Segment) (w : Waiting) (l : Segment) (J : Opening → Type 0)
     → Chain g (ws ++ w ∷ []) (ls ++ l ∷ []) J → Chain g ws ls (Inner l w J)
 chain_pop g [] [] w l J c = c
 chain_pop g (v ∷ ws) (k ∷ ls) w l J c = (c.0, c.1, c.2, chain_pop (of_segment c.0 c.1) ws ls w l J c.3)
@@ -86,7 +86,7 @@ chain_pop g (v ∷ u ∷ ws) [] w l J c = absurd c.3
 -- ---- fields
 
 -- a value that is an item of its own
-spelt_item : (g : Opening) (l k : Level) (b : Body) (i : Instruction) (p : FieldPart) (is : Instructions) (d e : Dictionary) (v : Option Scalar) (n : Item)
+spelt_item : (g : Opening) (l k : Segment) (b : Body) (i : Instruction) (p : FieldPart) (is : Instructions) (d e : Dictionary) (v : Option Scalar) (n : Item)
     → b.rest ≡ then_instruction i is
     → ((s t : State) (x : List ℕ) → PartBy IsBest p s x v t → PieceBy IsBest IsShortestMap i s x n t)
     → (takes_bit i ≡ false → part_needs_bit p ≡ false)
@@ -97,7 +97,7 @@ spelt_item g l k b i p is d e v n first piece takes entry s w =
     (λ mid later leaves. piece (state d mid) (state (written p d v) later) s.form (part_by p d v s.bit s.form mid later s.needs s.best leaves)) (λ h. no_bits (part_needs_bit p) s.bit (takes h)) in
     rw (sym entry) at (level_is g (more_of l used s.form) k (record { rest = is; done = b.done ++ n ∷ [] }) (written p d v) (sym s.bits) (sym s.own) (sym s.bytes) now)
 
-pub field_written : (g : Opening) (l k : Level) (b : Body) (name : List ℕ) (number : ℕ) (presence : Presence) (p : FieldPart) (is : Instructions) (d e : Dictionary) (v : Option Scalar)
+pub field_written : (g : Opening) (l k : Segment) (b : Body) (name : List ℕ) (number : ℕ) (presence : Presence) (p : FieldPart) (is : Instructions) (d e : Dictionary) (v : Option Scalar)
     → b.rest ≡ then_instruction (whole_field name number presence p) is → e ≡ written p d v → Spelt p (entry_at d p.key) v l k
     → IsWritten g l b d → IsWritten g k (record { rest = is; done = b.done ++ single v ∷ [] }) e
 field_written g l k b name number presence p is d e v first entry s w =
@@ -105,14 +105,14 @@ field_written g l k b name number presence p is d e v first entry s w =
 
 -- ---- decimals in parts
 
-pub no_decimal : (g : Opening) (l k : Level) (b : Body) (name : List ℕ) (number : ℕ) (presence : Presence) (p q : FieldPart) (is : Instructions) (d e : Dictionary)
+pub no_decimal : (g : Opening) (l k : Segment) (b : Body) (name : List ℕ) (number : ℕ) (presence : Presence) (p q : FieldPart) (is : Instructions) (d e : Dictionary)
     → b.rest ≡ then_instruction (field_in_parts name number presence p q) is → e ≡ written p d None → Spelt p (entry_at d p.key) None l k
     → IsWritten g l b d → IsWritten g k (record { rest = is; done = b.done ++ single None ∷ [] }) e
 no_decimal g l k b name number presence p q is d e first entry s w =
     spelt_item g l k b (field_in_parts name number presence p q) p is d e None (single None) first (λ s t x h. h)
     (λ h. (or_false (part_needs_bit p) (part_needs_bit q) h).0) entry s w
 
-pub exponent_waits : (g : Opening) (l k : Level) (b : Body) (name : List ℕ) (number : ℕ) (presence : Presence) (p q : FieldPart) (is : Instructions) (d e : Dictionary) (z : ℤ)
+pub exponent_waits : (g : Opening) (l k : Segment) (b : Body) (name : List ℕ) (number : ℕ) (presence : Presence) (p q : FieldPart) (is : Instructions) (d e : Dictionary) (z : ℤ)
     → b.rest ≡ then_instruction (field_in_parts name number presence p q) is → e ≡ written p d (Some (I32 z)) → Spelt p (entry_at d p.key) (Some (I32 z)) l k
     → IsWritten g l b d → WaitsMantissa g k (record { rest = is; done = b.done }) z q e
 exponent_waits g l k b name number presence p q is d e z first entry s w = record { then = λ bit x m needs best. later bit x m needs (rw (entry) at best) }
@@ -146,7 +146,7 @@ exponent_waits g l k b name number presence p q is d e z first entry s w = recor
         rw (sym entry) at (level_is g (more_of l (used ++ more) (s.form ++ x)) (more_of k more x) (record { rest = is; done = b.done ++ single (Some (Decimal z m)) ∷ [] }) (written q f (Some (I64 m)))
         (sym (append_assoc l.bits used more) ∙ ap (λ (t : List Bool). t ++ more) (sym s.bits)) (sym s.own) (sym (append_assoc l.bytes s.form x) ∙ ap (λ (t : List ℕ). t ++ x) (sym s.bytes)) now)
 
-pub mantissa_written : (g : Opening) (l k : Level) (b : Body) (z m : ℤ) (q : FieldPart) (d e : Dictionary) → e ≡ written q d (Some (I64 m)) → Spelt q (entry_at d q.key) (Some (I64 m)) l k
+pub mantissa_written : (g : Opening) (l k : Segment) (b : Body) (z m : ℤ) (q : FieldPart) (d e : Dictionary) → e ≡ written q d (Some (I64 m)) → Spelt q (entry_at d q.key) (Some (I64 m)) l k
     → WaitsMantissa g l b z q d → IsWritten g k (with_item b (single (Some (Decimal z m)))) e
 mantissa_written g l k b z m q d e entry s w =
     rw (sym entry) at (level_is g (more_of l (bits_for (part_needs_bit q) s.bit) s.form) k (with_item b (single (Some (Decimal z m)))) (written q d (Some (I64 m))) (sym s.bits) (sym s.own) (sym s.bytes)
@@ -154,16 +154,16 @@ mantissa_written g l k b z m q d e entry s w =
 
 -- ---- groups
 
-group_waits : (g : Opening) (l : Level) (name : List ℕ) (number : ℕ) (presence : Presence) (inner is : Instructions) (done : List Item) (bits : List Bool) (d : Dictionary)
+group_waits : (g : Opening) (l : Segment) (name : List ℕ) (number : ℕ) (presence : Presence) (inner is : Instructions) (done : List Item) (bits : List Bool) (d : Dictionary)
     → IsWritten g l (record { rest = then_instruction (group_of name number presence inner) is; done = done }) d
-    → Waits g (more_of l (bits_for (is_optional presence) true) []) (record { bits = bits; body = record { rest = is; done = done }; inside = in_group }) inner d
+    → Waits g (more_of l (bits_for (is_optional presence) true) []) (record { bits = bits; number = number; body = record { rest = is; done = done }; inside = in_group }) inner d
 group_waits g l name number presence inner is done bits d w y ns e segment =
     rw (append-nil l.bytes)
     (piece_written g l (group_of name number presence inner) is done d e (bits_for (is_optional presence) true) y (group_items ns) w
     (λ mid later leaves. (bit_of (is_optional presence) true mid later (λ h. refl) leaves, sym (behind_of (is_optional presence) true mid later leaves), segment))
     (no_bits (is_optional presence) true))
 
-pub left_out_written : (g : Opening) (l k : Level) (b : Body) (name : List ℕ) (number : ℕ) (presence : Presence) (inner is : Instructions) (d : Dictionary)
+pub left_out_written : (g : Opening) (l k : Segment) (b : Body) (name : List ℕ) (number : ℕ) (presence : Presence) (inner is : Instructions) (d : Dictionary)
     → b.rest ≡ then_instruction (group_of name number presence inner) is → is_optional presence ≡ true → Asked true false l k
     → IsWritten g l b d → IsWritten g k (record { rest = is; done = b.done ++ single None ∷ [] }) d
 left_out_written g l k b name number presence inner is d first optional asked w =
@@ -182,17 +182,17 @@ begun inner d = record {
   none = λ h. refl;
 }
 
-pub new_segment : (inner : Instructions) (d : Dictionary) (l : Level) → l.bits ≡ [] → l.own ≡ has_map inner → l.bytes ≡ [] → IsWritten (of_segment inner d) l (record { rest = inner; done = [] }) d
+pub new_segment : (inner : Instructions) (d : Dictionary) (l : Segment) → l.bits ≡ [] → l.own ≡ has_map inner → l.bytes ≡ [] → IsWritten (of_segment inner d) l (record { rest = inner; done = [] }) d
 new_segment inner d l bits own bytes = rw (sym bits, sym own, sym bytes) at (begun inner d)
 
 -- in a group
-pub group_entered : (g : Opening) (ws : List Waiting) (ls : List Level) (l k j : Level) (b : Body) (name : List ℕ) (number : ℕ) (presence : Presence) (inner is : Instructions) (bits : List Bool) (d : Dictionary)
+pub group_entered : (g : Opening) (ws : List Waiting) (ls : List Segment) (l k j : Segment) (b : Body) (name : List ℕ) (number : ℕ) (presence : Presence) (inner is : Instructions) (bits : List Bool) (d : Dictionary)
     → b.rest ≡ then_instruction (group_of name number presence inner) is → Asked (is_optional presence) true l k
     → j.bits ≡ [] → j.own ≡ has_map inner → j.bytes ≡ []
     → Chain g ws ls (IsTop at_instruction l b d)
-    → Chain g (ws ++ record { bits = bits; body = record { rest = is; done = b.done }; inside = in_group } ∷ []) (ls ++ k ∷ []) (IsTop at_instruction j (record { rest = inner; done = [] }) d)
+    → Chain g (ws ++ record { bits = bits; number = number; body = record { rest = is; done = b.done }; inside = in_group } ∷ []) (ls ++ k ∷ []) (IsTop at_instruction j (record { rest = inner; done = [] }) d)
 group_entered g ws ls l k j b name number presence inner is bits d first asked jbits jown jbytes c =
-    let w : Waiting = record { bits = bits; body = record { rest = is; done = b.done }; inside = in_group } in
+    let w : Waiting = record { bits = bits; number = number; body = record { rest = is; done = b.done }; inside = in_group } in
     chain_push g ws ls w k (IsTop at_instruction j (record { rest = inner; done = [] }) d)
     (chain_on g ws ls (IsTop at_instruction l b d) (Inner k w (IsTop at_instruction j (record { rest = inner; done = [] }) d)) (λ h top. (
       inner,
@@ -206,13 +206,13 @@ group_entered g ws ls l k j b name number presence inner is bits d first asked j
 -- ---- the end of a segment
 
 -- what is written of a segment, behind its map
-pub ended : (g : Opening) (l : Level) (b : Body) (d : Dictionary) (all left : List Bool) → b.rest ≡ no_instructions → Leaves l.bits all left → IsWritten g l b d
+pub ended : (g : Opening) (l : Segment) (b : Body) (d : Dictionary) (all left : List Bool) → b.rest ≡ no_instructions → Leaves l.bits all left → IsWritten g l b d
     → Whole g all l.bytes (items_of b.done) (state d left)
 ended g l b d all left rest leaves w =
     let whole = (body_is g l b no_instructions d rest w).so_far all left [] no_items (state d left) leaves (refl, refl) in
     rw (append-nil l.bytes, items_before-end b.done) at whole
 
-with_map : (has : Bool) (inner : Instructions) (s d : Dictionary) (l : Level) (b : Body) (x : List ℕ) → has ≡ has_map inner → b.rest ≡ no_instructions
+with_map : (has : Bool) (inner : Instructions) (s d : Dictionary) (l : Segment) (b : Body) (x : List ℕ) → has ≡ has_map inner → b.rest ≡ no_instructions
     → (has ≡ true → IsShortest IsMap x l.bits) → (has ≡ false → x ≡ []) → IsWritten (of_segment inner s) l b d
     → SegmentBy IsShortestMap has (λ t z u. CanonBody inner t z (items_of b.done) u) s (x ++ l.bytes) d
 with_map true inner s d l b x is rest shortest none w =
@@ -221,12 +221,12 @@ with_map true inner s d l b x is rest shortest none w =
 with_map false inner s d l b x is rest shortest none w =
     rw (none refl) (ended (of_segment inner s) l b d [] [] rest (rw (w.none (sym is)) refl) w)
 
-segment_of : (inner : Instructions) (s d : Dictionary) (l : Level) (b : Body) (x : List ℕ) → b.rest ≡ no_instructions
-    → (l.own ≡ true → IsShortest IsMap x l.bits) → (l.own ≡ false → x ≡ []) → IsWritten (of_segment inner s) l b d → Segment inner s (x ++ l.bytes) (items_of b.done) d
+segment_of : (inner : Instructions) (s d : Dictionary) (l : Segment) (b : Body) (x : List ℕ) → b.rest ≡ no_instructions
+    → (l.own ≡ true → IsShortest IsMap x l.bits) → (l.own ≡ false → x ≡ []) → IsWritten (of_segment inner s) l b d → CanonSegment inner s (x ++ l.bytes) (items_of b.done) d
 segment_of inner s d l b x rest shortest none w = with_map (has_map inner) inner s d l b x refl rest (λ t. shortest (w.own ∙ t)) (λ t. none (w.own ∙ t)) w
 
 -- behind a segment, in the one that waited for it
-pub segment_left : (g : Opening) (us ws : List Waiting) (w : Waiting) (ls : List Level) (l k : Level) (b : Body) (d : Dictionary) (x : List ℕ)
+pub segment_left : (g : Opening) (us ws : List Waiting) (w : Waiting) (ls : List Segment) (l k : Segment) (b : Body) (d : Dictionary) (x : List ℕ)
     → b.rest ≡ no_instructions → us ≡ ws ++ w ∷ [] → (l.own ≡ true → IsShortest IsMap x l.bits) → (l.own ≡ false → x ≡ [])
     → Chain g us (ls ++ k ∷ []) (IsTop at_instruction l b d) → Chain g ws ls (λ h. IsBehind w.inside h (with_bytes k (x ++ l.bytes)) w.body (items_of b.done) d)
 segment_left g us ws w ls l k b d x rest is shortest none c =
@@ -236,13 +236,13 @@ segment_left g us ws w ls l k b d x rest is shortest none c =
 
 -- ---- sequences
 
-pub no_sequence : (g : Opening) (l k : Level) (b : Body) (name : List ℕ) (number : ℕ) (presence : Presence) (p : FieldPart) (inner is : Instructions) (d e : Dictionary)
+pub no_sequence : (g : Opening) (l k : Segment) (b : Body) (name : List ℕ) (number : ℕ) (presence : Presence) (p : FieldPart) (inner is : Instructions) (d e : Dictionary)
     → b.rest ≡ then_instruction (sequence_of name number presence p inner) is → e ≡ written p d None → Spelt p (entry_at d p.key) None l k
     → IsWritten g l b d → IsWritten g k (record { rest = is; done = b.done ++ single None ∷ [] }) e
 no_sequence g l k b name number presence p inner is d e first entry s w =
     spelt_item g l k b (sequence_of name number presence p inner) p is d e None (single None) first (λ s t x h. h) (λ h. h) entry s w
 
-pub length_waits : (g : Opening) (l k : Level) (b : Body) (name : List ℕ) (number : ℕ) (presence : Presence) (p : FieldPart) (inner is : Instructions) (d e : Dictionary) (n : ℕ)
+pub length_waits : (g : Opening) (l k : Segment) (b : Body) (name : List ℕ) (number : ℕ) (presence : Presence) (p : FieldPart) (inner is : Instructions) (d e : Dictionary) (n : ℕ)
     → b.rest ≡ then_instruction (sequence_of name number presence p inner) is → e ≡ written p d (Some (U32 n)) → Spelt p (entry_at d p.key) (Some (U32 n)) l k
     → IsWritten g l b d
     → WaitsElements g k (record { rest = is; done = b.done }) (record { number = number; own_map = has_map inner; members = inner; left = n; done = [] }) e
@@ -254,7 +254,7 @@ length_waits g l k b name number presence p inner is d e n first entry s w = rec
     used : List Bool
     used = bits_for (part_needs_bit p) s.bit
 
-    elements : (y : List ℕ) (es : Elements) (h : Dictionary) → element_count es ≡ n → Each (Segment inner) f y es h → IsWritten g (with_bytes k y) (record { rest = is; done = b.done ++ sequence_elements es ∷ [] }) h
+    elements : (y : List ℕ) (es : Elements) (h : Dictionary) → element_count es ≡ n → Each (CanonSegment inner) f y es h → IsWritten g (with_bytes k y) (record { rest = is; done = b.done ++ sequence_elements es ∷ [] }) h
     elements y es h count each =
         let now = piece_written g l (sequence_of name number presence p inner) is b.done d h used (s.form ++ y) (sequence_elements es)
         (body_is g l b (then_instruction (sequence_of name number presence p inner) is) d first w)
@@ -271,8 +271,8 @@ length_waits g l k b name number presence p inner is d e n first entry s w = rec
         (sym s.bits) (sym s.own) (sym (append_assoc l.bytes s.form y) ∙ ap (λ (t : List ℕ). t ++ y) (sym s.bytes)) now
 
 -- in an element
-element_waits : (g : Opening) (l : Level) (b : Body) (s : Sequel) (d : Dictionary) (bits : List Bool) → 0 < s.left → WaitsElements g l b s d
-    → Waits g l (record { bits = bits; body = b; inside = in_sequence (fewer s) }) s.members d
+element_waits : (g : Opening) (l : Segment) (b : Body) (s : Sequel) (d : Dictionary) (bits : List Bool) → 0 < s.left → WaitsElements g l b s d
+    → Waits g l (record { bits = bits; number = s.number; body = b; inside = in_sequence (fewer s) }) s.members d
 element_waits g l b s d bits some h y ns e one = record {
   own = h.own;
   then = λ z es f count each.
@@ -280,18 +280,18 @@ element_waits g l b s d bits some h y ns e one = record {
       (h.then (y ++ z) (then_element ns es) f (omega (arith, count, some)) (record { between = e; front = y; back = z; parts = refl; first = one; second = each }));
 }
 
-pub element_entered : (g : Opening) (ws : List Waiting) (ls : List Level) (l j : Level) (b : Body) (s : Sequel) (bits : List Bool) (d : Dictionary)
+pub element_entered : (g : Opening) (ws : List Waiting) (ls : List Segment) (l j : Segment) (b : Body) (s : Sequel) (bits : List Bool) (d : Dictionary)
     → 0 < s.left → j.bits ≡ [] → j.own ≡ s.own_map → j.bytes ≡ []
     → Chain g ws ls (IsTop (at_element s) l b d)
-    → Chain g (ws ++ record { bits = bits; body = b; inside = in_sequence (fewer s) } ∷ []) (ls ++ l ∷ []) (IsTop at_instruction j (record { rest = s.members; done = [] }) d)
+    → Chain g (ws ++ record { bits = bits; number = s.number; body = b; inside = in_sequence (fewer s) } ∷ []) (ls ++ l ∷ []) (IsTop at_instruction j (record { rest = s.members; done = [] }) d)
 element_entered g ws ls l j b s bits d some jbits jown jbytes c =
-    let w : Waiting = record { bits = bits; body = b; inside = in_sequence (fewer s) } in
+    let w : Waiting = record { bits = bits; number = s.number; body = b; inside = in_sequence (fewer s) } in
     chain_push g ws ls w l (IsTop at_instruction j (record { rest = s.members; done = [] }) d)
     (chain_on g ws ls (IsTop (at_element s) l b d) (Inner l w (IsTop at_instruction j (record { rest = s.members; done = [] }) d)) (λ h top.
     (s.members, d, element_waits h l b s d bits some top, new_segment s.members d j jbits (jown ∙ top.own) jbytes)) c)
 
 -- behind the last element
-pub elements_written : (g : Opening) (l : Level) (b : Body) (s : Sequel) (d : Dictionary) → s.left ≡ 0
+pub elements_written : (g : Opening) (l : Segment) (b : Body) (s : Sequel) (d : Dictionary) → s.left ≡ 0
     → WaitsElements g l b s d → IsWritten g l (with_item b (sequence_elements (elements_of s.done))) d
 elements_written g l b s d none h =
     let w = h.then [] no_elements d (sym none) (refl, refl) in

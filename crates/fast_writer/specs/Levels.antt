@@ -4,11 +4,11 @@ use Rattle.fast_template.specs.Resolved.{Resolved}
 use Rattle.fast_dictionary.specs.Dictionary.{Dictionary}
 use Rattle.fast_stream.specs.Nodes.{Content}
 use Rattle.fast_walk.specs.Received.{Received}
-use Rattle.fast_writer.specs.Written.{Level, IsFinished, IsOpened}
-use Rattle.fast_writer.specs.declared.level.Level.{Level as LevelNow}
+use Rattle.fast_writer.specs.Written.{Segment, IsFinished, IsOpened}
+use Rattle.fast_writer.specs.declared.segment.Segment.{Segment as LevelNow}
 use Rattle.fast_writer.specs.declared.writer.Writer.{Writer}
 
-abbrev pub level_of : LevelNow → Level
+abbrev pub level_of : LevelNow → Segment
 level_of l = record { bits = l.bits.items; own = l.own; bytes = l.bytes.items }
 
 abbrev pub HasFinished : Writer → List Resolved → List Content → Dictionary → Type 0

@@ -3,14 +3,15 @@ use Rattle.std.specs.Prelude.{◌≡◌, ℕ, Bool, List, ◌++◌, Option, Ok}
 use Rattle.fast_template.specs.declared.resolved.FieldPart.{FieldPart}
 use Rattle.fast_value.specs.declared.scalar.Scalar.{Scalar}
 use Rattle.fast_dictionary.specs.declared.entry.Entry.{Entry}
+use Rattle.fast_wire.specs.declared.level.Level.{Level}
 use Rattle.fast_field.specs.Bases.{next}
 use Rattle.fast_field.specs.FieldReading.{field_at}
 use Rattle.fast_writer.specs.Written.{AppendsForm}
 
--- the bytes before `rest` give the value under a bit, the entry is the one that it leaves, and its best form was
+-- at a level the bytes before `rest` give the value under a bit, the entry is the one that it leaves, and its best form was
 -- appended, which has the other bit
-pub record Relayed (p : FieldPart) (old new : Entry) (bit best : Bool) (v : Option Scalar)
+pub record Relayed (level : Level) (p : FieldPart) (old new : Entry) (bit best : Bool) (v : Option Scalar)
     (bytes rest before after : List ℕ) : Type 0 where
-  pub read : (more : List ℕ) → field_at p old bit (bytes ++ more) ≡ Ok (v, rest ++ more)
+  pub read : (more : List ℕ) → field_at level p old bit (bytes ++ more) ≡ Ok (v, rest ++ more)
   pub entry : new ≡ next p old v
   pub form : AppendsForm p old v best before after

@@ -27,7 +27,7 @@ IsFinished out set (handed ∷ ms) d = CanonFrom set map.empty (bytes_in handed.
 -- ---- a segment
 
 -- what is written of a segment: the bits asked for, whether they stand in a map of its own, and the bytes behind that
-pub record Level : Type 0 where
+pub record Segment : Type 0 where
   pub bits : List Bool
   pub own : Bool
   pub bytes : List ℕ
@@ -62,63 +62,63 @@ owns_map (of_message id members d) = true
 owns_map (of_segment members d) = has_map members
 
 -- A canonical body of the instructions that are left, put behind what is written, makes the whole segment.
-pub record IsWritten (g : Opening) (l : Level) (b : Body) (d : Dictionary) : Type 0 where
+pub record IsWritten (g : Opening) (l : Segment) (b : Body) (d : Dictionary) : Type 0 where
   pub so_far : (all later : List Bool) (more : List ℕ) (ns : Items) (after : State) → Leaves l.bits all later
       → CanonBody b.rest (state d later) more ns after → Whole g all (l.bytes ++ more) (items_before b.done ns) after
   pub own : l.own ≡ owns_map g
   pub asked : owns_map g ≡ false → has_map b.rest ≡ false
   pub none : owns_map g ≡ false → l.bits ≡ []
 
-abbrev pub with_bytes : Level → List ℕ → Level
+abbrev pub with_bytes : Segment → List ℕ → Segment
 with_bytes l y = record { bits = l.bits; own = l.own; bytes = l.bytes ++ y }
 
-abbrev pub more_of : Level → List Bool → List ℕ → Level
+abbrev pub more_of : Segment → List Bool → List ℕ → Segment
 more_of l used x = record { bits = l.bits ++ used; own = l.own; bytes = l.bytes ++ x }
 
 -- The same of a body that waits for the mantissa of a decimal.
-pub record WaitsMantissa (g : Opening) (l : Level) (b : Body) (e : ℤ) (mantissa : FieldPart) (d : Dictionary) : Type 0 where
+pub record WaitsMantissa (g : Opening) (l : Segment) (b : Body) (e : ℤ) (mantissa : FieldPart) (d : Dictionary) : Type 0 where
   pub then : (bit : Bool) (x : List ℕ) (m : ℤ) → (part_needs_bit mantissa ≡ false → bit ≡ true)
       → IsBest mantissa (entry_at d mantissa.key) bit x (Some (I64 m))
       → IsWritten g (more_of l (bits_for (part_needs_bit mantissa) bit) x) (with_item b (single (Some (Decimal e m))))
       (written mantissa d (Some (I64 m)))
 
-abbrev pub Segment : Instructions → Dictionary → List ℕ → Items → Dictionary → Type 0
-Segment members d bytes ns e = SegmentBy IsShortestMap (has_map members) (λ t x u. CanonBody members t x ns u) d bytes e
+abbrev pub CanonSegment : Instructions → Dictionary → List ℕ → Items → Dictionary → Type 0
+CanonSegment members d bytes ns e = SegmentBy IsShortestMap (has_map members) (λ t x u. CanonBody members t x ns u) d bytes e
 
 -- and of one that waits for the elements of a sequence
-pub record WaitsElements (g : Opening) (l : Level) (b : Body) (s : Sequel) (d : Dictionary) : Type 0 where
+pub record WaitsElements (g : Opening) (l : Segment) (b : Body) (s : Sequel) (d : Dictionary) : Type 0 where
   pub own : s.own_map ≡ has_map s.members
-  pub then : (y : List ℕ) (es : Elements) (e : Dictionary) → element_count es ≡ s.left → Each (Segment s.members) d y es e
+  pub then : (y : List ℕ) (es : Elements) (e : Dictionary) → element_count es ≡ s.left → Each (CanonSegment s.members) d y es e
       → IsWritten g (with_bytes l y) (with_item b (sequence_elements (elements_before s.done es))) e
 
 -- what is written of the segment that is innermost, before what is next
-abbrev pub IsTop : Next → Level → Body → Dictionary → Opening → Type 0
+abbrev pub IsTop : Next → Segment → Body → Dictionary → Opening → Type 0
 IsTop at_instruction l b d g = IsWritten g l b d
 IsTop (at_mantissa e mantissa) l b d g = WaitsMantissa g l b e mantissa d
 IsTop (at_element s) l b d g = WaitsElements g l b s d
 
 -- what is written of a segment that waits for one inside it, which has these items
-abbrev pub IsBehind : Inside → Opening → Level → Body → Items → Dictionary → Type 0
+abbrev pub IsBehind : Inside → Opening → Segment → Body → Items → Dictionary → Type 0
 IsBehind in_group g l b ns e = IsWritten g l (with_item b (group_items ns)) e
 IsBehind (in_sequence s) g l b ns e = WaitsElements g l b (with_element s ns) e
 
-abbrev pub Waits : Opening → Level → Waiting → Instructions → Dictionary → Type 0
-Waits g l w members d = (y : List ℕ) (ns : Items) (e : Dictionary) → Segment members d y ns e → IsBehind w.inside g (with_bytes l y) w.body ns e
+abbrev pub Waits : Opening → Segment → Waiting → Instructions → Dictionary → Type 0
+Waits g l w members d = (y : List ℕ) (ns : Items) (e : Dictionary) → CanonSegment members d y ns e → IsBehind w.inside g (with_bytes l y) w.body ns e
 
 -- the segments that are open, the message's own first, and of the innermost one this
-abbrev pub Chain : Opening → List Waiting → List Level → (Opening → Type 0) → Type 0
+abbrev pub Chain : Opening → List Waiting → List Segment → (Opening → Type 0) → Type 0
 Chain g [] [] Inner = Inner g
 Chain g (w ∷ ws) (l ∷ ls) Inner = (members : Instructions) × (d : Dictionary) × Waits g l w members d × Chain (of_segment members d) ws ls Inner
 Chain g ws ls Inner = ⊥
 
--- All that is written of a message, in levels, the innermost apart.
-abbrev pub IsOpened : List Level → Level → Received → Dictionary → Type 0
+-- All that is written of a message, in segments, the innermost apart.
+abbrev pub IsOpened : List Segment → Segment → Received → Dictionary → Type 0
 IsOpened outer now o d = Chain (of_message o.template o.members o.start) o.around outer (IsTop o.next now o.body d)
 
 -- ---- what is appended to a segment
 
 -- the best form of a part's value, and its bit
-pub record Spelt (p : FieldPart) (e : Entry) (v : Option Scalar) (l k : Level) : Type 0 where
+pub record Spelt (p : FieldPart) (e : Entry) (v : Option Scalar) (l k : Segment) : Type 0 where
   pub bit : Bool
   pub form : List ℕ
   pub bits : k.bits ≡ l.bits ++ bits_for (part_needs_bit p) bit
@@ -128,13 +128,13 @@ pub record Spelt (p : FieldPart) (e : Entry) (v : Option Scalar) (l k : Level) :
   pub best : IsBest p e bit form v
 
 -- a bit that has no bytes
-pub record Asked (needed bit : Bool) (l k : Level) : Type 0 where
+pub record Asked (needed bit : Bool) (l k : Segment) : Type 0 where
   pub bits : k.bits ≡ l.bits ++ bits_for needed bit
   pub own : k.own ≡ l.own
   pub bytes : k.bytes ≡ l.bytes
 
 -- the whole of another segment, behind its map
-pub record Ended (inner : Level) (old new : List ℕ) : Type 0 where
+pub record Ended (inner : Segment) (old new : List ℕ) : Type 0 where
   pub map : List ℕ
   pub bytes : new ≡ old ++ (map ++ inner.bytes)
   pub shortest : inner.own ≡ true → IsShortest IsMap map inner.bits
@@ -148,8 +148,8 @@ pub record AppendsForm (p : FieldPart) (e : Entry) (v : Option Scalar) (bit : Bo
   pub needs : part_needs_bit p ≡ false → bit ≡ true
 
 -- the innermost segment ends, and stands in the one around it
-pub record Closes (outer : List Level) (now : Level) (later : List Level) (next : Level) : Type 0 where
-  pub around : Level
+pub record Closes (outer : List Segment) (now : Segment) (later : List Segment) (next : Segment) : Type 0 where
+  pub around : Segment
   pub map : List ℕ
   pub outer_is : outer ≡ later ++ around ∷ []
   pub next_is : next ≡ with_bytes around (map ++ now.bytes)

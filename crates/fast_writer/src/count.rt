@@ -10,12 +10,13 @@ ghost use Rattle.fast_writer.specs.Levels.{level_of};
 ghost use Rattle.fast_writer.specs.Quick.{Relayed};
 ghost use Rattle.fast_writer.specs.Written.{Spelt};
 
-use crate::level::Level;
 use crate::relay::relay_entry;
+use crate::segment::Segment;
 use fast_dictionary::{Entries, Entry};
-use fast_field::{FieldFault, Passed, pass_left_out};
+use fast_field::{FieldFault, Passed, pass_left_out, reads_as_usual};
 use fast_relay::{Relayed as Answer, relay_null, relay_unsigned};
 use fast_template::{FieldPart, Kind, Operator, Scalar, part_needs_bit};
+use fast_wire::Level;
 use std::alloc::Global;
 
 // Takes the number of the entry that bit 0 repeats, or that there is none. None: nothing has changed, and the part goes
@@ -39,13 +40,14 @@ fn repeat_count(part: &FieldPart, entry: &mut Entry) -> Option<Option<u32>>
     }
 }
 
-// Takes what bit 0 repeats, or what was sent; answers the number, the bit of its best form and the place behind it. None:
-// nothing has changed, and the part goes another way.
+// Takes what bit 0 repeats, or what was sent where it is read as at the usual level; answers the number, the bit of its best form and the
+// place behind it. None: nothing has changed, and the part goes another way.
 #[inline(always)]
 fn count_quickly(
     part: &FieldPart,
     entry: &mut Entry,
     bit: bool,
+    level: Level,
     bytes: &[u8],
     at: usize,
     out: &mut Vec<u8>,
@@ -54,19 +56,23 @@ fn count_quickly(
     requires bit { part_needs_bit_of part.now ≡ false → bit ≡ true }
     ensures place { IfSome result (λ x. (at ≤ x.2) × (x.2 ≤ length bytes.now)) }
     ensures relayed { IfSome result (λ x.
-        Relayed part.now entry.old entry.new bit x.1 (length_of x.0) (drop at bytes.now)
+        Relayed level part.now entry.old entry.new bit x.1 (length_of x.0) (drop at bytes.now)
         (drop x.2 bytes.now) out.old.items out.new.items) }
     ensures entry { IfNone result (entry.new ≡ entry.old) }
     ensures out { IfNone result (out.new.items ≡ out.old.items) }
 {
     if bit {
-        match relay_unsigned(part, entry, bytes, at, out) {
-            Some((number, best, next)) => Some((Some(number), best, next)),
-            None => match relay_null(part, entry, bytes, at, out) {
-                Answer::Sent(next) => Some((None, true, next)),
-                Answer::Given(next) => Some((None, false, next)),
-                Answer::Elsewhere => None,
-            },
+        if reads_as_usual(level, part, bytes, at) {
+            match relay_unsigned(part, entry, bytes, at, out) {
+                Some((number, best, next)) => Some((Some(number), best, next)),
+                None => match relay_null(part, entry, bytes, at, out) {
+                    Answer::Sent(next) => Some((None, true, next)),
+                    Answer::Given(next) => Some((None, false, next)),
+                    Answer::Elsewhere => None,
+                },
+            }
+        } else {
+            None
         }
     } else {
         match repeat_count(part, entry) {
@@ -83,6 +89,7 @@ fn count_generally(
     part: &FieldPart,
     entry: &mut Entry,
     bit: bool,
+    level: Level,
     bytes: &[u8],
     at: usize,
     out: &mut Vec<u8>,
@@ -91,13 +98,13 @@ fn count_generally(
     requires bit { part_needs_bit_of part.now ≡ false → bit ≡ true }
     ensures place { IfOk result (λ x. (at ≤ x.2) × (x.2 ≤ length bytes.now)) }
     ensures relayed { IfOk result (λ x.
-        Relayed part.now entry.old entry.new bit x.1 (length_of x.0) (drop at bytes.now)
+        Relayed level part.now entry.old entry.new bit x.1 (length_of x.0) (drop at bytes.now)
         (drop x.2 bytes.now) out.old.items out.new.items) }
     ensures stops { IfErr result (λ f. f ≢ FieldFault.Memory
-        → (field_at part.now entry.old bit (drop at bytes.now) ≡ Err f)
+        → (field_at level part.now entry.old bit (drop at bytes.now) ≡ Err f)
         × (entry.new ≡ entry.old) × (out.new.items ≡ out.old.items)) }
 {
-    match relay_entry(alloc, part, entry, bit, bytes, at, out) {
+    match relay_entry(alloc, part, entry, bit, level, bytes, at, out) {
         Err(fault) => Err(fault),
         Ok((found, best, next)) => match found.value(part, entry.view()) {
             None => Ok((None, best, next)),
@@ -114,6 +121,7 @@ fn count_either(
     part: &FieldPart,
     entry: &mut Entry,
     bit: bool,
+    level: Level,
     bytes: &[u8],
     at: usize,
     out: &mut Vec<u8>,
@@ -122,15 +130,15 @@ fn count_either(
     requires bit { part_needs_bit_of part.now ≡ false → bit ≡ true }
     ensures place { IfOk result (λ x. (at ≤ x.2) × (x.2 ≤ length bytes.now)) }
     ensures relayed { IfOk result (λ x.
-        Relayed part.now entry.old entry.new bit x.1 (length_of x.0) (drop at bytes.now)
+        Relayed level part.now entry.old entry.new bit x.1 (length_of x.0) (drop at bytes.now)
         (drop x.2 bytes.now) out.old.items out.new.items) }
     ensures stops { IfErr result (λ f. f ≢ FieldFault.Memory
-        → (field_at part.now entry.old bit (drop at bytes.now) ≡ Err f)
+        → (field_at level part.now entry.old bit (drop at bytes.now) ≡ Err f)
         × (entry.new ≡ entry.old) × (out.new.items ≡ out.old.items)) }
 {
-    match count_quickly(part, entry, bit, bytes, at, out) {
+    match count_quickly(part, entry, bit, level, bytes, at, out) {
         Some(x) => Ok(x),
-        None => match count_generally(alloc, part, entry, bit, bytes, at, out) {
+        None => match count_generally(alloc, part, entry, bit, level, bytes, at, out) {
             Err(fault) => Err(fault),
             Ok(x) => Ok(x),
         },
@@ -149,31 +157,41 @@ pub(crate) fn relay_count<E: Entries>(
     entries: &mut E,
     part: &FieldPart,
     bit: bool,
+    level: Level,
     bytes: &[u8],
     at: usize,
-    level: &mut Level,
+    segment: &mut Segment,
 ) -> Result<(Option<u32>, usize), FieldFault>
     requires place { at ≤ length bytes.now }
     requires bit { part_needs_bit_of part.now ≡ false → bit ≡ true }
     requires served { IsTrue (E.serves entries.now part.now.key) }
     ensures place { IfOk result (λ x. (at ≤ x.1) × (x.1 ≤ length bytes.now)) }
-    ensures took { IfOk result (λ x. Took part.now bit (E.contents entries.old) (E.contents
+    ensures took { IfOk result (λ x. Took level part.now bit (E.contents entries.old) (E.contents
         entries.new) (length_of x.0) (drop at bytes.now) (drop x.1 bytes.now)) }
     ensures spelt { IfOk result (λ x.
         Spelt part.now (entry_at (E.contents entries.old) part.now.key) (length_of x.0)
-        (level_of level.old) (level_of level.new)) }
+        (level_of segment.old) (level_of segment.new)) }
     ensures stops { IfErr result (λ f. f ≢ FieldFault.Memory
-        → (field_at part.now (entry_at (E.contents entries.old) part.now.key) bit
+        → (field_at level part.now (entry_at (E.contents entries.old) part.now.key) bit
         (drop at bytes.now) ≡ Err f)
         × (E.contents entries.new ≡ E.contents entries.old)
-        × (level_of level.new ≡ level_of level.old)) }
+        × (level_of segment.new ≡ level_of segment.old)) }
     ensures same_keys { E.serves entries.new ≡ E.serves entries.old }
 {
     match entries.entry_mut(&part.key) {
         Err(_) => Err(FieldFault::Memory),
-        Ok(entry) => match count_either(alloc, part, entry, bit, bytes, at, &mut level.bytes) {
+        Ok(entry) => match count_either(
+            alloc,
+            part,
+            entry,
+            bit,
+            level,
+            bytes,
+            at,
+            &mut segment.bytes,
+        ) {
             Err(fault) => Err(fault),
-            Ok((count, best, next)) => match level.ask(part_needs_bit(part), best) {
+            Ok((count, best, next)) => match segment.ask(part_needs_bit(part), best) {
                 Err(_) => Err(FieldFault::Memory),
                 Ok(()) => Ok((count, next)),
             },

@@ -4,6 +4,7 @@ ghost use Rattle.std.specs.Prelude.{◌≡◌, ◌≢◌, ◌≤◌, Err, IfNone
 ghost use Rattle.fast_template.specs.Resolved.{part_needs_bit as part_needs_bit_of};
 ghost use Rattle.fast_value.specs.declared.scalar.Scalar.{Scalar as ScalarOf};
 ghost use Rattle.fast_dictionary.specs.Dictionary.{entry_at};
+ghost use Rattle.fast_wire.specs.declared.level.Level.TheVariants.{Usual};
 ghost use Rattle.fast_field.specs.FieldReading.{field_at};
 ghost use Rattle.fast_walk.specs.Received.{Took};
 ghost use Rattle.fast_writer.specs.Levels.{level_of};
@@ -12,12 +13,13 @@ ghost use Rattle.fast_writer.specs.Quick.{Relayed};
 ghost use Rattle.fast_writer.specs.Written.{Spelt};
 
 use crate::fit::is_of_kind;
-use crate::level::Level;
 use crate::relay::relay_entry;
+use crate::segment::Segment;
 use fast_dictionary::{Entries, Entry};
-use fast_field::{FieldFault, Passed, pass_left_out};
+use fast_field::{FieldFault, Passed, pass_left_out, reads_as_usual};
 use fast_relay::{Relayed as Answer, relay_decimal, relay_null, relay_number, relay_text};
 use fast_template::{FieldPart, part_needs_bit};
+use fast_wire::Level;
 use std::alloc::Global;
 
 // Reads what was sent under bit 1 and appends its best form: an integer, a constant, NULL, a string, a vector or a
@@ -35,7 +37,7 @@ fn relay_sent(
     requires place { at ≤ length bytes.now }
     ensures place { IfSome result (λ x. (at ≤ x.2) × (x.2 ≤ length bytes.now)) }
     ensures relayed { IfSome result (λ x. (v : Option ScalarOf) × IsThere part.now.kind x.0 v
-        × Relayed part.now entry.old entry.new true x.1 v (drop at bytes.now)
+        × Relayed Usual part.now entry.old entry.new true x.1 v (drop at bytes.now)
         (drop x.2 bytes.now) out.old.items out.new.items) }
     ensures entry { IfNone result (entry.new ≡ entry.old) }
     ensures out { IfNone result (out.new.items ≡ out.old.items) }
@@ -64,7 +66,7 @@ fn relay_long(
     requires place { at ≤ length bytes.now }
     ensures place { IfSome result (λ x. (at ≤ x.2) × (x.2 ≤ length bytes.now)) }
     ensures relayed { IfSome result (λ x. (v : Option ScalarOf) × IsThere part.now.kind x.0 v
-        × Relayed part.now entry.old entry.new true x.1 v (drop at bytes.now)
+        × Relayed Usual part.now entry.old entry.new true x.1 v (drop at bytes.now)
         (drop x.2 bytes.now) out.old.items out.new.items) }
     ensures entry { IfNone result (entry.new ≡ entry.old) }
     ensures out { IfNone result (out.new.items ≡ out.old.items) }
@@ -80,14 +82,15 @@ fn relay_long(
     }
 }
 
-// Takes what bit 0 gives, or what was sent; answers whether its value is there, the bit of its best form, and the place
-// behind it. None: nothing has changed, and the part goes another way.
+// Takes what bit 0 gives, or what was sent where it is read as at the usual level; answers whether its value is there, the bit of its best
+// form, and the place behind it. None: nothing has changed, and the part goes another way.
 #[inline(always)]
 fn relay_quickly(
     alloc: Global,
     part: &FieldPart,
     entry: &mut Entry,
     bit: bool,
+    level: Level,
     bytes: &[u8],
     at: usize,
     out: &mut Vec<u8>,
@@ -96,15 +99,19 @@ fn relay_quickly(
     requires bit { part_needs_bit_of part.now ≡ false → bit ≡ true }
     ensures place { IfSome result (λ x. (at ≤ x.2) × (x.2 ≤ length bytes.now)) }
     ensures relayed { IfSome result (λ x. (v : Option ScalarOf) × IsThere part.now.kind x.0 v
-        × Relayed part.now entry.old entry.new bit x.1 v (drop at bytes.now) (drop x.2 bytes.now)
+        × Relayed level part.now entry.old entry.new bit x.1 v (drop at bytes.now) (drop x.2 bytes.now)
         out.old.items out.new.items) }
     ensures entry { IfNone result (entry.new ≡ entry.old) }
     ensures out { IfNone result (out.new.items ≡ out.old.items) }
 {
     if bit {
-        match relay_sent(alloc, part, entry, bytes, at, out) {
-            None => None,
-            Some(x) => Some(x),
+        if reads_as_usual(level, part, bytes, at) {
+            match relay_sent(alloc, part, entry, bytes, at, out) {
+                None => None,
+                Some(x) => Some(x),
+            }
+        } else {
+            None
         }
     } else {
         match pass_left_out(part, entry) {
@@ -123,6 +130,7 @@ fn relay_generally(
     part: &FieldPart,
     entry: &mut Entry,
     bit: bool,
+    level: Level,
     bytes: &[u8],
     at: usize,
     out: &mut Vec<u8>,
@@ -131,13 +139,13 @@ fn relay_generally(
     requires bit { part_needs_bit_of part.now ≡ false → bit ≡ true }
     ensures place { IfOk result (λ x. (at ≤ x.2) × (x.2 ≤ length bytes.now)) }
     ensures relayed { IfOk result (λ x. (v : Option ScalarOf) × IsThere part.now.kind x.0 v
-        × Relayed part.now entry.old entry.new bit x.1 v (drop at bytes.now) (drop x.2 bytes.now)
+        × Relayed level part.now entry.old entry.new bit x.1 v (drop at bytes.now) (drop x.2 bytes.now)
         out.old.items out.new.items) }
     ensures stops { IfErr result (λ f. f ≢ FieldFault.Memory
-        → (field_at part.now entry.old bit (drop at bytes.now) ≡ Err f)
+        → (field_at level part.now entry.old bit (drop at bytes.now) ≡ Err f)
         × (entry.new ≡ entry.old) × (out.new.items ≡ out.old.items)) }
 {
-    match relay_entry(alloc, part, entry, bit, bytes, at, out) {
+    match relay_entry(alloc, part, entry, bit, level, bytes, at, out) {
         Err(fault) => Err(fault),
         Ok((found, best, next)) => match found.value(part, entry.view()) {
             None => Ok((false, best, next)),
@@ -159,6 +167,7 @@ fn relay_either(
     part: &FieldPart,
     entry: &mut Entry,
     bit: bool,
+    level: Level,
     bytes: &[u8],
     at: usize,
     out: &mut Vec<u8>,
@@ -167,15 +176,15 @@ fn relay_either(
     requires bit { part_needs_bit_of part.now ≡ false → bit ≡ true }
     ensures place { IfOk result (λ x. (at ≤ x.2) × (x.2 ≤ length bytes.now)) }
     ensures relayed { IfOk result (λ x. (v : Option ScalarOf) × IsThere part.now.kind x.0 v
-        × Relayed part.now entry.old entry.new bit x.1 v (drop at bytes.now) (drop x.2 bytes.now)
+        × Relayed level part.now entry.old entry.new bit x.1 v (drop at bytes.now) (drop x.2 bytes.now)
         out.old.items out.new.items) }
     ensures stops { IfErr result (λ f. f ≢ FieldFault.Memory
-        → (field_at part.now entry.old bit (drop at bytes.now) ≡ Err f)
+        → (field_at level part.now entry.old bit (drop at bytes.now) ≡ Err f)
         × (entry.new ≡ entry.old) × (out.new.items ≡ out.old.items)) }
 {
-    match relay_quickly(alloc, part, entry, bit, bytes, at, out) {
+    match relay_quickly(alloc, part, entry, bit, level, bytes, at, out) {
         Some(x) => Ok(x),
-        None => match relay_generally(alloc, part, entry, bit, bytes, at, out) {
+        None => match relay_generally(alloc, part, entry, bit, level, bytes, at, out) {
             Err(fault) => Err(fault),
             Ok(x) => Ok(x),
         },
@@ -194,31 +203,41 @@ pub(crate) fn relay_part<E: Entries>(
     entries: &mut E,
     part: &FieldPart,
     bit: bool,
+    level: Level,
     bytes: &[u8],
     at: usize,
-    level: &mut Level,
+    segment: &mut Segment,
 ) -> Result<(bool, usize), FieldFault>
     requires place { at ≤ length bytes.now }
     requires bit { part_needs_bit_of part.now ≡ false → bit ≡ true }
     requires served { IsTrue (E.serves entries.now part.now.key) }
     ensures place { IfOk result (λ x. (at ≤ x.1) × (x.1 ≤ length bytes.now)) }
     ensures relays { IfOk result (λ x. (v : Option ScalarOf) × IsThere part.now.kind x.0 v
-        × Took part.now bit (E.contents entries.old) (E.contents entries.new) v
+        × Took level part.now bit (E.contents entries.old) (E.contents entries.new) v
         (drop at bytes.now) (drop x.1 bytes.now)
         × Spelt part.now (entry_at (E.contents entries.old) part.now.key) v
-        (level_of level.old) (level_of level.new)) }
+        (level_of segment.old) (level_of segment.new)) }
     ensures stops { IfErr result (λ f. f ≢ FieldFault.Memory
-        → (field_at part.now (entry_at (E.contents entries.old) part.now.key) bit
+        → (field_at level part.now (entry_at (E.contents entries.old) part.now.key) bit
         (drop at bytes.now) ≡ Err f)
         × (E.contents entries.new ≡ E.contents entries.old)
-        × (level_of level.new ≡ level_of level.old)) }
+        × (level_of segment.new ≡ level_of segment.old)) }
     ensures same_keys { E.serves entries.new ≡ E.serves entries.old }
 {
     match entries.entry_mut(&part.key) {
         Err(_) => Err(FieldFault::Memory),
-        Ok(entry) => match relay_either(alloc, part, entry, bit, bytes, at, &mut level.bytes) {
+        Ok(entry) => match relay_either(
+            alloc,
+            part,
+            entry,
+            bit,
+            level,
+            bytes,
+            at,
+            &mut segment.bytes,
+        ) {
             Err(fault) => Err(fault),
-            Ok((there, best, next)) => match level.ask(part_needs_bit(part), best) {
+            Ok((there, best, next)) => match segment.ask(part_needs_bit(part), best) {
                 Err(_) => Err(FieldFault::Memory),
                 Ok(()) => Ok((there, next)),
             },

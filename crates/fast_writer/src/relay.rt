@@ -12,6 +12,7 @@ use crate::fit::{has_default, holds_scalar, is_field_part};
 use fast_dictionary::Entry;
 use fast_field::{FieldFault, Found, find_field, read_in_place, write_found};
 use fast_template::FieldPart;
+use fast_wire::Level;
 use std::alloc::Global;
 
 // Reads a part that bit 0 gives. Bit 0 is its best form too.
@@ -20,26 +21,27 @@ fn repeat(
     alloc: Global,
     part: &FieldPart,
     entry: &mut Entry,
+    level: Level,
     bytes: &[u8],
     at: usize,
 ) -> Result<(Found, usize), FieldFault>
     requires place { at ≤ length bytes.now }
     ensures place { IfOk result (λ x. (at ≤ x.1) × (x.1 ≤ length bytes.now)) }
     ensures goes { IfOk result (λ x. (more : List ℕ)
-        → field_at part.now entry.old false (drop at bytes.now ++ more)
+        → field_at level part.now entry.old false (drop at bytes.now ++ more)
         ≡ Ok (value_found part.now entry.new x.0, drop x.1 bytes.now ++ more)) }
     ensures entry { IfOk result (λ x. entry.new
         ≡ next part.now entry.old (value_found part.now entry.new x.0)) }
     ensures best { IfOk result (λ x. part_needs_bit_of part.now ≡ true →
         IsBest part.now entry.old false [] (value_found part.now entry.new x.0)) }
     ensures stops { IfErr result (λ f. f ≢ FieldFault.Memory
-        → field_at part.now entry.old false (drop at bytes.now) ≡ Err f) }
+        → field_at level part.now entry.old false (drop at bytes.now) ≡ Err f) }
     ensures unchanged { OnErr result (entry.new ≡ entry.old) }
 {
     if !has_default(part) {
         return Err(FieldFault::Memory);
     }
-    match read_in_place(alloc, part, entry, false, bytes, at) {
+    match read_in_place(alloc, part, entry, false, level, bytes, at) {
         Err(fault) => Err(fault),
         Ok((found, next)) => Ok((found, next)),
     }
@@ -51,6 +53,7 @@ fn rewrite(
     alloc: Global,
     part: &FieldPart,
     entry: &mut Entry,
+    level: Level,
     bytes: &[u8],
     at: usize,
     out: &mut Vec<u8>,
@@ -58,21 +61,21 @@ fn rewrite(
     requires place { at ≤ length bytes.now }
     ensures place { IfOk result (λ x. (at ≤ x.2) × (x.2 ≤ length bytes.now)) }
     ensures goes { IfOk result (λ x. (more : List ℕ)
-        → field_at part.now entry.old true (drop at bytes.now ++ more)
+        → field_at level part.now entry.old true (drop at bytes.now ++ more)
         ≡ Ok (value_found part.now entry.new x.0, drop x.2 bytes.now ++ more)) }
     ensures entry { IfOk result (λ x. entry.new
         ≡ next part.now entry.old (value_found part.now entry.new x.0)) }
     ensures best { IfOk result (λ x. AppendsForm part.now entry.old
         (value_found part.now entry.new x.0) x.1 out.old.items out.new.items) }
     ensures stops { IfErr result (λ f. f ≢ FieldFault.Memory
-        → field_at part.now entry.old true (drop at bytes.now) ≡ Err f) }
+        → field_at level part.now entry.old true (drop at bytes.now) ≡ Err f) }
     ensures unchanged { OnErr result (entry.new ≡ entry.old) }
     ensures nothing { OnErr result (out.new.items ≡ out.old.items) }
 {
     if !is_field_part(part) || !holds_scalar(entry.view()) {
         return Err(FieldFault::Memory);
     }
-    match find_field(alloc, part, entry.view(), true, bytes, at) {
+    match find_field(alloc, part, entry.view(), true, level, bytes, at) {
         Err(fault) => Err(fault),
         Ok((found, next)) => match write_found(alloc, part, entry, found, out) {
             Err(_) => Err(FieldFault::Memory),
@@ -93,6 +96,7 @@ pub(crate) fn relay_entry(
     part: &FieldPart,
     entry: &mut Entry,
     bit: bool,
+    level: Level,
     bytes: &[u8],
     at: usize,
     out: &mut Vec<u8>,
@@ -101,24 +105,24 @@ pub(crate) fn relay_entry(
     requires bit { part_needs_bit_of part.now ≡ false → bit ≡ true }
     ensures place { IfOk result (λ x. (at ≤ x.2) × (x.2 ≤ length bytes.now)) }
     ensures goes { IfOk result (λ x. (more : List ℕ)
-        → field_at part.now entry.old bit (drop at bytes.now ++ more)
+        → field_at level part.now entry.old bit (drop at bytes.now ++ more)
         ≡ Ok (value_found part.now entry.new x.0, drop x.2 bytes.now ++ more)) }
     ensures entry { IfOk result (λ x. entry.new
         ≡ next part.now entry.old (value_found part.now entry.new x.0)) }
     ensures best { IfOk result (λ x. AppendsForm part.now entry.old
         (value_found part.now entry.new x.0) x.1 out.old.items out.new.items) }
     ensures stops { IfErr result (λ f. f ≢ FieldFault.Memory
-        → field_at part.now entry.old bit (drop at bytes.now) ≡ Err f) }
+        → field_at level part.now entry.old bit (drop at bytes.now) ≡ Err f) }
     ensures unchanged { OnErr result (entry.new ≡ entry.old) }
     ensures nothing { OnErr result (out.new.items ≡ out.old.items) }
 {
     if bit {
-        match rewrite(alloc, part, entry, bytes, at, out) {
+        match rewrite(alloc, part, entry, level, bytes, at, out) {
             Err(fault) => Err(fault),
             Ok(x) => Ok(x),
         }
     } else {
-        match repeat(alloc, part, entry, bytes, at) {
+        match repeat(alloc, part, entry, level, bytes, at) {
             Err(fault) => Err(fault),
             Ok((found, next)) => Ok((found, false, next)),
         }

@@ -2,12 +2,13 @@
 
 use crate::count::relay_count;
 use crate::fit::is_identifier;
-use crate::level::Level;
 use crate::quick::relay_part;
+use crate::segment::Segment;
 use fast_dictionary::Entries;
 use fast_field::FieldFault;
 use fast_template::{FieldPart, Kind, Name, Presence};
 use fast_walk::Receiver;
+use fast_wire::Level;
 use std::alloc::{AllocError, Global};
 use std::mem;
 
@@ -18,10 +19,10 @@ use std::mem;
 #[derive(Drop)]
 pub struct Writer {
     // the innermost open segment, and those around it
-    inner: Level,
-    outer: Vec<Level>,
-    // levels that were open, kept for their memory
-    spare: Vec<Level>,
+    inner: Segment,
+    outer: Vec<Segment>,
+    // segments that were open, kept for their memory
+    spare: Vec<Segment>,
     // of the messages that are finished and not handed on
     out: Vec<u8>,
 }
@@ -44,7 +45,7 @@ impl Writer {
         ensures empty { result.out.items ≡ [] }
     {
         Writer {
-            inner: Level::new(alloc, true),
+            inner: Segment::new(alloc, true),
             outer: Vec::new(alloc),
             spare: Vec::new(alloc),
             out: Vec::new(alloc),
@@ -81,9 +82,9 @@ impl Writer {
         self.out.clear();
     }
 
-    // A level of nothing, one that was used where there is one.
+    // A segment of nothing, one that was used where there is one.
     #[inline(always)]
-    fn fresh(&mut self, alloc: Global, own: bool) -> Level
+    fn fresh(&mut self, alloc: Global, own: bool) -> Segment
         ensures bits { result.bits.items ≡ [] }
         ensures own { result.own ≡ own }
         ensures bytes { result.bytes.items ≡ [] }
@@ -92,10 +93,10 @@ impl Writer {
         ensures out { self.new.out ≡ self.old.out }
     {
         match self.spare.pop() {
-            None => Level::new(alloc, own),
-            Some(mut level) => {
-                level.begin(own);
-                level
+            None => Segment::new(alloc, own),
+            Some(mut segment) => {
+                segment.begin(own);
+                segment
             }
         }
     }
@@ -152,6 +153,7 @@ impl Receiver for Writer {
         entries: &mut E,
         identifier: &FieldPart,
         bit: bool,
+        level: Level,
         bytes: &[u8],
         at: usize,
     ) -> Result<(u32, usize), FieldFault> {
@@ -160,7 +162,16 @@ impl Receiver for Writer {
         }
         self.outer.clear();
         self.inner.begin(true);
-        match relay_count(alloc, entries, identifier, bit, bytes, at, &mut self.inner) {
+        match relay_count(
+            alloc,
+            entries,
+            identifier,
+            bit,
+            level,
+            bytes,
+            at,
+            &mut self.inner,
+        ) {
             Err(fault) => Err(fault),
             Ok((Some(id), next)) => Ok((id, next)),
             Ok((None, _)) => Err(FieldFault::Memory),
@@ -187,10 +198,11 @@ impl Receiver for Writer {
         entries: &mut E,
         part: &FieldPart,
         bit: bool,
+        level: Level,
         bytes: &[u8],
         at: usize,
     ) -> Result<usize, FieldFault> {
-        match relay_part(alloc, entries, part, bit, bytes, at, &mut self.inner) {
+        match relay_part(alloc, entries, part, bit, level, bytes, at, &mut self.inner) {
             Err(fault) => Err(fault),
             Ok((_there, next)) => Ok(next),
         }
@@ -205,11 +217,21 @@ impl Receiver for Writer {
         entries: &mut E,
         part: &FieldPart,
         bit: bool,
+        level: Level,
         bytes: &[u8],
         at: usize,
     ) -> Result<(bool, usize), FieldFault> {
         match part.kind {
-            Kind::Int32 => match relay_part(alloc, entries, part, bit, bytes, at, &mut self.inner) {
+            Kind::Int32 => match relay_part(
+                alloc,
+                entries,
+                part,
+                bit,
+                level,
+                bytes,
+                at,
+                &mut self.inner,
+            ) {
                 Err(fault) => Err(fault),
                 Ok((there, next)) => Ok((there, next)),
             },
@@ -224,11 +246,21 @@ impl Receiver for Writer {
         entries: &mut E,
         part: &FieldPart,
         bit: bool,
+        level: Level,
         bytes: &[u8],
         at: usize,
     ) -> Result<usize, FieldFault> {
         match part.kind {
-            Kind::Int64 => match relay_part(alloc, entries, part, bit, bytes, at, &mut self.inner) {
+            Kind::Int64 => match relay_part(
+                alloc,
+                entries,
+                part,
+                bit,
+                level,
+                bytes,
+                at,
+                &mut self.inner,
+            ) {
                 Err(fault) => Err(fault),
                 Ok((there, next)) => {
                     if there {
@@ -251,10 +283,11 @@ impl Receiver for Writer {
         entries: &mut E,
         part: &FieldPart,
         bit: bool,
+        level: Level,
         bytes: &[u8],
         at: usize,
     ) -> Result<(Option<u32>, usize), FieldFault> {
-        match relay_count(alloc, entries, part, bit, bytes, at, &mut self.inner) {
+        match relay_count(alloc, entries, part, bit, level, bytes, at, &mut self.inner) {
             Err(fault) => Err(fault),
             Ok((length, next)) => Ok((length, next)),
         }

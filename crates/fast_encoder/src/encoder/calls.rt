@@ -16,7 +16,7 @@ use crate::message::put_message;
 use fast_dictionary::Entries;
 use fast_stream::Message;
 use fast_template::{FieldPart, Key, Kind, Name, Operator, Part, Presence, Scope, TemplateSet};
-use fast_writer::Level;
+use fast_writer::Segment;
 use std::alloc::Global;
 
 impl<'a, E: Entries> Encoder<'a, E> {
@@ -47,7 +47,7 @@ impl<'a, E: Entries> Encoder<'a, E> {
                 initial: None,
             },
             journal: Journal::new(alloc, entries),
-            level: Level::new(alloc, true),
+            level: Segment::new(alloc, true),
         }
     }
 

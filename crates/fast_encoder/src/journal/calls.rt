@@ -17,7 +17,7 @@ use crate::journal::{Change, Journal};
 use crate::put::{no_memory, put_part};
 use fast_dictionary::{Entries, Entry};
 use fast_template::{FieldPart, Scalar};
-use fast_writer::Level;
+use fast_writer::Segment;
 use std::alloc::Global;
 
 /// Appends the best form of a part's value to a segment, none where it is absent, and makes the part's entry the one
@@ -31,7 +31,7 @@ pub(crate) fn put_value<E: Entries>(
     entries: &mut E,
     part: &FieldPart,
     value: Option<&Scalar>,
-    level: &mut Level,
+    level: &mut Segment,
 ) -> Result<Entry, EncodeFault>
     requires part { IsFieldPart part.now }
     requires served { IsTrue (E.serves entries.now part.now.key) }
@@ -121,7 +121,7 @@ impl<'a, E: Entries> Journal<'a, E> {
         alloc: Global,
         part: &'a FieldPart,
         value: Option<&Scalar>,
-        level: &mut Level,
+        level: &mut Segment,
     ) -> Result<(), EncodeFault>
         requires part { IsFieldPart part.now }
         requires served { IsTrue (E.serves self.now.entries part.now.key) }

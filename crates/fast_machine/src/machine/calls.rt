@@ -1,21 +1,25 @@
 //! The calls of a machine.
 
-ghost use Rattle.std.specs.Prelude.{◌≡◌, ◌≢◌, ◌≤◌, ◌<◌, ◌+◌, ◌-◌, ◌^◌, ◌++◌, ◌⊎◌, [], ℕ, List, None, Some, Err, OnOk, IfErr, IfSome, length, map};
+ghost use Rattle.std.specs.Prelude.{◌≡◌, ◌≢◌, ◌≤◌, ◌<◌, ◌+◌, ◌-◌, ◌^◌, ◌++◌, ◌⊎◌, [], ℕ, List, None, Some, Err, OnOk, IfOk, IfErr, IfSome, IfNone, length, drop, map};
 ghost use Rattle.std.specs.FinMap as finite;
 ghost use Rattle.fast_template.specs.Resolved.{Resolved};
 ghost use Rattle.fast_template.specs.TemplateSets.{IsSound, templates_in};
 ghost use Rattle.fast_dictionary.specs.Dictionary.{Dictionary};
 ghost use Rattle.fast_stream.specs.Nodes.{Content};
-ghost use Rattle.fast_stream.specs.Streams.{Carries};
+ghost use Rattle.fast_stream.specs.Blocks.{size_at};
+ghost use Rattle.fast_stream.specs.Modes.{Carries};
+ghost use Rattle.fast_stream.specs.declared.mode.Mode.{Mode as ModeNow};
+ghost use Rattle.fast_walk.specs.declared.traversal.Stage.TheVariants as stage;
 ghost use Rattle.fast_walk.specs.declared.traversal.Traversal.{Traversal as TraversalNow};
-ghost use Rattle.fast_machine.specs.Following.{Counts, IsHeld, Refused};
-ghost use Rattle.fast_machine.specs.Standing.{Carried, Ended, ReadsOn, Stands, StopsBehind};
-ghost use Rattle.fast_walk.specs.Traversals.{CanGoOn, ServesAll, stop_of};
+ghost use Rattle.fast_machine.specs.Following.{Counts, IsHeld, Refused, Waits};
+ghost use Rattle.fast_machine.specs.Standing.{Carried, ReadsOn, Stands, StopsBehind};
+ghost use Rattle.fast_walk.specs.Traversals.{CanGoOn, ServesAll, begun_of, stop_of};
 
+use crate::blocks::{open_block, within};
 use crate::machine::Machine;
 use crate::messages::read_messages;
 use fast_dictionary::Entries;
-use fast_stream::{Cause, Fault, Place};
+use fast_stream::{Cause, Fault, Framing, Mode, Place};
 use fast_template::TemplateSet;
 use fast_walk::{Halt, Receiver, Traversal};
 use std::alloc::Global;
@@ -55,13 +59,13 @@ fn fault_at(
 // The fault that a halt is. Want of memory has no place but the message.
 fn fault_of(halt: Halt, messages: u64, fed: u64, left: usize, template: u32) -> Fault
     ensures cause { result.cause ≡ halt.cause }
-    ensures refused { (t : TraversalNow) (rest bytes : List ℕ) (ms : List Content)
+    ensures refused { (mode : ModeNow) (t : TraversalNow) (rest bytes : List ℕ) (ms : List Content)
         → IsSound t.set.now → Counts fed messages bytes ms → length bytes < 2 ^ 61
         → t.template ≡ template → length rest ≡ left
-        → Carried (templates_in t.set.now) bytes ms
+        → Carried mode (templates_in t.set.now) bytes ms
         → (halt.cause ≢ Cause.Memory
-        → StopsBehind (templates_in t.set.now) bytes ms (stop_of t.template halt rest))
-        → Refused result t bytes ms }
+        → StopsBehind mode (templates_in t.set.now) bytes ms (stop_of t.template halt rest))
+        → Refused result mode (templates_in t.set.now) bytes ms }
 {
     match halt.cause {
         Cause::Memory => fault_at(Cause::Memory, messages, 0, 0, 0, 0),
@@ -70,12 +74,19 @@ fn fault_of(halt: Halt, messages: u64, fed: u64, left: usize, template: u32) -> 
 }
 
 impl<'a, R: Receiver, E: Entries> Machine<'a, R, E> {
-    ghost use Rattle.fast_machine.specs.Following.{Answers, Follows, IsCutAt};
+    ghost use Rattle.fast_machine.specs.Following.{Answers, Follows, IsCutAt, mode_of};
 
     /// A machine over a set, at the beginning of a stream. The entries are reset. Takes no memory.
-    pub fn new(alloc: Global, set: &'a TemplateSet, receiver: R, entries: E) -> Machine<'a, R, E>
+    pub fn new(
+        alloc: Global,
+        set: &'a TemplateSet,
+        mode: Mode,
+        receiver: R,
+        entries: E,
+    ) -> Machine<'a, R, E>
         requires { ServesAll (E.serves entries) set.now }
         ensures set { result.traversal.set.now ≡ set.now }
+        ensures mode { mode_of result ≡ mode }
         ensures fault { result.fault ≡ None }
         ensures receiver { result.receiver ≡ receiver }
         ensures fed { result.fed ≡ 0 }
@@ -86,15 +97,17 @@ impl<'a, R: Receiver, E: Entries> Machine<'a, R, E> {
     {
         let mut entries = entries;
         entries.reset();
-        let traversal = Traversal::new(alloc, set);
+        let traversal = Traversal::new(alloc, set, mode.level);
         traversal.set_is_sound();
         Machine {
             alloc,
             traversal,
+            framing: mode.framing,
             receiver,
             entries,
             held: Vec::new(alloc),
             waiting: 0,
+            left: 0,
             fault: None,
             fed: 0,
             messages: 0,
@@ -129,7 +142,8 @@ impl<'a, R: Receiver, E: Entries> Machine<'a, R, E> {
         ensures fault { IfSome self.now.fault (λ f. result ≡ 0) }
         ensures waits { self.now.fault ≡ None → (before : List Content) (fed : List ℕ)
             (messages : List Content) → Follows self.now before fed messages
-            → IsHeld (templates_in self.now.traversal.set.now) fed self.now.fed result }
+            → IsHeld (mode_of self.now) (templates_in self.now.traversal.set.now) fed
+            self.now.fed result }
     {
         self.traversal.set_is_sound();
         self.held.len()
@@ -152,6 +166,8 @@ impl<'a, R: Receiver, E: Entries> Machine<'a, R, E> {
         ensures entries { self.new.entries ≡ self.old.entries }
         ensures fed { self.new.fed ≡ self.old.fed }
         ensures messages { self.new.messages ≡ self.old.messages }
+        ensures framing { self.new.framing ≡ self.old.framing }
+        ensures room { self.new.left ≡ self.old.left }
     {
         let template = self.traversal.template();
         let fault = fault_at(cause, self.messages, self.fed, left, template, number);
@@ -178,6 +194,8 @@ impl<'a, R: Receiver, E: Entries> Machine<'a, R, E> {
         ensures entries { self.new.entries ≡ self.old.entries }
         ensures fed { self.new.fed ≡ self.old.fed }
         ensures messages { self.new.messages ≡ self.old.messages }
+        ensures framing { self.new.framing ≡ self.old.framing }
+        ensures room { self.new.left ≡ self.old.left }
     {
         let fault = fault_at(Cause::Memory, self.messages, 0, 0, 0, 0);
         self.fault = Some(fault);
@@ -186,44 +204,47 @@ impl<'a, R: Receiver, E: Entries> Machine<'a, R, E> {
         fault
     }
 
-    // Keeps the bytes of the piece that is not whole.
-    fn hold(&mut self, halt: Halt, rest: &[u8]) -> Result<(), Fault>
-        requires truncated { halt.cause ≡ Cause.Truncated }
+    // Keeps the bytes of the piece that is not whole, of the instruction with this number.
+    fn hold(&mut self, number: u32, rest: &[u8]) -> Result<(), Fault>
         requires fault { self.now.fault ≡ None }
         requires held { self.now.held.items ≡ [] }
         requires few { length rest.now ≤ 65554 }
         ensures follows { (before : List Content) (fed : List ℕ) (messages : List Content)
             → length fed < 2 ^ 61 → Counts self.old.fed self.old.messages fed messages
-            → Ended R.has R.stands R.keeps (Some halt) self.old.traversal self.old.receiver
-            (E.contents self.old.entries) before rest.now fed messages
+            → Stands self.old.framing self.old.left (ReadsOn R.has R.stands R.keeps self.old.traversal self.old.receiver
+            (E.contents self.old.entries) before) self.old.traversal rest.now fed messages
+            → Waits self.old.framing self.old.left self.old.traversal rest.now number fed messages
             → Follows self.new before fed messages }
         ensures answer { Answers result self.new.fault }
         ensures cause { IfErr result (λ f. f.cause ≡ Cause.Memory) }
         ensures traversal { self.new.traversal ≡ self.old.traversal }
         ensures entries { self.new.entries ≡ self.old.entries }
         ensures fed { self.new.fed ≡ self.old.fed }
+        ensures framing { self.new.framing ≡ self.old.framing }
     {
         match self.held.extend_from_slice(rest) {
             Err(_) => Err(self.refuse()),
             Ok(()) => {
-                self.waiting = halt.number;
+                self.waiting = number;
                 Ok(())
             }
         }
     }
 
-    // Reads on in these bytes, where none are held.
-    fn read(&mut self, bytes: &[u8]) -> Result<(), Fault>
+    // Reads on in these bytes of plain framing, where none are held.
+    fn read_plain(&mut self, bytes: &[u8]) -> Result<(), Fault>
         requires fault { self.now.fault ≡ None }
         requires held { self.now.held.items ≡ [] }
+        requires framing { self.now.framing ≡ Framing.Plain }
         ensures follows { (before : List Content) (fed : List ℕ) (messages : List Content)
             → length fed ≤ 2 ^ 60 → Counts self.old.fed self.old.messages fed messages
-            → Stands (ReadsOn R.has R.stands R.keeps self.old.traversal self.old.receiver
+            → Stands Framing.Plain self.old.left (ReadsOn R.has R.stands R.keeps self.old.traversal self.old.receiver
             (E.contents self.old.entries) before) self.old.traversal bytes.now fed messages
             → (ended : List Content) × Follows self.new (before ++ ended) fed (messages ++ ended) }
         ensures answer { Answers result self.new.fault }
         ensures cause { IfErr result (λ f. f.cause ≢ Cause.Truncated) }
         ensures set { self.new.traversal.set ≡ self.old.traversal.set }
+        ensures mode { mode_of self.new ≡ mode_of self.old }
         ensures same_keys { E.serves self.new.entries ≡ E.serves self.old.entries }
         ensures fed { self.new.fed ≡ self.old.fed }
     {
@@ -240,7 +261,7 @@ impl<'a, R: Receiver, E: Entries> Machine<'a, R, E> {
         match progress.halt {
             None => Ok(()),
             Some(halt) => match halt.cause {
-                Cause::Truncated => match self.hold(halt, rest) {
+                Cause::Truncated => match self.hold(halt.number, rest) {
                     Err(fault) => Err(fault),
                     Ok(()) => Ok(()),
                 },
@@ -249,6 +270,175 @@ impl<'a, R: Receiver, E: Entries> Machine<'a, R, E> {
                     self.fault = Some(fault);
                     Err(fault)
                 }
+            },
+        }
+    }
+
+    // Stops at the size of a block, with which the bytes begin: holds it where it is not whole, or keeps its fault.
+    fn stop_at_size(&mut self, cause: Cause, bytes: &[u8]) -> Result<(), Fault>
+        requires fault { self.now.fault ≡ None }
+        requires held { self.now.held.items ≡ [] }
+        requires framing { self.now.framing ≡ Framing.Blocks }
+        requires few { cause ≡ Cause.Truncated → length bytes.now ≤ 9 }
+        requires outside { self.now.left ≡ 0 }
+        requires some { (0 < length bytes.now) ⊎ (begun_of self.now.traversal ≡ 1) }
+        requires stops { size_at self.now.traversal.level bytes.now ≡ Err cause }
+        ensures follows { (before : List Content) (fed : List ℕ) (messages : List Content)
+            → length fed ≤ 2 ^ 60 → Counts self.old.fed self.old.messages fed messages
+            → Stands Framing.Blocks self.old.left (ReadsOn R.has R.stands R.keeps self.old.traversal self.old.receiver
+            (E.contents self.old.entries) before) self.old.traversal bytes.now fed messages
+            → Follows self.new before fed messages }
+        ensures answer { Answers result self.new.fault }
+        ensures cause { IfErr result (λ f. f.cause ≢ Cause.Truncated) }
+        ensures traversal { self.new.traversal ≡ self.old.traversal }
+        ensures entries { self.new.entries ≡ self.old.entries }
+        ensures fed { self.new.fed ≡ self.old.fed }
+        ensures framing { self.new.framing ≡ self.old.framing }
+    {
+        self.traversal.set_is_sound();
+        match cause {
+            Cause::Truncated => match self.hold(0, bytes) {
+                Err(fault) => Err(fault),
+                Ok(()) => Ok(()),
+            },
+            _ => Err(self.keep(cause, 0, bytes.len())),
+        }
+    }
+
+    // Reads on in the block that the bytes go on with, or begin with, and answers the place behind what is read where
+    // nothing is held.
+    fn read_block(&mut self, bytes: &[u8]) -> Result<Option<usize>, Fault>
+        requires fault { self.now.fault ≡ None }
+        requires held { self.now.held.items ≡ [] }
+        requires framing { self.now.framing ≡ Framing.Blocks }
+        requires some { (0 < length bytes.now) ⊎ (begun_of self.now.traversal ≡ 1) }
+        ensures goes { IfOk result (λ o. IfSome o (λ n. (before : List Content) (fed : List ℕ)
+            (messages : List Content) → length fed ≤ 2 ^ 60
+            → Counts self.old.fed self.old.messages fed messages
+            → Stands Framing.Blocks self.old.left (ReadsOn R.has R.stands R.keeps self.old.traversal self.old.receiver
+            (E.contents self.old.entries) before) self.old.traversal bytes.now fed messages
+            → (ended : List Content) × Counts self.new.fed self.new.messages fed (messages ++ ended)
+            × Stands Framing.Blocks self.new.left (ReadsOn R.has R.stands R.keeps self.new.traversal self.new.receiver
+            (E.contents self.new.entries) (before ++ ended)) self.new.traversal (drop n bytes.now) fed (messages ++ ended))) }
+        ensures place { IfOk result (λ o. IfSome o (λ n. (n ≤ length bytes.now)
+            × (self.new.traversal.stage ≡ stage.Map) × (self.new.fault ≡ None)
+            × (self.new.held.items ≡ []))) }
+        ensures took { IfOk result (λ o. IfSome o (λ n. 0 < length bytes.now → 0 < n)) }
+        ensures waits { IfOk result (λ o. IfNone o ((self.new.fault ≡ None) × ((before : List Content) (fed : List ℕ)
+            (messages : List Content) → length fed ≤ 2 ^ 60
+            → Counts self.old.fed self.old.messages fed messages
+            → Stands Framing.Blocks self.old.left (ReadsOn R.has R.stands R.keeps self.old.traversal self.old.receiver
+            (E.contents self.old.entries) before) self.old.traversal bytes.now fed messages
+            → (ended : List Content) × Follows self.new (before ++ ended) fed (messages ++ ended)))) }
+        ensures fails { IfErr result (λ f. (self.new.fault ≡ Some f) × (f.cause ≢ Cause.Truncated)
+            × ((before : List Content) (fed : List ℕ)
+            (messages : List Content) → length fed ≤ 2 ^ 60
+            → Counts self.old.fed self.old.messages fed messages
+            → Stands Framing.Blocks self.old.left (ReadsOn R.has R.stands R.keeps self.old.traversal self.old.receiver
+            (E.contents self.old.entries) before) self.old.traversal bytes.now fed messages
+            → (ended : List Content) × Follows self.new (before ++ ended) fed (messages ++ ended))) }
+        ensures set { self.new.traversal.set ≡ self.old.traversal.set }
+        ensures mode { mode_of self.new ≡ mode_of self.old }
+        ensures same_keys { E.serves self.new.entries ≡ E.serves self.old.entries }
+        ensures fed { self.new.fed ≡ self.old.fed }
+    {
+        let (left, at) = match open_block(self.traversal.level(), self.left, bytes) {
+            Ok(opened) => opened,
+            Err(cause) => {
+                return match self.stop_at_size(cause, bytes) {
+                    Err(fault) => Err(fault),
+                    Ok(()) => Ok(None),
+                };
+            }
+        };
+        let room = within(left, bytes.len() - at);
+        let progress = read_messages(
+            self.alloc,
+            &mut self.traversal,
+            &mut self.receiver,
+            &mut self.entries,
+            &bytes[at..at + room],
+        );
+        self.messages = counted(self.messages, progress.messages);
+        self.left = left - progress.at as u128;
+        let at = at + progress.at;
+        let rest = &bytes[at..];
+        let template = self.traversal.template();
+        match progress.halt {
+            None => Ok(Some(at)),
+            Some(halt) => match halt.cause {
+                Cause::Truncated => {
+                    // more is wanted than the block has, all of which has come
+                    if self.left <= rest.len() as u128 {
+                        return Err(self.keep(Cause::BlockEnd, halt.number, rest.len()));
+                    }
+                    match self.hold(halt.number, rest) {
+                        Err(fault) => Err(fault),
+                        Ok(()) => Ok(None),
+                    }
+                }
+                _ => {
+                    let fault = fault_of(halt, self.messages, self.fed, rest.len(), template);
+                    self.fault = Some(fault);
+                    Err(fault)
+                }
+            },
+        }
+    }
+
+    // Reads on in these bytes of blocks, where none are held.
+    fn read_blocks(&mut self, bytes: &[u8]) -> Result<(), Fault>
+        requires fault { self.now.fault ≡ None }
+        requires held { self.now.held.items ≡ [] }
+        requires framing { self.now.framing ≡ Framing.Blocks }
+        ensures follows { (before : List Content) (fed : List ℕ) (messages : List Content)
+            → length fed ≤ 2 ^ 60 → Counts self.old.fed self.old.messages fed messages
+            → Stands Framing.Blocks self.old.left (ReadsOn R.has R.stands R.keeps self.old.traversal self.old.receiver
+            (E.contents self.old.entries) before) self.old.traversal bytes.now fed messages
+            → (ended : List Content) × Follows self.new (before ++ ended) fed (messages ++ ended) }
+        ensures answer { Answers result self.new.fault }
+        ensures cause { IfErr result (λ f. f.cause ≢ Cause.Truncated) }
+        ensures set { self.new.traversal.set ≡ self.old.traversal.set }
+        ensures mode { mode_of self.new ≡ mode_of self.old }
+        ensures same_keys { E.serves self.new.entries ≡ E.serves self.old.entries }
+        ensures fed { self.new.fed ≡ self.old.fed }
+    {
+        let mut at = 0;
+        'stream: while at < bytes.len() || self.traversal.has_begun() {
+            match self.read_block(&bytes[at..]) {
+                Err(fault) => return Err(fault),
+                Ok(None) => return Ok(()),
+                Ok(Some(next)) => at += next,
+            }
+        }
+        self.waiting = 0;
+        Ok(())
+    }
+
+    // Reads on in these bytes, where none are held.
+    fn read(&mut self, bytes: &[u8]) -> Result<(), Fault>
+        requires fault { self.now.fault ≡ None }
+        requires held { self.now.held.items ≡ [] }
+        ensures follows { (before : List Content) (fed : List ℕ) (messages : List Content)
+            → length fed ≤ 2 ^ 60 → Counts self.old.fed self.old.messages fed messages
+            → Stands self.old.framing self.old.left (ReadsOn R.has R.stands R.keeps self.old.traversal self.old.receiver
+            (E.contents self.old.entries) before) self.old.traversal bytes.now fed messages
+            → (ended : List Content) × Follows self.new (before ++ ended) fed (messages ++ ended) }
+        ensures answer { Answers result self.new.fault }
+        ensures cause { IfErr result (λ f. f.cause ≢ Cause.Truncated) }
+        ensures set { self.new.traversal.set ≡ self.old.traversal.set }
+        ensures mode { mode_of self.new ≡ mode_of self.old }
+        ensures same_keys { E.serves self.new.entries ≡ E.serves self.old.entries }
+        ensures fed { self.new.fed ≡ self.old.fed }
+    {
+        match self.framing {
+            Framing::Plain => match self.read_plain(bytes) {
+                Err(fault) => Err(fault),
+                Ok(()) => Ok(()),
+            },
+            Framing::Blocks => match self.read_blocks(bytes) {
+                Err(fault) => Err(fault),
+                Ok(()) => Ok(()),
             },
         }
     }
@@ -269,6 +459,7 @@ impl<'a, R: Receiver, E: Entries> Machine<'a, R, E> {
         ensures answer { Answers result self.new.fault }
         ensures cause { self.old.fault ≡ None → IfErr result (λ f. f.cause ≢ Cause.Truncated) }
         ensures set { self.new.traversal.set ≡ self.old.traversal.set }
+        ensures mode { mode_of self.new ≡ mode_of self.old }
         ensures same_keys { E.serves self.new.entries ≡ E.serves self.old.entries }
         ensures fed { self.old.fault ≡ None → self.new.fed ≡ self.old.fed + length chunk.now }
     {
@@ -296,12 +487,12 @@ impl<'a, R: Receiver, E: Entries> Machine<'a, R, E> {
     ///
     /// # Errors
     ///
-    /// The kept fault, or Truncated where the stream ends inside a message, which is kept from then on.
+    /// The kept fault, or Truncated where the stream ends inside a message or a block, which is kept from then on.
     pub fn finish(&mut self) -> Result<(), Fault>
         ensures kept { IfSome self.old.fault (λ f. (result ≡ Err f) × (self.new ≡ self.old)) }
         ensures ok { OnOk result ((self.new ≡ self.old) × ((before : List Content) (fed : List ℕ)
             (messages : List Content) → Follows self.old before fed messages
-            → Carries (templates_in self.old.traversal.set.now) fed messages)) }
+            → Carries (mode_of self.old) (templates_in self.old.traversal.set.now) fed messages)) }
         ensures truncated { self.old.fault ≡ None → IfErr result (λ f. (f.cause ≡ Cause.Truncated)
             × ((before : List Content) (fed : List ℕ) (messages : List Content)
             → self.old.fed ≤ 2 ^ 60 → Follows self.old before fed messages
@@ -311,6 +502,7 @@ impl<'a, R: Receiver, E: Entries> Machine<'a, R, E> {
             → R.keeps self.new.receiver set ms d ⊎ R.stands self.new.receiver set ms d }
         ensures answer { Answers result self.new.fault }
         ensures set { self.new.traversal.set ≡ self.old.traversal.set }
+        ensures mode { mode_of self.new ≡ mode_of self.old }
         ensures fed { self.new.fed ≡ self.old.fed }
     {
         if let Some(fault) = self.fault {
@@ -318,14 +510,11 @@ impl<'a, R: Receiver, E: Entries> Machine<'a, R, E> {
         }
         self.traversal.set_is_sound();
         let waiting = self.waiting;
-        let left = self.held();
-        if self.traversal.has_begun() {
-            return Err(self.keep(Cause::Truncated, waiting, left));
+        let held = self.held();
+        if self.traversal.has_begun() || held > 0 || self.left > 0 {
+            return Err(self.keep(Cause::Truncated, waiting, held));
         }
-        if left == 0 {
-            return Ok(());
-        }
-        Err(self.keep(Cause::Truncated, waiting, left))
+        Ok(())
     }
 
     /// The fault of a stream of which no more bytes come for this cause: where the next piece would begin.
@@ -334,7 +523,8 @@ impl<'a, R: Receiver, E: Entries> Machine<'a, R, E> {
         ensures cause { result.cause ≡ cause }
         ensures place { self.old.fault ≡ None → (before : List Content) (fed : List ℕ)
             (messages : List Content) → Follows self.old before fed messages
-            → IsCutAt (templates_in self.old.traversal.set.now) fed messages result.place }
+            → IsCutAt (mode_of self.old) (templates_in self.old.traversal.set.now) fed
+            messages result.place }
         ensures kept { IfSome self.old.fault (λ f. self.new ≡ self.old) }
         ensures follows { self.old.fault ≡ None → (before : List Content) (fed : List ℕ)
             (messages : List Content) → Follows self.old before fed messages
@@ -343,6 +533,7 @@ impl<'a, R: Receiver, E: Entries> Machine<'a, R, E> {
             → R.keeps self.old.receiver set ms d ⊎ R.stands self.old.receiver set ms d
             → R.keeps self.new.receiver set ms d ⊎ R.stands self.new.receiver set ms d }
         ensures set { self.new.traversal.set ≡ self.old.traversal.set }
+        ensures mode { mode_of self.new ≡ mode_of self.old }
         ensures fed { self.new.fed ≡ self.old.fed }
     {
         let place = match self.finish() {
@@ -360,6 +551,7 @@ impl<'a, R: Receiver, E: Entries> Machine<'a, R, E> {
     /// Begins a new stream, with all entries undefined; the receiver stays. Takes no memory.
     pub fn reset(&mut self)
         ensures set { self.new.traversal.set ≡ self.old.traversal.set }
+        ensures mode { mode_of self.new ≡ mode_of self.old }
         ensures same_keys { E.serves self.new.entries ≡ E.serves self.old.entries }
         ensures fault { self.new.fault ≡ None }
         ensures receiver { self.new.receiver ≡ self.old.receiver }
@@ -371,6 +563,7 @@ impl<'a, R: Receiver, E: Entries> Machine<'a, R, E> {
         self.traversal.reset();
         self.held.clear();
         self.waiting = 0;
+        self.left = 0;
         self.fault = None;
         self.fed = 0;
         self.messages = 0;

@@ -16,7 +16,7 @@ failed f read (inr refused) other = absurd (other refused.0)
 
 pub returns-in-Err-clause-stops : goal.returns-in-Err-clause-stops
 returns-in-Err-clause-stops c = λ other. (
-  failed c.in-Err.fault (field_at c.args.part.now c.args.entry.now c.args.bit (drop c.args.at c.args.bytes.now)) c.in-Err.ensures.gives other,
+  failed c.in-Err.fault (field_at c.args.level c.args.part.now c.args.entry.now c.args.bit (drop c.args.at c.args.bytes.now)) c.in-Err.ensures.gives other,
   c.in-Err.ensures.unchanged,
 )
 

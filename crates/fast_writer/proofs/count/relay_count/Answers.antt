@@ -13,7 +13,7 @@ returns-in-Err-count_either-clause-stops g c = λ other.
     let stop = c.in-Err-count_either.ensures.stops other in (
       rw (c.in-Ok.ensures.value) at stop.0,
       (c.entry_mut.follows.holds c.count_either.new.entry (ap is_ok c.in-Ok.is)).0 ∙ ap (set_entry d k) (stop.1 ∙ c.in-Ok.ensures.value) ∙ set_entry-there d k,
-      level_bytes (level_of c.args.level.now) c.count_either.new.out.items stop.2,
+      level_bytes (level_of c.args.segment.now) c.count_either.new.out.items stop.2,
     )
 
 pub returns-in-Ok-ask-clause-took : goal.returns-in-Ok-ask-clause-took
@@ -21,5 +21,5 @@ returns-in-Ok-ask-clause-took g c =
     let d = g.E.Entries.contents c.args.entries.now in
     let new = c.count_either.new.entry in
     let r = c.in-Ok-count_either.ensures.relayed in
-    took_of c.args.part.now c.args.bit d (g.E.Entries.contents (c.entry_mut.follows.lender new)) c.in-Ok.entry.now new (length_of c.in-Ok-count_either.count) _ _ c.in-Ok.ensures.value
+    took_of c.args.level c.args.part.now c.args.bit d (g.E.Entries.contents (c.entry_mut.follows.lender new)) c.in-Ok.entry.now new (length_of c.in-Ok-count_either.count) _ _ c.in-Ok.ensures.value
     (c.entry_mut.follows.holds new (ap is_ok c.in-Ok.is)).0 r.entry r.read

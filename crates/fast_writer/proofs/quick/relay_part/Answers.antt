@@ -12,7 +12,7 @@ returns-in-Err-relay_either-clause-stops g c = λ other.
     let stop = c.in-Err-relay_either.ensures.stops other in (
       rw (c.in-Ok.ensures.value) at stop.0,
       (c.entry_mut.follows.holds c.relay_either.new.entry (ap is_ok c.in-Ok.is)).0 ∙ ap (set_entry d k) (stop.1 ∙ c.in-Ok.ensures.value) ∙ set_entry-there d k,
-      level_bytes (level_of c.args.level.now) c.relay_either.new.out.items stop.2,
+      level_bytes (level_of c.args.segment.now) c.relay_either.new.out.items stop.2,
     )
 
 pub returns-in-Ok-ask-clause-relays : goal.returns-in-Ok-ask-clause-relays
@@ -25,8 +25,8 @@ returns-in-Ok-ask-clause-relays g c =
     let v = r.0 in (
       v,
       r.1,
-      took_of i c.args.bit d (g.E.Entries.contents (c.entry_mut.follows.lender new)) old new v _ _ c.in-Ok.ensures.value
+      took_of c.args.level i c.args.bit d (g.E.Entries.contents (c.entry_mut.follows.lender new)) old new v _ _ c.in-Ok.ensures.value
           (c.entry_mut.follows.holds new (ap is_ok c.in-Ok.is)).0 r.2.entry r.2.read,
-      spelt_of i d old v c.in-Ok-relay_either.best c.part_needs_bit.result (level_of c.args.level.now) (level_of c.ask.new.self) c.relay_either.new.out.items
+      spelt_of i d old v c.in-Ok-relay_either.best c.part_needs_bit.result (level_of c.args.segment.now) (level_of c.ask.new.self) c.relay_either.new.out.items
           c.in-Ok.ensures.value c.part_needs_bit.ensures r.2.form c.in-Ok-ask.ensures,
     )

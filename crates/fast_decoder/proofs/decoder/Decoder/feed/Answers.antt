@@ -10,17 +10,17 @@ returns-clause-follows g c = λ none fed messages follows.
     let old = c.args.self.now.machine in
     let E = g.E.Entries in
     let before = map content_of c.args.out.now.items in
-    let none_whole = whole_of_follows old.fault old.traversal old.receiver (E.contents old.entries) old.held.items old.waiting [] fed messages follows.at in
-    let after = c.feed-fed.ensures.follows none before fed messages (record { at = rw (c.exchange.ensures.builder) (follows_rebased old.fault old.traversal old.receiver c.args.out.now (E.contents old.entries) old.held.items old.waiting [] fed messages follows.at); counts = follows.counts }) in
+    let none_whole = whole_of_follows old.fault old.framing old.left old.traversal old.receiver (E.contents old.entries) old.held.items old.waiting [] fed messages follows.at in
+    let after = c.feed-fed.ensures.follows none before fed messages (record { at = rw (c.exchange.ensures.builder) (follows_rebased old.fault old.framing old.left old.traversal old.receiver c.args.out.now (E.contents old.entries) old.held.items old.waiting [] fed messages follows.at); counts = follows.counts }) in
     let new = c.feed-fed.new.self in
     let all = messages ++ after.0 in
-    let whole = whole_of_follows new.fault new.traversal new.receiver (E.contents new.entries) new.held.items new.waiting (before ++ after.0) (fed ++ c.args.chunk.now) all after.1.at in
-    let ended = follows_rebased new.fault new.traversal new.receiver old.receiver.whole (E.contents new.entries) new.held.items new.waiting (before ++ after.0) (fed ++ c.args.chunk.now) all after.1.at in (
+    let whole = whole_of_follows new.fault new.framing new.left new.traversal new.receiver (E.contents new.entries) new.held.items new.waiting (before ++ after.0) (fed ++ c.args.chunk.now) all after.1.at in
+    let ended = follows_rebased new.fault new.framing new.left new.traversal new.receiver old.receiver.whole (E.contents new.entries) new.held.items new.waiting (before ++ after.0) (fed ++ c.args.chunk.now) all after.1.at in (
       after.0,
       ap (λ v. map content_of v.items) c.exchange-2.ensures.messages ∙ sym whole,
       record {
         at = rw (c.exchange-2.ensures.builder, c.exchange.ensures.messages)
-            (subst (λ (ms : List Content). FollowsAt BuilderHas BuilderStands BuilderStands new.fault new.traversal (with_whole new.receiver old.receiver.whole) (E.contents new.entries) new.held.items new.waiting ms (fed ++ c.args.chunk.now) all) (sym none_whole) ended);
+            (subst (λ (ms : List Content). FollowsAt BuilderHas BuilderStands BuilderStands new.fault new.framing new.left new.traversal (with_whole new.receiver old.receiver.whole) (E.contents new.entries) new.held.items new.waiting ms (fed ++ c.args.chunk.now) all) (sym none_whole) ended);
         counts = after.1.counts;
       },
     )

@@ -8,6 +8,7 @@ pub reads-init : goal.reads-init
 reads-init g c = record {
   turns = refl;
   set = refl;
+  mode = refl;
   waits = λ _. refl;
   closed = λ _. refl;
   read = ([], 0, none_read _, omega arith, λ bytes answered stands. (rw (append-nil bytes) stands, causes_none _ _));
@@ -25,6 +26,7 @@ reads-preserved g c =
     record {
       turns = r.turns ∙ i.turns;
       set = r.set ∙ i.set;
+      mode = r.mode ∙ i.mode;
       waits = λ some. absurd (some (sym (ap (λ s. s.waiting.items) (i.waits some)) ∙ more.1));
       closed = λ shut. absurd (shut (sym (ap (λ s. s.reached) (i.closed shut)) ∙ more.0));
       read = (

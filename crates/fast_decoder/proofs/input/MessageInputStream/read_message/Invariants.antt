@@ -1,6 +1,7 @@
 use Rattle.std.proofs.Common.{◌≡◌, ◌≢◌, ◌++◌, ◌+◌, ◌-◌, ℕ, List, []}
 use Rattle.fast_decoder.specs.declared.input.Reached.TheVariants as reached
 use Rattle.fast_stream.specs.Nodes.{Content}
+use Rattle.fast_machine.specs.Following.{mode_of}
 use Rattle.fast_decoder.specs.Inputs.{Causes, Reads, Stands, reader_by}
 use Rattle.fast_decoder.proofs.input.MessageInputStream.read_message.Given as goal
 
@@ -11,6 +12,7 @@ invariant-reads g l =
     record {
       turns : l.self.turns ≡ l.fn.self.turns;
       set : l.self.decoder.machine.traversal.set ≡ l.fn.self.decoder.machine.traversal.set;
+      mode : mode_of l.self.decoder.machine ≡ mode_of l.fn.self.decoder.machine;
       waits : l.fn.self.waiting.items ≢ [] → l.self ≡ l.fn.self;
       closed : l.fn.self.reached ≢ reached.Open → l.self ≡ l.fn.self;
       read : (got : List ℕ) × (count : ℕ) × Reads a b count got × (l.self.reads ≡ l.fn.self.reads + count)

@@ -16,7 +16,7 @@ returns-in-Ok-eq0-clause-read g c =
       λ bytes answered stands.
           let at = rw (c.requires.reached) at stands in
           let f = c.end-self.ensures.follows bytes (answered ++ waiting_in old.waiting.items) old.turns (g.R.ByteInput.left c.pull.new.self) at.0 (p.bytes.2 zero (omega arith)) in
-          (rw (append-nil bytes) (reached_with _ _ _ _ _ _ _ _ (λ none. absurd none) f.0), caused_by_end _ _ _ _ _ _ a b f.0 f.1 (p.end.0 zero (omega arith))),
+          (rw (append-nil bytes) (reached_with _ _ _ _ _ _ _ _ _ (λ none. absurd none) f.0), caused_by_end _ _ _ _ _ _ _ a b f.0 f.1 (p.end.0 zero (omega arith))),
     )
 
 pub returns-in-Ok-clause-read : goal.returns-in-Ok-clause-read
@@ -37,7 +37,7 @@ returns-in-Ok-clause-read g c =
           let size = length-append bytes got in
           let taken = length-take c.in-Ok.count c.pull.new.buf in
           let few = p.bytes.0 in
-          (reached_with _ _ (Follows c.feed-self.new.decoder (bytes ++ got) (answered ++ waiting_in c.feed-self.new.waiting.items) × (old.reads + 1 ≤ length (bytes ++ got))) _ _ _ _ _ (λ follows. (follows, omega (arith, before, size, taken, few, some))) f.0, caused_by_feed c.feed-self.result a b c.feed-self.ensures.end f.1 p.error (p.end.1 some)),
+          (reached_with _ _ (Follows c.feed-self.new.decoder (bytes ++ got) (answered ++ waiting_in c.feed-self.new.waiting.items) × (old.reads + 1 ≤ length (bytes ++ got))) _ _ _ _ _ _ (λ follows. (follows, omega (arith, before, size, taken, few, some))) f.0, caused_by_feed c.feed-self.result a b c.feed-self.ensures.end f.1 p.error (p.end.1 some)),
     )
 
 pub returns-in-Err-clause-read : goal.returns-in-Err-clause-read
@@ -51,5 +51,5 @@ returns-in-Err-clause-read g c =
       λ bytes answered stands.
           let at = rw (c.requires.reached) at stands in
           let cut = c.cut.ensures.place at.0.goes_on bytes (answered ++ waiting_in old.waiting.items) at.0.follows in
-          (rw (append-nil bytes, c.cut.ensures.set) (refused_by_read c.cut.result _ _ _ _ _ c.cut.ensures.cause cut), caused_by_read c.cut.result a b c.cut.ensures.cause p.error),
+          (rw (append-nil bytes, c.cut.ensures.set, c.cut.ensures.mode) (refused_by_read c.cut.result _ _ _ _ _ _ c.cut.ensures.cause cut), caused_by_read c.cut.result a b c.cut.ensures.cause p.error),
     )

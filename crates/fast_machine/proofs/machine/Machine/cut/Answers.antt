@@ -1,5 +1,6 @@
 use Rattle.std.proofs.Common.{ap, refl, arith}
 use Rattle.fast_template.specs.TemplateSets.{templates_in}
+use Rattle.fast_machine.specs.Following.{mode_of}
 use Rattle.fast_machine.proofs.Followings.{cut_between, cut_inside}
 use Rattle.fast_machine.proofs.machine.Machine.cut.Goals as goal
 
@@ -9,7 +10,7 @@ returns-in-Err-clause-place g c = λ none before fed messages follows.
     let t = c.in-Err.ensures.truncated none in
     let after = t.1 before fed messages c.requires.few follows in
     let refused = (rw (c.in-Err.ensures.answer) at after.at).0 in
-    cut_inside (templates_in old.traversal.set.now) (templates_in c.finish.new.self.traversal.set.now) c.in-Err.fault fed messages (ap (λ x. templates_in x.now) c.finish.ensures.set) t.0 refused.0 refused.1 refused.2
+    cut_inside (mode_of old) (mode_of c.finish.new.self) (templates_in old.traversal.set.now) (templates_in c.finish.new.self.traversal.set.now) c.in-Err.fault fed messages c.finish.ensures.mode (ap (λ x. templates_in x.now) c.finish.ensures.set) t.0 refused.0 refused.1 refused.2
 
 pub returns-in-Ok-clause-place : goal.returns-in-Ok-clause-place
 returns-in-Ok-clause-place g c = λ none before fed messages follows.
@@ -17,5 +18,5 @@ returns-in-Ok-clause-place g c = λ none before fed messages follows.
     let ok = c.in-Ok.ensures.ok in
     let sum = c.saturating_add.ensures in
     let count = ap (λ d. d.messages) ok.0 in
-    cut_between (templates_in old.traversal.set.now) fed messages old.fed old.messages (record { message = c.saturating_add.result; offset = c.finish.new.self.fed; template = 0; instruction = 0 }) follows.counts c.requires.few (ok.1 before fed messages follows)
+    cut_between (mode_of old) (templates_in old.traversal.set.now) fed messages old.fed old.messages (record { message = c.saturating_add.result; offset = c.finish.new.self.fed; template = 0; instruction = 0 }) follows.counts c.requires.few (ok.1 before fed messages follows)
     (λ small. omega (arith, sum, count, small)) c.in-Ok.ensures.fed refl refl

@@ -1,6 +1,5 @@
-use Rattle.std.proofs.Common.{inl, [], refl, sym}
-use Rattle.std.specs.FinMap as finite
-use Rattle.fast_machine.proofs.Standings.{stands_between}
+use Rattle.std.proofs.Common.{inl, refl}
+use Rattle.fast_machine.proofs.Standings.{stands_first}
 use Rattle.fast_machine.proofs.machine.Machine.reset.Goals as goal
 
 pub returns-clause-follows : goal.returns-clause-follows
@@ -9,10 +8,9 @@ returns-clause-follows g c = λ before stands.
     let old = c.args.self.now in
     record {
       at = (
-        rw (c.clear.ensures.items) (stands_between R.has R.stands R.keeps c.reset-2.new.self old.receiver (g.E.Entries.contents c.reset.new.self) before [] [] [] c.reset-2.ensures.stage
-            (rw (c.reset.ensures.cleared, c.reset-2.ensures.set) stands)
-            (record { front = []; rest = []; start = finite.empty; parts = refl; carried = (refl, refl); ends = (sym c.reset.ensures.cleared, refl, tt) })),
-        inl (c.reset-2.ensures.stage, c.clear.ensures.items),
+        rw (c.clear.ensures.items) (stands_first R.has R.stands R.keeps old.framing c.reset-2.new.self old.receiver (g.E.Entries.contents c.reset.new.self) before c.reset-2.ensures.stage
+            (rw (c.reset.ensures.cleared, c.reset-2.ensures.set) stands) c.reset.ensures.cleared),
+        inl (c.reset-2.ensures.stage, c.clear.ensures.items, refl),
       );
       counts = record { fed_is = refl; count_is = refl };
     }

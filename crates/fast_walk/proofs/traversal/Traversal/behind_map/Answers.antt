@@ -27,7 +27,7 @@ returns-in-Err-body-clause-stops g c = λ other before start read still.
     let d = g.E.Entries.contents c.args.entries.now in
     let i = c.in-Ok.ensures.goes before s.stands in
     s.reads (drop c.args.at c.args.bytes.now)
-    ∙ with_none (identifier_on set d c.args.self.now.walk.bits) i.0 (drop c.args.at c.args.bytes.now) (drop c.in-Ok.next c.args.bytes.now) i.2
+    ∙ with_none (identifier_on c.args.self.now.level set d c.args.self.now.walk.bits) i.0 (drop c.args.at c.args.bytes.now) (drop c.in-Ok.next c.args.bytes.now) i.2
     ∙ c.in-Err-body.ensures.stops other set before d i.0 i.1
 
 pub returns-in-Err-body-clause-held : goal.returns-in-Err-body-clause-held
@@ -55,4 +55,4 @@ returns-in-Err-clause-few g c = λ t.
     let old = c.args.self.now in
     let stops = c.in-Err.ensures.stops (want_of_bytes c.in-Err.halt.cause t) in
     behind_few c.args.bytes.now c.args.at
-    (identifier_few_at (templates_in old.set.now) (g.E.Entries.contents c.args.entries.now) old.walk.bits (drop c.args.at c.args.bytes.now) c.in-Err.halt stops t)
+    (identifier_few_at old.level (templates_in old.set.now) (g.E.Entries.contents c.args.entries.now) old.walk.bits (drop c.args.at c.args.bytes.now) c.in-Err.halt stops t)

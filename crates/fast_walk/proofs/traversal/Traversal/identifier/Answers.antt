@@ -20,17 +20,17 @@ returns-in-Err-clause-stops g c = λ other.
     let d = g.E.Entries.contents c.args.entries.now in
     let stops = (c.in-Err.ensures.stops (λ e. other (c.part_halt.ensures.cause ∙ ap cause_of_field e))).0 in
     rw (c.part_halt.ensures.cause, c.part_halt.ensures.number, old.identifier_is)
-    (identifier_stops (templates_in old.set.now) d old.walk.bits (drop c.args.at c.args.bytes.now) c.in-Err.fault
-    (rw (c.first_for-bit.ensures, c.part_needs_bit-needs.ensures, old.identifier_is) at stops))
+    (identifier_stops old.level (templates_in old.set.now) d old.walk.bits (drop c.args.at c.args.bytes.now) c.in-Err.fault
+    (rw (c.level-level.ensures, c.first_for-bit.ensures, c.part_needs_bit-needs.ensures, old.identifier_is) at stops))
 
 pub returns-in-None-clause-stops : goal.returns-in-None-clause-stops
 returns-in-None-clause-stops g c = λ other.
     let old = c.args.self.now in
     let d = g.E.Entries.contents c.args.entries.now in
     let e = g.E.Entries.contents c.begin.new.entries in
-    let took = rw (c.first_for-bit.ensures, c.part_needs_bit-needs.ensures, old.identifier_is) at c.in-Ok.ensures.goes.0 in
+    let took = rw (c.level-level.ensures, c.first_for-bit.ensures, c.part_needs_bit-needs.ensures, old.identifier_is) at c.in-Ok.ensures.goes.0 in
     let none = found_members old.set.now c.in-Ok.id ∙ ap members_found (sym (rw (c.in-None.is) at c.find.ensures.value)) in
-    unknown_stops (templates_in old.set.now) d e old.walk.bits (drop c.args.at c.args.bytes.now) (drop c.in-Ok.next c.args.bytes.now) c.in-Ok.id took none
+    unknown_stops old.level (templates_in old.set.now) d e old.walk.bits (drop c.args.at c.args.bytes.now) (drop c.in-Ok.next c.args.bytes.now) c.in-Ok.id took none
 
 pub returns-in-Some-clause-goes : goal.returns-in-Some-clause-goes
 returns-in-Some-clause-goes g c = λ before stands.
@@ -40,12 +40,12 @@ returns-in-Some-clause-goes g c = λ before stands.
     let e = g.E.Entries.contents c.begin.new.entries in
     let id = c.in-Ok.id in
     let members = list_of c.in-Some.template.now.members.items in
-    let took = rw (c.first_for-bit.ensures, c.part_needs_bit-needs.ensures, old.identifier_is) at c.in-Ok.ensures.goes.0 in
+    let took = rw (c.level-level.ensures, c.first_for-bit.ensures, c.part_needs_bit-needs.ensures, old.identifier_is) at c.in-Ok.ensures.goes.0 in
     let named = found_members old.set.now id ∙ ap members_found (sym (rw (c.in-Some.is) at c.find.ensures.value)) in
     let walk = c.open_message.new.self in
     let end = c.open_message.ensures in
     let o = opened set before id members d in (
-      λ bytes. message_of id (reads_on walk e o bytes),
+      λ bytes. message_of old.level id (reads_on old.level walk e o bytes),
       record {
         received = o;
         at = record { next = ap next_of (sym end.next); rest = ap list_of (sym (end.rest ∙ c.deref.ensures.value)); around = ap (map frame_of) (sym end.around) };
@@ -58,7 +58,7 @@ returns-in-Some-clause-goes g c = λ before stands.
         reads = λ bytes. refl;
       },
       λ more. rw (end.bits, end.spare, c.requires.spare, c.part_needs_bit-needs.ensures, old.identifier_is)
-          (identifier_goes set d e old.walk.bits (drop c.args.at c.args.bytes.now) (drop c.in-Ok.next c.args.bytes.now) more id members took named),
+          (identifier_goes old.level set d e old.walk.bits (drop c.args.at c.args.bytes.now) (drop c.in-Ok.next c.args.bytes.now) more id members took named),
     )
 
 pub returns-in-Some-clause-ready : goal.returns-in-Some-clause-ready

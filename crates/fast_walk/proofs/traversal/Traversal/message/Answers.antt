@@ -10,7 +10,7 @@ pub returns-in-Err-clause-held : goal.returns-in-Err-clause-held
 returns-in-Err-clause-held g c = λ other before start read still.
     let s = rw (c.in-Map.is) at still in (
       read,
-      rw (c.in-Err.ensures.waits, c.in-Map.is) (record { stands = s.stands; start_is = s.start_is; reads = s.reads }),
+      rw (c.in-Err.ensures.waits, c.in-Map.is, c.map.ensures.level) (record { stands = s.stands; start_is = s.start_is; reads = s.reads }),
       λ more. refl,
     )
 
@@ -19,20 +19,20 @@ returns-in-Err-behind_map-clause-stops g c = λ other before start read still.
     let s = rw (c.in-Map.is) at still in
     let set = templates_in c.args.self.now.set.now in
     let d = g.E.Entries.contents c.args.entries.now in
-    let now = identifier_on set d c.map.new.self.walk.bits in
+    let now = identifier_on c.args.self.now.level set d c.map.new.self.walk.bits in
     let inner = rw (c.map.ensures.set) at (c.in-Err-behind_map.ensures.stops other) in
     s.reads (drop c.args.at c.args.bytes.now)
-    ∙ with_none (message_at set d) now (drop c.args.at c.args.bytes.now) (drop c.in-Ok.next c.args.bytes.now) (c.in-Ok.ensures.goes d)
-    ∙ inner before start now (rw (c.in-Ok.ensures.stage) (record { stands = s.stands; start_is = s.start_is; reads = λ bytes. refl }))
+    ∙ with_none (message_at c.args.self.now.level set d) now (drop c.args.at c.args.bytes.now) (drop c.in-Ok.next c.args.bytes.now) (c.in-Ok.ensures.goes d)
+    ∙ inner before start now (rw (c.in-Ok.ensures.stage, c.map.ensures.level) (record { stands = s.stands; start_is = s.start_is; reads = λ bytes. refl }))
 
 pub returns-in-Err-behind_map-clause-held : goal.returns-in-Err-behind_map-clause-held
 returns-in-Err-behind_map-clause-held g c = λ other before start read still.
     let s = rw (c.in-Map.is) at still in
     let set = templates_in c.args.self.now.set.now in
     let d = g.E.Entries.contents c.args.entries.now in
-    let now = identifier_on set d c.map.new.self.walk.bits in
+    let now = identifier_on c.args.self.now.level set d c.map.new.self.walk.bits in
     let inner = rw (c.map.ensures.set) at (c.in-Err-behind_map.ensures.held other) in
-    let h = inner before start now (rw (c.in-Ok.ensures.stage) (record { stands = s.stands; start_is = s.start_is; reads = λ bytes. refl })) in
+    let h = inner before start now (rw (c.in-Ok.ensures.stage, c.map.ensures.level) (record { stands = s.stands; start_is = s.start_is; reads = λ bytes. refl })) in
     (h.0, h.1, λ more. s.reads (drop c.args.at c.args.bytes.now ++ more) ∙ c.in-Ok.ensures.goes d more ∙ h.2 more)
 
 pub returns-in-Err-behind_map-clause-keeps : goal.returns-in-Err-behind_map-clause-keeps
@@ -40,21 +40,21 @@ returns-in-Err-behind_map-clause-keeps g c = λ before start read still.
     let s = rw (c.in-Map.is) at still in
     let set = templates_in c.args.self.now.set.now in
     let d = g.E.Entries.contents c.args.entries.now in
-    let now = identifier_on set d c.map.new.self.walk.bits in
+    let now = identifier_on c.args.self.now.level set d c.map.new.self.walk.bits in
     let inner = rw (c.map.ensures.set) at c.in-Err-behind_map.ensures.keeps in
-    inner before start now (rw (c.in-Ok.ensures.stage) (record { stands = s.stands; start_is = s.start_is; reads = λ bytes. refl }))
+    inner before start now (rw (c.in-Ok.ensures.stage, c.map.ensures.level) (record { stands = s.stands; start_is = s.start_is; reads = λ bytes. refl }))
 
 pub returns-in-Ok-behind_map-clause-goes : goal.returns-in-Ok-behind_map-clause-goes
 returns-in-Ok-behind_map-clause-goes g c = λ before start read still.
     let s = rw (c.in-Map.is) at still in
     let set = templates_in c.args.self.now.set.now in
     let d = g.E.Entries.contents c.args.entries.now in
-    let now = identifier_on set d c.map.new.self.walk.bits in
+    let now = identifier_on c.args.self.now.level set d c.map.new.self.walk.bits in
     let inner = rw (c.map.ensures.set) at c.in-Ok-behind_map.ensures.goes in
-    let m = inner before start now (rw (c.in-Ok.ensures.stage) (record { stands = s.stands; start_is = s.start_is; reads = λ bytes. refl })) in
+    let m = inner before start now (rw (c.in-Ok.ensures.stage, c.map.ensures.level) (record { stands = s.stands; start_is = s.start_is; reads = λ bytes. refl })) in
     (m.0, λ more. s.reads (drop c.args.at c.args.bytes.now ++ more) ∙ c.in-Ok.ensures.goes d more ∙ m.1 more, m.2)
 
 pub returns-in-Err-clause-few : goal.returns-in-Err-clause-few
 returns-in-Err-clause-few g c = λ t.
     let stops = c.in-Err.ensures.stops (want_of_bytes c.in-Err.halt.cause t) in
-    behind_few c.args.bytes.now c.args.at (map_few_at (templates_in c.args.self.now.set.now) (drop c.args.at c.args.bytes.now) c.in-Err.halt stops t)
+    behind_few c.args.bytes.now c.args.at (map_few_at c.args.self.now.level (templates_in c.args.self.now.set.now) (drop c.args.at c.args.bytes.now) c.in-Err.halt stops t)

@@ -15,7 +15,7 @@ returns-then-sequel-eq0-clause-goes g c = λ d o at.
       after_sequence o q.sequel,
       (record { next = refl; rest = at.0.rest; around = at.0.around }, c.in_ok-end_sequence.ensures.has o d q.sequel q.is none at.1),
       record { set = refl; before = refl; template = refl; members = refl; start = refl },
-      λ more. no_more_on o.around o.next o.body q.sequel (cursor d old.bits old.spare (drop c.args.at c.args.bytes.now ++ more)) q.is none,
+      λ more. no_more_on g.L.Leveled.at o.around o.next o.body q.sequel (cursor d old.bits old.spare (drop c.args.at c.args.bytes.now ++ more)) q.is none,
     )
 
 pub returns-in-Err-clause-stops : goal.returns-in-Err-clause-stops
@@ -23,15 +23,15 @@ returns-in-Err-clause-stops g c = λ other d o at.
     let old = c.args.self.now in
     let bytes = drop c.args.at c.args.bytes.now in
     let q = is_sequel o.next (sequel_of c.args.sequel) (at.next ∙ ap next_of c.requires.next) in
-    no_node_on o.around o.next o.body q.sequel (sequel_of c.args.sequel) (cursor d old.bits old.spare bytes) _ q.is q.same (omega (arith, c.if-sequel-eq0.false)) (c.in-Err.ensures.stops d old.bits bytes)
+    no_node_on g.L.Leveled.at o.around o.next o.body q.sequel (sequel_of c.args.sequel) (cursor d old.bits old.spare bytes) _ q.is q.same (omega (arith, c.if-sequel-eq0.false)) (c.in-Err.ensures.stops d old.bits bytes)
 
 pub returns-in-Err-read_own_map-clause-stops : goal.returns-in-Err-read_own_map-clause-stops
 returns-in-Err-read_own_map-clause-stops g c = λ other d o at.
     let old = c.args.self.now in
     let bytes = drop c.args.at c.args.bytes.now in
     let q = is_sequel o.next (sequel_of c.args.sequel) (at.next ∙ ap next_of c.requires.next) in
-    no_map_on o.around o.next o.body q.sequel (sequel_of c.args.sequel) (cursor d old.bits old.spare bytes) (cursor d old.bits (old.spare - 1) bytes) _ q.is q.same (omega (arith, c.if-sequel-eq0.false))
-    (c.in-Ok.ensures.goes d old.bits bytes) (c.in-Err-read_own_map.ensures.stops other d old.bits (old.spare - 1))
+    no_map_on g.L.Leveled.at o.around o.next o.body q.sequel (sequel_of c.args.sequel) (cursor d old.bits old.spare bytes) (cursor d old.bits (old.spare - 1) bytes) _ q.is q.same (omega (arith, c.if-sequel-eq0.false))
+    (c.in-Ok.ensures.goes d old.bits bytes) (rw (c.level.ensures) at c.in-Err-read_own_map.ensures.stops other d old.bits (old.spare - 1))
 
 pub returns-in_ok-one_more-in-Ok-read_own_map-clause-goes : goal.returns-in_ok-one_more-in-Ok-read_own_map-clause-goes
 returns-in_ok-one_more-in-Ok-read_own_map-clause-goes g c = λ d o at.
@@ -53,8 +53,8 @@ returns-in_ok-one_more-in-Ok-read_own_map-clause-goes g c = λ d o at.
       λ more.
           let bytes = drop c.args.at c.args.bytes.now ++ more in
           rw (end.bits, end.spare)
-          (element_on o.around o.next o.body q.sequel (sequel_of c.args.sequel) (cursor d old.bits old.spare bytes) (cursor d old.bits (old.spare - 1) bytes) _ q.is q.same (omega (arith, c.if-sequel-eq0.false))
-          (c.in-Ok.ensures.goes d old.bits bytes) (c.in-Ok-read_own_map.ensures.goes d old.bits (old.spare - 1) more)),
+          (element_on g.L.Leveled.at o.around o.next o.body q.sequel (sequel_of c.args.sequel) (cursor d old.bits old.spare bytes) (cursor d old.bits (old.spare - 1) bytes) _ q.is q.same (omega (arith, c.if-sequel-eq0.false))
+          (c.in-Ok.ensures.goes d old.bits bytes) (rw (c.level.ensures) at c.in-Ok-read_own_map.ensures.goes d old.bits (old.spare - 1) more)),
     )
 
 pub returns-in_ok-one_more-in-Ok-read_own_map-clause-ready : goal.returns-in_ok-one_more-in-Ok-read_own_map-clause-ready

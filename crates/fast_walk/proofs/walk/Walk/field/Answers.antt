@@ -13,7 +13,7 @@ pub returns-in-Err-clause-stops : goal.returns-in-Err-clause-stops
 returns-in-Err-clause-stops g c = λ other o at.
     let old = c.args.self.now in
     let d = g.E.Entries.contents c.args.entries.now in
-    piece_stops_on o.around o.next o.body (whole_field c.args.name.now c.args.number c.args.presence c.args.whole.now) (list_of c.args.others.now) (cursor d old.bits old.spare (drop c.args.at c.args.bytes.now)) _
+    piece_stops_on g.L.Leveled.at o.around o.next o.body (whole_field c.args.name.now c.args.number c.args.presence c.args.whole.now) (list_of c.args.others.now) (cursor d old.bits old.spare (drop c.args.at c.args.bytes.now)) _
     (is_instruction o.next (at.next ∙ ap next_of c.requires.next)) (at.rest ∙ c.requires.first)
     (rw (c.in-Err.ensures.stops d old.bits (drop c.args.at c.args.bytes.now)) refl)
 
@@ -23,9 +23,9 @@ returns-in-Err-field-clause-stops g c = λ other o at.
     let d = g.E.Entries.contents c.args.entries.now in
     let bytes = drop c.args.at c.args.bytes.now in
     let stops = (c.in-Err-field.ensures.stops (λ e. other (c.part_halt.ensures.cause ∙ ap cause_of_field e))).0 in
-    let part = part_stops c.args.whole.now d old.bits (old.spare - 1) bytes c.in-Err-field.fault (rw (c.first_for-bit.ensures, c.part_needs_bit-needs.ensures) at stops) in
+    let part = part_stops g.L.Leveled.at c.args.whole.now d old.bits (old.spare - 1) bytes c.in-Err-field.fault (rw (c.level.ensures, c.first_for-bit.ensures, c.part_needs_bit-needs.ensures) at stops) in
     rw (c.part_halt.ensures.cause, c.part_halt.ensures.number)
-    (piece_stops_on o.around o.next o.body (whole_field c.args.name.now c.args.number c.args.presence c.args.whole.now) (list_of c.args.others.now) (cursor d old.bits old.spare bytes) _
+    (piece_stops_on g.L.Leveled.at o.around o.next o.body (whole_field c.args.name.now c.args.number c.args.presence c.args.whole.now) (list_of c.args.others.now) (cursor d old.bits old.spare bytes) _
     (is_instruction o.next (at.next ∙ ap next_of c.requires.next)) (at.rest ∙ c.requires.first)
     (rw (c.in-Ok.ensures.goes d old.bits bytes, part) refl))
 
@@ -51,8 +51,8 @@ returns-in-Ok-field-clause-goes g c = λ o at.
       λ more.
           let bytes = drop c.args.at c.args.bytes.now ++ more in
           rw (end.bits, end.spare, c.part_needs_bit-needs.ensures, took.1.entry)
-          (field_on o.around o.next o.body c.args.name.now c.args.number c.args.presence c.args.whole.now others (cursor d old.bits old.spare bytes) (cursor d old.bits (old.spare - 1) bytes) _ took.0 next (at.0.rest ∙ c.requires.first)
+          (field_on g.L.Leveled.at o.around o.next o.body c.args.name.now c.args.number c.args.presence c.args.whole.now others (cursor d old.bits old.spare bytes) (cursor d old.bits (old.spare - 1) bytes) _ took.0 next (at.0.rest ∙ c.requires.first)
           (c.in-Ok.ensures.goes d old.bits bytes)
-          (part_goes c.args.whole.now d old.bits (old.spare - 1) bytes (drop c.in-Ok-field.next c.args.bytes.now ++ more) took.0
-          (rw (c.first_for-bit.ensures, c.part_needs_bit-needs.ensures) at took.1.value more))),
+          (part_goes g.L.Leveled.at c.args.whole.now d old.bits (old.spare - 1) bytes (drop c.in-Ok-field.next c.args.bytes.now ++ more) took.0
+          (rw (c.level.ensures, c.first_for-bit.ensures, c.part_needs_bit-needs.ensures) at took.1.value more))),
     )

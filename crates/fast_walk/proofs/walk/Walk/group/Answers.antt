@@ -13,7 +13,7 @@ use Rattle.fast_walk.proofs.walk.Walk.group.Goals as goal
 pub returns-in-Err-clause-stops : goal.returns-in-Err-clause-stops
 returns-in-Err-clause-stops g c = λ other d o at.
     let old = c.args.self.now in
-    piece_stops_on o.around o.next o.body (group_of c.args.name.now c.args.number c.args.presence (list_of c.args.members.now)) (list_of c.args.others.now) (cursor d old.bits old.spare (drop c.args.at c.args.bytes.now)) _
+    piece_stops_on g.L.Leveled.at o.around o.next o.body (group_of c.args.name.now c.args.number c.args.presence (list_of c.args.members.now)) (list_of c.args.others.now) (cursor d old.bits old.spare (drop c.args.at c.args.bytes.now)) _
     (is_instruction o.next (at.next ∙ ap next_of c.requires.next)) (at.rest ∙ c.requires.first)
     (rw (c.in-Err.ensures.stops d old.bits (drop c.args.at c.args.bytes.now)) refl)
 
@@ -23,11 +23,11 @@ returns-in-Err-read_own_map-clause-stops g c = λ other d o at.
     let bytes = drop c.args.at c.args.bytes.now in
     let members = list_of c.args.members.now in
     let bit : bit_for (is_optional c.args.presence) old.bits ≡ true = rw (← c.is_optional-optional.ensures, ← c.first_for-present.ensures) c.if-present.true in
-    piece_stops_on o.around o.next o.body (group_of c.args.name.now c.args.number c.args.presence members) (list_of c.args.others.now) (cursor d old.bits old.spare bytes) _
+    piece_stops_on g.L.Leveled.at o.around o.next o.body (group_of c.args.name.now c.args.number c.args.presence members) (list_of c.args.others.now) (cursor d old.bits old.spare bytes) _
     (is_instruction o.next (at.next ∙ ap next_of c.requires.next)) (at.rest ∙ c.requires.first)
-    (group_stops c.args.name.now c.args.number c.args.presence members (cursor d old.bits old.spare bytes) (cursor d old.bits (old.spare - 1) bytes) _
+    (group_stops g.L.Leveled.at c.args.name.now c.args.number c.args.presence members (cursor d old.bits old.spare bytes) (cursor d old.bits (old.spare - 1) bytes) _
     (c.in-Ok.ensures.goes d old.bits bytes) bit
-    (rw (c.has_map-own_map.ensures) at c.in-Err-read_own_map.ensures.stops other d (after_bit (is_optional c.args.presence) old.bits) (old.spare - 1)))
+    (rw (c.level.ensures, c.has_map-own_map.ensures) at c.in-Err-read_own_map.ensures.stops other d (after_bit (is_optional c.args.presence) old.bits) (old.spare - 1)))
 
 pub returns-in_ok-left_out-in-Ok-clause-goes : goal.returns-in_ok-left_out-in-Ok-clause-goes
 returns-in_ok-left_out-in-Ok-clause-goes g c = λ d o at.
@@ -46,7 +46,7 @@ returns-in_ok-left_out-in-Ok-clause-goes g c = λ d o at.
       λ more.
           let bytes = drop c.args.at c.args.bytes.now ++ more in
           rw (end.bits, end.spare, c.is_optional-optional.ensures)
-          (no_group_on o.around o.next o.body c.args.name.now c.args.number c.args.presence members others (cursor d old.bits old.spare bytes) (cursor d old.bits (old.spare - 1) bytes) next (at.0.rest ∙ c.requires.first)
+          (no_group_on g.L.Leveled.at o.around o.next o.body c.args.name.now c.args.number c.args.presence members others (cursor d old.bits old.spare bytes) (cursor d old.bits (old.spare - 1) bytes) next (at.0.rest ∙ c.requires.first)
           (c.in-Ok.ensures.goes d old.bits bytes) bit),
     )
   where
@@ -63,13 +63,13 @@ returns-in_ok-open-in-Ok-read_own_map-clause-goes g c = λ d o at.
     let bit : bit_for (is_optional c.args.presence) old.bits ≡ true = rw (← c.is_optional-optional.ensures, ← c.first_for-present.ensures) c.if-present.true in
     let bits = after_bit (is_optional c.args.presence) old.bits in
     let end = c.in_ok-open-in-Ok-read_own_map.ensures in (
-      entered o bits members others,
+      entered o c.args.number bits members others,
       (
         record {
           next = ap next_of (sym end.next);
           rest = ap list_of (sym end.rest);
-          around = rw (end.around, c.take_for.ensures, c.is_optional-optional.ensures) (map_push bare o.around (record { bits = bits; body = record { rest = others; done = o.body.done }; inside = in_group })
-              ∙ ap (λ (ws : List Waiting). ws ++ record { bits = bits; body = record { rest = others; done = [] }; inside = in_group } ∷ []) at.0.around);
+          around = rw (end.around, c.take_for.ensures, c.is_optional-optional.ensures) (map_push bare o.around (record { bits = bits; number = c.args.number; body = record { rest = others; done = o.body.done }; inside = in_group })
+              ∙ ap (λ (ws : List Waiting). ws ++ record { bits = bits; number = c.args.number; body = record { rest = others; done = [] }; inside = in_group } ∷ []) at.0.around);
         },
         c.in_ok-enter-in-Ok-read_own_map.ensures.has c.args.number c.args.presence members others bits o d next (at.0.rest ∙ c.requires.first) c.is_optional-optional.ensures c.has_map-own_map.ensures at.1,
       ),
@@ -77,9 +77,9 @@ returns-in_ok-open-in-Ok-read_own_map-clause-goes g c = λ d o at.
       λ more.
           let bytes = drop c.args.at c.args.bytes.now ++ more in
           rw (end.bits, end.spare)
-          (group_on o.around o.next o.body c.args.name.now c.args.number c.args.presence members others (cursor d old.bits old.spare bytes) (cursor d old.bits (old.spare - 1) bytes) _ next (at.0.rest ∙ c.requires.first)
+          (group_on g.L.Leveled.at o.around o.next o.body c.args.name.now c.args.number c.args.presence members others (cursor d old.bits old.spare bytes) (cursor d old.bits (old.spare - 1) bytes) _ next (at.0.rest ∙ c.requires.first)
           (c.in-Ok.ensures.goes d old.bits bytes) bit
-          (rw (c.has_map-own_map.ensures) at c.in-Ok-read_own_map.ensures.goes d bits (old.spare - 1) more)),
+          (rw (c.level.ensures, c.has_map-own_map.ensures) at c.in-Ok-read_own_map.ensures.goes d bits (old.spare - 1) more)),
     )
 
 pub returns-in_ok-open-in-Ok-read_own_map-clause-ready : goal.returns-in_ok-open-in-Ok-read_own_map-clause-ready

@@ -16,9 +16,9 @@ returns-in-Err-clause-stops g c = λ other o at.
     let bytes = drop c.args.at c.args.bytes.now in
     let next = is_mantissa o.next _ c.args.mantissa.now (at.next ∙ ap next_of c.requires.next) in
     let stops = (c.in-Err.ensures.stops (λ e. other (c.part_halt.ensures.cause ∙ ap cause_of_field e))).0 in
-    let part = part_stops c.args.mantissa.now d old.bits old.spare bytes c.in-Err.fault (rw (c.first_for-bit.ensures, c.part_needs_bit-needs.ensures) at stops) in
+    let part = part_stops g.L.Leveled.at c.args.mantissa.now d old.bits old.spare bytes c.in-Err.fault (rw (c.level.ensures, c.first_for-bit.ensures, c.part_needs_bit-needs.ensures) at stops) in
     rw (c.part_halt.ensures.cause, c.part_halt.ensures.number)
-    (mantissa_on_stops o.around o.next next.exponent c.args.mantissa.now o.body (cursor d old.bits old.spare bytes) _ next.is part)
+    (mantissa_on_stops g.L.Leveled.at o.around o.next next.exponent c.args.mantissa.now o.body (cursor d old.bits old.spare bytes) _ next.is part)
 
 pub returns-in-Err-clause-waits : goal.returns-in-Err-clause-waits
 returns-in-Err-clause-waits g c = λ other.
@@ -37,7 +37,7 @@ returns-in-Ok-clause-goes g c = λ o at.
       λ more.
           let bytes = drop c.args.at c.args.bytes.now ++ more in
           rw (c.take_for.ensures, c.part_needs_bit-needs.ensures, took.1.entry)
-          (mantissa_on_goes o.around o.next next.exponent took.0 c.args.mantissa.now o.body (cursor d old.bits old.spare bytes) _ next.is
-          (part_goes c.args.mantissa.now d old.bits old.spare bytes (drop c.in-Ok.next c.args.bytes.now ++ more) (Some (I64 took.0))
-          (rw (c.first_for-bit.ensures, c.part_needs_bit-needs.ensures) at took.1.value more))),
+          (mantissa_on_goes g.L.Leveled.at o.around o.next next.exponent took.0 c.args.mantissa.now o.body (cursor d old.bits old.spare bytes) _ next.is
+          (part_goes g.L.Leveled.at c.args.mantissa.now d old.bits old.spare bytes (drop c.in-Ok.next c.args.bytes.now ++ more) (Some (I64 took.0))
+          (rw (c.level.ensures, c.first_for-bit.ensures, c.part_needs_bit-needs.ensures) at took.1.value more))),
     )

@@ -14,7 +14,7 @@ pub returns-in-Err-clause-stops : goal.returns-in-Err-clause-stops
 returns-in-Err-clause-stops g c = λ other o at.
     let old = c.args.self.now in
     let d = g.E.Entries.contents c.args.entries.now in
-    piece_stops_on o.around o.next o.body (sequence_of c.args.name.now c.args.number c.args.presence c.args.part.now (list_of c.args.members.now)) (list_of c.args.others.now) (cursor d old.bits old.spare (drop c.args.at c.args.bytes.now)) _
+    piece_stops_on g.L.Leveled.at o.around o.next o.body (sequence_of c.args.name.now c.args.number c.args.presence c.args.part.now (list_of c.args.members.now)) (list_of c.args.others.now) (cursor d old.bits old.spare (drop c.args.at c.args.bytes.now)) _
     (is_instruction o.next (at.next ∙ ap next_of c.requires.next)) (at.rest ∙ c.requires.first)
     (rw (c.in-Err.ensures.stops d old.bits (drop c.args.at c.args.bytes.now)) refl)
 
@@ -24,9 +24,9 @@ returns-in-Err-begin_sequence-clause-stops g c = λ other o at.
     let d = g.E.Entries.contents c.args.entries.now in
     let bytes = drop c.args.at c.args.bytes.now in
     let stops = (c.in-Err-begin_sequence.ensures.stops (λ e. other (c.part_halt.ensures.cause ∙ ap cause_of_field e))).0 in
-    let part = part_stops c.args.part.now d old.bits (old.spare - 1) bytes c.in-Err-begin_sequence.fault (rw (c.first_for-bit.ensures, c.part_needs_bit-needs.ensures) at stops) in
+    let part = part_stops g.L.Leveled.at c.args.part.now d old.bits (old.spare - 1) bytes c.in-Err-begin_sequence.fault (rw (c.level.ensures, c.first_for-bit.ensures, c.part_needs_bit-needs.ensures) at stops) in
     rw (c.part_halt.ensures.cause, c.part_halt.ensures.number)
-    (piece_stops_on o.around o.next o.body (sequence_of c.args.name.now c.args.number c.args.presence c.args.part.now (list_of c.args.members.now)) (list_of c.args.others.now) (cursor d old.bits old.spare bytes) _
+    (piece_stops_on g.L.Leveled.at o.around o.next o.body (sequence_of c.args.name.now c.args.number c.args.presence c.args.part.now (list_of c.args.members.now)) (list_of c.args.others.now) (cursor d old.bits old.spare bytes) _
     (is_instruction o.next (at.next ∙ ap next_of c.requires.next)) (at.rest ∙ c.requires.first)
     (rw (c.in-Ok.ensures.goes d old.bits bytes, part) refl))
 
@@ -53,10 +53,10 @@ returns-in-None-clause-goes g c = λ o at.
       λ more.
           let bytes = drop c.args.at c.args.bytes.now ++ more in
           rw (end.bits, end.spare, c.part_needs_bit-needs.ensures, took.0.entry)
-          (no_length_on o.around o.next o.body c.args.name.now c.args.number c.args.presence c.args.part.now members others (cursor d old.bits old.spare bytes) (cursor d old.bits (old.spare - 1) bytes) _ next (at.0.rest ∙ c.requires.first)
+          (no_length_on g.L.Leveled.at o.around o.next o.body c.args.name.now c.args.number c.args.presence c.args.part.now members others (cursor d old.bits old.spare bytes) (cursor d old.bits (old.spare - 1) bytes) _ next (at.0.rest ∙ c.requires.first)
           (c.in-Ok.ensures.goes d old.bits bytes)
-          (part_goes c.args.part.now d old.bits (old.spare - 1) bytes (drop c.in-Ok-begin_sequence.next c.args.bytes.now ++ more) None
-          (rw (c.first_for-bit.ensures, c.part_needs_bit-needs.ensures) at took.0.value more))),
+          (part_goes g.L.Leveled.at c.args.part.now d old.bits (old.spare - 1) bytes (drop c.in-Ok-begin_sequence.next c.args.bytes.now ++ more) None
+          (rw (c.level.ensures, c.first_for-bit.ensures, c.part_needs_bit-needs.ensures) at took.0.value more))),
     )
 
 pub returns-in-Some-clause-goes : goal.returns-in-Some-clause-goes
@@ -78,8 +78,8 @@ returns-in-Some-clause-goes g c = λ o at.
       λ more.
           let bytes = drop c.args.at c.args.bytes.now ++ more in
           rw (end.bits, end.spare, c.part_needs_bit-needs.ensures, took.0.entry)
-          (length_on o.around o.next o.body c.args.name.now c.args.number c.args.presence c.args.part.now members others (cursor d old.bits old.spare bytes) (cursor d old.bits (old.spare - 1) bytes) _ many next (at.0.rest ∙ c.requires.first)
+          (length_on g.L.Leveled.at o.around o.next o.body c.args.name.now c.args.number c.args.presence c.args.part.now members others (cursor d old.bits old.spare bytes) (cursor d old.bits (old.spare - 1) bytes) _ many next (at.0.rest ∙ c.requires.first)
           (c.in-Ok.ensures.goes d old.bits bytes)
-          (part_goes c.args.part.now d old.bits (old.spare - 1) bytes (drop c.in-Ok-begin_sequence.next c.args.bytes.now ++ more) (Some (U32 many))
-          (rw (c.first_for-bit.ensures, c.part_needs_bit-needs.ensures) at took.0.value more))),
+          (part_goes g.L.Leveled.at c.args.part.now d old.bits (old.spare - 1) bytes (drop c.in-Ok-begin_sequence.next c.args.bytes.now ++ more) (Some (U32 many))
+          (rw (c.level.ensures, c.first_for-bit.ensures, c.part_needs_bit-needs.ensures) at took.0.value more))),
     )

@@ -14,7 +14,7 @@ returns-in-Ok-Some-default-clause-goes g c =
       took,
       λ set ms members stands. (
         stands,
-        has_opened (map level_of c.clear.new.self.items) (level_of c.begin.new.self) (level_of c.relay_count.new.level) set ms c.in-Ok-Some-default.id members d e
+        has_opened (map level_of c.clear.new.self.items) (level_of c.begin.new.self) (level_of c.relay_count.new.segment) set ms c.in-Ok-Some-default.id members d e
             (ap (map level_of) c.clear.ensures.items) c.begin.ensures.bits c.begin.ensures.own c.begin.ensures.bytes (rw (named) at took.entry) (rw (named) at spelt),
       ),
     )

@@ -13,6 +13,6 @@ returns-in-Ok-clause-goes g c =
       took,
       λ number members is o next first has. (
         length_finished n old.out.items o number members is has.0,
-        has_length n (map level_of old.outer.items) (level_of old.inner) (level_of c.relay_count.new.level) o c.args._name.now number c.args._presence c.args.part.now members is d e next first took.entry c.in-Ok.ensures.spelt has.1,
+        has_length n (map level_of old.outer.items) (level_of old.inner) (level_of c.relay_count.new.segment) o c.args._name.now number c.args._presence c.args.part.now members is d e next first took.entry c.in-Ok.ensures.spelt has.1,
       ),
     )

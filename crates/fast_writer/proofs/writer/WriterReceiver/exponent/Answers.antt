@@ -18,6 +18,6 @@ returns-in-Ok-clause-goes g c =
       is_exponent x.0 c.in-Ok.there x.2,
       λ number mantissa is o next first has. (
         exponent_finished x.0 old.out.items o is mantissa has.0,
-        has_exponent x.0 (map level_of old.outer.items) (level_of old.inner) (level_of c.relay_part.new.level) o c.args._name.now number c.args._presence c.args.part.now mantissa is d e next first took.entry (rw (x.1) at r.3) has.1,
+        has_exponent x.0 (map level_of old.outer.items) (level_of old.inner) (level_of c.relay_part.new.segment) o c.args._name.now number c.args._presence c.args.part.now mantissa is d e next first took.entry (rw (x.1) at r.3) has.1,
       ),
     )

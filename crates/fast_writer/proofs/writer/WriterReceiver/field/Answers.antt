@@ -13,6 +13,6 @@ returns-in-Ok-clause-goes g c =
       r.2,
       λ number is o next first has. (
         has.0,
-        has_field (map level_of old.outer.items) (level_of old.inner) (level_of c.relay_part.new.level) o c.args._name.now number c.args._presence c.args.part.now is d e r.0 next first r.2.entry r.3 has.1,
+        has_field (map level_of old.outer.items) (level_of old.inner) (level_of c.relay_part.new.segment) o c.args._name.now number c.args._presence c.args.part.now is d e r.0 next first r.2.entry r.3 has.1,
       ),
     )

@@ -16,6 +16,6 @@ returns-then-there-clause-goes g c =
       took,
       λ z o next has. (
         has.0,
-        has_mantissa (map level_of old.outer.items) (level_of old.inner) (level_of c.relay_part.new.level) o z x.0 c.args.part.now d e next took.entry (rw (x.1) at r.3) has.1,
+        has_mantissa (map level_of old.outer.items) (level_of old.inner) (level_of c.relay_part.new.segment) o z x.0 c.args.part.now d e next took.entry (rw (x.1) at r.3) has.1,
       ),
     )

@@ -1,8 +1,8 @@
 use Rattle.std.proofs.Common.{rules, drop, inl, inr, refl, sym, ◌∙◌}
 use Rattle.fast_wire.specs.declared.fault.WireFault.TheVariants as fault
 use Rattle.fast_writer.proofs.Rooms.{has_set_of, none_set_of}
-use Rattle.fast_writer.proofs.level.Level.seal.Goals.{then-self+in-Ok, else-self}
-use Rattle.fast_writer.proofs.level.Level.seal.Goals as goal
+use Rattle.fast_writer.proofs.segment.Segment.seal.Goals.{then-self+in-Ok, else-self}
+use Rattle.fast_writer.proofs.segment.Segment.seal.Goals as goal
 
 pub returns-in-Err-TooLong-clause-refused : goal.returns-in-Err-TooLong-clause-refused
 returns-in-Err-TooLong-clause-refused c = elim c.in-Err-TooLong.ensures.err [

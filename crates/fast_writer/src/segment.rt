@@ -10,7 +10,7 @@ use std::alloc::{AllocError, Global};
 
 /// A segment: the bits asked for in their order, whether they stand in a map of its own, and the bytes behind that.
 #[derive(Drop)]
-pub struct Level {
+pub struct Segment {
     /// The bits that its instructions asked for, in their order.
     pub bits: Vec<bool>,
     /// Whether they stand in a map of its own.
@@ -19,17 +19,17 @@ pub struct Level {
     pub bytes: Vec<u8>,
 }
 
-impl Level {
+impl Segment {
     ghost use Rattle.std.specs.Prelude.{[]};
 
     /// Of nothing. Takes no memory.
     #[inline(always)]
-    pub fn new(alloc: Global, own: bool) -> Level
+    pub fn new(alloc: Global, own: bool) -> Segment
         ensures bits { result.bits.items ≡ [] }
         ensures own { result.own ≡ own }
         ensures bytes { result.bytes.items ≡ [] }
     {
-        Level {
+        Segment {
             bits: Vec::new(alloc),
             own,
             bytes: Vec::new(alloc),

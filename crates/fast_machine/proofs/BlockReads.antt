@@ -1,0 +1,117 @@
+-- What a read of messages in what has come of a block leaves.
+use Rattle.std.proofs.Common.{◌≡◌, ◌≢◌, ◌≤◌, ◌<◌, ℕ, zero, suc, ◌+◌, ◌-◌, length, take, drop, length-drop, arith, List, [], ◌∷◌, ◌++◌, Ok, sym, ap, refl, subst, ◌∙◌, ◌⊎◌, inl, inr}
+use Rattle.std.proofs.lemmas.List.{take_all}
+use Rattle.fast_wire.specs.declared.level.Level.{Level}
+use Rattle.fast_template.specs.Resolved.{Resolved}
+use Rattle.fast_template.specs.TemplateSets.{templates_in}
+use Rattle.fast_dictionary.specs.Dictionary.{Dictionary}
+use Rattle.fast_walk.specs.declared.halt.Halt.{Halt}
+use Rattle.fast_walk.specs.declared.traversal.Stage.TheVariants as stage
+use Rattle.fast_walk.specs.declared.traversal.Traversal.{Traversal}
+use Rattle.fast_walk.specs.OpenSegments.{Reading}
+use Rattle.fast_walk.specs.Traversals.{stop_of}
+use Rattle.fast_stream.specs.declared.fault.Cause.TheVariants.{Truncated, BlockEnd}
+use Rattle.fast_stream.specs.declared.mode.Framing.TheVariants.{Blocks}
+use Rattle.fast_stream.specs.Nodes.{Content}
+use Rattle.fast_stream.specs.Faults.{MessageStop}
+use Rattle.fast_stream.specs.Blocks.{Stand, size_at}
+use Rattle.fast_stream.specs.Modes.{in_blocks}
+use Rattle.fast_machine.specs.Runs.{Having, ReadsOn, Run, RunHasAll, RunStands, RunStops, Standing, Unfinished}
+use Rattle.fast_machine.specs.Standing.{Behind, Carried, HasAll, Stands, StopsBehind, framed_as}
+use Rattle.fast_machine.proofs.Standings.{Onward, Opening, Window, any_onward, end_onward, fault_onward, go_on, inside_onward, opened, waits_onward, whole_onward}
+use Rattle.fast_machine.proofs.Followings.{forgets}
+
+pub drop_again : (n m : ℕ) (xs : List ℕ) → drop m (drop n xs) ≡ drop (n + m) xs
+drop_again zero m xs = let same : m ≡ 0 + m = omega arith in ap (λ (k : ℕ). drop k xs) same
+drop_again (suc n) m [] = nothing m (suc n + m)
+  where
+    nothing : (a b : ℕ) → ◌≡◌ {A = List ℕ} (drop a []) (drop b [])
+    nothing zero zero = refl
+    nothing zero (suc b) = refl
+    nothing (suc a) zero = refl
+    nothing (suc a) (suc b) = refl
+drop_again (suc n) m (x ∷ xs) = let same : suc (n + m) ≡ suc n + m = omega arith in drop_again n m xs ∙ ap (λ (k : ℕ). drop k (x ∷ xs)) same
+
+-- the bytes of a block among those that have come
+pub window_is : (left at count : ℕ) (bytes : List ℕ) → at ≤ length bytes → count ≤ left → (count ≡ left) ⊎ (count ≡ length bytes - at) → take ((at + count) - at) (drop at bytes) ≡ take left (drop at bytes)
+window_is left at count bytes place few (inl e) = let same : (at + count) - at ≡ left = omega (arith, e) in ap (λ (n : ℕ). take n (drop at bytes)) same
+window_is left at count bytes place few (inr e) =
+    let size = length-drop at bytes in
+    take_all ((at + count) - at) (drop at bytes) (omega (arith, size, e)) ∙ sym (take_all left (drop at bytes) (omega (arith, size, e, few)))
+
+pub open_stands : (G : Dictionary → (List ℕ → Reading) → Type 0) (t : Traversal) (level : Level) (left room at : ℕ) (bytes fed : List ℕ) (messages : List Content) → level ≡ t.level
+    → (0 < left → (room ≡ left) × (at ≡ 0)) → (left ≡ 0 → size_at level bytes ≡ Ok (room, drop at bytes)) → 0 < room
+    → Stands Blocks left G t bytes fed messages → Behind (framed_as Blocks t) (templates_in t.set.now) fed messages (λ s rest. Opening G t room (drop at bytes) s rest)
+open_stands G t level left room at bytes fed messages alike same size some h = record {
+  front = h.front;
+  rest = h.rest;
+  start = h.start;
+  parts = h.parts;
+  carried = h.carried;
+  ends = opened G t left room bytes (drop at bytes) h.start h.rest h.ends (λ k. let e = same k in (e.0, ap (λ (n : ℕ). drop n bytes) e.1))
+      (λ k. subst (λ (l : Level). size_at l bytes ≡ Ok (room, drop at bytes)) alike (size k)) some;
+}
+
+-- the messages that a read found, up to a place in what has come of a block
+module _ (G : Dictionary → (List ℕ → Reading) → Type 0) (t u : Traversal) (left p : ℕ) (unread window fed : List ℕ) (messages more : List Content)
+    (b : Behind (framed_as Blocks t) (templates_in t.set.now) fed messages (λ s rest. Opening G t left unread s rest)) (window_is : window ≡ take left unread) (place : p ≤ length window) (level : u.level ≡ t.level) (set : u.set.now ≡ t.set.now) where
+  abbrev sets : List Resolved
+  sets = templates_in u.set.now
+
+  opening : Window u.level left unread b.ends.within b.start b.rest
+  opening = subst (λ (l : Level). Window l left unread b.ends.within b.start b.rest) (sym level) b.ends.window
+
+  few : p ≤ length (take left unread)
+  few = subst (λ (xs : List ℕ). p ≤ length xs) window_is place
+
+  onwards : (Later : Stand → List ℕ → Type 0) → Onward (in_blocks u.level) sets b.start b.rest more Later → Behind (framed_as Blocks u) sets fed (messages ++ more) Later
+  onwards Later o = go_on (λ s rest. Opening G t left unread s rest) Later Blocks t u fed messages more b level set o
+
+  pub block_carried : (Ends : Dictionary → List ℕ → Type 0) → Run u.level sets b.start.dictionary b.ends.within more Ends → Carried (framed_as Blocks u) sets fed (messages ++ more)
+  block_carried Ends run = onwards (λ s rest. Unit {0}) (any_onward u.level sets b.start left p unread b.ends.within b.rest opening few more Ends (λ d. Unit {0}) (λ d r e. tt) run)
+
+  pub block_goes_on : (H : Dictionary → (List ℕ → Reading) → Type 0) → u.stage ≡ stage.Map → p ≡ length window → RunStands H u [] b.start.dictionary b.ends.within more → Stands Blocks (left - p) H u (drop p unread) fed (messages ++ more)
+  block_goes_on H at all run =
+      let whole : drop p (take left unread) ≡ [] = nothing_left (take left unread) p (all ∙ ap (λ (xs : List ℕ). length xs) window_is) in
+      onwards _ (whole_onward H u b.start left p unread b.ends.within b.rest opening few more at whole run)
+    where
+      nothing_left : (xs : List ℕ) (n : ℕ) → n ≡ length xs → drop n xs ≡ []
+      nothing_left [] zero h = refl
+      nothing_left [] (suc n) h = refl
+      nothing_left (x ∷ xs) zero h = absurd (omega (arith, h))
+      nothing_left (x ∷ xs) (suc n) h = nothing_left xs n (omega (arith, h))
+
+  pub block_stands : (H : Dictionary → (List ℕ → Reading) → Type 0) → 0 < left - p → RunStands H u (drop p window) b.start.dictionary b.ends.within more → Stands Blocks (left - p) H u (drop p unread) fed (messages ++ more)
+  block_stands H some run =
+      onwards _ (inside_onward H u b.start left p unread b.ends.within b.rest opening few more some
+      (subst (λ (xs : List ℕ). RunStands H u (drop p xs) b.start.dictionary b.ends.within more) window_is run))
+
+  stops_here : (h : Halt) → RunStops u.level sets b.start.dictionary b.ends.within more (stop_of u.template h (drop p window)) → RunStops u.level sets b.start.dictionary b.ends.within more (stop_of u.template h (drop p (take left unread)))
+  stops_here h run = subst (λ (xs : List ℕ). RunStops u.level sets b.start.dictionary b.ends.within more (stop_of u.template h (drop p xs))) window_is run
+
+  pub block_waits : (h : Halt) → length (drop p unread) < left - p → RunStops u.level sets b.start.dictionary b.ends.within more (stop_of u.template h (drop p window))
+      → StopsBehind (framed_as Blocks u) sets fed (messages ++ more) (stop_of u.template h (drop p unread))
+  block_waits h short run = onwards _ (waits_onward u.level sets b.start left p unread b.ends.within b.rest opening few more u.template h short (stops_here h run))
+
+  pub block_faults : (h : Halt) → h.cause ≢ Truncated → RunStops u.level sets b.start.dictionary b.ends.within more (stop_of u.template h (drop p window))
+      → StopsBehind (framed_as Blocks u) sets fed (messages ++ more) (stop_of u.template h (drop p unread))
+  block_faults h other run = onwards _ (fault_onward u.level sets b.start left p unread b.ends.within b.rest opening few more u.template h other (stops_here h run))
+
+  abbrev stop_by : ℕ → ℕ → MessageStop
+  stop_by number size = record { template = u.template; stop = record { cause = BlockEnd; instruction = number; left = size } }
+
+  pub block_stops : (h : Halt) → h.cause ≡ Truncated → left - p ≤ length (drop p unread) → RunStops u.level sets b.start.dictionary b.ends.within more (stop_of u.template h (drop p window))
+      → StopsBehind (framed_as Blocks u) sets fed (messages ++ more) (stop_by h.number (length (drop p unread)))
+  block_stops h is full run =
+      onwards _ (end_onward u.level sets b.start left p unread b.ends.within b.rest opening few more u.template h.number full (rw (is) at (stops_here h run)))
+
+  pub block_has_all : {R : Type 0} (stands : Standing R) (r : R) (before : List Content) → RunHasAll stands u r before b.start.dictionary b.ends.within more → HasAll stands Blocks u r before fed (messages ++ more)
+  block_has_all stands r before run =
+      onwards _ (any_onward u.level sets b.start left p unread b.ends.within b.rest opening few more (λ d rest. stands r sets before d) (λ d. stands r sets before d) (λ d rest h. h) run)
+
+  pub block_forgets : {R : Type 0} (has : Having R) (stands keeps : Standing R) (r s : R) (d : Dictionary) (before : List Content)
+      → ((x : List Resolved) (ms : List Content) (e : Dictionary) → keeps r x ms e ⊎ stands r x ms e → stands s x ms e)
+      → RunStands (ReadsOn has stands keeps u r d before) u (drop p window) b.start.dictionary b.ends.within more → HasAll stands Blocks u s before fed (messages ++ more)
+  block_forgets has stands keeps r s d before left_of run =
+      onwards _ (any_onward u.level sets b.start left p unread b.ends.within b.rest opening few more (λ e rest. Unfinished (ReadsOn has stands keeps u r d before) u (drop p window) e rest) (λ e. stands s sets before e)
+      (λ e rest h. forgets has stands keeps u r s d before (drop p window) e rest left_of h) run)

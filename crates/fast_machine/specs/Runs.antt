@@ -1,0 +1,75 @@
+-- How a traversal with its receiver stands to the messages that stand one behind the other in some bytes, from a dictionary.
+use Rattle.std.specs.Prelude.{◌≡◌, ◌≢◌, ◌<◌, ℕ, List, [], ◌++◌, length, Option, Some, None, Err}
+use Rattle.fast_wire.specs.Reader.{IsBytes}
+use Rattle.fast_wire.specs.declared.level.Level.{Level}
+use Rattle.fast_template.specs.Resolved.{Resolved}
+use Rattle.fast_template.specs.TemplateSets.{templates_in}
+use Rattle.fast_dictionary.specs.Dictionary.{Dictionary}
+use Rattle.fast_stream.specs.declared.fault.Cause.TheVariants.{Truncated, Memory}
+use Rattle.fast_walk.specs.declared.halt.Halt.{Halt}
+use Rattle.fast_walk.specs.declared.traversal.Stage.TheVariants as stage
+use Rattle.fast_walk.specs.declared.traversal.Traversal.{Traversal}
+use Rattle.fast_stream.specs.Nodes.{Content}
+use Rattle.fast_stream.specs.Streams.{CarriesFrom}
+use Rattle.fast_stream.specs.Faults.{MessageStop}
+use Rattle.fast_stream.specs.Reading.{message_at}
+use Rattle.fast_walk.specs.OpenSegments.{Reading}
+use Rattle.fast_walk.specs.Received.{Received}
+use Rattle.fast_walk.specs.Traversals.{Continues, stop_of}
+
+-- message forms of the messages, from a dictionary, and behind them a rest of which this is so
+pub record Run (level : Level) (set : List Resolved) (origin : Dictionary) (bytes : List ℕ) (messages : List Content) (Ends : Dictionary → List ℕ → Type 0) : Type 0 where
+  pub front : List ℕ
+  pub rest : List ℕ
+  pub start : Dictionary
+  pub parts : bytes ≡ front ++ rest
+  pub carried : CarriesFrom level set origin front messages start
+  pub ends : Ends start rest
+
+-- a prefix of the bytes is the messages
+abbrev pub RunCarried : Level → List Resolved → Dictionary → List ℕ → List Content → Type 0
+RunCarried level set origin bytes messages = Run level set origin bytes messages (λ d rest. Unit {0})
+
+-- and the reading of the next message stops
+abbrev pub RunStops : Level → List Resolved → Dictionary → List ℕ → List Content → MessageStop → Type 0
+RunStops level set origin bytes messages stop = Run level set origin bytes messages (λ d rest. (0 < length rest) × IsBytes rest × (message_at level set d rest ≡ Err stop))
+
+-- what is true of a receiver: while a message is open, between messages, and whatever is open
+abbrev pub Having : Type 0 → Type 1
+Having R = R → Received → Dictionary → Type 0
+
+abbrev pub Standing : Type 0 → Type 1
+Standing R = R → List Resolved → List Content → Dictionary → Type 0
+
+-- what a traversal and its receiver still read: of messages behind these, which the receiver has
+abbrev pub ReadsOn : {R : Type 0} → Having R → Standing R → Standing R → Traversal → R → Dictionary → List Content → Dictionary → (List ℕ → Reading) → Type 0
+ReadsOn has stands keeps t r d before start read = Continues has stands keeps t r (templates_in t.set.now) d before start read
+
+-- The next message, of which a part may be read: with any bytes behind it, it reads as what is left, behind the bytes
+-- that are not read.
+pub record Unfinished (GoesOn : Dictionary → (List ℕ → Reading) → Type 0) (t : Traversal) (unread : List ℕ) (start : Dictionary) (rest : List ℕ) : Type 0 where
+  pub read : List ℕ → Reading
+  pub goes : GoesOn start read
+  pub fits : IsBytes rest
+  pub reads : (more : List ℕ) → message_at t.level (templates_in t.set.now) start (rest ++ more) ≡ read (unread ++ more)
+  pub taken : List ℕ
+  pub whole : rest ≡ taken ++ unread
+  pub between : t.stage ≡ stage.Map → taken ≡ []
+  pub some : t.stage ≢ stage.Map → 0 < length rest
+
+abbrev pub RunStands : (Dictionary → (List ℕ → Reading) → Type 0) → Traversal → List ℕ → Dictionary → List ℕ → List Content → Type 0
+RunStands GoesOn t unread origin bytes messages = Run t.level (templates_in t.set.now) origin bytes messages (λ start rest. Unfinished GoesOn t unread start rest)
+
+-- The receiver has these messages, from the dictionary behind a prefix of the bytes that is the messages.
+abbrev pub RunHasAll : {R : Type 0} → Standing R → Traversal → R → List Content → Dictionary → List ℕ → List Content → Type 0
+RunHasAll stands t r before origin bytes messages = Run t.level (templates_in t.set.now) origin bytes messages (λ d rest. stands r (templates_in t.set.now) before d)
+
+-- How the reading of messages ends: between two with no byte unread, or at a piece, where it can go on if more bytes
+-- come; else the receiver has forgotten what was open.
+abbrev pub Ended : {R : Type 0} → Having R → Standing R → Standing R → Option Halt → Traversal → R → Dictionary → List Content → List ℕ → Dictionary → List ℕ → List Content → Type 0
+Ended has stands keeps None t r d before unread origin bytes messages = RunStands (ReadsOn has stands keeps t r d before) t [] origin bytes messages × (t.stage ≡ stage.Map)
+Ended has stands keeps (Some h) t r d before unread origin bytes messages =
+    RunCarried t.level (templates_in t.set.now) origin bytes messages
+    × (h.cause ≢ Memory → RunStops t.level (templates_in t.set.now) origin bytes messages (stop_of t.template h unread))
+    × (h.cause ≡ Truncated → RunStands (ReadsOn has stands keeps t r d before) t unread origin bytes messages)
+    × (h.cause ≢ Truncated → RunHasAll stands t r before origin bytes messages)
