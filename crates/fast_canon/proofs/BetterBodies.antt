@@ -1,6 +1,7 @@
 -- What a stream carries has canonical bytes, which are no longer.
 use Rattle.std.proofs.Common.{◌≡◌, ℕ, Bool, true, false, List, [], ◌∷◌, length, Option, Some, None, refl, sym, ap, subst, ◌∙◌, arith}
 use Rattle.std.specs.List.{AllByRecursion}
+use Rattle.fast_wire.specs.declared.level.Level.TheVariants.{Usual}
 use Rattle.fast_value.specs.declared.kind.Presence.{Presence}
 use Rattle.fast_value.specs.declared.kind.Presence.TheVariants.{Mandatory, Optional}
 use Rattle.fast_value.specs.declared.scalar.Scalar.{Scalar}
@@ -13,7 +14,7 @@ use Rattle.fast_field.specs.Parts.{IsFieldPart, EachPart, EachPartIn}
 use Rattle.fast_stream.specs.Bits.{bit_for, after_bit}
 use Rattle.fast_stream.specs.Bodies.{State, Then, Each, SegmentBy, PartBy, PieceBy, BodyBy}
 use Rattle.fast_stream.specs.Nodes.{Item, single, group_items, sequence_elements, Items, no_items, then_item, element_count, Content}
-use Rattle.fast_stream.specs.Streams.{members_of, identifier, AnyMap, BodyOfBy, MessageForm, CarriesFrom}
+use Rattle.fast_stream.specs.Streams.{members_of, identifier, MapAt, BodyOfBy, MessageForm, CarriesFrom}
 use Rattle.fast_stream.proofs.FoundMembers.{members_have}
 use Rattle.fast_writer.specs.Canonical.{IsShortestMap, CanonMessage, CanonFrom}
 use Rattle.fast_canon.proofs.AskedBits.{behind}
@@ -78,7 +79,7 @@ better_elements Best s t b left h = record {
 -- ---- instructions
 
 mutual
-  better_piece : (i : Instruction) → EachPart IsFieldPart i → (n : Item) (s : State) (b : List ℕ) (t : State) → HoldScalars s.dictionary → PieceBy Form AnyMap i s b n t
+  better_piece : (i : Instruction) → EachPart IsFieldPart i → (n : Item) (s : State) (b : List ℕ) (t : State) → HoldScalars s.dictionary → PieceBy (Form Usual) (MapAt Usual) i s b n t
       → IsBetter (λ s b t. PieceBy IsBest IsShortestMap i s b n t) s b t
   better_piece (whole_field name number presence whole) is (single v) s b t holds h = better_part whole v s b t is holds h
   better_piece (field_in_parts name number presence exponent mantissa) is (single None) s b t holds h = better_part exponent None s b t is.0 holds h
@@ -89,23 +90,23 @@ mutual
   better_piece (group_of name number presence members) is (single None) s b t holds h = better_left_out presence s t b holds h.0 h.2
   better_piece (group_of name number presence members) is (group_items ns) s b t holds h =
       better_group presence (λ d x e. SegmentBy IsShortestMap (has_map members) (λ u z v. BodyBy IsBest IsShortestMap members u z ns v) d x e) s t b h.0 h.1
-      (better_segment (has_map members) (λ u z v. BodyBy Form AnyMap members u z ns v) (λ u z v. BodyBy IsBest IsShortestMap members u z ns v) s.dictionary b t.dictionary
+      (better_segment (has_map members) (λ u z v. BodyBy (Form Usual) (MapAt Usual) members u z ns v) (λ u z v. BodyBy IsBest IsShortestMap members u z ns v) s.dictionary b t.dictionary
       (λ bits left z o. better_body members is ns (with_bits s.dictionary bits) z (with_bits t.dictionary left) holds o) h.2)
   better_piece (sequence_of name number presence length members) is (single None) s b t holds h = better_part length None s b t is.0 holds h
   better_piece (sequence_of name number presence length members) is (sequence_elements es) s b t holds h =
-      let One : Dictionary → List ℕ → Items → Dictionary → Type 0 = λ d x ns e. SegmentBy AnyMap (has_map members) (λ u z v. BodyBy Form AnyMap members u z ns v) d x e in
+      let One : Dictionary → List ℕ → Items → Dictionary → Type 0 = λ d x ns e. SegmentBy (MapAt Usual) (has_map members) (λ u z v. BodyBy (Form Usual) (MapAt Usual) members u z ns v) d x e in
       let Best : Dictionary → List ℕ → Items → Dictionary → Type 0 = λ d x ns e. SegmentBy IsShortestMap (has_map members) (λ u z v. BodyBy IsBest IsShortestMap members u z ns v) d x e in
       let count : Option Scalar = Some (U32 (element_count es)) in
       let first = better_part length count s h.front h.between is.0 holds h.first in
       better_then (λ s x u. PartBy IsBest length s x count u) (λ u y t. (t.bits ≡ u.bits) × Each Best u.dictionary y es t.dictionary) s h.between t b h.front h.back h.parts first
       (better_elements (λ d y e. Each Best d y es e) h.between t h.back h.second.0
       (better_each One Best
-      (λ d x ns e holds' o. better_segment (has_map members) (λ u z v. BodyBy Form AnyMap members u z ns v) (λ u z v. BodyBy IsBest IsShortestMap members u z ns v) d x e
+      (λ d x ns e holds' o. better_segment (has_map members) (λ u z v. BodyBy (Form Usual) (MapAt Usual) members u z ns v) (λ u z v. BodyBy IsBest IsShortestMap members u z ns v) d x e
       (λ bits left z o'. better_body members is.1 ns (with_bits d bits) z (with_bits e left) holds' o') o)
       es h.between.dictionary h.back t.dictionary first.holds h.second.1))
   better_piece i is n s b t holds h = absurd h
 
-  better_body : (members : Instructions) → EachPartIn IsFieldPart members → (ns : Items) (s : State) (b : List ℕ) (t : State) → HoldScalars s.dictionary → BodyBy Form AnyMap members s b ns t
+  better_body : (members : Instructions) → EachPartIn IsFieldPart members → (ns : Items) (s : State) (b : List ℕ) (t : State) → HoldScalars s.dictionary → BodyBy (Form Usual) (MapAt Usual) members s b ns t
       → IsBetter (λ s b t. BodyBy IsBest IsShortestMap members s b ns t) s b t
   better_body no_instructions is no_items s b t holds h =
       let after : t.dictionary ≡ s.dictionary = ap (λ t. t.dictionary) h.1 in record {
@@ -129,17 +130,17 @@ identifier_is : IsFieldPart identifier
 identifier_is = record { typed = record { operator_applies = refl; initial_fits = tt; constant_has_value = λ e. absurd cc; default_has_value = λ e m. absurd cc }; kind_of_part = tt }
 
 better_body_of : (members : Option Instructions) → ((is : Instructions) → members ≡ Some is → EachPartIn IsFieldPart is) → (ns : Items) (s : State) (b : List ℕ) (t : State) → HoldScalars s.dictionary
-    → BodyOfBy Form AnyMap members s b ns t → IsBetter (λ s b t. BodyOfBy IsBest IsShortestMap members s b ns t) s b t
+    → BodyOfBy (Form Usual) (MapAt Usual) members s b ns t → IsBetter (λ s b t. BodyOfBy IsBest IsShortestMap members s b ns t) s b t
 better_body_of None is ns s b t holds h = absurd h
 better_body_of (Some members) is ns s b t holds h = better_body members (is members refl) ns s b t holds h
 
 module _ (set : List Resolved) (parts : AllByRecursion (λ t. EachPartIn IsFieldPart t.members) set) where
-  pub better_message : (d : Dictionary) (b : List ℕ) (m : Content) (after : Dictionary) → HoldScalars d → MessageForm set d b m after → IsBetterWhole (λ x. CanonMessage set d x m after) b after
+  pub better_message : (d : Dictionary) (b : List ℕ) (m : Content) (after : Dictionary) → HoldScalars d → MessageForm Usual set d b m after → IsBetterWhole (λ x. CanonMessage set d x m after) b after
   better_message d b m after holds h =
       let id : Option Scalar = Some (U32 m.template) in
       let members = members_of set m.template in
       let better = better_with_map
-      (λ s x t. Then (λ y u. PartBy Form identifier s y id u) (λ u z. BodyOfBy Form AnyMap members u z m.items t) x)
+      (λ s x t. Then (λ y u. PartBy (Form Usual) identifier s y id u) (λ u z. BodyOfBy (Form Usual) (MapAt Usual) members u z m.items t) x)
       (λ s x t. Then (λ y u. PartBy IsBest identifier s y id u) (λ u z. BodyOfBy IsBest IsShortestMap members u z m.items t) x)
       d b after
       (λ bits left x o.
@@ -149,7 +150,7 @@ module _ (set : List Resolved) (parts : AllByRecursion (λ t. EachPartIn IsField
       h.segment in
       record { bytes = better.bytes; stands = record { few = h.few; segment = better.stands }; no_longer = better.no_longer; holds = better.holds }
 
-  pub better_stream : (ms : List Content) (d : Dictionary) (b : List ℕ) (after : Dictionary) → HoldScalars d → CarriesFrom set d b ms after → IsBetterWhole (λ x. CanonFrom set d x ms after) b after
+  pub better_stream : (ms : List Content) (d : Dictionary) (b : List ℕ) (after : Dictionary) → HoldScalars d → CarriesFrom Usual set d b ms after → IsBetterWhole (λ x. CanonFrom set d x ms after) b after
   better_stream [] d b after holds h = whole_none (λ x. CanonFrom set d x [] after) b after (refl, h.1) (subst HoldScalars (sym h.1) holds)
   better_stream (m ∷ ms) d b after holds h =
       let first = better_message d h.front m h.between holds h.first in

@@ -1,6 +1,7 @@
 -- Canonical bytes in place of given ones: they are no longer, and ask for no bit 1 where the given ones have bit 0.
 use Rattle.std.proofs.Common.{◌≡◌, ℕ, ◌+◌, ◌≤◌, Bool, true, false, List, [], ◌++◌, length, Option, refl, sym, ap, subst, ◌∙◌, arith}
 use Rattle.std.proofs.lemmas.List.{length-append}
+use Rattle.fast_wire.specs.declared.level.Level.TheVariants.{Usual}
 use Rattle.fast_template.specs.Resolved.{part_needs_bit}
 use Rattle.fast_template.specs.declared.resolved.FieldPart.{FieldPart}
 use Rattle.fast_value.specs.declared.scalar.Scalar.{Scalar}
@@ -12,7 +13,7 @@ use Rattle.fast_field.proofs.BestValues.{form_has_best, none_shorter}
 use Rattle.fast_stream.specs.Bits.{bit_for}
 use Rattle.fast_stream.specs.Bodies.{State, Then, Each, WithMap, SegmentBy, PartBy, written}
 use Rattle.fast_stream.specs.Nodes.{Items, Elements, no_elements, then_element}
-use Rattle.fast_stream.specs.Streams.{AnyMap}
+use Rattle.fast_stream.specs.Streams.{MapAt}
 use Rattle.fast_writer.specs.Canonical.{IsShortestMap}
 use Rattle.fast_canon.proofs.AskedBits.{Begins, behind, AreBelow, begins_front, begins_back, behind_both, below_both, below_none, behind_none}
 use Rattle.fast_canon.proofs.Entries.{HoldScalars, written_holds}
@@ -78,7 +79,7 @@ whole_none Best b after stands holds = record { bytes = []; stands = stands; no_
 
 -- ---- a part
 
-pub better_part : (p : FieldPart) (v : Option Scalar) (s : State) (b : List ℕ) (t : State) → IsFieldPart p → HoldScalars s.dictionary → PartBy Form p s b v t → IsBetter (λ s b t. PartBy IsBest p s b v t) s b t
+pub better_part : (p : FieldPart) (v : Option Scalar) (s : State) (b : List ℕ) (t : State) → IsFieldPart p → HoldScalars s.dictionary → PartBy (Form Usual) p s b v t → IsBetter (λ s b t. PartBy IsBest p s b v t) s b t
 better_part p v s b t is holds h =
     let needs = part_needs_bit p in
     let entry = entry_at s.dictionary p.key in
@@ -102,7 +103,7 @@ better_part p v s b t is holds h =
 -- what stands under a map of its own
 pub better_with_map : (Inside Best : Stage) (d : Dictionary) (b : List ℕ) (after : Dictionary)
     → ((bits left : List Bool) (x : List ℕ) → Inside (with_bits d bits) x (with_bits after left) → IsBetter Best (with_bits d bits) x (with_bits after left))
-    → WithMap AnyMap Inside d b after → IsBetterWhole (λ x. WithMap IsShortestMap Best d x after) b after
+    → WithMap (MapAt Usual) Inside d b after → IsBetterWhole (λ x. WithMap IsShortestMap Best d x after) b after
 better_with_map Inside Best d b after better h =
     let k = better h.bits h.left h.body h.inside in
     let map = shorter_map k.asked h.bits h.map h.map_form k.below in
@@ -123,7 +124,7 @@ better_with_map Inside Best d b after better h =
 
 pub better_segment : (has : Bool) (Inside Best : Stage) (d : Dictionary) (b : List ℕ) (after : Dictionary)
     → ((bits left : List Bool) (x : List ℕ) → Inside (with_bits d bits) x (with_bits after left) → IsBetter Best (with_bits d bits) x (with_bits after left))
-    → SegmentBy AnyMap has Inside d b after → IsBetterWhole (λ x. SegmentBy IsShortestMap has Best d x after) b after
+    → SegmentBy (MapAt Usual) has Inside d b after → IsBetterWhole (λ x. SegmentBy IsShortestMap has Best d x after) b after
 better_segment true Inside Best d b after better h = better_with_map Inside Best d b after better h
 better_segment false Inside Best d b after better h =
     let k = better [] [] b h in record {

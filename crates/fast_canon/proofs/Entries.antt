@@ -3,6 +3,7 @@ use Rattle.std.proofs.Common.{ℕ, Bool, true, false, List, Option, sym, subst}
 use Rattle.std.specs.Prelude.{cond}
 use Rattle.std.specs.FinMap as map
 use Rattle.std.specs.Ordering.{is_eq}
+use Rattle.fast_wire.specs.declared.level.Level.TheVariants.{Usual}
 use Rattle.fast_value.specs.Key.{key_cmp}
 use Rattle.fast_value.specs.declared.key.Key.{Key}
 use Rattle.fast_value.specs.declared.scalar.Scalar.{Scalar}
@@ -34,7 +35,7 @@ with_entry_holds d k Empty all one = λ q. subst HoldsScalar (sym (entry_at-set_
 with_entry_holds d k (Assigned v) all one = λ q. subst HoldsScalar (sym (entry_at-set_entry d k (Assigned v) q)) (either_holds (is_eq (key_cmp q k)) (Assigned v) (entry_at d q) one (all q))
 
 -- what has a form is written as a value of its type
-pub written_holds : (p : FieldPart) (d : Dictionary) (bit : Bool) (b : List ℕ) (v : Option Scalar) → IsFieldPart p → HoldScalars d → Form p (entry_at d p.key) bit b v → HoldScalars (written p d v)
+pub written_holds : (p : FieldPart) (d : Dictionary) (bit : Bool) (b : List ℕ) (v : Option Scalar) → IsFieldPart p → HoldScalars d → Form Usual p (entry_at d p.key) bit b v → HoldScalars (written p d v)
 written_holds p d bit b v is all form =
     let here = all p.key in
     with_entry_holds d p.key (next p (entry_at d p.key) v) all (entries_within p (entry_at d p.key) v here (values_within p (entry_at d p.key) bit b v is here form))

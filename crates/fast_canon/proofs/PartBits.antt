@@ -1,5 +1,6 @@
 -- The bit of a part or a group, as a list of none or one.
 use Rattle.std.proofs.Common.{◌≡◌, ℕ, Bool, true, false, List, [], ◌∷◌, Option, refl, sym, ap}
+use Rattle.fast_wire.specs.declared.level.Level.TheVariants.{Usual}
 use Rattle.fast_value.specs.declared.kind.Operator.{Operator}
 use Rattle.fast_value.specs.declared.kind.Operator.TheVariants as operator
 use Rattle.fast_template.specs.declared.resolved.FieldPart.{FieldPart}
@@ -34,7 +35,7 @@ asked_begins true bit bits h = (sym h, tt)
 asked_begins false bit bits h = tt
 
 -- a form stands under bit 1 where its part takes no bit
-row_bit : (o : Operator) (i : FieldPart) (e : Entry) (bit : Bool) (cut : Cut) (b : List ℕ) (v : Option Scalar) → FormOf o i e bit cut b v → operator_needs_bit o i.presence ≡ false → bit ≡ true
+row_bit : (o : Operator) (i : FieldPart) (e : Entry) (bit : Bool) (cut : Cut) (b : List ℕ) (v : Option Scalar) → FormOf Usual o i e bit cut b v → operator_needs_bit o i.presence ≡ false → bit ≡ true
 row_bit o i e true cut b v h none = refl
 row_bit operator.Plain i e false cut b v h none = absurd h
 row_bit operator.Constant i e false cut b v h none = let asks : operator_needs_bit operator.Constant i.presence ≡ true = ap (operator_needs_bit operator.Constant) h.2 in absurd cc
@@ -44,5 +45,5 @@ row_bit operator.Increment i e false cut b v h none = absurd cc
 row_bit operator.Delta i e false cut b v h none = absurd h
 row_bit operator.Tail i e false cut b v h none = absurd cc
 
-pub form_bit : (i : FieldPart) (e : Entry) (bit : Bool) (cut : Cut) (b : List ℕ) (v : Option Scalar) → FormBy i e bit cut b v → IsBitOf i bit
+pub form_bit : (i : FieldPart) (e : Entry) (bit : Bool) (cut : Cut) (b : List ℕ) (v : Option Scalar) → FormBy Usual i e bit cut b v → IsBitOf i bit
 form_bit i e bit cut b v h = row_bit i.operator i e bit cut b v h.row

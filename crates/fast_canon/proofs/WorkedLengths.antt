@@ -1,6 +1,7 @@
 -- Worked streams beside the canonical bytes of what they carry. Some are longer and some as long, so no law can say
 -- that a stream is its own canonical bytes, or that these are fewer.
 use Rattle.std.proofs.Common.{◌≡◌, ◌≢◌, ◌<◌, ℕ, List, [], ◌∷◌, length, get_or, refl, ap, lit<, arith}
+use Rattle.fast_wire.specs.declared.level.Level.TheVariants.{Usual}
 use Rattle.fast_template.proofs.WorkedSet.{worked_set}
 use Rattle.fast_stream.specs.Nodes.{Content}
 use Rattle.fast_stream.specs.Streams.{Carries}
@@ -12,7 +13,7 @@ use Rattle.fast_writer.proofs.WorkedCanonical.{canonical_first, quote_one, canon
 
 -- a stream and the canonical bytes of its messages
 record AreOf (messages : List Content) (stream bytes : List ℕ) : Type 0 where
-  carries : Carries worked_set stream messages
+  carries : Carries Usual worked_set stream messages
   canonical : IsCanonical worked_set messages bytes
 
 abbrev IsLonger : List Content → List ℕ → List ℕ → Type 0

@@ -3,6 +3,7 @@ use Rattle.std.specs.Prelude.{◌≡◌, ◌≤◌, ℕ, List, ◌++◌, length,
 use Rattle.std.specs.Io.KnownBytes.{Appends}
 use Rattle.fast_template.specs.Resolved.{Resolved}
 use Rattle.fast_stream.specs.declared.fault.Fault.{Fault}
+use Rattle.fast_stream.specs.declared.mode.Mode.{Mode}
 use Rattle.fast_stream.specs.Nodes.{Content}
 use Rattle.fast_io.specs.Counts.{counted}
 use Rattle.fast_decoder.specs.declared.input.Reached.TheVariants as reached
@@ -15,36 +16,36 @@ use Rattle.fast_canon.specs.declared.summary.Summary.{Summary}
 
 -- The reader has ended, and the bytes read carry the messages; their canonical bytes were written, which are no more
 -- than those read, and all is counted.
-pub record Ends (set : List Resolved) (left taken_old taken_new : Option (List ℕ)) (input : List ℕ) (summary : Summary) : Type 0 where
+pub record Ends (mode : Mode) (set : List Resolved) (left taken_old taken_new : Option (List ℕ)) (input : List ℕ) (summary : Summary) : Type 0 where
   pub messages : List Content
   pub out : List ℕ
-  pub ends : EndsWith set left input messages
+  pub ends : EndsWith mode set left input messages
   pub canonical : IsCanonical set messages out
   pub written : Appends taken_old taken_new out
   pub counts : summary ≡ record { messages = length messages; read = length input; written = length out }
   pub no_longer : length out ≤ length input
 
 -- The stream is refused: the canonical bytes of the messages before the fault were written.
-pub record Stops (set : List Resolved) (turns : ℕ) (left taken_old taken_new : Option (List ℕ)) (input : List ℕ) (fault : Fault) : Type 0 where
+pub record Stops (mode : Mode) (set : List Resolved) (turns : ℕ) (left taken_old taken_new : Option (List ℕ)) (input : List ℕ) (fault : Fault) : Type 0 where
   pub messages : List Content
   pub out : List ℕ
-  pub refuses : Refuses set turns left input messages fault
+  pub refuses : Refuses mode set turns left input messages fault
   pub canonical : IsCanonical set messages out
   pub written : Appends taken_old taken_new out
 
 -- A write failed or memory was refused: a front was written of the canonical bytes of messages that were read.
-pub record Breaks (set : List Resolved) (taken_old taken_new : Option (List ℕ)) (input : List ℕ) : Type 0 where
+pub record Breaks (mode : Mode) (set : List Resolved) (taken_old taken_new : Option (List ℕ)) (input : List ℕ) : Type 0 where
   pub messages : List Content
   pub front : List ℕ
   pub rest : List ℕ
-  pub carried : Carried set input messages
+  pub carried : Carried mode set input messages
   pub canonical : IsCanonical set messages (front ++ rest)
   pub written : Appends taken_old taken_new front
 
-abbrev pub Canonicalises : List Resolved → ℕ → Option (List ℕ) → Option (List ℕ) → Option (List ℕ) → List ℕ → Result Summary CanonFault → Type 0
-Canonicalises set turns left taken_old taken_new input (Ok summary) = Ends set left taken_old taken_new input summary
-Canonicalises set turns left taken_old taken_new input (Err (refusal.Stream fault)) = Stops set turns left taken_old taken_new input fault
-Canonicalises set turns left taken_old taken_new input (Err f) = Breaks set taken_old taken_new input
+abbrev pub Canonicalises : Mode → List Resolved → ℕ → Option (List ℕ) → Option (List ℕ) → Option (List ℕ) → List ℕ → Result Summary CanonFault → Type 0
+Canonicalises mode set turns left taken_old taken_new input (Ok summary) = Ends mode set left taken_old taken_new input summary
+Canonicalises mode set turns left taken_old taken_new input (Err (refusal.Stream fault)) = Stops mode set turns left taken_old taken_new input fault
+Canonicalises mode set turns left taken_old taken_new input (Err f) = Breaks mode set taken_old taken_new input
 
 -- ---- the calls of the reader and the writer
 
@@ -68,8 +69,8 @@ FlushesOnce (Err f) old new = Unit {0}
 -- ---- where nothing is written
 
 -- The same of a check: it never answers a failed write.
-abbrev pub Checks : List Resolved → ℕ → Option (List ℕ) → List ℕ → Result Summary CanonFault → Type 0
-Checks set turns left input (Ok summary) = Ends set left None None input summary
-Checks set turns left input (Err (refusal.Stream fault)) = Stops set turns left None None input fault
-Checks set turns left input (Err refusal.Write) = ⊥
-Checks set turns left input (Err refusal.Memory) = Breaks set None None input
+abbrev pub Checks : Mode → List Resolved → ℕ → Option (List ℕ) → List ℕ → Result Summary CanonFault → Type 0
+Checks mode set turns left input (Ok summary) = Ends mode set left None None input summary
+Checks mode set turns left input (Err (refusal.Stream fault)) = Stops mode set turns left None None input fault
+Checks mode set turns left input (Err refusal.Write) = ⊥
+Checks mode set turns left input (Err refusal.Memory) = Breaks mode set None None input

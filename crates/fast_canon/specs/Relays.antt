@@ -8,7 +8,7 @@ use Rattle.fast_decoder.specs.declared.input.Reached.TheVariants as reached
 use Rattle.fast_machine.specs.declared.machine.Machine.{Machine}
 use Rattle.fast_walk.specs.declared.receiver.Receiver.{Ghosts as Receiving}
 use Rattle.fast_stream.specs.Nodes.{Content}
-use Rattle.fast_machine.specs.Following.{Counts, Follows}
+use Rattle.fast_machine.specs.Following.{Counts, Follows, mode_of}
 use Rattle.fast_decoder.specs.Inputs.{HasReached, IsCaused, Reader, Reads}
 use Rattle.fast_machine.specs.Standing.{Carried}
 use Rattle.fast_writer.specs.declared.writer.Writer.{Writer}
@@ -24,7 +24,7 @@ pub record GoesOn {E : Type 0} {receiver : Receiving Writer} {entries : Ghosts E
 -- The bytes read carry these messages, and then what was reached says how it goes on; the bytes handed on, and those
 -- that the writer has, are the canonical bytes of the messages.
 pub record Relays {E : Type 0} {receiver : Receiving Writer} {entries : Ghosts E} (at : Reached) (m : Machine Writer E receiver entries) (reads turns : ℕ) (left : Option (List ℕ)) (handed input : List ℕ) (messages : List Content) : Type 0 where
-  pub holds : HasReached at (GoesOn m reads handed input messages) (templates_in m.traversal.set.now) turns left input messages
+  pub holds : HasReached at (GoesOn m reads handed input messages) (mode_of m) (templates_in m.traversal.set.now) turns left input messages
   pub canonical : IsCanonical (templates_in m.traversal.set.now) messages (handed ++ m.receiver.out.items)
   pub counts : at ≡ reached.End → Counts m.fed m.messages input messages
 
@@ -41,7 +41,7 @@ pub record Relayed {E : Type 0} {receiver : Receiving Writer} {entries : Ghosts 
   pub input : List ℕ
   pub messages : List Content
   pub moves : Moves turns count old new taken_old taken_new handed input
-  pub holds : HasReached at ⊥ (templates_in m.traversal.set.now) turns new.left input messages
+  pub holds : HasReached at ⊥ (mode_of m) (templates_in m.traversal.set.now) turns new.left input messages
   pub canonical : IsCanonical (templates_in m.traversal.set.now) messages handed
   pub counts : at ≡ reached.End → Counts m.fed m.messages input messages
   pub size_is : size ≡ length handed
@@ -55,5 +55,5 @@ pub record Broken {E : Type 0} {receiver : Receiving Writer} {entries : Ghosts E
   pub input : List ℕ
   pub messages : List Content
   pub moves : Moves turns count old new taken_old taken_new front input
-  pub carried : Carried (templates_in m.traversal.set.now) input messages
+  pub carried : Carried (mode_of m) (templates_in m.traversal.set.now) input messages
   pub canonical : IsCanonical (templates_in m.traversal.set.now) messages (front ++ rest)

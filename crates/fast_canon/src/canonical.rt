@@ -13,6 +13,7 @@ use fast_decoder::Reached;
 use fast_dictionary::SlotEntries;
 use fast_io::{ByteInput, ByteOutput};
 use fast_machine::Machine;
+use fast_stream::Mode;
 use fast_template::TemplateSet;
 use fast_writer::Writer;
 use std::alloc::Global;
@@ -32,6 +33,7 @@ use std::alloc::Global;
 pub fn canonicalise<R: ByteInput, W: ByteOutput>(
     alloc: Global,
     set: &TemplateSet,
+    mode: Mode,
     reader: &mut R,
     writer: &mut W,
     turns: u64,
@@ -42,7 +44,7 @@ pub fn canonicalise<R: ByteInput, W: ByteOutput>(
         × Reads (reader_by R.left R.calls R.errors R.ends reader.old)
         (reader_by R.left R.calls R.errors R.ends reader.new) count input
         × (count ≤ turns)
-        × Canonicalises (templates_in set.now) turns (R.left reader.new) (W.taken writer.old)
+        × Canonicalises mode (templates_in set.now) turns (R.left reader.new) (W.taken writer.old)
         (W.taken writer.new) input result
         × IsCausedBy result (count ≡ turns)
         (reader_by R.left R.calls R.errors R.ends reader.old)
@@ -55,7 +57,7 @@ pub fn canonicalise<R: ByteInput, W: ByteOutput>(
         Ok(entries) => entries,
     };
     let canonical = Writer::new(alloc);
-    let mut machine = Machine::new(alloc, set, canonical, entries);
+    let mut machine = Machine::new(alloc, set, mode, canonical, entries);
     match relay(&mut machine, reader, writer, turns) {
         Err(_) => Err(CanonFault::Write),
         Ok((reached, written)) => match writer.flush() {
@@ -80,6 +82,7 @@ pub fn canonicalise<R: ByteInput, W: ByteOutput>(
 pub fn check<R: ByteInput>(
     alloc: Global,
     set: &TemplateSet,
+    mode: Mode,
     reader: &mut R,
     turns: u64,
 ) -> Result<Summary, CanonFault>
@@ -88,7 +91,7 @@ pub fn check<R: ByteInput>(
         × Reads (reader_by R.left R.calls R.errors R.ends reader.old)
         (reader_by R.left R.calls R.errors R.ends reader.new) count input
         × (count ≤ turns)
-        × Checks (templates_in set.now) turns (R.left reader.new) input result
+        × Checks mode (templates_in set.now) turns (R.left reader.new) input result
         × IsCausedBy result (count ≡ turns)
         (reader_by R.left R.calls R.errors R.ends reader.old)
         (reader_by R.left R.calls R.errors R.ends reader.new) }
@@ -97,7 +100,7 @@ pub fn check<R: ByteInput>(
         calls: 0,
         flushes: 0,
     };
-    match canonicalise(alloc, set, reader, &mut nowhere, turns) {
+    match canonicalise(alloc, set, mode, reader, &mut nowhere, turns) {
         Ok(summary) => Ok(summary),
         Err(fault) => Err(fault),
     }

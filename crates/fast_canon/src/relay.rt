@@ -9,6 +9,7 @@ ghost use Rattle.fast_decoder.specs.Inputs.{IsCaused, Reads, reader_by};
 ghost use Rattle.fast_decoder.specs.declared.input.Reached.{Reached as ReachedNow};
 ghost use Rattle.fast_decoder.specs.declared.input.Reached.TheVariants as reached;
 ghost use Rattle.fast_canon.specs.Relays.{Broken, Relayed, Relays};
+ghost use Rattle.fast_machine.specs.Following.{mode_of};
 
 use fast_decoder::Reached;
 use fast_dictionary::Entries;
@@ -40,6 +41,7 @@ pub(crate) fn hand_on<W: ByteOutput, E: Entries>(
     ensures failed { CountsError result (W.errors writer.old) (W.errors writer.new) }
     ensures flushes { W.flushes writer.new ≡ W.flushes writer.old }
     ensures set { machine.new.traversal ≡ machine.old.traversal }
+    ensures mode { mode_of machine.new ≡ mode_of machine.old }
     ensures fed { machine.new.fed ≡ machine.old.fed }
 {
     let count = machine.receiver.finished().len();
@@ -70,6 +72,7 @@ pub(crate) fn read_on<R: ByteInput, E: Entries>(
         × IsCaused result ⊥ (reader_by R.left R.calls R.errors R.ends reader.old)
         (reader_by R.left R.calls R.errors R.ends reader.new)) }
     ensures set { machine.new.traversal.set ≡ machine.old.traversal.set }
+    ensures mode { mode_of machine.new ≡ mode_of machine.old }
     ensures fed { machine.new.fed ≤ machine.old.fed + CHUNK }
 {
     match reader.pull(chunk) {
@@ -119,6 +122,7 @@ pub(crate) fn relay<R: ByteInput, W: ByteOutput, E: Entries>(
     ensures failed { CountsError result (W.errors writer.old) (W.errors writer.new) }
     ensures flushes { W.flushes writer.new ≡ W.flushes writer.old }
     ensures set { machine.new.traversal.set ≡ machine.old.traversal.set }
+    ensures mode { mode_of machine.new ≡ mode_of machine.old }
 {
     let mut reached = Reached::Open;
     let mut reads = 0;

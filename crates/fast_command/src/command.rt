@@ -10,6 +10,7 @@ use crate::shown::show;
 use crate::told::tell;
 use fast_canon::{CanonFault, Summary, canonicalise};
 use fast_io::{ByteInput, ByteOutput};
+use fast_stream::Mode;
 use fast_template::TemplateSet;
 use std::alloc::Global;
 
@@ -39,6 +40,7 @@ pub fn run<R: ByteInput, W: ByteOutput>(
     alloc: Global,
     command: Command,
     set: &TemplateSet,
+    mode: Mode,
     reader: &mut R,
     writer: &mut W,
     turns: u64,
@@ -49,7 +51,7 @@ pub fn run<R: ByteInput, W: ByteOutput>(
         × Reads (reader_by R.left R.calls R.errors R.ends reader.old)
         (reader_by R.left R.calls R.errors R.ends reader.new) count input
         × (count ≤ turns)
-        × Runs command set.now turns (R.left reader.new) (W.taken writer.old)
+        × Runs command mode set.now turns (R.left reader.new) (W.taken writer.old)
         (W.taken writer.new) input result
         × IsCausedBy result (count ≡ turns)
         (reader_by R.left R.calls R.errors R.ends reader.old)
@@ -59,8 +61,8 @@ pub fn run<R: ByteInput, W: ByteOutput>(
     ensures flush { FlushesOnce result (W.flushes writer.old) (W.flushes writer.new) }
 {
     match command {
-        Command::Show => show(alloc, set, reader, writer, turns),
-        Command::Check => tell(alloc, set, reader, writer, turns),
-        Command::Canon => canonicalise(alloc, set, reader, writer, turns),
+        Command::Show => show(alloc, set, mode, reader, writer, turns),
+        Command::Check => tell(alloc, set, mode, reader, writer, turns),
+        Command::Canon => canonicalise(alloc, set, mode, reader, writer, turns),
     }
 }

@@ -7,3 +7,5 @@ mod told;
 
 pub use command::{Command, run};
 pub use fast_lines::{ShowFault, show_line};
+pub use fast_stream::{Framing, Mode};
+pub use fast_wire::Level;

@@ -10,6 +10,7 @@ ghost use Rattle.fast_decoder.specs.declared.input.Reached.TheVariants as reache
 ghost use Rattle.fast_canon.specs.Canonicalised.{FlushesOnce, IsCausedBy, errors_after};
 ghost use Rattle.fast_command.specs.Run.{Shows};
 ghost use Rattle.fast_command.specs.Shown.{Shown, ShownAll, ShownFront};
+ghost use Rattle.fast_machine.specs.Following.{mode_of};
 
 use fast_canon::{CanonFault, Summary};
 use fast_decoder::Reached;
@@ -17,7 +18,7 @@ use fast_dictionary::{Entries, SlotEntries};
 use fast_io::{ByteInput, ByteOutput, Failed, push_all};
 use fast_lines::LineWriter;
 use fast_machine::Machine;
-use fast_stream::Cause;
+use fast_stream::{Cause, Mode};
 use fast_template::TemplateSet;
 use std::alloc::Global;
 
@@ -44,6 +45,7 @@ fn hand_on<W: ByteOutput, E: Entries>(
     ensures failed { CountsError result (W.errors writer.old) (W.errors writer.new) }
     ensures flushes { W.flushes writer.new ≡ W.flushes writer.old }
     ensures set { machine.new.traversal ≡ machine.old.traversal }
+    ensures mode { mode_of machine.new ≡ mode_of machine.old }
     ensures fed { machine.new.fed ≡ machine.old.fed }
 {
     let count = machine.receiver.finished().len();
@@ -74,6 +76,7 @@ fn read_on<R: ByteInput, E: Entries>(
         × IsCaused result ⊥ (reader_by R.left R.calls R.errors R.ends reader.old)
         (reader_by R.left R.calls R.errors R.ends reader.new)) }
     ensures set { machine.new.traversal.set ≡ machine.old.traversal.set }
+    ensures mode { mode_of machine.new ≡ mode_of machine.old }
     ensures fed { machine.new.fed ≤ machine.old.fed + CHUNK }
 {
     match reader.pull(chunk) {
@@ -122,6 +125,7 @@ fn relay<R: ByteInput, W: ByteOutput, E: Entries>(
     ensures failed { CountsError result (W.errors writer.old) (W.errors writer.new) }
     ensures flushes { W.flushes writer.new ≡ W.flushes writer.old }
     ensures set { machine.new.traversal.set ≡ machine.old.traversal.set }
+    ensures mode { mode_of machine.new ≡ mode_of machine.old }
 {
     let mut reached = Reached::Open;
     let mut reads = 0;
@@ -146,6 +150,7 @@ fn relay<R: ByteInput, W: ByteOutput, E: Entries>(
 pub(crate) fn show<R: ByteInput, W: ByteOutput>(
     alloc: Global,
     set: &TemplateSet,
+    mode: Mode,
     reader: &mut R,
     writer: &mut W,
     turns: u64,
@@ -155,7 +160,7 @@ pub(crate) fn show<R: ByteInput, W: ByteOutput>(
         × Reads (reader_by R.left R.calls R.errors R.ends reader.old)
         (reader_by R.left R.calls R.errors R.ends reader.new) count input
         × (count ≤ turns)
-        × Shows set.now turns (R.left reader.new) (W.taken writer.old)
+        × Shows mode set.now turns (R.left reader.new) (W.taken writer.old)
         (W.taken writer.new) input result
         × IsCausedBy result (count ≡ turns)
         (reader_by R.left R.calls R.errors R.ends reader.old)
@@ -168,7 +173,7 @@ pub(crate) fn show<R: ByteInput, W: ByteOutput>(
         Ok(entries) => entries,
     };
     let lines = LineWriter::new(alloc, set);
-    let mut machine = Machine::new(alloc, set, lines, entries);
+    let mut machine = Machine::new(alloc, set, mode, lines, entries);
     match relay(&mut machine, reader, writer, turns) {
         Err(_) => Err(CanonFault::Write),
         Ok((reached, written)) => match writer.flush() {

@@ -8,6 +8,7 @@ ghost use Rattle.fast_command.specs.Run.{Tells};
 use fast_canon::{CanonFault, Summary, check};
 use fast_io::{ByteInput, ByteOutput, write_all};
 use fast_lines::push_ok_line;
+use fast_stream::Mode;
 use fast_template::TemplateSet;
 use std::alloc::Global;
 
@@ -16,6 +17,7 @@ use std::alloc::Global;
 pub(crate) fn tell<R: ByteInput, W: ByteOutput>(
     alloc: Global,
     set: &TemplateSet,
+    mode: Mode,
     reader: &mut R,
     writer: &mut W,
     turns: u64,
@@ -25,7 +27,7 @@ pub(crate) fn tell<R: ByteInput, W: ByteOutput>(
         × Reads (reader_by R.left R.calls R.errors R.ends reader.old)
         (reader_by R.left R.calls R.errors R.ends reader.new) count input
         × (count ≤ turns)
-        × Tells set.now turns (R.left reader.new) (W.taken writer.old)
+        × Tells mode set.now turns (R.left reader.new) (W.taken writer.old)
         (W.taken writer.new) input result
         × IsCausedBy result (count ≡ turns)
         (reader_by R.left R.calls R.errors R.ends reader.old)
@@ -33,7 +35,7 @@ pub(crate) fn tell<R: ByteInput, W: ByteOutput>(
     ensures write { W.errors writer.new ≡ errors_after result (W.errors writer.old) }
     ensures flush { FlushesOnce result (W.flushes writer.old) (W.flushes writer.new) }
 {
-    match check(alloc, set, reader, turns) {
+    match check(alloc, set, mode, reader, turns) {
         Err(CanonFault::Stream(fault)) => match writer.flush() {
             Err(_) => Err(CanonFault::Write),
             Ok(()) => Err(CanonFault::Stream(fault)),

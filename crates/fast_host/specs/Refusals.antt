@@ -7,7 +7,7 @@ use Rattle.fast_written.specs.declared.fault.LoadCause.{LoadCause}
 use Rattle.fast_written.specs.declared.fault.LoadCause.TheVariants as load
 use Rattle.fast_written.specs.declared.fault.LoadFault.{LoadFault}
 use Rattle.fast_stream.specs.declared.fault.Cause.{Cause}
-use Rattle.fast_stream.specs.declared.fault.Cause.TheVariants.{D2, D4, D5, D6, D7, D9, R1, R2, Truncated, Limit, Read, Turns, Memory}
+use Rattle.fast_stream.specs.declared.fault.Cause.TheVariants.{D2, D4, D5, D6, D7, D9, D12, R1, R2, R6, R7, R8, R9, BlockEnd, Truncated, Limit, Read, Turns, Memory}
 use Rattle.fast_stream.specs.declared.fault.Fault.{Fault}
 use Rattle.fast_stream.specs.declared.place.Place.{Place}
 use Rattle.fast_canon.specs.declared.fault.CanonFault.{CanonFault}
@@ -130,8 +130,14 @@ cause_name_of D5 = codes "D5"
 cause_name_of D6 = codes "D6"
 cause_name_of D7 = codes "D7"
 cause_name_of D9 = codes "D9"
+cause_name_of D12 = codes "D12"
 cause_name_of R1 = codes "R1"
 cause_name_of R2 = codes "R2"
+cause_name_of R6 = codes "R6"
+cause_name_of R7 = codes "R7"
+cause_name_of R8 = codes "R8"
+cause_name_of R9 = codes "R9"
+cause_name_of BlockEnd = codes "BlockEnd"
 cause_name_of Truncated = codes "Truncated"
 cause_name_of Limit = codes "Limit"
 cause_name_of Read = codes "Read"

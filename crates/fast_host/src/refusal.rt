@@ -56,8 +56,14 @@ fn cause_name(cause: Cause) -> &'static str
         Cause::D6 => "D6",
         Cause::D7 => "D7",
         Cause::D9 => "D9",
+        Cause::D12 => "D12",
         Cause::R1 => "R1",
         Cause::R2 => "R2",
+        Cause::R6 => "R6",
+        Cause::R7 => "R7",
+        Cause::R8 => "R8",
+        Cause::R9 => "R9",
+        Cause::BlockEnd => "BlockEnd",
         Cause::Truncated => "Truncated",
         Cause::Limit => "Limit",
         Cause::Read => "Read",
@@ -120,8 +126,14 @@ fn machine_refusal(cause: Cause) -> Option<Refusal>
         | Cause::D6
         | Cause::D7
         | Cause::D9
+        | Cause::D12
         | Cause::R1
         | Cause::R2
+        | Cause::R6
+        | Cause::R7
+        | Cause::R8
+        | Cause::R9
+        | Cause::BlockEnd
         | Cause::Truncated
         | Cause::Limit => None,
     }

@@ -9,8 +9,8 @@ use Rattle.fast_command.specs.declared.command.Command.TheVariants.{Check}
 abbrev of : Text → List Text → Option Text
 of id words = first_of id (matches_of (line_among None) words)
 
-abbrev flag : List Text → Option Text
-flag words = one_of (codes "hex") (matches_of (line_among None) words)
+abbrev flag : Text → List Text → Option Text
+flag id words = one_of id (matches_of (line_among None) words)
 
 -- fastcat show --templates t.json
 abbrev plain : List Text
@@ -28,7 +28,7 @@ plain_input : of (codes "input") plain ≡ None
 unfolding clap_on_literals
 plain_input = refl
 
-plain_hex : flag plain ≡ Some (codes "false")
+plain_hex : flag (codes "hex") plain ≡ Some (codes "false")
 unfolding clap_on_literals
 plain_hex = refl
 
@@ -48,9 +48,37 @@ mixed_input : of (codes "input") mixed ≡ Some (codes "s.hex")
 unfolding clap_on_literals
 mixed_input = refl
 
-mixed_hex : flag mixed ≡ Some (codes "true")
+mixed_hex : flag (codes "hex") mixed ≡ Some (codes "true")
 unfolding clap_on_literals
 mixed_hex = refl
+
+mixed_strict : flag (codes "strict") mixed ≡ Some (codes "false")
+unfolding clap_on_literals
+mixed_strict = refl
+
+-- fastcat canon --strict --templates t.json
+abbrev strict : List Text
+strict = codes "fastcat" ∷ codes "canon" ∷ codes "--strict" ∷ codes "--templates" ∷ codes "t.json" ∷ []
+
+strict_flag : flag (codes "strict") strict ≡ Some (codes "true")
+unfolding clap_on_literals
+strict_flag = refl
+
+strict_blocks : flag (codes "blocks") strict ≡ Some (codes "false")
+unfolding clap_on_literals
+strict_blocks = refl
+
+-- fastcat --blocks canon --templates t.json
+abbrev blocks : List Text
+blocks = codes "fastcat" ∷ codes "--blocks" ∷ codes "canon" ∷ codes "--templates" ∷ codes "t.json" ∷ []
+
+blocks_flag : flag (codes "blocks") blocks ≡ Some (codes "true")
+unfolding clap_on_literals
+blocks_flag = refl
+
+blocks_strict : flag (codes "strict") blocks ≡ Some (codes "false")
+unfolding clap_on_literals
+blocks_strict = refl
 
 check_named : command_named (codes "check") ≡ Some Check
 check_named = refl

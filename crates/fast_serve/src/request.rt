@@ -4,11 +4,11 @@ ghost use Rattle.std.specs.Prelude.{◌≡◌, None, Some, IfNone, IfOk, IfSome,
 ghost use Rattle.std.specs.Option.{option_copied};
 ghost use Rattle.clap.specs.Words.{app_of, found_of, rule_of};
 ghost use Rattle.clap.specs.declared.builder.value_parser.ValueParser.{ValueParser};
-ghost use Rattle.fast_serve.specs.CommandLine.{AsksFor, Finds, bare_app, command_named, command_rule, hex_rule, input_rule, line_among, templates_rule};
+ghost use Rattle.fast_serve.specs.CommandLine.{AsksFor, Finds, bare_app, blocks_rule, command_named, command_rule, hex_rule, input_rule, is_blocks, is_strict, line_among, strict_rule, templates_rule};
 
 use clap::error::ErrorKind;
 use clap::{Arg, ArgAction, ArgMatches};
-use fast_command::Command;
+use fast_command::{Command, Framing, Level, Mode};
 use std::alloc::{AllocError, Global};
 
 /// What a command line asks for.
@@ -19,6 +19,8 @@ pub(crate) struct Request<'a> {
     pub(crate) templates: &'a str,
     /// Whether the input is hex text, and with it what `canon` writes.
     pub(crate) hex: bool,
+    /// How the stream is read.
+    pub(crate) mode: Mode,
     /// The name of the file with the stream; without one it is the standard input.
     pub(crate) input: Option<&'a str>,
 }
@@ -86,6 +88,28 @@ fn hex_word<'a>(alloc: Global) -> Arg<'a>
         .help("Read hex text, and write canonical bytes as hex text")
 }
 
+/// The flag for the strict level.
+fn strict_word<'a>(alloc: Global) -> Arg<'a>
+    ensures rule { rule_of result ≡ strict_rule }
+    ensures local { result.global ≡ false }
+{
+    Arg::new(alloc, "strict")
+        .long("strict")
+        .action(ArgAction::SetTrue)
+        .help("Refuse overlong entities, and map bits that no instruction asked for")
+}
+
+/// The flag for blocks.
+fn blocks_word<'a>(alloc: Global) -> Arg<'a>
+    ensures rule { rule_of result ≡ blocks_rule }
+    ensures local { result.global ≡ false }
+{
+    Arg::new(alloc, "blocks")
+        .long("blocks")
+        .action(ArgAction::SetTrue)
+        .help("Read a stream of blocks: a size, and as many bytes of whole messages")
+}
+
 /// The program without its words.
 fn bare_line<'a>(alloc: Global) -> clap::Command<'a>
     ensures { app_of result ≡ bare_app }
@@ -104,7 +128,9 @@ fn line<'a>(alloc: Global) -> Result<clap::Command<'a>, AllocError>
         .arg(command_word(alloc))?
         .arg(input_word(alloc))?
         .arg(templates_word(alloc))?
-        .arg(hex_word(alloc))
+        .arg(hex_word(alloc))?
+        .arg(strict_word(alloc))?
+        .arg(blocks_word(alloc))
 }
 
 /// The command of a word.
@@ -119,9 +145,23 @@ fn command_of(word: Option<&str>) -> Option<Command>
     }
 }
 
+/// How a stream is read, by the flags.
+fn mode_of(strict: bool, blocks: bool) -> Mode
+    ensures strict { is_strict result.level ≡ strict }
+    ensures blocks { is_blocks result.framing ≡ blocks }
+{
+    let level = if strict { Level::Strict } else { Level::Usual };
+    let framing = if blocks {
+        Framing::Blocks
+    } else {
+        Framing::Plain
+    };
+    Mode { level, framing }
+}
+
 /// What is asked for by what a parser found; none where a word is not there that has to be.
 fn request_of<'a>(matches: &ArgMatches<'a>) -> Option<Request<'a>>
-    ensures { IfSome result (λ r. Finds (found_of matches.now) r.command r.templates.now r.hex
+    ensures { IfSome result (λ r. Finds (found_of matches.now) r.command r.templates.now r.hex r.mode
         (option_map (λ name. name.now) r.input)) }
 {
     let command = command_of(matches.get_str("command"));
@@ -130,6 +170,7 @@ fn request_of<'a>(matches: &ArgMatches<'a>) -> Option<Request<'a>>
             command,
             templates,
             hex: matches.get_flag("hex"),
+            mode: mode_of(matches.get_flag("strict"), matches.get_flag("blocks")),
             input: matches.get_str("input"),
         }),
         (_, _) => None,
@@ -141,7 +182,7 @@ pub(crate) fn parse_words<'a>(
     alloc: Global,
     words: &'a [&'a str],
 ) -> Result<Request<'a>, clap::Error>
-    ensures { IfOk result (λ r. AsksFor (map (λ w. w.now) words.now) r.command r.templates.now r.hex
+    ensures { IfOk result (λ r. AsksFor (map (λ w. w.now) words.now) r.command r.templates.now r.hex r.mode
         (option_map (λ name. name.now) r.input)) }
 {
     let mut line = line(alloc)?;

@@ -9,7 +9,7 @@ ghost use Rattle.fast_serve.specs.Served.{CanonInHex, LoadsSet, Performs, Perfor
 
 use crate::request::{Request, parse_words};
 use fast_canon::CanonFault;
-use fast_command::{Command, run};
+use fast_command::{Command, Mode, run};
 use fast_host::{MemoryOutput, Refusal, Source, hex_line, read_hex, read_text};
 use fast_io::{ByteInput, ByteOutput, Counted, write_all};
 use fast_template::TemplateSet;
@@ -82,18 +82,19 @@ fn run_plain<I: ByteInput, O: ByteOutput>(
     alloc: Global,
     command: Command,
     set: &TemplateSet,
+    mode: Mode,
     input: &mut I,
     out: &mut O,
     turns: u64,
 ) -> Result<(), Refusal>
     requires turns { turns ≤ 2 ^ 40 }
-    ensures { RunsPlain command set.now turns
+    ensures { RunsPlain command mode set.now turns
         (reader_by I.left I.calls I.errors I.ends input.old)
         (reader_by I.left I.calls I.errors I.ends input.new)
         (writer_by O.taken O.errors O.flushes out.old)
         (writer_by O.taken O.errors O.flushes out.new) result }
 {
-    match run(alloc, command, set, input, out, turns) {
+    match run(alloc, command, set, mode, input, out, turns) {
         Ok(_) => Ok(()),
         Err(fault) => Err(Refusal::of_run(alloc, fault)),
     }
@@ -112,12 +113,13 @@ fn write_hex_line<O: ByteOutput>(alloc: Global, bytes: &[u8], out: &mut O) -> Re
 fn canon_in_hex<O: ByteOutput>(
     alloc: Global,
     set: &TemplateSet,
+    mode: Mode,
     stream: &[u8],
     out: &mut O,
     turns: u64,
 ) -> Result<(), Refusal>
     requires turns { turns ≤ 2 ^ 40 }
-    ensures { CanonInHex set.now turns stream.now
+    ensures { CanonInHex mode set.now turns stream.now
         (writer_by O.taken O.errors O.flushes out.old)
         (writer_by O.taken O.errors O.flushes out.new) result }
 {
@@ -128,7 +130,15 @@ fn canon_in_hex<O: ByteOutput>(
         errors: 0,
         flushes: 0,
     };
-    match run(alloc, Command::Canon, set, &mut input, &mut kept, turns) {
+    match run(
+        alloc,
+        Command::Canon,
+        set,
+        mode,
+        &mut input,
+        &mut kept,
+        turns,
+    ) {
         Ok(_) => write_hex_line(alloc, &kept.bytes, out),
         Err(CanonFault::Stream(fault)) => {
             write_hex_line(alloc, &kept.bytes, out)?;
@@ -144,20 +154,21 @@ fn perform_in_hex<O: ByteOutput>(
     alloc: Global,
     command: Command,
     set: &TemplateSet,
+    mode: Mode,
     stream: &[u8],
     out: &mut O,
     turns: u64,
 ) -> Result<(), Refusal>
     requires turns { turns ≤ 2 ^ 40 }
-    ensures { PerformsInHex command set.now turns stream.now
+    ensures { PerformsInHex command mode set.now turns stream.now
         (writer_by O.taken O.errors O.flushes out.old)
         (writer_by O.taken O.errors O.flushes out.new) result }
 {
     match command {
-        Command::Canon => canon_in_hex(alloc, set, stream, out, turns),
+        Command::Canon => canon_in_hex(alloc, set, mode, stream, out, turns),
         Command::Show | Command::Check => {
             let mut input = Counted::new(stream);
-            run_plain(alloc, command, set, &mut input, out, turns)
+            run_plain(alloc, command, set, mode, &mut input, out, turns)
         }
     }
 }
@@ -167,12 +178,13 @@ fn perform_hex<I: ByteInput, O: ByteOutput>(
     alloc: Global,
     command: Command,
     set: &TemplateSet,
+    mode: Mode,
     input: &mut I,
     out: &mut O,
     turns: u64,
 ) -> Result<(), Refusal>
     requires turns { turns ≤ 2 ^ 40 }
-    ensures { PerformsHexText command set.now turns
+    ensures { PerformsHexText command mode set.now turns
         (reader_by I.left I.calls I.errors I.ends input.old)
         (reader_by I.left I.calls I.errors I.ends input.new)
         (writer_by O.taken O.errors O.flushes out.old)
@@ -180,7 +192,7 @@ fn perform_hex<I: ByteInput, O: ByteOutput>(
 {
     match read_hex_input(alloc, input, turns) {
         Err(refusal) => Err(refusal),
-        Ok(stream) => perform_in_hex(alloc, command, set, &stream, out, turns),
+        Ok(stream) => perform_in_hex(alloc, command, set, mode, &stream, out, turns),
     }
 }
 
@@ -194,16 +206,16 @@ fn perform_over<I: ByteInput, O: ByteOutput>(
     turns: u64,
 ) -> Result<(), Refusal>
     requires turns { turns ≤ 2 ^ 40 }
-    ensures { PerformsOver request.entry.hex request.entry.command set.now turns
+    ensures { PerformsOver request.entry.hex request.entry.command request.entry.mode set.now turns
         (reader_by I.left I.calls I.errors I.ends input.old)
         (reader_by I.left I.calls I.errors I.ends input.new)
         (writer_by O.taken O.errors O.flushes out.old)
         (writer_by O.taken O.errors O.flushes out.new) result }
 {
     if request.hex {
-        perform_hex(alloc, request.command, set, input, out, turns)
+        perform_hex(alloc, request.command, set, request.mode, input, out, turns)
     } else {
-        run_plain(alloc, request.command, set, input, out, turns)
+        run_plain(alloc, request.command, set, request.mode, input, out, turns)
     }
 }
 

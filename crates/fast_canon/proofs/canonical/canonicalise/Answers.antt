@@ -2,6 +2,9 @@ use Rattle.std.proofs.Common.{[], ◌∷◌, ℕ, List, refl, sym, ap, subst, �
 use Rattle.std.specs.FinMap as finite
 use Rattle.fast_io.specs.Counts.{counted}
 use Rattle.fast_template.specs.TemplateSets.{TemplateList, templates_in}
+use Rattle.fast_stream.specs.declared.mode.Mode.{Mode}
+use Rattle.fast_stream.specs.Blocks.{at_start}
+use Rattle.fast_machine.specs.Following.{mode_of}
 use Rattle.fast_decoder.specs.Inputs.{HasReached}
 use Rattle.fast_decoder.proofs.Inputs.{none_read}
 use Rattle.fast_writer.specs.Canonical.{IsCanonical}
@@ -21,7 +24,7 @@ returns-in-Err-clause-answer g c = (
     messages = [];
     front = [];
     rest = [];
-    carried = record { front = []; rest = []; start = finite.empty; parts = refl; carried = (refl, refl); ends = tt };
+    carried = record { front = []; rest = []; start = at_start; parts = refl; carried = (refl, refl); ends = tt };
     canonical = (finite.empty, (refl, refl));
     written = Appends-nil _;
   },
@@ -31,6 +34,7 @@ returns-in-Err-clause-answer g c = (
 pub returns-in-Err-relay-clause-answer : goal.returns-in-Err-relay-clause-answer
 returns-in-Err-relay-clause-answer g c =
     let same = ap (λ x. x.now) c.relay.ensures.set ∙ c.new-machine.ensures.set in
+    let how = c.relay.ensures.mode ∙ c.new-machine.ensures.mode in
     let b = c.in-Err-relay.ensures.broken (record {
       holds = record { unrefused = c.new-machine.ensures.fault; follows = c.new-machine.ensures.follows (handed_on [] ∷ []) (c.new-canonical.ensures.stands (templates_in c.args.set.now)); few = omega arith };
       canonical = rw (c.new-machine.ensures.receiver, c.new-canonical.ensures.empty) (finite.empty, (refl, refl));
@@ -40,14 +44,16 @@ returns-in-Err-relay-clause-answer g c =
       b.input,
       b.moves.reads,
       b.moves.bounded,
-      subst (λ (s : TemplateList). Breaks (templates_in s) (g.W.ByteOutput.taken c.args.writer.now) (g.W.ByteOutput.taken c.relay.new.writer) b.input) same
-          (record { messages = b.messages; front = b.front; rest = b.rest; carried = b.carried; canonical = b.canonical; written = b.moves.written }),
+      subst (λ (x : Mode). Breaks x (templates_in c.args.set.now) (g.W.ByteOutput.taken c.args.writer.now) (g.W.ByteOutput.taken c.relay.new.writer) b.input) how
+          (subst (λ (s : TemplateList). Breaks (mode_of c.relay.new.machine) (templates_in s) (g.W.ByteOutput.taken c.args.writer.now) (g.W.ByteOutput.taken c.relay.new.writer) b.input) same
+          (record { messages = b.messages; front = b.front; rest = b.rest; carried = b.carried; canonical = b.canonical; written = b.moves.written })),
       tt,
     )
 
 pub returns-in-Err-flush-clause-answer : goal.returns-in-Err-flush-clause-answer
 returns-in-Err-flush-clause-answer g c =
     let same = ap (λ x. x.now) c.relay.ensures.set ∙ c.new-machine.ensures.set in
+    let how = c.relay.ensures.mode ∙ c.new-machine.ensures.mode in
     let r = c.in-Ok-relay.ensures.relayed (record {
       holds = record { unrefused = c.new-machine.ensures.fault; follows = c.new-machine.ensures.follows (handed_on [] ∷ []) (c.new-canonical.ensures.stands (templates_in c.args.set.now)); few = omega arith };
       canonical = rw (c.new-machine.ensures.receiver, c.new-canonical.ensures.empty) (finite.empty, (refl, refl));
@@ -58,21 +64,23 @@ returns-in-Err-flush-clause-answer g c =
       r.input,
       r.moves.reads,
       r.moves.bounded,
-      subst (λ (s : TemplateList). Breaks (templates_in s) (g.W.ByteOutput.taken c.args.writer.now) (g.W.ByteOutput.taken c.flush.new.self) r.input) same
+      subst (λ (x : Mode). Breaks x (templates_in c.args.set.now) (g.W.ByteOutput.taken c.args.writer.now) (g.W.ByteOutput.taken c.flush.new.self) r.input) how
+          (subst (λ (s : TemplateList). Breaks (mode_of m) (templates_in s) (g.W.ByteOutput.taken c.args.writer.now) (g.W.ByteOutput.taken c.flush.new.self) r.input) same
           (record {
             messages = r.messages;
             front = r.handed;
             rest = [];
-            carried = carried_reached c.in-Ok-relay.reached (templates_in m.traversal.set.now) c.args.turns (g.R.ByteInput.left c.relay.new.reader) r.input r.messages r.holds;
+            carried = carried_reached c.in-Ok-relay.reached (mode_of m) (templates_in m.traversal.set.now) c.args.turns (g.R.ByteInput.left c.relay.new.reader) r.input r.messages r.holds;
             canonical = subst (λ (bytes : List ℕ). IsCanonical (templates_in m.traversal.set.now) r.messages bytes) (sym (append-nil r.handed)) r.canonical;
             written = Appends-kept _ _ _ r.handed r.moves.written c.in-Err-flush.ensures.bytes;
-          }),
+          })),
       tt,
     )
 
 pub returns-in-Fault-clause-answer : goal.returns-in-Fault-clause-answer
 returns-in-Fault-clause-answer g c =
     let same = ap (λ x. x.now) c.relay.ensures.set ∙ c.new-machine.ensures.set in
+    let how = c.relay.ensures.mode ∙ c.new-machine.ensures.mode in
     let r = c.in-Ok-relay.ensures.relayed (record {
       holds = record { unrefused = c.new-machine.ensures.fault; follows = c.new-machine.ensures.follows (handed_on [] ∷ []) (c.new-canonical.ensures.stands (templates_in c.args.set.now)); few = omega arith };
       canonical = rw (c.new-machine.ensures.receiver, c.new-canonical.ensures.empty) (finite.empty, (refl, refl));
@@ -82,20 +90,22 @@ returns-in-Fault-clause-answer g c =
       r.input,
       r.moves.reads,
       r.moves.bounded,
-      subst (λ (s : TemplateList). Stops (templates_in s) c.args.turns (g.R.ByteInput.left c.relay.new.reader) (g.W.ByteOutput.taken c.args.writer.now) (g.W.ByteOutput.taken c.flush.new.self) r.input c.in-Fault.fault) same
+      subst (λ (x : Mode). Stops x (templates_in c.args.set.now) c.args.turns (g.R.ByteInput.left c.relay.new.reader) (g.W.ByteOutput.taken c.args.writer.now) (g.W.ByteOutput.taken c.flush.new.self) r.input c.in-Fault.fault) how
+          (subst (λ (s : TemplateList). Stops (mode_of c.relay.new.machine) (templates_in s) c.args.turns (g.R.ByteInput.left c.relay.new.reader) (g.W.ByteOutput.taken c.args.writer.now) (g.W.ByteOutput.taken c.flush.new.self) r.input c.in-Fault.fault) same
           (record {
             messages = r.messages;
             out = r.handed;
             refuses = rw (c.in-Fault.is) at r.holds;
             canonical = r.canonical;
             written = Appends-kept _ _ _ r.handed r.moves.written c.in-Ok-flush.ensures.bytes;
-          }),
+          })),
       rw (c.in-Fault.is) at r.caused,
     )
 
 pub returns : goal.returns
 returns g c =
     let same = ap (λ x. x.now) c.relay.ensures.set ∙ c.new-machine.ensures.set in
+    let how = c.relay.ensures.mode ∙ c.new-machine.ensures.mode in
     let r = c.in-Ok-relay.ensures.relayed (record {
       holds = record { unrefused = c.new-machine.ensures.fault; follows = c.new-machine.ensures.follows (handed_on [] ∷ []) (c.new-canonical.ensures.stands (templates_in c.args.set.now)); few = omega arith };
       canonical = rw (c.new-machine.ensures.receiver, c.new-canonical.ensures.empty) (finite.empty, (refl, refl));
@@ -103,8 +113,9 @@ returns g c =
     }) in
     let m = c.relay.new.machine in
     let left = g.R.ByteInput.left c.relay.new.reader in
-    let is = is_end c.in-Ok-relay.reached (templates_in m.traversal.set.now) c.args.turns left r.input r.messages c.in-End.is r.holds in
-    let now = subst (λ (x : TemplateList). HasReached c.in-Ok-relay.reached ⊥ (templates_in x) c.args.turns left r.input r.messages) same r.holds in
+    let is = is_end c.in-Ok-relay.reached (mode_of m) (templates_in m.traversal.set.now) c.args.turns left r.input r.messages c.in-End.is r.holds in
+    let now = subst (λ (x : Mode). HasReached c.in-Ok-relay.reached ⊥ x (templates_in c.args.set.now) c.args.turns left r.input r.messages) how
+    (subst (λ (x : TemplateList). HasReached c.in-Ok-relay.reached ⊥ (mode_of m) (templates_in x) c.args.turns left r.input r.messages) same r.holds) in
     let k = r.counts is in
     let canonical = subst (λ (s : TemplateList). IsCanonical (templates_in s) r.messages r.handed) same r.canonical in
     record {
@@ -120,7 +131,7 @@ returns g c =
           canonical = canonical;
           written = Appends-kept _ _ _ r.handed r.moves.written c.in-Ok-flush.ensures.bytes;
           counts = summary_is _ _ _ _ _ _ (c.messages.ensures ∙ k.count_is) (c.fed.ensures ∙ k.fed_is) r.size_is;
-          no_longer = no_longer c.args.set.now c.new-machine.ensures.sound r.input r.handed r.messages (carried_reached c.in-Ok-relay.reached (templates_in c.args.set.now) c.args.turns left r.input r.messages now) canonical;
+          no_longer = no_longer c.args.mode c.args.set.now c.new-machine.ensures.sound r.input r.handed r.messages (carried_reached c.in-Ok-relay.reached c.args.mode (templates_in c.args.set.now) c.args.turns left r.input r.messages now) canonical;
         },
         rw (is) at r.caused,
       );

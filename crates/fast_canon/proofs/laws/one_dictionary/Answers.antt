@@ -1,5 +1,5 @@
-use Rattle.fast_stream.proofs.Leaves.{same_dictionary}
+use Rattle.fast_stream.proofs.Framings.{one_dictionary}
 use Rattle.fast_canon.proofs.laws.one_dictionary.Goals as goal
 
 pub returns : goal.returns
-returns c = same_dictionary
+returns c = one_dictionary

@@ -1,6 +1,8 @@
 use Rattle.fast_template.specs.TemplateSets.{templates_in}
-use Rattle.fast_stream.proofs.StreamReaders.{one_list}
+use Rattle.fast_stream.proofs.MessageReaders.{message_reader}
+use Rattle.fast_stream.proofs.ModeReaders.{next_reader}
+use Rattle.fast_stream.proofs.ModeStreams.{one_list}
 use Rattle.fast_canon.proofs.laws.one_reading.Goals as goal
 
 pub returns : goal.returns
-returns c = λ set stream messages others sound. one_list (templates_in set) sound.typed stream messages others
+returns c = λ mode set stream messages others sound. one_list mode (templates_in set) (next_reader mode (templates_in set) (message_reader mode.level (templates_in set) sound.typed)) stream messages others

@@ -1,6 +1,8 @@
 use Rattle.fast_template.specs.TemplateSets.{templates_in}
-use Rattle.fast_stream.proofs.StreamReaders.{fault_stays}
+use Rattle.fast_stream.proofs.MessageReaders.{message_reader}
+use Rattle.fast_stream.proofs.ModeReaders.{next_reader}
+use Rattle.fast_stream.proofs.ModeStreams.{fault_stays}
 use Rattle.fast_canon.proofs.laws.refusal_stays.Goals as goal
 
 pub returns : goal.returns
-returns c = λ set stream more place cause sound. fault_stays (templates_in set) sound.typed stream more place cause
+returns c = λ mode set stream more place cause sound. fault_stays mode (templates_in set) (next_reader mode (templates_in set) (message_reader mode.level (templates_in set) sound.typed)) stream more place cause

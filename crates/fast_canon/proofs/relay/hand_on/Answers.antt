@@ -1,5 +1,6 @@
 use Rattle.std.proofs.Common.{◌∷◌, ◌++◌, append-nil}
 use Rattle.fast_template.specs.TemplateSets.{templates_in}
+use Rattle.fast_machine.specs.Following.{mode_of}
 use Rattle.fast_machine.proofs.Followings.{follows_behind}
 use Rattle.fast_decoder.proofs.Inputs.{reached_with}
 use Rattle.fast_writer.specs.Levels.{HasFinished, HasWritten}
@@ -13,11 +14,11 @@ returns-in-Ok-clause-relays g c = λ at reads turns left handed input messages r
     let h = c.hand_on.ensures in
     let all = handed ++ old.receiver.out.items in
     record {
-      holds = reached_with at (GoesOn old reads handed input messages) _ (templates_in old.traversal.set.now) turns left input messages
+      holds = reached_with at (GoesOn old reads handed input messages) _ (mode_of old) (templates_in old.traversal.set.now) turns left input messages
           (λ go. record {
             unrefused = go.unrefused;
             follows = record {
-              at = follows_behind HasWritten HasFinished HasFinished old.fault old.traversal old.receiver c.hand_on.new.self (g.E.Entries.contents old.entries) old.held.items old.waiting
+              at = follows_behind HasWritten HasFinished HasFinished old.fault old.framing old.left old.traversal old.receiver c.hand_on.new.self (g.E.Entries.contents old.entries) old.held.items old.waiting
                   (handed_on handed ∷ messages) (handed_on all ∷ messages) input messages
                   (λ o same has. h.has o handed messages _ same has) (λ x e stands. h.stands x handed messages e stands) (λ x e keeps. h.keeps x handed messages e keeps) go.follows.at;
               counts = go.follows.counts;

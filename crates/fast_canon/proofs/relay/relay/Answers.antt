@@ -5,6 +5,7 @@ use Rattle.fast_decoder.specs.Inputs.{reader_by}
 use Rattle.fast_decoder.proofs.Inputs.{causes_end, causes_on, causes_weaker, more_read, refused_by_turns}
 use Rattle.fast_writer.specs.Canonical.{IsCanonical}
 use Rattle.fast_walk.specs.Received.{handed_on}
+use Rattle.fast_machine.specs.Following.{mode_of}
 use Rattle.fast_canon.specs.Relays.{GoesOn}
 use Rattle.fast_io.proofs.Outputs.{Appends-trans}
 use Rattle.fast_canon.proofs.Relayings.{carried_by, closed_with, no_longer, shut}
@@ -30,6 +31,7 @@ reads-preserved g c =
       few = omega arith;
       fed = omega (arith, fed, more_fed, kept_fed);
       set = ap (λ t. t.set) h.set ∙ r.set ∙ v.set;
+      mode = h.mode ∙ r.mode ∙ v.mode;
       errors = h.failed ∙ v.errors;
       flushes = h.flushes ∙ v.flushes;
       relays = λ start.
@@ -39,7 +41,7 @@ reads-preserved g c =
           let messages = i.2 ++ e.0 in
           let all = more_read a b d l.reads i.1 r.read.0 i.3 r.read.1 in
           let sound : IsSound next.traversal.set.now = subst (λ (s : TemplateList). IsSound s) (sym (ap (λ s. s.now) (r.set ∙ v.set))) c.requires.sound in
-          let less = no_longer next.traversal.set.now sound input (i.0 ++ out) messages (carried_by c.read_on-reached.result next (l.reads + 1) c.args.turns d.left i.0 input messages e.1) e.1.canonical in
+          let less = no_longer (mode_of next) next.traversal.set.now sound input (i.0 ++ out) messages (carried_by c.read_on-reached.result next (l.reads + 1) c.args.turns d.left i.0 input messages e.1) e.1.canonical in
           let size = length-append i.0 out in
           let sum = c.saturating_add-written.ensures in
           let before = i.6 in
@@ -85,7 +87,7 @@ returns-in-Err-clause-broken g c = λ start.
         bounded = omega arith;
         written = Appends-trans _ _ _ i.0 t.1.front i.5 t.1.appended;
       };
-      carried = rw (h.set) (carried_by c.read_on-reached.result next (l.reads + 1) c.args.turns d.left i.0 input messages e.1);
+      carried = rw (h.unchanged) (carried_by c.read_on-reached.result next (l.reads + 1) c.args.turns d.left i.0 input messages e.1);
       canonical = rw (h.set) (subst (λ (bytes : List ℕ). IsCanonical (templates_in next.traversal.set.now) messages bytes) (ap (λ (xs : List ℕ). i.0 ++ xs) t.1.parts ∙ sym (append_assoc i.0 t.1.front t.0)) e.1.canonical);
     }
 
@@ -109,7 +111,7 @@ returns-in-Open-clause-relayed g c = λ start.
       input = i.1;
       messages = i.2;
       moves = record { reads = i.3; bounded = v.few; written = i.5 };
-      holds = rw (c.cut.ensures.set) (refused_by_turns c.cut.result (templates_in l.machine.traversal.set.now) c.args.turns b.left i.1 i.2 c.cut.ensures.cause cut (omega (arith, used, gave)));
+      holds = rw (c.cut.ensures.set, c.cut.ensures.mode) (refused_by_turns c.cut.result (mode_of l.machine) (templates_in l.machine.traversal.set.now) c.args.turns b.left i.1 i.2 c.cut.ensures.cause cut (omega (arith, used, gave)));
       canonical = rw (c.cut.ensures.set) (subst (λ (bytes : List ℕ). IsCanonical (templates_in l.machine.traversal.set.now) i.2 bytes) (ap (λ (xs : List ℕ). i.0 ++ xs) i.7 ∙ append-nil i.0) i.4.canonical);
       counts = λ e. absurd cc;
       size_is = i.6;
@@ -131,7 +133,7 @@ returns-in-End g c =
             input = i.1;
             messages = i.2;
             moves = record { reads = i.3; bounded = v.few; written = i.5 };
-            holds = closed_with l.reached (GoesOn l.machine l.reads i.0 i.1 i.2) (templates_in l.machine.traversal.set.now) c.args.turns b.left i.1 i.2 (shut l.reached c.in-End.is) i.4.holds;
+            holds = closed_with l.reached (GoesOn l.machine l.reads i.0 i.1 i.2) (mode_of l.machine) (templates_in l.machine.traversal.set.now) c.args.turns b.left i.1 i.2 (shut l.reached c.in-End.is) i.4.holds;
             canonical = subst (λ (bytes : List ℕ). IsCanonical (templates_in l.machine.traversal.set.now) i.2 bytes) (ap (λ (xs : List ℕ). i.0 ++ xs) i.7 ∙ append-nil i.0) i.4.canonical;
             counts = i.4.counts;
             size_is = i.6;
@@ -141,4 +143,5 @@ returns-in-End g c =
       failed = v.errors;
       flushes = v.flushes;
       set = v.set;
+      mode = v.mode;
     }

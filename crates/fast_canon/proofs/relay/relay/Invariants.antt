@@ -3,6 +3,7 @@ use Rattle.std.specs.Io.KnownBytes.{Appends}
 use Rattle.fast_stream.specs.Nodes.{Content}
 use Rattle.fast_decoder.specs.Inputs.{Causes, Reads, reader_by}
 use Rattle.fast_decoder.specs.declared.input.Reached.TheVariants as reached
+use Rattle.fast_machine.specs.Following.{mode_of}
 use Rattle.fast_canon.specs.Relays.{Relays}
 use Rattle.fast_canon.proofs.relay.relay.Given as goal
 
@@ -14,6 +15,7 @@ invariant-reads g l =
       few : l.reads ≤ l.turns;
       fed : l.machine.fed ≤ 4096 * l.reads;
       set : l.machine.traversal.set ≡ l.fn.machine.traversal.set;
+      mode : mode_of l.machine ≡ mode_of l.fn.machine;
       errors : g.W.ByteOutput.errors l.writer ≡ g.W.ByteOutput.errors l.fn.writer;
       flushes : g.W.ByteOutput.flushes l.writer ≡ g.W.ByteOutput.flushes l.fn.writer;
       relays : Relays reached.Open l.fn.machine 0 l.turns (g.R.ByteInput.left l.fn.reader) [] [] []

@@ -5,6 +5,7 @@ use Rattle.fast_machine.specs.Following.{Counts}
 use Rattle.fast_decoder.specs.Inputs.{reader_by}
 use Rattle.fast_decoder.proofs.Inputs.{caused_by_end, caused_by_feed, caused_by_read, empty_read, failed_read, of_bytes, one_read, refused_by_bytes, refused_by_end, refused_by_read}
 use Rattle.fast_walk.specs.Received.{handed_on}
+use Rattle.fast_machine.specs.Following.{mode_of}
 use Rattle.fast_command.proofs.Showings.{lines_left, lines_of}
 use Rattle.fast_command.proofs.shown.read_on.Goals as goal
 
@@ -24,8 +25,8 @@ returns-in-Ok-finish-clause-read g c =
           let ok = c.in-Ok-finish.ensures.ok in (
             [],
             record {
-              holds = rw (append-nil input, append-nil messages, c.finish.ensures.set) (record { carried = ok.1 (handed_on handed ∷ messages) input messages go.follows; ended = p.bytes.2 zero (omega arith) });
-              lines = rw (append-nil messages) (lines_left old.fault old.traversal new.traversal old.receiver new.receiver (g.E.Entries.contents old.entries) old.held.items old.waiting handed input messages same c.finish.ensures.left go.follows.at);
+              holds = rw (append-nil input, append-nil messages, c.finish.ensures.set, c.finish.ensures.mode) (record { carried = ok.1 (handed_on handed ∷ messages) input messages go.follows; ended = p.bytes.2 zero (omega arith) });
+              lines = rw (append-nil messages) (lines_left old.fault old.framing old.left old.traversal new.traversal old.receiver new.receiver (g.E.Entries.contents old.entries) old.held.items old.waiting handed input messages same c.finish.ensures.left go.follows.at);
               counts = λ e. rw (append-nil input, append-nil messages) (subst (λ (n : ℕ × ℕ). Counts n.0 n.1 input messages) (sym (ap (λ m. (m.fed, m.messages)) ok.0)) go.follows.counts);
             },
             p.end.0 zero (omega arith),
@@ -49,14 +50,14 @@ returns-in-Err-finish-clause-read g c =
           let few = c.requires.room in
           let after = t.1 (handed_on handed ∷ messages) input messages (omega (arith, few)) go.follows in
           let refused = (rw (c.in-Err-finish.ensures.answer) at after.at).0 in
-          let stops = refused_by_end c.in-Err-finish.fault (templates_in new.traversal.set.now) turns (g.R.ByteInput.left c.pull.new.self) input messages t.0 (p.bytes.2 zero (omega arith)) refused.0 refused.1 refused.2 in (
+          let stops = refused_by_end c.in-Err-finish.fault (mode_of new) (templates_in new.traversal.set.now) turns (g.R.ByteInput.left c.pull.new.self) input messages t.0 (p.bytes.2 zero (omega arith)) refused.0 refused.1 refused.2 in (
             [],
             record {
               holds = rw (append-nil input, append-nil messages) stops;
-              lines = rw (append-nil messages) (lines_left old.fault old.traversal new.traversal old.receiver new.receiver (g.E.Entries.contents old.entries) old.held.items old.waiting handed input messages same c.finish.ensures.left go.follows.at);
+              lines = rw (append-nil messages) (lines_left old.fault old.framing old.left old.traversal new.traversal old.receiver new.receiver (g.E.Entries.contents old.entries) old.held.items old.waiting handed input messages same c.finish.ensures.left go.follows.at);
               counts = λ e. absurd cc;
             },
-            caused_by_end (reached.Fault c.in-Err-finish.fault) (templates_in new.traversal.set.now) turns (g.R.ByteInput.left c.pull.new.self) input messages a b stops t.0 (p.end.0 zero (omega arith)),
+            caused_by_end (reached.Fault c.in-Err-finish.fault) (mode_of new) (templates_in new.traversal.set.now) turns (g.R.ByteInput.left c.pull.new.self) input messages a b stops t.0 (p.end.0 zero (omega arith)),
           ),
     )
 
@@ -80,7 +81,7 @@ returns-in-Ok-feed-clause-read g c =
             e.0,
             record {
               holds = record { unrefused = c.in-Ok-feed.ensures.answer; follows = e.1; few = omega (arith, before, size, taken, few, some) };
-              lines = lines_of new.fault new.traversal new.receiver (g.E.Entries.contents new.entries) new.held.items new.waiting handed (input ++ got) (messages ++ e.0) e.1.at;
+              lines = lines_of new.fault new.framing new.left new.traversal new.receiver (g.E.Entries.contents new.entries) new.held.items new.waiting handed (input ++ got) (messages ++ e.0) e.1.at;
               counts = λ h. absurd cc;
             },
             caused_by_feed reached.Open a b (λ h. absurd cc) tt p.error (p.end.1 some),
@@ -105,11 +106,11 @@ returns-in-Err-feed-clause-read g c =
           let refused = (rw (c.in-Err-feed.ensures.answer) at e.1.at).0 in (
             e.0,
             record {
-              holds = refused_by_bytes f (templates_in new.traversal.set.now) turns (g.R.ByteInput.left c.pull.new.self) (input ++ got) (messages ++ e.0) more refused.0 refused.1 refused.2 refused.3;
-              lines = lines_of new.fault new.traversal new.receiver (g.E.Entries.contents new.entries) new.held.items new.waiting handed (input ++ got) (messages ++ e.0) e.1.at;
+              holds = refused_by_bytes f (mode_of new) (templates_in new.traversal.set.now) turns (g.R.ByteInput.left c.pull.new.self) (input ++ got) (messages ++ e.0) more refused.0 refused.1 refused.2 refused.3;
+              lines = lines_of new.fault new.framing new.left new.traversal new.receiver (g.E.Entries.contents new.entries) new.held.items new.waiting handed (input ++ got) (messages ++ e.0) e.1.at;
               counts = λ h. absurd cc;
             },
-            caused_by_feed (reached.Fault f) a b (λ h. absurd cc) (of_bytes f (templates_in new.traversal.set.now) (input ++ got) refused.2 more) p.error (p.end.1 some),
+            caused_by_feed (reached.Fault f) a b (λ h. absurd cc) (of_bytes f (mode_of new) (templates_in new.traversal.set.now) (input ++ got) refused.2 more) p.error (p.end.1 some),
           ),
     )
 
@@ -128,8 +129,8 @@ returns-in-Err-clause-read g c =
           let cut = c.cut.ensures.place go.unrefused (handed_on handed ∷ messages) input messages go.follows in (
             [],
             record {
-              holds = rw (append-nil input, append-nil messages, c.cut.ensures.set) (refused_by_read c.cut.result _ _ _ _ _ c.cut.ensures.cause cut);
-              lines = rw (append-nil messages) (lines_left old.fault old.traversal new.traversal old.receiver new.receiver (g.E.Entries.contents old.entries) old.held.items old.waiting handed input messages same c.cut.ensures.left go.follows.at);
+              holds = rw (append-nil input, append-nil messages, c.cut.ensures.set, c.cut.ensures.mode) (refused_by_read c.cut.result _ _ _ _ _ _ c.cut.ensures.cause cut);
+              lines = rw (append-nil messages) (lines_left old.fault old.framing old.left old.traversal new.traversal old.receiver new.receiver (g.E.Entries.contents old.entries) old.held.items old.waiting handed input messages same c.cut.ensures.left go.follows.at);
               counts = λ e. absurd cc;
             },
             caused_by_read c.cut.result a b c.cut.ensures.cause p.error,

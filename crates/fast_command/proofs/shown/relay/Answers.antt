@@ -4,6 +4,7 @@ use Rattle.fast_decoder.specs.declared.input.Reached.TheVariants as reached
 use Rattle.fast_decoder.specs.Inputs.{reader_by}
 use Rattle.fast_decoder.proofs.Inputs.{causes_end, causes_on, causes_weaker, more_read, refused_by_turns}
 use Rattle.fast_walk.specs.Received.{handed_on}
+use Rattle.fast_machine.specs.Following.{mode_of}
 use Rattle.fast_command.specs.Shown.{AreLines, GoesOn}
 use Rattle.fast_io.proofs.Outputs.{Appends-trans}
 use Rattle.fast_canon.proofs.Relayings.{closed_with, shut}
@@ -30,6 +31,7 @@ reads-preserved g c =
       few = omega arith;
       fed = omega (arith, fed, more_fed, kept_fed);
       set = ap (λ t. t.set) h.set ∙ r.set ∙ v.set;
+      mode = h.mode ∙ r.mode ∙ v.mode;
       errors = h.failed ∙ v.errors;
       flushes = h.flushes ∙ v.flushes;
       relays = λ start.
@@ -79,7 +81,7 @@ returns-in-Err-clause-broken g c = λ start.
         bounded = omega arith;
         written = Appends-trans _ _ _ i.0 t.1.front i.5 t.1.appended;
       };
-      carried = rw (h.set) (carried_by c.read_on-reached.result next (l.reads + 1) c.args.turns d.left i.0 input messages e.1);
+      carried = rw (h.unchanged) (carried_by c.read_on-reached.result next (l.reads + 1) c.args.turns d.left i.0 input messages e.1);
       lines = rw (h.set) (subst (λ (bytes : List ℕ). AreLines (templates_in next.traversal.set.now) messages bytes) (ap (λ (xs : List ℕ). i.0 ++ xs) t.1.parts ∙ sym (append_assoc i.0 t.1.front t.0)) e.1.lines);
     }
 
@@ -103,7 +105,7 @@ returns-in-Open-clause-relayed g c = λ start.
       input = i.1;
       messages = i.2;
       moves = record { reads = i.3; bounded = v.few; written = i.5 };
-      holds = rw (c.cut.ensures.set) (refused_by_turns c.cut.result (templates_in l.machine.traversal.set.now) c.args.turns b.left i.1 i.2 c.cut.ensures.cause cut (omega (arith, used, gave)));
+      holds = rw (c.cut.ensures.set, c.cut.ensures.mode) (refused_by_turns c.cut.result (mode_of l.machine) (templates_in l.machine.traversal.set.now) c.args.turns b.left i.1 i.2 c.cut.ensures.cause cut (omega (arith, used, gave)));
       lines = rw (c.cut.ensures.set) (subst (λ (bytes : List ℕ). AreLines (templates_in l.machine.traversal.set.now) i.2 bytes) (ap (λ (xs : List ℕ). i.0 ++ xs) i.7 ∙ append-nil i.0) i.4.lines);
       counts = λ e. absurd cc;
       size_is = i.6;
@@ -125,7 +127,7 @@ returns-in-End g c =
             input = i.1;
             messages = i.2;
             moves = record { reads = i.3; bounded = v.few; written = i.5 };
-            holds = closed_with l.reached (GoesOn l.machine l.reads i.0 i.1 i.2) (templates_in l.machine.traversal.set.now) c.args.turns b.left i.1 i.2 (shut l.reached c.in-End.is) i.4.holds;
+            holds = closed_with l.reached (GoesOn l.machine l.reads i.0 i.1 i.2) (mode_of l.machine) (templates_in l.machine.traversal.set.now) c.args.turns b.left i.1 i.2 (shut l.reached c.in-End.is) i.4.holds;
             lines = subst (λ (bytes : List ℕ). AreLines (templates_in l.machine.traversal.set.now) i.2 bytes) (ap (λ (xs : List ℕ). i.0 ++ xs) i.7 ∙ append-nil i.0) i.4.lines;
             counts = i.4.counts;
             size_is = i.6;
@@ -135,4 +137,5 @@ returns-in-End g c =
       failed = v.errors;
       flushes = v.flushes;
       set = v.set;
+      mode = v.mode;
     }

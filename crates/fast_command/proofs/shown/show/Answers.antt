@@ -1,10 +1,12 @@
 use Rattle.std.proofs.Common.{[], ◌∷◌, Some, refl, sym, ap, subst, ◌∙◌, append-nil, arith}
-use Rattle.std.specs.FinMap as finite
 use Rattle.fast_io.specs.Counts.{counted}
 use Rattle.fast_template.specs.TemplateSets.{TemplateList, templates_in}
 use Rattle.fast_decoder.specs.Inputs.{HasReached, Refuses}
 use Rattle.fast_decoder.proofs.Inputs.{none_read}
+use Rattle.fast_stream.specs.Blocks.{at_start}
 use Rattle.fast_machine.specs.Standing.{Carried}
+use Rattle.fast_machine.specs.Following.{mode_of}
+use Rattle.fast_stream.specs.declared.mode.Mode.{Mode}
 use Rattle.fast_walk.specs.Received.{handed_on}
 use Rattle.fast_io.proofs.Outputs.{Appends-kept, Appends-nil}
 use Rattle.fast_canon.proofs.Relayings.{carried_reached, is_end, summary_is}
@@ -21,7 +23,7 @@ returns-in-Err-clause-answer g c = (
     messages = [];
     front = [];
     rest = [];
-    carried = record { front = []; rest = []; start = finite.empty; parts = refl; carried = (refl, refl); ends = tt };
+    carried = record { front = []; rest = []; start = at_start; parts = refl; carried = (refl, refl); ends = tt };
     lines = refl;
     written = Appends-nil _;
   },
@@ -31,6 +33,7 @@ returns-in-Err-clause-answer g c = (
 pub returns-in-Err-relay-clause-answer : goal.returns-in-Err-relay-clause-answer
 returns-in-Err-relay-clause-answer g c =
     let same = ap (λ x. x.now) c.relay.ensures.set ∙ c.new-machine.ensures.set in
+    let how = c.relay.ensures.mode ∙ c.new-machine.ensures.mode in
     let b = c.in-Err-relay.ensures.broken (record {
       holds = record { unrefused = c.new-machine.ensures.fault; follows = c.new-machine.ensures.follows (handed_on [] ∷ []) c.new-lines.ensures.stands; few = omega arith };
       lines = rw (c.new-machine.ensures.receiver, c.new-lines.ensures.empty) refl;
@@ -44,7 +47,7 @@ returns-in-Err-relay-clause-answer g c =
         messages = b.messages;
         front = b.front;
         rest = b.rest;
-        carried = subst (λ (s : TemplateList). Carried (templates_in s) b.input b.messages) same b.carried;
+        carried = subst (λ (x : Mode). Carried x (templates_in c.args.set.now) b.input b.messages) how (subst (λ (s : TemplateList). Carried (mode_of c.relay.new.machine) (templates_in s) b.input b.messages) same b.carried);
         lines = lines_are _ _ same b.messages _ b.lines;
         written = b.moves.written;
       },
@@ -54,13 +57,14 @@ returns-in-Err-relay-clause-answer g c =
 pub returns-in-Err-flush-clause-answer : goal.returns-in-Err-flush-clause-answer
 returns-in-Err-flush-clause-answer g c =
     let same = ap (λ x. x.now) c.relay.ensures.set ∙ c.new-machine.ensures.set in
+    let how = c.relay.ensures.mode ∙ c.new-machine.ensures.mode in
     let r = c.in-Ok-relay.ensures.relayed (record {
       holds = record { unrefused = c.new-machine.ensures.fault; follows = c.new-machine.ensures.follows (handed_on [] ∷ []) c.new-lines.ensures.stands; few = omega arith };
       lines = rw (c.new-machine.ensures.receiver, c.new-lines.ensures.empty) refl;
       counts = λ e. absurd cc;
     }) in
     let m = c.relay.new.machine in
-    let carried = carried_reached c.in-Ok-relay.reached (templates_in m.traversal.set.now) c.args.turns (g.R.ByteInput.left c.relay.new.reader) r.input r.messages r.holds in (
+    let carried = carried_reached c.in-Ok-relay.reached (mode_of m) (templates_in m.traversal.set.now) c.args.turns (g.R.ByteInput.left c.relay.new.reader) r.input r.messages r.holds in (
       r.count,
       r.input,
       r.moves.reads,
@@ -69,7 +73,7 @@ returns-in-Err-flush-clause-answer g c =
         messages = r.messages;
         front = r.handed;
         rest = [];
-        carried = subst (λ (s : TemplateList). Carried (templates_in s) r.input r.messages) same carried;
+        carried = subst (λ (x : Mode). Carried x (templates_in c.args.set.now) r.input r.messages) how (subst (λ (s : TemplateList). Carried (mode_of m) (templates_in s) r.input r.messages) same carried);
         lines = lines_are _ _ same r.messages _ r.lines ∙ ap Some (sym (append-nil r.handed));
         written = Appends-kept _ _ _ r.handed r.moves.written c.in-Err-flush.ensures.bytes;
       },
@@ -79,6 +83,7 @@ returns-in-Err-flush-clause-answer g c =
 pub returns-in-Fault-clause-answer : goal.returns-in-Fault-clause-answer
 returns-in-Fault-clause-answer g c =
     let same = ap (λ x. x.now) c.relay.ensures.set ∙ c.new-machine.ensures.set in
+    let how = c.relay.ensures.mode ∙ c.new-machine.ensures.mode in
     let r = c.in-Ok-relay.ensures.relayed (record {
       holds = record { unrefused = c.new-machine.ensures.fault; follows = c.new-machine.ensures.follows (handed_on [] ∷ []) c.new-lines.ensures.stands; few = omega arith };
       lines = rw (c.new-machine.ensures.receiver, c.new-lines.ensures.empty) refl;
@@ -92,7 +97,8 @@ returns-in-Fault-clause-answer g c =
       record {
         messages = r.messages;
         out = r.handed;
-        refuses = subst (λ (s : TemplateList). Refuses (templates_in s) c.args.turns left r.input r.messages c.in-Fault.fault) same (rw (c.in-Fault.is) at r.holds);
+        refuses = subst (λ (x : Mode). Refuses x (templates_in c.args.set.now) c.args.turns left r.input r.messages c.in-Fault.fault) how
+            (subst (λ (s : TemplateList). Refuses (mode_of c.relay.new.machine) (templates_in s) c.args.turns left r.input r.messages c.in-Fault.fault) same (rw (c.in-Fault.is) at r.holds));
         lines = lines_are _ _ same r.messages _ r.lines;
         written = Appends-kept _ _ _ r.handed r.moves.written c.in-Ok-flush.ensures.bytes;
       },
@@ -102,6 +108,7 @@ returns-in-Fault-clause-answer g c =
 pub returns : goal.returns
 returns g c =
     let same = ap (λ x. x.now) c.relay.ensures.set ∙ c.new-machine.ensures.set in
+    let how = c.relay.ensures.mode ∙ c.new-machine.ensures.mode in
     let r = c.in-Ok-relay.ensures.relayed (record {
       holds = record { unrefused = c.new-machine.ensures.fault; follows = c.new-machine.ensures.follows (handed_on [] ∷ []) c.new-lines.ensures.stands; few = omega arith };
       lines = rw (c.new-machine.ensures.receiver, c.new-lines.ensures.empty) refl;
@@ -109,8 +116,9 @@ returns g c =
     }) in
     let m = c.relay.new.machine in
     let left = g.R.ByteInput.left c.relay.new.reader in
-    let is = is_end c.in-Ok-relay.reached (templates_in m.traversal.set.now) c.args.turns left r.input r.messages c.in-End.is r.holds in
-    let now = subst (λ (x : TemplateList). HasReached c.in-Ok-relay.reached ⊥ (templates_in x) c.args.turns left r.input r.messages) same r.holds in
+    let is = is_end c.in-Ok-relay.reached (mode_of m) (templates_in m.traversal.set.now) c.args.turns left r.input r.messages c.in-End.is r.holds in
+    let now = subst (λ (x : Mode). HasReached c.in-Ok-relay.reached ⊥ x (templates_in c.args.set.now) c.args.turns left r.input r.messages) how
+    (subst (λ (x : TemplateList). HasReached c.in-Ok-relay.reached ⊥ (mode_of m) (templates_in x) c.args.turns left r.input r.messages) same r.holds) in
     let k = r.counts is in
     record {
       answer = (

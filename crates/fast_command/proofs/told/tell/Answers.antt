@@ -9,7 +9,7 @@ pub returns-in-Err : goal.returns-in-Err
 returns-in-Err g c =
     let k = c.in-Err-Stream.ensures.answer in
     record {
-      answer = (k.0, k.1, k.2, k.3, says_nothing _ _ _ _ _ (Appends-kept _ _ _ [] (Appends-nil _) c.in-Err.ensures.bytes), tt);
+      answer = (k.0, k.1, k.2, k.3, says_nothing _ _ _ _ _ _ (Appends-kept _ _ _ [] (Appends-nil _) c.in-Err.ensures.bytes), tt);
       write = c.in-Err.ensures.error;
       flush = tt;
     }
@@ -17,7 +17,7 @@ returns-in-Err g c =
 pub returns-in-Err-Write : goal.returns-in-Err-Write
 returns-in-Err-Write g c =
     let k = c.in-Err-Write.ensures.answer in
-    record { answer = (k.0, k.1, k.2, k.3, says_nothing _ _ _ _ _ (Appends-nil _), tt); write = refl; flush = tt }
+    record { answer = (k.0, k.1, k.2, k.3, says_nothing _ _ _ _ _ _ (Appends-nil _), tt); write = refl; flush = tt }
 
 pub returns-clause-answer : goal.returns-clause-answer
 returns-clause-answer g c =

@@ -19,6 +19,8 @@ returns-in-Some c =
     let rows = (c.in_ok-matches.ensures.ok.2 (ap is_simple line.1 ∙ simple line.0)).0 ∙ ap (λ (a : App). matches_of a words) line.1 in
     let found = λ (id : Text). first_value-rows (found_of matches) id ∙ ap (λ (r : List Row). first_of id r) rows in
     let flag = one_text-rows (found_of matches) (codes "hex") ∙ ap (λ (r : List Row). one_of (codes "hex") r) rows in
+    let strict = one_text-rows (found_of matches) (codes "strict") ∙ ap (λ (r : List Row). one_of (codes "strict") r) rows in
+    let blocks = one_text-rows (found_of matches) (codes "blocks") ∙ ap (λ (r : List Row). one_of (codes "blocks") r) rows in
     let asked = c.in-Some.ensures in
     record {
       among = line.0;
@@ -27,5 +29,7 @@ returns-in-Some c =
       command_is = asked.command_is;
       templates_are = sym (found (codes "templates")) ∙ asked.templates_are;
       hex_is = (λ e. asked.hex_is.0 (flag ∙ e), λ e. asked.hex_is.1 (flag ∙ e), λ e. asked.hex_is.2 (flag ∙ e));
+      strict_is = (λ e. asked.strict_is.0 (strict ∙ e), λ e. asked.strict_is.1 (strict ∙ e), λ e. asked.strict_is.2 (strict ∙ e));
+      blocks_is = (λ e. asked.blocks_is.0 (blocks ∙ e), λ e. asked.blocks_is.1 (blocks ∙ e), λ e. asked.blocks_is.2 (blocks ∙ e));
       input_is = sym (found (codes "input")) ∙ asked.input_is;
     }

@@ -20,5 +20,7 @@ returns-in-Some-Some c =
       command_is = command.2;
       templates_are = sym c.get_str-2.ensures ∙ ap (option_map (λ s. s.now)) c.in-Some-Some.is-1;
       hex_is = (c.get_flag.ensures.value, c.get_flag.ensures.other, c.get_flag.ensures.none);
+      strict_is = (λ e. c.mode_of.ensures.strict ∙ c.get_flag-in-Some-Some.ensures.value e, λ e. c.mode_of.ensures.strict ∙ c.get_flag-in-Some-Some.ensures.other e, λ e. c.mode_of.ensures.strict ∙ c.get_flag-in-Some-Some.ensures.none e);
+      blocks_is = (λ e. c.mode_of.ensures.blocks ∙ c.get_flag-in-Some-Some-2.ensures.value e, λ e. c.mode_of.ensures.blocks ∙ c.get_flag-in-Some-Some-2.ensures.other e, λ e. c.mode_of.ensures.blocks ∙ c.get_flag-in-Some-Some-2.ensures.none e);
       input_is = sym c.get_str-in-Some-Some.ensures;
     }
