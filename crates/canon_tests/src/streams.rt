@@ -4,11 +4,18 @@ ghost use Rattle.std.specs.Prelude.{◌≤◌};
 
 use crate::same::same;
 use fast_canon::{CanonFault, Summary, canonicalise, check};
+use fast_decoder::{Framing, Level, Mode};
 use fast_io::{Counted, ScriptInput, ScriptOutput};
 use fast_stream::{Cause, Fault, Place};
 use fast_template::{LoadFault, TemplateSet};
 use std::alloc::{AllocError, Global};
 use std::process::Abort;
+
+// Plain messages, at the usual level.
+const PLAIN: Mode = Mode {
+    level: Level::Usual,
+    framing: Framing::Plain,
+};
 
 // Worked templates.
 const TEMPLATES: &str = r#"{"templates":[{"name":"Quote","id":1,"instructions":[
@@ -48,9 +55,9 @@ fn run(
 {
     let mut reader = Counted::new(ScriptInput::new(stream, step, 0));
     let mut writer = Counted::new(out);
-    let answer = canonicalise(alloc, set, &mut reader, &mut writer, 100);
+    let answer = canonicalise(alloc, set, PLAIN, &mut reader, &mut writer, 100);
     let mut reader = Counted::new(ScriptInput::new(stream, step, 0));
-    (answer, check(alloc, set, &mut reader, 100))
+    (answer, check(alloc, set, PLAIN, &mut reader, 100))
 }
 
 // A stream in steps of one size gives this output and this answer, of `check` too.
@@ -144,14 +151,14 @@ fn reads_that_are_used_up(rt: HostRuntime) -> Result<(), AllocError> {
     let fault = refused(Cause::Turns, 2, 8, 0, 0);
     same(
         &rt,
-        check(alloc, &set, &mut reader, 2),
+        check(alloc, &set, PLAIN, &mut reader, 2),
         Err(CanonFault::Stream(fault)),
     );
     let mut reader = Counted::new(ScriptInput::new(TWO, 4, 2));
     let fault = refused(Cause::Read, 1, 3, 1, 2);
     same(
         &rt,
-        check(alloc, &set, &mut reader, 9),
+        check(alloc, &set, PLAIN, &mut reader, 9),
         Err(CanonFault::Stream(fault)),
     );
     Ok(())

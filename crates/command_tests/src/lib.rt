@@ -2,8 +2,12 @@
 #![tactic(auto)]
 
 #[cfg(test)]
+mod blocks;
+#[cfg(test)]
 mod lines;
 #[cfg(test)]
 mod same;
 #[cfg(test)]
 mod streams;
+#[cfg(test)]
+mod strict;

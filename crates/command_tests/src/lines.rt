@@ -2,13 +2,36 @@
 
 use crate::same::same;
 use fast_command::{ShowFault, show_line};
-use fast_decoder::Decoder;
+use fast_decoder::{Decoder, Framing, Level, Mode};
 use fast_dictionary::MapEntries;
 use fast_stream::{Message, Node};
 use fast_template::{ByteString, Scalar, TemplateSet};
 use std::alloc::{AllocError, Global};
 use std::process::Abort;
 use std::test::Fail;
+
+// Plain messages, at the usual level.
+pub(crate) const PLAIN: Mode = Mode {
+    level: Level::Usual,
+    framing: Framing::Plain,
+};
+
+// Plain messages, at the strict level.
+pub(crate) const STRICT: Mode = Mode {
+    level: Level::Strict,
+    framing: Framing::Plain,
+};
+
+// Blocks, at the usual level and at the strict one.
+pub(crate) const BLOCKS: Mode = Mode {
+    level: Level::Usual,
+    framing: Framing::Blocks,
+};
+
+pub(crate) const STRICT_BLOCKS: Mode = Mode {
+    level: Level::Strict,
+    framing: Framing::Blocks,
+};
 
 // The worked templates.
 pub(crate) const WORKED: &str = r#"{"templates":[
@@ -132,7 +155,7 @@ fn load(alloc: Global, text: &str) -> Result<TemplateSet, Fail> {
 
 /// The lines of the messages of a short stream.
 fn lines_of(alloc: Global, set: &TemplateSet, stream: &[u8]) -> Result<Vec<u8>, Fail> {
-    let mut decoder = Decoder::new(alloc, set, MapEntries::new(alloc));
+    let mut decoder = Decoder::new(alloc, set, PLAIN, MapEntries::new(alloc));
     let mut messages = Vec::new(alloc);
     let stream = &stream[..stream.len().min(100)];
     decoder.feed(stream, &mut messages)?;

@@ -2,10 +2,11 @@
 
 ghost use Rattle.std.specs.Prelude.{◌≤◌, ◌^◌};
 
-use crate::lines::WORKED;
+use crate::lines::{PLAIN, WORKED};
 use crate::same::same;
 use fast_canon::{CanonFault, Summary};
 use fast_command::{Command, run};
+use fast_decoder::Mode;
 use fast_io::{Counted, ScriptInput, ScriptOutput};
 use fast_stream::{Cause, Fault, Place};
 use fast_template::TemplateSet;
@@ -14,44 +15,46 @@ use std::process::Abort;
 use std::test::Fail;
 
 /// A stream, how many messages it has, and what each command writes of it.
-struct Row {
-    stream: &'static [u8],
-    messages: u64,
-    lines: &'static str,
-    told: &'static str,
-    canonical: &'static [u8],
+#[derive(Clone, Copy)]
+pub(crate) struct Row {
+    pub(crate) stream: &'static [u8],
+    pub(crate) messages: u64,
+    pub(crate) lines: &'static str,
+    pub(crate) told: &'static str,
+    pub(crate) canonical: &'static [u8],
 }
 
 /// A stream that is refused, and what is written of the messages before.
-struct Refusal {
-    stream: &'static [u8],
-    messages: u64,
-    lines: &'static str,
-    canonical: &'static [u8],
-    cause: Cause,
-    at: At,
+#[derive(Clone, Copy)]
+pub(crate) struct Refusal {
+    pub(crate) stream: &'static [u8],
+    pub(crate) messages: u64,
+    pub(crate) lines: &'static str,
+    pub(crate) canonical: &'static [u8],
+    pub(crate) cause: Cause,
+    pub(crate) at: At,
 }
 
 /// The offset, the template and the instruction of a place.
 #[derive(Clone, Copy)]
-struct At(u64, u32, u32);
+pub(crate) struct At(pub(crate) u64, pub(crate) u32, pub(crate) u32);
 
-const QUOTE: &[u8] = b"\xf0\x81\x81\x41\xc2\xfe\x00\xe4";
+pub(crate) const QUOTE: &[u8] = b"\xf0\x81\x81\x41\xc2\xfe\x00\xe4";
 
-const QUOTE_LINE: &str = "1 Quote Seq=1 Sym=\"AB\" Px=100e-2 Qty=-\n";
+pub(crate) const QUOTE_LINE: &str = "1 Quote Seq=1 Sym=\"AB\" Px=100e-2 Qty=-\n";
 
-const TWO_LINES: &str = "1 Quote Seq=1 Sym=\"AB\" Px=100e-2 Qty=-\n\
+pub(crate) const TWO_LINES: &str = "1 Quote Seq=1 Sym=\"AB\" Px=100e-2 Qty=-\n\
     1 Quote Seq=2 Sym=\"AB\" Px=101e-2 Qty=-\n";
 
 const TWO: &[u8] = b"\xf0\x81\x81\x41\xc2\xfe\x00\xe4\xf8\x81\x82\x41\xc2\x80\x81\x80";
 
-const TWO_SHORT: &[u8] = b"\xf0\x81\x81\x41\xc2\xfe\x00\xe4\x80\x80\x81";
+pub(crate) const TWO_SHORT: &[u8] = b"\xf0\x81\x81\x41\xc2\xfe\x00\xe4\x80\x80\x81";
 
 const DELTAS: &[u8] = b"\xc0\x8a\x80\x47\x45\x48\xb6\x80\x82\x4d\xb6\x80\xfd\x45\xd3";
 
 const DELTA_LINES: &str = "10 Delta S=\"GEH6\"\n10 Delta S=\"GEM6\"\n10 Delta S=\"ESM6\"\n";
 
-const ROWS: [Row; 19] = [
+pub(crate) const ROWS: [Row; 19] = [
     Row {
         stream: QUOTE,
         messages: 1,
@@ -191,7 +194,7 @@ const ROWS: [Row; 19] = [
     },
 ];
 
-const REFUSALS: [Refusal; 12] = [
+pub(crate) const REFUSALS: [Refusal; 12] = [
     Refusal {
         stream: b"\x80",
         messages: 0,
@@ -302,11 +305,11 @@ const PLACES: [At; 8] = [
     At(5, 1, 3),
 ];
 
-fn load(alloc: Global) -> Result<TemplateSet, Fail> {
+pub(crate) fn load(alloc: Global) -> Result<TemplateSet, Fail> {
     Ok(TemplateSet::from_json(alloc, WORKED.as_bytes())?)
 }
 
-fn counted(messages: u64, read: usize, written: usize) -> Result<Summary, CanonFault> {
+pub(crate) fn counted(messages: u64, read: usize, written: usize) -> Result<Summary, CanonFault> {
     Ok(Summary {
         messages,
         read: read as u64,
@@ -314,7 +317,7 @@ fn counted(messages: u64, read: usize, written: usize) -> Result<Summary, CanonF
     })
 }
 
-fn refused(cause: Cause, message: u64, at: At) -> Result<Summary, CanonFault> {
+pub(crate) fn refused(cause: Cause, message: u64, at: At) -> Result<Summary, CanonFault> {
     let place = Place {
         message,
         offset: at.0,
@@ -328,6 +331,7 @@ fn refused(cause: Cause, message: u64, at: At) -> Result<Summary, CanonFault> {
 fn play(
     alloc: Global,
     set: &TemplateSet,
+    mode: Mode,
     command: Command,
     reader: ScriptInput<'_>,
     out: &mut ScriptOutput,
@@ -337,43 +341,52 @@ fn play(
 {
     let mut reader = Counted::new(reader);
     let mut writer = Counted::new(out);
-    run(alloc, command, set, &mut reader, &mut writer, turns)
+    run(alloc, command, set, mode, &mut reader, &mut writer, turns)
 }
 
 /// A command writes this of a stream, and answers this.
-fn gives(
+pub(crate) fn gives(
     rt: &impl Abort,
     alloc: Global,
     set: &TemplateSet,
+    mode: Mode,
     command: Command,
     reader: ScriptInput<'_>,
     written: &[u8],
     answer: Result<Summary, CanonFault>,
 ) {
     let mut out = ScriptOutput::new(alloc, 1_000_000, false, false);
-    let got = play(alloc, set, command, reader, &mut out, 100_000);
+    let got = play(alloc, set, mode, command, reader, &mut out, 100_000);
     same(rt, got, answer);
     same(rt, out.bytes(), written);
 }
 
 /// What each command makes of a stream that ends, in steps of one size.
-fn ends(rt: &impl Abort, alloc: Global, set: &TemplateSet, row: &Row, step: usize)
+pub(crate) fn ends(
+    rt: &impl Abort,
+    alloc: Global,
+    set: &TemplateSet,
+    mode: Mode,
+    row: &Row,
+    step: usize,
+)
     requires { 1 ≤ step }
 {
     let stream = row.stream;
     let lines = row.lines.as_bytes();
     let shown = counted(row.messages, stream.len(), lines.len());
     let reader = ScriptInput::new(stream, step, 0);
-    gives(rt, alloc, set, Command::Show, reader, lines, shown);
+    gives(rt, alloc, set, mode, Command::Show, reader, lines, shown);
     let told = row.told.as_bytes();
     let checked = counted(row.messages, stream.len(), row.canonical.len());
     let reader = ScriptInput::new(stream, step, 0);
-    gives(rt, alloc, set, Command::Check, reader, told, checked);
+    gives(rt, alloc, set, mode, Command::Check, reader, told, checked);
     let reader = ScriptInput::new(stream, step, 0);
     gives(
         rt,
         alloc,
         set,
+        mode,
         Command::Canon,
         reader,
         row.canonical,
@@ -386,15 +399,22 @@ fn worked_streams_end(rt: HostRuntime) -> Result<(), Fail> {
     let alloc = rt.alloc();
     let set = load(alloc)?;
     for row in &ROWS {
-        ends(&rt, alloc, &set, row, 1);
-        ends(&rt, alloc, &set, row, 2);
-        ends(&rt, alloc, &set, row, 4096);
+        ends(&rt, alloc, &set, PLAIN, row, 1);
+        ends(&rt, alloc, &set, PLAIN, row, 2);
+        ends(&rt, alloc, &set, PLAIN, row, 4096);
     }
     Ok(())
 }
 
 /// What each command makes of a stream that is refused, in steps of one size.
-fn stops(rt: &impl Abort, alloc: Global, set: &TemplateSet, row: &Refusal, step: usize)
+pub(crate) fn stops(
+    rt: &impl Abort,
+    alloc: Global,
+    set: &TemplateSet,
+    mode: Mode,
+    row: &Refusal,
+    step: usize,
+)
     requires { 1 ≤ step }
 {
     let answer = refused(row.cause, row.messages.saturating_add(1), row.at);
@@ -403,18 +423,20 @@ fn stops(rt: &impl Abort, alloc: Global, set: &TemplateSet, row: &Refusal, step:
         rt,
         alloc,
         set,
+        mode,
         Command::Show,
         reader,
         row.lines.as_bytes(),
         answer,
     );
     let reader = ScriptInput::new(row.stream, step, 0);
-    gives(rt, alloc, set, Command::Check, reader, b"", answer);
+    gives(rt, alloc, set, mode, Command::Check, reader, b"", answer);
     let reader = ScriptInput::new(row.stream, step, 0);
     gives(
         rt,
         alloc,
         set,
+        mode,
         Command::Canon,
         reader,
         row.canonical,
@@ -427,9 +449,9 @@ fn worked_streams_are_refused(rt: HostRuntime) -> Result<(), Fail> {
     let alloc = rt.alloc();
     let set = load(alloc)?;
     for row in &REFUSALS {
-        stops(&rt, alloc, &set, row, 1);
-        stops(&rt, alloc, &set, row, 2);
-        stops(&rt, alloc, &set, row, 4096);
+        stops(&rt, alloc, &set, PLAIN, row, 1);
+        stops(&rt, alloc, &set, PLAIN, row, 2);
+        stops(&rt, alloc, &set, PLAIN, row, 4096);
     }
     Ok(())
 }
@@ -446,11 +468,29 @@ fn fails_at(
 ) {
     let answer = refused(Cause::Read, messages.saturating_add(1), at);
     let reader = ScriptInput::new(QUOTE, 1, call);
-    gives(rt, alloc, set, Command::Show, reader, written[0], answer);
+    gives(
+        rt,
+        alloc,
+        set,
+        PLAIN,
+        Command::Show,
+        reader,
+        written[0],
+        answer,
+    );
     let reader = ScriptInput::new(QUOTE, 1, call);
-    gives(rt, alloc, set, Command::Check, reader, b"", answer);
+    gives(rt, alloc, set, PLAIN, Command::Check, reader, b"", answer);
     let reader = ScriptInput::new(QUOTE, 1, call);
-    gives(rt, alloc, set, Command::Canon, reader, written[1], answer);
+    gives(
+        rt,
+        alloc,
+        set,
+        PLAIN,
+        Command::Canon,
+        reader,
+        written[1],
+        answer,
+    );
 }
 
 #[test]
@@ -472,11 +512,11 @@ fn cut_behind(rt: &impl Abort, alloc: Global, set: &TemplateSet, count: usize, a
     let stream = &QUOTE[..count.min(8)];
     let answer = refused(Cause::Truncated, 1, at);
     let reader = ScriptInput::new(stream, 1, 0);
-    gives(rt, alloc, set, Command::Show, reader, b"", answer);
+    gives(rt, alloc, set, PLAIN, Command::Show, reader, b"", answer);
     let reader = ScriptInput::new(stream, 4096, 0);
-    gives(rt, alloc, set, Command::Check, reader, b"", answer);
+    gives(rt, alloc, set, PLAIN, Command::Check, reader, b"", answer);
     let reader = ScriptInput::new(stream, 1, 0);
-    gives(rt, alloc, set, Command::Canon, reader, b"", answer);
+    gives(rt, alloc, set, PLAIN, Command::Canon, reader, b"", answer);
 }
 
 #[test]
@@ -504,6 +544,7 @@ fn breaks_at(
     let got = play(
         alloc,
         set,
+        PLAIN,
         command,
         ScriptInput::new(TWO, 4096, 0),
         &mut out,
@@ -517,7 +558,7 @@ fn breaks_at(
 fn takes_none(rt: &impl Abort, alloc: Global, set: &TemplateSet, command: Command) {
     let mut out = ScriptOutput::new(alloc, 0, true, false);
     let reader = ScriptInput::new(TWO, 4096, 0);
-    let got = play(alloc, set, command, reader, &mut out, 100);
+    let got = play(alloc, set, PLAIN, command, reader, &mut out, 100);
     same(rt, got, Err(CanonFault::Write));
     assert!(rt; out.bytes().is_empty());
 }
@@ -532,6 +573,7 @@ fn breaks(rt: &impl Abort, alloc: Global, set: &TemplateSet, command: Command, w
     let got = play(
         alloc,
         set,
+        PLAIN,
         command,
         ScriptInput::new(TWO, 3, 0),
         &mut out,
@@ -565,6 +607,7 @@ fn flush_fails(
     let got = play(
         alloc,
         set,
+        PLAIN,
         command,
         ScriptInput::new(stream, 1, 0),
         &mut out,
@@ -602,6 +645,7 @@ fn turned(
     let got = play(
         alloc,
         set,
+        PLAIN,
         command,
         ScriptInput::new(QUOTE, 1, 0),
         &mut out,
@@ -635,16 +679,34 @@ fn a_long_stream(rt: HostRuntime) -> Result<(), Fail> {
     }
     let mut out = ScriptOutput::new(alloc, 1_000_000, false, false);
     let reader = ScriptInput::new(&stream, 4096, 0);
-    let got = play(alloc, &set, Command::Show, reader, &mut out, 100);
+    let got = play(alloc, &set, PLAIN, Command::Show, reader, &mut out, 100);
     same(&rt, got, counted(10_001, 30_008, 428_139));
     let last = b"\n1 Quote Seq=10001 Sym=\"AB\" Px=10100e-2 Qty=-\n";
     assert!(rt; out.bytes().ends_with(last));
     let told = b"ok messages=10001 bytes=30008 canonical=30008\n";
     let reader = ScriptInput::new(&stream, 4096, 0);
     let answer = counted(10_001, 30_008, 30_008);
-    gives(&rt, alloc, &set, Command::Check, reader, told, answer);
+    gives(
+        &rt,
+        alloc,
+        &set,
+        PLAIN,
+        Command::Check,
+        reader,
+        told,
+        answer,
+    );
     let reader = ScriptInput::new(&stream, 4096, 0);
-    gives(&rt, alloc, &set, Command::Canon, reader, &stream, answer);
+    gives(
+        &rt,
+        alloc,
+        &set,
+        PLAIN,
+        Command::Canon,
+        reader,
+        &stream,
+        answer,
+    );
     Ok(())
 }
 
@@ -656,7 +718,7 @@ fn a_long_line(rt: HostRuntime) -> Result<(), Fail> {
     let stream = b"\xc0\x86\x03\x7f\xff";
     let mut out = ScriptOutput::new(alloc, 1_000_000, false, false);
     let reader = ScriptInput::new(stream, 4096, 0);
-    let got = play(alloc, &set, Command::Show, reader, &mut out, 100);
+    let got = play(alloc, &set, PLAIN, Command::Show, reader, &mut out, 100);
     same(&rt, got, counted(1, 5, 196_616));
     assert!(rt; out.bytes().starts_with(b"6 Bare L=[{} {} {} "));
     assert!(rt; out.bytes().ends_with(b" {} {}]\n"));
@@ -666,6 +728,7 @@ fn a_long_line(rt: HostRuntime) -> Result<(), Fail> {
         &rt,
         alloc,
         &set,
+        PLAIN,
         Command::Check,
         reader,
         told,
@@ -676,6 +739,7 @@ fn a_long_line(rt: HostRuntime) -> Result<(), Fail> {
         &rt,
         alloc,
         &set,
+        PLAIN,
         Command::Canon,
         reader,
         stream,

@@ -2,6 +2,8 @@
 #![tactic(auto)]
 
 #[cfg(test)]
+mod blocks;
+#[cfg(test)]
 mod messages;
 #[cfg(test)]
 mod same;
@@ -11,3 +13,5 @@ mod slots;
 mod steps;
 #[cfg(test)]
 mod streams;
+#[cfg(test)]
+mod strict;

@@ -2,7 +2,7 @@
 
 use crate::same::same;
 use crate::slots::slots_of;
-use crate::steps::{End, Step, follow};
+use crate::steps::{End, PLAIN, Step, follow};
 use fast_dictionary::MapEntries;
 use fast_stream::{Cause, Message, Node};
 use fast_template::{ByteString, LoadFault, Scalar, TemplateSet};
@@ -107,9 +107,9 @@ fn both_read_quote(
     want: &Message,
 ) -> Result<(), AllocError> {
     let map = MapEntries::new(alloc);
-    is_only(rt, &follow(rt, alloc, set, map, TAKEN), want);
+    is_only(rt, &follow(rt, alloc, set, PLAIN, map, TAKEN), want);
     let slots = slots_of(alloc, set)?;
-    is_only(rt, &follow(rt, alloc, set, slots, TAKEN), want);
+    is_only(rt, &follow(rt, alloc, set, PLAIN, slots, TAKEN), want);
     Ok(())
 }
 
@@ -125,7 +125,7 @@ fn a_stream_is_read(rt: HostRuntime) -> Result<(), AllocError> {
 // The number of messages of the template Quote of a decoder that answers all steps so.
 fn count(rt: &impl Abort, alloc: Global, steps: &[Step]) -> usize {
     match quotes(alloc) {
-        Ok(set) => follow(rt, alloc, &set, MapEntries::new(alloc), steps).len(),
+        Ok(set) => follow(rt, alloc, &set, PLAIN, MapEntries::new(alloc), steps).len(),
         Err(_) => panic!(rt; "refused"),
     }
 }

@@ -3,12 +3,18 @@
 ghost use Rattle.fast_walk.specs.Traversals.{ServesAll};
 
 use crate::same::same;
-use fast_decoder::Decoder;
+use fast_decoder::{Decoder, Framing, Level, Mode};
 use fast_dictionary::Entries;
 use fast_stream::{Cause, Fault, Message, Place};
 use fast_template::TemplateSet;
 use std::alloc::Global;
 use std::process::Abort;
+
+// Plain messages, at the usual level.
+pub(crate) const PLAIN: Mode = Mode {
+    level: Level::Usual,
+    framing: Framing::Plain,
+};
 
 // What stands at the end of a stream: nothing, or a fault in this message, at this offset, template and instruction.
 #[derive(Clone, Copy)]
@@ -104,13 +110,14 @@ pub(crate) fn follow<E: Entries>(
     rt: &impl Abort,
     alloc: Global,
     set: &TemplateSet,
+    mode: Mode,
     entries: E,
     steps: &[Step],
 ) -> Vec<Message>
     requires { ServesAll (E.serves entries) set.now }
 {
     let mut messages = Vec::new(alloc);
-    let mut decoder = Decoder::new(alloc, set, entries);
+    let mut decoder = Decoder::new(alloc, set, mode, entries);
     same(rt, takes_all(&mut decoder, steps, &mut messages), true);
     messages
 }

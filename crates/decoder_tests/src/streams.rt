@@ -5,8 +5,8 @@ ghost use Rattle.fast_walk.specs.Traversals.{ServesAll};
 
 use crate::same::same;
 use crate::slots::slots_of;
-use crate::steps::{End, Step, follow};
-use fast_decoder::{Decoder, MessageInputStream};
+use crate::steps::{End, PLAIN, Step, follow};
+use fast_decoder::{Decoder, MessageInputStream, Mode};
 use fast_dictionary::{Entries, MapEntries};
 use fast_io::{ByteInput, Counted, ScriptInput};
 use fast_stream::{Cause, Fault, Message, Node};
@@ -69,17 +69,19 @@ const WORKED: &str = r#"{"templates":[
  {"kind":"uInt32","name":"B","operator":"copy"}]}]}"#;
 
 // The set of the worked templates.
-fn worked(alloc: Global) -> Option<TemplateSet> {
+pub(crate) fn worked(alloc: Global) -> Option<TemplateSet> {
     TemplateSet::from_json(alloc, WORKED.as_bytes()).ok()
 }
 
 // A node of a row. Each group here holds numbers, and so does each element of a sequence.
 #[derive(Clone, Copy)]
-enum Shown {
+pub(crate) enum Shown {
     Absent,
     Number(u32),
+    Signed(i32),
     Decimal(i32, i64),
     Text(&'static [u8]),
+    Bytes(&'static [u8]),
     Group(&'static [u32]),
     Sequence(&'static [&'static [u32]]),
 }
@@ -87,6 +89,11 @@ enum Shown {
 fn text(alloc: Global, bytes: &[u8]) -> Result<Node, AllocError> {
     let bytes = bytes.to_vec(alloc)?;
     Ok(Node::Value(Scalar::Ascii(ByteString::from_vec(bytes))))
+}
+
+fn vector(alloc: Global, bytes: &[u8]) -> Result<Node, AllocError> {
+    let bytes = bytes.to_vec(alloc)?;
+    Ok(Node::Value(Scalar::Bytes(ByteString::from_vec(bytes))))
 }
 
 fn numbers(alloc: Global, values: &[u32]) -> Result<Vec<Node>, AllocError> {
@@ -110,10 +117,12 @@ impl Shown {
         match self {
             Shown::Absent => Ok(Node::Absent),
             Shown::Number(value) => Ok(Node::Value(Scalar::U32(value))),
+            Shown::Signed(value) => Ok(Node::Value(Scalar::I32(value))),
             Shown::Decimal(exponent, mantissa) => {
                 Ok(Node::Value(Scalar::Decimal { exponent, mantissa }))
             }
             Shown::Text(bytes) => text(alloc, bytes),
+            Shown::Bytes(bytes) => vector(alloc, bytes),
             Shown::Group(values) => Ok(Node::Group(numbers(alloc, values)?)),
             Shown::Sequence(rows) => Ok(Node::Sequence(elements(alloc, rows)?)),
         }
@@ -121,9 +130,9 @@ impl Shown {
 }
 
 // A message of a row.
-struct Sent {
-    template: u32,
-    fields: &'static [Shown],
+pub(crate) struct Sent {
+    pub(crate) template: u32,
+    pub(crate) fields: &'static [Shown],
 }
 
 impl Sent {
@@ -177,6 +186,7 @@ fn ends_so<R: ByteInput, E: Entries>(
 fn reads<E: Entries>(
     alloc: Global,
     set: &TemplateSet,
+    mode: Mode,
     entries: E,
     stream: &[u8],
     step: usize,
@@ -187,7 +197,7 @@ fn reads<E: Entries>(
     requires served { ServesAll (E.serves entries) set.now }
 {
     let reader = Counted::new(ScriptInput::new(stream, step, 0));
-    let mut input = MessageInputStream::new(alloc, reader, set, entries, 1_000_000);
+    let mut input = MessageInputStream::new(alloc, reader, set, mode, entries, 1_000_000);
     gives_all(&mut input, want) && ends_so(&mut input, fault)
 }
 
@@ -195,6 +205,7 @@ fn reads<E: Entries>(
 fn both_read(
     alloc: Global,
     set: &TemplateSet,
+    mode: Mode,
     stream: &[u8],
     step: usize,
     want: &[Message],
@@ -203,11 +214,11 @@ fn both_read(
     requires { 1 ≤ step }
 {
     let map = MapEntries::new(alloc);
-    if !reads(alloc, set, map, stream, step, want, fault) {
+    if !reads(alloc, set, mode, map, stream, step, want, fault) {
         return Ok(false);
     }
     let slots = slots_of(alloc, set)?;
-    Ok(reads(alloc, set, slots, stream, step, want, fault))
+    Ok(reads(alloc, set, mode, slots, stream, step, want, fault))
 }
 
 // Whether a fresh decoder answers this fault, or none, to a stream that is cut in two.
@@ -235,6 +246,7 @@ fn is_cut_so<E: Entries>(
 fn decodes<E: Entries>(
     alloc: Global,
     set: &TemplateSet,
+    mode: Mode,
     entries: E,
     front: &[u8],
     back: &[u8],
@@ -243,7 +255,7 @@ fn decodes<E: Entries>(
 ) -> bool
     requires { ServesAll (E.serves entries) set.now }
 {
-    let mut decoder = Decoder::new(alloc, set, entries);
+    let mut decoder = Decoder::new(alloc, set, mode, entries);
     let mut messages = Vec::new(alloc);
     is_cut_so(&mut decoder, front, back, &mut messages, fault) && messages.as_slice() == want
 }
@@ -252,76 +264,95 @@ fn decodes<E: Entries>(
 fn both_decode(
     alloc: Global,
     set: &TemplateSet,
+    mode: Mode,
     front: &[u8],
     back: &[u8],
     want: &[Message],
     fault: Option<Fault>,
 ) -> Result<bool, AllocError> {
     let map = MapEntries::new(alloc);
-    if !decodes(alloc, set, map, front, back, want, fault) {
+    if !decodes(alloc, set, mode, map, front, back, want, fault) {
         return Ok(false);
     }
     let slots = slots_of(alloc, set)?;
-    Ok(decodes(alloc, set, slots, front, back, want, fault))
+    Ok(decodes(alloc, set, mode, slots, front, back, want, fault))
 }
 
 // Whether a stream gives these messages and then this fault, or none: in steps of one, two and three bytes, whole, and
 // cut in two at each place, over both kinds of entries.
-fn agrees(
+pub(crate) fn agrees(
     alloc: Global,
     set: &TemplateSet,
+    mode: Mode,
     stream: &[u8],
     want: &[Message],
     fault: Option<Fault>,
 ) -> Result<bool, AllocError> {
     for step in 1..4 {
-        if !both_read(alloc, set, stream, step, want, fault)? {
+        if !both_read(alloc, set, mode, stream, step, want, fault)? {
             return Ok(false);
         }
     }
     for cut in 0..=stream.len() {
         let (front, back) = stream.split_at(cut);
-        if !both_decode(alloc, set, front, back, want, fault)? {
+        if !both_decode(alloc, set, mode, front, back, want, fault)? {
             return Ok(false);
         }
     }
     Ok(true)
 }
 
-// A stream of the worked templates, its messages, and its end.
-struct Row {
-    stream: &'static [u8],
-    want: &'static [Sent],
-    end: End,
+// A stream, its messages, and its end.
+#[derive(Clone, Copy)]
+pub(crate) struct Row {
+    pub(crate) stream: &'static [u8],
+    pub(crate) want: &'static [Sent],
+    pub(crate) end: End,
 }
 
-fn is_read(rt: &impl Abort, alloc: Global, set: &TemplateSet, row: &Row) -> Result<(), AllocError> {
+pub(crate) fn is_read(
+    rt: &impl Abort,
+    alloc: Global,
+    set: &TemplateSet,
+    mode: Mode,
+    row: &Row,
+) -> Result<(), AllocError> {
     let want = messages(alloc, row.want)?;
-    let agree = agrees(alloc, set, row.stream, &want, row.end.fault());
+    let agree = agrees(alloc, set, mode, row.stream, &want, row.end.fault());
     same(rt, agree, Ok(true));
     Ok(())
 }
 
-fn each_read(
+pub(crate) fn each_read(
     rt: &impl Abort,
     alloc: Global,
     set: &TemplateSet,
+    mode: Mode,
     rows: &[Row],
 ) -> Result<(), AllocError> {
     for row in rows {
-        is_read(rt, alloc, set, row)?;
+        is_read(rt, alloc, set, mode, row)?;
     }
     Ok(())
 }
 
-fn all_read(rt: &impl Abort, alloc: Global, rows: &[Row]) -> Result<(), AllocError> {
+pub(crate) fn all_read_in(
+    rt: &impl Abort,
+    alloc: Global,
+    mode: Mode,
+    rows: &[Row],
+) -> Result<(), AllocError> {
     match worked(alloc) {
-        Some(set) => each_read(rt, alloc, &set, rows),
+        Some(set) => each_read(rt, alloc, &set, mode, rows),
         None => panic!(rt; "refused"),
     }
 }
 
-const QUOTE: &[u8] = b"\xF0\x81\x81\x41\xC2\xFE\x00\xE4";
+fn all_read(rt: &impl Abort, alloc: Global, rows: &[Row]) -> Result<(), AllocError> {
+    all_read_in(rt, alloc, PLAIN, rows)
+}
+
+pub(crate) const QUOTE: &[u8] = b"\xF0\x81\x81\x41\xC2\xFE\x00\xE4";
 
 #[test]
 fn fields(rt: HostRuntime) -> Result<(), AllocError> {
@@ -611,6 +642,7 @@ fn long_message(alloc: Global, symbol: &[u8]) -> Result<Message, AllocError> {
 fn reads_long(
     alloc: Global,
     set: &TemplateSet,
+    mode: Mode,
     symbol: &[u8],
     fault: Option<Fault>,
 ) -> Result<bool, AllocError> {
@@ -618,14 +650,21 @@ fn reads_long(
     let want = vec![in alloc; long_message(alloc, symbol)?]?;
     let want = if fault.is_none() { &want[..] } else { &[] };
     let map = MapEntries::new(alloc);
-    Ok(reads(alloc, set, map, &stream, 4096, want, fault))
+    Ok(reads(alloc, set, mode, map, &stream, 4096, want, fault))
 }
 
-// The same of a symbol of so many letters and one more.
-fn long(alloc: Global, letters: usize, fault: Option<Fault>) -> Result<bool, AllocError> {
-    let symbol = vec![in alloc; 0x41; letters]?;
+// The same of a symbol with so many zero groups in front, so many letters and one more.
+pub(crate) fn long(
+    alloc: Global,
+    mode: Mode,
+    zeros: usize,
+    letters: usize,
+    fault: Option<Fault>,
+) -> Result<bool, AllocError> {
+    let mut symbol = vec![in alloc; 0x00; zeros]?;
+    symbol.extend_from_slice(&vec![in alloc; 0x41; letters]?)?;
     match worked(alloc) {
-        Some(set) => reads_long(alloc, &set, &symbol, fault),
+        Some(set) => reads_long(alloc, &set, mode, &symbol, fault),
         None => Ok(false),
     }
 }
@@ -633,15 +672,17 @@ fn long(alloc: Global, letters: usize, fault: Option<Fault>) -> Result<bool, All
 #[test]
 fn long_strings(rt: HostRuntime) {
     let alloc = rt.alloc();
-    same(&rt, long(alloc, 65_534, None), Ok(true));
+    same(&rt, long(alloc, PLAIN, 0, 65_534, None), Ok(true));
     let fault = End::Fault(Cause::Limit, 1, 3, 1, 2).fault();
-    same(&rt, long(alloc, 65_535, fault), Ok(true));
+    same(&rt, long(alloc, PLAIN, 0, 65_535, fault), Ok(true));
+    // a preamble is no character
+    same(&rt, long(alloc, PLAIN, 1, 65_535, fault), Ok(true));
 }
 
 // The number of messages of the worked templates of a decoder that answers all steps so.
 fn count(rt: &impl Abort, alloc: Global, steps: &[Step]) -> usize {
     match worked(alloc) {
-        Some(set) => follow(rt, alloc, &set, MapEntries::new(alloc), steps).len(),
+        Some(set) => follow(rt, alloc, &set, PLAIN, MapEntries::new(alloc), steps).len(),
         None => panic!(rt; "refused"),
     }
 }
@@ -688,7 +729,7 @@ fn held_most(
         Step::Held(0),
     ];
     let slots = slots_of(alloc, set)?;
-    Ok(follow(rt, alloc, set, slots, &steps).len())
+    Ok(follow(rt, alloc, set, PLAIN, slots, &steps).len())
 }
 
 #[test]
@@ -724,7 +765,14 @@ fn faults_over(
     requires turns { turns ≤ 100 }
 {
     let reader = Counted::new(ScriptInput::new(stream, step, fails));
-    let mut input = MessageInputStream::new(alloc, reader, set, MapEntries::new(alloc), turns);
+    let mut input = MessageInputStream::new(
+        alloc,
+        reader,
+        set,
+        PLAIN,
+        MapEntries::new(alloc),
+        turns,
+    );
     two_faults(&mut input)
 }
 

@@ -5,7 +5,7 @@ ghost use Rattle.fast_walk.specs.Traversals.{ServesAll};
 
 use crate::same::same;
 use crate::worked::{long_quote, quote, worked};
-use fast_decoder::Decoder;
+use fast_decoder::{Decoder, Framing, Level, Mode};
 use fast_dictionary::{Entries, MapEntries, SlotEntries};
 use fast_encoder::{EncodeCause, EncodeFault, Encoder, MessageOutputStream};
 use fast_io::{ByteOutput, Counted, ScriptOutput};
@@ -13,6 +13,12 @@ use fast_stream::{Message, Node};
 use fast_template::{ByteString, Scalar, TemplateSet, UnicodeText};
 use std::alloc::{AllocError, Global};
 use std::process::Abort;
+
+// Plain messages, at the usual level.
+pub(crate) const PLAIN: Mode = Mode {
+    level: Level::Usual,
+    framing: Framing::Plain,
+};
 
 // Slots that serve the keys of their set.
 fn slots_of<'a>(alloc: Global, set: &'a TemplateSet) -> Result<SlotEntries<'a>, AllocError>
@@ -27,7 +33,7 @@ fn slots_of<'a>(alloc: Global, set: &'a TemplateSet) -> Result<SlotEntries<'a>, 
 
 // The messages of a stream.
 fn decoded(alloc: Global, set: &TemplateSet, stream: &[u8]) -> Vec<Message> {
-    let mut decoder = Decoder::new(alloc, set, MapEntries::new(alloc));
+    let mut decoder = Decoder::new(alloc, set, PLAIN, MapEntries::new(alloc));
     let mut messages = Vec::new(alloc);
     if decoder.fed() < 1000 && stream.len() < 1000 {
         let _fed = decoder.feed(stream, &mut messages);

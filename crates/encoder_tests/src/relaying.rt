@@ -1,5 +1,6 @@
 //! Streams that are read and written at once, by the calls.
 
+use crate::messages::PLAIN;
 use crate::same::same;
 use crate::worked::worked;
 use fast_dictionary::MapEntries;
@@ -23,7 +24,13 @@ fn is_relayed(rt: &impl Abort, alloc: Global, set: &TemplateSet, row: &Row) {
     if row.stream.len() > LONGEST {
         panic!(rt; "too long a stream");
     }
-    let mut machine = Machine::new(alloc, set, Writer::new(alloc), MapEntries::new(alloc));
+    let mut machine = Machine::new(
+        alloc,
+        set,
+        PLAIN,
+        Writer::new(alloc),
+        MapEntries::new(alloc),
+    );
     let fault = machine.feed(row.stream).is_err() || machine.finish().is_err();
     same(rt, machine.receiver.finished(), row.canonical);
     same(rt, fault, row.refused);

@@ -18,6 +18,8 @@ mod relaying;
 #[cfg(test)]
 mod same;
 #[cfg(test)]
+mod strict;
+#[cfg(test)]
 mod taken;
 #[cfg(test)]
 mod texts;

@@ -4,7 +4,7 @@
 use crate::fields::{Kept, Shape, Value, ascii};
 use crate::same::same;
 use fast_dictionary::{Entry, EntryRef};
-use fast_field::{FieldFault, Found, find_field, next_entry, read_field, read_in_place};
+use fast_field::{FieldFault, Found, Level, find_field, next_entry, read_field, read_in_place};
 use fast_template::{FieldPart, Kind, Operator, Presence, Scalar};
 use std::alloc::{AllocError, Global};
 use std::process::Abort;
@@ -16,16 +16,16 @@ type Read = Result<(Option<Scalar>, Entry, usize), FieldFault>;
 type ReadInPlace = Result<(Option<Scalar>, usize), FieldFault>;
 
 // A field that is read on an entry, and what is wanted of it.
-struct Row {
-    of: Shape,
-    before: Kept,
-    bit: bool,
-    bytes: &'static [u8],
-    wanted: Wanted,
+pub(crate) struct Row {
+    pub(crate) of: Shape,
+    pub(crate) before: Kept,
+    pub(crate) bit: bool,
+    pub(crate) bytes: &'static [u8],
+    pub(crate) wanted: Wanted,
 }
 
 #[derive(Clone, Copy)]
-enum Wanted {
+pub(crate) enum Wanted {
     Absent(Kept, usize),
     Value(Value, Kept, usize),
     Fault(FieldFault),
@@ -60,10 +60,11 @@ fn read_beside(
     rt: &impl Abort,
     alloc: Global,
     instr: &FieldPart,
+    level: Level,
     row: &Row,
 ) -> Result<(), AllocError> {
     let entry = row.before.entry(alloc)?;
-    let read = read_field(alloc, instr, entry.view(), row.bit, row.bytes, 0);
+    let read = read_field(alloc, instr, entry.view(), row.bit, level, row.bytes, 0);
     judged(rt, alloc, read, row.wanted)
 }
 
@@ -73,9 +74,10 @@ fn found_in_place(
     instr: &FieldPart,
     entry: &mut Entry,
     bit: bool,
+    level: Level,
     bytes: &[u8],
 ) -> Result<ReadInPlace, AllocError> {
-    match read_in_place(alloc, instr, entry, bit, bytes, 0) {
+    match read_in_place(alloc, instr, entry, bit, level, bytes, 0) {
         Ok((found, next)) => {
             let value = found.into_value(alloc, instr, entry.view())?;
             Ok(Ok((value, next)))
@@ -107,11 +109,12 @@ fn read_within(
     rt: &impl Abort,
     alloc: Global,
     instr: &FieldPart,
+    level: Level,
     row: &Row,
 ) -> Result<(), AllocError> {
     let before = row.before.entry(alloc)?;
     let mut entry = row.before.entry(alloc)?;
-    let found = found_in_place(alloc, instr, &mut entry, row.bit, row.bytes)?;
+    let found = found_in_place(alloc, instr, &mut entry, row.bit, level, row.bytes)?;
     compared(rt, alloc, found, entry, before, row.wanted)
 }
 
@@ -120,22 +123,32 @@ fn read_with(
     rt: &impl Abort,
     alloc: Global,
     instr: &FieldPart,
+    level: Level,
     row: &Row,
 ) -> Result<(), AllocError> {
-    read_beside(rt, alloc, instr, row)?;
-    read_within(rt, alloc, instr, row)
+    read_beside(rt, alloc, instr, level, row)?;
+    read_within(rt, alloc, instr, level, row)
 }
 
-fn read_so(rt: &impl Abort, alloc: Global, row: &Row) -> Result<(), AllocError> {
+fn read_so(rt: &impl Abort, alloc: Global, level: Level, row: &Row) -> Result<(), AllocError> {
     let instr = row.of.instr(alloc)?;
-    read_with(rt, alloc, &instr, row)
+    read_with(rt, alloc, &instr, level, row)
+}
+
+pub(crate) fn all_read_at(
+    rt: &impl Abort,
+    alloc: Global,
+    level: Level,
+    rows: &[Row],
+) -> Result<(), AllocError> {
+    for row in rows {
+        read_so(rt, alloc, level, row)?;
+    }
+    Ok(())
 }
 
 fn all_read(rt: &impl Abort, alloc: Global, rows: &[Row]) -> Result<(), AllocError> {
-    for row in rows {
-        read_so(rt, alloc, row)?;
-    }
-    Ok(())
+    all_read_at(rt, alloc, Level::Usual, rows)
 }
 
 #[test]
@@ -572,7 +585,7 @@ fn copy_of(
 
 // A copy of what is read under bit 0 on an entry.
 fn copied(alloc: Global, instr: &FieldPart, kept: EntryRef) -> Result<Option<Scalar>, AllocError> {
-    match find_field(alloc, instr, kept, false, &[], 0) {
+    match find_field(alloc, instr, kept, false, Level::Usual, &[], 0) {
         Ok((found, _)) => copy_of(alloc, &found, instr, kept),
         Err(_) => Ok(None),
     }

@@ -4,4 +4,6 @@
 #[cfg(test)]
 mod forms;
 #[cfg(test)]
+mod levels;
+#[cfg(test)]
 mod same;

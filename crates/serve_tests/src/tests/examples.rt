@@ -8,7 +8,7 @@ use std::alloc::Global;
 use std::process::Abort;
 
 // The text of book.json.
-const BOOK: &str = r#"{"templates":[
+pub const BOOK: &str = r#"{"templates":[
 {"name":"Book","id":1,"instructions":[
  {"kind":"uInt32","name":"Seq","operator":"increment"},
  {"kind":"string","name":"Symbol","operator":"copy"},
@@ -19,7 +19,7 @@ const BOOK: &str = r#"{"templates":[
   {"kind":"uInt32","name":"Size","operator":"copy"}]}]}]}"#;
 
 // The text of trade.json.
-const TRADE: &str = r#"{"templates":[
+pub const TRADE: &str = r#"{"templates":[
 {"name":"Trade","id":2,"instructions":[
  {"kind":"uInt64","name":"Time","operator":"delta"},
  {"kind":"string","name":"Symbol","operator":"delta"},
@@ -36,28 +36,60 @@ fn whole(text: &str) -> Feed<'_> {
     }
 }
 
-// Serves a command over templates and a stream in hex text.
+const SHOW: &[&str] = &["fastcat", "show", "--hex", "--templates", TEMPLATES, STREAM];
+
+const CHECK: &[&str] = &[
+    "fastcat",
+    "check",
+    "--hex",
+    "--templates",
+    TEMPLATES,
+    STREAM,
+];
+
+const CANON: &[&str] = &[
+    "fastcat",
+    "canon",
+    "--hex",
+    "--templates",
+    TEMPLATES,
+    STREAM,
+];
+
+const SHOW_STRICTLY: &[&str] = &[
+    "fastcat",
+    "show",
+    "--strict",
+    "--hex",
+    "--templates",
+    TEMPLATES,
+    STREAM,
+];
+
+const CANON_STRICTLY: &[&str] = &[
+    "fastcat",
+    "canon",
+    "--strict",
+    "--hex",
+    "--templates",
+    TEMPLATES,
+    STREAM,
+];
+
+// Serves a line over templates and a stream in hex text.
 fn is_served(
     rt: &impl Abort,
     alloc: Global,
-    command: &str,
+    words: &[&str],
     templates: &str,
     stream: &str,
     want: &str,
 ) {
-    let words = [
-        "fastcat",
-        command,
-        "--hex",
-        "--templates",
-        TEMPLATES,
-        STREAM,
-    ];
     let mut out = Vec::new(alloc);
     let mut err = Vec::new(alloc);
     let status = serve(
         alloc,
-        &words,
+        words,
         &mut Shelf {
             templates: whole(templates),
             stream: whole(stream),
@@ -67,12 +99,12 @@ fn is_served(
         &mut Counted::new(&mut err),
         TURNS,
     );
-    same_of(rt, &words, out.as_slice(), want.as_bytes());
-    same_of(rt, &words, err.as_slice(), [].as_slice());
-    same_of(rt, &words, status, 0);
+    same_of(rt, words, out.as_slice(), want.as_bytes());
+    same_of(rt, words, err.as_slice(), [].as_slice());
+    same_of(rt, words, status, 0);
 }
 
-// An example, and the same of its canonical bytes.
+// An example, and the same of its canonical bytes, at both levels.
 fn example(
     rt: &impl Abort,
     alloc: Global,
@@ -81,10 +113,14 @@ fn example(
     lines: &str,
     canon: &str,
 ) {
-    is_served(rt, alloc, "show", templates, stream, lines);
-    is_served(rt, alloc, "canon", templates, stream, canon);
-    is_served(rt, alloc, "show", templates, canon, lines);
-    is_served(rt, alloc, "canon", templates, canon, canon);
+    is_served(rt, alloc, SHOW, templates, stream, lines);
+    is_served(rt, alloc, CANON, templates, stream, canon);
+    is_served(rt, alloc, SHOW, templates, canon, lines);
+    is_served(rt, alloc, CANON, templates, canon, canon);
+    is_served(rt, alloc, SHOW_STRICTLY, templates, stream, lines);
+    is_served(rt, alloc, CANON_STRICTLY, templates, stream, canon);
+    is_served(rt, alloc, SHOW_STRICTLY, templates, canon, lines);
+    is_served(rt, alloc, CANON_STRICTLY, templates, canon, canon);
 }
 
 #[test]
@@ -98,7 +134,7 @@ fn an_order_book(rt: HostRuntime) {
     let canon = "f0818145d382d0801b3be98ac081998081909984\n";
     example(&rt, rt.alloc(), BOOK, stream, lines, canon);
     let told = "ok messages=2 bytes=25 canonical=20\n";
-    is_served(&rt, rt.alloc(), "check", BOOK, stream, told);
+    is_served(&rt, rt.alloc(), CHECK, BOOK, stream, told);
 }
 
 #[test]
@@ -116,5 +152,5 @@ fn a_trade_feed(rt: HostRuntime) {
     let canon = "c082102733c08045535ab6fe1b3be9b08f8080809901fa830aff80808248b78080\n";
     example(&rt, rt.alloc(), TRADE, stream, lines, canon);
     let told = "ok messages=3 bytes=36 canonical=33\n";
-    is_served(&rt, rt.alloc(), "check", TRADE, stream, told);
+    is_served(&rt, rt.alloc(), CHECK, TRADE, stream, told);
 }

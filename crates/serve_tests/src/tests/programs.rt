@@ -20,16 +20,16 @@ struct Answer<'a> {
 }
 
 /// A command line, a standard input, and what is answered, written and said.
-struct Row {
-    words: &'static [&'static str],
-    input: &'static [u8],
-    status: u8,
-    out: &'static [u8],
-    err: &'static str,
+pub struct Row {
+    pub words: &'static [&'static str],
+    pub input: &'static [u8],
+    pub status: u8,
+    pub out: &'static [u8],
+    pub err: &'static str,
 }
 
 // The template of the streams, as examples/worked.json has it.
-const FIRST: &str = r#"{"templates":[{"name":"First","id":16,"instructions":[
+pub const FIRST: &str = r#"{"templates":[{"name":"First","id":16,"instructions":[
  {"kind":"uInt32","name":"A"},
  {"kind":"uInt32","name":"B","operator":"copy"}]}]}"#;
 
@@ -95,26 +95,37 @@ fn served(
     same_of(rt, words, status, want.status);
 }
 
-// Serves a row from its input given at most `width` bytes a read.
-fn row_is_served(rt: &impl Abort, alloc: Global, row: &Row, width: usize) {
+// Serves a row over these templates, from its input given at most `width` bytes a read.
+fn row_is_served(rt: &impl Abort, alloc: Global, templates: &str, row: &Row, width: usize) {
     let mut source = shelf(Feed {
         rest: row.input,
         width,
         after: After::End,
     });
+    source.templates = whole(templates.as_bytes());
     let want = Answer {
         status: row.status,
         out: row.out,
         err: row.err,
     };
-    served(rt, alloc, row.words, &mut source, 99, want);
+    served(rt, alloc, row.words, &mut source, 999, want);
 }
 
 fn rows_are_served(rt: &impl Abort, alloc: Global, rows: &[Row]) {
     for row in rows {
-        row_is_served(rt, alloc, row, 1);
-        row_is_served(rt, alloc, row, 2);
-        row_is_served(rt, alloc, row, 4096);
+        row_is_served(rt, alloc, FIRST, row, 1);
+        row_is_served(rt, alloc, FIRST, row, 2);
+        row_is_served(rt, alloc, FIRST, row, 4096);
+    }
+}
+
+/// Serves rows over these templates, whole and from reads of each size up to theirs.
+pub fn rows_are_served_over(rt: &impl Abort, alloc: Global, templates: &str, rows: &[Row]) {
+    for row in rows {
+        row_is_served(rt, alloc, templates, row, 4096);
+        for width in 1..=row.input.len() {
+            row_is_served(rt, alloc, templates, row, width);
+        }
     }
 }
 

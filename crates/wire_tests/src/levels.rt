@@ -1,0 +1,74 @@
+//! Entities that are longer than their value needs, and entities that are just not.
+
+use crate::same::same;
+use fast_wire::{entity_end, overlong_ascii, overlong_map, overlong_signed, overlong_unsigned};
+use std::process::Abort;
+
+/// An entity, and whether it is overlong as an unsigned and as a signed integer, as a map, and as an ASCII string
+/// without NULL and with it.
+struct Row(&'static [u8], [bool; 5]);
+
+fn is_judged(rt: &impl Abort, row: &Row) {
+    let Row(bytes, wanted) = row;
+    match entity_end(bytes, 0, 256) {
+        Ok(next) => {
+            let entity = &bytes[0..next];
+            same(rt, next, bytes.len());
+            same(rt, overlong_unsigned(entity), wanted[0]);
+            same(rt, overlong_signed(entity), wanted[1]);
+            same(rt, overlong_map(entity), wanted[2]);
+            same(rt, overlong_ascii(entity, false), wanted[3]);
+            same(rt, overlong_ascii(entity, true), wanted[4]);
+        }
+        Err(_) => panic!(rt; "no entity"),
+    }
+}
+
+#[test]
+fn overlong_entities(rt: HostRuntime) {
+    const ROWS: &[Row] = &[
+        // one group
+        Row(b"\x80", [false, false, false, false, false]),
+        Row(b"\x81", [false, false, false, false, false]),
+        Row(b"\xFF", [false, false, false, false, false]),
+        // a group of zeros in front
+        Row(b"\x00\x80", [true, true, true, false, false]),
+        Row(b"\x00\x81", [true, true, false, true, true]),
+        Row(b"\x00\xBF", [true, true, false, true, true]),
+        Row(b"\x00\xC0", [true, false, false, true, true]),
+        Row(b"\x00\xC1", [true, false, false, true, true]),
+        Row(b"\x00\x40\x81", [true, false, false, true, true]),
+        Row(b"\x00\x7F\xFF", [true, false, false, true, true]),
+        // more of them
+        Row(b"\x00\x00\x80", [true, true, true, false, false]),
+        Row(b"\x00\x00\xC1", [true, true, false, false, true]),
+        Row(b"\x00\x00\x00\x80", [true, true, true, false, false]),
+        Row(b"\x00\x00\x00\xC1", [true, true, false, false, false]),
+        // a group of ones in front
+        Row(b"\x7F\xBF", [false, false, false, false, false]),
+        Row(b"\x7F\xC0", [false, true, false, false, false]),
+        Row(b"\x7F\xFF", [false, true, false, false, false]),
+        Row(b"\x7F\x3F\xFF", [false, false, false, false, false]),
+        Row(b"\x7F\x40\x80", [false, true, true, false, false]),
+        Row(b"\x7E\xFF", [false, false, false, false, false]),
+        // a group of zeros behind
+        Row(b"\x01\x80", [false, false, true, false, false]),
+        Row(b"\x40\x80", [false, false, true, false, false]),
+        Row(b"\x70\x00\x80", [false, false, true, false, false]),
+        Row(b"\x7F\x3F\x80", [false, false, true, false, false]),
+        Row(b"\x40\x00\x81", [false, false, false, false, false]),
+        Row(b"\x41\xC2", [false, false, false, false, false]),
+        // ten groups
+        Row(
+            b"\x02\x00\x00\x00\x00\x00\x00\x00\x00\x80",
+            [false, false, true, false, false],
+        ),
+        Row(
+            b"\x00\x00\x00\x00\x00\x00\x00\x00\x00\x81",
+            [true, true, false, false, false],
+        ),
+    ];
+    for row in ROWS {
+        is_judged(&rt, row);
+    }
+}
