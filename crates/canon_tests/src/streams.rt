@@ -6,8 +6,9 @@ use crate::same::same;
 use fast_canon::{CanonFault, Summary, canonicalise, check};
 use fast_decoder::{Framing, Level, Mode};
 use fast_io::{Counted, ScriptInput, ScriptOutput};
+use fast_load::{Load, LoadFault};
 use fast_stream::{Cause, Fault, Place};
-use fast_template::{LoadFault, TemplateSet};
+use fast_template::TemplateSet;
 use std::alloc::{AllocError, Global};
 use std::process::Abort;
 

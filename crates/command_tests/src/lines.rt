@@ -4,6 +4,7 @@ use crate::same::same;
 use fast_command::{ShowFault, show_line};
 use fast_decoder::{Decoder, Framing, Level, Mode};
 use fast_dictionary::MapEntries;
+use fast_load::Load;
 use fast_stream::{Message, Node};
 use fast_template::{ByteString, Scalar, TemplateSet};
 use std::alloc::{AllocError, Global};

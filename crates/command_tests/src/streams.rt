@@ -8,6 +8,7 @@ use fast_canon::{CanonFault, Summary};
 use fast_command::{Command, run};
 use fast_decoder::Mode;
 use fast_io::{Counted, ScriptInput, ScriptOutput};
+use fast_load::Load;
 use fast_stream::{Cause, Fault, Place};
 use fast_template::TemplateSet;
 use std::alloc::Global;

@@ -8,6 +8,7 @@ use crate::streams::{
 };
 use fast_command::Command;
 use fast_io::ScriptInput;
+use fast_load::Load;
 use fast_stream::Cause;
 use fast_template::TemplateSet;
 use std::alloc::{AllocError, Global};

@@ -4,8 +4,9 @@ use crate::same::same;
 use crate::slots::slots_of;
 use crate::steps::{End, PLAIN, Step, follow};
 use fast_dictionary::MapEntries;
+use fast_load::{Load, LoadFault};
 use fast_stream::{Cause, Message, Node};
-use fast_template::{ByteString, LoadFault, Scalar, TemplateSet};
+use fast_template::{ByteString, Scalar, TemplateSet};
 use std::alloc::{AllocError, Global};
 use std::process::Abort;
 

@@ -4,6 +4,7 @@ use crate::same::same;
 use crate::steps::{End, PLAIN};
 use crate::streams::{Row, Sent, Shown, all_read_in, each_read, is_read, long, worked};
 use fast_decoder::{Framing, Level, Mode};
+use fast_load::Load;
 use fast_stream::Cause;
 use fast_template::TemplateSet;
 use std::alloc::{AllocError, Global};

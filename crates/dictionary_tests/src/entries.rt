@@ -6,9 +6,8 @@ ghost use Rattle.fast_template.specs.TemplateSets.{keys_in};
 
 use crate::same::same;
 use fast_dictionary::{Entries, Entry, EntryRef, MapEntries, SlotEntries};
-use fast_template::{
-    Flat, Key, LoadCause, LoadFault, Name, Part, Scalar, Scope, TemplateSet, UnicodeText,
-};
+use fast_load::{Load, LoadCause, LoadFault};
+use fast_template::{Flat, Key, Name, Part, Scalar, Scope, TemplateSet, UnicodeText};
 use std::alloc::{AllocError, Global};
 use std::process::Abort;
 

@@ -9,6 +9,7 @@ use fast_decoder::{Decoder, Framing, Level, Mode};
 use fast_dictionary::{Entries, MapEntries, SlotEntries};
 use fast_encoder::{EncodeCause, EncodeFault, Encoder, MessageOutputStream};
 use fast_io::{ByteOutput, Counted, ScriptOutput};
+use fast_load::Load;
 use fast_stream::{Message, Node};
 use fast_template::{ByteString, Scalar, TemplateSet, UnicodeText};
 use std::alloc::{AllocError, Global};

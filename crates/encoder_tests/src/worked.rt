@@ -1,5 +1,6 @@
 //! The worked templates, and a message of them.
 
+use fast_load::Load;
 use fast_stream::{Message, Node};
 use fast_template::{ByteString, Scalar, TemplateSet};
 use std::alloc::{AllocError, Global};

@@ -12,7 +12,7 @@ use crate::input::TextFault;
 use clap::error::ErrorKind;
 use fast_canon::CanonFault;
 use fast_stream::{Cause, Fault};
-use fast_template::{LoadCause, LoadFault};
+use fast_written::{LoadCause, LoadFault};
 use std::alloc::{AllocError, Global};
 use std::io;
 

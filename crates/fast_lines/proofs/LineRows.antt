@@ -3,79 +3,77 @@ use Rattle.std.proofs.Common.{◌≡◌, ℕ, pos, negsuc, List, [], ◌∷◌, 
 use Rattle.std.specs.Prelude.{codes}
 use Rattle.std.specs.Fmt.{digits}
 use Rattle.hex.specs.Hex.{encode_with}
-use Rattle.fast_template.specs.Resolved.{no_instructions}
-use Rattle.fast_written.specs.Written.{WrittenTemplate}
+use Rattle.fast_template.specs.Resolved.{Resolved, no_instructions}
 use Rattle.fast_value.specs.declared.kind.Kind.TheVariants.{Int64, Ascii, Bytes}
 use Rattle.fast_value.specs.declared.scalar.Scalar.TheVariants as value
-use Rattle.fast_written.proofs.WorkedTemplates.{quote, wrap, opt, legs, bare, tail, grp, uni, const, fixed, first}
-use Rattle.fast_template.proofs.WorkedSet.{resolved}
+use Rattle.fast_template.proofs.WorkedSet.{quote, wrap, opt, legs, bare, tail, grp, uni, const, fixed, first}
 use Rattle.fast_stream.specs.Nodes.{Content}
 use Rattle.fast_stream.proofs.Rows.{absent, decimal, group, message, sequence, text, u32, unicode, vector}
 use Rattle.fast_lines.specs.Lines.{line_by, value_text}
 
--- the line of a message of the template at this place
-abbrev shown : ℕ → WrittenTemplate → Content → Option (List ℕ)
-shown place t m = line_by t.name (resolved place t).members m
+-- the line of a message of a template
+abbrev shown : Resolved → Content → Option (List ℕ)
+shown t m = line_by t.name t.members m
 
 -- ---- lines
 
-quote_1 : shown 1 quote (message 1 (u32 1 ∷ text (codes "AB") ∷ decimal (negsuc 1) (pos 100) ∷ absent ∷ [])) ≡ Some (codes "1 Quote Seq=1 Sym=\"AB\" Px=100e-2 Qty=-\n")
+quote_1 : shown quote (message 1 (u32 1 ∷ text (codes "AB") ∷ decimal (negsuc 1) (pos 100) ∷ absent ∷ [])) ≡ Some (codes "1 Quote Seq=1 Sym=\"AB\" Px=100e-2 Qty=-\n")
 unfolding digits
 quote_1 = refl
 
-wrap_13 : shown 2 wrap (message 2 (u32 0 ∷ u32 4294967295 ∷ [])) ≡ Some (codes "2 Wrap A=0 B=4294967295\n")
+wrap_13 : shown wrap (message 2 (u32 0 ∷ u32 4294967295 ∷ [])) ≡ Some (codes "2 Wrap A=0 B=4294967295\n")
 unfolding digits
 wrap_13 = refl
 
-opt_14 : shown 3 opt (message 3 (absent ∷ u32 5 ∷ [])) ≡ Some (codes "3 Opt Px=- Flag=5\n")
+opt_14 : shown opt (message 3 (absent ∷ u32 5 ∷ [])) ≡ Some (codes "3 Opt Px=- Flag=5\n")
 unfolding digits
 opt_14 = refl
 
-opt_14_there : shown 3 opt (message 3 (decimal (pos 2) (pos 942755) ∷ u32 5 ∷ [])) ≡ Some (codes "3 Opt Px=942755e2 Flag=5\n")
+opt_14_there : shown opt (message 3 (decimal (pos 2) (pos 942755) ∷ u32 5 ∷ [])) ≡ Some (codes "3 Opt Px=942755e2 Flag=5\n")
 unfolding digits
 opt_14_there = refl
 
-legs_absent : shown 4 legs (message 4 (absent ∷ [])) ≡ Some (codes "4 Legs L=-\n")
+legs_absent : shown legs (message 4 (absent ∷ [])) ≡ Some (codes "4 Legs L=-\n")
 unfolding digits
 legs_absent = refl
 
-legs_empty : shown 4 legs (message 4 (sequence [] ∷ [])) ≡ Some (codes "4 Legs L=[]\n")
+legs_empty : shown legs (message 4 (sequence [] ∷ [])) ≡ Some (codes "4 Legs L=[]\n")
 unfolding digits
 legs_empty = refl
 
-legs_two : shown 4 legs (message 4 (sequence ((u32 5 ∷ []) ∷ (u32 6 ∷ []) ∷ []) ∷ [])) ≡ Some (codes "4 Legs L=[{P=5} {P=6}]\n")
+legs_two : shown legs (message 4 (sequence ((u32 5 ∷ []) ∷ (u32 6 ∷ []) ∷ []) ∷ [])) ≡ Some (codes "4 Legs L=[{P=5} {P=6}]\n")
 unfolding digits
 legs_two = refl
 
-bare_two : shown 6 bare (message 6 (sequence ([] ∷ [] ∷ []) ∷ [])) ≡ Some (codes "6 Bare L=[{} {}]\n")
+bare_two : shown bare (message 6 (sequence ([] ∷ [] ∷ []) ∷ [])) ≡ Some (codes "6 Bare L=[{} {}]\n")
 unfolding digits
 bare_two = refl
 
-tail_nul : shown 8 tail (message 8 (text (120 ∷ 0 ∷ 98 ∷ []) ∷ [])) ≡ Some (codes "8 Tail S=\"x\\x00b\"\n")
+tail_nul : shown tail (message 8 (text (120 ∷ 0 ∷ 98 ∷ []) ∷ [])) ≡ Some (codes "8 Tail S=\"x\\x00b\"\n")
 unfolding digits encode_with
 tail_nul = refl
 
-grp_there : shown 12 grp (message 11 (group (u32 5 ∷ []) ∷ u32 6 ∷ [])) ≡ Some (codes "11 Grp Hd={A=5} B=6\n")
+grp_there : shown grp (message 11 (group (u32 5 ∷ []) ∷ u32 6 ∷ [])) ≡ Some (codes "11 Grp Hd={A=5} B=6\n")
 unfolding digits
 grp_there = refl
 
-grp_absent : shown 12 grp (message 11 (absent ∷ u32 6 ∷ [])) ≡ Some (codes "11 Grp Hd=- B=6\n")
+grp_absent : shown grp (message 11 (absent ∷ u32 6 ∷ [])) ≡ Some (codes "11 Grp Hd=- B=6\n")
 unfolding digits
 grp_absent = refl
 
-uni_two_bytes : shown 13 uni (message 12 (unicode (0xc3 ∷ 0xa9 ∷ []) ∷ [])) ≡ Some (codes "12 Uni S=\"\\xc3\\xa9\"\n")
+uni_two_bytes : shown uni (message 12 (unicode (0xc3 ∷ 0xa9 ∷ []) ∷ [])) ≡ Some (codes "12 Uni S=\"\\xc3\\xa9\"\n")
 unfolding digits encode_with
 uni_two_bytes = refl
 
-const_21 : shown 15 const (message 14 (u32 7 ∷ absent ∷ u32 3 ∷ [])) ≡ Some (codes "14 Const K=7 O=- D=3\n")
+const_21 : shown const (message 14 (u32 7 ∷ absent ∷ u32 3 ∷ [])) ≡ Some (codes "14 Const K=7 O=- D=3\n")
 unfolding digits
 const_21 = refl
 
-fixed_22 : shown 16 fixed (message 15 (decimal (negsuc 1) (pos 100) ∷ vector (0x0a ∷ 0xff ∷ []) ∷ [])) ≡ Some (codes "15 Fixed Px=100e-2 Raw=x0aff\n")
+fixed_22 : shown fixed (message 15 (decimal (negsuc 1) (pos 100) ∷ vector (0x0a ∷ 0xff ∷ []) ∷ [])) ≡ Some (codes "15 Fixed Px=100e-2 Raw=x0aff\n")
 unfolding digits encode_with
 fixed_22 = refl
 
-first_17 : shown 17 first (message 16 (u32 5 ∷ u32 6 ∷ [])) ≡ Some (codes "16 First A=5 B=6\n")
+first_17 : shown first (message 16 (u32 5 ∷ u32 6 ∷ [])) ≡ Some (codes "16 First A=5 B=6\n")
 unfolding digits
 first_17 = refl
 
@@ -85,7 +83,7 @@ negative : value_text Int64 (value.I64 (negsuc 41)) ≡ Some (codes "-42")
 unfolding digits
 negative = refl
 
-negative_mantissa : shown 16 fixed (message 15 (decimal (pos 0) (negsuc 0) ∷ absent ∷ [])) ≡ Some (codes "15 Fixed Px=-1e0 Raw=-\n")
+negative_mantissa : shown fixed (message 15 (decimal (pos 0) (negsuc 0) ∷ absent ∷ [])) ≡ Some (codes "15 Fixed Px=-1e0 Raw=-\n")
 unfolding digits
 negative_mantissa = refl
 
@@ -107,28 +105,28 @@ no_fields = refl
 
 -- ---- messages that are not of their template
 
-too_few : shown 6 bare (message 6 []) ≡ None
+too_few : shown bare (message 6 []) ≡ None
 too_few = refl
 
-too_many : shown 4 legs (message 4 (absent ∷ absent ∷ [])) ≡ None
+too_many : shown legs (message 4 (absent ∷ absent ∷ [])) ≡ None
 too_many = refl
 
-of_another_type : shown 17 first (message 16 (u32 5 ∷ text (codes "6") ∷ [])) ≡ None
+of_another_type : shown first (message 16 (u32 5 ∷ text (codes "6") ∷ [])) ≡ None
 unfolding digits
 of_another_type = refl
 
-absent_mandatory : shown 17 first (message 16 (u32 5 ∷ absent ∷ [])) ≡ None
+absent_mandatory : shown first (message 16 (u32 5 ∷ absent ∷ [])) ≡ None
 unfolding digits
 absent_mandatory = refl
 
-absent_sequence : shown 6 bare (message 6 (absent ∷ [])) ≡ None
+absent_sequence : shown bare (message 6 (absent ∷ [])) ≡ None
 absent_sequence = refl
 
-group_for_field : shown 17 first (message 16 (u32 5 ∷ group [] ∷ [])) ≡ None
+group_for_field : shown first (message 16 (u32 5 ∷ group [] ∷ [])) ≡ None
 unfolding digits
 group_for_field = refl
 
-element_of_none : shown 4 legs (message 4 (sequence ((u32 5 ∷ []) ∷ [] ∷ []) ∷ [])) ≡ None
+element_of_none : shown legs (message 4 (sequence ((u32 5 ∷ []) ∷ [] ∷ []) ∷ [])) ≡ None
 unfolding digits
 element_of_none = refl
 

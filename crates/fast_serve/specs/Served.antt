@@ -6,7 +6,7 @@ use Rattle.hex.specs.Hex.{decode_of, encode_lower}
 use Rattle.serde_json.specs.Data.{Data}
 use Rattle.serde_json.specs.Read.{read}
 use Rattle.fast_io.specs.Counts.{counted}
-use Rattle.fast_template.specs.JsonLoads.{IsNoText, Loads}
+use Rattle.fast_load.specs.JsonLoads.{IsNoText, Loads}
 use Rattle.fast_written.specs.JsonTemplates.{templates_of}
 use Rattle.fast_template.specs.TemplateSets.{TemplateList}
 use Rattle.fast_written.specs.declared.fault.LoadFault.{LoadFault}

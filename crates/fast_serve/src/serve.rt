@@ -12,6 +12,7 @@ use fast_canon::CanonFault;
 use fast_command::{Command, Mode, run};
 use fast_host::{MemoryOutput, Refusal, Source, hex_line, read_hex, read_text};
 use fast_io::{ByteInput, ByteOutput, Counted, write_all};
+use fast_load::Load;
 use fast_template::TemplateSet;
 use std::alloc::{AllocError, Global};
 use std::io;

@@ -25,8 +25,7 @@ use Rattle.fast_template.specs.TemplateSets.{identifier_key}
 use Rattle.fast_value.specs.declared.key.Scope.TheVariants.{Global}
 use Rattle.fast_value.specs.declared.kind.Part.{Part}
 use Rattle.fast_value.specs.declared.kind.Part.TheVariants.{Whole, Mantissa}
-use Rattle.fast_written.proofs.WorkedTemplates.{opt, legs, bare, grp}
-use Rattle.fast_template.proofs.WorkedSet.{resolved, slot_of, worked_set}
+use Rattle.fast_template.proofs.WorkedSet.{opt, legs, bare, grp, slot_of, worked_set}
 
 -- ---- how a row is written
 
@@ -566,22 +565,22 @@ abbrev may_come : ℕ → List ℕ → Cursor
 may_come spare bytes = record { dictionary = finite.empty; bits = []; spare = spare; bytes = bytes }
 
 -- a sequence of three elements without fields is four nodes: 83
-four_nodes : body_at Usual (resolved 6 bare).members (may_come 4 (0x83 ∷ [])) ≡ Ok (items_of (sequence ([] ∷ [] ∷ [] ∷ []) ∷ []), may_come 0 [])
+four_nodes : body_at Usual bare.members (may_come 4 (0x83 ∷ [])) ≡ Ok (items_of (sequence ([] ∷ [] ∷ [] ∷ []) ∷ []), may_come 0 [])
 unfolding reading
 four_nodes = rw absent_there refl
 
 -- the fourth is refused where three may come, at the sequence's number
-three_may_come : body_at Usual (resolved 6 bare).members (may_come 3 (0x83 ∷ [])) ≡ Err (record { cause = Limit; instruction = 1; left = 0 })
+three_may_come : body_at Usual bare.members (may_come 3 (0x83 ∷ [])) ≡ Err (record { cause = Limit; instruction = 1; left = 0 })
 unfolding reading
 three_may_come = refl
 
 -- a node is counted before its bytes are looked at: 83 85, where an element's P would be the fourth
-counted_first : body_at Usual (resolved 4 legs).members (may_come 2 (0x83 ∷ 0x85 ∷ [])) ≡ Err (record { cause = Limit; instruction = 2; left = 1 })
+counted_first : body_at Usual legs.members (may_come 2 (0x83 ∷ 0x85 ∷ [])) ≡ Err (record { cause = Limit; instruction = 2; left = 1 })
 unfolding reading
 counted_first = refl
 
 -- and 83, where an element's P is not there: still the limit
-counted_before_the_end : body_at Usual (resolved 4 legs).members (may_come 2 (0x83 ∷ [])) ≡ Err (record { cause = Limit; instruction = 2; left = 0 })
+counted_before_the_end : body_at Usual legs.members (may_come 2 (0x83 ∷ [])) ≡ Err (record { cause = Limit; instruction = 2; left = 0 })
 unfolding reading
 counted_before_the_end = refl
 
@@ -633,30 +632,30 @@ abbrev under_bits : List Bool → ℕ → List ℕ → Cursor
 under_bits bits spare bytes = record { dictionary = finite.empty; bits = bits; spare = spare; bytes = bytes }
 
 -- C0 85 86 under 1 1: the group is a node, its A another
-group_counts : body_at Usual (resolved 12 grp).members (under_bits (true ∷ true ∷ []) 1 (0xc0 ∷ 0x85 ∷ 0x86 ∷ [])) ≡ Err (record { cause = Limit; instruction = 2; left = 2 })
+group_counts : body_at Usual grp.members (under_bits (true ∷ true ∷ []) 1 (0xc0 ∷ 0x85 ∷ 0x86 ∷ [])) ≡ Err (record { cause = Limit; instruction = 2; left = 2 })
 unfolding reading
 group_counts = refl
 
 -- and B the third
-third_of_two : body_at Usual (resolved 12 grp).members (under_bits (true ∷ true ∷ []) 2 (0xc0 ∷ 0x85 ∷ 0x86 ∷ [])) ≡ Err (record { cause = Limit; instruction = 3; left = 1 })
+third_of_two : body_at Usual grp.members (under_bits (true ∷ true ∷ []) 2 (0xc0 ∷ 0x85 ∷ 0x86 ∷ [])) ≡ Err (record { cause = Limit; instruction = 3; left = 1 })
 unfolding reading
 third_of_two = refl
 
 -- 86 under 0 1: an absent group is a node
-absent_group_counts : body_at Usual (resolved 12 grp).members (under_bits (false ∷ true ∷ []) 1 (0x86 ∷ [])) ≡ Err (record { cause = Limit; instruction = 3; left = 1 })
+absent_group_counts : body_at Usual grp.members (under_bits (false ∷ true ∷ []) 1 (0x86 ∷ [])) ≡ Err (record { cause = Limit; instruction = 3; left = 1 })
 unfolding reading
 absent_group_counts = refl
 
-no_node_for_a_group : body_at Usual (resolved 12 grp).members (under_bits (false ∷ true ∷ []) 0 (0x86 ∷ [])) ≡ Err (record { cause = Limit; instruction = 1; left = 1 })
+no_node_for_a_group : body_at Usual grp.members (under_bits (false ∷ true ∷ []) 0 (0x86 ∷ [])) ≡ Err (record { cause = Limit; instruction = 1; left = 1 })
 unfolding reading
 no_node_for_a_group = refl
 
 -- 39 45 A3 under 0 1: a decimal in parts is one node
-parts_count_once : body_at Usual (resolved 3 opt).members (under_bits (false ∷ true ∷ []) 1 (0x39 ∷ 0x45 ∷ 0xa3 ∷ [])) ≡ Err (record { cause = Limit; instruction = 2; left = 0 })
+parts_count_once : body_at Usual opt.members (under_bits (false ∷ true ∷ []) 1 (0x39 ∷ 0x45 ∷ 0xa3 ∷ [])) ≡ Err (record { cause = Limit; instruction = 2; left = 0 })
 unfolding reading
 parts_count_once = refl
 
-no_node_for_parts : body_at Usual (resolved 3 opt).members (under_bits (false ∷ true ∷ []) 0 (0x39 ∷ 0x45 ∷ 0xa3 ∷ [])) ≡ Err (record { cause = Limit; instruction = 1; left = 3 })
+no_node_for_parts : body_at Usual opt.members (under_bits (false ∷ true ∷ []) 0 (0x39 ∷ 0x45 ∷ 0xa3 ∷ [])) ≡ Err (record { cause = Limit; instruction = 1; left = 3 })
 unfolding reading
 no_node_for_parts = refl
 

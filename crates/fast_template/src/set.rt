@@ -42,7 +42,9 @@ impl TemplateSet {
     ghost use Rattle.fast_template.specs.TemplateSets.{AreSound, IsSound};
 
     /// A set of these templates, with so many slots and the places of their identifiers.
-    pub(crate) fn of(
+    ///
+    /// It is for `fast_load`, which makes sets from templates as they are written.
+    pub fn of(
         templates: Vec<FlatTemplate>,
         slots: u32,
         places: HashMap<u32, u32>,

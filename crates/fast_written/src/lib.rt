@@ -2,7 +2,7 @@
 //!
 //! The definitions stand in `specs/`: what a written template is (`Written`), the shape of its JSON (`Profile`), which
 //! templates a text has and where it is at fault (`JsonTemplates`), and how a fault names its place (`LoadFaults`).
-//! Whether templates can be loaded is the matter of `fast_template`.
+//! Whether templates can be loaded is the matter of `fast_load`.
 #![tactic(auto)]
 
 mod fault;

@@ -2,7 +2,8 @@
 
 use crate::loads::{Wanted, answers, granted, loaded};
 use crate::same::same;
-use fast_template::{LoadCause, TemplateSet};
+use fast_load::{Load, LoadCause};
+use fast_template::TemplateSet;
 use std::alloc::{AllocError, Global};
 use std::process::Abort;
 

@@ -1,4 +1,4 @@
-//! The tests of fast_template.
+//! The tests of fast_template and fast_load.
 #![tactic(auto)]
 
 #[cfg(test)]

@@ -1,7 +1,8 @@
 //! What a load answers.
 
 use crate::same::same;
-use fast_template::{LoadCause, LoadFault, TemplateSet};
+use fast_load::{LoadCause, LoadFault};
+use fast_template::TemplateSet;
 use std::alloc::AllocError;
 use std::process::Abort;
 

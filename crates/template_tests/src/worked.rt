@@ -2,6 +2,7 @@
 
 use crate::loads::loaded;
 use crate::same::same;
+use fast_load::Load;
 use fast_template::{FieldPart, Flat, Scalar, TemplateSet};
 use std::alloc::{AllocError, Global};
 use std::process::Abort;

@@ -1,5 +1,5 @@
 use Rattle.std.proofs.Common.{rules}
-use Rattle.fast_template.proofs.FlatLaws.{parts_are}
+use Rattle.fast_template.proofs.Variants.{parts_are}
 use Rattle.fast_template.proofs.bits.takes_bit.Goals as goal
 
 pub returns-then-part_needs_bit : goal.returns-then-part_needs_bit

@@ -1,0 +1,10 @@
+use Rattle.std.proofs.Common.{◌≡◌, map, length}
+use Rattle.fast_written.specs.Written.{written_template_of}
+use Rattle.fast_load.proofs.ExtentLaws.{KnowsExtents}
+use Rattle.fast_load.proofs.extents.extents_of.Given as goal
+
+abbrev pub invariant-loop-place : goal.invariant-loop-place
+invariant-loop-place l = record {
+  len : length l.extents.items ≡ length l.templates;
+  known : KnowsExtents (map written_template_of l.templates) l.order l.place-index l.extents.items;
+}

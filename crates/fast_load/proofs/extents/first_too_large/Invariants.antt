@@ -1,0 +1,10 @@
+use Rattle.std.proofs.Common.{◌≡◌, ◌≤◌, ◌+◌, drop}
+use Rattle.fast_load.specs.Extents.{too_large}
+use Rattle.fast_load.proofs.extents.first_too_large.Given as goal
+
+abbrev pub invariant-loop-extent : goal.invariant-loop-extent
+invariant-loop-extent l = record {
+  place : l.place ≡ l.extent-index + 1;
+  sum : l.sum ≤ 65535;
+  rest : too_large (drop l.extent-index l.extents) l.place l.sum ≡ too_large l.extents 1 0;
+}

@@ -1,0 +1,10 @@
+use Rattle.std.proofs.Common.{ap, ◌∙◌}
+use Rattle.fast_value.specs.declared.kind.Part.TheVariants.{Whole}
+use Rattle.fast_load.specs.FlatLists.{part_of, field_part}
+use Rattle.fast_load.specs.Surroundings.{context_in}
+use Rattle.fast_written.specs.Written.{operation_of}
+use Rattle.fast_load.proofs.FlatLaws.{field_made}
+use Rattle.fast_load.proofs.flat_lists.field_flat.Goals as goal
+
+pub returns : goal.returns
+returns c = field_made c.args.name.now c.in_ok-name_of.field-0 c.args.presence (field_part (context_in c.args.around) c.args.name.now c.args.kind c.args.presence (operation_of c.args.operation.now)) c.in_ok-part_of.field-0 c.in_ok-name_of.ensures (c.in_ok-part_of.ensures (context_in c.args.around) ∙ ap (part_of (context_in c.args.around) Whole c.args.kind c.args.presence (operation_of c.args.operation.now)) c.in_ok-key.ensures)

@@ -1,0 +1,62 @@
+use Rattle.std.proofs.Common.{◌≡◌, ◌<◌, ◌+◌, ℕ, List, map, length, option_map, Some, refl, sym, ap, subst, ◌∙◌, arith}
+use Rattle.std.specs.Prelude.{slice_get, slice_index_or}
+use Rattle.std.proofs.lemmas.Option.{slice_get-get_or, slice_get_read, slice_get-map}
+use Rattle.std.proofs.lemmas.List.{length-map}
+use Rattle.fast_written.specs.declared.written.Template.{Template}
+use Rattle.fast_template.specs.declared.resolved.FlatTemplate.{FlatTemplate}
+use Rattle.fast_written.specs.Written.{WrittenTemplate, written_list, written_of, written_template_of}
+use Rattle.fast_template.specs.Resolved.{Instructions, joined, list_of}
+use Rattle.fast_load.specs.FlatLists.{AreFlatLists, context_of, flat_list}
+use Rattle.fast_load.specs.NamedLists.{list_named}
+use Rattle.fast_load.specs.Surroundings.{context_in}
+use Rattle.fast_load.proofs.Flattening.{list_is, lists_more, flattened, headings_kept, headings_len}
+use Rattle.fast_load.proofs.Flattening.{placed_within}
+use Rattle.fast_load.proofs.flat_lists.flat_templates.Goals as goal
+
+pub bounds-templates-place : goal.bounds-templates-place
+bounds-templates-place c = placed_within c.args.templates.now c.args.order.now c.loop-place.place-index c.requires.in_order c.loop-place-test.true
+
+pub overflow_cast-place : goal.overflow_cast-place
+overflow_cast-place c =
+    let inside = placed_within c.args.templates.now c.args.order.now c.loop-place.place-index c.requires.in_order c.loop-place-test.true in
+    omega (arith, inside, c.requires.few)
+
+pub overflow_add-place : goal.overflow_add-place
+overflow_add-place c =
+    let inside = placed_within c.args.templates.now c.args.order.now c.loop-place.place-index c.requires.in_order c.loop-place-test.true in
+    omega (arith, inside, c.requires.few)
+
+pub index_mut-requires : goal.index_mut-requires
+index_mut-requires c =
+    let inside = placed_within c.args.templates.now c.args.order.now c.loop-place.place-index c.requires.in_order c.loop-place-test.true in
+    let there = subst (λ n. slice_index_or c.args.order.now c.loop-place.place-index 0 < n) (sym (headings_len c.args.templates.now c.loop-place.flats.items c.loop-place.invariant.headings)) inside in
+    omega (arith, there, c.loop-place.flats.ok.0)
+
+pub loop-place-preserved : goal.loop-place-preserved
+loop-place-preserved c =
+    let ts : List WrittenTemplate = map written_template_of c.args.templates.now in
+    let i : ℕ = c.loop-place.place-index in
+    let a : ℕ = slice_index_or c.args.order.now i 0 in
+    let at_i : slice_get c.args.order.now i ≡ Some a = slice_get-get_or c.args.order.now i 0 c.loop-place-test.true in
+    let lengths : length ts ≡ length c.args.templates.now = length-map c.args.templates.now written_template_of in
+    let inside : a < length c.args.templates.now = subst (λ n. a < n) lengths (c.requires.in_order.within i a at_i) in
+    let t : Template = c.index-templates-place.result in
+    let at_a : slice_get ts a ≡ Some (written_template_of t) = slice_get-map written_template_of c.args.templates.now a ∙ ap (option_map written_template_of) (slice_get_read c.args.templates.now (length c.args.templates.now) a t refl inside c.index-templates-place.is) in
+    let flats : List FlatTemplate = c.loop-place.flats.items in
+    let placed : a < length flats = subst (λ n. a < n) (sym (headings_len c.args.templates.now flats c.loop-place.invariant.headings)) inside in
+    let list : Instructions = list_of c.append_all.new.flats.items in
+    let made : list ≡ flat_list (list_named c.args.names.now flats) (context_of (a + 1) (written_template_of t)) (written_template_of t).members =
+    c.in_ok-append_all.ensures
+    ∙ ap (λ fs. joined (list_of fs) (flat_list (list_named c.args.names.now c.deref-in-loop-place.result.now) (context_in c.directly_in-around.result) (written_list (map written_of c.deref.result.now)))) c.new-members.ensures.items
+    ∙ ap (λ is. flat_list (list_named c.args.names.now c.deref-in-loop-place.result.now) (context_in c.directly_in-around.result) (written_list (map written_of is))) c.deref.ensures.value
+    ∙ ap (λ fs. flat_list (list_named c.args.names.now fs) (context_in c.directly_in-around.result) (written_template_of t).members) c.deref-in-loop-place.ensures.value
+    ∙ ap (λ x. flat_list (list_named c.args.names.now flats) x (written_template_of t).members) c.directly_in-around.ensures in
+    let put : FlatTemplate = record { id = c.index_mut.result.now.id; name = c.index_mut.result.now.name; members = c.append_all.new.flats } in
+    let own : (stands : List ℕ → Instructions) → AreFlatLists ts stands → list_of put.members.items ≡ stands (written_template_of t).name = list_is ts c.args.names.now c.args.order.now i a (written_template_of t) flats list c.requires.lead c.requires.in_order c.loop-place.invariant.known at_i at_a made in
+    record {
+      headings = headings_kept flats a c.index_mut.result.now put placed c.index_mut.ensures.value refl ∙ c.loop-place.invariant.headings;
+      known = lists_more ts c.args.order.now i a (written_template_of t) flats put placed at_i at_a c.loop-place.invariant.known own;
+    }
+
+pub returns : goal.returns
+returns c = flattened c.args.templates.now c.args.order.now c.loop-place.place-index c.loop-place.flats.items c.requires.in_order c.loop-place-test.false c.loop-place.invariant.headings c.loop-place.invariant.known

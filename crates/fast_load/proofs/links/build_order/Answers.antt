@@ -1,0 +1,21 @@
+use Rattle.std.proofs.Common.{◌≤◌, subst, sym}
+use Rattle.std.proofs.lemmas.List.{length-map}
+use Rattle.fast_order.specs.Order.{IsOrder, IsFirstOnCycle}
+use Rattle.fast_written.specs.Written.{written_template_of}
+use Rattle.fast_load.proofs.LinkOrder.{links_within, cycles_pass, cycles_fault, build_order_is}
+use Rattle.fast_load.proofs.links.build_order.Goals as goal
+
+pub order_of-requires : goal.order_of-requires
+order_of-requires c = rw (← c.deref.ensures.value) at (links_within c.args.templates.now c.args.names.now c.in_ok-links.links.items c.requires.lead c.in_ok-links.ensures)
+
+pub returns-in-Ok : goal.returns-in-Ok
+returns-in-Ok c =
+    let order : IsOrder c.in_ok-links.links.items c.in-Ok.order.items = rw (c.in-Ok.is, c.deref.ensures.value) at c.in_ok-order.ensures in (
+      build_order_is c.args.templates.now c.args.names.now c.in_ok-links.links.items c.requires.lead c.in_ok-links.ensures c.in-Ok.order.items order c.requires.known,
+      cycles_pass c.args.templates.now c.args.names.now c.in_ok-links.links.items c.requires.lead c.in_ok-links.ensures c.in-Ok.order.items order c.requires.differ,
+    )
+
+pub returns : goal.returns
+returns c =
+    let first : IsFirstOnCycle c.in_ok-links.links.items c.in-Err.first = rw (c.in-Err.is, c.deref.ensures.value) at c.in_ok-order.ensures in
+    cycles_fault c.args.templates.now c.args.names.now c.in_ok-links.links.items c.requires.lead c.in_ok-links.ensures c.in-Err.first c.cycle_at.result first c.requires.differ (subst (λ n. n ≤ 65535) (sym (length-map c.args.templates.now written_template_of)) c.requires.few) c.cycle_at.ensures

@@ -1,0 +1,54 @@
+//! The checks of templates as they are written, in their order.
+
+ghost use Rattle.std.specs.Prelude.{◌≡◌, ◌<◌, ◌⊎◌, MatchResult, ℕ, map};
+ghost use Rattle.fast_load.specs.Duplicates.{NamesLead};
+ghost use Rattle.fast_load.specs.LoadChecks.{IsFirstFault};
+ghost use Rattle.fast_written.specs.LoadFaults.{want_of_memory};
+ghost use Rattle.fast_load.specs.Phases.{Passes};
+ghost use Rattle.fast_written.specs.Written.{written_template_of};
+
+use crate::duplicates::check_duplicates;
+use crate::names::check_names;
+use crate::operators::check_operators;
+use crate::references::check_references;
+use fast_value::Name;
+use fast_written::{LoadCause, LoadFault, Template, fault_at};
+use std::alloc::Global;
+use std::collections::BTreeMap;
+
+/// Where the name of each template stands, if no check up to that of references fails.
+///
+/// # Errors
+///
+/// The first fault of the load, or want of memory.
+pub(crate) fn check_written(
+    alloc: Global,
+    templates: &[Template],
+) -> Result<BTreeMap<Name, u32>, LoadFault>
+    ensures { MatchResult result
+        (λ names. ((phase : ℕ) → phase < 5 → Passes (map written_template_of templates.now) phase)
+        × NamesLead names (map written_template_of templates.now))
+        (λ fault. IsFirstFault (map written_template_of templates.now) fault
+        ⊎ (fault ≡ want_of_memory)) }
+{
+    if templates.len() > 65_535 {
+        return Err(fault_at(LoadCause::TooMany, 0, 0));
+    }
+    match check_names(templates) {
+        Ok(()) => (),
+        Err(fault) => return Err(fault),
+    }
+    let names = match check_duplicates(alloc, templates) {
+        Ok(names) => names,
+        Err(fault) => return Err(fault),
+    };
+    match check_operators(alloc, templates) {
+        Ok(()) => (),
+        Err(fault) => return Err(fault),
+    }
+    match check_references(alloc, templates, &names) {
+        Ok(()) => (),
+        Err(fault) => return Err(fault),
+    }
+    Ok(names)
+}

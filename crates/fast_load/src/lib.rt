@@ -1,0 +1,26 @@
+//! Template sets from templates as they are written.
+//!
+//! The definitions stand in `specs/`: how a written template becomes a resolved one (`FlatLists`), which check of a load
+//! fails first (`LoadChecks`) and what loading a text answers (`JsonLoads`). Written templates stand in `fast_written`
+//! and can be named here too, and the sets in `fast_template`.
+#![tactic(auto)]
+
+mod build;
+mod checks;
+mod duplicates;
+mod extents;
+mod flat_lists;
+mod id_places;
+mod links;
+mod load;
+mod names;
+mod numbers;
+mod operators;
+mod references;
+mod settle;
+mod slots;
+mod surroundings;
+mod walk;
+
+pub use fast_written::{Instruction, LoadCause, LoadFault, Operation, Template};
+pub use load::Load;

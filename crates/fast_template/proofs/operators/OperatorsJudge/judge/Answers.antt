@@ -1,5 +1,0 @@
-use Rattle.std.proofs.Common.{rules}
-use Rattle.fast_template.proofs.operators.OperatorsJudge.judge.Goals as goal
-
-pub returns-in_err-cause-in-Parts : goal.returns-in_err-cause-in-Parts
-returns-in_err-cause-in-Parts c = search rules

@@ -1,7 +1,0 @@
-use Rattle.std.proofs.Common.{take}
-use Rattle.fast_template.specs.Resolved.{list_of, keys_of}
-use Rattle.fast_template.specs.Slots.{EntersKeys}
-use Rattle.fast_template.proofs.slots.+entering.Given as goal
-
-abbrev pub invariant-enter_keys-loop-flat : goal.invariant-enter_keys-loop-flat
-invariant-enter_keys-loop-flat l = EntersKeys l.fn.slots l.slots (keys_of (list_of (take l.flat-index l.flats)))

@@ -1,9 +1,0 @@
-use Rattle.std.proofs.Common.{◌≡◌}
-use Rattle.fast_template.specs.Resolved.{list_of, with_keys}
-use Rattle.fast_template.specs.Slots.{slot_in}
-use Rattle.fast_template.proofs.Slotting.{partly}
-use Rattle.fast_template.proofs.slots.+giving.Given as goal
-
-abbrev pub invariant-give_slots-loop-flat : goal.invariant-give_slots-loop-flat
-invariant-give_slots-loop-flat l = goal.unvisited-give_slots-loop-flat l
-    × (partly (λ k. record k { slot = slot_in l.slots k }) l.flats l.flat-index ≡ with_keys (λ k. record k { slot = slot_in l.slots k }) (list_of l.fn.flats))
