@@ -10,7 +10,7 @@ ghost use Rattle.fast_encoder.specs.FirstRefusal.{elements_fit, item_fits, items
 
 use fast_stream::Node;
 use fast_template::{FieldPart, Flat, Presence, Scalar};
-use fast_writer::is_of_kind;
+use fast_value::is_of_kind;
 
 // Whether each unit is a character of ASCII.
 fn all_characters(text: &[u8]) -> bool

@@ -2,7 +2,6 @@
 
 ghost use Rattle.std.specs.Prelude.{◌≡◌, ◌^◌, ◌<◌, pos, negsuc, ◌<ℤ◌, IfOk};
 ghost use Rattle.std.specs.Option.{option_copied};
-ghost use Rattle.fast_value.specs.Scalar.{is_of};
 ghost use Rattle.fast_value.specs.declared.kind.Kind as kind;
 ghost use Rattle.fast_dictionary.specs.Dictionary.{entry_of};
 ghost use Rattle.fast_field.specs.Bases.{delta_base, predicted, tail_base};
@@ -14,23 +13,7 @@ use crate::fault::FieldFault;
 use crate::found::Found;
 use fast_dictionary::EntryRef;
 use fast_template::{FieldPart, Kind, Operator, Presence, Scalar};
-
-/// Whether a value is of a type.
-#[inline(always)]
-pub(crate) fn is_of_kind(kind: Kind, value: &Scalar) -> bool
-    ensures { result ≡ is_of kind value.now }
-{
-    match value {
-        Scalar::U32(_) => kind == Kind::UInt32,
-        Scalar::I32(_) => kind == Kind::Int32,
-        Scalar::U64(_) => kind == Kind::UInt64,
-        Scalar::I64(_) => kind == Kind::Int64,
-        Scalar::Decimal { .. } => kind == Kind::Decimal,
-        Scalar::Ascii(_) => kind == Kind::Ascii,
-        Scalar::Unicode(_) => kind == Kind::Unicode,
-        Scalar::Bytes(_) => kind == Kind::Bytes,
-    }
-}
+use fast_value::is_of_kind;
 
 /// The number of an integer; of another value 0.
 #[inline(always)]

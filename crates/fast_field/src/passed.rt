@@ -8,11 +8,12 @@ ghost use Rattle.fast_field.specs.Found.{value_found};
 ghost use Rattle.fast_field.specs.Numbers.{Predicts, Repeats};
 ghost use Rattle.fast_field.specs.Passed.{IsPassed, Passes};
 
-use crate::base::{integer, is_of_kind};
+use crate::base::integer;
 use crate::found::Found;
 use crate::integers::{is_within, kept_number, number_after, set_number};
 use fast_dictionary::Entry;
 use fast_template::{FieldPart, Kind, Operator, Presence, Scalar};
+use fast_value::is_of_kind;
 
 /// What bit 0 gave a field.
 #[derive(Clone, Copy, Debug, PartialEq, Eq, Drop)]

@@ -7,11 +7,12 @@ ghost use Rattle.fast_field.specs.Bases.{delta_base, tail_base};
 ghost use Rattle.fast_field.specs.Calls.{Judges};
 ghost use Rattle.fast_field.specs.Refusals.{are_characters, base_refusal, constant_refusal, delta_refusal, has_characters, has_too_many, is_far, operator_refusal, other_than_constant, refusal_of, tail_refusal, value_refusal};
 
-use crate::base::{base_of_delta, base_of_tail, base_units, integer, is_of_kind, units};
+use crate::base::{base_of_delta, base_of_tail, base_units, integer, units};
 use crate::fault::{FieldFault, FieldRefusal};
 use crate::whole::exponent_within;
 use fast_dictionary::EntryRef;
 use fast_template::{FieldPart, Operator, Part, Presence, Scalar};
+use fast_value::is_of_kind;
 
 /// Whether each unit is a character of ASCII.
 fn all_characters(text: &[u8]) -> bool

@@ -7,11 +7,13 @@
 mod initial;
 mod key;
 mod kind;
+mod of_kind;
 mod scalar;
 mod unicode_text;
 
 pub use initial::value_of_text;
 pub use key::{Key, Name, Scope};
 pub use kind::{Kind, Operator, Part, Presence};
+pub use of_kind::is_of_kind;
 pub use scalar::{ByteString, Scalar};
 pub use unicode_text::UnicodeText;

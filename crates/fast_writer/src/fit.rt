@@ -3,7 +3,7 @@
 
 ghost use Rattle.std.specs.Prelude.{◌≡◌, ◌≤◌, ◌<◌, true, length, IfSome, IsSome};
 ghost use Rattle.std.specs.List.{AllByRecursion};
-ghost use Rattle.fast_value.specs.Scalar.{IsScalar, is_of};
+ghost use Rattle.fast_value.specs.Scalar.{IsScalar};
 ghost use Rattle.fast_template.specs.TemplateSets.{IsInitial, applies as applies_to, identifier_key, is_in_part};
 ghost use Rattle.fast_dictionary.specs.Dictionary.{entry_of};
 ghost use Rattle.fast_value.specs.declared.kind.Operator.TheVariants as operator;
@@ -13,6 +13,7 @@ ghost use Rattle.fast_stream.specs.Streams.{identifier};
 
 use fast_dictionary::EntryRef;
 use fast_template::{FieldPart, Key, Kind, Operator, Part, Presence, Scalar, Scope};
+use fast_value::is_of_kind;
 
 /// The most characters or bytes of a value.
 const UNIT_LIMIT: usize = 65_535;
@@ -110,23 +111,6 @@ fn is_kind_of(part: Part, kind: Kind) -> bool
         Part::Exponent => kind == Kind::Int32,
         Part::Mantissa => kind == Kind::Int64,
         Part::Length => kind == Kind::UInt32,
-    }
-}
-
-/// Whether a value is of the type, within its range and limits.
-#[inline(always)]
-pub fn is_of_kind(kind: Kind, value: &Scalar) -> bool
-    ensures { result ≡ is_of kind value.now }
-{
-    match value {
-        Scalar::U32(_) => kind == Kind::UInt32,
-        Scalar::I32(_) => kind == Kind::Int32,
-        Scalar::U64(_) => kind == Kind::UInt64,
-        Scalar::I64(_) => kind == Kind::Int64,
-        Scalar::Decimal { .. } => kind == Kind::Decimal,
-        Scalar::Ascii(_) => kind == Kind::Ascii,
-        Scalar::Unicode(_) => kind == Kind::Unicode,
-        Scalar::Bytes(_) => kind == Kind::Bytes,
     }
 }
 

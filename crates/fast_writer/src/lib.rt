@@ -14,7 +14,6 @@ mod relay;
 mod segment;
 mod writer;
 
-pub use fit::is_of_kind;
 pub use laws::canonical_bytes_carry;
 pub use segment::Segment;
 pub use writer::Writer;

@@ -12,13 +12,13 @@ ghost use Rattle.fast_relay.specs.Relayed.{IsThere};
 ghost use Rattle.fast_writer.specs.Quick.{Relayed};
 ghost use Rattle.fast_writer.specs.Written.{Spelt};
 
-use crate::fit::is_of_kind;
 use crate::relay::relay_entry;
 use crate::segment::Segment;
 use fast_dictionary::{Entries, Entry};
 use fast_field::{FieldFault, Passed, pass_left_out, reads_as_usual};
 use fast_relay::{Relayed as Answer, relay_decimal, relay_null, relay_number, relay_text};
 use fast_template::{FieldPart, part_needs_bit};
+use fast_value::is_of_kind;
 use fast_wire::Level;
 use std::alloc::Global;
 
