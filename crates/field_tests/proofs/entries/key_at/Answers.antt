@@ -2,8 +2,8 @@ use Rattle.std.proofs.Common.{arith, subst, sym}
 use Rattle.std.specs.Prelude.{Contains, IfSome}
 use Rattle.fast_template.specs.declared.resolved.Flat.{Flat}
 use Rattle.fast_template.specs.Resolved.{instruction_of, keys_of_one}
-use Rattle.dictionary_tests.proofs.FoundKeys.{key_of_found}
-use Rattle.dictionary_tests.proofs.entries.key_at.Goals as goal
+use Rattle.field_tests.proofs.FoundKeys.{key_of_found}
+use Rattle.field_tests.proofs.entries.key_at.Goals as goal
 
 pub returns-in-Some : goal.returns-in-Some
 returns-in-Some c =
