@@ -3,9 +3,11 @@
 ghost use Rattle.std.specs.Prelude.{◌≤◌};
 ghost use Rattle.fast_walk.specs.Traversals.{ServesAll};
 
+use crate::decoding::steps::{End, Step, count, follow};
+use crate::modes::PLAIN;
 use crate::same::same;
 use crate::slots::slots_of;
-use crate::steps::{End, PLAIN, Step, follow};
+use crate::worked::{QUOTE, quote, text, worked};
 use fast_decoder::{Decoder, MessageInputStream, Mode};
 use fast_dictionary::{Entries, MapEntries};
 use fast_io::{ByteInput, Counted, ScriptInput};
@@ -13,65 +15,6 @@ use fast_stream::{Cause, Fault, Message, Node};
 use fast_template::{ByteString, Scalar, TemplateSet};
 use std::alloc::{AllocError, Global};
 use std::process::Abort;
-
-// The text of the worked templates.
-const WORKED: &str = r#"{"templates":[
-{"name":"Quote","id":1,"instructions":[
- {"kind":"uInt32","name":"Seq","operator":"increment"},
- {"kind":"string","name":"Sym","operator":"copy"},
- {"kind":"decimal","name":"Px","operator":"delta"},
- {"kind":"uInt32","name":"Qty","presence":"optional","operator":"copy"}]},
-{"name":"Wrap","id":2,"instructions":[
- {"kind":"uInt32","name":"A","operator":"increment"},
- {"kind":"uInt32","name":"B","operator":"delta"}]},
-{"name":"Opt","id":3,"instructions":[
- {"kind":"decimal","name":"Px","presence":"optional",
-  "exponent":{"operator":"default","value":"2"},"mantissa":{"operator":"copy"}},
- {"kind":"uInt32","name":"Flag","operator":"copy"}]},
-{"name":"Legs","id":4,"instructions":[
- {"kind":"sequence","name":"L","presence":"optional","instructions":[
-  {"kind":"uInt32","name":"P"}]}]},
-{"name":"Marks","id":5,"instructions":[
- {"kind":"sequence","name":"L","instructions":[
-  {"kind":"uInt32","name":"Q","operator":"copy"}]}]},
-{"name":"Bare","id":6,"instructions":[
- {"kind":"sequence","name":"L","instructions":[]}]},
-{"name":"Clash","id":7,"instructions":[
- {"kind":"uInt32","name":"A","operator":"copy","key":"K"},
- {"kind":"string","name":"B","operator":"copy","key":"K"}]},
-{"name":"Tail","id":8,"instructions":[
- {"kind":"string","name":"S","presence":"optional","operator":"tail"}]},
-{"name":"Init","id":9,"instructions":[
- {"kind":"string","name":"S","presence":"optional","operator":"tail","value":"ab"}]},
-{"name":"Delta","id":10,"instructions":[
- {"kind":"string","name":"S","operator":"delta"}]},
-{"name":"Common","instructions":[
- {"kind":"uInt32","name":"B","operator":"copy"}]},
-{"name":"Grp","id":11,"instructions":[
- {"kind":"group","name":"Hd","presence":"optional","instructions":[
-  {"kind":"uInt32","name":"A","operator":"copy"}]},
- {"kind":"templateRef","name":"Common"}]},
-{"name":"Uni","id":12,"instructions":[
- {"kind":"string","charset":"unicode","name":"S","operator":"tail"}]},
-{"name":"Empty","id":13,"instructions":[
- {"kind":"uInt32","name":"A","presence":"optional","operator":"copy","key":"K"},
- {"kind":"uInt32","name":"B","operator":"delta","key":"K"}]},
-{"name":"Const","id":14,"instructions":[
- {"kind":"uInt32","name":"K","operator":"constant","value":"7"},
- {"kind":"uInt32","name":"O","presence":"optional","operator":"constant","value":"9"},
- {"kind":"uInt32","name":"D","operator":"default","value":"3"}]},
-{"name":"Fixed","id":15,"instructions":[
- {"kind":"decimal","name":"Px",
-  "exponent":{"operator":"constant","value":"-2"},"mantissa":{"operator":"delta"}},
- {"kind":"byteVector","name":"Raw","presence":"optional","operator":"copy"}]},
-{"name":"First","id":16,"instructions":[
- {"kind":"uInt32","name":"A"},
- {"kind":"uInt32","name":"B","operator":"copy"}]}]}"#;
-
-// The set of the worked templates.
-pub(crate) fn worked(alloc: Global) -> Option<TemplateSet> {
-    TemplateSet::from_json(alloc, WORKED.as_bytes()).ok()
-}
 
 // A node of a row. Each group here holds numbers, and so does each element of a sequence.
 #[derive(Clone, Copy)]
@@ -84,11 +27,6 @@ pub(crate) enum Shown {
     Bytes(&'static [u8]),
     Group(&'static [u32]),
     Sequence(&'static [&'static [u32]]),
-}
-
-fn text(alloc: Global, bytes: &[u8]) -> Result<Node, AllocError> {
-    let bytes = bytes.to_vec(alloc)?;
-    Ok(Node::Value(Scalar::Ascii(ByteString::from_vec(bytes))))
 }
 
 fn vector(alloc: Global, bytes: &[u8]) -> Result<Node, AllocError> {
@@ -352,8 +290,6 @@ fn all_read(rt: &impl Abort, alloc: Global, rows: &[Row]) -> Result<(), AllocErr
     all_read_in(rt, alloc, PLAIN, rows)
 }
 
-pub(crate) const QUOTE: &[u8] = b"\xF0\x81\x81\x41\xC2\xFE\x00\xE4";
-
 #[test]
 fn fields(rt: HostRuntime) -> Result<(), AllocError> {
     const ROWS: &[Row] = &[
@@ -613,29 +549,11 @@ fn long_stream(alloc: Global, symbol: &[u8]) -> Result<Vec<u8>, AllocError> {
     Ok(stream)
 }
 
-// The whole symbol.
-fn long_text(alloc: Global, symbol: &[u8]) -> Result<Node, AllocError> {
-    let mut bytes = symbol.to_vec(alloc)?;
-    bytes.push(0x41)?;
-    Ok(Node::Value(Scalar::Ascii(ByteString::from_vec(bytes))))
-}
-
-// Its message.
+// Its message, with the whole symbol.
 fn long_message(alloc: Global, symbol: &[u8]) -> Result<Message, AllocError> {
-    let symbol = long_text(alloc, symbol)?;
-    let fields = vec![in alloc;
-        Node::Value(Scalar::U32(1)),
-        symbol,
-        Node::Value(Scalar::Decimal {
-            exponent: -2,
-            mantissa: 100,
-        }),
-        Node::Absent,
-    ]?;
-    Ok(Message {
-        template: 1,
-        fields,
-    })
+    let mut whole = symbol.to_vec(alloc)?;
+    whole.push(0x41)?;
+    quote(alloc, &whole, -2, 100)
 }
 
 // Whether it is read, in reads of 4,096 bytes, or refused with this fault.
@@ -677,14 +595,6 @@ fn long_strings(rt: HostRuntime) {
     same(&rt, long(alloc, PLAIN, 0, 65_535, fault), Ok(true));
     // a preamble is no character
     same(&rt, long(alloc, PLAIN, 1, 65_535, fault), Ok(true));
-}
-
-// The number of messages of the worked templates of a decoder that answers all steps so.
-fn count(rt: &impl Abort, alloc: Global, steps: &[Step]) -> usize {
-    match worked(alloc) {
-        Some(set) => follow(rt, alloc, &set, PLAIN, MapEntries::new(alloc), steps).len(),
-        None => panic!(rt; "refused"),
-    }
 }
 
 #[test]

@@ -2,19 +2,15 @@
 
 ghost use Rattle.fast_walk.specs.Traversals.{ServesAll};
 
+use crate::modes::PLAIN;
 use crate::same::same;
-use fast_decoder::{Decoder, Framing, Level, Mode};
-use fast_dictionary::Entries;
+use crate::worked::worked;
+use fast_decoder::{Decoder, Mode};
+use fast_dictionary::{Entries, MapEntries};
 use fast_stream::{Cause, Fault, Message, Place};
 use fast_template::TemplateSet;
 use std::alloc::Global;
 use std::process::Abort;
-
-// Plain messages, at the usual level.
-pub(crate) const PLAIN: Mode = Mode {
-    level: Level::Usual,
-    framing: Framing::Plain,
-};
 
 // What stands at the end of a stream: nothing, or a fault in this message, at this offset, template and instruction.
 #[derive(Clone, Copy)]
@@ -120,4 +116,12 @@ pub(crate) fn follow<E: Entries>(
     let mut decoder = Decoder::new(alloc, set, mode, entries);
     same(rt, takes_all(&mut decoder, steps, &mut messages), true);
     messages
+}
+
+// The number of messages of the worked templates of a decoder that answers all steps so.
+pub(crate) fn count(rt: &impl Abort, alloc: Global, steps: &[Step]) -> usize {
+    match worked(alloc) {
+        Some(set) => follow(rt, alloc, &set, PLAIN, MapEntries::new(alloc), steps).len(),
+        None => panic!(rt; "refused"),
+    }
 }

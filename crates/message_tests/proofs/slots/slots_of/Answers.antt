@@ -4,7 +4,7 @@ use Rattle.std.specs.Cmp.{eq_by_cmp_equiv}
 use Rattle.std.proofs.lemmas.Map.Views.{list_any-from_Contains}
 use Rattle.fast_value.specs.Key.{key_cmp-total}
 use Rattle.fast_template.specs.TemplateSets.{keys_in}
-use Rattle.decoder_tests.proofs.slots.slots_of.Goals as goal
+use Rattle.message_tests.proofs.slots.slots_of.Goals as goal
 
 -- slots serve the keys of their set
 pub returns-in-Ok : goal.returns-in-Ok

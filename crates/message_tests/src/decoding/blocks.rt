@@ -1,24 +1,16 @@
 //! Streams in blocks: their sizes, where they end, and that each worked stream is the same in them.
 
+use crate::decoding::steps::{End, Step, follow};
+use crate::decoding::streams::{Row, Sent, Shown, agrees, all_read_in};
+use crate::modes::{BLOCKS, PLAIN, STRICT_BLOCKS};
 use crate::same::same;
-use crate::steps::{End, PLAIN, Step, follow};
-use crate::streams::{QUOTE, Row, Sent, Shown, agrees, all_read_in, worked};
-use fast_decoder::{Decoder, Framing, Level, Mode};
+use crate::worked::{QUOTE, worked};
+use fast_decoder::Decoder;
 use fast_dictionary::MapEntries;
 use fast_stream::{Cause, Fault, Message};
 use fast_template::TemplateSet;
 use std::alloc::{AllocError, Global};
 use std::process::Abort;
-
-const BLOCKS: Mode = Mode {
-    level: Level::Usual,
-    framing: Framing::Blocks,
-};
-
-const STRICT_BLOCKS: Mode = Mode {
-    level: Level::Strict,
-    framing: Framing::Blocks,
-};
 
 // The first quote.
 const ONE: &[Sent] = &[Sent {

@@ -1,4 +1,4 @@
-//! Slots for a decoder.
+//! Slots for a decoder or an encoder.
 
 ghost use Rattle.std.specs.Prelude.{IfOk};
 ghost use Rattle.fast_walk.specs.Traversals.{ServesAll};

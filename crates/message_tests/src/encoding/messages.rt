@@ -1,35 +1,19 @@
 //! Messages through the calls of an encoder and of a stream of messages.
 
-ghost use Rattle.std.specs.Prelude.{IfOk};
 ghost use Rattle.fast_walk.specs.Traversals.{ServesAll};
 
+use crate::modes::PLAIN;
 use crate::same::same;
-use crate::worked::{long_quote, quote, worked};
-use fast_decoder::{Decoder, Framing, Level, Mode};
-use fast_dictionary::{Entries, MapEntries, SlotEntries};
+use crate::slots::slots_of;
+use crate::worked::{quote, text, worked};
+use fast_decoder::Decoder;
+use fast_dictionary::{Entries, MapEntries};
 use fast_encoder::{EncodeCause, EncodeFault, Encoder, MessageOutputStream};
 use fast_io::{ByteOutput, Counted, ScriptOutput};
 use fast_stream::{Message, Node};
-use fast_template::{ByteString, Scalar, TemplateSet, UnicodeText};
+use fast_template::{Scalar, TemplateSet, UnicodeText};
 use std::alloc::{AllocError, Global};
 use std::process::Abort;
-
-// Plain messages, at the usual level.
-pub(crate) const PLAIN: Mode = Mode {
-    level: Level::Usual,
-    framing: Framing::Plain,
-};
-
-// Slots that serve the keys of their set.
-fn slots_of<'a>(alloc: Global, set: &'a TemplateSet) -> Result<SlotEntries<'a>, AllocError>
-    ensures { IfOk result
-        (λ s. ServesAll (⟦<SlotEntries<'a> as Entries>⟧.serves s) set.now) }
-{
-    match SlotEntries::new(alloc, set) {
-        Err(error) => Err(error),
-        Ok(entries) => Ok(entries),
-    }
-}
 
 // The messages of a stream.
 fn decoded(alloc: Global, set: &TemplateSet, stream: &[u8]) -> Vec<Message> {
@@ -216,9 +200,22 @@ fn message(template: u32, fields: Vec<Node>) -> Message {
 }
 
 // A message of one string.
-fn text(alloc: Global, template: u32, text: &[u8]) -> Result<Message, AllocError> {
-    let value = Scalar::Ascii(ByteString::from_vec(text.to_vec(alloc)?));
-    Ok(message(template, vec![in alloc; Node::Value(value)]?))
+fn string(alloc: Global, template: u32, characters: &[u8]) -> Result<Message, AllocError> {
+    let string = text(alloc, characters)?;
+    Ok(message(template, vec![in alloc; string]?))
+}
+
+// The first nodes of a Quote with this symbol, whose exponent is out of its range.
+pub(crate) fn far_quote(alloc: Global, symbol: &[u8], nodes: usize) -> Result<Message, AllocError> {
+    let mut quote = quote(alloc, symbol, 64, 1)?;
+    quote.fields.truncate(nodes);
+    Ok(quote)
+}
+
+// The same with a symbol that is too long.
+pub(crate) fn long_quote(alloc: Global, nodes: usize) -> Result<Message, AllocError> {
+    let symbol = vec![in alloc; b'A'; 65_536]?;
+    far_quote(alloc, &symbol, nodes)
 }
 
 #[test]
@@ -226,11 +223,11 @@ fn messages_of_another_shape(rt: HostRuntime) -> Result<(), AllocError> {
     let alloc = rt.alloc();
     let unknown = message(100, Vec::new(alloc));
     is_refused(&rt, alloc, &[], unknown, EncodeCause::D9, 0)?;
-    let short = quote(alloc, b"AB", 3)?;
+    let short = far_quote(alloc, b"AB", 3)?;
     is_refused(&rt, alloc, &[], short, EncodeCause::Mismatch, 0)?;
     let large = long_quote(alloc, 4)?;
     is_refused(&rt, alloc, &[], large, EncodeCause::Limit, 0)?;
-    let far = quote(alloc, b"AB", 4)?;
+    let far = far_quote(alloc, b"AB", 4)?;
     is_refused(&rt, alloc, &[], far, EncodeCause::R1, 3)
 }
 
@@ -289,7 +286,7 @@ fn is_refused_behind(
     message: Message,
     cause: EncodeCause,
 ) -> Result<(), AllocError> {
-    let before = text(alloc, 8, b"xab")?;
+    let before = string(alloc, 8, b"xab")?;
     is_refused(rt, alloc, &[before], message, cause, 1)
 }
 
@@ -297,7 +294,7 @@ fn is_refused_behind(
 fn fields_without_a_form_behind_others(rt: HostRuntime) -> Result<(), AllocError> {
     let alloc = rt.alloc();
     is_refused_behind(&rt, alloc, unicode(alloc)?, EncodeCause::D4)?;
-    is_refused_behind(&rt, alloc, text(alloc, 8, b"x")?, EncodeCause::TooShort)
+    is_refused_behind(&rt, alloc, string(alloc, 8, b"x")?, EncodeCause::TooShort)
 }
 
 // Whether a refusal leaves the entries as they were, and a reset makes them undefined.
@@ -347,8 +344,8 @@ fn both_go_on(
 
 #[test]
 fn a_refusal_changes_nothing(rt: HostRuntime) -> Result<(), AllocError> {
-    let long = text(rt.alloc(), 8, b"xab")?;
-    let short = text(rt.alloc(), 8, b"x")?;
+    let long = string(rt.alloc(), 8, b"xab")?;
+    let short = string(rt.alloc(), 8, b"x")?;
     let Some(set) = worked(rt.alloc()) else {
         panic!(rt; "refused");
     };

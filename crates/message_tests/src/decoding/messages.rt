@@ -1,19 +1,20 @@
 //! Messages, and the calls that read one.
 
+use crate::decoding::steps::{End, Step, count, follow};
+use crate::modes::PLAIN;
 use crate::same::same;
 use crate::slots::slots_of;
-use crate::steps::{End, PLAIN, Step, follow};
+use crate::worked::{QUOTE, quote, text, worked};
 use fast_dictionary::MapEntries;
 use fast_stream::{Cause, Message, Node};
-use fast_template::{ByteString, LoadFault, Scalar, TemplateSet};
+use fast_template::{Scalar, TemplateSet};
 use std::alloc::{AllocError, Global};
 use std::process::Abort;
 
 // This text and nothing, in a vector with at least this much room.
-fn texts(alloc: Global, text: &[u8], room: usize) -> Result<Vec<Node>, AllocError> {
-    let text = ByteString::from_vec(text.to_vec(alloc)?);
+fn texts(alloc: Global, characters: &[u8], room: usize) -> Result<Vec<Node>, AllocError> {
     let mut nodes = Vec::with_capacity(alloc, room)?;
-    nodes.push(Node::Value(Scalar::Ascii(text)))?;
+    nodes.push(text(alloc, characters)?)?;
     nodes.push(Node::Absent)?;
     Ok(nodes)
 }
@@ -54,40 +55,9 @@ fn messages_are_equal_by_their_contents(rt: HostRuntime) -> Result<(), AllocErro
     Ok(())
 }
 
-const QUOTES: &str = r#"{"templates":[{"name":"Quote","id":1,"instructions":[
-        {"kind":"uInt32","name":"Seq","operator":"increment"},
-        {"kind":"string","name":"Sym","operator":"copy"},
-        {"kind":"decimal","name":"Px","operator":"delta"},
-        {"kind":"uInt32","name":"Qty","presence":"optional","operator":"copy"}]}]}"#;
-
-// The set of the template Quote.
-fn quotes(alloc: Global) -> Result<TemplateSet, LoadFault> {
-    TemplateSet::from_json(alloc, QUOTES.as_bytes())
-}
-
-const STREAM: &[u8] = &[0xF0, 0x81, 0x81, 0x41, 0xC2, 0xFE, 0x00, 0xE4];
-
-// Seq=1 Sym="AB" Px=100e-2, and no Qty.
-fn quote(alloc: Global) -> Result<Message, AllocError> {
-    let symbol = ByteString::from_vec(vec![in alloc; 0x41, 0x42]?);
-    let fields = vec![in alloc;
-        Node::Value(Scalar::U32(1)),
-        Node::Value(Scalar::Ascii(symbol)),
-        Node::Value(Scalar::Decimal {
-            exponent: -2,
-            mantissa: 100,
-        }),
-        Node::Absent,
-    ]?;
-    Ok(Message {
-        template: 1,
-        fields,
-    })
-}
-
 const TAKEN: &[Step] = &[
     Step::Fed(0),
-    Step::Feed(STREAM, End::Whole),
+    Step::Feed(QUOTE, End::Whole),
     Step::Fed(8),
     Step::Held(0),
     Step::Finish(End::Whole),
@@ -115,18 +85,10 @@ fn both_read_quote(
 
 #[test]
 fn a_stream_is_read(rt: HostRuntime) -> Result<(), AllocError> {
-    let want = quote(rt.alloc())?;
-    match quotes(rt.alloc()) {
-        Ok(set) => both_read_quote(&rt, rt.alloc(), &set, &want),
-        Err(_) => panic!(rt; "refused"),
-    }
-}
-
-// The number of messages of the template Quote of a decoder that answers all steps so.
-fn count(rt: &impl Abort, alloc: Global, steps: &[Step]) -> usize {
-    match quotes(alloc) {
-        Ok(set) => follow(rt, alloc, &set, PLAIN, MapEntries::new(alloc), steps).len(),
-        Err(_) => panic!(rt; "refused"),
+    let want = quote(rt.alloc(), b"AB", -2, 100)?;
+    match worked(rt.alloc()) {
+        Some(set) => both_read_quote(&rt, rt.alloc(), &set, &want),
+        None => panic!(rt; "refused"),
     }
 }
 
@@ -139,7 +101,7 @@ fn a_stream_is_refused_and_begun_again(rt: HostRuntime) {
         Step::Finish(REFUSED),
         Step::Reset,
         Step::Fed(0),
-        Step::Feed(STREAM, End::Whole),
+        Step::Feed(QUOTE, End::Whole),
         Step::Fed(8),
         Step::Held(0),
         Step::Finish(End::Whole),

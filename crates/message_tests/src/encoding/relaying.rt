@@ -1,6 +1,6 @@
 //! Streams that are read and written at once, by the calls.
 
-use crate::messages::PLAIN;
+use crate::modes::PLAIN;
 use crate::same::same;
 use crate::worked::worked;
 use fast_dictionary::MapEntries;

@@ -1,50 +1,17 @@
 //! Streams at the strict level: what is overlong, what is just not, and which fault comes first.
 
+use crate::decoding::steps::End;
+use crate::decoding::streams::{Row, Sent, Shown, all_read_in, each_read, is_read, long};
+use crate::modes::{PLAIN, STRICT};
 use crate::same::same;
-use crate::steps::{End, PLAIN};
-use crate::streams::{Row, Sent, Shown, all_read_in, each_read, is_read, long, worked};
-use fast_decoder::{Framing, Level, Mode};
+use crate::worked::worked;
 use fast_stream::Cause;
 use fast_template::TemplateSet;
 use std::alloc::{AllocError, Global};
 use std::process::Abort;
+use template_tests::texts::KINDS;
 
-pub(crate) const STRICT: Mode = Mode {
-    level: Level::Strict,
-    framing: Framing::Plain,
-};
-
-// Templates with fields of each kind.
-const KINDS: &str = r#"{"templates":[
-{"name":"Bytes","id":1,"instructions":[{"kind":"byteVector","name":"B"}]},
-{"name":"MaybeBytes","id":2,"instructions":[
- {"kind":"byteVector","name":"B","presence":"optional"}]},
-{"name":"Text","id":3,"instructions":[{"kind":"string","charset":"unicode","name":"S"}]},
-{"name":"BytesDelta","id":4,"instructions":[
- {"kind":"byteVector","name":"B","operator":"delta"}]},
-{"name":"MaybeDelta","id":5,"instructions":[
- {"kind":"string","name":"S","presence":"optional","operator":"delta"}]},
-{"name":"Tail","id":6,"instructions":[{"kind":"string","name":"S","operator":"tail"}]},
-{"name":"MaybeTail","id":7,"instructions":[
- {"kind":"string","name":"S","presence":"optional","operator":"tail"}]},
-{"name":"BytesTail","id":8,"instructions":[
- {"kind":"byteVector","name":"B","presence":"optional","operator":"tail"}]},
-{"name":"MaybeDecimal","id":9,"instructions":[
- {"kind":"decimal","name":"D","presence":"optional"}]},
-{"name":"Parts","id":10,"instructions":[
- {"kind":"decimal","name":"D","exponent":{},"mantissa":{"operator":"delta"}}]},
-{"name":"Clash","id":11,"instructions":[
- {"kind":"uInt32","name":"A","operator":"copy","key":"K"},
- {"kind":"string","name":"B","operator":"tail","key":"K"}]},
-{"name":"Wide","id":12,"instructions":[
- {"kind":"uInt32","name":"A","operator":"copy"},{"kind":"uInt32","name":"B","operator":"copy"},
- {"kind":"uInt32","name":"C","operator":"copy"},{"kind":"uInt32","name":"D","operator":"copy"},
- {"kind":"uInt32","name":"E","operator":"copy"},{"kind":"uInt32","name":"F","operator":"copy"},
- {"kind":"uInt32","name":"G","operator":"copy"}]},
-{"name":"Signed","id":13,"instructions":[
- {"kind":"int32","name":"I","presence":"optional"}]}]}"#;
-
-// The set of these templates.
+// The set of templates with fields of each kind.
 fn kinds(alloc: Global) -> Option<TemplateSet> {
     TemplateSet::from_json(alloc, KINDS.as_bytes()).ok()
 }
