@@ -4,5 +4,4 @@ mod blocks;
 mod devices;
 mod examples;
 mod programs;
-mod same;
 mod strict;

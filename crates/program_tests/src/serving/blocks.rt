@@ -1,9 +1,10 @@
 //! The program over blocks: its exit status, what it writes, and what it says.
 
-use crate::tests::devices::TEMPLATES;
-use crate::tests::examples::{BOOK, TRADE};
-use crate::tests::programs::{FIRST, Row, rows_are_served_over};
-use crate::tests::strict::{QUOTE_LINE, QUOTES};
+use crate::serving::devices::TEMPLATES;
+use crate::serving::examples::{BOOK, TRADE};
+use crate::serving::programs::{FIRST, Row, rows_are_served_over};
+use crate::serving::strict::{QUOTE_LINE, QUOTES};
+use crate::worked::{QUOTE, TWO_SHORT};
 
 const SHOW: &[&str] = &["fastcat", "show", "--blocks", "--templates", TEMPLATES];
 
@@ -56,10 +57,6 @@ const CANON_HEX_STRICTLY: &[&str] = &[
     "--blocks",
     "--strict",
 ];
-
-const QUOTE: &[u8] = b"\xf0\x81\x81\x41\xc2\xfe\x00\xe4";
-
-const TWO: &[u8] = b"\xf0\x81\x81\x41\xc2\xfe\x00\xe4\x80\x80\x81";
 
 const TWO_LINES: &[u8] = b"1 Quote Seq=1 Sym=\"AB\" Px=100e-2 Qty=-\n\
     1 Quote Seq=2 Sym=\"AB\" Px=101e-2 Qty=-\n";
@@ -127,7 +124,7 @@ fn blocks_of_messages(rt: HostRuntime) {
             words: CANON,
             input: b"\x8b\xf0\x81\x81\x41\xc2\xfe\x00\xe4\x80\x80\x81",
             status: 0,
-            out: TWO,
+            out: TWO_SHORT,
             err: "",
         },
         Row {
@@ -148,7 +145,7 @@ fn blocks_of_messages(rt: HostRuntime) {
             words: CANON,
             input: b"\x88\xf0\x81\x81\x41\xc2\xfe\x00\xe4\x83\x80\x80\x81",
             status: 0,
-            out: TWO,
+            out: TWO_SHORT,
             err: "",
         },
         Row {
@@ -309,7 +306,7 @@ fn strict_blocks(rt: HostRuntime) {
             words: CANON_STRICTLY,
             input: b"\x88\xf0\x81\x81\x41\xc2\xfe\x00\xe4\x83\x80\x80\x81",
             status: 0,
-            out: TWO,
+            out: TWO_SHORT,
             err: "",
         },
     ];

@@ -2,8 +2,9 @@
 
 ghost use Rattle.std.specs.Prelude.{◌≤◌, ◌^◌};
 
-use crate::lines::{PLAIN, WORKED};
+use crate::modes::PLAIN;
 use crate::same::same;
+use crate::worked::{QUOTE, TWO, TWO_SHORT, worked};
 use fast_canon::{CanonFault, Summary};
 use fast_command::{Command, run};
 use fast_decoder::Mode;
@@ -39,16 +40,10 @@ pub(crate) struct Refusal {
 #[derive(Clone, Copy)]
 pub(crate) struct At(pub(crate) u64, pub(crate) u32, pub(crate) u32);
 
-pub(crate) const QUOTE: &[u8] = b"\xf0\x81\x81\x41\xc2\xfe\x00\xe4";
-
 pub(crate) const QUOTE_LINE: &str = "1 Quote Seq=1 Sym=\"AB\" Px=100e-2 Qty=-\n";
 
 pub(crate) const TWO_LINES: &str = "1 Quote Seq=1 Sym=\"AB\" Px=100e-2 Qty=-\n\
     1 Quote Seq=2 Sym=\"AB\" Px=101e-2 Qty=-\n";
-
-const TWO: &[u8] = b"\xf0\x81\x81\x41\xc2\xfe\x00\xe4\xf8\x81\x82\x41\xc2\x80\x81\x80";
-
-pub(crate) const TWO_SHORT: &[u8] = b"\xf0\x81\x81\x41\xc2\xfe\x00\xe4\x80\x80\x81";
 
 const DELTAS: &[u8] = b"\xc0\x8a\x80\x47\x45\x48\xb6\x80\x82\x4d\xb6\x80\xfd\x45\xd3";
 
@@ -305,10 +300,6 @@ const PLACES: [At; 8] = [
     At(5, 1, 3),
 ];
 
-pub(crate) fn load(alloc: Global) -> Result<TemplateSet, Fail> {
-    Ok(TemplateSet::from_json(alloc, WORKED.as_bytes())?)
-}
-
 pub(crate) fn counted(messages: u64, read: usize, written: usize) -> Result<Summary, CanonFault> {
     Ok(Summary {
         messages,
@@ -397,7 +388,7 @@ pub(crate) fn ends(
 #[test]
 fn worked_streams_end(rt: HostRuntime) -> Result<(), Fail> {
     let alloc = rt.alloc();
-    let set = load(alloc)?;
+    let set = worked(alloc)?;
     for row in &ROWS {
         ends(&rt, alloc, &set, PLAIN, row, 1);
         ends(&rt, alloc, &set, PLAIN, row, 2);
@@ -447,7 +438,7 @@ pub(crate) fn stops(
 #[test]
 fn worked_streams_are_refused(rt: HostRuntime) -> Result<(), Fail> {
     let alloc = rt.alloc();
-    let set = load(alloc)?;
+    let set = worked(alloc)?;
     for row in &REFUSALS {
         stops(&rt, alloc, &set, PLAIN, row, 1);
         stops(&rt, alloc, &set, PLAIN, row, 2);
@@ -496,7 +487,7 @@ fn fails_at(
 #[test]
 fn a_read_fails(rt: HostRuntime) -> Result<(), Fail> {
     let alloc = rt.alloc();
-    let set = load(alloc)?;
+    let set = worked(alloc)?;
     let mut call = 0u64;
     for at in &PLACES {
         call = call.saturating_add(1);
@@ -522,7 +513,7 @@ fn cut_behind(rt: &impl Abort, alloc: Global, set: &TemplateSet, count: usize, a
 #[test]
 fn a_stream_is_cut(rt: HostRuntime) -> Result<(), Fail> {
     let alloc = rt.alloc();
-    let set = load(alloc)?;
+    let set = worked(alloc)?;
     for (count, at) in PLACES.iter().enumerate() {
         if count > 0 {
             cut_behind(&rt, alloc, &set, count, *at);
@@ -586,7 +577,7 @@ fn breaks(rt: &impl Abort, alloc: Global, set: &TemplateSet, command: Command, w
 #[test]
 fn a_write_fails(rt: HostRuntime) -> Result<(), Fail> {
     let alloc = rt.alloc();
-    let set = load(alloc)?;
+    let set = worked(alloc)?;
     breaks(&rt, alloc, &set, Command::Show, TWO_LINES.as_bytes());
     let told = b"ok messages=2 bytes=16 canonical=11\n";
     breaks(&rt, alloc, &set, Command::Check, told);
@@ -620,7 +611,7 @@ fn flush_fails(
 #[test]
 fn a_flush_fails(rt: HostRuntime) -> Result<(), Fail> {
     let alloc = rt.alloc();
-    let set = load(alloc)?;
+    let set = worked(alloc)?;
     flush_fails(&rt, alloc, &set, Command::Show, b"", 9);
     flush_fails(&rt, alloc, &set, Command::Canon, b"", 9);
     // a refused stream
@@ -657,7 +648,7 @@ fn turned(
 #[test]
 fn reads_are_used_up(rt: HostRuntime) -> Result<(), Fail> {
     let alloc = rt.alloc();
-    let set = load(alloc)?;
+    let set = worked(alloc)?;
     let two = refused(Cause::Turns, 1, At(2, 1, 1));
     turned(&rt, alloc, &set, Command::Show, 2, two);
     turned(&rt, alloc, &set, Command::Check, 2, two);
@@ -672,7 +663,7 @@ fn reads_are_used_up(rt: HostRuntime) -> Result<(), Fail> {
 #[test]
 fn a_long_stream(rt: HostRuntime) -> Result<(), Fail> {
     let alloc = rt.alloc();
-    let set = load(alloc)?;
+    let set = worked(alloc)?;
     let mut stream = Vec::from_slice(alloc, QUOTE)?;
     for _ in 0..10_000 {
         stream.extend_from_slice(b"\x80\x80\x81")?;
@@ -714,7 +705,7 @@ fn a_long_stream(rt: HostRuntime) -> Result<(), Fail> {
 #[test]
 fn a_long_line(rt: HostRuntime) -> Result<(), Fail> {
     let alloc = rt.alloc();
-    let set = load(alloc)?;
+    let set = worked(alloc)?;
     let stream = b"\xc0\x86\x03\x7f\xff";
     let mut out = ScriptOutput::new(alloc, 1_000_000, false, false);
     let reader = ScriptInput::new(stream, 4096, 0);

@@ -2,10 +2,11 @@
 
 ghost use Rattle.std.specs.Prelude.{◌≤◌};
 
-use crate::lines::{PLAIN, STRICT};
-use crate::streams::{
-    At, QUOTE, QUOTE_LINE, REFUSALS, ROWS, Refusal, Row, counted, ends, gives, load, stops,
+use crate::commands::streams::{
+    At, QUOTE_LINE, REFUSALS, ROWS, Refusal, Row, counted, ends, gives, stops,
 };
+use crate::modes::{PLAIN, STRICT};
+use crate::worked::{QUOTE, worked};
 use fast_command::Command;
 use fast_io::ScriptInput;
 use fast_stream::Cause;
@@ -13,6 +14,7 @@ use fast_template::TemplateSet;
 use std::alloc::{AllocError, Global};
 use std::process::Abort;
 use std::test::Fail;
+use template_tests::texts::KINDS;
 
 /// A stream that is longer than it must be, what each command makes of it at the usual level, and why its first
 /// message is refused at the strict one.
@@ -241,7 +243,7 @@ fn stays(
 #[test]
 fn canonical_streams_are_taken(rt: HostRuntime) -> Result<(), Fail> {
     let alloc = rt.alloc();
-    let set = load(alloc)?;
+    let set = worked(alloc)?;
     for row in &ROWS {
         stays(&rt, alloc, &set, row.messages, row.lines, row.canonical)?;
     }
@@ -279,7 +281,7 @@ fn is_overlong(rt: &impl Abort, alloc: Global, set: &TemplateSet, row: &Overlong
 #[test]
 fn overlong_streams(rt: HostRuntime) -> Result<(), Fail> {
     let alloc = rt.alloc();
-    let set = load(alloc)?;
+    let set = worked(alloc)?;
     for row in OVERLONG {
         is_overlong(&rt, alloc, &set, row, 1);
         is_overlong(&rt, alloc, &set, row, 2);
@@ -333,7 +335,7 @@ fn streams_that_are_just_not_overlong(rt: HostRuntime) -> Result<(), Fail> {
         },
     ];
     let alloc = rt.alloc();
-    let set = load(alloc)?;
+    let set = worked(alloc)?;
     for row in TAKEN {
         ends(&rt, alloc, &set, STRICT, row, 1);
         ends(&rt, alloc, &set, STRICT, row, 4096);
@@ -344,36 +346,6 @@ fn streams_that_are_just_not_overlong(rt: HostRuntime) -> Result<(), Fail> {
     }
     Ok(())
 }
-
-// Templates with fields of each kind.
-const KINDS: &str = r#"{"templates":[
-{"name":"Bytes","id":1,"instructions":[{"kind":"byteVector","name":"B"}]},
-{"name":"MaybeBytes","id":2,"instructions":[
- {"kind":"byteVector","name":"B","presence":"optional"}]},
-{"name":"Text","id":3,"instructions":[{"kind":"string","charset":"unicode","name":"S"}]},
-{"name":"BytesDelta","id":4,"instructions":[
- {"kind":"byteVector","name":"B","operator":"delta"}]},
-{"name":"MaybeDelta","id":5,"instructions":[
- {"kind":"string","name":"S","presence":"optional","operator":"delta"}]},
-{"name":"Tail","id":6,"instructions":[{"kind":"string","name":"S","operator":"tail"}]},
-{"name":"MaybeTail","id":7,"instructions":[
- {"kind":"string","name":"S","presence":"optional","operator":"tail"}]},
-{"name":"BytesTail","id":8,"instructions":[
- {"kind":"byteVector","name":"B","presence":"optional","operator":"tail"}]},
-{"name":"MaybeDecimal","id":9,"instructions":[
- {"kind":"decimal","name":"D","presence":"optional"}]},
-{"name":"Parts","id":10,"instructions":[
- {"kind":"decimal","name":"D","exponent":{},"mantissa":{"operator":"delta"}}]},
-{"name":"Clash","id":11,"instructions":[
- {"kind":"uInt32","name":"A","operator":"copy","key":"K"},
- {"kind":"string","name":"B","operator":"tail","key":"K"}]},
-{"name":"Wide","id":12,"instructions":[
- {"kind":"uInt32","name":"A","operator":"copy"},{"kind":"uInt32","name":"B","operator":"copy"},
- {"kind":"uInt32","name":"C","operator":"copy"},{"kind":"uInt32","name":"D","operator":"copy"},
- {"kind":"uInt32","name":"E","operator":"copy"},{"kind":"uInt32","name":"F","operator":"copy"},
- {"kind":"uInt32","name":"G","operator":"copy"}]},
-{"name":"Signed","id":13,"instructions":[
- {"kind":"int32","name":"I","presence":"optional"}]}]}"#;
 
 // A stream whose first message is refused, why, and where.
 struct Refused(&'static [u8], Cause, At);

@@ -1,7 +1,7 @@
 //! The program at the strict level: its exit status, what it writes, and what it says.
 
-use crate::tests::devices::TEMPLATES;
-use crate::tests::programs::{FIRST, Row, rows_are_served_over};
+use crate::serving::devices::TEMPLATES;
+use crate::serving::programs::{FIRST, Row, rows_are_served_over};
 
 // Two of the worked templates.
 pub const QUOTES: &str = r#"{"templates":[

@@ -1,7 +1,7 @@
 //! The order book and the trade feed of examples/: their lines and canonical bytes, and those of these bytes.
 
-use super::same::same_of;
-use crate::tests::devices::{After, Feed, STREAM, Shelf, TEMPLATES};
+use crate::same::same_of;
+use crate::serving::devices::{After, Feed, STREAM, Shelf, TEMPLATES};
 use fast_io::Counted;
 use fast_serve::serve::{TURNS, serve};
 use std::alloc::Global;

@@ -2,8 +2,8 @@
 
 ghost use Rattle.std.specs.Prelude.{◌≤◌, ◌^◌};
 
-use super::same::{same, same_of};
-use crate::tests::devices::{After, Feed, Flushed, Full, STREAM, Shelf, Sink, TEMPLATES};
+use crate::same::{same, same_of};
+use crate::serving::devices::{After, Feed, Flushed, Full, STREAM, Shelf, Sink, TEMPLATES};
 use fast_io::Counted;
 use fast_serve::serve::{TURNS, serve, serve_words};
 use std::alloc::{AllocError, Global};

@@ -1,91 +1,16 @@
 //! Lines of messages of the worked templates, and messages that have none.
 
+use crate::modes::PLAIN;
 use crate::same::same;
+use crate::worked::worked;
 use fast_command::{ShowFault, show_line};
-use fast_decoder::{Decoder, Framing, Level, Mode};
+use fast_decoder::Decoder;
 use fast_dictionary::MapEntries;
 use fast_stream::{Message, Node};
 use fast_template::{ByteString, Scalar, TemplateSet};
 use std::alloc::{AllocError, Global};
 use std::process::Abort;
 use std::test::Fail;
-
-// Plain messages, at the usual level.
-pub(crate) const PLAIN: Mode = Mode {
-    level: Level::Usual,
-    framing: Framing::Plain,
-};
-
-// Plain messages, at the strict level.
-pub(crate) const STRICT: Mode = Mode {
-    level: Level::Strict,
-    framing: Framing::Plain,
-};
-
-// Blocks, at the usual level and at the strict one.
-pub(crate) const BLOCKS: Mode = Mode {
-    level: Level::Usual,
-    framing: Framing::Blocks,
-};
-
-pub(crate) const STRICT_BLOCKS: Mode = Mode {
-    level: Level::Strict,
-    framing: Framing::Blocks,
-};
-
-// The worked templates.
-pub(crate) const WORKED: &str = r#"{"templates":[
-{"name":"Quote","id":1,"instructions":[
- {"kind":"uInt32","name":"Seq","operator":"increment"},
- {"kind":"string","name":"Sym","operator":"copy"},
- {"kind":"decimal","name":"Px","operator":"delta"},
- {"kind":"uInt32","name":"Qty","presence":"optional","operator":"copy"}]},
-{"name":"Wrap","id":2,"instructions":[
- {"kind":"uInt32","name":"A","operator":"increment"},
- {"kind":"uInt32","name":"B","operator":"delta"}]},
-{"name":"Opt","id":3,"instructions":[
- {"kind":"decimal","name":"Px","presence":"optional",
-  "exponent":{"operator":"default","value":"2"},"mantissa":{"operator":"copy"}},
- {"kind":"uInt32","name":"Flag","operator":"copy"}]},
-{"name":"Legs","id":4,"instructions":[
- {"kind":"sequence","name":"L","presence":"optional","instructions":[
-  {"kind":"uInt32","name":"P"}]}]},
-{"name":"Marks","id":5,"instructions":[
- {"kind":"sequence","name":"L","instructions":[
-  {"kind":"uInt32","name":"Q","operator":"copy"}]}]},
-{"name":"Bare","id":6,"instructions":[
- {"kind":"sequence","name":"L","instructions":[]}]},
-{"name":"Clash","id":7,"instructions":[
- {"kind":"uInt32","name":"A","operator":"copy","key":"K"},
- {"kind":"string","name":"B","operator":"copy","key":"K"}]},
-{"name":"Tail","id":8,"instructions":[
- {"kind":"string","name":"S","presence":"optional","operator":"tail"}]},
-{"name":"Init","id":9,"instructions":[
- {"kind":"string","name":"S","presence":"optional","operator":"tail","value":"ab"}]},
-{"name":"Delta","id":10,"instructions":[
- {"kind":"string","name":"S","operator":"delta"}]},
-{"name":"Common","instructions":[
- {"kind":"uInt32","name":"B","operator":"copy"}]},
-{"name":"Grp","id":11,"instructions":[
- {"kind":"group","name":"Hd","presence":"optional","instructions":[
-  {"kind":"uInt32","name":"A","operator":"copy"}]},
- {"kind":"templateRef","name":"Common"}]},
-{"name":"Uni","id":12,"instructions":[
- {"kind":"string","charset":"unicode","name":"S","operator":"tail"}]},
-{"name":"Empty","id":13,"instructions":[
- {"kind":"uInt32","name":"A","presence":"optional","operator":"copy","key":"K"},
- {"kind":"uInt32","name":"B","operator":"delta","key":"K"}]},
-{"name":"Const","id":14,"instructions":[
- {"kind":"uInt32","name":"K","operator":"constant","value":"7"},
- {"kind":"uInt32","name":"O","presence":"optional","operator":"constant","value":"9"},
- {"kind":"uInt32","name":"D","operator":"default","value":"3"}]},
-{"name":"Fixed","id":15,"instructions":[
- {"kind":"decimal","name":"Px",
-  "exponent":{"operator":"constant","value":"-2"},"mantissa":{"operator":"delta"}},
- {"kind":"byteVector","name":"Raw","presence":"optional","operator":"copy"}]},
-{"name":"First","id":16,"instructions":[
- {"kind":"uInt32","name":"A"},
- {"kind":"uInt32","name":"B","operator":"copy"}]}]}"#;
 
 /// A stream, and the lines of its messages.
 struct Row {
@@ -149,10 +74,6 @@ const ROWS: [Row; 13] = [
     },
 ];
 
-fn load(alloc: Global, text: &str) -> Result<TemplateSet, Fail> {
-    Ok(TemplateSet::from_json(alloc, text.as_bytes())?)
-}
-
 /// The lines of the messages of a short stream.
 fn lines_of(alloc: Global, set: &TemplateSet, stream: &[u8]) -> Result<Vec<u8>, Fail> {
     let mut decoder = Decoder::new(alloc, set, PLAIN, MapEntries::new(alloc));
@@ -169,7 +90,7 @@ fn lines_of(alloc: Global, set: &TemplateSet, stream: &[u8]) -> Result<Vec<u8>, 
 #[test]
 fn worked_streams_have_their_lines(rt: HostRuntime) -> Result<(), Fail> {
     let alloc = rt.alloc();
-    let set = load(alloc, WORKED)?;
+    let set = worked(alloc)?;
     for row in &ROWS {
         let lines = lines_of(alloc, &set, row.stream)?;
         same(&rt, lines.as_slice(), row.lines.as_bytes());
@@ -218,7 +139,7 @@ fn refused(
 #[test]
 fn a_message_of_no_template_has_no_line(rt: HostRuntime) -> Result<(), Fail> {
     let alloc = rt.alloc();
-    let set = load(alloc, WORKED)?;
+    let set = worked(alloc)?;
     // no such template
     refused(&rt, alloc, &set, &one(alloc, 100, number(5))?)?;
     // too few nodes
@@ -233,7 +154,7 @@ fn a_message_of_no_template_has_no_line(rt: HostRuntime) -> Result<(), Fail> {
 #[test]
 fn a_value_of_another_type_has_no_line(rt: HostRuntime) -> Result<(), Fail> {
     let alloc = rt.alloc();
-    let set = load(alloc, WORKED)?;
+    let set = worked(alloc)?;
     let signed = Node::Value(Scalar::I32(6));
     refused(&rt, alloc, &set, &two(alloc, 16, number(5), signed)?)?;
     // no character of ASCII
@@ -251,7 +172,7 @@ fn a_value_of_another_type_has_no_line(rt: HostRuntime) -> Result<(), Fail> {
 #[test]
 fn a_line_stands_behind_what_was_there(rt: HostRuntime) -> Result<(), Fail> {
     let alloc = rt.alloc();
-    let set = load(alloc, WORKED)?;
+    let set = worked(alloc)?;
     // a quote, a backslash, `~` and DEL
     let message = one(alloc, 8, text(alloc, b"\"\\~\x7f")?)?;
     let mut out = Vec::from_slice(alloc, b"before")?;

@@ -1,47 +1,16 @@
-//! Streams through the calls.
+//! Streams that are canonicalised and checked.
 
 ghost use Rattle.std.specs.Prelude.{◌≤◌};
 
+use crate::modes::PLAIN;
 use crate::same::same;
+use crate::worked::{TWO, TWO_SHORT, worked};
 use fast_canon::{CanonFault, Summary, canonicalise, check};
-use fast_decoder::{Framing, Level, Mode};
 use fast_io::{Counted, ScriptInput, ScriptOutput};
 use fast_stream::{Cause, Fault, Place};
-use fast_template::{LoadFault, TemplateSet};
+use fast_template::TemplateSet;
 use std::alloc::{AllocError, Global};
 use std::process::Abort;
-
-// Plain messages, at the usual level.
-const PLAIN: Mode = Mode {
-    level: Level::Usual,
-    framing: Framing::Plain,
-};
-
-// Worked templates.
-const TEMPLATES: &str = r#"{"templates":[{"name":"Quote","id":1,"instructions":[
- {"kind":"uInt32","name":"Seq","operator":"increment"},
- {"kind":"string","name":"Sym","operator":"copy"},
- {"kind":"decimal","name":"Px","operator":"delta"},
- {"kind":"uInt32","name":"Qty","presence":"optional","operator":"copy"}]},
-{"name":"Opt","id":3,"instructions":[
- {"kind":"decimal","name":"Px","presence":"optional",
-  "exponent":{"operator":"default","value":"2"},"mantissa":{"operator":"copy"}},
- {"kind":"uInt32","name":"Flag","operator":"copy"}]},
-{"name":"Tail","id":8,"instructions":[
- {"kind":"string","name":"S","presence":"optional","operator":"tail"}]},
-{"name":"Init","id":9,"instructions":[
- {"kind":"string","name":"S","presence":"optional","operator":"tail","value":"ab"}]},
-{"name":"Delta","id":10,"instructions":[
- {"kind":"string","name":"S","operator":"delta"}]}]}"#;
-
-// Two quotes, the second one spelled out, and its canonical bytes.
-const TWO: &[u8] = b"\xf0\x81\x81\x41\xc2\xfe\x00\xe4\xf8\x81\x82\x41\xc2\x80\x81\x80";
-
-const CANONICAL: &[u8] = b"\xf0\x81\x81\x41\xc2\xfe\x00\xe4\x80\x80\x81";
-
-fn templates(alloc: Global) -> Result<TemplateSet, LoadFault> {
-    TemplateSet::from_json(alloc, TEMPLATES.as_bytes())
-}
 
 // Canonicalises a stream that comes in steps, and checks it.
 fn run(
@@ -71,7 +40,7 @@ fn row(
 ) -> Result<(), AllocError>
     requires { 1 ≤ step }
 {
-    let Ok(set) = templates(alloc) else {
+    let Ok(set) = worked(alloc) else {
         panic!(rt; "refused");
     };
     let mut out = ScriptOutput::new(alloc, 1000, false, false);
@@ -93,10 +62,10 @@ fn counted(messages: u64, read: u64, written: u64) -> Result<Summary, CanonFault
 #[test]
 fn streams_to_their_end(rt: HostRuntime) -> Result<(), AllocError> {
     let alloc = rt.alloc();
-    row(&rt, alloc, TWO, 1, CANONICAL, counted(2, 16, 11))?;
-    row(&rt, alloc, TWO, 3, CANONICAL, counted(2, 16, 11))?;
-    row(&rt, alloc, TWO, 4096, CANONICAL, counted(2, 16, 11))?;
-    row(&rt, alloc, CANONICAL, 2, CANONICAL, counted(2, 11, 11))?;
+    row(&rt, alloc, TWO, 1, TWO_SHORT, counted(2, 16, 11))?;
+    row(&rt, alloc, TWO, 3, TWO_SHORT, counted(2, 16, 11))?;
+    row(&rt, alloc, TWO, 4096, TWO_SHORT, counted(2, 16, 11))?;
+    row(&rt, alloc, TWO_SHORT, 2, TWO_SHORT, counted(2, 11, 11))?;
     row(&rt, alloc, &[], 1, &[], counted(0, 0, 0))?;
     Ok(())
 }
@@ -119,7 +88,7 @@ fn streams_that_are_refused(rt: HostRuntime) -> Result<(), AllocError> {
     // what was read before the fault is written; the bytes of the message that is open are not
     let second = refused(Cause::Truncated, 2, 13, 1, 3);
     let cut = &TWO[..14];
-    let before = &CANONICAL[..8];
+    let before = &TWO_SHORT[..8];
     row(&rt, alloc, cut, 3, before, Err(CanonFault::Stream(second)))?;
     Ok(())
 }
@@ -127,7 +96,7 @@ fn streams_that_are_refused(rt: HostRuntime) -> Result<(), AllocError> {
 #[test]
 fn a_writer_that_fails(rt: HostRuntime) -> Result<(), AllocError> {
     let alloc = rt.alloc();
-    let Ok(set) = templates(alloc) else {
+    let Ok(set) = worked(alloc) else {
         panic!(rt; "refused");
     };
     let mut out = ScriptOutput::new(alloc, 3, false, false);
@@ -137,14 +106,14 @@ fn a_writer_that_fails(rt: HostRuntime) -> Result<(), AllocError> {
     let mut out = ScriptOutput::new(alloc, 100, false, true);
     let (answer, _) = run(alloc, &set, TWO, 8, &mut out);
     same(&rt, answer, Err(CanonFault::Write));
-    same(&rt, out.bytes(), CANONICAL);
+    same(&rt, out.bytes(), TWO_SHORT);
     Ok(())
 }
 
 #[test]
 fn reads_that_are_used_up(rt: HostRuntime) -> Result<(), AllocError> {
     let alloc = rt.alloc();
-    let Ok(set) = templates(alloc) else {
+    let Ok(set) = worked(alloc) else {
         panic!(rt; "refused");
     };
     let mut reader = Counted::new(ScriptInput::new(TWO, 4, 0));
@@ -168,7 +137,7 @@ fn reads_that_are_used_up(rt: HostRuntime) -> Result<(), AllocError> {
 #[test]
 fn no_stream_is_shorter(rt: HostRuntime) -> Result<(), AllocError> {
     let alloc = rt.alloc();
-    let quote = &CANONICAL[..8];
+    let quote = &TWO_SHORT[..8];
     let overlong = b"\xf0\x81\x00\x00\x81\x41\xc2\xfe\x00\xe4";
     row(&rt, alloc, overlong, 4, quote, counted(1, 10, 8))?;
     let wide_map = b"\x70\x00\x80\x81\x81\x41\xc2\xfe\x00\xe4";

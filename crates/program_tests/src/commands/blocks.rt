@@ -2,12 +2,12 @@
 
 ghost use Rattle.std.specs.Prelude.{◌≤◌};
 
-use crate::lines::{BLOCKS, STRICT_BLOCKS};
-use crate::streams::{
-    At, QUOTE, QUOTE_LINE, REFUSALS, ROWS, Refusal, Row, TWO_LINES, TWO_SHORT, counted, ends,
-    gives, load, refused, stops,
+use crate::commands::streams::{
+    At, QUOTE_LINE, REFUSALS, ROWS, Refusal, Row, TWO_LINES, counted, ends, gives, refused, stops,
 };
-use crate::strict::told;
+use crate::commands::strict::told;
+use crate::modes::{BLOCKS, STRICT_BLOCKS};
+use crate::worked::{QUOTE, TWO_SHORT, worked};
 use fast_command::Command;
 use fast_decoder::Mode;
 use fast_io::ScriptInput;
@@ -64,7 +64,7 @@ fn blocks_of_messages(rt: HostRuntime) -> Result<(), Fail> {
         },
     ];
     let alloc = rt.alloc();
-    let set = load(alloc)?;
+    let set = worked(alloc)?;
     for row in STREAMS {
         ends(&rt, alloc, &set, BLOCKS, row, 1);
         ends(&rt, alloc, &set, BLOCKS, row, 2);
@@ -216,7 +216,7 @@ fn blocks_that_are_refused(rt: HostRuntime) -> Result<(), Fail> {
         },
     ];
     let alloc = rt.alloc();
-    let set = load(alloc)?;
+    let set = worked(alloc)?;
     for row in USUALLY {
         stops(&rt, alloc, &set, BLOCKS, row, 1);
         stops(&rt, alloc, &set, BLOCKS, row, 4096);
@@ -291,7 +291,7 @@ fn ends_in_block(
 #[test]
 fn worked_streams_in_blocks(rt: HostRuntime) -> Result<(), Fail> {
     let alloc = rt.alloc();
-    let set = load(alloc)?;
+    let set = worked(alloc)?;
     for row in &ROWS {
         ends_in_block(&rt, alloc, &set, BLOCKS, row, row.stream, 1)?;
         ends_in_block(&rt, alloc, &set, BLOCKS, row, row.stream, 4096)?;
@@ -344,7 +344,7 @@ fn stops_in_block(
 #[test]
 fn worked_refusals_in_blocks(rt: HostRuntime) -> Result<(), Fail> {
     let alloc = rt.alloc();
-    let set = load(alloc)?;
+    let set = worked(alloc)?;
     for row in &REFUSALS {
         stops_in_block(&rt, alloc, &set, row, 1)?;
         stops_in_block(&rt, alloc, &set, row, 4096)?;
@@ -356,7 +356,7 @@ fn worked_refusals_in_blocks(rt: HostRuntime) -> Result<(), Fail> {
 #[test]
 fn a_long_message_in_a_block(rt: HostRuntime) -> Result<(), Fail> {
     let alloc = rt.alloc();
-    let set = load(alloc)?;
+    let set = worked(alloc)?;
     let reader = ScriptInput::new(b"\x85\xc0\x86\x03\x7f\xff", 2, 0);
     let told = b"ok messages=1 bytes=6 canonical=5\n";
     gives(
@@ -376,7 +376,7 @@ fn a_long_message_in_a_block(rt: HostRuntime) -> Result<(), Fail> {
 #[test]
 fn long_streams_in_blocks(rt: HostRuntime) -> Result<(), Fail> {
     let alloc = rt.alloc();
-    let set = load(alloc)?;
+    let set = worked(alloc)?;
     let mut plain = Vec::from_slice(alloc, QUOTE)?;
     let mut block = Vec::from_slice(alloc, b"\x01\x6a\xb8")?;
     let mut blocks = Vec::from_slice(alloc, b"\x88")?;
