@@ -1,8 +1,10 @@
-//! The tests of fast_field.
+//! The tests of fast_dictionary, fast_field and fast_relay.
 #![tactic(auto)]
 
 #[cfg(test)]
 mod decimals;
+#[cfg(test)]
+mod entries;
 #[cfg(test)]
 mod fields;
 #[cfg(test)]

@@ -1,4 +1,4 @@
-//! The tests of fast_template and fast_load.
+//! The tests of fast_template and fast_load, and template texts for the tests above.
 #![tactic(auto)]
 
 #[cfg(test)]
@@ -9,6 +9,7 @@ mod json;
 mod loads;
 #[cfg(test)]
 mod same;
+pub mod texts;
 #[cfg(test)]
 mod values;
 #[cfg(test)]

@@ -1,7 +1,0 @@
-//! The tests of fast_dictionary.
-#![tactic(auto)]
-
-#[cfg(test)]
-mod entries;
-#[cfg(test)]
-mod same;

@@ -1,0 +1,729 @@
+//! Worked streams: their messages and their faults, however the bytes come.
+
+ghost use Rattle.std.specs.Prelude.{◌≤◌};
+ghost use Rattle.fast_walk.specs.Traversals.{ServesAll};
+
+use crate::decoding::steps::{End, Step, count, follow};
+use crate::modes::PLAIN;
+use crate::same::same;
+use crate::slots::slots_of;
+use crate::worked::{QUOTE, quote, text, worked};
+use fast_decoder::{Decoder, MessageInputStream, Mode};
+use fast_dictionary::{Entries, MapEntries};
+use fast_io::{ByteInput, Counted, ScriptInput};
+use fast_load::Load;
+use fast_stream::{Cause, Fault, Message, Node};
+use fast_template::{ByteString, Scalar, TemplateSet};
+use std::alloc::{AllocError, Global};
+use std::process::Abort;
+
+// A node of a row. Each group here holds numbers, and so does each element of a sequence.
+#[derive(Clone, Copy)]
+pub(crate) enum Shown {
+    Absent,
+    Number(u32),
+    Signed(i32),
+    Decimal(i32, i64),
+    Text(&'static [u8]),
+    Bytes(&'static [u8]),
+    Group(&'static [u32]),
+    Sequence(&'static [&'static [u32]]),
+}
+
+fn vector(alloc: Global, bytes: &[u8]) -> Result<Node, AllocError> {
+    let bytes = bytes.to_vec(alloc)?;
+    Ok(Node::Value(Scalar::Bytes(ByteString::from_vec(bytes))))
+}
+
+fn numbers(alloc: Global, values: &[u32]) -> Result<Vec<Node>, AllocError> {
+    let mut nodes = Vec::new(alloc);
+    for value in values {
+        nodes.push(Node::Value(Scalar::U32(*value)))?;
+    }
+    Ok(nodes)
+}
+
+fn elements(alloc: Global, rows: &[&[u32]]) -> Result<Vec<Vec<Node>>, AllocError> {
+    let mut elements = Vec::new(alloc);
+    for values in rows {
+        elements.push(numbers(alloc, values)?)?;
+    }
+    Ok(elements)
+}
+
+impl Shown {
+    fn node(self, alloc: Global) -> Result<Node, AllocError> {
+        match self {
+            Shown::Absent => Ok(Node::Absent),
+            Shown::Number(value) => Ok(Node::Value(Scalar::U32(value))),
+            Shown::Signed(value) => Ok(Node::Value(Scalar::I32(value))),
+            Shown::Decimal(exponent, mantissa) => {
+                Ok(Node::Value(Scalar::Decimal { exponent, mantissa }))
+            }
+            Shown::Text(bytes) => text(alloc, bytes),
+            Shown::Bytes(bytes) => vector(alloc, bytes),
+            Shown::Group(values) => Ok(Node::Group(numbers(alloc, values)?)),
+            Shown::Sequence(rows) => Ok(Node::Sequence(elements(alloc, rows)?)),
+        }
+    }
+}
+
+// A message of a row.
+pub(crate) struct Sent {
+    pub(crate) template: u32,
+    pub(crate) fields: &'static [Shown],
+}
+
+impl Sent {
+    fn message(&self, alloc: Global) -> Result<Message, AllocError> {
+        let mut fields = Vec::new(alloc);
+        for field in self.fields {
+            fields.push(field.node(alloc)?)?;
+        }
+        Ok(Message {
+            template: self.template,
+            fields,
+        })
+    }
+}
+
+fn messages(alloc: Global, rows: &[Sent]) -> Result<Vec<Message>, AllocError> {
+    let mut messages = Vec::new(alloc);
+    for row in rows {
+        messages.push(row.message(alloc)?)?;
+    }
+    Ok(messages)
+}
+
+// Whether a reader gives these messages.
+fn gives_all<R: ByteInput, E: Entries>(
+    input: &mut MessageInputStream<'_, R, E>,
+    want: &[Message],
+) -> bool {
+    for message in want {
+        match input.read_message() {
+            Ok(Some(found)) if found == *message => {}
+            _ => return false,
+        }
+    }
+    true
+}
+
+// Whether a reader gives no more messages, but this fault, or none.
+fn ends_so<R: ByteInput, E: Entries>(
+    input: &mut MessageInputStream<'_, R, E>,
+    fault: Option<Fault>,
+) -> bool {
+    match input.read_message() {
+        Ok(None) => fault.is_none(),
+        Ok(Some(_)) => false,
+        Err(found) => fault == Some(found),
+    }
+}
+
+// Whether a reader that gives so many bytes at a time gives these messages and then this fault, or none.
+fn reads<E: Entries>(
+    alloc: Global,
+    set: &TemplateSet,
+    mode: Mode,
+    entries: E,
+    stream: &[u8],
+    step: usize,
+    want: &[Message],
+    fault: Option<Fault>,
+) -> bool
+    requires step { 1 ≤ step }
+    requires served { ServesAll (E.serves entries) set.now }
+{
+    let reader = Counted::new(ScriptInput::new(stream, step, 0));
+    let mut input = MessageInputStream::new(alloc, reader, set, mode, entries, 1_000_000);
+    gives_all(&mut input, want) && ends_so(&mut input, fault)
+}
+
+// The same over both kinds of entries.
+fn both_read(
+    alloc: Global,
+    set: &TemplateSet,
+    mode: Mode,
+    stream: &[u8],
+    step: usize,
+    want: &[Message],
+    fault: Option<Fault>,
+) -> Result<bool, AllocError>
+    requires { 1 ≤ step }
+{
+    let map = MapEntries::new(alloc);
+    if !reads(alloc, set, mode, map, stream, step, want, fault) {
+        return Ok(false);
+    }
+    let slots = slots_of(alloc, set)?;
+    Ok(reads(alloc, set, mode, slots, stream, step, want, fault))
+}
+
+// Whether a fresh decoder answers this fault, or none, to a stream that is cut in two.
+fn is_cut_so<E: Entries>(
+    decoder: &mut Decoder<'_, E>,
+    front: &[u8],
+    back: &[u8],
+    out: &mut Vec<Message>,
+    fault: Option<Fault>,
+) -> bool {
+    if decoder.fed() != 0 || front.len() > 100_000 || back.len() > 100_000 {
+        return false;
+    }
+    let end = match decoder.feed(front, out) {
+        Err(fault) => Some(fault),
+        Ok(()) => match decoder.feed(back, out) {
+            Err(fault) => Some(fault),
+            Ok(()) => decoder.finish().err(),
+        },
+    };
+    end == fault
+}
+
+// Whether a stream that is cut in two gives these messages and then this fault, or none.
+fn decodes<E: Entries>(
+    alloc: Global,
+    set: &TemplateSet,
+    mode: Mode,
+    entries: E,
+    front: &[u8],
+    back: &[u8],
+    want: &[Message],
+    fault: Option<Fault>,
+) -> bool
+    requires { ServesAll (E.serves entries) set.now }
+{
+    let mut decoder = Decoder::new(alloc, set, mode, entries);
+    let mut messages = Vec::new(alloc);
+    is_cut_so(&mut decoder, front, back, &mut messages, fault) && messages.as_slice() == want
+}
+
+// The same over both kinds of entries.
+fn both_decode(
+    alloc: Global,
+    set: &TemplateSet,
+    mode: Mode,
+    front: &[u8],
+    back: &[u8],
+    want: &[Message],
+    fault: Option<Fault>,
+) -> Result<bool, AllocError> {
+    let map = MapEntries::new(alloc);
+    if !decodes(alloc, set, mode, map, front, back, want, fault) {
+        return Ok(false);
+    }
+    let slots = slots_of(alloc, set)?;
+    Ok(decodes(alloc, set, mode, slots, front, back, want, fault))
+}
+
+// Whether a stream gives these messages and then this fault, or none: in steps of one, two and three bytes, whole, and
+// cut in two at each place, over both kinds of entries.
+pub(crate) fn agrees(
+    alloc: Global,
+    set: &TemplateSet,
+    mode: Mode,
+    stream: &[u8],
+    want: &[Message],
+    fault: Option<Fault>,
+) -> Result<bool, AllocError> {
+    for step in 1..4 {
+        if !both_read(alloc, set, mode, stream, step, want, fault)? {
+            return Ok(false);
+        }
+    }
+    for cut in 0..=stream.len() {
+        let (front, back) = stream.split_at(cut);
+        if !both_decode(alloc, set, mode, front, back, want, fault)? {
+            return Ok(false);
+        }
+    }
+    Ok(true)
+}
+
+// A stream, its messages, and its end.
+#[derive(Clone, Copy)]
+pub(crate) struct Row {
+    pub(crate) stream: &'static [u8],
+    pub(crate) want: &'static [Sent],
+    pub(crate) end: End,
+}
+
+pub(crate) fn is_read(
+    rt: &impl Abort,
+    alloc: Global,
+    set: &TemplateSet,
+    mode: Mode,
+    row: &Row,
+) -> Result<(), AllocError> {
+    let want = messages(alloc, row.want)?;
+    let agree = agrees(alloc, set, mode, row.stream, &want, row.end.fault());
+    same(rt, agree, Ok(true));
+    Ok(())
+}
+
+pub(crate) fn each_read(
+    rt: &impl Abort,
+    alloc: Global,
+    set: &TemplateSet,
+    mode: Mode,
+    rows: &[Row],
+) -> Result<(), AllocError> {
+    for row in rows {
+        is_read(rt, alloc, set, mode, row)?;
+    }
+    Ok(())
+}
+
+pub(crate) fn all_read_in(
+    rt: &impl Abort,
+    alloc: Global,
+    mode: Mode,
+    rows: &[Row],
+) -> Result<(), AllocError> {
+    match worked(alloc) {
+        Some(set) => each_read(rt, alloc, &set, mode, rows),
+        None => panic!(rt; "refused"),
+    }
+}
+
+fn all_read(rt: &impl Abort, alloc: Global, rows: &[Row]) -> Result<(), AllocError> {
+    all_read_in(rt, alloc, PLAIN, rows)
+}
+
+#[test]
+fn fields(rt: HostRuntime) -> Result<(), AllocError> {
+    const ROWS: &[Row] = &[
+        Row {
+            stream: b"\xF0\x81\x81\x41\xC2\xFE\x00\xE4\x80\x80\x81",
+            want: &[
+                Sent {
+                    template: 1,
+                    fields: &[
+                        Shown::Number(1),
+                        Shown::Text(b"AB"),
+                        Shown::Decimal(-2, 100),
+                        Shown::Absent,
+                    ],
+                },
+                Sent {
+                    template: 1,
+                    fields: &[
+                        Shown::Number(2),
+                        Shown::Text(b"AB"),
+                        Shown::Decimal(-2, 101),
+                        Shown::Absent,
+                    ],
+                },
+            ],
+            end: End::Whole,
+        },
+        Row {
+            stream: b"\xE0\x82\x0F\x7F\x7F\x7F\xFF\x0F\x7F\x7F\x7F\xFF\x80\x80\x80\x81",
+            want: &[
+                Sent {
+                    template: 2,
+                    fields: &[Shown::Number(4_294_967_295), Shown::Number(4_294_967_295)],
+                },
+                Sent {
+                    template: 2,
+                    fields: &[Shown::Number(0), Shown::Number(4_294_967_295)],
+                },
+            ],
+            end: End::Fault(Cause::D2, 3, 15, 2, 2),
+        },
+        Row {
+            stream: b"\xF0\x83\x80\x85\x90\x39\x45\xA3",
+            want: &[
+                Sent {
+                    template: 3,
+                    fields: &[Shown::Absent, Shown::Number(5)],
+                },
+                Sent {
+                    template: 3,
+                    fields: &[Shown::Decimal(2, 942_755), Shown::Number(5)],
+                },
+            ],
+            end: End::Whole,
+        },
+    ];
+    all_read(&rt, rt.alloc(), ROWS)
+}
+
+#[test]
+fn string_deltas(rt: HostRuntime) -> Result<(), AllocError> {
+    const ROWS: &[Row] = &[
+        Row {
+            stream: b"\xC0\x8A\x80\x47\x45\x48\xB6\x80\x82\x4D\xB6\x80\xFD\x45\xD3",
+            want: &[
+                Sent {
+                    template: 10,
+                    fields: &[Shown::Text(b"GEH6")],
+                },
+                Sent {
+                    template: 10,
+                    fields: &[Shown::Text(b"GEM6")],
+                },
+                Sent {
+                    template: 10,
+                    fields: &[Shown::Text(b"ESM6")],
+                },
+            ],
+            end: End::Whole,
+        },
+        Row {
+            stream: b"\xC0\x8A\x80\x47\x45\x48\xB6\x80\x82\x4D\xB6\x80\xFD\x45\xD3\x80\x85\x80",
+            want: &[
+                Sent {
+                    template: 10,
+                    fields: &[Shown::Text(b"GEH6")],
+                },
+                Sent {
+                    template: 10,
+                    fields: &[Shown::Text(b"GEM6")],
+                },
+                Sent {
+                    template: 10,
+                    fields: &[Shown::Text(b"ESM6")],
+                },
+            ],
+            end: End::Fault(Cause::D7, 4, 16, 10, 1),
+        },
+    ];
+    all_read(&rt, rt.alloc(), ROWS)
+}
+
+#[test]
+fn segments(rt: HostRuntime) -> Result<(), AllocError> {
+    const ROWS: &[Row] = &[
+        Row {
+            stream: b"\xC0\x84\x80\x80\x81\x80\x83\x85\x86",
+            want: &[
+                Sent {
+                    template: 4,
+                    fields: &[Shown::Absent],
+                },
+                Sent {
+                    template: 4,
+                    fields: &[Shown::Sequence(&[])],
+                },
+                Sent {
+                    template: 4,
+                    fields: &[Shown::Sequence(&[&[5], &[6]])],
+                },
+            ],
+            end: End::Whole,
+        },
+        Row {
+            stream: b"\xC0\x85\x82\xC0\x85\x80",
+            want: &[Sent {
+                template: 5,
+                fields: &[Shown::Sequence(&[&[5], &[5]])],
+            }],
+            end: End::Whole,
+        },
+        Row {
+            stream: b"\xF0\x8B\xC0\x85\x86\x80\xA0\x80",
+            want: &[
+                Sent {
+                    template: 11,
+                    fields: &[Shown::Group(&[5]), Shown::Number(6)],
+                },
+                Sent {
+                    template: 11,
+                    fields: &[Shown::Absent, Shown::Number(6)],
+                },
+                Sent {
+                    template: 11,
+                    fields: &[Shown::Group(&[5]), Shown::Number(6)],
+                },
+            ],
+            end: End::Whole,
+        },
+    ];
+    all_read(&rt, rt.alloc(), ROWS)
+}
+
+#[test]
+fn refusals(rt: HostRuntime) -> Result<(), AllocError> {
+    const ROWS: &[Row] = &[
+        Row {
+            stream: b"",
+            want: &[],
+            end: End::Whole,
+        },
+        Row {
+            stream: b"\x80",
+            want: &[],
+            end: End::Fault(Cause::D5, 1, 1, 0, 0),
+        },
+        Row {
+            stream: b"\xC0\xE4",
+            want: &[],
+            end: End::Fault(Cause::D9, 1, 1, 0, 0),
+        },
+        Row {
+            stream: b"\xC0\x84\x04\x00\x81",
+            want: &[],
+            end: End::Fault(Cause::Limit, 1, 2, 4, 1),
+        },
+        Row {
+            stream: b"\xC0\x8D\x85",
+            want: &[],
+            end: End::Fault(Cause::D6, 1, 2, 13, 2),
+        },
+        Row {
+            stream: b"\xF0\x81\x81\x41\xC2\x00\xC0",
+            want: &[],
+            end: End::Fault(Cause::R1, 1, 5, 1, 3),
+        },
+        Row {
+            stream: b"\xF0\x87\x85\xC1\x80",
+            want: &[Sent {
+                template: 7,
+                fields: &[Shown::Number(5), Shown::Text(b"A")],
+            }],
+            end: End::Fault(Cause::D4, 2, 5, 7, 1),
+        },
+        Row {
+            stream: b"\xF0\x81\0\0\0\0\0\0\0\0\0\0",
+            want: &[],
+            end: End::Fault(Cause::Limit, 1, 2, 1, 1),
+        },
+        Row {
+            stream: b"\xF0\x81\0\0\0\0\0\0\0\0\0",
+            want: &[],
+            end: End::Fault(Cause::Truncated, 1, 2, 1, 1),
+        },
+    ];
+    all_read(&rt, rt.alloc(), ROWS)
+}
+
+#[test]
+fn cut_off(rt: HostRuntime) -> Result<(), AllocError> {
+    const ROWS: &[Row] = &[
+        Row {
+            stream: b"\xF0",
+            want: &[],
+            end: End::Fault(Cause::Truncated, 1, 1, 0, 0),
+        },
+        Row {
+            stream: b"\xF0\x81",
+            want: &[],
+            end: End::Fault(Cause::Truncated, 1, 2, 1, 1),
+        },
+        Row {
+            stream: b"\xF0\x81\x81",
+            want: &[],
+            end: End::Fault(Cause::Truncated, 1, 3, 1, 2),
+        },
+        Row {
+            stream: b"\xF0\x81\x81\x41",
+            want: &[],
+            end: End::Fault(Cause::Truncated, 1, 3, 1, 2),
+        },
+        Row {
+            stream: b"\xF0\x81\x81\x41\xC2",
+            want: &[],
+            end: End::Fault(Cause::Truncated, 1, 5, 1, 3),
+        },
+        Row {
+            stream: b"\xF0\x81\x81\x41\xC2\xFE",
+            want: &[],
+            end: End::Fault(Cause::Truncated, 1, 5, 1, 3),
+        },
+        Row {
+            stream: b"\xF0\x81\x81\x41\xC2\xFE\x00",
+            want: &[],
+            end: End::Fault(Cause::Truncated, 1, 5, 1, 3),
+        },
+    ];
+    all_read(&rt, rt.alloc(), ROWS)
+}
+
+// A quote with this symbol but for its last letter, an A.
+fn long_stream(alloc: Global, symbol: &[u8]) -> Result<Vec<u8>, AllocError> {
+    let mut stream = Vec::new(alloc);
+    stream.extend_from_slice(&[0xF0, 0x81, 0x81])?;
+    stream.extend_from_slice(symbol)?;
+    stream.extend_from_slice(&[0xC1, 0xFE, 0x00, 0xE4])?;
+    Ok(stream)
+}
+
+// Its message, with the whole symbol.
+fn long_message(alloc: Global, symbol: &[u8]) -> Result<Message, AllocError> {
+    let mut whole = symbol.to_vec(alloc)?;
+    whole.push(0x41)?;
+    quote(alloc, &whole, -2, 100)
+}
+
+// Whether it is read, in reads of 4,096 bytes, or refused with this fault.
+fn reads_long(
+    alloc: Global,
+    set: &TemplateSet,
+    mode: Mode,
+    symbol: &[u8],
+    fault: Option<Fault>,
+) -> Result<bool, AllocError> {
+    let stream = long_stream(alloc, symbol)?;
+    let want = vec![in alloc; long_message(alloc, symbol)?]?;
+    let want = if fault.is_none() { &want[..] } else { &[] };
+    let map = MapEntries::new(alloc);
+    Ok(reads(alloc, set, mode, map, &stream, 4096, want, fault))
+}
+
+// The same of a symbol with so many zero groups in front, so many letters and one more.
+pub(crate) fn long(
+    alloc: Global,
+    mode: Mode,
+    zeros: usize,
+    letters: usize,
+    fault: Option<Fault>,
+) -> Result<bool, AllocError> {
+    let mut symbol = vec![in alloc; 0x00; zeros]?;
+    symbol.extend_from_slice(&vec![in alloc; 0x41; letters]?)?;
+    match worked(alloc) {
+        Some(set) => reads_long(alloc, &set, mode, &symbol, fault),
+        None => Ok(false),
+    }
+}
+
+#[test]
+fn long_strings(rt: HostRuntime) {
+    let alloc = rt.alloc();
+    same(&rt, long(alloc, PLAIN, 0, 65_534, None), Ok(true));
+    let fault = End::Fault(Cause::Limit, 1, 3, 1, 2).fault();
+    same(&rt, long(alloc, PLAIN, 0, 65_535, fault), Ok(true));
+    // a preamble is no character
+    same(&rt, long(alloc, PLAIN, 1, 65_535, fault), Ok(true));
+}
+
+#[test]
+fn held_byte_by_byte(rt: HostRuntime) {
+    const STRING: &[Step] = &[
+        Step::Byte(0xF0, 0),
+        Step::Byte(0x81, 0),
+        Step::Byte(0x81, 0),
+        Step::Byte(0x41, 1),
+        Step::Byte(0xC2, 0),
+        Step::Byte(0xFE, 1),
+        Step::Byte(0x00, 2),
+        Step::Byte(0xE4, 0),
+    ];
+    const SEQUENCE: &[Step] = &[
+        Step::Byte(0xC0, 0),
+        Step::Byte(0x85, 0),
+        Step::Byte(0x82, 0),
+        Step::Byte(0xC0, 0),
+        Step::Byte(0x85, 0),
+        Step::Byte(0x80, 0),
+    ];
+    same(&rt, count(&rt, rt.alloc(), STRING), 1);
+    same(&rt, count(&rt, rt.alloc(), SEQUENCE), 1);
+    same(&rt, count(&rt, rt.alloc(), &[Step::Byte(0x80, 0)]), 0);
+}
+
+// The messages of a delta of 65,535 bytes, of which the most are held while the last is missing.
+fn held_most(
+    rt: &impl Abort,
+    alloc: Global,
+    set: &TemplateSet,
+    part: &[u8],
+) -> Result<usize, AllocError> {
+    const LENGTHS: &[u8] = b"\xC0\x81\0\0\0\0\0\0\0\0\0\x80\0\0\0\0\0\0\0\x03\x7F\xFF";
+    let steps = [
+        Step::Feed(LENGTHS, End::Whole),
+        Step::Feed(part, End::Whole),
+        Step::Held(65_554),
+        Step::Fed(65_556),
+        Step::Feed(b"\x41", End::Whole),
+        Step::Held(0),
+    ];
+    let slots = slots_of(alloc, set)?;
+    Ok(follow(rt, alloc, set, PLAIN, slots, &steps).len())
+}
+
+#[test]
+fn the_most_held(rt: HostRuntime) -> Result<(), AllocError> {
+    const RAW: &str = r#"{"templates":[{"name":"Raw","id":1,"instructions":[
+        {"kind":"byteVector","name":"B","operator":"delta"}]}]}"#;
+    let part = vec![in rt.alloc(); 0x41; 65_534]?;
+    match TemplateSet::from_json(rt.alloc(), RAW.as_bytes()) {
+        Ok(set) => same(&rt, held_most(&rt, rt.alloc(), &set, &part), Ok(1)),
+        Err(_) => panic!(rt; "refused"),
+    }
+    Ok(())
+}
+
+// The faults that two calls answer.
+fn two_faults<R: ByteInput, E: Entries>(
+    input: &mut MessageInputStream<'_, R, E>,
+) -> (Option<Fault>, Option<Fault>) {
+    let first = input.read_message().err();
+    (first, input.read_message().err())
+}
+
+// The same of a reader that gives so many bytes a call and fails at one, read so often.
+fn faults_over(
+    alloc: Global,
+    set: &TemplateSet,
+    stream: &[u8],
+    step: usize,
+    fails: u64,
+    turns: u64,
+) -> (Option<Fault>, Option<Fault>)
+    requires step { 1 ≤ step }
+    requires turns { turns ≤ 100 }
+{
+    let reader = Counted::new(ScriptInput::new(stream, step, fails));
+    let mut input = MessageInputStream::new(
+        alloc,
+        reader,
+        set,
+        PLAIN,
+        MapEntries::new(alloc),
+        turns,
+    );
+    two_faults(&mut input)
+}
+
+fn faults(
+    alloc: Global,
+    stream: &[u8],
+    step: usize,
+    fails: u64,
+    turns: u64,
+) -> (Option<Fault>, Option<Fault>)
+    requires step { 1 ≤ step }
+    requires turns { turns ≤ 100 }
+{
+    match worked(alloc) {
+        Some(set) => faults_over(alloc, &set, stream, step, fails, turns),
+        None => (None, None),
+    }
+}
+
+#[test]
+fn failed_and_used_up_reads(rt: HostRuntime) {
+    let alloc = rt.alloc();
+    let failed = End::Fault(Cause::Read, 1, 2, 1, 1).fault();
+    same(&rt, faults(alloc, b"\xF0\x81", 2, 2, 9), (failed, failed));
+    let used_up = End::Fault(Cause::Turns, 1, 2, 1, 1).fault();
+    same(&rt, faults(alloc, QUOTE, 1, 0, 2), (used_up, used_up));
+    // eight reads for a message, and one that meets the end
+    same(&rt, faults(alloc, QUOTE, 1, 0, 9), (None, None));
+    let later = End::Fault(Cause::Turns, 2, 8, 0, 0).fault();
+    same(&rt, faults(alloc, QUOTE, 1, 0, 8), (None, later));
+}
+
+// A stream is refused, and another behind it, before the decoder begins again.
+#[test]
+fn reset(rt: HostRuntime) {
+    const STEPS: &[Step] = &[
+        Step::Feed(b"\x80", End::Fault(Cause::D5, 1, 1, 0, 0)),
+        Step::Feed(QUOTE, End::Fault(Cause::D5, 1, 1, 0, 0)),
+        Step::Reset,
+        Step::Feed(QUOTE, End::Whole),
+    ];
+    same(&rt, count(&rt, rt.alloc(), STEPS), 1);
+}

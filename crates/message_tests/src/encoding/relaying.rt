@@ -1,0 +1,230 @@
+//! Streams that are read and written at once, by the calls.
+
+use crate::modes::PLAIN;
+use crate::same::same;
+use crate::worked::worked;
+use fast_dictionary::MapEntries;
+use fast_machine::Machine;
+use fast_template::TemplateSet;
+use fast_writer::Writer;
+use std::alloc::Global;
+use std::process::Abort;
+
+// More than the bytes of any stream here; a machine asks how many it is fed.
+const LONGEST: usize = 4096;
+
+// The messages of a stream up to its first fault have these canonical bytes.
+struct Row {
+    stream: &'static [u8],
+    canonical: &'static [u8],
+    refused: bool,
+}
+
+fn is_relayed(rt: &impl Abort, alloc: Global, set: &TemplateSet, row: &Row) {
+    if row.stream.len() > LONGEST {
+        panic!(rt; "too long a stream");
+    }
+    let mut machine = Machine::new(
+        alloc,
+        set,
+        PLAIN,
+        Writer::new(alloc),
+        MapEntries::new(alloc),
+    );
+    let fault = machine.feed(row.stream).is_err() || machine.finish().is_err();
+    same(rt, machine.receiver.finished(), row.canonical);
+    same(rt, fault, row.refused);
+    machine.receiver.hand_on();
+    same(rt, machine.receiver.finished().len(), 0);
+}
+
+fn all_relayed(rt: &impl Abort, alloc: Global, rows: &[Row]) {
+    let Some(set) = worked(alloc) else {
+        panic!(rt; "refused");
+    };
+    for row in rows {
+        is_relayed(rt, alloc, &set, row);
+    }
+}
+
+#[test]
+fn numbers_and_texts(rt: HostRuntime) {
+    const ROWS: &[Row] = &[
+        Row {
+            stream: b"\xf0\x81\x81\x41\xc2\xfe\x00\xe4",
+            canonical: b"\xf0\x81\x81\x41\xc2\xfe\x00\xe4",
+            refused: false,
+        },
+        Row {
+            stream: b"\xf0\x81\x81\x41\xc2\xfe\x00\xe4\xf8\x81\x82\x41\xc2\x80\x81\x80",
+            canonical: b"\xf0\x81\x81\x41\xc2\xfe\x00\xe4\x80\x80\x81",
+            refused: false,
+        },
+        Row {
+            stream: b"\xf0\x81\x81\x41\xc2\xfe\x00\xe4\x80\x80\x81",
+            canonical: b"\xf0\x81\x81\x41\xc2\xfe\x00\xe4\x80\x80\x81",
+            refused: false,
+        },
+        Row {
+            stream: b"",
+            canonical: b"",
+            refused: false,
+        },
+        Row {
+            stream: b"\xf0\x81\x00\x00\x81\x41\xc2\xfe\x00\xe4",
+            canonical: b"\xf0\x81\x81\x41\xc2\xfe\x00\xe4",
+            refused: false,
+        },
+        Row {
+            stream: b"\x70\x00\x80\x81\x81\x41\xc2\xfe\x00\xe4",
+            canonical: b"\xf0\x81\x81\x41\xc2\xfe\x00\xe4",
+            refused: false,
+        },
+        Row {
+            stream: b"\xf1\x81\x81\x41\xc2\xfe\x00\xe4",
+            canonical: b"\xf0\x81\x81\x41\xc2\xfe\x00\xe4",
+            refused: false,
+        },
+    ];
+    all_relayed(&rt, rt.alloc(), ROWS);
+}
+
+#[test]
+fn deltas_and_tails(rt: HostRuntime) {
+    const ROWS: &[Row] = &[
+        Row {
+            stream: b"\xc0\x8a\x80\x47\x45\x48\xb6\x80\x82\x4d\xb6\x80\xfd\x45\xd3",
+            canonical: b"\xc0\x8a\x80\x47\x45\x48\xb6\x80\x82\x4d\xb6\x80\xfd\x45\xd3",
+            refused: false,
+        },
+        Row {
+            stream: b"\xc0\x8a\x80\x47\x45\x48\xb6\x80\x82\x4d\xb6\x80\xfd\x45\xd3\x80\xff\x80",
+            canonical: b"\xc0\x8a\x80\x47\x45\x48\xb6\x80\x82\x4d\xb6\x80\xfd\x45\xd3\x80\x80\x80",
+            refused: false,
+        },
+        Row {
+            stream: b"\xe0\x88\x78\x61\xe2\xa0\x00\x00\x00\xe2",
+            canonical: b"\xe0\x88\x78\x61\xe2\xa0\x78\x00\xe2",
+            refused: false,
+        },
+        Row {
+            stream: b"\xe0\x89\x80\xa0\x00\x80",
+            canonical: b"\xe0\x89\x80\xa0\xe2",
+            refused: false,
+        },
+    ];
+    all_relayed(&rt, rt.alloc(), ROWS);
+}
+
+#[test]
+fn decimals_in_parts(rt: HostRuntime) {
+    const ROWS: &[Row] = &[
+        Row {
+            stream: b"\xf0\x83\x80\x85\x90\x39\x45\xa3",
+            canonical: b"\xf0\x83\x80\x85\x90\x39\x45\xa3",
+            refused: false,
+        },
+        Row {
+            stream: b"\xf0\x83\x80\x85\xb0\x83\x39\x45\xa3",
+            canonical: b"\xf0\x83\x80\x85\x90\x39\x45\xa3",
+            refused: false,
+        },
+        Row {
+            stream: b"\xe0\x8f\x00\xe4\x83\x0a\xff\x80\x81",
+            canonical: b"\xe0\x8f\x00\xe4\x83\x0a\xff\x80\x81",
+            refused: false,
+        },
+    ];
+    all_relayed(&rt, rt.alloc(), ROWS);
+}
+
+#[test]
+fn groups_and_sequences(rt: HostRuntime) {
+    const ROWS: &[Row] = &[
+        Row {
+            stream: b"\xc0\x84\x80\x80\x81\x80\x83\x85\x86",
+            canonical: b"\xc0\x84\x80\x80\x81\x80\x83\x85\x86",
+            refused: false,
+        },
+        Row {
+            stream: b"\xc0\x85\x82\xc0\x85\x80",
+            canonical: b"\xc0\x85\x82\xc0\x85\x80",
+            refused: false,
+        },
+        Row {
+            stream: b"\xf0\x8b\xc0\x85\x86\x80\xa0\x80",
+            canonical: b"\xf0\x8b\xc0\x85\x86\x80\xa0\x80",
+            refused: false,
+        },
+    ];
+    all_relayed(&rt, rt.alloc(), ROWS);
+}
+
+#[test]
+fn identifiers_and_keys(rt: HostRuntime) {
+    const ROWS: &[Row] = &[
+        Row {
+            stream: b"\xe0\x90\x85\x86\xe0\x90\x87\x86",
+            canonical: b"\xe0\x90\x85\x86\x80\x87",
+            refused: false,
+        },
+        Row {
+            stream: b"\xf0\x87\x85\xc1\xb0\x86\xc1",
+            canonical: b"\xf0\x87\x85\xc1\xb0\x86\xc1",
+            refused: false,
+        },
+    ];
+    all_relayed(&rt, rt.alloc(), ROWS);
+}
+
+#[test]
+fn what_comes_before_a_fault(rt: HostRuntime) {
+    const ROWS: &[Row] = &[
+        Row {
+            stream: b"\x80",
+            canonical: b"",
+            refused: true,
+        },
+        Row {
+            stream: b"\xc0\xe4",
+            canonical: b"",
+            refused: true,
+        },
+        Row {
+            stream: b"\xe0\x82\x0f\x7f\x7f\x7f\xff\x0f\x7f\x7f\x7f\xff\x80\x80\x80\x81",
+            canonical: b"\xe0\x82\x0f\x7f\x7f\x7f\xff\x0f\x7f\x7f\x7f\xff\x80\x80",
+            refused: true,
+        },
+        Row {
+            stream: b"\xe0\x8e\x80\x90\x83\x90\x10\x00\x00\x00\x80",
+            canonical: b"\xe0\x8e\x80\x80",
+            refused: true,
+        },
+        Row {
+            stream: b"\xf0\x87\x85\xc1\x80",
+            canonical: b"\xf0\x87\x85\xc1",
+            refused: true,
+        },
+        Row {
+            stream: b"\xe0\x8c\x82\xc3\xa9\xa0\x81\xa8\xa0\x81\x41",
+            canonical: b"\xe0\x8c\x82\xc3\xa9\xa0\x81\xa8",
+            refused: true,
+        },
+        Row {
+            stream: b"\xf0\x81\x81\x41\xc2\xfe",
+            canonical: b"",
+            refused: true,
+        },
+    ];
+    all_relayed(&rt, rt.alloc(), ROWS);
+}
+
+#[test]
+fn many_elements_of_nothing(rt: HostRuntime) {
+    const ROWS: &[Row] = &[Row {
+        stream: b"\xc0\x86\x03\x7f\xff",
+        canonical: b"\xc0\x86\x03\x7f\xff",
+        refused: false,
+    }];
+    all_relayed(&rt, rt.alloc(), ROWS);
+}

@@ -1,0 +1,6 @@
+//! What no clause of `fast_command` says: worked streams through its calls, and devices that fail in mid-stream.
+
+mod blocks;
+mod lines;
+mod streams;
+mod strict;

@@ -1,0 +1,7 @@
+//! What no clause says: worked streams, the program's answers, and devices that fail in mid-stream.
+
+mod blocks;
+mod devices;
+mod examples;
+mod programs;
+mod strict;

@@ -1,0 +1,156 @@
+//! The order book and the trade feed of examples/: their lines and canonical bytes, and those of these bytes.
+
+use crate::same::same_of;
+use crate::serving::devices::{After, Feed, STREAM, Shelf, TEMPLATES};
+use fast_io::Counted;
+use fast_serve::serve::{TURNS, serve};
+use std::alloc::Global;
+use std::process::Abort;
+
+// The text of book.json.
+pub const BOOK: &str = r#"{"templates":[
+{"name":"Book","id":1,"instructions":[
+ {"kind":"uInt32","name":"Seq","operator":"increment"},
+ {"kind":"string","name":"Symbol","operator":"copy"},
+ {"kind":"sequence","name":"Entries","instructions":[
+  {"kind":"uInt32","name":"Side","operator":"copy"},
+  {"kind":"decimal","name":"Price",
+   "exponent":{"operator":"default","value":"-2"},"mantissa":{"operator":"delta"}},
+  {"kind":"uInt32","name":"Size","operator":"copy"}]}]}]}"#;
+
+// The text of trade.json.
+pub const TRADE: &str = r#"{"templates":[
+{"name":"Trade","id":2,"instructions":[
+ {"kind":"uInt64","name":"Time","operator":"delta"},
+ {"kind":"string","name":"Symbol","operator":"delta"},
+ {"kind":"decimal","name":"Price","operator":"delta"},
+ {"kind":"uInt32","name":"Size","operator":"default","value":"100"},
+ {"kind":"byteVector","name":"Buyer","presence":"optional","operator":"copy"}]}]}"#;
+
+// Bytes that are given whole.
+fn whole(text: &str) -> Feed<'_> {
+    Feed {
+        rest: text.as_bytes(),
+        width: 4096,
+        after: After::End,
+    }
+}
+
+const SHOW: &[&str] = &["fastcat", "show", "--hex", "--templates", TEMPLATES, STREAM];
+
+const CHECK: &[&str] = &[
+    "fastcat",
+    "check",
+    "--hex",
+    "--templates",
+    TEMPLATES,
+    STREAM,
+];
+
+const CANON: &[&str] = &[
+    "fastcat",
+    "canon",
+    "--hex",
+    "--templates",
+    TEMPLATES,
+    STREAM,
+];
+
+const SHOW_STRICTLY: &[&str] = &[
+    "fastcat",
+    "show",
+    "--strict",
+    "--hex",
+    "--templates",
+    TEMPLATES,
+    STREAM,
+];
+
+const CANON_STRICTLY: &[&str] = &[
+    "fastcat",
+    "canon",
+    "--strict",
+    "--hex",
+    "--templates",
+    TEMPLATES,
+    STREAM,
+];
+
+// Serves a line over templates and a stream in hex text.
+fn is_served(
+    rt: &impl Abort,
+    alloc: Global,
+    words: &[&str],
+    templates: &str,
+    stream: &str,
+    want: &str,
+) {
+    let mut out = Vec::new(alloc);
+    let mut err = Vec::new(alloc);
+    let status = serve(
+        alloc,
+        words,
+        &mut Shelf {
+            templates: whole(templates),
+            stream: whole(stream),
+            standard: whole(""),
+        },
+        &mut Counted::new(&mut out),
+        &mut Counted::new(&mut err),
+        TURNS,
+    );
+    same_of(rt, words, out.as_slice(), want.as_bytes());
+    same_of(rt, words, err.as_slice(), [].as_slice());
+    same_of(rt, words, status, 0);
+}
+
+// An example, and the same of its canonical bytes, at both levels.
+fn example(
+    rt: &impl Abort,
+    alloc: Global,
+    templates: &str,
+    stream: &str,
+    lines: &str,
+    canon: &str,
+) {
+    is_served(rt, alloc, SHOW, templates, stream, lines);
+    is_served(rt, alloc, CANON, templates, stream, canon);
+    is_served(rt, alloc, SHOW, templates, canon, lines);
+    is_served(rt, alloc, CANON, templates, canon, canon);
+    is_served(rt, alloc, SHOW_STRICTLY, templates, stream, lines);
+    is_served(rt, alloc, CANON_STRICTLY, templates, stream, canon);
+    is_served(rt, alloc, SHOW_STRICTLY, templates, canon, lines);
+    is_served(rt, alloc, CANON_STRICTLY, templates, canon, canon);
+}
+
+#[test]
+fn an_order_book(rt: HostRuntime) {
+    let stream = "f0 81 81 45 d3 82 d0 80 1b 3b e9 8a c0 81 99\nf0 81 82 45 d3 81 d0 81 99 84\n";
+    let lines = concat!(
+        "1 Book Seq=1 Symbol=\"ES\" Entries=[{Side=0 Price=450025e-2 Size=10} ",
+        "{Side=1 Price=450050e-2 Size=10}]\n",
+        "1 Book Seq=2 Symbol=\"ES\" Entries=[{Side=1 Price=450075e-2 Size=4}]\n",
+    );
+    let canon = "f0818145d382d0801b3be98ac081998081909984\n";
+    example(&rt, rt.alloc(), BOOK, stream, lines, canon);
+    let told = "ok messages=2 bytes=25 canonical=20\n";
+    is_served(&rt, rt.alloc(), CHECK, BOOK, stream, told);
+}
+
+#[test]
+fn a_trade_feed(rt: HostRuntime) {
+    let stream = concat!(
+        "c0 82 10 27 33 c0 80 45 53 5a b6 fe 1b 3b e9\n",
+        "b0 8f 80 80 80 99 01 fa 83 0a ff\n",
+        "a0 80 84 45 53 48 b7 80 80 e4\n",
+    );
+    let lines = concat!(
+        "2 Trade Time=34200000 Symbol=\"ESZ6\" Price=450025e-2 Size=100 Buyer=-\n",
+        "2 Trade Time=34200015 Symbol=\"ESZ6\" Price=450050e-2 Size=250 Buyer=x0aff\n",
+        "2 Trade Time=34200015 Symbol=\"ESH7\" Price=450050e-2 Size=100 Buyer=x0aff\n",
+    );
+    let canon = "c082102733c08045535ab6fe1b3be9b08f8080809901fa830aff80808248b78080\n";
+    example(&rt, rt.alloc(), TRADE, stream, lines, canon);
+    let told = "ok messages=3 bytes=36 canonical=33\n";
+    is_served(&rt, rt.alloc(), CHECK, TRADE, stream, told);
+}

@@ -1,0 +1,768 @@
+//! The program: its exit status, what it writes, and what it says.
+
+ghost use Rattle.std.specs.Prelude.{◌≤◌, ◌^◌};
+
+use crate::same::{same, same_of};
+use crate::serving::devices::{After, Feed, Flushed, Full, STREAM, Shelf, Sink, TEMPLATES};
+use fast_io::Counted;
+use fast_serve::serve::{TURNS, serve, serve_words};
+use std::alloc::{AllocError, Global};
+use std::io;
+use std::process::Abort;
+use std::test::Fail;
+
+/// What is answered, written and said.
+#[derive(Clone, Copy)]
+struct Answer<'a> {
+    status: u8,
+    out: &'a [u8],
+    err: &'a str,
+}
+
+/// A command line, a standard input, and what is answered, written and said.
+pub struct Row {
+    pub words: &'static [&'static str],
+    pub input: &'static [u8],
+    pub status: u8,
+    pub out: &'static [u8],
+    pub err: &'static str,
+}
+
+// The template of the streams, as examples/worked.json has it.
+pub const FIRST: &str = r#"{"templates":[{"name":"First","id":16,"instructions":[
+ {"kind":"uInt32","name":"A"},
+ {"kind":"uInt32","name":"B","operator":"copy"}]}]}"#;
+
+const SHOW: &[&str] = &["fastcat", "show", "--templates", TEMPLATES];
+
+const CHECK: &[&str] = &["fastcat", "check", "--templates", TEMPLATES];
+
+const CANON: &[&str] = &["fastcat", "canon", "--templates", TEMPLATES];
+
+const SHOW_HEX: &[&str] = &["fastcat", "show", "--templates", TEMPLATES, "--hex"];
+
+const CHECK_HEX: &[&str] = &["fastcat", "check", "--hex", "--templates", TEMPLATES];
+
+const CANON_HEX: &[&str] = &["fastcat", "canon", "--hex", "--templates", TEMPLATES];
+
+const TWO: &[u8] = b"\xe0\x90\x85\x86\xe0\x90\x87\x86";
+
+const TWO_LINES: &[u8] = b"16 First A=5 B=6\n16 First A=7 B=6\n";
+
+const TWO_COUNTED: &[u8] = b"ok messages=2 bytes=8 canonical=6\n";
+
+// Bytes that are given whole.
+fn whole(rest: &[u8]) -> Feed<'_> {
+    Feed {
+        rest,
+        width: 4096,
+        after: After::End,
+    }
+}
+
+// A shelf with that template, and this standard input.
+fn shelf(standard: Feed<'_>) -> Shelf<'_> {
+    Shelf {
+        templates: whole(FIRST.as_bytes()),
+        stream: whole(TWO),
+        standard,
+    }
+}
+
+// Serves a line over a shelf: the status, what is written and what is said.
+fn served(
+    rt: &impl Abort,
+    alloc: Global,
+    words: &[&str],
+    source: &mut Shelf<'_>,
+    turns: u64,
+    want: Answer<'_>,
+)
+    requires { turns ≤ 2 ^ 40 }
+{
+    let mut out = Vec::new(alloc);
+    let mut err = Vec::new(alloc);
+    let status = serve(
+        alloc,
+        words,
+        source,
+        &mut Counted::new(&mut out),
+        &mut Counted::new(&mut err),
+        turns,
+    );
+    same_of(rt, words, err.as_slice(), want.err.as_bytes());
+    same_of(rt, words, out.as_slice(), want.out);
+    same_of(rt, words, status, want.status);
+}
+
+// Serves a row over these templates, from its input given at most `width` bytes a read.
+fn row_is_served(rt: &impl Abort, alloc: Global, templates: &str, row: &Row, width: usize) {
+    let mut source = shelf(Feed {
+        rest: row.input,
+        width,
+        after: After::End,
+    });
+    source.templates = whole(templates.as_bytes());
+    let want = Answer {
+        status: row.status,
+        out: row.out,
+        err: row.err,
+    };
+    served(rt, alloc, row.words, &mut source, 999, want);
+}
+
+fn rows_are_served(rt: &impl Abort, alloc: Global, rows: &[Row]) {
+    for row in rows {
+        row_is_served(rt, alloc, FIRST, row, 1);
+        row_is_served(rt, alloc, FIRST, row, 2);
+        row_is_served(rt, alloc, FIRST, row, 4096);
+    }
+}
+
+/// Serves rows over these templates, whole and from reads of each size up to theirs.
+pub fn rows_are_served_over(rt: &impl Abort, alloc: Global, templates: &str, rows: &[Row]) {
+    for row in rows {
+        row_is_served(rt, alloc, templates, row, 4096);
+        for width in 1..=row.input.len() {
+            row_is_served(rt, alloc, templates, row, width);
+        }
+    }
+}
+
+#[test]
+fn streams_are_served(rt: HostRuntime) {
+    const ROWS: &[Row] = &[
+        Row {
+            words: SHOW,
+            input: TWO,
+            status: 0,
+            out: TWO_LINES,
+            err: "",
+        },
+        Row {
+            words: CHECK,
+            input: TWO,
+            status: 0,
+            out: TWO_COUNTED,
+            err: "",
+        },
+        Row {
+            words: CANON,
+            input: TWO,
+            status: 0,
+            out: b"\xe0\x90\x85\x86\x80\x87",
+            err: "",
+        },
+        Row {
+            words: SHOW,
+            input: b"",
+            status: 0,
+            out: b"",
+            err: "",
+        },
+        Row {
+            words: CHECK,
+            input: b"",
+            status: 0,
+            out: b"ok messages=0 bytes=0 canonical=0\n",
+            err: "",
+        },
+        Row {
+            words: CANON,
+            input: b"",
+            status: 0,
+            out: b"",
+            err: "",
+        },
+        Row {
+            words: &["fastcat", "show", STREAM, "--templates", TEMPLATES],
+            input: b"",
+            status: 0,
+            out: TWO_LINES,
+            err: "",
+        },
+        Row {
+            words: CANON,
+            input: b"\x80",
+            status: 1,
+            out: b"",
+            err: "refused D5 message=1 offset=1 template=0 instruction=0\n",
+        },
+        Row {
+            words: CHECK,
+            input: b"\xe0\x90\x85\x86\x80",
+            status: 1,
+            out: b"",
+            err: "refused Truncated message=2 offset=5 template=16 instruction=1\n",
+        },
+        Row {
+            words: SHOW,
+            input: b"\xe0\x90\x85\x86\xc0\xe4",
+            status: 1,
+            out: b"16 First A=5 B=6\n",
+            err: "refused D9 message=2 offset=5 template=0 instruction=0\n",
+        },
+    ];
+    rows_are_served(&rt, rt.alloc(), ROWS);
+}
+
+#[test]
+fn hex_texts_are_served(rt: HostRuntime) {
+    const ROWS: &[Row] = &[
+        Row {
+            words: CANON_HEX,
+            input: b"e0908586e0908786\n",
+            status: 0,
+            out: b"e09085868087\n",
+            err: "",
+        },
+        Row {
+            words: CANON_HEX,
+            input: b"E0 90\t85 86\r\ne0 9\n0 87 8 6 ",
+            status: 0,
+            out: b"e09085868087\n",
+            err: "",
+        },
+        Row {
+            words: CANON_HEX,
+            input: b"",
+            status: 0,
+            out: b"\n",
+            err: "",
+        },
+        Row {
+            words: SHOW_HEX,
+            input: b"e0908586e0908786",
+            status: 0,
+            out: TWO_LINES,
+            err: "",
+        },
+        Row {
+            words: SHOW_HEX,
+            input: b"\n",
+            status: 0,
+            out: b"",
+            err: "",
+        },
+        Row {
+            words: CHECK_HEX,
+            input: b"e0908586e0908786",
+            status: 0,
+            out: TWO_COUNTED,
+            err: "",
+        },
+        Row {
+            words: CANON_HEX,
+            input: b"e0908586 e0901000000080",
+            status: 1,
+            out: b"e0908586\n",
+            err: "refused D2 message=2 offset=6 template=16 instruction=1\n",
+        },
+        Row {
+            words: CANON_HEX,
+            input: b"e09000000000000000000000",
+            status: 1,
+            out: b"\n",
+            err: "refused Limit message=1 offset=2 template=16 instruction=1\n",
+        },
+        Row {
+            words: SHOW_HEX,
+            input: b"e090",
+            status: 1,
+            out: b"",
+            err: "refused Truncated message=1 offset=2 template=16 instruction=1\n",
+        },
+        Row {
+            words: CANON_HEX,
+            input: b"zz",
+            status: 2,
+            out: b"",
+            err: "input is not hex\n",
+        },
+        Row {
+            words: CANON_HEX,
+            input: b"e09",
+            status: 2,
+            out: b"",
+            err: "input is not hex\n",
+        },
+        Row {
+            words: CANON_HEX,
+            input: b"0xe0",
+            status: 2,
+            out: b"",
+            err: "input is not hex\n",
+        },
+        Row {
+            words: CANON_HEX,
+            input: b"e0\x0b",
+            status: 2,
+            out: b"",
+            err: "input is not hex\n",
+        },
+        Row {
+            words: CANON_HEX,
+            input: b"e0\x0c90",
+            status: 2,
+            out: b"",
+            err: "input is not hex\n",
+        },
+    ];
+    rows_are_served(&rt, rt.alloc(), ROWS);
+}
+
+// Serves a line that is not taken: the help, or what it says of the line.
+fn not_taken(rt: &impl Abort, alloc: Global, words: &[&str]) {
+    let mut out = Vec::new(alloc);
+    let mut err = Vec::new(alloc);
+    let status = serve(
+        alloc,
+        words,
+        &mut shelf(whole(TWO)),
+        &mut Counted::new(&mut out),
+        &mut Counted::new(&mut err),
+        9,
+    );
+    same_of(rt, words, status, 2);
+    same_of(rt, words, out.is_empty(), true);
+    same_of(rt, words, err.is_empty(), false);
+}
+
+#[test]
+fn command_lines(rt: HostRuntime) {
+    const LINES: &[&[&str]] = &[
+        &[],
+        &["fastcat"],
+        &["fastcat", "show"],
+        &["fastcat", "list", "--templates", TEMPLATES],
+        &["fastcat", "canon", "--templates"],
+        &["fastcat", "canon", STREAM, STREAM, "--templates", TEMPLATES],
+        &["fastcat", "canon", "--Hex", "--templates", TEMPLATES],
+        &["fastcat", "--help"],
+        &["fastcat", "--version"],
+    ];
+    for words in LINES {
+        not_taken(&rt, rt.alloc(), words);
+    }
+}
+
+// A shelf with these templates.
+fn shelf_of(templates: Feed<'_>) -> Shelf<'_> {
+    Shelf {
+        templates,
+        stream: whole(TWO),
+        standard: whole(b"zz"),
+    }
+}
+
+// Serves a line over these templates, of which this is said.
+fn refuses_templates(
+    rt: &impl Abort,
+    alloc: Global,
+    words: &[&str],
+    templates: Feed<'_>,
+    err: &str,
+) {
+    let mut source = shelf_of(templates);
+    let want = Answer {
+        status: 2,
+        out: b"",
+        err,
+    };
+    served(rt, alloc, words, &mut source, 9, want);
+}
+
+// Serves a line over templates whose reader fails, with at most so many reads.
+fn fails_at_templates(rt: &impl Abort, alloc: Global, turns: u64, err: &str)
+    requires { turns ≤ 2 ^ 40 }
+{
+    let mut source = shelf_of(Feed {
+        rest: b"{",
+        width: 1,
+        after: After::Error,
+    });
+    let want = Answer {
+        status: 3,
+        out: b"",
+        err,
+    };
+    served(rt, alloc, CANON, &mut source, turns, want);
+}
+
+#[test]
+fn templates_come_first(rt: HostRuntime) {
+    const TEXT: &[u8] = br#"{"templates":[{"name":"T","id":1,"instructions":[
+        {"kind":"string","name":"A","operator":"increment"}]}]}"#;
+    const MISSING: &[&str] = &["fastcat", "canon", "none", "--templates", TEMPLATES];
+    const CUT: &[u8] = b"{\"templates\":[";
+    let alloc = rt.alloc();
+    let refused = "templates refused S2 template=1 instruction=1\n";
+    refuses_templates(&rt, alloc, CANON_HEX, whole(TEXT), refused);
+    refuses_templates(&rt, alloc, MISSING, whole(TEXT), refused);
+    let refused = "templates refused S1 template=0 instruction=0\n";
+    refuses_templates(&rt, alloc, CANON, whole(CUT), refused);
+    fails_at_templates(&rt, alloc, 9, "fault read\n");
+    fails_at_templates(&rt, alloc, 1, "fault turns\n");
+}
+
+// Serves a line that names a file that is not there.
+fn finds_no_file(rt: &impl Abort, alloc: Global, words: &[&str]) {
+    let mut source = shelf(whole(TWO));
+    let want = Answer {
+        status: 3,
+        out: b"",
+        err: "fault open\n",
+    };
+    served(rt, alloc, words, &mut source, 9, want);
+}
+
+#[test]
+fn files_that_are_not_there(rt: HostRuntime) {
+    const NO_TEMPLATES: &[&str] = &["fastcat", "canon", "--templates", "none", "--hex"];
+    const NO_STREAM: &[&str] = &["fastcat", "show", "none", "--templates", TEMPLATES];
+    finds_no_file(&rt, rt.alloc(), NO_TEMPLATES);
+    finds_no_file(&rt, rt.alloc(), NO_STREAM);
+}
+
+/// A command line, what its input gives and what stands behind it, how many reads there may be, and what is written
+/// and said.
+struct Failing {
+    words: &'static [&'static str],
+    rest: &'static [u8],
+    after: After,
+    turns: u64,
+    out: &'static [u8],
+    err: &'static str,
+}
+
+fn input_fails(rt: &impl Abort, alloc: Global, row: &Failing) {
+    let mut source = shelf(Feed {
+        rest: row.rest,
+        width: 1,
+        after: row.after,
+    });
+    let want = Answer {
+        status: 3,
+        out: row.out,
+        err: row.err,
+    };
+    served(
+        rt,
+        alloc,
+        row.words,
+        &mut source,
+        row.turns.min(TURNS),
+        want,
+    );
+}
+
+#[test]
+fn failing_inputs(rt: HostRuntime) {
+    const ONE: &[u8] = b"\xe0\x90\x85\x86";
+    const LINE: &[u8] = b"16 First A=5 B=6\n";
+    const ROWS: &[Failing] = &[
+        Failing {
+            words: CANON,
+            rest: ONE,
+            after: After::Error,
+            turns: 9,
+            out: ONE,
+            err: "fault read\n",
+        },
+        Failing {
+            words: SHOW,
+            rest: ONE,
+            after: After::Error,
+            turns: 9,
+            out: LINE,
+            err: "fault read\n",
+        },
+        Failing {
+            words: CHECK,
+            rest: ONE,
+            after: After::Error,
+            turns: 9,
+            out: b"",
+            err: "fault read\n",
+        },
+        Failing {
+            words: CANON,
+            rest: ONE,
+            after: After::End,
+            turns: 4,
+            out: ONE,
+            err: "fault turns\n",
+        },
+        Failing {
+            words: CHECK,
+            rest: ONE,
+            after: After::End,
+            turns: 4,
+            out: b"",
+            err: "fault turns\n",
+        },
+        Failing {
+            words: CANON_HEX,
+            rest: b"e0908586",
+            after: After::Error,
+            turns: 9,
+            out: b"",
+            err: "fault read\n",
+        },
+        Failing {
+            words: CANON_HEX,
+            rest: b"e0908586",
+            after: After::End,
+            turns: 8,
+            out: b"",
+            err: "fault turns\n",
+        },
+        Failing {
+            words: SHOW_HEX,
+            rest: b"zz",
+            after: After::End,
+            turns: 2,
+            out: b"",
+            err: "fault turns\n",
+        },
+    ];
+    for row in ROWS {
+        input_fails(&rt, rt.alloc(), row);
+    }
+}
+
+// Serves a line into an output that fails.
+fn output_fails(
+    rt: &impl Abort,
+    alloc: Global,
+    words: &[&str],
+    input: &[u8],
+    full: Full,
+    written: &[u8],
+) {
+    let mut out = Vec::new(alloc);
+    let mut err = Vec::new(alloc);
+    let status = serve(
+        alloc,
+        words,
+        &mut shelf(whole(input)),
+        &mut Counted::new(Sink {
+            kept: &mut out,
+            room: written.len(),
+            full,
+        }),
+        &mut Counted::new(&mut err),
+        9,
+    );
+    same_of(rt, words, err.as_slice(), b"fault write\n".as_slice());
+    same_of(rt, words, out.as_slice(), written);
+    same_of(rt, words, status, 3);
+}
+
+#[test]
+fn failing_outputs(rt: HostRuntime) {
+    const HEX: &[u8] = b"e0908586";
+    const HEX_LINE: &[u8] = b"e0908586\n";
+    const COUNTED: &[u8] = b"ok messages=0 bytes=0 canonical=0\n";
+    let alloc = rt.alloc();
+    output_fails(&rt, alloc, CANON, TWO, Full::Error, b"\xe0\x90\x85");
+    output_fails(&rt, alloc, SHOW, TWO, Full::Nothing, b"16");
+    output_fails(&rt, alloc, CHECK, TWO, Full::Nothing, b"ok mess");
+    output_fails(&rt, alloc, CANON_HEX, HEX, Full::Nothing, HEX);
+    output_fails(&rt, alloc, CANON_HEX, HEX, Full::Flush, HEX_LINE);
+    output_fails(&rt, alloc, CHECK, b"", Full::Flush, COUNTED);
+    // The line feed of a refused stream does not go through.
+    output_fails(&rt, alloc, CANON_HEX, b"80", Full::Error, b"");
+}
+
+/// A command line, a standard input, what is answered, and how many bytes are written.
+struct Flush(&'static [&'static str], &'static [u8], u8, usize);
+
+// Serves a row, whose output is flushed once.
+fn flushed(rt: &impl Abort, alloc: Global, row: &Flush) {
+    let Flush(words, input, want, written) = row;
+    let mut kept = Vec::new(alloc);
+    let mut flushes = 0;
+    let mut err = Vec::new(alloc);
+    let status = serve(
+        alloc,
+        words,
+        &mut shelf(whole(input)),
+        &mut Counted::new(Flushed {
+            kept: &mut kept,
+            flushes: &mut flushes,
+        }),
+        &mut Counted::new(&mut err),
+        9,
+    );
+    same_of(rt, words, status, *want);
+    same_of(rt, words, kept.len(), *written);
+    same_of(rt, words, flushes, 1);
+}
+
+#[test]
+fn flushes(rt: HostRuntime) {
+    const ROWS: &[Flush] = &[
+        Flush(CANON, TWO, 0, 6),
+        Flush(CANON, b"", 0, 0),
+        Flush(SHOW, b"", 0, 0),
+        Flush(CHECK, TWO, 0, 34),
+        Flush(CANON, b"\x80", 1, 0),
+        Flush(SHOW, b"\x80", 1, 0),
+        Flush(CHECK, b"\x80", 1, 0),
+        Flush(CANON_HEX, b"e0908586", 0, 9),
+        Flush(CANON_HEX, b"", 0, 1),
+        Flush(CANON_HEX, b"80", 1, 1),
+    ];
+    for row in ROWS {
+        flushed(&rt, rt.alloc(), row);
+    }
+}
+
+// Serves the words of a process.
+fn words_are_served(
+    rt: &impl Abort,
+    alloc: Global,
+    words: io::Result<Vec<String>>,
+    want: Answer<'_>,
+) {
+    let mut out = Vec::new(alloc);
+    let mut err = Vec::new(alloc);
+    let mut source = shelf(whole(TWO));
+    let status = serve_words(
+        alloc,
+        words,
+        &mut source,
+        &mut Counted::new(&mut out),
+        &mut Counted::new(&mut err),
+        TURNS,
+    );
+    same(rt, err.as_slice(), want.err.as_bytes());
+    same(rt, out.as_slice(), want.out);
+    same(rt, status, want.status);
+}
+
+// The words of a process.
+fn owned(alloc: Global, words: &[&str]) -> Result<Vec<String>, AllocError> {
+    let mut list = Vec::new(alloc);
+    for word in words {
+        list.push(String::from_str(alloc, word)?)?;
+    }
+    Ok(list)
+}
+
+// Words that the process does not have, of which this is said.
+fn no_words(rt: &impl Abort, alloc: Global, kind: io::ErrorKind, status: u8, err: &str) {
+    let out = b"".as_slice();
+    let words = Err(io::Error::from(kind));
+    words_are_served(rt, alloc, words, Answer { status, out, err });
+}
+
+#[test]
+fn process_words(rt: HostRuntime) -> Result<(), Fail> {
+    const WORDS: &[&str] = &["fastcat", "canon", "--templates", TEMPLATES];
+    let alloc = rt.alloc();
+    same(&rt, TURNS, 1_099_511_627_776);
+    let words = owned(alloc, WORDS)?;
+    let want = Answer {
+        status: 0,
+        out: b"\xe0\x90\x85\x86\x80\x87",
+        err: "",
+    };
+    words_are_served(&rt, alloc, Ok(words), want);
+    let said = "command line is not UTF-8\n";
+    no_words(&rt, alloc, io::ErrorKind::InvalidData, 2, said);
+    no_words(&rt, alloc, io::ErrorKind::OutOfMemory, 3, "fault memory\n");
+    Ok(())
+}
+
+// Serves a refused stream where nothing can be said.
+fn error_fails(rt: &impl Abort, alloc: Global, words: &[&str], turns: u64, want: u8)
+    requires { turns ≤ 2 ^ 40 }
+{
+    let mut out = Vec::new(alloc);
+    let mut kept = Vec::new(alloc);
+    let status = serve(
+        alloc,
+        words,
+        &mut shelf(whole(b"\x80\x80")),
+        &mut Counted::new(&mut out),
+        &mut Counted::new(Sink {
+            kept: &mut kept,
+            room: 0,
+            full: Full::Error,
+        }),
+        turns,
+    );
+    same_of(rt, words, status, want);
+}
+
+#[test]
+fn failing_errors(rt: HostRuntime) {
+    let alloc = rt.alloc();
+    error_fails(&rt, alloc, CANON, 2, 1);
+    error_fails(&rt, alloc, CANON_HEX, 9, 2);
+    error_fails(&rt, alloc, &["fastcat"], 9, 2);
+    error_fails(&rt, alloc, CANON, 0, 3);
+}
+
+// So many blanks.
+fn blanks(alloc: Global, count: usize) -> Result<Vec<u8>, AllocError> {
+    let mut text = Vec::new(alloc);
+    text.resize(count, b' ')?;
+    Ok(text)
+}
+
+// Serves so many blanks as hex text.
+fn long_text(
+    rt: &impl Abort,
+    alloc: Global,
+    count: usize,
+    want: Answer<'_>,
+) -> Result<(), AllocError> {
+    let text = blanks(alloc, count)?;
+    served(
+        rt,
+        alloc,
+        CANON_HEX,
+        &mut shelf(whole(&text)),
+        1 << 20,
+        want,
+    );
+    Ok(())
+}
+
+// Serves so many blanks as templates.
+fn long_templates(
+    rt: &impl Abort,
+    alloc: Global,
+    count: usize,
+    want: Answer<'_>,
+) -> Result<(), AllocError> {
+    let text = blanks(alloc, count)?;
+    served(rt, alloc, CANON, &mut shelf_of(whole(&text)), 1 << 20, want);
+    Ok(())
+}
+
+#[test]
+fn long_texts(rt: HostRuntime) -> Result<(), AllocError> {
+    const TAKEN: Answer = Answer {
+        status: 0,
+        out: b"\n",
+        err: "",
+    };
+    const INPUT: Answer = Answer {
+        status: 2,
+        out: b"",
+        err: "input too long\n",
+    };
+    const TEMPLATE_TEXT: Answer = Answer {
+        status: 2,
+        out: b"",
+        err: "templates too long\n",
+    };
+    let alloc = rt.alloc();
+    long_text(&rt, alloc, 16_777_216, TAKEN)?;
+    long_text(&rt, alloc, 16_777_217, INPUT)?;
+    long_templates(&rt, alloc, 16_777_217, TEMPLATE_TEXT)
+}

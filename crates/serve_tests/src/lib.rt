@@ -1,5 +1,0 @@
-//! The tests of fast_serve.
-#![tactic(auto)]
-
-#[cfg(test)]
-mod tests;

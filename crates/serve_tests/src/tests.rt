@@ -1,8 +1,0 @@
-//! What no clause says: worked streams, the program's answers, and devices that fail in mid-stream.
-
-mod blocks;
-mod devices;
-mod examples;
-mod programs;
-mod same;
-mod strict;

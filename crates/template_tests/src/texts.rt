@@ -1,0 +1,85 @@
+//! Template texts that tests of several crates load.
+
+/// The worked templates, as examples/worked.json has them.
+pub const WORKED: &str = r#"{"templates":[
+{"name":"Quote","id":1,"instructions":[
+ {"kind":"uInt32","name":"Seq","operator":"increment"},
+ {"kind":"string","name":"Sym","operator":"copy"},
+ {"kind":"decimal","name":"Px","operator":"delta"},
+ {"kind":"uInt32","name":"Qty","presence":"optional","operator":"copy"}]},
+{"name":"Wrap","id":2,"instructions":[
+ {"kind":"uInt32","name":"A","operator":"increment"},
+ {"kind":"uInt32","name":"B","operator":"delta"}]},
+{"name":"Opt","id":3,"instructions":[
+ {"kind":"decimal","name":"Px","presence":"optional",
+  "exponent":{"operator":"default","value":"2"},"mantissa":{"operator":"copy"}},
+ {"kind":"uInt32","name":"Flag","operator":"copy"}]},
+{"name":"Legs","id":4,"instructions":[
+ {"kind":"sequence","name":"L","presence":"optional","instructions":[
+  {"kind":"uInt32","name":"P"}]}]},
+{"name":"Marks","id":5,"instructions":[
+ {"kind":"sequence","name":"L","instructions":[
+  {"kind":"uInt32","name":"Q","operator":"copy"}]}]},
+{"name":"Bare","id":6,"instructions":[
+ {"kind":"sequence","name":"L","instructions":[]}]},
+{"name":"Clash","id":7,"instructions":[
+ {"kind":"uInt32","name":"A","operator":"copy","key":"K"},
+ {"kind":"string","name":"B","operator":"copy","key":"K"}]},
+{"name":"Tail","id":8,"instructions":[
+ {"kind":"string","name":"S","presence":"optional","operator":"tail"}]},
+{"name":"Init","id":9,"instructions":[
+ {"kind":"string","name":"S","presence":"optional","operator":"tail","value":"ab"}]},
+{"name":"Delta","id":10,"instructions":[
+ {"kind":"string","name":"S","operator":"delta"}]},
+{"name":"Common","instructions":[
+ {"kind":"uInt32","name":"B","operator":"copy"}]},
+{"name":"Grp","id":11,"instructions":[
+ {"kind":"group","name":"Hd","presence":"optional","instructions":[
+  {"kind":"uInt32","name":"A","operator":"copy"}]},
+ {"kind":"templateRef","name":"Common"}]},
+{"name":"Uni","id":12,"instructions":[
+ {"kind":"string","charset":"unicode","name":"S","operator":"tail"}]},
+{"name":"Empty","id":13,"instructions":[
+ {"kind":"uInt32","name":"A","presence":"optional","operator":"copy","key":"K"},
+ {"kind":"uInt32","name":"B","operator":"delta","key":"K"}]},
+{"name":"Const","id":14,"instructions":[
+ {"kind":"uInt32","name":"K","operator":"constant","value":"7"},
+ {"kind":"uInt32","name":"O","presence":"optional","operator":"constant","value":"9"},
+ {"kind":"uInt32","name":"D","operator":"default","value":"3"}]},
+{"name":"Fixed","id":15,"instructions":[
+ {"kind":"decimal","name":"Px",
+  "exponent":{"operator":"constant","value":"-2"},"mantissa":{"operator":"delta"}},
+ {"kind":"byteVector","name":"Raw","presence":"optional","operator":"copy"}]},
+{"name":"First","id":16,"instructions":[
+ {"kind":"uInt32","name":"A"},
+ {"kind":"uInt32","name":"B","operator":"copy"}]}]}"#;
+
+/// Templates with fields of each kind.
+pub const KINDS: &str = r#"{"templates":[
+{"name":"Bytes","id":1,"instructions":[{"kind":"byteVector","name":"B"}]},
+{"name":"MaybeBytes","id":2,"instructions":[
+ {"kind":"byteVector","name":"B","presence":"optional"}]},
+{"name":"Text","id":3,"instructions":[{"kind":"string","charset":"unicode","name":"S"}]},
+{"name":"BytesDelta","id":4,"instructions":[
+ {"kind":"byteVector","name":"B","operator":"delta"}]},
+{"name":"MaybeDelta","id":5,"instructions":[
+ {"kind":"string","name":"S","presence":"optional","operator":"delta"}]},
+{"name":"Tail","id":6,"instructions":[{"kind":"string","name":"S","operator":"tail"}]},
+{"name":"MaybeTail","id":7,"instructions":[
+ {"kind":"string","name":"S","presence":"optional","operator":"tail"}]},
+{"name":"BytesTail","id":8,"instructions":[
+ {"kind":"byteVector","name":"B","presence":"optional","operator":"tail"}]},
+{"name":"MaybeDecimal","id":9,"instructions":[
+ {"kind":"decimal","name":"D","presence":"optional"}]},
+{"name":"Parts","id":10,"instructions":[
+ {"kind":"decimal","name":"D","exponent":{},"mantissa":{"operator":"delta"}}]},
+{"name":"Clash","id":11,"instructions":[
+ {"kind":"uInt32","name":"A","operator":"copy","key":"K"},
+ {"kind":"string","name":"B","operator":"tail","key":"K"}]},
+{"name":"Wide","id":12,"instructions":[
+ {"kind":"uInt32","name":"A","operator":"copy"},{"kind":"uInt32","name":"B","operator":"copy"},
+ {"kind":"uInt32","name":"C","operator":"copy"},{"kind":"uInt32","name":"D","operator":"copy"},
+ {"kind":"uInt32","name":"E","operator":"copy"},{"kind":"uInt32","name":"F","operator":"copy"},
+ {"kind":"uInt32","name":"G","operator":"copy"}]},
+{"name":"Signed","id":13,"instructions":[
+ {"kind":"int32","name":"I","presence":"optional"}]}]}"#;
