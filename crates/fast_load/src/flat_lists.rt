@@ -9,8 +9,8 @@ ghost use Rattle.fast_template.specs.Resolved.{field_in_parts, group_of, instruc
 ghost use Rattle.fast_load.specs.Surroundings.{context_in};
 ghost use Rattle.fast_written.specs.Written.{operation_of, written_list, written_of, written_template_of};
 
-use fast_template::{FieldPart, Flat, FlatTemplate};
 use crate::surroundings::{Around, directly_in, inside, key_of, name_of, part_of};
+use fast_template::{FieldPart, Flat, FlatTemplate};
 use fast_value::{Key, Kind, Name, Part, Presence};
 use fast_written::{Instruction, Operation, Template};
 use std::alloc::{AllocError, Global};

@@ -8,8 +8,8 @@ ghost use Rattle.fast_load.specs.Slots.{AreSettled, EntersKeys, settled, slot_in
 ghost use Rattle.fast_template.specs.TemplateSets.{HasSlots, identifier_key, keys_of_all};
 
 use crate::numbers::number_all;
-use fast_template::{Flat, FlatTemplate};
 use crate::slots::{enter_keys, first_slots, give_slots, next_slot};
+use fast_template::{Flat, FlatTemplate};
 use fast_value::Key;
 use std::alloc::{AllocError, Global};
 use std::collections::BTreeMap;
