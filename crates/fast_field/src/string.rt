@@ -14,11 +14,9 @@ ghost use Rattle.fast_field.specs.declared.fault.FieldFault.TheVariants as field
 use crate::fault::FieldFault;
 use crate::whole::{judge_units, value_of_units};
 use fast_template::{Kind, Presence, Scalar};
+use fast_value::UNIT_LIMIT;
 use fast_wire::{Level, Nullable, Span};
 use std::alloc::{AllocError, Global};
-
-/// The most units of a string or vector.
-const UNIT_LIMIT: usize = 65_535;
 
 /// Finds characters or bytes in the form that has no NULL, of Unicode its bytes, and the place after them. It
 /// takes no memory.

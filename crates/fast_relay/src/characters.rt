@@ -6,10 +6,8 @@ ghost use Rattle.fast_wire.specs.Plain.{IsPlain};
 ghost use Rattle.fast_relay.specs.Texts.{IsText};
 
 use fast_template::{Kind, Scalar};
+use fast_value::UNIT_LIMIT;
 use fast_wire::plain_ascii_end;
-
-/// The most units of a string or vector.
-pub(crate) const UNIT_LIMIT: usize = 65_535;
 
 /// Whether these are characters of ASCII, and not too many.
 #[inline(always)]

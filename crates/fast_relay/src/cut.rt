@@ -6,9 +6,10 @@ ghost use Rattle.fast_value.specs.declared.kind.Kind.TheVariants as kind_type;
 ghost use Rattle.fast_template.specs.declared.resolved.FieldPart.{FieldPart as PartOf};
 ghost use Rattle.fast_relay.specs.Texts.{GivesCut, GivesTail};
 
-use crate::characters::{UNIT_LIMIT, find_plain};
+use crate::characters::find_plain;
 use crate::integers::read_short;
 use fast_template::FieldPart;
+use fast_value::UNIT_LIMIT;
 use fast_wire::plain_ascii_end;
 
 /// A subtraction length below this takes one byte, with NULL and without.

@@ -22,7 +22,7 @@ ghost use Rattle.fast_relay.specs.Numbers.{SpellsWhole};
 ghost use Rattle.fast_relay.specs.Relayed.{IfElsewhere, IfRelayed, Relays, RelaysAs};
 ghost use Rattle.fast_relay.specs.Texts.{IsText, IsVectorKind, SharesEnd};
 
-use crate::characters::{UNIT_LIMIT, are_few, is_text};
+use crate::characters::{are_few, is_text};
 use crate::cut::few_removed;
 use crate::given::gives_units;
 use crate::integers::read_short;
@@ -30,6 +30,7 @@ use crate::relayed::Relayed;
 use fast_dictionary::Entry;
 use fast_field::{units, write_signed, write_units};
 use fast_template::{ByteString, FieldPart, Kind, Operator, Presence, Scalar, UnicodeText};
+use fast_value::UNIT_LIMIT;
 use fast_wire::check_text;
 use std::alloc::Global;
 use std::mem;

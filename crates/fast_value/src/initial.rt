@@ -10,7 +10,7 @@ ghost use Rattle.fast_value.specs.declared.kind.Part.TheVariants.{Exponent, Whol
 ghost use Rattle.fast_value.specs.declared.kind.Kind.TheVariants.{Int32};
 ghost use Rattle.fast_value.specs.declared.kind.Kind.TheVariants as kind_type;
 
-use crate::kind::{Kind, Part};
+use crate::kind::{Kind, Part, UNIT_LIMIT};
 use crate::scalar::{ByteString, Scalar};
 use crate::unicode_text::UnicodeText;
 use hex::FromHexError;
@@ -50,7 +50,7 @@ fn ascii(alloc: Global, text: &str) -> Result<Option<Scalar>, AllocError>
     ensures { IfOk result (λ value. value ≡ value_of_text_of Whole kind_type.Ascii text.now) }
 {
     let bytes = text.as_bytes();
-    if are_ascii(bytes) && bytes.len() <= 65_535 {
+    if are_ascii(bytes) && bytes.len() <= UNIT_LIMIT {
         let copy = bytes.to_vec(alloc)?;
         Ok(Some(Scalar::Ascii(ByteString::from_vec(copy))))
     } else {
@@ -68,7 +68,7 @@ fn are_ascii(bytes: &[u8]) -> bool
 fn unicode(alloc: Global, text: &str) -> Result<Option<Scalar>, AllocError>
     ensures { IfOk result (λ value. value ≡ value_of_text_of Whole kind_type.Unicode text.now) }
 {
-    if text.len() <= 65_535 {
+    if text.len() <= UNIT_LIMIT {
         let copy = String::from_str(alloc, text)?;
         Ok(Some(Scalar::Unicode(UnicodeText::from_string(copy))))
     } else {
@@ -82,7 +82,7 @@ fn hexadecimal(alloc: Global, text: &str) -> Result<Option<Scalar>, AllocError>
 {
     match hex::decode(alloc, text.as_bytes()) {
         Ok(bytes) => {
-            if bytes.len() <= 65_535 {
+            if bytes.len() <= UNIT_LIMIT {
                 Ok(Some(Scalar::Bytes(ByteString::from_vec(bytes))))
             } else {
                 Ok(None)

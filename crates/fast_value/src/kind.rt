@@ -1,5 +1,8 @@
 //! The words of a field instruction.
 
+/// The most characters of an ASCII string, and the most bytes of a Unicode string or a byte vector.
+pub const UNIT_LIMIT: usize = 65_535;
+
 /// The type of a field's values.
 #[derive(Clone, Copy, Debug, PartialEq, Eq)]
 pub enum Kind {

@@ -13,7 +13,7 @@ mod unicode_text;
 
 pub use initial::value_of_text;
 pub use key::{Key, Name, Scope};
-pub use kind::{Kind, Operator, Part, Presence};
+pub use kind::{Kind, Operator, Part, Presence, UNIT_LIMIT};
 pub use of_kind::is_of_kind;
 pub use scalar::{ByteString, Scalar};
 pub use unicode_text::UnicodeText;

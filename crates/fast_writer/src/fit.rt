@@ -13,10 +13,7 @@ ghost use Rattle.fast_stream.specs.Streams.{identifier};
 
 use fast_dictionary::EntryRef;
 use fast_template::{FieldPart, Key, Kind, Operator, Part, Presence, Scalar, Scope};
-use fast_value::is_of_kind;
-
-/// The most characters or bytes of a value.
-const UNIT_LIMIT: usize = 65_535;
+use fast_value::{UNIT_LIMIT, is_of_kind};
 
 // Whether these are characters of ASCII, and not too many.
 #[inline(always)]

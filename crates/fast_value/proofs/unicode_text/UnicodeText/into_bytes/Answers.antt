@@ -1,8 +1,0 @@
-use Rattle.std.proofs.Common.{rules}
-use Rattle.fast_value.proofs.unicode_text.UnicodeText.into_bytes.Goals as goal
-
-pub returns-clause-value : goal.returns-clause-value
-returns-clause-value c = search rules
-
-pub returns-clause-utf8 : goal.returns-clause-utf8
-returns-clause-utf8 c = search rules
