@@ -44,11 +44,7 @@ impl TemplateSet {
     /// A set of these templates, with so many slots and the places of their identifiers.
     ///
     /// It is for `fast_load`, which makes sets from templates as they are written.
-    pub fn of(
-        templates: Vec<FlatTemplate>,
-        slots: u32,
-        places: HashMap<u32, u32>,
-    ) -> TemplateSet
+    pub fn of(templates: Vec<FlatTemplate>, slots: u32, places: HashMap<u32, u32>) -> TemplateSet
         requires sound { AreSound (map resolved_of templates.items) slots }
         requires places { FindsAll places templates.items }
         ensures { result ≡ record { templates = templates.items; slots = slots } }
