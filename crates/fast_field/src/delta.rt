@@ -59,7 +59,7 @@ fn sum(instr: &FieldPart, kept: EntryRef, delta: i128) -> Result<Scalar, FieldFa
 
 /// Reads what is added to an integer, and answers the sum.
 #[tactic(auto, using(crate::proofs::CallSteps::call_steps), unfolding(crate::specs::FieldReading::integer_delta_at))]
-#[inline(always)]
+#[inline(never)]
 fn read_integer_delta(
     instr: &FieldPart,
     kept: EntryRef,

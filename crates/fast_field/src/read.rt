@@ -164,7 +164,7 @@ pub fn find_field(
 /// # Errors
 ///
 /// As `find_field`, and the entry is as it was. Memory: also where an initial value was to be copied.
-#[inline(always)]
+#[inline(never)]
 pub fn read_in_place(
     alloc: Global,
     instr: &FieldPart,

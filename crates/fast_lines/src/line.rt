@@ -69,7 +69,7 @@ impl Line {
     }
 
     /// Appends `NAME=VALUE` of a field.
-    #[inline(always)]
+    #[inline(never)]
     pub(crate) fn tell(
         &mut self,
         name: &Name,

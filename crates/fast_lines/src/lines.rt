@@ -143,6 +143,7 @@ fn push_bytes(bytes: &[u8], out: &mut Vec<u8>) -> Result<(), AllocError>
 }
 
 /// Appends a number in decimal digits; many have one.
+#[inline(always)]
 fn push_unsigned(number: u64, out: &mut Vec<u8>) -> Result<(), AllocError>
     ensures { Writes (decimal number) result out.old.items out.new.items }
 {
