@@ -97,12 +97,16 @@ fn served(
 
 // Serves a row over these templates, from its input given at most `width` bytes a read.
 fn row_is_served(rt: &impl Abort, alloc: Global, templates: &str, row: &Row, width: usize) {
-    let mut source = shelf(Feed {
+    let standard = Feed {
         rest: row.input,
         width,
         after: After::End,
-    });
-    source.templates = whole(templates.as_bytes());
+    };
+    let mut source = Shelf {
+        templates: whole(templates.as_bytes()),
+        stream: whole(TWO),
+        standard,
+    };
     let want = Answer {
         status: row.status,
         out: row.out,
