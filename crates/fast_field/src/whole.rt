@@ -95,6 +95,7 @@ fn read_signed_nullable(bytes: &[u8], at: usize) -> Result<(Nullable<i128>, usiz
 
 /// Judges the number that begins at `at`, at the strict level: whether its entity is there and no longer than it need be.
 #[tactic(auto, using(crate::proofs::CallSteps::call_steps))]
+#[inline(always)]
 fn judge_number(level: Level, unsigned: bool, bytes: &[u8], at: usize) -> Result<(), FieldFault>
     requires { at ≤ length bytes.now }
     ensures { Answers (λ x. x) result
@@ -120,6 +121,7 @@ fn judge_number(level: Level, unsigned: bool, bytes: &[u8], at: usize) -> Result
 
 /// Judges the entity that a string or vector begins with.
 #[tactic(auto, using(crate::proofs::CallSteps::call_steps))]
+#[inline(always)]
 pub(crate) fn judge_units(
     level: Level,
     kind: Kind,
