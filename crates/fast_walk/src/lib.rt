@@ -1,6 +1,6 @@
 //! The walk over the pieces of one message, whatever is done with what is read.
 //!
-//! A [`Receiver`] is handed each piece. A [`Walk`] goes through the open segments of a message, and a [`Traversal`]
+//! A [`Receiver`] is handed each piece, and an [`Output`] makes bytes of what it is handed. A [`Walk`] goes through the open segments of a message, and a [`Traversal`]
 //! reads the map and the identifier in front of them; both stop anywhere and go on where they stopped.
 //! The definitions stand in `specs/`: what is still to be done with a message that has begun (`OpenSegments`), what a
 //! receiver has (`Received`), and what a walk and a traversal answer (`Walks`, `Traversals`).
@@ -10,11 +10,13 @@
 mod bits;
 mod halt;
 mod leveled;
+mod output;
 mod receiver;
 mod traversal;
 mod walk;
 
 pub use halt::{Halt, wire_cause};
+pub use output::Output;
 pub use receiver::Receiver;
 pub use traversal::{Stage, Traversal};
 pub use walk::{Frame, Inside, Next, Sequel, Walk};
