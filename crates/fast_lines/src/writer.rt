@@ -16,7 +16,7 @@ use fast_dictionary::{Entries, Entry};
 use fast_field::{FieldFault, read_in_place};
 use fast_part::{exponent_in, mantissa_in, take_part, take_quickly, unsigned_in};
 use fast_template::{FieldPart, Name, Presence, TemplateSet};
-use fast_walk::Receiver;
+use fast_walk::{Output, Receiver};
 use fast_wire::Level;
 use std::alloc::{AllocError, Global};
 
@@ -165,36 +165,6 @@ impl<'a> LineWriter<'a> {
             exponent: 0,
             out: Vec::new(alloc),
         }
-    }
-
-    /// The lines of the messages that are finished and not handed on.
-    #[inline(always)]
-    pub fn finished(&self) -> &[u8]
-        ensures { result.now ≡ self.now.out.items }
-    {
-        &self.out
-    }
-
-    /// Forgets the lines of finished messages, which now are handed on. It keeps their memory.
-    #[inline(always)]
-    pub fn hand_on(&mut self)
-        ensures stands { (set : List Resolved) (handed : List ℕ) (ms : List Content)
-            (d : Dictionary)
-            → ⟦<LineWriter<'a> as Receiver>⟧.stands self.old set (handed_on handed ∷ ms) d
-            → ⟦<LineWriter<'a> as Receiver>⟧.stands self.new set
-            (handed_on (handed ++ self.old.out.items) ∷ ms) d }
-        ensures has { (o : Received) (handed : List ℕ) (ms : List Content) (d : Dictionary)
-            → o.before ≡ handed_on handed ∷ ms → ⟦<LineWriter<'a> as Receiver>⟧.has self.old o d
-            → ⟦<LineWriter<'a> as Receiver>⟧.has self.new
-            (behind o (handed_on (handed ++ self.old.out.items) ∷ ms)) d }
-        ensures keeps { (set : List Resolved) (handed : List ℕ) (ms : List Content)
-            (d : Dictionary)
-            → ⟦<LineWriter<'a> as Receiver>⟧.keeps self.old set (handed_on handed ∷ ms) d
-            → ⟦<LineWriter<'a> as Receiver>⟧.keeps self.new set
-            (handed_on (handed ++ self.old.out.items) ∷ ms) d }
-        ensures empty { self.new.out.items ≡ [] }
-    {
-        self.out.clear();
     }
 
     // Begins the line of a message of the template of an identifier; of one that the set has not, there is no name.
@@ -418,4 +388,26 @@ impl Receiver for LineWriter<'_> {
         self.line.close(b']')?;
         Ok(())
     }
+}
+
+impl Output for LineWriter<'_> {
+    ghost use Rattle.std.specs.Prelude.{◌≡◌, Some};
+    ghost use Rattle.std.proofs.Common.{inl, inr};
+    ghost use Rattle.fast_lines.specs.Told.{lines_of_set};
+
+    ghost waiting = { λ w. w.out.items };
+
+    ghost makes = { λ set ms out. lines_of_set set ms ≡ Some out };
+
+    #[inline(always)]
+    fn finished(&self) -> &[u8] {
+        &self.out
+    }
+
+    #[inline(always)]
+    fn hand_on(&mut self) {
+        self.out.clear();
+    }
+
+    ghost made = { λ w set handed ms d. elim [ inl h ↦ h.0 | inr h ↦ h.0 ] };
 }

@@ -7,7 +7,7 @@ use crate::segment::Segment;
 use fast_dictionary::Entries;
 use fast_field::FieldFault;
 use fast_template::{FieldPart, Kind, Name, Presence};
-use fast_walk::Receiver;
+use fast_walk::{Output, Receiver};
 use fast_wire::Level;
 use std::alloc::{AllocError, Global};
 use std::mem;
@@ -31,9 +31,7 @@ impl Writer {
     ghost use Rattle.std.specs.Prelude.{◌≡◌, [], ◌∷◌, ◌++◌, List, ℕ, map, OnOk};
     ghost use Rattle.std.specs.FinMap as finite;
     ghost use Rattle.fast_template.specs.Resolved.{Resolved};
-    ghost use Rattle.fast_dictionary.specs.Dictionary.{Dictionary};
-    ghost use Rattle.fast_stream.specs.Nodes.{Content};
-    ghost use Rattle.fast_walk.specs.Received.{Received, behind, handed_on};
+    ghost use Rattle.fast_walk.specs.Received.{handed_on};
     ghost use Rattle.fast_writer.specs.Levels.{level_of};
     ghost use Rattle.fast_writer.specs.Written.{Closes};
 
@@ -50,36 +48,6 @@ impl Writer {
             spare: Vec::new(alloc),
             out: Vec::new(alloc),
         }
-    }
-
-    /// The canonical bytes of the messages that are finished and not handed on.
-    #[inline(always)]
-    pub fn finished(&self) -> &[u8]
-        ensures { result.now ≡ self.now.out.items }
-    {
-        &self.out
-    }
-
-    /// Forgets the bytes of finished messages, which now are handed on. It keeps their memory.
-    #[inline(always)]
-    pub fn hand_on(&mut self)
-        ensures stands { (set : List Resolved) (handed : List ℕ) (ms : List Content)
-            (d : Dictionary)
-            → ⟦<Writer as Receiver>⟧.stands self.old set (handed_on handed ∷ ms) d
-            → ⟦<Writer as Receiver>⟧.stands self.new set
-            (handed_on (handed ++ self.old.out.items) ∷ ms) d }
-        ensures has { (o : Received) (handed : List ℕ) (ms : List Content) (d : Dictionary)
-            → o.before ≡ handed_on handed ∷ ms → ⟦<Writer as Receiver>⟧.has self.old o d
-            → ⟦<Writer as Receiver>⟧.has self.new
-            (behind o (handed_on (handed ++ self.old.out.items) ∷ ms)) d }
-        ensures keeps { (set : List Resolved) (handed : List ℕ) (ms : List Content)
-            (d : Dictionary)
-            → ⟦<Writer as Receiver>⟧.keeps self.old set (handed_on handed ∷ ms) d
-            → ⟦<Writer as Receiver>⟧.keeps self.new set
-            (handed_on (handed ++ self.old.out.items) ∷ ms) d }
-        ensures empty { self.new.out.items ≡ [] }
-    {
-        self.out.clear();
     }
 
     // A segment of nothing, one that was used where there is one.
@@ -340,4 +308,25 @@ impl Receiver for Writer {
     fn end_sequence(&mut self, _alloc: Global) -> Result<(), AllocError> {
         Ok(())
     }
+}
+
+impl Output for Writer {
+    ghost use Rattle.std.proofs.Common.{inl, inr};
+    ghost use Rattle.fast_writer.specs.Canonical.{IsCanonical};
+
+    ghost waiting = { λ w. w.out.items };
+
+    ghost makes = { λ set ms out. IsCanonical set ms out };
+
+    #[inline(always)]
+    fn finished(&self) -> &[u8] {
+        &self.out
+    }
+
+    #[inline(always)]
+    fn hand_on(&mut self) {
+        self.out.clear();
+    }
+
+    ghost made = { λ w set handed ms d. elim [ inl h ↦ (d, h) | inr h ↦ (d, h) ] };
 }

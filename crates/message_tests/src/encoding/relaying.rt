@@ -6,6 +6,7 @@ use crate::worked::worked;
 use fast_dictionary::MapEntries;
 use fast_machine::Machine;
 use fast_template::TemplateSet;
+use fast_walk::Output;
 use fast_writer::Writer;
 use std::alloc::Global;
 use std::process::Abort;
