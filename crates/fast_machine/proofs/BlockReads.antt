@@ -1,5 +1,5 @@
 -- What a read of messages in what has come of a block leaves.
-use Rattle.std.proofs.Common.{◌≡◌, ◌≢◌, ◌≤◌, ◌<◌, ℕ, zero, suc, ◌+◌, ◌-◌, length, take, drop, length-drop, arith, List, [], ◌∷◌, ◌++◌, Ok, sym, ap, refl, subst, ◌∙◌, ◌⊎◌, inl, inr}
+use Rattle.std.proofs.Common.{◌≡◌, ◌≢◌, ◌≤◌, ◌<◌, ℕ, zero, suc, ◌+◌, ◌-◌, length, take, drop, length-drop, length-take, arith, List, [], ◌∷◌, ◌++◌, Ok, sym, ap, refl, subst, ◌∙◌, ◌⊎◌, inl, inr}
 use Rattle.std.proofs.lemmas.List.{take_all}
 use Rattle.fast_wire.specs.declared.level.Level.{Level}
 use Rattle.fast_template.specs.Resolved.{Resolved}
@@ -20,6 +20,7 @@ use Rattle.fast_machine.specs.Runs.{Having, ReadsOn, Run, RunHasAll, RunStands, 
 use Rattle.fast_machine.specs.Standing.{Behind, Carried, HasAll, Stands, StopsBehind, framed_as}
 use Rattle.fast_machine.proofs.Standings.{Onward, Opening, Window, any_onward, end_onward, fault_onward, go_on, inside_onward, opened, waits_onward, whole_onward}
 use Rattle.fast_machine.proofs.Followings.{forgets}
+use Rattle.fast_machine.proofs.Runs.{drop_all}
 
 pub drop_again : (n m : ℕ) (xs : List ℕ) → drop m (drop n xs) ≡ drop (n + m) xs
 drop_again zero m xs = let same : m ≡ 0 + m = omega arith in ap (λ (k : ℕ). drop k xs) same
@@ -38,6 +39,17 @@ window_is left at count bytes place few (inl e) = let same : (at + count) - at �
 window_is left at count bytes place few (inr e) =
     let size = length-drop at bytes in
     take_all ((at + count) - at) (drop at bytes) (omega (arith, size, e)) ∙ sym (take_all left (drop at bytes) (omega (arith, size, e, few)))
+
+-- no byte of a block that is open has come only where no byte is there
+pub empty_window : (room at count : ℕ) (bytes : List ℕ) → 0 < room → at ≤ length bytes → count ≤ length bytes - at → (count ≡ room) ⊎ (count ≡ length bytes - at) → length (take ((at + count) - at) (drop at bytes)) ≡ 0 → at ≡ length bytes
+empty_window room at count bytes some place few (inl e) none =
+    let size = length-take ((at + count) - at) (drop at bytes) in
+    let all = length-drop at bytes in
+    absurd (omega (arith, size, all, none, e, few, some))
+empty_window room at count bytes some place few (inr e) none =
+    let size = length-take ((at + count) - at) (drop at bytes) in
+    let all = length-drop at bytes in
+    omega (arith, size, all, none, e, few, place)
 
 pub open_stands : (G : Dictionary → (List ℕ → Reading) → Type 0) (t : Traversal) (level : Level) (left room at : ℕ) (bytes fed : List ℕ) (messages : List Content) → level ≡ t.level
     → (0 < left → (room ≡ left) × (at ≡ 0)) → (left ≡ 0 → size_at level bytes ≡ Ok (room, drop at bytes)) → 0 < room
@@ -85,6 +97,21 @@ module _ (G : Dictionary → (List ℕ → Reading) → Type 0) (t u : Traversal
   block_stands H some run =
       onwards _ (inside_onward H u b.start left p unread b.ends.within b.rest opening few more some
       (subst (λ (xs : List ℕ). RunStands H u (drop p xs) b.start.dictionary b.ends.within more) window_is run))
+
+  -- behind a message, whether the block goes on or ends there
+  pub block_stands_behind : (H : Dictionary → (List ℕ → Reading) → Type 0) → u.stage ≡ stage.Map → RunStands H u (drop p window) b.start.dictionary b.ends.within more → Stands Blocks (left - p) H u (drop p unread) fed (messages ++ more)
+  block_stands_behind H at run = of_room (some_or_none (left - p))
+    where
+      some_or_none : (n : ℕ) → (n ≡ 0) ⊎ (0 < n)
+      some_or_none zero = inl refl
+      some_or_none (suc n) = inr (omega arith)
+
+      of_room : (left - p ≡ 0) ⊎ (0 < left - p) → Stands Blocks (left - p) H u (drop p unread) fed (messages ++ more)
+      of_room (inr some) = block_stands H some run
+      of_room (inl none) =
+          let size = ap (λ (xs : List ℕ). length xs) window_is ∙ length-take left unread in
+          let all : p ≡ length window = omega (arith, size, none, place) in
+          block_goes_on H at all (subst (λ (xs : List ℕ). RunStands H u xs b.start.dictionary b.ends.within more) (drop_all window p (omega (arith, all))) run)
 
   stops_here : (h : Halt) → RunStops u.level sets b.start.dictionary b.ends.within more (stop_of u.template h (drop p window)) → RunStops u.level sets b.start.dictionary b.ends.within more (stop_of u.template h (drop p (take left unread)))
   stops_here h run = subst (λ (xs : List ℕ). RunStops u.level sets b.start.dictionary b.ends.within more (stop_of u.template h (drop p xs))) window_is run

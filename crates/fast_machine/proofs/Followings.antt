@@ -272,9 +272,13 @@ waits_none G t zero bytes messages at none h = inl (at, refl, refl)
 waits_none G t (suc left) bytes messages at none h =
     inr (subst (λ (n : ℕ). StopsBehind (framed_as Blocks t) (templates_in t.set.now) bytes messages (record { template = n; stop = record { cause = Truncated; instruction = 0; left = 0 } })) (sym none) (size_waits G t (suc left) bytes messages at (omega arith) h))
 
+pub waits_behind : (framing : Framing) (left : ℕ) (G : Dictionary → (List ℕ → Reading) → Type 0) (t : Traversal) (bytes : List ℕ) (messages : List Content) → t.stage ≡ stage.Map → t.template ≡ 0 → Stands framing left G t [] bytes messages → Waits framing left t [] 0 bytes messages
+waits_behind Plain left G t bytes messages at none h = inl (at, refl, h.ends.2)
+waits_behind Blocks left G t bytes messages at none h = waits_none G t left bytes messages at none h
+
 -- ---- what a machine holds
 
-held_within : (framing : Framing) (left : ℕ) (G : Dictionary → (List ℕ → Reading) → Type 0) (t : Traversal) (held : List ℕ) (s : Stand) (rest : List ℕ) → GoesIn framing left G t held s rest → length held ≤ length rest
+pub held_within : (framing : Framing) (left : ℕ) (G : Dictionary → (List ℕ → Reading) → Type 0) (t : Traversal) (held : List ℕ) (s : Stand) (rest : List ℕ) → GoesIn framing left G t held s rest → length held ≤ length rest
 held_within Plain left G t held s rest h = let size = ap (λ (xs : List ℕ). length xs) h.0.whole ∙ length-append h.0.taken held in omega (arith, size)
 held_within Blocks left G t held s rest (inl b) = let size = ap (λ (xs : List ℕ). length xs) b.same in omega (arith, size)
 held_within Blocks left G t held s rest (inr i) =
@@ -448,3 +452,16 @@ has_ended has stands None framing left t r d held waiting before bytes messages 
     either set ms e (inl h) = h
     either set ms e (inr h) = h
 has_ended has stands (Some x) framing left t r d held waiting before bytes messages f = f.2
+
+-- ---- what a receiver keeps of the messages that ended, whatever is open
+
+kept_in : {R : Type 0} (has : Having R) (stands keeps : Standing R) (framing : Framing) (left : ℕ) (t : Traversal) (r : R) (d : Dictionary) (held : List ℕ) (before : List Content) (start : Stand) (rest : List ℕ)
+    → GoesIn framing left (ReadsOn has stands keeps t r d before) t held start rest → keeps r (templates_in t.set.now) before start.dictionary ⊎ stands r (templates_in t.set.now) before start.dictionary
+kept_in has stands keeps Plain left t r d held before start rest h = kept_at has stands keeps t r (templates_in t.set.now) d start.dictionary before h.0.read t.stage h.0.goes
+kept_in has stands keeps Blocks left t r d held before start rest (inl b) = kept_at has stands keeps t r (templates_in t.set.now) d start.dictionary before b.next.read t.stage b.next.goes
+kept_in has stands keeps Blocks left t r d held before start rest (inr i) = kept_at has stands keeps t r (templates_in t.set.now) d start.dictionary before i.next.read t.stage i.next.goes
+
+pub has_kept : {R : Type 0} (has : Having R) (stands keeps : Standing R) (fault : Option Fault) (framing : Framing) (left : ℕ) (t : Traversal) (r : R) (d : Dictionary) (held : List ℕ) (waiting : ℕ) (before : List Content) (bytes : List ℕ) (messages : List Content)
+    → FollowsAt has stands keeps fault framing left t r d held waiting before bytes messages → (e : Dictionary) × (keeps r (templates_in t.set.now) before e ⊎ stands r (templates_in t.set.now) before e)
+has_kept has stands keeps None framing left t r d held waiting before bytes messages f = (f.0.start.dictionary, kept_in has stands keeps framing left t r d held before f.0.start f.0.rest f.0.ends)
+has_kept has stands keeps (Some x) framing left t r d held waiting before bytes messages f = (f.2.start.dictionary, inr f.2.ends)

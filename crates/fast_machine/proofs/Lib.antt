@@ -3,3 +3,4 @@ pub mod Standings
 pub mod Followings
 pub mod PlainReads
 pub mod BlockReads
+pub mod MessageEnds

@@ -120,7 +120,7 @@ pub run_carried : (G : Dictionary → (List ℕ → Reading) → Type 0) (t : Tr
 run_carried G t unread origin bytes messages s = record { front = s.front; rest = s.rest; start = s.start; parts = s.parts; carried = s.carried; ends = tt }
 
 -- between two messages nothing is taken
-all_unread : (G : Dictionary → (List ℕ → Reading) → Type 0) (t : Traversal) (unread : List ℕ) (start : Dictionary) (rest : List ℕ) (u : Unfinished G t unread start rest) → t.stage ≡ stage.Map → rest ≡ unread
+pub all_unread : (G : Dictionary → (List ℕ → Reading) → Type 0) (t : Traversal) (unread : List ℕ) (start : Dictionary) (rest : List ℕ) (u : Unfinished G t unread start rest) → t.stage ≡ stage.Map → rest ≡ unread
 all_unread G t unread start rest u at = u.whole ∙ ap (λ (xs : List ℕ). xs ++ unread) (u.between at)
 
 none_moved : (moved later : List ℕ) → moved ++ later ≡ later → moved ≡ []

@@ -64,10 +64,10 @@ RunStands GoesOn t unread origin bytes messages = Run t.level (templates_in t.se
 abbrev pub RunHasAll : {R : Type 0} → Standing R → Traversal → R → List Content → Dictionary → List ℕ → List Content → Type 0
 RunHasAll stands t r before origin bytes messages = Run t.level (templates_in t.set.now) origin bytes messages (λ d rest. stands r (templates_in t.set.now) before d)
 
--- How the reading of messages ends: between two with no byte unread, or at a piece, where it can go on if more bytes
--- come; else the receiver has forgotten what was open.
+-- How the reading of a message ends: between two, or at a piece, where it can go on if more bytes come; else the receiver
+-- has forgotten what was open.
 abbrev pub Ended : {R : Type 0} → Having R → Standing R → Standing R → Option Halt → Traversal → R → Dictionary → List Content → List ℕ → Dictionary → List ℕ → List Content → Type 0
-Ended has stands keeps None t r d before unread origin bytes messages = RunStands (ReadsOn has stands keeps t r d before) t [] origin bytes messages × (t.stage ≡ stage.Map)
+Ended has stands keeps None t r d before unread origin bytes messages = RunStands (ReadsOn has stands keeps t r d before) t unread origin bytes messages × (t.stage ≡ stage.Map)
 Ended has stands keeps (Some h) t r d before unread origin bytes messages =
     RunCarried t.level (templates_in t.set.now) origin bytes messages
     × (h.cause ≢ Memory → RunStops t.level (templates_in t.set.now) origin bytes messages (stop_of t.template h unread))

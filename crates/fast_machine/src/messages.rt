@@ -1,6 +1,6 @@
-//! Reading the messages that end in a list of bytes.
+//! Reading the next message in a list of bytes.
 
-ghost use Rattle.std.specs.Prelude.{◌≡◌, ◌≢◌, ◌≤◌, ◌+◌, ◌++◌, ◌⊎◌, ℕ, List, IfSome, IfNone, length, drop};
+ghost use Rattle.std.specs.Prelude.{◌≡◌, ◌≢◌, ◌≤◌, ◌<◌, ◌+◌, ◌++◌, ◌⊎◌, ℕ, List, IfSome, IfNone, length, drop};
 ghost use Rattle.fast_template.specs.Resolved.{Resolved};
 ghost use Rattle.fast_template.specs.TemplateSets.{IsSound};
 ghost use Rattle.fast_dictionary.specs.Dictionary.{Dictionary};
@@ -15,7 +15,7 @@ use fast_walk::{Halt, Receiver, Traversal};
 use std::alloc::Global;
 
 /// How far reading came: the place, how many messages ended, and why it went no further, where it did not end
-/// between two messages at the end of the bytes.
+/// between two messages.
 #[derive(Clone, Copy)]
 pub(crate) struct Progress {
     pub(crate) at: usize,
@@ -36,8 +36,8 @@ fn leave<R: Receiver>(alloc: Global, receiver: &mut R, halt: Halt)
     }
 }
 
-/// Reads the messages that end in these bytes.
-pub(crate) fn read_messages<R: Receiver, E: Entries>(
+/// Reads the next message, to its end or as far as these bytes go; nothing where there is none of it.
+pub(crate) fn read_message<R: Receiver, E: Entries>(
     alloc: Global,
     traversal: &mut Traversal<'_>,
     receiver: &mut R,
@@ -47,7 +47,7 @@ pub(crate) fn read_messages<R: Receiver, E: Entries>(
     requires ready { CanGoOn (E.serves entries.now) traversal.now }
     requires served { ServesAll (E.serves entries.now) traversal.now.set.now }
     ensures place { result.at ≤ length bytes.now }
-    ensures many { result.messages ≤ length bytes.now + 1 }
+    ensures many { result.messages ≤ 1 }
     ensures ended { (before : List Content) (origin : Dictionary) (run : List ℕ) (messages : List Content)
         → RunStands (ReadsOn R.has R.stands R.keeps traversal.old receiver.old (E.contents
         entries.old)
@@ -56,8 +56,12 @@ pub(crate) fn read_messages<R: Receiver, E: Entries>(
         × Ended R.has R.stands R.keeps result.halt traversal.new receiver.new
         (E.contents entries.new) (before ++ ended) (drop result.at bytes.now) origin run
         (messages ++ ended) }
-    ensures whole { IfNone result.halt ((result.at ≡ length bytes.now) × (traversal.new.stage
-        ≡ stage.Map)) }
+    // none ends only where there is no byte
+    ensures none { IfNone result.halt (result.messages ≡ 0 → (result.at ≡ 0) × (length bytes.now ≡ 0)) }
+    // a message that begins here has a byte
+    ensures took { IfNone result.halt (begun_of traversal.old ≡ 0 → 0 < length bytes.now
+        → 0 < result.at) }
+    ensures between { IfNone result.halt (traversal.new.stage ≡ stage.Map) }
     ensures ready { IfNone result.halt (CanGoOn (E.serves entries.new) traversal.new) }
     ensures waits { IfSome result.halt (λ h. h.cause ≡ Cause.Truncated
         → CanGoOn (E.serves entries.new) traversal.new) }
@@ -70,27 +74,26 @@ pub(crate) fn read_messages<R: Receiver, E: Entries>(
     ensures same_keys { E.serves entries.new ≡ E.serves entries.old }
 {
     traversal.set_is_sound();
-    let mut at = 0;
-    let mut messages = 0;
-    'messages: while at < bytes.len() || traversal.has_begun() {
-        match traversal.message(receiver, entries, bytes, at) {
-            Err((place, halt)) => {
-                leave(alloc, receiver, halt);
-                return Progress {
-                    at: place,
-                    messages,
-                    halt: Some(halt),
-                };
-            }
-            Ok(next) => {
-                messages += 1;
-                at = next;
+    if bytes.is_empty() && !traversal.has_begun() {
+        return Progress {
+            at: 0,
+            messages: 0,
+            halt: None,
+        };
+    }
+    match traversal.message(receiver, entries, bytes, 0) {
+        Err((place, halt)) => {
+            leave(alloc, receiver, halt);
+            Progress {
+                at: place,
+                messages: 0,
+                halt: Some(halt),
             }
         }
-    }
-    Progress {
-        at,
-        messages,
-        halt: None,
+        Ok(next) => Progress {
+            at: next,
+            messages: 1,
+            halt: None,
+        },
     }
 }

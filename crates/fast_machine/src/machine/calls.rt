@@ -1,6 +1,6 @@
 //! The calls of a machine.
 
-ghost use Rattle.std.specs.Prelude.{◌≡◌, ◌≢◌, ◌≤◌, ◌<◌, ◌+◌, ◌-◌, ◌^◌, ◌++◌, ◌⊎◌, [], ℕ, List, None, Some, Err, OnOk, IfOk, IfErr, IfSome, IfNone, length, drop, map};
+ghost use Rattle.std.specs.Prelude.{◌≡◌, ◌≢◌, ◌≤◌, ◌<◌, ◌+◌, ◌*◌, ◌-◌, ◌^◌, ◌++◌, ◌⊎◌, [], ℕ, List, None, Some, Err, OnOk, IfOk, IfErr, IfSome, IfNone, length, take, drop, map};
 ghost use Rattle.std.specs.FinMap as finite;
 ghost use Rattle.fast_template.specs.Resolved.{Resolved};
 ghost use Rattle.fast_template.specs.TemplateSets.{IsSound, templates_in};
@@ -17,7 +17,7 @@ ghost use Rattle.fast_walk.specs.Traversals.{CanGoOn, ServesAll, begun_of, stop_
 
 use crate::blocks::{open_block, within};
 use crate::machine::Machine;
-use crate::messages::read_messages;
+use crate::messages::read_message;
 use fast_dictionary::Entries;
 use fast_stream::{Cause, Fault, Framing, Mode, Place};
 use fast_template::TemplateSet;
@@ -231,24 +231,45 @@ impl<'a, R: Receiver, E: Entries> Machine<'a, R, E> {
         }
     }
 
-    // Reads on in these bytes of plain framing, where none are held.
-    fn read_plain(&mut self, bytes: &[u8]) -> Result<(), Fault>
+    // Reads on in these bytes of plain framing, where none are held, to the end of the next message at most, and answers
+    // the place behind it; none where they are all read or held.
+    fn read_plain(&mut self, bytes: &[u8]) -> Result<Option<usize>, Fault>
         requires fault { self.now.fault ≡ None }
         requires held { self.now.held.items ≡ [] }
         requires framing { self.now.framing ≡ Framing.Plain }
-        ensures follows { (before : List Content) (fed : List ℕ) (messages : List Content)
-            → length fed ≤ 2 ^ 60 → Counts self.old.fed self.old.messages fed messages
+        requires some { (0 < length bytes.now) ⊎ (begun_of self.now.traversal ≡ 1) }
+        ensures goes { IfOk result (λ o. IfSome o (λ n. (before : List Content) (fed : List ℕ)
+            (messages : List Content) → length fed ≤ 2 ^ 60
+            → Counts self.old.fed self.old.messages fed messages
             → Stands Framing.Plain self.old.left (ReadsOn R.has R.stands R.keeps self.old.traversal self.old.receiver
             (E.contents self.old.entries) before) self.old.traversal bytes.now fed messages
-            → (ended : List Content) × Follows self.new (before ++ ended) fed (messages ++ ended) }
-        ensures answer { Answers result self.new.fault }
-        ensures cause { IfErr result (λ f. f.cause ≢ Cause.Truncated) }
+            → (ended : List Content) × Counts self.new.fed self.new.messages fed (messages ++ ended)
+            × (ended ≡ [] → n ≡ length bytes.now)
+            × Stands Framing.Plain self.new.left (ReadsOn R.has R.stands R.keeps self.new.traversal self.new.receiver
+            (E.contents self.new.entries) (before ++ ended)) self.new.traversal (drop n bytes.now) fed (messages ++ ended))) }
+        ensures place { IfOk result (λ o. IfSome o (λ n. (n ≤ length bytes.now)
+            × (self.new.traversal.stage ≡ stage.Map) × (self.new.fault ≡ None)
+            × (self.new.held.items ≡ []))) }
+        ensures took { IfOk result (λ o. IfSome o (λ n. begun_of self.old.traversal ≡ 0 → 0 < n)) }
+        ensures waits { IfOk result (λ o. IfNone o ((self.new.fault ≡ None) × ((before : List Content) (fed : List ℕ)
+            (messages : List Content) → length fed ≤ 2 ^ 60
+            → Counts self.old.fed self.old.messages fed messages
+            → Stands Framing.Plain self.old.left (ReadsOn R.has R.stands R.keeps self.old.traversal self.old.receiver
+            (E.contents self.old.entries) before) self.old.traversal bytes.now fed messages
+            → (ended : List Content) × Follows self.new (before ++ ended) fed (messages ++ ended)))) }
+        ensures fails { IfErr result (λ f. (self.new.fault ≡ Some f) × (f.cause ≢ Cause.Truncated)
+            × ((before : List Content) (fed : List ℕ)
+            (messages : List Content) → length fed ≤ 2 ^ 60
+            → Counts self.old.fed self.old.messages fed messages
+            → Stands Framing.Plain self.old.left (ReadsOn R.has R.stands R.keeps self.old.traversal self.old.receiver
+            (E.contents self.old.entries) before) self.old.traversal bytes.now fed messages
+            → (ended : List Content) × Follows self.new (before ++ ended) fed (messages ++ ended))) }
         ensures set { self.new.traversal.set ≡ self.old.traversal.set }
         ensures mode { mode_of self.new ≡ mode_of self.old }
         ensures same_keys { E.serves self.new.entries ≡ E.serves self.old.entries }
         ensures fed { self.new.fed ≡ self.old.fed }
     {
-        let progress = read_messages(
+        let progress = read_message(
             self.alloc,
             &mut self.traversal,
             &mut self.receiver,
@@ -259,11 +280,11 @@ impl<'a, R: Receiver, E: Entries> Machine<'a, R, E> {
         let rest = &bytes[progress.at..];
         let template = self.traversal.template();
         match progress.halt {
-            None => Ok(()),
+            None => Ok(Some(progress.at)),
             Some(halt) => match halt.cause {
                 Cause::Truncated => match self.hold(halt.number, rest) {
                     Err(fault) => Err(fault),
-                    Ok(()) => Ok(()),
+                    Ok(()) => Ok(None),
                 },
                 _ => {
                     let fault = fault_of(halt, self.messages, self.fed, rest.len(), template);
@@ -305,8 +326,8 @@ impl<'a, R: Receiver, E: Entries> Machine<'a, R, E> {
         }
     }
 
-    // Reads on in the block that the bytes go on with, or begin with, and answers the place behind what is read where
-    // nothing is held.
+    // Reads on in the block that the bytes go on with, or begin with, to the end of its next message at most, and answers
+    // the place behind it; none where they are all read or held.
     fn read_block(&mut self, bytes: &[u8]) -> Result<Option<usize>, Fault>
         requires fault { self.now.fault ≡ None }
         requires held { self.now.held.items ≡ [] }
@@ -318,12 +339,13 @@ impl<'a, R: Receiver, E: Entries> Machine<'a, R, E> {
             → Stands Framing.Blocks self.old.left (ReadsOn R.has R.stands R.keeps self.old.traversal self.old.receiver
             (E.contents self.old.entries) before) self.old.traversal bytes.now fed messages
             → (ended : List Content) × Counts self.new.fed self.new.messages fed (messages ++ ended)
+            × (ended ≡ [] → n ≡ length bytes.now)
             × Stands Framing.Blocks self.new.left (ReadsOn R.has R.stands R.keeps self.new.traversal self.new.receiver
             (E.contents self.new.entries) (before ++ ended)) self.new.traversal (drop n bytes.now) fed (messages ++ ended))) }
         ensures place { IfOk result (λ o. IfSome o (λ n. (n ≤ length bytes.now)
             × (self.new.traversal.stage ≡ stage.Map) × (self.new.fault ≡ None)
             × (self.new.held.items ≡ []))) }
-        ensures took { IfOk result (λ o. IfSome o (λ n. 0 < length bytes.now → 0 < n)) }
+        ensures took { IfOk result (λ o. IfSome o (λ n. begun_of self.old.traversal ≡ 0 → 0 < n)) }
         ensures waits { IfOk result (λ o. IfNone o ((self.new.fault ≡ None) × ((before : List Content) (fed : List ℕ)
             (messages : List Content) → length fed ≤ 2 ^ 60
             → Counts self.old.fed self.old.messages fed messages
@@ -352,7 +374,7 @@ impl<'a, R: Receiver, E: Entries> Machine<'a, R, E> {
             }
         };
         let room = within(left, bytes.len() - at);
-        let progress = read_messages(
+        let progress = read_message(
             self.alloc,
             &mut self.traversal,
             &mut self.receiver,
@@ -386,46 +408,38 @@ impl<'a, R: Receiver, E: Entries> Machine<'a, R, E> {
         }
     }
 
-    // Reads on in these bytes of blocks, where none are held.
-    fn read_blocks(&mut self, bytes: &[u8]) -> Result<(), Fault>
+    // Reads on in these bytes, where none are held, to the end of the next message at most, and answers the place behind
+    // it; none where they are all read or held.
+    fn read(&mut self, bytes: &[u8]) -> Result<Option<usize>, Fault>
         requires fault { self.now.fault ≡ None }
         requires held { self.now.held.items ≡ [] }
-        requires framing { self.now.framing ≡ Framing.Blocks }
-        ensures follows { (before : List Content) (fed : List ℕ) (messages : List Content)
-            → length fed ≤ 2 ^ 60 → Counts self.old.fed self.old.messages fed messages
-            → Stands Framing.Blocks self.old.left (ReadsOn R.has R.stands R.keeps self.old.traversal self.old.receiver
-            (E.contents self.old.entries) before) self.old.traversal bytes.now fed messages
-            → (ended : List Content) × Follows self.new (before ++ ended) fed (messages ++ ended) }
-        ensures answer { Answers result self.new.fault }
-        ensures cause { IfErr result (λ f. f.cause ≢ Cause.Truncated) }
-        ensures set { self.new.traversal.set ≡ self.old.traversal.set }
-        ensures mode { mode_of self.new ≡ mode_of self.old }
-        ensures same_keys { E.serves self.new.entries ≡ E.serves self.old.entries }
-        ensures fed { self.new.fed ≡ self.old.fed }
-    {
-        let mut at = 0;
-        'stream: while at < bytes.len() || self.traversal.has_begun() {
-            match self.read_block(&bytes[at..]) {
-                Err(fault) => return Err(fault),
-                Ok(None) => return Ok(()),
-                Ok(Some(next)) => at += next,
-            }
-        }
-        self.waiting = 0;
-        Ok(())
-    }
-
-    // Reads on in these bytes, where none are held.
-    fn read(&mut self, bytes: &[u8]) -> Result<(), Fault>
-        requires fault { self.now.fault ≡ None }
-        requires held { self.now.held.items ≡ [] }
-        ensures follows { (before : List Content) (fed : List ℕ) (messages : List Content)
-            → length fed ≤ 2 ^ 60 → Counts self.old.fed self.old.messages fed messages
+        requires some { (0 < length bytes.now) ⊎ (begun_of self.now.traversal ≡ 1) }
+        ensures goes { IfOk result (λ o. IfSome o (λ n. (before : List Content) (fed : List ℕ)
+            (messages : List Content) → length fed ≤ 2 ^ 60
+            → Counts self.old.fed self.old.messages fed messages
             → Stands self.old.framing self.old.left (ReadsOn R.has R.stands R.keeps self.old.traversal self.old.receiver
             (E.contents self.old.entries) before) self.old.traversal bytes.now fed messages
-            → (ended : List Content) × Follows self.new (before ++ ended) fed (messages ++ ended) }
-        ensures answer { Answers result self.new.fault }
-        ensures cause { IfErr result (λ f. f.cause ≢ Cause.Truncated) }
+            → (ended : List Content) × Counts self.new.fed self.new.messages fed (messages ++ ended)
+            × (ended ≡ [] → n ≡ length bytes.now)
+            × Stands self.old.framing self.new.left (ReadsOn R.has R.stands R.keeps self.new.traversal self.new.receiver
+            (E.contents self.new.entries) (before ++ ended)) self.new.traversal (drop n bytes.now) fed (messages ++ ended))) }
+        ensures place { IfOk result (λ o. IfSome o (λ n. (n ≤ length bytes.now)
+            × (self.new.traversal.stage ≡ stage.Map) × (self.new.fault ≡ None)
+            × (self.new.held.items ≡ []))) }
+        ensures took { IfOk result (λ o. IfSome o (λ n. begun_of self.old.traversal ≡ 0 → 0 < n)) }
+        ensures waits { IfOk result (λ o. IfNone o ((self.new.fault ≡ None) × ((before : List Content) (fed : List ℕ)
+            (messages : List Content) → length fed ≤ 2 ^ 60
+            → Counts self.old.fed self.old.messages fed messages
+            → Stands self.old.framing self.old.left (ReadsOn R.has R.stands R.keeps self.old.traversal self.old.receiver
+            (E.contents self.old.entries) before) self.old.traversal bytes.now fed messages
+            → (ended : List Content) × Follows self.new (before ++ ended) fed (messages ++ ended)))) }
+        ensures fails { IfErr result (λ f. (self.new.fault ≡ Some f) × (f.cause ≢ Cause.Truncated)
+            × ((before : List Content) (fed : List ℕ)
+            (messages : List Content) → length fed ≤ 2 ^ 60
+            → Counts self.old.fed self.old.messages fed messages
+            → Stands self.old.framing self.old.left (ReadsOn R.has R.stands R.keeps self.old.traversal self.old.receiver
+            (E.contents self.old.entries) before) self.old.traversal bytes.now fed messages
+            → (ended : List Content) × Follows self.new (before ++ ended) fed (messages ++ ended))) }
         ensures set { self.new.traversal.set ≡ self.old.traversal.set }
         ensures mode { mode_of self.new ≡ mode_of self.old }
         ensures same_keys { E.serves self.new.entries ≡ E.serves self.old.entries }
@@ -434,12 +448,130 @@ impl<'a, R: Receiver, E: Entries> Machine<'a, R, E> {
         match self.framing {
             Framing::Plain => match self.read_plain(bytes) {
                 Err(fault) => Err(fault),
-                Ok(()) => Ok(()),
+                Ok(next) => Ok(next),
             },
-            Framing::Blocks => match self.read_blocks(bytes) {
+            Framing::Blocks => match self.read_block(bytes) {
                 Err(fault) => Err(fault),
-                Ok(()) => Ok(()),
+                Ok(next) => Ok(next),
             },
+        }
+    }
+
+    // Where a message has ended, the bytes behind it are not fed yet.
+    fn end_behind(&mut self, left: usize)
+        requires fault { self.now.fault ≡ None }
+        requires held { self.now.held.items ≡ [] }
+        requires between { self.now.traversal.stage ≡ stage.Map }
+        requires few { left ≤ self.now.fed }
+        ensures follows { (before : List Content) (fed rest : List ℕ) (messages : List Content)
+            → length rest ≡ left
+            → Counts self.old.fed self.old.messages (fed ++ rest) messages
+            → Stands self.old.framing self.old.left (ReadsOn R.has R.stands R.keeps self.old.traversal self.old.receiver
+            (E.contents self.old.entries) before) self.old.traversal rest (fed ++ rest) messages
+            → Follows self.new before fed messages }
+        ensures fault { self.new.fault ≡ None }
+        ensures traversal { self.new.traversal ≡ self.old.traversal }
+        ensures entries { self.new.entries ≡ self.old.entries }
+        ensures framing { self.new.framing ≡ self.old.framing }
+        ensures fed { self.new.fed ≡ self.old.fed - left }
+    {
+        self.fed -= left as u64;
+        self.waiting = 0;
+    }
+
+    // Reads on in these bytes, behind those that are held, to the end of the next message at most, and answers the place
+    // behind it, from the first of those held on; none where they are all read or held.
+    fn read_behind(&mut self, chunk: &[u8]) -> Result<Option<usize>, Fault>
+        requires fault { self.now.fault ≡ None }
+        requires some { 0 < length chunk.now }
+        ensures goes { IfOk result (λ o. IfSome o (λ n. (before : List Content) (fed : List ℕ)
+            (messages : List Content) → length fed ≤ 2 ^ 60
+            → Counts self.old.fed self.old.messages fed messages
+            → Stands self.old.framing self.old.left (ReadsOn R.has R.stands R.keeps self.old.traversal self.old.receiver
+            (E.contents self.old.entries) before) self.old.traversal (self.old.held.items ++ chunk.now) fed messages
+            → (ended : List Content) × Counts self.new.fed self.new.messages fed (messages ++ ended)
+            × (ended ≡ [] → n ≡ length (self.old.held.items ++ chunk.now))
+            × Stands self.old.framing self.new.left (ReadsOn R.has R.stands R.keeps self.new.traversal self.new.receiver
+            (E.contents self.new.entries) (before ++ ended)) self.new.traversal
+            (drop n (self.old.held.items ++ chunk.now)) fed (messages ++ ended))) }
+        ensures place { IfOk result (λ o. IfSome o (λ n. (n ≤ length (self.old.held.items ++ chunk.now))
+            × (self.new.traversal.stage ≡ stage.Map) × (self.new.fault ≡ None)
+            × (self.new.held.items ≡ []))) }
+        ensures took { IfOk result (λ o. IfSome o (λ n. begun_of self.old.traversal ≡ 0 → 0 < n)) }
+        ensures waits { IfOk result (λ o. IfNone o ((self.new.fault ≡ None) × ((before : List Content) (fed : List ℕ)
+            (messages : List Content) → length fed ≤ 2 ^ 60
+            → Counts self.old.fed self.old.messages fed messages
+            → Stands self.old.framing self.old.left (ReadsOn R.has R.stands R.keeps self.old.traversal self.old.receiver
+            (E.contents self.old.entries) before) self.old.traversal (self.old.held.items ++ chunk.now) fed messages
+            → (ended : List Content) × Follows self.new (before ++ ended) fed (messages ++ ended)))) }
+        ensures fails { IfErr result (λ f. (self.new.fault ≡ Some f) × (f.cause ≢ Cause.Truncated)
+            × ((before : List Content) (fed : List ℕ)
+            (messages : List Content) → length fed ≤ 2 ^ 60
+            → Counts self.old.fed self.old.messages fed messages
+            → Stands self.old.framing self.old.left (ReadsOn R.has R.stands R.keeps self.old.traversal self.old.receiver
+            (E.contents self.old.entries) before) self.old.traversal (self.old.held.items ++ chunk.now) fed messages
+            → (ended : List Content) × Follows self.new (before ++ ended) fed (messages ++ ended))) }
+        ensures set { self.new.traversal.set ≡ self.old.traversal.set }
+        ensures mode { mode_of self.new ≡ mode_of self.old }
+        ensures same_keys { E.serves self.new.entries ≡ E.serves self.old.entries }
+        ensures fed { self.new.fed ≡ self.old.fed }
+    {
+        if self.held.is_empty() {
+            return match self.read(chunk) {
+                Err(fault) => Err(fault),
+                Ok(next) => Ok(next),
+            };
+        }
+        let mut bytes = mem::replace(&mut self.held, Vec::new(self.alloc));
+        match bytes.extend_from_slice(chunk) {
+            Err(_) => Err(self.refuse()),
+            Ok(()) => match self.read(&bytes) {
+                Err(fault) => Err(fault),
+                Ok(next) => Ok(next),
+            },
+        }
+    }
+
+    /// Takes the next bytes of the stream, up to the end of the next message at most, which the receiver then has;
+    /// answers how many they are: all of them where no message ends in them.
+    ///
+    /// # Errors
+    ///
+    /// As `feed`, and all of the bytes are fed.
+    pub fn feed_message(&mut self, chunk: &[u8]) -> Result<usize, Fault>
+        requires room { self.now.fed + length chunk.now ≤ 2 ^ 60 }
+        requires some { 0 < length chunk.now }
+        ensures kept { IfSome self.old.fault (λ f. (result ≡ Err f) × (self.new ≡ self.old)) }
+        ensures taken { IfOk result (λ n. (0 < n) × (n ≤ length chunk.now)) }
+        ensures follows { self.old.fault ≡ None → (before : List Content) (fed : List ℕ)
+            (messages : List Content) → Follows self.old before fed messages
+            → (ended : List Content)
+            × IfOk result (λ n. Follows self.new (before ++ ended) (fed ++ take n chunk.now) (messages ++ ended))
+            × IfErr result (λ f. Follows self.new (before ++ ended) (fed ++ chunk.now) (messages ++ ended)) }
+        ensures open { IfOk result (λ n. self.new.fault ≡ None) }
+        ensures refused { IfErr result (λ f. self.new.fault ≡ Some f) }
+        ensures cause { self.old.fault ≡ None → IfErr result (λ f. f.cause ≢ Cause.Truncated) }
+        ensures set { self.new.traversal.set ≡ self.old.traversal.set }
+        ensures mode { mode_of self.new ≡ mode_of self.old }
+        ensures same_keys { E.serves self.new.entries ≡ E.serves self.old.entries }
+        ensures fed { self.old.fault ≡ None → IfOk result (λ n. self.new.fed ≡ self.old.fed + n)
+            × IfErr result (λ f. self.new.fed ≡ self.old.fed + length chunk.now) }
+    {
+        if let Some(first) = self.fault {
+            return Err(first);
+        }
+        self.traversal.set_is_sound();
+        self.fed += chunk.len() as u64;
+        let held = self.held.len();
+        match self.read_behind(chunk) {
+            Err(fault) => Err(fault),
+            Ok(None) => Ok(chunk.len()),
+            Ok(Some(next)) => {
+                // (a message ends behind the bytes that were held, since no piece was whole in these)
+                let taken = next.saturating_sub(held).max(1).min(chunk.len());
+                self.end_behind(chunk.len() - taken);
+                Ok(taken)
+            }
         }
     }
 
@@ -466,21 +598,14 @@ impl<'a, R: Receiver, E: Entries> Machine<'a, R, E> {
         if let Some(kept) = self.fault {
             return Err(kept);
         }
-        self.fed += chunk.len() as u64;
-        if self.held.is_empty() {
-            return match self.read(chunk) {
-                Err(fault) => Err(fault),
-                Ok(()) => Ok(()),
-            };
+        let mut at = 0;
+        'messages: while at < chunk.len() {
+            match self.feed_message(&chunk[at..]) {
+                Err(fault) => return Err(fault),
+                Ok(taken) => at += taken,
+            }
         }
-        let mut bytes = mem::replace(&mut self.held, Vec::new(self.alloc));
-        match bytes.extend_from_slice(chunk) {
-            Err(_) => Err(self.refuse()),
-            Ok(()) => match self.read(&bytes) {
-                Err(fault) => Err(fault),
-                Ok(()) => Ok(()),
-            },
-        }
+        Ok(())
     }
 
     /// The end of the stream.

@@ -1,92 +1,60 @@
-use Rattle.std.proofs.Common.{◌≡◌, ◌≤◌, ◌++◌, ◌+◌, ◌^◌, [], ℕ, List, length, subst, arith, rules, append-nil, length-append}
-use Rattle.fast_wire.proofs.Calls.{all_bytes}
-use Rattle.fast_template.specs.TemplateSets.{templates_in}
-use Rattle.fast_machine.specs.Standing.{ReadsOn, Stands, framed_as}
-use Rattle.fast_machine.proofs.Standings.{carried_of}
-use Rattle.fast_machine.proofs.Followings.{counts_fed, left_behind, memory_refused, none_of, stands_fed}
+use Rattle.std.proofs.Common.{◌≡◌, ◌++◌, ◌+◌, ◌-◌, ◌∙◌, [], ℕ, List, length, length-drop, take, drop, take-append-drop, refl, arith, ap, subst, append_assoc, append-nil}
+use Rattle.fast_machine.specs.Following.{Follows}
+use Rattle.fast_machine.proofs.Followings.{slice_rest}
+use Rattle.fast_machine.proofs.MessageEnds.{none_before, take_again, take_whole}
 use Rattle.fast_machine.proofs.machine.Machine.feed.Goals as goal
+
+pub messages-init : goal.messages-init
+messages-init g c = record {
+  place = omega arith;
+  fault = c.in_default.is;
+  set = refl;
+  mode = refl;
+  same_keys = refl;
+  fed = omega arith;
+  follows = λ before fed messages f. ([], rw (none_before c.args.chunk.now, append-nil fed, append-nil before, append-nil messages) f);
+}
 
 pub returns-in-Err-clause-follows : goal.returns-in-Err-clause-follows
 returns-in-Err-clause-follows g c = λ none before fed messages follows.
-    let old = c.args.self.now in
+    let l = c.messages in
     let chunk = c.args.chunk.now in
-    let R = g.R.Receiver in
-    let G = ReadsOn R.has R.stands R.keeps old.traversal old.receiver (g.E.Entries.contents old.entries) before in
-    let size = length-append fed chunk in
-    let is = follows.counts.fed_is in
-    let short : length (fed ++ chunk) ≤ 2 ^ 60 = omega (arith, size, is, c.requires.room) in
-    let more = counts_fed old.fed old.messages fed chunk messages follows.counts in
-    let at = rw (none) at follows.at in
-    let stands = stands_fed old.framing old.left G old.traversal old.held.items fed chunk messages (all_bytes chunk (λ k. omega (arith, c.type_inv.chunk k))) at.0 in
-    let zero : length old.held.items ≡ 0 = search rules in
-    let empty = none_of old.held.items zero in
-    c.in-Err.ensures.follows before (fed ++ chunk) messages short more (subst (λ (held : List ℕ). Stands old.framing old.left G old.traversal (held ++ chunk) (fed ++ chunk) messages) empty stands)
+    let h = l.invariant.follows before fed messages follows in
+    let r = c.in-Err.ensures.follows l.invariant.fault (before ++ h.0) (fed ++ take l.at chunk) (messages ++ h.0) h.1 in
+    let new = c.feed_message.new.self in
+    let all : (fed ++ take l.at chunk) ++ take (length chunk - l.at) (drop l.at chunk) ≡ fed ++ chunk =
+    append_assoc fed (take l.at chunk) (take (length chunk - l.at) (drop l.at chunk)) ∙ ap (λ (xs : List ℕ). fed ++ (take l.at chunk ++ xs)) (slice_rest chunk l.at) ∙ ap (λ (xs : List ℕ). fed ++ xs) (take-append-drop l.at chunk) in
+    (h.0 ++ r.0, rw (← append_assoc before h.0 r.0, ← append_assoc messages h.0 r.0) (subst (λ (xs : List ℕ). Follows new ((before ++ h.0) ++ r.0) xs ((messages ++ h.0) ++ r.0)) all r.2))
 
-pub returns-in-Ok-clause-follows : goal.returns-in-Ok-clause-follows
-returns-in-Ok-clause-follows g c = λ none before fed messages follows.
-    let old = c.args.self.now in
+pub messages-preserved : goal.messages-preserved
+messages-preserved g c =
+    let l = c.messages in
     let chunk = c.args.chunk.now in
-    let R = g.R.Receiver in
-    let G = ReadsOn R.has R.stands R.keeps old.traversal old.receiver (g.E.Entries.contents old.entries) before in
-    let size = length-append fed chunk in
-    let is = follows.counts.fed_is in
-    let short : length (fed ++ chunk) ≤ 2 ^ 60 = omega (arith, size, is, c.requires.room) in
-    let more = counts_fed old.fed old.messages fed chunk messages follows.counts in
-    let at = rw (none) at follows.at in
-    let stands = stands_fed old.framing old.left G old.traversal old.held.items fed chunk messages (all_bytes chunk (λ k. omega (arith, c.type_inv.chunk k))) at.0 in
-    let zero : length old.held.items ≡ 0 = search rules in
-    let empty = none_of old.held.items zero in
-    c.in-Ok.ensures.follows before (fed ++ chunk) messages short more (subst (λ (held : List ℕ). Stands old.framing old.left G old.traversal (held ++ chunk) (fed ++ chunk) messages) empty stands)
-
-pub returns-in-Err-extend_from_slice-clause-follows : goal.returns-in-Err-extend_from_slice-clause-follows
-returns-in-Err-extend_from_slice-clause-follows g c = λ none before fed messages follows.
-    let old = c.args.self.now in
-    let chunk = c.args.chunk.now in
-    let R = g.R.Receiver in
-    let G = ReadsOn R.has R.stands R.keeps old.traversal old.receiver (g.E.Entries.contents old.entries) before in
-    let size = length-append fed chunk in
-    let is = follows.counts.fed_is in
-    let short : length (fed ++ chunk) ≤ 2 ^ 60 = omega (arith, size, is, c.requires.room) in
-    let more = counts_fed old.fed old.messages fed chunk messages follows.counts in
-    let at = rw (none) at follows.at in
-    let stands = stands_fed old.framing old.left G old.traversal old.held.items fed chunk messages (all_bytes chunk (λ k. omega (arith, c.type_inv.chunk k))) at.0 in
-    let r = c.refuse.ensures in
-    let carried = carried_of old.framing old.left G old.traversal (old.held.items ++ chunk) (fed ++ chunk) messages stands in (
-      [],
-      record {
-        at = rw (r.kept, r.traversal, r.framing, append-nil messages, append-nil before) (
-          memory_refused c.refuse.result (framed_as old.framing old.traversal) (templates_in old.traversal.set.now) (fed ++ chunk) messages (old.fed + length chunk) old.messages more (omega (arith, short)) carried r.cause r.message r.offset r.template r.instruction,
-          r.held,
-          left_behind R.has R.stands R.keeps old.framing old.left old.traversal old.receiver c.refuse.new.self.receiver (g.E.Entries.contents old.entries) before (old.held.items ++ chunk) (fed ++ chunk) messages r.left stands,
-        );
-        counts = rw (r.fed, r.messages, append-nil messages) more;
-      },
-    )
-
-pub returns-in-Err-read-clause-follows : goal.returns-in-Err-read-clause-follows
-returns-in-Err-read-clause-follows g c = λ none before fed messages follows.
-    let old = c.args.self.now in
-    let chunk = c.args.chunk.now in
-    let R = g.R.Receiver in
-    let G = ReadsOn R.has R.stands R.keeps old.traversal old.receiver (g.E.Entries.contents old.entries) before in
-    let size = length-append fed chunk in
-    let is = follows.counts.fed_is in
-    let short : length (fed ++ chunk) ≤ 2 ^ 60 = omega (arith, size, is, c.requires.room) in
-    let more = counts_fed old.fed old.messages fed chunk messages follows.counts in
-    let at = rw (none) at follows.at in
-    let stands = stands_fed old.framing old.left G old.traversal old.held.items fed chunk messages (all_bytes chunk (λ k. omega (arith, c.type_inv.chunk k))) at.0 in
-    c.in-Err-read.ensures.follows before (fed ++ chunk) messages short more (rw (c.deref.ensures.value, c.in-Ok-extend_from_slice.ensures.items, c.replace-bytes.ensures.value) stands)
+    let o = c.in-Ok in
+    let slice = take (length chunk - l.at) (drop l.at chunk) in
+    let rest = slice_rest chunk l.at in
+    let size = ap (λ (xs : List ℕ). length xs) rest ∙ length-drop l.at chunk in
+    let taken = o.ensures.taken in
+    record {
+      place = let few = taken.1 in let before = l.invariant.place in omega (arith, few, size, before);
+      fault = o.ensures.open;
+      set = o.ensures.set ∙ l.invariant.set;
+      mode = o.ensures.mode ∙ l.invariant.mode;
+      same_keys = o.ensures.same_keys ∙ l.invariant.same_keys;
+      fed = let more = (o.ensures.fed l.invariant.fault).0 in let before = l.invariant.fed in omega (arith, more, before);
+      follows = λ before fed messages follows.
+          let h = l.invariant.follows before fed messages follows in
+          let r = o.ensures.follows l.invariant.fault (before ++ h.0) (fed ++ take l.at chunk) (messages ++ h.0) h.1 in
+          let new = c.feed_message.new.self in
+          let all : (fed ++ take l.at chunk) ++ take o.taken slice ≡ fed ++ take (l.at + o.taken) chunk =
+          append_assoc fed (take l.at chunk) (take o.taken slice) ∙ ap (λ (xs : List ℕ). fed ++ (take l.at chunk ++ take o.taken xs)) rest ∙ ap (λ (xs : List ℕ). fed ++ xs) (take_again l.at o.taken chunk) in
+          (h.0 ++ r.0, rw (← append_assoc before h.0 r.0, ← append_assoc messages h.0 r.0) (subst (λ (xs : List ℕ). Follows new ((before ++ h.0) ++ r.0) xs ((messages ++ h.0) ++ r.0)) all r.1));
+    }
 
 pub returns-clause-follows : goal.returns-clause-follows
 returns-clause-follows g c = λ none before fed messages follows.
-    let old = c.args.self.now in
+    let l = c.messages in
     let chunk = c.args.chunk.now in
-    let R = g.R.Receiver in
-    let G = ReadsOn R.has R.stands R.keeps old.traversal old.receiver (g.E.Entries.contents old.entries) before in
-    let size = length-append fed chunk in
-    let is = follows.counts.fed_is in
-    let short : length (fed ++ chunk) ≤ 2 ^ 60 = omega (arith, size, is, c.requires.room) in
-    let more = counts_fed old.fed old.messages fed chunk messages follows.counts in
-    let at = rw (none) at follows.at in
-    let stands = stands_fed old.framing old.left G old.traversal old.held.items fed chunk messages (all_bytes chunk (λ k. omega (arith, c.type_inv.chunk k))) at.0 in
-    c.in-Ok-read.ensures.follows before (fed ++ chunk) messages short more (rw (c.deref.ensures.value, c.in-Ok-extend_from_slice.ensures.items, c.replace-bytes.ensures.value) stands)
+    let h = l.invariant.follows before fed messages follows in
+    let whole = take_whole l.at chunk (omega (arith, c.messages-test.false)) in
+    (h.0, subst (λ (xs : List ℕ). Follows l.self (before ++ h.0) (fed ++ xs) (messages ++ h.0)) whole h.1)

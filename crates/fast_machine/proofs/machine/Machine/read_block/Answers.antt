@@ -2,12 +2,13 @@ use Rattle.std.proofs.Common.{◌≢◌, ◌≡◌, ◌<◌, ◌+◌, ◌-◌, �
 use Rattle.fast_template.specs.TemplateSets.{templates_in}
 use Rattle.fast_stream.specs.declared.fault.Cause.TheVariants.{Truncated, BlockEnd}
 use Rattle.fast_stream.specs.declared.mode.Framing.TheVariants.{Blocks}
+use Rattle.fast_stream.specs.Nodes.{Content}
 use Rattle.fast_machine.specs.Runs.{ReadsOn, Unfinished}
 use Rattle.fast_machine.specs.Standing.{Stands, StopsBehind, framed_as}
 use Rattle.fast_walk.specs.Traversals.{stop_of}
 use Rattle.fast_machine.proofs.Standings.{run_from}
 use Rattle.fast_machine.proofs.Followings.{counts_pushed, fault_refused, few_messages, not_memory, not_truncated, slice_rest}
-use Rattle.fast_machine.proofs.BlockReads.{block_carried, block_faults, block_forgets, block_goes_on, block_has_all, block_stands, block_stops, block_waits, drop_again, open_stands, window_is}
+use Rattle.fast_machine.proofs.BlockReads.{block_carried, block_faults, block_forgets, block_has_all, block_stands, block_stands_behind, block_stops, block_waits, drop_again, open_stands, empty_window, window_is}
 use Rattle.fast_machine.proofs.machine.Machine.read_block.Goals as goal
 
 pub returns-in-Err-stop_at_size-clause-fails : goal.returns-in-Err-stop_at_size-clause-fails
@@ -27,7 +28,7 @@ pub returns-in-None-clause-goes : goal.returns-in-None-clause-goes
 returns-in-None-clause-goes g c = λ before fed messages short counts stands.
     let old = c.args.self.now in
     let t = old.traversal in
-    let p = c.read_messages-progress in
+    let p = c.read_message-progress in
     let u = p.new.traversal in
     let R = g.R.Receiver in
     let bytes = c.args.bytes.now in
@@ -45,12 +46,22 @@ returns-in-None-clause-goes g c = λ before fed messages short counts stands.
     let again = drop_again at n bytes in
     let all = messages ++ e.0 in
     let ended = rw (c.in-None.is) at e.2 in
-    let whole = rw (c.in-None.is) at p.ensures.whole in
-    let carried = block_carried G t u room n unread window fed messages e.0 b is p.ensures.place p.ensures.level sets (λ d r. Unfinished H u [] d r) ended.0 in
+    let none = rw (c.in-None.is) at p.ensures.none in
+    let carried = block_carried G t u room n unread window fed messages e.0 b is p.ensures.place p.ensures.level sets (λ d r. Unfinished H u (drop n window) d r) ended.0 in
     let few = few_messages (framed_as Blocks u) (templates_in u.set.now) fed all carried in
     let counts = counts_pushed old.fed old.messages p.result.messages _ fed messages e.0 counts e.1 c.counted-self.ensures few short in
-    let goes = block_goes_on G t u room n unread window fed messages e.0 b is p.ensures.place p.ensures.level sets H ended.1 whole.0 ended.0 in
-    (e.0, counts, subst (λ (xs : List ℕ). Stands Blocks (room - n) H u xs fed all) again goes)
+    let goes = block_stands_behind G t u room n unread window fed messages e.0 b is p.ensures.place p.ensures.level sets H ended.1 ended.0 in (
+      e.0,
+      counts,
+      (λ h.
+          let zero = ap (λ (xs : List Content). length xs) h in
+          let count = e.1 in
+          let empty = none (omega (arith, zero, count)) in
+          let at_end = empty_window room at c.within-room.result bytes c.in-Ok.ensures.some c.in-Ok.ensures.place c.within-room.ensures.count c.within-room.ensures.least empty.1 in
+          let first = empty.0 in
+          omega (arith, at_end, first)),
+      subst (λ (xs : List ℕ). Stands Blocks (room - n) H u xs fed all) again goes,
+    )
 
 pub returns-then-self-rest-clause-fails : goal.returns-then-self-rest-clause-fails
 returns-then-self-rest-clause-fails g c = (
@@ -59,7 +70,7 @@ returns-then-self-rest-clause-fails g c = (
   λ before fed messages short counts stands.
       let old = c.args.self.now in
       let t = old.traversal in
-      let p = c.read_messages-progress in
+      let p = c.read_message-progress in
       let u = p.new.traversal in
       let R = g.R.Receiver in
       let bytes = c.args.bytes.now in
@@ -105,7 +116,7 @@ returns-in-Err-hold-clause-fails g c = (
   λ before fed messages short counts stands.
       let old = c.args.self.now in
       let t = old.traversal in
-      let p = c.read_messages-progress in
+      let p = c.read_message-progress in
       let u = p.new.traversal in
       let R = g.R.Receiver in
       let bytes = c.args.bytes.now in
@@ -144,7 +155,7 @@ returns-in-Ok-hold-clause-waits g c = (
   λ before fed messages short counts stands.
       let old = c.args.self.now in
       let t = old.traversal in
-      let p = c.read_messages-progress in
+      let p = c.read_message-progress in
       let u = p.new.traversal in
       let R = g.R.Receiver in
       let bytes = c.args.bytes.now in
@@ -189,7 +200,7 @@ returns-in_default g c = record {
     λ before fed messages short counts stands.
         let old = c.args.self.now in
         let t = old.traversal in
-        let p = c.read_messages-progress in
+        let p = c.read_message-progress in
         let u = p.new.traversal in
         let R = g.R.Receiver in
         let bytes = c.args.bytes.now in
@@ -217,8 +228,8 @@ returns-in_default g c = record {
         (λ known. block_faults G t u room n unread window fed messages e.0 b is p.ensures.place p.ensures.level sets halt other (ended.1 known)) in
         (e.0, record { at = rw (c.requires.framing) (refused, c.requires.held, block_has_all G t u room n unread window fed messages e.0 b is p.ensures.place p.ensures.level sets R.stands p.new.receiver (before ++ e.0) (ended.3 other)); counts = counts }),
   );
-  set = c.read_messages-progress.ensures.set;
-  mode = rw (c.read_messages-progress.ensures.level) refl;
-  same_keys = c.read_messages-progress.ensures.same_keys;
+  set = c.read_message-progress.ensures.set;
+  mode = rw (c.read_message-progress.ensures.level) refl;
+  same_keys = c.read_message-progress.ensures.same_keys;
   fed = refl;
 }

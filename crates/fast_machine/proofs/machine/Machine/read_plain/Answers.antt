@@ -1,7 +1,8 @@
-use Rattle.std.proofs.Common.{◌≢◌, ◌++◌, [], ℕ, List, drop, length, sym, ap, subst, refl, arith, inl, inr}
+use Rattle.std.proofs.Common.{◌≢◌, ◌++◌, [], ℕ, List, drop, length, sym, ap, subst, refl, ◌∙◌, arith, inr}
 use Rattle.fast_template.specs.TemplateSets.{templates_in}
 use Rattle.fast_stream.specs.declared.fault.Cause.TheVariants.{Truncated}
 use Rattle.fast_stream.specs.declared.mode.Framing.TheVariants.{Plain}
+use Rattle.fast_stream.specs.Nodes.{Content}
 use Rattle.fast_walk.specs.Traversals.{stop_of}
 use Rattle.fast_machine.specs.Runs.{ReadsOn, Unfinished}
 use Rattle.fast_machine.specs.Standing.{Stands, StopsBehind, framed_as}
@@ -10,11 +11,11 @@ use Rattle.fast_machine.proofs.Followings.{counts_pushed, few_messages, not_memo
 use Rattle.fast_machine.proofs.PlainReads.{plain_carried, plain_has_all, plain_stands, plain_stops}
 use Rattle.fast_machine.proofs.machine.Machine.read_plain.Goals as goal
 
-pub returns-in-None-clause-follows : goal.returns-in-None-clause-follows
-returns-in-None-clause-follows g c = λ before fed messages short counts stands.
+pub returns-in-None-clause-goes : goal.returns-in-None-clause-goes
+returns-in-None-clause-goes g c = λ before fed messages short counts stands.
     let old = c.args.self.now in
     let t = old.traversal in
-    let p = c.read_messages-progress in
+    let p = c.read_message-progress in
     let u = p.new.traversal in
     let R = g.R.Receiver in
     let bytes = c.args.bytes.now in
@@ -26,80 +27,24 @@ returns-in-None-clause-follows g c = λ before fed messages short counts stands.
     let sets = ap (λ x. x.now) p.ensures.set in
     let all = messages ++ e.0 in
     let ended = rw (c.in-None.is) at e.2 in
-    let carried = plain_carried G t u old.left bytes fed messages e.0 stands p.ensures.level sets (λ d r. Unfinished H u [] d r) ended.0 in
+    let none = rw (c.in-None.is) at p.ensures.none in
+    let carried = plain_carried G t u old.left bytes fed messages e.0 stands p.ensures.level sets (λ d r. Unfinished H u (drop n bytes) d r) ended.0 in
     let few = few_messages (framed_as Plain u) (templates_in u.set.now) fed all carried in
-    let counts = counts_pushed old.fed old.messages p.result.messages _ fed messages e.0 counts e.1 c.counted-self.ensures few short in
-    let goes = plain_stands G t u old.left bytes fed messages e.0 stands p.ensures.level sets H [] ended.0 in (
+    let counts = counts_pushed old.fed old.messages p.result.messages _ fed messages e.0 counts e.1 c.counted-self.ensures few short in (
       e.0,
-      record { at = rw (c.requires.fault, c.requires.held, c.requires.framing) (goes, inl (ended.1, refl, stands.ends.2)); counts = counts },
+      counts,
+      (λ h. let zero = ap (λ (xs : List Content). length xs) h in let count = e.1 in let empty = none (omega (arith, zero, count)) in empty.0 ∙ sym empty.1),
+      plain_stands G t u old.left bytes fed messages e.0 stands p.ensures.level sets H (drop n bytes) ended.0,
     )
 
-pub returns-in-Err-clause-follows : goal.returns-in-Err-clause-follows
-returns-in-Err-clause-follows g c = λ before fed messages short counts stands.
-    let old = c.args.self.now in
-    let t = old.traversal in
-    let p = c.read_messages-progress in
-    let u = p.new.traversal in
-    let R = g.R.Receiver in
-    let bytes = c.args.bytes.now in
-    let n = p.result.at in
-    let G = ReadsOn R.has R.stands R.keeps t old.receiver (g.E.Entries.contents old.entries) before in
-    let run = run_from G t bytes stands.start.dictionary stands.rest stands.ends.0 in
-    let e = p.ensures.ended before stands.start.dictionary stands.rest [] run in
-    let H = ReadsOn R.has R.stands R.keeps u p.new.receiver (g.E.Entries.contents p.new.entries) (before ++ e.0) in
-    let sets = ap (λ x. x.now) p.ensures.set in
-    let all = messages ++ e.0 in
-    let ended = rw (c.in-Some.is) at e.2 in
-    let halt = c.in-Some.halt in
-    let carried = plain_carried G t u old.left bytes fed messages e.0 stands p.ensures.level sets (λ d r. Unit {0}) ended.0 in
-    let few = few_messages (framed_as Plain u) (templates_in u.set.now) fed all carried in
-    let counts = counts_pushed old.fed old.messages p.result.messages _ fed messages e.0 counts e.1 c.counted-self.ensures few short in
-    let truncated = c.in-Truncated.is in
-    let rest = sym (slice_rest bytes n) in
-    let goes = plain_stands G t u old.left bytes fed messages e.0 stands p.ensures.level sets H (drop n bytes) (ended.2 truncated) in
-    let stops = plain_stops G t u old.left bytes fed messages e.0 stands p.ensures.level sets (stop_of u.template halt (drop n bytes)) (ended.1 (not_memory halt.cause truncated)) in (
-      e.0,
-      c.in-Err.ensures.follows (before ++ e.0) fed all (omega (arith, short)) counts
-          (rw (c.requires.framing) (subst (λ (xs : List ℕ). Stands Plain old.left H u xs fed all) rest goes))
-          (rw (c.requires.framing) (inr (subst (λ (xs : List ℕ). StopsBehind (framed_as Plain u) (templates_in u.set.now) fed all (stop_of u.template (record { cause = Truncated; number = halt.number }) xs)) rest (rw (truncated) at stops)))),
-    )
-
-pub returns-in-Ok-clause-follows : goal.returns-in-Ok-clause-follows
-returns-in-Ok-clause-follows g c = λ before fed messages short counts stands.
-    let old = c.args.self.now in
-    let t = old.traversal in
-    let p = c.read_messages-progress in
-    let u = p.new.traversal in
-    let R = g.R.Receiver in
-    let bytes = c.args.bytes.now in
-    let n = p.result.at in
-    let G = ReadsOn R.has R.stands R.keeps t old.receiver (g.E.Entries.contents old.entries) before in
-    let run = run_from G t bytes stands.start.dictionary stands.rest stands.ends.0 in
-    let e = p.ensures.ended before stands.start.dictionary stands.rest [] run in
-    let H = ReadsOn R.has R.stands R.keeps u p.new.receiver (g.E.Entries.contents p.new.entries) (before ++ e.0) in
-    let sets = ap (λ x. x.now) p.ensures.set in
-    let all = messages ++ e.0 in
-    let ended = rw (c.in-Some.is) at e.2 in
-    let halt = c.in-Some.halt in
-    let carried = plain_carried G t u old.left bytes fed messages e.0 stands p.ensures.level sets (λ d r. Unit {0}) ended.0 in
-    let few = few_messages (framed_as Plain u) (templates_in u.set.now) fed all carried in
-    let counts = counts_pushed old.fed old.messages p.result.messages _ fed messages e.0 counts e.1 c.counted-self.ensures few short in
-    let truncated = c.in-Truncated.is in
-    let rest = sym (slice_rest bytes n) in
-    let goes = plain_stands G t u old.left bytes fed messages e.0 stands p.ensures.level sets H (drop n bytes) (ended.2 truncated) in
-    let stops = plain_stops G t u old.left bytes fed messages e.0 stands p.ensures.level sets (stop_of u.template halt (drop n bytes)) (ended.1 (not_memory halt.cause truncated)) in (
-      e.0,
-      c.in-Ok.ensures.follows (before ++ e.0) fed all (omega (arith, short)) counts
-          (rw (c.requires.framing) (subst (λ (xs : List ℕ). Stands Plain old.left H u xs fed all) rest goes))
-          (rw (c.requires.framing) (inr (subst (λ (xs : List ℕ). StopsBehind (framed_as Plain u) (templates_in u.set.now) fed all (stop_of u.template (record { cause = Truncated; number = halt.number }) xs)) rest (rw (truncated) at stops)))),
-    )
-
-pub returns-in_default : goal.returns-in_default
-returns-in_default g c = record {
-  follows = λ before fed messages short counts stands.
+pub returns-in-Err-clause-fails : goal.returns-in-Err-clause-fails
+returns-in-Err-clause-fails g c = (
+  c.in-Err.ensures.answer,
+  (λ e. not_memory c.in-Err.fault.cause e c.in-Err.ensures.cause),
+  λ before fed messages short counts stands.
       let old = c.args.self.now in
       let t = old.traversal in
-      let p = c.read_messages-progress in
+      let p = c.read_message-progress in
       let u = p.new.traversal in
       let R = g.R.Receiver in
       let bytes = c.args.bytes.now in
@@ -115,14 +60,85 @@ returns-in_default g c = record {
       let carried = plain_carried G t u old.left bytes fed messages e.0 stands p.ensures.level sets (λ d r. Unit {0}) ended.0 in
       let few = few_messages (framed_as Plain u) (templates_in u.set.now) fed all carried in
       let counts = counts_pushed old.fed old.messages p.result.messages _ fed messages e.0 counts e.1 c.counted-self.ensures few short in
-      let other : c.in-Some.halt.cause ≢ Truncated = λ e. c.in_default.not-Truncated e in
-      let refused = c.fault_of-fault.ensures.refused (framed_as Plain u) u (drop n bytes) fed all p.ensures.sound counts (omega (arith, short)) (sym c.template-template.ensures) (ap (λ (xs : List ℕ). length xs) (sym (slice_rest bytes n))) carried
-      (λ known. plain_stops G t u old.left bytes fed messages e.0 stands p.ensures.level sets (stop_of u.template halt (drop n bytes)) (ended.1 known)) in
-      (e.0, record { at = rw (c.requires.framing) (refused, c.requires.held, plain_has_all G t u old.left bytes fed messages e.0 stands p.ensures.level sets R.stands p.new.receiver (before ++ e.0) (ended.3 other)); counts = counts });
-  answer = refl;
-  cause = not_truncated c.fault_of-fault.result.cause c.in-Some.halt.cause c.fault_of-fault.ensures.cause (λ e. c.in_default.not-Truncated e);
-  set = c.read_messages-progress.ensures.set;
-  mode = rw (c.read_messages-progress.ensures.level) refl;
-  same_keys = c.read_messages-progress.ensures.same_keys;
+      let truncated = c.in-Truncated.is in
+      let rest = sym (slice_rest bytes n) in
+      let goes = plain_stands G t u old.left bytes fed messages e.0 stands p.ensures.level sets H (drop n bytes) (ended.2 truncated) in
+      let stops = plain_stops G t u old.left bytes fed messages e.0 stands p.ensures.level sets (stop_of u.template halt (drop n bytes)) (ended.1 (not_memory halt.cause truncated)) in (
+        e.0,
+        c.in-Err.ensures.follows (before ++ e.0) fed all (omega (arith, short)) counts
+            (rw (c.requires.framing) (subst (λ (xs : List ℕ). Stands Plain old.left H u xs fed all) rest goes))
+            (rw (c.requires.framing) (inr (subst (λ (xs : List ℕ). StopsBehind (framed_as Plain u) (templates_in u.set.now) fed all (stop_of u.template (record { cause = Truncated; number = halt.number }) xs)) rest (rw (truncated) at stops)))),
+      ),
+)
+
+pub returns-in-Ok-clause-waits : goal.returns-in-Ok-clause-waits
+returns-in-Ok-clause-waits g c = (
+  c.in-Ok.ensures.answer,
+  λ before fed messages short counts stands.
+      let old = c.args.self.now in
+      let t = old.traversal in
+      let p = c.read_message-progress in
+      let u = p.new.traversal in
+      let R = g.R.Receiver in
+      let bytes = c.args.bytes.now in
+      let n = p.result.at in
+      let G = ReadsOn R.has R.stands R.keeps t old.receiver (g.E.Entries.contents old.entries) before in
+      let run = run_from G t bytes stands.start.dictionary stands.rest stands.ends.0 in
+      let e = p.ensures.ended before stands.start.dictionary stands.rest [] run in
+      let H = ReadsOn R.has R.stands R.keeps u p.new.receiver (g.E.Entries.contents p.new.entries) (before ++ e.0) in
+      let sets = ap (λ x. x.now) p.ensures.set in
+      let all = messages ++ e.0 in
+      let ended = rw (c.in-Some.is) at e.2 in
+      let halt = c.in-Some.halt in
+      let carried = plain_carried G t u old.left bytes fed messages e.0 stands p.ensures.level sets (λ d r. Unit {0}) ended.0 in
+      let few = few_messages (framed_as Plain u) (templates_in u.set.now) fed all carried in
+      let counts = counts_pushed old.fed old.messages p.result.messages _ fed messages e.0 counts e.1 c.counted-self.ensures few short in
+      let truncated = c.in-Truncated.is in
+      let rest = sym (slice_rest bytes n) in
+      let goes = plain_stands G t u old.left bytes fed messages e.0 stands p.ensures.level sets H (drop n bytes) (ended.2 truncated) in
+      let stops = plain_stops G t u old.left bytes fed messages e.0 stands p.ensures.level sets (stop_of u.template halt (drop n bytes)) (ended.1 (not_memory halt.cause truncated)) in (
+        e.0,
+        c.in-Ok.ensures.follows (before ++ e.0) fed all (omega (arith, short)) counts
+            (rw (c.requires.framing) (subst (λ (xs : List ℕ). Stands Plain old.left H u xs fed all) rest goes))
+            (rw (c.requires.framing) (inr (subst (λ (xs : List ℕ). StopsBehind (framed_as Plain u) (templates_in u.set.now) fed all (stop_of u.template (record { cause = Truncated; number = halt.number }) xs)) rest (rw (truncated) at stops)))),
+      ),
+)
+
+pub returns-in_default : goal.returns-in_default
+returns-in_default g c = record {
+  goes = tt;
+  place = tt;
+  took = tt;
+  waits = tt;
+  fails = (
+    refl,
+    not_truncated c.fault_of-fault.result.cause c.in-Some.halt.cause c.fault_of-fault.ensures.cause (λ e. c.in_default.not-Truncated e),
+    λ before fed messages short counts stands.
+        let old = c.args.self.now in
+        let t = old.traversal in
+        let p = c.read_message-progress in
+        let u = p.new.traversal in
+        let R = g.R.Receiver in
+        let bytes = c.args.bytes.now in
+        let n = p.result.at in
+        let G = ReadsOn R.has R.stands R.keeps t old.receiver (g.E.Entries.contents old.entries) before in
+        let run = run_from G t bytes stands.start.dictionary stands.rest stands.ends.0 in
+        let e = p.ensures.ended before stands.start.dictionary stands.rest [] run in
+        let H = ReadsOn R.has R.stands R.keeps u p.new.receiver (g.E.Entries.contents p.new.entries) (before ++ e.0) in
+        let sets = ap (λ x. x.now) p.ensures.set in
+        let all = messages ++ e.0 in
+        let ended = rw (c.in-Some.is) at e.2 in
+        let halt = c.in-Some.halt in
+        let carried = plain_carried G t u old.left bytes fed messages e.0 stands p.ensures.level sets (λ d r. Unit {0}) ended.0 in
+        let few = few_messages (framed_as Plain u) (templates_in u.set.now) fed all carried in
+        let counts = counts_pushed old.fed old.messages p.result.messages _ fed messages e.0 counts e.1 c.counted-self.ensures few short in
+        let other : c.in-Some.halt.cause ≢ Truncated = λ e. c.in_default.not-Truncated e in
+        let refused = c.fault_of-fault.ensures.refused (framed_as Plain u) u (drop n bytes) fed all p.ensures.sound counts (omega (arith, short)) (sym c.template-template.ensures) (ap (λ (xs : List ℕ). length xs) (sym (slice_rest bytes n))) carried
+        (λ known. plain_stops G t u old.left bytes fed messages e.0 stands p.ensures.level sets (stop_of u.template halt (drop n bytes)) (ended.1 known)) in
+        (e.0, record { at = rw (c.requires.framing) (refused, c.requires.held, plain_has_all G t u old.left bytes fed messages e.0 stands p.ensures.level sets R.stands p.new.receiver (before ++ e.0) (ended.3 other)); counts = counts }),
+  );
+  set = c.read_message-progress.ensures.set;
+  mode = rw (c.read_message-progress.ensures.level) refl;
+  same_keys = c.read_message-progress.ensures.same_keys;
   fed = refl;
 }

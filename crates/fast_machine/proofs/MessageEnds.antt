@@ -1,0 +1,222 @@
+-- Where a message has ended: the bytes behind it are left out, and they are bytes of the last chunk.
+use Rattle.std.proofs.Common.{◌≡◌, ◌≤◌, ◌<◌, ◌+◌, ℕ, zero, suc, ◌-◌, length, take, drop, length-append, length-drop, get_or, arith, List, [], ◌∷◌, ◌++◌, Result, Ok, Err, refl, sym, ap, subst, ◌∙◌, append_assoc, append-nil, ◌⊎◌, inl, inr}
+use Rattle.std.proofs.lemmas.List.{append_cancel_right}
+use Rattle.std.specs.List.{AllByRecursion}
+use Rattle.fast_wire.specs.Reader.{IsBytes}
+use Rattle.fast_wire.proofs.Readers.{ok_is}
+use Rattle.fast_template.specs.Resolved.{Resolved}
+use Rattle.fast_template.specs.TemplateSets.{HaveTypedParts, TemplateList, templates_in}
+use Rattle.fast_dictionary.specs.Dictionary.{Dictionary}
+use Rattle.fast_stream.specs.declared.mode.Framing.{Framing}
+use Rattle.fast_stream.specs.declared.mode.Framing.TheVariants.{Plain, Blocks}
+use Rattle.fast_stream.specs.declared.mode.Mode.{Mode}
+use Rattle.fast_stream.specs.Blocks.{Stand, at_start, Opens}
+use Rattle.fast_stream.specs.Modes.{CarriesFrom, next_at}
+use Rattle.fast_stream.specs.Nodes.{Content}
+use Rattle.fast_stream.specs.Faults.{MessageStop}
+use Rattle.fast_stream.specs.Readers.{IsNextReader}
+use Rattle.fast_walk.specs.declared.traversal.Stage.{Stage}
+use Rattle.fast_walk.specs.declared.traversal.Stage.TheVariants as stage
+use Rattle.fast_walk.specs.declared.traversal.Traversal.{Traversal}
+use Rattle.fast_walk.specs.OpenSegments.{Reading}
+use Rattle.fast_walk.specs.Traversals.{ContinuesAt, begun_at, begun_of}
+use Rattle.fast_machine.specs.Runs.{Having, ReadsOn, Standing, Unfinished}
+use Rattle.fast_machine.specs.Following.{Waits}
+use Rattle.fast_machine.specs.Standing.{GoesIn, Stands, framed_as}
+use Rattle.fast_stream.proofs.MessageReaders.{message_reader}
+use Rattle.fast_stream.proofs.ModeReaders.{next_reader}
+use Rattle.fast_machine.proofs.Followings.{held_within}
+use Rattle.fast_machine.proofs.Runs.{all_unread, unfinished_between}
+
+-- ---- the bytes behind a message are left out
+
+fits_front : (xs ys : List ℕ) → IsBytes (xs ++ ys) → IsBytes xs
+fits_front [] ys h = tt
+fits_front (x ∷ xs) ys h = (h.0, fits_front xs ys h.1)
+
+none_taken : (n : ℕ) → ◌≡◌ {A = List ℕ} (take n []) []
+none_taken zero = refl
+none_taken (suc n) = refl
+
+stands_at : {R : Type 0} (has : Having R) (stands keeps : Standing R) (t : Traversal) (r : R) (set : List Resolved) (d start : Dictionary) (before : List Content) (read : List ℕ → Reading) (at : Stage) → at ≡ stage.Map
+    → ContinuesAt has stands keeps at t r set d before start read → stands r set before d × (start ≡ d)
+stands_at has stands keeps t r set d start before read stage.Map is c = (c.stands, c.start_is)
+stands_at has stands keeps t r set d start before read stage.Identifier is c = absurd cc
+stands_at has stands keeps t r set d start before read stage.Body is c = absurd cc
+
+module _ {R : Type 0} (has : Having R) (stands keeps : Standing R) (t : Traversal) (r : R) (d : Dictionary) (before : List Content) (at : t.stage ≡ stage.Map) where
+  abbrev G : Dictionary → (List ℕ → Reading) → Type 0
+  G = ReadsOn has stands keeps t r d before
+
+  -- the next message, of which nothing has come
+  next_of_none : (unread : List ℕ) (start : Dictionary) (rest : List ℕ) → Unfinished G t unread start rest → Unfinished G t [] start []
+  next_of_none unread start rest u =
+      let between = stands_at has stands keeps t r (templates_in t.set.now) d start before u.read t.stage at u.goes in
+      unfinished_between has stands keeps t r d before [] start [] at between.0 between.1 refl tt
+
+  -- the rest of a stream without the bytes that are unread
+  record Shorter (framing : Framing) (left : ℕ) (unread : List ℕ) (s : Stand) (rest : List ℕ) : Type 0 where
+    back : List ℕ
+    parts : rest ≡ back ++ unread
+    goes : GoesIn framing left G t [] s back
+
+  shorter : (framing : Framing) (left : ℕ) (unread : List ℕ) (s : Stand) (rest : List ℕ) → GoesIn framing left G t unread s rest → Shorter framing left unread s rest
+  unfolding next_of_none
+  shorter Plain left unread s rest h = record { back = []; parts = all_unread G t unread s.dictionary rest h.0 at; goes = (next_of_none unread s.dictionary rest h.0, h.1, h.2) }
+  shorter Blocks left unread s rest (inl b) = record {
+    back = [];
+    parts = b.same;
+    goes = inl (record { none = b.none; outside = b.outside; stage = at; same = refl; fits = tt; next = b.next });
+  }
+  shorter Blocks left unread s rest (inr i) =
+      let parts : rest ≡ i.size ++ unread = i.parts ∙ ap (λ (xs : List ℕ). i.size ++ (xs ++ unread)) (i.next.between at) in
+      record {
+        back = i.size;
+        parts = parts;
+        goes = inr (record {
+          some = i.some;
+          size = i.size;
+          within = [];
+          next = let u = next_of_none (take left unread) s.dictionary i.within i.next in record {
+            read = u.read;
+            goes = u.goes;
+            fits = tt;
+            reads = λ more. u.reads more ∙ ap (λ (xs : List ℕ). u.read (xs ++ more)) (sym (none_taken left));
+            taken = [];
+            whole = sym (none_taken left);
+            between = λ k. refl;
+            some = u.some;
+          };
+          opens = subst (λ (xs : List ℕ). Opens t.level s.left i.size (length xs + left)) (i.next.between at) i.opens;
+          parts = sym (append-nil i.size);
+          fits = fits_front i.size unread (subst (λ (xs : List ℕ). IsBytes xs) parts i.fits);
+        });
+      }
+
+  pub ends_here : (framing : Framing) (left : ℕ) (unread fed : List ℕ) (messages : List Content) → Stands framing left G t unread (fed ++ unread) messages → Stands framing left G t [] fed messages
+  ends_here framing left unread fed messages s =
+      let short = shorter framing left unread s.start s.rest s.ends in
+      record {
+        front = s.front;
+        rest = short.back;
+        start = s.start;
+        parts = append_cancel_right fed (s.front ++ short.back) unread (s.parts ∙ ap (λ (xs : List ℕ). s.front ++ xs) short.parts ∙ sym (append_assoc s.front short.back unread));
+        carried = s.carried;
+        ends = short.goes;
+      }
+
+-- ---- a message ends behind the bytes that were held
+
+module _ (mode : Mode) (set : List Resolved) (is : IsNextReader mode set) where
+  abbrev Answer : Type 0
+  Answer = Content × Stand × List ℕ
+
+  size_or : (a b : ℕ) → (a ≤ b) ⊎ (b < a)
+  size_or zero b = inl (omega arith)
+  size_or (suc a) zero = inr (omega arith)
+  size_or (suc a) (suc b) = elim (size_or a b) [ inl few ↦ inl (omega (arith, few)) | inr less ↦ inr (omega (arith, less)) ]
+
+  -- a list that begins with each of two
+  begins_with : (xs ys zs ws : List ℕ) → xs ++ ys ≡ zs ++ ws → length xs ≤ length zs → (back : List ℕ) × (zs ≡ xs ++ back)
+  begins_with [] ys zs ws h few = (zs, refl)
+  begins_with (x ∷ xs) ys [] ws h few = absurd (omega (arith, few))
+  begins_with (x ∷ xs) ys (z ∷ zs) ws h few =
+      let rest = begins_with xs ys zs ws (ap (λ (l : List ℕ). drop 1 l) h) (omega (arith, few)) in
+      (rest.0, ap (λ (n : ℕ). n ∷ zs) (sym (ap (λ (l : List ℕ). get_or l 0 0) h)) ∙ ap (λ (l : List ℕ). x ∷ l) rest.1)
+
+  stopped_or_read : (s : Stand) (bytes rest : List ℕ) (m : Content) (after : Stand) (stop : MessageStop) → next_at mode set s bytes ≡ Err stop → next_at mode set s bytes ≡ Ok (m, after, rest) → ⊥
+  stopped_or_read s bytes rest m after stop e o = two (sym e ∙ o)
+    where
+      two : ◌≡◌ {A = Result Answer MessageStop} (Err stop) (Ok (m, after, rest)) → ⊥
+      two both = absurd cc
+
+  -- where the next message stops behind these, that message ends behind the bytes in which it stopped
+  ends_beyond : (ms more : List Content) (m : Content) (s : Stand) (front rest : List ℕ) (stand : Stand) (stop : MessageStop) (whole back : List ℕ) (after : Stand) (chunk : List ℕ)
+      → CarriesFrom mode set s front ms stand → next_at mode set stand rest ≡ Err stop → CarriesFrom mode set s whole (ms ++ m ∷ more) after → whole ++ back ≡ (front ++ rest) ++ chunk
+      → length (front ++ rest) < length whole
+  ends_beyond [] more m s front rest stand stop whole back after chunk h e k same = of_size (size_or (length whole) (length rest))
+    where
+      is_rest : front ++ rest ≡ rest
+      is_rest = ap (λ (xs : List ℕ). xs ++ rest) h.0
+
+      stopped : next_at mode set s rest ≡ Err stop
+      stopped = subst (λ (x : Stand). next_at mode set x rest ≡ Err stop) h.1 e
+
+      of_size : (length whole ≤ length rest) ⊎ (length rest < length whole) → length (front ++ rest) < length whole
+      of_size (inr less) = subst (λ (xs : List ℕ). length xs < length whole) (sym is_rest) less
+      of_size (inl few) =
+          let all : whole ++ back ≡ rest ++ chunk = same ∙ ap (λ (xs : List ℕ). xs ++ chunk) is_rest in
+          let b = begins_with whole back rest chunk all few in
+          let parts : rest ≡ k.front ++ (k.back ++ b.0) = b.1 ∙ ap (λ (xs : List ℕ). xs ++ b.0) k.parts ∙ append_assoc k.front k.back b.0 in
+          absurd (stopped_or_read s rest (k.back ++ b.0) m k.between stop stopped
+          (ap (λ (xs : List ℕ). next_at mode set s xs) parts ∙ is.again s k.front (k.back ++ b.0) m k.between k.first))
+  ends_beyond (n ∷ ms) more m s front rest stand stop whole back after chunk h e k same =
+      let one : next_at mode set s (h.front ++ ((h.back ++ rest) ++ chunk)) ≡ Ok (n, h.between, (h.back ++ rest) ++ chunk) = is.again s h.front ((h.back ++ rest) ++ chunk) n h.between h.first in
+      let other : next_at mode set s (k.front ++ (k.back ++ back)) ≡ Ok (n, k.between, k.back ++ back) = is.again s k.front (k.back ++ back) n k.between k.first in
+      let bytes : k.front ++ (k.back ++ back) ≡ h.front ++ ((h.back ++ rest) ++ chunk) =
+      sym (ap (λ (xs : List ℕ). xs ++ back) k.parts ∙ append_assoc k.front k.back back) ∙ same
+      ∙ ap (λ (xs : List ℕ). (xs ++ rest) ++ chunk) h.parts ∙ ap (λ (xs : List ℕ). xs ++ chunk) (append_assoc h.front h.back rest) ∙ append_assoc h.front (h.back ++ rest) chunk in
+      let alike : ◌≡◌ {A = Answer} (n, k.between, k.back ++ back) (n, h.between, (h.back ++ rest) ++ chunk) =
+      ok_is {F = MessageStop} (n, k.between, k.back ++ back) (n, h.between, (h.back ++ rest) ++ chunk) (sym other ∙ ap (λ (xs : List ℕ). next_at mode set s xs) bytes ∙ one) in
+      let stands : k.between ≡ h.between = ap (λ (a : Answer). a.1) alike in
+      let rests : k.back ++ back ≡ (h.back ++ rest) ++ chunk = ap (λ (a : Answer). a.2) alike in
+      let less = ends_beyond ms more m h.between h.back rest stand stop k.back back after chunk h.second e (subst (λ (x : Stand). CarriesFrom mode set x k.back (ms ++ m ∷ more) after) stands k.second) rests in
+      let sizes = ap (λ (xs : List ℕ). length xs) bytes in
+      let left = ap (λ (xs : List ℕ). length xs) rests in
+      let whole_size = ap (λ (xs : List ℕ). length xs) k.parts ∙ length-append k.front k.back in
+      let front_size = ap (λ (xs : List ℕ). length xs) h.parts ∙ length-append h.front h.back in
+      let a = length-append k.front (k.back ++ back) in
+      let b = length-append h.front ((h.back ++ rest) ++ chunk) in
+      let c = length-append front rest in
+      let d = length-append h.back rest in
+      omega (arith, less, sizes, left, whole_size, front_size, a, b, c, d)
+
+-- the place behind a message that has ended is behind the bytes that were held
+pub behind_held : (framing : Framing) (left after : ℕ) (G H : Dictionary → (List ℕ → Reading) → Type 0) (t u : Traversal) (held : List ℕ) (waiting next : ℕ) (fed chunk : List ℕ) (messages ended : List Content)
+    → AllByRecursion (λ r. HaveTypedParts r.members) (templates_in t.set.now) → framed_as framing u ≡ framed_as framing t → u.set.now ≡ t.set.now
+    → Waits framing left t held waiting fed messages → Stands framing after H u (drop next (held ++ chunk)) (fed ++ chunk) (messages ++ ended)
+    → (ended ≡ [] → next ≡ length (held ++ chunk)) → (begun_of t ≡ 0 → 0 < next) → next ≤ length (held ++ chunk) → 0 < length chunk → length held < next
+behind_held framing left after G H t u held waiting next fed chunk messages [] typed alike set waits stands all took place some =
+    let size = length-append held chunk in
+    let whole = all refl in
+    omega (arith, size, whole, some)
+behind_held framing left after G H t u held waiting next fed chunk messages (m ∷ more) typed alike set (inl between) stands all took place some =
+    let none = ap (λ (xs : List ℕ). length xs) between.1 in
+    let first = took (ap begun_at between.0) in
+    omega (arith, none, first)
+behind_held framing left after G H t u held waiting next fed chunk messages (m ∷ more) typed alike set (inr stops) stands all took place some =
+    let mode = framed_as framing t in
+    let sets = templates_in t.set.now in
+    let same : templates_in u.set.now ≡ sets = ap (λ (x : TemplateList). templates_in x) set in
+    let carried : CarriesFrom mode sets at_start stands.front (messages ++ m ∷ more) stands.start = subst (λ (x : Mode). CarriesFrom x sets at_start stands.front (messages ++ m ∷ more) stands.start) alike (subst (λ (x : List Resolved). CarriesFrom (framed_as framing u) x at_start stands.front (messages ++ m ∷ more) stands.start) same stands.carried) in
+    let less = ends_beyond mode sets (next_reader mode sets (message_reader mode.level sets typed)) messages more m at_start stops.front stops.rest stops.start _ stands.front stands.rest stands.start chunk stops.carried stops.ends.2 carried
+    (sym stands.parts ∙ ap (λ (xs : List ℕ). xs ++ chunk) stops.parts) in
+    let within = held_within framing after H u (drop next (held ++ chunk)) stands.start stands.rest stands.ends in
+    let all_size = ap (λ (xs : List ℕ). length xs) stands.parts ∙ length-append stands.front stands.rest in
+    let fed_size = ap (λ (xs : List ℕ). length xs) stops.parts in
+    let chunk_size = length-append fed chunk in
+    let left_size = length-drop next (held ++ chunk) in
+    let held_size = length-append held chunk in
+    omega (arith, less, within, all_size, fed_size, chunk_size, left_size, held_size, place)
+
+-- the bytes behind those that were held
+pub drop_behind : (held chunk : List ℕ) (next : ℕ) → length held ≤ next → drop next (held ++ chunk) ≡ drop (next - length held) chunk
+drop_behind [] chunk next few = let same : next ≡ next - 0 = omega arith in ap (λ (n : ℕ). drop n chunk) same
+drop_behind (x ∷ xs) chunk zero few = absurd (omega (arith, few))
+drop_behind (x ∷ xs) chunk (suc next) few =
+    let same : next - length xs ≡ suc next - length (x ∷ xs) = omega arith in
+    drop_behind xs chunk next (omega (arith, few)) ∙ ap (λ (n : ℕ). drop n chunk) same
+
+pub none_before : (ys : List ℕ) → take 0 ys ≡ []
+none_before [] = refl
+none_before (y ∷ ys) = refl
+
+pub take_again : (n m : ℕ) (xs : List ℕ) → take n xs ++ take m (drop n xs) ≡ take (n + m) xs
+take_again zero m xs = let same : m ≡ 0 + m = omega arith in ap (λ (zs : List ℕ). zs ++ take m xs) (none_before xs) ∙ ap (λ (k : ℕ). take k xs) same
+take_again (suc n) m [] = none_taken m ∙ sym (none_taken (suc n + m))
+take_again (suc n) m (x ∷ xs) = let same : suc (n + m) ≡ suc n + m = omega arith in ap (λ (zs : List ℕ). x ∷ zs) (take_again n m xs) ∙ ap (λ (k : ℕ). take k (x ∷ xs)) same
+
+pub take_whole : (n : ℕ) (xs : List ℕ) → length xs ≤ n → take n xs ≡ xs
+take_whole n [] few = none_taken n
+take_whole zero (x ∷ xs) few = absurd (omega (arith, few))
+take_whole (suc n) (x ∷ xs) few = ap (λ (zs : List ℕ). x ∷ zs) (take_whole n xs (omega (arith, few)))
