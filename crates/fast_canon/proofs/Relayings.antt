@@ -1,8 +1,7 @@
 -- Lemmas on a stream on its way to canonical bytes.
-use Rattle.std.proofs.Common.{◌≡◌, ◌≢◌, ◌≤◌, ℕ, List, ◌∷◌, ◌++◌, length, length-append, arith, Option, refl, ap, sym, subst, ◌∙◌, ◌⊎◌, inl, inr}
+use Rattle.std.proofs.Common.{◌≡◌, ◌≢◌, ◌≤◌, ℕ, ◌+◌, min, List, ◌∷◌, ◌++◌, length, length-append, append_assoc, arith, Option, Err, refl, ap, sym, subst, ◌∙◌, ◌⊎◌, inl, inr}
 use Rattle.fast_template.specs.Resolved.{Resolved}
 use Rattle.fast_template.specs.TemplateSets.{IsSound, TemplateList, templates_in}
-use Rattle.fast_dictionary.specs.Dictionary.{Dictionary}
 use Rattle.fast_dictionary.specs.declared.entries.Entries.{Ghosts}
 use Rattle.fast_decoder.specs.declared.input.Reached.{Reached}
 use Rattle.fast_decoder.specs.declared.input.Reached.TheVariants as reached
@@ -11,50 +10,58 @@ use Rattle.fast_walk.specs.declared.receiver.Receiver.{Ghosts as Receiving}
 use Rattle.fast_decoder.specs.Inputs.{HasReached}
 use Rattle.fast_stream.specs.declared.fault.Fault.{Fault}
 use Rattle.fast_stream.specs.declared.mode.Mode.{Mode}
-use Rattle.fast_stream.specs.declared.mode.Framing.{Framing}
 use Rattle.fast_stream.specs.Blocks.{at_start}
 use Rattle.fast_stream.proofs.Framings.{as_messages_from}
-use Rattle.fast_walk.specs.declared.traversal.Traversal.{Traversal}
 use Rattle.fast_stream.specs.Nodes.{Content}
 use Rattle.fast_machine.specs.Standing.{Carried, ReadsOn}
-use Rattle.fast_machine.specs.Following.{FollowsAt, mode_of}
-use Rattle.fast_machine.proofs.Followings.{all_carried, has_ended}
+use Rattle.fast_machine.specs.Following.{mode_of}
+use Rattle.fast_io.specs.Counts.{counted_by}
+use Rattle.fast_machine.proofs.Followings.{all_carried}
 use Rattle.fast_machine.proofs.Standings.{carried_of}
-use Rattle.fast_canon.specs.Relays.{Relays}
+use Rattle.fast_canon.specs.Relays.{Making, Relays}
+use Rattle.fast_canon.specs.Canonicalised.{Canonicalises, Passes}
+use Rattle.fast_canon.specs.declared.fault.CanonFault.{CanonFault}
+use Rattle.fast_canon.specs.declared.fault.CanonFault.TheVariants as refusal
 use Rattle.fast_canon.specs.declared.summary.Summary.{Summary}
 use Rattle.fast_canon.proofs.StreamLaws.{none_shorter_alone}
-use Rattle.fast_writer.specs.declared.writer.Writer.{Writer}
 use Rattle.fast_writer.specs.Canonical.{IsCanonical}
-use Rattle.fast_writer.specs.Levels.{HasFinished, HasWritten}
 use Rattle.fast_walk.specs.Received.{handed_on}
-
--- the writer has the canonical bytes of the messages that ended, but for those handed on
-pub canonical_of : (fault : Option Fault) (framing : Framing) (block : ℕ) (t : Traversal) (w : Writer) (d : Dictionary) (held : List ℕ) (waiting : ℕ) (handed bytes : List ℕ) (messages : List Content)
-    → FollowsAt HasWritten HasFinished HasFinished fault framing block t w d held waiting (handed_on handed ∷ messages) bytes messages → IsCanonical (templates_in t.set.now) messages (handed ++ w.out.items)
-canonical_of fault framing block t w d held waiting handed bytes messages f =
-    let e = has_ended HasWritten HasFinished fault framing block t w d held waiting (handed_on handed ∷ messages) bytes messages f in (e.start.dictionary, e.ends)
-
--- and has them still, where it has forgotten what was open
-pub canonical_left : (fault : Option Fault) (framing : Framing) (block : ℕ) (t u : Traversal) (w v : Writer) (d : Dictionary) (held : List ℕ) (waiting : ℕ) (handed bytes : List ℕ) (messages : List Content)
-    → u.set.now ≡ t.set.now → ((set : List Resolved) (ms : List Content) (e : Dictionary) → HasFinished w set ms e ⊎ HasFinished w set ms e → HasFinished v set ms e ⊎ HasFinished v set ms e)
-    → FollowsAt HasWritten HasFinished HasFinished fault framing block t w d held waiting (handed_on handed ∷ messages) bytes messages → IsCanonical (templates_in u.set.now) messages (handed ++ v.out.items)
-canonical_left fault framing block t u w v d held waiting handed bytes messages same left f =
-    let e = has_ended HasWritten HasFinished fault framing block t w d held waiting (handed_on handed ∷ messages) bytes messages f in
-    subst (λ (s : TemplateList). IsCanonical (templates_in s) messages (handed ++ v.out.items)) (sym same) (e.start.dictionary, either e.start.dictionary (left (templates_in t.set.now) (handed_on handed ∷ messages) e.start.dictionary (inl e.ends)))
-  where
-    either : (e : Dictionary) → HasFinished v (templates_in t.set.now) (handed_on handed ∷ messages) e ⊎ HasFinished v (templates_in t.set.now) (handed_on handed ∷ messages) e → HasFinished v (templates_in t.set.now) (handed_on handed ∷ messages) e
-    either e (inl h) = h
-    either e (inr h) = h
 
 -- ---- what was read
 
-pub carried_by : {E : Type 0} {receiver : Receiving Writer} {entries : Ghosts E} (at : Reached) (m : Machine Writer E receiver entries) (reads turns : ℕ) (left : Option (List ℕ)) (handed input : List ℕ) (messages : List Content)
-    → Relays at m reads turns left handed input messages → Carried (mode_of m) (templates_in m.traversal.set.now) input messages
-carried_by {receiver = receiver} {entries = entries} reached.Open m reads turns left handed input messages r =
+pub carried_by : {O E : Type 0} {receiver : Receiving O} {entries : Ghosts E} (waiting : O → List ℕ) (makes : Making) (at : Reached) (m : Machine O E receiver entries) (turns : ℕ) (left : Option (List ℕ)) (handed input : List ℕ) (messages : List Content)
+    → Relays waiting makes at m turns left handed input messages → Carried (mode_of m) (templates_in m.traversal.set.now) input messages
+carried_by {receiver = receiver} {entries = entries} waiting makes reached.Open m turns left handed input messages r =
     let f = rw (r.holds.unrefused) at r.holds.follows.at in
     carried_of m.framing m.left (ReadsOn receiver.has receiver.stands receiver.keeps m.traversal m.receiver (entries.contents m.entries) (handed_on handed ∷ messages)) m.traversal m.held.items input messages f.0
-carried_by reached.End m reads turns left handed input messages r = all_carried (mode_of m) (templates_in m.traversal.set.now) input messages r.holds.carried
-carried_by (reached.Fault f) m reads turns left handed input messages r = r.holds.carried
+carried_by waiting makes reached.End m turns left handed input messages r = all_carried (mode_of m) (templates_in m.traversal.set.now) input messages r.holds.carried
+carried_by waiting makes (reached.Fault f) m turns left handed input messages r = r.holds.carried
+
+-- what a front carries, the whole carries in a front
+pub carried_more : (mode : Mode) (set : List Resolved) (bytes more : List ℕ) (messages : List Content) → Carried mode set bytes messages → Carried mode set (bytes ++ more) messages
+carried_more mode set bytes more messages c = record { front = c.front; rest = c.rest ++ more; start = c.start; parts = ap (λ (xs : List ℕ). xs ++ more) c.parts ∙ append_assoc c.front c.rest more; carried = c.carried; ends = tt }
+
+-- of which set and in which mode
+pub carried_as : (mode above : Mode) (set other : TemplateList) (bytes : List ℕ) (messages : List Content) → above ≡ mode → other ≡ set → Carried above (templates_in other) bytes messages → Carried mode (templates_in set) bytes messages
+carried_as mode above set other bytes messages alike same c =
+    subst (λ (s : TemplateList). Carried mode (templates_in s) bytes messages) same (subst (λ (x : Mode). Carried x (templates_in other) bytes messages) alike c)
+
+-- ---- how many bytes were handed on
+
+counts_on : (m k x y z : ℕ) → m ≡ counted_by 0 x → k ≡ min (m + y) 18446744073709551615 → z ≡ x + y → k ≡ counted_by 0 z
+counts_on m k x y z e f same = omega (arith, e, f, same)
+
+-- the bytes of one chunk more are counted
+pub counts_more : (m k y : ℕ) (handed more : List ℕ) → m ≡ counted_by 0 (length handed) → y ≡ length more → k ≡ min (m + y) 18446744073709551615 → k ≡ counted_by 0 (length (handed ++ more))
+counts_more m k y handed more before count e =
+    let size = length-append handed more in counts_on m k (length handed) y (length (handed ++ more)) before e (omega (arith, size, count))
+
+-- and those that were counted apart
+pub counts_apart : (m k y : ℕ) (handed more : List ℕ) → m ≡ counted_by 0 (length handed) → y ≡ counted_by 0 (length more) → k ≡ min (m + y) 18446744073709551615 → k ≡ counted_by 0 (length (handed ++ more))
+counts_apart m k y handed more before apart e = of_sizes (length handed) (length more) (length (handed ++ more)) before apart e (length-append handed more)
+  where
+    of_sizes : (a b c : ℕ) → m ≡ counted_by 0 a → y ≡ counted_by 0 b → k ≡ min (m + y) 18446744073709551615 → c ≡ a + b → k ≡ counted_by 0 c
+    of_sizes a b c h i j same = omega (arith, h, i, j, same)
 
 -- The canonical bytes of messages that a front of the bytes read carries are no more than these.
 pub no_longer : (mode : Mode) (set : TemplateList) → IsSound set → (input bytes : List ℕ) (messages : List Content) → Carried mode (templates_in set) input messages → IsCanonical (templates_in set) messages bytes → length bytes ≤ length input
@@ -90,8 +97,15 @@ pub is_end : (at : Reached) (mode : Mode) (set : List Resolved) (turns : ℕ) (l
 is_end at mode set turns left input messages (inl e) h = e
 is_end at mode set turns left input messages (inr e) h = absurd (rw e at h)
 
-abbrev summary_by : ℕ → ℕ → ℕ → Summary
+abbrev pub summary_by : ℕ → ℕ → ℕ → Summary
 summary_by m r w = record { messages = m; read = r; written = w }
 
 pub summary_is : (m n r s w x : ℕ) → m ≡ n → r ≡ s → w ≡ x → summary_by m r w ≡ summary_by n s x
 summary_is m n r s w x a b c = rw (a, b, c) refl
+
+-- ---- canonical bytes
+
+pub as_canonical : (mode : Mode) (set : List Resolved) (turns : ℕ) (left a b : Option (List ℕ)) (input : List ℕ) (f : CanonFault) → Passes IsCanonical mode set turns left a b input (Err f) → Canonicalises mode set turns left a b input (Err f)
+as_canonical mode set turns left a b input (refusal.Stream f) p = p
+as_canonical mode set turns left a b input refusal.Write p = p
+as_canonical mode set turns left a b input refusal.Memory p = p

@@ -5,7 +5,7 @@ use Rattle.fast_template.specs.Resolved.{Resolved}
 use Rattle.fast_stream.specs.declared.fault.Fault.{Fault}
 use Rattle.fast_stream.specs.declared.mode.Mode.{Mode}
 use Rattle.fast_stream.specs.Nodes.{Content}
-use Rattle.fast_io.specs.Counts.{counted}
+use Rattle.fast_io.specs.Counts.{counted, counted_by}
 use Rattle.fast_decoder.specs.declared.input.Reached.TheVariants as reached
 use Rattle.fast_decoder.specs.Inputs.{EndsWith, IsCaused, Reader, Refuses}
 use Rattle.fast_machine.specs.Standing.{Carried}
@@ -13,6 +13,42 @@ use Rattle.fast_writer.specs.Canonical.{IsCanonical}
 use Rattle.fast_canon.specs.declared.fault.CanonFault.{CanonFault}
 use Rattle.fast_canon.specs.declared.fault.CanonFault.TheVariants as refusal
 use Rattle.fast_canon.specs.declared.summary.Summary.{Summary}
+use Rattle.fast_canon.specs.Relays.{Making}
+
+-- The reader has ended, and the bytes read carry the messages; what is made of them was written, and all is counted: the
+-- bytes written up to the greatest number that a count has.
+pub record PassesAll (makes : Making) (mode : Mode) (set : List Resolved) (left taken_old taken_new : Option (List ℕ)) (input : List ℕ) (summary : Summary) : Type 0 where
+  pub messages : List Content
+  pub out : List ℕ
+  pub ends : EndsWith mode set left input messages
+  pub made : makes set messages out
+  pub written : Appends taken_old taken_new out
+  pub counts : summary ≡ record { messages = length messages; read = length input; written = counted_by 0 (length out) }
+
+-- The stream is refused: what is made of the messages before the fault was written.
+pub record PassesBefore (makes : Making) (mode : Mode) (set : List Resolved) (turns : ℕ) (left taken_old taken_new : Option (List ℕ)) (input : List ℕ) (fault : Fault) : Type 0 where
+  pub messages : List Content
+  pub out : List ℕ
+  pub refuses : Refuses mode set turns left input messages fault
+  pub made : makes set messages out
+  pub written : Appends taken_old taken_new out
+
+-- A write failed or memory was refused: a front was written of what is made of messages that were read.
+pub record PassesFront (makes : Making) (mode : Mode) (set : List Resolved) (taken_old taken_new : Option (List ℕ)) (input : List ℕ) : Type 0 where
+  pub messages : List Content
+  pub front : List ℕ
+  pub rest : List ℕ
+  pub carried : Carried mode set input messages
+  pub made : makes set messages (front ++ rest)
+  pub written : Appends taken_old taken_new front
+
+-- What passes of a stream through an output.
+abbrev pub Passes : Making → Mode → List Resolved → ℕ → Option (List ℕ) → Option (List ℕ) → Option (List ℕ) → List ℕ → Result Summary CanonFault → Type 0
+Passes makes mode set turns left taken_old taken_new input (Ok summary) = PassesAll makes mode set left taken_old taken_new input summary
+Passes makes mode set turns left taken_old taken_new input (Err (refusal.Stream fault)) = PassesBefore makes mode set turns left taken_old taken_new input fault
+Passes makes mode set turns left taken_old taken_new input (Err f) = PassesFront makes mode set taken_old taken_new input
+
+-- ---- canonical bytes
 
 -- The reader has ended, and the bytes read carry the messages; their canonical bytes were written, which are no more
 -- than those read, and all is counted.
@@ -26,21 +62,12 @@ pub record Ends (mode : Mode) (set : List Resolved) (left taken_old taken_new : 
   pub no_longer : length out ≤ length input
 
 -- The stream is refused: the canonical bytes of the messages before the fault were written.
-pub record Stops (mode : Mode) (set : List Resolved) (turns : ℕ) (left taken_old taken_new : Option (List ℕ)) (input : List ℕ) (fault : Fault) : Type 0 where
-  pub messages : List Content
-  pub out : List ℕ
-  pub refuses : Refuses mode set turns left input messages fault
-  pub canonical : IsCanonical set messages out
-  pub written : Appends taken_old taken_new out
+abbrev pub Stops : Mode → List Resolved → ℕ → Option (List ℕ) → Option (List ℕ) → Option (List ℕ) → List ℕ → Fault → Type 0
+Stops = PassesBefore IsCanonical
 
 -- A write failed or memory was refused: a front was written of the canonical bytes of messages that were read.
-pub record Breaks (mode : Mode) (set : List Resolved) (taken_old taken_new : Option (List ℕ)) (input : List ℕ) : Type 0 where
-  pub messages : List Content
-  pub front : List ℕ
-  pub rest : List ℕ
-  pub carried : Carried mode set input messages
-  pub canonical : IsCanonical set messages (front ++ rest)
-  pub written : Appends taken_old taken_new front
+abbrev pub Breaks : Mode → List Resolved → Option (List ℕ) → Option (List ℕ) → List ℕ → Type 0
+Breaks = PassesFront IsCanonical
 
 abbrev pub Canonicalises : Mode → List Resolved → ℕ → Option (List ℕ) → Option (List ℕ) → Option (List ℕ) → List ℕ → Result Summary CanonFault → Type 0
 Canonicalises mode set turns left taken_old taken_new input (Ok summary) = Ends mode set left taken_old taken_new input summary

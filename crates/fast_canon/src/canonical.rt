@@ -7,12 +7,9 @@ ghost use Rattle.fast_canon.specs.Canonicalised.{Canonicalises, Checks, FlushesO
 
 use crate::fault::CanonFault;
 use crate::nowhere::Nowhere;
-use crate::relay::relay;
+use crate::relay::pass_through;
 use crate::summary::Summary;
-use fast_decoder::Reached;
-use fast_dictionary::SlotEntries;
 use fast_io::{ByteInput, ByteOutput};
-use fast_machine::Machine;
 use fast_stream::Mode;
 use fast_template::TemplateSet;
 use fast_writer::Writer;
@@ -22,8 +19,9 @@ use std::alloc::Global;
 /// its messages: of all legal spellings the one that comes first.
 ///
 /// It makes at most `turns` reads of at most 4,096 bytes, of which there may be up to 2^40, and writes what the
-/// messages that ended have after each. What is held is one chunk, the bytes of the message that is open and the
-/// entries. The writer is flushed once before Ok or Stream is answered.
+/// messages that ended have after each, and in between wherever 65,536 bytes or more wait at the end of a message. What
+/// is held is one chunk, the bytes of the message that is open, what waits and the entries. The writer is flushed once
+/// before Ok or Stream is answered.
 ///
 /// # Errors
 ///
@@ -52,25 +50,9 @@ pub fn canonicalise<R: ByteInput, W: ByteOutput>(
     ensures write { W.errors writer.new ≡ errors_after result (W.errors writer.old) }
     ensures flush { FlushesOnce result (W.flushes writer.old) (W.flushes writer.new) }
 {
-    let entries = match SlotEntries::new(alloc, set) {
-        Err(_) => return Err(CanonFault::Memory),
-        Ok(entries) => entries,
-    };
-    let canonical = Writer::new(alloc);
-    let mut machine = Machine::new(alloc, set, mode, canonical, entries);
-    match relay(&mut machine, reader, writer, turns) {
-        Err(_) => Err(CanonFault::Write),
-        Ok((reached, written)) => match writer.flush() {
-            Err(_) => Err(CanonFault::Write),
-            Ok(()) => match reached {
-                Reached::Fault(fault) => Err(CanonFault::Stream(fault)),
-                Reached::End | Reached::Open => Ok(Summary {
-                    messages: machine.messages(),
-                    read: machine.fed(),
-                    written,
-                }),
-            },
-        },
+    match pass_through(alloc, set, mode, Writer::new(alloc), reader, writer, turns) {
+        Ok(summary) => Ok(summary),
+        Err(fault) => Err(fault),
     }
 }
 
@@ -101,7 +83,7 @@ pub fn check<R: ByteInput>(
         flushes: 0,
     };
     match canonicalise(alloc, set, mode, reader, &mut nowhere, turns) {
-        Ok(summary) => Ok(summary),
+        Ok(counted) => Ok(counted),
         Err(fault) => Err(fault),
     }
 }

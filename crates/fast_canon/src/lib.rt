@@ -10,4 +10,5 @@ mod summary;
 
 pub use canonical::{canonicalise, check};
 pub use fault::CanonFault;
+pub use relay::pass_through;
 pub use summary::Summary;

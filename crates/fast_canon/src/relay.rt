@@ -1,45 +1,56 @@
-//! From a reader to a writer, chunk by chunk.
+//! Streams on their way through an output: what it makes of the messages of one is handed on.
 
-ghost use Rattle.std.specs.Prelude.{◌≡◌, ◌≢◌, ◌≤◌, ◌<◌, ◌+◌, ◌*◌, ◌++◌, ◌^◌, [], true, false, ℕ, List, Option, OnOk, OnErr, IfOk, length};
+ghost use Rattle.std.specs.Prelude.{◌≡◌, ◌≢◌, ◌≤◌, ◌<◌, ◌+◌, ◌++◌, ◌∷◌, ◌^◌, [], true, false, ℕ, List, Option, OnOk, OnErr, IfOk, None, length};
+ghost use Rattle.std.specs.FinMap as finite;
 ghost use Rattle.std.specs.Io.KnownBytes.{Appends};
 ghost use Rattle.fast_io.specs.Traffic.{CountsError, Taken};
-ghost use Rattle.fast_template.specs.TemplateSets.{IsSound};
+ghost use Rattle.fast_template.specs.TemplateSets.{IsSound, templates_in};
 ghost use Rattle.fast_stream.specs.Nodes.{Content};
+ghost use Rattle.fast_walk.specs.Received.{handed_on};
 ghost use Rattle.fast_decoder.specs.Inputs.{IsCaused, Reads, reader_by};
 ghost use Rattle.fast_decoder.specs.declared.input.Reached.{Reached as ReachedNow};
 ghost use Rattle.fast_decoder.specs.declared.input.Reached.TheVariants as reached;
-ghost use Rattle.fast_canon.specs.Relays.{Broken, Relayed, Relays};
+ghost use Rattle.fast_canon.specs.Canonicalised.{FlushesOnce, IsCausedBy, Passes, errors_after};
+ghost use Rattle.fast_canon.specs.Relays.{Broken, Fails, IsOfBytes, Relayed, Relays, Steps};
 ghost use Rattle.fast_machine.specs.Following.{mode_of};
 
+use crate::fault::CanonFault;
+use crate::summary::Summary;
 use fast_decoder::Reached;
-use fast_dictionary::Entries;
+use fast_dictionary::{Entries, SlotEntries};
 use fast_io::{ByteInput, ByteOutput, Failed, push_all};
 use fast_machine::Machine;
-use fast_stream::Cause;
-use fast_writer::Writer;
+use fast_stream::{Cause, Mode};
+use fast_template::TemplateSet;
+use fast_walk::Output;
+use std::alloc::Global;
 
 /// The most bytes that one read takes.
-pub(crate) const CHUNK: usize = 4096;
+const CHUNK: usize = 4096;
 
-/// Hands on the canonical bytes of the messages that ended, and answers how many they are.
-pub(crate) fn hand_on<W: ByteOutput, E: Entries>(
-    machine: &mut Machine<'_, Writer, E>,
+/// From so many bytes on, what waits in an output is handed on before the next message is read.
+const MANY: usize = 65_536;
+
+/// Hands on the bytes that wait, and answers how many they are.
+fn hand_on<O: Output, W: ByteOutput, E: Entries>(
+    machine: &mut Machine<'_, O, E>,
     writer: &mut W,
 ) -> Result<usize, Failed>
-    ensures count { IfOk result (λ n. n ≡ length machine.old.receiver.out.items) }
+    ensures count { IfOk result (λ n. n ≡ length (O.waiting machine.old.receiver)) }
     ensures written { OnOk result (Appends (W.taken writer.old) (W.taken writer.new)
-        machine.old.receiver.out.items) }
-    ensures relays { OnOk result ((at : ReachedNow) (reads turns : ℕ)
+        (O.waiting machine.old.receiver)) }
+    ensures relays { OnOk result ((at : ReachedNow) (turns : ℕ)
         (left : Option (List ℕ)) (handed input : List ℕ) (messages : List Content)
-        → Relays at machine.old reads turns left handed input messages
-        → Relays at machine.new reads turns left (handed ++ machine.old.receiver.out.items) input
+        → Relays O.waiting O.makes at machine.old turns left handed input messages
+        → Relays O.waiting O.makes at machine.new turns left (handed ++ O.waiting machine.old.receiver) input
         messages) }
-    ensures empty { OnOk result (machine.new.receiver.out.items ≡ []) }
+    ensures empty { OnOk result (O.waiting machine.new.receiver ≡ []) }
     ensures part { OnErr result ((rest : List ℕ) × Taken (W.taken writer.old)
-        (W.taken writer.new) machine.old.receiver.out.items rest) }
+        (W.taken writer.new) (O.waiting machine.old.receiver) rest) }
     ensures unchanged { OnErr result (machine.new ≡ machine.old) }
     ensures failed { CountsError result (W.errors writer.old) (W.errors writer.new) }
     ensures flushes { W.flushes writer.new ≡ W.flushes writer.old }
+    ensures fault { machine.new.fault ≡ machine.old.fault }
     ensures set { machine.new.traversal ≡ machine.old.traversal }
     ensures mode { mode_of machine.new ≡ mode_of machine.old }
     ensures fed { machine.new.fed ≡ machine.old.fed }
@@ -54,37 +65,106 @@ pub(crate) fn hand_on<W: ByteOutput, E: Entries>(
     }
 }
 
-/// Makes one read, and feeds what it gave.
-pub(crate) fn read_on<R: ByteInput, E: Entries>(
-    machine: &mut Machine<'_, Writer, E>,
+/// Hands on the bytes that wait where they are many, and answers how many were handed on.
+fn hand_on_many<O: Output, W: ByteOutput, E: Entries>(
+    machine: &mut Machine<'_, O, E>,
+    writer: &mut W,
+) -> Result<usize, Failed>
+    ensures relays { IfOk result (λ n. (at : ReachedNow) (turns : ℕ)
+        (left : Option (List ℕ)) (handed input : List ℕ) (messages : List Content)
+        → Relays O.waiting O.makes at machine.old turns left handed input messages
+        → (more : List ℕ) × (n ≡ length more) × Appends (W.taken writer.old) (W.taken writer.new) more
+        × Relays O.waiting O.makes at machine.new turns left (handed ++ more) input messages) }
+    ensures part { OnErr result ((rest : List ℕ) × Taken (W.taken writer.old)
+        (W.taken writer.new) (O.waiting machine.old.receiver) rest) }
+    ensures unchanged { OnErr result (machine.new ≡ machine.old) }
+    ensures failed { CountsError result (W.errors writer.old) (W.errors writer.new) }
+    ensures flushes { W.flushes writer.new ≡ W.flushes writer.old }
+    ensures fault { machine.new.fault ≡ machine.old.fault }
+    ensures set { machine.new.traversal ≡ machine.old.traversal }
+    ensures mode { mode_of machine.new ≡ mode_of machine.old }
+    ensures fed { machine.new.fed ≡ machine.old.fed }
+{
+    if machine.receiver.finished().len() < MANY {
+        return Ok(0);
+    }
+    match hand_on(machine, writer) {
+        Err(failed) => Err(failed),
+        Ok(count) => Ok(count),
+    }
+}
+
+/// Takes the bytes of one read, message by message, and hands on what is made of them wherever it is many bytes;
+/// answers how far the stream came, and how many bytes were handed on.
+fn take_in<O: Output, W: ByteOutput, E: Entries>(
+    machine: &mut Machine<'_, O, E>,
+    bytes: &[u8],
+    writer: &mut W,
+) -> Result<(Reached, u64), Failed>
+    requires fault { machine.now.fault ≡ None }
+    requires room { machine.now.fed + length bytes.now ≤ 2 ^ 60 }
+    ensures steps { IfOk result (λ x. (left : Option (List ℕ)) → Steps O.waiting O.makes x.0 machine.old machine.new left left
+        (W.taken writer.old) (W.taken writer.new) x.1 bytes.now (IsOfBytes x.0)) }
+    ensures fails { OnErr result ((left : Option (List ℕ)) → Fails O.waiting O.makes machine.old machine.new left
+        (W.taken writer.old) (W.taken writer.new) bytes.now) }
+    ensures open { IfOk result (λ x. x.0 ≡ reached.Open → machine.new.fault ≡ None) }
+    ensures failed { CountsError result (W.errors writer.old) (W.errors writer.new) }
+    ensures flushes { W.flushes writer.new ≡ W.flushes writer.old }
+    ensures set { machine.new.traversal.set ≡ machine.old.traversal.set }
+    ensures mode { mode_of machine.new ≡ mode_of machine.old }
+    ensures fed { machine.new.fed ≤ machine.old.fed + length bytes.now }
+{
+    let mut at = 0;
+    let mut written = 0u64;
+    'messages: while at < bytes.len() {
+        match machine.feed_message(&bytes[at..]) {
+            Err(fault) => return Ok((Reached::Fault(fault), written)),
+            Ok(taken) => at += taken,
+        }
+        match hand_on_many(machine, writer) {
+            Err(failed) => return Err(failed),
+            Ok(count) => written = written.saturating_add(count as u64),
+        }
+    }
+    Ok((Reached::Open, written))
+}
+
+/// Makes one read, and takes what it gave; answers how far the stream came, and how many bytes were handed on.
+fn read_on<O: Output, R: ByteInput, W: ByteOutput, E: Entries>(
+    machine: &mut Machine<'_, O, E>,
     reader: &mut R,
+    writer: &mut W,
     chunk: &mut [u8; CHUNK],
-) -> Reached
+) -> Result<(Reached, u64), Failed>
+    requires fault { machine.now.fault ≡ None }
     requires room { machine.now.fed + CHUNK ≤ 2 ^ 60 }
     ensures read { (got : List ℕ)
         × Reads (reader_by R.left R.calls R.errors R.ends reader.old)
         (reader_by R.left R.calls R.errors R.ends reader.new) 1 got
-        × ((reads turns : ℕ) (handed input : List ℕ) (messages : List Content)
-        → Relays reached.Open machine.old reads turns (R.left reader.old) handed input messages
-        → (ended : List Content)
-        × Relays result machine.new (reads + 1) turns (R.left reader.new) handed (input ++ got)
-        (messages ++ ended)
-        × IsCaused result ⊥ (reader_by R.left R.calls R.errors R.ends reader.old)
-        (reader_by R.left R.calls R.errors R.ends reader.new)) }
+        × IfOk result (λ x. (x.0 ≡ reached.Open → 0 < length got)
+        × Steps O.waiting O.makes x.0 machine.old machine.new (R.left reader.old) (R.left reader.new)
+        (W.taken writer.old) (W.taken writer.new) x.1 got
+        (IsCaused x.0 ⊥ (reader_by R.left R.calls R.errors R.ends reader.old)
+        (reader_by R.left R.calls R.errors R.ends reader.new)))
+        × OnErr result (Fails O.waiting O.makes machine.old machine.new (R.left reader.old)
+        (W.taken writer.old) (W.taken writer.new) got) }
+    ensures open { IfOk result (λ x. x.0 ≡ reached.Open → machine.new.fault ≡ None) }
+    ensures failed { CountsError result (W.errors writer.old) (W.errors writer.new) }
+    ensures flushes { W.flushes writer.new ≡ W.flushes writer.old }
     ensures set { machine.new.traversal.set ≡ machine.old.traversal.set }
     ensures mode { mode_of machine.new ≡ mode_of machine.old }
     ensures fed { machine.new.fed ≤ machine.old.fed + CHUNK }
 {
     match reader.pull(chunk) {
         Ok(0) => match machine.finish() {
-            Ok(()) => Reached::End,
-            Err(fault) => Reached::Fault(fault),
+            Ok(()) => Ok((Reached::End, 0)),
+            Err(fault) => Ok((Reached::Fault(fault), 0)),
         },
-        Ok(count) => match machine.feed(&chunk[..count]) {
-            Ok(()) => Reached::Open,
-            Err(fault) => Reached::Fault(fault),
+        Ok(count) => match take_in(machine, &chunk[..count], writer) {
+            Err(failed) => Err(failed),
+            Ok(came) => Ok(came),
         },
-        Err(Failed) => Reached::Fault(machine.cut(Cause::Read)),
+        Err(Failed) => Ok((Reached::Fault(machine.cut(Cause::Read)), 0)),
     }
 }
 
@@ -98,25 +178,26 @@ fn is_open(reached: Reached) -> bool
     }
 }
 
-/// Reads to the end, the first fault or the last of the reads, and hands on the canonical bytes of each chunk; answers
-/// which of them it was, and how many bytes were handed on.
-pub(crate) fn relay<R: ByteInput, W: ByteOutput, E: Entries>(
-    machine: &mut Machine<'_, Writer, E>,
+/// Reads to the end, the first fault or the last of the reads, and hands on what is made of each chunk; answers which
+/// of them it was, and how many bytes were handed on.
+fn relay<O: Output, R: ByteInput, W: ByteOutput, E: Entries>(
+    machine: &mut Machine<'_, O, E>,
     reader: &mut R,
     writer: &mut W,
     turns: u64,
 ) -> Result<(Reached, u64), Failed>
     requires turns { turns ≤ 2 ^ 40 }
     requires fed { machine.now.fed ≡ 0 }
-    requires sound { IsSound machine.now.traversal.set.now }
+    requires fault { machine.now.fault ≡ None }
+    requires empty { O.waiting machine.now.receiver ≡ [] }
     ensures relayed { IfOk result (λ x.
-        Relays reached.Open machine.old 0 turns (R.left reader.old) [] [] []
-        → Relayed x.0 machine.new turns
+        Relays O.waiting O.makes reached.Open machine.old turns (R.left reader.old) [] [] []
+        → Relayed O.makes x.0 machine.new turns
         (reader_by R.left R.calls R.errors R.ends reader.old)
         (reader_by R.left R.calls R.errors R.ends reader.new)
         (W.taken writer.old) (W.taken writer.new) x.1) }
-    ensures broken { OnErr result (Relays reached.Open machine.old 0 turns (R.left reader.old) [] [] []
-        → Broken machine.new turns (reader_by R.left R.calls R.errors R.ends reader.old)
+    ensures broken { OnErr result (Relays O.waiting O.makes reached.Open machine.old turns (R.left reader.old) [] [] []
+        → Broken O.makes machine.new turns (reader_by R.left R.calls R.errors R.ends reader.old)
         (reader_by R.left R.calls R.errors R.ends reader.new)
         (W.taken writer.old) (W.taken writer.new)) }
     ensures failed { CountsError result (W.errors writer.old) (W.errors writer.new) }
@@ -130,7 +211,13 @@ pub(crate) fn relay<R: ByteInput, W: ByteOutput, E: Entries>(
     // (one for all reads, since to make one anew is to fill it)
     let mut chunk = [0u8; CHUNK];
     'reads: while is_open(reached) && reads < turns {
-        reached = read_on(machine, reader, &mut chunk);
+        match read_on(machine, reader, writer, &mut chunk) {
+            Err(failed) => return Err(failed),
+            Ok((came, count)) => {
+                reached = came;
+                written = written.saturating_add(count);
+            }
+        }
         reads += 1;
         match hand_on(machine, writer) {
             Err(failed) => return Err(failed),
@@ -140,5 +227,63 @@ pub(crate) fn relay<R: ByteInput, W: ByteOutput, E: Entries>(
     match reached {
         Reached::Open => Ok((Reached::Fault(machine.cut(Cause::Turns)), written)),
         Reached::End | Reached::Fault(_) => Ok((reached, written)),
+    }
+}
+
+/// Reads a stream of messages of a template set to its end, from undefined entries, and hands on what an output makes
+/// of them: after each read, and wherever 65,536 bytes or more wait between two messages.
+///
+/// It makes at most `turns` reads of at most 4,096 bytes, of which there may be up to 2^40. The writer is flushed once
+/// before Ok or Stream is answered.
+///
+/// # Errors
+///
+/// Stream: the bytes read are refused, the reader failed, the reads are used up, or memory was refused while a message
+/// was read; what is made of the messages before is written. Write: the writer failed. Memory: the entries were refused
+/// their memory. After these two a front is written of what is made of messages that were read.
+pub fn pass_through<O: Output, R: ByteInput, W: ByteOutput>(
+    alloc: Global,
+    set: &TemplateSet,
+    mode: Mode,
+    output: O,
+    reader: &mut R,
+    writer: &mut W,
+    turns: u64,
+) -> Result<Summary, CanonFault>
+    requires turns { turns ≤ 2 ^ 40 }
+    // the output has no message of the set yet, and nothing waits in it
+    requires begins { O.stands output (templates_in set.now) (handed_on [] ∷ []) finite.empty }
+    requires empty { O.waiting output ≡ [] }
+    ensures answer { (count : ℕ) × (input : List ℕ)
+        × Reads (reader_by R.left R.calls R.errors R.ends reader.old)
+        (reader_by R.left R.calls R.errors R.ends reader.new) count input
+        × (count ≤ turns)
+        × Passes O.makes mode (templates_in set.now) turns (R.left reader.new) (W.taken writer.old)
+        (W.taken writer.new) input result
+        × IsCausedBy result (count ≡ turns)
+        (reader_by R.left R.calls R.errors R.ends reader.old)
+        (reader_by R.left R.calls R.errors R.ends reader.new) }
+    ensures write { W.errors writer.new ≡ errors_after result (W.errors writer.old) }
+    ensures flush { FlushesOnce result (W.flushes writer.old) (W.flushes writer.new) }
+    ensures sound { OnOk result (IsSound set.now) }
+{
+    let entries = match SlotEntries::new(alloc, set) {
+        Err(_) => return Err(CanonFault::Memory),
+        Ok(entries) => entries,
+    };
+    let mut machine = Machine::new(alloc, set, mode, output, entries);
+    match relay(&mut machine, reader, writer, turns) {
+        Err(_) => Err(CanonFault::Write),
+        Ok((reached, written)) => match writer.flush() {
+            Err(_) => Err(CanonFault::Write),
+            Ok(()) => match reached {
+                Reached::Fault(fault) => Err(CanonFault::Stream(fault)),
+                Reached::End | Reached::Open => Ok(Summary {
+                    messages: machine.messages(),
+                    read: machine.fed(),
+                    written,
+                }),
+            },
+        },
     }
 }

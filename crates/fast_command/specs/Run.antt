@@ -1,14 +1,10 @@
 -- What a command writes of a stream, and what its run answers.
 use Rattle.std.specs.Prelude.{◌≡◌, ◌⊎◌, ℕ, List, [], ◌++◌, length, Option, None, Some, Result, Ok, Err}
 use Rattle.std.specs.Io.KnownBytes.{Appends}
-use Rattle.fast_io.specs.Counts.{counted_by}
 use Rattle.fast_template.specs.TemplateSets.{TemplateList, templates_in}
-use Rattle.fast_stream.specs.declared.fault.Fault.{Fault}
 use Rattle.fast_stream.specs.declared.mode.Mode.{Mode}
-use Rattle.fast_stream.specs.Nodes.{Content}
-use Rattle.fast_decoder.specs.Inputs.{EndsWith, Refuses}
-use Rattle.fast_machine.specs.Standing.{Carried}
-use Rattle.fast_canon.specs.Canonicalised.{Canonicalises, Ends, Stops}
+use Rattle.fast_canon.specs.Canonicalised.{Canonicalises, Ends, Passes, Stops}
+use Rattle.fast_canon.specs.Relays.{Making}
 use Rattle.fast_canon.specs.declared.fault.CanonFault.{CanonFault}
 use Rattle.fast_canon.specs.declared.fault.CanonFault.TheVariants as refusal
 use Rattle.fast_canon.specs.declared.summary.Summary.{Summary}
@@ -18,37 +14,13 @@ use Rattle.fast_command.specs.declared.command.Command.TheVariants.{Show, Check,
 
 -- ---- show
 
--- The reader has ended, and the bytes read carry the messages; their lines were written, and all is counted: the bytes
--- written up to the greatest number that a count has.
-pub record ShowsAll (mode : Mode) (set : TemplateList) (left taken_old taken_new : Option (List ℕ)) (input : List ℕ) (summary : Summary) : Type 0 where
-  pub messages : List Content
-  pub out : List ℕ
-  pub ends : EndsWith mode (templates_in set) left input messages
-  pub lines : lines_in set messages ≡ Some out
-  pub written : Appends taken_old taken_new out
-  pub counts : summary ≡ record { messages = length messages; read = length input; written = counted_by 0 (length out) }
+-- these are the lines of the messages
+abbrev pub LinesOf : TemplateList → Making
+LinesOf set resolved messages out = lines_in set messages ≡ Some out
 
--- The stream is refused: the lines of the messages before the fault were written.
-pub record ShowsBefore (mode : Mode) (set : TemplateList) (turns : ℕ) (left taken_old taken_new : Option (List ℕ)) (input : List ℕ) (fault : Fault) : Type 0 where
-  pub messages : List Content
-  pub out : List ℕ
-  pub refuses : Refuses mode (templates_in set) turns left input messages fault
-  pub lines : lines_in set messages ≡ Some out
-  pub written : Appends taken_old taken_new out
-
--- A write failed or memory was refused: a front was written of the lines of messages that were read.
-pub record ShowsFront (mode : Mode) (set : TemplateList) (taken_old taken_new : Option (List ℕ)) (input : List ℕ) : Type 0 where
-  pub messages : List Content
-  pub front : List ℕ
-  pub rest : List ℕ
-  pub carried : Carried mode (templates_in set) input messages
-  pub lines : lines_in set messages ≡ Some (front ++ rest)
-  pub written : Appends taken_old taken_new front
-
+-- What is answered and written: the lines of the messages of the stream, of those before its fault, or a front of them.
 abbrev pub Shows : Mode → TemplateList → ℕ → Option (List ℕ) → Option (List ℕ) → Option (List ℕ) → List ℕ → Result Summary CanonFault → Type 0
-Shows mode set turns left taken_old taken_new input (Ok summary) = ShowsAll mode set left taken_old taken_new input summary
-Shows mode set turns left taken_old taken_new input (Err (refusal.Stream fault)) = ShowsBefore mode set turns left taken_old taken_new input fault
-Shows mode set turns left taken_old taken_new input (Err f) = ShowsFront mode set taken_old taken_new input
+Shows mode set turns left taken_old taken_new input r = Passes (LinesOf set) mode (templates_in set) turns left taken_old taken_new input r
 
 -- ---- check
 

@@ -29,7 +29,8 @@ pub enum Command {
 /// of it: a line for each message, what a check counts, or the canonical bytes.
 ///
 /// It makes at most `turns` reads of at most 4,096 bytes, of which there may be up to 2^40, and writes what the
-/// messages that ended have after each. The writer is flushed once before Ok or Stream is answered.
+/// messages that ended have after each, and in between wherever 65,536 bytes or more wait at the end of a message. The
+/// writer is flushed once before Ok or Stream is answered.
 ///
 /// # Errors
 ///

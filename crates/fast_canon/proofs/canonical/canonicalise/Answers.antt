@@ -1,140 +1,37 @@
-use Rattle.std.proofs.Common.{[], ◌∷◌, ℕ, List, refl, sym, ap, subst, ◌∙◌, append-nil, arith}
-use Rattle.std.specs.FinMap as finite
-use Rattle.fast_io.specs.Counts.{counted}
-use Rattle.fast_template.specs.TemplateSets.{TemplateList, templates_in}
-use Rattle.fast_stream.specs.declared.mode.Mode.{Mode}
-use Rattle.fast_stream.specs.Blocks.{at_start}
-use Rattle.fast_machine.specs.Following.{mode_of}
-use Rattle.fast_decoder.specs.Inputs.{HasReached}
-use Rattle.fast_decoder.proofs.Inputs.{none_read}
-use Rattle.fast_writer.specs.Canonical.{IsCanonical}
-use Rattle.fast_walk.specs.Received.{handed_on}
-use Rattle.fast_canon.specs.Canonicalised.{Breaks, Stops}
-use Rattle.fast_io.proofs.Outputs.{Appends-kept, Appends-nil}
-use Rattle.fast_canon.proofs.Relayings.{carried_reached, is_end, no_longer, summary_is}
+use Rattle.std.proofs.Common.{◌≡◌, ℕ, length, ap, arith, ◌∙◌}
+use Rattle.fast_io.specs.Counts.{counted_by}
+use Rattle.fast_template.specs.TemplateSets.{templates_in}
+use Rattle.fast_machine.proofs.Followings.{all_carried}
+use Rattle.fast_canon.proofs.Relayings.{as_canonical, no_longer, summary_by}
 use Rattle.fast_canon.proofs.canonical.canonicalise.Goals as goal
 
+pub returns-in-Ok-clause-answer : goal.returns-in-Ok-clause-answer
+returns-in-Ok-clause-answer g c =
+    let a = c.in-Ok.ensures.answer in
+    let p = a.4 in
+    let set = c.args.set.now in
+    let less = no_longer c.args.mode set c.in-Ok.ensures.sound a.1 p.out p.messages (all_carried c.args.mode (templates_in set) a.1 p.messages p.ends.carried) p.made in
+    let few = a.2.few in
+    let many = a.3 in
+    let turns = c.requires.turns in
+    let exact : counted_by 0 (length p.out) ≡ length p.out = omega (arith, less, few, many, turns) in (
+      a.0,
+      a.1,
+      a.2,
+      a.3,
+      record {
+        messages = p.messages;
+        out = p.out;
+        ends = p.ends;
+        canonical = p.made;
+        written = p.written;
+        counts = p.counts ∙ ap (λ (n : ℕ). summary_by (length p.messages) (length a.1) n) exact;
+        no_longer = less;
+      },
+      a.5,
+    )
+
 pub returns-in-Err-clause-answer : goal.returns-in-Err-clause-answer
-returns-in-Err-clause-answer g c = (
-  0,
-  [],
-  none_read _,
-  omega arith,
-  record {
-    messages = [];
-    front = [];
-    rest = [];
-    carried = record { front = []; rest = []; start = at_start; parts = refl; carried = (refl, refl); ends = tt };
-    canonical = (finite.empty, (refl, refl));
-    written = Appends-nil _;
-  },
-  tt,
-)
-
-pub returns-in-Err-relay-clause-answer : goal.returns-in-Err-relay-clause-answer
-returns-in-Err-relay-clause-answer g c =
-    let same = ap (λ x. x.now) c.relay.ensures.set ∙ c.new-machine.ensures.set in
-    let how = c.relay.ensures.mode ∙ c.new-machine.ensures.mode in
-    let b = c.in-Err-relay.ensures.broken (record {
-      holds = record { unrefused = c.new-machine.ensures.fault; follows = c.new-machine.ensures.follows (handed_on [] ∷ []) (c.new-canonical.ensures.stands (templates_in c.args.set.now)); few = omega arith };
-      canonical = rw (c.new-machine.ensures.receiver, c.new-canonical.ensures.empty) (finite.empty, (refl, refl));
-      counts = λ e. absurd cc;
-    }) in (
-      b.count,
-      b.input,
-      b.moves.reads,
-      b.moves.bounded,
-      subst (λ (x : Mode). Breaks x (templates_in c.args.set.now) (g.W.ByteOutput.taken c.args.writer.now) (g.W.ByteOutput.taken c.relay.new.writer) b.input) how
-          (subst (λ (s : TemplateList). Breaks (mode_of c.relay.new.machine) (templates_in s) (g.W.ByteOutput.taken c.args.writer.now) (g.W.ByteOutput.taken c.relay.new.writer) b.input) same
-          (record { messages = b.messages; front = b.front; rest = b.rest; carried = b.carried; canonical = b.canonical; written = b.moves.written })),
-      tt,
-    )
-
-pub returns-in-Err-flush-clause-answer : goal.returns-in-Err-flush-clause-answer
-returns-in-Err-flush-clause-answer g c =
-    let same = ap (λ x. x.now) c.relay.ensures.set ∙ c.new-machine.ensures.set in
-    let how = c.relay.ensures.mode ∙ c.new-machine.ensures.mode in
-    let r = c.in-Ok-relay.ensures.relayed (record {
-      holds = record { unrefused = c.new-machine.ensures.fault; follows = c.new-machine.ensures.follows (handed_on [] ∷ []) (c.new-canonical.ensures.stands (templates_in c.args.set.now)); few = omega arith };
-      canonical = rw (c.new-machine.ensures.receiver, c.new-canonical.ensures.empty) (finite.empty, (refl, refl));
-      counts = λ e. absurd cc;
-    }) in
-    let m = c.relay.new.machine in (
-      r.count,
-      r.input,
-      r.moves.reads,
-      r.moves.bounded,
-      subst (λ (x : Mode). Breaks x (templates_in c.args.set.now) (g.W.ByteOutput.taken c.args.writer.now) (g.W.ByteOutput.taken c.flush.new.self) r.input) how
-          (subst (λ (s : TemplateList). Breaks (mode_of m) (templates_in s) (g.W.ByteOutput.taken c.args.writer.now) (g.W.ByteOutput.taken c.flush.new.self) r.input) same
-          (record {
-            messages = r.messages;
-            front = r.handed;
-            rest = [];
-            carried = carried_reached c.in-Ok-relay.reached (mode_of m) (templates_in m.traversal.set.now) c.args.turns (g.R.ByteInput.left c.relay.new.reader) r.input r.messages r.holds;
-            canonical = subst (λ (bytes : List ℕ). IsCanonical (templates_in m.traversal.set.now) r.messages bytes) (sym (append-nil r.handed)) r.canonical;
-            written = Appends-kept _ _ _ r.handed r.moves.written c.in-Err-flush.ensures.bytes;
-          })),
-      tt,
-    )
-
-pub returns-in-Fault-clause-answer : goal.returns-in-Fault-clause-answer
-returns-in-Fault-clause-answer g c =
-    let same = ap (λ x. x.now) c.relay.ensures.set ∙ c.new-machine.ensures.set in
-    let how = c.relay.ensures.mode ∙ c.new-machine.ensures.mode in
-    let r = c.in-Ok-relay.ensures.relayed (record {
-      holds = record { unrefused = c.new-machine.ensures.fault; follows = c.new-machine.ensures.follows (handed_on [] ∷ []) (c.new-canonical.ensures.stands (templates_in c.args.set.now)); few = omega arith };
-      canonical = rw (c.new-machine.ensures.receiver, c.new-canonical.ensures.empty) (finite.empty, (refl, refl));
-      counts = λ e. absurd cc;
-    }) in (
-      r.count,
-      r.input,
-      r.moves.reads,
-      r.moves.bounded,
-      subst (λ (x : Mode). Stops x (templates_in c.args.set.now) c.args.turns (g.R.ByteInput.left c.relay.new.reader) (g.W.ByteOutput.taken c.args.writer.now) (g.W.ByteOutput.taken c.flush.new.self) r.input c.in-Fault.fault) how
-          (subst (λ (s : TemplateList). Stops (mode_of c.relay.new.machine) (templates_in s) c.args.turns (g.R.ByteInput.left c.relay.new.reader) (g.W.ByteOutput.taken c.args.writer.now) (g.W.ByteOutput.taken c.flush.new.self) r.input c.in-Fault.fault) same
-          (record {
-            messages = r.messages;
-            out = r.handed;
-            refuses = rw (c.in-Fault.is) at r.holds;
-            canonical = r.canonical;
-            written = Appends-kept _ _ _ r.handed r.moves.written c.in-Ok-flush.ensures.bytes;
-          })),
-      rw (c.in-Fault.is) at r.caused,
-    )
-
-pub returns : goal.returns
-returns g c =
-    let same = ap (λ x. x.now) c.relay.ensures.set ∙ c.new-machine.ensures.set in
-    let how = c.relay.ensures.mode ∙ c.new-machine.ensures.mode in
-    let r = c.in-Ok-relay.ensures.relayed (record {
-      holds = record { unrefused = c.new-machine.ensures.fault; follows = c.new-machine.ensures.follows (handed_on [] ∷ []) (c.new-canonical.ensures.stands (templates_in c.args.set.now)); few = omega arith };
-      canonical = rw (c.new-machine.ensures.receiver, c.new-canonical.ensures.empty) (finite.empty, (refl, refl));
-      counts = λ e. absurd cc;
-    }) in
-    let m = c.relay.new.machine in
-    let left = g.R.ByteInput.left c.relay.new.reader in
-    let is = is_end c.in-Ok-relay.reached (mode_of m) (templates_in m.traversal.set.now) c.args.turns left r.input r.messages c.in-End.is r.holds in
-    let now = subst (λ (x : Mode). HasReached c.in-Ok-relay.reached ⊥ x (templates_in c.args.set.now) c.args.turns left r.input r.messages) how
-    (subst (λ (x : TemplateList). HasReached c.in-Ok-relay.reached ⊥ (mode_of m) (templates_in x) c.args.turns left r.input r.messages) same r.holds) in
-    let k = r.counts is in
-    let canonical = subst (λ (s : TemplateList). IsCanonical (templates_in s) r.messages r.handed) same r.canonical in
-    record {
-      answer = (
-        r.count,
-        r.input,
-        r.moves.reads,
-        r.moves.bounded,
-        record {
-          messages = r.messages;
-          out = r.handed;
-          ends = rw (is) at now;
-          canonical = canonical;
-          written = Appends-kept _ _ _ r.handed r.moves.written c.in-Ok-flush.ensures.bytes;
-          counts = summary_is _ _ _ _ _ _ (c.messages.ensures ∙ k.count_is) (c.fed.ensures ∙ k.fed_is) r.size_is;
-          no_longer = no_longer c.args.mode c.args.set.now c.new-machine.ensures.sound r.input r.handed r.messages (carried_reached c.in-Ok-relay.reached c.args.mode (templates_in c.args.set.now) c.args.turns left r.input r.messages now) canonical;
-        },
-        rw (is) at r.caused,
-      );
-      write = c.in-Ok-flush.ensures.error ∙ c.in-Ok-relay.ensures.failed;
-      flush = c.in-Ok-flush.ensures.flush ∙ ap counted c.relay.ensures.flushes;
-    }
+returns-in-Err-clause-answer g c =
+    let a = c.in-Err.ensures.answer in
+    (a.0, a.1, a.2, a.3, as_canonical c.args.mode (templates_in c.args.set.now) c.args.turns _ _ _ a.1 c.in-Err.fault a.4, a.5)
