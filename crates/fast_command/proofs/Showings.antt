@@ -1,7 +1,6 @@
 -- Lemmas on a stream that is shown, and on what a check says.
 use Rattle.std.proofs.Common.{◌≡◌, ℕ, List, [], ◌++◌, Option, Some, Result, Ok, Err, refl, sym, ◌∙◌, inr}
 use Rattle.std.specs.Io.KnownBytes.{Appends}
-use Rattle.fast_template.specs.Resolved.{Resolved}
 use Rattle.fast_template.specs.TemplateSets.{TemplateList, templates_in}
 use Rattle.fast_stream.specs.declared.mode.Mode.{Mode}
 use Rattle.fast_stream.specs.Nodes.{Content}
@@ -10,7 +9,6 @@ use Rattle.fast_canon.specs.declared.fault.CanonFault.{CanonFault}
 use Rattle.fast_canon.specs.declared.fault.CanonFault.TheVariants as refusal
 use Rattle.fast_canon.specs.declared.summary.Summary.{Summary}
 use Rattle.fast_canon.specs.Relays.{Making}
-use Rattle.fast_lines.specs.Lines.{lines_in}
 use Rattle.fast_lines.specs.Told.{lines_of_set}
 use Rattle.fast_lines.proofs.SameLines.{same_lines}
 use Rattle.fast_command.specs.Run.{LinesOf, Shows, TellsFront, ok_line}

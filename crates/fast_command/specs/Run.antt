@@ -1,5 +1,5 @@
 -- What a command writes of a stream, and what its run answers.
-use Rattle.std.specs.Prelude.{◌≡◌, ◌⊎◌, ℕ, List, [], ◌++◌, length, Option, None, Some, Result, Ok, Err}
+use Rattle.std.specs.Prelude.{◌≡◌, ◌⊎◌, ℕ, List, [], ◌++◌, Option, None, Some, Result, Ok, Err}
 use Rattle.std.specs.Io.KnownBytes.{Appends}
 use Rattle.fast_template.specs.TemplateSets.{TemplateList, templates_in}
 use Rattle.fast_stream.specs.declared.mode.Mode.{Mode}
