@@ -157,8 +157,8 @@ class Elements(TestCase):
         self.refused(template("<copy/>"), '3: <copy>: may not stand in <template name="T">; move or remove it')
 
     def test_instructions_keep_their_order(self):
-        self.holds('<string name="B"/><group name="A"/><typeRef name="M"/><uInt32 name="C"/><sequence name="A"/>'
-                   '<templateRef name="T"/><int64 name="A"/>'.replace('<typeRef name="M"/>', ""),
+        self.holds('<string name="B"/><group name="A"/><uInt32 name="C"/><sequence name="A"/><templateRef name="T"/>'
+                   '<int64 name="A"/>',
                    {"kind": "string", "name": "B"}, {"kind": "group", "name": "A", "instructions": []},
                    {"kind": "uInt32", "name": "C"}, {"kind": "sequence", "name": "A", "instructions": []},
                    {"kind": "templateRef", "name": "T"}, {"kind": "int64", "name": "A"})
@@ -593,8 +593,7 @@ class Values(TestCase):
             self.value("int32", written, expected)
         for written in ("+7", "1_0", "7.0", "0x7", "7e0", "", "-", "- 7", "7 7", "--7", "७", "seven"):
             self.value_refused("int32", written, "is no integer; write digits, perhaps with a - in front")
-        self.value_refused("int32", "\u00a07".replace("\u00a0", "&#160;"),
-                           "is no integer; write digits, perhaps with a - in front")
+        self.value_refused("int32", "&#160;7", "is no integer; write digits, perhaps with a - in front")
 
     def test_parts_of_a_decimal(self):
         def part(word, written):
@@ -652,7 +651,7 @@ class Values(TestCase):
                      "4: <default>: the value has more than 65,535 bytes; shorten it")
 
     def test_strings(self):
-        for written, expected in (("", ""), (" a  b ", " a  b "), ("\\u0041\"".replace('"', "&quot;"), '\\u0041"'),
+        for written, expected in (("", ""), (" a  b ", " a  b "), ("\\u0041&quot;", '\\u0041"'),
                                   ("&#9;&#127;", "\t\x7f"), ("007", "007"), ("a" * 65535, "a" * 65535)):
             self.value("string", written, expected)
         # what stands for a line's end in an attribute is a blank in XML, and only a reference is not
@@ -815,11 +814,12 @@ class Documents(TestCase):
                      "1002: <!ATTLIST>: declares more than 1,000 attributes; write them where they are used")
 
     def test_bomb_of_a_namespace(self):
-        namespace = "urn:" + "n" * 996
+        namespace = "urn:" + "n" * 251
         self.gives(template(f'<x:note xmlns:x="{namespace}"/>'), of_template())
+        self.gives(template(f'<x:note xmlns:x="urn:x" xmlnsx="{namespace}n"/>'), of_template())
         for name in ("xmlns:x", "xmlns"):
             self.refused(template(f'<note {name}="{namespace}n"/>'),
-                         f"3: <note>: {name} has more than 1,000 characters; shorten the namespace")
+                         f"3: <note>: {name} has more than 255 characters; shorten the namespace")
 
     def test_output_is_ascii(self):
         text = operated("string", '<copy value="é名😀"/>', ' charset="unicode"')
