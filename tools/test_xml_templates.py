@@ -648,7 +648,7 @@ class Values(TestCase):
         for written in ("a", "0x00", "0g", "é0", "00 0", "００"):
             self.value_refused("byteVector", written, "is no hex; write two hex digits for each byte")
         self.refused(operated("byteVector", f'<default value="{"00" * 65536}"/>'),
-                     "4: <default>: the value has more than 65,535 bytes; shorten it")
+                     f'4: <default>: value="{"0" * 300}..." has more than 65,535 bytes; shorten it')
 
     def test_strings(self):
         for written, expected in (("", ""), (" a  b ", " a  b "), ("\\u0041&quot;", '\\u0041"'),
@@ -662,14 +662,14 @@ class Values(TestCase):
             self.refused(file, f'4: <default>: value="a{shown}b" has "{shown}", which is not ASCII; write another value, or '
                                'charset="unicode" if the feed has it')
         self.refused(operated("string", f'<default value="{"a" * 65536}"/>'),
-                     "4: <default>: the value has more than 65,535 characters; shorten it")
+                     f'4: <default>: value="{"a" * 300}..." has more than 65,535 characters; shorten it')
 
     def test_unicode_strings(self):
         unicode = ' charset="unicode"'
         for written in ("", "é名😀", "é" * 32767 + "a"):
             self.value("string", written, written, unicode, charset="unicode")
         self.refused(operated("string", f'<default value="{"é" * 32768}"/>', unicode),
-                     "4: <default>: the value has more than 65,535 bytes; shorten it")
+                     f'4: <default>: value="{"é" * 300}..." has more than 65,535 bytes; shorten it')
 
 
 class Documents(TestCase):
