@@ -1,0 +1,72 @@
+#!/usr/bin/env python3
+"""Measures how much memory the program takes of input that was made to cost much.
+
+usage: bench/bounds.py [PROGRAM]
+
+PROGRAM is crates/fastcat/out/fastcat if left out (`rt run` in crates/fastcat builds it). Each line of the table is one
+run: the command, how many bytes it reads, how many it writes, its processor time and the greatest memory that it had.
+The status is 1 where a run is refused, or takes more memory than is said here to be enough.
+"""
+import json
+import os
+import subprocess
+import sys
+import tempfile
+
+TOP = os.path.join(os.path.dirname(os.path.abspath(__file__)), "..")
+
+# A sequence of a constant with a long name, whose length is copied: once it was sent, each further message is one byte.
+REPEATED = {
+    "templates": [
+        {
+            "name": "S",
+            "id": 1,
+            "instructions": [
+                {
+                    "kind": "sequence",
+                    "name": "Q",
+                    "length": {"operator": "copy"},
+                    "instructions": [{"kind": "uInt32", "name": "N" * 60, "operator": "constant", "value": "7"}],
+                }
+            ],
+        }
+    ]
+}
+FIRST = bytes.fromhex("e081017fff")
+AGAIN = b"\x80"
+
+# (command, messages, the memory in MB that is enough)
+RUNS = [("show", 1, 16), ("show", 100, 16), ("show", 4089, 16), ("check", 4089, 16)]
+
+
+def counted(command, program, templates, stream):
+    """Runs a command, and answers its status, how many bytes it wrote, its processor time and its greatest memory in MB."""
+    with open(stream, "rb") as read:
+        run = subprocess.Popen([program, command, "--templates", templates], stdin=read, stdout=subprocess.PIPE)
+        written = 0
+        while chunk := run.stdout.read(1 << 20):
+            written += len(chunk)
+        _, status, used = os.wait4(run.pid, 0)
+    return os.waitstatus_to_exitcode(status), written, used.ru_utime + used.ru_stime, used.ru_maxrss / 1024
+
+
+def main():
+    program = os.path.abspath(sys.argv[1] if len(sys.argv) > 1 else f"{TOP}/crates/fastcat/out/fastcat")
+    failed = False
+    print("| Command | Bytes read | Bytes written | Seconds | Memory, MB |")
+    print("|---|---|---|---|---|")
+    with tempfile.TemporaryDirectory() as folder:
+        templates, stream = f"{folder}/templates.json", f"{folder}/stream"
+        with open(templates, "w", encoding="utf-8") as file:
+            json.dump(REPEATED, file)
+        for command, messages, enough in RUNS:
+            with open(stream, "wb") as file:
+                file.write(FIRST + AGAIN * (messages - 1))
+            status, written, seconds, memory = counted(command, program, templates, stream)
+            print(f"| `{command}` | {os.path.getsize(stream):,} | {written:,} | {seconds:.1f} | {memory:.0f} |")
+            failed = failed or status != 0 or memory > enough
+    return int(failed)
+
+
+if __name__ == "__main__":
+    sys.exit(main())
