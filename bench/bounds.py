@@ -36,7 +36,7 @@ FIRST = bytes.fromhex("e081017fff")
 AGAIN = b"\x80"
 
 # (command, messages, the memory in MB that is enough)
-RUNS = [("show", 1, 16), ("show", 100, 16), ("show", 4089, 16), ("check", 4089, 16)]
+RUNS = [("show", 1, 24), ("show", 100, 24), ("show", 4089, 24), ("check", 4089, 24)]
 
 
 def counted(command, program, templates, stream):
