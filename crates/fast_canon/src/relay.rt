@@ -66,6 +66,7 @@ fn hand_on<O: Output, W: ByteOutput, E: Entries>(
 }
 
 /// Hands on the bytes that wait where they are many, and answers how many were handed on.
+#[inline(always)]
 fn hand_on_many<O: Output, W: ByteOutput, E: Entries>(
     machine: &mut Machine<'_, O, E>,
     writer: &mut W,

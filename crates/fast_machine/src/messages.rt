@@ -37,6 +37,7 @@ fn leave<R: Receiver>(alloc: Global, receiver: &mut R, halt: Halt)
 }
 
 /// Reads the next message, to its end or as far as these bytes go; nothing where there is none of it.
+#[inline(always)]
 pub(crate) fn read_message<R: Receiver, E: Entries>(
     alloc: Global,
     traversal: &mut Traversal<'_>,

@@ -233,6 +233,7 @@ impl<'a, R: Receiver, E: Entries> Machine<'a, R, E> {
 
     // Reads on in these bytes of plain framing, where none are held, to the end of the next message at most, and answers
     // the place behind it; none where they are all read or held.
+    #[inline(always)]
     fn read_plain(&mut self, bytes: &[u8]) -> Result<Option<usize>, Fault>
         requires fault { self.now.fault ≡ None }
         requires held { self.now.held.items ≡ [] }
@@ -410,6 +411,7 @@ impl<'a, R: Receiver, E: Entries> Machine<'a, R, E> {
 
     // Reads on in these bytes, where none are held, to the end of the next message at most, and answers the place behind
     // it; none where they are all read or held.
+    #[inline(always)]
     fn read(&mut self, bytes: &[u8]) -> Result<Option<usize>, Fault>
         requires fault { self.now.fault ≡ None }
         requires held { self.now.held.items ≡ [] }
@@ -458,6 +460,7 @@ impl<'a, R: Receiver, E: Entries> Machine<'a, R, E> {
     }
 
     // Where a message has ended, the bytes behind it are not fed yet.
+    #[inline(always)]
     fn end_behind(&mut self, left: usize)
         requires fault { self.now.fault ≡ None }
         requires held { self.now.held.items ≡ [] }
@@ -481,6 +484,7 @@ impl<'a, R: Receiver, E: Entries> Machine<'a, R, E> {
 
     // Reads on in these bytes, behind those that are held, to the end of the next message at most, and answers the place
     // behind it, from the first of those held on; none where they are all read or held.
+    #[inline(always)]
     fn read_behind(&mut self, chunk: &[u8]) -> Result<Option<usize>, Fault>
         requires fault { self.now.fault ≡ None }
         requires some { 0 < length chunk.now }
