@@ -2,9 +2,7 @@
 use Rattle.std.proofs.Common.{◌≡◌, ◌<◌, ◌≤◌, ◌+◌, ℕ, suc, List, [], ◌∷◌, ◌++◌, length, take, get_or, cond, if◌then◌else◌, option_map, option_and_then, find, Option, Some, None, Bool, true, false, refl, sym, ap, ◌∙◌, arith}
 use Rattle.std.specs.Prelude.{slice_get}
 use Rattle.std.specs.Option.{option_or}
-use Rattle.std.specs.declared.hash.FoldHasher.{FoldHasher}
-use Rattle.std.specs.declared.hash.BuildHasherDefault.{BuildHasherDefault}
-use Rattle.std.specs.HashMap.{HashMap}
+use Rattle.std.specs.BTreeMap.{BTreeMap}
 use Rattle.std.proofs.lemmas.List.{take_more, take_all, length-take}
 use Rattle.fast_template.specs.declared.resolved.FlatTemplate.{FlatTemplate}
 use Rattle.fast_template.specs.TemplateSets.{has_id}
@@ -36,7 +34,7 @@ found_by (t ∷ ts) id = by (has_id id t.id) (found_by ts id) where
   by false rest = shifted t ts (first_with ts id) ∙ rest
 
 -- one template more
-pub enters : (old new : HashMap ℕ ℕ (BuildHasherDefault FoldHasher)) (ts : List FlatTemplate) (i place : ℕ) (d : FlatTemplate) → i < length ts → d ≡ get_or ts i d → place ≡ i → LeadsToFirst old (take i ts) → EntersPlace old new d.id place → LeadsToFirst new (take (i + 1) ts)
+pub enters : (old new : BTreeMap ℕ ℕ) (ts : List FlatTemplate) (i place : ℕ) (d : FlatTemplate) → i < length ts → d ≡ get_or ts i d → place ≡ i → LeadsToFirst old (take i ts) → EntersPlace old new d.id place → LeadsToFirst new (take (i + 1) ts)
 enters old new ts i place d inside at here lead enter id =
     let len : place ≡ length (take i ts) = (let k = length-take i ts in omega (arith, k, inside, here)) in
     enter id
@@ -45,5 +43,5 @@ enters old new ts i place d inside at here lead enter id =
     ∙ sym (first_with-push (take i ts) d id)
     ∙ ap (λ l. first_with l id) (ap (λ x. take i ts ++ x ∷ []) at ∙ sym (take_more ts i d inside))
 
-pub finds : (places : HashMap ℕ ℕ (BuildHasherDefault FoldHasher)) (ts : List FlatTemplate) (i : ℕ) → length ts ≤ i → LeadsToFirst places (take i ts) → FindsAll places ts
+pub finds : (places : BTreeMap ℕ ℕ) (ts : List FlatTemplate) (i : ℕ) → length ts ≤ i → LeadsToFirst places (take i ts) → FindsAll places ts
 finds places ts i le lead id = ap (option_and_then (slice_get ts)) (lead id ∙ ap (λ l. first_with l id) (take_all i ts le)) ∙ found_by ts id

@@ -1,9 +1,8 @@
 -- The places of identifiers, while an index of them is made.
-use Rattle.std.specs.Prelude.{◌≡◌, ℕ, suc, if◌then◌else◌, nat_eq, List, [], ◌∷◌, Option, Some, None, option_map}
+use Rattle.std.specs.Prelude.{◌≡◌, ℕ, suc, if◌then◌else◌, List, [], ◌∷◌, Option, Some, None, option_map}
 use Rattle.std.specs.Option.{option_or}
-use Rattle.std.specs.declared.hash.FoldHasher.{FoldHasher}
-use Rattle.std.specs.declared.hash.BuildHasherDefault.{BuildHasherDefault}
-use Rattle.std.specs.HashMap.{get, HashMap}
+use Rattle.std.specs.Ordering.{nat_cmp}
+use Rattle.std.specs.BTreeMap.{get, BTreeMap}
 use Rattle.fast_template.specs.declared.resolved.FlatTemplate.{FlatTemplate}
 use Rattle.fast_template.specs.TemplateSets.{has_id}
 
@@ -13,9 +12,9 @@ first_with [] id = None
 first_with (t ∷ ts) id = if has_id id t.id then Some 0 else option_map suc (first_with ts id)
 
 -- the map leads from each identifier to its first template
-abbrev pub LeadsToFirst : HashMap ℕ ℕ (BuildHasherDefault FoldHasher) → List FlatTemplate → Type 0
-LeadsToFirst places ts = (id : ℕ) → get nat_eq places id ≡ first_with ts id
+abbrev pub LeadsToFirst : BTreeMap ℕ ℕ → List FlatTemplate → Type 0
+LeadsToFirst places ts = (id : ℕ) → get nat_cmp places id ≡ first_with ts id
 
 -- a place for an identifier that has none
-abbrev pub EntersPlace : HashMap ℕ ℕ (BuildHasherDefault FoldHasher) → HashMap ℕ ℕ (BuildHasherDefault FoldHasher) → Option ℕ → ℕ → Type 0
-EntersPlace old new own place = (id : ℕ) → get nat_eq new id ≡ option_or (get nat_eq old id) (if has_id id own then Some place else None)
+abbrev pub EntersPlace : BTreeMap ℕ ℕ → BTreeMap ℕ ℕ → Option ℕ → ℕ → Type 0
+EntersPlace old new own place = (id : ℕ) → get nat_cmp new id ≡ option_or (get nat_cmp old id) (if has_id id own then Some place else None)

@@ -6,7 +6,7 @@ ghost use Rattle.fast_template.specs.Places.{FindsAll};
 
 use fast_template::FlatTemplate;
 use std::alloc::{AllocError, Global};
-use std::collections::HashMap;
+use std::collections::BTreeMap;
 
 /// The place of the first template of each identifier, from 0.
 ///
@@ -16,11 +16,11 @@ use std::collections::HashMap;
 pub(crate) fn id_places(
     alloc: Global,
     templates: &[FlatTemplate],
-) -> Result<HashMap<u32, u32>, AllocError>
+) -> Result<BTreeMap<u32, u32>, AllocError>
     requires { length templates.now ≤ 65535 }
     ensures { IfOk result (λ places. FindsAll places templates.now) }
 {
-    let mut places = HashMap::new(alloc);
+    let mut places = BTreeMap::new(alloc);
     let mut place: u32 = 0;
     for template in templates {
         enter_place(&mut places, template.id, place)?;
@@ -31,7 +31,7 @@ pub(crate) fn id_places(
 
 // Enters the place of an identifier, where there is one and it has none.
 fn enter_place(
-    places: &mut HashMap<u32, u32>,
+    places: &mut BTreeMap<u32, u32>,
     id: Option<u32>,
     place: u32,
 ) -> Result<(), AllocError>

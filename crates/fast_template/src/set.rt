@@ -4,7 +4,7 @@ ghost use Rattle.std.specs.Prelude.{◌≡◌, option_map};
 ghost use Rattle.fast_template.specs.TemplateSets.{template_of};
 
 use crate::resolved::FlatTemplate;
-use std::collections::HashMap;
+use std::collections::BTreeMap;
 use std::marker::Model;
 
 /// Resolved templates.
@@ -16,7 +16,7 @@ pub struct TemplateSet {
     templates: Vec<FlatTemplate>,
     slots: u32,
     // the place of the template of each identifier
-    places: HashMap<u32, u32>,
+    places: BTreeMap<u32, u32>,
 }
 
 impl Model for TemplateSet {
@@ -44,7 +44,7 @@ impl TemplateSet {
     /// A set of these templates, with so many slots and the places of their identifiers.
     ///
     /// It is for `fast_load`, which makes sets from templates as they are written.
-    pub fn of(templates: Vec<FlatTemplate>, slots: u32, places: HashMap<u32, u32>) -> TemplateSet
+    pub fn of(templates: Vec<FlatTemplate>, slots: u32, places: BTreeMap<u32, u32>) -> TemplateSet
         requires sound { AreSound (map resolved_of templates.items) slots }
         requires places { FindsAll places templates.items }
         ensures { result ≡ record { templates = templates.items; slots = slots } }
