@@ -23,6 +23,7 @@ pub mod Calls
 pub mod Written
 pub mod ShortIntegers
 pub mod WordBits
+pub mod WordForms
 pub mod Rows
 pub mod Levels
 pub mod NotOverlong

@@ -90,7 +90,7 @@ map_bits (suc (suc n)) bits from i h =
     ap (λ l. bit_at (l ++ tail) i) (group_back (group_from bits from) bits from e) ∙ front_bit bits tail from i
     (λ j p. let same : from + 7 + j ≡ from + i = omega arith in map_bits (suc n) bits (from + 7) j (omega arith) ∙ ap (bit_at bits) same)
 
-past : (bs : List ℕ) (i : ℕ) → 7 * length bs ≤ i → bit_at (bits_of (groups bs)) i ≡ false
+pub past : (bs : List ℕ) (i : ℕ) → 7 * length bs ≤ i → bit_at (bits_of (groups bs)) i ≡ false
 past bs i h = get_or_past (bits_of (groups bs)) i false (omega (arith, length_bits (groups bs), length-map bs (λ b. b % 128)))
 
 -- the map of the least size has the bits, and none that has them is shorter
@@ -137,7 +137,7 @@ one_group bits few = record {
   least = λ other f. omega (arith, entity_some other f.entity);
 }
 
-pub few_none : (bits : List Bool) → length bits ≤ 7 → HasSetBit (drop 1792 bits) → ⊥
+pub few_none : (bits : List Bool) → length bits ≤ 1792 → HasSetBit (drop 1792 bits) → ⊥
 few_none bits few (i, set) = true≢false (sym (rw (← get_or-drop 1792 bits i false) set) ∙ get_or_past bits (1792 + i) false (omega arith))
 
 pub used_set : (bits : List Bool) (used m : ℕ) → IsUsed bits used → m < used → HasSetBit (drop m bits)

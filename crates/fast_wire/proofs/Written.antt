@@ -83,7 +83,8 @@ map_appended old new bits used size r u few h a = appended IsMap TooManyBits old
 pub group_appended : (old new : Vec ℕ Global) (bits : List Bool) (group : ℕ) (r : Result (Unit {0}) WireFault) → length bits ≤ 7 → group ≡ group_from bits 0 → Appends (entity_of 1 group) old new r → Writes IsMap TooManyBits old new bits r
 group_appended old new bits group r few same a =
     let last : group % 128 + 128 ≡ group_from bits 0 + 128 = omega (arith, same, group_small bits 0) in
-    appended IsMap TooManyBits old new bits (map_of 1 bits 0) r (one_group bits few) (λ e f. few_none bits few f.1) (subst (λ (l : List ℕ). Appends l old new r) (ap (λ (g : ℕ). g ∷ []) last) a)
+    let most : length bits ≤ 1792 = omega arith in
+    appended IsMap TooManyBits old new bits (map_of 1 bits 0) r (one_group bits few) (λ e f. few_none bits most f.1) (subst (λ (l : List ℕ). Appends l old new r) (ap (λ (g : ℕ). g ∷ []) last) a)
 
 -- ---- signed numbers
 

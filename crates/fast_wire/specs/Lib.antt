@@ -4,6 +4,7 @@ pub mod Nullable
 pub mod Ascii
 pub mod Vector
 pub mod PresenceMap
+pub mod KeptBits
 pub mod Reading
 pub mod Reader
 pub mod Writing

@@ -76,6 +76,21 @@ pub(crate) fn append_entity(value: u128, size: usize, out: &mut Vec<u8>) -> Resu
     Ok(())
 }
 
+/// The same of a number in 64 bits.
+pub(crate) fn append_short_entity(
+    value: u64,
+    size: usize,
+    out: &mut Vec<u8>,
+) -> Result<(), WireFault>
+    requires some { 0 < size }
+    requires few { size ≤ 10 }
+    ensures { Appends (entity_of size value) out.old out.new result }
+{
+    out.reserve(size)?;
+    push_short_entity(value, size, out);
+    Ok(())
+}
+
 /// The same as `push_entity` of a number in 64 bits.
 fn push_short_entity(value: u64, size: usize, out: &mut Vec<u8>)
     requires some { 0 < size }

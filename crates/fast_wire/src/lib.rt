@@ -13,6 +13,7 @@ mod fault;
 mod integer;
 pub mod laws;
 mod level;
+mod map_builder;
 mod nullable;
 mod plain;
 mod presence_map;
@@ -31,6 +32,7 @@ pub use integer::{
     read_signed, read_unsigned, size_signed, size_unsigned, write_signed, write_unsigned,
 };
 pub use level::{Level, overlong_ascii, overlong_map, overlong_signed, overlong_unsigned};
+pub use map_builder::MapBuilder;
 pub use nullable::{
     Nullable, read_signed_nullable, read_unsigned_nullable, size_signed_nullable,
     size_unsigned_nullable, write_signed_nullable, write_unsigned_nullable,

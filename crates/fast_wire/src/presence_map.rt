@@ -124,107 +124,28 @@ fn used_bits(bits: &[bool]) -> usize
     0
 }
 
-/// Bit `i`, which is there, as a number.
+/// Bit `i` as a number, and 0 past the end.
 #[inline(always)]
-fn bit_there(bits: &[bool], i: usize) -> u8
-    requires { i < length bits.now }
+fn bit_or_0(bits: &[bool], i: usize) -> u8
     ensures value { result ≡ bit_number (bit_at bits.now i) }
     ensures small { result ≤ 1 }
 {
-    if bits[i] { 1 } else { 0 }
+    if i < bits.len() && bits[i] { 1 } else { 0 }
 }
 
-/// Bit `i` past the end, which is 0.
-#[inline(always)]
-fn bit_past(bits: &[bool], i: usize) -> u8
-    requires { length bits.now ≤ i }
-    ensures value { result ≡ bit_number (bit_at bits.now i) }
-    ensures small { result ≡ 0 }
-{
-    let _bits = bits;
-    0
-}
-
-/// The group of the seven bits from `from` on, told by how many of them are there.
+/// The group of the seven bits from `from` on.
 fn group_at(bits: &[bool], from: usize) -> u8
     requires { from ≤ length bits.now }
     ensures value { result ≡ group_from bits.now from }
     ensures small { result < 128 }
 {
-    match bits.len() - from {
-        0 => {
-            64 * bit_past(bits, from)
-                + 32 * bit_past(bits, from + 1)
-                + 16 * bit_past(bits, from + 2)
-                + 8 * bit_past(bits, from + 3)
-                + 4 * bit_past(bits, from + 4)
-                + 2 * bit_past(bits, from + 5)
-                + bit_past(bits, from + 6)
-        }
-        1 => {
-            64 * bit_there(bits, from)
-                + 32 * bit_past(bits, from + 1)
-                + 16 * bit_past(bits, from + 2)
-                + 8 * bit_past(bits, from + 3)
-                + 4 * bit_past(bits, from + 4)
-                + 2 * bit_past(bits, from + 5)
-                + bit_past(bits, from + 6)
-        }
-        2 => {
-            64 * bit_there(bits, from)
-                + 32 * bit_there(bits, from + 1)
-                + 16 * bit_past(bits, from + 2)
-                + 8 * bit_past(bits, from + 3)
-                + 4 * bit_past(bits, from + 4)
-                + 2 * bit_past(bits, from + 5)
-                + bit_past(bits, from + 6)
-        }
-        3 => {
-            64 * bit_there(bits, from)
-                + 32 * bit_there(bits, from + 1)
-                + 16 * bit_there(bits, from + 2)
-                + 8 * bit_past(bits, from + 3)
-                + 4 * bit_past(bits, from + 4)
-                + 2 * bit_past(bits, from + 5)
-                + bit_past(bits, from + 6)
-        }
-        4 => {
-            64 * bit_there(bits, from)
-                + 32 * bit_there(bits, from + 1)
-                + 16 * bit_there(bits, from + 2)
-                + 8 * bit_there(bits, from + 3)
-                + 4 * bit_past(bits, from + 4)
-                + 2 * bit_past(bits, from + 5)
-                + bit_past(bits, from + 6)
-        }
-        5 => {
-            64 * bit_there(bits, from)
-                + 32 * bit_there(bits, from + 1)
-                + 16 * bit_there(bits, from + 2)
-                + 8 * bit_there(bits, from + 3)
-                + 4 * bit_there(bits, from + 4)
-                + 2 * bit_past(bits, from + 5)
-                + bit_past(bits, from + 6)
-        }
-        6 => {
-            64 * bit_there(bits, from)
-                + 32 * bit_there(bits, from + 1)
-                + 16 * bit_there(bits, from + 2)
-                + 8 * bit_there(bits, from + 3)
-                + 4 * bit_there(bits, from + 4)
-                + 2 * bit_there(bits, from + 5)
-                + bit_past(bits, from + 6)
-        }
-        _ => {
-            64 * bit_there(bits, from)
-                + 32 * bit_there(bits, from + 1)
-                + 16 * bit_there(bits, from + 2)
-                + 8 * bit_there(bits, from + 3)
-                + 4 * bit_there(bits, from + 4)
-                + 2 * bit_there(bits, from + 5)
-                + bit_there(bits, from + 6)
-        }
-    }
+    64 * bit_or_0(bits, from)
+        + 32 * bit_or_0(bits, from + 1)
+        + 16 * bit_or_0(bits, from + 2)
+        + 8 * bit_or_0(bits, from + 3)
+        + 4 * bit_or_0(bits, from + 4)
+        + 2 * bit_or_0(bits, from + 5)
+        + bit_or_0(bits, from + 6)
 }
 
 /// Appends the shortest map with these bits, the fewest groups that reach the last 1 and at least one, or

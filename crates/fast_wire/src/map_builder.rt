@@ -1,0 +1,138 @@
+//! The bits of a presence map that is being written.
+
+ghost use Rattle.std.specs.Prelude.{◌≡◌, ◌≢◌, ◌≤◌, ◌<◌, ◌+◌, ◌*◌, ◌^◌, ◌/◌, ◌%◌, ◌++◌, Bool, List, [], ◌∷◌, OnOk, OnErr};
+ghost use Rattle.fast_wire.specs.KeptBits.{kept_bits};
+ghost use Rattle.fast_wire.specs.PresenceMap.{IsMap, word_bits};
+ghost use Rattle.fast_wire.specs.Spellings.{Appends, entity_of};
+ghost use Rattle.fast_wire.specs.Writing.{TooManyBits, Writes};
+
+use crate::fault::WireFault;
+use crate::integer::append_short_entity;
+use crate::presence_map::write_map;
+use crate::short_integer::append_byte;
+use std::alloc::{AllocError, Global};
+use std::marker::Model;
+
+/// The most bits that are kept in the word: eight whole groups.
+const WORD_BITS: usize = 56;
+
+/// The bits of a presence map that is being written, in their order. Up to 56 stand in one word, and the bits
+/// of a longer map in a list, all of them, since its form is made of a slice.
+#[derive(Drop)]
+pub struct MapBuilder {
+    word: u64,
+    count: usize,
+    long: Vec<bool>,
+}
+
+impl Model for MapBuilder {
+    ghost use Rattle.std.specs.Prelude.{List, Bool, [], ◌≡◌, ◌≤◌, ◌<◌, ◌^◌};
+    ghost use Rattle.fast_wire.specs.KeptBits.{kept_bits};
+
+    ghost Value = { List Bool };
+
+    ghost view = { λ b. kept_bits b.long.items b.count b.word };
+
+    ghost invariant = { λ b. (b.count ≤ 56) × (b.word < 2 ^ b.count)
+        × (b.count < 56 → b.long.items ≡ []) };
+}
+
+impl MapBuilder {
+    /// No bits. It takes no memory.
+    #[inline(always)]
+    pub fn new(alloc: Global) -> MapBuilder
+        ensures { result ≡ [] }
+    {
+        MapBuilder {
+            word: 0,
+            count: 0,
+            long: Vec::new(alloc),
+        }
+    }
+
+    /// Begins anew, in the same memory.
+    #[inline(always)]
+    pub fn clear(&mut self)
+        ensures { self.new ≡ [] }
+    {
+        self.word = 0;
+        self.count = 0;
+        self.long.clear();
+    }
+
+    /// One bit more, at the end. The first 56 take no memory.
+    #[inline(always)]
+    pub fn push(&mut self, bit: bool) -> Result<(), AllocError>
+        ensures pushed { OnOk result (self.new ≡ self.old ++ bit ∷ []) }
+        ensures unchanged { OnErr result (self.new ≡ self.old) }
+    {
+        if self.count < WORD_BITS {
+            self.word = 2 * self.word + u64::from(bit);
+            self.count += 1;
+            return Ok(());
+        }
+        push_long(&mut self.long, self.word, self.count, bit)
+    }
+
+    /// Appends the shortest map with these bits, the fewest groups that reach the last 1 and at least one, or
+    /// answers and appends nothing. TooLong: they do not fit 256 bytes. Memory: the one growth was refused.
+    #[inline(always)]
+    pub fn write(&self, out: &mut Vec<u8>) -> Result<(), WireFault>
+        ensures { Writes IsMap TooManyBits out.old out.new self.now result }
+    {
+        // most maps are one group
+        if self.count <= 7 {
+            return append_byte((self.word << (7 - self.count)) as u8, out);
+        }
+        if self.long.is_empty() {
+            append_word(self.word, self.count, out)
+        } else {
+            write_map(&self.long, out)
+        }
+    }
+}
+
+/// One bit more behind the last bits of a word, or behind a list that is not empty.
+#[inline(never)]
+fn push_long(long: &mut Vec<bool>, word: u64, count: usize, bit: bool) -> Result<(), AllocError>
+    requires { count ≤ 56 }
+    ensures pushed { OnOk result
+        (long.new.items ≡ kept_bits long.old.items count word ++ bit ∷ []) }
+    ensures unchanged { OnErr result (long.new.items ≡ long.old.items) }
+{
+    if long.is_empty() {
+        long.reserve(count + 1)?;
+        for left in (0..count).rev() {
+            long.push((word >> left) % 2 == 1).unwrap();
+        }
+    }
+    long.push(bit)?;
+    Ok(())
+}
+
+/// How many groups at the end are 0, of nine of which one is not.
+#[inline]
+fn zero_groups(groups: u64) -> usize
+    requires some { 0 < groups }
+    requires nine { groups < 2 ^ 63 }
+    ensures few { result ≤ 8 }
+    ensures zeros { groups % 128 ^ result ≡ 0 }
+    ensures last { groups / 128 ^ result % 128 ≢ 0 }
+{
+    groups.trailing_zeros() as usize / 7
+}
+
+/// Appends the shortest map with the last bits of a word, or answers and appends nothing.
+fn append_word(word: u64, count: usize, out: &mut Vec<u8>) -> Result<(), WireFault>
+    requires few { count ≤ 56 }
+    requires fits { word < 2 ^ count }
+    ensures { Writes IsMap TooManyBits out.old out.new (word_bits count word) result }
+{
+    // nine groups, the first bit at their front
+    let groups = word << (63 - count);
+    if groups == 0 {
+        return append_byte(0, out);
+    }
+    let zeros = zero_groups(groups);
+    append_short_entity(groups >> (7 * zeros), 9 - zeros, out)
+}
