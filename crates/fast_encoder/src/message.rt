@@ -41,10 +41,10 @@ fn put_rest<'a, E: Entries>(
         (level_of level.new)) }
     ensures ended { OnOk result (Ended (level_of level.new) out.old.items out.new.items) }
     ensures room { OnOk result
-        ((level.new.own && has_set (drop 1792 level.new.bits.items)) ≡ false) }
+        ((level.new.own && has_set (drop 1792 level.new.bits)) ≡ false) }
     ensures refused { IfErr result (λ f. (f ≡ refused EncodeCause.Memory)
         ⊎ (rest_judged level.old.own (list_of members.now) (items_in nodes.now)
-        (state (E.contents journal.old.entries) level.old.bits.items) ≡ Err f)) }
+        (state (E.contents journal.old.entries) level.old.bits) ≡ Err f)) }
     ensures goes { GoesOn (E.serves journal.old.entries) journal.old.changes.items
         (E.contents journal.old.entries) (E.serves journal.new.entries) journal.new.changes.items
         (E.contents journal.new.entries) }

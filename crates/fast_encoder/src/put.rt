@@ -86,10 +86,10 @@ fn no_room() -> EncodeFault
 pub(crate) fn seal(level: &Segment, out: &mut Vec<u8>) -> Result<(), EncodeFault>
     ensures ended { OnOk result (Ended (level_of level.now) out.old.items out.new.items) }
     ensures room { OnOk result
-        ((level.now.own && has_set (drop 1792 level.now.bits.items)) ≡ false) }
+        ((level.now.own && has_set (drop 1792 level.now.bits)) ≡ false) }
     ensures refused { IfErr result (λ f. (f ≡ refused EncodeCause.Memory)
         ⊎ ((f ≡ refused EncodeCause.Limit)
-        × ((level.now.own && has_set (drop 1792 level.now.bits.items)) ≡ true))) }
+        × ((level.now.own && has_set (drop 1792 level.now.bits)) ≡ true))) }
     ensures unchanged { OnErr result (out.new.items ≡ out.old.items) }
 {
     match level.seal(out) {
@@ -117,7 +117,7 @@ pub(crate) fn put_part(
     ensures spelt { OnOk result (Spelt part.now entry.old (option_copied value.entry)
         (level_of level.old) (level_of level.new)) }
     // the bit is 0 exactly where that gives the value
-    ensures bit { OnOk result (level.new.bits.items ≡ level.old.bits.items
+    ensures bit { OnOk result (level.new.bits ≡ level.old.bits
         ++ bits_for (part_needs_bit_of part.now) (not (left_out_of part.now.operator part.now
         entry.old (option_copied value.entry)))) }
     ensures after { OnOk result (entry.new

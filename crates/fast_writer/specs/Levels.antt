@@ -9,7 +9,7 @@ use Rattle.fast_writer.specs.declared.segment.Segment.{Segment as LevelNow}
 use Rattle.fast_writer.specs.declared.writer.Writer.{Writer}
 
 abbrev pub level_of : LevelNow → Segment
-level_of l = record { bits = l.bits.items; own = l.own; bytes = l.bytes.items }
+level_of l = record { bits = l.bits; own = l.own; bytes = l.bytes.items }
 
 abbrev pub HasFinished : Writer → List Resolved → List Content → Dictionary → Type 0
 HasFinished w set ms d = IsFinished w.out.items set ms d

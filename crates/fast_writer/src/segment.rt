@@ -5,14 +5,14 @@ ghost use Rattle.fast_wire.specs.declared.fault.WireFault.TheVariants as fault;
 ghost use Rattle.fast_writer.specs.Written.{Asked, Ended, has_set};
 ghost use Rattle.fast_writer.specs.Levels.{level_of};
 
-use fast_wire::{WireFault, write_map};
+use fast_wire::{MapBuilder, WireFault};
 use std::alloc::{AllocError, Global};
 
 /// A segment: the bits asked for in their order, whether they stand in a map of its own, and the bytes behind that.
 #[derive(Drop)]
 pub struct Segment {
     /// The bits that its instructions asked for, in their order.
-    pub bits: Vec<bool>,
+    pub bits: MapBuilder,
     /// Whether they stand in a map of its own.
     pub own: bool,
     /// What stands behind the map.
@@ -25,12 +25,12 @@ impl Segment {
     /// Of nothing. Takes no memory.
     #[inline(always)]
     pub fn new(alloc: Global, own: bool) -> Segment
-        ensures bits { result.bits.items ≡ [] }
+        ensures bits { result.bits ≡ [] }
         ensures own { result.own ≡ own }
         ensures bytes { result.bytes.items ≡ [] }
     {
         Segment {
-            bits: Vec::new(alloc),
+            bits: MapBuilder::new(alloc),
             own,
             bytes: Vec::new(alloc),
         }
@@ -39,7 +39,7 @@ impl Segment {
     /// Begins anew, in the same memory.
     #[inline(always)]
     pub fn begin(&mut self, own: bool)
-        ensures bits { self.new.bits.items ≡ [] }
+        ensures bits { self.new.bits ≡ [] }
         ensures own { self.new.own ≡ own }
         ensures bytes { self.new.bytes.items ≡ [] }
     {
@@ -84,14 +84,14 @@ impl Segment {
     pub fn seal(&self, out: &mut Vec<u8>) -> Result<(), WireFault>
         ensures ended { OnOk result (Ended (level_of self.now) out.old.items out.new.items) }
         ensures room { OnOk result
-            ((self.now.own && has_set (drop 1792 self.now.bits.items)) ≡ false) }
+            ((self.now.own && has_set (drop 1792 self.now.bits)) ≡ false) }
         ensures refused { IfErr result (λ f. (f ≡ fault.Memory) ⊎ ((f ≡ fault.TooLong)
-            × ((self.now.own && has_set (drop 1792 self.now.bits.items)) ≡ true))) }
+            × ((self.now.own && has_set (drop 1792 self.now.bits)) ≡ true))) }
         ensures unchanged { OnErr result (out.new.items ≡ out.old.items) }
     {
         let start = out.len();
         if self.own {
-            match write_map(&self.bits, out) {
+            match self.bits.write(out) {
                 Err(WireFault::TooLong) => return Err(WireFault::TooLong),
                 Err(_) => return Err(WireFault::Memory),
                 Ok(()) => {}

@@ -53,7 +53,7 @@ impl Writer {
     // A segment of nothing, one that was used where there is one.
     #[inline(always)]
     fn fresh(&mut self, alloc: Global, own: bool) -> Segment
-        ensures bits { result.bits.items ≡ [] }
+        ensures bits { result.bits ≡ [] }
         ensures own { result.own ≡ own }
         ensures bytes { result.bytes.items ≡ [] }
         ensures inner { self.new.inner ≡ self.old.inner }
@@ -74,7 +74,7 @@ impl Writer {
     fn open(&mut self, alloc: Global, own: bool) -> Result<(), AllocError>
         ensures outer { OnOk result (map level_of self.new.outer.items
             ≡ map level_of self.old.outer.items ++ level_of self.old.inner ∷ []) }
-        ensures bits { OnOk result (self.new.inner.bits.items ≡ []) }
+        ensures bits { OnOk result (self.new.inner.bits ≡ []) }
         ensures own { OnOk result (self.new.inner.own ≡ own) }
         ensures bytes { OnOk result (self.new.inner.bytes.items ≡ []) }
         ensures out { self.new.out ≡ self.old.out }

@@ -2,6 +2,8 @@
 #![tactic(auto)]
 
 #[cfg(test)]
+mod builder;
+#[cfg(test)]
 mod forms;
 #[cfg(test)]
 mod levels;
