@@ -150,9 +150,10 @@ pub fn pass_left_out(instr: &FieldPart, entry: &mut Entry) -> Passed
     }
 }
 
-/// As `pass_left_out`, and answers where the value lies then.
+/// As `pass_left_out`, and answers where the value lies then: for those that tell or keep a value where it lies. None:
+/// nothing was done, and the general way tells.
 #[inline(always)]
-pub(crate) fn pass_found(instr: &FieldPart, entry: &mut Entry) -> Option<Found>
+pub fn pass_found(instr: &FieldPart, entry: &mut Entry) -> Option<Found>
     ensures some { IfSome result (λ found. Passes instr.now entry.old entry.new
         (value_found instr.now entry.new found)) }
     ensures none { IfNone result (entry.new ≡ entry.old) }

@@ -14,7 +14,7 @@ use crate::line::Line;
 use crate::lines::push_decimal;
 use fast_dictionary::{Entries, Entry};
 use fast_field::{FieldFault, read_in_place};
-use fast_part::{exponent_in, mantissa_in, take_part, take_quickly, unsigned_in};
+use fast_part::{exponent_in, mantissa_in, take_given, take_part, take_quickly, unsigned_in};
 use fast_template::{FieldPart, Name, Presence, TemplateSet};
 use fast_walk::{Output, Receiver};
 use fast_wire::Level;
@@ -55,7 +55,7 @@ fn take_generally(
     }
 }
 
-// Takes a field's value, an integer at once, and tells it.
+// Takes a field's value, one that no byte gives and an integer at once, and tells it from where it lies.
 #[inline(always)]
 fn take(
     alloc: Global,
@@ -79,13 +79,21 @@ fn take(
         → (field_at level part.now entry.old bit (drop at bytes.now) ≡ Err f)
         × (entry.new ≡ entry.old) × (line.new ≡ line.old)) }
 {
-    match take_quickly(part, entry, bit, level, bytes, at) {
-        None => take_generally(
-            alloc, name, presence, part, entry, bit, level, bytes, at, line,
-        ),
-        Some((value, next)) => match line.tell(name, part.kind, presence, Some(&value)) {
-            Err(_) => Err(FieldFault::Memory),
-            Ok(()) => Ok(next),
+    match take_given(part, entry, bit) {
+        Some(found) => {
+            match line.tell(name, part.kind, presence, found.value(part, entry.view())) {
+                Err(_) => Err(FieldFault::Memory),
+                Ok(()) => Ok(at),
+            }
+        }
+        None => match take_quickly(part, entry, bit, level, bytes, at) {
+            None => take_generally(
+                alloc, name, presence, part, entry, bit, level, bytes, at, line,
+            ),
+            Some((value, next)) => match line.tell(name, part.kind, presence, Some(&value)) {
+                Err(_) => Err(FieldFault::Memory),
+                Ok(()) => Ok(next),
+            },
         },
     }
 }

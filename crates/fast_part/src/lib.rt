@@ -7,4 +7,4 @@
 
 mod part;
 
-pub use part::{exponent_in, mantissa_in, take_part, take_quickly, unsigned_in};
+pub use part::{exponent_in, mantissa_in, take_given, take_part, take_quickly, unsigned_in};

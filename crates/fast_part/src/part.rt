@@ -1,17 +1,38 @@
 //! Taking the value of a part from the bytes.
 
-ghost use Rattle.std.specs.Prelude.{◌≡◌, ◌≢◌, ◌≤◌, ℕ, IfOk, IfErr, IfNone, IfSome, IsTrue, Err, Some, length, drop};
+ghost use Rattle.std.specs.Prelude.{◌≡◌, ◌≢◌, ◌≤◌, ℕ, List, IfOk, IfErr, IfNone, IfSome, IsTrue, Err, Some, length, drop};
+ghost use Rattle.fast_wire.specs.declared.level.Level as level_type;
 ghost use Rattle.fast_value.specs.declared.scalar.Scalar.TheVariants.{I64};
 ghost use Rattle.fast_dictionary.specs.Dictionary.{entry_at};
 ghost use Rattle.fast_field.specs.FieldReading.{field_at};
+ghost use Rattle.fast_field.specs.Found.{value_found};
 ghost use Rattle.fast_walk.specs.Received.{Took, TookFrom, exponent_of, length_of};
 
 use fast_dictionary::{Entries, Entry};
-use fast_field::{FieldFault, read_in_place, reads_as_usual};
+use fast_field::{FieldFault, Found, pass_found, read_in_place, reads_as_usual};
 use fast_relay::take_number;
-use fast_template::{FieldPart, Scalar};
+use fast_template::{FieldPart, Operator, Part, Scalar};
 use fast_wire::Level;
 use std::alloc::Global;
+
+/// Takes what is given without a byte, by bit 0 or by a constant, and answers where the value lies; the entry is the one
+/// afterwards. None: nothing has changed, and the part goes another way.
+#[inline(always)]
+pub fn take_given(part: &FieldPart, entry: &mut Entry, bit: bool) -> Option<Found>
+    ensures taken { IfSome result (λ found. (level : level_type.Level) (bytes : List ℕ)
+        → TookFrom level part.now bit entry.old entry.new (value_found part.now entry.new found)
+        bytes bytes) }
+    ensures entry { IfNone result (entry.new ≡ entry.old) }
+{
+    if bit {
+        match (part.operator, part.part) {
+            (Operator::Constant, Part::Whole) => Some(Found::Initial),
+            _ => None,
+        }
+    } else {
+        pass_found(part, entry)
+    }
+}
 
 /// Takes an integer under bit 1 at once, where it is read as at the usual level; the entry is the one afterwards. None: nothing has changed,
 /// and the part goes the general way.
