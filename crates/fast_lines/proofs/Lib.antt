@@ -1,3 +1,4 @@
+mod Lanes
 pub mod Written
 pub mod Nested
 pub mod SameLines

@@ -1,6 +1,6 @@
 //! Messages of any template set as lines of text, and what a check says.
 
-ghost use Rattle.std.specs.Prelude.{◌≡◌, ◌++◌, ◌∷◌, ◌&&◌, [], ℕ, List, Some, None, Option, OnOk, OnErr, IfOk, IfErr, codes, decimal, map, option_map};
+ghost use Rattle.std.specs.Prelude.{◌≡◌, ◌<◌, ◌≤◌, ◌+◌, ◌++◌, ◌∷◌, ◌&&◌, [], ℕ, List, true, length, slice_index, Some, None, Option, OnOk, OnErr, IfOk, IfErr, codes, decimal, map, option_map};
 ghost use Rattle.std.specs.Fmt.{signed_decimal};
 ghost use Rattle.std.specs.Option.{option_copied};
 ghost use Rattle.std.specs.List.{flat_map, list_all};
@@ -18,6 +18,7 @@ use fast_stream::{Message, Node};
 use fast_template::{Flat, FlatTemplate, Kind, Presence, Scalar, TemplateSet};
 use itoa::Buffer;
 use std::alloc::AllocError;
+use std::simd::prelude::*;
 use thiserror::Error;
 
 /// Why a message has no line.
@@ -101,11 +102,88 @@ fn push_units(text: &[u8], out: &mut Vec<u8>) -> Result<(), AllocError>
     Ok(())
 }
 
-/// Whether each byte of a string stands as it is.
-fn all_stand(text: &[u8]) -> bool
+/// Whether the 16 bytes from `at` on stand as they are.
+#[inline(always)]
+fn lanes_stand(text: &[u8], at: usize) -> bool
+    requires { at + 16 ≤ length text.now }
+    ensures { result ≡ true → (k : ℕ) → at ≤ k → k < at + 16 → is_plain (slice_index text.now k) ≡ true }
+{
+    let lanes = u8x16::from_slice(&text[at..]);
+    let below = lanes.simd_lt(u8x16::splat(0x20)).to_bitmask();
+    let above = lanes.simd_gt(u8x16::splat(0x7E)).to_bitmask();
+    let quotes = lanes.simd_eq(u8x16::splat(b'"')).to_bitmask();
+    let slashes = lanes.simd_eq(u8x16::splat(b'\\')).to_bitmask();
+    if below != 0 {
+        return false;
+    }
+    if above != 0 {
+        return false;
+    }
+    if quotes != 0 {
+        return false;
+    }
+    slashes == 0
+}
+
+/// The same of the 8 bytes.
+#[inline(always)]
+fn half_stands(text: &[u8], at: usize) -> bool
+    requires { at + 8 ≤ length text.now }
+    ensures { result ≡ true → (k : ℕ) → at ≤ k → k < at + 8 → is_plain (slice_index text.now k) ≡ true }
+{
+    let lanes = u8x8::from_slice(&text[at..]);
+    let below = lanes.simd_lt(u8x8::splat(0x20)).to_bitmask();
+    let above = lanes.simd_gt(u8x8::splat(0x7E)).to_bitmask();
+    let quotes = lanes.simd_eq(u8x8::splat(b'"')).to_bitmask();
+    let slashes = lanes.simd_eq(u8x8::splat(b'\\')).to_bitmask();
+    if below != 0 {
+        return false;
+    }
+    if above != 0 {
+        return false;
+    }
+    if quotes != 0 {
+        return false;
+    }
+    slashes == 0
+}
+
+/// The same of a string of 16 bytes at least.
+fn long_stands(text: &[u8]) -> bool
+    requires { 16 ≤ length text.now }
+    ensures { result ≡ true → list_all is_plain text.now ≡ true }
+{
+    let last = text.len() - 16;
+    let mut at = 0;
+    while at < last {
+        if !lanes_stand(text, at) {
+            return false;
+        }
+        at += 16;
+    }
+    lanes_stand(text, last)
+}
+
+/// Whether each byte of a string stands as it is, looked at one by one.
+#[inline(always)]
+fn each_stands(text: &[u8]) -> bool
     ensures { result ≡ list_all is_plain text.now }
 {
     text.iter().all(|byte| stands(*byte))
+}
+
+/// Whether each byte of a string stands as it is.
+#[inline(always)]
+fn all_stand(text: &[u8]) -> bool
+    ensures { result ≡ true → list_all is_plain text.now ≡ true }
+{
+    if text.len() >= 16 {
+        return long_stands(text);
+    }
+    if text.len() >= 8 {
+        return half_stands(text, 0) && half_stands(text, text.len() - 8);
+    }
+    each_stands(text)
 }
 
 /// Appends a string without its quotes; mostly it stands as it is, and goes there at once.

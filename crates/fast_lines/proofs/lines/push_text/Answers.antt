@@ -1,7 +1,6 @@
-use Rattle.std.proofs.Common.{sym, ◌∙◌}
 use Rattle.fast_lines.proofs.Written.{plain_text}
 use Rattle.fast_lines.proofs.lines.push_text.Goals as goal
 
 pub returns-then-all_stand : goal.returns-then-all_stand
 returns-then-all_stand c =
-    rw (plain_text c.args.text.now (sym c.all_stand.ensures ∙ c.if-all_stand.true)) c.push.ensures
+    rw (plain_text c.args.text.now (c.all_stand.ensures c.if-all_stand.true)) c.push.ensures
