@@ -11,7 +11,7 @@ ghost use Rattle.fast_walk.specs.Received.{Took, TookFrom, exponent_of, length_o
 use fast_dictionary::{Entries, Entry};
 use fast_field::{FieldFault, Found, pass_found, read_in_place, reads_as_usual};
 use fast_relay::take_number;
-use fast_template::{FieldPart, Operator, Part, Scalar};
+use fast_template::{FieldPart, Kind, Operator, Part, Scalar};
 use fast_wire::Level;
 use std::alloc::Global;
 
@@ -51,10 +51,16 @@ pub fn take_quickly(
         (drop at bytes.now) (drop x.1 bytes.now)) }
     ensures entry { IfNone result (entry.new ≡ entry.old) }
 {
-    if bit && reads_as_usual(level, part, bytes, at) {
-        take_number(part, entry, bytes, at)
-    } else {
-        None
+    match part.kind {
+        // asked here too, since a call that only says no is not for nothing
+        Kind::UInt32 | Kind::Int32 | Kind::UInt64 | Kind::Int64 => {
+            if bit && reads_as_usual(level, part, bytes, at) {
+                take_number(part, entry, bytes, at)
+            } else {
+                None
+            }
+        }
+        Kind::Decimal | Kind::Ascii | Kind::Unicode | Kind::Bytes => None,
     }
 }
 
