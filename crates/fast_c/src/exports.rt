@@ -1,0 +1,71 @@
+//! The functions that C calls. C passes a slice as a pointer and a length.
+
+ghost use Rattle.std.specs.Prelude.{◌≡◌, ◌≢◌, ◌≤◌, length};
+ghost use Rattle.fast_c.specs.Answers.{answer_of};
+ghost use Rattle.fast_c.specs.Calls.{Canons, Checks, ChecksText, Done, Shows};
+
+use crate::answer::{Answer, answer_of};
+use crate::call::{canon, check_stream, check_templates, show};
+use std::alloc::Global;
+
+/// Writes the canonical bytes of a stream into the front of a room, and answers the status. A room of as many bytes as
+/// the stream has holds them.
+#[unsafe(no_mangle)]
+pub extern "C" fn fastcat_canon(
+    alloc: Global,
+    templates: &[u8],
+    mode: u32,
+    stream: &[u8],
+    room: &mut [u8],
+    answer: &mut Answer,
+) -> u32
+    ensures answer { (done : Done) × Canons templates.now mode stream.now room.old room.new done
+        × (answer.new ≡ answer_of done) × (result ≡ answer.new.status) }
+    ensures room_enough { length stream.now ≤ length room.old → result ≢ 3 }
+{
+    *answer = answer_of(canon(alloc, templates, mode, stream, room));
+    answer.status
+}
+
+/// Counts the messages, the bytes and the canonical bytes of a stream, and answers the status.
+#[unsafe(no_mangle)]
+pub extern "C" fn fastcat_check(
+    alloc: Global,
+    templates: &[u8],
+    mode: u32,
+    stream: &[u8],
+    answer: &mut Answer,
+) -> u32
+    ensures { (done : Done) × Checks templates.now mode stream.now done
+        × (answer.new ≡ answer_of done) × (result ≡ answer.new.status) }
+{
+    *answer = answer_of(check_stream(alloc, templates, mode, stream));
+    answer.status
+}
+
+/// Writes the lines of a stream into the front of a room, and answers the status.
+#[unsafe(no_mangle)]
+pub extern "C" fn fastcat_show(
+    alloc: Global,
+    templates: &[u8],
+    mode: u32,
+    stream: &[u8],
+    room: &mut [u8],
+    answer: &mut Answer,
+) -> u32
+    ensures { (done : Done) × Shows templates.now mode stream.now room.old room.new done
+        × (answer.new ≡ answer_of done) × (result ≡ answer.new.status) }
+{
+    *answer = answer_of(show(alloc, templates, mode, stream, room));
+    answer.status
+}
+
+/// Checks a template text, and answers the status.
+#[unsafe(no_mangle)]
+pub extern "C" fn fastcat_templates(alloc: Global, templates: &[u8], answer: &mut Answer) -> u32
+    ensures { (done : Done) × ChecksText templates.now done
+        × (answer.new ≡ answer_of done) × (result ≡ answer.new.status) }
+{
+    *answer = answer_of(check_templates(alloc, templates));
+    answer.status
+}

@@ -1,0 +1,111 @@
+/* fastcat: FAST 1.1 streams in memory are canonicalised, checked and shown.
+ *
+ * A template text is JSON in UTF-8, and a stream is bytes; docs/FORMAT.md tells of both. The functions keep no state:
+ * threads may call them side by side, each with a room and an answer of its own. A pointer whose length is 0 is not
+ * looked at. Room, answer, templates and stream do not overlap.
+ */
+#ifndef FASTCAT_H
+#define FASTCAT_H
+
+#include <stddef.h>
+#include <stdint.h>
+
+#ifdef __cplusplus
+extern "C" {
+#endif
+
+/* How a stream is read: the sum of these. A mode with any other bit is refused. */
+enum {
+  /* Refuse entities that are longer than they need to be, and map bits that no instruction asked for (R6 to R9). */
+  FASTCAT_STRICT = 1,
+  /* Messages stand in blocks: a size, and as many bytes. */
+  FASTCAT_BLOCKS = 2
+};
+
+/* How a call ended. The first that fails is answered: the mode, the size of the stream, the templates, the stream. */
+enum fastcat_status {
+  FASTCAT_DONE = 0,
+  /* The stream is refused: cause, message, offset, template and instruction say why and where. */
+  FASTCAT_STREAM_REFUSED = 1,
+  /* The templates are refused: cause, template and instruction say why and where. */
+  FASTCAT_TEMPLATES_REFUSED = 2,
+  /* What is to be written is more than the room, which is as it was. */
+  FASTCAT_ROOM_TOO_SHORT = 3,
+  /* Memory was refused. The room is as it was. */
+  FASTCAT_NO_MEMORY = 4,
+  /* The mode has a bit that says nothing. */
+  FASTCAT_UNKNOWN_MODE = 5,
+  /* The stream has 2^40 bytes or more. */
+  FASTCAT_STREAM_TOO_LONG = 6
+};
+
+/* Why a stream or templates are refused; docs/FORMAT.md, "Causes". */
+enum fastcat_cause {
+  FASTCAT_NO_CAUSE = 0,
+  /* Of a stream: */
+  FASTCAT_D2 = 1,         /* an integer is out of its type's bounds */
+  FASTCAT_D4 = 2,         /* the previous value is of another type than the field */
+  FASTCAT_D5 = 3,         /* a mandatory field is left out, and no earlier value predicts it */
+  FASTCAT_D6 = 4,         /* a mandatory field is left out or changed, and its previous value is empty */
+  FASTCAT_D7 = 5,         /* a subtraction length is no int32, or takes more than there is */
+  FASTCAT_D9 = 6,         /* no template has the identifier */
+  FASTCAT_D12 = 7,        /* a block's size is zero */
+  FASTCAT_R1 = 8,         /* a decimal's exponent is outside -63..63, or its mantissa outside int64 */
+  FASTCAT_R2 = 9,         /* a Unicode string is not UTF-8 */
+  FASTCAT_R6 = 10,        /* strict: an integer, a length or a size has more bytes than it needs */
+  FASTCAT_R7 = 11,        /* strict: a presence map has more bytes than it needs */
+  FASTCAT_R8 = 12,        /* strict: a bit of a presence map is 1 that no instruction asked for */
+  FASTCAT_R9 = 13,        /* strict: a string has a preamble that it does not need */
+  FASTCAT_BLOCK_END = 14, /* a block ended inside a message */
+  FASTCAT_TRUNCATED = 15, /* the stream ended inside a message or a block */
+  FASTCAT_LIMIT = 16,     /* a limit is passed */
+  /* Of templates: */
+  FASTCAT_S1 = 101,             /* the text is not of the JSON profile, or a name is no name */
+  FASTCAT_S2 = 102,             /* the operator does not apply to the type */
+  FASTCAT_S3 = 103,             /* the initial value cannot be converted to the type */
+  FASTCAT_S4 = 104,             /* a constant without an initial value */
+  FASTCAT_S5 = 105,             /* a mandatory default without an initial value */
+  FASTCAT_D8 = 106,             /* a reference names no template */
+  FASTCAT_DUPLICATE_NAME = 107, /* an earlier template has the name */
+  FASTCAT_DUPLICATE_ID = 108,   /* an earlier template has the identifier */
+  FASTCAT_CYCLE = 109,          /* references lead from the template back to itself */
+  FASTCAT_TOO_DEEP = 110,       /* groups and sequences nest in more than 8 levels */
+  FASTCAT_TOO_MANY = 111        /* more than 65,535 templates, or instructions behind replaced references */
+};
+
+/* What a call answers. Each call sets every field, to 0 where it has nothing to say of it. */
+struct fastcat_answer {
+  uint64_t messages;    /* the messages of the stream, or of a refused one those before its fault */
+  uint64_t read;        /* the bytes of a stream that was read to its end */
+  uint64_t written;     /* the bytes that were put into the room's front; of fastcat_check the canonical bytes */
+  uint64_t message;     /* the message at which the stream is refused, from 1 */
+  uint64_t offset;      /* how many bytes of the stream stand before the piece that is refused */
+  uint32_t status;      /* enum fastcat_status, which the call also returns */
+  uint32_t cause;       /* enum fastcat_cause */
+  uint32_t template_id; /* of a refused stream the template's identifier; of templates the place in the list, from 1 */
+  uint32_t instruction; /* the instruction's number, from 1 */
+};
+
+/* Puts the canonical bytes of a stream into the front of the room. A room of as many bytes as the stream has is enough.
+ * Of a refused stream the canonical bytes of the messages before the fault are put there. What is behind the bytes that
+ * are written stays as it was. */
+uint32_t fastcat_canon(const uint8_t *templates, size_t templates_length, uint32_t mode, const uint8_t *stream,
+                       size_t stream_length, uint8_t *room, size_t room_length, struct fastcat_answer *answer);
+
+/* Counts the messages of a stream, its bytes and its canonical bytes. */
+uint32_t fastcat_check(const uint8_t *templates, size_t templates_length, uint32_t mode, const uint8_t *stream,
+                       size_t stream_length, struct fastcat_answer *answer);
+
+/* Puts a line of text for each message of a stream into the front of the room, as fastcat_canon does its bytes. No
+ * length is known to be enough: where the room is too short, try again with a longer one. */
+uint32_t fastcat_show(const uint8_t *templates, size_t templates_length, uint32_t mode, const uint8_t *stream,
+                      size_t stream_length, uint8_t *room, size_t room_length, struct fastcat_answer *answer);
+
+/* Checks a template text. */
+uint32_t fastcat_templates(const uint8_t *templates, size_t templates_length, struct fastcat_answer *answer);
+
+#ifdef __cplusplus
+}
+#endif
+
+#endif

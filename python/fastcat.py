@@ -1,0 +1,195 @@
+"""FAST 1.1 streams in memory: canonical bytes, counts and lines of text, by the proved library (docs/LIBRARY.md).
+
+The shared library is the one that the environment variable FASTCAT_LIBRARY names, or libfastcat.so beside this file or
+in ../lib, where lib/build puts it.
+"""
+
+import ctypes
+import dataclasses
+import enum
+import os
+import pathlib
+
+__all__ = ["Answer", "Cause", "FastcatError", "Status", "canon", "check", "check_templates", "show"]
+
+
+class Status(enum.IntEnum):
+    """How a call ended."""
+
+    DONE = 0
+    STREAM_REFUSED = 1
+    TEMPLATES_REFUSED = 2
+    ROOM_TOO_SHORT = 3
+    NO_MEMORY = 4
+    UNKNOWN_MODE = 5
+    STREAM_TOO_LONG = 6
+
+
+class Cause(enum.IntEnum):
+    """Why a stream or templates are refused; docs/FORMAT.md, "Causes"."""
+
+    NONE = 0
+    D2 = 1
+    D4 = 2
+    D5 = 3
+    D6 = 4
+    D7 = 5
+    D9 = 6
+    D12 = 7
+    R1 = 8
+    R2 = 9
+    R6 = 10
+    R7 = 11
+    R8 = 12
+    R9 = 13
+    BlockEnd = 14
+    Truncated = 15
+    Limit = 16
+    S1 = 101
+    S2 = 102
+    S3 = 103
+    S4 = 104
+    S5 = 105
+    D8 = 106
+    DuplicateName = 107
+    DuplicateId = 108
+    Cycle = 109
+    TooDeep = 110
+    TooMany = 111
+
+
+@dataclasses.dataclass(frozen=True)
+class Answer:
+    """What a call answers. What it says nothing of is 0.
+
+    `messages`, of a refused stream those before the fault; `read`, the bytes of a stream that was read to its end;
+    `written`, the bytes that were written, of a check the canonical bytes. Where a stream is refused: `message`, from 1,
+    `offset`, the bytes before the piece that is refused, `template`, its identifier, and `instruction`. Where templates
+    are: `template`, the place in the list, from 1, and `instruction`.
+    """
+
+    messages: int
+    read: int
+    written: int
+    message: int
+    offset: int
+    status: Status
+    cause: Cause
+    template: int
+    instruction: int
+
+
+class FastcatError(Exception):
+    """A call that did not end well: its answer, and what was written before a fault of the stream."""
+
+    def __init__(self, answer: Answer, written: bytes = b""):
+        self.answer = answer
+        self.written = written
+        super().__init__(answer, written)
+
+    def __str__(self):
+        answer = self.answer
+        if answer.status is Status.STREAM_REFUSED:
+            return (
+                f"refused {answer.cause.name} message={answer.message} offset={answer.offset} "
+                f"template={answer.template} instruction={answer.instruction}"
+            )
+        if answer.status is Status.TEMPLATES_REFUSED:
+            return (
+                f"templates refused {answer.cause.name} template={answer.template} "
+                f"instruction={answer.instruction}"
+            )
+        return answer.status.name.lower().replace("_", " ")
+
+
+class _Answer(ctypes.Structure):
+    _fields_ = [(name, ctypes.c_uint64) for name in ("messages", "read", "written", "message", "offset")] + [
+        (name, ctypes.c_uint32) for name in ("status", "cause", "template", "instruction")
+    ]
+
+
+def _load():
+    here = pathlib.Path(__file__).resolve().parent
+    named = os.environ.get("FASTCAT_LIBRARY")
+    places = [pathlib.Path(named)] if named else [here / "libfastcat.so", here.parent / "lib" / "libfastcat.so"]
+    for place in places:
+        if place.exists():
+            # An absolute path, since a bare name is looked for elsewhere.
+            library = ctypes.CDLL(str(place.resolve()))
+            break
+    else:
+        raise ImportError("no library at " + " or ".join(map(str, places)) + "; lib/build makes it")
+    slice_in = [ctypes.c_char_p, ctypes.c_size_t]
+    room = [ctypes.c_void_p, ctypes.c_size_t]
+    answer = [ctypes.POINTER(_Answer)]
+    for function, arguments in (
+        (library.fastcat_canon, slice_in + [ctypes.c_uint32] + slice_in + room + answer),
+        (library.fastcat_check, slice_in + [ctypes.c_uint32] + slice_in + answer),
+        (library.fastcat_show, slice_in + [ctypes.c_uint32] + slice_in + room + answer),
+        (library.fastcat_templates, slice_in + answer),
+    ):
+        function.argtypes = arguments
+        function.restype = ctypes.c_uint32
+    return library
+
+
+_library = _load()
+
+
+def _call(function, *arguments) -> Answer:
+    raw = _Answer()
+    function(*arguments, ctypes.byref(raw))
+    values = {name: getattr(raw, name) for name, _ in _Answer._fields_}
+    values["status"] = Status(values["status"])
+    values["cause"] = Cause(values["cause"])
+    return Answer(**values)
+
+
+def _bytes(data) -> bytes:
+    return data.encode() if isinstance(data, str) else bytes(data)
+
+
+def _mode(strict: bool, blocks: bool) -> int:
+    return (1 if strict else 0) | (2 if blocks else 0)
+
+
+def _write(function, templates, stream, strict, blocks) -> bytes:
+    text, data = _bytes(templates), _bytes(stream)
+    length = max(len(data), 64)
+    while True:
+        room = ctypes.create_string_buffer(length)
+        answer = _call(function, text, len(text), _mode(strict, blocks), data, len(data), room, length)
+        if answer.status is not Status.ROOM_TOO_SHORT:
+            break
+        length *= 4
+    written = ctypes.string_at(room, answer.written)
+    if answer.status is not Status.DONE:
+        raise FastcatError(answer, written)
+    return written
+
+
+def canon(templates, stream, strict: bool = False, blocks: bool = False) -> bytes:
+    """The canonical bytes of a stream. `templates` is a JSON text, as `str` or bytes."""
+    return _write(_library.fastcat_canon, templates, stream, strict, blocks)
+
+
+def show(templates, stream, strict: bool = False, blocks: bool = False) -> str:
+    """A line of text for each message of a stream. It is ASCII."""
+    return _write(_library.fastcat_show, templates, stream, strict, blocks).decode("ascii")
+
+
+def check(templates, stream, strict: bool = False, blocks: bool = False) -> Answer:
+    """How many messages and bytes a stream has, and in `written` how many canonical bytes."""
+    text, data = _bytes(templates), _bytes(stream)
+    answer = _call(_library.fastcat_check, text, len(text), _mode(strict, blocks), data, len(data))
+    if answer.status is not Status.DONE:
+        raise FastcatError(answer)
+    return answer
+
+
+def check_templates(templates) -> None:
+    """Returns where a template text has templates, and raises where it is refused."""
+    text = _bytes(templates)
+    answer = _call(_library.fastcat_templates, text, len(text))
+    if answer.status is not Status.DONE:
+        raise FastcatError(answer)

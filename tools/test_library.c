@@ -1,0 +1,125 @@
+/* Tests of the library as C calls it: test_library examples/worked.json. Expected values are those of README.md and
+ * docs/FORMAT.md. */
+#include "fastcat.h"
+
+#include <stdio.h>
+#include <stdlib.h>
+#include <string.h>
+
+static unsigned passed, failed;
+
+static void expect(int holds, const char *what) {
+  if (holds) {
+    passed++;
+  } else {
+    failed++;
+    printf("failed: %s\n", what);
+  }
+}
+
+static uint8_t templates[1 << 16];
+static size_t templates_length;
+
+static const uint8_t one[] = {0xf0, 0x81, 0x81, 0x41, 0xc2, 0xfe, 0x00, 0xe4};
+static const uint8_t overlong[] = {0xf0, 0x81, 0x00, 0x81, 0x41, 0xc2, 0xfe, 0x00, 0xe4};
+static const uint8_t spelled_out[] = {0xf0, 0x81, 0x81, 0x41, 0xc2, 0xfe, 0x00, 0xe4,
+                                      0xf8, 0x81, 0x82, 0x41, 0xc2, 0x80, 0x81, 0x80};
+static const uint8_t canonical[] = {0xf0, 0x81, 0x81, 0x41, 0xc2, 0xfe, 0x00, 0xe4, 0x80, 0x80, 0x81};
+static const uint8_t cut[] = {0xf0, 0x81, 0x81, 0x41, 0xc2, 0xfe, 0x00, 0xe4, 0x80};
+static const uint8_t block[] = {0x88, 0xf0, 0x81, 0x81, 0x41, 0xc2, 0xfe, 0x00, 0xe4};
+static const char line[] = "1 Quote Seq=1 Sym=\"AB\" Px=100e-2 Qty=-\n";
+
+/* All fields of an answer, so that none keeps what was there before. */
+static int says(const struct fastcat_answer *a, uint32_t status, uint64_t messages, uint64_t read, uint64_t written,
+                uint32_t cause, uint64_t message, uint64_t offset, uint32_t template_id, uint32_t instruction) {
+  return a->status == status && a->messages == messages && a->read == read && a->written == written &&
+         a->cause == cause && a->message == message && a->offset == offset && a->template_id == template_id &&
+         a->instruction == instruction;
+}
+
+static uint8_t room[256];
+
+static uint32_t canon(const uint8_t *stream, size_t length, uint32_t mode, size_t room_length,
+                      struct fastcat_answer *answer) {
+  memset(room, 0xaa, sizeof room);
+  memset(answer, 0xaa, sizeof *answer);
+  return fastcat_canon(templates, templates_length, mode, stream, length, room, room_length, answer);
+}
+
+/* The room holds these bytes, and behind them what was there before. */
+static int holds(const void *bytes, size_t length) {
+  for (size_t i = length; i < sizeof room; i++)
+    if (room[i] != 0xaa) return 0;
+  return memcmp(room, bytes, length) == 0;
+}
+
+static void streams(void) {
+  struct fastcat_answer a;
+  expect(canon(spelled_out, sizeof spelled_out, 0, sizeof room, &a) == FASTCAT_DONE && says(&a, 0, 2, 16, 11, 0, 0, 0, 0, 0) &&
+             holds(canonical, 11), "canon of two messages");
+  expect(canon(spelled_out, sizeof spelled_out, 0, 11, &a) == FASTCAT_DONE && holds(canonical, 11), "a room that is just enough");
+  expect(canon(spelled_out, sizeof spelled_out, 0, 10, &a) == FASTCAT_ROOM_TOO_SHORT && says(&a, 3, 0, 0, 0, 0, 0, 0, 0, 0) &&
+             holds("", 0), "a room that is one byte too short");
+  expect(canon(overlong, sizeof overlong, 0, sizeof room, &a) == FASTCAT_DONE && says(&a, 0, 1, 9, 8, 0, 0, 0, 0, 0) &&
+             holds(one, 8), "an overlong integer");
+  expect(canon(overlong, sizeof overlong, FASTCAT_STRICT, sizeof room, &a) == FASTCAT_STREAM_REFUSED &&
+             says(&a, 1, 0, 0, 0, FASTCAT_R6, 1, 2, 1, 1) && holds("", 0), "an overlong integer at the strict level");
+  expect(canon(cut, sizeof cut, 0, sizeof room, &a) == FASTCAT_STREAM_REFUSED &&
+             says(&a, 1, 1, 0, 8, FASTCAT_TRUNCATED, 2, 9, 1, 3) && holds(one, 8), "a stream that is cut");
+  expect(canon(cut, sizeof cut, 0, 7, &a) == FASTCAT_ROOM_TOO_SHORT && holds("", 0), "a stream that is cut, and a short room");
+  expect(canon(block, sizeof block, FASTCAT_BLOCKS, sizeof room, &a) == FASTCAT_DONE && says(&a, 0, 1, 9, 8, 0, 0, 0, 0, 0) &&
+             holds(one, 8), "a block");
+  expect(canon(block, sizeof block, FASTCAT_BLOCKS | FASTCAT_STRICT, sizeof room, &a) == FASTCAT_DONE && holds(one, 8),
+         "a block at the strict level");
+  expect(canon(one, sizeof one, 4, sizeof room, &a) == FASTCAT_UNKNOWN_MODE && says(&a, 5, 0, 0, 0, 0, 0, 0, 0, 0) &&
+             holds("", 0), "an unknown mode");
+  expect(canon(one, sizeof one, 0x80000001u, sizeof room, &a) == FASTCAT_UNKNOWN_MODE, "another unknown mode");
+  expect(canon(NULL, 0, 0, sizeof room, &a) == FASTCAT_DONE && says(&a, 0, 0, 0, 0, 0, 0, 0, 0, 0) && holds("", 0), "no stream");
+  expect(fastcat_canon(templates, templates_length, 0, one, 0, NULL, 0, &a) == FASTCAT_DONE, "no stream and no room");
+  expect(fastcat_canon(templates, templates_length, 0, one, sizeof one, NULL, 0, &a) == FASTCAT_ROOM_TOO_SHORT, "no room");
+}
+
+static void others(void) {
+  struct fastcat_answer a;
+  memset(&a, 0xaa, sizeof a);
+  expect(fastcat_check(templates, templates_length, 0, spelled_out, sizeof spelled_out, &a) == FASTCAT_DONE &&
+             says(&a, 0, 2, 16, 11, 0, 0, 0, 0, 0), "check");
+  expect(fastcat_check(templates, templates_length, FASTCAT_STRICT, overlong, sizeof overlong, &a) == FASTCAT_STREAM_REFUSED &&
+             says(&a, 1, 0, 0, 0, FASTCAT_R6, 1, 2, 1, 1), "check at the strict level");
+  memset(room, 0xaa, sizeof room);
+  expect(fastcat_show(templates, templates_length, 0, one, sizeof one, room, sizeof line - 1, &a) == FASTCAT_DONE &&
+             says(&a, 0, 1, 8, sizeof line - 1, 0, 0, 0, 0, 0) && holds(line, sizeof line - 1), "show");
+  memset(room, 0xaa, sizeof room);
+  expect(fastcat_show(templates, templates_length, 0, one, sizeof one, room, sizeof line - 2, &a) == FASTCAT_ROOM_TOO_SHORT &&
+             holds("", 0), "show in a room that is one byte too short");
+  expect(fastcat_show(templates, templates_length, 8, one, sizeof one, room, sizeof room, &a) == FASTCAT_UNKNOWN_MODE,
+         "show in an unknown mode");
+
+  static const char cycle[] = "{\"templates\":[{\"name\":\"A\",\"instructions\":[{\"kind\":\"templateRef\",\"name\":\"A\"}]}]}";
+  static const char tail[] = "{\"templates\":[{\"name\":\"A\",\"id\":1,\"instructions\":["
+                             "{\"kind\":\"uInt32\",\"name\":\"B\",\"operator\":\"tail\"}]}]}";
+  expect(fastcat_templates(templates, templates_length, &a) == FASTCAT_DONE && says(&a, 0, 0, 0, 0, 0, 0, 0, 0, 0), "templates");
+  expect(fastcat_templates((const uint8_t *)"{", 1, &a) == FASTCAT_TEMPLATES_REFUSED &&
+             says(&a, 2, 0, 0, 0, FASTCAT_S1, 0, 0, 0, 0), "templates that are no JSON");
+  expect(fastcat_templates(NULL, 0, &a) == FASTCAT_TEMPLATES_REFUSED && says(&a, 2, 0, 0, 0, FASTCAT_S1, 0, 0, 0, 0), "no templates");
+  expect(fastcat_templates((const uint8_t *)cycle, sizeof cycle - 1, &a) == FASTCAT_TEMPLATES_REFUSED &&
+             says(&a, 2, 0, 0, 0, FASTCAT_CYCLE, 0, 0, 1, 0), "a cycle of references");
+  expect(fastcat_templates((const uint8_t *)tail, sizeof tail - 1, &a) == FASTCAT_TEMPLATES_REFUSED &&
+             says(&a, 2, 0, 0, 0, FASTCAT_S2, 0, 0, 1, 1), "an operator that does not apply");
+  expect(fastcat_check((const uint8_t *)tail, sizeof tail - 1, 0, one, sizeof one, &a) == FASTCAT_TEMPLATES_REFUSED &&
+             says(&a, 2, 0, 0, 0, FASTCAT_S2, 0, 0, 1, 1), "a check with templates that are refused");
+}
+
+int main(int count, char **words) {
+  FILE *file = count == 2 ? fopen(words[1], "rb") : NULL;
+  if (!file) {
+    fprintf(stderr, "use: test_library examples/worked.json\n");
+    return 2;
+  }
+  templates_length = fread(templates, 1, sizeof templates, file);
+  fclose(file);
+  streams();
+  others();
+  printf("C: %u passed, %u failed\n", passed, failed);
+  return failed != 0;
+}

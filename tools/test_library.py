@@ -1,0 +1,125 @@
+"""Tests of the library as Python calls it, over the examples. Expected values are those of README.md, of docs/FORMAT.md
+and of the files of examples/."""
+
+import pathlib
+import sys
+import threading
+import unittest
+
+TOP = pathlib.Path(__file__).resolve().parent.parent
+sys.path.insert(0, str(TOP / "python"))
+
+import fastcat  # noqa: E402
+
+EXAMPLES = TOP / "examples"
+
+
+def text(name):
+    return (EXAMPLES / name).read_text()
+
+
+def data(name):
+    return bytes.fromhex(text(name))
+
+
+WORKED = text("worked.json")
+ONE = bytes.fromhex("f0818141c2fe00e4")
+
+
+class Examples(unittest.TestCase):
+    def test_each_in_each_mode(self):
+        for name in ("worked", "book", "trade"):
+            templates, canonical, lines = text(f"{name}.json"), data(f"{name}.canon"), text(f"{name}.lines")
+            for stream, blocks in ((data(f"{name}.hex"), False), (canonical, False), (data(f"{name}.blocks"), True)):
+                for strict in (False, True):
+                    with self.subTest(name=name, blocks=blocks, strict=strict):
+                        self.assertEqual(fastcat.canon(templates, stream, strict, blocks), canonical)
+                        self.assertEqual(fastcat.show(templates, stream, strict, blocks), lines)
+                        answer = fastcat.check(templates, stream, strict, blocks)
+                        self.assertEqual(answer.messages, lines.count("\n"))
+                        self.assertEqual((answer.read, answer.written), (len(stream), len(canonical)))
+
+    def test_each_front(self):
+        """A front of a stream ends between two messages or is Truncated, and what is before it is written."""
+        canonical = data("book.canon")
+        for length in range(len(canonical)):
+            try:
+                self.assertEqual(fastcat.canon(text("book.json"), canonical[:length]), canonical[:length])
+            except fastcat.FastcatError as error:
+                self.assertIs(error.answer.cause, fastcat.Cause.Truncated)
+                self.assertTrue(canonical.startswith(error.written))
+                self.assertEqual(error.answer.messages, error.answer.message - 1)
+
+    def test_templates_as_bytes(self):
+        self.assertEqual(fastcat.canon(WORKED.encode(), bytearray(ONE)), ONE)
+        self.assertIsNone(fastcat.check_templates(WORKED.encode()))
+
+
+class Refusals(unittest.TestCase):
+    def refusal(self, call, *arguments, **named):
+        with self.assertRaises(fastcat.FastcatError) as caught:
+            call(*arguments, **named)
+        return caught.exception
+
+    def test_strict(self):
+        stream = bytes.fromhex("f08100008141c2fe00e4")
+        self.assertEqual(fastcat.check(WORKED, stream).written, 8)
+        for call in (fastcat.canon, fastcat.check, fastcat.show):
+            error = self.refusal(call, WORKED, stream, strict=True)
+            self.assertEqual(str(error), "refused R6 message=1 offset=2 template=1 instruction=1")
+
+    def test_truncated(self):
+        error = self.refusal(fastcat.canon, WORKED, ONE + b"\x80")
+        self.assertEqual(str(error), "refused Truncated message=2 offset=9 template=1 instruction=3")
+        self.assertEqual((error.written, error.answer.messages), (ONE, 1))
+        error = self.refusal(fastcat.show, WORKED, ONE + b"\x80")
+        self.assertEqual(error.written, b'1 Quote Seq=1 Sym="AB" Px=100e-2 Qty=-\n')
+
+    def test_no_identifier(self):
+        error = self.refusal(fastcat.check, WORKED, b"\x80")
+        self.assertEqual(str(error), "refused D5 message=1 offset=1 template=0 instruction=0")
+
+    def test_templates(self):
+        rows = {
+            "": "S1 template=0 instruction=0",
+            "[]": "S1 template=0 instruction=0",
+            '{"templates":[{"name":"A","instructions":[]},{"name":"A","instructions":[]}]}': "DuplicateName template=2 instruction=0",
+            '{"templates":[{"name":"A","instructions":[{"kind":"templateRef","name":"B"}]}]}': "D8 template=1 instruction=1",
+        }
+        for templates, expected in rows.items():
+            with self.subTest(templates=templates):
+                self.assertEqual(str(self.refusal(fastcat.check_templates, templates)), "templates refused " + expected)
+                self.assertEqual(str(self.refusal(fastcat.canon, templates, ONE)), "templates refused " + expected)
+
+    def test_empty(self):
+        self.assertEqual(fastcat.canon(WORKED, b""), b"")
+        self.assertEqual(fastcat.show(WORKED, b""), "")
+        self.assertEqual(fastcat.check(WORKED, b"").messages, 0)
+
+
+class Rooms(unittest.TestCase):
+    def test_room_is_grown(self):
+        """Fifty messages of three bytes each have lines of 39 and more."""
+        stream = ONE + bytes.fromhex("808081") * 50
+        lines = fastcat.show(WORKED, stream).splitlines()
+        self.assertEqual(len(lines), 51)
+        self.assertEqual(lines[1], '1 Quote Seq=2 Sym="AB" Px=101e-2 Qty=-')
+
+    def test_threads(self):
+        wrong = []
+
+        def run():
+            for _ in range(20):
+                if fastcat.canon(WORKED, data("worked.hex")) != data("worked.canon"):
+                    wrong.append(1)
+
+        threads = [threading.Thread(target=run) for _ in range(4)]
+        for thread in threads:
+            thread.start()
+        for thread in threads:
+            thread.join()
+        self.assertEqual(wrong, [])
+
+
+if __name__ == "__main__":
+    unittest.main()
