@@ -1,7 +1,8 @@
 -- What calls one after the other have put behind an output.
-use Rattle.std.proofs.Common.{◌≡◌, ◌<◌, ◌+◌, ◌/◌, ◌%◌, ℕ, List, [], ◌∷◌, ◌++◌, Option, Some, None, Ok, Err, Result, length, take, get_or, option_map, true≢false, true, refl, sym, ap, ap₂, ◌∙◌}
+use Rattle.std.proofs.Common.{◌≡◌, ◌<◌, ◌≤◌, ◌+◌, ◌-◌, drop, arith, ◌/◌, ◌%◌, ℕ, List, [], ◌∷◌, ◌++◌, Option, Some, None, Ok, Err, Result, length, take, get_or, option_map, true≢false, true, refl, sym, ap, ap₂, ◌∙◌}
 use Rattle.std.specs.Prelude.{slice_index, IsErr}
-use Rattle.std.proofs.lemmas.List.{append-nil, append_assoc, take_more}
+use Rattle.std.proofs.lemmas.List.{append-nil, append_assoc, take_more, take-append-drop, length-drop, length-take-le}
+use Rattle.std.proofs.Math.Seq.{take-append-add, take-length}
 use Rattle.std.specs.declared.alloc.AllocError.{AllocError}
 use Rattle.std.specs.List.{flat_map, list_all}
 use Rattle.std.proofs.lemmas.List.Concat.{flat_map-cons}
@@ -131,3 +132,27 @@ leads_err whole t rest a b c Mismatch l w = (
 
 pub leads_stop : (whole t rest : Option (List ℕ)) (a b c : List ℕ) (f : ShowFault) (r : Result Unit ShowFault) → r ≡ Err f → Leads whole (joined t rest) a b → Shows t (Err f) b c → Shows whole r a c
 leads_stop whole t rest a b c f r e l w = rw e (leads_err whole t rest a b c f l w)
+
+-- ---- a text in pieces
+
+-- a text behind one that is always there
+pub writes_behind : (s t a b c : List ℕ) (r : Result Unit AllocError) → b ≡ a ++ s → Writes t r b c → Writes (s ++ t) r a c
+writes_behind s t a b c (Ok u) e w = w ∙ ap (λ l. l ++ t) e ∙ append_assoc a s t
+writes_behind s t a b c (Err f) e w = extends_more a b c (extends_by a b s e) w
+
+pub take_pieces : (xs : List ℕ) (at n : ℕ) → at ≤ length xs → take (at + n) xs ≡ take at xs ++ take n (drop at xs)
+take_pieces xs at n le =
+    let long : length (take at xs) ≡ at = length-take-le at xs le in
+    sym (ap₂ (λ l ys. take (l + n) ys) long (take-append-drop at xs)) ∙ take-append-add (take at xs) (drop at xs) n
+
+-- and one more piece of a list
+pub flat_map_piece : (f : ℕ → List ℕ) (xs : List ℕ) (at n : ℕ) → at ≤ length xs → flat_map f (take (at + n) xs) ≡ flat_map f (take at xs) ++ flat_map f (take (at + n - at) (drop at xs))
+flat_map_piece f xs at n le =
+    let same : at + n - at ≡ n = omega arith in
+    ap (flat_map f) (take_pieces xs at n le) ∙ flat_map-append f (take at xs) (take n (drop at xs)) ∙ ap (λ m. flat_map f (take at xs) ++ flat_map f (take m (drop at xs))) (sym same)
+
+-- and the last one
+pub flat_map_rest : (f : ℕ → List ℕ) (xs : List ℕ) (at : ℕ) → flat_map f xs ≡ flat_map f (take at xs) ++ flat_map f (take (length xs - at) (drop at xs))
+flat_map_rest f xs at =
+    let whole : take (length xs - at) (drop at xs) ≡ drop at xs = ap (λ n. take n (drop at xs)) (sym (length-drop at xs)) ∙ take-length (drop at xs) in
+    ap (flat_map f) (sym (take-append-drop at xs)) ∙ flat_map-append f (take at xs) (drop at xs) ∙ ap (λ l. flat_map f (take at xs) ++ flat_map f l) (sym whole)
