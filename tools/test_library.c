@@ -95,6 +95,10 @@ static void others(void) {
   expect(fastcat_show(templates, templates_length, 8, one, sizeof one, room, sizeof room, &a) == FASTCAT_UNKNOWN_MODE,
          "show in an unknown mode");
 
+  /* The length alone is looked at. */
+  expect(fastcat_check(templates, templates_length, 0, one, (size_t)1 << 40, &a) == FASTCAT_STREAM_TOO_LONG &&
+             says(&a, 6, 0, 0, 0, 0, 0, 0, 0, 0), "a stream that is too long");
+
   static const char cycle[] = "{\"templates\":[{\"name\":\"A\",\"instructions\":[{\"kind\":\"templateRef\",\"name\":\"A\"}]}]}";
   static const char tail[] = "{\"templates\":[{\"name\":\"A\",\"id\":1,\"instructions\":["
                              "{\"kind\":\"uInt32\",\"name\":\"B\",\"operator\":\"tail\"}]}]}";

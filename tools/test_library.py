@@ -1,7 +1,9 @@
 """Tests of the library as Python calls it, over the examples. Expected values are those of README.md, of docs/FORMAT.md
 and of the files of examples/."""
 
+import os
 import pathlib
+import resource
 import sys
 import threading
 import unittest
@@ -104,6 +106,27 @@ class Rooms(unittest.TestCase):
         lines = fastcat.show(WORKED, stream).splitlines()
         self.assertEqual(len(lines), 51)
         self.assertEqual(lines[1], '1 Quote Seq=2 Sym="AB" Px=101e-2 Qty=-')
+
+    def test_no_memory(self):
+        """There is memory for the room of 12 MB, and not for as many bytes a second time."""
+        read, write = os.pipe()
+        child = os.fork()
+        if child == 0:
+            stream = ONE + bytes.fromhex("808081") * 4_000_000
+            limit = 20 << 20
+            taken = int(pathlib.Path("/proc/self/statm").read_text().split()[0]) * resource.getpagesize()
+            resource.setrlimit(resource.RLIMIT_AS, (taken + limit, taken + limit))
+            try:
+                fastcat.canon(WORKED, stream)
+            except fastcat.FastcatError as error:
+                os.write(write, str(error).encode())
+            except MemoryError:
+                os.write(write, b"Python's own")
+            os._exit(0)
+        os.close(write)
+        with os.fdopen(read) as said:
+            self.assertEqual(said.read(), "no memory")
+        os.waitpid(child, 0)
 
     def test_threads(self):
         wrong = []
