@@ -1,11 +1,9 @@
 //! What is done with a stream in memory.
 
-ghost use Rattle.std.specs.Prelude.{◌≡◌, ◌≢◌, ◌<◌, ◌^◌, length, MatchResult, IfOk, IfErr, Ok, Err};
+ghost use Rattle.std.specs.Prelude.{◌<◌, ◌≡◌, ◌^◌, length, IfErr, IfOk, Ok};
 ghost use Rattle.fast_template.specs.TemplateSets.{IsSound, templates_in};
-ghost use Rattle.fast_written.specs.declared.fault.LoadCause.TheVariants as load_cause;
 ghost use Rattle.fast_writer.specs.Canonical.{IsCanonical};
 ghost use Rattle.fast_command.specs.Run.{LinesOf};
-ghost use Rattle.fast_c.specs.declared.answer.Refusal.TheVariants as refusal;
 ghost use Rattle.fast_c.specs.Calls.{Canons, Checks, ChecksText, Counts, LoadsText, Prepares, RefusesCall, RefusesText, Settles, Shows, Writes, mode_of as mode_of_lem};
 
 use crate::answer::Refusal;
