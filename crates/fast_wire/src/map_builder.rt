@@ -1,9 +1,8 @@
 //! The bits of a presence map that is being written.
 
-ghost use Rattle.std.specs.Prelude.{◌≡◌, ◌≢◌, ◌≤◌, ◌<◌, ◌+◌, ◌*◌, ◌^◌, ◌/◌, ◌%◌, ◌++◌, Bool, List, [], ◌∷◌, OnOk, OnErr};
+ghost use Rattle.std.specs.Prelude.{◌≡◌, ◌≢◌, ◌≤◌, ◌<◌, ◌^◌, ◌/◌, ◌%◌, ◌++◌, [], ◌∷◌, OnOk, OnErr};
 ghost use Rattle.fast_wire.specs.KeptBits.{kept_bits};
 ghost use Rattle.fast_wire.specs.PresenceMap.{IsMap, word_bits};
-ghost use Rattle.fast_wire.specs.Spellings.{Appends, entity_of};
 ghost use Rattle.fast_wire.specs.Writing.{TooManyBits, Writes};
 
 use crate::fault::WireFault;
