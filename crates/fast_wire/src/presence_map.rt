@@ -46,6 +46,7 @@ impl Bits {
     }
 
     /// The next bit, or false past the end; it stays the next. It takes no memory.
+    #[inline(always)]
     pub fn first(&self) -> bool
         ensures { result ≡ next_bit self.now }
     {
@@ -57,6 +58,7 @@ impl Bits {
     }
 
     /// The next bit, or false past the end. It takes no memory.
+    #[inline(always)]
     pub fn take(&mut self) -> bool
         ensures bit { result ≡ next_bit self.old }
         ensures rest { self.new ≡ later_bits self.old }
