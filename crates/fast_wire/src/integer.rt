@@ -1,6 +1,6 @@
 //! Integers: FAST 1.1, Transfer Encoding, Integer Representation.
 
-ghost use Rattle.std.specs.Prelude.{◌≡◌, ℕ, ℤ, pos, ◌+◌, ◌-◌, ◌*◌, ◌^◌, ◌<◌, ◌≤◌, length, drop, slice_range, IfErr, IfOk, MatchResult, OnOk, OnErr, Ok, IsErrOf, ◌++◌, ◌↔◌, ◌⊎◌, vec_len, vec_capacity};
+ghost use Rattle.std.specs.Prelude.{◌≡◌, ℕ, ℤ, ◌+◌, ◌-◌, ◌*◌, ◌^◌, ◌<◌, ◌≤◌, length, drop, slice_range, IfErr, IfOk, MatchResult, OnOk, OnErr, Ok, IsErrOf, ◌++◌, ◌↔◌, ◌⊎◌, vec_len, vec_capacity};
 ghost use Rattle.fast_wire.specs.Reading.{EntityFault, IsReadAt, GivesAt, NothingElse, Reads, unsigned_at, signed_at};
 ghost use Rattle.fast_wire.specs.Sizes.{unsigned_size, signed_size, CanBeUnsigned, CanBeSigned};
 ghost use Rattle.fast_wire.specs.Writing.{IsShortestSize, Writes, OutOfRange};
@@ -52,25 +52,14 @@ pub(crate) fn least_size(value: u128) -> usize
     requires { value < 128 ^ 10 }
     ensures { IsLeastSize value result }
 {
-    if value >> 63 != 0 {
-        return INTEGER_LIMIT;
-    }
-    least_short_size(value as u64)
-}
-
-/// The same of a number that nine groups hold.
-fn least_short_size(value: u64) -> usize
-    requires { value < 128 ^ 9 }
-    ensures { IsLeastSize value result }
-{
-    let mut limit: u64 = 128;
-    for size in 1..INTEGER_LIMIT - 1 {
+    let mut limit: u128 = 128;
+    for size in 1..INTEGER_LIMIT {
         if value < limit {
             return size;
         }
         limit *= 128;
     }
-    INTEGER_LIMIT - 1
+    INTEGER_LIMIT
 }
 
 /// Appends the lowest `size` groups of a number, the stop bit on the last, or nothing.
@@ -207,25 +196,14 @@ fn least_signed_size(value: i128) -> usize
     ensures { IsLeastSignedSize value result }
 {
     let distance = distance(value);
-    if distance >> 62 != 0 {
-        return INTEGER_LIMIT;
-    }
-    least_sign_size(distance as u64)
-}
-
-/// How many groups hold a number and the bit of its sign, where nine do.
-fn least_sign_size(distance: u64) -> usize
-    requires { distance < 64 * 128 ^ 8 }
-    ensures { IsLeastSignedSize (pos distance) result }
-{
-    let mut limit: u64 = 64;
-    for size in 1..INTEGER_LIMIT - 1 {
+    let mut limit: u128 = 64;
+    for size in 1..INTEGER_LIMIT {
         if distance < limit {
             return size;
         }
         limit *= 128;
     }
-    INTEGER_LIMIT - 1
+    INTEGER_LIMIT
 }
 
 /// The number of bytes of the shortest form of a signed number that fits ten bytes. It takes no memory.
