@@ -52,7 +52,7 @@ pub fn take_quickly(
     ensures entry { IfNone result (entry.new ≡ entry.old) }
 {
     match part.kind {
-        // asked here too, since a call that only says no is not for nothing
+        // asked here too: the call costs as much where it says no
         Kind::UInt32 | Kind::Int32 | Kind::UInt64 | Kind::Int64 => {
             if bit && reads_as_usual(level, part, bytes, at) {
                 take_number(part, entry, bytes, at)
