@@ -47,7 +47,7 @@ impl Read for ScriptInput<'_> {
     ghost use Rattle.std.specs.Io.KnownBytes.{ReadConsumes};
     ghost use Rattle.std.specs.Io.{ReadsAtMost};
     ghost use Rattle.fast_io.specs.Scripts.{rest_of, step_of, next_call_of, fails_of};
-    ghost use Rattle.std.specs.Prelude.{◌^◌, ◌↔◌, IsErr};
+    ghost use Rattle.std.specs.Prelude.{◌^◌, ◌+◌, ◌↔◌, IsErr};
 
     ghost remaining = { λ s. Some s.rest.now };
 
@@ -60,6 +60,10 @@ impl Read for ScriptInput<'_> {
             n ≡ min (min (length buf.old) (step_of self.old)) (length (rest_of self.old))) }
         ensures fails { IsErr result ↔ (min (next_call_of self.old) (2 ^ 64 - 1)
             ≡ fails_of self.old) }
+        // the script stays, and the next call is the one behind
+        ensures step { step_of self.new ≡ step_of self.old }
+        ensures script { fails_of self.new ≡ fails_of self.old }
+        ensures call { next_call_of self.new ≡ min (next_call_of self.old + 1) (2 ^ 64) }
     {
         self.calls = self.calls.saturating_add(1);
         if self.calls == self.fails {
@@ -110,10 +114,10 @@ impl ScriptOutput {
 }
 
 impl Write for ScriptOutput {
-    ghost use Rattle.fast_io.specs.Scripts.{kept_of, room_of, flush_fails_of};
+    ghost use Rattle.fast_io.specs.Scripts.{kept_of, room_of, zero_of, flush_fails_of};
     ghost use Rattle.std.specs.Io.KnownBytes.{WriteAppends, Keeps};
     ghost use Rattle.std.specs.Io.{WritesAtMost};
-    ghost use Rattle.std.specs.Prelude.{◌↔◌, IsErr, true};
+    ghost use Rattle.std.specs.Prelude.{◌<◌, ◌↔◌, IsErr, OnErr, true, false};
 
     ghost contents = { λ s. Some s.kept.items };
 
@@ -124,6 +128,12 @@ impl Write for ScriptOutput {
         // as many bytes as there are and are room for
         ensures count { IfOk result (λ n. n ≡ min (length bytes.now) (room_of self.old)) }
         ensures room { IfOk result (λ n. room_of self.new ≡ room_of self.old - n) }
+        // with no room for a byte it fails, but with `zero`, and else fails for memory alone, with its room kept
+        ensures full { zero_of self.old ≡ false → 0 < length bytes.now → room_of self.old ≡ 0 → IsErr result }
+        ensures kept { OnErr result (room_of self.new ≡ room_of self.old) }
+        // the script stays
+        ensures zero { zero_of self.new ≡ zero_of self.old }
+        ensures script { flush_fails_of self.new ≡ flush_fails_of self.old }
     {
         let room = usize::try_from(self.room).unwrap_or(usize::MAX);
         let len = bytes.len().min(room);
@@ -138,6 +148,7 @@ impl Write for ScriptOutput {
     fn flush(&mut self) -> io::Result<()>
         ensures bytes { Keeps (Some (kept_of self.old)) (Some (kept_of self.new)) }
         ensures fails { IsErr result ↔ (flush_fails_of self.old ≡ true) }
+        ensures script { self.new ≡ self.old }
     {
         if self.flush_fails {
             return Err(scripted_failure());
