@@ -1,4 +1,5 @@
-/* Refuses one allocation, the one whose number REFUSED has, and tells at the end on descriptor 3 how many there were. */
+/* Refuses one allocation, the one whose number REFUSED has, and tells at the end, on the descriptor that TOLD has, how
+ * many there were. */
 #define _GNU_SOURCE
 #include <dlfcn.h>
 #include <stdio.h>
@@ -23,4 +24,9 @@ void *malloc(size_t size) { return is_refused() ? NULL : next_malloc(size); }
 
 void *realloc(void *block, size_t size) { return is_refused() ? NULL : next_realloc(block, size); }
 
-__attribute__((destructor)) static void tell(void) { dprintf(3, "%ld", asked); }
+__attribute__((destructor)) static void tell(void) {
+    const char *told = getenv("TOLD");
+    if (told) {
+        dprintf(atoi(told), "%ld", asked);
+    }
+}

@@ -1,11 +1,16 @@
 #!/usr/bin/env python3
-"""Runs each test of a crate with its first allocation refused, then its second, and so on to the last.
+"""Runs each test of some crates with its first allocation refused, then its second, and so on to the last.
 
-usage: bench/refused.py CRATE [WORD]
+usage: bench/refused.py CRATE.. [--only WORD] [--most N]
 
-`rt test` in the crate has built its tests; with WORD, only those whose names have it. Each run must end well or with
-want of memory; a line for each test says how many of each there were, and the status is 1 where one ended otherwise.
+`rt test` in a crate, or `rt ci` at the top, has built its tests; with --only, only those whose names have the word are
+run. Each run must end well or with want of memory. Of a test that asks more than N times (1,000, if left out) the first
+half of N are refused in turn, and of the others as many, evenly spread. A line for each test says how many were
+refused, of how many, and how the runs ended; the last line is 'N passed, M failed', a test each.
 """
+import argparse
+import collections
+import concurrent.futures
 import os
 import subprocess
 import sys
@@ -17,13 +22,10 @@ WELL, WANT_OF_MEMORY = "well", "want of memory"
 def run(program, test, library, number):
     """How a test ends with one allocation refused, and how many it asked for."""
     reader, writer = os.pipe()
-    environment = {"LD_PRELOAD": library, "REFUSED": str(number)}
-
-    def third():
-        os.dup2(writer, 3)
-
-    ended = subprocess.run([program, test], env=environment, preexec_fn=third, close_fds=False,
-                           stdout=subprocess.PIPE, stderr=subprocess.STDOUT)
+    os.set_inheritable(writer, True)
+    environment = {"LD_PRELOAD": library, "REFUSED": str(number), "TOLD": str(writer)}
+    ended = subprocess.run([program, test], env=environment, pass_fds=[writer], stdout=subprocess.PIPE,
+                           stderr=subprocess.STDOUT)
     os.close(writer)
     with os.fdopen(reader) as told:
         asked = told.read()
@@ -36,32 +38,44 @@ def run(program, test, library, number):
     return end, int(asked or 0)
 
 
+def numbers(asked, most):
+    """Which allocations are refused."""
+    if asked <= most:
+        return range(1, asked + 1)
+    first = most // 2
+    step = (asked - first) / (most - first)
+    return [*range(1, first + 1), *(first + int(step * (turn + 1)) for turn in range(most - first))]
+
+
 def main():
-    crate, word = sys.argv[1], sys.argv[2] if len(sys.argv) > 2 else ""
+    words = argparse.ArgumentParser()
+    words.add_argument("crates", nargs="+")
+    words.add_argument("--only", default="")
+    words.add_argument("--most", type=int, default=1000)
+    words = words.parse_args()
     here = os.path.dirname(os.path.abspath(__file__))
-    program = os.path.join(here, f"../crates/{crate}/out/{crate}_tests")
-    listed = subprocess.run([program, "--list"], capture_output=True, text=True).stdout.splitlines()
-    tests = [line.removesuffix(": test") for line in listed if line.endswith(": test") and word in line]
-    wrong = 0
-    with tempfile.TemporaryDirectory() as folder:
+    passed = failed = 0
+    with tempfile.TemporaryDirectory() as folder, concurrent.futures.ThreadPoolExecutor(os.cpu_count()) as pool:
         library = os.path.join(folder, "refused.so")
         source = os.path.join(here, "refused.c")
         subprocess.run(["cc", "-shared", "-fPIC", "-O1", "-o", library, source, "-ldl"], check=True)
-        for test in tests:
-            number, counts, others = 1, {WELL: 0, WANT_OF_MEMORY: 0}, []
-            while True:
-                end, asked = run(program, test, library, number)
-                if asked < number and end == WELL:
-                    break
-                if end in counts:
-                    counts[end] += 1
-                else:
-                    others.append((number, end))
-                number += 1
-            wrong += len(others)
-            print(f"{test}: {number - 1} refused in turn, want of memory {counts[WANT_OF_MEMORY]}, "
-                  f"well {counts[WELL]}, otherwise {others}")
-    return 1 if wrong else 0
+        for crate in words.crates:
+            program = os.path.join(here, f"../crates/{crate}/out/{crate}_tests")
+            listed = subprocess.run([program, "--list"], capture_output=True, text=True, check=True).stdout.splitlines()
+            for test in [line.removesuffix(": test") for line in listed if line.endswith(": test")]:
+                if words.only not in test:
+                    continue
+                end, asked = run(program, test, library, 0)
+                refused = numbers(asked, words.most)
+                ends = list(pool.map(lambda number: run(program, test, library, number)[0], refused))
+                counts = collections.Counter(ends)
+                others = [(number, it) for number, it in zip(refused, ends) if it not in (WELL, WANT_OF_MEMORY)]
+                is_good = end == WELL and not others
+                passed, failed = passed + is_good, failed + (not is_good)
+                print(f"{crate} {test}: {len(ends)} of {asked} refused in turn, want of memory {counts[WANT_OF_MEMORY]}, "
+                      f"well {counts[WELL]}, otherwise {others[:5]}", flush=True)
+    print(f"{passed} passed, {failed} failed")
+    return failed > 0
 
 
 if __name__ == "__main__":

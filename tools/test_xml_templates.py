@@ -919,4 +919,7 @@ class Programs(TestCase):
 
 
 if __name__ == "__main__":
-    unittest.main()
+    ended = unittest.main(exit=False).result
+    ill = len(ended.failures) + len(ended.errors)
+    print(f"{ended.testsRun - ill} passed, {ill} failed")
+    sys.exit(not ended.wasSuccessful())

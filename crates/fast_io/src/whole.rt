@@ -1,6 +1,6 @@
 //! Writing bytes whole.
 
-ghost use Rattle.std.specs.Prelude.{◌≡◌, ℕ, List, OnErr, OnOk};
+ghost use Rattle.std.specs.Prelude.{◌≡◌, ◌⊎◌, ℕ, List, OnErr, OnOk};
 ghost use Rattle.std.specs.Io.KnownBytes.{Appends};
 ghost use Rattle.fast_io.specs.Counts.{counted};
 ghost use Rattle.fast_io.specs.Traffic.{CountsError, Taken};
@@ -33,6 +33,10 @@ pub fn write_all<W: ByteOutput>(writer: &mut W, bytes: &[u8]) -> Result<(), Fail
         × Taken (W.taken writer.old) (W.taken writer.new) bytes.now rest) }
     ensures failed { CountsError result (W.errors writer.old) (W.errors writer.new) }
     ensures flushed { OnOk result (W.flushes writer.new ≡ counted (W.flushes writer.old)) }
+    // a push failed and there was no flush, or all was pushed and the flush failed
+    ensures unflushed { OnErr result ((W.flushes writer.new ≡ W.flushes writer.old)
+        ⊎ ((W.flushes writer.new ≡ counted (W.flushes writer.old))
+        × Appends (W.taken writer.old) (W.taken writer.new) bytes.now)) }
 {
     match push_all(writer, bytes) {
         Err(failed) => Err(failed),
