@@ -1,5 +1,5 @@
 -- How a stream of messages follows its reader.
-use Rattle.std.proofs.Common.{◌≡◌, ◌≢◌, ◌≤◌, ℕ, ◌+◌, List, [], ◌∷◌, ◌++◌, length, take, map, reverse, Option, None, Some, refl, sym, ap, subst, ◌∙◌, arith, append_assoc, append-nil, length-append, length-take, ◌⊎◌, inl, inr}
+use Rattle.std.proofs.Common.{◌≡◌, ◌≢◌, ◌≤◌, ℕ, ◌+◌, List, [], ◌∷◌, ◌++◌, length, take, map, reverse, Option, None, Some, Result, refl, sym, ap, subst, ◌∙◌, arith, rules, append_assoc, append-nil, length-append, length-take, ◌⊎◌, inl, inr}
 use Rattle.std.proofs.lemmas.List.{reverse-reverse, reverse-append}
 use Rattle.std.specs.Io.KnownBytes.{Consumes, Keeps, IsAtEnd}
 use Rattle.fast_io.specs.Counts.{counted}
@@ -21,7 +21,7 @@ use Rattle.fast_stream.specs.Blocks.{Stand, at_start}
 use Rattle.fast_stream.specs.Modes.{CarriesFrom, FirstFault}
 use Rattle.fast_machine.specs.Standing.{Carried, ReadsOn}
 use Rattle.fast_decoder.proofs.Builders.{BuilderHas, BuilderStands}
-use Rattle.fast_decoder.specs.Inputs.{Causes, Follows, HasReached, IsCaused, IsFaultOf, OnFault, Reader, Reads, RefusedBy, Refuses, Stands, waiting_in}
+use Rattle.fast_decoder.specs.Inputs.{Causes, Follows, HasReached, IsCaused, IsFaultOf, OnFault, Reader, Reads, RefusedBy, Refuses, Repeats, Stands, waiting_in}
 use Rattle.fast_machine.proofs.Standings.{carried_of}
 use Rattle.fast_machine.proofs.Followings.{all_carried}
 use Rattle.fast_stream.proofs.Causes.{IsOfBytes, of_mode}
@@ -313,3 +313,14 @@ causes_end before now next P a b h p used same = go (is_open now)
 pub empty_of : {X : Type 0} (xs : List X) → length xs ≡ 0 → xs ≡ []
 empty_of [] h = refl
 empty_of (x ∷ xs) h = absurd (omega (arith, h))
+
+-- what is answered once more of a stream that stayed as it was, if it is not open
+pub repeats_kept : (before now : Reached) (r : Result (Option Message) Fault) → (before ≢ reached.Open → now ≡ before) → Repeats now r → Repeats before r
+repeats_kept reached.Open now r same h = tt
+repeats_kept reached.End now r same h = subst (λ (at : Reached). Repeats at r) (same (λ e. search rules)) h
+repeats_kept (reached.Fault f) now r same h = subst (λ (at : Reached). Repeats at r) (same (λ e. search rules)) h
+
+pub repeats_open : (before : Reached) (r : Result (Option Message) Fault) → (before ≢ reached.Open → ⊥) → Repeats before r
+repeats_open reached.Open r never = tt
+repeats_open reached.End r never = absurd (never (λ e. search rules))
+repeats_open (reached.Fault f) r never = absurd (never (λ e. search rules))

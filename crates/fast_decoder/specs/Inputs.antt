@@ -131,3 +131,9 @@ IsCaused (reached.Fault f) UsedUp old new =
 abbrev pub Causes : Reached → Reached → Type 0 → Reader → Reader → Type 0
 Causes reached.Open now UsedUp old new = IsCaused now UsedUp old new
 Causes before now UsedUp old new = (now ≡ before) × (new ≡ old)
+
+-- What is answered, where no message waits, once the stream has ended or met a fault: that, again and again.
+abbrev pub Repeats : Reached → Result (Option Message) Fault → Type 0
+Repeats reached.Open r = Unit {0}
+Repeats reached.End r = r ≡ Ok None
+Repeats (reached.Fault f) r = r ≡ Err f

@@ -6,7 +6,7 @@ ghost use Rattle.fast_template.specs.TemplateSets.{templates_in};
 ghost use Rattle.fast_stream.specs.Nodes.{Content};
 ghost use Rattle.fast_walk.specs.Traversals.{ServesAll};
 ghost use Rattle.fast_machine.specs.Following.{mode_of};
-ghost use Rattle.fast_decoder.specs.Inputs.{Causes, Follows, HasReached, IsCaused, IsFaultOf, OnFault, Reads, Stands, Tells, answered_in, reader_by, waiting_in};
+ghost use Rattle.fast_decoder.specs.Inputs.{Causes, Follows, HasReached, IsCaused, IsFaultOf, OnFault, Reads, Repeats, Stands, Tells, answered_in, reader_by, waiting_in};
 
 use crate::decoder::Decoder;
 use fast_dictionary::Entries;
@@ -179,6 +179,8 @@ impl<'a, R: ByteInput, E: Entries> MessageInputStream<'a, R, E> {
         ensures open { self.old.reached ≡ Reached.Open → IsFaultOf Cause.Turns self.new.reached }
         ensures closed { self.old.reached ≢ Reached.Open → self.new ≡ self.old }
         ensures message { answered_in result ≡ [] }
+        ensures again { Repeats self.old.reached result }
+        ensures waiting { self.new.waiting.items ≡ [] }
         ensures end { OnOk result (self.new.reached ≡ Reached.End) }
         ensures fault { IfErr result (λ f. self.new.reached ≡ Reached.Fault f) }
         ensures reader { self.new.reader ≡ self.old.reader }
@@ -228,6 +230,9 @@ impl<'a, R: ByteInput, E: Entries> MessageInputStream<'a, R, E> {
             (reader_by R.left R.calls R.errors R.ends self.new.reader)) }
         ensures end { result ≡ Ok None → self.new.reached ≡ Reached.End }
         ensures fault { IfErr result (λ f. self.new.reached ≡ Reached.Fault f) }
+        // with none or a fault no message waits, and the next call answers the same
+        ensures none_waits { answered_in result ≡ [] → self.new.waiting.items ≡ [] }
+        ensures again { self.old.waiting.items ≡ [] → Repeats self.old.reached result }
         ensures closed { self.old.reached ≢ Reached.Open → self.old.waiting.items ≡ []
             → (self.new.reached ≡ self.old.reached) × (self.new.waiting.items ≡ [])
             × (self.new.decoder ≡ self.old.decoder) × (self.new.reader ≡ self.old.reader) }

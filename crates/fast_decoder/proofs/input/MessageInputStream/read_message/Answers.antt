@@ -1,7 +1,7 @@
 use Rattle.std.proofs.Common.{◌≡◌, ◌++◌, ◌+◌, [], List, length, refl, sym, ap, ◌∙◌, subst, arith, rules, append_assoc, append-nil}
 use Rattle.fast_stream.specs.declared.message.Message.{Message}
 use Rattle.fast_decoder.specs.Inputs.{Stands, reader_by}
-use Rattle.fast_decoder.proofs.Inputs.{causes_end, causes_none, causes_on, causes_weaker, empty_of, more_read, none_read, stands_popped}
+use Rattle.fast_decoder.proofs.Inputs.{causes_end, causes_none, causes_on, causes_weaker, empty_of, more_read, none_read, repeats_kept, repeats_open, stands_popped}
 use Rattle.fast_decoder.proofs.input.MessageInputStream.read_message.Goals as goal
 
 pub reads-init : goal.reads-init
@@ -87,3 +87,14 @@ returns-in-None-clause-closed g c = λ shut none.
       ap (λ x. x.decoder) stays ∙ ap (λ x. x.decoder) same,
       ap (λ x. x.reader) stays ∙ ap (λ x. x.reader) same,
     )
+
+pub returns-in-None-clause-again : goal.returns-in-None-clause-again
+returns-in-None-clause-again g c = λ none.
+    repeats_kept c.args.self.now.reached c.reads.self.reached c.outcome.result (λ shut. ap (λ x. x.reached) (c.reads.invariant.closed shut)) c.outcome.ensures.again
+
+pub returns-in-None-clause-none_waits : goal.returns-in-None-clause-none_waits
+returns-in-None-clause-none_waits g c = λ none. c.outcome.ensures.waiting
+
+pub returns-in-Some-clause-again : goal.returns-in-Some-clause-again
+returns-in-Some-clause-again g c = λ none.
+    repeats_open c.args.self.now.reached _ (λ shut. let same = ap (λ x. x.waiting.items) (c.reads.invariant.closed shut) ∙ none in let some = c.in-Some.ensures.items in search rules)
