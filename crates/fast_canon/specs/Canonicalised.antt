@@ -78,7 +78,7 @@ Canonicalises mode set turns left taken_old taken_new input (Err f) = Breaks mod
 
 -- an answer has its cause in the counts of the reader
 abbrev pub IsCausedBy : Result Summary CanonFault → Type 0 → Reader → Reader → Type 0
-IsCausedBy (Ok summary) UsedUp old new = new.ends ≡ counted old.ends
+IsCausedBy (Ok summary) UsedUp old new = (new.ends ≡ counted old.ends) × (new.errors ≡ old.errors)
 IsCausedBy (Err (refusal.Stream fault)) UsedUp old new = IsCaused (reached.Fault fault) UsedUp old new
 IsCausedBy (Err f) UsedUp old new = Unit {0}
 

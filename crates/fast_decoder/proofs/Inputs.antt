@@ -183,10 +183,10 @@ cause_is c is P Q p = ((λ e. absurd (read_not (sym e ∙ is))), (λ e. p), (λ 
     turns_not e = absurd cc
 
 pub caused_by_end : (at : Reached) (mode : Mode) (set : List Resolved) (turns : ℕ) (left : Option (List ℕ)) (bytes : List ℕ) (messages : List Content) (old new : Reader) → HasReached at ⊥ mode set turns left bytes messages
-    → OnFault at (λ c. c ≡ cause.Truncated) → new.ends ≡ counted old.ends → IsCaused at ⊥ old new
-caused_by_end reached.Open mode set turns left bytes messages old new h of met = absurd h
-caused_by_end reached.End mode set turns left bytes messages old new h of met = met
-caused_by_end (reached.Fault f) mode set turns left bytes messages old new h of met =
+    → OnFault at (λ c. c ≡ cause.Truncated) → new.ends ≡ counted old.ends → new.errors ≡ old.errors → IsCaused at ⊥ old new
+caused_by_end reached.Open mode set turns left bytes messages old new h of met none = absurd h
+caused_by_end reached.End mode set turns left bytes messages old new h of met none = (met, none)
+caused_by_end (reached.Fault f) mode set turns left bytes messages old new h of met none =
     let c = cause_is f.cause of (new.ends ≡ counted old.ends) (new.errors ≡ counted old.errors) met in (c.0, c.1, (λ e. absurd (c.2 e)))
 
 pub caused_by_read : (f : Fault) (old new : Reader) → f.cause ≡ cause.Read → new.errors ≡ counted old.errors → IsCaused (reached.Fault f) ⊥ old new
@@ -250,7 +250,7 @@ causes_none (reached.Fault f) a = (refl, refl)
 
 caused_from : (at : Reached) (a b c : Reader) → b.errors ≡ a.errors → b.ends ≡ a.ends → IsCaused at ⊥ b c → IsCaused at ⊥ a c
 caused_from reached.Open a b c same none h = (h.0 ∙ same, h.1 ∙ none)
-caused_from reached.End a b c same none h = h ∙ ap counted none
+caused_from reached.End a b c same none h = (h.0 ∙ ap counted none, h.1 ∙ same)
 caused_from (reached.Fault f) a b c same none h = ((λ e. h.0 e ∙ ap counted same), (λ e. h.1 e ∙ ap counted none), (λ e. ((h.2 e).0, (h.2 e).1 ∙ none)))
 
 pub causes_on : (before now next : Reached) (a b c : Reader) → now ≡ reached.Open → Causes before now ⊥ a b → IsCaused next ⊥ b c → Causes before next ⊥ a c

@@ -119,10 +119,10 @@ Tells (Ok None) mode set turns left bytes answered = EndsWith mode set left byte
 Tells (Err f) mode set turns left bytes answered = Refuses mode set turns left bytes answered f
 
 -- What the counts of a reader show of a stream that was open: none failed or met the end while it is open; and there
--- is a cause where it is not: a failed read, one that met the end, or all reads made of which none met it.
+-- is a cause where it is not: a failed read, one that met the end with none that failed, or all reads made of which none met it.
 abbrev pub IsCaused : Reached → Type 0 → Reader → Reader → Type 0
 IsCaused reached.Open UsedUp old new = (new.errors ≡ old.errors) × (new.ends ≡ old.ends)
-IsCaused reached.End UsedUp old new = new.ends ≡ counted old.ends
+IsCaused reached.End UsedUp old new = (new.ends ≡ counted old.ends) × (new.errors ≡ old.errors)
 IsCaused (reached.Fault f) UsedUp old new =
     (f.cause ≡ cause.Read → new.errors ≡ counted old.errors) × (f.cause ≡ cause.Truncated → new.ends ≡ counted old.ends)
     × (f.cause ≡ cause.Turns → UsedUp × (new.ends ≡ old.ends))

@@ -8,7 +8,7 @@ mod encoder;
 mod fault;
 mod journal;
 mod judge;
-mod laws;
+pub mod laws;
 mod message;
 mod nodes;
 mod output;

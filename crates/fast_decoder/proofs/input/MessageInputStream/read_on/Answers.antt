@@ -16,7 +16,7 @@ returns-in-Ok-eq0-clause-read g c =
       λ bytes answered stands.
           let at = rw (c.requires.reached) at stands in
           let f = c.end-self.ensures.follows bytes (answered ++ waiting_in old.waiting.items) old.turns (g.R.ByteInput.left c.pull.new.self) at.0 (p.bytes.2 zero (omega arith)) in
-          (rw (append-nil bytes) (reached_with _ _ _ _ _ _ _ _ _ (λ none. absurd none) f.0), caused_by_end _ _ _ _ _ _ _ a b f.0 f.1 (p.end.0 zero (omega arith))),
+          (rw (append-nil bytes) (reached_with _ _ _ _ _ _ _ _ _ (λ none. absurd none) f.0), caused_by_end _ _ _ _ _ _ _ a b f.0 f.1 (p.end.0 zero (omega arith)) p.error),
     )
 
 pub returns-in-Ok-clause-read : goal.returns-in-Ok-clause-read
