@@ -2,3 +2,4 @@ pub mod OpenSegments
 pub mod Received
 pub mod Walks
 pub mod Traversals
+pub mod Passing

@@ -17,6 +17,6 @@ mod walk;
 
 pub use halt::{Halt, wire_cause};
 pub use output::Output;
-pub use receiver::Receiver;
+pub use receiver::{Fields, Receiver};
 pub use traversal::{Stage, Traversal};
 pub use walk::{Frame, Inside, Next, Sequel, Walk};

@@ -1,23 +1,38 @@
 //! What receives the fields of a message.
 
-ghost use Rattle.std.specs.Prelude.{◌≡◌, ◌≢◌, ◌≤◌, ◌<◌, ◌++◌, ◌∷◌, [], ℕ, ℤ, Bool, true, false, List, Option, Some, None, IfOk, IfErr, OnOk, OnErr, IsTrue, Err, length, drop};
+ghost use Rattle.std.specs.Prelude.{◌≡◌, ◌≢◌, ◌≤◌, ◌<◌, ◌++◌, ◌∷◌, [], ℕ, ℤ, Bool, true, false, List, Option, Some, None, IsSome, IfOk, IfErr, OnOk, OnErr, IsTrue, Err, length, drop};
 ghost use Rattle.fast_value.specs.declared.scalar.Scalar.{Scalar as ScalarOf};
 ghost use Rattle.fast_value.specs.declared.scalar.Scalar.TheVariants.{U32, I64, Decimal};
 ghost use Rattle.fast_template.specs.declared.resolved.FieldPart.{FieldPart as PartOf};
 ghost use Rattle.fast_value.specs.declared.kind.Presence.{Presence as PresenceOf};
-ghost use Rattle.fast_template.specs.Resolved.{Instructions, Resolved, whole_field, field_in_parts, group_of, sequence_of, no_instructions, then_instruction, has_map, is_optional, part_needs_bit};
+ghost use Rattle.fast_template.specs.Resolved.{Instructions, Resolved, list_of, whole_field, field_in_parts, group_of, sequence_of, no_instructions, then_instruction, has_map, is_optional, part_needs_bit};
 ghost use Rattle.fast_dictionary.specs.Dictionary.{Dictionary, entry_at};
 ghost use Rattle.fast_field.specs.FieldReading.{field_at};
 ghost use Rattle.fast_stream.specs.Nodes.{single, items_of, nodes_in, node_limit, Content};
 ghost use Rattle.fast_stream.specs.Streams.{members_of};
 ghost use Rattle.fast_walk.specs.OpenSegments.{Sequel, Waiting, at_instruction, at_mantissa, at_element, in_group, in_sequence};
 ghost use Rattle.fast_walk.specs.Received.{Received, Took, IsExponent, after_exponent, after_length, after_sequence, content_received, ended_in, entered, in_element, length_of, opened, passed};
+ghost use Rattle.fast_walk.specs.Walks.{AreServed, IsNextServed};
+ghost use Rattle.fast_walk.specs.Passing.{Passes, next_behind};
 
 use fast_dictionary::Entries;
 use fast_field::FieldFault;
-use fast_template::{FieldPart, Name, Presence};
-use fast_wire::Level;
+use fast_template::{FieldPart, Flat, Name, Presence};
+use fast_wire::{Bits, Level};
 use std::alloc::{AllocError, Global};
+
+/// Where a receiver stands behind the fields that it took from the front of a body.
+#[derive(Clone, Copy)]
+pub struct Fields<'a> {
+    /// The mantissa that is next, where the last exponent is there.
+    pub mantissa: Option<&'a FieldPart>,
+    /// The instructions that are left, behind it.
+    pub rest: &'a [Flat],
+    /// How many nodes may still come.
+    pub spare: u32,
+    /// The place in the bytes.
+    pub place: usize,
+}
 
 /// Receives the fields of messages, and takes each from the bytes itself.
 ///
@@ -114,6 +129,43 @@ pub trait Receiver: Drop {
         ensures keeps { (set : List Resolved) (ms : List Content) (d : Dictionary)
             → keeps self.old set ms d → keeps self.new set ms d }
         ensures same_keys { E.serves entries.new ≡ E.serves entries.old };
+
+    /// Takes fields from the front of the open body, with their bits and nodes: as many as it likes, and none by itself.
+    /// What it leaves comes by the other calls, a fault too.
+    fn fields<'a, E: Entries>(
+        &mut self,
+        alloc: Global,
+        entries: &mut E,
+        rest: &'a [Flat],
+        bits: &mut Bits,
+        spare: u32,
+        level: Level,
+        bytes: &[u8],
+        at: usize,
+    ) -> Result<Fields<'a>, AllocError>
+        requires place { at ≤ length bytes.now }
+        requires served { AreServed (E.serves entries.now) (list_of rest.now) }
+        ensures place { IfOk result (λ f. (at ≤ f.place) × (f.place ≤ length bytes.now)) }
+        ensures few { IfOk result (λ f. f.spare ≤ spare) }
+        ensures fewer { IfOk result (λ f. IsSome f.mantissa → f.spare < spare) }
+        ensures served { IfOk result (λ f. AreServed (E.serves entries.old) (list_of f.rest.now)
+            × IsNextServed (E.serves entries.old) (next_behind f.mantissa)) }
+        ensures goes { IfOk result (λ f. (o : Received) → o.next ≡ at_instruction
+            → o.body.rest ≡ list_of rest.now → has self.old o (E.contents entries.old)
+            → Passes level (λ p. has self.new p (E.contents entries.new)) o (next_behind f.mantissa)
+            (list_of f.rest.now) (E.contents entries.old) bits.old spare (drop at bytes.now)
+            (E.contents entries.new) bits.new f.spare (drop f.place bytes.now)) }
+        ensures keeps { (set : List Resolved) (ms : List Content) (d : Dictionary)
+            → keeps self.old set ms d → keeps self.new set ms d }
+        ensures same_keys { E.serves entries.new ≡ E.serves entries.old }
+    {
+        Ok(Fields {
+            mantissa: None,
+            rest,
+            spare,
+            place: at,
+        })
+    }
 
     /// Takes the exponent of a decimal in parts; answers whether it is there, and the place behind it.
     fn exponent<E: Entries>(

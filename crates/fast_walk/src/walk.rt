@@ -1,6 +1,6 @@
 //! A walk through the open segments of a message, without its items.
 
-ghost use Rattle.std.specs.Prelude.{◌≡◌, ◌≢◌, ◌≤◌, ◌<◌, ◌++◌, ◌∷◌, ◌-◌, ◌+◌, [], ℕ, Bool, true, false, List, IfOk, IfErr, OnOk, length, drop, map};
+ghost use Rattle.std.specs.Prelude.{◌≡◌, ◌≢◌, ◌≤◌, ◌<◌, ◌++◌, ◌∷◌, ◌-◌, ◌+◌, [], ℕ, Bool, true, false, List, Option, IsSome, ◌⊎◌, IfOk, IfErr, OnOk, length, drop, map};
 ghost use Rattle.fast_value.specs.declared.key.Key as key_type;
 ghost use Rattle.fast_template.specs.Resolved.{Resolved, list_of, then_instruction, no_instructions, whole_field, field_in_parts, group_of, sequence_of, is_optional as is_optional_of};
 ghost use Rattle.fast_dictionary.specs.Dictionary.{Dictionary};
@@ -11,6 +11,8 @@ ghost use Rattle.fast_stream.specs.Faults.{cause_of_field};
 ghost use Rattle.fast_stream.specs.Reading.{node_at, stopped};
 ghost use Rattle.fast_walk.specs.OpenSegments.{Waiting, at_instruction, cursor, fewer, in_sequence};
 ghost use Rattle.fast_walk.specs.Received.{Received, ended_in};
+ghost use Rattle.fast_walk.specs.Passing.{next_behind};
+ghost use Rattle.fast_walk.specs.Walks.{next_of, weight_of};
 
 use crate::bits::{first_for, judge_left, read_own_map, take_for};
 use crate::halt::{Halt, field_cause};
@@ -86,6 +88,19 @@ fn is_optional(presence: Presence) -> bool
     ensures { result ≡ is_optional_of presence }
 {
     presence == Presence::Optional
+}
+
+// The piece that is next behind fields.
+#[inline(always)]
+fn next_piece<'a>(mantissa: Option<&'a FieldPart>) -> Next<'a>
+    ensures next { next_of result ≡ next_behind mantissa.entry }
+    ensures weight { weight_of result ≤ 2 }
+    ensures none { IsSome mantissa.entry ⊎ (weight_of result ≡ 1) }
+{
+    match mantissa {
+        None => Next::Instruction,
+        Some(mantissa) => Next::Mantissa(mantissa),
+    }
 }
 
 impl<'a> Walk<'a> {
@@ -793,6 +808,90 @@ impl<'a> Walk<'a> {
         }
     }
 
+    // Takes the fields that are next, as many as the receiver likes.
+    #[inline(always)]
+    fn fields<L: Leveled, R: Receiver, E: Entries>(
+        &mut self,
+        level: L,
+        alloc: Global,
+        receiver: &mut R,
+        entries: &mut E,
+        bytes: &[u8],
+        at: usize,
+    ) -> Result<usize, AllocError>
+        requires place { at ≤ length bytes.now }
+        requires ready { IsReady (E.serves entries.now) self.now }
+        ensures place { IfOk result (λ n. (at ≤ n) × (n ≤ length bytes.now)) }
+        ensures goes { IfOk result (λ n. Moves L.at R.has self.old receiver.old (E.contents entries.old)
+            self.new receiver.new (E.contents entries.new) (drop at bytes.now) (drop n bytes.now)) }
+        ensures ready { OnOk result (IsReady (E.serves entries.old) self.new) }
+        ensures keeps { (set : List Resolved) (ms : List Content) (d : Dictionary)
+            → R.keeps receiver.old set ms d → R.keeps receiver.new set ms d }
+        ensures same_keys { E.serves entries.new ≡ E.serves entries.old }
+        ensures rank { OnOk result (rank_of self.new ≤ rank_of self.old) }
+    {
+        match self.next {
+            Next::Instruction => {
+                match receiver.fields(
+                    alloc,
+                    entries,
+                    self.rest,
+                    &mut self.bits,
+                    self.spare,
+                    level.level(),
+                    bytes,
+                    at,
+                ) {
+                    Err(error) => Err(error),
+                    Ok(fields) => {
+                        self.rest = fields.rest;
+                        self.spare = fields.spare;
+                        self.next = next_piece(fields.mantissa);
+                        Ok(fields.place)
+                    }
+                }
+            }
+            Next::Mantissa(_) | Next::Element(_) => Ok(at),
+        }
+    }
+
+    // Takes the next piece, or ends a segment, and then the fields behind it.
+    #[inline(always)]
+    fn turn<L: Leveled, R: Receiver, E: Entries>(
+        &mut self,
+        level: L,
+        alloc: Global,
+        receiver: &mut R,
+        entries: &mut E,
+        bytes: &[u8],
+        at: usize,
+    ) -> Result<usize, Halt>
+        requires inside { IsInside self.now }
+        requires place { at ≤ length bytes.now }
+        requires ready { IsReady (E.serves entries.now) self.now }
+        ensures place { IfOk result (λ n. (at ≤ n) × (n ≤ length bytes.now)) }
+        ensures goes { IfOk result (λ n. Moves L.at R.has self.old receiver.old (E.contents entries.old)
+            self.new receiver.new (E.contents entries.new) (drop at bytes.now) (drop n bytes.now)) }
+        ensures stops { IfErr result (λ h. h.cause ≢ Cause.Memory
+            → HaltsAs L.at self.old (E.contents entries.old) (drop at bytes.now) h) }
+        ensures waits { IfErr result (λ h. h.cause ≢ Cause.Memory
+            → (self.new ≡ self.old) × (E.contents entries.new ≡ E.contents entries.old)
+            × ((o : Received) (d : Dictionary) → R.has receiver.old o d → R.has receiver.new o d)) }
+        ensures ready { OnOk result (IsReady (E.serves entries.old) self.new) }
+        ensures keeps { (set : List Resolved) (ms : List Content) (d : Dictionary)
+            → R.keeps receiver.old set ms d → R.keeps receiver.new set ms d }
+        ensures same_keys { E.serves entries.new ≡ E.serves entries.old }
+        ensures rank { OnOk result (rank_of self.new < rank_of self.old) }
+    {
+        match self.step(level, alloc, receiver, entries, bytes, at) {
+            Err(halt) => Err(halt),
+            Ok(next) => match self.fields(level, alloc, receiver, entries, bytes, next) {
+                Err(error) => Err(Halt::from(error)),
+                Ok(place) => Ok(place),
+            },
+        }
+    }
+
     // Takes what is left of the message at a level that is known where the program is made.
     fn run_leveled<L: Leveled, R: Receiver, E: Entries>(
         &mut self,
@@ -821,9 +920,12 @@ impl<'a> Walk<'a> {
             → R.keeps receiver.old set ms d → R.keeps receiver.new set ms d }
         ensures same_keys { E.serves entries.new ≡ E.serves entries.old }
     {
-        let mut place = at;
+        let mut place = match self.fields(level, alloc, receiver, entries, bytes, at) {
+            Err(error) => return Err((at, Halt::from(error))),
+            Ok(next) => next,
+        };
         'pieces: while !self.is_whole() {
-            match self.step(level, alloc, receiver, entries, bytes, place) {
+            match self.turn(level, alloc, receiver, entries, bytes, place) {
                 Ok(next) => place = next,
                 Err(halt) => return Err((place, halt)),
             }

@@ -7,3 +7,4 @@ mod QuickWays
 pub mod Relays
 pub mod Writers
 mod Rooms
+pub mod Takings

@@ -2,3 +2,4 @@ pub mod Canonical
 pub mod Written
 pub mod Quick
 pub mod Levels
+pub mod Takings

@@ -7,6 +7,7 @@
 #![tactic(auto)]
 
 mod count;
+mod fields;
 mod fit;
 mod laws;
 mod quick;

@@ -85,7 +85,7 @@ fn relay_long(
 // Takes what bit 0 gives, or what was sent where it is read as at the usual level; answers whether its value is there, the bit of its best
 // form, and the place behind it. None: nothing has changed, and the part goes another way.
 #[inline(always)]
-fn relay_quickly(
+pub(crate) fn relay_quickly(
     alloc: Global,
     part: &FieldPart,
     entry: &mut Entry,

@@ -1,14 +1,15 @@
 //! Writes the canonical bytes of messages as they are read.
 
 use crate::count::relay_count;
+use crate::fields::take_fields;
 use crate::fit::is_identifier;
 use crate::quick::relay_part;
 use crate::segment::Segment;
 use fast_dictionary::Entries;
 use fast_field::FieldFault;
-use fast_template::{FieldPart, Kind, Name, Presence};
-use fast_walk::{Output, Receiver};
-use fast_wire::Level;
+use fast_template::{FieldPart, Flat, Kind, Name, Presence};
+use fast_walk::{Fields, Output, Receiver};
+use fast_wire::{Bits, Level};
 use std::alloc::{AllocError, Global};
 use std::mem;
 
@@ -173,6 +174,34 @@ impl Receiver for Writer {
         match relay_part(alloc, entries, part, bit, level, bytes, at, &mut self.inner) {
             Err(fault) => Err(fault),
             Ok((_there, next)) => Ok(next),
+        }
+    }
+
+    #[inline(always)]
+    fn fields<'a, E: Entries>(
+        &mut self,
+        alloc: Global,
+        entries: &mut E,
+        rest: &'a [Flat],
+        bits: &mut Bits,
+        spare: u32,
+        level: Level,
+        bytes: &[u8],
+        at: usize,
+    ) -> Result<Fields<'a>, AllocError> {
+        match take_fields(
+            alloc,
+            entries,
+            rest,
+            bits,
+            spare,
+            level,
+            bytes,
+            at,
+            &mut self.inner,
+        ) {
+            Err(error) => Err(error),
+            Ok(fields) => Ok(fields),
         }
     }
 

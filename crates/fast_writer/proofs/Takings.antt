@@ -1,0 +1,180 @@
+-- Fields that are taken one after the other into the segment that is open.
+use Rattle.std.proofs.Common.{◌≡◌, ◌<◌, ◌≤◌, ◌-◌, ◌+◌, ℕ, ℤ, pos, Bool, true, false, List, [], ◌++◌, Option, Some, None, drop, refl, sym, ap, subst, ◌∙◌, arith}
+use Rattle.std.specs.Option.{is_some}
+use Rattle.std.specs.Prelude.{IsSome}
+use Rattle.std.specs.Borrow.{Bor}
+use Rattle.fast_value.specs.declared.scalar.Scalar.{Scalar}
+use Rattle.fast_value.specs.declared.scalar.Scalar.TheVariants.{I64, Decimal}
+use Rattle.fast_value.specs.declared.kind.Presence.{Presence}
+use Rattle.fast_template.specs.declared.resolved.FieldPart.{FieldPart}
+use Rattle.fast_template.specs.declared.resolved.Flat.{Flat}
+use Rattle.fast_template.specs.Resolved.{Instructions, whole_field, field_in_parts, then_instruction, list_of, part_needs_bit}
+use Rattle.fast_dictionary.specs.Dictionary.{Dictionary, entry_at}
+use Rattle.fast_wire.specs.declared.level.Level.{Level}
+use Rattle.fast_stream.specs.Nodes.{single}
+use Rattle.fast_stream.specs.Bits.{bit_for, after_bit}
+use Rattle.fast_walk.specs.declared.receiver.Fields.{Fields}
+use Rattle.fast_walk.specs.OpenSegments.{Next, at_instruction, at_mantissa, cursor}
+use Rattle.fast_walk.specs.Received.{Received, Took, moved, passed, exponent_of}
+use Rattle.fast_walk.specs.Passing.{Passes, next_behind}
+use Rattle.fast_walk.proofs.Steps.{count_goes, part_goes}
+use Rattle.fast_walk.proofs.Walking.{field_on, exponent_on, no_exponent_on, mantissa_on_goes, is_instruction, is_mantissa}
+use Rattle.fast_writer.specs.Written.{Segment, IsOpened, Spelt}
+use Rattle.fast_writer.specs.Takings.{Takes, counted}
+use Rattle.fast_writer.proofs.Writers.{has_field, has_exponent, has_mantissa}
+
+-- a mantissa that is next is counted
+pub some_counted : (m : Option (Bor FieldPart)) (spare : ℕ) → IsSome m → counted m spare ≡ spare + 1
+some_counted None spare h = absurd cc
+some_counted (Some m) spare h = refl
+
+pub at_least : (m : Option (Bor FieldPart)) (spare : ℕ) → spare ≤ counted m spare
+at_least None spare = omega arith
+at_least (Some m) spare = omega arith
+
+-- what is next behind the exponent of a decimal in parts, whether it is there
+abbrev pub behind_exponent : Bool → FieldPart → Next
+behind_exponent true q = at_mantissa (pos 0) q
+behind_exponent false q = at_instruction
+
+-- of another receiver
+pub passes_with : (level : Level) (Has Had : Received → Type 0) (o : Received) (next : Next) (left : Instructions) (d e : Dictionary) (bits later : List Bool) (spare fewer : ℕ) (bytes rest : List ℕ)
+    → ((p : Received) → p.set ≡ o.set → p.before ≡ o.before → p.start ≡ o.start → Has p → Had p)
+    → Passes level Has o next left d bits spare bytes e later fewer rest → Passes level Had o next left d bits spare bytes e later fewer rest
+passes_with level Has Had o next left d e bits later spare fewer bytes rest f p = record {
+  received = p.received;
+  has = f p.received p.same.set p.same.before p.same.start p.has;
+  same = p.same;
+  around = p.around;
+  next_is = p.next_is;
+  left_is = p.left_is;
+  reads = p.reads;
+}
+
+module _ (level : Level) (bytes : List ℕ) where
+  -- where nothing was taken
+  pub takes_none : (l : Segment) (d : Dictionary) (bits : List Bool) (f : Fields) → Takes level bytes l d bits f l d bits f
+  takes_none l d bits f outer o next first opened = record {
+    received = o;
+    has = opened;
+    same = record { set = refl; before = refl; template = refl; members = refl; start = refl };
+    around = refl;
+    next_is = next;
+    left_is = first;
+    reads = λ more. refl;
+  }
+
+  pub takes_same : (l k : Segment) (d e : Dictionary) (bits later : List Bool) (f : Fields) → e ≡ d → k ≡ l → later ≡ bits → Takes level bytes l d bits f k e later f
+  takes_same l k d e bits later f entries segment map = rw (entries, segment, map) (takes_none l d bits f)
+
+  -- one behind the other
+  pub takes_on : (l k j : Segment) (d e c : Dictionary) (bits later last : List Bool) (f g h : Fields) → Takes level bytes l d bits f k e later g → Takes level bytes k e later g j c last h → Takes level bytes l d bits f j c last h
+  takes_on l k j d e c bits later last f g h one two outer o next first opened =
+      let p = one outer o next first opened in
+      let q = two outer p.received p.next_is p.left_is p.has in
+      record {
+        received = q.received;
+        has = q.has;
+        same = record {
+          set = q.same.set ∙ p.same.set;
+          before = q.same.before ∙ p.same.before;
+          template = q.same.template ∙ p.same.template;
+          members = q.same.members ∙ p.same.members;
+          start = q.same.start ∙ p.same.start;
+        };
+        around = q.around ∙ p.around;
+        next_is = q.next_is;
+        left_is = q.left_is;
+        reads = λ more. p.reads more ∙ q.reads more;
+      }
+
+  -- a field
+  pub takes_field : (l k : Segment) (d e : Dictionary) (bits later : List Bool) (f g : Fields) (name : List ℕ) (number : ℕ) (presence : Presence) (p : FieldPart) (is : Instructions) (v : Option Scalar) (next : ℕ)
+      → f.mantissa ≡ None → list_of f.rest.now ≡ then_instruction (whole_field name number presence p) is → g.mantissa ≡ None → list_of g.rest.now ≡ is → g.spare + 1 ≡ f.spare → g.place ≡ next
+      → Took level p (bit_for (part_needs_bit p) bits) d e v (drop f.place bytes) (drop next bytes) → Spelt p (entry_at d p.key) v l k → later ≡ after_bit (part_needs_bit p) bits
+      → Takes level bytes l d bits f k e later g
+  takes_field l k d e bits later f g name number presence p is v next none first none_behind rest spare place took spelt map outer o at left opened =
+      let here = is_instruction o.next (at ∙ ap next_behind none) in
+      let begins = left ∙ first in
+      let less : f.spare - 1 ≡ g.spare = omega (arith, spare) in
+      record {
+        received = passed o is (single v);
+        has = has_field outer l k o name number presence p is d e v here begins took.entry spelt opened;
+        same = record { set = refl; before = refl; template = refl; members = refl; start = refl };
+        around = refl;
+        next_is = sym (ap next_behind none_behind);
+        left_is = sym rest;
+        reads = λ more.
+            rw (map, took.entry, sym less, place)
+            (field_on level [] o.next o.body name number presence p is (cursor d bits f.spare (drop f.place bytes ++ more)) (cursor d bits (f.spare - 1) (drop f.place bytes ++ more)) _ v here begins
+            (count_goes number f.spare d bits (drop f.place bytes ++ more) (omega (arith, spare)))
+            (part_goes level p d bits (f.spare - 1) (drop f.place bytes ++ more) (drop next bytes ++ more) v (took.value more)));
+      }
+
+  -- the exponent of a decimal in parts
+  exponent_passes : (z : Option ℤ) (there : Bool) (l k : Segment) (d e : Dictionary) (bits later : List Bool) (f g : Fields) (name : List ℕ) (number : ℕ) (presence : Presence) (p q : FieldPart) (is : Instructions) (next : ℕ)
+      → is_some z ≡ there → list_of f.rest.now ≡ then_instruction (field_in_parts name number presence p q) is → next_behind g.mantissa ≡ behind_exponent there q → list_of g.rest.now ≡ is → g.spare + 1 ≡ f.spare → g.place ≡ next
+      → Took level p (bit_for (part_needs_bit p) bits) d e (exponent_of z) (drop f.place bytes) (drop next bytes) → Spelt p (entry_at d p.key) (exponent_of z) l k → later ≡ after_bit (part_needs_bit p) bits
+      → (outer : List Segment) (o : Received) → o.next ≡ at_instruction → o.body.rest ≡ list_of f.rest.now → IsOpened outer l o d
+      → Passes level (λ r. IsOpened outer k r e) o (next_behind g.mantissa) (list_of g.rest.now) d bits f.spare (drop f.place bytes) e later g.spare (drop g.place bytes)
+  exponent_passes None true l k d e bits later f g name number presence p q is next some first behind rest spare place took spelt map outer o here left opened = absurd cc
+  exponent_passes (Some z) false l k d e bits later f g name number presence p q is next some first behind rest spare place took spelt map outer o here left opened = absurd cc
+  exponent_passes None false l k d e bits later f g name number presence p q is next some first behind rest spare place took spelt map outer o here left opened =
+      let begins = left ∙ first in
+      let less : f.spare - 1 ≡ g.spare = omega (arith, spare) in
+      record {
+        received = passed o is (single None);
+        has = has_exponent None outer l k o name number presence p q is d e here begins took.entry spelt opened;
+        same = record { set = refl; before = refl; template = refl; members = refl; start = refl };
+        around = refl;
+        next_is = sym behind;
+        left_is = sym rest;
+        reads = λ more.
+            rw (map, took.entry, sym less, place)
+            (no_exponent_on level [] o.next o.body name number presence p q is (cursor d bits f.spare (drop f.place bytes ++ more)) (cursor d bits (f.spare - 1) (drop f.place bytes ++ more)) _ None here begins refl
+            (count_goes number f.spare d bits (drop f.place bytes ++ more) (omega (arith, spare)))
+            (part_goes level p d bits (f.spare - 1) (drop f.place bytes ++ more) (drop next bytes ++ more) None (took.value more)));
+      }
+  exponent_passes (Some z) true l k d e bits later f g name number presence p q is next some first behind rest spare place took spelt map outer o here left opened =
+      let begins = left ∙ first in
+      let less : f.spare - 1 ≡ g.spare = omega (arith, spare) in
+      record {
+        received = moved o (at_mantissa z q) (record { rest = is; done = o.body.done }) o.around;
+        has = has_exponent (Some z) outer l k o name number presence p q is d e here begins took.entry spelt opened;
+        same = record { set = refl; before = refl; template = refl; members = refl; start = refl };
+        around = refl;
+        next_is = sym behind;
+        left_is = sym rest;
+        reads = λ more.
+            rw (map, took.entry, sym less, place)
+            (exponent_on level [] o.next o.body name number presence p q is (cursor d bits f.spare (drop f.place bytes ++ more)) (cursor d bits (f.spare - 1) (drop f.place bytes ++ more)) _ (exponent_of (Some z)) z here begins refl
+            (count_goes number f.spare d bits (drop f.place bytes ++ more) (omega (arith, spare)))
+            (part_goes level p d bits (f.spare - 1) (drop f.place bytes ++ more) (drop next bytes ++ more) (exponent_of (Some z)) (took.value more)));
+      }
+
+  pub takes_exponent : (z : Option ℤ) (there : Bool) (l k : Segment) (d e : Dictionary) (bits later : List Bool) (f g : Fields) (name : List ℕ) (number : ℕ) (presence : Presence) (p q : FieldPart) (is : Instructions) (next : ℕ)
+      → is_some z ≡ there → f.mantissa ≡ None → list_of f.rest.now ≡ then_instruction (field_in_parts name number presence p q) is → next_behind g.mantissa ≡ behind_exponent there q → list_of g.rest.now ≡ is → g.spare + 1 ≡ f.spare → g.place ≡ next
+      → Took level p (bit_for (part_needs_bit p) bits) d e (exponent_of z) (drop f.place bytes) (drop next bytes) → Spelt p (entry_at d p.key) (exponent_of z) l k → later ≡ after_bit (part_needs_bit p) bits
+      → Takes level bytes l d bits f k e later g
+  takes_exponent z there l k d e bits later f g name number presence p q is next some none first behind rest spare place took spelt map outer o at left opened =
+      exponent_passes z there l k d e bits later f g name number presence p q is next some first behind rest spare place took spelt map outer o (is_instruction o.next (at ∙ ap next_behind none)) left opened
+
+  -- the mantissa of a decimal whose exponent is there
+  pub takes_mantissa : (l k : Segment) (d e : Dictionary) (bits later : List Bool) (f g : Fields) (q : Bor FieldPart) (m : ℤ) (next : ℕ)
+      → f.mantissa ≡ Some q → g.mantissa ≡ None → g.rest ≡ f.rest → g.spare ≡ f.spare → g.place ≡ next
+      → Took level q.now (bit_for (part_needs_bit q.now) bits) d e (Some (I64 m)) (drop f.place bytes) (drop next bytes) → Spelt q.now (entry_at d q.now.key) (Some (I64 m)) l k → later ≡ after_bit (part_needs_bit q.now) bits
+      → Takes level bytes l d bits f k e later g
+  takes_mantissa l k d e bits later f g q m next some none rest spare place took spelt map outer o at left opened =
+      let here = is_mantissa o.next (pos 0) q.now (at ∙ ap next_behind some) in
+      record {
+        received = passed o o.body.rest (single (Some (Decimal here.exponent m)));
+        has = has_mantissa outer l k o here.exponent m q.now d e here.is took.entry spelt opened;
+        same = record { set = refl; before = refl; template = refl; members = refl; start = refl };
+        around = refl;
+        next_is = sym (ap next_behind none);
+        left_is = left ∙ sym (ap (λ (r : Bor (List Flat)). list_of r.now) rest);
+        reads = λ more.
+            rw (map, took.entry, spare, place)
+            (mantissa_on_goes level [] o.next here.exponent m q.now o.body (cursor d bits f.spare (drop f.place bytes ++ more)) _ here.is
+            (part_goes level q.now d bits f.spare (drop f.place bytes ++ more) (drop next bytes ++ more) (Some (I64 m)) (took.value more)));
+      }

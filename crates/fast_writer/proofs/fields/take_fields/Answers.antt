@@ -1,0 +1,30 @@
+use Rattle.std.proofs.Common.{None, ◌∙◌, arith, rules}
+use Rattle.fast_walk.specs.declared.receiver.Fields.{Fields}
+use Rattle.fast_writer.specs.Levels.{level_of}
+use Rattle.fast_writer.proofs.Takings.{takes_none, takes_on}
+use Rattle.fast_writer.proofs.fields.take_fields.Goals as goal
+
+pub pieces-preserved : goal.pieces-preserved
+pieces-preserved g c =
+    let d = g.E.Entries.contents c.args.entries.now in
+    let e = g.E.Entries.contents c.pieces.entries in
+    let h = g.E.Entries.contents c.take_piece.new.entries in
+    let from : Fields = record { mantissa = None; rest = c.args.rest; spare = c.args.spare; place = c.args.at } in
+    record {
+      place = search rules;
+      next = rw (c.take_piece.ensures.same_keys) c.in-Ok-true.ensures.next;
+      served = rw (c.take_piece.ensures.same_keys) c.in-Ok-true.ensures.served;
+      counted = search rules;
+      takes = takes_on c.args.level c.args.bytes.now (level_of c.args.segment.now) (level_of c.pieces.segment) (level_of c.take_piece.new.segment) d e h
+          c.args.bits.now c.pieces.bits c.take_piece.new.bits from c.pieces.fields c.take_piece.new.fields c.pieces.invariant.takes c.in-Ok-true.ensures.takes;
+      same_keys = c.take_piece.ensures.same_keys ∙ c.pieces.invariant.same_keys;
+    }
+
+pub returns-in-Ok-false-clause-takes : goal.returns-in-Ok-false-clause-takes
+returns-in-Ok-false-clause-takes g c =
+    let d = g.E.Entries.contents c.args.entries.now in
+    let e = g.E.Entries.contents c.pieces.entries in
+    let h = g.E.Entries.contents c.take_piece.new.entries in
+    let from : Fields = record { mantissa = None; rest = c.args.rest; spare = c.args.spare; place = c.args.at } in
+    takes_on c.args.level c.args.bytes.now (level_of c.args.segment.now) (level_of c.pieces.segment) (level_of c.take_piece.new.segment) d e h
+    c.args.bits.now c.pieces.bits c.take_piece.new.bits from c.pieces.fields c.take_piece.new.fields c.pieces.invariant.takes c.in-Ok-false.ensures.takes

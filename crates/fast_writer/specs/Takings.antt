@@ -1,0 +1,44 @@
+-- Fields that are taken one after the other into the segment that is open.
+use Rattle.std.specs.Prelude.{◌≡◌, ℕ, ◌+◌, Bool, List, Option, Some, None, drop}
+use Rattle.std.specs.Borrow.{Bor}
+use Rattle.fast_template.specs.declared.resolved.FieldPart.{FieldPart}
+use Rattle.fast_template.specs.Resolved.{list_of}
+use Rattle.fast_dictionary.specs.Dictionary.{Dictionary}
+use Rattle.fast_wire.specs.declared.level.Level.{Level}
+use Rattle.fast_walk.specs.declared.receiver.Fields.{Fields}
+use Rattle.fast_walk.specs.Received.{Received}
+use Rattle.fast_walk.specs.Walks.{bare_next}
+use Rattle.fast_walk.specs.Passing.{Passes, next_behind}
+use Rattle.fast_writer.specs.Written.{Segment, IsOpened}
+use Rattle.fast_writer.specs.declared.fields.Taken.{Taken}
+use Rattle.fast_writer.specs.declared.fields.Taken.TheVariants.{Part, Elsewhere, Refused}
+
+-- From one segment, dictionary, map and place to others: whatever is open around it, fields were passed.
+abbrev pub Takes : Level → List ℕ → Segment → Dictionary → List Bool → Fields → Segment → Dictionary → List Bool → Fields → Type 0
+Takes level bytes l d bits f k e later g =
+    (outer : List Segment) (o : Received) → bare_next o.next ≡ next_behind f.mantissa → o.body.rest ≡ list_of f.rest.now → IsOpened outer l o d
+    → Passes level (λ p. IsOpened outer k p e) o (next_behind g.mantissa) (list_of g.rest.now) d bits f.spare (drop f.place bytes) e later g.spare (drop g.place bytes)
+
+-- how many nodes may still come, one more where the mantissa of a decimal is next that is counted
+abbrev pub counted : Option (Bor FieldPart) → ℕ → ℕ
+counted None spare = spare
+counted (Some mantissa) spare = spare + 1
+
+abbrev pub counted_of : Fields → ℕ
+counted_of f = counted f.mantissa f.spare
+
+-- how many parts may still come
+abbrev pub pieces_of : Fields → ℕ
+pieces_of f = f.spare + counted_of f
+
+-- what holds of a part that was taken: whether its value is there, and the place behind it
+abbrev pub IfTaken : Taken → (Bool → ℕ → Type 0) → Type 0
+IfTaken (Part there next) holds = holds there next
+IfTaken Elsewhere holds = Unit {0}
+IfTaken Refused holds = Unit {0}
+
+-- what holds where nothing was done
+abbrev pub IfElsewhere : Taken → Type 0 → Type 0
+IfElsewhere (Part there next) holds = Unit {0}
+IfElsewhere Elsewhere holds = holds
+IfElsewhere Refused holds = Unit {0}

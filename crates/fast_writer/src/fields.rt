@@ -1,0 +1,347 @@
+//! Fields that are taken one after the other, with no call of the walk between them.
+
+ghost use Rattle.std.specs.Prelude.{◌≡◌, ◌≤◌, ◌<◌, ◌+◌, ◌*◌, true, false, Option, Some, None, IsSome, IfOk, OnOk, IsTrue, length, drop};
+ghost use Rattle.fast_template.specs.Resolved.{instruction_of, list_of, part_needs_bit as part_needs_bit_of, then_instruction};
+ghost use Rattle.fast_value.specs.declared.scalar.Scalar.{Scalar as ScalarOf};
+ghost use Rattle.fast_dictionary.specs.Dictionary.{entry_at};
+ghost use Rattle.fast_stream.specs.Bits.{after_bit, bit_for};
+ghost use Rattle.fast_walk.specs.Received.{Took};
+ghost use Rattle.fast_walk.specs.Walks.{AreServed, IsNextServed, IsServed};
+ghost use Rattle.fast_walk.specs.Passing.{next_behind};
+ghost use Rattle.fast_relay.specs.Relayed.{IsThere};
+ghost use Rattle.fast_writer.specs.Levels.{level_of};
+ghost use Rattle.fast_writer.specs.Written.{Spelt};
+ghost use Rattle.fast_writer.specs.Takings.{IfElsewhere, IfTaken, Takes, counted_of, pieces_of};
+
+use crate::quick::relay_quickly;
+use crate::segment::Segment;
+use fast_dictionary::Entries;
+use fast_template::{FieldPart, Flat, Kind, part_needs_bit};
+use fast_walk::Fields;
+use fast_wire::{Bits, Level};
+use std::alloc::{AllocError, Global};
+
+/// What became of a part.
+pub(crate) enum Taken {
+    /// It was taken: whether its value is there, and the place behind it.
+    Part(bool, usize),
+    /// Nothing has changed: another way takes it.
+    Elsewhere,
+    /// Memory was refused.
+    Refused,
+}
+
+// The bit of a part that needs one, or else 1; it stays the next.
+#[inline(always)]
+fn first_for(bits: &Bits, needed: bool) -> bool
+    ensures { result ≡ bit_for needed bits.now }
+{
+    if needed { bits.first() } else { true }
+}
+
+// Takes the bit of a part that needs one.
+#[inline(always)]
+fn take_for(bits: &mut Bits, needed: bool)
+    ensures { bits.new ≡ after_bit needed bits.old }
+{
+    if needed {
+        bits.take();
+    }
+}
+
+// Takes a part and its bit, where the quick way serves.
+#[inline(always)]
+fn take_part<E: Entries>(
+    alloc: Global,
+    entries: &mut E,
+    part: &FieldPart,
+    bits: &mut Bits,
+    level: Level,
+    bytes: &[u8],
+    at: usize,
+    segment: &mut Segment,
+) -> Taken
+    requires place { at ≤ length bytes.now }
+    requires served { IsTrue (E.serves entries.now part.now.key) }
+    ensures place { IfTaken result (λ there next. (at ≤ next) × (next ≤ length bytes.now)) }
+    ensures took { IfTaken result (λ there next. (v : Option ScalarOf)
+        × IsThere part.now.kind there v
+        × Took level part.now (bit_for (part_needs_bit_of part.now) bits.old)
+        (E.contents entries.old) (E.contents entries.new) v
+        (drop at bytes.now) (drop next bytes.now)
+        × Spelt part.now (entry_at (E.contents entries.old) part.now.key) v
+        (level_of segment.old) (level_of segment.new)) }
+    ensures bits { IfTaken result (λ there next.
+        bits.new ≡ after_bit (part_needs_bit_of part.now) bits.old) }
+    ensures nothing { IfElsewhere result ((E.contents entries.new ≡ E.contents entries.old)
+        × (level_of segment.new ≡ level_of segment.old) × (bits.new ≡ bits.old)) }
+    ensures same_keys { E.serves entries.new ≡ E.serves entries.old }
+{
+    let needs = part_needs_bit(part);
+    let bit = first_for(bits, needs);
+    match entries.entry_mut(&part.key) {
+        Err(_) => Taken::Refused,
+        Ok(entry) => match relay_quickly(
+            alloc,
+            part,
+            entry,
+            bit,
+            level,
+            bytes,
+            at,
+            &mut segment.bytes,
+        ) {
+            None => Taken::Elsewhere,
+            Some((there, best, next)) => {
+                take_for(bits, needs);
+                match segment.ask(needs, best) {
+                    Err(_) => Taken::Refused,
+                    Ok(()) => Taken::Part(there, next),
+                }
+            }
+        },
+    }
+}
+
+// Goes on behind the first part of an instruction, whose node is counted.
+#[inline(always)]
+fn pass<'a>(
+    fields: &mut Fields<'a>,
+    mantissa: Option<&'a FieldPart>,
+    others: &'a [Flat],
+    next: usize,
+)
+    requires { 0 < fields.now.spare }
+    ensures mantissa { fields.new.mantissa ≡ mantissa.entry }
+    ensures rest { fields.new.rest ≡ others.entry }
+    ensures spare { fields.new.spare + 1 ≡ fields.old.spare }
+    ensures place { fields.new.place ≡ next }
+{
+    fields.mantissa = mantissa;
+    fields.rest = others;
+    fields.spare -= 1;
+    fields.place = next;
+}
+
+// Takes the mantissa that is next. False: nothing has changed.
+#[inline(always)]
+fn take_mantissa<'a, E: Entries>(
+    fields: &mut Fields<'a>,
+    mantissa: &FieldPart,
+    alloc: Global,
+    entries: &mut E,
+    bits: &mut Bits,
+    level: Level,
+    bytes: &[u8],
+    segment: &mut Segment,
+) -> Result<bool, AllocError>
+    requires place { fields.now.place ≤ length bytes.now }
+    requires next { fields.now.mantissa ≡ Some mantissa }
+    requires served { IsTrue (E.serves entries.now mantissa.now.key) }
+    ensures place { OnOk result ((fields.old.place ≤ fields.new.place)
+        × (fields.new.place ≤ length bytes.now)) }
+    ensures takes { OnOk result (Takes level bytes.now (level_of segment.old)
+        (E.contents entries.old) bits.old fields.old (level_of segment.new)
+        (E.contents entries.new) bits.new fields.new) }
+    ensures rest { fields.new.rest ≡ fields.old.rest }
+    ensures spare { fields.new.spare ≡ fields.old.spare }
+    ensures taken { IfOk result (λ b. b ≡ true → fields.new.mantissa ≡ None) }
+    ensures left { IfOk result (λ b. b ≡ false → fields.new.mantissa ≡ fields.old.mantissa) }
+    ensures same_keys { E.serves entries.new ≡ E.serves entries.old }
+{
+    match mantissa.kind {
+        Kind::Int64 => match take_part(
+            alloc,
+            entries,
+            mantissa,
+            bits,
+            level,
+            bytes,
+            fields.place,
+            segment,
+        ) {
+            Taken::Part(true, next) => {
+                fields.mantissa = None;
+                fields.place = next;
+                Ok(true)
+            }
+            Taken::Elsewhere => Ok(false),
+            Taken::Part(false, _) | Taken::Refused => Err(AllocError),
+        },
+        _ => Ok(false),
+    }
+}
+
+// Takes the instruction that is next, if it is a field, or the exponent of a decimal in parts. False: nothing has changed.
+#[inline(always)]
+fn take_instruction<'a, E: Entries>(
+    fields: &mut Fields<'a>,
+    flat: &'a Flat,
+    others: &'a [Flat],
+    alloc: Global,
+    entries: &mut E,
+    bits: &mut Bits,
+    level: Level,
+    bytes: &[u8],
+    segment: &mut Segment,
+) -> Result<bool, AllocError>
+    requires place { fields.now.place ≤ length bytes.now }
+    requires next { fields.now.mantissa ≡ None }
+    requires spare { 0 < fields.now.spare }
+    requires first { list_of fields.now.rest.now
+        ≡ then_instruction (instruction_of flat.now) (list_of others.now) }
+    requires served { IsServed (E.serves entries.now) (instruction_of flat.now) }
+    requires others { AreServed (E.serves entries.now) (list_of others.now) }
+    ensures place { OnOk result ((fields.old.place ≤ fields.new.place)
+        × (fields.new.place ≤ length bytes.now)) }
+    ensures takes { OnOk result (Takes level bytes.now (level_of segment.old)
+        (E.contents entries.old) bits.old fields.old (level_of segment.new)
+        (E.contents entries.new) bits.new fields.new) }
+    ensures taken { IfOk result (λ b. b ≡ true → (fields.new.spare + 1 ≡ fields.old.spare)
+        × AreServed (E.serves entries.old) (list_of fields.new.rest.now)
+        × IsNextServed (E.serves entries.old) (next_behind fields.new.mantissa)) }
+    ensures left { IfOk result (λ b. b ≡ false → fields.new ≡ fields.old) }
+    ensures same_keys { E.serves entries.new ≡ E.serves entries.old }
+{
+    match flat {
+        Flat::Field { whole, .. } => match take_part(
+            alloc,
+            entries,
+            whole,
+            bits,
+            level,
+            bytes,
+            fields.place,
+            segment,
+        ) {
+            Taken::Part(_there, next) => {
+                pass(fields, None, others, next);
+                Ok(true)
+            }
+            Taken::Elsewhere => Ok(false),
+            Taken::Refused => Err(AllocError),
+        },
+        Flat::Parts {
+            exponent,
+            mantissa,
+            ..
+        } => match exponent.kind {
+            Kind::Int32 => match take_part(
+                alloc,
+                entries,
+                exponent,
+                bits,
+                level,
+                bytes,
+                fields.place,
+                segment,
+            ) {
+                Taken::Part(true, next) => {
+                    pass(fields, Some(mantissa), others, next);
+                    Ok(true)
+                }
+                Taken::Part(false, next) => {
+                    pass(fields, None, others, next);
+                    Ok(true)
+                }
+                Taken::Elsewhere => Ok(false),
+                Taken::Refused => Err(AllocError),
+            },
+            _ => Ok(false),
+        },
+        Flat::Group { .. } | Flat::Sequence { .. } => Ok(false),
+    }
+}
+
+// Takes the piece that is next. False: it is not taken here, and nothing has changed.
+#[inline(always)]
+fn take_piece<'a, E: Entries>(
+    fields: &mut Fields<'a>,
+    alloc: Global,
+    entries: &mut E,
+    bits: &mut Bits,
+    level: Level,
+    bytes: &[u8],
+    segment: &mut Segment,
+) -> Result<bool, AllocError>
+    requires place { fields.now.place ≤ length bytes.now }
+    requires next { IsNextServed (E.serves entries.now) (next_behind fields.now.mantissa) }
+    requires served { AreServed (E.serves entries.now) (list_of fields.now.rest.now) }
+    ensures place { OnOk result ((fields.old.place ≤ fields.new.place)
+        × (fields.new.place ≤ length bytes.now)) }
+    ensures takes { OnOk result (Takes level bytes.now (level_of segment.old)
+        (E.contents entries.old) bits.old fields.old (level_of segment.new)
+        (E.contents entries.new) bits.new fields.new) }
+    ensures next { OnOk result (IsNextServed (E.serves entries.old)
+        (next_behind fields.new.mantissa)) }
+    ensures served { OnOk result (AreServed (E.serves entries.old) (list_of fields.new.rest.now)) }
+    ensures counted { OnOk result (counted_of fields.new ≤ counted_of fields.old) }
+    ensures fewer { IfOk result (λ b. b ≡ true → pieces_of fields.new < pieces_of fields.old) }
+    ensures same_keys { E.serves entries.new ≡ E.serves entries.old }
+{
+    match fields.mantissa {
+        Some(mantissa) => {
+            match take_mantissa(
+                fields, mantissa, alloc, entries, bits, level, bytes, segment,
+            ) {
+                Err(error) => Err(error),
+                Ok(taken) => Ok(taken),
+            }
+        }
+        None => {
+            if fields.spare == 0 {
+                return Ok(false);
+            }
+            match fields.rest.split_first() {
+                None => Ok(false),
+                Some((flat, others)) => match take_instruction(
+                    fields, flat, others, alloc, entries, bits, level, bytes, segment,
+                ) {
+                    Err(error) => Err(error),
+                    Ok(taken) => Ok(taken),
+                },
+            }
+        }
+    }
+}
+
+/// Takes fields from the front of the open body, as many as the quick way serves one after the other.
+#[inline(never)]
+pub(crate) fn take_fields<'a, E: Entries>(
+    alloc: Global,
+    entries: &mut E,
+    rest: &'a [Flat],
+    bits: &mut Bits,
+    spare: u32,
+    level: Level,
+    bytes: &[u8],
+    at: usize,
+    segment: &mut Segment,
+) -> Result<Fields<'a>, AllocError>
+    requires place { at ≤ length bytes.now }
+    requires served { AreServed (E.serves entries.now) (list_of rest.now) }
+    ensures place { IfOk result (λ f. (at ≤ f.place) × (f.place ≤ length bytes.now)) }
+    ensures few { IfOk result (λ f. f.spare ≤ spare) }
+    ensures fewer { IfOk result (λ f. IsSome f.mantissa → f.spare < spare) }
+    ensures served { IfOk result (λ f. AreServed (E.serves entries.old) (list_of f.rest.now)
+        × IsNextServed (E.serves entries.old) (next_behind f.mantissa)) }
+    ensures takes { IfOk result (λ f. Takes level bytes.now (level_of segment.old)
+        (E.contents entries.old) bits.old
+        (record { mantissa = None; rest = rest.entry; spare = spare; place = at })
+        (level_of segment.new) (E.contents entries.new) bits.new f) }
+    ensures same_keys { E.serves entries.new ≡ E.serves entries.old }
+{
+    let mut fields = Fields {
+        mantissa: None,
+        rest,
+        spare,
+        place: at,
+    };
+    'pieces: loop {
+        match take_piece(&mut fields, alloc, entries, bits, level, bytes, segment) {
+            Err(error) => return Err(error),
+            Ok(false) => return Ok(fields),
+            Ok(true) => {}
+        }
+    }
+}
