@@ -11,7 +11,7 @@ use crate::input::SliceInput;
 use crate::kept::Kept;
 use fast_canon::{CanonFault, Summary, check};
 use fast_command::{Command, run};
-use fast_load::Load;
+use fast_build::Load;
 use fast_stream::{Cause, Framing, Mode};
 use fast_template::TemplateSet;
 use fast_wire::Level;

@@ -2,10 +2,12 @@
 #![tactic(auto)]
 
 mod command;
+mod line;
 mod shown;
 mod told;
 
 pub use command::{Command, run};
-pub use fast_lines::{ShowFault, show_line};
+pub use fast_lines::ShowFault;
 pub use fast_stream::{Framing, Mode};
 pub use fast_wire::Level;
+pub use line::show_line;

@@ -6,9 +6,11 @@ use Rattle.std.specs.declared.alloc.Global.{Global}
 use Rattle.fast_written.specs.declared.fault.LoadCause.{LoadCause}
 use Rattle.fast_written.specs.declared.fault.LoadCause.TheVariants as load
 use Rattle.fast_written.specs.declared.fault.LoadFault.{LoadFault}
+use Rattle.fast_written.specs.CauseNames.{name_of as load_name_of}
 use Rattle.fast_stream.specs.declared.fault.Cause.{Cause}
 use Rattle.fast_stream.specs.declared.fault.Cause.TheVariants.{D2, D4, D5, D6, D7, D9, D12, R1, R2, R6, R7, R8, R9, BlockEnd, Truncated, Limit, Read, Turns, Memory}
 use Rattle.fast_stream.specs.declared.fault.Fault.{Fault}
+use Rattle.fast_stream.specs.CauseNames.{name_of}
 use Rattle.fast_stream.specs.declared.place.Place.{Place}
 use Rattle.fast_canon.specs.declared.fault.CanonFault.{CanonFault}
 use Rattle.fast_canon.specs.declared.fault.CanonFault.TheVariants as canon
@@ -71,25 +73,11 @@ of_template_text_lem text.Read = refusal.Read
 of_template_text_lem text.Turns = refusal.Turns
 of_template_text_lem text.Memory = refusal.Memory
 
--- a cause as a word
-abbrev pub load_cause_name_of : LoadCause → List ℕ
-load_cause_name_of load.S1 = codes "S1"
-load_cause_name_of load.S2 = codes "S2"
-load_cause_name_of load.S3 = codes "S3"
-load_cause_name_of load.S4 = codes "S4"
-load_cause_name_of load.S5 = codes "S5"
-load_cause_name_of load.D8 = codes "D8"
-load_cause_name_of load.DuplicateName = codes "DuplicateName"
-load_cause_name_of load.DuplicateId = codes "DuplicateId"
-load_cause_name_of load.Cycle = codes "Cycle"
-load_cause_name_of load.TooDeep = codes "TooDeep"
-load_cause_name_of load.TooMany = codes "TooMany"
-load_cause_name_of load.Memory = codes "Memory"
 
 -- the line of refused templates
 abbrev pub templates_line_of : LoadFault → List ℕ
 templates_line_of fault =
-    line_of (codes "templates refused " ++ load_cause_name_of fault.cause ++ codes " template=" ++ decimal fault.template
+    line_of (codes "templates refused " ++ load_name_of fault.cause ++ codes " template=" ++ decimal fault.template
     ++ codes " instruction=" ++ decimal fault.instruction)
 
 -- the line of the refused templates, or want of memory for it
@@ -122,27 +110,6 @@ of_hex_lem hex.Memory = refusal.Memory
 
 -- ---- streams
 
--- a cause as a word
-abbrev pub cause_name_of : Cause → List ℕ
-cause_name_of D2 = codes "D2"
-cause_name_of D4 = codes "D4"
-cause_name_of D5 = codes "D5"
-cause_name_of D6 = codes "D6"
-cause_name_of D7 = codes "D7"
-cause_name_of D9 = codes "D9"
-cause_name_of D12 = codes "D12"
-cause_name_of R1 = codes "R1"
-cause_name_of R2 = codes "R2"
-cause_name_of R6 = codes "R6"
-cause_name_of R7 = codes "R7"
-cause_name_of R8 = codes "R8"
-cause_name_of R9 = codes "R9"
-cause_name_of BlockEnd = codes "BlockEnd"
-cause_name_of Truncated = codes "Truncated"
-cause_name_of Limit = codes "Limit"
-cause_name_of Read = codes "Read"
-cause_name_of Turns = codes "Turns"
-cause_name_of Memory = codes "Memory"
 
 -- a place as text
 abbrev pub place_text_of : Place → List ℕ
@@ -152,7 +119,7 @@ place_text_of place =
 
 -- the line of a refused stream
 abbrev pub stream_line_of : Fault → List ℕ
-stream_line_of fault = line_of (codes "refused " ++ cause_name_of fault.cause ++ codes " " ++ place_text_of fault.place)
+stream_line_of fault = line_of (codes "refused " ++ name_of fault.cause ++ codes " " ++ place_text_of fault.place)
 
 -- the line of the refused stream, or want of memory for it
 abbrev pub IsStreamOrMemory : Fault → Refusal → Type 0

@@ -5,7 +5,7 @@ ghost use Rattle.std.specs.String.{string_bytes};
 ghost use Rattle.std.specs.IoError.{error_kind};
 ghost use Rattle.std.specs.declared.io.ErrorKind.TheVariants as io_kind;
 ghost use Rattle.clap.specs.Words.{kind_of};
-ghost use Rattle.fast_host.specs.Refusals.{IsOfLoad, IsOfRun, IsOfStream, IsTextOrMemory, cause_name_of, load_cause_name_of, load_refusal_of, machine_refusal_of, of_hex_lem, of_template_text_lem, of_text_lem, status_of, stream_line_of, templates_line_of, text_of};
+ghost use Rattle.fast_host.specs.Refusals.{IsOfLoad, IsOfRun, IsOfStream, IsTextOrMemory, load_refusal_of, machine_refusal_of, of_hex_lem, of_template_text_lem, of_text_lem, status_of, stream_line_of, templates_line_of, text_of};
 
 use crate::hex_text::HexFault;
 use crate::input::TextFault;
@@ -43,53 +43,6 @@ pub enum Refusal {
     Turns,
     /// An allocation was refused.
     Memory,
-}
-
-/// A cause as a word.
-fn cause_name(cause: Cause) -> &'static str
-    ensures { result.now ≡ cause_name_of cause }
-{
-    match cause {
-        Cause::D2 => "D2",
-        Cause::D4 => "D4",
-        Cause::D5 => "D5",
-        Cause::D6 => "D6",
-        Cause::D7 => "D7",
-        Cause::D9 => "D9",
-        Cause::D12 => "D12",
-        Cause::R1 => "R1",
-        Cause::R2 => "R2",
-        Cause::R6 => "R6",
-        Cause::R7 => "R7",
-        Cause::R8 => "R8",
-        Cause::R9 => "R9",
-        Cause::BlockEnd => "BlockEnd",
-        Cause::Truncated => "Truncated",
-        Cause::Limit => "Limit",
-        Cause::Read => "Read",
-        Cause::Turns => "Turns",
-        Cause::Memory => "Memory",
-    }
-}
-
-/// A cause of refused templates as a word.
-fn load_cause_name(cause: LoadCause) -> &'static str
-    ensures { result.now ≡ load_cause_name_of cause }
-{
-    match cause {
-        LoadCause::S1 => "S1",
-        LoadCause::S2 => "S2",
-        LoadCause::S3 => "S3",
-        LoadCause::S4 => "S4",
-        LoadCause::S5 => "S5",
-        LoadCause::D8 => "D8",
-        LoadCause::DuplicateName => "DuplicateName",
-        LoadCause::DuplicateId => "DuplicateId",
-        LoadCause::Cycle => "Cycle",
-        LoadCause::TooDeep => "TooDeep",
-        LoadCause::TooMany => "TooMany",
-        LoadCause::Memory => "Memory",
-    }
 }
 
 /// What want of memory for templates is answered with; none where the templates are refused.
@@ -143,7 +96,7 @@ fn machine_refusal(cause: Cause) -> Option<Refusal>
 fn stream_line(alloc: Global, fault: Fault) -> Result<String, AllocError>
     ensures { IfOk result (λ line. string_bytes line ≡ stream_line_of fault) }
 {
-    let cause = cause_name(fault.cause);
+    let cause = fault.cause.name();
     let message = fault.place.message;
     let offset = fault.place.offset;
     let template = fault.place.template;
@@ -157,7 +110,7 @@ fn stream_line(alloc: Global, fault: Fault) -> Result<String, AllocError>
 fn templates_line(alloc: Global, fault: LoadFault) -> Result<String, AllocError>
     ensures { IfOk result (λ line. string_bytes line ≡ templates_line_of fault) }
 {
-    let cause = load_cause_name(fault.cause);
+    let cause = fault.cause.name();
     let template = fault.template;
     let instruction = fault.instruction;
     format!(in alloc; "templates refused {cause} template={template} instruction={instruction}\n")

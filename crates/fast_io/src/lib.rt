@@ -9,8 +9,6 @@ mod counted;
 mod input;
 mod output;
 mod script;
-#[cfg(test)]
-mod tests;
 mod whole;
 
 pub use counted::Counted;

@@ -6,5 +6,5 @@ mod line;
 mod lines;
 mod writer;
 
-pub use lines::{ShowFault, push_ok_line, show_line};
+pub use lines::{ShowFault, push_line, push_ok_line};
 pub use writer::LineWriter;

@@ -544,8 +544,18 @@ fn show_as(template: &FlatTemplate, message: &Message, out: &mut Vec<u8>) -> Res
     Ok(())
 }
 
-/// Appends the line of a message, or a part of it.
-fn show_found(set: &TemplateSet, message: &Message, out: &mut Vec<u8>) -> Result<(), ShowFault>
+/// Appends the line of a message: the template's identifier and name, `NAME=VALUE` of each field, group and sequence,
+/// and a line feed.
+///
+/// # Errors
+///
+/// A front of the line may stand there.
+///
+/// - `Mismatch`: the set has no template of the message's identifier, or the message is not one of its template: a
+///   node is of another shape, a value of another type or of ASCII with a character above 127, or a mandatory field,
+///   group or sequence is absent.
+/// - `Memory`: an allocation was refused.
+pub fn push_line(set: &TemplateSet, message: &Message, out: &mut Vec<u8>) -> Result<(), ShowFault>
     ensures { Shows (line_in set.now (content_of message.now)) result
         out.old.items out.new.items }
 {
@@ -553,32 +563,6 @@ fn show_found(set: &TemplateSet, message: &Message, out: &mut Vec<u8>) -> Result
         Some(template) => show_as(template, message, out),
         None => Err(ShowFault::Mismatch),
     }
-}
-
-/// Appends the line of a message: the template's identifier and name, `NAME=VALUE` of each field, group and sequence,
-/// and a line feed.
-///
-/// # Errors
-///
-/// Each leaves the output as it was.
-///
-/// - `Mismatch`: the set has no template of the message's identifier, or the message is not one of its template: a
-///   node is of another shape, a value of another type or of ASCII with a character above 127, or a mandatory field,
-///   group or sequence is absent.
-/// - `Memory`: an allocation was refused.
-pub fn show_line(set: &TemplateSet, message: &Message, out: &mut Vec<u8>) -> Result<(), ShowFault>
-    ensures line { OnOk result (option_map (λ line. out.old.items ++ line)
-        (line_in set.now (content_of message.now)) ≡ Some out.new.items) }
-    ensures mismatch { IfErr result (λ e. e ≡ fault.Mismatch
-        → line_in set.now (content_of message.now) ≡ None) }
-    ensures unchanged { OnErr result (out.new.items ≡ out.old.items) }
-{
-    let before = out.len();
-    let shown = show_found(set, message, out);
-    if shown.is_err() {
-        out.truncate(before);
-    }
-    shown
 }
 
 /// Appends what a check says that ended well: how many messages and bytes were read, and how many bytes are canonical.

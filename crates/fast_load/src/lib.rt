@@ -1,8 +1,8 @@
 //! Template sets from templates as they are written.
 //!
 //! The definitions stand in `specs/`: how a written template becomes a resolved one (`FlatLists`), which check of a load
-//! fails first (`LoadChecks`) and what loading a text answers (`JsonLoads`). Written templates stand in `fast_written`
-//! and can be named here too, and the sets in `fast_template`.
+//! fails first (`LoadChecks`) and what loading a text answers (`JsonLoads`). Written templates stand in `fast_written`,
+//! the sets in `fast_template`, and the calls that users make in `fast_build`.
 #![tactic(auto)]
 
 mod build;
@@ -22,5 +22,4 @@ mod slots;
 mod surroundings;
 mod walk;
 
-pub use fast_written::{Instruction, LoadCause, LoadFault, Operation, Template};
-pub use load::Load;
+pub use load::load_written;

@@ -12,7 +12,7 @@ use fast_command::{Command, Framing, Level, Mode};
 use std::alloc::{AllocError, Global};
 
 /// What a command line asks for.
-#[derive(Clone, Copy, Debug, PartialEq, Eq)]
+#[derive(Clone, Copy)]
 pub(crate) struct Request<'a> {
     pub(crate) command: Command,
     /// The name of the file with the templates.

@@ -12,7 +12,7 @@ use fast_canon::CanonFault;
 use fast_command::{Command, Mode, run};
 use fast_host::{MemoryOutput, Refusal, Source, hex_line, read_hex, read_text};
 use fast_io::{ByteInput, ByteOutput, Counted, write_all};
-use fast_load::Load;
+use fast_build::Load;
 use fast_template::TemplateSet;
 use std::alloc::{AllocError, Global};
 use std::io;
@@ -106,8 +106,13 @@ fn write_hex_line<O: ByteOutput>(alloc: Global, bytes: &[u8], out: &mut O) -> Re
     ensures { WritesHex (writer_by O.taken O.errors O.flushes out.old)
         (writer_by O.taken O.errors O.flushes out.new) bytes.now result }
 {
-    let line = hex_line(alloc, bytes).map_err(|_| Refusal::Memory)?;
-    write_all(out, line.as_bytes()).map_err(|_| Refusal::Write)
+    match hex_line(alloc, bytes) {
+        Err(AllocError) => Err(Refusal::Memory),
+        Ok(line) => match write_all(out, line.as_bytes()) {
+            Ok(()) => Ok(()),
+            Err(_) => Err(Refusal::Write),
+        },
+    }
 }
 
 /// Writes the canonical bytes of a stream as a line of hex, also those that stand before a fault of the stream.

@@ -7,3 +7,4 @@ pub mod Reading
 pub mod Blocks
 pub mod Modes
 pub mod Readers
+pub mod CauseNames

@@ -3,3 +3,4 @@ pub mod LoadFaults
 pub mod Written
 pub mod JsonTemplates
 pub mod Profile
+pub mod CauseNames

@@ -1,6 +1,6 @@
 //! The worked templates, and streams and messages of them.
 
-use fast_load::Load;
+use fast_build::Load;
 use fast_stream::{Message, Node};
 use fast_template::{ByteString, Scalar, TemplateSet};
 use std::alloc::{AllocError, Global};

@@ -1,6 +1,6 @@
 //! The worked templates, and streams of them.
 
-use fast_load::{Load, LoadFault};
+use fast_build::{Load, LoadFault};
 use fast_template::TemplateSet;
 use std::alloc::Global;
 use template_tests::texts::WORKED;

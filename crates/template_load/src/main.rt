@@ -3,7 +3,7 @@
 //! It is the program that `bench/load` measures.
 #![tactic(auto)]
 
-use fast_load::Load;
+use fast_build::Load;
 use fast_template::TemplateSet;
 use std::io;
 use std::io::Read;

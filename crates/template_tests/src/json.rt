@@ -2,7 +2,7 @@
 
 use crate::loads::{Wanted, answers, granted, loaded};
 use crate::same::same;
-use fast_load::{Load, LoadCause};
+use fast_build::{Load, LoadCause};
 use fast_template::TemplateSet;
 use std::alloc::{AllocError, Global};
 use std::process::Abort;

@@ -1,7 +1,7 @@
 //! What a load answers.
 
 use crate::same::same;
-use fast_load::{LoadCause, LoadFault};
+use fast_build::{LoadCause, LoadFault};
 use fast_template::TemplateSet;
 use std::alloc::AllocError;
 use std::process::Abort;

@@ -3,7 +3,7 @@
 use crate::loads::loaded;
 use crate::same::same;
 use crate::texts::WORKED;
-use fast_load::Load;
+use fast_build::Load;
 use fast_template::{FieldPart, Flat, Scalar, TemplateSet};
 use std::alloc::{AllocError, Global};
 use std::process::Abort;

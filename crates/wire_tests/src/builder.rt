@@ -126,38 +126,56 @@ fn order_of_many_bits(rt: HostRuntime) -> Result<(), WireFault> {
     )
 }
 
+// As many bits as there may be, and a 0 behind them.
+fn is_filled(rt: &impl Abort, alloc: Global, map: &mut MapBuilder) -> Result<(), WireFault> {
+    let mut bytes = [0x7f; 256];
+    bytes[255] = 0xff;
+    push_all(map, &[true; 1792])?;
+    gives(rt, alloc, map, &bytes)?;
+    map.push(false)?;
+    gives(rt, alloc, map, &bytes)
+}
+
+// A 1 more is refused, and nothing is appended.
+fn is_too_long(rt: &impl Abort, map: &MapBuilder, out: &mut Vec<u8>) -> Result<(), WireFault> {
+    write_u64(17, out)?;
+    same(rt, map.write(out), Err(WireFault::TooLong));
+    same(rt, out.as_slice(), &[0x91]);
+    Ok(())
+}
+
 /// 1,792 bits fit 256 bytes. A 0 behind them changes nothing, and behind it a 1 is refused, with nothing appended.
 #[test]
 fn limits(rt: HostRuntime) -> Result<(), WireFault> {
     let mut map = MapBuilder::new(rt.alloc());
-    push_all(&mut map, &[true; 1792])?;
-    let mut bytes = [0x7f; 256];
-    bytes[255] = 0xff;
-    gives(&rt, rt.alloc(), &map, &bytes)?;
-    map.push(false)?;
-    gives(&rt, rt.alloc(), &map, &bytes)?;
+    is_filled(&rt, rt.alloc(), &mut map)?;
     map.push(true)?;
     let mut out = Vec::new(rt.alloc());
-    write_u64(17, &mut out)?;
-    same(&rt, map.write(&mut out), Err(WireFault::TooLong));
-    same(&rt, out.as_slice(), &[0x91]);
-    Ok(())
+    is_too_long(&rt, &map, &mut out)
 }
 
-/// A builder serves again once it is cleared, whether it had many bits or few.
+// A builder serves again once it is cleared of so many bits.
+fn serves_again(
+    rt: &impl Abort,
+    alloc: Global,
+    map: &mut MapBuilder,
+    count: usize,
+) -> Result<(), WireFault> {
+    for _ in 0..count {
+        map.push(true)?;
+    }
+    map.clear();
+    gives(rt, alloc, map, &[0x80])?;
+    push_all(map, &[false, true])?;
+    gives(rt, alloc, map, &[0xa0])
+}
+
+/// Whether it had many bits or few.
 #[test]
 fn clears(rt: HostRuntime) -> Result<(), WireFault> {
     let mut map = MapBuilder::new(rt.alloc());
-    for count in [60, 3] {
-        for _ in 0..count {
-            map.push(true)?;
-        }
-        map.clear();
-        gives(&rt, rt.alloc(), &map, &[0x80])?;
-        push_all(&mut map, &[false, true])?;
-        gives(&rt, rt.alloc(), &map, &[0xa0])?;
-    }
-    Ok(())
+    serves_again(&rt, rt.alloc(), &mut map, 60)?;
+    serves_again(&rt, rt.alloc(), &mut map, 3)
 }
 
 // The last so many bits of a number, written both ways.

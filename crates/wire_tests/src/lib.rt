@@ -1,8 +1,10 @@
-//! The tests of fast_wire.
+//! The tests of fast_io and fast_wire.
 #![tactic(auto)]
 
 #[cfg(test)]
 mod builder;
+#[cfg(test)]
+mod devices;
 #[cfg(test)]
 mod forms;
 #[cfg(test)]

@@ -15,11 +15,11 @@ grouped word cause gap message m offset o template t instruction i end = simp ap
 pub returns : goal.returns
 returns c =
     let place = c.args.fault.place in
-    let cause = c.cause_name-cause.result.now in
+    let cause = c.name-cause.result.now in
     let written = grouped (codes "refused ") cause (codes " ") (codes "message=") (decimal place.message)
     (codes " offset=") (decimal place.offset) (codes " template=") (decimal place.template)
     (codes " instruction=") (decimal place.instruction) (10 ∷ []) in
-    let named = ap (λ cause. line_of (codes "refused " ++ cause ++ codes " " ++ place_text_of place)) c.cause_name-cause.ensures in
+    let named = ap (λ cause. line_of (codes "refused " ++ cause ++ codes " " ++ place_text_of place)) c.name-cause.ensures in
     IfOk-weaker c.format.result
     (λ line. string_bytes line ≡ codes "refused " ++ (cause ++ (codes " message=" ++ (decimal place.message
     ++ (codes " offset=" ++ (decimal place.offset ++ (codes " template=" ++ (decimal place.template

@@ -14,9 +14,9 @@ grouped word cause template t instruction i end = simp append_assoc
 pub returns : goal.returns
 returns c =
     let fault = c.args.fault in
-    let cause = c.load_cause_name-cause.result.now in
+    let cause = c.name-cause.result.now in
     let written = grouped (codes "templates refused ") cause (codes " template=") (decimal fault.template) (codes " instruction=") (decimal fault.instruction) (10 ∷ []) in
-    let named = ap (λ cause. line_of (codes "templates refused " ++ cause ++ codes " template=" ++ decimal fault.template ++ codes " instruction=" ++ decimal fault.instruction)) c.load_cause_name-cause.ensures in
+    let named = ap (λ cause. line_of (codes "templates refused " ++ cause ++ codes " template=" ++ decimal fault.template ++ codes " instruction=" ++ decimal fault.instruction)) c.name-cause.ensures in
     IfOk-weaker c.format.result
     (λ line. string_bytes line ≡ codes "templates refused " ++ (cause ++ (codes " template=" ++ (decimal fault.template ++ (codes " instruction=" ++ (decimal fault.instruction ++ 10 ∷ []))))))
     (λ line. string_bytes line ≡ templates_line_of fault)

@@ -1,5 +1,0 @@
-use Rattle.std.proofs.Common.{rules}
-use Rattle.fast_load.proofs.load.TemplateSetLoad.from_json.Goals as goal
-
-pub returns-clause-read : goal.returns-clause-read
-returns-clause-read c = search rules depth 3

@@ -1,0 +1,14 @@
+use Rattle.std.proofs.Common.{rules}
+use Rattle.fast_load.proofs.load.load_written.Goals as goal
+
+pub returns-in-Ok-Ok : goal.returns-in-Ok-Ok
+returns-in-Ok-Ok c = search rules
+
+pub returns-in-Ok-Err : goal.returns-in-Ok-Err
+returns-in-Ok-Err c = search rules
+
+pub resolve-requires-clause-lead : goal.resolve-requires-clause-lead
+resolve-requires-clause-lead c = search rules depth 2
+
+pub resolve-requires-clause-passed : goal.resolve-requires-clause-passed
+resolve-requires-clause-passed c = search rules depth 2
