@@ -1,11 +1,10 @@
 //! The functions that C calls. C passes a slice as a pointer and a length.
 
 ghost use Rattle.std.specs.Prelude.{◌≡◌, ◌≢◌, ◌≤◌, length};
-ghost use Rattle.fast_c.specs.Answers.{answer_of};
-ghost use Rattle.fast_c.specs.Calls.{Canons, Checks, ChecksText, Done, Shows};
+ghost use Rattle.fast_slices.specs.Answers.{answer_of};
+ghost use Rattle.fast_slices.specs.Calls.{Canons, Checks, ChecksText, Done, Shows};
 
-use crate::answer::{Answer, answer_of};
-use crate::call::{canon, check_stream, check_templates, show};
+use fast_slices::{Answer, answer_of, canon, check_stream, check_templates, show};
 use std::alloc::Global;
 
 /// Writes the canonical bytes of a stream into the front of a room, and answers the status. A room of as many bytes as

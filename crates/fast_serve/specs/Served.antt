@@ -21,11 +21,11 @@ use Rattle.fast_host.specs.Refusals.{IsOfLoad, IsOfRun, IsOfStream, IsTextOrMemo
 use Rattle.fast_host.specs.Devices.{Inputs, Writer, input_of}
 use Rattle.fast_command.specs.Run.{Runs}
 use Rattle.fast_stream.specs.declared.mode.Mode.{Mode}
-use Rattle.fast_serve.specs.CommandLine.{AsksFor}
+use Rattle.fast_request.specs.CommandLine.{AsksFor}
 use Rattle.fast_command.specs.declared.command.Command.{Command}
 use Rattle.fast_command.specs.declared.command.Command.TheVariants.{Show, Check, Canon}
 use Rattle.fast_host.specs.declared.input.TextFault.{TextFault}
-use Rattle.fast_serve.specs.declared.request.Request.{Request}
+use Rattle.fast_request.specs.declared.request.Request.{Request}
 use Rattle.fast_host.specs.declared.refusal.Refusal.{Refusal}
 use Rattle.fast_host.specs.declared.refusal.Refusal.TheVariants as refusal
 

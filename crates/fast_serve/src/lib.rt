@@ -1,5 +1,4 @@
 //! The program as a call: from a command line, files and streams to the exit status.
 #![tactic(auto)]
 
-mod request;
 pub mod serve;

@@ -1,6 +1,6 @@
 use Rattle.std.proofs.Common.{ap, sym, ◌∙◌}
-use Rattle.fast_c.specs.declared.answer.Answer.{Answer}
-use Rattle.fast_c.proofs.Streams.{room_enough}
+use Rattle.fast_slices.specs.declared.answer.Answer.{Answer}
+use Rattle.fast_slices.proofs.Streams.{room_enough}
 use Rattle.fast_c.proofs.exports.fastcat_canon.Goals as goal
 
 pub returns-clause-room_enough : goal.returns-clause-room_enough

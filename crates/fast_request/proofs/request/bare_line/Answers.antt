@@ -1,0 +1,9 @@
+use Rattle.std.proofs.Common.{true, ap, ◌∙◌}
+use Rattle.clap.specs.Words.{App}
+use Rattle.clap.specs.Simple.{app_of_fields, on_top}
+use Rattle.fast_request.proofs.request.bare_line.Goals as goal
+
+pub returns : goal.returns
+returns c =
+    ap app_of_fields c.after_help.ensures ∙ ap app_of_fields c.about.ensures ∙ ap app_of_fields c.version.ensures
+    ∙ ap (λ (a : App). on_top (λ s. record s { has_version = true }) a) c.new.ensures.app

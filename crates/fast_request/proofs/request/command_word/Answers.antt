@@ -1,0 +1,18 @@
+use Rattle.std.proofs.Common.{true, ap, ◌∙◌}
+use Rattle.clap.specs.Words.{Rule, rule_of}
+use Rattle.clap.specs.declared.builder.arg.Arg.{Arg}
+use Rattle.fast_request.proofs.request.command_word.Goals as goal
+
+pub returns-clause-rule : goal.returns-clause-rule
+returns-clause-rule c = (
+  c.value_parser.result.value_parser,
+  ap rule_of c.help.ensures ∙ ap rule_of c.value_parser.ensures.others
+      ∙ ap (λ (r : Rule). record r { parser = c.value_parser.result.value_parser }) (ap rule_of c.required.ensures
+      ∙ ap (λ (r : Rule). record r { required = true }) (ap rule_of c.value_name.ensures
+      ∙ ap (λ (r : Rule). record r { value_names = 1 }) c.new.ensures.rule)),
+)
+
+pub returns-clause-local : goal.returns-clause-local
+returns-clause-local c =
+    ap (λ (a : Arg). a.global) c.help.ensures ∙ ap (λ (a : Arg). a.global) c.value_parser.ensures.others
+    ∙ ap (λ (a : Arg). a.global) c.required.ensures ∙ ap (λ (a : Arg). a.global) c.value_name.ensures ∙ c.new.ensures.optional.1

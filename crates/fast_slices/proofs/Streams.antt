@@ -1,0 +1,228 @@
+-- What was read of a stream in memory, and what its run wrote.
+use Rattle.std.proofs.Common.{◌≡◌, ◌≢◌, ◌<◌, ◌≤◌, ◌^◌, ℕ, List, [], ◌∷◌, ◌++◌, length, Option, Some, Result, Ok, Err, refl, sym, ap, subst, ◌∙◌, arith, append-nil, length-append, inl, inr}
+use Rattle.std.specs.Io.KnownBytes.{IsAtEnd}
+use Rattle.fast_io.specs.Counts.{counted, counted_by}
+use Rattle.fast_wire.specs.Reader.{IsBytes}
+use Rattle.fast_template.specs.Resolved.{Resolved}
+use Rattle.fast_template.specs.TemplateSets.{IsSound, TemplateList, templates_in}
+use Rattle.fast_stream.specs.declared.fault.Cause.{Cause}
+use Rattle.fast_stream.specs.declared.fault.Cause.TheVariants as cause
+use Rattle.fast_stream.specs.declared.fault.Fault.{Fault}
+use Rattle.fast_stream.specs.declared.mode.Mode.{Mode}
+use Rattle.fast_stream.specs.declared.place.Place.{Place}
+use Rattle.fast_stream.specs.Modes.{Carries, FirstFault}
+use Rattle.fast_stream.specs.Nodes.{Content}
+use Rattle.fast_stream.proofs.MessageReaders.{message_reader}
+use Rattle.fast_stream.proofs.ModeReaders.{next_reader}
+use Rattle.fast_stream.proofs.ModeStreams.{fault_stays}
+use Rattle.fast_machine.specs.Standing.{Carried}
+use Rattle.fast_machine.proofs.Followings.{all_carried}
+use Rattle.fast_decoder.specs.Inputs.{Reader, RefusedBy, Refuses}
+use Rattle.fast_writer.specs.Canonical.{IsCanonical}
+use Rattle.fast_canon.specs.Canonicalised.{Canonicalises, Checks, IsCausedBy, Passes, PassesFront}
+use Rattle.fast_canon.specs.Relays.{Making}
+use Rattle.fast_canon.specs.declared.fault.CanonFault.{CanonFault}
+use Rattle.fast_canon.specs.declared.fault.CanonFault.TheVariants as canon
+use Rattle.fast_canon.specs.declared.summary.Summary.{Summary}
+use Rattle.fast_canon.proofs.Relayings.{carried_more, no_longer, summary_by}
+use Rattle.fast_slices.specs.declared.answer.Refusal.TheVariants as refusal
+use Rattle.fast_slices.specs.Answers.{answer_of}
+use Rattle.fast_slices.specs.Calls.{Canons, Counts, Done, IsRefused, Overflows, RefusesCall, Settles, Writes}
+
+-- ---- why a stream is refused
+
+by_cause : (c : Cause) (mode : Mode) (set : List Resolved) (turns : ℕ) (left : Option (List ℕ)) (bytes : List ℕ) (place : Place) → RefusedBy c mode set turns left bytes place → c ≢ cause.Memory → c ≢ cause.Read → length bytes < turns
+    → FirstFault mode set bytes place c × (c ≡ cause.Truncated → IsAtEnd left)
+by_cause cause.D2 mode set turns left bytes place h memory read few = (h, λ e. absurd cc)
+by_cause cause.D4 mode set turns left bytes place h memory read few = (h, λ e. absurd cc)
+by_cause cause.D5 mode set turns left bytes place h memory read few = (h, λ e. absurd cc)
+by_cause cause.D6 mode set turns left bytes place h memory read few = (h, λ e. absurd cc)
+by_cause cause.D7 mode set turns left bytes place h memory read few = (h, λ e. absurd cc)
+by_cause cause.D9 mode set turns left bytes place h memory read few = (h, λ e. absurd cc)
+by_cause cause.D12 mode set turns left bytes place h memory read few = (h, λ e. absurd cc)
+by_cause cause.BlockEnd mode set turns left bytes place h memory read few = (h, λ e. absurd cc)
+by_cause cause.R1 mode set turns left bytes place h memory read few = (h, λ e. absurd cc)
+by_cause cause.R2 mode set turns left bytes place h memory read few = (h, λ e. absurd cc)
+by_cause cause.R6 mode set turns left bytes place h memory read few = (h, λ e. absurd cc)
+by_cause cause.R7 mode set turns left bytes place h memory read few = (h, λ e. absurd cc)
+by_cause cause.R8 mode set turns left bytes place h memory read few = (h, λ e. absurd cc)
+by_cause cause.R9 mode set turns left bytes place h memory read few = (h, λ e. absurd cc)
+by_cause cause.Limit mode set turns left bytes place h memory read few = (h, λ e. absurd cc)
+by_cause cause.Truncated mode set turns left bytes place h memory read few = (h.0, λ e. h.1)
+by_cause cause.Read mode set turns left bytes place h memory read few = absurd (read refl)
+by_cause cause.Turns mode set turns left bytes place h memory read few = let many = h.1 in absurd (omega (arith, few, many))
+by_cause cause.Memory mode set turns left bytes place h memory read few = absurd (memory refl)
+
+-- the first fault of what was read is the stream's, where Truncated comes only at the stream's end
+whole : (rest input : List ℕ) (mode : Mode) (set : TemplateList) (place : Place) (c : Cause) → IsSound set → IsBytes (input ++ rest) → FirstFault mode (templates_in set) input place c → (c ≡ cause.Truncated → rest ≡ [])
+    → FirstFault mode (templates_in set) (input ++ rest) place c
+whole [] input mode set place c sound fits f ended = subst (λ (xs : List ℕ). FirstFault mode (templates_in set) xs place c) (sym (append-nil input)) f
+whole (b ∷ bs) input mode set place c sound fits f ended =
+    fault_stays mode (templates_in set) (next_reader mode (templates_in set) (message_reader mode.level (templates_in set) sound.typed)) input (b ∷ bs) place c fits f (λ e. let no = ended e in absurd cc)
+
+pub refused : (fault : Fault) (mode : Mode) (set : TemplateList) (turns : ℕ) (stream input rest : List ℕ) (messages : List Content) → IsSound set → IsBytes stream → stream ≡ input ++ rest → length stream < turns
+    → Refuses mode (templates_in set) turns (Some rest) input messages fault → fault.cause ≢ cause.Memory → fault.cause ≢ cause.Read → IsRefused mode (templates_in set) stream messages fault
+refused fault mode set turns stream input rest messages sound fits parts few r memory read =
+    let size = ap (λ (xs : List ℕ). length xs) parts in
+    let sum = length-append input rest in
+    let fewer : length input < turns = omega (arith, size, sum, few) in
+    let first = by_cause fault.cause mode (templates_in set) turns (Some rest) input fault.place r.refused memory read fewer in record {
+      carried = subst (λ (xs : List ℕ). Carried mode (templates_in set) xs messages) (sym parts) (carried_more mode (templates_in set) input rest messages r.carried);
+      behind = r.behind;
+      refused = subst (λ (xs : List ℕ). FirstFault mode (templates_in set) xs fault.place fault.cause) (sym parts) (whole rest input mode set fault.place fault.cause sound (subst (λ (xs : List ℕ). IsBytes xs) parts fits) first.0 first.1);
+    }
+
+-- a reader that counts no error was none that failed
+pub not_read : (ran : Result Summary CanonFault) (UsedUp : Type 0) (old new : Reader) → IsCausedBy ran UsedUp old new → old.errors ≡ 0 → new.errors ≡ 0 → (fault : Fault) → ran ≡ Err (canon.Stream fault) → fault.cause ≢ cause.Read
+not_read ran UsedUp old new h before after fault same is =
+    let caused = subst (λ (x : Result Summary CanonFault). IsCausedBy x UsedUp old new) same h in
+    let e : new.errors ≡ counted old.errors = caused.0 is in absurd (omega (arith, before, after, e))
+
+-- ---- what was written
+
+-- what stands for canonical bytes stands for what is made of messages
+pub as_passes : (mode : Mode) (set : List Resolved) (turns : ℕ) (left a b : Option (List ℕ)) (input : List ℕ) (ran : Result Summary CanonFault) → length input < 2 ^ 40 → Canonicalises mode set turns left a b input ran → Passes IsCanonical mode set turns left a b input ran
+as_passes mode set turns left a b input (Ok summary) few p =
+    let less = p.no_longer in
+    let exact : length p.out ≡ counted_by 0 (length p.out) = omega (arith, few, less) in record {
+      messages = p.messages;
+      out = p.out;
+      ends = p.ends;
+      made = p.canonical;
+      written = p.written;
+      counts = p.counts ∙ ap (λ (n : ℕ). summary_by (length p.messages) (length input) n) exact;
+    }
+as_passes mode set turns left a b input (Err (canon.Stream fault)) few p = p
+as_passes mode set turns left a b input (Err canon.Write) few p = p
+as_passes mode set turns left a b input (Err canon.Memory) few p = p
+
+-- what is known of a run over a stream in memory
+pub record HasRun (makes : Making) (mode : Mode) (set : TemplateList) (stream bytes : List ℕ) (ran : Result Summary CanonFault) : Type 0 where
+  pub input : List ℕ
+  pub rest : List ℕ
+  pub sound : IsSound set
+  pub fits : IsBytes stream
+  pub few : length stream < 2 ^ 40
+  pub parts : stream ≡ input ++ rest
+  pub no_error : (fault : Fault) → ran ≡ Err (canon.Stream fault) → fault.cause ≢ cause.Read
+  pub passes : Passes makes mode (templates_in set) (2 ^ 40) (Some rest) (Some []) (Some bytes) input ran
+
+broken : (makes : Making) (mode : Mode) (set : TemplateList) (stream bytes old new input rest : List ℕ) → stream ≡ input ++ rest → PassesFront makes mode (templates_in set) (Some []) (Some bytes) input → length old < length bytes → new ≡ old
+    → Overflows makes mode (templates_in set) stream old new
+broken makes mode set stream bytes old new input rest parts p longer same =
+    let sum = length-append p.front p.rest in
+    let size = ap (λ (xs : List ℕ). length xs) p.written in record {
+      messages = p.messages;
+      bytes = p.front ++ p.rest;
+      carried = subst (λ (xs : List ℕ). Carried mode (templates_in set) xs p.messages) (sym parts) (carried_more mode (templates_in set) input rest p.messages p.carried);
+      made = p.made;
+      longer = omega (arith, longer, size, sum);
+      same = same;
+    }
+
+overflows : (makes : Making) (mode : Mode) (set : TemplateList) (stream bytes old new : List ℕ) (ran : Result Summary CanonFault) → HasRun makes mode set stream bytes ran → length old < length bytes → new ≡ old
+    → Overflows makes mode (templates_in set) stream old new
+overflows makes mode set stream bytes old new (Ok summary) h longer same =
+    let p = h.passes in record {
+      messages = p.messages;
+      bytes = p.out;
+      carried = subst (λ (xs : List ℕ). Carried mode (templates_in set) xs p.messages) (sym h.parts) (carried_more mode (templates_in set) h.input h.rest p.messages (all_carried mode (templates_in set) h.input p.messages p.ends.carried));
+      made = p.made;
+      longer = subst (λ (xs : List ℕ). length old < length xs) p.written longer;
+      same = same;
+    }
+overflows makes mode set stream bytes old new (Err (canon.Stream fault)) h longer same =
+    let p = h.passes in record {
+      messages = p.messages;
+      bytes = p.out;
+      carried = subst (λ (xs : List ℕ). Carried mode (templates_in set) xs p.messages) (sym h.parts) (carried_more mode (templates_in set) h.input h.rest p.messages p.refuses.carried);
+      made = p.made;
+      longer = subst (λ (xs : List ℕ). length old < length xs) p.written longer;
+      same = same;
+    }
+overflows makes mode set stream bytes old new (Err canon.Write) h longer same = broken makes mode set stream bytes old new h.input h.rest h.parts h.passes longer same
+overflows makes mode set stream bytes old new (Err canon.Memory) h longer same = broken makes mode set stream bytes old new h.input h.rest h.parts h.passes longer same
+
+pub settled : (makes : Making) (mode : Mode) (set : TemplateList) (stream bytes old new : List ℕ) (ran : Result Summary CanonFault) (r : Done) → length bytes < 2 ^ 64 → HasRun makes mode set stream bytes ran → Settles ran bytes old new r
+    → Writes makes mode (templates_in set) stream old new r
+settled makes mode set stream bytes old new ran (Ok summary) room h s =
+    let p = subst (λ (x : Result Summary CanonFault). Passes makes mode (templates_in set) (2 ^ 40) (Some h.rest) (Some []) (Some bytes) h.input x) s.0 h.passes in
+    let all : stream ≡ h.input = h.parts ∙ ap (λ (xs : List ℕ). h.input ++ xs) p.ends.ended ∙ append-nil h.input in
+    let exact : counted_by 0 (length bytes) ≡ length bytes = omega (arith, room) in record {
+      messages = p.messages;
+      bytes = bytes;
+      carries = subst (λ (xs : List ℕ). Carries mode (templates_in set) xs p.messages) (sym all) p.ends.carried;
+      made = subst (λ (xs : List ℕ). makes (templates_in set) p.messages xs) (sym p.written) p.made;
+      put = s.1;
+      counts = p.counts ∙ ap (λ (xs : List ℕ). summary_by (length p.messages) (length h.input) (counted_by 0 (length xs))) (sym p.written)
+          ∙ ap (λ (n : ℕ). summary_by (length p.messages) (length h.input) n) exact ∙ ap (λ (xs : List ℕ). summary_by (length p.messages) (length xs) (length bytes)) (sym all);
+    }
+settled makes mode set stream bytes old new ran (Err (refusal.Stream fault written)) room h s =
+    let p = subst (λ (x : Result Summary CanonFault). Passes makes mode (templates_in set) (2 ^ 40) (Some h.rest) (Some []) (Some bytes) h.input x) s.0 h.passes in record {
+      messages = p.messages;
+      bytes = bytes;
+      refused = refused fault mode set (2 ^ 40) stream h.input h.rest p.messages h.sound h.fits h.parts h.few p.refuses s.1 (h.no_error fault s.0);
+      made = subst (λ (xs : List ℕ). makes (templates_in set) p.messages xs) (sym p.written) p.made;
+      put = s.3;
+      count = s.2;
+    }
+settled makes mode set stream bytes old new ran (Err (refusal.Templates fault)) room h s = absurd s
+settled makes mode set stream bytes old new ran (Err refusal.Room) room h s = overflows makes mode set stream bytes old new ran h s.0 s.1
+settled makes mode set stream bytes old new ran (Err refusal.Memory) room h s = s
+settled makes mode set stream bytes old new ran (Err refusal.Mode) room h s = absurd s
+settled makes mode set stream bytes old new ran (Err refusal.TooLong) room h s = absurd s
+
+-- ---- what is counted
+
+-- what is known of a check of a stream in memory
+pub record HasChecked (mode : Mode) (set : TemplateList) (stream : List ℕ) (ran : Result Summary CanonFault) : Type 0 where
+  pub input : List ℕ
+  pub rest : List ℕ
+  pub sound : IsSound set
+  pub fits : IsBytes stream
+  pub few : length stream < 2 ^ 40
+  pub parts : stream ≡ input ++ rest
+  pub no_error : (fault : Fault) → ran ≡ Err (canon.Stream fault) → fault.cause ≢ cause.Read
+  pub checks : Checks mode (templates_in set) (2 ^ 40) (Some rest) input ran
+
+pub counted_all : (mode : Mode) (set : TemplateList) (stream old new : List ℕ) (ran : Result Summary CanonFault) (r : Done) → length old ≡ 0 → HasChecked mode set stream ran → Settles ran [] old new r
+    → Counts mode (templates_in set) stream r
+counted_all mode set stream old new ran (Ok summary) none h s =
+    let p = subst (λ (x : Result Summary CanonFault). Checks mode (templates_in set) (2 ^ 40) (Some h.rest) h.input x) s.0 h.checks in
+    let all : stream ≡ h.input = h.parts ∙ ap (λ (xs : List ℕ). h.input ++ xs) p.ends.ended ∙ append-nil h.input in record {
+      messages = p.messages;
+      bytes = p.out;
+      carries = subst (λ (xs : List ℕ). Carries mode (templates_in set) xs p.messages) (sym all) p.ends.carried;
+      canonical = p.canonical;
+      counts = p.counts ∙ ap (λ (xs : List ℕ). summary_by (length p.messages) (length xs) (length p.out)) (sym all);
+      no_longer = subst (λ (xs : List ℕ). length p.out ≤ length xs) (sym all) p.no_longer;
+    }
+counted_all mode set stream old new ran (Err (refusal.Stream fault written)) none h s =
+    let p = subst (λ (x : Result Summary CanonFault). Checks mode (templates_in set) (2 ^ 40) (Some h.rest) h.input x) s.0 h.checks in
+    ((p.messages, refused fault mode set (2 ^ 40) stream h.input h.rest p.messages h.sound h.fits h.parts h.few p.refuses s.1 (h.no_error fault s.0)), s.2)
+counted_all mode set stream old new ran (Err (refusal.Templates fault)) none h s = absurd s
+counted_all mode set stream old new ran (Err refusal.Room) none h s = let more = s.0 in absurd (omega (arith, none, more))
+counted_all mode set stream old new ran (Err refusal.Memory) none h s = tt
+counted_all mode set stream old new ran (Err refusal.Mode) none h s = absurd s
+counted_all mode set stream old new ran (Err refusal.TooLong) none h s = absurd s
+
+-- ---- a room of as many bytes as the stream
+
+-- a call that is refused before its stream is looked at asks for no room
+no_room : (text : List ℕ) (word : ℕ) (stream : List ℕ) → RefusesCall text word stream refusal.Room → ⊥
+no_room text word stream (inl h) = let e = h.0 in absurd cc
+no_room text word stream (inr (inl h)) = let e = h.0 in absurd cc
+no_room text word stream (inr (inr (some, few, inl e))) = absurd cc
+no_room text word stream (inr (inr (some, few, inr (fault, e, machine, loads)))) = absurd cc
+
+pub room_enough : (text : List ℕ) (word : ℕ) (stream old new : List ℕ) (r : Done) → Canons text word stream old new r → length stream ≤ length old → (answer_of r).status ≢ 3
+room_enough text word stream old new (Ok summary) h enough e = absurd cc
+room_enough text word stream old new (Err (refusal.Stream fault written)) h enough e = absurd cc
+room_enough text word stream old new (Err (refusal.Templates fault)) h enough e = absurd cc
+room_enough text word stream old new (Err refusal.Memory) h enough e = absurd cc
+room_enough text word stream old new (Err refusal.Mode) h enough e = absurd cc
+room_enough text word stream old new (Err refusal.TooLong) h enough e = absurd cc
+room_enough text word stream old new (Err refusal.Room) (inl h) enough e = absurd (no_room text word stream h.0)
+room_enough text word stream old new (Err refusal.Room) (inr (set, mode, given, over)) enough e =
+    let less = no_longer mode set given.sound stream over.bytes over.messages over.carried over.made in
+    let longer = over.longer in absurd (omega (arith, less, longer, enough))

@@ -1,0 +1,34 @@
+use Rattle.std.proofs.Common.{◌≡◌, ◌^◌, ◌<◌, ℕ, List, [], ◌++◌, length, length-append, ap, Some, refl, sym, subst, ◌∙◌, arith}
+use Rattle.fast_template.specs.TemplateSets.{templates_in}
+use Rattle.fast_wire.proofs.Calls.{all_bytes}
+use Rattle.fast_writer.specs.Canonical.{IsCanonical}
+use Rattle.fast_canon.specs.Canonicalised.{Passes}
+use Rattle.fast_slices.proofs.Streams.{as_passes, not_read, settled}
+use Rattle.fast_slices.proofs.call.canon_with.Goals as goal
+
+pub returns : goal.returns
+returns c =
+    let a = c.run-ran.ensures.answer in
+    let mode = c.args.mode in
+    let set = c.args.set.now in
+    let stream = c.args.stream.now in
+    let ran = c.run-ran.result in
+    let rest = c.run-ran.new.reader.rest.now in
+    let wrote = c.run-ran.new.writer.bytes.items in
+    let few = c.requires.few in
+    let parts : stream ≡ a.1 ++ rest = sym c.new-input.ensures ∙ a.2.consumed in
+    let size = ap (λ (xs : List ℕ). length xs) parts in
+    let sum = length-append a.1 rest in
+    let fewer : length a.1 < 2 ^ 40 = omega (arith, size, sum, few) in
+    let all = as_passes mode (templates_in set) (2 ^ 40) (Some rest) (Some c.new-kept.result.bytes.items) (Some wrote) a.1 ran fewer a.4 in
+    let begun = subst (λ (xs : List ℕ). Passes IsCanonical mode (templates_in set) (2 ^ 40) (Some rest) (Some xs) (Some wrote) a.1 ran) c.new-kept.ensures all in
+    settled IsCanonical mode set stream c.deref.result.now c.args.room.now c.settle.new.room ran c.settle.result c.deref.type_inv.0 (record {
+      input = a.1;
+      rest = rest;
+      sound = c.requires.sound;
+      fits = all_bytes stream (λ k. omega (arith, c.type_inv.stream k));
+      few = few;
+      parts = parts;
+      no_error = not_read ran _ _ _ a.5 refl refl;
+      passes = subst (λ (xs : List ℕ). Passes IsCanonical mode (templates_in set) (2 ^ 40) (Some rest) (Some []) (Some xs) a.1 ran) (sym c.deref.ensures.value) begun;
+    }) c.settle.ensures

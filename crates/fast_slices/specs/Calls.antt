@@ -1,0 +1,168 @@
+-- What a call did with a template text, a stream and the room that C lent it.
+use Rattle.std.specs.Prelude.{◌≡◌, ◌≢◌, ◌⊎◌, ◌<◌, ◌≤◌, ◌^◌, ℕ, nat_eq, if◌then◌else◌, List, length, ◌++◌, drop, Option, None, Some, ◌+◌, Result, Ok, Err, IsErrAnd, IsSome, IsUtf8}
+use Rattle.serde_json.specs.Data.{Data}
+use Rattle.serde_json.specs.Read.{read}
+use Rattle.fast_wire.specs.declared.level.Level.TheVariants.{Usual, Strict}
+use Rattle.fast_template.specs.Resolved.{Resolved}
+use Rattle.fast_template.specs.TemplateSets.{IsSound, TemplateList, templates_in}
+use Rattle.fast_written.specs.declared.fault.LoadCause.TheVariants as load
+use Rattle.fast_written.specs.declared.fault.LoadFault.{LoadFault}
+use Rattle.fast_written.specs.JsonTemplates.{templates_of}
+use Rattle.fast_load.specs.JsonLoads.{IsNoText, Loads}
+use Rattle.fast_stream.specs.declared.fault.Cause.TheVariants as cause
+use Rattle.fast_stream.specs.declared.fault.Fault.{Fault}
+use Rattle.fast_stream.specs.declared.mode.Framing.TheVariants.{Plain, Blocks}
+use Rattle.fast_stream.specs.declared.mode.Mode.{Mode}
+use Rattle.fast_stream.specs.Modes.{Carries, FirstFault}
+use Rattle.fast_stream.specs.Nodes.{Content}
+use Rattle.fast_machine.specs.Standing.{Carried}
+use Rattle.fast_writer.specs.Canonical.{IsCanonical}
+use Rattle.fast_canon.specs.Relays.{Making}
+use Rattle.fast_canon.specs.declared.fault.CanonFault.{CanonFault}
+use Rattle.fast_canon.specs.declared.fault.CanonFault.TheVariants as canon
+use Rattle.fast_canon.specs.declared.summary.Summary.{Summary}
+use Rattle.fast_command.specs.Run.{LinesOf}
+use Rattle.fast_slices.specs.declared.answer.Refusal.{Refusal}
+use Rattle.fast_slices.specs.declared.answer.Refusal.TheVariants as refusal
+
+abbrev pub Done : Type 0
+Done = Result Summary Refusal
+
+-- the mode of a word of two bits; none where it has others
+abbrev pub mode_of : ℕ → Option Mode
+mode_of word =
+    if nat_eq word 0 then Some (record { level = Usual; framing = Plain })
+    else if nat_eq word 1 then Some (record { level = Strict; framing = Plain })
+    else if nat_eq word 2 then Some (record { level = Usual; framing = Blocks })
+    else if nat_eq word 3 then Some (record { level = Strict; framing = Blocks })
+    else None
+
+-- what loading a text answers, whether or not it is UTF-8 and JSON
+abbrev pub LoadsText : List ℕ → Result TemplateList LoadFault → Type 0
+LoadsText text result =
+    ((d : Data) → IsUtf8 text → read text ≡ Some d → Loads (templates_of d) result)
+    × (¬ (IsUtf8 text) → IsNoText result)
+    × (read text ≡ None → IsNoText result)
+
+-- why there are no templates of a text
+abbrev pub RefusesText : List ℕ → Refusal → Type 0
+RefusesText text r =
+    (r ≡ refusal.Memory) ⊎ ((fault : LoadFault) × (r ≡ refusal.Templates fault) × (fault.cause ≢ load.Memory) × LoadsText text (Err fault))
+
+-- ---- the room
+
+-- the bytes were put into the room's front, and what is behind them stays
+pub record Puts (bytes old new : List ℕ) : Type 0 where
+  pub fits : length bytes ≤ length old
+  pub put : new ≡ bytes ++ drop (length bytes) old
+
+-- what is answered of a run that wrote these bytes, and what becomes of the room
+abbrev pub Settles : Result Summary CanonFault → List ℕ → List ℕ → List ℕ → Done → Type 0
+Settles ran bytes old new (Ok summary) = (ran ≡ Ok summary) × Puts bytes old new
+Settles ran bytes old new (Err (refusal.Stream fault written)) =
+    (ran ≡ Err (canon.Stream fault)) × (fault.cause ≢ cause.Memory) × (written ≡ length bytes) × Puts bytes old new
+Settles ran bytes old new (Err (refusal.Templates fault)) = ⊥
+Settles ran bytes old new (Err refusal.Room) = (length old < length bytes) × (new ≡ old)
+Settles ran bytes old new (Err refusal.Memory) = new ≡ old
+Settles ran bytes old new (Err refusal.Mode) = ⊥
+Settles ran bytes old new (Err refusal.TooLong) = ⊥
+
+-- ---- a stream
+
+-- The stream carries the messages to its end; what is made of them is in the room's front, and all is counted.
+pub record WritesAll (makes : Making) (mode : Mode) (set : List Resolved) (stream old new : List ℕ) (summary : Summary) : Type 0 where
+  pub messages : List Content
+  pub bytes : List ℕ
+  pub carries : Carries mode set stream messages
+  pub made : makes set messages bytes
+  pub put : Puts bytes old new
+  pub counts : summary ≡ record { messages = length messages; read = length stream; written = length bytes }
+
+-- a prefix of the stream carries the messages, and behind them is the stream's first fault
+pub record IsRefused (mode : Mode) (set : List Resolved) (stream : List ℕ) (messages : List Content) (fault : Fault) : Type 0 where
+  pub carried : Carried mode set stream messages
+  pub behind : fault.place.message ≡ length messages + 1
+  pub refused : FirstFault mode set stream fault.place fault.cause
+
+-- The stream is refused; what is made of the messages before the fault is in the room's front.
+pub record WritesBefore (makes : Making) (mode : Mode) (set : List Resolved) (stream old new : List ℕ) (fault : Fault) (written : ℕ) : Type 0 where
+  pub messages : List Content
+  pub bytes : List ℕ
+  pub refused : IsRefused mode set stream messages fault
+  pub made : makes set messages bytes
+  pub put : Puts bytes old new
+  pub count : written ≡ length bytes
+
+-- A prefix of the stream carries messages of which more is made than the room holds, and the room stays.
+pub record Overflows (makes : Making) (mode : Mode) (set : List Resolved) (stream old new : List ℕ) : Type 0 where
+  pub messages : List Content
+  pub bytes : List ℕ
+  pub carried : Carried mode set stream messages
+  pub made : makes set messages bytes
+  pub longer : length old < length bytes
+  pub same : new ≡ old
+
+-- what is answered of a stream of which something is written
+abbrev pub Writes : Making → Mode → List Resolved → List ℕ → List ℕ → List ℕ → Done → Type 0
+Writes makes mode set stream old new (Ok summary) = WritesAll makes mode set stream old new summary
+Writes makes mode set stream old new (Err (refusal.Stream fault written)) = WritesBefore makes mode set stream old new fault written
+Writes makes mode set stream old new (Err (refusal.Templates fault)) = ⊥
+Writes makes mode set stream old new (Err refusal.Room) = Overflows makes mode set stream old new
+Writes makes mode set stream old new (Err refusal.Memory) = new ≡ old
+Writes makes mode set stream old new (Err refusal.Mode) = ⊥
+Writes makes mode set stream old new (Err refusal.TooLong) = ⊥
+
+-- The stream carries the messages to its end; the bytes that are counted are their canonical ones, no more than its own.
+pub record CountsAll (mode : Mode) (set : List Resolved) (stream : List ℕ) (summary : Summary) : Type 0 where
+  pub messages : List Content
+  pub bytes : List ℕ
+  pub carries : Carries mode set stream messages
+  pub canonical : IsCanonical set messages bytes
+  pub counts : summary ≡ record { messages = length messages; read = length stream; written = length bytes }
+  pub no_longer : length bytes ≤ length stream
+
+-- what is answered of a stream that is checked
+abbrev pub Counts : Mode → List Resolved → List ℕ → Done → Type 0
+Counts mode set stream (Ok summary) = CountsAll mode set stream summary
+Counts mode set stream (Err (refusal.Stream fault written)) = ((messages : List Content) × IsRefused mode set stream messages fault) × (written ≡ 0)
+Counts mode set stream (Err (refusal.Templates fault)) = ⊥
+Counts mode set stream (Err refusal.Room) = ⊥
+Counts mode set stream (Err refusal.Memory) = Unit {0}
+Counts mode set stream (Err refusal.Mode) = ⊥
+Counts mode set stream (Err refusal.TooLong) = ⊥
+
+-- ---- a call
+
+-- what a call is given has these templates and this mode
+pub record Prepares (text : List ℕ) (word : ℕ) (stream : List ℕ) (set : TemplateList) (mode : Mode) : Type 0 where
+  pub mode_is : mode_of word ≡ Some mode
+  pub few : length stream < 2 ^ 40
+  pub loads : LoadsText text (Ok set)
+  pub sound : IsSound set
+
+-- The first that is not right is answered: the mode, the size of the stream, the templates.
+abbrev pub RefusesCall : List ℕ → ℕ → List ℕ → Refusal → Type 0
+RefusesCall text word stream r =
+    ((r ≡ refusal.Mode) × (mode_of word ≡ None))
+    ⊎ ((r ≡ refusal.TooLong) × IsSome (mode_of word) × (2 ^ 40 ≤ length stream))
+    ⊎ (IsSome (mode_of word) × (length stream < 2 ^ 40) × RefusesText text r)
+
+-- The call is refused before the stream is looked at; or it was looked at with the templates of the text.
+abbrev pub Calls : (Mode → TemplateList → Done → Type 0) → Type 0 → List ℕ → ℕ → List ℕ → Done → Type 0
+Calls Looks Stays text word stream r =
+    (IsErrAnd r (RefusesCall text word stream) × Stays)
+    ⊎ ((set : TemplateList) × (mode : Mode) × Prepares text word stream set mode × Looks mode set r)
+
+abbrev pub Canons : List ℕ → ℕ → List ℕ → List ℕ → List ℕ → Done → Type 0
+Canons text word stream old new r = Calls (λ mode set. Writes IsCanonical mode (templates_in set) stream old new) (new ≡ old) text word stream r
+
+abbrev pub Shows : List ℕ → ℕ → List ℕ → List ℕ → List ℕ → Done → Type 0
+Shows text word stream old new r = Calls (λ mode set. Writes (LinesOf set) mode (templates_in set) stream old new) (new ≡ old) text word stream r
+
+abbrev pub Checks : List ℕ → ℕ → List ℕ → Done → Type 0
+Checks text word stream r = Calls (λ mode set. Counts mode (templates_in set) stream) (Unit {0}) text word stream r
+
+-- the text has templates, or is refused
+abbrev pub ChecksText : List ℕ → Done → Type 0
+ChecksText text (Ok summary) = (summary ≡ record { messages = 0; read = 0; written = 0 }) × ((set : TemplateList) × LoadsText text (Ok set))
+ChecksText text (Err r) = RefusesText text r

@@ -1,0 +1,145 @@
+//! What a call answers.
+
+ghost use Rattle.std.specs.Prelude.{◌≡◌};
+ghost use Rattle.fast_slices.specs.Answers.{answer_of as answer_of_lem, bare_of, cause_number_of, load_cause_number_of};
+
+use fast_canon::Summary;
+use fast_stream::{Cause, Fault};
+use fast_written::{LoadCause, LoadFault};
+
+/// Why a call did not do what it was asked to.
+#[derive(Clone, Copy, Debug, PartialEq, Eq)]
+pub enum Refusal {
+    /// The stream is refused; behind the fault how many bytes were put into the room.
+    Stream(Fault, u64),
+    /// The templates are refused.
+    Templates(LoadFault),
+    /// What is to be written is more than the room.
+    Room,
+    /// An allocation was refused.
+    Memory,
+    /// The mode has a bit that says nothing.
+    Mode,
+    /// The stream has more bytes than a call reads.
+    TooLong,
+}
+
+/// What a call answers C. Where nothing is said of a number it is 0.
+#[repr(C)]
+#[derive(Clone, Copy, Debug, PartialEq, Eq)]
+pub struct Answer {
+    /// The messages of the stream, or of a refused one those before its fault.
+    pub messages: u64,
+    /// The bytes of a stream that was read to its end.
+    pub read: u64,
+    /// The bytes that were put into the room, or of a check those that would be.
+    pub written: u64,
+    /// The message at which the stream is refused, from 1.
+    pub message: u64,
+    /// How many bytes stand before the piece that is refused.
+    pub offset: u64,
+    /// How the call ended: 0 for done.
+    pub status: u32,
+    /// Why the stream or the templates are refused.
+    pub cause: u32,
+    /// Of a refused stream the template's identifier, of refused templates the template's place, from 1.
+    pub template: u32,
+    /// The instruction's number, from 1.
+    pub instruction: u32,
+}
+
+/// The number of a cause of a refused stream; those of the machine, which are no refusal, have 0.
+fn cause_number(cause: Cause) -> u32
+    ensures { result ≡ cause_number_of cause }
+{
+    match cause {
+        Cause::D2 => 1,
+        Cause::D4 => 2,
+        Cause::D5 => 3,
+        Cause::D6 => 4,
+        Cause::D7 => 5,
+        Cause::D9 => 6,
+        Cause::D12 => 7,
+        Cause::R1 => 8,
+        Cause::R2 => 9,
+        Cause::R6 => 10,
+        Cause::R7 => 11,
+        Cause::R8 => 12,
+        Cause::R9 => 13,
+        Cause::BlockEnd => 14,
+        Cause::Truncated => 15,
+        Cause::Limit => 16,
+        Cause::Read | Cause::Turns | Cause::Memory => 0,
+    }
+}
+
+/// The number of a cause of refused templates; want of memory, which is no refusal, has 0.
+fn load_cause_number(cause: LoadCause) -> u32
+    ensures { result ≡ load_cause_number_of cause }
+{
+    match cause {
+        LoadCause::S1 => 101,
+        LoadCause::S2 => 102,
+        LoadCause::S3 => 103,
+        LoadCause::S4 => 104,
+        LoadCause::S5 => 105,
+        LoadCause::D8 => 106,
+        LoadCause::DuplicateName => 107,
+        LoadCause::DuplicateId => 108,
+        LoadCause::Cycle => 109,
+        LoadCause::TooDeep => 110,
+        LoadCause::TooMany => 111,
+        LoadCause::Memory => 0,
+    }
+}
+
+/// An answer that tells of its status alone.
+fn bare(status: u32) -> Answer
+    ensures { result ≡ bare_of status }
+{
+    Answer {
+        messages: 0,
+        read: 0,
+        written: 0,
+        message: 0,
+        offset: 0,
+        status,
+        cause: 0,
+        template: 0,
+        instruction: 0,
+    }
+}
+
+/// What C is answered.
+pub fn answer_of(done: Result<Summary, Refusal>) -> Answer
+    ensures { result ≡ answer_of_lem done }
+{
+    match done {
+        Ok(summary) => Answer {
+            messages: summary.messages,
+            read: summary.read,
+            written: summary.written,
+            ..bare(0)
+        },
+        Err(Refusal::Stream(fault, written)) => Answer {
+            messages: fault.place.message.saturating_sub(1),
+            written,
+            message: fault.place.message,
+            offset: fault.place.offset,
+            cause: cause_number(fault.cause),
+            template: fault.place.template,
+            instruction: fault.place.instruction,
+            ..bare(1)
+        },
+        Err(Refusal::Templates(fault)) => Answer {
+            cause: load_cause_number(fault.cause),
+            template: fault.template,
+            instruction: fault.instruction,
+            ..bare(2)
+        },
+        Err(Refusal::Room) => bare(3),
+        Err(Refusal::Memory) => bare(4),
+        Err(Refusal::Mode) => bare(5),
+        Err(Refusal::TooLong) => bare(6),
+    }
+}

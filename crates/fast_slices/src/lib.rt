@@ -1,0 +1,11 @@
+//! Commands over a stream in memory: it is canonicalised, checked or shown into a room, and a template text is checked.
+//! What is answered has the shape that C reads (`fast_c`).
+#![tactic(auto)]
+
+mod answer;
+mod call;
+mod input;
+mod kept;
+
+pub use answer::{Answer, Refusal, answer_of};
+pub use call::{canon, check_stream, check_templates, show};
