@@ -8,7 +8,7 @@ use fast_stream::{Cause, Fault};
 use fast_written::{LoadCause, LoadFault};
 
 /// Why a call did not do what it was asked to.
-#[derive(Clone, Copy, Debug, PartialEq, Eq)]
+#[derive(Clone, Copy)]
 pub enum Refusal {
     /// The stream is refused; behind the fault how many bytes were put into the room.
     Stream(Fault, u64),
@@ -26,7 +26,7 @@ pub enum Refusal {
 
 /// What a call answers C. Where nothing is said of a number it is 0.
 #[repr(C)]
-#[derive(Clone, Copy, Debug, PartialEq, Eq)]
+#[derive(Clone, Copy)]
 pub struct Answer {
     /// The messages of the stream, or of a refused one those before its fault.
     pub messages: u64,
