@@ -160,39 +160,8 @@ fn relay_generally(
     }
 }
 
-// The same by the quick way, and by the general one where that does not serve.
-#[inline(always)]
-fn relay_either(
-    alloc: Global,
-    part: &FieldPart,
-    entry: &mut Entry,
-    bit: bool,
-    level: Level,
-    bytes: &[u8],
-    at: usize,
-    out: &mut Vec<u8>,
-) -> Result<(bool, bool, usize), FieldFault>
-    requires place { at ≤ length bytes.now }
-    requires bit { part_needs_bit_of part.now ≡ false → bit ≡ true }
-    ensures place { IfOk result (λ x. (at ≤ x.2) × (x.2 ≤ length bytes.now)) }
-    ensures relayed { IfOk result (λ x. (v : Option ScalarOf) × IsThere part.now.kind x.0 v
-        × Relayed level part.now entry.old entry.new bit x.1 v (drop at bytes.now) (drop x.2 bytes.now)
-        out.old.items out.new.items) }
-    ensures stops { IfErr result (λ f. f ≢ FieldFault.Memory
-        → (field_at level part.now entry.old bit (drop at bytes.now) ≡ Err f)
-        × (entry.new ≡ entry.old) × (out.new.items ≡ out.old.items)) }
-{
-    match relay_quickly(alloc, part, entry, bit, level, bytes, at, out) {
-        Some(x) => Ok(x),
-        None => match relay_generally(alloc, part, entry, bit, level, bytes, at, out) {
-            Err(fault) => Err(fault),
-            Ok(x) => Ok(x),
-        },
-    }
-}
-
-/// Reads a part, and appends the best form of its value to a segment; answers whether the value is there, and the
-/// place behind what was read.
+/// Reads a part the general way, which the quick one has left, and appends the best form of its value to a segment;
+/// answers whether the value is there, and the place behind what was read.
 ///
 /// # Errors
 ///
@@ -226,7 +195,7 @@ pub(crate) fn relay_part<E: Entries>(
 {
     match entries.entry_mut(&part.key) {
         Err(_) => Err(FieldFault::Memory),
-        Ok(entry) => match relay_either(
+        Ok(entry) => match relay_generally(
             alloc,
             part,
             entry,

@@ -5,14 +5,14 @@ use Rattle.fast_writer.specs.Levels.{level_of}
 use Rattle.fast_writer.proofs.Relays.{level_bytes, spelt_of, took_of}
 use Rattle.fast_writer.proofs.quick.relay_part.Goals as goal
 
-pub returns-in-Err-relay_either-clause-stops : goal.returns-in-Err-relay_either-clause-stops
-returns-in-Err-relay_either-clause-stops g c = λ other.
+pub returns-in-Err-relay_generally-clause-stops : goal.returns-in-Err-relay_generally-clause-stops
+returns-in-Err-relay_generally-clause-stops g c = λ other.
     let d = g.E.Entries.contents c.args.entries.now in
     let k = c.args.part.now.key in
-    let stop = c.in-Err-relay_either.ensures.stops other in (
+    let stop = c.in-Err-relay_generally.ensures.stops other in (
       rw (c.in-Ok.ensures.value) at stop.0,
-      (c.entry_mut.follows.holds c.relay_either.new.entry (ap is_ok c.in-Ok.is)).0 ∙ ap (set_entry d k) (stop.1 ∙ c.in-Ok.ensures.value) ∙ set_entry-there d k,
-      level_bytes (level_of c.args.segment.now) c.relay_either.new.out.items stop.2,
+      (c.entry_mut.follows.holds c.relay_generally.new.entry (ap is_ok c.in-Ok.is)).0 ∙ ap (set_entry d k) (stop.1 ∙ c.in-Ok.ensures.value) ∙ set_entry-there d k,
+      level_bytes (level_of c.args.segment.now) c.relay_generally.new.out.items stop.2,
     )
 
 pub returns-in-Ok-ask-clause-relays : goal.returns-in-Ok-ask-clause-relays
@@ -20,13 +20,13 @@ returns-in-Ok-ask-clause-relays g c =
     let d = g.E.Entries.contents c.args.entries.now in
     let i = c.args.part.now in
     let old = c.in-Ok.entry.now in
-    let new = c.relay_either.new.entry in
-    let r = c.in-Ok-relay_either.ensures.relayed in
+    let new = c.relay_generally.new.entry in
+    let r = c.in-Ok-relay_generally.ensures.relayed in
     let v = r.0 in (
       v,
       r.1,
       took_of c.args.level i c.args.bit d (g.E.Entries.contents (c.entry_mut.follows.lender new)) old new v _ _ c.in-Ok.ensures.value
           (c.entry_mut.follows.holds new (ap is_ok c.in-Ok.is)).0 r.2.entry r.2.read,
-      spelt_of i d old v c.in-Ok-relay_either.best c.part_needs_bit.result (level_of c.args.segment.now) (level_of c.ask.new.self) c.relay_either.new.out.items
+      spelt_of i d old v c.in-Ok-relay_generally.best c.part_needs_bit.result (level_of c.args.segment.now) (level_of c.ask.new.self) c.relay_generally.new.out.items
           c.in-Ok.ensures.value c.part_needs_bit.ensures r.2.form c.in-Ok-ask.ensures,
     )
