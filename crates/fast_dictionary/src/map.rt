@@ -75,7 +75,7 @@ impl Entries for MapEntries {
         let mut entries = BTreeMap::new(alloc);
         for (key, entry) in self.entries.iter().rev() {
             let entry = entry.view().copy(alloc)?;
-            set(&mut entries, key.copy(alloc)?, entry)?;
+            set(&mut entries, key.copy()?, entry)?;
         }
         Ok(MapEntries { alloc, entries })
     }
@@ -88,7 +88,7 @@ fn hold(entries: &mut BTreeMap<Key, Entry>, key: &Key, alloc: Global) -> Result<
     ensures refused { OnErr result (get key_cmp entries.old key.now ≡ None) }
 {
     if !entries.contains_key(key) {
-        set(entries, key.copy(alloc)?, Entry::Undefined)?;
+        set(entries, key.copy()?, Entry::Undefined)?;
     }
     Ok(())
 }

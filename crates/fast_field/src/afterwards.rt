@@ -116,7 +116,7 @@ fn assign(
         Found::Absent => return Ok(Found::Absent),
         Found::Initial => match &instr.initial {
             None => return Ok(Found::Absent),
-            Some(value) => value.copy(alloc)?,
+            Some(initial) => initial.value().copy(alloc)?,
         },
         Found::Kept => return Ok(Found::Kept),
         Found::Value(value) => value,

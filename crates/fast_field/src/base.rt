@@ -114,7 +114,7 @@ pub(crate) fn base_of_delta<'a>(
         result (delta_base instr.now (entry_of kept.entry)) }
 {
     match kept {
-        EntryRef::Undefined => Ok(instr.initial.as_ref()),
+        EntryRef::Undefined => Ok(instr.initial()),
         EntryRef::Empty => Err(FieldFault::D6),
         EntryRef::Assigned(value) => {
             if is_of_kind(instr.kind, value) {
@@ -135,7 +135,7 @@ pub(crate) fn base_of_tail<'a>(
         result (tail_base instr.now (entry_of kept.entry)) }
 {
     match kept {
-        EntryRef::Undefined | EntryRef::Empty => Ok(instr.initial.as_ref()),
+        EntryRef::Undefined | EntryRef::Empty => Ok(instr.initial()),
         EntryRef::Assigned(value) => {
             if is_of_kind(instr.kind, value) {
                 Ok(Some(value))

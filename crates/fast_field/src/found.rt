@@ -44,7 +44,7 @@ impl Found {
     {
         match self {
             Found::Absent => None,
-            Found::Initial => instr.initial.as_ref(),
+            Found::Initial => instr.initial(),
             Found::Kept => match kept {
                 EntryRef::Undefined | EntryRef::Empty => None,
                 EntryRef::Assigned(value) => Some(value),
@@ -71,7 +71,7 @@ impl Found {
             Found::Absent => Ok(None),
             Found::Initial => match &instr.initial {
                 None => Ok(None),
-                Some(value) => Ok(Some(value.copy(alloc)?)),
+                Some(initial) => Ok(Some(initial.value().copy(alloc)?)),
             },
             Found::Kept => match kept {
                 EntryRef::Undefined | EntryRef::Empty => Ok(None),

@@ -56,9 +56,9 @@ pub fn is_left_out(instr: &FieldPart, kept: EntryRef, value: Option<&Scalar>) ->
     match instr.operator {
         Operator::Plain | Operator::Delta => false,
         Operator::Constant => value.is_none() && may_be_absent(instr.presence),
-        Operator::Default => match (&instr.initial, value) {
+        Operator::Default => match (instr.initial(), value) {
             (None, None) => may_be_absent(instr.presence),
-            (initial, value) => are_same(initial.as_ref(), value),
+            (initial, value) => are_same(initial, value),
         },
         Operator::Copy | Operator::Increment | Operator::Tail => is_predicted(instr, kept, value),
     }

@@ -109,8 +109,8 @@ fn pass_initial(instr: &FieldPart, entry: &Entry) -> Passed
     ensures { IsPassed instr.now entry.now entry.now result }
 {
     match &instr.initial {
-        Some(value) => {
-            if fits(instr, value) {
+        Some(initial) => {
+            if fits(instr, initial.value()) {
                 Passed::Present
             } else {
                 Passed::Elsewhere

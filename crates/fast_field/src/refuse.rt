@@ -84,7 +84,7 @@ fn judge_constant(instr: &FieldPart, value: &Scalar) -> Result<(), FieldRefusal>
 {
     match &instr.initial {
         Some(constant) => {
-            if *value == *constant {
+            if *value == *constant.value() {
                 Ok(())
             } else {
                 Err(not_the_constant(instr.part))

@@ -52,7 +52,7 @@ fn index_names(
     let mut ids = BTreeMap::new(alloc);
     let mut place: u32 = 0;
     for template in templates {
-        let name = Name::from_string(String::from_str(alloc, &template.name)?);
+        let name = Name::of(alloc, &template.name)?;
         if enter_name(&mut names, name, place)? {
             return Ok(Err(fault_at(LoadCause::DuplicateName, place + 1, 0)));
         }

@@ -158,7 +158,7 @@ fn extent_of_name(
     ensures size { IfOk result (λ e. e.size ≡ size_named names.now extents.now name.now) }
     ensures depth { IfOk result (λ e. e.depth ≡ depth_named names.now extents.now name.now) }
 {
-    let name = Name::from_string(String::from_str(alloc, name)?);
+    let name = Name::of(alloc, name)?;
     match names.get(&name) {
         Some(place) => match extents.get(*place as usize) {
             Some(extent) => Ok(*extent),

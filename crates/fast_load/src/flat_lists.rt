@@ -9,7 +9,7 @@ ghost use Rattle.fast_template.specs.Resolved.{field_in_parts, group_of, instruc
 ghost use Rattle.fast_load.specs.Surroundings.{context_in};
 ghost use Rattle.fast_written.specs.Written.{operation_of, written_list, written_of, written_template_of};
 
-use crate::surroundings::{Around, directly_in, inside, key_of, name_of, part_of};
+use crate::surroundings::{Around, directly_in, inside, key_of, part_of};
 use fast_template::{FieldPart, Flat, FlatTemplate};
 use fast_value::{Key, Kind, Name, Part, Presence};
 use fast_written::{Instruction, Operation, Template};
@@ -59,7 +59,7 @@ fn without_members(alloc: Global, templates: &[Template]) -> Result<Vec<FlatTemp
 {
     let mut flats = Vec::with_capacity(alloc, templates.len())?;
     for template in templates {
-        let name = name_of(alloc, &template.name)?;
+        let name = Name::of(alloc, &template.name)?;
         flats.push(FlatTemplate {
             id: template.id,
             name,
@@ -175,7 +175,7 @@ fn append_named(
     ensures { OnOk result (list_of flats.new.items ≡ joined (list_of flats.old.items)
         (list_named names.now lists.now name.now)) }
 {
-    let name = name_of(alloc, name)?;
+    let name = Name::of(alloc, name)?;
     match names.get(&name) {
         Some(place) => append_placed(*place as usize, lists, alloc, flats),
         None => Ok(()),
@@ -222,7 +222,7 @@ fn field_flat(
 {
     let key = key_of(alloc, around, operation, name, Part::Whole)?;
     Ok(Flat::Field {
-        name: name_of(alloc, name)?,
+        name: Name::of(alloc, name)?,
         number: 0,
         presence,
         whole: part_of(alloc, Part::Whole, kind, presence, operation, key)?,
@@ -244,7 +244,7 @@ fn parts_flat(
     let exponent_key = key_of(alloc, around, exponent, name, Part::Exponent)?;
     let mantissa_key = key_of(alloc, around, mantissa, name, Part::Mantissa)?;
     Ok(Flat::Parts {
-        name: name_of(alloc, name)?,
+        name: Name::of(alloc, name)?,
         number: 0,
         presence,
         exponent: part_of(
@@ -276,7 +276,7 @@ fn group_flat(
         (list_of members.items)) }
 {
     Ok(Flat::Group {
-        name: name_of(alloc, name)?,
+        name: Name::of(alloc, name)?,
         number: 0,
         presence,
         members,
@@ -294,7 +294,7 @@ fn sequence_flat(
         (list_of members.items)) }
 {
     Ok(Flat::Sequence {
-        name: name_of(alloc, name)?,
+        name: Name::of(alloc, name)?,
         number: 0,
         presence,
         length,
@@ -335,12 +335,12 @@ fn key_of_length(
     }
 }
 
-// The same part once more.
-fn copy_part(part: &FieldPart, alloc: Global) -> Result<FieldPart, AllocError>
+// The same part once more, of the same names and initial value.
+fn copy_part(part: &FieldPart) -> Result<FieldPart, AllocError>
     ensures { IfOk result (λ other. other ≡ part.now) }
 {
     let initial = match &part.initial {
-        Some(value) => Some(value.copy(alloc)?),
+        Some(initial) => Some(initial.copy()?),
         None => None,
     };
     Ok(FieldPart {
@@ -349,7 +349,7 @@ fn copy_part(part: &FieldPart, alloc: Global) -> Result<FieldPart, AllocError>
         kind: part.kind,
         presence: part.presence,
         operator: part.operator,
-        key: part.key.copy(alloc)?,
+        key: part.key.copy()?,
         initial,
     })
 }
@@ -366,10 +366,10 @@ fn copy_one(flat: &Flat, alloc: Global) -> Result<Flat, AllocError>
             presence,
             whole,
         } => Ok(Flat::Field {
-            name: name.copy(alloc)?,
+            name: name.copy()?,
             number: *number,
             presence: *presence,
-            whole: copy_part(whole, alloc)?,
+            whole: copy_part(whole)?,
         }),
         Flat::Parts {
             name,
@@ -378,11 +378,11 @@ fn copy_one(flat: &Flat, alloc: Global) -> Result<Flat, AllocError>
             exponent,
             mantissa,
         } => Ok(Flat::Parts {
-            name: name.copy(alloc)?,
+            name: name.copy()?,
             number: *number,
             presence: *presence,
-            exponent: copy_part(exponent, alloc)?,
-            mantissa: copy_part(mantissa, alloc)?,
+            exponent: copy_part(exponent)?,
+            mantissa: copy_part(mantissa)?,
         }),
         Flat::Group {
             name,
@@ -390,7 +390,7 @@ fn copy_one(flat: &Flat, alloc: Global) -> Result<Flat, AllocError>
             presence,
             members,
         } => Ok(Flat::Group {
-            name: name.copy(alloc)?,
+            name: name.copy()?,
             number: *number,
             presence: *presence,
             members: copy_all(members, alloc)?,
@@ -402,10 +402,10 @@ fn copy_one(flat: &Flat, alloc: Global) -> Result<Flat, AllocError>
             length,
             members,
         } => Ok(Flat::Sequence {
-            name: name.copy(alloc)?,
+            name: name.copy()?,
             number: *number,
             presence: *presence,
-            length: copy_part(length, alloc)?,
+            length: copy_part(length)?,
             members: copy_all(members, alloc)?,
         }),
     }

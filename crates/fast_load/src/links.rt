@@ -67,7 +67,7 @@ fn link_one(
         Instruction::Group { members, .. } => link_all(members, names, alloc, row),
         Instruction::Sequence { members, .. } => link_all(members, names, alloc, row),
         Instruction::Reference { name } => {
-            let name = Name::from_string(String::from_str(alloc, name)?);
+            let name = Name::of(alloc, name)?;
             if let Some(place) = names.get(&name) {
                 row.push(*place as usize)?;
             }

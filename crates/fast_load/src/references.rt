@@ -36,7 +36,7 @@ impl Judge for References<'_> {
     fn judge(&self, instruction: &Instruction) -> Result<Option<LoadCause>, AllocError> {
         match instruction {
             Instruction::Reference { name } => {
-                let name = Name::from_string(String::from_str(self.alloc, name)?);
+                let name = Name::of(self.alloc, name)?;
                 if self.names.contains_key(&name) {
                     Ok(None)
                 } else {

@@ -24,7 +24,7 @@ pub(crate) fn first_slots(alloc: Global) -> Result<BTreeMap<Key, u32>, AllocErro
     let identifier = Key {
         slot: 0,
         scope: Scope::Global,
-        name: Name::from_string(String::new(alloc)),
+        name: Name::empty(),
         part: Part::Whole,
     };
     slots.insert(identifier, 0)?;
@@ -53,7 +53,7 @@ fn enter_key(key: &Key, slots: &mut BTreeMap<Key, u32>, alloc: Global) -> Result
         return Ok(());
     }
     let slot = next_slot(slots)?;
-    slots.insert(key.copy(alloc)?, slot)?;
+    slots.insert(key.copy()?, slot)?;
     Ok(())
 }
 

@@ -1,14 +1,15 @@
 //! Where an instruction was written, and the keys that follow from it.
 
-ghost use Rattle.std.specs.Prelude.{◌≡◌, IfOk, option_map, string_bytes};
+ghost use Rattle.std.specs.Prelude.{◌≡◌, IfOk, option_and_then, option_map, string_bytes};
 ghost use Rattle.std.specs.Option.{option_or};
+ghost use Rattle.fast_value.specs.InitialValues.{value_of_text as value_of};
 ghost use Rattle.fast_value.specs.declared.kind.Kind.TheVariants.{Int32};
 ghost use Rattle.fast_value.specs.declared.kind.Part.TheVariants.{Exponent};
 ghost use Rattle.fast_load.specs.FlatLists.{Context, context_of, inside as inside_of, key_of as key_of_operation, part_of as part_of_operation, scope_named as scope_of_name, scope_of as scope_of_operation};
 ghost use Rattle.fast_load.specs.Surroundings.{context_in};
 ghost use Rattle.fast_written.specs.Written.{operation_of, written_template_of};
 
-use fast_template::FieldPart;
+use fast_template::{FieldPart, Initial};
 use fast_value::{Key, Kind, Name, Part, Presence, Scope, value_of_text};
 use fast_written::{Operation, Template};
 use std::alloc::{AllocError, Global};
@@ -83,22 +84,11 @@ fn scope_named(alloc: Global, around: Around<'_>, name: &str) -> Result<Scope, A
     }
     if name == "type" {
         return match around.type_ref {
-            Some(type_ref) => Ok(Scope::Typed(name_of(alloc, type_ref)?)),
-            None => Ok(Scope::Typed(name_of(alloc, "any")?)),
+            Some(type_ref) => Ok(Scope::Typed(Name::of(alloc, type_ref)?)),
+            None => Ok(Scope::Typed(Name::of(alloc, "any")?)),
         };
     }
-    Ok(Scope::User(name_of(alloc, name)?))
-}
-
-/// A text as a name.
-///
-/// # Errors
-///
-/// Where memory is refused.
-pub(crate) fn name_of(alloc: Global, text: &str) -> Result<Name, AllocError>
-    ensures { IfOk result (λ name. name ≡ text.now) }
-{
-    Ok(Name::from_string(String::from_str(alloc, text)?))
+    Ok(Scope::User(Name::of(alloc, name)?))
 }
 
 // The dictionary of an operator: its own, or else that around it, or else `global`.
@@ -132,13 +122,13 @@ pub(crate) fn key_of(
         Some(key) => Ok(Key {
             slot: 0,
             scope,
-            name: name_of(alloc, key)?,
+            name: Name::of(alloc, key)?,
             part: Part::Whole,
         }),
         None => Ok(Key {
             slot: 0,
             scope,
-            name: name_of(alloc, name)?,
+            name: Name::of(alloc, name)?,
             part,
         }),
     }
@@ -161,10 +151,6 @@ pub(crate) fn part_of(
     ensures { IfOk result (λ made. (c : Context)
         → made ≡ part_of_operation c part kind presence (operation_of operation.now) key) }
 {
-    let initial = match &operation.initial {
-        Some(text) => value_of_text(alloc, part, kind, text)?,
-        None => None,
-    };
     Ok(FieldPart {
         number: 0,
         part,
@@ -172,6 +158,26 @@ pub(crate) fn part_of(
         presence,
         operator: operation.operator,
         key,
-        initial,
+        initial: initial_of(alloc, part, kind, operation)?,
     })
+}
+
+// The initial value of a part, where there is one.
+fn initial_of(
+    alloc: Global,
+    part: Part,
+    kind: Kind,
+    operation: &Operation,
+) -> Result<Option<Initial>, AllocError>
+    requires { part ≡ Exponent → kind ≡ Int32 }
+    ensures { IfOk result (λ initial. initial
+        ≡ option_and_then (value_of part kind) (operation_of operation.now).initial) }
+{
+    let Some(text) = &operation.initial else {
+        return Ok(None);
+    };
+    match value_of_text(alloc, part, kind, text)? {
+        Some(value) => Ok(Some(Initial::of(alloc, value)?)),
+        None => Ok(None),
+    }
 }

@@ -72,7 +72,7 @@ fn is_initial(kind: Kind, instr: &FieldPart, entry: &Entry, number: i128) -> boo
         → Passes instr.now entry.now entry.now (Some (of_integer kind number)) }
 {
     match &instr.initial {
-        Some(value) => match number_of(kind, value) {
+        Some(initial) => match number_of(kind, initial.value()) {
             Some(initial) => initial == number,
             None => false,
         },
@@ -143,7 +143,7 @@ pub(crate) fn gives_units(instr: &FieldPart, entry: &Entry, part: &[u8]) -> bool
             Entry::Undefined | Entry::Empty => false,
         },
         Operator::Default => match &instr.initial {
-            Some(value) => is_made_of(instr.kind, value, part),
+            Some(initial) => is_made_of(instr.kind, initial.value(), part),
             None => false,
         },
         Operator::Plain
@@ -216,7 +216,7 @@ pub(crate) fn gives_decimal(instr: &FieldPart, entry: &Entry, value: &Scalar) ->
             Entry::Undefined | Entry::Empty => false,
         },
         Operator::Default => match &instr.initial {
-            Some(initial) => is_same_decimal(initial, value),
+            Some(initial) => is_same_decimal(initial.value(), value),
             None => false,
         },
         Operator::Plain
@@ -252,7 +252,7 @@ pub(crate) fn gives_text(instr: &FieldPart, entry: &Entry, form: &[u8]) -> bool
             Entry::Undefined | Entry::Empty => false,
         },
         Operator::Default => match &instr.initial {
-            Some(value) => is_string_of(value, form),
+            Some(initial) => is_string_of(initial.value(), form),
             None => false,
         },
         Operator::Plain

@@ -29,7 +29,7 @@ fn initial_number(kind: Kind, instr: &FieldPart) -> Option<i128>
     ensures { IsNumberIn kind instr.now.initial result }
 {
     match &instr.initial {
-        Some(value) => number_of(kind, value),
+        Some(initial) => number_of(kind, initial.value()),
         None => None,
     }
 }
@@ -193,7 +193,7 @@ fn gives_constant(instr: &FieldPart, entry: &Entry) -> bool
         → Relays instr.now entry.now entry.now v bytes bytes out out) }
 {
     match &instr.initial {
-        Some(value) => fits(instr, value),
+        Some(initial) => fits(instr, initial.value()),
         None => false,
     }
 }

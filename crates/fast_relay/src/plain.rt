@@ -87,7 +87,7 @@ fn may_be_left_out(instr: &FieldPart, entry: &Entry, form: &[u8]) -> bool
 {
     match instr.operator {
         Operator::Plain => false,
-        Operator::Default => match &instr.initial {
+        Operator::Default => match instr.initial() {
             None => false,
             Some(Scalar::Ascii(text)) => is_text_of(text.as_slice(), form),
             Some(_) => true,

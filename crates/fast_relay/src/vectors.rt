@@ -200,7 +200,7 @@ fn may_be_left_out(instr: &FieldPart, entry: &Entry, part: &[u8]) -> bool
         Operator::Plain => false,
         Operator::Default => match &instr.initial {
             None => false,
-            Some(value) => *units(value) == *part,
+            Some(initial) => *units(initial.value()) == *part,
         },
         Operator::Copy => match entry {
             Entry::Assigned(value) => *units(value) == *part,

@@ -6,6 +6,7 @@
 #![tactic(auto)]
 
 mod bits;
+mod initial;
 pub mod laws;
 mod resolved;
 mod set;
@@ -14,5 +15,6 @@ pub use bits::{has_map, needs_bit, part_needs_bit};
 pub use fast_value::{
     ByteString, Key, Kind, Name, Operator, Part, Presence, Scalar, Scope, UnicodeText,
 };
+pub use initial::Initial;
 pub use resolved::{FieldPart, Flat, FlatTemplate};
 pub use set::TemplateSet;

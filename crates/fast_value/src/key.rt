@@ -9,54 +9,73 @@ use crate::kind::Part;
 use std::alloc::{AllocError, Global};
 use std::cmp::Ordering;
 use std::marker::Model;
+use std::rc::Rc;
 
 /// A name of a template, a field, a key, a dictionary or a type. A contract sees its bytes.
+///
+/// Copies of a name share its text.
 #[derive(Debug, Drop)]
 pub struct Name {
-    text: String,
+    // none: the empty name, which takes no memory
+    text: Option<Rc<String>>,
 }
 
 impl Model for Name {
-    ghost use Rattle.std.specs.Prelude.{List, ℕ, string_bytes};
+    ghost use Rattle.std.specs.Prelude.{[], List, ℕ, string_bytes};
+    ghost use Rattle.std.specs.Option.{option_map_or};
 
     ghost Value = { List ℕ };
 
-    ghost view = { λ n. string_bytes n.text };
+    ghost view = { λ n. option_map_or (λ t. string_bytes t.value) n.text [] };
 }
 
 impl Name {
-    /// The name that a string spells. Takes no memory.
-    pub fn from_string(text: String) -> Name
-        ensures { result ≡ string_bytes text }
+    ghost use Rattle.std.specs.Prelude.{[]};
+
+    /// The name without a byte. Takes no memory.
+    pub fn empty() -> Name
+        ensures { result ≡ [] }
     {
-        Self { text }
+        Self { text: None }
     }
 
-    /// The string that spells this name. Takes no memory.
-    pub fn into_string(self) -> String
-        ensures { string_bytes result ≡ self }
+    /// The name that a text is.
+    ///
+    /// # Errors
+    ///
+    /// Where memory is refused.
+    pub fn of(alloc: Global, text: &str) -> Result<Name, AllocError>
+        ensures { IfOk result (λ name. name ≡ text.now) }
     {
-        let Name { text } = self;
-        text
+        let text = Rc::new(alloc, String::from_str(alloc, text)?)?;
+        Ok(Name { text: Some(text) })
     }
 
     /// The name as text.
     pub fn as_str(&self) -> &str
         ensures { result.now ≡ self.now }
     {
-        self.text.as_str()
+        match &self.text {
+            Some(text) => text.as_str(),
+            None => "",
+        }
     }
 
-    /// The same name once more.
+    /// The same name once more, of the same text.
     ///
     /// # Errors
     ///
-    /// Where memory is refused.
-    pub fn copy(&self, alloc: Global) -> Result<Name, AllocError>
+    /// Where there are too many copies already to be counted.
+    pub fn copy(&self) -> Result<Name, AllocError>
         ensures { IfOk result (λ other. other ≡ self.now) }
     {
-        let text = String::from_str(alloc, self.as_str())?;
-        Ok(Name { text })
+        match &self.text {
+            Some(text) => {
+                let text = text.clone()?;
+                Ok(Name { text: Some(text) })
+            }
+            None => Ok(Name::empty()),
+        }
     }
 }
 
@@ -116,15 +135,15 @@ impl Scope {
     ///
     /// # Errors
     ///
-    /// Where memory is refused.
-    pub fn copy(&self, alloc: Global) -> Result<Scope, AllocError>
+    /// Where a name has too many copies already to be counted.
+    pub fn copy(&self) -> Result<Scope, AllocError>
         ensures { IfOk result (λ other. other ≡ self.now) }
     {
         match self {
             Scope::Global => Ok(Scope::Global),
             Scope::Template(place) => Ok(Scope::Template(*place)),
-            Scope::Typed(name) => Ok(Scope::Typed(name.copy(alloc)?)),
-            Scope::User(name) => Ok(Scope::User(name.copy(alloc)?)),
+            Scope::Typed(name) => Ok(Scope::Typed(name.copy()?)),
+            Scope::User(name) => Ok(Scope::User(name.copy()?)),
         }
     }
 }
@@ -144,18 +163,18 @@ pub struct Key {
 }
 
 impl Key {
-    /// The same key once more.
+    /// The same key once more, of the same texts.
     ///
     /// # Errors
     ///
-    /// Where memory is refused.
-    pub fn copy(&self, alloc: Global) -> Result<Key, AllocError>
+    /// Where a name has too many copies already to be counted.
+    pub fn copy(&self) -> Result<Key, AllocError>
         ensures { IfOk result (λ other. other ≡ self.now) }
     {
         Ok(Key {
             slot: self.slot,
-            scope: self.scope.copy(alloc)?,
-            name: self.name.copy(alloc)?,
+            scope: self.scope.copy()?,
+            name: self.name.copy()?,
             part: self.part,
         })
     }

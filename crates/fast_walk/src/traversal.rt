@@ -74,7 +74,7 @@ impl<'a> Traversal<'a> {
                 key: Key {
                     slot: 0,
                     scope: Scope::Global,
-                    name: Name::from_string(String::new(alloc)),
+                    name: Name::empty(),
                     part: Part::Whole,
                 },
                 initial: None,

@@ -132,7 +132,8 @@ fn has_initial(part: &FieldPart) -> bool
 {
     match &part.initial {
         None => true,
-        Some(value) => {
+        Some(initial) => {
+            let value = initial.value();
             is_of_kind(part.kind, value) && is_near(part.part, value) && is_scalar(value)
         }
     }

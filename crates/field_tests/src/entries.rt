@@ -15,7 +15,7 @@ fn key(alloc: Global, slot: u32, name: &str) -> Result<Key, AllocError> {
     Ok(Key {
         slot,
         scope: Scope::Global,
-        name: Name::from_string(String::from_str(alloc, name)?),
+        name: Name::of(alloc, name)?,
         part: Part::Whole,
     })
 }

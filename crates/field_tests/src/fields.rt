@@ -9,7 +9,8 @@ ghost use Rattle.fast_field.specs.Parts.{IsFieldPart};
 
 use fast_dictionary::Entry;
 use fast_template::{
-    ByteString, FieldPart, Key, Kind, Name, Operator, Part, Presence, Scalar, Scope, UnicodeText,
+    ByteString, FieldPart, Initial, Key, Kind, Name, Operator, Part, Presence, Scalar, Scope,
+    UnicodeText,
 };
 use std::alloc::{AllocError, Global};
 
@@ -25,7 +26,10 @@ pub(crate) fn part_of(
     ensures { IfOk result (λ i. (i.part ≡ part) × (i.kind ≡ kind) × (i.presence ≡ presence)
         × (i.operator ≡ operator) × (i.initial ≡ initial)) }
 {
-    let name = Name::from_string(String::from_str(alloc, "F")?);
+    let initial = match initial {
+        Some(value) => Some(Initial::of(alloc, value)?),
+        None => None,
+    };
     Ok(FieldPart {
         number: 1,
         part,
@@ -36,7 +40,7 @@ pub(crate) fn part_of(
         key: Key {
             slot: 1,
             scope: Scope::Global,
-            name,
+            name: Name::of(alloc, "F")?,
             part,
         },
     })

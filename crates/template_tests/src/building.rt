@@ -525,7 +525,7 @@ fn keys_are_those_where_an_instruction_was_written(rt: HostRuntime) -> Result<()
 }
 
 fn begins_with_seven(rt: &impl Abort, part: &FieldPart) {
-    same(rt, &part.initial, &Some(Scalar::U32(7)));
+    same(rt, part.initial(), Some(&Scalar::U32(7)));
 }
 
 // Each field of a template begins with the number 7, and there are so many.

@@ -9,7 +9,7 @@ use std::alloc::{AllocError, Global};
 use std::process::Abort;
 
 fn name(alloc: Global, text: &str) -> Result<Name, AllocError> {
-    Ok(Name::from_string(String::from_str(alloc, text)?))
+    Name::of(alloc, text)
 }
 
 fn key(alloc: Global, text: &str, part: Part) -> Result<Key, AllocError> {
@@ -112,7 +112,7 @@ fn copies_of_keys_are_equal(rt: HostRuntime) -> Result<(), AllocError> {
         name: name(alloc, "L")?,
         part: Part::Length,
     };
-    same(&rt, key.copy(alloc)?, key);
+    same(&rt, key.copy()?, key);
     Ok(())
 }
 

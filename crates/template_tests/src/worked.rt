@@ -32,7 +32,7 @@ fn keyed_line(alloc: Global, part: &FieldPart) -> Result<String, AllocError> {
 // The same, and its initial value behind it.
 fn part_line(alloc: Global, part: &FieldPart) -> Result<String, AllocError> {
     let mut line = keyed_line(alloc, part)?;
-    if let Some(initial) = &part.initial {
+    if let Some(initial) = part.initial() {
         line.push_str(" ")?;
         line.push_str(&initial_line(alloc, initial)?)?;
     }

@@ -41,7 +41,7 @@ impl<'a, E: Entries> Encoder<'a, E> {
                 key: Key {
                     slot: 0,
                     scope: Scope::Global,
-                    name: Name::from_string(String::new(alloc)),
+                    name: Name::empty(),
                     part: Part::Whole,
                 },
                 initial: None,

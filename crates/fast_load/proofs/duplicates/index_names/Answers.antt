@@ -11,9 +11,9 @@ loop-template-preserved c =
     let l = c.loop-template in
     let within : l.template-index < length c.args.templates.now = search rules in
     let at : get_or c.args.templates.now l.template-index c.template-item.result ≡ c.template-item.result = search rules in
-    let named : c.from_string-name.result ≡ string_bytes c.template-item.result.name = search rules in
-    let no_name : false ≡ is_some (get (slice_cmp nat_cmp) l.names c.from_string-name.result) = search rules in
-    let updates : Updates (slice_cmp nat_cmp) l.names c.enter_name.new.names c.from_string-name.result (Some l.place) = c.enter_name.ensures.updates (c.in_ok-enter_name.was ∙ ap Ok c.if-branch.false) in
+    let named : c.in_ok-name.name ≡ string_bytes c.template-item.result.name = search rules in
+    let no_name : false ≡ is_some (get (slice_cmp nat_cmp) l.names c.in_ok-name.name) = search rules in
+    let updates : Updates (slice_cmp nat_cmp) l.names c.enter_name.new.names c.in_ok-name.name (Some l.place) = c.enter_name.ensures.updates (c.in_ok-enter_name.was ∙ ap Ok c.if-branch.false) in
     let no_id : false ≡ has_entry l.ids c.template-item.result.id = search rules in
     let enters : EntersId l.ids c.enter_id.new.ids c.template-item.result.id l.place = c.enter_id.ensures.updates (c.in_ok-enter_id.was ∙ ap Ok c.if-branch-2.false) in
     let so : IndexedUpTo l.names l.ids c.args.templates.now l.template-index _ = record { names_lead = l.invariant.1; ids_lead = l.invariant.2; answers = l.invariant.3 } in

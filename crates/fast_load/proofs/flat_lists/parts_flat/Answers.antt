@@ -10,6 +10,6 @@ use Rattle.fast_load.proofs.flat_lists.parts_flat.Goals as goal
 
 pub returns : goal.returns
 returns c =
-    parts_made c.args.name.now c.in_ok-name_of.field-0 c.args.presence (exponent_part (context_in c.args.around) c.args.name.now c.args.presence (operation_of c.args.exponent.now)) (mantissa_part (context_in c.args.around) c.args.name.now (operation_of c.args.mantissa.now)) c.in_ok-part_of.field-0 c.in_ok-part_of-2.field-0 c.in_ok-name_of.ensures
+    parts_made c.args.name.now c.in_ok-of.field-0 c.args.presence (exponent_part (context_in c.args.around) c.args.name.now c.args.presence (operation_of c.args.exponent.now)) (mantissa_part (context_in c.args.around) c.args.name.now (operation_of c.args.mantissa.now)) c.in_ok-part_of.field-0 c.in_ok-part_of-2.field-0 c.in_ok-of.ensures
     (c.in_ok-part_of.ensures (context_in c.args.around) ∙ ap (part_of (context_in c.args.around) Exponent Int32 c.args.presence (operation_of c.args.exponent.now)) c.in_ok-exponent_key.ensures)
     (c.in_ok-part_of-2.ensures (context_in c.args.around) ∙ ap (part_of (context_in c.args.around) Mantissa Int64 Mandatory (operation_of c.args.mantissa.now)) c.in_ok-mantissa_key.ensures)
