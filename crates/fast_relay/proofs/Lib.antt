@@ -6,3 +6,4 @@ mod NullRelaying
 mod VectorTexts
 mod Taking
 pub mod Giving
+mod Standing

@@ -1,16 +1,18 @@
 //! Numbers as they are read and written where they are relayed. All is inline, since the type is mostly known where it is
 //! called.
 
-ghost use Rattle.std.specs.Prelude.{◌≡◌, ◌≤◌, ◌^◌, ◌<ℤ◌, pos, negsuc, length, drop, IfSome};
+ghost use Rattle.std.specs.Prelude.{◌≡◌, ◌≤◌, ◌++◌, ◌^◌, ◌<ℤ◌, pos, negsuc, length, drop, false, slice_range, IfSome, IfErr, OnOk, OnErr};
+ghost use Rattle.fast_wire.specs.Entity.{IsEntity};
 ghost use Rattle.fast_value.specs.Scalar.{of_integer};
-ghost use Rattle.fast_field.specs.Chosen.{AppendsOne, ShortestWhole};
+ghost use Rattle.fast_field.specs.Chosen.{AppendsOne, IsSmall, ShortestSigned, ShortestWhole};
 ghost use Rattle.fast_field.specs.Numbers.{IsNumber};
+ghost use Rattle.fast_field.specs.Spelled.{overlong_number};
 ghost use Rattle.fast_field.specs.Values as values;
 ghost use Rattle.fast_relay.specs.Numbers.{Spelt, SpeltNull};
 
 use fast_field::{write_signed, write_unsigned};
 use fast_template::{Kind, Presence};
-use fast_wire::{Nullable, WireFault};
+use fast_wire::{Nullable, WireFault, overlong_signed, overlong_unsigned};
 
 /// Whether the integers of a type have no sign.
 #[inline(always)]
@@ -101,5 +103,96 @@ pub(crate) fn write_number(
         Kind::UInt32 | Kind::UInt64 => write_unsigned(presence, number as u64, out),
         Kind::Int32 | Kind::Int64 => write_signed(presence, number, out),
         Kind::Decimal | Kind::Ascii | Kind::Unicode | Kind::Bytes => unreachable!(),
+    }
+}
+
+/// Whether the entity that stands from one place to the next has a needless group in front.
+#[inline(always)]
+fn is_overlong(unsigned: bool, bytes: &[u8], at: usize, next: usize) -> bool
+    requires place { at ≤ next }
+    requires within { next ≤ length bytes.now }
+    requires entity { IsEntity (slice_range bytes.now at next) }
+    ensures { result ≡ overlong_number unsigned (slice_range bytes.now at next) }
+{
+    let form = &bytes[at..next];
+    if unsigned {
+        overlong_unsigned(form)
+    } else {
+        overlong_signed(form)
+    }
+}
+
+/// Appends the bytes of a form, or nothing. Most have one byte.
+#[inline(always)]
+fn append_form(form: &[u8], out: &mut Vec<u8>) -> Result<(), WireFault>
+    ensures appended { OnOk result (out.new.items ≡ out.old.items ++ form.now) }
+    ensures refused { IfErr result (λ e. e ≡ WireFault.Memory) }
+    ensures unchanged { OnErr result (out.new.items ≡ out.old.items) }
+{
+    if form.len() == 1 {
+        match out.push(form[0]) {
+            Err(_) => Err(WireFault::Memory),
+            Ok(()) => Ok(()),
+        }
+    } else {
+        match out.extend_from_slice(form) {
+            Err(_) => Err(WireFault::Memory),
+            Ok(()) => Ok(()),
+        }
+    }
+}
+
+/// Appends a number that was read, in the shortest form: its bytes as they stand, where they are it. Or nothing.
+#[inline(always)]
+pub(crate) fn copy_number(
+    kind: Kind,
+    presence: Presence,
+    number: i128,
+    bytes: &[u8],
+    at: usize,
+    next: usize,
+    out: &mut Vec<u8>,
+) -> Result<(), WireFault>
+    requires number { IsNumber kind number }
+    requires place { at ≤ next }
+    requires within { next ≤ length bytes.now }
+    requires spelt { Spelt (values.is_unsigned kind) presence (drop at bytes.now)
+        number (drop next bytes.now) }
+    ensures { AppendsOne (ShortestWhole presence (of_integer kind number))
+        out.old.items out.new.items result }
+{
+    if is_overlong(is_unsigned(kind), bytes, at, next) {
+        write_number(kind, presence, number, out)
+    } else {
+        match append_form(&bytes[at..next], out) {
+            Err(fault) => Err(fault),
+            Ok(()) => Ok(()),
+        }
+    }
+}
+
+/// The same of a number with a sign that is no value: what is added to one.
+#[inline(always)]
+pub(crate) fn copy_signed(
+    presence: Presence,
+    number: i128,
+    bytes: &[u8],
+    at: usize,
+    next: usize,
+    out: &mut Vec<u8>,
+) -> Result<(), WireFault>
+    requires small { IsSmall number }
+    requires place { at ≤ next }
+    requires within { next ≤ length bytes.now }
+    requires spelt { Spelt false presence (drop at bytes.now) number (drop next bytes.now) }
+    ensures { AppendsOne (ShortestSigned presence number) out.old.items out.new.items result }
+{
+    if is_overlong(false, bytes, at, next) {
+        write_signed(presence, number, out)
+    } else {
+        match append_form(&bytes[at..next], out) {
+            Err(fault) => Err(fault),
+            Ok(()) => Ok(()),
+        }
     }
 }

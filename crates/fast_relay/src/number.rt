@@ -14,12 +14,10 @@ ghost use Rattle.fast_relay.specs.Numbers.{IsNumberIn, MayGive, SpellsWhole};
 ghost use Rattle.fast_relay.specs.Relayed.{IfElsewhere, IfRelayed, Relays, RelaysAs};
 
 use crate::given::gives_number;
-use crate::integers::{is_unsigned, read_short, write_number};
+use crate::integers::{copy_number, copy_signed, is_unsigned, read_short};
 use crate::relayed::Relayed;
 use fast_dictionary::Entry;
-use fast_field::{
-    fits, is_field_number, kept_number, number_after, number_of, set_number, write_signed,
-};
+use fast_field::{fits, is_field_number, kept_number, number_after, number_of, set_number};
 use fast_template::{FieldPart, Kind, Operator, Scalar};
 
 /// The number of an initial value.
@@ -135,7 +133,7 @@ fn relay_whole(
         }
         return None;
     }
-    match write_number(kind, instr.presence, number, out) {
+    match copy_number(kind, instr.presence, number, bytes, at, next, out) {
         Ok(()) => {
             keep_whole(kind, instr.operator, entry, number);
             Some((number, true, next))
@@ -176,7 +174,7 @@ fn relay_delta(
     if !is_field_number(kind, instr.part, number) {
         return None;
     }
-    match write_signed(instr.presence, delta, out) {
+    match copy_signed(instr.presence, delta, bytes, at, next, out) {
         Ok(()) => {
             set_number(kind, entry, number);
             Some((number, next))
