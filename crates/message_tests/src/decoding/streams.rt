@@ -11,7 +11,7 @@ use crate::worked::{QUOTE, quote, text, worked};
 use fast_decoder::{Decoder, MessageInputStream, Mode};
 use fast_dictionary::{Entries, MapEntries};
 use fast_io::{ByteInput, Counted, ScriptInput};
-use fast_load::Load;
+use fast_build::Load;
 use fast_stream::{Cause, Fault, Message, Node};
 use fast_template::{ByteString, Scalar, TemplateSet};
 use std::alloc::{AllocError, Global};

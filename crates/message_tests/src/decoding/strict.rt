@@ -5,7 +5,7 @@ use crate::decoding::streams::{Row, Sent, Shown, all_read_in, each_read, is_read
 use crate::modes::{PLAIN, STRICT};
 use crate::same::same;
 use crate::worked::worked;
-use fast_load::Load;
+use fast_build::Load;
 use fast_stream::Cause;
 use fast_template::TemplateSet;
 use std::alloc::{AllocError, Global};

@@ -10,7 +10,7 @@ use fast_decoder::Decoder;
 use fast_dictionary::{Entries, MapEntries};
 use fast_encoder::{EncodeCause, EncodeFault, Encoder, MessageOutputStream};
 use fast_io::{ByteOutput, Counted, ScriptOutput};
-use fast_load::Load;
+use fast_build::Load;
 use fast_stream::{Message, Node};
 use fast_template::{Scalar, TemplateSet, UnicodeText};
 use std::alloc::{AllocError, Global};
