@@ -46,8 +46,9 @@ const TWO: &[Sent] = &[
 ];
 
 #[test]
-fn blocks_of_messages(rt: HostRuntime) -> Result<(), AllocError> {
-    const ROWS: &[Row] = &[
+fn streams_in_blocks(rt: HostRuntime) -> Result<(), AllocError> {
+    const READ_BLOCKS: &[Row] = &[
+        // blocks of messages
         Row {
             stream: b"",
             want: &[],
@@ -84,13 +85,7 @@ fn blocks_of_messages(rt: HostRuntime) -> Result<(), AllocError> {
             want: TWO,
             end: End::Whole,
         },
-    ];
-    all_read_in(&rt, rt.alloc(), BLOCKS, ROWS)
-}
-
-#[test]
-fn sizes(rt: HostRuntime) -> Result<(), AllocError> {
-    const ROWS: &[Row] = &[
+        // sizes
         Row {
             stream: b"\x80",
             want: &[],
@@ -167,13 +162,7 @@ fn sizes(rt: HostRuntime) -> Result<(), AllocError> {
             want: &[],
             end: End::Fault(Cause::D5, 1, 11, 0, 0),
         },
-    ];
-    all_read_in(&rt, rt.alloc(), BLOCKS, ROWS)
-}
-
-#[test]
-fn ends_of_blocks(rt: HostRuntime) -> Result<(), AllocError> {
-    const ROWS: &[Row] = &[
+        // ends of blocks
         Row {
             stream: b"\x87\xF0\x81\x81\x41\xC2\xFE\x00\xE4",
             want: &[],
@@ -306,12 +295,8 @@ fn ends_of_blocks(rt: HostRuntime) -> Result<(), AllocError> {
             end: End::Fault(Cause::BlockEnd, 1, 3, 11, 1),
         },
     ];
-    all_read_in(&rt, rt.alloc(), BLOCKS, ROWS)
-}
-
-#[test]
-fn strict_blocks(rt: HostRuntime) -> Result<(), AllocError> {
-    const ROWS: &[Row] = &[
+    const READ_STRICT_BLOCKS: &[Row] = &[
+        // strict blocks
         Row {
             stream: b"\x88\xF0\x81\x81\x41\xC2\xFE\x00\xE4",
             want: ONE,
@@ -395,7 +380,8 @@ fn strict_blocks(rt: HostRuntime) -> Result<(), AllocError> {
             end: End::Fault(Cause::BlockEnd, 1, 3, 1, 1),
         },
     ];
-    all_read_in(&rt, rt.alloc(), STRICT_BLOCKS, ROWS)
+    all_read_in(&rt, rt.alloc(), BLOCKS, READ_BLOCKS)?;
+    all_read_in(&rt, rt.alloc(), STRICT_BLOCKS, READ_STRICT_BLOCKS)
 }
 
 // A size is held, and no byte between two blocks; `finish` is refused inside a block, and a reset begins outside of one.
