@@ -488,27 +488,55 @@ fn block_each(alloc: Global, pieces: &[&[u8]], more: usize) -> Result<Vec<u8>, A
     Ok(stream)
 }
 
+// The messages of a plain stream, and how it ends.
+fn plain_read(
+    alloc: Global,
+    set: &TemplateSet,
+    plain: &[u8],
+    want: &mut Vec<Message>,
+) -> Option<Fault> {
+    let mut decoder = Decoder::new(alloc, set, PLAIN, MapEntries::new(alloc));
+    plain_end(&mut decoder, plain, want)
+}
+
+// Whether the messages of a plain stream are the same in one block, which has room for so many bytes more.
+fn same_in_one(
+    alloc: Global,
+    set: &TemplateSet,
+    plain: &[u8],
+    want: &[Message],
+    fault: Option<Fault>,
+    more: usize,
+) -> Result<bool, AllocError> {
+    let mut block = Vec::new(alloc);
+    push_block(&mut block, plain.len().saturating_add(more), plain)?;
+    agrees(alloc, set, BLOCKS, &block, want, moved(fault, 1))
+}
+
+// Whether they are the same in a block each.
+fn same_in_each(
+    alloc: Global,
+    set: &TemplateSet,
+    pieces: &[&[u8]],
+    want: &[Message],
+    fault: Option<Fault>,
+    more: usize,
+) -> Result<bool, AllocError> {
+    let blocks = block_each(alloc, pieces, more)?;
+    let count = pieces.len() as u64;
+    agrees(alloc, set, BLOCKS, &blocks, want, moved(fault, count))
+}
+
 // Whether messages, the last of which may be refused, are the same in one block, and in a block each, as they are
 // plain. A block that is refused has room for one byte more, so that none ends too early.
 fn same_in_blocks(alloc: Global, set: &TemplateSet, pieces: &[&[u8]]) -> Result<bool, AllocError> {
     let plain = joined(alloc, pieces)?;
     let mut want = Vec::new(alloc);
-    let mut decoder = Decoder::new(alloc, set, PLAIN, MapEntries::new(alloc));
-    let fault = plain_end(&mut decoder, &plain, &mut want);
+    let fault = plain_read(alloc, set, &plain, &mut want);
     let more = if fault.is_some() { 1 } else { 0 };
-    let mut block = Vec::new(alloc);
-    push_block(&mut block, plain.len().saturating_add(more), &plain)?;
-    let blocks = block_each(alloc, pieces, more)?;
     Ok(
-        agrees(alloc, set, BLOCKS, &block, &want, moved(fault, 1))?
-            && agrees(
-                alloc,
-                set,
-                BLOCKS,
-                &blocks,
-                &want,
-                moved(fault, pieces.len() as u64),
-            )?,
+        same_in_one(alloc, set, &plain, &want, fault, more)?
+            && same_in_each(alloc, set, pieces, &want, fault, more)?,
     )
 }
 
