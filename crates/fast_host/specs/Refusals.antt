@@ -73,7 +73,6 @@ of_template_text_lem text.Read = refusal.Read
 of_template_text_lem text.Turns = refusal.Turns
 of_template_text_lem text.Memory = refusal.Memory
 
-
 -- the line of refused templates
 abbrev pub templates_line_of : LoadFault → List ℕ
 templates_line_of fault =
@@ -109,7 +108,6 @@ of_hex_lem hex.NotHex = refusal.NotHex
 of_hex_lem hex.Memory = refusal.Memory
 
 -- ---- streams
-
 
 -- a place as text
 abbrev pub place_text_of : Place → List ℕ

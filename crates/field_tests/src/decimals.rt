@@ -1,53 +1,14 @@
 //! Rows on decimals that are relayed at once.
 
 use crate::fields::{Kept, Shape, Value};
-use crate::relaying::{Answer, NotRelayed, Relayed, is_left, is_relayed};
-use fast_relay::relay_decimal;
-use fast_template::{FieldPart, Kind, Operator};
-use std::alloc::{AllocError, Global};
-use std::process::Abort;
-
-fn relay_with(
-    alloc: Global,
-    instr: &FieldPart,
-    before: Kept,
-    bytes: &[u8],
-) -> Result<Answer, AllocError> {
-    let mut out = vec![in alloc; 0x2a]?;
-    let mut entry = before.entry(alloc)?;
-    let told = relay_decimal(instr, &mut entry, bytes, bytes.len().min(1), &mut out);
-    Ok(Answer { told, entry, out })
-}
-
-pub(crate) fn relay(
-    alloc: Global,
-    of: Shape,
-    before: Kept,
-    bytes: &[u8],
-) -> Result<Answer, AllocError> {
-    let instr = of.instr(alloc)?;
-    relay_with(alloc, &instr, before, bytes)
-}
-
-fn all_relayed(rt: &impl Abort, alloc: Global, rows: &[Relayed]) -> Result<(), AllocError> {
-    for row in rows {
-        let answer = relay(alloc, row.of, row.before, row.bytes)?;
-        is_relayed(rt, alloc, answer, row)?;
-    }
-    Ok(())
-}
-
-fn none_relayed(rt: &impl Abort, alloc: Global, rows: &[NotRelayed]) -> Result<(), AllocError> {
-    for row in rows {
-        let answer = relay(alloc, row.of, row.before, row.bytes)?;
-        is_left(rt, alloc, answer, row.before)?;
-    }
-    Ok(())
-}
+use crate::relaying::{Call, NotRelayed, Relayed, all_relayed, none_relayed};
+use fast_template::{Kind, Operator};
+use std::alloc::AllocError;
 
 #[test]
-fn differences_are_relayed(rt: HostRuntime) -> Result<(), AllocError> {
-    const ROWS: &[Relayed] = &[
+fn decimals_that_are_relayed(rt: HostRuntime) -> Result<(), AllocError> {
+    const RELAYED: &[Relayed] = &[
+        // differences are relayed
         Relayed {
             of: Shape::Mandatory(Kind::Decimal, Operator::Delta),
             before: Kept::Assigned(Value::Decimal(-2, 7)),
@@ -71,13 +32,7 @@ fn differences_are_relayed(rt: HostRuntime) -> Result<(), AllocError> {
             appended: &[0x82, 0xfe],
             after: Kept::Assigned(Value::Decimal(-1, 5)),
         },
-    ];
-    all_relayed(&rt, rt.alloc(), ROWS)
-}
-
-#[test]
-fn whole_decimals_are_relayed(rt: HostRuntime) -> Result<(), AllocError> {
-    const ROWS: &[Relayed] = &[
+        // whole decimals are relayed
         Relayed {
             of: Shape::Mandatory(Kind::Decimal, Operator::Copy),
             before: Kept::Assigned(Value::Decimal(-2, 7)),
@@ -108,12 +63,8 @@ fn whole_decimals_are_relayed(rt: HostRuntime) -> Result<(), AllocError> {
             after: Kept::Undefined,
         },
     ];
-    all_relayed(&rt, rt.alloc(), ROWS)
-}
-
-#[test]
-fn the_rest_goes_the_general_way(rt: HostRuntime) -> Result<(), AllocError> {
-    const ROWS: &[NotRelayed] = &[
+    const OTHERS: &[NotRelayed] = &[
+        // the rest goes the general way
         // NULL
         NotRelayed {
             of: Shape::Optional(Kind::Decimal, Operator::Delta),
@@ -149,5 +100,6 @@ fn the_rest_goes_the_general_way(rt: HostRuntime) -> Result<(), AllocError> {
             bytes: &[0xff, 0x81, 0xfe],
         },
     ];
-    none_relayed(&rt, rt.alloc(), ROWS)
+    all_relayed(&rt, rt.alloc(), Call::Decimal, RELAYED)?;
+    none_relayed(&rt, rt.alloc(), Call::Decimal, OTHERS)
 }

@@ -5,8 +5,8 @@ ghost use Rattle.fast_template.specs.Resolved.{instruction_of, keys_of_one};
 ghost use Rattle.fast_template.specs.TemplateSets.{keys_in};
 
 use crate::same::same;
-use fast_dictionary::{Entries, Entry, EntryRef, MapEntries, SlotEntries};
 use fast_build::{Load, LoadCause, LoadFault};
+use fast_dictionary::{Entries, Entry, EntryRef, MapEntries, SlotEntries};
 use fast_template::{Flat, Key, Name, Part, Scalar, Scope, TemplateSet, UnicodeText};
 use std::alloc::{AllocError, Global};
 use std::process::Abort;

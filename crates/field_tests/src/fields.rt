@@ -66,7 +66,7 @@ pub(crate) fn ascii(alloc: Global, text: &[u8]) -> Result<Scalar, AllocError>
     Ok(Scalar::Ascii(ByteString::from_vec(text.to_vec(alloc)?)))
 }
 
-pub(crate) fn unicode(alloc: Global, text: &str) -> Result<Scalar, AllocError> {
+fn unicode(alloc: Global, text: &str) -> Result<Scalar, AllocError> {
     let text = String::from_str(alloc, text)?;
     Ok(Scalar::Unicode(UnicodeText::from_string(text)))
 }

@@ -1,47 +1,14 @@
 //! Rows on values that were sent although bit 0 gives them.
 
 use crate::fields::{Kept, Shape, Value};
-use crate::relaying::{Given, is_given};
-use crate::{decimals, nulls, numbers, texts};
+use crate::relaying::{Call, Given, all_given};
 use fast_template::{Kind, Operator, Presence};
-use std::alloc::{AllocError, Global};
-use std::process::Abort;
-
-fn numbers_are_given(rt: &impl Abort, alloc: Global, rows: &[Given]) -> Result<(), AllocError> {
-    for row in rows {
-        let answer = numbers::relay(alloc, row.of, row.before, row.bytes)?;
-        is_given(rt, alloc, answer, row)?;
-    }
-    Ok(())
-}
-
-fn nulls_are_given(rt: &impl Abort, alloc: Global, rows: &[Given]) -> Result<(), AllocError> {
-    for row in rows {
-        let answer = nulls::relay(alloc, row.of, row.before, row.bytes)?;
-        is_given(rt, alloc, answer, row)?;
-    }
-    Ok(())
-}
-
-fn texts_are_given(rt: &impl Abort, alloc: Global, rows: &[Given]) -> Result<(), AllocError> {
-    for row in rows {
-        let answer = texts::relay(alloc, row.of, row.before, row.bytes)?;
-        is_given(rt, alloc, answer, row)?;
-    }
-    Ok(())
-}
-
-fn decimals_are_given(rt: &impl Abort, alloc: Global, rows: &[Given]) -> Result<(), AllocError> {
-    for row in rows {
-        let answer = decimals::relay(alloc, row.of, row.before, row.bytes)?;
-        is_given(rt, alloc, answer, row)?;
-    }
-    Ok(())
-}
+use std::alloc::AllocError;
 
 #[test]
-fn numbers_that_bit_0_gives(rt: HostRuntime) -> Result<(), AllocError> {
-    const ROWS: &[Given] = &[
+fn values_that_bit_0_gives(rt: HostRuntime) -> Result<(), AllocError> {
+    const GIVEN_NUMBER: &[Given] = &[
+        // numbers that bit 0 gives
         Given {
             of: Shape::Mandatory(Kind::UInt32, Operator::Copy),
             before: Kept::Assigned(Value::U32(7)),
@@ -87,12 +54,8 @@ fn numbers_that_bit_0_gives(rt: HostRuntime) -> Result<(), AllocError> {
             after: Kept::Undefined,
         },
     ];
-    numbers_are_given(&rt, rt.alloc(), ROWS)
-}
-
-#[test]
-fn nulls_that_bit_0_gives(rt: HostRuntime) -> Result<(), AllocError> {
-    const ROWS: &[Given] = &[
+    const GIVEN_NULL: &[Given] = &[
+        // nulls that bit 0 gives
         Given {
             of: Shape::Optional(Kind::UInt32, Operator::Copy),
             before: Kept::Empty,
@@ -119,12 +82,8 @@ fn nulls_that_bit_0_gives(rt: HostRuntime) -> Result<(), AllocError> {
             after: Kept::Undefined,
         },
     ];
-    nulls_are_given(&rt, rt.alloc(), ROWS)
-}
-
-#[test]
-fn texts_that_bit_0_gives(rt: HostRuntime) -> Result<(), AllocError> {
-    const ROWS: &[Given] = &[
+    const GIVEN_TEXT: &[Given] = &[
+        // texts that bit 0 gives
         Given {
             of: Shape::Mandatory(Kind::Ascii, Operator::Copy),
             before: Kept::Assigned(Value::Ascii(b"AB")),
@@ -151,16 +110,17 @@ fn texts_that_bit_0_gives(rt: HostRuntime) -> Result<(), AllocError> {
             after: Kept::Assigned(Value::Ascii(b"xab")),
         },
     ];
-    texts_are_given(&rt, rt.alloc(), ROWS)
-}
-
-#[test]
-fn decimals_that_bit_0_gives(rt: HostRuntime) -> Result<(), AllocError> {
-    const ROWS: &[Given] = &[Given {
-        of: Shape::Mandatory(Kind::Decimal, Operator::Copy),
-        before: Kept::Assigned(Value::Decimal(1, -2)),
-        bytes: &[0xff, 0x81, 0xfe],
-        after: Kept::Assigned(Value::Decimal(1, -2)),
-    }];
-    decimals_are_given(&rt, rt.alloc(), ROWS)
+    const GIVEN_DECIMAL: &[Given] = &[
+        // decimals that bit 0 gives
+        Given {
+            of: Shape::Mandatory(Kind::Decimal, Operator::Copy),
+            before: Kept::Assigned(Value::Decimal(1, -2)),
+            bytes: &[0xff, 0x81, 0xfe],
+            after: Kept::Assigned(Value::Decimal(1, -2)),
+        },
+    ];
+    all_given(&rt, rt.alloc(), Call::Number, GIVEN_NUMBER)?;
+    all_given(&rt, rt.alloc(), Call::Null, GIVEN_NULL)?;
+    all_given(&rt, rt.alloc(), Call::Text, GIVEN_TEXT)?;
+    all_given(&rt, rt.alloc(), Call::Decimal, GIVEN_DECIMAL)
 }

@@ -2,11 +2,11 @@
 //! call makes its proof longer.
 
 use crate::fields::{Kept, Shape, Value};
-use crate::relaying::{Answer, NotRelayed, Relayed, is_left, is_relayed};
+use crate::relaying::{Call, NotRelayed, Relayed, all_relayed, none_relayed};
 use crate::same::same;
 use fast_dictionary::Entry;
 use fast_field::{Passed, pass_left_out};
-use fast_relay::{relay_number, relay_unsigned};
+use fast_relay::relay_unsigned;
 use fast_template::{FieldPart, Kind, Operator, Presence};
 use std::alloc::{AllocError, Global};
 use std::process::Abort;
@@ -39,44 +39,6 @@ fn passes(rt: &impl Abort, alloc: Global, row: &Passing) -> Result<(), AllocErro
 fn all_pass(rt: &impl Abort, alloc: Global, rows: &[Passing]) -> Result<(), AllocError> {
     for row in rows {
         passes(rt, alloc, row)?;
-    }
-    Ok(())
-}
-
-fn relay_with(
-    alloc: Global,
-    instr: &FieldPart,
-    before: Kept,
-    bytes: &[u8],
-) -> Result<Answer, AllocError> {
-    let mut out = vec![in alloc; 0x2a]?;
-    let mut entry = before.entry(alloc)?;
-    let told = relay_number(instr, &mut entry, bytes, bytes.len().min(1), &mut out);
-    Ok(Answer { told, entry, out })
-}
-
-pub(crate) fn relay(
-    alloc: Global,
-    of: Shape,
-    before: Kept,
-    bytes: &[u8],
-) -> Result<Answer, AllocError> {
-    let instr = of.instr(alloc)?;
-    relay_with(alloc, &instr, before, bytes)
-}
-
-fn all_relayed(rt: &impl Abort, alloc: Global, rows: &[Relayed]) -> Result<(), AllocError> {
-    for row in rows {
-        let answer = relay(alloc, row.of, row.before, row.bytes)?;
-        is_relayed(rt, alloc, answer, row)?;
-    }
-    Ok(())
-}
-
-fn none_relayed(rt: &impl Abort, alloc: Global, rows: &[NotRelayed]) -> Result<(), AllocError> {
-    for row in rows {
-        let answer = relay(alloc, row.of, row.before, row.bytes)?;
-        is_left(rt, alloc, answer, row.before)?;
     }
     Ok(())
 }
@@ -123,8 +85,9 @@ fn all_counted(rt: &impl Abort, alloc: Global, rows: &[Counted]) -> Result<(), A
 }
 
 #[test]
-fn kept_values_are_passed(rt: HostRuntime) -> Result<(), AllocError> {
+fn fields_that_are_passed(rt: HostRuntime) -> Result<(), AllocError> {
     const ROWS: &[Passing] = &[
+        // kept values are passed
         Passing {
             of: Shape::Mandatory(Kind::UInt32, Operator::Copy),
             before: Kept::Assigned(Value::U32(5)),
@@ -143,24 +106,14 @@ fn kept_values_are_passed(rt: HostRuntime) -> Result<(), AllocError> {
             answer: Passed::Elsewhere,
             after: Kept::Undefined,
         },
-    ];
-    all_pass(&rt, rt.alloc(), ROWS)
-}
-
-#[test]
-fn kept_texts_are_passed(rt: HostRuntime) -> Result<(), AllocError> {
-    const ROWS: &[Passing] = &[Passing {
-        of: Shape::Optional(Kind::Ascii, Operator::Tail),
-        before: Kept::Assigned(Value::Ascii(b"AB")),
-        answer: Passed::Present,
-        after: Kept::Assigned(Value::Ascii(b"AB")),
-    }];
-    all_pass(&rt, rt.alloc(), ROWS)
-}
-
-#[test]
-fn uint32_increments_are_passed(rt: HostRuntime) -> Result<(), AllocError> {
-    const ROWS: &[Passing] = &[
+        // kept texts are passed
+        Passing {
+            of: Shape::Optional(Kind::Ascii, Operator::Tail),
+            before: Kept::Assigned(Value::Ascii(b"AB")),
+            answer: Passed::Present,
+            after: Kept::Assigned(Value::Ascii(b"AB")),
+        },
+        // uint32 increments are passed
         Passing {
             of: Shape::Mandatory(Kind::UInt32, Operator::Increment),
             before: Kept::Assigned(Value::U32(5)),
@@ -185,13 +138,7 @@ fn uint32_increments_are_passed(rt: HostRuntime) -> Result<(), AllocError> {
             answer: Passed::Elsewhere,
             after: Kept::Undefined,
         },
-    ];
-    all_pass(&rt, rt.alloc(), ROWS)
-}
-
-#[test]
-fn increments_of_64_bits_are_passed(rt: HostRuntime) -> Result<(), AllocError> {
-    const ROWS: &[Passing] = &[
+        // increments of 64 bits are passed
         Passing {
             of: Shape::Optional(Kind::UInt64, Operator::Increment),
             before: Kept::Assigned(Value::U64(u64::MAX)),
@@ -210,13 +157,7 @@ fn increments_of_64_bits_are_passed(rt: HostRuntime) -> Result<(), AllocError> {
             answer: Passed::Present,
             after: Kept::Assigned(Value::I64(i64::MIN)),
         },
-    ];
-    all_pass(&rt, rt.alloc(), ROWS)
-}
-
-#[test]
-fn int32_increments_are_passed(rt: HostRuntime) -> Result<(), AllocError> {
-    const ROWS: &[Passing] = &[
+        // int32 increments are passed
         Passing {
             of: Shape::Mandatory(Kind::Int32, Operator::Increment),
             before: Kept::Assigned(Value::I32(i32::MAX)),
@@ -229,13 +170,7 @@ fn int32_increments_are_passed(rt: HostRuntime) -> Result<(), AllocError> {
             answer: Passed::Present,
             after: Kept::Assigned(Value::I32(0)),
         },
-    ];
-    all_pass(&rt, rt.alloc(), ROWS)
-}
-
-#[test]
-fn initial_values_are_passed(rt: HostRuntime) -> Result<(), AllocError> {
-    const ROWS: &[Passing] = &[
+        // initial values are passed
         Passing {
             of: Shape::Initial(Presence::Mandatory, Operator::Default, 7),
             before: Kept::Undefined,
@@ -248,13 +183,7 @@ fn initial_values_are_passed(rt: HostRuntime) -> Result<(), AllocError> {
             answer: Passed::Absent,
             after: Kept::Undefined,
         },
-    ];
-    all_pass(&rt, rt.alloc(), ROWS)
-}
-
-#[test]
-fn absent_fields_are_passed(rt: HostRuntime) -> Result<(), AllocError> {
-    const ROWS: &[Passing] = &[
+        // absent fields are passed
         Passing {
             of: Shape::Optional(Kind::Decimal, Operator::Copy),
             before: Kept::Empty,
@@ -279,13 +208,7 @@ fn absent_fields_are_passed(rt: HostRuntime) -> Result<(), AllocError> {
             answer: Passed::Absent,
             after: Kept::Undefined,
         },
-    ];
-    all_pass(&rt, rt.alloc(), ROWS)
-}
-
-#[test]
-fn mandatory_fields_are_not_absent(rt: HostRuntime) -> Result<(), AllocError> {
-    const ROWS: &[Passing] = &[
+        // mandatory fields are not absent
         Passing {
             of: Shape::Mandatory(Kind::UInt32, Operator::Copy),
             before: Kept::Empty,
@@ -304,13 +227,7 @@ fn mandatory_fields_are_not_absent(rt: HostRuntime) -> Result<(), AllocError> {
             answer: Passed::Elsewhere,
             after: Kept::Undefined,
         },
-    ];
-    all_pass(&rt, rt.alloc(), ROWS)
-}
-
-#[test]
-fn fields_without_a_bit_are_not_passed(rt: HostRuntime) -> Result<(), AllocError> {
-    const ROWS: &[Passing] = &[
+        // fields without a bit are not passed
         Passing {
             of: Shape::Optional(Kind::UInt32, Operator::Plain),
             before: Kept::Assigned(Value::U32(5)),
@@ -323,13 +240,7 @@ fn fields_without_a_bit_are_not_passed(rt: HostRuntime) -> Result<(), AllocError
             answer: Passed::Elsewhere,
             after: Kept::Assigned(Value::U32(5)),
         },
-    ];
-    all_pass(&rt, rt.alloc(), ROWS)
-}
-
-#[test]
-fn lengths_are_passed(rt: HostRuntime) -> Result<(), AllocError> {
-    const ROWS: &[Passing] = &[
+        // lengths are passed
         Passing {
             of: Shape::Length(Operator::Increment),
             before: Kept::Assigned(Value::U32(65_534)),
@@ -348,13 +259,7 @@ fn lengths_are_passed(rt: HostRuntime) -> Result<(), AllocError> {
             answer: Passed::Elsewhere,
             after: Kept::Assigned(Value::U32(65_536)),
         },
-    ];
-    all_pass(&rt, rt.alloc(), ROWS)
-}
-
-#[test]
-fn exponents_are_passed(rt: HostRuntime) -> Result<(), AllocError> {
-    const ROWS: &[Passing] = &[
+        // exponents are passed
         Passing {
             of: Shape::Exponent(Presence::Mandatory, Operator::Increment, None),
             before: Kept::Assigned(Value::I32(62)),
@@ -378,8 +283,9 @@ fn exponents_are_passed(rt: HostRuntime) -> Result<(), AllocError> {
 }
 
 #[test]
-fn uint32_copies_are_relayed(rt: HostRuntime) -> Result<(), AllocError> {
-    const ROWS: &[Relayed] = &[
+fn fields_that_are_relayed(rt: HostRuntime) -> Result<(), AllocError> {
+    const RELAYED: &[Relayed] = &[
+        // uint32 copies are relayed
         Relayed {
             of: Shape::Mandatory(Kind::UInt32, Operator::Copy),
             before: Kept::Assigned(Value::U32(5)),
@@ -402,13 +308,7 @@ fn uint32_copies_are_relayed(rt: HostRuntime) -> Result<(), AllocError> {
             appended: &[0x87],
             after: Kept::Assigned(Value::U32(7)),
         },
-    ];
-    all_relayed(&rt, rt.alloc(), ROWS)
-}
-
-#[test]
-fn int32_copies_are_relayed(rt: HostRuntime) -> Result<(), AllocError> {
-    const ROWS: &[Relayed] = &[
+        // int32 copies are relayed
         Relayed {
             of: Shape::Mandatory(Kind::Int32, Operator::Copy),
             before: Kept::Assigned(Value::I32(5)),
@@ -423,13 +323,7 @@ fn int32_copies_are_relayed(rt: HostRuntime) -> Result<(), AllocError> {
             appended: &[0xff],
             after: Kept::Assigned(Value::I32(-1)),
         },
-    ];
-    all_relayed(&rt, rt.alloc(), ROWS)
-}
-
-#[test]
-fn long_copies_are_relayed(rt: HostRuntime) -> Result<(), AllocError> {
-    const ROWS: &[Relayed] = &[
+        // long copies are relayed
         Relayed {
             of: Shape::Mandatory(Kind::UInt64, Operator::Copy),
             before: Kept::Undefined,
@@ -451,13 +345,7 @@ fn long_copies_are_relayed(rt: HostRuntime) -> Result<(), AllocError> {
             appended: &[0x0f, 0x7f, 0x7f, 0x7f, 0xff],
             after: Kept::Assigned(Value::U32(u32::MAX)),
         },
-    ];
-    all_relayed(&rt, rt.alloc(), ROWS)
-}
-
-#[test]
-fn optional_copies_are_relayed(rt: HostRuntime) -> Result<(), AllocError> {
-    const ROWS: &[Relayed] = &[
+        // optional copies are relayed
         Relayed {
             of: Shape::Optional(Kind::UInt32, Operator::Copy),
             before: Kept::Empty,
@@ -479,13 +367,7 @@ fn optional_copies_are_relayed(rt: HostRuntime) -> Result<(), AllocError> {
             appended: &[0x81],
             after: Kept::Assigned(Value::I64(0)),
         },
-    ];
-    all_relayed(&rt, rt.alloc(), ROWS)
-}
-
-#[test]
-fn uint32_increments_are_relayed(rt: HostRuntime) -> Result<(), AllocError> {
-    const ROWS: &[Relayed] = &[
+        // uint32 increments are relayed
         Relayed {
             of: Shape::Mandatory(Kind::UInt32, Operator::Increment),
             before: Kept::Assigned(Value::U32(5)),
@@ -500,13 +382,7 @@ fn uint32_increments_are_relayed(rt: HostRuntime) -> Result<(), AllocError> {
             appended: &[0x85],
             after: Kept::Assigned(Value::U32(5)),
         },
-    ];
-    all_relayed(&rt, rt.alloc(), ROWS)
-}
-
-#[test]
-fn other_increments_are_relayed(rt: HostRuntime) -> Result<(), AllocError> {
-    const ROWS: &[Relayed] = &[
+        // other increments are relayed
         Relayed {
             of: Shape::Optional(Kind::Int32, Operator::Increment),
             before: Kept::Assigned(Value::I32(5)),
@@ -528,13 +404,7 @@ fn other_increments_are_relayed(rt: HostRuntime) -> Result<(), AllocError> {
             appended: &[0x87],
             after: Kept::Assigned(Value::I64(7)),
         },
-    ];
-    all_relayed(&rt, rt.alloc(), ROWS)
-}
-
-#[test]
-fn plain_fields_leave_their_entries(rt: HostRuntime) -> Result<(), AllocError> {
-    const ROWS: &[Relayed] = &[
+        // plain fields leave their entries
         Relayed {
             of: Shape::Mandatory(Kind::UInt64, Operator::Plain),
             before: Kept::Undefined,
@@ -549,13 +419,7 @@ fn plain_fields_leave_their_entries(rt: HostRuntime) -> Result<(), AllocError> {
             appended: &[0xff],
             after: Kept::Assigned(Value::I32(5)),
         },
-    ];
-    all_relayed(&rt, rt.alloc(), ROWS)
-}
-
-#[test]
-fn defaults_leave_their_entries(rt: HostRuntime) -> Result<(), AllocError> {
-    const ROWS: &[Relayed] = &[
+        // defaults leave their entries
         Relayed {
             of: Shape::Initial(Presence::Mandatory, Operator::Default, 7),
             before: Kept::Assigned(Value::U32(4)),
@@ -570,13 +434,7 @@ fn defaults_leave_their_entries(rt: HostRuntime) -> Result<(), AllocError> {
             appended: &[0x88],
             after: Kept::Undefined,
         },
-    ];
-    all_relayed(&rt, rt.alloc(), ROWS)
-}
-
-#[test]
-fn deltas_are_relayed(rt: HostRuntime) -> Result<(), AllocError> {
-    const ROWS: &[Relayed] = &[
+        // deltas are relayed
         Relayed {
             of: Shape::Mandatory(Kind::Int64, Operator::Delta),
             before: Kept::Assigned(Value::I64(10)),
@@ -599,13 +457,7 @@ fn deltas_are_relayed(rt: HostRuntime) -> Result<(), AllocError> {
             appended: &[0xff],
             after: Kept::Assigned(Value::I32(-1)),
         },
-    ];
-    all_relayed(&rt, rt.alloc(), ROWS)
-}
-
-#[test]
-fn optional_deltas_are_relayed(rt: HostRuntime) -> Result<(), AllocError> {
-    const ROWS: &[Relayed] = &[
+        // optional deltas are relayed
         Relayed {
             of: Shape::Optional(Kind::UInt32, Operator::Delta),
             before: Kept::Assigned(Value::U32(10)),
@@ -627,13 +479,50 @@ fn optional_deltas_are_relayed(rt: HostRuntime) -> Result<(), AllocError> {
             appended: &[0xff],
             after: Kept::Assigned(Value::U32(9)),
         },
+        // constants have no bytes
+        Relayed {
+            of: Shape::Initial(Presence::Mandatory, Operator::Constant, 7),
+            before: Kept::Undefined,
+            bytes: &[0xff],
+            appended: &[],
+            after: Kept::Undefined,
+        },
+        // lengths are relayed
+        Relayed {
+            of: Shape::Length(Operator::Copy),
+            before: Kept::Assigned(Value::U32(5)),
+            bytes: &[0xff, 0x03, 0x7f, 0xff],
+            appended: &[0x03, 0x7f, 0xff],
+            after: Kept::Assigned(Value::U32(65_535)),
+        },
+        // exponents are relayed
+        Relayed {
+            of: Shape::Exponent(Presence::Mandatory, Operator::Delta, None),
+            before: Kept::Assigned(Value::I32(0)),
+            bytes: &[0xff, 0xc1],
+            appended: &[0xc1],
+            after: Kept::Assigned(Value::I32(-63)),
+        },
     ];
-    all_relayed(&rt, rt.alloc(), ROWS)
-}
-
-#[test]
-fn null_is_not_relayed(rt: HostRuntime) -> Result<(), AllocError> {
-    const ROWS: &[NotRelayed] = &[
+    const OTHERS: &[NotRelayed] = &[
+        // lengths are relayed
+        NotRelayed {
+            of: Shape::Length(Operator::Copy),
+            before: Kept::Assigned(Value::U32(5)),
+            bytes: &[0xff, 0x04, 0x00, 0x80],
+        },
+        // exponents are relayed
+        NotRelayed {
+            of: Shape::Exponent(Presence::Mandatory, Operator::Delta, None),
+            before: Kept::Assigned(Value::I32(0)),
+            bytes: &[0xff, 0xc0],
+        },
+        NotRelayed {
+            of: Shape::Exponent(Presence::Mandatory, Operator::Delta, None),
+            before: Kept::Assigned(Value::I32(63)),
+            bytes: &[0xff, 0x81],
+        },
+        // null is not relayed
         NotRelayed {
             of: Shape::Optional(Kind::UInt32, Operator::Copy),
             before: Kept::Assigned(Value::U32(5)),
@@ -649,13 +538,7 @@ fn null_is_not_relayed(rt: HostRuntime) -> Result<(), AllocError> {
             before: Kept::Assigned(Value::I32(5)),
             bytes: &[0xff, 0x80],
         },
-    ];
-    none_relayed(&rt, rt.alloc(), ROWS)
-}
-
-#[test]
-fn ends_of_bytes_are_not_relayed(rt: HostRuntime) -> Result<(), AllocError> {
-    const ROWS: &[NotRelayed] = &[
+        // ends of bytes are not relayed
         NotRelayed {
             of: Shape::Mandatory(Kind::UInt32, Operator::Copy),
             before: Kept::Assigned(Value::U32(5)),
@@ -676,13 +559,7 @@ fn ends_of_bytes_are_not_relayed(rt: HostRuntime) -> Result<(), AllocError> {
             before: Kept::Assigned(Value::I64(5)),
             bytes: &[0xff, 0x07],
         },
-    ];
-    none_relayed(&rt, rt.alloc(), ROWS)
-}
-
-#[test]
-fn numbers_out_of_range_are_not_relayed(rt: HostRuntime) -> Result<(), AllocError> {
-    const ROWS: &[NotRelayed] = &[
+        // numbers out of range are not relayed
         NotRelayed {
             of: Shape::Mandatory(Kind::UInt32, Operator::Copy),
             before: Kept::Assigned(Value::U32(5)),
@@ -700,13 +577,7 @@ fn numbers_out_of_range_are_not_relayed(rt: HostRuntime) -> Result<(), AllocErro
                 0xff, 0x02, 0x00, 0x00, 0x00, 0x00, 0x00, 0x00, 0x00, 0x00, 0x80,
             ],
         },
-    ];
-    none_relayed(&rt, rt.alloc(), ROWS)
-}
-
-#[test]
-fn sums_out_of_range_are_not_relayed(rt: HostRuntime) -> Result<(), AllocError> {
-    const ROWS: &[NotRelayed] = &[
+        // sums out of range are not relayed
         NotRelayed {
             of: Shape::Mandatory(Kind::UInt32, Operator::Delta),
             before: Kept::Assigned(Value::U32(0)),
@@ -722,57 +593,8 @@ fn sums_out_of_range_are_not_relayed(rt: HostRuntime) -> Result<(), AllocError> 
             before: Kept::Assigned(Value::I64(i64::MIN)),
             bytes: &[0xff, 0xff],
         },
-    ];
-    none_relayed(&rt, rt.alloc(), ROWS)
-}
-
-#[test]
-fn lengths_are_relayed(rt: HostRuntime) -> Result<(), AllocError> {
-    const RELAYED: &[Relayed] = &[Relayed {
-        of: Shape::Length(Operator::Copy),
-        before: Kept::Assigned(Value::U32(5)),
-        bytes: &[0xff, 0x03, 0x7f, 0xff],
-        appended: &[0x03, 0x7f, 0xff],
-        after: Kept::Assigned(Value::U32(65_535)),
-    }];
-    const OTHERS: &[NotRelayed] = &[NotRelayed {
-        of: Shape::Length(Operator::Copy),
-        before: Kept::Assigned(Value::U32(5)),
-        bytes: &[0xff, 0x04, 0x00, 0x80],
-    }];
-    all_relayed(&rt, rt.alloc(), RELAYED)?;
-    none_relayed(&rt, rt.alloc(), OTHERS)
-}
-
-#[test]
-fn exponents_are_relayed(rt: HostRuntime) -> Result<(), AllocError> {
-    const RELAYED: &[Relayed] = &[Relayed {
-        of: Shape::Exponent(Presence::Mandatory, Operator::Delta, None),
-        before: Kept::Assigned(Value::I32(0)),
-        bytes: &[0xff, 0xc1],
-        appended: &[0xc1],
-        after: Kept::Assigned(Value::I32(-63)),
-    }];
-    const OTHERS: &[NotRelayed] = &[
-        NotRelayed {
-            of: Shape::Exponent(Presence::Mandatory, Operator::Delta, None),
-            before: Kept::Assigned(Value::I32(0)),
-            bytes: &[0xff, 0xc0],
-        },
-        NotRelayed {
-            of: Shape::Exponent(Presence::Mandatory, Operator::Delta, None),
-            before: Kept::Assigned(Value::I32(63)),
-            bytes: &[0xff, 0x81],
-        },
-    ];
-    all_relayed(&rt, rt.alloc(), RELAYED)?;
-    none_relayed(&rt, rt.alloc(), OTHERS)
-}
-
-// bit 0 gives these too, but not of the entry
-#[test]
-fn initial_values_are_not_relayed(rt: HostRuntime) -> Result<(), AllocError> {
-    const ROWS: &[NotRelayed] = &[
+        // initial values are not relayed
+        // bit 0 gives these too, but not of the entry
         NotRelayed {
             of: Shape::Initial(Presence::Mandatory, Operator::Copy, 7),
             before: Kept::Undefined,
@@ -783,13 +605,7 @@ fn initial_values_are_not_relayed(rt: HostRuntime) -> Result<(), AllocError> {
             before: Kept::Undefined,
             bytes: &[0xff, 0x87],
         },
-    ];
-    none_relayed(&rt, rt.alloc(), ROWS)
-}
-
-#[test]
-fn deltas_on_other_entries_are_not_relayed(rt: HostRuntime) -> Result<(), AllocError> {
-    const ROWS: &[NotRelayed] = &[
+        // deltas on other entries are not relayed
         NotRelayed {
             of: Shape::Mandatory(Kind::UInt32, Operator::Delta),
             before: Kept::Undefined,
@@ -805,13 +621,7 @@ fn deltas_on_other_entries_are_not_relayed(rt: HostRuntime) -> Result<(), AllocE
             before: Kept::Assigned(Value::U64(5)),
             bytes: &[0xff, 0x81],
         },
-    ];
-    none_relayed(&rt, rt.alloc(), ROWS)
-}
-
-#[test]
-fn other_fields_are_not_relayed(rt: HostRuntime) -> Result<(), AllocError> {
-    const ROWS: &[NotRelayed] = &[
+        // other fields are not relayed
         NotRelayed {
             of: Shape::Mandatory(Kind::Ascii, Operator::Copy),
             before: Kept::Undefined,
@@ -828,19 +638,8 @@ fn other_fields_are_not_relayed(rt: HostRuntime) -> Result<(), AllocError> {
             bytes: &[0xff, 0x81],
         },
     ];
-    none_relayed(&rt, rt.alloc(), ROWS)
-}
-
-#[test]
-fn constants_have_no_bytes(rt: HostRuntime) -> Result<(), AllocError> {
-    const ROWS: &[Relayed] = &[Relayed {
-        of: Shape::Initial(Presence::Mandatory, Operator::Constant, 7),
-        before: Kept::Undefined,
-        bytes: &[0xff],
-        appended: &[],
-        after: Kept::Undefined,
-    }];
-    all_relayed(&rt, rt.alloc(), ROWS)
+    all_relayed(&rt, rt.alloc(), Call::Number, RELAYED)?;
+    none_relayed(&rt, rt.alloc(), Call::Number, OTHERS)
 }
 
 #[test]

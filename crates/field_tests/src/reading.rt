@@ -152,8 +152,9 @@ fn all_read(rt: &impl Abort, alloc: Global, rows: &[Row]) -> Result<(), AllocErr
 }
 
 #[test]
-fn increments_go_past_the_greatest(rt: HostRuntime) -> Result<(), AllocError> {
+fn fields_that_are_read(rt: HostRuntime) -> Result<(), AllocError> {
     const ROWS: &[Row] = &[
+        // increments go past the greatest
         Row {
             of: Shape::Mandatory(Kind::UInt32, Operator::Increment),
             before: Kept::Assigned(Value::U32(4_294_967_295)),
@@ -172,13 +173,7 @@ fn increments_go_past_the_greatest(rt: HostRuntime) -> Result<(), AllocError> {
                 0,
             ),
         },
-    ];
-    all_read(&rt, rt.alloc(), ROWS)
-}
-
-#[test]
-fn copies_of_no_value(rt: HostRuntime) -> Result<(), AllocError> {
-    const ROWS: &[Row] = &[
+        // copies of no value
         Row {
             of: Shape::Mandatory(Kind::Ascii, Operator::Copy),
             before: Kept::Undefined,
@@ -200,13 +195,7 @@ fn copies_of_no_value(rt: HostRuntime) -> Result<(), AllocError> {
             bytes: &[],
             wanted: Wanted::Absent(Kept::Empty, 0),
         },
-    ];
-    all_read(&rt, rt.alloc(), ROWS)
-}
-
-#[test]
-fn copies_on_another_type(rt: HostRuntime) -> Result<(), AllocError> {
-    const ROWS: &[Row] = &[
+        // copies on another type
         Row {
             of: Shape::Mandatory(Kind::UInt32, Operator::Copy),
             before: Kept::Assigned(Value::Ascii(b"A")),
@@ -221,13 +210,7 @@ fn copies_on_another_type(rt: HostRuntime) -> Result<(), AllocError> {
             bytes: &[0x86],
             wanted: Wanted::Value(Value::U32(6), Kept::Assigned(Value::U32(6)), 1),
         },
-    ];
-    all_read(&rt, rt.alloc(), ROWS)
-}
-
-#[test]
-fn defaults(rt: HostRuntime) -> Result<(), AllocError> {
-    const ROWS: &[Row] = &[
+        // defaults
         Row {
             of: Shape::Initial(Presence::Mandatory, Operator::Default, 3),
             before: Kept::Undefined,
@@ -249,13 +232,7 @@ fn defaults(rt: HostRuntime) -> Result<(), AllocError> {
             bytes: &[],
             wanted: Wanted::Value(Value::U32(3), Kept::Undefined, 0),
         },
-    ];
-    all_read(&rt, rt.alloc(), ROWS)
-}
-
-#[test]
-fn copies_of_an_initial_value(rt: HostRuntime) -> Result<(), AllocError> {
-    const ROWS: &[Row] = &[
+        // copies of an initial value
         Row {
             of: Shape::Initial(Presence::Optional, Operator::Copy, 5),
             before: Kept::Empty,
@@ -270,25 +247,15 @@ fn copies_of_an_initial_value(rt: HostRuntime) -> Result<(), AllocError> {
             bytes: &[],
             wanted: Wanted::Value(Value::U32(5), Kept::Assigned(Value::U32(5)), 0),
         },
-    ];
-    all_read(&rt, rt.alloc(), ROWS)
-}
-
-#[test]
-fn vectors(rt: HostRuntime) -> Result<(), AllocError> {
-    const ROWS: &[Row] = &[Row {
-        of: Shape::Optional(Kind::Bytes, Operator::Plain),
-        before: Kept::Empty,
-        bit: true,
-        bytes: &[0x83, 0x01, 0xff],
-        wanted: Wanted::Value(Value::Bytes(&[0x01, 0xff]), Kept::Empty, 3),
-    }];
-    all_read(&rt, rt.alloc(), ROWS)
-}
-
-#[test]
-fn constants(rt: HostRuntime) -> Result<(), AllocError> {
-    const ROWS: &[Row] = &[
+        // vectors
+        Row {
+            of: Shape::Optional(Kind::Bytes, Operator::Plain),
+            before: Kept::Empty,
+            bit: true,
+            bytes: &[0x83, 0x01, 0xff],
+            wanted: Wanted::Value(Value::Bytes(&[0x01, 0xff]), Kept::Empty, 3),
+        },
+        // constants
         Row {
             of: Shape::Initial(Presence::Optional, Operator::Constant, 9),
             before: Kept::Undefined,
@@ -303,13 +270,7 @@ fn constants(rt: HostRuntime) -> Result<(), AllocError> {
             bytes: &[],
             wanted: Wanted::Value(Value::U32(9), Kept::Undefined, 0),
         },
-    ];
-    all_read(&rt, rt.alloc(), ROWS)
-}
-
-#[test]
-fn string_deltas(rt: HostRuntime) -> Result<(), AllocError> {
-    const ROWS: &[Row] = &[
+        // string deltas
         Row {
             of: Shape::Mandatory(Kind::Ascii, Operator::Delta),
             before: Kept::Assigned(Value::Ascii(b"ESM6")),
@@ -343,25 +304,15 @@ fn string_deltas(rt: HostRuntime) -> Result<(), AllocError> {
                 3,
             ),
         },
-    ];
-    all_read(&rt, rt.alloc(), ROWS)
-}
-
-#[test]
-fn deltas_that_remove_too_much(rt: HostRuntime) -> Result<(), AllocError> {
-    const ROWS: &[Row] = &[Row {
-        of: Shape::Mandatory(Kind::Ascii, Operator::Delta),
-        before: Kept::Assigned(Value::Ascii(b"ESM6")),
-        bit: true,
-        bytes: &[0x85, 0x80],
-        wanted: Wanted::Fault(FieldFault::D7),
-    }];
-    all_read(&rt, rt.alloc(), ROWS)
-}
-
-#[test]
-fn number_deltas(rt: HostRuntime) -> Result<(), AllocError> {
-    const ROWS: &[Row] = &[
+        // deltas that remove too much
+        Row {
+            of: Shape::Mandatory(Kind::Ascii, Operator::Delta),
+            before: Kept::Assigned(Value::Ascii(b"ESM6")),
+            bit: true,
+            bytes: &[0x85, 0x80],
+            wanted: Wanted::Fault(FieldFault::D7),
+        },
+        // number deltas
         Row {
             of: Shape::Mandatory(Kind::UInt32, Operator::Delta),
             before: Kept::Assigned(Value::U32(4_294_967_295)),
@@ -376,13 +327,7 @@ fn number_deltas(rt: HostRuntime) -> Result<(), AllocError> {
             bytes: &[0x81],
             wanted: Wanted::Fault(FieldFault::D6),
         },
-    ];
-    all_read(&rt, rt.alloc(), ROWS)
-}
-
-#[test]
-fn absent_deltas(rt: HostRuntime) -> Result<(), AllocError> {
-    const ROWS: &[Row] = &[
+        // absent deltas
         Row {
             of: Shape::Optional(Kind::UInt32, Operator::Delta),
             before: Kept::Empty,
@@ -397,29 +342,19 @@ fn absent_deltas(rt: HostRuntime) -> Result<(), AllocError> {
             bytes: &[0x80],
             wanted: Wanted::Absent(Kept::Assigned(Value::U32(5)), 1),
         },
-    ];
-    all_read(&rt, rt.alloc(), ROWS)
-}
-
-#[test]
-fn tails(rt: HostRuntime) -> Result<(), AllocError> {
-    const ROWS: &[Row] = &[Row {
-        of: Shape::Optional(Kind::Ascii, Operator::Tail),
-        before: Kept::Assigned(Value::Ascii(b"xab")),
-        bit: true,
-        bytes: &[0x00, 0x00, 0x00, 0xe2],
-        wanted: Wanted::Value(
-            Value::Ascii(b"x\0b"),
-            Kept::Assigned(Value::Ascii(b"x\0b")),
-            4,
-        ),
-    }];
-    all_read(&rt, rt.alloc(), ROWS)
-}
-
-#[test]
-fn tails_of_text(rt: HostRuntime) -> Result<(), AllocError> {
-    const ROWS: &[Row] = &[
+        // tails
+        Row {
+            of: Shape::Optional(Kind::Ascii, Operator::Tail),
+            before: Kept::Assigned(Value::Ascii(b"xab")),
+            bit: true,
+            bytes: &[0x00, 0x00, 0x00, 0xe2],
+            wanted: Wanted::Value(
+                Value::Ascii(b"x\0b"),
+                Kept::Assigned(Value::Ascii(b"x\0b")),
+                4,
+            ),
+        },
+        // tails of text
         Row {
             of: Shape::Mandatory(Kind::Unicode, Operator::Tail),
             before: Kept::Assigned(Value::Unicode("é")),
@@ -434,13 +369,7 @@ fn tails_of_text(rt: HostRuntime) -> Result<(), AllocError> {
             bytes: &[0x81, 0x41],
             wanted: Wanted::Fault(FieldFault::R2),
         },
-    ];
-    all_read(&rt, rt.alloc(), ROWS)
-}
-
-#[test]
-fn exponents(rt: HostRuntime) -> Result<(), AllocError> {
-    const ROWS: &[Row] = &[
+        // exponents
         Row {
             of: Shape::Exponent(Presence::Optional, Operator::Default, Some(2)),
             before: Kept::Undefined,
@@ -462,29 +391,19 @@ fn exponents(rt: HostRuntime) -> Result<(), AllocError> {
             bytes: &[0x00, 0xc1],
             wanted: Wanted::Fault(FieldFault::R1),
         },
-    ];
-    all_read(&rt, rt.alloc(), ROWS)
-}
-
-#[test]
-fn whole_decimals(rt: HostRuntime) -> Result<(), AllocError> {
-    const ROWS: &[Row] = &[Row {
-        of: Shape::Mandatory(Kind::Decimal, Operator::Copy),
-        before: Kept::Undefined,
-        bit: true,
-        bytes: &[0xfe, 0x39, 0x45, 0xa3],
-        wanted: Wanted::Value(
-            Value::Decimal(-2, 942_755),
-            Kept::Assigned(Value::Decimal(-2, 942_755)),
-            4,
-        ),
-    }];
-    all_read(&rt, rt.alloc(), ROWS)
-}
-
-#[test]
-fn decimal_deltas(rt: HostRuntime) -> Result<(), AllocError> {
-    const ROWS: &[Row] = &[
+        // whole decimals
+        Row {
+            of: Shape::Mandatory(Kind::Decimal, Operator::Copy),
+            before: Kept::Undefined,
+            bit: true,
+            bytes: &[0xfe, 0x39, 0x45, 0xa3],
+            wanted: Wanted::Value(
+                Value::Decimal(-2, 942_755),
+                Kept::Assigned(Value::Decimal(-2, 942_755)),
+                4,
+            ),
+        },
+        // decimal deltas
         Row {
             of: Shape::Mandatory(Kind::Decimal, Operator::Delta),
             before: Kept::Assigned(Value::Decimal(-2, 7)),
@@ -504,19 +423,15 @@ fn decimal_deltas(rt: HostRuntime) -> Result<(), AllocError> {
             bytes: &[0x00, 0xc0],
             wanted: Wanted::Fault(FieldFault::R1),
         },
+        // lengths
+        Row {
+            of: Shape::Length(Operator::Copy),
+            before: Kept::Assigned(Value::U32(65_536)),
+            bit: false,
+            bytes: &[],
+            wanted: Wanted::Fault(FieldFault::Limit),
+        },
     ];
-    all_read(&rt, rt.alloc(), ROWS)
-}
-
-#[test]
-fn lengths(rt: HostRuntime) -> Result<(), AllocError> {
-    const ROWS: &[Row] = &[Row {
-        of: Shape::Length(Operator::Copy),
-        before: Kept::Assigned(Value::U32(65_536)),
-        bit: false,
-        bytes: &[],
-        wanted: Wanted::Fault(FieldFault::Limit),
-    }];
     all_read(&rt, rt.alloc(), ROWS)
 }
 

@@ -1,9 +1,12 @@
 //! Rows on fields that are relayed at once.
 
+ghost use Rattle.std.specs.Prelude.{◌≤◌, length};
+
 use crate::fields::{Kept, Shape};
 use crate::same::same;
 use fast_dictionary::Entry;
-use fast_relay::Relayed as Told;
+use fast_relay::{Relayed as Told, relay_decimal, relay_null, relay_number, relay_text};
+use fast_template::FieldPart;
 use std::alloc::{AllocError, Global};
 use std::process::Abort;
 
@@ -33,10 +36,102 @@ pub(crate) struct Given {
 
 // What a call answered, the entry afterwards, and what was written behind a byte that was there.
 #[derive(Drop)]
-pub(crate) struct Answer {
-    pub(crate) told: Told,
-    pub(crate) entry: Entry,
-    pub(crate) out: Vec<u8>,
+struct Answer {
+    told: Told,
+    entry: Entry,
+    out: Vec<u8>,
+}
+
+// The call of a row.
+#[derive(Clone, Copy)]
+pub(crate) enum Call {
+    Number,
+    Decimal,
+    Null,
+    Text,
+}
+
+fn told_by(
+    alloc: Global,
+    call: Call,
+    instr: &FieldPart,
+    entry: &mut Entry,
+    bytes: &[u8],
+    at: usize,
+    out: &mut Vec<u8>,
+) -> Told
+    requires { at ≤ length bytes.now }
+{
+    match call {
+        Call::Number => relay_number(instr, entry, bytes, at, out),
+        Call::Decimal => relay_decimal(instr, entry, bytes, at, out),
+        Call::Null => relay_null(instr, entry, bytes, at, out),
+        Call::Text => relay_text(alloc, instr, entry, bytes, at, out),
+    }
+}
+
+fn relay_with(
+    alloc: Global,
+    call: Call,
+    instr: &FieldPart,
+    before: Kept,
+    bytes: &[u8],
+) -> Result<Answer, AllocError> {
+    let mut out = vec![in alloc; 0x2a]?;
+    let mut entry = before.entry(alloc)?;
+    let at = bytes.len().min(1);
+    let told = told_by(alloc, call, instr, &mut entry, bytes, at, &mut out);
+    Ok(Answer { told, entry, out })
+}
+
+fn relay(
+    alloc: Global,
+    call: Call,
+    of: Shape,
+    before: Kept,
+    bytes: &[u8],
+) -> Result<Answer, AllocError> {
+    let instr = of.instr(alloc)?;
+    relay_with(alloc, call, &instr, before, bytes)
+}
+
+pub(crate) fn all_relayed(
+    rt: &impl Abort,
+    alloc: Global,
+    call: Call,
+    rows: &[Relayed],
+) -> Result<(), AllocError> {
+    for row in rows {
+        let answer = relay(alloc, call, row.of, row.before, row.bytes)?;
+        is_relayed(rt, alloc, answer, row)?;
+    }
+    Ok(())
+}
+
+pub(crate) fn none_relayed(
+    rt: &impl Abort,
+    alloc: Global,
+    call: Call,
+    rows: &[NotRelayed],
+) -> Result<(), AllocError> {
+    for row in rows {
+        let answer = relay(alloc, call, row.of, row.before, row.bytes)?;
+        is_left(rt, alloc, answer, row.before)?;
+    }
+    Ok(())
+}
+
+pub(crate) fn all_given(
+    rt: &impl Abort,
+    alloc: Global,
+    call: Call,
+    rows: &[Given],
+) -> Result<(), AllocError> {
+    for row in rows {
+        let answer = relay(alloc, call, row.of, row.before, row.bytes)?;
+        is_given(rt, alloc, answer, row)?;
+    }
+    Ok(())
 }
 
 fn answered(rt: &impl Abort, answer: Answer, told: Told, appended: &[u8], after: Entry) {
@@ -46,18 +141,13 @@ fn answered(rt: &impl Abort, answer: Answer, told: Told, appended: &[u8], after:
 }
 
 // Nothing has changed.
-pub(crate) fn is_left(
-    rt: &impl Abort,
-    alloc: Global,
-    answer: Answer,
-    before: Kept,
-) -> Result<(), AllocError> {
+fn is_left(rt: &impl Abort, alloc: Global, answer: Answer, before: Kept) -> Result<(), AllocError> {
     answered(rt, answer, Told::Elsewhere, &[], before.entry(alloc)?);
     Ok(())
 }
 
 // Want of memory leaves all as it was, and ends the test.
-pub(crate) fn is_relayed(
+fn is_relayed(
     rt: &impl Abort,
     alloc: Global,
     answer: Answer,
@@ -73,12 +163,7 @@ pub(crate) fn is_relayed(
 }
 
 // The same of a row whose value bit 0 gives.
-pub(crate) fn is_given(
-    rt: &impl Abort,
-    alloc: Global,
-    answer: Answer,
-    row: &Given,
-) -> Result<(), AllocError> {
+fn is_given(rt: &impl Abort, alloc: Global, answer: Answer, row: &Given) -> Result<(), AllocError> {
     let after = row.after.entry(alloc)?;
     answered(rt, answer, Told::Given(row.bytes.len()), &[], after);
     Ok(())

@@ -7,8 +7,9 @@ use fast_template::{Kind, Operator, Presence};
 use std::alloc::AllocError;
 
 #[test]
-fn overlong_fields(rt: HostRuntime) -> Result<(), AllocError> {
+fn fields_at_the_strict_level(rt: HostRuntime) -> Result<(), AllocError> {
     const ROWS: &[Row] = &[
+        // overlong fields
         Row {
             of: Shape::Mandatory(Kind::UInt32, Operator::Plain),
             before: Kept::Undefined,
@@ -124,13 +125,7 @@ fn overlong_fields(rt: HostRuntime) -> Result<(), AllocError> {
             bytes: &[0x00, 0x82],
             wanted: Wanted::Fault(FieldFault::R6),
         },
-    ];
-    all_read_at(&rt, rt.alloc(), Level::Strict, ROWS)
-}
-
-#[test]
-fn fields_that_are_just_not(rt: HostRuntime) -> Result<(), AllocError> {
-    const ROWS: &[Row] = &[
+        // fields that are just not
         Row {
             of: Shape::Mandatory(Kind::Int32, Operator::Plain),
             before: Kept::Undefined,
@@ -211,13 +206,7 @@ fn fields_that_are_just_not(rt: HostRuntime) -> Result<(), AllocError> {
             bytes: &[0x00, 0x80],
             wanted: Wanted::Value(Value::U32(7), Kept::Assigned(Value::U32(7)), 0),
         },
-    ];
-    all_read_at(&rt, rt.alloc(), Level::Strict, ROWS)
-}
-
-#[test]
-fn overlong_before_other_faults(rt: HostRuntime) -> Result<(), AllocError> {
-    const ROWS: &[Row] = &[
+        // overlong before other faults
         Row {
             of: Shape::Mandatory(Kind::UInt32, Operator::Plain),
             before: Kept::Undefined,

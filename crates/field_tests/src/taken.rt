@@ -51,8 +51,9 @@ fn all_taken(rt: &impl Abort, alloc: Global, rows: &[Taken]) -> Result<(), Alloc
 }
 
 #[test]
-fn numbers_are_taken(rt: HostRuntime) -> Result<(), AllocError> {
+fn numbers_that_are_taken(rt: HostRuntime) -> Result<(), AllocError> {
     const ROWS: &[Taken] = &[
+        // numbers are taken
         Taken {
             of: Shape::Mandatory(Kind::UInt32, Operator::Plain),
             before: Kept::Assigned(Value::U32(7)),
@@ -95,13 +96,7 @@ fn numbers_are_taken(rt: HostRuntime) -> Result<(), AllocError> {
             value: Some(Value::U64(10)),
             after: Kept::Assigned(Value::U64(10)),
         },
-    ];
-    all_taken(&rt, rt.alloc(), ROWS)
-}
-
-#[test]
-fn what_is_not_taken_goes_the_general_way(rt: HostRuntime) -> Result<(), AllocError> {
-    const ROWS: &[Taken] = &[
+        // what is not taken goes the general way
         // NULL
         Taken {
             of: Shape::Optional(Kind::UInt32, Operator::Copy),

@@ -1,14 +1,14 @@
 //! Rows on Unicode strings and byte vectors that are relayed at once.
 
 use crate::fields::{Kept, Shape, Value};
-use crate::relaying::{NotRelayed, Relayed};
-use crate::texts::{all_relayed, none_relayed};
+use crate::relaying::{Call, NotRelayed, Relayed, all_relayed, none_relayed};
 use fast_template::{Kind, Operator};
 use std::alloc::AllocError;
 
 #[test]
-fn whole_texts_are_relayed(rt: HostRuntime) -> Result<(), AllocError> {
-    const ROWS: &[Relayed] = &[
+fn texts_and_vectors_that_are_relayed(rt: HostRuntime) -> Result<(), AllocError> {
+    const RELAYED: &[Relayed] = &[
+        // whole texts are relayed
         Relayed {
             of: Shape::Mandatory(Kind::Unicode, Operator::Copy),
             before: Kept::Assigned(Value::Unicode("aé")),
@@ -39,13 +39,7 @@ fn whole_texts_are_relayed(rt: HostRuntime) -> Result<(), AllocError> {
             appended: &[0x81],
             after: Kept::Undefined,
         },
-    ];
-    all_relayed(&rt, rt.alloc(), ROWS)
-}
-
-#[test]
-fn whole_vectors_are_relayed(rt: HostRuntime) -> Result<(), AllocError> {
-    const ROWS: &[Relayed] = &[
+        // whole vectors are relayed
         Relayed {
             of: Shape::Mandatory(Kind::Bytes, Operator::Plain),
             before: Kept::Undefined,
@@ -68,38 +62,7 @@ fn whole_vectors_are_relayed(rt: HostRuntime) -> Result<(), AllocError> {
             appended: &[0x83, 0x61, 0x63],
             after: Kept::Assigned(Value::Bytes(b"ac")),
         },
-    ];
-    all_relayed(&rt, rt.alloc(), ROWS)
-}
-
-#[test]
-fn other_whole_values_go_the_general_way(rt: HostRuntime) -> Result<(), AllocError> {
-    const ROWS: &[NotRelayed] = &[
-        // no UTF-8
-        NotRelayed {
-            of: Shape::Mandatory(Kind::Unicode, Operator::Copy),
-            before: Kept::Assigned(Value::Unicode("ü")),
-            bytes: &[0, 0x82, 0xc3, 0x28],
-        },
-        // fewer bytes than the length says
-        NotRelayed {
-            of: Shape::Mandatory(Kind::Bytes, Operator::Plain),
-            before: Kept::Undefined,
-            bytes: &[0, 0x83, 0x00, 0xff],
-        },
-        // a length of 65,536
-        NotRelayed {
-            of: Shape::Mandatory(Kind::Bytes, Operator::Plain),
-            before: Kept::Undefined,
-            bytes: &[0, 0x04, 0x00, 0x80],
-        },
-    ];
-    none_relayed(&rt, rt.alloc(), ROWS)
-}
-
-#[test]
-fn tails_are_relayed(rt: HostRuntime) -> Result<(), AllocError> {
-    const ROWS: &[Relayed] = &[
+        // tails are relayed
         Relayed {
             of: Shape::Mandatory(Kind::Unicode, Operator::Tail),
             before: Kept::Assigned(Value::Unicode("üab")),
@@ -139,37 +102,7 @@ fn tails_are_relayed(rt: HostRuntime) -> Result<(), AllocError> {
             appended: &[0x83, 0x63, 0x62],
             after: Kept::Assigned(Value::Bytes(b"cb")),
         },
-    ];
-    all_relayed(&rt, rt.alloc(), ROWS)
-}
-
-#[test]
-fn other_tails_go_the_general_way(rt: HostRuntime) -> Result<(), AllocError> {
-    const ROWS: &[NotRelayed] = &[
-        // what bit 0 gives
-        NotRelayed {
-            of: Shape::Mandatory(Kind::Bytes, Operator::Tail),
-            before: Kept::Assigned(Value::Bytes(b"ab")),
-            bytes: &[0, 0x81, 0x62],
-        },
-        // no UTF-8
-        NotRelayed {
-            of: Shape::Mandatory(Kind::Unicode, Operator::Tail),
-            before: Kept::Assigned(Value::Unicode("xü")),
-            bytes: &[0, 0x81, 0x28],
-        },
-        NotRelayed {
-            of: Shape::Mandatory(Kind::Unicode, Operator::Tail),
-            before: Kept::Assigned(Value::Bytes(b"ab")),
-            bytes: &[0, 0x81, 0x63],
-        },
-    ];
-    none_relayed(&rt, rt.alloc(), ROWS)
-}
-
-#[test]
-fn differences_are_relayed(rt: HostRuntime) -> Result<(), AllocError> {
-    const ROWS: &[Relayed] = &[
+        // differences are relayed
         Relayed {
             of: Shape::Mandatory(Kind::Bytes, Operator::Delta),
             before: Kept::Assigned(Value::Bytes(b"ESM6")),
@@ -210,12 +143,45 @@ fn differences_are_relayed(rt: HostRuntime) -> Result<(), AllocError> {
             after: Kept::Assigned(Value::Bytes(b"XSM6")),
         },
     ];
-    all_relayed(&rt, rt.alloc(), ROWS)
-}
-
-#[test]
-fn other_differences_go_the_general_way(rt: HostRuntime) -> Result<(), AllocError> {
-    const ROWS: &[NotRelayed] = &[
+    const OTHERS: &[NotRelayed] = &[
+        // other whole values go the general way
+        // no UTF-8
+        NotRelayed {
+            of: Shape::Mandatory(Kind::Unicode, Operator::Copy),
+            before: Kept::Assigned(Value::Unicode("ü")),
+            bytes: &[0, 0x82, 0xc3, 0x28],
+        },
+        // fewer bytes than the length says
+        NotRelayed {
+            of: Shape::Mandatory(Kind::Bytes, Operator::Plain),
+            before: Kept::Undefined,
+            bytes: &[0, 0x83, 0x00, 0xff],
+        },
+        // a length of 65,536
+        NotRelayed {
+            of: Shape::Mandatory(Kind::Bytes, Operator::Plain),
+            before: Kept::Undefined,
+            bytes: &[0, 0x04, 0x00, 0x80],
+        },
+        // other tails go the general way
+        // what bit 0 gives
+        NotRelayed {
+            of: Shape::Mandatory(Kind::Bytes, Operator::Tail),
+            before: Kept::Assigned(Value::Bytes(b"ab")),
+            bytes: &[0, 0x81, 0x62],
+        },
+        // no UTF-8
+        NotRelayed {
+            of: Shape::Mandatory(Kind::Unicode, Operator::Tail),
+            before: Kept::Assigned(Value::Unicode("xü")),
+            bytes: &[0, 0x81, 0x28],
+        },
+        NotRelayed {
+            of: Shape::Mandatory(Kind::Unicode, Operator::Tail),
+            before: Kept::Assigned(Value::Bytes(b"ab")),
+            bytes: &[0, 0x81, 0x63],
+        },
+        // other differences go the general way
         // more is removed than there is
         NotRelayed {
             of: Shape::Mandatory(Kind::Bytes, Operator::Delta),
@@ -234,5 +200,6 @@ fn other_differences_go_the_general_way(rt: HostRuntime) -> Result<(), AllocErro
             bytes: &[0, 0x80, 0x81, 0x37],
         },
     ];
-    none_relayed(&rt, rt.alloc(), ROWS)
+    all_relayed(&rt, rt.alloc(), Call::Text, RELAYED)?;
+    none_relayed(&rt, rt.alloc(), Call::Text, OTHERS)
 }

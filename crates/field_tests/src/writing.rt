@@ -12,7 +12,7 @@ ghost use Rattle.fast_field.specs.Found.{CanLie};
 ghost use Rattle.fast_field.specs.Parts.{IsFieldPart};
 ghost use Rattle.fast_field.specs.Within.{HoldsScalar};
 
-use crate::fields::{ascii, field, part_of, unicode};
+use crate::fields::{Value, ascii, field, part_of};
 use crate::same::same;
 use fast_dictionary::{Entry, EntryRef};
 use fast_field::{
@@ -441,22 +441,84 @@ fn initial_refused(
     refused(rt, alloc, &instr, Entry::Undefined, value, refusal)
 }
 
-#[test]
-fn constants(rt: HostRuntime) -> Result<(), AllocError> {
-    let alloc = rt.alloc();
-    let seven = (Presence::Mandatory, Operator::Constant, 7);
-    let refusal = FieldRefusal::NotConstant;
-    initial_refused(&rt, alloc, seven, Some(&Scalar::U32(8)), refusal)?;
-    initial_written(&rt, alloc, seven, Some(7), true, &[])?;
-    initial_refused(&rt, alloc, seven, None, FieldRefusal::Mismatch)
+// A number with an initial value, its value, and how it is written.
+struct Initial {
+    of: (Presence, Operator, u32),
+    value: Option<u32>,
+    bit: bool,
+    bytes: &'static [u8],
+}
+
+fn initial_is_written(rt: &impl Abort, alloc: Global, row: &Initial) -> Result<(), AllocError> {
+    let (presence, operator, number) = row.of;
+    match operator {
+        Operator::Constant => {
+            let of = (presence, Operator::Constant, number);
+            initial_written(rt, alloc, of, row.value, row.bit, row.bytes)
+        }
+        Operator::Default => {
+            let of = (presence, Operator::Default, number);
+            initial_written(rt, alloc, of, row.value, row.bit, row.bytes)
+        }
+        _ => panic!(rt; "another operator"),
+    }
 }
 
 #[test]
-fn optional_constants(rt: HostRuntime) -> Result<(), AllocError> {
-    let alloc = rt.alloc();
-    let nine = (Presence::Optional, Operator::Constant, 9);
-    initial_written(&rt, alloc, nine, None, false, &[])?;
-    initial_written(&rt, alloc, nine, Some(9), true, &[])
+fn numbers_with_initial_values(rt: HostRuntime) -> Result<(), AllocError> {
+    const ROWS: &[Initial] = &[
+        // constants
+        Initial {
+            of: (Presence::Mandatory, Operator::Constant, 7),
+            value: Some(7),
+            bit: true,
+            bytes: &[],
+        },
+        Initial {
+            of: (Presence::Optional, Operator::Constant, 9),
+            value: None,
+            bit: false,
+            bytes: &[],
+        },
+        Initial {
+            of: (Presence::Optional, Operator::Constant, 9),
+            value: Some(9),
+            bit: true,
+            bytes: &[],
+        },
+        // defaults
+        Initial {
+            of: (Presence::Optional, Operator::Default, 3),
+            value: Some(3),
+            bit: false,
+            bytes: &[],
+        },
+        Initial {
+            of: (Presence::Optional, Operator::Default, 3),
+            value: None,
+            bit: true,
+            bytes: &[0x80],
+        },
+        Initial {
+            of: (Presence::Optional, Operator::Default, 3),
+            value: Some(4),
+            bit: true,
+            bytes: &[0x85],
+        },
+    ];
+    for row in ROWS {
+        initial_is_written(&rt, rt.alloc(), row)?;
+    }
+    Ok(())
+}
+
+#[test]
+fn refused_constants(rt: HostRuntime) -> Result<(), AllocError> {
+    let seven = (Presence::Mandatory, Operator::Constant, 7);
+    let eight = Scalar::U32(8);
+    let refusal = FieldRefusal::NotConstant;
+    initial_refused(&rt, rt.alloc(), seven, Some(&eight), refusal)?;
+    initial_refused(&rt, rt.alloc(), seven, None, FieldRefusal::Mismatch)
 }
 
 #[test]
@@ -473,15 +535,6 @@ fn constant_exponents(rt: HostRuntime) -> Result<(), AllocError> {
         Some(&value),
         refusal,
     )
-}
-
-#[test]
-fn defaults(rt: HostRuntime) -> Result<(), AllocError> {
-    let alloc = rt.alloc();
-    let three = (Presence::Optional, Operator::Default, 3);
-    initial_written(&rt, alloc, three, Some(3), false, &[])?;
-    initial_written(&rt, alloc, three, None, true, &[0x80])?;
-    initial_written(&rt, alloc, three, Some(4), true, &[0x85])
 }
 
 // A uInt32 that increments is written on a number.
@@ -501,53 +554,206 @@ fn increment_written(
 
 #[test]
 fn increments(rt: HostRuntime) -> Result<(), AllocError> {
-    let alloc = rt.alloc();
-    increment_written(&rt, alloc, 1, 2, false, &[])?;
-    increment_written(&rt, alloc, u32::MAX, 0, false, &[])?;
-    increment_written(&rt, alloc, 1, 3, true, &[0x83])
+    const ROWS: &[(u32, u32, bool, &[u8])] = &[
+        (1, 2, false, &[]),
+        (u32::MAX, 0, false, &[]),
+        (1, 3, true, &[0x83]),
+    ];
+    for (kept, value, bit, bytes) in ROWS {
+        increment_written(&rt, rt.alloc(), *kept, *value, *bit, bytes)?;
+    }
+    Ok(())
+}
+
+// Characters, those that the entry has, and how they are written.
+struct Characters {
+    of: (Presence, Operator),
+    kept: &'static [u8],
+    value: &'static [u8],
+    bit: bool,
+    bytes: &'static [u8],
+}
+
+fn characters_are_written(
+    rt: &impl Abort,
+    alloc: Global,
+    row: &Characters,
+) -> Result<(), AllocError> {
+    let (presence, operator) = row.of;
+    match operator {
+        Operator::Copy => {
+            let of = (presence, Operator::Copy);
+            ascii_written(rt, alloc, of, row.kept, row.value, row.bit, row.bytes)
+        }
+        Operator::Delta => {
+            let of = (presence, Operator::Delta);
+            ascii_written(rt, alloc, of, row.kept, row.value, row.bit, row.bytes)
+        }
+        Operator::Tail => {
+            let of = (presence, Operator::Tail);
+            ascii_written(rt, alloc, of, row.kept, row.value, row.bit, row.bytes)
+        }
+        _ => panic!(rt; "another operator"),
+    }
 }
 
 #[test]
-fn copies(rt: HostRuntime) -> Result<(), AllocError> {
-    let alloc = rt.alloc();
-    let of = (Presence::Mandatory, Operator::Copy);
-    ascii_written(&rt, alloc, of, b"AB", b"AB", false, &[])?;
-    ascii_written(&rt, alloc, of, b"AB", b"C", true, &[0xc3])
+fn characters_that_are_written(rt: HostRuntime) -> Result<(), AllocError> {
+    const ROWS: &[Characters] = &[
+        // copies
+        Characters {
+            of: (Presence::Mandatory, Operator::Copy),
+            kept: b"AB",
+            value: b"AB",
+            bit: false,
+            bytes: &[],
+        },
+        Characters {
+            of: (Presence::Mandatory, Operator::Copy),
+            kept: b"AB",
+            value: b"C",
+            bit: true,
+            bytes: &[0xc3],
+        },
+        // fewer bytes with removal in front
+        Characters {
+            of: (Presence::Mandatory, Operator::Delta),
+            kept: b"GEM6",
+            value: b"ESM6",
+            bit: true,
+            bytes: &[0xfd, 0x45, 0xd3],
+        },
+        // as many bytes on both sides: removal at the end
+        Characters {
+            of: (Presence::Mandatory, Operator::Delta),
+            kept: b"ESM6",
+            value: b"ESM6",
+            bit: true,
+            bytes: &[0x80, 0x80],
+        },
+        // the shortest tail begins with NUL, and would have four bytes
+        Characters {
+            of: (Presence::Optional, Operator::Tail),
+            kept: b"xab",
+            value: b"x\0b",
+            bit: true,
+            bytes: &[0x78, 0x00, 0xe2],
+        },
+        Characters {
+            of: (Presence::Optional, Operator::Tail),
+            kept: b"xab",
+            value: b"xab",
+            bit: false,
+            bytes: &[],
+        },
+    ];
+    for row in ROWS {
+        characters_are_written(&rt, rt.alloc(), row)?;
+    }
+    Ok(())
+}
+
+// The entry of a row that is refused.
+#[derive(Clone, Copy)]
+enum Before {
+    Undefined,
+    Empty,
+    Text(&'static [u8]),
+}
+
+fn entry_before(alloc: Global, before: Before) -> Result<Entry, AllocError>
+    ensures { IfOk result HoldsScalar }
+{
+    match before {
+        Before::Undefined => Ok(Entry::Undefined),
+        Before::Empty => Ok(Entry::Empty),
+        Before::Text(text) => text_entry(alloc, text),
+    }
+}
+
+// A value that is refused, on this entry, and why.
+struct NotWritten {
+    of: (Kind, Presence, Operator),
+    before: Before,
+    value: Value,
+    refusal: FieldRefusal,
+}
+
+fn is_refused(
+    rt: &impl Abort,
+    alloc: Global,
+    entry: Entry,
+    value: &Scalar,
+    row: &NotWritten,
+) -> Result<(), AllocError>
+    requires { HoldsScalar entry }
+{
+    let (kind, presence, operator) = row.of;
+    match (operator, kind) {
+        (Operator::Delta, _) => {
+            let of = (kind, presence, Operator::Delta);
+            field_refused(rt, alloc, of, entry, Some(value), row.refusal)
+        }
+        (Operator::Tail, Kind::Ascii) => {
+            let of = (Kind::Ascii, presence, Operator::Tail);
+            field_refused(rt, alloc, of, entry, Some(value), row.refusal)
+        }
+        (Operator::Tail, Kind::Unicode) => {
+            let of = (Kind::Unicode, presence, Operator::Tail);
+            field_refused(rt, alloc, of, entry, Some(value), row.refusal)
+        }
+        _ => panic!(rt; "another operator"),
+    }
+}
+
+fn row_is_refused(rt: &impl Abort, alloc: Global, row: &NotWritten) -> Result<(), AllocError> {
+    let value = row.value.scalar(alloc)?;
+    is_refused(rt, alloc, entry_before(alloc, row.before)?, &value, row)
 }
 
 #[test]
-fn string_deltas(rt: HostRuntime) -> Result<(), AllocError> {
-    let alloc = rt.alloc();
-    let of = (Presence::Mandatory, Operator::Delta);
-    // fewer bytes with removal in front
-    let bytes = [0xfd, 0x45, 0xd3];
-    ascii_written(&rt, alloc, of, b"GEM6", b"ESM6", true, &bytes)?;
-    // as many bytes on both sides: removal at the end
-    ascii_written(&rt, alloc, of, b"ESM6", b"ESM6", true, &[0x80, 0x80])
-}
-
-#[test]
-fn refused_deltas(rt: HostRuntime) -> Result<(), AllocError> {
-    let alloc = rt.alloc();
-    let of = (Kind::Ascii, Presence::Mandatory, Operator::Delta);
-    let value = ascii(alloc, b"A\x80")?;
-    let refusal = FieldRefusal::Mismatch;
-    field_refused(
-        &rt,
-        alloc,
-        of,
-        text_entry(alloc, b"A")?,
-        Some(&value),
-        refusal,
-    )
-}
-
-#[test]
-fn deltas_on_an_empty_entry(rt: HostRuntime) -> Result<(), AllocError> {
-    let alloc = rt.alloc();
-    let of = (Kind::Ascii, Presence::Mandatory, Operator::Delta);
-    let value = ascii(alloc, b"A")?;
-    field_refused(&rt, alloc, of, Entry::Empty, Some(&value), FieldRefusal::D6)
+fn refused_values(rt: HostRuntime) -> Result<(), AllocError> {
+    const ROWS: &[NotWritten] = &[
+        // a character beyond ASCII
+        NotWritten {
+            of: (Kind::Ascii, Presence::Mandatory, Operator::Delta),
+            before: Before::Text(b"A"),
+            value: Value::Ascii(b"A\x80"),
+            refusal: FieldRefusal::Mismatch,
+        },
+        // a delta on an empty entry
+        NotWritten {
+            of: (Kind::Ascii, Presence::Mandatory, Operator::Delta),
+            before: Before::Empty,
+            value: Value::Ascii(b"A"),
+            refusal: FieldRefusal::D6,
+        },
+        // an exponent out of its range
+        NotWritten {
+            of: (Kind::Decimal, Presence::Mandatory, Operator::Delta),
+            before: Before::Undefined,
+            value: Value::Decimal(64, 1),
+            refusal: FieldRefusal::R1,
+        },
+        // a tail that is too short
+        NotWritten {
+            of: (Kind::Ascii, Presence::Optional, Operator::Tail),
+            before: Before::Text(b"xab"),
+            value: Value::Ascii(b"x"),
+            refusal: FieldRefusal::TooShort,
+        },
+        // a tail on another type
+        NotWritten {
+            of: (Kind::Unicode, Presence::Mandatory, Operator::Tail),
+            before: Before::Text(b"xab"),
+            value: Value::Unicode("é"),
+            refusal: FieldRefusal::D4,
+        },
+    ];
+    for row in ROWS {
+        row_is_refused(&rt, rt.alloc(), row)?;
+    }
+    Ok(())
 }
 
 #[test]
@@ -569,26 +775,7 @@ fn decimal_deltas(rt: HostRuntime) -> Result<(), AllocError> {
     let decimal = |exponent: i32, mantissa: i64| Scalar::Decimal { exponent, mantissa };
     let entry = Entry::Assigned(decimal(-2, 7));
     let value = Some(decimal(-1, 5));
-    field_written(&rt, alloc, of, entry, value, true, &[0x81, 0xfe])?;
-    let far = decimal(64, 1);
-    field_refused(
-        &rt,
-        alloc,
-        of,
-        Entry::Undefined,
-        Some(&far),
-        FieldRefusal::R1,
-    )
-}
-
-#[test]
-fn tails(rt: HostRuntime) -> Result<(), AllocError> {
-    let alloc = rt.alloc();
-    let of = (Presence::Optional, Operator::Tail);
-    // the shortest tail begins with NUL, and would have four bytes
-    let bytes = [0x78, 0x00, 0xe2];
-    ascii_written(&rt, alloc, of, b"xab", b"x\0b", true, &bytes)?;
-    ascii_written(&rt, alloc, of, b"xab", b"xab", false, &[])
+    field_written(&rt, alloc, of, entry, value, true, &[0x81, 0xfe])
 }
 
 #[test]
@@ -613,43 +800,16 @@ fn initial_tail_written(
 
 #[test]
 fn tails_of_an_initial_value(rt: HostRuntime) -> Result<(), AllocError> {
-    let alloc = rt.alloc();
-    // the shortest tail is empty, and would have two bytes
-    initial_tail_written(&rt, alloc, b"ab", &[0xe2])?;
-    // a longer value stands whole
-    initial_tail_written(&rt, alloc, b"abc", &[0x61, 0x62, 0xe3])
-}
-
-#[test]
-fn tails_that_are_too_short(rt: HostRuntime) -> Result<(), AllocError> {
-    let alloc = rt.alloc();
-    let of = (Kind::Ascii, Presence::Optional, Operator::Tail);
-    let value = ascii(alloc, b"x")?;
-    let refusal = FieldRefusal::TooShort;
-    field_refused(
-        &rt,
-        alloc,
-        of,
-        text_entry(alloc, b"xab")?,
-        Some(&value),
-        refusal,
-    )
-}
-
-#[test]
-fn tails_on_another_type(rt: HostRuntime) -> Result<(), AllocError> {
-    let alloc = rt.alloc();
-    let of = (Kind::Unicode, Presence::Mandatory, Operator::Tail);
-    let value = unicode(alloc, "é")?;
-    let refusal = FieldRefusal::D4;
-    field_refused(
-        &rt,
-        alloc,
-        of,
-        text_entry(alloc, b"xab")?,
-        Some(&value),
-        refusal,
-    )
+    const ROWS: &[(&[u8], &[u8])] = &[
+        // the shortest tail is empty, and would have two bytes
+        (b"ab", &[0xe2]),
+        // a longer value stands whole
+        (b"abc", &[0x61, 0x62, 0xe3]),
+    ];
+    for (value, bytes) in ROWS {
+        initial_tail_written(&rt, rt.alloc(), value, bytes)?;
+    }
+    Ok(())
 }
 
 // A mandatory string delta.

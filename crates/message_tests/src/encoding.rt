@@ -1,5 +1,4 @@
 //! Messages that are encoded, and streams that are read and written at once.
 
-mod judging;
 mod messages;
 mod relaying;

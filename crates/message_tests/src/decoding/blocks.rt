@@ -46,8 +46,9 @@ const TWO: &[Sent] = &[
 ];
 
 #[test]
-fn blocks_of_messages(rt: HostRuntime) -> Result<(), AllocError> {
-    const ROWS: &[Row] = &[
+fn streams_in_blocks(rt: HostRuntime) -> Result<(), AllocError> {
+    const READ_BLOCKS: &[Row] = &[
+        // blocks of messages
         Row {
             stream: b"",
             want: &[],
@@ -84,13 +85,7 @@ fn blocks_of_messages(rt: HostRuntime) -> Result<(), AllocError> {
             want: TWO,
             end: End::Whole,
         },
-    ];
-    all_read_in(&rt, rt.alloc(), BLOCKS, ROWS)
-}
-
-#[test]
-fn sizes(rt: HostRuntime) -> Result<(), AllocError> {
-    const ROWS: &[Row] = &[
+        // sizes
         Row {
             stream: b"\x80",
             want: &[],
@@ -167,13 +162,7 @@ fn sizes(rt: HostRuntime) -> Result<(), AllocError> {
             want: &[],
             end: End::Fault(Cause::D5, 1, 11, 0, 0),
         },
-    ];
-    all_read_in(&rt, rt.alloc(), BLOCKS, ROWS)
-}
-
-#[test]
-fn ends_of_blocks(rt: HostRuntime) -> Result<(), AllocError> {
-    const ROWS: &[Row] = &[
+        // ends of blocks
         Row {
             stream: b"\x87\xF0\x81\x81\x41\xC2\xFE\x00\xE4",
             want: &[],
@@ -306,12 +295,8 @@ fn ends_of_blocks(rt: HostRuntime) -> Result<(), AllocError> {
             end: End::Fault(Cause::BlockEnd, 1, 3, 11, 1),
         },
     ];
-    all_read_in(&rt, rt.alloc(), BLOCKS, ROWS)
-}
-
-#[test]
-fn strict_blocks(rt: HostRuntime) -> Result<(), AllocError> {
-    const ROWS: &[Row] = &[
+    const READ_STRICT_BLOCKS: &[Row] = &[
+        // strict blocks
         Row {
             stream: b"\x88\xF0\x81\x81\x41\xC2\xFE\x00\xE4",
             want: ONE,
@@ -395,7 +380,8 @@ fn strict_blocks(rt: HostRuntime) -> Result<(), AllocError> {
             end: End::Fault(Cause::BlockEnd, 1, 3, 1, 1),
         },
     ];
-    all_read_in(&rt, rt.alloc(), STRICT_BLOCKS, ROWS)
+    all_read_in(&rt, rt.alloc(), BLOCKS, READ_BLOCKS)?;
+    all_read_in(&rt, rt.alloc(), STRICT_BLOCKS, READ_STRICT_BLOCKS)
 }
 
 // A size is held, and no byte between two blocks; `finish` is refused inside a block, and a reset begins outside of one.
@@ -502,27 +488,55 @@ fn block_each(alloc: Global, pieces: &[&[u8]], more: usize) -> Result<Vec<u8>, A
     Ok(stream)
 }
 
+// The messages of a plain stream, and how it ends.
+fn plain_read(
+    alloc: Global,
+    set: &TemplateSet,
+    plain: &[u8],
+    want: &mut Vec<Message>,
+) -> Option<Fault> {
+    let mut decoder = Decoder::new(alloc, set, PLAIN, MapEntries::new(alloc));
+    plain_end(&mut decoder, plain, want)
+}
+
+// Whether the messages of a plain stream are the same in one block, which has room for so many bytes more.
+fn same_in_one(
+    alloc: Global,
+    set: &TemplateSet,
+    plain: &[u8],
+    want: &[Message],
+    fault: Option<Fault>,
+    more: usize,
+) -> Result<bool, AllocError> {
+    let mut block = Vec::new(alloc);
+    push_block(&mut block, plain.len().saturating_add(more), plain)?;
+    agrees(alloc, set, BLOCKS, &block, want, moved(fault, 1))
+}
+
+// Whether they are the same in a block each.
+fn same_in_each(
+    alloc: Global,
+    set: &TemplateSet,
+    pieces: &[&[u8]],
+    want: &[Message],
+    fault: Option<Fault>,
+    more: usize,
+) -> Result<bool, AllocError> {
+    let blocks = block_each(alloc, pieces, more)?;
+    let count = pieces.len() as u64;
+    agrees(alloc, set, BLOCKS, &blocks, want, moved(fault, count))
+}
+
 // Whether messages, the last of which may be refused, are the same in one block, and in a block each, as they are
 // plain. A block that is refused has room for one byte more, so that none ends too early.
 fn same_in_blocks(alloc: Global, set: &TemplateSet, pieces: &[&[u8]]) -> Result<bool, AllocError> {
     let plain = joined(alloc, pieces)?;
     let mut want = Vec::new(alloc);
-    let mut decoder = Decoder::new(alloc, set, PLAIN, MapEntries::new(alloc));
-    let fault = plain_end(&mut decoder, &plain, &mut want);
+    let fault = plain_read(alloc, set, &plain, &mut want);
     let more = if fault.is_some() { 1 } else { 0 };
-    let mut block = Vec::new(alloc);
-    push_block(&mut block, plain.len().saturating_add(more), &plain)?;
-    let blocks = block_each(alloc, pieces, more)?;
     Ok(
-        agrees(alloc, set, BLOCKS, &block, &want, moved(fault, 1))?
-            && agrees(
-                alloc,
-                set,
-                BLOCKS,
-                &blocks,
-                &want,
-                moved(fault, pieces.len() as u64),
-            )?,
+        same_in_one(alloc, set, &plain, &want, fault, more)?
+            && same_in_each(alloc, set, pieces, &want, fault, more)?,
     )
 }
 

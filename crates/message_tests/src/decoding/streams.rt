@@ -8,10 +8,10 @@ use crate::modes::PLAIN;
 use crate::same::same;
 use crate::slots::slots_of;
 use crate::worked::{QUOTE, quote, text, worked};
+use fast_build::Load;
 use fast_decoder::{Decoder, MessageInputStream, Mode};
 use fast_dictionary::{Entries, MapEntries};
 use fast_io::{ByteInput, Counted, ScriptInput};
-use fast_load::Load;
 use fast_stream::{Cause, Fault, Message, Node};
 use fast_template::{ByteString, Scalar, TemplateSet};
 use std::alloc::{AllocError, Global};
@@ -292,8 +292,9 @@ fn all_read(rt: &impl Abort, alloc: Global, rows: &[Row]) -> Result<(), AllocErr
 }
 
 #[test]
-fn fields(rt: HostRuntime) -> Result<(), AllocError> {
+fn streams_that_are_read(rt: HostRuntime) -> Result<(), AllocError> {
     const ROWS: &[Row] = &[
+        // fields
         Row {
             stream: b"\xF0\x81\x81\x41\xC2\xFE\x00\xE4\x80\x80\x81",
             want: &[
@@ -346,13 +347,7 @@ fn fields(rt: HostRuntime) -> Result<(), AllocError> {
             ],
             end: End::Whole,
         },
-    ];
-    all_read(&rt, rt.alloc(), ROWS)
-}
-
-#[test]
-fn string_deltas(rt: HostRuntime) -> Result<(), AllocError> {
-    const ROWS: &[Row] = &[
+        // string deltas
         Row {
             stream: b"\xC0\x8A\x80\x47\x45\x48\xB6\x80\x82\x4D\xB6\x80\xFD\x45\xD3",
             want: &[
@@ -389,13 +384,7 @@ fn string_deltas(rt: HostRuntime) -> Result<(), AllocError> {
             ],
             end: End::Fault(Cause::D7, 4, 16, 10, 1),
         },
-    ];
-    all_read(&rt, rt.alloc(), ROWS)
-}
-
-#[test]
-fn segments(rt: HostRuntime) -> Result<(), AllocError> {
-    const ROWS: &[Row] = &[
+        // segments
         Row {
             stream: b"\xC0\x84\x80\x80\x81\x80\x83\x85\x86",
             want: &[
@@ -440,13 +429,7 @@ fn segments(rt: HostRuntime) -> Result<(), AllocError> {
             ],
             end: End::Whole,
         },
-    ];
-    all_read(&rt, rt.alloc(), ROWS)
-}
-
-#[test]
-fn refusals(rt: HostRuntime) -> Result<(), AllocError> {
-    const ROWS: &[Row] = &[
+        // refusals
         Row {
             stream: b"",
             want: &[],
@@ -495,13 +478,7 @@ fn refusals(rt: HostRuntime) -> Result<(), AllocError> {
             want: &[],
             end: End::Fault(Cause::Truncated, 1, 2, 1, 1),
         },
-    ];
-    all_read(&rt, rt.alloc(), ROWS)
-}
-
-#[test]
-fn cut_off(rt: HostRuntime) -> Result<(), AllocError> {
-    const ROWS: &[Row] = &[
+        // cut off
         Row {
             stream: b"\xF0",
             want: &[],

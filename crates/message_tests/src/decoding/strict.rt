@@ -5,7 +5,7 @@ use crate::decoding::streams::{Row, Sent, Shown, all_read_in, each_read, is_read
 use crate::modes::{PLAIN, STRICT};
 use crate::same::same;
 use crate::worked::worked;
-use fast_load::Load;
+use fast_build::Load;
 use fast_stream::Cause;
 use fast_template::TemplateSet;
 use std::alloc::{AllocError, Global};
@@ -73,8 +73,9 @@ fn all_kinds_read(rt: &impl Abort, alloc: Global, rows: &[Row]) -> Result<(), Al
 }
 
 #[test]
-fn overlong_entities(rt: HostRuntime) -> Result<(), AllocError> {
-    const ROWS: &[Refused] = &[
+fn overlong_streams(rt: HostRuntime) -> Result<(), AllocError> {
+    const REFUSED_WORKED: &[Refused] = &[
+        // overlong entities
         // an integer, a map, a string, NULL, and the exponent of a decimal in one piece
         Refused(
             b"\xF0\x81\x00\x00\x81\x41\xC2\xFE\x00\xE4",
@@ -141,12 +142,8 @@ fn overlong_entities(rt: HostRuntime) -> Result<(), AllocError> {
             End::Fault(Cause::R7, 1, 2, 11, 1),
         ),
     ];
-    all_refused(&rt, rt.alloc(), worked(rt.alloc()), ROWS)
-}
-
-#[test]
-fn overlong_entities_of_each_kind(rt: HostRuntime) -> Result<(), AllocError> {
-    const ROWS: &[Refused] = &[
+    const REFUSED_KINDS: &[Refused] = &[
+        // overlong entities of each kind
         // the length of a vector and of a Unicode string
         Refused(
             b"\xC0\x81\x00\x82\xC3\xA9",
@@ -203,12 +200,222 @@ fn overlong_entities_of_each_kind(rt: HostRuntime) -> Result<(), AllocError> {
         Refused(b"\xC0\x8D\x7F\xC0", End::Fault(Cause::R6, 1, 2, 13, 1)),
         Refused(b"\xC0\x8D\x00\x80", End::Fault(Cause::R6, 1, 2, 13, 1)),
     ];
-    all_refused(&rt, rt.alloc(), kinds(rt.alloc()), ROWS)
+    const JUDGED_WORKED: &[Judged] = &[
+        // which fault comes first
+        // an integer before its range
+        Judged(
+            b"\xF0\x81\x00\x10\x00\x00\x00\x80",
+            End::Fault(Cause::D2, 1, 2, 1, 1),
+            End::Fault(Cause::R6, 1, 2, 1, 1),
+        ),
+        Judged(
+            b"\xF0\x81\x10\x00\x00\x00\x80",
+            End::Fault(Cause::D2, 1, 2, 1, 1),
+            End::Fault(Cause::D2, 1, 2, 1, 1),
+        ),
+        Judged(
+            b"\xC0\x00\x10\x00\x00\x00\x80",
+            End::Fault(Cause::D2, 1, 1, 0, 0),
+            End::Fault(Cause::R6, 1, 1, 0, 0),
+        ),
+        // an identifier before its template
+        Judged(
+            b"\xC0\x00\xE4",
+            End::Fault(Cause::D9, 1, 1, 0, 0),
+            End::Fault(Cause::R6, 1, 1, 0, 0),
+        ),
+        Judged(
+            b"\xC0\x01\x80",
+            End::Fault(Cause::D9, 1, 1, 0, 0),
+            End::Fault(Cause::D9, 1, 1, 0, 0),
+        ),
+        // a map before its bits, and before the identifier
+        Judged(
+            b"\x00\x80",
+            End::Fault(Cause::D5, 1, 2, 0, 0),
+            End::Fault(Cause::R7, 1, 0, 0, 0),
+        ),
+        Judged(
+            b"\x40\x80\xE4",
+            End::Fault(Cause::D9, 1, 2, 0, 0),
+            End::Fault(Cause::R7, 1, 0, 0, 0),
+        ),
+        Judged(
+            b"\x40\x80\x00\xE4",
+            End::Fault(Cause::D9, 1, 2, 0, 0),
+            End::Fault(Cause::R7, 1, 0, 0, 0),
+        ),
+        Judged(
+            b"\xF0\x8B\x00\x80\x86",
+            End::Fault(Cause::D5, 1, 4, 11, 2),
+            End::Fault(Cause::R7, 1, 2, 11, 1),
+        ),
+        // a length before its limit
+        Judged(
+            b"\xC0\x84\x00\x04\x00\x81",
+            End::Fault(Cause::Limit, 1, 2, 4, 1),
+            End::Fault(Cause::R6, 1, 2, 4, 1),
+        ),
+        Judged(
+            b"\xC0\x84\x04\x00\x81",
+            End::Fault(Cause::Limit, 1, 2, 4, 1),
+            End::Fault(Cause::Limit, 1, 2, 4, 1),
+        ),
+        // a delta before its base
+        Judged(
+            b"\xC0\x8D\x00\x85",
+            End::Fault(Cause::D6, 1, 2, 13, 2),
+            End::Fault(Cause::R6, 1, 2, 13, 2),
+        ),
+        Judged(
+            b"\xC0\x8D\x85",
+            End::Fault(Cause::D6, 1, 2, 13, 2),
+            End::Fault(Cause::D6, 1, 2, 13, 2),
+        ),
+        // nothing before the stop bit has come
+        Judged(
+            b"\xF0\x81\x00\x00\x00\x00\x00\x00\x00\x00\x00\x00",
+            End::Fault(Cause::Limit, 1, 2, 1, 1),
+            End::Fault(Cause::Limit, 1, 2, 1, 1),
+        ),
+        Judged(
+            b"\xF0\x81\x00\x00\x00\x00\x00\x00\x00\x00\x00",
+            End::Fault(Cause::Truncated, 1, 2, 1, 1),
+            End::Fault(Cause::Truncated, 1, 2, 1, 1),
+        ),
+        Judged(
+            b"\x00\x00",
+            End::Fault(Cause::Truncated, 1, 0, 0, 0),
+            End::Fault(Cause::Truncated, 1, 0, 0, 0),
+        ),
+        // the fault of a field before the bits that are left
+        Judged(
+            b"\xF1\x81\x81\x41\xC2\x00\xC0",
+            End::Fault(Cause::R1, 1, 5, 1, 3),
+            End::Fault(Cause::R1, 1, 5, 1, 3),
+        ),
+        Judged(
+            b"\xF1\x81\x81\x41\xC2\xFE\x00",
+            End::Fault(Cause::Truncated, 1, 5, 1, 3),
+            End::Fault(Cause::Truncated, 1, 5, 1, 3),
+        ),
+        Judged(
+            b"\xC0\x85\x82\xE0",
+            End::Fault(Cause::Truncated, 1, 4, 5, 2),
+            End::Fault(Cause::Truncated, 1, 4, 5, 2),
+        ),
+        // and the bits of a group and an element that are left before what follows
+        Judged(
+            b"\xF0\x8B\xE0\x85\x10\x00\x00\x00\x80",
+            End::Fault(Cause::D2, 1, 4, 11, 3),
+            End::Fault(Cause::R8, 1, 4, 11, 1),
+        ),
+        Judged(
+            b"\xC0\x85\x82\xE0\x85\xC0",
+            End::Fault(Cause::Truncated, 1, 6, 5, 2),
+            End::Fault(Cause::R8, 1, 5, 5, 1),
+        ),
+    ];
+    const JUDGED_KINDS: &[Judged] = &[
+        // which fault of each kind comes first
+        // an integer before its range
+        Judged(
+            b"\xC0\x8A\x00\x00\xC0\x81",
+            End::Fault(Cause::R1, 1, 2, 10, 1),
+            End::Fault(Cause::R6, 1, 2, 10, 1),
+        ),
+        Judged(
+            b"\xC0\x89\x00\x00\xC1\x81",
+            End::Fault(Cause::R1, 1, 2, 9, 1),
+            End::Fault(Cause::R6, 1, 2, 9, 1),
+        ),
+        Judged(
+            b"\xC0\x89\x00\xC1\x81",
+            End::Fault(Cause::R1, 1, 2, 9, 1),
+            End::Fault(Cause::R1, 1, 2, 9, 1),
+        ),
+        // but the range of an exponent before the mantissa
+        Judged(
+            b"\xC0\x89\x00\xC1\x00\x81",
+            End::Fault(Cause::R1, 1, 2, 9, 1),
+            End::Fault(Cause::R1, 1, 2, 9, 1),
+        ),
+        // a number of units before they are removed
+        Judged(
+            b"\xC0\x84\x00\x00\xC0\x80",
+            End::Fault(Cause::D7, 1, 2, 4, 1),
+            End::Fault(Cause::R6, 1, 2, 4, 1),
+        ),
+        Judged(
+            b"\xC0\x84\x00\xC0\x80",
+            End::Fault(Cause::D7, 1, 2, 4, 1),
+            End::Fault(Cause::D7, 1, 2, 4, 1),
+        ),
+        Judged(
+            b"\xC0\x84\x7F\xBF\x80",
+            End::Fault(Cause::D7, 1, 2, 4, 1),
+            End::Fault(Cause::D7, 1, 2, 4, 1),
+        ),
+        // but that before the new part
+        Judged(
+            b"\xC0\x84\x81\x00\x81\x41",
+            End::Fault(Cause::D7, 1, 2, 4, 1),
+            End::Fault(Cause::D7, 1, 2, 4, 1),
+        ),
+        Judged(
+            b"\xC0\x85\x82\x00\xC1",
+            End::Fault(Cause::D7, 1, 2, 5, 1),
+            End::Fault(Cause::D7, 1, 2, 5, 1),
+        ),
+        // a length before its limit, its bytes and their text
+        Judged(
+            b"\xC0\x81\x00\x04\x00\x80",
+            End::Fault(Cause::Limit, 1, 2, 1, 1),
+            End::Fault(Cause::R6, 1, 2, 1, 1),
+        ),
+        Judged(
+            b"\xC0\x81\x00\x82",
+            End::Fault(Cause::Truncated, 1, 2, 1, 1),
+            End::Fault(Cause::R6, 1, 2, 1, 1),
+        ),
+        Judged(
+            b"\xC0\x81\x01\x80",
+            End::Fault(Cause::Truncated, 1, 2, 1, 1),
+            End::Fault(Cause::Truncated, 1, 2, 1, 1),
+        ),
+        Judged(
+            b"\xC0\x83\x00\x81\xFF",
+            End::Fault(Cause::R2, 1, 2, 3, 1),
+            End::Fault(Cause::R6, 1, 2, 3, 1),
+        ),
+        // a tail before the type of its base
+        Judged(
+            b"\xF0\x8B\x85\x00\xC1",
+            End::Fault(Cause::D4, 1, 3, 11, 2),
+            End::Fault(Cause::R9, 1, 3, 11, 2),
+        ),
+        Judged(
+            b"\xF0\x8B\x85\xC1",
+            End::Fault(Cause::D4, 1, 3, 11, 2),
+            End::Fault(Cause::D4, 1, 3, 11, 2),
+        ),
+        // a field without a value before the bits that are left
+        Judged(
+            b"\x7F\xA0\x8C\x81\x82\x83\x84\x85\x86",
+            End::Fault(Cause::D5, 1, 9, 12, 7),
+            End::Fault(Cause::D5, 1, 9, 12, 7),
+        ),
+    ];
+    all_refused(&rt, rt.alloc(), worked(rt.alloc()), REFUSED_WORKED)?;
+    all_refused(&rt, rt.alloc(), kinds(rt.alloc()), REFUSED_KINDS)?;
+    all_judged(&rt, rt.alloc(), worked(rt.alloc()), JUDGED_WORKED)?;
+    all_judged(&rt, rt.alloc(), kinds(rt.alloc()), JUDGED_KINDS)
 }
 
 #[test]
-fn entities_that_are_just_not(rt: HostRuntime) -> Result<(), AllocError> {
-    const ROWS: &[Row] = &[
+fn streams_that_are_just_not_overlong(rt: HostRuntime) -> Result<(), AllocError> {
+    const READ_STRICT: &[Row] = &[
+        // entities that are just not
         Row {
             stream: b"\xF8\x83\x83\x39\x45\xA3\x85",
             want: &[Sent {
@@ -272,13 +479,49 @@ fn entities_that_are_just_not(rt: HostRuntime) -> Result<(), AllocError> {
             }],
             end: End::Fault(Cause::R6, 2, 9, 1, 3),
         },
+        // bits that are left
+        Row {
+            stream: b"\xF1\x81\x81\x41\xC2\xFE\x00\xE4",
+            want: &[],
+            end: End::Fault(Cause::R8, 1, 8, 1, 0),
+        },
+        // bits are asked for by this very message
+        Row {
+            stream: b"\xF8\x83\x80\x85",
+            want: &[],
+            end: End::Fault(Cause::R8, 1, 4, 3, 0),
+        },
+        Row {
+            stream: b"\xF0\x8B\xE0\x85\x86",
+            want: &[],
+            end: End::Fault(Cause::R8, 1, 4, 11, 1),
+        },
+        Row {
+            stream: b"\xC0\x85\x82\xE0\x85\x80",
+            want: &[],
+            end: End::Fault(Cause::R8, 1, 5, 5, 1),
+        },
+        Row {
+            stream: b"\xC0\x85\x82\xC0\x85\xA0",
+            want: &[],
+            end: End::Fault(Cause::R8, 1, 6, 5, 1),
+        },
+        Row {
+            stream: b"\xF0\x81\x81\x41\xC2\xFE\x00\xE4\x81\x80\x81",
+            want: &[Sent {
+                template: 1,
+                fields: &[
+                    Shown::Number(1),
+                    Shown::Text(b"AB"),
+                    Shown::Decimal(-2, 100),
+                    Shown::Absent,
+                ],
+            }],
+            end: End::Fault(Cause::R8, 2, 11, 1, 0),
+        },
     ];
-    all_read_in(&rt, rt.alloc(), STRICT, ROWS)
-}
-
-#[test]
-fn entities_of_each_kind_that_are_just_not(rt: HostRuntime) -> Result<(), AllocError> {
-    const ROWS: &[Row] = &[
+    const KINDS_READ: &[Row] = &[
+        // entities of each kind that are just not
         Row {
             stream: b"\xC0\x81\x80",
             want: &[Sent {
@@ -451,54 +694,7 @@ fn entities_of_each_kind_that_are_just_not(rt: HostRuntime) -> Result<(), AllocE
             }],
             end: End::Whole,
         },
-    ];
-    all_kinds_read(&rt, rt.alloc(), ROWS)
-}
-
-#[test]
-fn bits_that_are_left(rt: HostRuntime) -> Result<(), AllocError> {
-    const ROWS: &[Row] = &[
-        Row {
-            stream: b"\xF1\x81\x81\x41\xC2\xFE\x00\xE4",
-            want: &[],
-            end: End::Fault(Cause::R8, 1, 8, 1, 0),
-        },
-        // bits are asked for by this very message
-        Row {
-            stream: b"\xF8\x83\x80\x85",
-            want: &[],
-            end: End::Fault(Cause::R8, 1, 4, 3, 0),
-        },
-        Row {
-            stream: b"\xF0\x8B\xE0\x85\x86",
-            want: &[],
-            end: End::Fault(Cause::R8, 1, 4, 11, 1),
-        },
-        Row {
-            stream: b"\xC0\x85\x82\xE0\x85\x80",
-            want: &[],
-            end: End::Fault(Cause::R8, 1, 5, 5, 1),
-        },
-        Row {
-            stream: b"\xC0\x85\x82\xC0\x85\xA0",
-            want: &[],
-            end: End::Fault(Cause::R8, 1, 6, 5, 1),
-        },
-        Row {
-            stream: b"\xF0\x81\x81\x41\xC2\xFE\x00\xE4\x81\x80\x81",
-            want: &[Sent {
-                template: 1,
-                fields: &[
-                    Shown::Number(1),
-                    Shown::Text(b"AB"),
-                    Shown::Decimal(-2, 100),
-                    Shown::Absent,
-                ],
-            }],
-            end: End::Fault(Cause::R8, 2, 11, 1, 0),
-        },
-    ];
-    const OF_KINDS: &[Row] = &[
+        // bits that are left
         Row {
             stream: b"\x7F\xE0\x8C\x81\x82\x83\x84\x85\x86\x87",
             want: &[],
@@ -510,240 +706,9 @@ fn bits_that_are_left(rt: HostRuntime) -> Result<(), AllocError> {
             end: End::Fault(Cause::R8, 1, 3, 1, 0),
         },
     ];
-    all_read_in(&rt, rt.alloc(), STRICT, ROWS)?;
-    all_kinds_read(&rt, rt.alloc(), OF_KINDS)
-}
-
-#[test]
-fn which_fault_comes_first(rt: HostRuntime) -> Result<(), AllocError> {
-    const ROWS: &[Judged] = &[
-        // an integer before its range
-        Judged(
-            b"\xF0\x81\x00\x10\x00\x00\x00\x80",
-            End::Fault(Cause::D2, 1, 2, 1, 1),
-            End::Fault(Cause::R6, 1, 2, 1, 1),
-        ),
-        Judged(
-            b"\xF0\x81\x10\x00\x00\x00\x80",
-            End::Fault(Cause::D2, 1, 2, 1, 1),
-            End::Fault(Cause::D2, 1, 2, 1, 1),
-        ),
-        Judged(
-            b"\xC0\x00\x10\x00\x00\x00\x80",
-            End::Fault(Cause::D2, 1, 1, 0, 0),
-            End::Fault(Cause::R6, 1, 1, 0, 0),
-        ),
-        // an identifier before its template
-        Judged(
-            b"\xC0\x00\xE4",
-            End::Fault(Cause::D9, 1, 1, 0, 0),
-            End::Fault(Cause::R6, 1, 1, 0, 0),
-        ),
-        Judged(
-            b"\xC0\x01\x80",
-            End::Fault(Cause::D9, 1, 1, 0, 0),
-            End::Fault(Cause::D9, 1, 1, 0, 0),
-        ),
-        // a map before its bits, and before the identifier
-        Judged(
-            b"\x00\x80",
-            End::Fault(Cause::D5, 1, 2, 0, 0),
-            End::Fault(Cause::R7, 1, 0, 0, 0),
-        ),
-        Judged(
-            b"\x40\x80\xE4",
-            End::Fault(Cause::D9, 1, 2, 0, 0),
-            End::Fault(Cause::R7, 1, 0, 0, 0),
-        ),
-        Judged(
-            b"\x40\x80\x00\xE4",
-            End::Fault(Cause::D9, 1, 2, 0, 0),
-            End::Fault(Cause::R7, 1, 0, 0, 0),
-        ),
-        Judged(
-            b"\xF0\x8B\x00\x80\x86",
-            End::Fault(Cause::D5, 1, 4, 11, 2),
-            End::Fault(Cause::R7, 1, 2, 11, 1),
-        ),
-        // a length before its limit
-        Judged(
-            b"\xC0\x84\x00\x04\x00\x81",
-            End::Fault(Cause::Limit, 1, 2, 4, 1),
-            End::Fault(Cause::R6, 1, 2, 4, 1),
-        ),
-        Judged(
-            b"\xC0\x84\x04\x00\x81",
-            End::Fault(Cause::Limit, 1, 2, 4, 1),
-            End::Fault(Cause::Limit, 1, 2, 4, 1),
-        ),
-        // a delta before its base
-        Judged(
-            b"\xC0\x8D\x00\x85",
-            End::Fault(Cause::D6, 1, 2, 13, 2),
-            End::Fault(Cause::R6, 1, 2, 13, 2),
-        ),
-        Judged(
-            b"\xC0\x8D\x85",
-            End::Fault(Cause::D6, 1, 2, 13, 2),
-            End::Fault(Cause::D6, 1, 2, 13, 2),
-        ),
-        // nothing before the stop bit has come
-        Judged(
-            b"\xF0\x81\x00\x00\x00\x00\x00\x00\x00\x00\x00\x00",
-            End::Fault(Cause::Limit, 1, 2, 1, 1),
-            End::Fault(Cause::Limit, 1, 2, 1, 1),
-        ),
-        Judged(
-            b"\xF0\x81\x00\x00\x00\x00\x00\x00\x00\x00\x00",
-            End::Fault(Cause::Truncated, 1, 2, 1, 1),
-            End::Fault(Cause::Truncated, 1, 2, 1, 1),
-        ),
-        Judged(
-            b"\x00\x00",
-            End::Fault(Cause::Truncated, 1, 0, 0, 0),
-            End::Fault(Cause::Truncated, 1, 0, 0, 0),
-        ),
-        // the fault of a field before the bits that are left
-        Judged(
-            b"\xF1\x81\x81\x41\xC2\x00\xC0",
-            End::Fault(Cause::R1, 1, 5, 1, 3),
-            End::Fault(Cause::R1, 1, 5, 1, 3),
-        ),
-        Judged(
-            b"\xF1\x81\x81\x41\xC2\xFE\x00",
-            End::Fault(Cause::Truncated, 1, 5, 1, 3),
-            End::Fault(Cause::Truncated, 1, 5, 1, 3),
-        ),
-        Judged(
-            b"\xC0\x85\x82\xE0",
-            End::Fault(Cause::Truncated, 1, 4, 5, 2),
-            End::Fault(Cause::Truncated, 1, 4, 5, 2),
-        ),
-        // and the bits of a group and an element that are left before what follows
-        Judged(
-            b"\xF0\x8B\xE0\x85\x10\x00\x00\x00\x80",
-            End::Fault(Cause::D2, 1, 4, 11, 3),
-            End::Fault(Cause::R8, 1, 4, 11, 1),
-        ),
-        Judged(
-            b"\xC0\x85\x82\xE0\x85\xC0",
-            End::Fault(Cause::Truncated, 1, 6, 5, 2),
-            End::Fault(Cause::R8, 1, 5, 5, 1),
-        ),
-    ];
-    all_judged(&rt, rt.alloc(), worked(rt.alloc()), ROWS)
-}
-
-#[test]
-fn which_fault_of_each_kind_comes_first(rt: HostRuntime) -> Result<(), AllocError> {
-    const ROWS: &[Judged] = &[
-        // an integer before its range
-        Judged(
-            b"\xC0\x8A\x00\x00\xC0\x81",
-            End::Fault(Cause::R1, 1, 2, 10, 1),
-            End::Fault(Cause::R6, 1, 2, 10, 1),
-        ),
-        Judged(
-            b"\xC0\x89\x00\x00\xC1\x81",
-            End::Fault(Cause::R1, 1, 2, 9, 1),
-            End::Fault(Cause::R6, 1, 2, 9, 1),
-        ),
-        Judged(
-            b"\xC0\x89\x00\xC1\x81",
-            End::Fault(Cause::R1, 1, 2, 9, 1),
-            End::Fault(Cause::R1, 1, 2, 9, 1),
-        ),
-        // but the range of an exponent before the mantissa
-        Judged(
-            b"\xC0\x89\x00\xC1\x00\x81",
-            End::Fault(Cause::R1, 1, 2, 9, 1),
-            End::Fault(Cause::R1, 1, 2, 9, 1),
-        ),
-        // a number of units before they are removed
-        Judged(
-            b"\xC0\x84\x00\x00\xC0\x80",
-            End::Fault(Cause::D7, 1, 2, 4, 1),
-            End::Fault(Cause::R6, 1, 2, 4, 1),
-        ),
-        Judged(
-            b"\xC0\x84\x00\xC0\x80",
-            End::Fault(Cause::D7, 1, 2, 4, 1),
-            End::Fault(Cause::D7, 1, 2, 4, 1),
-        ),
-        Judged(
-            b"\xC0\x84\x7F\xBF\x80",
-            End::Fault(Cause::D7, 1, 2, 4, 1),
-            End::Fault(Cause::D7, 1, 2, 4, 1),
-        ),
-        // but that before the new part
-        Judged(
-            b"\xC0\x84\x81\x00\x81\x41",
-            End::Fault(Cause::D7, 1, 2, 4, 1),
-            End::Fault(Cause::D7, 1, 2, 4, 1),
-        ),
-        Judged(
-            b"\xC0\x85\x82\x00\xC1",
-            End::Fault(Cause::D7, 1, 2, 5, 1),
-            End::Fault(Cause::D7, 1, 2, 5, 1),
-        ),
-        // a length before its limit, its bytes and their text
-        Judged(
-            b"\xC0\x81\x00\x04\x00\x80",
-            End::Fault(Cause::Limit, 1, 2, 1, 1),
-            End::Fault(Cause::R6, 1, 2, 1, 1),
-        ),
-        Judged(
-            b"\xC0\x81\x00\x82",
-            End::Fault(Cause::Truncated, 1, 2, 1, 1),
-            End::Fault(Cause::R6, 1, 2, 1, 1),
-        ),
-        Judged(
-            b"\xC0\x81\x01\x80",
-            End::Fault(Cause::Truncated, 1, 2, 1, 1),
-            End::Fault(Cause::Truncated, 1, 2, 1, 1),
-        ),
-        Judged(
-            b"\xC0\x83\x00\x81\xFF",
-            End::Fault(Cause::R2, 1, 2, 3, 1),
-            End::Fault(Cause::R6, 1, 2, 3, 1),
-        ),
-        // a tail before the type of its base
-        Judged(
-            b"\xF0\x8B\x85\x00\xC1",
-            End::Fault(Cause::D4, 1, 3, 11, 2),
-            End::Fault(Cause::R9, 1, 3, 11, 2),
-        ),
-        Judged(
-            b"\xF0\x8B\x85\xC1",
-            End::Fault(Cause::D4, 1, 3, 11, 2),
-            End::Fault(Cause::D4, 1, 3, 11, 2),
-        ),
-        // a field without a value before the bits that are left
-        Judged(
-            b"\x7F\xA0\x8C\x81\x82\x83\x84\x85\x86",
-            End::Fault(Cause::D5, 1, 9, 12, 7),
-            End::Fault(Cause::D5, 1, 9, 12, 7),
-        ),
-    ];
-    all_judged(&rt, rt.alloc(), kinds(rt.alloc()), ROWS)
-}
-
-// A preamble is judged before the characters are counted.
-#[test]
-fn long_strings(rt: HostRuntime) {
-    let alloc = rt.alloc();
-    same(&rt, long(alloc, STRICT, 0, 65_534, None), Ok(true));
-    let overlong = End::Fault(Cause::R9, 1, 3, 1, 2).fault();
-    same(&rt, long(alloc, STRICT, 1, 65_535, overlong), Ok(true));
-    let limit = End::Fault(Cause::Limit, 1, 3, 1, 2).fault();
-    same(&rt, long(alloc, STRICT, 0, 65_535, limit), Ok(true));
-    same(&rt, long(alloc, STRICT, 0, 65_540, limit), Ok(true));
-}
-
-// A preamble before a character other than NUL is nothing at the usual level.
-#[test]
-fn usual_entities(rt: HostRuntime) -> Result<(), AllocError> {
-    const ROWS: &[Row] = &[
+    const READ_PLAIN: &[Row] = &[
+        // usual entities
+        // A preamble before a character other than NUL is nothing at the usual level.
         Row {
             stream: b"\xF0\x81\x81\x00\xC1\xFE\x00\xE4",
             want: &[Sent {
@@ -816,5 +781,19 @@ fn usual_entities(rt: HostRuntime) -> Result<(), AllocError> {
             end: End::Whole,
         },
     ];
-    all_read_in(&rt, rt.alloc(), PLAIN, ROWS)
+    all_read_in(&rt, rt.alloc(), STRICT, READ_STRICT)?;
+    all_kinds_read(&rt, rt.alloc(), KINDS_READ)?;
+    all_read_in(&rt, rt.alloc(), PLAIN, READ_PLAIN)
+}
+
+// A preamble is judged before the characters are counted.
+#[test]
+fn long_strings(rt: HostRuntime) {
+    let alloc = rt.alloc();
+    same(&rt, long(alloc, STRICT, 0, 65_534, None), Ok(true));
+    let overlong = End::Fault(Cause::R9, 1, 3, 1, 2).fault();
+    same(&rt, long(alloc, STRICT, 1, 65_535, overlong), Ok(true));
+    let limit = End::Fault(Cause::Limit, 1, 3, 1, 2).fault();
+    same(&rt, long(alloc, STRICT, 0, 65_535, limit), Ok(true));
+    same(&rt, long(alloc, STRICT, 0, 65_540, limit), Ok(true));
 }

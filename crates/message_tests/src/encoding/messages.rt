@@ -6,11 +6,11 @@ use crate::modes::PLAIN;
 use crate::same::same;
 use crate::slots::slots_of;
 use crate::worked::{quote, text, worked};
+use fast_build::Load;
 use fast_decoder::Decoder;
 use fast_dictionary::{Entries, MapEntries};
 use fast_encoder::{EncodeCause, EncodeFault, Encoder, MessageOutputStream};
 use fast_io::{ByteOutput, Counted, ScriptOutput};
-use fast_load::Load;
 use fast_stream::{Message, Node};
 use fast_template::{Scalar, TemplateSet, UnicodeText};
 use std::alloc::{AllocError, Global};
@@ -87,8 +87,9 @@ fn all_have_canonical(
 }
 
 #[test]
-fn messages_of_streams(rt: HostRuntime) -> Result<(), AllocError> {
+fn canonical_messages(rt: HostRuntime) -> Result<(), AllocError> {
     const ROWS: &[(&[u8], &[u8])] = &[
+        // messages of streams
         (
             b"\xf0\x81\x81\x41\xc2\xfe\x00\xe4",
             b"\xf0\x81\x81\x41\xc2\xfe\x00\xe4",
@@ -105,13 +106,7 @@ fn messages_of_streams(rt: HostRuntime) -> Result<(), AllocError> {
             b"\xc0\x8a\x80\x47\x45\x48\xb6\x80\x82\x4d\xb6\x80\xfd\x45\xd3",
             b"\xc0\x8a\x80\x47\x45\x48\xb6\x80\x82\x4d\xb6\x80\xfd\x45\xd3",
         ),
-    ];
-    all_have_canonical(&rt, rt.alloc(), ROWS)
-}
-
-#[test]
-fn messages_with_others_inside(rt: HostRuntime) -> Result<(), AllocError> {
-    const ROWS: &[(&[u8], &[u8])] = &[
+        // messages with others inside
         (
             b"\xf0\x83\x80\x85\x90\x39\x45\xa3",
             b"\xf0\x83\x80\x85\x90\x39\x45\xa3",
@@ -181,17 +176,17 @@ fn both_refuse(
 }
 
 // A message is refused for this behind others, over both kinds of entries.
-pub(crate) fn is_refused(
+fn is_refused(
     rt: &impl Abort,
     alloc: Global,
     before: &[Message],
-    message: Message,
+    message: &Message,
     cause: EncodeCause,
     instruction: u32,
 ) -> Result<(), AllocError> {
     let fault = EncodeFault { cause, instruction };
     match worked(alloc) {
-        Some(set) => both_refuse(rt, alloc, &set, before, &message, fault),
+        Some(set) => both_refuse(rt, alloc, &set, before, message, fault),
         None => panic!(rt; "refused"),
     }
 }
@@ -207,29 +202,16 @@ fn string(alloc: Global, template: u32, characters: &[u8]) -> Result<Message, Al
 }
 
 // The first nodes of a Quote with this symbol, whose exponent is out of its range.
-pub(crate) fn far_quote(alloc: Global, symbol: &[u8], nodes: usize) -> Result<Message, AllocError> {
+fn far_quote(alloc: Global, symbol: &[u8], nodes: usize) -> Result<Message, AllocError> {
     let mut quote = quote(alloc, symbol, 64, 1)?;
     quote.fields.truncate(nodes);
     Ok(quote)
 }
 
 // The same with a symbol that is too long.
-pub(crate) fn long_quote(alloc: Global, nodes: usize) -> Result<Message, AllocError> {
+fn long_quote(alloc: Global, nodes: usize) -> Result<Message, AllocError> {
     let symbol = vec![in alloc; b'A'; 65_536]?;
     far_quote(alloc, &symbol, nodes)
-}
-
-#[test]
-fn messages_of_another_shape(rt: HostRuntime) -> Result<(), AllocError> {
-    let alloc = rt.alloc();
-    let unknown = message(100, Vec::new(alloc));
-    is_refused(&rt, alloc, &[], unknown, EncodeCause::D9, 0)?;
-    let short = far_quote(alloc, b"AB", 3)?;
-    is_refused(&rt, alloc, &[], short, EncodeCause::Mismatch, 0)?;
-    let large = long_quote(alloc, 4)?;
-    is_refused(&rt, alloc, &[], large, EncodeCause::Limit, 0)?;
-    let far = far_quote(alloc, b"AB", 4)?;
-    is_refused(&rt, alloc, &[], far, EncodeCause::R1, 3)
 }
 
 // A message of constants with another first value.
@@ -265,37 +247,83 @@ fn unicode(alloc: Global) -> Result<Message, AllocError> {
     Ok(message(12, fields))
 }
 
+// A message that is refused, in short.
+#[derive(Clone, Copy)]
+enum Odd {
+    // Of no template.
+    Unknown,
+    // The first nodes of a Quote with this symbol and an exponent out of its range.
+    Far(&'static [u8], usize),
+    // The same with a symbol that is too long.
+    Long(usize),
+    Constants,
+    Fixed,
+    Emptied,
+    Unicode,
+    // A string that is shorter than its base.
+    Short,
+}
+
+impl Odd {
+    fn message(self, alloc: Global) -> Result<Message, AllocError> {
+        match self {
+            Odd::Unknown => Ok(message(100, Vec::new(alloc))),
+            Odd::Far(symbol, nodes) => far_quote(alloc, symbol, nodes),
+            Odd::Long(nodes) => long_quote(alloc, nodes),
+            Odd::Constants => constants(alloc),
+            Odd::Fixed => fixed(alloc),
+            Odd::Emptied => emptied(alloc),
+            Odd::Unicode => unicode(alloc),
+            Odd::Short => string(alloc, 8, b"x"),
+        }
+    }
+}
+
+// A message, why it is refused, and the instruction.
+struct Refused(Odd, EncodeCause, u32);
+
+fn all_refused(
+    rt: &impl Abort,
+    alloc: Global,
+    before: &[Message],
+    rows: &[Refused],
+) -> Result<(), AllocError> {
+    for Refused(odd, cause, instruction) in rows {
+        let message = odd.message(alloc)?;
+        is_refused(rt, alloc, before, &message, *cause, *instruction)?;
+    }
+    Ok(())
+}
+
 #[test]
-fn fields_without_a_form(rt: HostRuntime) -> Result<(), AllocError> {
-    let alloc = rt.alloc();
-    is_refused(
-        &rt,
-        alloc,
-        &[],
-        constants(alloc)?,
-        EncodeCause::NotConstant,
-        1,
-    )?;
-    is_refused(&rt, alloc, &[], fixed(alloc)?, EncodeCause::D3, 1)?;
-    is_refused(&rt, alloc, &[], emptied(alloc)?, EncodeCause::D6, 2)
+fn messages_that_are_refused(rt: HostRuntime) -> Result<(), AllocError> {
+    const ROWS: &[Refused] = &[
+        // a message is judged before its fields
+        Refused(Odd::Unknown, EncodeCause::D9, 0),
+        Refused(Odd::Far(b"AB", 3), EncodeCause::Mismatch, 0),
+        Refused(Odd::Far(b"A\x80", 4), EncodeCause::Mismatch, 0),
+        Refused(Odd::Long(4), EncodeCause::Limit, 0),
+        Refused(Odd::Long(3), EncodeCause::Mismatch, 0),
+        // its template, shape and limits are as they must be, and the exponent of its decimal is out of its range
+        Refused(Odd::Far(b"AB", 4), EncodeCause::R1, 3),
+        Refused(Odd::Far(&[], 4), EncodeCause::R1, 3),
+        // fields without a form
+        Refused(Odd::Constants, EncodeCause::NotConstant, 1),
+        Refused(Odd::Fixed, EncodeCause::D3, 1),
+        Refused(Odd::Emptied, EncodeCause::D6, 2),
+    ];
+    all_refused(&rt, rt.alloc(), &[], ROWS)
 }
 
 // The same behind a message of a string.
-fn is_refused_behind(
-    rt: &impl Abort,
-    alloc: Global,
-    message: Message,
-    cause: EncodeCause,
-) -> Result<(), AllocError> {
-    let before = string(alloc, 8, b"xab")?;
-    is_refused(rt, alloc, &[before], message, cause, 1)
-}
-
 #[test]
-fn fields_without_a_form_behind_others(rt: HostRuntime) -> Result<(), AllocError> {
-    let alloc = rt.alloc();
-    is_refused_behind(&rt, alloc, unicode(alloc)?, EncodeCause::D4)?;
-    is_refused_behind(&rt, alloc, string(alloc, 8, b"x")?, EncodeCause::TooShort)
+fn messages_that_are_refused_behind_another(rt: HostRuntime) -> Result<(), AllocError> {
+    const ROWS: &[Refused] = &[
+        Refused(Odd::Unicode, EncodeCause::D4, 1),
+        Refused(Odd::Short, EncodeCause::TooShort, 1),
+    ];
+    let before = string(rt.alloc(), 8, b"xab")?;
+    all_refused(&rt, rt.alloc(), &[before], ROWS)
 }
 
 // Whether a refusal leaves the entries as they were, and a reset makes them undefined.

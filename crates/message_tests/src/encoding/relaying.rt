@@ -49,8 +49,9 @@ fn all_relayed(rt: &impl Abort, alloc: Global, rows: &[Row]) {
 }
 
 #[test]
-fn numbers_and_texts(rt: HostRuntime) {
+fn streams_that_are_relayed(rt: HostRuntime) {
     const ROWS: &[Row] = &[
+        // numbers and texts
         Row {
             stream: b"\xf0\x81\x81\x41\xc2\xfe\x00\xe4",
             canonical: b"\xf0\x81\x81\x41\xc2\xfe\x00\xe4",
@@ -86,13 +87,7 @@ fn numbers_and_texts(rt: HostRuntime) {
             canonical: b"\xf0\x81\x81\x41\xc2\xfe\x00\xe4",
             refused: false,
         },
-    ];
-    all_relayed(&rt, rt.alloc(), ROWS);
-}
-
-#[test]
-fn deltas_and_tails(rt: HostRuntime) {
-    const ROWS: &[Row] = &[
+        // deltas and tails
         Row {
             stream: b"\xc0\x8a\x80\x47\x45\x48\xb6\x80\x82\x4d\xb6\x80\xfd\x45\xd3",
             canonical: b"\xc0\x8a\x80\x47\x45\x48\xb6\x80\x82\x4d\xb6\x80\xfd\x45\xd3",
@@ -113,13 +108,7 @@ fn deltas_and_tails(rt: HostRuntime) {
             canonical: b"\xe0\x89\x80\xa0\xe2",
             refused: false,
         },
-    ];
-    all_relayed(&rt, rt.alloc(), ROWS);
-}
-
-#[test]
-fn decimals_in_parts(rt: HostRuntime) {
-    const ROWS: &[Row] = &[
+        // decimals in parts
         Row {
             stream: b"\xf0\x83\x80\x85\x90\x39\x45\xa3",
             canonical: b"\xf0\x83\x80\x85\x90\x39\x45\xa3",
@@ -135,13 +124,7 @@ fn decimals_in_parts(rt: HostRuntime) {
             canonical: b"\xe0\x8f\x00\xe4\x83\x0a\xff\x80\x81",
             refused: false,
         },
-    ];
-    all_relayed(&rt, rt.alloc(), ROWS);
-}
-
-#[test]
-fn groups_and_sequences(rt: HostRuntime) {
-    const ROWS: &[Row] = &[
+        // groups and sequences
         Row {
             stream: b"\xc0\x84\x80\x80\x81\x80\x83\x85\x86",
             canonical: b"\xc0\x84\x80\x80\x81\x80\x83\x85\x86",
@@ -157,13 +140,7 @@ fn groups_and_sequences(rt: HostRuntime) {
             canonical: b"\xf0\x8b\xc0\x85\x86\x80\xa0\x80",
             refused: false,
         },
-    ];
-    all_relayed(&rt, rt.alloc(), ROWS);
-}
-
-#[test]
-fn identifiers_and_keys(rt: HostRuntime) {
-    const ROWS: &[Row] = &[
+        // identifiers and keys
         Row {
             stream: b"\xe0\x90\x85\x86\xe0\x90\x87\x86",
             canonical: b"\xe0\x90\x85\x86\x80\x87",
@@ -174,13 +151,7 @@ fn identifiers_and_keys(rt: HostRuntime) {
             canonical: b"\xf0\x87\x85\xc1\xb0\x86\xc1",
             refused: false,
         },
-    ];
-    all_relayed(&rt, rt.alloc(), ROWS);
-}
-
-#[test]
-fn what_comes_before_a_fault(rt: HostRuntime) {
-    const ROWS: &[Row] = &[
+        // what comes before a fault
         Row {
             stream: b"\x80",
             canonical: b"",
@@ -216,16 +187,12 @@ fn what_comes_before_a_fault(rt: HostRuntime) {
             canonical: b"",
             refused: true,
         },
+        // many elements of nothing
+        Row {
+            stream: b"\xc0\x86\x03\x7f\xff",
+            canonical: b"\xc0\x86\x03\x7f\xff",
+            refused: false,
+        },
     ];
-    all_relayed(&rt, rt.alloc(), ROWS);
-}
-
-#[test]
-fn many_elements_of_nothing(rt: HostRuntime) {
-    const ROWS: &[Row] = &[Row {
-        stream: b"\xc0\x86\x03\x7f\xff",
-        canonical: b"\xc0\x86\x03\x7f\xff",
-        refused: false,
-    }];
     all_relayed(&rt, rt.alloc(), ROWS);
 }

@@ -7,9 +7,9 @@ use crate::commands::streams::{
 };
 use crate::modes::{PLAIN, STRICT};
 use crate::worked::{QUOTE, worked};
+use fast_build::Load;
 use fast_command::Command;
 use fast_io::ScriptInput;
-use fast_load::Load;
 use fast_stream::Cause;
 use fast_template::TemplateSet;
 use std::alloc::{AllocError, Global};
