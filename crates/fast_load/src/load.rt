@@ -15,6 +15,7 @@ ghost use Rattle.fast_written.specs.Written.{written_template_of};
 
 use crate::build::resolve;
 use crate::checks::check_written;
+use crate::take_apart::take_apart;
 use fast_template::TemplateSet;
 use fast_written::{LoadCause, LoadFault, Template, fault_at, templates_in_data, want_of_memory};
 use serde_json::{Error, Value};
@@ -52,12 +53,9 @@ impl Load for TemplateSet {
             (λ fault. IsFirstFault (map written_template_of templates.items) fault ⊎ (fault
             ≡ want_of_memory_of)) }
     {
-        let names = check_written(alloc, &templates)?;
-        match resolve(alloc, &templates, &names) {
-            Ok(Ok(set)) => Ok(set),
-            Ok(Err(fault)) => Err(fault),
-            Err(AllocError) => Err(want_of_memory()),
-        }
+        let made = set_of(alloc, &templates);
+        take_apart(alloc, templates);
+        made
     }
 
     fn from_json(alloc: Global, text: &[u8]) -> Result<TemplateSet, LoadFault>
@@ -71,6 +69,22 @@ impl Load for TemplateSet {
             Err(error) => return Err(fault_of(&error)),
         };
         TemplateSet::build(alloc, templates_in_data(alloc, &value)?)
+    }
+}
+
+// The set that templates are resolved to, or the first fault.
+fn set_of(alloc: Global, templates: &[Template]) -> Result<TemplateSet, LoadFault>
+    ensures { MatchResult result
+        (λ set. IsAccepted (map written_template_of templates.now)
+        × AreResolved (map written_template_of templates.now) (templates_in set))
+        (λ fault. IsFirstFault (map written_template_of templates.now) fault ⊎ (fault
+        ≡ want_of_memory_of)) }
+{
+    let names = check_written(alloc, templates)?;
+    match resolve(alloc, templates, &names) {
+        Ok(Ok(set)) => Ok(set),
+        Ok(Err(fault)) => Err(fault),
+        Err(AllocError) => Err(want_of_memory()),
     }
 }
 

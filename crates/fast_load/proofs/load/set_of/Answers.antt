@@ -1,5 +1,5 @@
 use Rattle.std.proofs.Common.{rules}
-use Rattle.fast_load.proofs.load.TemplateSetLoad.build.Goals as goal
+use Rattle.fast_load.proofs.load.set_of.Goals as goal
 
 pub returns-in-Ok-Ok : goal.returns-in-Ok-Ok
 returns-in-Ok-Ok c = search rules
