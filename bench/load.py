@@ -51,6 +51,10 @@ def long_text():
     return [template(f"{n:0>255}", field(f"{n:a>200}")) for n in range(33_000)]
 
 
+def long_value():
+    return template("S", {"kind": "string", "name": "C", "operator": "constant", "value": "c" * MOST})
+
+
 CASES = [
     ("no template", lambda: [], "accepted slots=1"),
     ("130 templates, each referring twice to the next, the last one empty", lambda: doubling([]), "accepted slots=1"),
@@ -68,6 +72,11 @@ CASES = [
     ("65,535 templates whose names differ at their ends", lambda: [template(f"{n:x>80}", field("F")) for n in range(MOST)],
      "accepted slots=2"),
     ("names of 255 characters", long_text, "accepted slots=33001"),
+    ("20,000 references to a value of 65,535 characters", lambda: [refers("T", *("S" for _ in range(20_000))), long_value()],
+     "accepted slots=2"),
+    ("16 templates, each referring twice to the next, the last one with that value: 65,535 instructions",
+     lambda: [refers(f"N{n}", f"N{n + 1}", f"N{n + 1}") for n in range(1, 15)] + [refers("N15", "S", "S"), long_value()],
+     "accepted slots=2"),
 ]
 
 

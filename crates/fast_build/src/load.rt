@@ -51,7 +51,7 @@ impl Load for TemplateSet {
             (λ fault. IsFirstFault (map written_template_of templates.items) fault ⊎ (fault
             ≡ want_of_memory_of)) }
     {
-        load_written(alloc, &templates)
+        load_written(alloc, templates)
     }
 
     fn from_json(alloc: Global, text: &[u8]) -> Result<TemplateSet, LoadFault>

@@ -23,6 +23,7 @@ pub mod Deep
 pub mod LoadRows
 pub mod CheckRows
 pub mod ResolvedRows
+pub mod InOrderLaws
 pub mod LinkLaws
 pub mod FlatLaws
 pub mod LinkOrder

@@ -1,13 +1,16 @@
 -- What a walk over instructions answers, by their places in the list of all of them.
-use Rattle.std.proofs.Common.{◌≡◌, ◌≤◌, ◌<◌, ◌+◌, ℕ, zero, suc, List, [], ◌∷◌, ◌++◌, min, Option, Some, None, refl, sym, ap, subst, ◌∙◌, lit≤, arith}
+use Rattle.std.proofs.Common.{◌≡◌, ◌≤◌, ◌<◌, ◌+◌, ℕ, zero, suc, List, [], ◌∷◌, ◌++◌, map, drop, get_or, length, min, Option, Some, None, refl, sym, ap, subst, ◌∙◌, lit≤, arith}
 use Rattle.std.specs.Prelude.{slice_get}
 use Rattle.std.proofs.Math.Nat.{min-le_right}
+use Rattle.std.proofs.lemmas.List.{drop_all, drop_more}
 use Rattle.std.specs.Option.{option_map_or}
 use Rattle.fast_written.specs.declared.fault.LoadCause.{LoadCause}
 use Rattle.fast_written.specs.declared.fault.LoadFault.{LoadFault}
 use Rattle.fast_load.specs.declared.walk.Walked.{Walked}
 use Rattle.fast_load.specs.declared.walk.Walked.TheVariants.{Next, Fault}
 use Rattle.fast_written.specs.Written.{WrittenInstruction, WrittenInstructions, written_field, written_parts, written_group, written_sequence, written_reference, no_written, then_written, WrittenTemplate, listed, listed_one}
+use Rattle.fast_load.specs.declared.in_order.Leveled.{Leveled}
+use Rattle.fast_load.specs.InOrder.{found_of}
 use Rattle.fast_load.specs.Walks.{and_then, judged, walk, walk_one, after_walk, after_template, first_at_fault}
 use Rattle.fast_written.specs.LoadFaults.{next_number}
 
@@ -234,3 +237,17 @@ module _ (of_template : WrittenTemplate → Option LoadCause) (judge : WrittenIn
   pub no_place : (ws : List WrittenTemplate) (t : ℕ) → first_at_fault of_template judge ws t ≡ None → (p k : ℕ) (c : LoadCause) → ¬ (CauseIn ws p k c)
   no_place [] t e = no_cause
   no_place (w ∷ ws) t e = none_then w ws t (of_template w) refl (walk judge w.members 1) refl e (no_place ws (t + 1))
+
+-- ---- along a list of instructions that were put in order
+
+pub along_fault : (judge : WrittenInstruction → Option LoadCause) (ls : List Leveled) (d : Leveled) (i next n : ℕ) (cause : LoadCause) → i < length ls → d ≡ get_or ls i d → judge (found_of d) ≡ Some cause → along judge (map found_of (drop i ls)) next ≡ along judge (map found_of ls) n → Fault cause next ≡ along judge (map found_of ls) n
+along_fault judge ls d i next n cause inside at is h =
+    let split : drop i ls ≡ d ∷ drop (i + 1) ls = drop_more ls i d inside ∙ ap (λ e. e ∷ drop (i + 1) ls) (sym at) in
+    sym (ap (λ xs. along judge (map found_of xs) next) split ∙ ap (λ o. and_then (judged o next) (along judge (map found_of (drop (i + 1) ls)))) is) ∙ h
+
+pub along_end : (judge : WrittenInstruction → Option LoadCause) (ls : List Leveled) (i next n : ℕ) → length ls ≤ i → along judge (map found_of (drop i ls)) next ≡ along judge (map found_of ls) n → Next next ≡ along judge (map found_of ls) n
+along_end judge ls i next n le h = sym (ap (λ xs. along judge (map found_of xs) next) (drop_all i ls le)) ∙ h
+
+-- what is found along a list is what a walk finds
+pub along_walk : (judge : WrittenInstruction → Option LoadCause) (ls all : List Leveled) (is : WrittenInstructions) (n : ℕ) → ls ≡ all → map found_of all ≡ listed is → along judge (map found_of ls) n ≡ walk judge is n
+along_walk judge ls all is n same put = ap (λ xs. along judge (map found_of xs) n) same ∙ ap (λ xs. along judge xs n) put ∙ sym (walk-along judge is n)

@@ -36,6 +36,30 @@ abbrev mutual
   depth_with depths no_written = 0
   depth_with depths (then_written i is) = max (depth_with_one depths i) (depth_with depths is)
 
+-- what an instruction itself adds to the size, and instructions one after another
+abbrev pub own_size : (List ℕ → ℕ) → WrittenInstruction → ℕ
+own_size sizes (written_field name kind presence operation) = 1
+own_size sizes (written_parts name presence exponent mantissa) = 1
+own_size sizes (written_group name presence around members) = 1
+own_size sizes (written_sequence name presence around length_name length members) = 1
+own_size sizes (written_reference name) = sizes name
+
+abbrev pub size_along : (List ℕ → ℕ) → List WrittenInstruction → ℕ
+size_along sizes [] = 0
+size_along sizes (i ∷ is) = own_size sizes i + size_along sizes is
+
+-- how deep an instruction itself reaches below its level, and instructions with their levels
+abbrev pub own_depth : (List ℕ → ℕ) → WrittenInstruction → ℕ
+own_depth depths (written_field name kind presence operation) = 0
+own_depth depths (written_parts name presence exponent mantissa) = 0
+own_depth depths (written_group name presence around members) = 1
+own_depth depths (written_sequence name presence around length_name length members) = 1
+own_depth depths (written_reference name) = depths name
+
+abbrev pub depth_along : (List ℕ → ℕ) → List (ℕ × WrittenInstruction) → ℕ
+depth_along depths [] = 0
+depth_along depths (l ∷ ls) = max (l.0 + own_depth depths l.1) (depth_along depths ls)
+
 -- counts that stop: a size at 65,536 and a depth at 9
 abbrev pub stopped_size : ℕ → ℕ
 stopped_size n = min 65536 n

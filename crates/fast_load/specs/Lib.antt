@@ -12,3 +12,4 @@ pub mod Links
 pub mod Extents
 pub mod NamedLists
 pub mod IdPlaces
+pub mod InOrder

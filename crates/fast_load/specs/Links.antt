@@ -20,6 +20,18 @@ abbrev mutual
   references_in no_written = []
   references_in (then_written i is) = references_in_one i ++ references_in is
 
+-- the name that an instruction itself refers to, and those of instructions one after another
+abbrev pub referred_by : WrittenInstruction → List (List ℕ)
+referred_by (written_field name kind presence operation) = []
+referred_by (written_parts name presence exponent mantissa) = []
+referred_by (written_group name presence around members) = []
+referred_by (written_sequence name presence around length_name length members) = []
+referred_by (written_reference name) = name ∷ []
+
+abbrev pub referred_along : List WrittenInstruction → List (List ℕ)
+referred_along [] = []
+referred_along (i ∷ is) = referred_by i ++ referred_along is
+
 -- the places that names have
 abbrev pub places_of : (List ℕ → Option ℕ) → List (List ℕ) → List ℕ
 places_of place [] = []

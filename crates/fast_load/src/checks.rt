@@ -34,7 +34,7 @@ pub(crate) fn check_written(
     if templates.len() > 65_535 {
         return Err(fault_at(LoadCause::TooMany, 0, 0));
     }
-    match check_names(templates) {
+    match check_names(alloc, templates) {
         Ok(()) => (),
         Err(fault) => return Err(fault),
     }

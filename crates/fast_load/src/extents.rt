@@ -2,13 +2,14 @@
 
 ghost use Rattle.std.specs.Prelude.{◌≡◌, ◌≤◌, ◌+◌, ℕ, IfOk, List, Some, length, map, max, slice_get};
 ghost use Rattle.fast_load.specs.Duplicates.{NamesLead};
-ghost use Rattle.fast_load.specs.Extents.{IsExtentOf, depth_named, depth_with, depth_with_one, extent_named, size_named, size_with, size_with_one, stopped_depth, stopped_size, too_large};
+ghost use Rattle.fast_load.specs.Extents.{IsExtentOf, depth_named, depth_with, extent_named, own_depth, own_size, size_named, size_with, stopped_depth, stopped_size, too_large};
 ghost use Rattle.fast_load.specs.declared.extents.Extent as extent_type;
 ghost use Rattle.fast_load.specs.FlatLists.{AreFlatLists};
 ghost use Rattle.fast_load.specs.Links.{IsBuildOrder};
 ghost use Rattle.fast_template.specs.Resolved.{Instructions};
 ghost use Rattle.fast_written.specs.Written.{WrittenTemplate, written_list, written_of, written_template_of};
 
+use crate::in_order::in_order;
 use fast_value::Name;
 use fast_written::{Instruction, LoadCause, LoadFault, Template, fault_at};
 use std::alloc::{AllocError, Global};
@@ -43,14 +44,14 @@ impl Extent {
         }
     }
 
-    // Of a group or sequence with these members.
-    fn within_one(self) -> Extent
-        ensures size { result.size ≡ stopped_size (1 + self.size) }
-        ensures depth { result.depth ≡ stopped_depth (1 + self.depth) }
+    // Of this on a level.
+    fn below(self, level: u32) -> Extent
+        ensures size { result.size ≡ self.size }
+        ensures depth { result.depth ≡ stopped_depth (level + self.depth) }
     {
         Extent {
-            size: self.size.saturating_add(1).min(65_536),
-            depth: self.depth.saturating_add(1).min(9),
+            size: self.size,
+            depth: self.depth.saturating_add(level).min(9),
         }
     }
 }
@@ -105,7 +106,7 @@ pub(crate) fn first_too_large(extents: &[Extent]) -> Option<LoadFault>
     None
 }
 
-#[cycle(extents)]
+// The extent of instructions with those inside them.
 fn extent_of_all(
     members: &[Instruction],
     names: &BTreeMap<Name, u32>,
@@ -117,33 +118,33 @@ fn extent_of_all(
     ensures depth { IfOk result (λ e. e.depth ≡ stopped_depth (depth_with
         (depth_named names.now extents.now) (written_list (map written_of members.now)))) }
 {
+    let list = in_order(alloc, members)?;
     let mut extent = Extent::empty();
-    for member in members {
-        extent = extent.and(extent_of_one(member, names, extents, alloc)?);
+    for found in &list {
+        let own = own_extent(found.instruction, names, extents, alloc)?;
+        extent = extent.and(own.below(found.level));
     }
     Ok(extent)
 }
 
-#[cycle(extents)]
-fn extent_of_one(
-    member: &Instruction,
+// What an instruction itself adds, without its members.
+fn own_extent(
+    instruction: &Instruction,
     names: &BTreeMap<Name, u32>,
     extents: &[Extent],
     alloc: Global,
 ) -> Result<Extent, AllocError>
-    ensures size { IfOk result (λ e. stopped_size e.size ≡ stopped_size (size_with_one
-        (size_named names.now extents.now) (written_of member.now))) }
-    ensures depth { IfOk result (λ e. stopped_depth e.depth ≡ stopped_depth (depth_with_one
-        (depth_named names.now extents.now) (written_of member.now))) }
+    ensures size { IfOk result (λ e. e.size ≡ own_size (size_named names.now extents.now)
+        (written_of instruction.now)) }
+    ensures depth { IfOk result (λ e. e.depth ≡ own_depth (depth_named names.now extents.now)
+        (written_of instruction.now)) }
 {
-    match member {
+    match instruction {
         Instruction::Field { .. } | Instruction::Parts { .. } => Ok(Extent { size: 1, depth: 0 }),
-        Instruction::Group { members, .. } => {
-            Ok(extent_of_all(members, names, extents, alloc)?.within_one())
-        }
-        Instruction::Sequence { members, .. } => {
-            Ok(extent_of_all(members, names, extents, alloc)?.within_one())
-        }
+        Instruction::Group { .. } | Instruction::Sequence { .. } => Ok(Extent {
+            size: 1,
+            depth: 1,
+        }),
         Instruction::Reference { name } => extent_of_name(name, names, extents, alloc),
     }
 }

@@ -11,6 +11,7 @@ mod duplicates;
 mod extents;
 mod flat_lists;
 mod id_places;
+mod in_order;
 mod links;
 mod load;
 mod names;
@@ -20,6 +21,7 @@ mod references;
 mod settle;
 mod slots;
 mod surroundings;
+mod take_apart;
 mod walk;
 
 pub use load::load_written;

@@ -4,9 +4,10 @@ ghost use Rattle.std.specs.Prelude.{◌≡◌, ◌≤◌, ◌<◌, ◌+◌, ◌+
 ghost use Rattle.fast_written.specs.declared.fault.LoadCause.TheVariants.{Cycle};
 ghost use Rattle.fast_load.specs.Duplicates.{NamesLead};
 ghost use Rattle.fast_load.specs.Phases.{IsFirstOf, Passes};
-ghost use Rattle.fast_load.specs.Links.{IsBuildOrder, place_in, places_of, references_in, references_in_one};
+ghost use Rattle.fast_load.specs.Links.{IsBuildOrder, place_in, places_of, references_in, referred_by};
 ghost use Rattle.fast_written.specs.Written.{written_list, written_of, written_template_of};
 
+use crate::in_order::in_order;
 use fast_order::order_of;
 use fast_value::Name;
 use fast_written::{Instruction, LoadCause, LoadFault, Template, fault_at};
@@ -37,7 +38,6 @@ pub(crate) fn links_of(
 }
 
 // Appends the places that references lead to.
-#[cycle(links)]
 fn link_all(
     members: &[Instruction],
     names: &BTreeMap<Name, u32>,
@@ -47,34 +47,30 @@ fn link_all(
     ensures { OnOk result (row.new.items ≡ row.old.items ++ places_of (place_in names.now)
         (references_in (written_list (map written_of members.now)))) }
 {
-    for member in members {
-        link_one(member, names, alloc, row)?;
+    let list = in_order(alloc, members)?;
+    for found in &list {
+        link_one(found.instruction, names, alloc, row)?;
     }
     Ok(())
 }
 
-#[cycle(links)]
+// Appends the place that an instruction itself leads to, if it is a reference.
 fn link_one(
-    member: &Instruction,
+    instruction: &Instruction,
     names: &BTreeMap<Name, u32>,
     alloc: Global,
     row: &mut Vec<usize>,
 ) -> Result<(), AllocError>
     ensures { OnOk result (row.new.items ≡ row.old.items ++ places_of (place_in names.now)
-        (references_in_one (written_of member.now))) }
+        (referred_by (written_of instruction.now))) }
 {
-    match member {
-        Instruction::Group { members, .. } => link_all(members, names, alloc, row),
-        Instruction::Sequence { members, .. } => link_all(members, names, alloc, row),
-        Instruction::Reference { name } => {
-            let name = Name::of(alloc, name)?;
-            if let Some(place) = names.get(&name) {
-                row.push(*place as usize)?;
-            }
-            Ok(())
+    if let Instruction::Reference { name } = instruction {
+        let name = Name::of(alloc, name)?;
+        if let Some(place) = names.get(&name) {
+            row.push(*place as usize)?;
         }
-        Instruction::Field { .. } | Instruction::Parts { .. } => Ok(()),
     }
+    Ok(())
 }
 
 /// The places of templates in an order in which each stands behind those that it refers to, or the

@@ -9,17 +9,31 @@ ghost use Rattle.fast_written.specs.Written.{written_template_of};
 
 use crate::build::resolve;
 use crate::checks::check_written;
+use crate::take_apart::take_apart;
 use fast_template::TemplateSet;
 use fast_written::{LoadFault, Template, want_of_memory};
 use std::alloc::{AllocError, Global};
 
-/// Checks templates as they are written, and resolves them.
+/// Checks templates as they are written, resolves them, and lets them go.
 ///
 /// # Errors
 ///
 /// The first check of a load that fails, with its template and instruction; or, where memory is refused, want of
 /// memory, whichever step asked for it.
-pub fn load_written(alloc: Global, templates: &[Template]) -> Result<TemplateSet, LoadFault>
+pub fn load_written(alloc: Global, templates: Vec<Template>) -> Result<TemplateSet, LoadFault>
+    ensures { MatchResult result
+        (λ set. IsAccepted (map written_template_of templates.items)
+        × AreResolved (map written_template_of templates.items) (templates_in set))
+        (λ fault. IsFirstFault (map written_template_of templates.items) fault ⊎ (fault
+        ≡ want_of_memory_of)) }
+{
+    let made = set_of(alloc, &templates);
+    take_apart(alloc, templates);
+    made
+}
+
+// The set that templates are resolved to, or the first fault.
+fn set_of(alloc: Global, templates: &[Template]) -> Result<TemplateSet, LoadFault>
     ensures { MatchResult result
         (λ set. IsAccepted (map written_template_of templates.now)
         × AreResolved (map written_template_of templates.now) (templates_in set))

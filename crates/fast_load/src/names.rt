@@ -13,7 +13,7 @@ use crate::walk::{Judge, first_at_fault};
 use fast_written::{
     Instruction, LoadCause, LoadFault, Operation, Template, is_name, want_of_memory,
 };
-use std::alloc::AllocError;
+use std::alloc::{AllocError, Global};
 
 /// Judges names: 1 to 255 bytes from `!` to `~`.
 pub(crate) struct Names;
@@ -44,14 +44,14 @@ impl Judge for Names {
 ///
 /// # Errors
 ///
-/// That fault. No memory is asked for.
-pub(crate) fn check_names(templates: &[Template]) -> Result<(), LoadFault>
+/// That fault, or want of memory.
+pub(crate) fn check_names(alloc: Global, templates: &[Template]) -> Result<(), LoadFault>
     requires { length templates.now ≤ 65535 }
     ensures { MatchResult result (λ passed. Passes (map written_template_of templates.now) 1)
         (λ fault. IsFirstOf (map written_template_of templates.now) 1 fault
         ⊎ (fault ≡ want_of_memory)) }
 {
-    match first_at_fault(templates, &Names) {
+    match first_at_fault(alloc, templates, &Names) {
         Ok(None) => Ok(()),
         Ok(Some(fault)) => Err(fault),
         Err(AllocError) => Err(want_of_memory()),

@@ -79,7 +79,7 @@ pub(crate) fn check_operators(alloc: Global, templates: &[Template]) -> Result<(
         (λ fault. IsFirstOf (map written_template_of templates.now) 3 fault
         ⊎ (fault ≡ want_of_memory)) }
 {
-    match first_at_fault(templates, &Operators { alloc }) {
+    match first_at_fault(alloc, templates, &Operators { alloc }) {
         Ok(None) => Ok(()),
         Ok(Some(fault)) => Err(fault),
         Err(AllocError) => Err(want_of_memory()),

@@ -64,7 +64,7 @@ pub(crate) fn check_references(
         (λ fault. IsFirstOf (map written_template_of templates.now) 4 fault
         ⊎ (fault ≡ want_of_memory_of)) }
 {
-    match first_at_fault(templates, &References { alloc, names }) {
+    match first_at_fault(alloc, templates, &References { alloc, names }) {
         Ok(None) => Ok(()),
         Ok(Some(fault)) => Err(fault),
         Err(AllocError) => Err(want_of_memory()),

@@ -3,10 +3,11 @@
 ghost use Rattle.std.specs.Prelude.{◌≡◌, ◌≤◌, IfOk, Option, length, map};
 ghost use Rattle.fast_written.specs.declared.fault.LoadCause as cause_type;
 ghost use Rattle.fast_written.specs.Written.{WrittenInstruction, WrittenTemplate, written_list, written_of, written_template_of};
-ghost use Rattle.fast_load.specs.Walks.{first_at_fault as first_at_fault_of, walk as walk_of, walk_one as walk_one_of};
+ghost use Rattle.fast_load.specs.Walks.{first_at_fault as first_at_fault_of, walk as walk_of};
 
+use crate::in_order::in_order;
 use fast_written::{Instruction, LoadCause, LoadFault, Template, fault_at};
-use std::alloc::AllocError;
+use std::alloc::{AllocError, Global};
 
 /// What is judged of each template and of each instruction by itself.
 pub(crate) trait Judge {
@@ -42,6 +43,7 @@ pub(crate) enum Walked {
 ///
 /// Where memory is refused.
 pub(crate) fn first_at_fault<J: Judge>(
+    alloc: Global,
     templates: &[Template],
     judge: &J,
 ) -> Result<Option<LoadFault>, AllocError>
@@ -54,7 +56,7 @@ pub(crate) fn first_at_fault<J: Judge>(
         if let Some(cause) = judge.judge_template(template) {
             return Ok(Some(fault_at(cause, place, 0)));
         }
-        if let Walked::Fault(cause, number) = walk(&template.members, judge, 1)? {
+        if let Walked::Fault(cause, number) = walk(alloc, &template.members, judge, 1)? {
             return Ok(Some(fault_at(cause, place, number)));
         }
         place += 1;
@@ -67,8 +69,8 @@ pub(crate) fn first_at_fault<J: Judge>(
 /// # Errors
 ///
 /// Where memory is refused.
-#[cycle(walk)]
 pub(crate) fn walk<J: Judge>(
+    alloc: Global,
     members: &[Instruction],
     judge: &J,
     number: u32,
@@ -76,32 +78,13 @@ pub(crate) fn walk<J: Judge>(
     ensures { IfOk result (λ walked. walked
         ≡ walk_of (J.judges judge.now) (written_list (map written_of members.now)) number) }
 {
+    let list = in_order(alloc, members)?;
     let mut next = number;
-    for instruction in members {
-        match walk_one(instruction, judge, next)? {
-            Walked::Next(following) => next = following,
-            Walked::Fault(cause, at) => return Ok(Walked::Fault(cause, at)),
+    for found in &list {
+        if let Some(cause) = judge.judge(found.instruction)? {
+            return Ok(Walked::Fault(cause, next));
         }
+        next = next.saturating_add(1);
     }
     Ok(Walked::Next(next))
-}
-
-#[cycle(walk)]
-fn walk_one<J: Judge>(
-    instruction: &Instruction,
-    judge: &J,
-    number: u32,
-) -> Result<Walked, AllocError>
-    ensures { IfOk result (λ walked. walked
-        ≡ walk_one_of (J.judges judge.now) (written_of instruction.now) number) }
-{
-    if let Some(cause) = judge.judge(instruction)? {
-        return Ok(Walked::Fault(cause, number));
-    }
-    let next = number.saturating_add(1);
-    match instruction {
-        Instruction::Group { members, .. } => walk(members, judge, next),
-        Instruction::Sequence { members, .. } => walk(members, judge, next),
-        _ => Ok(Walked::Next(next)),
-    }
 }

@@ -6,6 +6,8 @@ mod building;
 #[cfg(test)]
 mod json;
 #[cfg(test)]
+mod large;
+#[cfg(test)]
 mod loads;
 #[cfg(test)]
 mod same;
