@@ -8,7 +8,7 @@ use Rattle.fast_written.specs.declared.fault.LoadCause.TheVariants as load
 use Rattle.fast_written.specs.declared.fault.LoadFault.{LoadFault}
 use Rattle.fast_written.specs.CauseNames.{name_of as load_name_of}
 use Rattle.fast_stream.specs.declared.fault.Cause.{Cause}
-use Rattle.fast_stream.specs.declared.fault.Cause.TheVariants.{D2, D4, D5, D6, D7, D9, D12, R1, R2, R6, R7, R8, R9, BlockEnd, Truncated, Limit, Read, Turns, Memory}
+use Rattle.fast_stream.specs.declared.fault.Cause.TheVariants.{Read, Turns, Memory}
 use Rattle.fast_stream.specs.declared.fault.Fault.{Fault}
 use Rattle.fast_stream.specs.CauseNames.{name_of}
 use Rattle.fast_stream.specs.declared.place.Place.{Place}

@@ -1,5 +1,5 @@
 -- Instructions one after another: what is taken of a pile of lists, and what is still to come.
-use Rattle.std.proofs.Common.{◌≡◌, ◌≤◌, ◌<◌, ◌+◌, ◌*◌, ℕ, max, List, [], ◌∷◌, ◌++◌, drop, get_or, length, length-append, map, refl, sym, ap, ◌∙◌, append_assoc, append-nil, arith}
+use Rattle.std.proofs.Common.{◌≡◌, ◌≤◌, ◌<◌, ◌+◌, ℕ, max, List, [], ◌∷◌, ◌++◌, drop, get_or, length, length-append, map, refl, sym, ap, ◌∙◌, append_assoc, append-nil, arith}
 use Rattle.std.proofs.lemmas.List.{drop_all, drop_more, map-append}
 use Rattle.fast_written.specs.declared.written.Instruction.{Instruction}
 use Rattle.fast_written.specs.Written.{WrittenInstruction, WrittenInstructions, written_field, written_parts, written_group, written_sequence, written_reference, no_written, then_written, listed, listed_one, written_list, written_of}

@@ -7,12 +7,12 @@ ghost use Rattle.fast_host.specs.Devices.{inputs_by, writer_by};
 ghost use Rattle.fast_host.specs.Refusals.{status_of, text_of};
 ghost use Rattle.fast_serve.specs.Served.{CanonInHex, LoadsSet, Performs, PerformsAsked, PerformsHexText, PerformsInHex, PerformsOver, PerformsWith, ReadsHex, RefusesHex, RefusesTemplates, RunsPlain, Says, SaysText, WritesHex, asked_by, status_after};
 
-use fast_request::{Request, parse_words};
+use fast_build::Load;
 use fast_canon::CanonFault;
 use fast_command::{Command, Mode, run};
 use fast_host::{MemoryOutput, Refusal, Source, hex_line, read_hex, read_text};
 use fast_io::{ByteInput, ByteOutput, Counted, write_all};
-use fast_build::Load;
+use fast_request::{Request, parse_words};
 use fast_template::TemplateSet;
 use std::alloc::{AllocError, Global};
 use std::io;

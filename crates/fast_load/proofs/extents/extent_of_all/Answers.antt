@@ -1,7 +1,7 @@
 use Rattle.std.proofs.Common.{map}
 use Rattle.fast_written.specs.Written.{written_list, written_of}
 use Rattle.fast_load.specs.Extents.{depth_named, size_named}
-use Rattle.fast_load.proofs.InOrderLaws.{depth_end, depth_more, size_end, size_more}
+use Rattle.fast_load.proofs.InOrderLaws.{depth_end, size_end}
 use Rattle.fast_load.proofs.extents.extent_of_all.Goals as goal
 
 pub returns-clause-size : goal.returns-clause-size

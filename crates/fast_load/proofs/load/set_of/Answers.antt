@@ -1,9 +1,5 @@
 use Rattle.std.proofs.Common.{rules}
-<<<<<<<< HEAD:crates/fast_load/proofs/load/load_written/Answers.antt
-use Rattle.fast_load.proofs.load.load_written.Goals as goal
-========
 use Rattle.fast_load.proofs.load.set_of.Goals as goal
->>>>>>>> sets/main:crates/fast_load/proofs/load/set_of/Answers.antt
 
 pub returns-in-Ok-Ok : goal.returns-in-Ok-Ok
 returns-in-Ok-Ok c = search rules

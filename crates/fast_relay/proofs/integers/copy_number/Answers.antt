@@ -1,4 +1,4 @@
-use Rattle.std.proofs.Common.{arith, drop, slice_range, sym, ◌∙◌}
+use Rattle.std.proofs.Common.{arith, slice_range, sym, ◌∙◌}
 use Rattle.fast_field.specs.Values.{is_unsigned}
 use Rattle.fast_field.proofs.ReadFields.{bytes_from}
 use Rattle.fast_relay.proofs.Standing.{shortest_whole, standing, standing_entity}

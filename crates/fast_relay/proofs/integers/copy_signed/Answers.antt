@@ -1,4 +1,4 @@
-use Rattle.std.proofs.Common.{arith, drop, false, slice_range, sym, ◌∙◌}
+use Rattle.std.proofs.Common.{arith, false, slice_range, sym, ◌∙◌}
 use Rattle.fast_field.proofs.ReadFields.{bytes_from}
 use Rattle.fast_relay.proofs.Standing.{shortest_signed, standing, standing_entity}
 use Rattle.fast_relay.proofs.integers.copy_signed.Goals as goal

@@ -1,4 +1,4 @@
-use Rattle.std.proofs.Common.{◌+◌, drop, refl}
+use Rattle.std.proofs.Common.{◌+◌, drop}
 use Rattle.fast_relay.proofs.NullRelaying.{null_relays, short_null_drops}
 use Rattle.fast_relay.proofs.null.relay_null.Goals as goal
 

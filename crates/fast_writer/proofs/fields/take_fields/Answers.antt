@@ -1,7 +1,7 @@
-use Rattle.std.proofs.Common.{None, ◌∙◌, arith, rules}
+use Rattle.std.proofs.Common.{None, ◌∙◌, rules}
 use Rattle.fast_walk.specs.declared.receiver.Fields.{Fields}
 use Rattle.fast_writer.specs.Levels.{level_of}
-use Rattle.fast_writer.proofs.Takings.{takes_none, takes_on}
+use Rattle.fast_writer.proofs.Takings.{takes_on}
 use Rattle.fast_writer.proofs.fields.take_fields.Goals as goal
 
 pub pieces-preserved : goal.pieces-preserved
