@@ -2,7 +2,7 @@
 
 use crate::loads::{Wanted, answers, loaded};
 use crate::same::same;
-use fast_load::{Instruction, Load, LoadCause, Operation, Template};
+use fast_build::{Instruction, Load, LoadCause, Operation, Template};
 use fast_template::{Flat, FlatTemplate, Kind, Operator, Presence, Scalar, TemplateSet};
 use std::alloc::{AllocError, Global};
 use std::process::Abort;
