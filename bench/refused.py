@@ -1,13 +1,13 @@
 #!/usr/bin/env python3
 """Runs each test of some crates with its first allocation refused, then its second, and so on to the last.
 
-usage: bench/refused.py CRATE.. [--only WORD] [--skip WORD] [--most N]
+usage: bench/refused.py CRATE.. [--only WORD] [--skip WORD].. [--most N]
 
 `rt test` in a crate, or `rt ci` at the top, has built its tests; with --only, only those whose names have the word are
-run, and with --skip those that have it not. Each run must end well or with want of memory. Of a test that asks more
-than N times (1,000, if left out) the first half of N are refused in turn, and of the others as many, evenly spread. A
-line for each test says how many were refused, of how many, and how the runs ended; the last line is 'N passed, M
-failed', a test each.
+run, and with --skip those that have none of its words. Each run must end well or with want of memory. Of a test that
+asks more than N times (1,000, if left out) the first half of N are refused in turn, and of the others as many, evenly
+spread. A line for each test says how many were refused, of how many, and how the runs ended; the last line is 'N
+passed, M failed', a test each.
 """
 import argparse
 import collections
@@ -52,7 +52,7 @@ def main():
     words = argparse.ArgumentParser()
     words.add_argument("crates", nargs="+")
     words.add_argument("--only", default="")
-    words.add_argument("--skip")
+    words.add_argument("--skip", action="append", default=[])
     words.add_argument("--most", type=int, default=1000)
     words = words.parse_args()
     here = os.path.dirname(os.path.abspath(__file__))
@@ -65,7 +65,7 @@ def main():
             program = os.path.join(here, f"../crates/{crate}/out/{crate}_tests")
             listed = subprocess.run([program, "--list"], capture_output=True, text=True, check=True).stdout.splitlines()
             for test in [line.removesuffix(": test") for line in listed if line.endswith(": test")]:
-                if words.only not in test or words.skip and words.skip in test:
+                if words.only not in test or any(word in test for word in words.skip):
                     continue
                 end, asked = run(program, test, library, 0)
                 refused = numbers(asked, words.most)
