@@ -90,6 +90,15 @@ fn is_optional(presence: Presence) -> bool
     presence == Presence::Optional
 }
 
+// Whether a field is first; where none is, a call that takes fields is for nothing.
+#[inline(always)]
+fn begins_with_field(rest: &[Flat]) -> bool {
+    match rest.first() {
+        Some(Flat::Field { .. } | Flat::Parts { .. }) => true,
+        Some(Flat::Group { .. } | Flat::Sequence { .. }) | None => false,
+    }
+}
+
 // The piece that is next behind fields.
 #[inline(always)]
 fn next_piece<'a>(mantissa: Option<&'a FieldPart>) -> Next<'a>
@@ -831,7 +840,7 @@ impl<'a> Walk<'a> {
         ensures rank { OnOk result (rank_of self.new ≤ rank_of self.old) }
     {
         match self.next {
-            Next::Instruction => {
+            Next::Instruction if begins_with_field(self.rest) => {
                 match receiver.fields(
                     alloc,
                     entries,
@@ -851,7 +860,7 @@ impl<'a> Walk<'a> {
                     }
                 }
             }
-            Next::Mantissa(_) | Next::Element(_) => Ok(at),
+            Next::Instruction | Next::Mantissa(_) | Next::Element(_) => Ok(at),
         }
     }
 

@@ -8,7 +8,7 @@ use Rattle.fast_value.specs.declared.scalar.Scalar.TheVariants.{I64, Decimal}
 use Rattle.fast_value.specs.declared.kind.Presence.{Presence}
 use Rattle.fast_template.specs.declared.resolved.FieldPart.{FieldPart}
 use Rattle.fast_template.specs.declared.resolved.Flat.{Flat}
-use Rattle.fast_template.specs.Resolved.{Instructions, whole_field, field_in_parts, then_instruction, list_of, part_needs_bit}
+use Rattle.fast_template.specs.Resolved.{Instruction, Instructions, whole_field, field_in_parts, group_of, sequence_of, then_instruction, list_of, part_needs_bit}
 use Rattle.fast_dictionary.specs.Dictionary.{Dictionary, entry_at}
 use Rattle.fast_wire.specs.declared.level.Level.{Level}
 use Rattle.fast_stream.specs.Nodes.{single}
@@ -20,7 +20,9 @@ use Rattle.fast_walk.specs.Passing.{Passes, next_behind}
 use Rattle.fast_walk.proofs.Steps.{count_goes, part_goes}
 use Rattle.fast_walk.proofs.Walking.{field_on, exponent_on, no_exponent_on, mantissa_on_goes, is_instruction, is_mantissa}
 use Rattle.fast_writer.specs.Written.{Segment, IsOpened, Spelt}
-use Rattle.fast_writer.specs.Takings.{Takes, counted}
+use Rattle.fast_writer.specs.Takings.{BeginsWith, Takes, behind, counted}
+use Rattle.fast_relay.specs.Relayed.{IsThere}
+use Rattle.fast_writer.proofs.QuickWays.{exponent_there}
 use Rattle.fast_writer.proofs.Writers.{has_field, has_exponent, has_mantissa}
 
 -- a mantissa that is next is counted
@@ -36,6 +38,16 @@ at_least (Some m) spare = omega arith
 abbrev pub behind_exponent : Bool → FieldPart → Next
 behind_exponent true q = at_mantissa (pos 0) q
 behind_exponent false q = at_instruction
+
+-- what is next behind a field's first part: nothing behind a field's own
+behind_whole : (there : Bool) (m : Option (Bor FieldPart)) → m ≡ None → behind there m ≡ None
+behind_whole true m none = none
+behind_whole false m none = refl
+
+-- and the mantissa behind an exponent that is there
+behind_parts : (there : Bool) (m : Option (Bor FieldPart)) (r : Bor FieldPart) (q : FieldPart) → m ≡ Some r → r.now ≡ q → next_behind (behind there m) ≡ behind_exponent there q
+behind_parts true m r q some is = ap next_behind some ∙ ap (at_mantissa (pos 0)) is
+behind_parts false m r q some is = refl
 
 -- of another receiver
 pub passes_with : (level : Level) (Has Had : Received → Type 0) (o : Received) (next : Next) (left : Instructions) (d e : Dictionary) (bits later : List Bool) (spare fewer : ℕ) (bytes rest : List ℕ)
@@ -178,3 +190,19 @@ module _ (level : Level) (bytes : List ℕ) where
             (mantissa_on_goes level [] o.next here.exponent m q.now o.body (cursor d bits f.spare (drop f.place bytes ++ more)) _ here.is
             (part_goes level q.now d bits f.spare (drop f.place bytes ++ more) (drop next bytes ++ more) (Some (I64 m)) (took.value more)));
       }
+
+  -- an instruction that is a field, or begins with the exponent of a decimal in parts
+  pub takes_first : (i : Instruction) (there : Bool) (l k : Segment) (d e : Dictionary) (bits later : List Bool) (f g : Fields) (p : FieldPart) (m : Option (Bor FieldPart)) (is : Instructions) (v : Option Scalar) (next : ℕ)
+      → BeginsWith i p m → IsThere p.kind there v → f.mantissa ≡ None → list_of f.rest.now ≡ then_instruction i is → g.mantissa ≡ behind there m → list_of g.rest.now ≡ is → g.spare + 1 ≡ f.spare → g.place ≡ next
+      → Took level p (bit_for (part_needs_bit p) bits) d e v (drop f.place bytes) (drop next bytes) → Spelt p (entry_at d p.key) v l k → later ≡ after_bit (part_needs_bit p) bits
+      → Takes level bytes l d bits f k e later g
+  takes_first (whole_field name number presence whole) there l k d e bits later f g p m is v next begins value none first after rest spare place took spelt map =
+      takes_field l k d e bits later f g name number presence whole is v next none first (after ∙ behind_whole there m begins.1) rest spare place
+      (rw (begins.0) at took) (rw (begins.0) at spelt) (map ∙ ap (λ (p : FieldPart). after_bit (part_needs_bit p) bits) begins.0)
+  takes_first (field_in_parts name number presence exponent q) there l k d e bits later f g p m is v next begins value none first after rest spare place took spelt map =
+      let x = exponent_there p.kind there v begins.1 value in
+      takes_exponent x.0 there l k d e bits later f g name number presence exponent q is next x.2 none first
+      (ap next_behind after ∙ behind_parts there m begins.2.0 q begins.2.1 begins.2.2) rest spare place
+      (rw (begins.0, x.1) at took) (rw (begins.0, x.1) at spelt) (map ∙ ap (λ (p : FieldPart). after_bit (part_needs_bit p) bits) begins.0)
+  takes_first (group_of name number presence members) there l k d e bits later f g p m is v next begins value none first after rest spare place took spelt map = absurd begins
+  takes_first (sequence_of name number presence part members) there l k d e bits later f g p m is v next begins value none first after rest spare place took spelt map = absurd begins

@@ -1,8 +1,9 @@
 -- Fields that are taken one after the other into the segment that is open.
-use Rattle.std.specs.Prelude.{◌≡◌, ℕ, ◌+◌, Bool, List, Option, Some, None, drop}
+use Rattle.std.specs.Prelude.{◌≡◌, ℕ, ◌+◌, Bool, true, false, List, Option, Some, None, drop}
+use Rattle.fast_value.specs.declared.kind.Kind.TheVariants as kind
 use Rattle.std.specs.Borrow.{Bor}
 use Rattle.fast_template.specs.declared.resolved.FieldPart.{FieldPart}
-use Rattle.fast_template.specs.Resolved.{list_of}
+use Rattle.fast_template.specs.Resolved.{Instruction, whole_field, field_in_parts, group_of, sequence_of, list_of}
 use Rattle.fast_dictionary.specs.Dictionary.{Dictionary}
 use Rattle.fast_wire.specs.declared.level.Level.{Level}
 use Rattle.fast_walk.specs.declared.receiver.Fields.{Fields}
@@ -18,6 +19,19 @@ abbrev pub Takes : Level → List ℕ → Segment → Dictionary → List Bool �
 Takes level bytes l d bits f k e later g =
     (outer : List Segment) (o : Received) → bare_next o.next ≡ next_behind f.mantissa → o.body.rest ≡ list_of f.rest.now → IsOpened outer l o d
     → Passes level (λ p. IsOpened outer k p e) o (next_behind g.mantissa) (list_of g.rest.now) d bits f.spare (drop f.place bytes) e later g.spare (drop g.place bytes)
+
+-- The part that a field begins with: its own, or the exponent of a decimal in parts, an integer, with its mantissa behind.
+abbrev pub BeginsWith : Instruction → FieldPart → Option (Bor FieldPart) → Type 0
+BeginsWith (whole_field name number presence whole) part mantissa = (part ≡ whole) × (mantissa ≡ None)
+BeginsWith (field_in_parts name number presence exponent behind) part mantissa =
+    (part ≡ exponent) × (part.kind ≡ kind.Int32) × ((m : Bor FieldPart) × (mantissa ≡ Some m) × (m.now ≡ behind))
+BeginsWith (group_of name number presence members) part mantissa = ⊥
+BeginsWith (sequence_of name number presence length members) part mantissa = ⊥
+
+-- the mantissa that is next behind an exponent, whether that is there
+abbrev pub behind : Bool → Option (Bor FieldPart) → Option (Bor FieldPart)
+behind true mantissa = mantissa
+behind false mantissa = None
 
 -- how many nodes may still come, one more where the mantissa of a decimal is next that is counted
 abbrev pub counted : Option (Bor FieldPart) → ℕ → ℕ

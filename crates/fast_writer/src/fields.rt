@@ -1,6 +1,6 @@
 //! Fields that are taken one after the other, with no call of the walk between them.
 
-ghost use Rattle.std.specs.Prelude.{◌≡◌, ◌≤◌, ◌<◌, ◌+◌, ◌*◌, true, false, Option, Some, None, IsSome, IfOk, OnOk, IsTrue, length, drop};
+ghost use Rattle.std.specs.Prelude.{◌≡◌, ◌≤◌, ◌<◌, ◌+◌, ◌*◌, Bool, true, false, Option, Some, None, IsSome, IfOk, IfSome, OnOk, IsTrue, length, drop};
 ghost use Rattle.fast_template.specs.Resolved.{instruction_of, list_of, part_needs_bit as part_needs_bit_of, then_instruction};
 ghost use Rattle.fast_value.specs.declared.scalar.Scalar.{Scalar as ScalarOf};
 ghost use Rattle.fast_dictionary.specs.Dictionary.{entry_at};
@@ -11,7 +11,8 @@ ghost use Rattle.fast_walk.specs.Passing.{next_behind};
 ghost use Rattle.fast_relay.specs.Relayed.{IsThere};
 ghost use Rattle.fast_writer.specs.Levels.{level_of};
 ghost use Rattle.fast_writer.specs.Written.{Spelt};
-ghost use Rattle.fast_writer.specs.Takings.{IfElsewhere, IfTaken, Takes, counted_of, pieces_of};
+ghost use Rattle.fast_writer.specs.Takings.{BeginsWith, IfElsewhere, IfTaken, Takes, behind, counted_of, pieces_of};
+ghost use Rattle.fast_value.specs.declared.key.Key.{Key};
 
 use crate::quick::relay_quickly;
 use crate::segment::Segment;
@@ -172,6 +173,36 @@ fn take_mantissa<'a, E: Entries>(
     }
 }
 
+// The part that a field begins with, and the mantissa behind the exponent of a decimal in parts. None for a group or
+// a sequence.
+#[inline(always)]
+fn first_part(flat: &Flat) -> Option<(&FieldPart, Option<&FieldPart>)>
+    ensures begins { IfSome result (λ x. BeginsWith (instruction_of flat.now) x.0.now x.1) }
+    ensures served { IfSome result (λ x. (serves : Key → Bool) → IsServed serves (instruction_of flat.now)
+        → IsTrue (serves x.0.now.key) × IsNextServed serves (next_behind x.1)) }
+{
+    match flat {
+        Flat::Field { whole, .. } => Some((whole, None)),
+        Flat::Parts {
+            exponent,
+            mantissa,
+            ..
+        } => match exponent.kind {
+            Kind::Int32 => Some((exponent, Some(mantissa))),
+            _ => None,
+        },
+        Flat::Group { .. } | Flat::Sequence { .. } => None,
+    }
+}
+
+// The mantissa that is next, where the exponent is there.
+#[inline(always)]
+fn next_mantissa<'a>(there: bool, mantissa: Option<&'a FieldPart>) -> Option<&'a FieldPart>
+    ensures { result ≡ behind there mantissa.entry }
+{
+    if there { mantissa } else { None }
+}
+
 // Takes the instruction that is next, if it is a field, or the exponent of a decimal in parts. False: nothing has changed.
 #[inline(always)]
 fn take_instruction<'a, E: Entries>(
@@ -203,53 +234,25 @@ fn take_instruction<'a, E: Entries>(
     ensures left { IfOk result (λ b. b ≡ false → fields.new ≡ fields.old) }
     ensures same_keys { E.serves entries.new ≡ E.serves entries.old }
 {
-    match flat {
-        Flat::Field { whole, .. } => match take_part(
-            alloc,
-            entries,
-            whole,
-            bits,
-            level,
-            bytes,
-            fields.place,
-            segment,
-        ) {
-            Taken::Part(_there, next) => {
-                pass(fields, None, others, next);
-                Ok(true)
-            }
-            Taken::Elsewhere => Ok(false),
-            Taken::Refused => Err(AllocError),
-        },
-        Flat::Parts {
-            exponent,
-            mantissa,
-            ..
-        } => match exponent.kind {
-            Kind::Int32 => match take_part(
-                alloc,
-                entries,
-                exponent,
-                bits,
-                level,
-                bytes,
-                fields.place,
-                segment,
-            ) {
-                Taken::Part(true, next) => {
-                    pass(fields, Some(mantissa), others, next);
-                    Ok(true)
-                }
-                Taken::Part(false, next) => {
-                    pass(fields, None, others, next);
-                    Ok(true)
-                }
-                Taken::Elsewhere => Ok(false),
-                Taken::Refused => Err(AllocError),
-            },
-            _ => Ok(false),
-        },
-        Flat::Group { .. } | Flat::Sequence { .. } => Ok(false),
+    let Some((part, mantissa)) = first_part(flat) else {
+        return Ok(false);
+    };
+    match take_part(
+        alloc,
+        entries,
+        part,
+        bits,
+        level,
+        bytes,
+        fields.place,
+        segment,
+    ) {
+        Taken::Part(there, next) => {
+            pass(fields, next_mantissa(there, mantissa), others, next);
+            Ok(true)
+        }
+        Taken::Elsewhere => Ok(false),
+        Taken::Refused => Err(AllocError),
     }
 }
 
