@@ -40,7 +40,7 @@ behind_exponent true q = at_mantissa (pos 0) q
 behind_exponent false q = at_instruction
 
 -- what is next behind a field's first part: nothing behind a field's own
-behind_whole : (there : Bool) (m : Option (Bor FieldPart)) → m ≡ None → behind there m ≡ None
+pub behind_whole : (there : Bool) (m : Option (Bor FieldPart)) → m ≡ None → behind there m ≡ None
 behind_whole true m none = none
 behind_whole false m none = refl
 

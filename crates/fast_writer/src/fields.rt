@@ -139,15 +139,17 @@ fn take_mantissa<'a, E: Entries>(
     requires place { fields.now.place ≤ length bytes.now }
     requires next { fields.now.mantissa ≡ Some mantissa }
     requires served { IsTrue (E.serves entries.now mantissa.now.key) }
+    requires all { AreServed (E.serves entries.now) (list_of fields.now.rest.now) }
     ensures place { OnOk result ((fields.old.place ≤ fields.new.place)
         × (fields.new.place ≤ length bytes.now)) }
     ensures takes { OnOk result (Takes level bytes.now (level_of segment.old)
         (E.contents entries.old) bits.old fields.old (level_of segment.new)
         (E.contents entries.new) bits.new fields.new) }
-    ensures rest { fields.new.rest ≡ fields.old.rest }
-    ensures spare { fields.new.spare ≡ fields.old.spare }
-    ensures taken { IfOk result (λ b. b ≡ true → fields.new.mantissa ≡ None) }
-    ensures left { IfOk result (λ b. b ≡ false → fields.new.mantissa ≡ fields.old.mantissa) }
+    ensures next { OnOk result (IsNextServed (E.serves entries.old)
+        (next_behind fields.new.mantissa)) }
+    ensures served { OnOk result (AreServed (E.serves entries.old) (list_of fields.new.rest.now)) }
+    ensures counted { OnOk result (counted_of fields.new ≤ counted_of fields.old) }
+    ensures fewer { IfOk result (λ b. b ≡ true → pieces_of fields.new < pieces_of fields.old) }
     ensures same_keys { E.serves entries.new ≡ E.serves entries.old }
 {
     match mantissa.kind {
@@ -195,19 +197,12 @@ fn first_part(flat: &Flat) -> Option<(&FieldPart, Option<&FieldPart>)>
     }
 }
 
-// The mantissa that is next, where the exponent is there.
+// Takes the field that is next. False: nothing has changed.
 #[inline(always)]
-fn next_mantissa<'a>(there: bool, mantissa: Option<&'a FieldPart>) -> Option<&'a FieldPart>
-    ensures { result ≡ behind there mantissa.entry }
-{
-    if there { mantissa } else { None }
-}
-
-// Takes the instruction that is next, if it is a field, or the exponent of a decimal in parts. False: nothing has changed.
-#[inline(always)]
-fn take_instruction<'a, E: Entries>(
+fn take_whole<'a, E: Entries>(
     fields: &mut Fields<'a>,
-    flat: &'a Flat,
+    flat: &Flat,
+    whole: &FieldPart,
     others: &'a [Flat],
     alloc: Global,
     entries: &mut E,
@@ -221,55 +216,10 @@ fn take_instruction<'a, E: Entries>(
     requires spare { 0 < fields.now.spare }
     requires first { list_of fields.now.rest.now
         ≡ then_instruction (instruction_of flat.now) (list_of others.now) }
-    requires served { IsServed (E.serves entries.now) (instruction_of flat.now) }
+    requires begins { BeginsWith (instruction_of flat.now) whole.now None }
+    requires served { IsTrue (E.serves entries.now whole.now.key) }
+    requires all { AreServed (E.serves entries.now) (list_of fields.now.rest.now) }
     requires others { AreServed (E.serves entries.now) (list_of others.now) }
-    ensures place { OnOk result ((fields.old.place ≤ fields.new.place)
-        × (fields.new.place ≤ length bytes.now)) }
-    ensures takes { OnOk result (Takes level bytes.now (level_of segment.old)
-        (E.contents entries.old) bits.old fields.old (level_of segment.new)
-        (E.contents entries.new) bits.new fields.new) }
-    ensures taken { IfOk result (λ b. b ≡ true → (fields.new.spare + 1 ≡ fields.old.spare)
-        × AreServed (E.serves entries.old) (list_of fields.new.rest.now)
-        × IsNextServed (E.serves entries.old) (next_behind fields.new.mantissa)) }
-    ensures left { IfOk result (λ b. b ≡ false → fields.new ≡ fields.old) }
-    ensures same_keys { E.serves entries.new ≡ E.serves entries.old }
-{
-    let Some((part, mantissa)) = first_part(flat) else {
-        return Ok(false);
-    };
-    match take_part(
-        alloc,
-        entries,
-        part,
-        bits,
-        level,
-        bytes,
-        fields.place,
-        segment,
-    ) {
-        Taken::Part(there, next) => {
-            pass(fields, next_mantissa(there, mantissa), others, next);
-            Ok(true)
-        }
-        Taken::Elsewhere => Ok(false),
-        Taken::Refused => Err(AllocError),
-    }
-}
-
-// Takes the piece that is next. False: it is not taken here, and nothing has changed.
-#[inline(always)]
-fn take_piece<'a, E: Entries>(
-    fields: &mut Fields<'a>,
-    alloc: Global,
-    entries: &mut E,
-    bits: &mut Bits,
-    level: Level,
-    bytes: &[u8],
-    segment: &mut Segment,
-) -> Result<bool, AllocError>
-    requires place { fields.now.place ≤ length bytes.now }
-    requires next { IsNextServed (E.serves entries.now) (next_behind fields.now.mantissa) }
-    requires served { AreServed (E.serves entries.now) (list_of fields.now.rest.now) }
     ensures place { OnOk result ((fields.old.place ≤ fields.new.place)
         × (fields.new.place ≤ length bytes.now)) }
     ensures takes { OnOk result (Takes level bytes.now (level_of segment.old)
@@ -282,29 +232,82 @@ fn take_piece<'a, E: Entries>(
     ensures fewer { IfOk result (λ b. b ≡ true → pieces_of fields.new < pieces_of fields.old) }
     ensures same_keys { E.serves entries.new ≡ E.serves entries.old }
 {
-    match fields.mantissa {
-        Some(mantissa) => {
-            match take_mantissa(
-                fields, mantissa, alloc, entries, bits, level, bytes, segment,
-            ) {
-                Err(error) => Err(error),
-                Ok(taken) => Ok(taken),
-            }
+    match take_part(
+        alloc,
+        entries,
+        whole,
+        bits,
+        level,
+        bytes,
+        fields.place,
+        segment,
+    ) {
+        Taken::Part(_there, next) => {
+            pass(fields, None, others, next);
+            Ok(true)
         }
-        None => {
-            if fields.spare == 0 {
-                return Ok(false);
-            }
-            match fields.rest.split_first() {
-                None => Ok(false),
-                Some((flat, others)) => match take_instruction(
-                    fields, flat, others, alloc, entries, bits, level, bytes, segment,
-                ) {
-                    Err(error) => Err(error),
-                    Ok(taken) => Ok(taken),
-                },
-            }
+        Taken::Elsewhere => Ok(false),
+        Taken::Refused => Err(AllocError),
+    }
+}
+
+// Takes the exponent of a decimal in parts that is next. False: nothing has changed.
+#[inline(always)]
+fn take_exponent<'a, E: Entries>(
+    fields: &mut Fields<'a>,
+    flat: &Flat,
+    exponent: &FieldPart,
+    mantissa: &'a FieldPart,
+    others: &'a [Flat],
+    alloc: Global,
+    entries: &mut E,
+    bits: &mut Bits,
+    level: Level,
+    bytes: &[u8],
+    segment: &mut Segment,
+) -> Result<bool, AllocError>
+    requires place { fields.now.place ≤ length bytes.now }
+    requires next { fields.now.mantissa ≡ None }
+    requires spare { 0 < fields.now.spare }
+    requires first { list_of fields.now.rest.now
+        ≡ then_instruction (instruction_of flat.now) (list_of others.now) }
+    requires begins { BeginsWith (instruction_of flat.now) exponent.now (Some mantissa) }
+    requires served { IsTrue (E.serves entries.now exponent.now.key) }
+    requires all { AreServed (E.serves entries.now) (list_of fields.now.rest.now) }
+    requires others { AreServed (E.serves entries.now) (list_of others.now) }
+    requires mantissa { IsTrue (E.serves entries.now mantissa.now.key) }
+    ensures place { OnOk result ((fields.old.place ≤ fields.new.place)
+        × (fields.new.place ≤ length bytes.now)) }
+    ensures takes { OnOk result (Takes level bytes.now (level_of segment.old)
+        (E.contents entries.old) bits.old fields.old (level_of segment.new)
+        (E.contents entries.new) bits.new fields.new) }
+    ensures next { OnOk result (IsNextServed (E.serves entries.old)
+        (next_behind fields.new.mantissa)) }
+    ensures served { OnOk result (AreServed (E.serves entries.old) (list_of fields.new.rest.now)) }
+    ensures counted { OnOk result (counted_of fields.new ≤ counted_of fields.old) }
+    ensures fewer { IfOk result (λ b. b ≡ true → pieces_of fields.new < pieces_of fields.old) }
+    ensures same_keys { E.serves entries.new ≡ E.serves entries.old }
+{
+    match take_part(
+        alloc,
+        entries,
+        exponent,
+        bits,
+        level,
+        bytes,
+        fields.place,
+        segment,
+    ) {
+        Taken::Part(true, next) => {
+            pass(fields, Some(mantissa), others, next);
+            Ok(true)
         }
+        Taken::Part(false, next) => {
+            pass(fields, None, others, next);
+            Ok(true)
+        }
+        Taken::Elsewhere => Ok(false),
+        Taken::Refused => Err(AllocError),
     }
 }
 
@@ -340,11 +343,60 @@ pub(crate) fn take_fields<'a, E: Entries>(
         spare,
         place: at,
     };
+    // no function of its own: what it changes stays in registers here
     'pieces: loop {
-        match take_piece(&mut fields, alloc, entries, bits, level, bytes, segment) {
-            Err(error) => return Err(error),
-            Ok(false) => return Ok(fields),
-            Ok(true) => {}
+        match (fields.mantissa, fields.rest.split_first()) {
+            (Some(mantissa), _) => match take_mantissa(
+                &mut fields,
+                mantissa,
+                alloc,
+                entries,
+                bits,
+                level,
+                bytes,
+                segment,
+            ) {
+                Err(error) => return Err(error),
+                Ok(false) => return Ok(fields),
+                Ok(true) => {}
+            },
+            (None, Some((flat, others))) if fields.spare > 0 => match first_part(flat) {
+                Some((whole, None)) => match take_whole(
+                    &mut fields,
+                    flat,
+                    whole,
+                    others,
+                    alloc,
+                    entries,
+                    bits,
+                    level,
+                    bytes,
+                    segment,
+                ) {
+                    Err(error) => return Err(error),
+                    Ok(false) => return Ok(fields),
+                    Ok(true) => {}
+                },
+                Some((exponent, Some(mantissa))) => match take_exponent(
+                    &mut fields,
+                    flat,
+                    exponent,
+                    mantissa,
+                    others,
+                    alloc,
+                    entries,
+                    bits,
+                    level,
+                    bytes,
+                    segment,
+                ) {
+                    Err(error) => return Err(error),
+                    Ok(false) => return Ok(fields),
+                    Ok(true) => {}
+                },
+                None => return Ok(fields),
+            },
+            (None, _) => return Ok(fields),
         }
     }
 }
