@@ -345,8 +345,8 @@ pub(crate) fn take_fields<'a, E: Entries>(
     };
     // no function of its own: what it changes stays in registers here
     'pieces: loop {
-        match (fields.mantissa, fields.rest.split_first()) {
-            (Some(mantissa), _) => match take_mantissa(
+        match fields.mantissa {
+            Some(mantissa) => match take_mantissa(
                 &mut fields,
                 mantissa,
                 alloc,
@@ -360,43 +360,50 @@ pub(crate) fn take_fields<'a, E: Entries>(
                 Ok(false) => return Ok(fields),
                 Ok(true) => {}
             },
-            (None, Some((flat, others))) if fields.spare > 0 => match first_part(flat) {
-                Some((whole, None)) => match take_whole(
-                    &mut fields,
-                    flat,
-                    whole,
-                    others,
-                    alloc,
-                    entries,
-                    bits,
-                    level,
-                    bytes,
-                    segment,
-                ) {
-                    Err(error) => return Err(error),
-                    Ok(false) => return Ok(fields),
-                    Ok(true) => {}
-                },
-                Some((exponent, Some(mantissa))) => match take_exponent(
-                    &mut fields,
-                    flat,
-                    exponent,
-                    mantissa,
-                    others,
-                    alloc,
-                    entries,
-                    bits,
-                    level,
-                    bytes,
-                    segment,
-                ) {
-                    Err(error) => return Err(error),
-                    Ok(false) => return Ok(fields),
-                    Ok(true) => {}
-                },
-                None => return Ok(fields),
-            },
-            (None, _) => return Ok(fields),
+            None => {
+                if fields.spare == 0 {
+                    return Ok(fields);
+                }
+                let Some((flat, others)) = fields.rest.split_first() else {
+                    return Ok(fields);
+                };
+                match first_part(flat) {
+                    Some((whole, None)) => match take_whole(
+                        &mut fields,
+                        flat,
+                        whole,
+                        others,
+                        alloc,
+                        entries,
+                        bits,
+                        level,
+                        bytes,
+                        segment,
+                    ) {
+                        Err(error) => return Err(error),
+                        Ok(false) => return Ok(fields),
+                        Ok(true) => {}
+                    },
+                    Some((exponent, Some(mantissa))) => match take_exponent(
+                        &mut fields,
+                        flat,
+                        exponent,
+                        mantissa,
+                        others,
+                        alloc,
+                        entries,
+                        bits,
+                        level,
+                        bytes,
+                        segment,
+                    ) {
+                        Err(error) => return Err(error),
+                        Ok(false) => return Ok(fields),
+                        Ok(true) => {}
+                    },
+                    None => return Ok(fields),
+                }
+            }
         }
     }
 }
