@@ -1,5 +1,7 @@
 //! Streams that are read and written at once, by the calls.
 
+ghost use Rattle.std.specs.Prelude.{◌≡◌};
+
 use crate::modes::PLAIN;
 use crate::same::same;
 use crate::worked::worked;
@@ -21,22 +23,26 @@ struct Row {
     refused: bool,
 }
 
-fn is_relayed(rt: &impl Abort, alloc: Global, set: &TemplateSet, row: &Row) {
-    if row.stream.len() > LONGEST {
-        panic!(rt; "too long a stream");
-    }
-    let mut machine = Machine::new(
-        alloc,
-        set,
-        PLAIN,
-        Writer::new(alloc),
-        MapEntries::new(alloc),
-    );
-    let fault = machine.feed(row.stream).is_err() || machine.finish().is_err();
-    same(rt, machine.receiver.finished(), row.canonical);
-    same(rt, fault, row.refused);
+// Whether a machine that is new refuses a stream.
+fn is_refused(machine: &mut Machine<'_, Writer, MapEntries>, stream: &[u8]) -> bool
+    requires { machine.now.fed ≡ 0 }
+{
+    stream.len() > LONGEST || machine.feed(stream).is_err() || machine.finish().is_err()
+}
+
+// What waits in a machine, and nothing once it is handed on.
+fn waits(rt: &impl Abort, machine: &mut Machine<'_, Writer, MapEntries>, canonical: &[u8]) {
+    same(rt, machine.receiver.finished(), canonical);
     machine.receiver.hand_on();
     same(rt, machine.receiver.finished().len(), 0);
+}
+
+fn is_relayed(rt: &impl Abort, alloc: Global, set: &TemplateSet, row: &Row) {
+    let entries = MapEntries::new(alloc);
+    let mut machine = Machine::new(alloc, set, PLAIN, Writer::new(alloc), entries);
+    let fault = is_refused(&mut machine, row.stream);
+    same(rt, fault, row.refused);
+    waits(rt, &mut machine, row.canonical);
 }
 
 fn all_relayed(rt: &impl Abort, alloc: Global, rows: &[Row]) {
