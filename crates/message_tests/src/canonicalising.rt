@@ -12,21 +12,34 @@ use fast_template::TemplateSet;
 use std::alloc::Global;
 use std::process::Abort;
 
-// Canonicalises a stream that comes in steps, and checks it.
-fn run(
+// Checks a stream that comes in steps, whose reader fails at the call with this number.
+fn checked(
+    alloc: Global,
+    set: &TemplateSet,
+    stream: &[u8],
+    step: usize,
+    failing: u64,
+    turns: u64,
+) -> Result<Summary, CanonFault>
+    requires { 1 ≤ step }
+{
+    let mut reader = Counted::new(ScriptInput::new(stream, step, failing));
+    check(alloc, set, PLAIN, &mut reader, turns.min(100))
+}
+
+// Canonicalises a stream that comes in steps.
+fn canonical(
     alloc: Global,
     set: &TemplateSet,
     stream: &[u8],
     step: usize,
     out: &mut ScriptOutput,
-) -> (Result<Summary, CanonFault>, Result<Summary, CanonFault>)
+) -> Result<Summary, CanonFault>
     requires { 1 ≤ step }
 {
     let mut reader = Counted::new(ScriptInput::new(stream, step, 0));
     let mut writer = Counted::new(out);
-    let answer = canonicalise(alloc, set, PLAIN, &mut reader, &mut writer, 100);
-    let mut reader = Counted::new(ScriptInput::new(stream, step, 0));
-    (answer, check(alloc, set, PLAIN, &mut reader, 100))
+    canonicalise(alloc, set, PLAIN, &mut reader, &mut writer, 100)
 }
 
 // A stream, how much of it one read gives, what is written, and what is counted: messages, bytes read, bytes written.
@@ -45,10 +58,9 @@ fn gives(
     requires { 1 ≤ step }
 {
     let mut out = ScriptOutput::new(alloc, 1000, false, false);
-    let (canonicalised, checked) = run(alloc, set, stream, step, &mut out);
-    same(rt, canonicalised, answer);
-    same(rt, checked, answer);
+    same(rt, canonical(alloc, set, stream, step, &mut out), answer);
     same(rt, out.bytes(), written);
+    same(rt, checked(alloc, set, stream, step, 0, 100), answer);
 }
 
 fn rows_are_given(rt: &impl Abort, alloc: Global, rows: &[Row]) {
@@ -101,37 +113,23 @@ fn a_writer_that_fails(rt: HostRuntime) {
     let alloc = rt.alloc();
     let set = worked_set(&rt, alloc);
     let mut out = ScriptOutput::new(alloc, 3, false, false);
-    let (answer, _) = run(alloc, &set, &TWO[..8], 8, &mut out);
+    let answer = canonical(alloc, &set, &TWO[..8], 8, &mut out);
     same(&rt, answer, Err(CanonFault::Write));
     same(&rt, out.bytes(), [0xf0, 0x81, 0x81].as_slice());
     let mut out = ScriptOutput::new(alloc, 100, false, true);
-    let (answer, _) = run(alloc, &set, TWO, 8, &mut out);
+    let answer = canonical(alloc, &set, TWO, 8, &mut out);
     same(&rt, answer, Err(CanonFault::Write));
     same(&rt, out.bytes(), TWO_SHORT);
-}
-
-// A check of two quotes, four bytes a read, whose reader fails at the call with this number.
-fn check_fails(
-    rt: &impl Abort,
-    alloc: Global,
-    set: &TemplateSet,
-    failing: u64,
-    turns: u64,
-    fault: Fault,
-)
-    requires { turns ≤ 9 }
-{
-    let mut reader = Counted::new(ScriptInput::new(TWO, 4, failing));
-    let answer = check(alloc, set, PLAIN, &mut reader, turns);
-    same(rt, answer, Err(CanonFault::Stream(fault)));
 }
 
 #[test]
 fn reads_that_are_used_up(rt: HostRuntime) {
     let alloc = rt.alloc();
     let set = worked_set(&rt, alloc);
-    check_fails(&rt, alloc, &set, 0, 2, refused(Cause::Turns, 2, 8, 0, 0));
-    check_fails(&rt, alloc, &set, 2, 9, refused(Cause::Read, 1, 3, 1, 2));
+    let turns = Err(CanonFault::Stream(refused(Cause::Turns, 2, 8, 0, 0)));
+    same(&rt, checked(alloc, &set, TWO, 4, 0, 2), turns);
+    let read = Err(CanonFault::Stream(refused(Cause::Read, 1, 3, 1, 2)));
+    same(&rt, checked(alloc, &set, TWO, 4, 2, 9), read);
 }
 
 // Streams that are longer than their canonical bytes, and two that are as long and not the same.

@@ -4,8 +4,9 @@ ghost use Rattle.std.specs.Prelude.{◌≡◌};
 
 use crate::modes::PLAIN;
 use crate::same::same;
+use crate::slots::slots_of;
 use crate::worked::worked;
-use fast_dictionary::MapEntries;
+use fast_dictionary::SlotEntries;
 use fast_machine::Machine;
 use fast_template::TemplateSet;
 use fast_walk::Output;
@@ -24,21 +25,23 @@ struct Row {
 }
 
 // Whether a machine that is new refuses a stream.
-fn is_refused(machine: &mut Machine<'_, Writer, MapEntries>, stream: &[u8]) -> bool
+fn is_refused(machine: &mut Machine<'_, Writer, SlotEntries<'_>>, stream: &[u8]) -> bool
     requires { machine.now.fed ≡ 0 }
 {
     stream.len() > LONGEST || machine.feed(stream).is_err() || machine.finish().is_err()
 }
 
 // What waits in a machine, and nothing once it is handed on.
-fn waits(rt: &impl Abort, machine: &mut Machine<'_, Writer, MapEntries>, canonical: &[u8]) {
+fn waits(rt: &impl Abort, machine: &mut Machine<'_, Writer, SlotEntries<'_>>, canonical: &[u8]) {
     same(rt, machine.receiver.finished(), canonical);
     machine.receiver.hand_on();
     same(rt, machine.receiver.finished().len(), 0);
 }
 
 fn is_relayed(rt: &impl Abort, alloc: Global, set: &TemplateSet, row: &Row) {
-    let entries = MapEntries::new(alloc);
+    let Ok(entries) = slots_of(alloc, set) else {
+        panic!(rt; "refused");
+    };
     let mut machine = Machine::new(alloc, set, PLAIN, Writer::new(alloc), entries);
     let fault = is_refused(&mut machine, row.stream);
     same(rt, fault, row.refused);

@@ -1,11 +1,11 @@
 //! The program: its exit status, what it writes, and what it says.
 
 use crate::same::{same, same_of};
-use crate::serving::devices::{After, Feed, Flushed, Full, STREAM, Shelf, Sink, TEMPLATES};
+use crate::serving::devices::{After, Feed, Full, STREAM, Shelf, Sink, TEMPLATES, kept};
 use fast_io::Counted;
 use fast_serve::serve::{TURNS, serve, serve_words};
 use std::alloc::{AllocError, Global};
-use std::io::{self, Write};
+use std::io;
 use std::process::Abort;
 use std::test::Fail;
 
@@ -58,14 +58,13 @@ pub fn whole(rest: &[u8]) -> Feed<'_> {
     }
 }
 
-// Serves a line, and answers the status. What is written and said goes to these writers. (Its callers are proved in less
-// time than with the clauses of `serve`.)
-fn status_of<O: Write + Drop, E: Write + Drop>(
+/// Serves a line, and answers the status. (Its callers are proved in less time than with the clauses of `serve`.)
+pub fn status_of(
     alloc: Global,
     words: &[&str],
     source: &mut Shelf<'_>,
-    out: O,
-    err: E,
+    out: Sink<'_>,
+    err: Sink<'_>,
     turns: u64,
 ) -> u8 {
     let mut out = Counted::new(out);
@@ -82,9 +81,11 @@ pub fn served(
     turns: u64,
     want: Answer<'_>,
 ) {
-    let mut out = Vec::new(alloc);
-    let mut err = Vec::new(alloc);
-    let status = status_of(alloc, words, source, &mut out, &mut err, turns);
+    let (mut out, mut err) = (Vec::new(alloc), Vec::new(alloc));
+    let (mut ends, mut said) = (0, 0);
+    let out_sink = kept(&mut out, &mut ends);
+    let err_sink = kept(&mut err, &mut said);
+    let status = status_of(alloc, words, source, out_sink, err_sink, turns);
     same_of(rt, words, err.as_slice(), want.err.as_bytes());
     same_of(rt, words, out.as_slice(), want.out);
     same_of(rt, words, status, want.status);
@@ -320,9 +321,11 @@ fn shelf(standard: &[u8]) -> Shelf<'_> {
 
 // Serves a line that is not taken: the help, or what it says of the line.
 fn not_taken(rt: &impl Abort, alloc: Global, words: &[&str]) {
-    let mut out = Vec::new(alloc);
-    let mut err = Vec::new(alloc);
-    let status = status_of(alloc, words, &mut shelf(TWO), &mut out, &mut err, 9);
+    let (mut out, mut err) = (Vec::new(alloc), Vec::new(alloc));
+    let (mut ends, mut said) = (0, 0);
+    let out_sink = kept(&mut out, &mut ends);
+    let err_sink = kept(&mut err, &mut said);
+    let status = status_of(alloc, words, &mut shelf(TWO), out_sink, err_sink, 9);
     same_of(rt, words, status, 2);
     same_of(rt, words, out.is_empty(), true);
     same_of(rt, words, err.is_empty(), false);
@@ -586,14 +589,16 @@ struct Failing(&'static [&'static str], &'static [u8], Full, &'static [u8]);
 // Serves a line into an output that fails.
 fn output_fails(rt: &impl Abort, alloc: Global, row: &Failing) {
     let Failing(words, input, full, written) = row;
-    let mut out = Vec::new(alloc);
-    let mut err = Vec::new(alloc);
+    let (mut out, mut err) = (Vec::new(alloc), Vec::new(alloc));
+    let (mut ends, mut said) = (0, 0);
     let sink = Sink {
         kept: &mut out,
+        flushes: &mut ends,
         room: written.len(),
         full: *full,
     };
-    let status = status_of(alloc, words, &mut shelf(input), sink, &mut err, 9);
+    let err_sink = kept(&mut err, &mut said);
+    let status = status_of(alloc, words, &mut shelf(input), sink, err_sink, 9);
     same_of(rt, words, err.as_slice(), b"fault write\n".as_slice());
     same_of(rt, words, out.as_slice(), written);
     same_of(rt, words, status, 3);
@@ -625,16 +630,13 @@ struct Flush(&'static [&'static str], &'static [u8], u8, usize);
 // Serves a row, whose output is flushed once.
 fn flushed(rt: &impl Abort, alloc: Global, row: &Flush) {
     let Flush(words, input, want, written) = row;
-    let mut kept = Vec::new(alloc);
-    let mut flushes = 0;
-    let mut err = Vec::new(alloc);
-    let out = Flushed {
-        kept: &mut kept,
-        flushes: &mut flushes,
-    };
-    let status = status_of(alloc, words, &mut shelf(input), out, &mut err, 9);
+    let (mut out, mut err) = (Vec::new(alloc), Vec::new(alloc));
+    let (mut flushes, mut said) = (0, 0);
+    let out_sink = kept(&mut out, &mut flushes);
+    let err_sink = kept(&mut err, &mut said);
+    let status = status_of(alloc, words, &mut shelf(input), out_sink, err_sink, 9);
     same_of(rt, words, status, *want);
-    same_of(rt, words, kept.len(), *written);
+    same_of(rt, words, out.len(), *written);
     same_of(rt, words, flushes, 1);
 }
 
@@ -664,15 +666,15 @@ fn words_are_served(
     words: io::Result<Vec<String>>,
     want: Answer<'_>,
 ) {
-    let mut out = Vec::new(alloc);
-    let mut err = Vec::new(alloc);
+    let (mut out, mut err) = (Vec::new(alloc), Vec::new(alloc));
+    let (mut ends, mut said) = (0, 0);
     let mut source = shelf(TWO);
     let status = serve_words(
         alloc,
         words,
         &mut source,
-        &mut Counted::new(&mut out),
-        &mut Counted::new(&mut err),
+        &mut Counted::new(kept(&mut out, &mut ends)),
+        &mut Counted::new(kept(&mut err, &mut said)),
         TURNS,
     );
     same(rt, err.as_slice(), want.err.as_bytes());
@@ -720,14 +722,23 @@ struct Silent(&'static [&'static str], u64, u8);
 // Serves a refused stream where nothing can be said.
 fn error_fails(rt: &impl Abort, alloc: Global, row: &Silent) {
     let Silent(words, turns, want) = row;
-    let mut out = Vec::new(alloc);
-    let mut kept = Vec::new(alloc);
-    let err = Sink {
-        kept: &mut kept,
+    let (mut out, mut err) = (Vec::new(alloc), Vec::new(alloc));
+    let (mut ends, mut said) = (0, 0);
+    let out_sink = kept(&mut out, &mut ends);
+    let sink = Sink {
+        kept: &mut err,
+        flushes: &mut said,
         room: 0,
         full: Full::Error,
     };
-    let status = status_of(alloc, words, &mut shelf(b"\x80\x80"), &mut out, err, *turns);
+    let status = status_of(
+        alloc,
+        words,
+        &mut shelf(b"\x80\x80"),
+        out_sink,
+        sink,
+        *turns,
+    );
     same_of(rt, words, status, *want);
 }
 
