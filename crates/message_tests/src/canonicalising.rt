@@ -43,7 +43,7 @@ fn canonical(
 }
 
 // A stream, how much of it one read gives, what is written, and what is counted: messages, bytes read, bytes written.
-struct Row(&'static [u8], usize, &'static [u8], [u64; 3]);
+struct Row(&'static [u8], usize, &'static [u8], u64, u64, u64);
 
 // A stream in steps of one size gives this output and this answer, of `check` too.
 fn gives(
@@ -65,7 +65,7 @@ fn gives(
 
 fn rows_are_given(rt: &impl Abort, alloc: Global, rows: &[Row]) {
     let set = worked_set(rt, alloc);
-    for Row(stream, step, written, [messages, read, out]) in rows {
+    for Row(stream, step, written, messages, read, out) in rows {
         let answer = Ok(Summary {
             messages: *messages,
             read: *read,
@@ -78,11 +78,11 @@ fn rows_are_given(rt: &impl Abort, alloc: Global, rows: &[Row]) {
 #[test]
 fn streams_to_their_end(rt: HostRuntime) {
     const ROWS: &[Row] = &[
-        Row(TWO, 1, TWO_SHORT, [2, 16, 11]),
-        Row(TWO, 3, TWO_SHORT, [2, 16, 11]),
-        Row(TWO, 4096, TWO_SHORT, [2, 16, 11]),
-        Row(TWO_SHORT, 2, TWO_SHORT, [2, 11, 11]),
-        Row(b"", 1, b"", [0, 0, 0]),
+        Row(TWO, 1, TWO_SHORT, 2, 16, 11),
+        Row(TWO, 3, TWO_SHORT, 2, 16, 11),
+        Row(TWO, 4096, TWO_SHORT, 2, 16, 11),
+        Row(TWO_SHORT, 2, TWO_SHORT, 2, 11, 11),
+        Row(b"", 1, b"", 0, 0, 0),
     ];
     rows_are_given(&rt, rt.alloc(), ROWS);
 }
@@ -141,41 +141,53 @@ fn no_stream_is_shorter(rt: HostRuntime) {
             b"\xf0\x81\x00\x00\x81\x41\xc2\xfe\x00\xe4",
             4,
             QUOTE,
-            [1, 10, 8],
+            1,
+            10,
+            8,
         ),
         // a map that is too wide, and a bit that is not asked for
         Row(
             b"\x70\x00\x80\x81\x81\x41\xc2\xfe\x00\xe4",
             4,
             QUOTE,
-            [1, 10, 8],
+            1,
+            10,
+            8,
         ),
-        Row(b"\xf1\x81\x81\x41\xc2\xfe\x00\xe4", 4, QUOTE, [1, 8, 8]),
+        Row(b"\xf1\x81\x81\x41\xc2\xfe\x00\xe4", 4, QUOTE, 1, 8, 8),
         // a decimal in parts
         Row(
             b"\xf0\x83\x80\x85\xb0\x83\x39\x45\xa3",
             4,
             b"\xf0\x83\x80\x85\x90\x39\x45\xa3",
-            [2, 9, 8],
+            2,
+            9,
+            8,
         ),
         // tails and a delta
         Row(
             b"\xe0\x88\x78\x61\xe2\xa0\x00\x00\x00\xe2",
             4,
             b"\xe0\x88\x78\x61\xe2\xa0\x78\x00\xe2",
-            [2, 10, 9],
+            2,
+            10,
+            9,
         ),
         Row(
             b"\xe0\x89\x80\xa0\x00\x80",
             4,
             b"\xe0\x89\x80\xa0\xe2",
-            [2, 6, 5],
+            2,
+            6,
+            5,
         ),
         Row(
             b"\xc0\x8a\x80\x47\x45\x48\xb6\x80\x82\x4d\xb6\x80\xfd\x45\xd3\x80\xff\x80",
             4,
             b"\xc0\x8a\x80\x47\x45\x48\xb6\x80\x82\x4d\xb6\x80\xfd\x45\xd3\x80\x80\x80",
-            [4, 18, 18],
+            4,
+            18,
+            18,
         ),
     ];
     rows_are_given(&rt, rt.alloc(), ROWS);
