@@ -1,4 +1,4 @@
-pub mod Relayings
+pub mod CanonicalBytes
 pub mod AskedBits
 pub mod PartBits
 pub mod ShortestMaps

@@ -1,2 +1,1 @@
 pub mod Canonicalised
-pub mod Relays

@@ -3,13 +3,12 @@
 ghost use Rattle.std.specs.Prelude.{◌≡◌, ◌≤◌, ◌^◌, ℕ, List};
 ghost use Rattle.fast_template.specs.TemplateSets.{templates_in};
 ghost use Rattle.fast_decoder.specs.Inputs.{Reads, reader_by};
-ghost use Rattle.fast_canon.specs.Canonicalised.{Canonicalises, Checks, FlushesOnce, IsCausedBy, errors_after};
+ghost use Rattle.fast_pass.specs.Passed.{FlushesOnce, IsCausedBy, errors_after};
+ghost use Rattle.fast_canon.specs.Canonicalised.{Canonicalises, Checks};
 
-use crate::fault::CanonFault;
 use crate::nowhere::Nowhere;
-use crate::relay::pass_through;
-use crate::summary::Summary;
 use fast_io::{ByteInput, ByteOutput};
+use fast_pass::{CanonFault, Summary, pass_through};
 use fast_stream::Mode;
 use fast_template::TemplateSet;
 use fast_writer::Writer;

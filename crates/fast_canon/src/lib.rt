@@ -1,14 +1,12 @@
 //! The canonicaliser of FAST 1.1, and the laws of streams that its promises stand on.
+//!
+//! A stream passes through the writer of canonical bytes by `fast_pass`, and what a caller needs of that can be named
+//! here too.
 #![tactic(auto)]
 
 mod canonical;
-mod fault;
 pub mod laws;
 mod nowhere;
-mod relay;
-mod summary;
 
 pub use canonical::{canonicalise, check};
-pub use fault::CanonFault;
-pub use relay::pass_through;
-pub use summary::Summary;
+pub use fast_pass::{CanonFault, Summary, pass_through};

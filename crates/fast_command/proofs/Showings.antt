@@ -4,11 +4,11 @@ use Rattle.std.specs.Io.KnownBytes.{Appends}
 use Rattle.fast_template.specs.TemplateSets.{TemplateList, templates_in}
 use Rattle.fast_stream.specs.declared.mode.Mode.{Mode}
 use Rattle.fast_stream.specs.Nodes.{Content}
-use Rattle.fast_canon.specs.Canonicalised.{Passes}
-use Rattle.fast_canon.specs.declared.fault.CanonFault.{CanonFault}
-use Rattle.fast_canon.specs.declared.fault.CanonFault.TheVariants as refusal
-use Rattle.fast_canon.specs.declared.summary.Summary.{Summary}
-use Rattle.fast_canon.specs.Relays.{Making}
+use Rattle.fast_pass.specs.Passed.{Passes}
+use Rattle.fast_pass.specs.declared.fault.CanonFault.{CanonFault}
+use Rattle.fast_pass.specs.declared.fault.CanonFault.TheVariants as refusal
+use Rattle.fast_pass.specs.declared.summary.Summary.{Summary}
+use Rattle.fast_pass.specs.Relays.{Making}
 use Rattle.fast_lines.specs.Told.{lines_of_set}
 use Rattle.fast_lines.proofs.SameLines.{same_lines}
 use Rattle.fast_command.specs.Run.{LinesOf, Shows, TellsFront, ok_line}

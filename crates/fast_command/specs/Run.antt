@@ -3,11 +3,12 @@ use Rattle.std.specs.Prelude.{◌≡◌, ◌⊎◌, ℕ, List, [], ◌++◌, Opt
 use Rattle.std.specs.Io.KnownBytes.{Appends}
 use Rattle.fast_template.specs.TemplateSets.{TemplateList, templates_in}
 use Rattle.fast_stream.specs.declared.mode.Mode.{Mode}
-use Rattle.fast_canon.specs.Canonicalised.{Canonicalises, Ends, Passes, Stops}
-use Rattle.fast_canon.specs.Relays.{Making}
-use Rattle.fast_canon.specs.declared.fault.CanonFault.{CanonFault}
-use Rattle.fast_canon.specs.declared.fault.CanonFault.TheVariants as refusal
-use Rattle.fast_canon.specs.declared.summary.Summary.{Summary}
+use Rattle.fast_pass.specs.Passed.{Passes}
+use Rattle.fast_canon.specs.Canonicalised.{Canonicalises, Ends, Stops}
+use Rattle.fast_pass.specs.Relays.{Making}
+use Rattle.fast_pass.specs.declared.fault.CanonFault.{CanonFault}
+use Rattle.fast_pass.specs.declared.fault.CanonFault.TheVariants as refusal
+use Rattle.fast_pass.specs.declared.summary.Summary.{Summary}
 use Rattle.fast_lines.specs.Lines.{lines_in, ok_text}
 use Rattle.fast_command.specs.declared.command.Command.{Command}
 use Rattle.fast_command.specs.declared.command.Command.TheVariants.{Show, Check, Canon}

@@ -3,7 +3,7 @@
 ghost use Rattle.std.specs.Prelude.{◌≡◌, ◌≤◌, ◌^◌, ℕ, List};
 ghost use Rattle.fast_template.specs.TemplateSets.{templates_in};
 ghost use Rattle.fast_decoder.specs.Inputs.{Reads, reader_by};
-ghost use Rattle.fast_canon.specs.Canonicalised.{FlushesOnce, IsCausedBy, errors_after};
+ghost use Rattle.fast_pass.specs.Passed.{FlushesOnce, IsCausedBy, errors_after};
 ghost use Rattle.fast_command.specs.Run.{Runs};
 
 use crate::shown::show;

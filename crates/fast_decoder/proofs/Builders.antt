@@ -7,7 +7,7 @@ use Rattle.fast_dictionary.specs.Dictionary.{Dictionary}
 use Rattle.fast_stream.specs.declared.mode.Framing.{Framing}
 use Rattle.fast_stream.specs.declared.mode.Framing.TheVariants.{Plain, Blocks}
 use Rattle.fast_stream.specs.Blocks.{Stand}
-use Rattle.fast_decoder.specs.declared.builder.Builder.{Builder}
+use Rattle.fast_messages.specs.declared.builder.Builder.{Builder}
 use Rattle.fast_stream.specs.declared.fault.Fault.{Fault}
 use Rattle.fast_stream.specs.declared.message.Message.{Message}
 use Rattle.fast_walk.specs.declared.traversal.Stage.{Stage}
@@ -16,7 +16,7 @@ use Rattle.fast_walk.specs.declared.traversal.Traversal.{Traversal}
 use Rattle.fast_stream.specs.Nodes.{Content, content_of}
 use Rattle.fast_walk.specs.OpenSegments.{Reading, Next, at_instruction, at_mantissa, at_element}
 use Rattle.fast_walk.specs.Received.{Received, behind}
-use Rattle.fast_decoder.specs.Built.{IsBuilt, IsNextBuilt, with_whole}
+use Rattle.fast_messages.specs.Built.{IsBuilt, IsNextBuilt, with_whole}
 use Rattle.fast_machine.specs.Following.{FollowsAt}
 use Rattle.fast_machine.specs.Standing.{GoesIn, ReadsOn}
 use Rattle.fast_walk.specs.Traversals.{ContinuesAt}

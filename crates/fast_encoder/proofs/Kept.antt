@@ -7,9 +7,9 @@ use Rattle.fast_dictionary.specs.declared.entry.Entry.{Entry}
 use Rattle.fast_dictionary.specs.declared.entry.Entry.TheVariants.{Undefined, Empty, Assigned}
 use Rattle.fast_dictionary.specs.Dictionary.{Dictionary, entry_at}
 use Rattle.fast_field.specs.Within.{HoldsScalar}
-use Rattle.fast_encoder.specs.Added.{HoldScalars}
+use Rattle.fast_nodes.specs.Added.{HoldScalars}
 use Rattle.std.specs.FinMap as map
-use Rattle.fast_encoder.proofs.Changes.{empty_holds}
+use Rattle.fast_nodes.proofs.Changes.{empty_holds}
 use Rattle.fast_encoder.specs.OneProof.{IsKeptScalar, KeepsScalar, KeepScalars}
 
 scalar_kept : (v : Scalar) → IsScalar v → IsKeptScalar v

@@ -1,5 +1,2 @@
-pub mod FirstRefusal
-pub mod Added
 pub mod OneProof
 pub mod Outputs
-pub mod Ranges

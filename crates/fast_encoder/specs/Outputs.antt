@@ -4,7 +4,7 @@ use Rattle.std.specs.FinMap as map
 use Rattle.fast_template.specs.Resolved.{Resolved}
 use Rattle.fast_dictionary.specs.Dictionary.{Dictionary}
 use Rattle.fast_stream.specs.Nodes.{Content}
-use Rattle.fast_encoder.specs.declared.fault.EncodeFault.{EncodeFault}
+use Rattle.fast_nodes.specs.declared.fault.EncodeFault.{EncodeFault}
 use Rattle.fast_writer.specs.Canonical.{CanonFrom, IsCanonical}
 
 -- the canonical bytes of lists of messages, each of which begins with undefined entries

@@ -8,8 +8,8 @@ ghost use Rattle.fast_walk.specs.Traversals.{ServesAll};
 ghost use Rattle.fast_machine.specs.OneProof.{ServesAll-prop};
 ghost use Rattle.fast_encoder.specs.OneProof.{KeepScalars, KeepScalars-prop};
 
-use crate::journal::Journal;
 use fast_dictionary::Entries;
+use fast_nodes::Journal;
 use fast_template::{FieldPart, TemplateSet};
 use fast_writer::Segment;
 use std::alloc::Global;

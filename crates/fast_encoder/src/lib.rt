@@ -1,21 +1,14 @@
 //! Messages to canonical bytes.
 //!
 //! [`Encoder`] writes messages that are in memory, each in its one canonical form (`fast_writer`), and refuses one that
-//! has no form. [`MessageOutputStream`] writes them to a writer.
+//! has no form. [`MessageOutputStream`] writes them to a writer. How a message is judged and its nodes are written
+//! stands in `fast_nodes`, with the laws, and what a caller needs of it can be named here too.
 #![tactic(auto)]
 
 mod encoder;
-mod fault;
-mod journal;
-mod judge;
-pub mod laws;
 mod message;
-mod nodes;
 mod output;
-mod put;
-mod shape;
-mod size;
 
 pub use encoder::Encoder;
-pub use fault::{EncodeCause, EncodeFault};
+pub use fast_nodes::{EncodeCause, EncodeFault, laws};
 pub use output::MessageOutputStream;

@@ -7,48 +7,64 @@ ghost use Rattle.fast_field.specs.declared.fault.FieldRefusal.TheVariants as ref
 
 use fast_wire::WireFault;
 use std::alloc::AllocError;
-use thiserror::Error;
+use std::{error, fmt};
 
 /// Why a field cannot be read. The numbers are those of FAST 1.1, Error Handling.
-#[derive(Clone, Copy, Debug, PartialEq, Eq, Drop, Error)]
+#[derive(Clone, Copy, Debug, PartialEq, Eq, Drop)]
 pub enum FieldFault {
     /// An integer is out of its type's bounds.
-    #[error("D2")]
     D2,
     /// The entry has a value of another type.
-    #[error("D4")]
     D4,
     /// A mandatory field is left out, and its entry is undefined, with no initial value.
-    #[error("D5")]
     D5,
     /// A mandatory field is left out, or a delta has no base, since the entry is empty.
-    #[error("D6")]
     D6,
     /// A delta removes more than is there, or a number of units that is no int32.
-    #[error("D7")]
     D7,
     /// A decimal is out of range.
-    #[error("R1")]
     R1,
     /// A text is not UTF-8.
-    #[error("R2")]
     R2,
     /// At the strict level: an integer has more groups than it needs.
-    #[error("R6")]
     R6,
     /// At the strict level: an ASCII string has a preamble that it does not need.
-    #[error("R9")]
     R9,
     /// A limit on bytes, units or elements is passed.
-    #[error("Limit")]
     Limit,
     /// The bytes end before the field does.
-    #[error("NeedMore")]
     NeedMore,
     /// Memory was refused.
-    #[error("Memory")]
     Memory,
 }
+
+impl FieldFault {
+    // The fault in words.
+    fn text(self) -> &'static str {
+        match self {
+            FieldFault::D2 => "D2",
+            FieldFault::D4 => "D4",
+            FieldFault::D5 => "D5",
+            FieldFault::D6 => "D6",
+            FieldFault::D7 => "D7",
+            FieldFault::R1 => "R1",
+            FieldFault::R2 => "R2",
+            FieldFault::R6 => "R6",
+            FieldFault::R9 => "R9",
+            FieldFault::Limit => "Limit",
+            FieldFault::NeedMore => "NeedMore",
+            FieldFault::Memory => "Memory",
+        }
+    }
+}
+
+impl fmt::Display for FieldFault {
+    fn fmt<W: fmt::Write>(&self, f: &mut fmt::Formatter<W>) -> fmt::Result {
+        f.write_str(self.text())
+    }
+}
+
+impl error::Error for FieldFault {}
 
 impl From<WireFault> for FieldFault {
     ghost from_gives = { λ wire fault. fault ≡ field_fault wire };
@@ -72,37 +88,53 @@ impl From<AllocError> for FieldFault {
 }
 
 /// Why a value of a field cannot be written. The numbers are those of FAST 1.1, Error Handling.
-#[derive(Clone, Copy, Debug, PartialEq, Eq, Drop, Error)]
+#[derive(Clone, Copy, Debug, PartialEq, Eq, Drop)]
 pub enum FieldRefusal {
     /// A part of a decimal has a value that its own operator cannot spell.
-    #[error("D3")]
     D3,
     /// The entry has a value of another type.
-    #[error("D4")]
     D4,
     /// A delta has no base, since the entry is empty.
-    #[error("D6")]
     D6,
     /// A decimal is out of range.
-    #[error("R1")]
     R1,
     /// The value is not that of a constant.
-    #[error("NotConstant")]
     NotConstant,
     /// The value of a tail is shorter than its base.
-    #[error("TooShort")]
     TooShort,
     /// The value is of another type than the field, or has a character above 127 in ASCII, or is absent from a
     /// mandatory field.
-    #[error("Mismatch")]
     Mismatch,
     /// The value has too many units.
-    #[error("Limit")]
     Limit,
     /// Memory was refused.
-    #[error("Memory")]
     Memory,
 }
+
+impl FieldRefusal {
+    // The refusal in words.
+    fn text(self) -> &'static str {
+        match self {
+            FieldRefusal::D3 => "D3",
+            FieldRefusal::D4 => "D4",
+            FieldRefusal::D6 => "D6",
+            FieldRefusal::R1 => "R1",
+            FieldRefusal::NotConstant => "NotConstant",
+            FieldRefusal::TooShort => "TooShort",
+            FieldRefusal::Mismatch => "Mismatch",
+            FieldRefusal::Limit => "Limit",
+            FieldRefusal::Memory => "Memory",
+        }
+    }
+}
+
+impl fmt::Display for FieldRefusal {
+    fn fmt<W: fmt::Write>(&self, f: &mut fmt::Formatter<W>) -> fmt::Result {
+        f.write_str(self.text())
+    }
+}
+
+impl error::Error for FieldRefusal {}
 
 impl From<AllocError> for FieldRefusal {
     ghost from_gives = { λ refused why. why ≡ refusal.Memory };

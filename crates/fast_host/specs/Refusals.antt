@@ -12,8 +12,8 @@ use Rattle.fast_stream.specs.declared.fault.Cause.TheVariants.{Read, Turns, Memo
 use Rattle.fast_stream.specs.declared.fault.Fault.{Fault}
 use Rattle.fast_stream.specs.CauseNames.{name_of}
 use Rattle.fast_stream.specs.declared.place.Place.{Place}
-use Rattle.fast_canon.specs.declared.fault.CanonFault.{CanonFault}
-use Rattle.fast_canon.specs.declared.fault.CanonFault.TheVariants as canon
+use Rattle.fast_pass.specs.declared.fault.CanonFault.{CanonFault}
+use Rattle.fast_pass.specs.declared.fault.CanonFault.TheVariants as canon
 use Rattle.fast_host.specs.declared.hex_text.HexFault.{HexFault}
 use Rattle.fast_host.specs.declared.hex_text.HexFault.TheVariants as hex
 use Rattle.fast_host.specs.declared.input.TextFault.{TextFault}

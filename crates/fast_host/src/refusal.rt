@@ -10,7 +10,7 @@ ghost use Rattle.fast_host.specs.Refusals.{IsOfLoad, IsOfRun, IsOfStream, IsText
 use crate::hex_text::HexFault;
 use crate::input::TextFault;
 use clap::error::ErrorKind;
-use fast_canon::CanonFault;
+use fast_pass::CanonFault;
 use fast_stream::{Cause, Fault};
 use fast_written::{LoadCause, LoadFault};
 use std::alloc::{AllocError, Global};

@@ -11,10 +11,10 @@ use Rattle.fast_written.specs.JsonTemplates.{templates_of}
 use Rattle.fast_template.specs.TemplateSets.{TemplateList}
 use Rattle.fast_written.specs.declared.fault.LoadFault.{LoadFault}
 use Rattle.fast_decoder.specs.Inputs.{Reader, Reads}
-use Rattle.fast_canon.specs.Canonicalised.{FlushesOnce, IsCausedBy, errors_after}
-use Rattle.fast_canon.specs.declared.fault.CanonFault.{CanonFault}
-use Rattle.fast_canon.specs.declared.fault.CanonFault.TheVariants as fault
-use Rattle.fast_canon.specs.declared.summary.Summary.{Summary}
+use Rattle.fast_pass.specs.Passed.{FlushesOnce, IsCausedBy, errors_after}
+use Rattle.fast_pass.specs.declared.fault.CanonFault.{CanonFault}
+use Rattle.fast_pass.specs.declared.fault.CanonFault.TheVariants as fault
+use Rattle.fast_pass.specs.declared.summary.Summary.{Summary}
 use Rattle.fast_host.specs.HexText.{digits_of}
 use Rattle.fast_host.specs.Input.{GivesNoText, IsText}
 use Rattle.fast_host.specs.Refusals.{IsOfLoad, IsOfRun, IsOfStream, IsTextOrMemory, of_template_text_lem, of_text_lem, status_of, text_of}

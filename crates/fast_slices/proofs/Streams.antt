@@ -19,12 +19,14 @@ use Rattle.fast_machine.specs.Standing.{Carried}
 use Rattle.fast_machine.proofs.Followings.{all_carried}
 use Rattle.fast_decoder.specs.Inputs.{Reader, RefusedBy, Refuses}
 use Rattle.fast_writer.specs.Canonical.{IsCanonical}
-use Rattle.fast_canon.specs.Canonicalised.{Canonicalises, Checks, IsCausedBy, Passes, PassesFront}
-use Rattle.fast_canon.specs.Relays.{Making}
-use Rattle.fast_canon.specs.declared.fault.CanonFault.{CanonFault}
-use Rattle.fast_canon.specs.declared.fault.CanonFault.TheVariants as canon
-use Rattle.fast_canon.specs.declared.summary.Summary.{Summary}
-use Rattle.fast_canon.proofs.Relayings.{carried_more, no_longer, summary_by}
+use Rattle.fast_pass.specs.Passed.{IsCausedBy, Passes, PassesFront}
+use Rattle.fast_canon.specs.Canonicalised.{Canonicalises, Checks}
+use Rattle.fast_pass.specs.Relays.{Making}
+use Rattle.fast_pass.specs.declared.fault.CanonFault.{CanonFault}
+use Rattle.fast_pass.specs.declared.fault.CanonFault.TheVariants as canon
+use Rattle.fast_pass.specs.declared.summary.Summary.{Summary}
+use Rattle.fast_pass.proofs.Relayings.{carried_more, summary_by}
+use Rattle.fast_canon.proofs.CanonicalBytes.{no_longer}
 use Rattle.fast_slices.specs.declared.answer.Refusal.TheVariants as refusal
 use Rattle.fast_slices.specs.Answers.{answer_of}
 use Rattle.fast_slices.specs.Calls.{Canons, Counts, Done, IsRefused, Overflows, RefusesCall, Settles, Writes}

@@ -4,7 +4,7 @@ use Rattle.fast_stream.specs.declared.fault.Cause.{Cause}
 use Rattle.fast_stream.specs.declared.fault.Cause.TheVariants as cause
 use Rattle.fast_written.specs.declared.fault.LoadCause.{LoadCause}
 use Rattle.fast_written.specs.declared.fault.LoadCause.TheVariants as load
-use Rattle.fast_canon.specs.declared.summary.Summary.{Summary}
+use Rattle.fast_pass.specs.declared.summary.Summary.{Summary}
 use Rattle.fast_slices.specs.declared.answer.Answer.{Answer}
 use Rattle.fast_slices.specs.declared.answer.Refusal.{Refusal}
 use Rattle.fast_slices.specs.declared.answer.Refusal.TheVariants as refusal

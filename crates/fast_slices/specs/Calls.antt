@@ -17,10 +17,10 @@ use Rattle.fast_stream.specs.Modes.{Carries, FirstFault}
 use Rattle.fast_stream.specs.Nodes.{Content}
 use Rattle.fast_machine.specs.Standing.{Carried}
 use Rattle.fast_writer.specs.Canonical.{IsCanonical}
-use Rattle.fast_canon.specs.Relays.{Making}
-use Rattle.fast_canon.specs.declared.fault.CanonFault.{CanonFault}
-use Rattle.fast_canon.specs.declared.fault.CanonFault.TheVariants as canon
-use Rattle.fast_canon.specs.declared.summary.Summary.{Summary}
+use Rattle.fast_pass.specs.Relays.{Making}
+use Rattle.fast_pass.specs.declared.fault.CanonFault.{CanonFault}
+use Rattle.fast_pass.specs.declared.fault.CanonFault.TheVariants as canon
+use Rattle.fast_pass.specs.declared.summary.Summary.{Summary}
 use Rattle.fast_command.specs.Run.{LinesOf}
 use Rattle.fast_slices.specs.declared.answer.Refusal.{Refusal}
 use Rattle.fast_slices.specs.declared.answer.Refusal.TheVariants as refusal

@@ -1,6 +1,10 @@
-//! The tests of fast_decoder and fast_encoder.
+//! The tests of fast_decoder, fast_encoder, fast_canon and fast_command.
 #![tactic(auto)]
 
+#[cfg(test)]
+mod canonicalising;
+#[cfg(test)]
+mod commands;
 #[cfg(test)]
 mod decoding;
 #[cfg(test)]

@@ -4,6 +4,7 @@ use fast_build::Load;
 use fast_stream::{Message, Node};
 use fast_template::{ByteString, Scalar, TemplateSet};
 use std::alloc::{AllocError, Global};
+use std::process::Abort;
 use template_tests::texts::WORKED;
 
 // The set of the worked templates.
@@ -11,8 +12,21 @@ pub(crate) fn worked(alloc: Global) -> Option<TemplateSet> {
     TemplateSet::from_json(alloc, WORKED.as_bytes()).ok()
 }
 
+// The same, where it is there.
+pub(crate) fn worked_set(rt: &impl Abort, alloc: Global) -> TemplateSet {
+    let Some(set) = worked(alloc) else {
+        panic!(rt; "refused");
+    };
+    set
+}
+
 // Seq=1 Sym="AB" Px=100e-2, and no Qty.
 pub(crate) const QUOTE: &[u8] = b"\xF0\x81\x81\x41\xC2\xFE\x00\xE4";
+
+// Two quotes, the second one spelled out, and its canonical bytes.
+pub(crate) const TWO: &[u8] = b"\xf0\x81\x81\x41\xc2\xfe\x00\xe4\xf8\x81\x82\x41\xc2\x80\x81\x80";
+
+pub(crate) const TWO_SHORT: &[u8] = b"\xf0\x81\x81\x41\xc2\xfe\x00\xe4\x80\x80\x81";
 
 // A node of ASCII characters.
 pub(crate) fn text(alloc: Global, characters: &[u8]) -> Result<Node, AllocError> {

@@ -6,14 +6,12 @@ ghost use Rattle.fast_template.specs.TemplateSets.{templates_in};
 ghost use Rattle.fast_stream.specs.Nodes.{content_of};
 ghost use Rattle.fast_walk.specs.Traversals.{ServesAll};
 ghost use Rattle.fast_writer.specs.Canonical.{CanonMessage};
-ghost use Rattle.fast_encoder.specs.FirstRefusal.{first_refusal, refused};
+ghost use Rattle.fast_nodes.specs.FirstRefusal.{first_refusal, refused};
 
 use crate::encoder::Encoder;
-use crate::fault::{EncodeCause, EncodeFault};
-use crate::journal::Journal;
-use crate::judge::template_for;
 use crate::message::put_message;
 use fast_dictionary::Entries;
+use fast_nodes::{EncodeCause, EncodeFault, Journal, template_for};
 use fast_stream::Message;
 use fast_template::{FieldPart, Key, Kind, Name, Operator, Part, Presence, Scope, TemplateSet};
 use fast_writer::Segment;

@@ -8,14 +8,14 @@ ghost use Rattle.fast_stream.specs.Nodes.{Content, content_of};
 ghost use Rattle.fast_walk.specs.Traversals.{ServesAll};
 ghost use Rattle.fast_io.specs.Counts.{counted};
 ghost use Rattle.fast_writer.specs.Canonical.{CanonMessage};
-ghost use Rattle.fast_encoder.specs.FirstRefusal.{first_refusal, refused};
+ghost use Rattle.fast_nodes.specs.FirstRefusal.{first_refusal, refused};
 ghost use Rattle.fast_encoder.specs.Outputs.{Sends, answered};
 
 use crate::encoder::Encoder;
-use crate::fault::{EncodeCause, EncodeFault};
 use crate::output::MessageOutputStream;
 use fast_dictionary::Entries;
 use fast_io::{ByteOutput, push_all};
+use fast_nodes::{EncodeCause, EncodeFault};
 use fast_stream::Message;
 use fast_template::TemplateSet;
 use std::alloc::Global;

@@ -1,9 +1,12 @@
 //! Streams that are read and written at once, by the calls.
 
+ghost use Rattle.std.specs.Prelude.{◌≡◌};
+
 use crate::modes::PLAIN;
 use crate::same::same;
+use crate::slots::slots_of;
 use crate::worked::worked;
-use fast_dictionary::MapEntries;
+use fast_dictionary::SlotEntries;
 use fast_machine::Machine;
 use fast_template::TemplateSet;
 use fast_walk::Output;
@@ -21,22 +24,28 @@ struct Row {
     refused: bool,
 }
 
-fn is_relayed(rt: &impl Abort, alloc: Global, set: &TemplateSet, row: &Row) {
-    if row.stream.len() > LONGEST {
-        panic!(rt; "too long a stream");
-    }
-    let mut machine = Machine::new(
-        alloc,
-        set,
-        PLAIN,
-        Writer::new(alloc),
-        MapEntries::new(alloc),
-    );
-    let fault = machine.feed(row.stream).is_err() || machine.finish().is_err();
-    same(rt, machine.receiver.finished(), row.canonical);
-    same(rt, fault, row.refused);
+// Whether a machine that is new refuses a stream.
+fn is_refused(machine: &mut Machine<'_, Writer, SlotEntries<'_>>, stream: &[u8]) -> bool
+    requires { machine.now.fed ≡ 0 }
+{
+    stream.len() > LONGEST || machine.feed(stream).is_err() || machine.finish().is_err()
+}
+
+// What waits in a machine, and nothing once it is handed on.
+fn waits(rt: &impl Abort, machine: &mut Machine<'_, Writer, SlotEntries<'_>>, canonical: &[u8]) {
+    same(rt, machine.receiver.finished(), canonical);
     machine.receiver.hand_on();
     same(rt, machine.receiver.finished().len(), 0);
+}
+
+fn is_relayed(rt: &impl Abort, alloc: Global, set: &TemplateSet, row: &Row) {
+    let Ok(entries) = slots_of(alloc, set) else {
+        panic!(rt; "refused");
+    };
+    let mut machine = Machine::new(alloc, set, PLAIN, Writer::new(alloc), entries);
+    let fault = is_refused(&mut machine, row.stream);
+    same(rt, fault, row.refused);
+    waits(rt, &mut machine, row.canonical);
 }
 
 fn all_relayed(rt: &impl Abort, alloc: Global, rows: &[Row]) {

@@ -4,7 +4,6 @@ use crate::serving::devices::TEMPLATES;
 use crate::serving::examples::{BOOK, TRADE};
 use crate::serving::programs::{FIRST, Row, rows_are_served_over};
 use crate::serving::strict::{QUOTE_LINE, QUOTES};
-use crate::worked::{QUOTE, TWO_SHORT};
 
 const SHOW: &[&str] = &["fastcat", "show", "--blocks", "--templates", TEMPLATES];
 
@@ -57,6 +56,11 @@ const CANON_HEX_STRICTLY: &[&str] = &[
     "--blocks",
     "--strict",
 ];
+
+// One quote, and two in canonical bytes.
+const QUOTE: &[u8] = b"\xf0\x81\x81\x41\xc2\xfe\x00\xe4";
+
+const TWO_SHORT: &[u8] = b"\xf0\x81\x81\x41\xc2\xfe\x00\xe4\x80\x80\x81";
 
 const TWO_LINES: &[u8] = b"1 Quote Seq=1 Sym=\"AB\" Px=100e-2 Qty=-\n\
     1 Quote Seq=2 Sym=\"AB\" Px=101e-2 Qty=-\n";

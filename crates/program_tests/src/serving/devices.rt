@@ -75,24 +75,6 @@ impl<'a> Source for Shelf<'a> {
     }
 }
 
-/// Keeps all bytes, and counts the flushes.
-#[derive(Drop)]
-pub struct Flushed<'a> {
-    pub kept: &'a mut Vec<u8>,
-    pub flushes: &'a mut u32,
-}
-
-impl Write for Flushed<'_> {
-    fn write(&mut self, bytes: &[u8]) -> io::Result<usize> {
-        self.kept.write(bytes)
-    }
-
-    fn flush(&mut self) -> io::Result<()> {
-        *self.flushes = self.flushes.saturating_add(1);
-        Ok(())
-    }
-}
-
 /// What a full sink answers, and to what.
 #[derive(Clone, Copy)]
 pub enum Full {
@@ -104,12 +86,24 @@ pub enum Full {
     Flush,
 }
 
-/// Keeps the bytes for which it has room.
+/// Keeps the bytes for which it has room, and counts the flushes that it lets through. (All that is served goes to such
+/// writers: the program is compiled once for each type of a writer.)
 #[derive(Drop)]
 pub struct Sink<'a> {
     pub kept: &'a mut Vec<u8>,
+    pub flushes: &'a mut u32,
     pub room: usize,
     pub full: Full,
+}
+
+/// Keeps all bytes.
+pub fn kept<'a>(kept: &'a mut Vec<u8>, flushes: &'a mut u32) -> Sink<'a> {
+    Sink {
+        kept,
+        flushes,
+        room: usize::MAX,
+        full: Full::Nothing,
+    }
 }
 
 impl Write for Sink<'_> {
@@ -128,7 +122,10 @@ impl Write for Sink<'_> {
     fn flush(&mut self) -> io::Result<()> {
         match self.full {
             Full::Flush => Err(broken()),
-            _ => Ok(()),
+            _ => {
+                *self.flushes = self.flushes.saturating_add(1);
+                Ok(())
+            }
         }
     }
 }

@@ -1,9 +1,8 @@
 //! The order book and the trade feed of examples/: their lines and canonical bytes, and those of these bytes.
 
-use crate::same::same_of;
-use crate::serving::devices::{After, Feed, STREAM, Shelf, TEMPLATES};
-use fast_io::Counted;
-use fast_serve::serve::{TURNS, serve};
+use crate::serving::devices::{STREAM, Shelf, TEMPLATES};
+use crate::serving::programs::{Answer, served, whole};
+use fast_serve::serve::TURNS;
 use std::alloc::Global;
 use std::process::Abort;
 
@@ -26,15 +25,6 @@ pub const TRADE: &str = r#"{"templates":[
  {"kind":"decimal","name":"Price","operator":"delta"},
  {"kind":"uInt32","name":"Size","operator":"default","value":"100"},
  {"kind":"byteVector","name":"Buyer","presence":"optional","operator":"copy"}]}]}"#;
-
-// Bytes that are given whole.
-fn whole(text: &str) -> Feed<'_> {
-    Feed {
-        rest: text.as_bytes(),
-        width: 4096,
-        after: After::End,
-    }
-}
 
 const SHOW: &[&str] = &["fastcat", "show", "--hex", "--templates", TEMPLATES, STREAM];
 
@@ -85,23 +75,17 @@ fn is_served(
     stream: &str,
     want: &str,
 ) {
-    let mut out = Vec::new(alloc);
-    let mut err = Vec::new(alloc);
-    let status = serve(
-        alloc,
-        words,
-        &mut Shelf {
-            templates: whole(templates),
-            stream: whole(stream),
-            standard: whole(""),
-        },
-        &mut Counted::new(&mut out),
-        &mut Counted::new(&mut err),
-        TURNS,
-    );
-    same_of(rt, words, out.as_slice(), want.as_bytes());
-    same_of(rt, words, err.as_slice(), [].as_slice());
-    same_of(rt, words, status, 0);
+    let mut source = Shelf {
+        templates: whole(templates.as_bytes()),
+        stream: whole(stream.as_bytes()),
+        standard: whole(b""),
+    };
+    let want = Answer {
+        status: 0,
+        out: want.as_bytes(),
+        err: "",
+    };
+    served(rt, alloc, words, &mut source, TURNS, want);
 }
 
 // An example, and the same of its canonical bytes, at both levels.
@@ -113,14 +97,16 @@ fn example(
     lines: &str,
     canon: &str,
 ) {
-    is_served(rt, alloc, SHOW, templates, stream, lines);
-    is_served(rt, alloc, CANON, templates, stream, canon);
-    is_served(rt, alloc, SHOW, templates, canon, lines);
-    is_served(rt, alloc, CANON, templates, canon, canon);
-    is_served(rt, alloc, SHOW_STRICTLY, templates, stream, lines);
-    is_served(rt, alloc, CANON_STRICTLY, templates, stream, canon);
-    is_served(rt, alloc, SHOW_STRICTLY, templates, canon, lines);
-    is_served(rt, alloc, CANON_STRICTLY, templates, canon, canon);
+    const SHOWS: &[&[&str]] = &[SHOW, SHOW_STRICTLY];
+    const CANONS: &[&[&str]] = &[CANON, CANON_STRICTLY];
+    for words in SHOWS {
+        is_served(rt, alloc, words, templates, stream, lines);
+        is_served(rt, alloc, words, templates, canon, lines);
+    }
+    for words in CANONS {
+        is_served(rt, alloc, words, templates, stream, canon);
+        is_served(rt, alloc, words, templates, canon, canon);
+    }
 }
 
 #[test]

@@ -1,9 +1,7 @@
 //! The program: its exit status, what it writes, and what it says.
 
-ghost use Rattle.std.specs.Prelude.{◌≤◌, ◌^◌};
-
 use crate::same::{same, same_of};
-use crate::serving::devices::{After, Feed, Flushed, Full, STREAM, Shelf, Sink, TEMPLATES};
+use crate::serving::devices::{After, Feed, Full, STREAM, Shelf, Sink, TEMPLATES, kept};
 use fast_io::Counted;
 use fast_serve::serve::{TURNS, serve, serve_words};
 use std::alloc::{AllocError, Global};
@@ -13,10 +11,10 @@ use std::test::Fail;
 
 /// What is answered, written and said.
 #[derive(Clone, Copy)]
-struct Answer<'a> {
-    status: u8,
-    out: &'a [u8],
-    err: &'a str,
+pub struct Answer<'a> {
+    pub status: u8,
+    pub out: &'a [u8],
+    pub err: &'a str,
 }
 
 /// A command line, a standard input, and what is answered, written and said.
@@ -51,8 +49,8 @@ const TWO_LINES: &[u8] = b"16 First A=5 B=6\n16 First A=7 B=6\n";
 
 const TWO_COUNTED: &[u8] = b"ok messages=2 bytes=8 canonical=6\n";
 
-// Bytes that are given whole.
-fn whole(rest: &[u8]) -> Feed<'_> {
+/// Bytes that are given whole.
+pub fn whole(rest: &[u8]) -> Feed<'_> {
     Feed {
         rest,
         width: 4096,
@@ -60,52 +58,49 @@ fn whole(rest: &[u8]) -> Feed<'_> {
     }
 }
 
-// A shelf with that template, and this standard input.
-fn shelf(standard: Feed<'_>) -> Shelf<'_> {
-    Shelf {
-        templates: whole(FIRST.as_bytes()),
-        stream: whole(TWO),
-        standard,
-    }
+/// Serves a line, and answers the status. (Its callers are proved in less time than with the clauses of `serve`.)
+pub fn status_of(
+    alloc: Global,
+    words: &[&str],
+    source: &mut Shelf<'_>,
+    out: Sink<'_>,
+    err: Sink<'_>,
+    turns: u64,
+) -> u8 {
+    let mut out = Counted::new(out);
+    let mut err = Counted::new(err);
+    serve(alloc, words, source, &mut out, &mut err, turns.min(TURNS))
 }
 
-// Serves a line over a shelf: the status, what is written and what is said.
-fn served(
+/// Serves a line over a shelf: the status, what is written and what is said.
+pub fn served(
     rt: &impl Abort,
     alloc: Global,
     words: &[&str],
     source: &mut Shelf<'_>,
     turns: u64,
     want: Answer<'_>,
-)
-    requires { turns ≤ 2 ^ 40 }
-{
-    let mut out = Vec::new(alloc);
-    let mut err = Vec::new(alloc);
-    let status = serve(
-        alloc,
-        words,
-        source,
-        &mut Counted::new(&mut out),
-        &mut Counted::new(&mut err),
-        turns,
-    );
+) {
+    let (mut out, mut err) = (Vec::new(alloc), Vec::new(alloc));
+    let (mut ends, mut said) = (0, 0);
+    let out_sink = kept(&mut out, &mut ends);
+    let err_sink = kept(&mut err, &mut said);
+    let status = status_of(alloc, words, source, out_sink, err_sink, turns);
     same_of(rt, words, err.as_slice(), want.err.as_bytes());
     same_of(rt, words, out.as_slice(), want.out);
     same_of(rt, words, status, want.status);
 }
 
-// Serves a row over these templates, from its input given at most `width` bytes a read.
-fn row_is_served(rt: &impl Abort, alloc: Global, templates: &str, row: &Row, width: usize) {
-    let standard = Feed {
-        rest: row.input,
-        width,
-        after: After::End,
-    };
+/// Serves a row over these templates, from its input given at most `width` bytes a read.
+pub fn row_is_served(rt: &impl Abort, alloc: Global, templates: &str, row: &Row, width: usize) {
     let mut source = Shelf {
         templates: whole(templates.as_bytes()),
         stream: whole(TWO),
-        standard,
+        standard: Feed {
+            rest: row.input,
+            width,
+            after: After::End,
+        },
     };
     let want = Answer {
         status: row.status,
@@ -315,18 +310,22 @@ fn hex_texts_are_served(rt: HostRuntime) {
     rows_are_served(&rt, rt.alloc(), ROWS);
 }
 
+// A shelf with that template, and this standard input.
+fn shelf(standard: &[u8]) -> Shelf<'_> {
+    Shelf {
+        templates: whole(FIRST.as_bytes()),
+        stream: whole(TWO),
+        standard: whole(standard),
+    }
+}
+
 // Serves a line that is not taken: the help, or what it says of the line.
 fn not_taken(rt: &impl Abort, alloc: Global, words: &[&str]) {
-    let mut out = Vec::new(alloc);
-    let mut err = Vec::new(alloc);
-    let status = serve(
-        alloc,
-        words,
-        &mut shelf(whole(TWO)),
-        &mut Counted::new(&mut out),
-        &mut Counted::new(&mut err),
-        9,
-    );
+    let (mut out, mut err) = (Vec::new(alloc), Vec::new(alloc));
+    let (mut ends, mut said) = (0, 0);
+    let out_sink = kept(&mut out, &mut ends);
+    let err_sink = kept(&mut err, &mut said);
+    let status = status_of(alloc, words, &mut shelf(TWO), out_sink, err_sink, 9);
     same_of(rt, words, status, 2);
     same_of(rt, words, out.is_empty(), true);
     same_of(rt, words, err.is_empty(), false);
@@ -350,214 +349,256 @@ fn command_lines(rt: HostRuntime) {
     }
 }
 
-// A shelf with these templates.
-fn shelf_of(templates: Feed<'_>) -> Shelf<'_> {
-    Shelf {
-        templates,
-        stream: whole(TWO),
-        standard: whole(b"zz"),
-    }
-}
-
-// Serves a line over these templates, of which this is said.
-fn refuses_templates(
-    rt: &impl Abort,
-    alloc: Global,
-    words: &[&str],
-    templates: Feed<'_>,
-    err: &str,
-) {
-    let mut source = shelf_of(templates);
-    let want = Answer {
-        status: 2,
-        out: b"",
-        err,
-    };
-    served(rt, alloc, words, &mut source, 9, want);
-}
-
-// Serves a line over templates whose reader fails, with at most so many reads.
-fn fails_at_templates(rt: &impl Abort, alloc: Global, turns: u64, err: &str)
-    requires { turns ≤ 2 ^ 40 }
-{
-    let mut source = shelf_of(Feed {
-        rest: b"{",
-        width: 1,
-        after: After::Error,
-    });
-    let want = Answer {
-        status: 3,
-        out: b"",
-        err,
-    };
-    served(rt, alloc, CANON, &mut source, turns, want);
-}
-
-#[test]
-fn templates_come_first(rt: HostRuntime) {
-    const TEXT: &[u8] = br#"{"templates":[{"name":"T","id":1,"instructions":[
-        {"kind":"string","name":"A","operator":"increment"}]}]}"#;
-    const MISSING: &[&str] = &["fastcat", "canon", "none", "--templates", TEMPLATES];
-    const CUT: &[u8] = b"{\"templates\":[";
-    let alloc = rt.alloc();
-    let refused = "templates refused S2 template=1 instruction=1\n";
-    refuses_templates(&rt, alloc, CANON_HEX, whole(TEXT), refused);
-    refuses_templates(&rt, alloc, MISSING, whole(TEXT), refused);
-    let refused = "templates refused S1 template=0 instruction=0\n";
-    refuses_templates(&rt, alloc, CANON, whole(CUT), refused);
-    fails_at_templates(&rt, alloc, 9, "fault read\n");
-    fails_at_templates(&rt, alloc, 1, "fault turns\n");
-}
-
-// Serves a line that names a file that is not there.
-fn finds_no_file(rt: &impl Abort, alloc: Global, words: &[&str]) {
-    let mut source = shelf(whole(TWO));
-    let want = Answer {
-        status: 3,
-        out: b"",
-        err: "fault open\n",
-    };
-    served(rt, alloc, words, &mut source, 9, want);
-}
-
-#[test]
-fn files_that_are_not_there(rt: HostRuntime) {
-    const NO_TEMPLATES: &[&str] = &["fastcat", "canon", "--templates", "none", "--hex"];
-    const NO_STREAM: &[&str] = &["fastcat", "show", "none", "--templates", TEMPLATES];
-    finds_no_file(&rt, rt.alloc(), NO_TEMPLATES);
-    finds_no_file(&rt, rt.alloc(), NO_STREAM);
-}
-
-/// A command line, what its input gives and what stands behind it, how many reads there may be, and what is written
-/// and said.
-struct Failing {
+/// A command line, what its files and its input give and what stands behind that, how many reads there may be, and what is
+/// answered, written and said.
+struct Case {
     words: &'static [&'static str],
-    rest: &'static [u8],
-    after: After,
+    templates: &'static str,
+    templates_end: After,
+    input: &'static [u8],
+    // how much of it one read gives
+    width: usize,
+    input_end: After,
     turns: u64,
+    status: u8,
     out: &'static [u8],
     err: &'static str,
 }
 
-fn input_fails(rt: &impl Abort, alloc: Global, row: &Failing) {
-    let mut source = shelf(Feed {
-        rest: row.rest,
-        width: 1,
-        after: row.after,
-    });
-    let want = Answer {
-        status: 3,
-        out: row.out,
-        err: row.err,
+fn case_is_served(rt: &impl Abort, alloc: Global, case: &Case) {
+    let mut source = Shelf {
+        templates: Feed {
+            rest: case.templates.as_bytes(),
+            width: 4096,
+            after: case.templates_end,
+        },
+        stream: whole(TWO),
+        standard: Feed {
+            rest: case.input,
+            width: case.width,
+            after: case.input_end,
+        },
     };
-    served(
-        rt,
-        alloc,
-        row.words,
-        &mut source,
-        row.turns.min(TURNS),
-        want,
-    );
+    let want = Answer {
+        status: case.status,
+        out: case.out,
+        err: case.err,
+    };
+    served(rt, alloc, case.words, &mut source, case.turns, want);
 }
 
 #[test]
-fn failing_inputs(rt: HostRuntime) {
+fn templates_and_inputs_that_fail(rt: HostRuntime) {
+    const TEXT: &str = r#"{"templates":[{"name":"T","id":1,"instructions":[
+        {"kind":"string","name":"A","operator":"increment"}]}]}"#;
+    const MISSING: &[&str] = &["fastcat", "canon", "none", "--templates", TEMPLATES];
     const ONE: &[u8] = b"\xe0\x90\x85\x86";
     const LINE: &[u8] = b"16 First A=5 B=6\n";
-    const ROWS: &[Failing] = &[
-        Failing {
-            words: CANON,
-            rest: ONE,
-            after: After::Error,
+    const CASES: &[Case] = &[
+        // templates come first
+        Case {
+            words: CANON_HEX,
+            templates: TEXT,
+            templates_end: After::End,
+            input: b"zz",
+            width: 4096,
+            input_end: After::End,
             turns: 9,
+            status: 2,
+            out: b"",
+            err: "templates refused S2 template=1 instruction=1\n",
+        },
+        Case {
+            words: MISSING,
+            templates: TEXT,
+            templates_end: After::End,
+            input: b"zz",
+            width: 4096,
+            input_end: After::End,
+            turns: 9,
+            status: 2,
+            out: b"",
+            err: "templates refused S2 template=1 instruction=1\n",
+        },
+        Case {
+            words: CANON,
+            templates: "{\"templates\":[",
+            templates_end: After::End,
+            input: b"zz",
+            width: 4096,
+            input_end: After::End,
+            turns: 9,
+            status: 2,
+            out: b"",
+            err: "templates refused S1 template=0 instruction=0\n",
+        },
+        Case {
+            words: CANON,
+            templates: "{",
+            templates_end: After::Error,
+            input: b"zz",
+            width: 4096,
+            input_end: After::End,
+            turns: 9,
+            status: 3,
+            out: b"",
+            err: "fault read\n",
+        },
+        Case {
+            words: CANON,
+            templates: "{",
+            templates_end: After::Error,
+            input: b"zz",
+            width: 4096,
+            input_end: After::End,
+            turns: 1,
+            status: 3,
+            out: b"",
+            err: "fault turns\n",
+        },
+        // files that are not there
+        Case {
+            words: &["fastcat", "canon", "--templates", "none", "--hex"],
+            templates: FIRST,
+            templates_end: After::End,
+            input: TWO,
+            width: 4096,
+            input_end: After::End,
+            turns: 9,
+            status: 3,
+            out: b"",
+            err: "fault open\n",
+        },
+        Case {
+            words: &["fastcat", "show", "none", "--templates", TEMPLATES],
+            templates: FIRST,
+            templates_end: After::End,
+            input: TWO,
+            width: 4096,
+            input_end: After::End,
+            turns: 9,
+            status: 3,
+            out: b"",
+            err: "fault open\n",
+        },
+        // a reader that fails, or has no end within the reads
+        Case {
+            words: CANON,
+            templates: FIRST,
+            templates_end: After::End,
+            input: ONE,
+            width: 1,
+            input_end: After::Error,
+            turns: 9,
+            status: 3,
             out: ONE,
             err: "fault read\n",
         },
-        Failing {
+        Case {
             words: SHOW,
-            rest: ONE,
-            after: After::Error,
+            templates: FIRST,
+            templates_end: After::End,
+            input: ONE,
+            width: 1,
+            input_end: After::Error,
             turns: 9,
+            status: 3,
             out: LINE,
             err: "fault read\n",
         },
-        Failing {
+        Case {
             words: CHECK,
-            rest: ONE,
-            after: After::Error,
+            templates: FIRST,
+            templates_end: After::End,
+            input: ONE,
+            width: 1,
+            input_end: After::Error,
             turns: 9,
+            status: 3,
             out: b"",
             err: "fault read\n",
         },
-        Failing {
+        Case {
             words: CANON,
-            rest: ONE,
-            after: After::End,
+            templates: FIRST,
+            templates_end: After::End,
+            input: ONE,
+            width: 1,
+            input_end: After::End,
             turns: 4,
+            status: 3,
             out: ONE,
             err: "fault turns\n",
         },
-        Failing {
+        Case {
             words: CHECK,
-            rest: ONE,
-            after: After::End,
+            templates: FIRST,
+            templates_end: After::End,
+            input: ONE,
+            width: 1,
+            input_end: After::End,
             turns: 4,
+            status: 3,
             out: b"",
             err: "fault turns\n",
         },
-        Failing {
+        Case {
             words: CANON_HEX,
-            rest: b"e0908586",
-            after: After::Error,
+            templates: FIRST,
+            templates_end: After::End,
+            input: b"e0908586",
+            width: 1,
+            input_end: After::Error,
             turns: 9,
+            status: 3,
             out: b"",
             err: "fault read\n",
         },
-        Failing {
+        Case {
             words: CANON_HEX,
-            rest: b"e0908586",
-            after: After::End,
+            templates: FIRST,
+            templates_end: After::End,
+            input: b"e0908586",
+            width: 1,
+            input_end: After::End,
             turns: 8,
+            status: 3,
             out: b"",
             err: "fault turns\n",
         },
-        Failing {
+        Case {
             words: SHOW_HEX,
-            rest: b"zz",
-            after: After::End,
+            templates: FIRST,
+            templates_end: After::End,
+            input: b"zz",
+            width: 1,
+            input_end: After::End,
             turns: 2,
+            status: 3,
             out: b"",
             err: "fault turns\n",
         },
     ];
-    for row in ROWS {
-        input_fails(&rt, rt.alloc(), row);
+    for case in CASES {
+        case_is_served(&rt, rt.alloc(), case);
     }
 }
+/// A command line, a standard input, and how its output fails behind these bytes.
+struct Failing(&'static [&'static str], &'static [u8], Full, &'static [u8]);
 
 // Serves a line into an output that fails.
-fn output_fails(
-    rt: &impl Abort,
-    alloc: Global,
-    words: &[&str],
-    input: &[u8],
-    full: Full,
-    written: &[u8],
-) {
-    let mut out = Vec::new(alloc);
-    let mut err = Vec::new(alloc);
-    let status = serve(
-        alloc,
-        words,
-        &mut shelf(whole(input)),
-        &mut Counted::new(Sink {
-            kept: &mut out,
-            room: written.len(),
-            full,
-        }),
-        &mut Counted::new(&mut err),
-        9,
-    );
+fn output_fails(rt: &impl Abort, alloc: Global, row: &Failing) {
+    let Failing(words, input, full, written) = row;
+    let (mut out, mut err) = (Vec::new(alloc), Vec::new(alloc));
+    let (mut ends, mut said) = (0, 0);
+    let sink = Sink {
+        kept: &mut out,
+        flushes: &mut ends,
+        room: written.len(),
+        full: *full,
+    };
+    let err_sink = kept(&mut err, &mut said);
+    let status = status_of(alloc, words, &mut shelf(input), sink, err_sink, 9);
     same_of(rt, words, err.as_slice(), b"fault write\n".as_slice());
     same_of(rt, words, out.as_slice(), written);
     same_of(rt, words, status, 3);
@@ -568,15 +609,19 @@ fn failing_outputs(rt: HostRuntime) {
     const HEX: &[u8] = b"e0908586";
     const HEX_LINE: &[u8] = b"e0908586\n";
     const COUNTED: &[u8] = b"ok messages=0 bytes=0 canonical=0\n";
-    let alloc = rt.alloc();
-    output_fails(&rt, alloc, CANON, TWO, Full::Error, b"\xe0\x90\x85");
-    output_fails(&rt, alloc, SHOW, TWO, Full::Nothing, b"16");
-    output_fails(&rt, alloc, CHECK, TWO, Full::Nothing, b"ok mess");
-    output_fails(&rt, alloc, CANON_HEX, HEX, Full::Nothing, HEX);
-    output_fails(&rt, alloc, CANON_HEX, HEX, Full::Flush, HEX_LINE);
-    output_fails(&rt, alloc, CHECK, b"", Full::Flush, COUNTED);
-    // The line feed of a refused stream does not go through.
-    output_fails(&rt, alloc, CANON_HEX, b"80", Full::Error, b"");
+    const ROWS: &[Failing] = &[
+        Failing(CANON, TWO, Full::Error, b"\xe0\x90\x85"),
+        Failing(SHOW, TWO, Full::Nothing, b"16"),
+        Failing(CHECK, TWO, Full::Nothing, b"ok mess"),
+        Failing(CANON_HEX, HEX, Full::Nothing, HEX),
+        Failing(CANON_HEX, HEX, Full::Flush, HEX_LINE),
+        Failing(CHECK, b"", Full::Flush, COUNTED),
+        // The line feed of a refused stream does not go through.
+        Failing(CANON_HEX, b"80", Full::Error, b""),
+    ];
+    for row in ROWS {
+        output_fails(&rt, rt.alloc(), row);
+    }
 }
 
 /// A command line, a standard input, what is answered, and how many bytes are written.
@@ -585,22 +630,13 @@ struct Flush(&'static [&'static str], &'static [u8], u8, usize);
 // Serves a row, whose output is flushed once.
 fn flushed(rt: &impl Abort, alloc: Global, row: &Flush) {
     let Flush(words, input, want, written) = row;
-    let mut kept = Vec::new(alloc);
-    let mut flushes = 0;
-    let mut err = Vec::new(alloc);
-    let status = serve(
-        alloc,
-        words,
-        &mut shelf(whole(input)),
-        &mut Counted::new(Flushed {
-            kept: &mut kept,
-            flushes: &mut flushes,
-        }),
-        &mut Counted::new(&mut err),
-        9,
-    );
+    let (mut out, mut err) = (Vec::new(alloc), Vec::new(alloc));
+    let (mut flushes, mut said) = (0, 0);
+    let out_sink = kept(&mut out, &mut flushes);
+    let err_sink = kept(&mut err, &mut said);
+    let status = status_of(alloc, words, &mut shelf(input), out_sink, err_sink, 9);
     same_of(rt, words, status, *want);
-    same_of(rt, words, kept.len(), *written);
+    same_of(rt, words, out.len(), *written);
     same_of(rt, words, flushes, 1);
 }
 
@@ -630,15 +666,15 @@ fn words_are_served(
     words: io::Result<Vec<String>>,
     want: Answer<'_>,
 ) {
-    let mut out = Vec::new(alloc);
-    let mut err = Vec::new(alloc);
-    let mut source = shelf(whole(TWO));
+    let (mut out, mut err) = (Vec::new(alloc), Vec::new(alloc));
+    let (mut ends, mut said) = (0, 0);
+    let mut source = shelf(TWO);
     let status = serve_words(
         alloc,
         words,
         &mut source,
-        &mut Counted::new(&mut out),
-        &mut Counted::new(&mut err),
+        &mut Counted::new(kept(&mut out, &mut ends)),
+        &mut Counted::new(kept(&mut err, &mut said)),
         TURNS,
     );
     same(rt, err.as_slice(), want.err.as_bytes());
@@ -680,34 +716,43 @@ fn process_words(rt: HostRuntime) -> Result<(), Fail> {
     Ok(())
 }
 
+/// A command line, how many reads there may be, and what is answered.
+struct Silent(&'static [&'static str], u64, u8);
+
 // Serves a refused stream where nothing can be said.
-fn error_fails(rt: &impl Abort, alloc: Global, words: &[&str], turns: u64, want: u8)
-    requires { turns ≤ 2 ^ 40 }
-{
-    let mut out = Vec::new(alloc);
-    let mut kept = Vec::new(alloc);
-    let status = serve(
+fn error_fails(rt: &impl Abort, alloc: Global, row: &Silent) {
+    let Silent(words, turns, want) = row;
+    let (mut out, mut err) = (Vec::new(alloc), Vec::new(alloc));
+    let (mut ends, mut said) = (0, 0);
+    let out_sink = kept(&mut out, &mut ends);
+    let sink = Sink {
+        kept: &mut err,
+        flushes: &mut said,
+        room: 0,
+        full: Full::Error,
+    };
+    let status = status_of(
         alloc,
         words,
-        &mut shelf(whole(b"\x80\x80")),
-        &mut Counted::new(&mut out),
-        &mut Counted::new(Sink {
-            kept: &mut kept,
-            room: 0,
-            full: Full::Error,
-        }),
-        turns,
+        &mut shelf(b"\x80\x80"),
+        out_sink,
+        sink,
+        *turns,
     );
-    same_of(rt, words, status, want);
+    same_of(rt, words, status, *want);
 }
 
 #[test]
 fn failing_errors(rt: HostRuntime) {
-    let alloc = rt.alloc();
-    error_fails(&rt, alloc, CANON, 2, 1);
-    error_fails(&rt, alloc, CANON_HEX, 9, 2);
-    error_fails(&rt, alloc, &["fastcat"], 9, 2);
-    error_fails(&rt, alloc, CANON, 0, 3);
+    const ROWS: &[Silent] = &[
+        Silent(CANON, 2, 1),
+        Silent(CANON_HEX, 9, 2),
+        Silent(&["fastcat"], 9, 2),
+        Silent(CANON, 0, 3),
+    ];
+    for row in ROWS {
+        error_fails(&rt, rt.alloc(), row);
+    }
 }
 
 // So many blanks.
@@ -717,7 +762,7 @@ fn blanks(alloc: Global, count: usize) -> Result<Vec<u8>, AllocError> {
     Ok(text)
 }
 
-// Serves so many blanks as hex text.
+// Serves so many blanks as hex text, and as templates.
 fn long_text(
     rt: &impl Abort,
     alloc: Global,
@@ -725,18 +770,10 @@ fn long_text(
     want: Answer<'_>,
 ) -> Result<(), AllocError> {
     let text = blanks(alloc, count)?;
-    served(
-        rt,
-        alloc,
-        CANON_HEX,
-        &mut shelf(whole(&text)),
-        1 << 20,
-        want,
-    );
+    served(rt, alloc, CANON_HEX, &mut shelf(&text), 1 << 20, want);
     Ok(())
 }
 
-// Serves so many blanks as templates.
 fn long_templates(
     rt: &impl Abort,
     alloc: Global,
@@ -744,7 +781,11 @@ fn long_templates(
     want: Answer<'_>,
 ) -> Result<(), AllocError> {
     let text = blanks(alloc, count)?;
-    served(rt, alloc, CANON, &mut shelf_of(whole(&text)), 1 << 20, want);
+    let mut source = Shelf {
+        templates: whole(&text),
+        ..shelf(b"zz")
+    };
+    served(rt, alloc, CANON, &mut source, 1 << 20, want);
     Ok(())
 }
 

@@ -2,7 +2,8 @@ use Rattle.std.proofs.Common.{◌≡◌, ℕ, length, ap, arith, ◌∙◌}
 use Rattle.fast_io.specs.Counts.{counted_by}
 use Rattle.fast_template.specs.TemplateSets.{templates_in}
 use Rattle.fast_machine.proofs.Followings.{all_carried}
-use Rattle.fast_canon.proofs.Relayings.{as_canonical, no_longer, summary_by}
+use Rattle.fast_pass.proofs.Relayings.{summary_by}
+use Rattle.fast_canon.proofs.CanonicalBytes.{as_canonical, no_longer}
 use Rattle.fast_canon.proofs.canonical.canonicalise.Goals as goal
 
 pub returns-in-Ok-clause-answer : goal.returns-in-Ok-clause-answer

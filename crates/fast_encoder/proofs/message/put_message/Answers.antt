@@ -1,9 +1,9 @@
 use Rattle.std.proofs.Common.{Some, refl, sym, subst, ◌∙◌}
 use Rattle.fast_template.specs.Resolved.{list_of}
 use Rattle.fast_stream.specs.Nodes.{content_of}
-use Rattle.fast_encoder.specs.Added.{Changed, HoldScalars}
+use Rattle.fast_nodes.specs.Added.{Changed, HoldScalars}
 use Rattle.fast_writer.specs.Levels.{level_of}
-use Rattle.fast_encoder.proofs.Messages.{message_added}
+use Rattle.fast_nodes.proofs.Messages.{message_added}
 use Rattle.fast_encoder.proofs.message.put_message.Goals as goal
 
 pub put_back-requires : goal.put_back-requires

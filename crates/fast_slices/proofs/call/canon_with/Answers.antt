@@ -2,7 +2,7 @@ use Rattle.std.proofs.Common.{◌≡◌, ◌^◌, ◌<◌, ℕ, List, [], ◌++�
 use Rattle.fast_template.specs.TemplateSets.{templates_in}
 use Rattle.fast_wire.proofs.Calls.{all_bytes}
 use Rattle.fast_writer.specs.Canonical.{IsCanonical}
-use Rattle.fast_canon.specs.Canonicalised.{Passes}
+use Rattle.fast_pass.specs.Passed.{Passes}
 use Rattle.fast_slices.proofs.Streams.{as_passes, not_read, settled}
 use Rattle.fast_slices.proofs.call.canon_with.Goals as goal
 

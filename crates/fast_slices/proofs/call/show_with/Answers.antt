@@ -1,7 +1,7 @@
 use Rattle.std.proofs.Common.{◌^◌, ℕ, List, [], Some, refl, sym, subst, ◌∙◌, arith}
 use Rattle.fast_template.specs.TemplateSets.{templates_in}
 use Rattle.fast_wire.proofs.Calls.{all_bytes}
-use Rattle.fast_canon.specs.Canonicalised.{Passes}
+use Rattle.fast_pass.specs.Passed.{Passes}
 use Rattle.fast_command.specs.Run.{LinesOf}
 use Rattle.fast_slices.proofs.Streams.{not_read, settled}
 use Rattle.fast_slices.proofs.call.show_with.Goals as goal

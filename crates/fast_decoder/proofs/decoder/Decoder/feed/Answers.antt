@@ -1,7 +1,7 @@
 use Rattle.std.proofs.Common.{[], ◌++◌, List, map, sym, ◌∙◌, ap, subst}
 use Rattle.fast_stream.specs.Nodes.{Content, content_of}
 use Rattle.fast_machine.specs.Following.{FollowsAt}
-use Rattle.fast_decoder.specs.Built.{with_whole}
+use Rattle.fast_messages.specs.Built.{with_whole}
 use Rattle.fast_decoder.proofs.Builders.{BuilderHas, BuilderStands, follows_rebased, whole_of_follows}
 use Rattle.fast_decoder.proofs.decoder.Decoder.feed.Goals as goal
 

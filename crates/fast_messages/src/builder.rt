@@ -1,0 +1,303 @@
+//! Builds the nodes of messages.
+
+ghost use Rattle.std.specs.Prelude.{◌≡◌, map, Option, Some, None};
+ghost use Rattle.fast_stream.specs.Nodes.{item_of, single};
+
+use fast_dictionary::Entries;
+use fast_field::FieldFault;
+use fast_part::{exponent_in, mantissa_in, take_part, unsigned_in};
+use fast_stream::{Message, Node};
+use fast_template::{FieldPart, Name, Presence, Scalar};
+use fast_walk::Receiver;
+use fast_wire::Level;
+use std::alloc::{AllocError, Global};
+use std::mem;
+
+/// What is built of a body that waits for the segment inside it: its nodes, and the elements of the sequence where
+/// the segment is one.
+#[derive(Drop)]
+pub struct Outer {
+    nodes: Vec<Node>,
+    elements: Vec<Vec<Node>>,
+}
+
+/// Builds messages of the fields that it receives.
+#[derive(Drop)]
+pub struct Builder {
+    template: u32,
+    // of the innermost open body
+    nodes: Vec<Node>,
+    // of the decimal whose mantissa is next
+    exponent: i32,
+    // of the sequence whose element is next
+    elements: Vec<Vec<Node>>,
+    // of the bodies around
+    outer: Vec<Outer>,
+    whole: Vec<Message>,
+}
+
+// A value, or none, as a node.
+fn node_of(value: Option<Scalar>) -> Node
+    ensures { item_of result ≡ single value }
+{
+    match value {
+        None => Node::Absent,
+        Some(value) => Node::Value(value),
+    }
+}
+
+impl Builder {
+    ghost use Rattle.std.specs.Prelude.{[], List};
+    ghost use Rattle.std.specs.FinMap as finite;
+    ghost use Rattle.fast_template.specs.Resolved.{Resolved};
+    ghost use Rattle.fast_stream.specs.Nodes.{Content};
+    ghost use Rattle.fast_messages.specs.Built.{with_whole};
+
+    /// With no message. Takes no memory.
+    pub fn new(alloc: Global) -> Builder
+        ensures stands { (set : List Resolved)
+            → ⟦<Builder as Receiver>⟧.stands result set [] finite.empty }
+        ensures empty { result.whole.items ≡ [] }
+    {
+        Builder {
+            template: 0,
+            nodes: Vec::new(alloc),
+            exponent: 0,
+            elements: Vec::new(alloc),
+            outer: Vec::new(alloc),
+            whole: Vec::new(alloc),
+        }
+    }
+
+    /// Exchanges the messages that are finished with others, behind which the next are pushed. Takes no memory.
+    pub fn exchange(&mut self, messages: &mut Vec<Message>)
+        ensures messages { messages.new ≡ self.old.whole }
+        ensures builder { self.new ≡ with_whole self.old messages.old }
+    {
+        mem::swap(&mut self.whole, messages);
+    }
+
+    /// Forgets all messages. Takes no memory.
+    pub fn reset(&mut self)
+        ensures { self.new.whole.items ≡ [] }
+    {
+        self.whole.clear();
+    }
+}
+
+impl Receiver for Builder {
+    ghost use Rattle.fast_stream.specs.Nodes.{content_of};
+    ghost use Rattle.fast_messages.specs.Built.{IsBuilt};
+
+    ghost has = { λ b o d. IsBuilt b o };
+
+    ghost stands = { λ b set ms d. ms ≡ map content_of b.whole.items };
+
+    ghost keeps = { λ b set ms d. ms ≡ map content_of b.whole.items };
+
+    fn begin<E: Entries>(
+        &mut self,
+        alloc: Global,
+        entries: &mut E,
+        identifier: &FieldPart,
+        bit: bool,
+        level: Level,
+        bytes: &[u8],
+        at: usize,
+    ) -> Result<(u32, usize), FieldFault> {
+        match take_part(alloc, entries, identifier, bit, level, bytes, at) {
+            Err(fault) => Err(fault),
+            Ok((value, next)) => match unsigned_in(&value) {
+                Ok(Some(id)) => {
+                    self.template = id;
+                    self.nodes = Vec::new(alloc);
+                    self.outer = Vec::new(alloc);
+                    Ok((id, next))
+                }
+                _ => Err(FieldFault::Memory),
+            },
+        }
+    }
+
+    fn finish(&mut self, alloc: Global) -> Result<(), AllocError> {
+        let fields = mem::replace(&mut self.nodes, Vec::new(alloc));
+        self.whole.push(Message {
+            template: self.template,
+            fields,
+        })?;
+        Ok(())
+    }
+
+    fn back(&mut self, alloc: Global) {
+        self.nodes = Vec::new(alloc);
+        self.elements = Vec::new(alloc);
+        self.outer = Vec::new(alloc);
+    }
+
+    fn field<E: Entries>(
+        &mut self,
+        alloc: Global,
+        _name: &Name,
+        _presence: Presence,
+        entries: &mut E,
+        part: &FieldPart,
+        bit: bool,
+        level: Level,
+        bytes: &[u8],
+        at: usize,
+    ) -> Result<usize, FieldFault> {
+        match take_part(alloc, entries, part, bit, level, bytes, at) {
+            Err(fault) => Err(fault),
+            Ok((value, next)) => match self.nodes.push(node_of(value)) {
+                Err(_) => Err(FieldFault::Memory),
+                Ok(()) => Ok(next),
+            },
+        }
+    }
+
+    fn exponent<E: Entries>(
+        &mut self,
+        alloc: Global,
+        _name: &Name,
+        _presence: Presence,
+        entries: &mut E,
+        part: &FieldPart,
+        bit: bool,
+        level: Level,
+        bytes: &[u8],
+        at: usize,
+    ) -> Result<(bool, usize), FieldFault> {
+        match take_part(alloc, entries, part, bit, level, bytes, at) {
+            Err(fault) => Err(fault),
+            Ok((value, next)) => match exponent_in(&value) {
+                Err(fault) => Err(fault),
+                Ok(None) => match self.nodes.push(Node::Absent) {
+                    Err(_) => Err(FieldFault::Memory),
+                    Ok(()) => Ok((false, next)),
+                },
+                Ok(Some(exponent)) => {
+                    self.exponent = exponent;
+                    Ok((true, next))
+                }
+            },
+        }
+    }
+
+    fn mantissa<E: Entries>(
+        &mut self,
+        alloc: Global,
+        entries: &mut E,
+        part: &FieldPart,
+        bit: bool,
+        level: Level,
+        bytes: &[u8],
+        at: usize,
+    ) -> Result<usize, FieldFault> {
+        match take_part(alloc, entries, part, bit, level, bytes, at) {
+            Err(fault) => Err(fault),
+            Ok((value, next)) => match mantissa_in(&value) {
+                Err(fault) => Err(fault),
+                Ok(mantissa) => {
+                    let exponent = self.exponent;
+                    match self
+                        .nodes
+                        .push(Node::Value(Scalar::Decimal { exponent, mantissa }))
+                    {
+                        Err(_) => Err(FieldFault::Memory),
+                        Ok(()) => Ok(next),
+                    }
+                }
+            },
+        }
+    }
+
+    fn begin_sequence<E: Entries>(
+        &mut self,
+        alloc: Global,
+        _name: &Name,
+        _presence: Presence,
+        entries: &mut E,
+        part: &FieldPart,
+        bit: bool,
+        level: Level,
+        bytes: &[u8],
+        at: usize,
+    ) -> Result<(Option<u32>, usize), FieldFault> {
+        match take_part(alloc, entries, part, bit, level, bytes, at) {
+            Err(fault) => Err(fault),
+            Ok((value, next)) => match unsigned_in(&value) {
+                Err(fault) => Err(fault),
+                Ok(None) => match self.nodes.push(Node::Absent) {
+                    Err(_) => Err(FieldFault::Memory),
+                    Ok(()) => Ok((None, next)),
+                },
+                Ok(Some(length)) => {
+                    self.elements = Vec::new(alloc);
+                    Ok((Some(length), next))
+                }
+            },
+        }
+    }
+
+    fn left_out(&mut self, _name: &Name) -> Result<(), AllocError> {
+        self.nodes.push(Node::Absent)?;
+        Ok(())
+    }
+
+    fn enter(
+        &mut self,
+        alloc: Global,
+        _name: &Name,
+        _optional: bool,
+        _own_map: bool,
+        size: usize,
+    ) -> Result<(), AllocError> {
+        let inner = Vec::with_capacity(alloc, size)?;
+        let nodes = mem::replace(&mut self.nodes, inner);
+        let elements = Vec::new(alloc);
+        self.outer.push(Outer { nodes, elements })?;
+        Ok(())
+    }
+
+    fn leave(&mut self, _alloc: Global) -> Result<(), AllocError> {
+        match self.outer.pop() {
+            None => Err(AllocError),
+            Some(Outer { nodes, .. }) => {
+                let inner = mem::replace(&mut self.nodes, nodes);
+                self.nodes.push(Node::Group(inner))?;
+                Ok(())
+            }
+        }
+    }
+
+    fn enter_element(
+        &mut self,
+        alloc: Global,
+        _own_map: bool,
+        size: usize,
+    ) -> Result<(), AllocError> {
+        let inner = Vec::with_capacity(alloc, size)?;
+        let nodes = mem::replace(&mut self.nodes, inner);
+        let elements = mem::replace(&mut self.elements, Vec::new(alloc));
+        self.outer.push(Outer { nodes, elements })?;
+        Ok(())
+    }
+
+    fn leave_element(&mut self, _alloc: Global) -> Result<(), AllocError> {
+        match self.outer.pop() {
+            None => Err(AllocError),
+            Some(Outer { nodes, elements }) => {
+                let inner = mem::replace(&mut self.nodes, nodes);
+                self.elements = elements;
+                self.elements.push(inner)?;
+                Ok(())
+            }
+        }
+    }
+
+    fn end_sequence(&mut self, alloc: Global) -> Result<(), AllocError> {
+        let elements = mem::replace(&mut self.elements, Vec::new(alloc));
+        self.nodes.push(Node::Sequence(elements))?;
+        Ok(())
+    }
+}

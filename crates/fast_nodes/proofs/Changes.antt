@@ -1,0 +1,109 @@
+-- What was changed can be put back.
+use Rattle.std.proofs.Common.{◌≡◌, ℕ, Bool, true, false, List, [], ◌∷◌, ◌++◌, Option, refl, sym, ap, subst, ◌∙◌}
+use Rattle.std.specs.Prelude.{cond, IsTrue}
+use Rattle.std.specs.FinMap as map
+use Rattle.std.specs.Ordering.{is_eq}
+use Rattle.fast_wire.specs.declared.level.Level.TheVariants.{Usual}
+use Rattle.fast_value.specs.Key.{key_cmp}
+use Rattle.fast_value.specs.declared.key.Key.{Key}
+use Rattle.fast_value.specs.declared.scalar.Scalar.{Scalar}
+use Rattle.fast_template.specs.declared.resolved.FieldPart.{FieldPart}
+use Rattle.fast_dictionary.specs.declared.entry.Entry.{Entry}
+use Rattle.fast_dictionary.specs.declared.entry.Entry.TheVariants.{Undefined, Empty, Assigned}
+use Rattle.fast_dictionary.specs.Dictionary.{Dictionary, entry_at, entry_at-empty, entry_at-set_entry, entry_at-set_same, set_entry, set_entry-there, same_dictionary}
+use Rattle.fast_field.specs.Bases.{next}
+use Rattle.fast_field.specs.Best.{IsBest}
+use Rattle.fast_field.specs.Parts.{IsFieldPart}
+use Rattle.fast_field.specs.Fields.{Form}
+use Rattle.fast_field.specs.Within.{HoldsScalar}
+use Rattle.fast_field.proofs.FieldsWithin.{values_within, entries_within}
+use Rattle.fast_stream.specs.Bodies.{with_entry, written}
+use Rattle.fast_walk.proofs.Putting.{set_written}
+use Rattle.fast_nodes.specs.declared.journal.Change.{Change}
+use Rattle.fast_nodes.specs.Added.{Changed, GoesOn, HoldScalars}
+
+-- ---- entries within their types
+
+pub empty_holds : HoldScalars map.empty
+empty_holds k = subst HoldsScalar (sym (entry_at-empty k)) tt
+
+either_holds : (b : Bool) (e f : Entry) → HoldsScalar e → HoldsScalar f → HoldsScalar (cond b e f)
+either_holds true e f h k = h
+either_holds false e f h k = k
+
+with_entry_holds : (d : Dictionary) (k : Key) (e : Entry) → HoldScalars d → HoldsScalar e → HoldScalars (with_entry d k e)
+with_entry_holds d k Undefined all one = all
+with_entry_holds d k Empty all one = λ q. subst HoldsScalar (sym (entry_at-set_entry d k Empty q)) (either_holds (is_eq (key_cmp q k)) Empty (entry_at d q) one (all q))
+with_entry_holds d k (Assigned v) all one = λ q. subst HoldsScalar (sym (entry_at-set_entry d k (Assigned v) q)) (either_holds (is_eq (key_cmp q k)) (Assigned v) (entry_at d q) one (all q))
+
+-- what has a form is written as a value of its type
+pub form_holds : (p : FieldPart) (d : Dictionary) (bit : Bool) (b : List ℕ) (v : Option Scalar) → IsFieldPart p → HoldScalars d → Form Usual p (entry_at d p.key) bit b v → HoldScalars (written p d v)
+form_holds p d bit b v is all form =
+    let here = all p.key in
+    with_entry_holds d p.key (next p (entry_at d p.key) v) all (entries_within p (entry_at d p.key) v here (values_within p (entry_at d p.key) bit b v is here form))
+
+pub best_holds : (p : FieldPart) (d : Dictionary) (bit : Bool) (b : List ℕ) (v : Option Scalar) → IsFieldPart p → HoldScalars d → IsBest p (entry_at d p.key) bit b v → HoldScalars (written p d v)
+best_holds p d bit b v is all best = form_holds p d bit b v is all (best.cut, best.form)
+
+-- ---- one entry
+
+twice : (b : Bool) (e f g : Entry) → cond b e (cond b f g) ≡ cond b e g
+twice true e f g = refl
+twice false e f g = refl
+
+set_entry-twice : (d : Dictionary) (k : Key) (e f : Entry) → set_entry (set_entry d k e) k f ≡ set_entry d k f
+set_entry-twice d k e f =
+    same_dictionary (set_entry (set_entry d k e) k f) (set_entry d k f)
+    (λ q. entry_at-set_entry (set_entry d k e) k f q ∙ ap (cond (is_eq (key_cmp q k)) f) (entry_at-set_entry d k e q) ∙ twice (is_eq (key_cmp q k)) f e (entry_at d q) ∙ sym (entry_at-set_entry d k f q))
+
+-- to set the entry of a part back that was written
+pub set_back : (p : FieldPart) (d : Dictionary) (v : Option Scalar) → set_entry (written p d v) p.key (entry_at d p.key) ≡ d
+set_back p d v =
+    ap (λ (e : Dictionary). set_entry e p.key (entry_at d p.key)) (sym (set_written p d v))
+    ∙ set_entry-twice d p.key (next p (entry_at d p.key) v) (entry_at d p.key) ∙ set_entry-there d p.key
+
+-- where it is undefined, it was so before
+pub still_undefined : (p : FieldPart) (d : Dictionary) (v : Option Scalar) → entry_at (written p d v) p.key ≡ Undefined → written p d v ≡ d
+still_undefined p d v h =
+    let entry = next p (entry_at d p.key) v in
+    let none : entry ≡ Undefined = sym (entry_at-set_same d p.key entry) ∙ ap (λ (e : Dictionary). entry_at e p.key) (set_written p d v) ∙ h in
+    ap (with_entry d p.key) none
+
+-- ---- many entries
+
+pub changed_more : (serves : Key → Bool) (cs : List Change) (c : Change) (start d : Dictionary) (v : Option Scalar) → IsTrue (serves c.part.now.key) → c.before ≡ entry_at d c.part.now.key
+    → Changed serves cs start d → Changed serves (cs ++ c ∷ []) start (written c.part.now d v)
+changed_more serves [] c start d v served before h = (served, before ∙ ap (λ (e : Dictionary). entry_at e c.part.now.key) h, v, ap (λ (e : Dictionary). written c.part.now e v) h)
+changed_more serves (b ∷ cs) c start d v served before h = (h.0, h.1, h.2, changed_more serves cs c (written b.part.now start h.2) d v served before h.3)
+
+-- the last change, and those before it
+pub record Last (serves : Key → Bool) (cs : List Change) (c : Change) (start e : Dictionary) : Type 0 where
+  pub mid : Dictionary
+  pub value : Option Scalar
+  pub served : IsTrue (serves c.part.now.key)
+  pub before : c.before ≡ entry_at mid c.part.now.key
+  pub after : e ≡ written c.part.now mid value
+  pub changed : Changed serves cs start mid
+
+pub changed_last : (serves : Key → Bool) (cs : List Change) (c : Change) (start e : Dictionary) → Changed serves (cs ++ c ∷ []) start e → Last serves cs c start e
+changed_last serves [] c start e h = record { mid = start; value = h.2; served = h.0; before = h.1; after = h.3; changed = refl }
+changed_last serves (b ∷ cs) c start e h =
+    let l = changed_last serves cs c (written b.part.now start h.2) e h.3 in
+    record { mid = l.mid; value = l.value; served = l.served; before = l.before; after = l.after; changed = (h.0, h.1, h.2, l.changed) }
+
+-- ---- from one to another
+
+pub goes_on_then : (serves mid later : Key → Bool) (bs cs ds : List Change) (d e f : Dictionary) → GoesOn serves bs d mid cs e → GoesOn mid cs e later ds f → GoesOn serves bs d later ds f
+goes_on_then serves mid later bs cs ds d e f a b = record {
+  same_keys = b.same_keys ∙ a.same_keys;
+  holds = λ h. b.holds (a.holds h);
+  changed = λ start h. rw (a.same_keys) at (b.changed start (rw (sym a.same_keys) at (a.changed start h)));
+}
+
+pub goes_on_more : (serves later : Key → Bool) (cs ds : List Change) (c : Change) (d e : Dictionary) (v : Option Scalar) → later ≡ serves → ds ≡ cs ++ c ∷ []
+    → IsTrue (serves c.part.now.key) → c.before ≡ entry_at d c.part.now.key → e ≡ written c.part.now d v → HoldScalars e → GoesOn serves cs d later ds e
+goes_on_more serves later cs ds c d e v keys items served before after holds = record {
+  same_keys = keys;
+  holds = λ h. holds;
+  changed = λ start h. rw (items, after) (changed_more serves cs c start d v served before h);
+}

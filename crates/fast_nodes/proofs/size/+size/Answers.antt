@@ -1,0 +1,38 @@
+use Rattle.std.proofs.Common.{rules, ◌≡◌, ◌<◌, ◌≤◌, ◌+◌, ◌∷◌, ◌∙◌, sym, ap, length, drop, inr, None, Some}
+use Rattle.std.specs.Prelude.{nat_lt}
+use Rattle.std.specs.Global.{Vec}
+use Rattle.std.proofs.lemmas.List.{drop_more}
+use Rattle.fast_stream.specs.declared.message.Node.{Node}
+use Rattle.fast_nodes.specs.FirstRefusal.{has_large_in}
+use Rattle.fast_nodes.proofs.Sizes.{seen, of_sequence, too_many, none_left, element_refused, all_left}
+use Rattle.fast_nodes.proofs.size.+size.Goals as goal
+
+pub left_behind-returns-then-len-gt-SIZE_LIMIT : goal.left_behind-returns-then-len-gt-SIZE_LIMIT
+left_behind-returns-then-len-gt-SIZE_LIMIT t c =
+    let es = c.in-Sequence.elements in
+    let many : 65535 < length es.items = search rules in
+    of_sequence es c.args.node.now c.args.left None c.in-Sequence.is (inr (too_many (length es.items) (has_large_in (seen es.items)) many))
+
+pub left_behind-returns-then-left-eq0-2 : goal.left_behind-returns-then-left-eq0-2
+left_behind-returns-then-left-eq0-2 t c =
+    let es = c.in-Sequence.elements in
+    let inside : c.elements.at < length es.items = search rules in
+    let none : c.elements.left ≡ 0 = search rules in
+    of_sequence es c.args.node.now c.args.left None c.in-Sequence.is (none_left es.items c.elements.at c.args.left c.elements.left _ inside none c.elements.invariant.count)
+
+pub left_behind-returns-in-None : goal.left_behind-returns-in-None
+left_behind-returns-in-None t c =
+    let es = c.in-Sequence.elements in
+    let e = c.index.result.now in
+    let inside : c.elements.at < length es.items = search rules in
+    let here = drop_more es.items c.elements.at e inside ∙ ap (λ (x : Vec Node). x ∷ drop (c.elements.at + 1) es.items) (sym c.index.ensures) in
+    let some : 1 ≤ c.elements.left = search rules in
+    of_sequence es c.args.node.now c.args.left None c.in-Sequence.is (element_refused es.items e c.elements.at c.args.left c.elements.left (nat_lt 65535 (length es.items)) here some
+    c.elements.invariant.count c.elements.invariant.large (rw (c.deref-in-elements.ensures.value) at c.in-None.ensures))
+
+pub left_behind-returns-after-elements : goal.left_behind-returns-after-elements
+left_behind-returns-after-elements t c =
+    let es = c.in-Sequence.elements in
+    let end : length es.items ≤ c.elements.at = search rules in
+    let few : length es.items ≤ 65535 = search rules in
+    of_sequence es c.args.node.now c.args.left (Some c.elements.left) c.in-Sequence.is (all_left es.items c.elements.at c.args.left c.elements.left end few c.elements.invariant.count c.elements.invariant.large)

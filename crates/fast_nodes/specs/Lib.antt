@@ -1,0 +1,3 @@
+pub mod FirstRefusal
+pub mod Added
+pub mod Ranges

@@ -1,0 +1,147 @@
+//! The calls of a journal.
+
+ghost use Rattle.std.specs.Prelude.{◌≡◌, Option, [], IsTrue, IfOk, OnOk, OnErr};
+ghost use Rattle.std.specs.FinMap as finite;
+ghost use Rattle.std.specs.Option.{option_copied};
+ghost use Rattle.fast_value.specs.declared.scalar.Scalar.{Scalar as ScalarOf};
+ghost use Rattle.fast_dictionary.specs.Dictionary.{Dictionary, entry_at};
+ghost use Rattle.fast_field.specs.Best.{IsBest};
+ghost use Rattle.fast_field.specs.Parts.{IsFieldPart};
+ghost use Rattle.fast_stream.specs.Bodies.{PartBy, written};
+ghost use Rattle.fast_nodes.specs.Added.{Answers, Changed, GoesOn, HoldScalars};
+ghost use Rattle.fast_nodes.specs.FirstRefusal.{part_judged};
+ghost use Rattle.fast_writer.specs.Levels.{level_of};
+
+use crate::fault::EncodeFault;
+use crate::journal::{Change, Journal};
+use crate::put::{no_memory, put_part};
+use fast_dictionary::{Entries, Entry};
+use fast_template::{FieldPart, Scalar};
+use fast_writer::Segment;
+use std::alloc::Global;
+
+/// Appends the best form of a part's value to a segment, none where it is absent, and makes the part's entry the one
+/// afterwards; answers the entry before.
+///
+/// # Errors
+///
+/// The part's refusal, and the entries are as they were. Memory: a growth was refused.
+pub fn put_value<E: Entries>(
+    alloc: Global,
+    entries: &mut E,
+    part: &FieldPart,
+    value: Option<&Scalar>,
+    level: &mut Segment,
+) -> Result<Entry, EncodeFault>
+    requires part { IsFieldPart part.now }
+    requires served { IsTrue (E.serves entries.now part.now.key) }
+    requires holds { HoldScalars (E.contents entries.now) }
+    ensures answer { Answers (λ s x t. PartBy IsBest part.now s x (option_copied value.entry) t)
+        (λ s. part_judged part.now s (option_copied value.entry)) (E.contents entries.old)
+        (level_of level.old) (E.contents entries.new) (level_of level.new) result }
+    ensures before { IfOk result (λ e. e ≡ entry_at (E.contents entries.old) part.now.key) }
+    ensures after { OnOk result (E.contents entries.new
+        ≡ written part.now (E.contents entries.old) (option_copied value.entry)) }
+    ensures holds { OnOk result (HoldScalars (E.contents entries.new)) }
+    ensures unchanged { OnErr result (E.contents entries.new ≡ E.contents entries.old) }
+    ensures same_keys { E.serves entries.new ≡ E.serves entries.old }
+{
+    match entries.entry_mut(&part.key) {
+        Err(_) => Err(no_memory()),
+        Ok(entry) => match put_part(alloc, part, entry, value, level) {
+            Err(fault) => Err(fault),
+            Ok(before) => Ok(before),
+        },
+    }
+}
+
+/// Puts the entry of a part back that was written last. Takes no memory.
+pub fn put_back<E: Entries>(entries: &mut E, part: &FieldPart, before: Entry)
+    requires served { IsTrue (E.serves entries.now part.now.key) }
+    ensures back { (d : Dictionary) (v : Option ScalarOf) → before ≡ entry_at d part.now.key
+        → E.contents entries.old ≡ written part.now d v → E.contents entries.new ≡ d }
+    ensures same_keys { E.serves entries.new ≡ E.serves entries.old }
+{
+    // An entry is refused only where it is undefined, and then it was so before.
+    if let Ok(entry) = entries.entry_mut(&part.key) {
+        *entry = before;
+    }
+}
+
+impl<'a, E: Entries> Journal<'a, E> {
+    /// Entries of which nothing has been changed.
+    pub fn new(alloc: Global, entries: E) -> Journal<'a, E>
+        ensures entries { result.entries ≡ entries }
+        ensures changes { result.changes.items ≡ [] }
+    {
+        Journal {
+            entries,
+            changes: Vec::new(alloc),
+        }
+    }
+
+    /// Forgets what was changed: it is kept.
+    pub fn keep(&mut self)
+        ensures entries { self.new.entries ≡ self.old.entries }
+        ensures changes { self.new.changes.items ≡ [] }
+    {
+        self.changes.clear();
+    }
+
+    /// Makes every entry undefined.
+    pub fn reset(&mut self)
+        ensures cleared { E.contents self.new.entries ≡ finite.empty }
+        ensures same_keys { E.serves self.new.entries ≡ E.serves self.old.entries }
+    {
+        self.entries.reset();
+    }
+
+    /// Puts back what was changed, the last first. Takes no memory.
+    pub fn put_back(&mut self)
+        requires changed { (d : Dictionary) × Changed (E.serves self.now.entries)
+            self.now.changes.items d (E.contents self.now.entries) }
+        ensures back { (d : Dictionary) → Changed (E.serves self.old.entries)
+            self.old.changes.items d (E.contents self.old.entries)
+            → E.contents self.new.entries ≡ d }
+        ensures same_keys { E.serves self.new.entries ≡ E.serves self.old.entries }
+    {
+        'changes: while let Some(change) = self.changes.pop() {
+            put_back(&mut self.entries, change.part, change.before);
+        }
+    }
+
+    /// Appends the best form of a part's value to a segment, none where it is absent, and makes the part's entry the
+    /// one afterwards; that is one change more.
+    ///
+    /// # Errors
+    ///
+    /// The part's refusal. Memory: a growth was refused.
+    pub(crate) fn put(
+        &mut self,
+        alloc: Global,
+        part: &'a FieldPart,
+        value: Option<&Scalar>,
+        level: &mut Segment,
+    ) -> Result<(), EncodeFault>
+        requires part { IsFieldPart part.now }
+        requires served { IsTrue (E.serves self.now.entries part.now.key) }
+        requires holds { HoldScalars (E.contents self.now.entries) }
+        ensures answer { Answers (λ s x t. PartBy IsBest part.now s x (option_copied value.entry) t)
+            (λ s. part_judged part.now s (option_copied value.entry)) (E.contents self.old.entries)
+            (level_of level.old) (E.contents self.new.entries) (level_of level.new) result }
+        ensures goes { GoesOn (E.serves self.old.entries) self.old.changes.items
+            (E.contents self.old.entries) (E.serves self.new.entries) self.new.changes.items
+            (E.contents self.new.entries) }
+    {
+        if self.changes.reserve(1).is_err() {
+            return Err(no_memory());
+        }
+        match put_value(alloc, &mut self.entries, part, value, level) {
+            Err(fault) => Err(fault),
+            Ok(before) => {
+                self.changes.push(Change { part, before }).unwrap();
+                Ok(())
+            }
+        }
+    }
+}

@@ -1,0 +1,74 @@
+//! What is judged of a message before its fields are written.
+
+ghost use Rattle.std.specs.Prelude.{◌≡◌, IfErr, IfOk, None, Some};
+ghost use Rattle.fast_template.specs.Resolved.{list_of};
+ghost use Rattle.fast_template.specs.TemplateSets.{IsSound, templates_in};
+ghost use Rattle.fast_dictionary.specs.Dictionary.{Dictionary};
+ghost use Rattle.fast_field.specs.Calls.{Judges};
+ghost use Rattle.fast_stream.specs.Nodes.{content_of, items_in};
+ghost use Rattle.fast_stream.specs.Streams.{members_of};
+ghost use Rattle.fast_nodes.specs.FirstRefusal.{first_refusal, is_too_large, whole_refusal};
+
+use crate::fault::{EncodeCause, EncodeFault};
+use crate::shape::all_fit;
+use crate::size::left_behind_all;
+use fast_stream::{Message, Node};
+use fast_template::{Flat, FlatTemplate, TemplateSet};
+
+/// The most nodes of a message.
+const NODE_LIMIT: usize = 65_536;
+
+// Whether there are too many nodes, or one is too large.
+fn is_large(nodes: &[Node]) -> bool
+    ensures { result ≡ is_too_large (items_in nodes.now) }
+{
+    left_behind_all(nodes, NODE_LIMIT).is_none()
+}
+
+// Whether nodes are of the shape of their instructions, and not too large.
+fn judge_whole(members: &[Flat], nodes: &[Node]) -> Result<(), EncodeFault>
+    ensures { Judges (whole_refusal (list_of members.now) (items_in nodes.now)) result }
+{
+    if !all_fit(members, nodes) {
+        return Err(EncodeFault {
+            cause: EncodeCause::Mismatch,
+            instruction: 0,
+        });
+    }
+    if is_large(nodes) {
+        return Err(EncodeFault {
+            cause: EncodeCause::Limit,
+            instruction: 0,
+        });
+    }
+    Ok(())
+}
+
+/// The template of a message that is of its shape, and not too large.
+///
+/// # Errors
+///
+/// `D9`, `Mismatch` or `Limit`, the first refusal of the message, whatever the entries are.
+pub fn template_for<'a>(
+    set: &'a TemplateSet,
+    message: &Message,
+) -> Result<&'a FlatTemplate, EncodeFault>
+    ensures sound { IsSound set.now }
+    ensures known { IfOk result (λ t. members_of (templates_in set.now) message.now.template
+        ≡ Some (list_of t.now.members.items)) }
+    ensures whole { IfOk result (λ t. whole_refusal (list_of t.now.members.items)
+        (content_of message.now).items ≡ None) }
+    ensures refused { IfErr result (λ f. (d : Dictionary)
+        → first_refusal (templates_in set.now) d (content_of message.now) ≡ Some f) }
+{
+    match set.find(message.template) {
+        None => Err(EncodeFault {
+            cause: EncodeCause::D9,
+            instruction: 0,
+        }),
+        Some(template) => match judge_whole(&template.members, &message.fields) {
+            Err(fault) => Err(fault),
+            Ok(()) => Ok(template),
+        },
+    }
+}

@@ -1,0 +1,146 @@
+//! A part of a message that is written.
+
+ghost use Rattle.std.specs.Prelude.{◌≡◌, ◌⊎◌, ◌++◌, ◌&&◌, true, false, drop, not, None, Some, IfErr, IfOk, OnErr, OnOk};
+ghost use Rattle.std.specs.Option.{option_copied};
+ghost use Rattle.fast_template.specs.Resolved.{part_needs_bit as part_needs_bit_of};
+ghost use Rattle.fast_field.specs.Bases.{next};
+ghost use Rattle.fast_field.specs.Parts.{IsFieldPart};
+ghost use Rattle.fast_field.specs.Planning.{left_out_of};
+ghost use Rattle.fast_field.specs.Refusals.{refusal_of};
+ghost use Rattle.fast_field.specs.Within.{HoldsScalar};
+ghost use Rattle.fast_field.specs.declared.fault.FieldRefusal.{FieldRefusal as RefusalOf};
+ghost use Rattle.fast_nodes.specs.FirstRefusal.{cause_of, fault_of, refused};
+ghost use Rattle.fast_writer.specs.Levels.{level_of};
+ghost use Rattle.fast_writer.specs.Written.{Ended, Spelt, bits_for, has_set};
+
+use crate::fault::{EncodeCause, EncodeFault};
+use fast_dictionary::Entry;
+use fast_field::{FieldRefusal, next_entry, plan_field, write_field};
+use fast_template::{FieldPart, Scalar, part_needs_bit};
+use fast_wire::WireFault;
+use fast_writer::Segment;
+use std::alloc::Global;
+use std::mem;
+
+// The cause of a message that is not written for this.
+fn cause_for(refusal: FieldRefusal) -> EncodeCause
+    ensures { result ≡ cause_of refusal }
+{
+    match refusal {
+        FieldRefusal::D3 => EncodeCause::D3,
+        FieldRefusal::D4 => EncodeCause::D4,
+        FieldRefusal::D6 => EncodeCause::D6,
+        FieldRefusal::R1 => EncodeCause::R1,
+        FieldRefusal::NotConstant => EncodeCause::NotConstant,
+        FieldRefusal::TooShort => EncodeCause::TooShort,
+        FieldRefusal::Mismatch => EncodeCause::Mismatch,
+        FieldRefusal::Limit => EncodeCause::Limit,
+        FieldRefusal::Memory => EncodeCause::Memory,
+    }
+}
+
+// Why a message is not written of which a part is refused for this.
+fn fault_for(part: &FieldPart, refusal: FieldRefusal) -> EncodeFault
+    ensures { result ≡ fault_of part.now refusal }
+{
+    let instruction = match refusal {
+        FieldRefusal::Mismatch | FieldRefusal::Limit | FieldRefusal::Memory => 0,
+        FieldRefusal::D3
+        | FieldRefusal::D4
+        | FieldRefusal::D6
+        | FieldRefusal::R1
+        | FieldRefusal::NotConstant
+        | FieldRefusal::TooShort => part.number,
+    };
+    EncodeFault {
+        cause: cause_for(refusal),
+        instruction,
+    }
+}
+
+/// Want of memory.
+pub(crate) fn no_memory() -> EncodeFault
+    ensures { result ≡ refused EncodeCause.Memory }
+{
+    EncodeFault {
+        cause: EncodeCause::Memory,
+        instruction: 0,
+    }
+}
+
+// A bit for which its map has no room.
+fn no_room() -> EncodeFault
+    ensures { result ≡ refused EncodeCause.Limit }
+{
+    EncodeFault {
+        cause: EncodeCause::Limit,
+        instruction: 0,
+    }
+}
+
+/// Appends a segment behind its map, or nothing.
+///
+/// # Errors
+///
+/// Limit: a bit is 1 for which the map has no room. Memory: a growth was refused.
+pub fn seal(level: &Segment, out: &mut Vec<u8>) -> Result<(), EncodeFault>
+    ensures ended { OnOk result (Ended (level_of level.now) out.old.items out.new.items) }
+    ensures room { OnOk result
+        ((level.now.own && has_set (drop 1792 level.now.bits)) ≡ false) }
+    ensures refused { IfErr result (λ f. (f ≡ refused EncodeCause.Memory)
+        ⊎ ((f ≡ refused EncodeCause.Limit)
+        × ((level.now.own && has_set (drop 1792 level.now.bits)) ≡ true))) }
+    ensures unchanged { OnErr result (out.new.items ≡ out.old.items) }
+{
+    match level.seal(out) {
+        Err(WireFault::TooLong) => Err(no_room()),
+        Err(_) => Err(no_memory()),
+        Ok(()) => Ok(()),
+    }
+}
+
+/// Appends the best form of a value to a segment, none where it is absent, and makes its entry the one afterwards;
+/// answers the entry before, so that it can be put back.
+///
+/// # Errors
+///
+/// The part's refusal, and the entry is as it was. Memory: a growth was refused.
+pub(crate) fn put_part(
+    alloc: Global,
+    part: &FieldPart,
+    entry: &mut Entry,
+    value: Option<&Scalar>,
+    level: &mut Segment,
+) -> Result<Entry, EncodeFault>
+    requires part { IsFieldPart part.now }
+    requires entry { HoldsScalar entry.old }
+    ensures spelt { OnOk result (Spelt part.now entry.old (option_copied value.entry)
+        (level_of level.old) (level_of level.new)) }
+    // the bit is 0 exactly where that gives the value
+    ensures bit { OnOk result (level.new.bits ≡ level.old.bits
+        ++ bits_for (part_needs_bit_of part.now) (not (left_out_of part.now.operator part.now
+        entry.old (option_copied value.entry)))) }
+    ensures after { OnOk result (entry.new
+        ≡ next part.now entry.old (option_copied value.entry)) }
+    ensures before { IfOk result (λ e. e ≡ entry.old) }
+    ensures allowed { OnOk result
+        (refusal_of part.now entry.old (option_copied value.entry) ≡ None) }
+    ensures refused { IfErr result (λ f. (f ≡ refused EncodeCause.Memory)
+        ⊎ ((r : RefusalOf) × (refusal_of part.now entry.old (option_copied value.entry) ≡ Some r)
+        × (f ≡ fault_of part.now r))) }
+    ensures kept { OnErr result (entry.new ≡ entry.old) }
+{
+    match plan_field(part, entry.view(), value) {
+        Err(refusal) => Err(fault_for(part, refusal)),
+        Ok(plan) => match write_field(part, entry.view(), value, &mut level.bytes) {
+            Err(_) => Err(no_memory()),
+            Ok(()) => match next_entry(alloc, part, entry.view(), value) {
+                Err(_) => Err(no_memory()),
+                Ok(after) => match level.ask(part_needs_bit(part), plan.bit) {
+                    Err(_) => Err(no_memory()),
+                    Ok(()) => Ok(mem::replace(entry, after)),
+                },
+            },
+        },
+    }
+}

@@ -1,0 +1,373 @@
+//! Worked streams in blocks through each command. What is written is plain.
+
+ghost use Rattle.std.specs.Prelude.{◌≤◌};
+
+use crate::commands::streams::{
+    At, Made, QUOTE_LINE, REFUSALS, ROWS, Refusal, Row, TWO_LINES, counted, ends, gives,
+    made_before, makes, refused, stops,
+};
+use crate::commands::strict::told;
+use crate::modes::{BLOCKS, STRICT_BLOCKS};
+use crate::worked::{QUOTE, TWO_SHORT, worked_set};
+use fast_command::Command;
+use fast_decoder::Mode;
+use fast_io::ScriptInput;
+use fast_stream::Cause;
+use fast_template::TemplateSet;
+use std::alloc::{AllocError, Global};
+use std::process::Abort;
+use std::test::Fail;
+
+#[test]
+fn blocks_of_messages(rt: HostRuntime) {
+    const STREAMS: &[Row] = &[
+        Row {
+            stream: b"",
+            messages: 0,
+            lines: "",
+            told: "ok messages=0 bytes=0 canonical=0\n",
+            canonical: b"",
+        },
+        Row {
+            stream: b"\x88\xf0\x81\x81\x41\xc2\xfe\x00\xe4",
+            messages: 1,
+            lines: QUOTE_LINE,
+            told: "ok messages=1 bytes=9 canonical=8\n",
+            canonical: QUOTE,
+        },
+        Row {
+            stream: b"\x8b\xf0\x81\x81\x41\xc2\xfe\x00\xe4\x80\x80\x81",
+            messages: 2,
+            lines: TWO_LINES,
+            told: "ok messages=2 bytes=12 canonical=11\n",
+            canonical: TWO_SHORT,
+        },
+        Row {
+            stream: b"\x88\xf0\x81\x81\x41\xc2\xfe\x00\xe4\x83\x80\x80\x81",
+            messages: 2,
+            lines: TWO_LINES,
+            told: "ok messages=2 bytes=13 canonical=11\n",
+            canonical: TWO_SHORT,
+        },
+        Row {
+            stream: b"\x00\x88\xf0\x81\x81\x41\xc2\xfe\x00\xe4",
+            messages: 1,
+            lines: QUOTE_LINE,
+            told: "ok messages=1 bytes=10 canonical=8\n",
+            canonical: QUOTE,
+        },
+        Row {
+            stream: b"\x90\xf0\x81\x81\x41\xc2\xfe\x00\xe4\xf8\x81\x82\x41\xc2\x80\x81\x80",
+            messages: 2,
+            lines: TWO_LINES,
+            told: "ok messages=2 bytes=17 canonical=11\n",
+            canonical: TWO_SHORT,
+        },
+    ];
+    let alloc = rt.alloc();
+    let set = worked_set(&rt, alloc);
+    for row in STREAMS {
+        ends(&rt, alloc, &set, BLOCKS, row, 1);
+        ends(&rt, alloc, &set, BLOCKS, row, 2);
+        ends(&rt, alloc, &set, BLOCKS, row, 4096);
+    }
+}
+
+#[test]
+fn blocks_that_are_refused(rt: HostRuntime) {
+    const USUALLY: &[Refusal] = &[
+        Refusal {
+            stream: b"\x80",
+            messages: 0,
+            lines: "",
+            canonical: b"",
+            cause: Cause::D12,
+            at: At(0, 0, 0),
+        },
+        Refusal {
+            stream: b"\x88\xf0\x81\x81\x41\xc2\xfe\x00\xe4\x80",
+            messages: 1,
+            lines: QUOTE_LINE,
+            canonical: QUOTE,
+            cause: Cause::D12,
+            at: At(9, 0, 0),
+        },
+        Refusal {
+            stream: b"\x87\xf0\x81\x81\x41\xc2\xfe\x00\xe4",
+            messages: 0,
+            lines: "",
+            canonical: b"",
+            cause: Cause::BlockEnd,
+            at: At(6, 1, 3),
+        },
+        Refusal {
+            stream: b"\x88\xf0\x81\x81\x41\xc2\xfe\x00",
+            messages: 0,
+            lines: "",
+            canonical: b"",
+            cause: Cause::Truncated,
+            at: At(6, 1, 3),
+        },
+        Refusal {
+            stream: b"\x89\xf0\x81\x81\x41\xc2\xfe\x00\xe4",
+            messages: 1,
+            lines: QUOTE_LINE,
+            canonical: QUOTE,
+            cause: Cause::Truncated,
+            at: At(9, 0, 0),
+        },
+        Refusal {
+            stream: b"\x89\xf0\x81\x81\x41\xc2\xfe\x00\xe4\x80",
+            messages: 1,
+            lines: QUOTE_LINE,
+            canonical: QUOTE,
+            cause: Cause::BlockEnd,
+            at: At(10, 1, 3),
+        },
+        Refusal {
+            stream: b"\x81\xc0",
+            messages: 0,
+            lines: "",
+            canonical: b"",
+            cause: Cause::BlockEnd,
+            at: At(2, 0, 0),
+        },
+        Refusal {
+            stream: b"\x81\x80",
+            messages: 0,
+            lines: "",
+            canonical: b"",
+            cause: Cause::D5,
+            at: At(2, 0, 0),
+        },
+        Refusal {
+            stream: b"\x88\xf0\x81\x81\x41\xc2\xfe\x00\xe4\x00\x00\x00\x00\x00\x00\x00\x00\x00\x00",
+            messages: 1,
+            lines: QUOTE_LINE,
+            canonical: QUOTE,
+            cause: Cause::Limit,
+            at: At(9, 0, 0),
+        },
+        Refusal {
+            stream: b"\x85\x00\x00\x00\x00\x00\x00\x00\x00\x00\x00",
+            messages: 0,
+            lines: "",
+            canonical: b"",
+            cause: Cause::BlockEnd,
+            at: At(1, 0, 0),
+        },
+        Refusal {
+            stream: b"\x84\xf0\x81\x81\x41\x84\xc2\xfe\x00\xe4",
+            messages: 0,
+            lines: "",
+            canonical: b"",
+            cause: Cause::BlockEnd,
+            at: At(4, 1, 2),
+        },
+        Refusal {
+            stream: b"\x02\x00\x00\x00\x00\x00\x00\x00\x00\x80\xf0\x81\x81\x41\xc2\xfe\x00\xe4",
+            messages: 1,
+            lines: QUOTE_LINE,
+            canonical: QUOTE,
+            cause: Cause::Truncated,
+            at: At(18, 0, 0),
+        },
+        Refusal {
+            stream: b"\x40\x00\x00\x00\x00\x00\x00\x00\x00\x80\xf0\x81\x81\x41\xc2\xfe\x00\xe4",
+            messages: 1,
+            lines: QUOTE_LINE,
+            canonical: QUOTE,
+            cause: Cause::Truncated,
+            at: At(18, 0, 0),
+        },
+    ];
+    const STRICTLY: &[Refusal] = &[
+        Refusal {
+            stream: b"\x00\x88\xf0\x81\x81\x41\xc2\xfe\x00\xe4",
+            messages: 0,
+            lines: "",
+            canonical: b"",
+            cause: Cause::R6,
+            at: At(0, 0, 0),
+        },
+        Refusal {
+            stream: b"\x00\x80",
+            messages: 0,
+            lines: "",
+            canonical: b"",
+            cause: Cause::R6,
+            at: At(0, 0, 0),
+        },
+        Refusal {
+            stream: b"\x88\xf1\x81\x81\x41\xc2\xfe\x00\xe4",
+            messages: 0,
+            lines: "",
+            canonical: b"",
+            cause: Cause::R8,
+            at: At(9, 1, 0),
+        },
+        Refusal {
+            stream: b"\x88\xf0\x81\x81\x41\xc2\xfe\x00\xe4\x00\x83\x80\x80\x81",
+            messages: 1,
+            lines: QUOTE_LINE,
+            canonical: QUOTE,
+            cause: Cause::R6,
+            at: At(9, 0, 0),
+        },
+    ];
+    let alloc = rt.alloc();
+    let set = worked_set(&rt, alloc);
+    for row in USUALLY {
+        stops(&rt, alloc, &set, BLOCKS, row, 1);
+        stops(&rt, alloc, &set, BLOCKS, row, 4096);
+    }
+    for row in STRICTLY {
+        stops(&rt, alloc, &set, STRICT_BLOCKS, row, 1);
+        stops(&rt, alloc, &set, STRICT_BLOCKS, row, 4096);
+    }
+}
+
+/// A stream in one block, whose size has one byte.
+fn in_block(alloc: Global, size: usize, stream: &[u8]) -> Result<Vec<u8>, AllocError> {
+    let mut block = Vec::new(alloc);
+    match u8::try_from(size) {
+        Ok(size) if size < 128 => {
+            block.push(128 | size)?;
+            block.extend_from_slice(stream)?;
+            Ok(block)
+        }
+        _ => Err(AllocError),
+    }
+}
+
+/// What each command makes of a stream in one block: what it makes of the plain one, but for the byte of the size.
+fn ends_in_block(
+    rt: &impl Abort,
+    alloc: Global,
+    set: &TemplateSet,
+    mode: Mode,
+    row: &Row,
+    stream: &[u8],
+    step: usize,
+) -> Result<(), AllocError>
+    requires { 1 ≤ step }
+{
+    if stream.is_empty() {
+        return Ok(());
+    }
+    let block = in_block(alloc, stream.len(), stream)?;
+    let told = told(alloc, row.messages, block.len(), row.canonical.len())?;
+    let lines = row.lines.as_bytes();
+    let made = Made {
+        lines,
+        told: told.as_bytes(),
+        canonical: row.canonical,
+        shown: counted(row.messages, block.len(), lines.len()),
+        counted: counted(row.messages, block.len(), row.canonical.len()),
+    };
+    makes(rt, alloc, set, mode, &block, step, 0, made);
+    Ok(())
+}
+
+#[test]
+fn worked_streams_in_blocks(rt: HostRuntime) -> Result<(), Fail> {
+    let alloc = rt.alloc();
+    let set = worked_set(&rt, alloc);
+    for row in &ROWS {
+        ends_in_block(&rt, alloc, &set, BLOCKS, row, row.stream, 1)?;
+        ends_in_block(&rt, alloc, &set, BLOCKS, row, row.stream, 4096)?;
+        ends_in_block(&rt, alloc, &set, STRICT_BLOCKS, row, row.canonical, 2)?;
+    }
+    Ok(())
+}
+
+/// The same of a stream that is refused. Its block has room for one byte more, so that it does not end too early.
+fn stops_in_block(
+    rt: &impl Abort,
+    alloc: Global,
+    set: &TemplateSet,
+    row: &Refusal,
+    step: usize,
+) -> Result<(), AllocError>
+    requires { 1 ≤ step }
+{
+    let block = in_block(alloc, row.stream.len().saturating_add(1), row.stream)?;
+    let At(offset, template, instruction) = row.at;
+    let at = At(offset.saturating_add(1), template, instruction);
+    let answer = refused(row.cause, row.messages.saturating_add(1), at);
+    let made = made_before(row.lines.as_bytes(), row.canonical, answer);
+    makes(rt, alloc, set, BLOCKS, &block, step, 0, made);
+    Ok(())
+}
+
+#[test]
+fn worked_refusals_in_blocks(rt: HostRuntime) -> Result<(), Fail> {
+    let alloc = rt.alloc();
+    let set = worked_set(&rt, alloc);
+    for row in &REFUSALS {
+        stops_in_block(&rt, alloc, &set, row, 1)?;
+        stops_in_block(&rt, alloc, &set, row, 4096)?;
+    }
+    Ok(())
+}
+
+// As many elements as there may be, each empty, in a block.
+#[test]
+fn a_long_message_in_a_block(rt: HostRuntime) {
+    let alloc = rt.alloc();
+    let set = worked_set(&rt, alloc);
+    let reader = ScriptInput::new(b"\x85\xc0\x86\x03\x7f\xff", 2, 0);
+    let told = b"ok messages=1 bytes=6 canonical=5\n";
+    gives(
+        &rt,
+        alloc,
+        &set,
+        BLOCKS,
+        Command::Check,
+        reader,
+        told,
+        counted(1, 6, 5),
+    );
+}
+
+// A block whose size has three bytes, and one for each message.
+#[test]
+fn long_streams_in_blocks(rt: HostRuntime) -> Result<(), Fail> {
+    let alloc = rt.alloc();
+    let set = worked_set(&rt, alloc);
+    let mut plain = Vec::from_slice(alloc, QUOTE)?;
+    let mut block = Vec::from_slice(alloc, b"\x01\x6a\xb8")?;
+    let mut blocks = Vec::from_slice(alloc, b"\x88")?;
+    block.extend_from_slice(QUOTE)?;
+    blocks.extend_from_slice(QUOTE)?;
+    for _ in 0..10_000 {
+        plain.extend_from_slice(b"\x80\x80\x81")?;
+        block.extend_from_slice(b"\x80\x80\x81")?;
+        blocks.extend_from_slice(b"\x83\x80\x80\x81")?;
+    }
+    let reader = ScriptInput::new(&block, 4096, 0);
+    let answer = counted(10_001, 30_011, 30_008);
+    gives(
+        &rt,
+        alloc,
+        &set,
+        STRICT_BLOCKS,
+        Command::Canon,
+        reader,
+        &plain,
+        answer,
+    );
+    let reader = ScriptInput::new(&blocks, 1000, 0);
+    let answer = counted(10_001, 40_009, 30_008);
+    gives(
+        &rt,
+        alloc,
+        &set,
+        STRICT_BLOCKS,
+        Command::Canon,
+        reader,
+        &plain,
+        answer,
+    );
+    Ok(())
+}

@@ -1,0 +1,729 @@
+//! Worked streams through each command: what is written and answered, whatever a read gives.
+
+ghost use Rattle.std.specs.Prelude.{◌≤◌, ◌^◌};
+
+use crate::modes::PLAIN;
+use crate::same::same;
+use crate::worked::{QUOTE, TWO, TWO_SHORT, worked_set};
+use fast_canon::{CanonFault, Summary};
+use fast_command::{Command, run};
+use fast_decoder::Mode;
+use fast_io::{Counted, ScriptInput, ScriptOutput};
+use fast_stream::{Cause, Fault, Place};
+use fast_template::TemplateSet;
+use std::alloc::Global;
+use std::process::Abort;
+use std::test::Fail;
+
+/// A stream, how many messages it has, and what each command writes of it.
+#[derive(Clone, Copy)]
+pub(crate) struct Row {
+    pub(crate) stream: &'static [u8],
+    pub(crate) messages: u64,
+    pub(crate) lines: &'static str,
+    pub(crate) told: &'static str,
+    pub(crate) canonical: &'static [u8],
+}
+
+/// A stream that is refused, and what is written of the messages before.
+#[derive(Clone, Copy)]
+pub(crate) struct Refusal {
+    pub(crate) stream: &'static [u8],
+    pub(crate) messages: u64,
+    pub(crate) lines: &'static str,
+    pub(crate) canonical: &'static [u8],
+    pub(crate) cause: Cause,
+    pub(crate) at: At,
+}
+
+/// The offset, the template and the instruction of a place.
+#[derive(Clone, Copy)]
+pub(crate) struct At(pub(crate) u64, pub(crate) u32, pub(crate) u32);
+
+pub(crate) const QUOTE_LINE: &str = "1 Quote Seq=1 Sym=\"AB\" Px=100e-2 Qty=-\n";
+
+pub(crate) const TWO_LINES: &str = "1 Quote Seq=1 Sym=\"AB\" Px=100e-2 Qty=-\n\
+    1 Quote Seq=2 Sym=\"AB\" Px=101e-2 Qty=-\n";
+
+const DELTAS: &[u8] = b"\xc0\x8a\x80\x47\x45\x48\xb6\x80\x82\x4d\xb6\x80\xfd\x45\xd3";
+
+const DELTA_LINES: &str = "10 Delta S=\"GEH6\"\n10 Delta S=\"GEM6\"\n10 Delta S=\"ESM6\"\n";
+
+pub(crate) const ROWS: [Row; 19] = [
+    Row {
+        stream: QUOTE,
+        messages: 1,
+        lines: QUOTE_LINE,
+        told: "ok messages=1 bytes=8 canonical=8\n",
+        canonical: QUOTE,
+    },
+    Row {
+        stream: TWO,
+        messages: 2,
+        lines: TWO_LINES,
+        told: "ok messages=2 bytes=16 canonical=11\n",
+        canonical: TWO_SHORT,
+    },
+    Row {
+        stream: TWO_SHORT,
+        messages: 2,
+        lines: TWO_LINES,
+        told: "ok messages=2 bytes=11 canonical=11\n",
+        canonical: TWO_SHORT,
+    },
+    Row {
+        stream: b"",
+        messages: 0,
+        lines: "",
+        told: "ok messages=0 bytes=0 canonical=0\n",
+        canonical: b"",
+    },
+    // an integer that is longer than it must be
+    Row {
+        stream: b"\xf0\x81\x00\x00\x81\x41\xc2\xfe\x00\xe4",
+        messages: 1,
+        lines: QUOTE_LINE,
+        told: "ok messages=1 bytes=10 canonical=8\n",
+        canonical: QUOTE,
+    },
+    Row {
+        stream: DELTAS,
+        messages: 3,
+        lines: DELTA_LINES,
+        told: "ok messages=3 bytes=15 canonical=15\n",
+        canonical: DELTAS,
+    },
+    // a delta that takes nothing away, by its longer spelling
+    Row {
+        stream: b"\xc0\x8a\x80\x47\x45\x48\xb6\x80\x82\x4d\xb6\x80\xfd\x45\xd3\x80\xff\x80",
+        messages: 4,
+        lines: "10 Delta S=\"GEH6\"\n10 Delta S=\"GEM6\"\n\
+            10 Delta S=\"ESM6\"\n10 Delta S=\"ESM6\"\n",
+        told: "ok messages=4 bytes=18 canonical=18\n",
+        canonical: b"\xc0\x8a\x80\x47\x45\x48\xb6\x80\x82\x4d\xb6\x80\xfd\x45\xd3\x80\x80\x80",
+    },
+    Row {
+        stream: b"\xe0\x88\x78\x61\xe2\xa0\x00\x00\x00\xe2",
+        messages: 2,
+        lines: "8 Tail S=\"xab\"\n8 Tail S=\"x\\x00b\"\n",
+        told: "ok messages=2 bytes=10 canonical=9\n",
+        canonical: b"\xe0\x88\x78\x61\xe2\xa0\x78\x00\xe2",
+    },
+    Row {
+        stream: b"\xe0\x89\x80\xa0\x00\x80",
+        messages: 2,
+        lines: "9 Init S=-\n9 Init S=\"ab\"\n",
+        told: "ok messages=2 bytes=6 canonical=5\n",
+        canonical: b"\xe0\x89\x80\xa0\xe2",
+    },
+    Row {
+        stream: b"\xf0\x83\x80\x85\x90\x39\x45\xa3",
+        messages: 2,
+        lines: "3 Opt Px=- Flag=5\n3 Opt Px=942755e2 Flag=5\n",
+        told: "ok messages=2 bytes=8 canonical=8\n",
+        canonical: b"\xf0\x83\x80\x85\x90\x39\x45\xa3",
+    },
+    Row {
+        stream: b"\xf0\x83\x80\x85\xb0\x83\x39\x45\xa3",
+        messages: 2,
+        lines: "3 Opt Px=- Flag=5\n3 Opt Px=942755e2 Flag=5\n",
+        told: "ok messages=2 bytes=9 canonical=8\n",
+        canonical: b"\xf0\x83\x80\x85\x90\x39\x45\xa3",
+    },
+    Row {
+        stream: b"\xc0\x84\x80\x80\x81\x80\x83\x85\x86",
+        messages: 3,
+        lines: "4 Legs L=-\n4 Legs L=[]\n4 Legs L=[{P=5} {P=6}]\n",
+        told: "ok messages=3 bytes=9 canonical=9\n",
+        canonical: b"\xc0\x84\x80\x80\x81\x80\x83\x85\x86",
+    },
+    Row {
+        stream: b"\xc0\x85\x82\xc0\x85\x80",
+        messages: 1,
+        lines: "5 Marks L=[{Q=5} {Q=5}]\n",
+        told: "ok messages=1 bytes=6 canonical=6\n",
+        canonical: b"\xc0\x85\x82\xc0\x85\x80",
+    },
+    Row {
+        stream: b"\xf0\x87\x85\xc1\xb0\x86\xc1",
+        messages: 2,
+        lines: "7 Clash A=5 B=\"A\"\n7 Clash A=6 B=\"A\"\n",
+        told: "ok messages=2 bytes=7 canonical=7\n",
+        canonical: b"\xf0\x87\x85\xc1\xb0\x86\xc1",
+    },
+    // a map that is longer than it must be, and one with a bit that no field asked for
+    Row {
+        stream: b"\x70\x00\x80\x81\x81\x41\xc2\xfe\x00\xe4",
+        messages: 1,
+        lines: QUOTE_LINE,
+        told: "ok messages=1 bytes=10 canonical=8\n",
+        canonical: QUOTE,
+    },
+    Row {
+        stream: b"\xf1\x81\x81\x41\xc2\xfe\x00\xe4",
+        messages: 1,
+        lines: QUOTE_LINE,
+        told: "ok messages=1 bytes=8 canonical=8\n",
+        canonical: QUOTE,
+    },
+    Row {
+        stream: b"\xe0\x90\x85\x86\xe0\x90\x87\x86",
+        messages: 2,
+        lines: "16 First A=5 B=6\n16 First A=7 B=6\n",
+        told: "ok messages=2 bytes=8 canonical=6\n",
+        canonical: b"\xe0\x90\x85\x86\x80\x87",
+    },
+    Row {
+        stream: b"\xf0\x8b\xc0\x85\x86\x80\xa0\x80",
+        messages: 3,
+        lines: "11 Grp Hd={A=5} B=6\n11 Grp Hd=- B=6\n11 Grp Hd={A=5} B=6\n",
+        told: "ok messages=3 bytes=8 canonical=8\n",
+        canonical: b"\xf0\x8b\xc0\x85\x86\x80\xa0\x80",
+    },
+    Row {
+        stream: b"\xe0\x8f\x00\xe4\x83\x0a\xff\x80\x81",
+        messages: 2,
+        lines: "15 Fixed Px=100e-2 Raw=x0aff\n15 Fixed Px=101e-2 Raw=x0aff\n",
+        told: "ok messages=2 bytes=9 canonical=9\n",
+        canonical: b"\xe0\x8f\x00\xe4\x83\x0a\xff\x80\x81",
+    },
+];
+
+pub(crate) const REFUSALS: [Refusal; 12] = [
+    Refusal {
+        stream: b"\x80",
+        messages: 0,
+        lines: "",
+        canonical: b"",
+        cause: Cause::D5,
+        at: At(1, 0, 0),
+    },
+    Refusal {
+        stream: b"\xc0\xe4",
+        messages: 0,
+        lines: "",
+        canonical: b"",
+        cause: Cause::D9,
+        at: At(1, 0, 0),
+    },
+    Refusal {
+        stream: b"\xc0\x8a\x80\x47\x45\x48\xb6\x80\x82\x4d\xb6\x80\xfd\x45\xd3\x80\x85\x80",
+        messages: 3,
+        lines: DELTA_LINES,
+        canonical: DELTAS,
+        cause: Cause::D7,
+        at: At(16, 10, 1),
+    },
+    Refusal {
+        stream: b"\xe0\x82\x0f\x7f\x7f\x7f\xff\x0f\x7f\x7f\x7f\xff\x80\x80\x80\x81",
+        messages: 2,
+        lines: "2 Wrap A=4294967295 B=4294967295\n2 Wrap A=0 B=4294967295\n",
+        canonical: b"\xe0\x82\x0f\x7f\x7f\x7f\xff\x0f\x7f\x7f\x7f\xff\x80\x80",
+        cause: Cause::D2,
+        at: At(15, 2, 2),
+    },
+    Refusal {
+        stream: b"\xc0\x84\x04\x00\x81",
+        messages: 0,
+        lines: "",
+        canonical: b"",
+        cause: Cause::Limit,
+        at: At(2, 4, 1),
+    },
+    Refusal {
+        stream: b"\xf0\x87\x85\xc1\x80",
+        messages: 1,
+        lines: "7 Clash A=5 B=\"A\"\n",
+        canonical: b"\xf0\x87\x85\xc1",
+        cause: Cause::D4,
+        at: At(5, 7, 1),
+    },
+    Refusal {
+        stream: b"\xe0\x8c\x82\xc3\xa9\xa0\x81\xa8\xa0\x81\x41",
+        messages: 2,
+        lines: "12 Uni S=\"\\xc3\\xa9\"\n12 Uni S=\"\\xc3\\xa8\"\n",
+        canonical: b"\xe0\x8c\x82\xc3\xa9\xa0\x81\xa8",
+        cause: Cause::R2,
+        at: At(9, 12, 1),
+    },
+    Refusal {
+        stream: b"\xc0\x8d\x85",
+        messages: 0,
+        lines: "",
+        canonical: b"",
+        cause: Cause::D6,
+        at: At(2, 13, 2),
+    },
+    Refusal {
+        stream: b"\xe0\x8e\x80\x90\x83\x90\x10\x00\x00\x00\x80",
+        messages: 3,
+        lines: "14 Const K=7 O=9 D=3\n14 Const K=7 O=- D=3\n14 Const K=7 O=- D=3\n",
+        canonical: b"\xe0\x8e\x80\x80",
+        cause: Cause::D2,
+        at: At(6, 14, 3),
+    },
+    Refusal {
+        stream: b"\xf0\x81\x81\x41\xc2\x00\xc0",
+        messages: 0,
+        lines: "",
+        canonical: b"",
+        cause: Cause::R1,
+        at: At(5, 1, 3),
+    },
+    Refusal {
+        stream: b"\xf0\x81\0\0\0\0\0\0\0\0\0\0",
+        messages: 0,
+        lines: "",
+        canonical: b"",
+        cause: Cause::Limit,
+        at: At(2, 1, 1),
+    },
+    Refusal {
+        stream: b"\xf0\x81\0\0\0\0\0\0\0\0\0",
+        messages: 0,
+        lines: "",
+        canonical: b"",
+        cause: Cause::Truncated,
+        at: At(2, 1, 1),
+    },
+];
+
+/// The place in the first quote where the byte at each index is missing.
+const PLACES: [At; 8] = [
+    At(0, 0, 0),
+    At(1, 0, 0),
+    At(2, 1, 1),
+    At(3, 1, 2),
+    At(3, 1, 2),
+    At(5, 1, 3),
+    At(5, 1, 3),
+    At(5, 1, 3),
+];
+
+pub(crate) fn counted(messages: u64, read: usize, written: usize) -> Result<Summary, CanonFault> {
+    Ok(Summary {
+        messages,
+        read: read as u64,
+        written: written as u64,
+    })
+}
+
+pub(crate) fn refused(cause: Cause, message: u64, at: At) -> Result<Summary, CanonFault> {
+    let place = Place {
+        message,
+        offset: at.0,
+        template: at.1,
+        instruction: at.2,
+    };
+    Err(CanonFault::Stream(Fault { cause, place }))
+}
+
+/// Runs a command over a reader and a writer, with at most so many reads.
+fn play(
+    alloc: Global,
+    set: &TemplateSet,
+    mode: Mode,
+    command: Command,
+    reader: ScriptInput<'_>,
+    out: &mut ScriptOutput,
+    turns: u64,
+) -> Result<Summary, CanonFault>
+    requires { turns ≤ 2 ^ 40 }
+{
+    let mut reader = Counted::new(reader);
+    let mut writer = Counted::new(out);
+    run(alloc, command, set, mode, &mut reader, &mut writer, turns)
+}
+
+/// A command writes this of a stream, and answers this.
+pub(crate) fn gives(
+    rt: &impl Abort,
+    alloc: Global,
+    set: &TemplateSet,
+    mode: Mode,
+    command: Command,
+    reader: ScriptInput<'_>,
+    written: &[u8],
+    answer: Result<Summary, CanonFault>,
+) {
+    let mut out = ScriptOutput::new(alloc, 1_000_000, false, false);
+    let got = play(alloc, set, mode, command, reader, &mut out, 100_000);
+    same(rt, got, answer);
+    same(rt, out.bytes(), written);
+}
+
+/// What the commands write of a stream and answer: its lines, what is told, and its canonical bytes.
+#[derive(Clone, Copy)]
+pub(crate) struct Made<'a> {
+    pub(crate) lines: &'a [u8],
+    pub(crate) told: &'a [u8],
+    pub(crate) canonical: &'a [u8],
+    pub(crate) shown: Result<Summary, CanonFault>,
+    // by `check`, and by `canon`
+    pub(crate) counted: Result<Summary, CanonFault>,
+}
+
+/// What each command makes of a stream in steps of one size, whose reader fails at the call with this number.
+pub(crate) fn makes(
+    rt: &impl Abort,
+    alloc: Global,
+    set: &TemplateSet,
+    mode: Mode,
+    stream: &[u8],
+    step: usize,
+    failing: u64,
+    made: Made<'_>,
+)
+    requires { 1 ≤ step }
+{
+    let show = ScriptInput::new(stream, step, failing);
+    gives(
+        rt,
+        alloc,
+        set,
+        mode,
+        Command::Show,
+        show,
+        made.lines,
+        made.shown,
+    );
+    let check = ScriptInput::new(stream, step, failing);
+    gives(
+        rt,
+        alloc,
+        set,
+        mode,
+        Command::Check,
+        check,
+        made.told,
+        made.counted,
+    );
+    let canon = ScriptInput::new(stream, step, failing);
+    gives(
+        rt,
+        alloc,
+        set,
+        mode,
+        Command::Canon,
+        canon,
+        made.canonical,
+        made.counted,
+    );
+}
+
+// What is made of a stream that ends.
+fn made_of(row: &Row) -> Made<'_> {
+    let lines = row.lines.as_bytes();
+    Made {
+        lines,
+        told: row.told.as_bytes(),
+        canonical: row.canonical,
+        shown: counted(row.messages, row.stream.len(), lines.len()),
+        counted: counted(row.messages, row.stream.len(), row.canonical.len()),
+    }
+}
+
+/// What each command makes of a stream that ends, in steps of one size.
+pub(crate) fn ends(
+    rt: &impl Abort,
+    alloc: Global,
+    set: &TemplateSet,
+    mode: Mode,
+    row: &Row,
+    step: usize,
+)
+    requires { 1 ≤ step }
+{
+    makes(rt, alloc, set, mode, row.stream, step, 0, made_of(row));
+}
+
+#[test]
+fn worked_streams_end(rt: HostRuntime) {
+    let alloc = rt.alloc();
+    let set = worked_set(&rt, alloc);
+    for row in &ROWS {
+        ends(&rt, alloc, &set, PLAIN, row, 1);
+        ends(&rt, alloc, &set, PLAIN, row, 2);
+        ends(&rt, alloc, &set, PLAIN, row, 4096);
+    }
+}
+
+/// What is made of a stream that is refused.
+pub(crate) fn made_before<'a>(
+    lines: &'a [u8],
+    canonical: &'a [u8],
+    answer: Result<Summary, CanonFault>,
+) -> Made<'a> {
+    Made {
+        lines,
+        told: b"",
+        canonical,
+        shown: answer,
+        counted: answer,
+    }
+}
+
+/// What each command makes of a stream that is refused, in steps of one size.
+pub(crate) fn stops(
+    rt: &impl Abort,
+    alloc: Global,
+    set: &TemplateSet,
+    mode: Mode,
+    row: &Refusal,
+    step: usize,
+)
+    requires { 1 ≤ step }
+{
+    let answer = refused(row.cause, row.messages.saturating_add(1), row.at);
+    let made = made_before(row.lines.as_bytes(), row.canonical, answer);
+    makes(rt, alloc, set, mode, row.stream, step, 0, made);
+}
+
+#[test]
+fn worked_streams_are_refused(rt: HostRuntime) {
+    let alloc = rt.alloc();
+    let set = worked_set(&rt, alloc);
+    for row in &REFUSALS {
+        stops(&rt, alloc, &set, PLAIN, row, 1);
+        stops(&rt, alloc, &set, PLAIN, row, 2);
+        stops(&rt, alloc, &set, PLAIN, row, 4096);
+    }
+}
+
+/// What each command makes of a reader that fails at the call with this number, each call giving one byte.
+fn fails_at(
+    rt: &impl Abort,
+    alloc: Global,
+    set: &TemplateSet,
+    call: u64,
+    messages: u64,
+    at: At,
+    written: [&[u8]; 2],
+) {
+    let answer = refused(Cause::Read, messages.saturating_add(1), at);
+    let made = made_before(written[0], written[1], answer);
+    makes(rt, alloc, set, PLAIN, QUOTE, 1, call, made);
+}
+
+#[test]
+fn a_read_fails(rt: HostRuntime) {
+    let alloc = rt.alloc();
+    let set = worked_set(&rt, alloc);
+    let mut call = 0u64;
+    for at in &PLACES {
+        call = call.saturating_add(1);
+        fails_at(&rt, alloc, &set, call, 0, *at, [b"", b""]);
+    }
+    let whole = [QUOTE_LINE.as_bytes(), QUOTE];
+    fails_at(&rt, alloc, &set, 9, 1, At(8, 0, 0), whole);
+}
+
+/// A stream that is cut behind so many bytes of the first quote, whole and byte by byte.
+fn cut_behind(rt: &impl Abort, alloc: Global, set: &TemplateSet, count: usize, at: At) {
+    let stream = &QUOTE[..count.min(8)];
+    let made = made_before(b"", b"", refused(Cause::Truncated, 1, at));
+    makes(rt, alloc, set, PLAIN, stream, 1, 0, made);
+    makes(rt, alloc, set, PLAIN, stream, 4096, 0, made);
+}
+
+#[test]
+fn a_stream_is_cut(rt: HostRuntime) {
+    let alloc = rt.alloc();
+    let set = worked_set(&rt, alloc);
+    for (count, at) in PLACES.iter().enumerate() {
+        if count > 0 {
+            cut_behind(&rt, alloc, &set, count, *at);
+        }
+    }
+}
+
+/// A command over a reader, whose writer fails behind these bytes.
+fn write_fails(
+    rt: &impl Abort,
+    alloc: Global,
+    set: &TemplateSet,
+    command: Command,
+    reader: ScriptInput<'_>,
+    mut out: ScriptOutput,
+    written: &[u8],
+) {
+    let got = play(alloc, set, PLAIN, command, reader, &mut out, 100);
+    same(rt, got, Err(CanonFault::Write));
+    same(rt, out.bytes(), written);
+}
+
+/// A writer that takes so many bytes in all.
+fn breaks_at(
+    rt: &impl Abort,
+    alloc: Global,
+    set: &TemplateSet,
+    command: Command,
+    whole: &[u8],
+    room: usize,
+) {
+    let reader = ScriptInput::new(TWO, 4096, 0);
+    let out = ScriptOutput::new(alloc, room as u64, false, false);
+    let written = &whole[..room.min(whole.len())];
+    write_fails(rt, alloc, set, command, reader, out, written);
+}
+
+/// A writer that fails behind each number of bytes, one that takes none, and one that fails at the flush.
+fn breaks(rt: &impl Abort, alloc: Global, set: &TemplateSet, command: Command, whole: &[u8]) {
+    for room in 0..whole.len() {
+        breaks_at(rt, alloc, set, command, whole, room);
+    }
+    let reader = ScriptInput::new(TWO, 4096, 0);
+    let none = ScriptOutput::new(alloc, 0, true, false);
+    write_fails(rt, alloc, set, command, reader, none, b"");
+    let reader = ScriptInput::new(TWO, 3, 0);
+    let unflushed = ScriptOutput::new(alloc, 1_000, false, true);
+    write_fails(rt, alloc, set, command, reader, unflushed, whole);
+}
+
+#[test]
+fn a_write_fails(rt: HostRuntime) {
+    let alloc = rt.alloc();
+    let set = worked_set(&rt, alloc);
+    breaks(&rt, alloc, &set, Command::Show, TWO_LINES.as_bytes());
+    let told = b"ok messages=2 bytes=16 canonical=11\n";
+    breaks(&rt, alloc, &set, Command::Check, told);
+    breaks(&rt, alloc, &set, Command::Canon, TWO_SHORT);
+}
+
+/// A command that has nothing to write, and a flush that fails.
+struct Unflushed(Command, &'static [u8]);
+
+#[test]
+fn a_flush_fails(rt: HostRuntime) {
+    const ROWS: &[Unflushed] = &[
+        Unflushed(Command::Show, b""),
+        Unflushed(Command::Canon, b""),
+        // a refused stream
+        Unflushed(Command::Show, b"\x80"),
+        Unflushed(Command::Check, b"\x80"),
+        Unflushed(Command::Canon, b"\x80"),
+    ];
+    let alloc = rt.alloc();
+    let set = worked_set(&rt, alloc);
+    for Unflushed(command, stream) in ROWS {
+        let reader = ScriptInput::new(stream, 1, 0);
+        let out = ScriptOutput::new(alloc, 9, false, true);
+        write_fails(&rt, alloc, &set, *command, reader, out, b"");
+    }
+}
+
+/// A command of the first quote, one byte a read, and at most so many reads.
+fn turned(
+    rt: &impl Abort,
+    alloc: Global,
+    set: &TemplateSet,
+    command: Command,
+    turns: u64,
+    answer: Result<Summary, CanonFault>,
+)
+    requires { turns ≤ 2 ^ 40 }
+{
+    let mut out = ScriptOutput::new(alloc, 1_000, false, false);
+    let got = play(
+        alloc,
+        set,
+        PLAIN,
+        command,
+        ScriptInput::new(QUOTE, 1, 0),
+        &mut out,
+        turns,
+    );
+    same(rt, got, answer);
+}
+
+#[test]
+fn reads_are_used_up(rt: HostRuntime) {
+    let alloc = rt.alloc();
+    let set = worked_set(&rt, alloc);
+    let two = refused(Cause::Turns, 1, At(2, 1, 1));
+    turned(&rt, alloc, &set, Command::Show, 2, two);
+    turned(&rt, alloc, &set, Command::Check, 2, two);
+    turned(&rt, alloc, &set, Command::Canon, 2, two);
+    let shown = counted(1, 8, QUOTE_LINE.len());
+    turned(&rt, alloc, &set, Command::Show, 9, shown);
+    turned(&rt, alloc, &set, Command::Check, 9, counted(1, 8, 8));
+    turned(&rt, alloc, &set, Command::Canon, 9, counted(1, 8, 8));
+}
+
+#[test]
+fn a_long_stream(rt: HostRuntime) -> Result<(), Fail> {
+    let alloc = rt.alloc();
+    let set = worked_set(&rt, alloc);
+    let mut stream = Vec::from_slice(alloc, QUOTE)?;
+    for _ in 0..10_000 {
+        stream.extend_from_slice(b"\x80\x80\x81")?;
+    }
+    let mut out = ScriptOutput::new(alloc, 1_000_000, false, false);
+    let reader = ScriptInput::new(&stream, 4096, 0);
+    let got = play(alloc, &set, PLAIN, Command::Show, reader, &mut out, 100);
+    same(&rt, got, counted(10_001, 30_008, 428_139));
+    let last = b"\n1 Quote Seq=10001 Sym=\"AB\" Px=10100e-2 Qty=-\n";
+    assert!(rt; out.bytes().ends_with(last));
+    let told = b"ok messages=10001 bytes=30008 canonical=30008\n";
+    let reader = ScriptInput::new(&stream, 4096, 0);
+    let answer = counted(10_001, 30_008, 30_008);
+    gives(
+        &rt,
+        alloc,
+        &set,
+        PLAIN,
+        Command::Check,
+        reader,
+        told,
+        answer,
+    );
+    let reader = ScriptInput::new(&stream, 4096, 0);
+    gives(
+        &rt,
+        alloc,
+        &set,
+        PLAIN,
+        Command::Canon,
+        reader,
+        &stream,
+        answer,
+    );
+    Ok(())
+}
+
+// As many elements as there may be, each empty: the line has three bytes for each but the first.
+#[test]
+fn a_long_line(rt: HostRuntime) {
+    let alloc = rt.alloc();
+    let set = worked_set(&rt, alloc);
+    let stream = b"\xc0\x86\x03\x7f\xff";
+    let mut out = ScriptOutput::new(alloc, 1_000_000, false, false);
+    let reader = ScriptInput::new(stream, 4096, 0);
+    let got = play(alloc, &set, PLAIN, Command::Show, reader, &mut out, 100);
+    same(&rt, got, counted(1, 5, 196_616));
+    assert!(rt; out.bytes().starts_with(b"6 Bare L=[{} {} {} "));
+    assert!(rt; out.bytes().ends_with(b" {} {}]\n"));
+    let told = b"ok messages=1 bytes=5 canonical=5\n";
+    let reader = ScriptInput::new(stream, 1, 0);
+    gives(
+        &rt,
+        alloc,
+        &set,
+        PLAIN,
+        Command::Check,
+        reader,
+        told,
+        counted(1, 5, 5),
+    );
+    let reader = ScriptInput::new(stream, 2, 0);
+    gives(
+        &rt,
+        alloc,
+        &set,
+        PLAIN,
+        Command::Canon,
+        reader,
+        stream,
+        counted(1, 5, 5),
+    );
+}

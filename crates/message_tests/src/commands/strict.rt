@@ -1,0 +1,373 @@
+//! Worked streams at the strict level through each command.
+
+ghost use Rattle.std.specs.Prelude.{◌≤◌};
+
+use crate::commands::streams::{
+    At, Made, QUOTE_LINE, REFUSALS, ROWS, Refusal, Row, counted, ends, makes, stops,
+};
+use crate::modes::{PLAIN, STRICT};
+use crate::worked::{QUOTE, worked_set};
+use fast_build::Load;
+use fast_stream::Cause;
+use fast_template::TemplateSet;
+use std::alloc::{AllocError, Global};
+use std::process::Abort;
+use std::test::Fail;
+use template_tests::texts::KINDS;
+
+/// A stream that is longer than it must be, what each command makes of it at the usual level, and why its first
+/// message is refused at the strict one.
+struct Overlong {
+    usual: Row,
+    cause: Cause,
+    at: At,
+}
+
+const OVERLONG: &[Overlong] = &[
+    // an integer
+    Overlong {
+        usual: Row {
+            stream: b"\xf0\x81\x00\x00\x81\x41\xc2\xfe\x00\xe4",
+            messages: 1,
+            lines: QUOTE_LINE,
+            told: "ok messages=1 bytes=10 canonical=8\n",
+            canonical: QUOTE,
+        },
+        cause: Cause::R6,
+        at: At(2, 1, 1),
+    },
+    // a map
+    Overlong {
+        usual: Row {
+            stream: b"\x70\x00\x80\x81\x81\x41\xc2\xfe\x00\xe4",
+            messages: 1,
+            lines: QUOTE_LINE,
+            told: "ok messages=1 bytes=10 canonical=8\n",
+            canonical: QUOTE,
+        },
+        cause: Cause::R7,
+        at: At(0, 0, 0),
+    },
+    // a bit that no field asked for
+    Overlong {
+        usual: Row {
+            stream: b"\xf1\x81\x81\x41\xc2\xfe\x00\xe4",
+            messages: 1,
+            lines: QUOTE_LINE,
+            told: "ok messages=1 bytes=8 canonical=8\n",
+            canonical: QUOTE,
+        },
+        cause: Cause::R8,
+        at: At(8, 1, 0),
+    },
+    // a string
+    Overlong {
+        usual: Row {
+            stream: b"\xf0\x81\x81\x00\xc1\xfe\x00\xe4",
+            messages: 1,
+            lines: "1 Quote Seq=1 Sym=\"A\" Px=100e-2 Qty=-\n",
+            told: "ok messages=1 bytes=8 canonical=7\n",
+            canonical: b"\xf0\x81\x81\xc1\xfe\x00\xe4",
+        },
+        cause: Cause::R9,
+        at: At(3, 1, 2),
+    },
+    // NULL
+    Overlong {
+        usual: Row {
+            stream: b"\xf8\x81\x81\x41\xc2\xfe\x00\xe4\x00\x80",
+            messages: 1,
+            lines: QUOTE_LINE,
+            told: "ok messages=1 bytes=10 canonical=8\n",
+            canonical: QUOTE,
+        },
+        cause: Cause::R6,
+        at: At(8, 1, 4),
+    },
+    // an exponent
+    Overlong {
+        usual: Row {
+            stream: b"\xf0\x81\x81\x41\xc2\x7f\xfe\x00\xe4",
+            messages: 1,
+            lines: QUOTE_LINE,
+            told: "ok messages=1 bytes=9 canonical=8\n",
+            canonical: QUOTE,
+        },
+        cause: Cause::R6,
+        at: At(5, 1, 3),
+    },
+    // a bit of a mantissa that is left out
+    Overlong {
+        usual: Row {
+            stream: b"\xf8\x83\x80\x85",
+            messages: 1,
+            lines: "3 Opt Px=- Flag=5\n",
+            told: "ok messages=1 bytes=4 canonical=4\n",
+            canonical: b"\xf0\x83\x80\x85",
+        },
+        cause: Cause::R8,
+        at: At(4, 3, 0),
+    },
+    // an identifier
+    Overlong {
+        usual: Row {
+            stream: b"\xf0\x00\x81\x81\x41\xc2\xfe\x00\xe4",
+            messages: 1,
+            lines: QUOTE_LINE,
+            told: "ok messages=1 bytes=9 canonical=8\n",
+            canonical: QUOTE,
+        },
+        cause: Cause::R6,
+        at: At(1, 0, 0),
+    },
+    // a length
+    Overlong {
+        usual: Row {
+            stream: b"\xc0\x84\x00\x83\x85\x86",
+            messages: 1,
+            lines: "4 Legs L=[{P=5} {P=6}]\n",
+            told: "ok messages=1 bytes=6 canonical=5\n",
+            canonical: b"\xc0\x84\x83\x85\x86",
+        },
+        cause: Cause::R6,
+        at: At(2, 4, 1),
+    },
+    // the map of a group, and a bit of it
+    Overlong {
+        usual: Row {
+            stream: b"\xf0\x8b\x40\x80\x85\x86",
+            messages: 1,
+            lines: "11 Grp Hd={A=5} B=6\n",
+            told: "ok messages=1 bytes=6 canonical=5\n",
+            canonical: b"\xf0\x8b\xc0\x85\x86",
+        },
+        cause: Cause::R7,
+        at: At(2, 11, 1),
+    },
+    Overlong {
+        usual: Row {
+            stream: b"\xf0\x8b\xe0\x85\x86",
+            messages: 1,
+            lines: "11 Grp Hd={A=5} B=6\n",
+            told: "ok messages=1 bytes=5 canonical=5\n",
+            canonical: b"\xf0\x8b\xc0\x85\x86",
+        },
+        cause: Cause::R8,
+        at: At(4, 11, 1),
+    },
+    // the map of an element, and a bit of it
+    Overlong {
+        usual: Row {
+            stream: b"\xc0\x85\x82\x40\x80\x85\x80",
+            messages: 1,
+            lines: "5 Marks L=[{Q=5} {Q=5}]\n",
+            told: "ok messages=1 bytes=7 canonical=6\n",
+            canonical: b"\xc0\x85\x82\xc0\x85\x80",
+        },
+        cause: Cause::R7,
+        at: At(3, 5, 1),
+    },
+    Overlong {
+        usual: Row {
+            stream: b"\xc0\x85\x82\xc0\x85\xa0",
+            messages: 1,
+            lines: "5 Marks L=[{Q=5} {Q=5}]\n",
+            told: "ok messages=1 bytes=6 canonical=6\n",
+            canonical: b"\xc0\x85\x82\xc0\x85\x80",
+        },
+        cause: Cause::R8,
+        at: At(6, 5, 1),
+    },
+];
+
+/// What is said of a stream by its messages, its bytes and those that are canonical.
+pub(crate) fn told(
+    alloc: Global,
+    messages: u64,
+    read: usize,
+    written: usize,
+) -> Result<String, AllocError> {
+    format!(in alloc; "ok messages={messages} bytes={read} canonical={written}\n")
+}
+
+/// What each command makes of canonical bytes, one byte a read: the lines of their messages, and the same bytes.
+fn stays(
+    rt: &impl Abort,
+    alloc: Global,
+    set: &TemplateSet,
+    messages: u64,
+    lines: &str,
+    canonical: &[u8],
+) -> Result<(), AllocError> {
+    let count = canonical.len();
+    let told = told(alloc, messages, count, count)?;
+    let made = Made {
+        lines: lines.as_bytes(),
+        told: told.as_bytes(),
+        canonical,
+        shown: counted(messages, count, lines.len()),
+        counted: counted(messages, count, count),
+    };
+    makes(rt, alloc, set, STRICT, canonical, 1, 0, made);
+    Ok(())
+}
+
+#[test]
+fn canonical_streams_are_taken(rt: HostRuntime) -> Result<(), Fail> {
+    let alloc = rt.alloc();
+    let set = worked_set(&rt, alloc);
+    for row in &ROWS {
+        stays(&rt, alloc, &set, row.messages, row.lines, row.canonical)?;
+    }
+    for row in &REFUSALS {
+        stays(&rt, alloc, &set, row.messages, row.lines, row.canonical)?;
+    }
+    for row in OVERLONG {
+        let Row {
+            messages,
+            lines,
+            canonical,
+            ..
+        } = row.usual;
+        stays(&rt, alloc, &set, messages, lines, canonical)?;
+    }
+    Ok(())
+}
+
+/// What is made of an overlong stream at both levels, in steps of one size.
+fn is_overlong(rt: &impl Abort, alloc: Global, set: &TemplateSet, row: &Overlong, step: usize)
+    requires { 1 ≤ step }
+{
+    ends(rt, alloc, set, PLAIN, &row.usual, step);
+    let refusal = Refusal {
+        stream: row.usual.stream,
+        messages: 0,
+        lines: "",
+        canonical: b"",
+        cause: row.cause,
+        at: row.at,
+    };
+    stops(rt, alloc, set, STRICT, &refusal, step);
+}
+
+#[test]
+fn overlong_streams(rt: HostRuntime) {
+    let alloc = rt.alloc();
+    let set = worked_set(&rt, alloc);
+    for row in OVERLONG {
+        is_overlong(&rt, alloc, &set, row, 1);
+        is_overlong(&rt, alloc, &set, row, 2);
+        is_overlong(&rt, alloc, &set, row, 4096);
+    }
+}
+
+#[test]
+fn streams_that_are_just_not_overlong(rt: HostRuntime) {
+    const TAKEN: &[Row] = &[
+        // bit 1 of an exponent is given by bit 0, its initial value
+        Row {
+            stream: b"\xf8\x83\x83\x39\x45\xa3\x85",
+            messages: 1,
+            lines: "3 Opt Px=942755e2 Flag=5\n",
+            told: "ok messages=1 bytes=7 canonical=6\n",
+            canonical: b"\xd8\x83\x39\x45\xa3\x85",
+        },
+        Row {
+            stream: b"\xf8\x83\x83\x00\x40\x81\x85",
+            messages: 1,
+            lines: "3 Opt Px=8193e2 Flag=5\n",
+            told: "ok messages=1 bytes=7 canonical=6\n",
+            canonical: b"\xd8\x83\x00\x40\x81\x85",
+        },
+        Row {
+            stream: b"\xe0\x88\x78\x61\xe2\xa0\x00\x00\x00\xe2",
+            messages: 2,
+            lines: "8 Tail S=\"xab\"\n8 Tail S=\"x\\x00b\"\n",
+            told: "ok messages=2 bytes=10 canonical=9\n",
+            canonical: b"\xe0\x88\x78\x61\xe2\xa0\x78\x00\xe2",
+        },
+    ];
+    const STOPPED: &[Refusal] = &[
+        Refusal {
+            stream: b"\xf0\x81\x81\x41\xc2\xfe\x00\xe4\x80\x80\x00\x81",
+            messages: 1,
+            lines: QUOTE_LINE,
+            canonical: QUOTE,
+            cause: Cause::R6,
+            at: At(9, 1, 3),
+        },
+        Refusal {
+            stream: b"\xf0\x81\x81\x41\xc2\xfe\x00\xe4\x81\x80\x81",
+            messages: 1,
+            lines: QUOTE_LINE,
+            canonical: QUOTE,
+            cause: Cause::R8,
+            at: At(11, 1, 0),
+        },
+    ];
+    let alloc = rt.alloc();
+    let set = worked_set(&rt, alloc);
+    for row in TAKEN {
+        ends(&rt, alloc, &set, STRICT, row, 1);
+        ends(&rt, alloc, &set, STRICT, row, 4096);
+    }
+    for row in STOPPED {
+        stops(&rt, alloc, &set, STRICT, row, 1);
+        stops(&rt, alloc, &set, STRICT, row, 4096);
+    }
+}
+
+// A stream whose first message is refused, why, and where.
+struct Refused(&'static [u8], Cause, At);
+
+#[test]
+fn overlong_entities_of_each_kind(rt: HostRuntime) -> Result<(), Fail> {
+    const STREAMS: &[Refused] = &[
+        // the length of a vector and of a Unicode string
+        Refused(b"\xc0\x81\x00\x82\xc3\xa9", Cause::R6, At(2, 1, 1)),
+        Refused(b"\xc0\x81\x00\x80", Cause::R6, At(2, 1, 1)),
+        Refused(b"\xc0\x82\x00\x83\xc3\xa9", Cause::R6, At(2, 2, 1)),
+        Refused(b"\xc0\x82\x00\x80", Cause::R6, At(2, 2, 1)),
+        Refused(b"\xc0\x83\x00\x81\x41", Cause::R6, At(2, 3, 1)),
+        // a number of units to be removed
+        Refused(b"\xc0\x84\x00\x80\x81\x41", Cause::R6, At(2, 4, 1)),
+        Refused(b"\xc0\x84\x7f\xff\x81\x41", Cause::R6, At(2, 4, 1)),
+        Refused(b"\xc0\x85\x00\x80", Cause::R6, At(2, 5, 1)),
+        // a new part
+        Refused(b"\xc0\x84\x80\x00\x81\x41", Cause::R6, At(2, 4, 1)),
+        Refused(b"\xc0\x85\x81\x00\xc1", Cause::R9, At(2, 5, 1)),
+        // a tail
+        Refused(b"\xe0\x86\x00\xc1", Cause::R9, At(2, 6, 1)),
+        Refused(b"\xe0\x87\x00\xc1", Cause::R9, At(2, 7, 1)),
+        Refused(b"\xe0\x87\x00\x00\xc1", Cause::R9, At(2, 7, 1)),
+        Refused(b"\xe0\x88\x00\x83\xc3\xa9", Cause::R6, At(2, 8, 1)),
+        Refused(b"\xe0\x88\x00\x80", Cause::R6, At(2, 8, 1)),
+        // a decimal in one piece
+        Refused(b"\xc0\x89\x00\x80", Cause::R6, At(2, 9, 1)),
+        Refused(b"\xc0\x89\x00\x83\x39\x45\xa3", Cause::R6, At(2, 9, 1)),
+        Refused(b"\xc0\x89\x83\x00\x39\x45\xa3", Cause::R6, At(2, 9, 1)),
+        // and in two
+        Refused(b"\xc0\x8a\x00\x82\x81", Cause::R6, At(2, 10, 1)),
+        Refused(b"\xc0\x8a\x82\x00\xbf", Cause::R6, At(3, 10, 1)),
+        Refused(b"\xc0\x8a\x82\x7f\xc0", Cause::R6, At(3, 10, 1)),
+        // a signed integer
+        Refused(b"\xc0\x8d\x00\xbf", Cause::R6, At(2, 13, 1)),
+        Refused(b"\xc0\x8d\x7f\xc0", Cause::R6, At(2, 13, 1)),
+        Refused(b"\xc0\x8d\x00\x80", Cause::R6, At(2, 13, 1)),
+    ];
+    let alloc = rt.alloc();
+    let set = TemplateSet::from_json(alloc, KINDS.as_bytes())?;
+    for Refused(stream, cause, at) in STREAMS {
+        let refusal = Refusal {
+            stream,
+            messages: 0,
+            lines: "",
+            canonical: b"",
+            cause: *cause,
+            at: *at,
+        };
+        stops(&rt, alloc, &set, STRICT, &refusal, 1);
+        stops(&rt, alloc, &set, STRICT, &refusal, 4096);
+    }
+    Ok(())
+}
