@@ -1,6 +1,6 @@
 -- What the program did, by what its files and its input gave and what its output took. How it answers is the project's
 -- own.
-use Rattle.std.specs.Prelude.{◌≡◌, ◌≢◌, ◌⊎◌, ℕ, ◌≤◌, ◌++◌, List, [], ◌∷◌, Bool, true, false, Option, None, Some, option_map, Result, Ok, Err, IsErr, IsErrAnd, IsUtf8}
+use Rattle.std.specs.Prelude.{◌≡◌, ◌≢◌, ◌⊎◌, ℕ, ◌≤◌, ◌++◌, List, [], ◌∷◌, Bool, true, false, Option, None, Some, Result, Ok, Err, IsErr, IsErrAnd, IsUtf8}
 use Rattle.std.specs.Io.KnownBytes.{Appends}
 use Rattle.hex.specs.Hex.{decode_of, encode_lower}
 use Rattle.serde_json.specs.Data.{Data}
@@ -21,11 +21,10 @@ use Rattle.fast_host.specs.Refusals.{IsOfLoad, IsOfRun, IsOfStream, IsTextOrMemo
 use Rattle.fast_host.specs.Devices.{Inputs, Writer, input_of}
 use Rattle.fast_command.specs.Run.{Runs}
 use Rattle.fast_stream.specs.declared.mode.Mode.{Mode}
-use Rattle.fast_request.specs.CommandLine.{AsksFor}
+use Rattle.fast_request.specs.CommandLine.{Asked, AsksFor}
 use Rattle.fast_command.specs.declared.command.Command.{Command}
 use Rattle.fast_command.specs.declared.command.Command.TheVariants.{Show, Check, Canon}
 use Rattle.fast_host.specs.declared.input.TextFault.{TextFault}
-use Rattle.fast_request.specs.declared.request.Request.{Request}
 use Rattle.fast_host.specs.declared.refusal.Refusal.{Refusal}
 use Rattle.fast_host.specs.declared.refusal.Refusal.TheVariants as refusal
 
@@ -166,17 +165,6 @@ PerformsHexText command mode set turns in_old in_new out_old out_new r =
 
 -- ---- what is asked for
 
--- what a command line asks for, with how the stream is read and the names of the files; without one the input is the standard input
-pub record Asked : Type 0 where
-  pub command : Command
-  pub templates : List ℕ
-  pub hex : Bool
-  pub mode : Mode
-  pub input : Option (List ℕ)
-
-abbrev pub asked_by : Request → Asked
-asked_by r = record { command = r.command; templates = r.templates.now; hex = r.hex; mode = r.mode; input = option_map (λ name. name.now) r.input }
-
 -- a command over an input in plain bytes, or in hex text
 abbrev pub PerformsOver : Bool → Command → Mode → TemplateList → ℕ → Reader → Reader → Writer → Writer → Answer → Type 0
 PerformsOver false command mode set turns in_old in_new out_old out_new r = RunsPlain command mode set turns in_old in_new out_old out_new r
@@ -199,7 +187,7 @@ PerformsAsked asked inputs turns out_old out_new r =
 abbrev pub Performs : List (List ℕ) → Inputs → ℕ → Writer → Writer → Answer → Type 0
 Performs words inputs turns out_old out_new r =
     (IsErrAnd r IsTextOrMemory × (out_new ≡ out_old))
-    ⊎ ((asked : Asked) × AsksFor words asked.command asked.templates asked.hex asked.mode asked.input × PerformsAsked asked inputs turns out_old out_new r)
+    ⊎ ((asked : Asked) × AsksFor words asked × PerformsAsked asked inputs turns out_old out_new r)
 
 -- ---- what is said
 
@@ -214,7 +202,16 @@ SaysText old new text =
     (Appends old.taken new.taken text × (new.errors ≡ old.errors) × (new.flushes ≡ counted old.flushes))
     ⊎ (new.errors ≡ counted old.errors)
 
--- what is said of what was done: nothing where it was done, and else the refusal's text, unless a call failed
-abbrev pub Says : Writer → Writer → Answer → Type 0
-Says old new (Ok done) = new ≡ old
-Says old new (Err r) = SaysText old new (text_of r)
+-- what is said of what was done: nothing where it was done, and else the refusal's text, and where it is explained more
+-- behind it, unless a call failed
+abbrev pub Says : Bool → Writer → Writer → Answer → Type 0
+Says explain old new (Ok done) = new ≡ old
+Says explain old new (Err r) = (more : List ℕ) × (explain ≡ false → more ≡ []) × SaysText old new (text_of r ++ more)
+
+-- the words ask for an explanation
+abbrev pub AsksToExplain : List (List ℕ) → Type 0
+AsksToExplain words = (asked : Asked) × AsksFor words asked × (asked.explain ≡ true)
+
+-- it is explained only where the words ask for it
+abbrev pub SaysAsked : List (List ℕ) → Writer → Writer → Answer → Type 0
+SaysAsked words old new r = (explain : Bool) × (explain ≡ true → AsksToExplain words) × Says explain old new r

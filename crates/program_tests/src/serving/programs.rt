@@ -13,13 +13,14 @@ use std::test::Fail;
 
 /// What is answered, written and said.
 #[derive(Clone, Copy)]
-struct Answer<'a> {
-    status: u8,
-    out: &'a [u8],
-    err: &'a str,
+pub struct Answer<'a> {
+    pub status: u8,
+    pub out: &'a [u8],
+    pub err: &'a str,
 }
 
 /// A command line, a standard input, and what is answered, written and said.
+#[derive(Clone, Copy)]
 pub struct Row {
     pub words: &'static [&'static str],
     pub input: &'static [u8],
@@ -45,14 +46,25 @@ const CHECK_HEX: &[&str] = &["fastcat", "check", "--hex", "--templates", TEMPLAT
 
 const CANON_HEX: &[&str] = &["fastcat", "canon", "--hex", "--templates", TEMPLATES];
 
+const EXPLAINED: &[&str] = &["fastcat", "canon", "--explain", "--templates", TEMPLATES];
+
+const EXPLAINED_HEX: &[&str] = &[
+    "fastcat",
+    "canon",
+    "--hex",
+    "--explain",
+    "--templates",
+    TEMPLATES,
+];
+
 const TWO: &[u8] = b"\xe0\x90\x85\x86\xe0\x90\x87\x86";
 
 const TWO_LINES: &[u8] = b"16 First A=5 B=6\n16 First A=7 B=6\n";
 
 const TWO_COUNTED: &[u8] = b"ok messages=2 bytes=8 canonical=6\n";
 
-// Bytes that are given whole.
-fn whole(rest: &[u8]) -> Feed<'_> {
+/// Bytes that are given whole.
+pub fn whole(rest: &[u8]) -> Feed<'_> {
     Feed {
         rest,
         width: 4096,
@@ -69,8 +81,8 @@ fn shelf(standard: Feed<'_>) -> Shelf<'_> {
     }
 }
 
-// Serves a line over a shelf: the status, what is written and what is said.
-fn served(
+/// Serves a line over a shelf: the status, what is written and what is said.
+pub fn served(
     rt: &impl Abort,
     alloc: Global,
     words: &[&str],
@@ -95,8 +107,8 @@ fn served(
     same_of(rt, words, status, want.status);
 }
 
-// Serves a row over these templates, from its input given at most `width` bytes a read.
-fn row_is_served(rt: &impl Abort, alloc: Global, templates: &str, row: &Row, width: usize) {
+/// Serves a row over these templates, from its input given at most `width` bytes a read.
+pub fn row_is_served(rt: &impl Abort, alloc: Global, templates: &str, row: &Row, width: usize) {
     let standard = Feed {
         rest: row.input,
         width,
@@ -728,7 +740,7 @@ fn long_text(
     served(
         rt,
         alloc,
-        CANON_HEX,
+        EXPLAINED_HEX,
         &mut shelf(whole(&text)),
         1 << 20,
         want,
@@ -744,7 +756,14 @@ fn long_templates(
     want: Answer<'_>,
 ) -> Result<(), AllocError> {
     let text = blanks(alloc, count)?;
-    served(rt, alloc, CANON, &mut shelf_of(whole(&text)), 1 << 20, want);
+    served(
+        rt,
+        alloc,
+        EXPLAINED,
+        &mut shelf_of(whole(&text)),
+        1 << 20,
+        want,
+    );
     Ok(())
 }
 
@@ -758,12 +777,14 @@ fn long_texts(rt: HostRuntime) -> Result<(), AllocError> {
     const INPUT: Answer = Answer {
         status: 2,
         out: b"",
-        err: "input too long\n",
+        err: "input too long\n\
+            explain: the standard input has more than 16777216 bytes; give the stream's own bytes, without --hex\n",
     };
     const TEMPLATE_TEXT: Answer = Answer {
         status: 2,
         out: b"",
-        err: "templates too long\n",
+        err: "templates too long\n\
+            explain: the templates' file \"templates.json\" has more than 16777216 bytes; leave out templates that the stream does not need\n",
     };
     let alloc = rt.alloc();
     long_text(&rt, alloc, 16_777_216, TAKEN)?;
