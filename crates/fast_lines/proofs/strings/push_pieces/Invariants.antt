@@ -1,7 +1,7 @@
 use Rattle.std.proofs.Common.{◌≡◌, ◌++◌, ◌≤◌, ◌-◌, length, take}
 use Rattle.std.specs.List.{flat_map}
 use Rattle.fast_lines.specs.Lines.{unit_text}
-use Rattle.fast_lines.proofs.lines.push_pieces.Given as goal
+use Rattle.fast_lines.proofs.strings.push_pieces.Given as goal
 
 abbrev pub invariant-loop-at : goal.invariant-loop-at
 invariant-loop-at l = (l.at ≤ length l.text) × (l.out.items ≡ l.fn.out.items ++ flat_map unit_text (take l.at l.text))

@@ -1,6 +1,6 @@
 use Rattle.std.proofs.Common.{◌-◌, length, refl, arith}
 use Rattle.fast_lines.proofs.Lanes.{both_plain}
-use Rattle.fast_lines.proofs.lines.all_stand.Goals as goal
+use Rattle.fast_lines.proofs.strings.all_stand.Goals as goal
 
 pub returns-then-half_stands : goal.returns-then-half_stands
 returns-then-half_stands c = λ yes. both_plain c.args.text.now 8 (length c.args.text.now - 8) (λ k to. c.if-half_stands.ensures refl k (omega arith) (omega (arith, to)))

@@ -1,5 +1,5 @@
 use Rattle.fast_lines.proofs.Written.{plain_text}
-use Rattle.fast_lines.proofs.lines.push_text.Goals as goal
+use Rattle.fast_lines.proofs.strings.push_text.Goals as goal
 
 pub returns-then-all_stand : goal.returns-then-all_stand
 returns-then-all_stand c =

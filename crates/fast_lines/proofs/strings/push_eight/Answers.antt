@@ -1,7 +1,7 @@
 use Rattle.std.proofs.Common.{refl, arith}
 use Rattle.fast_lines.proofs.Lanes.{all_plain}
 use Rattle.fast_lines.proofs.Written.{plain_text}
-use Rattle.fast_lines.proofs.lines.push_eight.Goals as goal
+use Rattle.fast_lines.proofs.strings.push_eight.Goals as goal
 
 pub returns-then-half_stands : goal.returns-then-half_stands
 returns-then-half_stands c =

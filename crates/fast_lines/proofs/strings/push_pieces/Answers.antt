@@ -3,7 +3,7 @@ use Rattle.std.proofs.lemmas.List.{append_assoc}
 use Rattle.std.specs.List.{flat_map}
 use Rattle.fast_lines.specs.Lines.{unit_text}
 use Rattle.fast_lines.proofs.Written.{flat_map_piece, flat_map_rest, writes_behind}
-use Rattle.fast_lines.proofs.lines.push_pieces.Goals as goal
+use Rattle.fast_lines.proofs.strings.push_pieces.Goals as goal
 
 pub loop-at-preserved : goal.loop-at-preserved
 loop-at-preserved c =

@@ -3,7 +3,7 @@ use Rattle.std.proofs.lemmas.List.{append_assoc}
 use Rattle.std.specs.List.{flat_map}
 use Rattle.fast_lines.specs.Lines.{unit_text}
 use Rattle.fast_lines.proofs.Written.{flat_map_one, extends_more, extends_by, writes_err}
-use Rattle.fast_lines.proofs.lines.push_units.Goals as goal
+use Rattle.fast_lines.proofs.strings.push_units.Goals as goal
 
 pub returns-in_err-push_unit : goal.returns-in_err-push_unit
 returns-in_err-push_unit c =
