@@ -1,5 +1,5 @@
 -- What is told of a message that is open, in the line that is written as its fields are read (our own).
-use Rattle.std.specs.Prelude.{◌≡◌, ℕ, ℤ, Bool, true, false, List, [], ◌∷◌, ◌++◌, codes, Option, Some, None, option_map, find}
+use Rattle.std.specs.Prelude.{◌≡◌, ℕ, ℤ, Bool, true, List, [], ◌∷◌, ◌++◌, codes, Option, Some, None, option_map, find}
 use Rattle.fast_value.specs.declared.scalar.Scalar.TheVariants.{Decimal}
 use Rattle.fast_template.specs.Resolved.{Instructions, Resolved}
 use Rattle.fast_template.specs.TemplateSets.{TemplateList, has_id, templates_in}

@@ -3,7 +3,7 @@
 ghost use Rattle.fast_lines.specs.declared.form.Form.TheVariants.{Text, Json};
 
 use crate::bytes::{push, push_byte, push_hex, push_hex_pair, push_unsigned};
-use crate::signs::Signs;
+use crate::signs::{Escape, Signs};
 use crate::strings::{push_quoted, stands};
 use std::alloc::AllocError;
 
@@ -24,9 +24,19 @@ pub struct TextSigns;
 #[derive(Clone, Copy)]
 pub struct JsonSigns;
 
-impl Signs for TextSigns {
+impl Escape for TextSigns {
     ghost form = { Text };
 
+    fn push_unit(self, byte: u8, out: &mut Vec<u8>) -> Result<(), AllocError> {
+        if stands(byte) {
+            return push_byte(byte, out);
+        }
+        push(b"\\x", out)?;
+        push_hex_pair(byte, out)
+    }
+}
+
+impl Signs for TextSigns {
     #[inline(always)]
     fn between(self) -> &'static [u8] {
         b" "
@@ -45,14 +55,6 @@ impl Signs for TextSigns {
     #[inline(always)]
     fn ending(self) -> &'static [u8] {
         b"\n"
-    }
-
-    fn push_unit(self, byte: u8, out: &mut Vec<u8>) -> Result<(), AllocError> {
-        if stands(byte) {
-            return push_byte(byte, out);
-        }
-        push(b"\\x", out)?;
-        push_hex_pair(byte, out)
     }
 
     fn push_vector(self, bytes: &[u8], out: &mut Vec<u8>) -> Result<(), AllocError> {
@@ -74,9 +76,22 @@ impl Signs for TextSigns {
     }
 }
 
-impl Signs for JsonSigns {
+impl Escape for JsonSigns {
     ghost form = { Json };
 
+    fn push_unit(self, byte: u8, out: &mut Vec<u8>) -> Result<(), AllocError> {
+        if byte < 0x20 || byte == 0x7F {
+            push(b"\\u00", out)?;
+            return push_hex_pair(byte, out);
+        }
+        if byte == b'"' || byte == b'\\' {
+            push_byte(b'\\', out)?;
+        }
+        push_byte(byte, out)
+    }
+}
+
+impl Signs for JsonSigns {
     #[inline(always)]
     fn between(self) -> &'static [u8] {
         b","
@@ -95,17 +110,6 @@ impl Signs for JsonSigns {
     #[inline(always)]
     fn ending(self) -> &'static [u8] {
         b"}}\n"
-    }
-
-    fn push_unit(self, byte: u8, out: &mut Vec<u8>) -> Result<(), AllocError> {
-        if byte < 0x20 || byte == 0x7F {
-            push(b"\\u00", out)?;
-            return push_hex_pair(byte, out);
-        }
-        if byte == b'"' || byte == b'\\' {
-            push_byte(b'\\', out)?;
-        }
-        push_byte(byte, out)
     }
 
     fn push_vector(self, bytes: &[u8], out: &mut Vec<u8>) -> Result<(), AllocError> {

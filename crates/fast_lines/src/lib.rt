@@ -12,5 +12,5 @@ mod writer;
 
 pub use form::{Form, JsonSigns, TextSigns};
 pub use lines::{ShowFault, push_line, push_ok_line};
-pub use signs::Signs;
+pub use signs::{Escape, Signs};
 pub use writer::LineWriter;

@@ -6,7 +6,7 @@ ghost use Rattle.fast_lines.specs.Signs.{is_plain, quoted, unit_text};
 ghost use Rattle.fast_lines.specs.Written.{Writes};
 
 use crate::bytes::{push, push_byte};
-use crate::signs::Signs;
+use crate::signs::Escape;
 use std::alloc::AllocError;
 use std::simd::prelude::*;
 
@@ -17,11 +17,11 @@ pub(crate) fn stands(byte: u8) -> bool
     0x20 <= byte && byte <= 0x7E && byte != b'"' && byte != b'\\'
 }
 
-fn push_units<S: Signs>(signs: S, text: &[u8], out: &mut Vec<u8>) -> Result<(), AllocError>
+fn push_units<S: Escape>(escape: S, text: &[u8], out: &mut Vec<u8>) -> Result<(), AllocError>
     ensures { Writes (flat_map (unit_text S.form) text.now) result out.old.items out.new.items }
 {
     for byte in text {
-        signs.push_unit(*byte, out)?;
+        escape.push_unit(*byte, out)?;
     }
     Ok(())
 }
@@ -112,47 +112,47 @@ fn all_stand(text: &[u8]) -> bool
 
 /// Appends 8 bytes of a string.
 #[inline(always)]
-fn push_eight<S: Signs>(signs: S, text: &[u8], out: &mut Vec<u8>) -> Result<(), AllocError>
+fn push_eight<S: Escape>(escape: S, text: &[u8], out: &mut Vec<u8>) -> Result<(), AllocError>
     requires { length text.now ≡ 8 }
     ensures { Writes (flat_map (unit_text S.form) text.now) result out.old.items out.new.items }
 {
     if half_stands(text, 0) {
         return push(text, out);
     }
-    push_units(signs, text, out)
+    push_units(escape, text, out)
 }
 
 /// Appends a string without its quotes, 8 bytes in one step.
-fn push_pieces<S: Signs>(signs: S, text: &[u8], out: &mut Vec<u8>) -> Result<(), AllocError>
+fn push_pieces<S: Escape>(escape: S, text: &[u8], out: &mut Vec<u8>) -> Result<(), AllocError>
     ensures { Writes (flat_map (unit_text S.form) text.now) result out.old.items out.new.items }
 {
     let mut at = 0;
     while text.len() - at >= 8 {
-        push_eight(signs, &text[at..at + 8], out)?;
+        push_eight(escape, &text[at..at + 8], out)?;
         at += 8;
     }
-    push_units(signs, &text[at..], out)
+    push_units(escape, &text[at..], out)
 }
 
 /// Appends a string without its quotes; mostly it stands as it is, and goes there at once.
-fn push_text<S: Signs>(signs: S, text: &[u8], out: &mut Vec<u8>) -> Result<(), AllocError>
+fn push_text<S: Escape>(escape: S, text: &[u8], out: &mut Vec<u8>) -> Result<(), AllocError>
     ensures { Writes (flat_map (unit_text S.form) text.now) result out.old.items out.new.items }
 {
     if all_stand(text) {
         return push(text, out);
     }
-    push_pieces(signs, text, out)
+    push_pieces(escape, text, out)
 }
 
 /// Appends a string in its quotes.
-pub(crate) fn push_quoted<S: Signs>(
-    signs: S,
+pub(crate) fn push_quoted<S: Escape>(
+    escape: S,
     text: &[u8],
     out: &mut Vec<u8>,
 ) -> Result<(), AllocError>
     ensures { Writes (quoted S.form text.now) result out.old.items out.new.items }
 {
     push_byte(b'"', out)?;
-    push_text(signs, text, out)?;
+    push_text(escape, text, out)?;
     push_byte(b'"', out)
 }

@@ -50,7 +50,13 @@ fn take_generally<S: Signs>(
     match read_in_place(alloc, part, entry, bit, level, bytes, at) {
         Err(fault) => Err(fault),
         Ok((found, next)) => {
-            match line.tell(signs, name, part.kind, presence, found.value(part, entry.view())) {
+            match line.tell(
+                signs,
+                name,
+                part.kind,
+                presence,
+                found.value(part, entry.view()),
+            ) {
                 Err(_) => Err(FieldFault::Memory),
                 Ok(()) => Ok(next),
             }
@@ -85,7 +91,13 @@ fn take<S: Signs>(
 {
     match take_given(part, entry, bit) {
         Some(found) => {
-            match line.tell(signs, name, part.kind, presence, found.value(part, entry.view())) {
+            match line.tell(
+                signs,
+                name,
+                part.kind,
+                presence,
+                found.value(part, entry.view()),
+            ) {
                 Err(_) => Err(FieldFault::Memory),
                 Ok(()) => Ok(at),
             }
