@@ -13,6 +13,8 @@ use Rattle.fast_stream.specs.declared.mode.Framing.TheVariants.{Plain, Blocks}
 use Rattle.fast_stream.specs.declared.mode.Mode.{Mode}
 use Rattle.fast_command.specs.declared.command.Command.{Command}
 use Rattle.fast_command.specs.declared.command.Command.TheVariants.{Show, Check, Canon}
+use Rattle.fast_lines.specs.declared.form.Form.{Form}
+use Rattle.fast_lines.specs.declared.form.Form.TheVariants as forms
 use Rattle.fast_request.specs.declared.request.Request.{Request}
 
 -- ---- the words
@@ -56,13 +58,13 @@ rows_among among words = matches_of (line_among among) words
 
 -- ---- what is asked for
 
--- with how the stream is read and the names of the files; without one the input is the standard input
+-- with how the stream is read, what is shown of a message and the names of the files; without one the input is the standard input
 pub record Asked : Type 0 where
   pub command : Command
   pub templates : List ℕ
   pub hex : Bool
   pub mode : Mode
-  pub json : Bool
+  pub form : Form
   pub explain : Bool
   pub input : Option (List ℕ)
 
@@ -72,7 +74,7 @@ asked_by r = record {
   templates = r.templates.now;
   hex = r.hex;
   mode = r.mode;
-  json = r.json;
+  form = r.form;
   explain = r.explain;
   input = option_map (λ name. name.now) r.input;
 }
@@ -98,6 +100,10 @@ abbrev pub is_blocks : Framing → Bool
 is_blocks Plain = false
 is_blocks Blocks = true
 
+abbrev pub is_json : Form → Bool
+is_json forms.Text = false
+is_json forms.Json = true
+
 -- what is found in the words is what is asked for
 pub record Finds (rows : List Row) (asked : Asked) : Type 0 where
   pub word : Text
@@ -107,7 +113,7 @@ pub record Finds (rows : List Row) (asked : Asked) : Type 0 where
   pub hex_is : IsFlag (one_of (codes "hex") rows) asked.hex
   pub strict_is : IsFlag (one_of (codes "strict") rows) (is_strict asked.mode.level)
   pub blocks_is : IsFlag (one_of (codes "blocks") rows) (is_blocks asked.mode.framing)
-  pub json_is : IsFlag (one_of (codes "json") rows) asked.json
+  pub json_is : IsFlag (one_of (codes "json") rows) (is_json asked.form)
   pub explain_is : IsFlag (one_of (codes "explain") rows) asked.explain
   pub input_is : first_of (codes "input") rows ≡ asked.input
 

@@ -2,11 +2,11 @@
 
 ghost use Rattle.std.specs.Prelude.{◌≡◌, None, Some, IfNone, IfOk, IfSome, codes, false, map, option_and_then, option_map};
 ghost use Rattle.clap.specs.Words.{app_of, first_of, found_of, one_of, rows_of, rule_of};
-ghost use Rattle.fast_request.specs.CommandLine.{AsksFor, Finds, IsFlag, asked_by, bare_app, command_named, command_rule, flag_rule, input_rule, is_blocks, is_strict, line_among, templates_rule, with_files_lem, with_flags_lem};
+ghost use Rattle.fast_request.specs.CommandLine.{AsksFor, Finds, IsFlag, asked_by, bare_app, command_named, command_rule, flag_rule, input_rule, is_blocks, is_json, is_strict, line_among, templates_rule, with_files_lem, with_flags_lem};
 
 use clap::error::ErrorKind;
 use clap::{Arg, ArgAction, ArgMatches};
-use fast_command::{Command, Framing, Level, Mode};
+use fast_command::{Command, Form, Framing, Level, Mode};
 use std::alloc::{AllocError, Global};
 
 /// What a command line asks for.
@@ -19,8 +19,8 @@ pub struct Request<'a> {
     pub hex: bool,
     /// How the stream is read.
     pub mode: Mode,
-    /// Whether `show` writes JSON texts.
-    pub json: bool,
+    /// How `show` writes a message.
+    pub form: Form,
     /// Whether a refusal is explained.
     pub explain: bool,
     /// The name of the file with the stream; without one it is the standard input.
@@ -188,6 +188,20 @@ fn mode_of(matches: &ArgMatches<'_>) -> Mode
     mode_by(is_set(matches, "strict"), is_set(matches, "blocks"))
 }
 
+/// How `show` writes a message, by the flag.
+fn form_by(json: bool) -> Form
+    ensures { is_json result ≡ json }
+{
+    if json { Form::Json } else { Form::Text }
+}
+
+/// How a parser found that `show` writes a message.
+fn form_of(matches: &ArgMatches<'_>) -> Form
+    ensures { IsFlag (one_of (codes "json") (rows_of (found_of matches.now))) (is_json result) }
+{
+    form_by(is_set(matches, "json"))
+}
+
 /// What is asked for by what a parser found; none where a word is not there that has to be.
 fn request_of<'a>(matches: &ArgMatches<'a>) -> Option<Request<'a>>
     ensures { IfSome result (λ r. Finds (rows_of (found_of matches.now)) (asked_by r)) }
@@ -199,7 +213,7 @@ fn request_of<'a>(matches: &ArgMatches<'a>) -> Option<Request<'a>>
             templates,
             hex: is_set(matches, "hex"),
             mode: mode_of(matches),
-            json: is_set(matches, "json"),
+            form: form_of(matches),
             explain: is_set(matches, "explain"),
             input: word_of(matches, "input"),
         }),

@@ -22,7 +22,7 @@ returns-in-Some-Some c =
       hex_is = c.is_set.ensures;
       strict_is = c.mode_of.ensures.strict;
       blocks_is = c.mode_of.ensures.blocks;
-      json_is = c.is_set-in-Some-Some.ensures;
-      explain_is = c.is_set-in-Some-Some-2.ensures;
+      json_is = c.form_of.ensures;
+      explain_is = c.is_set-in-Some-Some.ensures;
       input_is = sym c.word_of-in-Some-Some.ensures;
     }
