@@ -20,6 +20,8 @@ use Rattle.fast_host.specs.Input.{GivesNoText, IsText}
 use Rattle.fast_host.specs.Refusals.{IsOfLoad, IsOfRun, IsOfStream, IsTextOrMemory, of_template_text_lem, of_text_lem, status_of, text_of}
 use Rattle.fast_host.specs.Devices.{Inputs, Writer, input_of}
 use Rattle.fast_command.specs.Run.{Runs}
+use Rattle.fast_lines.specs.declared.form.Form.{Form}
+use Rattle.fast_lines.specs.declared.form.Form.TheVariants.{Text}
 use Rattle.fast_stream.specs.declared.mode.Mode.{Mode}
 use Rattle.fast_request.specs.CommandLine.{Asked, AsksFor}
 use Rattle.fast_command.specs.declared.command.Command.{Command}
@@ -88,12 +90,12 @@ AnswersRun (Ok summary) r = r ≡ Ok tt
 AnswersRun (Err f) r = IsErrAnd r (IsOfRun f)
 
 -- a command was run from the bytes read to those written
-pub record RunsPlain (command : Command) (mode : Mode) (set : TemplateList) (turns : ℕ) (in_old in_new : Reader) (out_old out_new : Writer) (r : Answer) : Type 0 where
+pub record RunsPlain (command : Command) (mode : Mode) (form : Form) (set : TemplateList) (turns : ℕ) (in_old in_new : Reader) (out_old out_new : Writer) (r : Answer) : Type 0 where
   pub count : ℕ
   pub input : List ℕ
   pub answer : Result Summary CanonFault
   pub read : ReadsUpTo turns count in_old in_new input
-  pub ran : Runs command mode set turns in_new.left out_old.taken out_new.taken input answer
+  pub ran : Runs command mode form set turns in_new.left out_old.taken out_new.taken input answer
   pub caused : IsCausedBy answer (count ≡ turns) in_old in_new
   pub write_failed : out_new.errors ≡ errors_after answer out_old.errors
   pub flushed : FlushesOnce answer out_old.flushes out_new.flushes
@@ -133,19 +135,19 @@ pub record CanonInHex (mode : Mode) (set : TemplateList) (turns : ℕ) (stream :
   pub answer : Result Summary CanonFault
   pub begins : in_old.left ≡ Some stream
   pub read : ReadsUpTo turns count in_old in_new input
-  pub ran : Runs Canon mode set turns in_new.left (Some []) (Some bytes) input answer
+  pub ran : Runs Canon mode Text set turns in_new.left (Some []) (Some bytes) input answer
   pub answered : AnswersInHex old new bytes answer r
 
 -- a command was run over a stream in memory
-abbrev pub RunsInMemory : Command → Mode → TemplateList → ℕ → List ℕ → Writer → Writer → Answer → Type 0
-RunsInMemory command mode set turns stream old new r =
-    (in_old : Reader) × (in_new : Reader) × (in_old.left ≡ Some stream) × RunsPlain command mode set turns in_old in_new old new r
+abbrev pub RunsInMemory : Command → Mode → Form → TemplateList → ℕ → List ℕ → Writer → Writer → Answer → Type 0
+RunsInMemory command mode form set turns stream old new r =
+    (in_old : Reader) × (in_new : Reader) × (in_old.left ≡ Some stream) × RunsPlain command mode form set turns in_old in_new old new r
 
 -- what was done of a stream in hex text
-abbrev pub PerformsInHex : Command → Mode → TemplateList → ℕ → List ℕ → Writer → Writer → Answer → Type 0
-PerformsInHex Show mode set turns stream old new r = RunsInMemory Show mode set turns stream old new r
-PerformsInHex Check mode set turns stream old new r = RunsInMemory Check mode set turns stream old new r
-PerformsInHex Canon mode set turns stream old new r = CanonInHex mode set turns stream old new r
+abbrev pub PerformsInHex : Command → Mode → Form → TemplateList → ℕ → List ℕ → Writer → Writer → Answer → Type 0
+PerformsInHex Show mode form set turns stream old new r = RunsInMemory Show mode form set turns stream old new r
+PerformsInHex Check mode form set turns stream old new r = RunsInMemory Check mode form set turns stream old new r
+PerformsInHex Canon mode form set turns stream old new r = CanonInHex mode set turns stream old new r
 
 -- why an input gives no bytes of hex text: it was not read whole, or is no hex, or there was no memory
 abbrev pub RefusesHex : ℕ → Reader → Reader → Refusal → Type 0
@@ -158,24 +160,24 @@ abbrev pub ReadsHex : ℕ → Reader → Reader → List ℕ → Type 0
 ReadsHex turns old new bytes = (text : List ℕ) × HasText turns old new text × (decode_of (digits_of text) ≡ Ok bytes)
 
 -- the input is no hex text, and nothing was written; or it is that of a stream, of which this was done
-abbrev pub PerformsHexText : Command → Mode → TemplateList → ℕ → Reader → Reader → Writer → Writer → Answer → Type 0
-PerformsHexText command mode set turns in_old in_new out_old out_new r =
+abbrev pub PerformsHexText : Command → Mode → Form → TemplateList → ℕ → Reader → Reader → Writer → Writer → Answer → Type 0
+PerformsHexText command mode form set turns in_old in_new out_old out_new r =
     (IsErrAnd r (RefusesHex turns in_old in_new) × (out_new ≡ out_old))
-    ⊎ ((stream : List ℕ) × ReadsHex turns in_old in_new stream × PerformsInHex command mode set turns stream out_old out_new r)
+    ⊎ ((stream : List ℕ) × ReadsHex turns in_old in_new stream × PerformsInHex command mode form set turns stream out_old out_new r)
 
 -- ---- what is asked for
 
 -- a command over an input in plain bytes, or in hex text
-abbrev pub PerformsOver : Bool → Command → Mode → TemplateList → ℕ → Reader → Reader → Writer → Writer → Answer → Type 0
-PerformsOver false command mode set turns in_old in_new out_old out_new r = RunsPlain command mode set turns in_old in_new out_old out_new r
-PerformsOver true command mode set turns in_old in_new out_old out_new r = PerformsHexText command mode set turns in_old in_new out_old out_new r
+abbrev pub PerformsOver : Bool → Command → Mode → Form → TemplateList → ℕ → Reader → Reader → Writer → Writer → Answer → Type 0
+PerformsOver false command mode form set turns in_old in_new out_old out_new r = RunsPlain command mode form set turns in_old in_new out_old out_new r
+PerformsOver true command mode form set turns in_old in_new out_old out_new r = PerformsHexText command mode form set turns in_old in_new out_old out_new r
 
 -- with templates that are loaded: the input's file cannot be opened, or it was opened at its beginning
 abbrev pub PerformsWith : Asked → TemplateList → Inputs → ℕ → Writer → Writer → Answer → Type 0
 PerformsWith asked set inputs turns out_old out_new r =
     ((asked.input ≢ None) × (r ≡ Err refusal.Open) × (out_new ≡ out_old))
     ⊎ ((in_old : Reader) × (in_new : Reader) × (in_old.left ≡ input_of inputs asked.input)
-    × PerformsOver asked.hex asked.command asked.mode set turns in_old in_new out_old out_new r)
+    × PerformsOver asked.hex asked.command asked.mode asked.form set turns in_old in_new out_old out_new r)
 
 -- the templates are refused, and nothing was written; or they are loaded
 abbrev pub PerformsAsked : Asked → Inputs → ℕ → Writer → Writer → Answer → Type 0

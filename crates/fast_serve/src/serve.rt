@@ -10,7 +10,7 @@ ghost use Rattle.fast_serve.specs.Served.{CanonInHex, LoadsSet, Performs, Perfor
 
 use fast_build::Load;
 use fast_canon::CanonFault;
-use fast_command::{Command, Mode, run};
+use fast_command::{Command, Form, Mode, run};
 use fast_explain::{Files, Notes, Seen, explain};
 use fast_host::{MemoryOutput, Refusal, Source, hex_line, read_hex, read_text};
 use fast_io::{ByteInput, ByteOutput, Counted, write_all};
@@ -100,13 +100,22 @@ fn run_plain<I: ByteInput, O: ByteOutput>(
     notes: &mut Notes,
 ) -> Result<(), Refusal>
     requires turns { turns ≤ 2 ^ 40 }
-    ensures { RunsPlain request.entry.command request.entry.mode set.now turns
+    ensures { RunsPlain request.entry.command request.entry.mode request.entry.form set.now turns
         (reader_by I.left I.calls I.errors I.ends input.old)
         (reader_by I.left I.calls I.errors I.ends input.new)
         (writer_by O.taken O.errors O.flushes out.old)
         (writer_by O.taken O.errors O.flushes out.new) result }
 {
-    match run(alloc, request.command, set, request.mode, input, out, turns) {
+    match run(
+        alloc,
+        request.command,
+        set,
+        request.mode,
+        request.form,
+        input,
+        out,
+        turns,
+    ) {
         Ok(_) => Ok(()),
         Err(fault) => {
             notes.run_failed(fault);
@@ -156,6 +165,7 @@ fn canon_in_hex<O: ByteOutput>(
         Command::Canon,
         set,
         mode,
+        Form::Text,
         &mut input,
         &mut kept,
         turns,
@@ -182,7 +192,7 @@ fn perform_in_hex<O: ByteOutput>(
     notes: &mut Notes,
 ) -> Result<(), Refusal>
     requires turns { turns ≤ 2 ^ 40 }
-    ensures { PerformsInHex request.entry.command request.entry.mode set.now turns stream.now
+    ensures { PerformsInHex request.entry.command request.entry.mode request.entry.form set.now turns stream.now
         (writer_by O.taken O.errors O.flushes out.old)
         (writer_by O.taken O.errors O.flushes out.new) result }
 {
@@ -206,7 +216,7 @@ fn perform_hex<I: ByteInput, O: ByteOutput>(
     notes: &mut Notes,
 ) -> Result<(), Refusal>
     requires turns { turns ≤ 2 ^ 40 }
-    ensures { PerformsHexText request.entry.command request.entry.mode set.now turns
+    ensures { PerformsHexText request.entry.command request.entry.mode request.entry.form set.now turns
         (reader_by I.left I.calls I.errors I.ends input.old)
         (reader_by I.left I.calls I.errors I.ends input.new)
         (writer_by O.taken O.errors O.flushes out.old)
@@ -233,7 +243,8 @@ fn perform_over<I: ByteInput, O: ByteOutput>(
     notes: &mut Notes,
 ) -> Result<(), Refusal>
     requires turns { turns ≤ 2 ^ 40 }
-    ensures { PerformsOver request.entry.hex request.entry.command request.entry.mode set.now turns
+    ensures { PerformsOver request.entry.hex request.entry.command request.entry.mode
+        request.entry.form set.now turns
         (reader_by I.left I.calls I.errors I.ends input.old)
         (reader_by I.left I.calls I.errors I.ends input.new)
         (writer_by O.taken O.errors O.flushes out.old)
@@ -258,7 +269,8 @@ fn perform_seen<I: ByteInput + Drop, O: ByteOutput>(
 ) -> Result<(), Refusal>
     requires turns { turns ≤ 2 ^ 40 }
     ensures { (in_old : Reader) × (in_new : Reader) × (in_old.left ≡ I.left input)
-        × PerformsOver request.entry.hex request.entry.command request.entry.mode set.now turns
+        × PerformsOver request.entry.hex request.entry.command request.entry.mode
+        request.entry.form set.now turns
         in_old in_new
         (writer_by O.taken O.errors O.flushes out.old)
         (writer_by O.taken O.errors O.flushes out.new) result }
