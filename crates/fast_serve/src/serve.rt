@@ -275,7 +275,7 @@ fn perform_seen<I: ByteInput + Drop, O: ByteOutput>(
         (writer_by O.taken O.errors O.flushes out.old)
         (writer_by O.taken O.errors O.flushes out.new) result }
 {
-    let mut seen = Seen::new(alloc, input, request.explain && !request.hex);
+    let mut seen = Seen::new(alloc, input, notes.is_asked() && !request.hex);
     let answer = perform_over(alloc, request, set, &mut seen, out, turns, notes);
     notes.stream_seen(&seen);
     answer
