@@ -9,6 +9,7 @@ use Rattle.fast_pass.specs.declared.fault.CanonFault.{CanonFault}
 use Rattle.fast_pass.specs.declared.fault.CanonFault.TheVariants as refusal
 use Rattle.fast_pass.specs.declared.summary.Summary.{Summary}
 use Rattle.fast_pass.specs.Relays.{Making}
+use Rattle.fast_lines.specs.declared.form.Form.{Form}
 use Rattle.fast_lines.specs.Told.{lines_of_set}
 use Rattle.fast_lines.proofs.SameLines.{same_lines}
 use Rattle.fast_command.specs.Run.{LinesOf, Shows, TellsFront, ok_line}
@@ -16,18 +17,18 @@ use Rattle.fast_command.specs.Run.{LinesOf, Shows, TellsFront, ok_line}
 -- ---- what is shown
 
 -- the lines that a writer of lines makes
-abbrev pub are_lines : Making
-are_lines set messages out = lines_of_set set messages ≡ Some out
+abbrev pub are_lines : Form → Making
+are_lines form set messages out = lines_of_set form set messages ≡ Some out
 
 -- the lines of a resolved set are those of the set
-lines_are : (set : TemplateList) (messages : List Content) (out : List ℕ) → are_lines (templates_in set) messages out → LinesOf set (templates_in set) messages out
-lines_are set messages out e = sym (same_lines set messages) ∙ e
+lines_are : (form : Form) (set : TemplateList) (messages : List Content) (out : List ℕ) → are_lines form (templates_in set) messages out → LinesOf form set (templates_in set) messages out
+lines_are form set messages out e = sym (same_lines form set messages) ∙ e
 
-pub shows : (mode : Mode) (set : TemplateList) (turns : ℕ) (left a b : Option (List ℕ)) (input : List ℕ) (r : Result Summary CanonFault) → Passes are_lines mode (templates_in set) turns left a b input r → Shows mode set turns left a b input r
-shows mode set turns left a b input (Ok summary) p = record { messages = p.messages; out = p.out; ends = p.ends; made = lines_are set p.messages p.out p.made; written = p.written; counts = p.counts }
-shows mode set turns left a b input (Err (refusal.Stream f)) p = record { messages = p.messages; out = p.out; refuses = p.refuses; made = lines_are set p.messages p.out p.made; written = p.written }
-shows mode set turns left a b input (Err refusal.Write) p = record { messages = p.messages; front = p.front; rest = p.rest; carried = p.carried; made = lines_are set p.messages (p.front ++ p.rest) p.made; written = p.written }
-shows mode set turns left a b input (Err refusal.Memory) p = record { messages = p.messages; front = p.front; rest = p.rest; carried = p.carried; made = lines_are set p.messages (p.front ++ p.rest) p.made; written = p.written }
+pub shows : (mode : Mode) (form : Form) (set : TemplateList) (turns : ℕ) (left a b : Option (List ℕ)) (input : List ℕ) (r : Result Summary CanonFault) → Passes (are_lines form) mode (templates_in set) turns left a b input r → Shows mode form set turns left a b input r
+shows mode form set turns left a b input (Ok summary) p = record { messages = p.messages; out = p.out; ends = p.ends; made = lines_are form set p.messages p.out p.made; written = p.written; counts = p.counts }
+shows mode form set turns left a b input (Err (refusal.Stream f)) p = record { messages = p.messages; out = p.out; refuses = p.refuses; made = lines_are form set p.messages p.out p.made; written = p.written }
+shows mode form set turns left a b input (Err refusal.Write) p = record { messages = p.messages; front = p.front; rest = p.rest; carried = p.carried; made = lines_are form set p.messages (p.front ++ p.rest) p.made; written = p.written }
+shows mode form set turns left a b input (Err refusal.Memory) p = record { messages = p.messages; front = p.front; rest = p.rest; carried = p.carried; made = lines_are form set p.messages (p.front ++ p.rest) p.made; written = p.written }
 
 -- ---- what a check says
 

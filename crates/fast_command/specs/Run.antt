@@ -9,19 +9,20 @@ use Rattle.fast_pass.specs.Relays.{Making}
 use Rattle.fast_pass.specs.declared.fault.CanonFault.{CanonFault}
 use Rattle.fast_pass.specs.declared.fault.CanonFault.TheVariants as refusal
 use Rattle.fast_pass.specs.declared.summary.Summary.{Summary}
+use Rattle.fast_lines.specs.declared.form.Form.{Form}
 use Rattle.fast_lines.specs.Lines.{lines_in, ok_text}
 use Rattle.fast_command.specs.declared.command.Command.{Command}
 use Rattle.fast_command.specs.declared.command.Command.TheVariants.{Show, Check, Canon}
 
 -- ---- show
 
--- these are the lines of the messages
-abbrev pub LinesOf : TemplateList → Making
-LinesOf set resolved messages out = lines_in set messages ≡ Some out
+-- these are the lines of the messages in a form
+abbrev pub LinesOf : Form → TemplateList → Making
+LinesOf form set resolved messages out = lines_in form set messages ≡ Some out
 
 -- What is answered and written: the lines of the messages of the stream, of those before its fault, or a front of them.
-abbrev pub Shows : Mode → TemplateList → ℕ → Option (List ℕ) → Option (List ℕ) → Option (List ℕ) → List ℕ → Result Summary CanonFault → Type 0
-Shows mode set turns left taken_old taken_new input r = Passes (LinesOf set) mode (templates_in set) turns left taken_old taken_new input r
+abbrev pub Shows : Mode → Form → TemplateList → ℕ → Option (List ℕ) → Option (List ℕ) → Option (List ℕ) → List ℕ → Result Summary CanonFault → Type 0
+Shows mode form set turns left taken_old taken_new input r = Passes (LinesOf form set) mode (templates_in set) turns left taken_old taken_new input r
 
 -- ---- check
 
@@ -47,7 +48,7 @@ Tells mode set turns left taken_old taken_new input (Err f) = TellsFront mode se
 
 -- ---- a command
 
-abbrev pub Runs : Command → Mode → TemplateList → ℕ → Option (List ℕ) → Option (List ℕ) → Option (List ℕ) → List ℕ → Result Summary CanonFault → Type 0
-Runs Show mode set turns left taken_old taken_new input r = Shows mode set turns left taken_old taken_new input r
-Runs Check mode set turns left taken_old taken_new input r = Tells mode set turns left taken_old taken_new input r
-Runs Canon mode set turns left taken_old taken_new input r = Canonicalises mode (templates_in set) turns left taken_old taken_new input r
+abbrev pub Runs : Command → Mode → Form → TemplateList → ℕ → Option (List ℕ) → Option (List ℕ) → Option (List ℕ) → List ℕ → Result Summary CanonFault → Type 0
+Runs Show mode form set turns left taken_old taken_new input r = Shows mode form set turns left taken_old taken_new input r
+Runs Check mode form set turns left taken_old taken_new input r = Tells mode set turns left taken_old taken_new input r
+Runs Canon mode form set turns left taken_old taken_new input r = Canonicalises mode (templates_in set) turns left taken_old taken_new input r

@@ -10,6 +10,7 @@ use crate::shown::show;
 use crate::told::tell;
 use fast_canon::{CanonFault, Summary, canonicalise};
 use fast_io::{ByteInput, ByteOutput};
+use fast_lines::Form;
 use fast_stream::Mode;
 use fast_template::TemplateSet;
 use std::alloc::Global;
@@ -17,7 +18,7 @@ use std::alloc::Global;
 /// What is done with a stream.
 #[derive(Clone, Copy, Debug, PartialEq, Eq)]
 pub enum Command {
-    /// Writes a line for each message.
+    /// Writes a line for each message, in a form.
     Show,
     /// Writes how many messages and bytes there are, and how many canonical bytes.
     Check,
@@ -26,7 +27,7 @@ pub enum Command {
 }
 
 /// Reads a stream of messages of a template set to its end, from undefined entries, and writes what the command makes
-/// of it: a line for each message, what a check counts, or the canonical bytes.
+/// of it: a line for each message in the form, what a check counts, or the canonical bytes.
 ///
 /// It makes at most `turns` reads of at most 4,096 bytes, of which there may be up to 2^40, and writes what the
 /// messages that ended have after each, and in between wherever 65,536 bytes or more wait at the end of a message. The
@@ -42,6 +43,7 @@ pub fn run<R: ByteInput, W: ByteOutput>(
     command: Command,
     set: &TemplateSet,
     mode: Mode,
+    form: Form,
     reader: &mut R,
     writer: &mut W,
     turns: u64,
@@ -52,7 +54,7 @@ pub fn run<R: ByteInput, W: ByteOutput>(
         × Reads (reader_by R.left R.calls R.errors R.ends reader.old)
         (reader_by R.left R.calls R.errors R.ends reader.new) count input
         × (count ≤ turns)
-        × Runs command mode set.now turns (R.left reader.new) (W.taken writer.old)
+        × Runs command mode form set.now turns (R.left reader.new) (W.taken writer.old)
         (W.taken writer.new) input result
         × IsCausedBy result (count ≡ turns)
         (reader_by R.left R.calls R.errors R.ends reader.old)
@@ -62,7 +64,7 @@ pub fn run<R: ByteInput, W: ByteOutput>(
     ensures flush { FlushesOnce result (W.flushes writer.old) (W.flushes writer.new) }
 {
     match command {
-        Command::Show => show(alloc, set, mode, reader, writer, turns),
+        Command::Show => show(alloc, set, mode, form, reader, writer, turns),
         Command::Check => tell(alloc, set, mode, reader, writer, turns),
         Command::Canon => canonicalise(alloc, set, mode, reader, writer, turns),
     }

@@ -7,7 +7,7 @@ mod shown;
 mod told;
 
 pub use command::{Command, run};
-pub use fast_lines::ShowFault;
+pub use fast_lines::{Form, ShowFault};
 pub use fast_stream::{Framing, Mode};
 pub use fast_wire::Level;
 pub use line::show_line;

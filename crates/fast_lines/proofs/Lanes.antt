@@ -3,7 +3,7 @@ use Rattle.std.proofs.Common.{◌≡◌, ℕ, ◌+◌, ◌%◌, ◌^◌, ◌<◌
 use Rattle.std.proofs.lemmas.Bool.Decides.{nat_tests}
 use Rattle.std.proofs.lemmas.Simd.{zip2_splat, zip2_splat_left, bitmask_splat, length-chunk, none_from_empty_mask}
 use Rattle.std.specs.List.{list_all}
-use Rattle.fast_lines.specs.Lines.{is_plain}
+use Rattle.fast_lines.specs.Signs.{is_plain}
 use lib.Dec.{ltb}
 use lib.Lanes.{chunk, zip2, mask_l, top}
 use mir.Syntax.{w8}

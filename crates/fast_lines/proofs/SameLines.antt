@@ -5,6 +5,7 @@ use Rattle.fast_template.specs.declared.resolved.FlatTemplate.{FlatTemplate}
 use Rattle.fast_template.specs.Resolved.{Resolved, resolved_of}
 use Rattle.fast_template.specs.TemplateSets.{TemplateList, has_id, template_of, templates_in}
 use Rattle.fast_stream.specs.Nodes.{Content}
+use Rattle.fast_lines.specs.declared.form.Form.{Form}
 use Rattle.fast_lines.specs.Lines.{joined, line_if, line_in, lines_in}
 use Rattle.fast_lines.specs.Told.{line_as, line_of_set, lines_of_set, name_if}
 
@@ -17,16 +18,16 @@ found_in : (ts : List FlatTemplate) (id : ℕ) → find (λ t. has_id id t.id) (
 found_in [] id = refl
 found_in (t ∷ ts) id = found_if (has_id id t.id) t (find (λ t. has_id id t.id) ts) (find (λ t. has_id id t.id) (map resolved_of ts)) (found_in ts id)
 
-as_found : (o : Option FlatTemplate) (m : Content) → line_as (option_map resolved_of o) m ≡ line_if o m
-as_found None m = refl
-as_found (Some t) m = refl
+as_found : (form : Form) (o : Option FlatTemplate) (m : Content) → line_as form (option_map resolved_of o) m ≡ line_if form o m
+as_found form None m = refl
+as_found form (Some t) m = refl
 
-pub same_line : (set : TemplateList) (m : Content) → line_of_set (templates_in set) m ≡ line_in set m
-same_line set m = ap (λ o. line_as o m) (found_in set.templates m.template) ∙ as_found (template_of m.template set) m
+pub same_line : (form : Form) (set : TemplateList) (m : Content) → line_of_set form (templates_in set) m ≡ line_in form set m
+same_line form set m = ap (λ o. line_as form o m) (found_in set.templates m.template) ∙ as_found form (template_of m.template set) m
 
-pub same_lines : (set : TemplateList) (ms : List Content) → lines_of_set (templates_in set) ms ≡ lines_in set ms
-same_lines set [] = refl
-same_lines set (m ∷ ms) = ap₂ joined (same_line set m) (same_lines set ms)
+pub same_lines : (form : Form) (set : TemplateList) (ms : List Content) → lines_of_set form (templates_in set) ms ≡ lines_in form set ms
+same_lines form set [] = refl
+same_lines form set (m ∷ ms) = ap₂ joined (same_line form set m) (same_lines form set ms)
 
 name_found : (o : Option FlatTemplate) (name : List ℕ) → Some name ≡ option_map (λ t. t.name) o → name_if (option_map resolved_of o) ≡ name
 name_found None name e = absurd cc

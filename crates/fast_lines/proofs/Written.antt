@@ -7,11 +7,15 @@ use Rattle.std.specs.declared.alloc.AllocError.{AllocError}
 use Rattle.std.specs.List.{flat_map, list_all}
 use Rattle.std.proofs.lemmas.List.Concat.{flat_map-cons}
 use Rattle.std.proofs.lemmas.Bool.{and_parts}
+use Rattle.std.proofs.lemmas.Bool.Decides.{nat_tests}
 use Rattle.std.proofs.lemmas.Grind.{flat_map-append}
 use Rattle.hex.specs.Hex.{encode_with, encode_lower, lower_digits}
 use Rattle.fast_lines.specs.declared.lines.ShowFault.{ShowFault}
 use Rattle.fast_lines.specs.declared.lines.ShowFault.TheVariants.{Mismatch, Memory}
-use Rattle.fast_lines.specs.Lines.{is_plain, joined, unit_text}
+use Rattle.fast_lines.specs.declared.form.Form.{Form}
+use Rattle.fast_lines.specs.declared.form.Form.TheVariants.{Text, Json}
+use Rattle.fast_lines.specs.Lines.{joined}
+use Rattle.fast_lines.specs.Signs.{is_plain, unit_text}
 use Rattle.fast_lines.specs.Written.{Extends, Writes, Adds, Shows, Leads}
 
 -- ---- more behind an output
@@ -28,6 +32,10 @@ extends_more a b c x y = record {
   appended = y.appended ∙ ap (λ l. l ++ y.more) x.appended ∙ append_assoc a x.more y.more;
 }
 
+-- and more behind that
+pub appended_more : (a b c s t : List ℕ) → b ≡ a ++ s → c ≡ b ++ t → c ≡ a ++ (s ++ t)
+appended_more a b c s t e f = f ∙ ap (λ l. l ++ t) e ∙ append_assoc a s t
+
 -- ---- texts that are always there
 
 pub writes_err : (t a b : List ℕ) (r : Result Unit AllocError) → IsErr r → Extends a b → Writes t r a b
@@ -40,13 +48,16 @@ pub flat_map_one : (f : ℕ → List ℕ) (xs : List ℕ) (i : ℕ) (d : ℕ) �
 flat_map_one f xs i d lt =
     ap (flat_map f) (take_more xs i d lt) ∙ flat_map-append f (take i xs) (get_or xs i d ∷ []) ∙ ap (λ l. flat_map f (take i xs) ++ l) (append-nil (f (get_or xs i d)))
 
+plain_unit : (form : Form) (c : ℕ) → is_plain c ≡ true → unit_text form c ≡ c ∷ []
+plain_unit Text c e = rw e refl
+plain_unit Json c e = grind (arith, nat_tests)
+
 -- a string that stands as it is
-pub plain_text : (s : List ℕ) → list_all is_plain s ≡ true → flat_map unit_text s ≡ s
-plain_text [] e = refl
-plain_text (c ∷ s) e =
+pub plain_text : (form : Form) (s : List ℕ) → list_all is_plain s ≡ true → flat_map (unit_text form) s ≡ s
+plain_text form [] e = refl
+plain_text form (c ∷ s) e =
     let both = and_parts (is_plain c) (list_all is_plain s) e in
-    let here : unit_text c ≡ c ∷ [] = rw both.0 refl in
-    flat_map-cons unit_text c s ∙ ap₂ (λ x y. x ++ y) here (plain_text s both.1)
+    flat_map-cons (unit_text form) c s ∙ ap₂ (λ x y. x ++ y) (plain_unit form c both.0) (plain_text form s both.1)
 
 encode-append : (t xs ys : List ℕ) → encode_with t (xs ++ ys) ≡ encode_with t xs ++ encode_with t ys
 unfolding encode_with

@@ -1,3 +1,4 @@
 pub mod Lines
+pub mod Signs
 pub mod Told
 pub mod Written

@@ -1,10 +1,16 @@
-//! Messages of any template set as lines of text: of a message that is at hand, and of messages as they are read; and
-//! what a check says.
+//! Messages of any template set as lines, of text or of JSON: of a message that is at hand, and of messages as they are
+//! read; and what a check says.
 #![tactic(auto)]
 
+mod bytes;
+mod form;
 mod line;
 mod lines;
+mod signs;
+mod strings;
 mod writer;
 
+pub use form::{Form, JsonSigns, TextSigns};
 pub use lines::{ShowFault, push_line, push_ok_line};
+pub use signs::{Escape, Signs};
 pub use writer::LineWriter;

@@ -4,9 +4,12 @@ ghost use Rattle.std.specs.Prelude.{◌≡◌, ◌++◌, ◌∷◌, [], true, fa
 ghost use Rattle.std.specs.Option.{option_copied};
 ghost use Rattle.fast_stream.specs.Nodes.{single};
 ghost use Rattle.fast_lines.specs.Lines.{absent_text, field_text};
-ghost use Rattle.fast_lines.specs.Told.{Said, head_by, lead, line_now};
+ghost use Rattle.fast_lines.specs.Signs.{ending, head_text, is_led, label_text, lead};
+ghost use Rattle.fast_lines.specs.Told.{Said, line_now};
 
-use crate::lines::{ShowFault, push, push_byte, push_head, show_absent, show_item};
+use crate::bytes::{push_byte, push_sign};
+use crate::lines::{ShowFault, show_absent, show_item};
+use crate::signs::Signs;
 use fast_template::{Kind, Name, Presence, Scalar};
 use std::alloc::{AllocError, Global};
 
@@ -14,8 +17,8 @@ use std::alloc::{AllocError, Global};
 #[derive(Drop)]
 pub(crate) struct Line {
     pub(crate) text: Vec<u8>,
-    // whether a space stands in front of what is next
-    spaced: bool,
+    // whether what stands between two is due in front of what is next
+    led: bool,
 }
 
 impl Line {
@@ -24,129 +27,144 @@ impl Line {
     pub(crate) fn new(alloc: Global) -> Line {
         Line {
             text: Vec::new(alloc),
-            spaced: true,
+            led: true,
         }
     }
 
-    /// Begins a line with the identifier and the name of a template.
+    /// Begins a line with what stands in front of the fields of a message of a template.
     #[inline(always)]
-    pub(crate) fn begin(&mut self, id: u32, name: &str) -> Result<(), AllocError>
+    pub(crate) fn begin<S: Signs>(
+        &mut self,
+        signs: S,
+        id: u32,
+        name: &str,
+    ) -> Result<(), AllocError>
         ensures { OnOk result (line_now self.new
-            ≡ record { text = head_by id name.now; spaced = true }) }
+            ≡ record { text = head_text S.form id name.now; led = is_led S.form }) }
     {
         self.text.clear();
-        push_head(id, name, &mut self.text)?;
-        self.spaced = true;
+        signs.push_head(id, name, &mut self.text)?;
+        self.led = signs.is_led();
         Ok(())
     }
 
-    // Appends a space where one is due.
+    // Appends what stands between two where it is due.
     #[inline(always)]
-    fn space(&mut self) -> Result<(), AllocError>
+    fn lead<S: Signs>(&mut self, signs: S) -> Result<(), AllocError>
         ensures text { OnOk result (self.new.text.items ≡ self.old.text.items
-            ++ lead self.old.spaced) }
-        ensures spaced { self.new.spaced ≡ self.old.spaced }
+            ++ lead S.form self.old.led) }
+        ensures led { self.new.led ≡ self.old.led }
     {
-        if self.spaced {
-            push_byte(b' ', &mut self.text)
+        if self.led {
+            push_sign(signs.between(), &mut self.text)
         } else {
             Ok(())
         }
     }
 
-    /// Appends `NAME=`, behind a space where one is due.
+    /// Appends what stands in front of a value, behind what stands between two where it is due.
     #[inline(always)]
-    pub(crate) fn label(&mut self, name: &Name) -> Result<(), AllocError>
+    pub(crate) fn label<S: Signs>(&mut self, signs: S, name: &Name) -> Result<(), AllocError>
         ensures text { OnOk result (self.new.text.items ≡ self.old.text.items
-            ++ (lead self.old.spaced ++ (name.now ++ codes "="))) }
-        ensures spaced { OnOk result (self.new.spaced ≡ true) }
+            ++ (lead S.form self.old.led ++ label_text S.form name.now)) }
+        ensures led { OnOk result (self.new.led ≡ true) }
     {
-        self.space()?;
-        push(name.as_str().as_bytes(), &mut self.text)?;
-        push_byte(b'=', &mut self.text)?;
-        self.spaced = true;
+        self.lead(signs)?;
+        signs.push_label(name.as_str(), &mut self.text)?;
+        self.led = true;
         Ok(())
     }
 
-    /// Appends `NAME=VALUE` of a field.
+    /// Appends the label and the value of a field.
     #[inline(never)]
-    pub(crate) fn tell(
+    pub(crate) fn tell<S: Signs>(
         &mut self,
+        signs: S,
         name: &Name,
         kind: Kind,
         presence: Presence,
         value: Option<&Scalar>,
     ) -> Result<(), ShowFault>
-        ensures { OnOk result (Said name.now
-            (field_text kind presence (single (option_copied value.entry))) (line_now self.old)
-            (line_now self.new)) }
+        ensures { OnOk result (Said S.form name.now
+            (field_text S.form kind presence (single (option_copied value.entry)))
+            (line_now self.old) (line_now self.new)) }
     {
-        self.label(name)?;
-        show_item(kind, presence, value, &mut self.text)
+        self.label(signs, name)?;
+        show_item(signs, kind, presence, value, &mut self.text)
     }
 
-    /// Appends `NAME=-` of what is left out.
+    /// Appends the label of what is left out, and what stands for it.
     #[inline(always)]
-    pub(crate) fn tell_absent(&mut self, name: &Name, presence: Presence) -> Result<(), ShowFault>
-        ensures { OnOk result (Said name.now (absent_text presence) (line_now self.old)
-            (line_now self.new)) }
+    pub(crate) fn tell_absent<S: Signs>(
+        &mut self,
+        signs: S,
+        name: &Name,
+        presence: Presence,
+    ) -> Result<(), ShowFault>
+        ensures { OnOk result (Said S.form name.now (absent_text S.form presence)
+            (line_now self.old) (line_now self.new)) }
     {
-        self.label(name)?;
-        show_absent(presence, &mut self.text)
+        self.label(signs, name)?;
+        show_absent(signs, presence, &mut self.text)
     }
 
-    /// Appends a space where one is due, and a brace, behind which none is.
+    /// Appends a brace, behind what stands between two where it is due; behind the brace it is not.
     #[inline(always)]
-    pub(crate) fn open_brace(&mut self) -> Result<(), AllocError>
+    pub(crate) fn open_brace<S: Signs>(&mut self, signs: S) -> Result<(), AllocError>
         ensures text { OnOk result (self.new.text.items ≡ self.old.text.items
-            ++ (lead self.old.spaced ++ codes "{")) }
-        ensures spaced { OnOk result (self.new.spaced ≡ false) }
+            ++ (lead S.form self.old.led ++ codes "{")) }
+        ensures led { OnOk result (self.new.led ≡ false) }
     {
-        self.space()?;
+        self.lead(signs)?;
         self.open(b'{')
     }
 
-    /// Appends `NAME=` and a bracket or a brace, behind which no space is due.
+    /// Appends a label and a bracket or a brace, behind which nothing is due.
     #[inline(always)]
-    pub(crate) fn open_under(&mut self, name: &Name, bracket: u8) -> Result<(), AllocError>
+    pub(crate) fn open_under<S: Signs>(
+        &mut self,
+        signs: S,
+        name: &Name,
+        bracket: u8,
+    ) -> Result<(), AllocError>
         ensures text { OnOk result (self.new.text.items ≡ self.old.text.items
-            ++ ((lead self.old.spaced ++ (name.now ++ codes "=")) ++ bracket ∷ [])) }
-        ensures spaced { OnOk result (self.new.spaced ≡ false) }
+            ++ ((lead S.form self.old.led ++ label_text S.form name.now) ++ bracket ∷ [])) }
+        ensures led { OnOk result (self.new.led ≡ false) }
     {
-        self.label(name)?;
+        self.label(signs, name)?;
         self.open(bracket)
     }
 
-    // Appends a bracket or a brace, behind which no space is due.
+    // Appends a bracket or a brace, behind which nothing is due.
     #[inline(always)]
     fn open(&mut self, bracket: u8) -> Result<(), AllocError>
         ensures text { OnOk result (self.new.text.items ≡ self.old.text.items ++ bracket ∷ []) }
-        ensures spaced { OnOk result (self.new.spaced ≡ false) }
+        ensures led { OnOk result (self.new.led ≡ false) }
     {
         push_byte(bracket, &mut self.text)?;
-        self.spaced = false;
+        self.led = false;
         Ok(())
     }
 
-    /// Appends the bracket or the brace at the end, behind which a space is due.
+    /// Appends the bracket or the brace at the end, behind which what stands between two is due.
     #[inline(always)]
     pub(crate) fn close(&mut self, bracket: u8) -> Result<(), AllocError>
         ensures text { OnOk result (self.new.text.items ≡ self.old.text.items ++ bracket ∷ []) }
-        ensures spaced { OnOk result (self.new.spaced ≡ true) }
+        ensures led { OnOk result (self.new.led ≡ true) }
     {
         push_byte(bracket, &mut self.text)?;
-        self.spaced = true;
+        self.led = true;
         Ok(())
     }
 
     /// Ends the line, and appends it to an output, which a refused allocation leaves as it was.
     #[inline(always)]
-    pub(crate) fn end(&mut self, out: &mut Vec<u8>) -> Result<(), AllocError>
+    pub(crate) fn end<S: Signs>(&mut self, signs: S, out: &mut Vec<u8>) -> Result<(), AllocError>
         ensures ended { OnOk result (out.new.items ≡ out.old.items
-            ++ (self.old.text.items ++ codes "\n")) }
+            ++ (self.old.text.items ++ ending S.form)) }
         ensures unchanged { OnErr result (out.new.items ≡ out.old.items) }
     {
-        push_byte(b'\n', &mut self.text)?;
+        push_sign(signs.ending(), &mut self.text)?;
         out.extend_from_slice(&self.text)
     }
 }

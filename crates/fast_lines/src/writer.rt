@@ -8,10 +8,12 @@ ghost use Rattle.fast_stream.specs.Nodes.{single};
 ghost use Rattle.fast_walk.specs.Received.{Took, TookFrom};
 ghost use Rattle.fast_lines.specs.Lines.{field_text};
 ghost use Rattle.fast_template.specs.TemplateSets.{templates_in};
+ghost use Rattle.fast_lines.specs.Signs.{is_led};
 ghost use Rattle.fast_lines.specs.Told.{Said, head_in, line_now};
 
+use crate::bytes::push_decimal;
 use crate::line::Line;
-use crate::lines::push_decimal;
+use crate::signs::Signs;
 use fast_dictionary::{Entries, Entry};
 use fast_field::{FieldFault, read_in_place};
 use fast_part::{exponent_in, mantissa_in, take_given, take_part, take_quickly, unsigned_in};
@@ -22,7 +24,8 @@ use std::alloc::{AllocError, Global};
 
 // Takes a field's value in the general way, and tells it from where it lies: it is not copied.
 #[inline(always)]
-fn take_generally(
+fn take_generally<S: Signs>(
+    signs: S,
     alloc: Global,
     name: &Name,
     presence: Presence,
@@ -38,7 +41,7 @@ fn take_generally(
     ensures place { IfOk result (λ n. (at ≤ n) × (n ≤ length bytes.now)) }
     ensures told { IfOk result (λ n. (v : Option ScalarOf)
         × TookFrom level part.now bit entry.old entry.new v (drop at bytes.now) (drop n bytes.now)
-        × Said name.now (field_text part.now.kind presence (single v)) (line_now line.old)
+        × Said S.form name.now (field_text S.form part.now.kind presence (single v)) (line_now line.old)
         (line_now line.new)) }
     ensures stops { IfErr result (λ f. f ≢ FieldFault.Memory
         → (field_at level part.now entry.old bit (drop at bytes.now) ≡ Err f)
@@ -47,7 +50,13 @@ fn take_generally(
     match read_in_place(alloc, part, entry, bit, level, bytes, at) {
         Err(fault) => Err(fault),
         Ok((found, next)) => {
-            match line.tell(name, part.kind, presence, found.value(part, entry.view())) {
+            match line.tell(
+                signs,
+                name,
+                part.kind,
+                presence,
+                found.value(part, entry.view()),
+            ) {
                 Err(_) => Err(FieldFault::Memory),
                 Ok(()) => Ok(next),
             }
@@ -57,7 +66,8 @@ fn take_generally(
 
 // Takes a field's value, one that no byte gives and an integer at once, and tells it from where it lies.
 #[inline(always)]
-fn take(
+fn take<S: Signs>(
+    signs: S,
     alloc: Global,
     name: &Name,
     presence: Presence,
@@ -73,7 +83,7 @@ fn take(
     ensures place { IfOk result (λ n. (at ≤ n) × (n ≤ length bytes.now)) }
     ensures told { IfOk result (λ n. (v : Option ScalarOf)
         × TookFrom level part.now bit entry.old entry.new v (drop at bytes.now) (drop n bytes.now)
-        × Said name.now (field_text part.now.kind presence (single v)) (line_now line.old)
+        × Said S.form name.now (field_text S.form part.now.kind presence (single v)) (line_now line.old)
         (line_now line.new)) }
     ensures stops { IfErr result (λ f. f ≢ FieldFault.Memory
         → (field_at level part.now entry.old bit (drop at bytes.now) ≡ Err f)
@@ -81,16 +91,22 @@ fn take(
 {
     match take_given(part, entry, bit) {
         Some(found) => {
-            match line.tell(name, part.kind, presence, found.value(part, entry.view())) {
+            match line.tell(
+                signs,
+                name,
+                part.kind,
+                presence,
+                found.value(part, entry.view()),
+            ) {
                 Err(_) => Err(FieldFault::Memory),
                 Ok(()) => Ok(at),
             }
         }
         None => match take_quickly(part, entry, bit, level, bytes, at) {
             None => take_generally(
-                alloc, name, presence, part, entry, bit, level, bytes, at, line,
+                signs, alloc, name, presence, part, entry, bit, level, bytes, at, line,
             ),
-            Some((value, next)) => match line.tell(name, part.kind, presence, Some(&value)) {
+            Some((value, next)) => match line.tell(signs, name, part.kind, presence, Some(&value)) {
                 Err(_) => Err(FieldFault::Memory),
                 Ok(()) => Ok(next),
             },
@@ -100,7 +116,8 @@ fn take(
 
 // Takes a field's value from the bytes, makes its entry the one afterwards, and tells the value.
 #[inline(always)]
-fn tell<E: Entries>(
+fn tell<S: Signs, E: Entries>(
+    signs: S,
     alloc: Global,
     name: &Name,
     presence: Presence,
@@ -118,7 +135,7 @@ fn tell<E: Entries>(
     ensures told { IfOk result (λ n. (v : Option ScalarOf)
         × Took level part.now bit (E.contents entries.old) (E.contents entries.new) v
         (drop at bytes.now) (drop n bytes.now)
-        × Said name.now (field_text part.now.kind presence (single v)) (line_now line.old)
+        × Said S.form name.now (field_text S.form part.now.kind presence (single v)) (line_now line.old)
         (line_now line.new)) }
     ensures stops { IfErr result (λ f. f ≢ FieldFault.Memory
         → (field_at level part.now (entry_at (E.contents entries.old) part.now.key) bit
@@ -129,7 +146,7 @@ fn tell<E: Entries>(
     match entries.entry_mut(&part.key) {
         Err(_) => Err(FieldFault::Memory),
         Ok(entry) => match take(
-            alloc, name, presence, part, entry, bit, level, bytes, at, line,
+            signs, alloc, name, presence, part, entry, bit, level, bytes, at, line,
         ) {
             Err(fault) => Err(fault),
             Ok(next) => Ok(next),
@@ -137,12 +154,14 @@ fn tell<E: Entries>(
     }
 }
 
-/// Writes a line for each message of a set that it receives, each field as it is read and with no message made.
+/// Writes a line for each message of a set that it receives, in the form of its signs, each field as it is read and with
+/// no message made.
 ///
 /// The lines of the messages that are finished wait in it until they are handed on; what is written of the message
 /// that is open is no part of them.
 #[derive(Drop)]
-pub struct LineWriter<'a> {
+pub struct LineWriter<'a, S: Signs> {
+    signs: S,
     set: &'a TemplateSet,
     // of the message that is open
     line: Line,
@@ -152,7 +171,7 @@ pub struct LineWriter<'a> {
     out: Vec<u8>,
 }
 
-impl<'a> LineWriter<'a> {
+impl<'a, S: Signs> LineWriter<'a, S> {
     ghost use Rattle.std.specs.Prelude.{[], ◌∷◌, ◌++◌, List, ℕ};
     ghost use Rattle.std.specs.FinMap as finite;
     ghost use Rattle.fast_template.specs.Resolved.{Resolved};
@@ -162,12 +181,13 @@ impl<'a> LineWriter<'a> {
 
     /// For messages of a set: with none, and nothing handed on. Takes no memory.
     #[inline(always)]
-    pub fn new(alloc: Global, set: &'a TemplateSet) -> LineWriter<'a>
-        ensures stands { ⟦<LineWriter<'a> as Receiver>⟧.stands result (templates_in set.now)
+    pub fn new(alloc: Global, signs: S, set: &'a TemplateSet) -> LineWriter<'a, S>
+        ensures stands { ⟦<LineWriter<'a, S> as Receiver>⟧.stands result (templates_in set.now)
             (handed_on [] ∷ []) finite.empty }
         ensures empty { result.out.items ≡ [] }
     {
         LineWriter {
+            signs,
             set,
             line: Line::new(alloc),
             exponent: 0,
@@ -179,25 +199,25 @@ impl<'a> LineWriter<'a> {
     #[inline(always)]
     fn open_line(&mut self, id: u32) -> Result<(), AllocError>
         ensures line { OnOk result (line_now self.new.line
-            ≡ record { text = head_in (templates_in self.old.set.now) id; spaced = true }) }
+            ≡ record { text = head_in S.form (templates_in self.old.set.now) id; led = is_led S.form }) }
         ensures out { self.new.out ≡ self.old.out }
         ensures set { self.new.set ≡ self.old.set }
     {
         match self.set.name(id) {
-            Some(name) => self.line.begin(id, name),
-            None => self.line.begin(id, ""),
+            Some(name) => self.line.begin(self.signs, id, name),
+            None => self.line.begin(self.signs, id, ""),
         }
     }
 }
 
-impl Receiver for LineWriter<'_> {
+impl<S: Signs> Receiver for LineWriter<'_, S> {
     ghost use Rattle.fast_lines.specs.Told.{HasLines, HasTold};
 
-    ghost has = { λ w o d. HasTold w o d };
+    ghost has = { λ w o d. HasTold S.form w.out.items w.set.now w.exponent (line_now w.line) o };
 
-    ghost stands = { λ w set ms d. HasLines w set ms d };
+    ghost stands = { λ w set ms d. HasLines S.form w.out.items w.set.now set ms };
 
-    ghost keeps = { λ w set ms d. HasLines w set ms d };
+    ghost keeps = { λ w set ms d. HasLines S.form w.out.items w.set.now set ms };
 
     #[inline(always)]
     fn begin<E: Entries>(
@@ -224,7 +244,7 @@ impl Receiver for LineWriter<'_> {
 
     #[inline(always)]
     fn finish(&mut self, _alloc: Global) -> Result<(), AllocError> {
-        self.line.end(&mut self.out)?;
+        self.line.end(self.signs, &mut self.out)?;
         Ok(())
     }
 
@@ -245,6 +265,7 @@ impl Receiver for LineWriter<'_> {
         at: usize,
     ) -> Result<usize, FieldFault> {
         match tell(
+            self.signs,
             alloc,
             name,
             presence,
@@ -278,11 +299,11 @@ impl Receiver for LineWriter<'_> {
             Err(fault) => Err(fault),
             Ok((value, next)) => match exponent_in(&value) {
                 Err(fault) => Err(fault),
-                Ok(None) => match self.line.tell_absent(name, presence) {
+                Ok(None) => match self.line.tell_absent(self.signs, name, presence) {
                     Err(_) => Err(FieldFault::Memory),
                     Ok(()) => Ok((false, next)),
                 },
-                Ok(Some(exponent)) => match self.line.label(name) {
+                Ok(Some(exponent)) => match self.line.label(self.signs, name) {
                     Err(_) => Err(FieldFault::Memory),
                     Ok(()) => {
                         self.exponent = exponent;
@@ -335,11 +356,11 @@ impl Receiver for LineWriter<'_> {
             Err(fault) => Err(fault),
             Ok((value, next)) => match unsigned_in(&value) {
                 Err(fault) => Err(fault),
-                Ok(None) => match self.line.tell_absent(name, presence) {
+                Ok(None) => match self.line.tell_absent(self.signs, name, presence) {
                     Err(_) => Err(FieldFault::Memory),
                     Ok(()) => Ok((None, next)),
                 },
-                Ok(Some(length)) => match self.line.open_under(name, b'[') {
+                Ok(Some(length)) => match self.line.open_under(self.signs, name, b'[') {
                     Err(_) => Err(FieldFault::Memory),
                     Ok(()) => Ok((Some(length), next)),
                 },
@@ -349,7 +370,7 @@ impl Receiver for LineWriter<'_> {
 
     #[inline(always)]
     fn left_out(&mut self, name: &Name) -> Result<(), AllocError> {
-        match self.line.tell_absent(name, Presence::Optional) {
+        match self.line.tell_absent(self.signs, name, Presence::Optional) {
             Err(_) => Err(AllocError),
             Ok(()) => Ok(()),
         }
@@ -364,7 +385,7 @@ impl Receiver for LineWriter<'_> {
         _own_map: bool,
         _size: usize,
     ) -> Result<(), AllocError> {
-        self.line.open_under(name, b'{')?;
+        self.line.open_under(self.signs, name, b'{')?;
         Ok(())
     }
 
@@ -381,7 +402,7 @@ impl Receiver for LineWriter<'_> {
         _own_map: bool,
         _size: usize,
     ) -> Result<(), AllocError> {
-        self.line.open_brace()?;
+        self.line.open_brace(self.signs)?;
         Ok(())
     }
 
@@ -398,14 +419,14 @@ impl Receiver for LineWriter<'_> {
     }
 }
 
-impl Output for LineWriter<'_> {
+impl<S: Signs> Output for LineWriter<'_, S> {
     ghost use Rattle.std.specs.Prelude.{◌≡◌, Some};
     ghost use Rattle.std.proofs.Common.{inl, inr};
     ghost use Rattle.fast_lines.specs.Told.{lines_of_set};
 
     ghost waiting = { λ w. w.out.items };
 
-    ghost makes = { λ set ms out. lines_of_set set ms ≡ Some out };
+    ghost makes = { λ set ms out. lines_of_set S.form set ms ≡ Some out };
 
     #[inline(always)]
     fn finished(&self) -> &[u8] {

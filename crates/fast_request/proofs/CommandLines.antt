@@ -1,35 +1,35 @@
 -- Lines of words, computed: what is found of each.
 use Rattle.std.proofs.Common.{◌≡◌, List, [], ◌∷◌, Option, None, Some, refl}
 use Rattle.std.specs.Prelude.{codes}
-use Rattle.clap.specs.Words.{Text, first_of, matches_of, one_of}
+use Rattle.clap.specs.Words.{Text, first_of, one_of}
 use Rattle.clap.proofs.OnLiterals.{clap_on_literals}
-use Rattle.fast_request.specs.CommandLine.{command_named, line_among}
+use Rattle.fast_request.specs.CommandLine.{command_named, rows_among}
 use Rattle.fast_command.specs.declared.command.Command.TheVariants.{Check}
 
 abbrev of : Text → List Text → Option Text
-of id words = first_of id (matches_of (line_among None) words)
+of id words = first_of id (rows_among None words)
 
 abbrev flag : Text → List Text → Option Text
-flag id words = one_of id (matches_of (line_among None) words)
+flag id words = one_of id (rows_among None words)
 
 -- fastcat show --templates t.json
 abbrev plain : List Text
 plain = codes "fastcat" ∷ codes "show" ∷ codes "--templates" ∷ codes "t.json" ∷ []
 
 plain_command : of (codes "command") plain ≡ Some (codes "show")
-unfolding clap_on_literals
+unfolding rows_among clap_on_literals
 plain_command = refl
 
 plain_templates : of (codes "templates") plain ≡ Some (codes "t.json")
-unfolding clap_on_literals
+unfolding rows_among clap_on_literals
 plain_templates = refl
 
 plain_input : of (codes "input") plain ≡ None
-unfolding clap_on_literals
+unfolding rows_among clap_on_literals
 plain_input = refl
 
 plain_hex : flag (codes "hex") plain ≡ Some (codes "false")
-unfolding clap_on_literals
+unfolding rows_among clap_on_literals
 plain_hex = refl
 
 -- fastcat --hex check s.hex --templates=t.json
@@ -37,23 +37,23 @@ abbrev mixed : List Text
 mixed = codes "fastcat" ∷ codes "--hex" ∷ codes "check" ∷ codes "s.hex" ∷ codes "--templates=t.json" ∷ []
 
 mixed_command : of (codes "command") mixed ≡ Some (codes "check")
-unfolding clap_on_literals
+unfolding rows_among clap_on_literals
 mixed_command = refl
 
 mixed_templates : of (codes "templates") mixed ≡ Some (codes "t.json")
-unfolding clap_on_literals
+unfolding rows_among clap_on_literals
 mixed_templates = refl
 
 mixed_input : of (codes "input") mixed ≡ Some (codes "s.hex")
-unfolding clap_on_literals
+unfolding rows_among clap_on_literals
 mixed_input = refl
 
 mixed_hex : flag (codes "hex") mixed ≡ Some (codes "true")
-unfolding clap_on_literals
+unfolding rows_among clap_on_literals
 mixed_hex = refl
 
 mixed_strict : flag (codes "strict") mixed ≡ Some (codes "false")
-unfolding clap_on_literals
+unfolding rows_among clap_on_literals
 mixed_strict = refl
 
 -- fastcat canon --strict --templates t.json
@@ -61,11 +61,11 @@ abbrev strict : List Text
 strict = codes "fastcat" ∷ codes "canon" ∷ codes "--strict" ∷ codes "--templates" ∷ codes "t.json" ∷ []
 
 strict_flag : flag (codes "strict") strict ≡ Some (codes "true")
-unfolding clap_on_literals
+unfolding rows_among clap_on_literals
 strict_flag = refl
 
 strict_blocks : flag (codes "blocks") strict ≡ Some (codes "false")
-unfolding clap_on_literals
+unfolding rows_among clap_on_literals
 strict_blocks = refl
 
 -- fastcat --blocks canon --templates t.json
@@ -73,12 +73,28 @@ abbrev blocks : List Text
 blocks = codes "fastcat" ∷ codes "--blocks" ∷ codes "canon" ∷ codes "--templates" ∷ codes "t.json" ∷ []
 
 blocks_flag : flag (codes "blocks") blocks ≡ Some (codes "true")
-unfolding clap_on_literals
+unfolding rows_among clap_on_literals
 blocks_flag = refl
 
 blocks_strict : flag (codes "strict") blocks ≡ Some (codes "false")
-unfolding clap_on_literals
+unfolding rows_among clap_on_literals
 blocks_strict = refl
+
+-- fastcat show --json --templates t.json --explain
+abbrev explained : List Text
+explained = codes "fastcat" ∷ codes "show" ∷ codes "--json" ∷ codes "--templates" ∷ codes "t.json" ∷ codes "--explain" ∷ []
+
+explained_json : flag (codes "json") explained ≡ Some (codes "true")
+unfolding rows_among clap_on_literals
+explained_json = refl
+
+explained_flag : flag (codes "explain") explained ≡ Some (codes "true")
+unfolding rows_among clap_on_literals
+explained_flag = refl
+
+explained_hex : flag (codes "hex") explained ≡ Some (codes "false")
+unfolding rows_among clap_on_literals
+explained_hex = refl
 
 check_named : command_named (codes "check") ≡ Some Check
 check_named = refl

@@ -1,9 +1,8 @@
 -- What a command line asks for: the words that the program knows, as its parser has them, and what the parser finds of
 -- each in a line (our own).
-use Rattle.std.specs.Prelude.{◌≡◌, List, Bool, true, false, codes, Option, None, Some, if◌then◌else◌}
+use Rattle.std.specs.Prelude.{◌≡◌, ℕ, List, Bool, true, false, codes, Option, None, Some, option_map, if◌then◌else◌}
 use Rattle.std.specs.Str.{bytes_eq}
-use Rattle.clap.specs.Words.{App, Rule, Text, first_of, first_value, matches_of, new_app, new_rule, one_of, one_text, with_rule}
-use Rattle.clap.specs.declared.parser.matches.Found.{Found}
+use Rattle.clap.specs.Words.{App, Row, Rule, Text, first_of, matches_of, new_app, new_rule, one_of, with_rule}
 use Rattle.clap.specs.Simple.{on_top}
 use Rattle.clap.specs.declared.builder.ArgAction.TheVariants.{SetTrue}
 use Rattle.clap.specs.declared.builder.value_parser.ValueParser.{ValueParser}
@@ -14,6 +13,9 @@ use Rattle.fast_stream.specs.declared.mode.Framing.TheVariants.{Plain, Blocks}
 use Rattle.fast_stream.specs.declared.mode.Mode.{Mode}
 use Rattle.fast_command.specs.declared.command.Command.{Command}
 use Rattle.fast_command.specs.declared.command.Command.TheVariants.{Show, Check, Canon}
+use Rattle.fast_lines.specs.declared.form.Form.{Form}
+use Rattle.fast_lines.specs.declared.form.Form.TheVariants as forms
+use Rattle.fast_request.specs.declared.request.Request.{Request}
 
 -- ---- the words
 
@@ -29,25 +31,53 @@ input_rule = record (new_rule (codes "input")) { value_names = 1 }
 abbrev pub templates_rule : Rule
 templates_rule = record (new_rule (codes "templates")) { long = Some (codes "templates"); value_names = 1; required = true }
 
--- --hex
-abbrev pub hex_rule : Rule
-hex_rule = record (new_rule (codes "hex")) { long = Some (codes "hex"); action = Some SetTrue }
-
--- --strict
-abbrev pub strict_rule : Rule
-strict_rule = record (new_rule (codes "strict")) { long = Some (codes "strict"); action = Some SetTrue }
-
--- --blocks
-abbrev pub blocks_rule : Rule
-blocks_rule = record (new_rule (codes "blocks")) { long = Some (codes "blocks"); action = Some SetTrue }
+-- a flag, as --hex
+abbrev pub flag_rule : Text → Rule
+flag_rule name = record (new_rule name) { long = Some name; action = Some SetTrue }
 
 -- fastcat, with --help and --version
 abbrev pub bare_app : App
 bare_app = on_top (λ s. record s { has_version = true }) (new_app (codes "fastcat"))
 
--- fastcat COMMAND [FILE] --templates FILE [--hex] [--strict] [--blocks]
+-- COMMAND [FILE] --templates FILE
+abbrev pub with_files_lem : Option ValueParser → App → App
+with_files_lem among app = with_rule (with_rule (with_rule app (command_rule among)) input_rule) templates_rule
+
+-- [--hex] [--strict] [--blocks] [--json] [--explain]
+abbrev pub with_flags_lem : App → App
+with_flags_lem app =
+    with_rule (with_rule (with_rule (with_rule (with_rule app (flag_rule (codes "hex"))) (flag_rule (codes "strict")))
+    (flag_rule (codes "blocks"))) (flag_rule (codes "json"))) (flag_rule (codes "explain"))
+
 abbrev pub line_among : Option ValueParser → App
-line_among among = with_rule (with_rule (with_rule (with_rule (with_rule (with_rule bare_app (command_rule among)) input_rule) templates_rule) hex_rule) strict_rule) blocks_rule
+line_among among = with_flags_lem (with_files_lem among bare_app)
+
+-- what is found in these words of each that the program knows
+unfoldable pub rows_among : Option ValueParser → List Text → List Row
+rows_among among words = matches_of (line_among among) words
+
+-- ---- what is asked for
+
+-- with how the stream is read, what is shown of a message and the names of the files; without one the input is the standard input
+pub record Asked : Type 0 where
+  pub command : Command
+  pub templates : List ℕ
+  pub hex : Bool
+  pub mode : Mode
+  pub form : Form
+  pub explain : Bool
+  pub input : Option (List ℕ)
+
+abbrev pub asked_by : Request → Asked
+asked_by r = record {
+  command = r.command;
+  templates = r.templates.now;
+  hex = r.hex;
+  mode = r.mode;
+  form = r.form;
+  explain = r.explain;
+  input = option_map (λ name. name.now) r.input;
+}
 
 -- ---- what is found of them
 
@@ -70,25 +100,23 @@ abbrev pub is_blocks : Framing → Bool
 is_blocks Plain = false
 is_blocks Blocks = true
 
--- what is asked for is what a parser found
-pub record Finds (found : Found) (command : Command) (templates : Text) (hex : Bool) (mode : Mode) (input : Option Text) : Type 0 where
-  pub word : Text
-  pub command_word : first_value found (codes "command") ≡ Some word
-  pub command_is : command_named word ≡ Some command
-  pub templates_are : first_value found (codes "templates") ≡ Some templates
-  pub hex_is : IsFlag (one_text found (codes "hex")) hex
-  pub strict_is : IsFlag (one_text found (codes "strict")) (is_strict mode.level)
-  pub blocks_is : IsFlag (one_text found (codes "blocks")) (is_blocks mode.framing)
-  pub input_is : first_value found (codes "input") ≡ input
+abbrev pub is_json : Form → Bool
+is_json forms.Text = false
+is_json forms.Json = true
 
--- what is asked for is what the parser finds in the words
-pub record AsksFor (words : List Text) (command : Command) (templates : Text) (hex : Bool) (mode : Mode) (input : Option Text) : Type 0 where
-  pub among : Option ValueParser
+-- what is found in the words is what is asked for
+pub record Finds (rows : List Row) (asked : Asked) : Type 0 where
   pub word : Text
-  pub command_word : first_of (codes "command") (matches_of (line_among among) words) ≡ Some word
-  pub command_is : command_named word ≡ Some command
-  pub templates_are : first_of (codes "templates") (matches_of (line_among among) words) ≡ Some templates
-  pub hex_is : IsFlag (one_of (codes "hex") (matches_of (line_among among) words)) hex
-  pub strict_is : IsFlag (one_of (codes "strict") (matches_of (line_among among) words)) (is_strict mode.level)
-  pub blocks_is : IsFlag (one_of (codes "blocks") (matches_of (line_among among) words)) (is_blocks mode.framing)
-  pub input_is : first_of (codes "input") (matches_of (line_among among) words) ≡ input
+  pub command_word : first_of (codes "command") rows ≡ Some word
+  pub command_is : command_named word ≡ Some asked.command
+  pub templates_are : first_of (codes "templates") rows ≡ Some asked.templates
+  pub hex_is : IsFlag (one_of (codes "hex") rows) asked.hex
+  pub strict_is : IsFlag (one_of (codes "strict") rows) (is_strict asked.mode.level)
+  pub blocks_is : IsFlag (one_of (codes "blocks") rows) (is_blocks asked.mode.framing)
+  pub json_is : IsFlag (one_of (codes "json") rows) (is_json asked.form)
+  pub explain_is : IsFlag (one_of (codes "explain") rows) asked.explain
+  pub input_is : first_of (codes "input") rows ≡ asked.input
+
+-- the words ask for this
+abbrev pub AsksFor : List Text → Asked → Type 0
+AsksFor words asked = (among : Option ValueParser) × Finds (rows_among among words) asked

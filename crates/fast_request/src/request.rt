@@ -1,14 +1,12 @@
 //! What a command line asks for.
 
-ghost use Rattle.std.specs.Prelude.{◌≡◌, None, Some, IfNone, IfOk, IfSome, false, map, option_and_then, option_map};
-ghost use Rattle.std.specs.Option.{option_copied};
-ghost use Rattle.clap.specs.Words.{app_of, found_of, rule_of};
-ghost use Rattle.clap.specs.declared.builder.value_parser.ValueParser.{ValueParser};
-ghost use Rattle.fast_request.specs.CommandLine.{AsksFor, Finds, bare_app, blocks_rule, command_named, command_rule, hex_rule, input_rule, is_blocks, is_strict, line_among, strict_rule, templates_rule};
+ghost use Rattle.std.specs.Prelude.{◌≡◌, None, Some, IfNone, IfOk, IfSome, codes, false, map, option_and_then, option_map};
+ghost use Rattle.clap.specs.Words.{app_of, first_of, found_of, one_of, rows_of, rule_of};
+ghost use Rattle.fast_request.specs.CommandLine.{AsksFor, Finds, IsFlag, asked_by, bare_app, command_named, command_rule, flag_rule, input_rule, is_blocks, is_json, is_strict, line_among, templates_rule, with_files_lem, with_flags_lem};
 
 use clap::error::ErrorKind;
 use clap::{Arg, ArgAction, ArgMatches};
-use fast_command::{Command, Framing, Level, Mode};
+use fast_command::{Command, Form, Framing, Level, Mode};
 use std::alloc::{AllocError, Global};
 
 /// What a command line asks for.
@@ -21,6 +19,10 @@ pub struct Request<'a> {
     pub hex: bool,
     /// How the stream is read.
     pub mode: Mode,
+    /// How `show` writes a message.
+    pub form: Form,
+    /// Whether a refusal is explained.
+    pub explain: bool,
     /// The name of the file with the stream; without one it is the standard input.
     pub input: Option<&'a str>,
 }
@@ -42,6 +44,17 @@ Example:
   echo '{\"templates\":[{\"name\":\"Tick\",\"id\":1,\"instructions\":[
     {\"kind\":\"uInt32\",\"name\":\"Price\",\"operator\":\"copy\"}]}]}' > tick.json
   echo e0 81 85 80 | fastcat show --templates tick.json --hex";
+
+/// What the help says of each flag.
+const HEX: &str = "Read hex text, and write canonical bytes as hex text";
+
+const STRICT: &str = "Refuse overlong entities, and map bits that no instruction asked for";
+
+const BLOCKS: &str = "Read a stream of blocks: a size, and as many bytes of whole messages";
+
+const JSON: &str = "Show each message as a JSON text";
+
+const EXPLAIN: &str = "Say of a refusal what it means, where it is and what to do";
 
 /// The word for the command, which has to be there.
 fn command_word<'a>(alloc: Global) -> Arg<'a>
@@ -77,37 +90,15 @@ fn templates_word<'a>(alloc: Global) -> Arg<'a>
         .help("The templates of the stream, a JSON text")
 }
 
-/// The flag for hex text.
-fn hex_word<'a>(alloc: Global) -> Arg<'a>
-    ensures rule { rule_of result ≡ hex_rule }
+/// A flag: a word that is there or is not.
+fn flag<'a>(alloc: Global, name: &'a str, help: &'a str) -> Arg<'a>
+    ensures rule { rule_of result ≡ flag_rule name.now }
     ensures local { result.global ≡ false }
 {
-    Arg::new(alloc, "hex")
-        .long("hex")
+    Arg::new(alloc, name)
+        .long(name)
         .action(ArgAction::SetTrue)
-        .help("Read hex text, and write canonical bytes as hex text")
-}
-
-/// The flag for the strict level.
-fn strict_word<'a>(alloc: Global) -> Arg<'a>
-    ensures rule { rule_of result ≡ strict_rule }
-    ensures local { result.global ≡ false }
-{
-    Arg::new(alloc, "strict")
-        .long("strict")
-        .action(ArgAction::SetTrue)
-        .help("Refuse overlong entities, and map bits that no instruction asked for")
-}
-
-/// The flag for blocks.
-fn blocks_word<'a>(alloc: Global) -> Arg<'a>
-    ensures rule { rule_of result ≡ blocks_rule }
-    ensures local { result.global ≡ false }
-{
-    Arg::new(alloc, "blocks")
-        .long("blocks")
-        .action(ArgAction::SetTrue)
-        .help("Read a stream of blocks: a size, and as many bytes of whole messages")
+        .help(help)
 }
 
 /// The program without its words.
@@ -120,17 +111,33 @@ fn bare_line<'a>(alloc: Global) -> clap::Command<'a>
         .after_help(MORE)
 }
 
+/// Adds the command and the files.
+fn with_files<'a>(alloc: Global, line: clap::Command<'a>) -> Result<clap::Command<'a>, AllocError>
+    ensures { IfOk result (λ whole. (among : _)
+        × (app_of whole ≡ with_files_lem among (app_of line.entry))) }
+{
+    line.arg(command_word(alloc))?
+        .arg(input_word(alloc))?
+        .arg(templates_word(alloc))
+}
+
+/// Adds the flags.
+fn with_flags<'a>(alloc: Global, line: clap::Command<'a>) -> Result<clap::Command<'a>, AllocError>
+    ensures { IfOk result (λ whole. app_of whole ≡ with_flags_lem (app_of line.entry)) }
+{
+    line.arg(flag(alloc, "hex", HEX))?
+        .arg(flag(alloc, "strict", STRICT))?
+        .arg(flag(alloc, "blocks", BLOCKS))?
+        .arg(flag(alloc, "json", JSON))?
+        .arg(flag(alloc, "explain", EXPLAIN))
+}
+
 /// The words that a command line may have.
 fn line<'a>(alloc: Global) -> Result<clap::Command<'a>, AllocError>
     ensures { IfOk result (λ line. (among : _) × (app_of line ≡ line_among among)) }
 {
-    bare_line(alloc)
-        .arg(command_word(alloc))?
-        .arg(input_word(alloc))?
-        .arg(templates_word(alloc))?
-        .arg(hex_word(alloc))?
-        .arg(strict_word(alloc))?
-        .arg(blocks_word(alloc))
+    let files = with_files(alloc, bare_line(alloc))?;
+    with_flags(alloc, files)
 }
 
 /// The command of a word.
@@ -146,7 +153,7 @@ fn command_of(word: Option<&str>) -> Option<Command>
 }
 
 /// How a stream is read, by the flags.
-fn mode_of(strict: bool, blocks: bool) -> Mode
+fn mode_by(strict: bool, blocks: bool) -> Mode
     ensures strict { is_strict result.level ≡ strict }
     ensures blocks { is_blocks result.framing ≡ blocks }
 {
@@ -159,19 +166,56 @@ fn mode_of(strict: bool, blocks: bool) -> Mode
     Mode { level, framing }
 }
 
+/// The first value of a word that a parser found.
+fn word_of<'a>(matches: &ArgMatches<'a>, id: &str) -> Option<&'a str>
+    ensures { option_map (λ w. w.now) result ≡ first_of id.now (rows_of (found_of matches.now)) }
+{
+    matches.get_str(id)
+}
+
+/// Whether a parser found a flag.
+fn is_set(matches: &ArgMatches<'_>, id: &str) -> bool
+    ensures { IsFlag (one_of id.now (rows_of (found_of matches.now))) result }
+{
+    matches.get_flag(id)
+}
+
+/// How a parser found that a stream is read.
+fn mode_of(matches: &ArgMatches<'_>) -> Mode
+    ensures strict { IsFlag (one_of (codes "strict") (rows_of (found_of matches.now))) (is_strict result.level) }
+    ensures blocks { IsFlag (one_of (codes "blocks") (rows_of (found_of matches.now))) (is_blocks result.framing) }
+{
+    mode_by(is_set(matches, "strict"), is_set(matches, "blocks"))
+}
+
+/// How `show` writes a message, by the flag.
+fn form_by(json: bool) -> Form
+    ensures { is_json result ≡ json }
+{
+    if json { Form::Json } else { Form::Text }
+}
+
+/// How a parser found that `show` writes a message.
+fn form_of(matches: &ArgMatches<'_>) -> Form
+    ensures { IsFlag (one_of (codes "json") (rows_of (found_of matches.now))) (is_json result) }
+{
+    form_by(is_set(matches, "json"))
+}
+
 /// What is asked for by what a parser found; none where a word is not there that has to be.
 fn request_of<'a>(matches: &ArgMatches<'a>) -> Option<Request<'a>>
-    ensures { IfSome result (λ r. Finds (found_of matches.now) r.command r.templates.now r.hex r.mode
-        (option_map (λ name. name.now) r.input)) }
+    ensures { IfSome result (λ r. Finds (rows_of (found_of matches.now)) (asked_by r)) }
 {
-    let command = command_of(matches.get_str("command"));
-    match (command, matches.get_str("templates")) {
+    let command = command_of(word_of(matches, "command"));
+    match (command, word_of(matches, "templates")) {
         (Some(command), Some(templates)) => Some(Request {
             command,
             templates,
-            hex: matches.get_flag("hex"),
-            mode: mode_of(matches.get_flag("strict"), matches.get_flag("blocks")),
-            input: matches.get_str("input"),
+            hex: is_set(matches, "hex"),
+            mode: mode_of(matches),
+            form: form_of(matches),
+            explain: is_set(matches, "explain"),
+            input: word_of(matches, "input"),
         }),
         (_, _) => None,
     }
@@ -179,8 +223,7 @@ fn request_of<'a>(matches: &ArgMatches<'a>) -> Option<Request<'a>>
 
 /// Reads a command line, of which the first word is the program's name.
 pub fn parse_words<'a>(alloc: Global, words: &'a [&'a str]) -> Result<Request<'a>, clap::Error>
-    ensures { IfOk result (λ r. AsksFor (map (λ w. w.now) words.now) r.command r.templates.now r.hex r.mode
-        (option_map (λ name. name.now) r.input)) }
+    ensures { IfOk result (λ r. AsksFor (map (λ w. w.now) words.now) (asked_by r)) }
 {
     let mut line = line(alloc)?;
     let matches = line.try_get_matches_from_mut(words)?;

@@ -1,1 +1,2 @@
+mod Sayings
 mod Texts

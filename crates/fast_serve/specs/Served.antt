@@ -1,6 +1,6 @@
 -- What the program did, by what its files and its input gave and what its output took. How it answers is the project's
 -- own.
-use Rattle.std.specs.Prelude.{◌≡◌, ◌≢◌, ◌⊎◌, ℕ, ◌≤◌, ◌++◌, List, [], ◌∷◌, Bool, true, false, Option, None, Some, option_map, Result, Ok, Err, IsErr, IsErrAnd, IsUtf8}
+use Rattle.std.specs.Prelude.{◌≡◌, ◌≢◌, ◌⊎◌, ℕ, ◌≤◌, ◌++◌, List, [], ◌∷◌, Bool, true, false, Option, None, Some, Result, Ok, Err, IsErr, IsErrAnd, IsUtf8}
 use Rattle.std.specs.Io.KnownBytes.{Appends}
 use Rattle.hex.specs.Hex.{decode_of, encode_lower}
 use Rattle.serde_json.specs.Data.{Data}
@@ -20,12 +20,13 @@ use Rattle.fast_host.specs.Input.{GivesNoText, IsText}
 use Rattle.fast_host.specs.Refusals.{IsOfLoad, IsOfRun, IsOfStream, IsTextOrMemory, of_template_text_lem, of_text_lem, status_of, text_of}
 use Rattle.fast_host.specs.Devices.{Inputs, Writer, input_of}
 use Rattle.fast_command.specs.Run.{Runs}
+use Rattle.fast_lines.specs.declared.form.Form.{Form}
+use Rattle.fast_lines.specs.declared.form.Form.TheVariants.{Text}
 use Rattle.fast_stream.specs.declared.mode.Mode.{Mode}
-use Rattle.fast_request.specs.CommandLine.{AsksFor}
+use Rattle.fast_request.specs.CommandLine.{Asked, AsksFor}
 use Rattle.fast_command.specs.declared.command.Command.{Command}
 use Rattle.fast_command.specs.declared.command.Command.TheVariants.{Show, Check, Canon}
 use Rattle.fast_host.specs.declared.input.TextFault.{TextFault}
-use Rattle.fast_request.specs.declared.request.Request.{Request}
 use Rattle.fast_host.specs.declared.refusal.Refusal.{Refusal}
 use Rattle.fast_host.specs.declared.refusal.Refusal.TheVariants as refusal
 
@@ -89,12 +90,12 @@ AnswersRun (Ok summary) r = r ≡ Ok tt
 AnswersRun (Err f) r = IsErrAnd r (IsOfRun f)
 
 -- a command was run from the bytes read to those written
-pub record RunsPlain (command : Command) (mode : Mode) (set : TemplateList) (turns : ℕ) (in_old in_new : Reader) (out_old out_new : Writer) (r : Answer) : Type 0 where
+pub record RunsPlain (command : Command) (mode : Mode) (form : Form) (set : TemplateList) (turns : ℕ) (in_old in_new : Reader) (out_old out_new : Writer) (r : Answer) : Type 0 where
   pub count : ℕ
   pub input : List ℕ
   pub answer : Result Summary CanonFault
   pub read : ReadsUpTo turns count in_old in_new input
-  pub ran : Runs command mode set turns in_new.left out_old.taken out_new.taken input answer
+  pub ran : Runs command mode form set turns in_new.left out_old.taken out_new.taken input answer
   pub caused : IsCausedBy answer (count ≡ turns) in_old in_new
   pub write_failed : out_new.errors ≡ errors_after answer out_old.errors
   pub flushed : FlushesOnce answer out_old.flushes out_new.flushes
@@ -134,19 +135,19 @@ pub record CanonInHex (mode : Mode) (set : TemplateList) (turns : ℕ) (stream :
   pub answer : Result Summary CanonFault
   pub begins : in_old.left ≡ Some stream
   pub read : ReadsUpTo turns count in_old in_new input
-  pub ran : Runs Canon mode set turns in_new.left (Some []) (Some bytes) input answer
+  pub ran : Runs Canon mode Text set turns in_new.left (Some []) (Some bytes) input answer
   pub answered : AnswersInHex old new bytes answer r
 
 -- a command was run over a stream in memory
-abbrev pub RunsInMemory : Command → Mode → TemplateList → ℕ → List ℕ → Writer → Writer → Answer → Type 0
-RunsInMemory command mode set turns stream old new r =
-    (in_old : Reader) × (in_new : Reader) × (in_old.left ≡ Some stream) × RunsPlain command mode set turns in_old in_new old new r
+abbrev pub RunsInMemory : Command → Mode → Form → TemplateList → ℕ → List ℕ → Writer → Writer → Answer → Type 0
+RunsInMemory command mode form set turns stream old new r =
+    (in_old : Reader) × (in_new : Reader) × (in_old.left ≡ Some stream) × RunsPlain command mode form set turns in_old in_new old new r
 
 -- what was done of a stream in hex text
-abbrev pub PerformsInHex : Command → Mode → TemplateList → ℕ → List ℕ → Writer → Writer → Answer → Type 0
-PerformsInHex Show mode set turns stream old new r = RunsInMemory Show mode set turns stream old new r
-PerformsInHex Check mode set turns stream old new r = RunsInMemory Check mode set turns stream old new r
-PerformsInHex Canon mode set turns stream old new r = CanonInHex mode set turns stream old new r
+abbrev pub PerformsInHex : Command → Mode → Form → TemplateList → ℕ → List ℕ → Writer → Writer → Answer → Type 0
+PerformsInHex Show mode form set turns stream old new r = RunsInMemory Show mode form set turns stream old new r
+PerformsInHex Check mode form set turns stream old new r = RunsInMemory Check mode form set turns stream old new r
+PerformsInHex Canon mode form set turns stream old new r = CanonInHex mode set turns stream old new r
 
 -- why an input gives no bytes of hex text: it was not read whole, or is no hex, or there was no memory
 abbrev pub RefusesHex : ℕ → Reader → Reader → Refusal → Type 0
@@ -159,35 +160,24 @@ abbrev pub ReadsHex : ℕ → Reader → Reader → List ℕ → Type 0
 ReadsHex turns old new bytes = (text : List ℕ) × HasText turns old new text × (decode_of (digits_of text) ≡ Ok bytes)
 
 -- the input is no hex text, and nothing was written; or it is that of a stream, of which this was done
-abbrev pub PerformsHexText : Command → Mode → TemplateList → ℕ → Reader → Reader → Writer → Writer → Answer → Type 0
-PerformsHexText command mode set turns in_old in_new out_old out_new r =
+abbrev pub PerformsHexText : Command → Mode → Form → TemplateList → ℕ → Reader → Reader → Writer → Writer → Answer → Type 0
+PerformsHexText command mode form set turns in_old in_new out_old out_new r =
     (IsErrAnd r (RefusesHex turns in_old in_new) × (out_new ≡ out_old))
-    ⊎ ((stream : List ℕ) × ReadsHex turns in_old in_new stream × PerformsInHex command mode set turns stream out_old out_new r)
+    ⊎ ((stream : List ℕ) × ReadsHex turns in_old in_new stream × PerformsInHex command mode form set turns stream out_old out_new r)
 
 -- ---- what is asked for
 
--- what a command line asks for, with how the stream is read and the names of the files; without one the input is the standard input
-pub record Asked : Type 0 where
-  pub command : Command
-  pub templates : List ℕ
-  pub hex : Bool
-  pub mode : Mode
-  pub input : Option (List ℕ)
-
-abbrev pub asked_by : Request → Asked
-asked_by r = record { command = r.command; templates = r.templates.now; hex = r.hex; mode = r.mode; input = option_map (λ name. name.now) r.input }
-
 -- a command over an input in plain bytes, or in hex text
-abbrev pub PerformsOver : Bool → Command → Mode → TemplateList → ℕ → Reader → Reader → Writer → Writer → Answer → Type 0
-PerformsOver false command mode set turns in_old in_new out_old out_new r = RunsPlain command mode set turns in_old in_new out_old out_new r
-PerformsOver true command mode set turns in_old in_new out_old out_new r = PerformsHexText command mode set turns in_old in_new out_old out_new r
+abbrev pub PerformsOver : Bool → Command → Mode → Form → TemplateList → ℕ → Reader → Reader → Writer → Writer → Answer → Type 0
+PerformsOver false command mode form set turns in_old in_new out_old out_new r = RunsPlain command mode form set turns in_old in_new out_old out_new r
+PerformsOver true command mode form set turns in_old in_new out_old out_new r = PerformsHexText command mode form set turns in_old in_new out_old out_new r
 
 -- with templates that are loaded: the input's file cannot be opened, or it was opened at its beginning
 abbrev pub PerformsWith : Asked → TemplateList → Inputs → ℕ → Writer → Writer → Answer → Type 0
 PerformsWith asked set inputs turns out_old out_new r =
     ((asked.input ≢ None) × (r ≡ Err refusal.Open) × (out_new ≡ out_old))
     ⊎ ((in_old : Reader) × (in_new : Reader) × (in_old.left ≡ input_of inputs asked.input)
-    × PerformsOver asked.hex asked.command asked.mode set turns in_old in_new out_old out_new r)
+    × PerformsOver asked.hex asked.command asked.mode asked.form set turns in_old in_new out_old out_new r)
 
 -- the templates are refused, and nothing was written; or they are loaded
 abbrev pub PerformsAsked : Asked → Inputs → ℕ → Writer → Writer → Answer → Type 0
@@ -199,7 +189,7 @@ PerformsAsked asked inputs turns out_old out_new r =
 abbrev pub Performs : List (List ℕ) → Inputs → ℕ → Writer → Writer → Answer → Type 0
 Performs words inputs turns out_old out_new r =
     (IsErrAnd r IsTextOrMemory × (out_new ≡ out_old))
-    ⊎ ((asked : Asked) × AsksFor words asked.command asked.templates asked.hex asked.mode asked.input × PerformsAsked asked inputs turns out_old out_new r)
+    ⊎ ((asked : Asked) × AsksFor words asked × PerformsAsked asked inputs turns out_old out_new r)
 
 -- ---- what is said
 
@@ -214,7 +204,16 @@ SaysText old new text =
     (Appends old.taken new.taken text × (new.errors ≡ old.errors) × (new.flushes ≡ counted old.flushes))
     ⊎ (new.errors ≡ counted old.errors)
 
--- what is said of what was done: nothing where it was done, and else the refusal's text, unless a call failed
-abbrev pub Says : Writer → Writer → Answer → Type 0
-Says old new (Ok done) = new ≡ old
-Says old new (Err r) = SaysText old new (text_of r)
+-- what is said of what was done: nothing where it was done, and else the refusal's text, and where it is explained more
+-- behind it, unless a call failed
+abbrev pub Says : Bool → Writer → Writer → Answer → Type 0
+Says explain old new (Ok done) = new ≡ old
+Says explain old new (Err r) = (more : List ℕ) × (explain ≡ false → more ≡ []) × SaysText old new (text_of r ++ more)
+
+-- the words ask for an explanation
+abbrev pub AsksToExplain : List (List ℕ) → Type 0
+AsksToExplain words = (asked : Asked) × AsksFor words asked × (asked.explain ≡ true)
+
+-- it is explained only where the words ask for it
+abbrev pub SaysAsked : List (List ℕ) → Writer → Writer → Answer → Type 0
+SaysAsked words old new r = (explain : Bool) × (explain ≡ true → AsksToExplain words) × Says explain old new r

@@ -1,15 +1,17 @@
 //! The program as a call: from a command line, files and streams to the exit status.
 
-ghost use Rattle.std.specs.Prelude.{◌≡◌, ◌≢◌, ◌≤◌, ◌⊎◌, ◌^◌, None, Ok, Err, IfErr, IfOk, map, string_bytes};
-ghost use Rattle.fast_decoder.specs.Inputs.{reader_by};
+ghost use Rattle.std.specs.Prelude.{◌≡◌, ◌≢◌, ◌≤◌, ◌⊎◌, ◌^◌, ◌++◌, ℕ, List, None, Ok, Err, IfErr, IfOk, map, string_bytes};
+ghost use Rattle.fast_decoder.specs.Inputs.{Reader, reader_by};
 ghost use Rattle.fast_template.specs.TemplateSets.{TemplateList};
 ghost use Rattle.fast_host.specs.Devices.{inputs_by, writer_by};
 ghost use Rattle.fast_host.specs.Refusals.{status_of, text_of};
-ghost use Rattle.fast_serve.specs.Served.{CanonInHex, LoadsSet, Performs, PerformsAsked, PerformsHexText, PerformsInHex, PerformsOver, PerformsWith, ReadsHex, RefusesHex, RefusesTemplates, RunsPlain, Says, SaysText, WritesHex, asked_by, status_after};
+ghost use Rattle.fast_request.specs.CommandLine.{asked_by};
+ghost use Rattle.fast_serve.specs.Served.{CanonInHex, LoadsSet, Performs, PerformsAsked, PerformsHexText, PerformsInHex, PerformsOver, PerformsWith, ReadsHex, RefusesHex, RefusesTemplates, RunsPlain, Says, SaysAsked, SaysText, WritesHex, status_after};
 
 use fast_build::Load;
 use fast_canon::CanonFault;
-use fast_command::{Command, Mode, run};
+use fast_command::{Command, Form, Mode, run};
+use fast_explain::{Files, Notes, Seen, explain};
 use fast_host::{MemoryOutput, Refusal, Source, hex_line, read_hex, read_text};
 use fast_io::{ByteInput, ByteOutput, Counted, write_all};
 use fast_request::{Request, parse_words};
@@ -25,6 +27,7 @@ fn read_templates<I: ByteInput>(
     alloc: Global,
     input: &mut I,
     turns: u64,
+    notes: &mut Notes,
 ) -> Result<TemplateSet, Refusal>
     ensures ok { IfOk result (λ set. LoadsSet (I.left input.old) turns set) }
     ensures refused { IfErr result (RefusesTemplates (I.left input.old) turns) }
@@ -33,7 +36,10 @@ fn read_templates<I: ByteInput>(
         Err(fault) => Err(Refusal::of_template_text(fault)),
         Ok(text) => match TemplateSet::from_json(alloc, &text) {
             Ok(set) => Ok(set),
-            Err(fault) => Err(Refusal::of_load(alloc, fault)),
+            Err(fault) => {
+                notes.templates_refused(alloc, fault, &text);
+                Err(Refusal::of_load(alloc, fault))
+            }
         },
     }
 }
@@ -44,6 +50,7 @@ fn load<S: Source>(
     name: &str,
     source: &mut S,
     turns: u64,
+    notes: &mut Notes,
 ) -> Result<TemplateSet, Refusal>
     ensures ok { IfOk result (λ set. LoadsSet (S.file source.old name.now) turns set) }
     ensures refused { IfErr result (RefusesTemplates (S.file source.old name.now) turns) }
@@ -52,7 +59,7 @@ fn load<S: Source>(
 {
     match source.open(name) {
         None => Err(Refusal::Open),
-        Some(mut file) => read_templates(alloc, &mut file, turns),
+        Some(mut file) => read_templates(alloc, &mut file, turns, notes),
     }
 }
 
@@ -61,6 +68,7 @@ fn read_hex_input<I: ByteInput>(
     alloc: Global,
     input: &mut I,
     turns: u64,
+    notes: &mut Notes,
 ) -> Result<Vec<u8>, Refusal>
     ensures ok { IfOk result (λ bytes. ReadsHex turns
         (reader_by I.left I.calls I.errors I.ends input.old)
@@ -71,33 +79,48 @@ fn read_hex_input<I: ByteInput>(
 {
     match read_text(alloc, input, turns) {
         Err(fault) => Err(Refusal::of_text(fault)),
-        Ok(text) => match read_hex(alloc, text) {
-            Ok(bytes) => Ok(bytes),
-            Err(fault) => Err(Refusal::of_hex(fault)),
-        },
+        Ok(text) => {
+            notes.hex_read(&text);
+            match read_hex(alloc, text) {
+                Ok(bytes) => Ok(bytes),
+                Err(fault) => Err(Refusal::of_hex(fault)),
+            }
+        }
     }
 }
 
 /// Runs a command from the input's bytes to the output's.
 fn run_plain<I: ByteInput, O: ByteOutput>(
     alloc: Global,
-    command: Command,
+    request: Request<'_>,
     set: &TemplateSet,
-    mode: Mode,
     input: &mut I,
     out: &mut O,
     turns: u64,
+    notes: &mut Notes,
 ) -> Result<(), Refusal>
     requires turns { turns ≤ 2 ^ 40 }
-    ensures { RunsPlain command mode set.now turns
+    ensures { RunsPlain request.entry.command request.entry.mode request.entry.form set.now turns
         (reader_by I.left I.calls I.errors I.ends input.old)
         (reader_by I.left I.calls I.errors I.ends input.new)
         (writer_by O.taken O.errors O.flushes out.old)
         (writer_by O.taken O.errors O.flushes out.new) result }
 {
-    match run(alloc, command, set, mode, input, out, turns) {
+    match run(
+        alloc,
+        request.command,
+        set,
+        request.mode,
+        request.form,
+        input,
+        out,
+        turns,
+    ) {
         Ok(_) => Ok(()),
-        Err(fault) => Err(Refusal::of_run(alloc, fault)),
+        Err(fault) => {
+            notes.run_failed(fault);
+            Err(Refusal::of_run(alloc, fault))
+        }
     }
 }
 
@@ -118,11 +141,12 @@ fn write_hex_line<O: ByteOutput>(alloc: Global, bytes: &[u8], out: &mut O) -> Re
 /// Writes the canonical bytes of a stream as a line of hex, also those that stand before a fault of the stream.
 fn canon_in_hex<O: ByteOutput>(
     alloc: Global,
-    set: &TemplateSet,
     mode: Mode,
+    set: &TemplateSet,
     stream: &[u8],
     out: &mut O,
     turns: u64,
+    notes: &mut Notes,
 ) -> Result<(), Refusal>
     requires turns { turns ≤ 2 ^ 40 }
     ensures { CanonInHex mode set.now turns stream.now
@@ -141,12 +165,14 @@ fn canon_in_hex<O: ByteOutput>(
         Command::Canon,
         set,
         mode,
+        Form::Text,
         &mut input,
         &mut kept,
         turns,
     ) {
         Ok(_) => write_hex_line(alloc, &kept.bytes, out),
         Err(CanonFault::Stream(fault)) => {
+            notes.stream_stopped(fault);
             write_hex_line(alloc, &kept.bytes, out)?;
             Err(Refusal::of_stream(alloc, fault))
         }
@@ -158,23 +184,23 @@ fn canon_in_hex<O: ByteOutput>(
 /// Does with a stream in memory what is asked of a stream in hex text.
 fn perform_in_hex<O: ByteOutput>(
     alloc: Global,
-    command: Command,
+    request: Request<'_>,
     set: &TemplateSet,
-    mode: Mode,
     stream: &[u8],
     out: &mut O,
     turns: u64,
+    notes: &mut Notes,
 ) -> Result<(), Refusal>
     requires turns { turns ≤ 2 ^ 40 }
-    ensures { PerformsInHex command mode set.now turns stream.now
+    ensures { PerformsInHex request.entry.command request.entry.mode request.entry.form set.now turns stream.now
         (writer_by O.taken O.errors O.flushes out.old)
         (writer_by O.taken O.errors O.flushes out.new) result }
 {
-    match command {
-        Command::Canon => canon_in_hex(alloc, set, mode, stream, out, turns),
+    match request.command {
+        Command::Canon => canon_in_hex(alloc, request.mode, set, stream, out, turns, notes),
         Command::Show | Command::Check => {
             let mut input = Counted::new(stream);
-            run_plain(alloc, command, set, mode, &mut input, out, turns)
+            run_plain(alloc, request, set, &mut input, out, turns, notes)
         }
     }
 }
@@ -182,23 +208,27 @@ fn perform_in_hex<O: ByteOutput>(
 /// Does what is asked of an input in hex text.
 fn perform_hex<I: ByteInput, O: ByteOutput>(
     alloc: Global,
-    command: Command,
+    request: Request<'_>,
     set: &TemplateSet,
-    mode: Mode,
     input: &mut I,
     out: &mut O,
     turns: u64,
+    notes: &mut Notes,
 ) -> Result<(), Refusal>
     requires turns { turns ≤ 2 ^ 40 }
-    ensures { PerformsHexText command mode set.now turns
+    ensures { PerformsHexText request.entry.command request.entry.mode request.entry.form set.now turns
         (reader_by I.left I.calls I.errors I.ends input.old)
         (reader_by I.left I.calls I.errors I.ends input.new)
         (writer_by O.taken O.errors O.flushes out.old)
         (writer_by O.taken O.errors O.flushes out.new) result }
 {
-    match read_hex_input(alloc, input, turns) {
+    match read_hex_input(alloc, input, turns, notes) {
         Err(refusal) => Err(refusal),
-        Ok(stream) => perform_in_hex(alloc, command, set, mode, &stream, out, turns),
+        Ok(stream) => {
+            let answer = perform_in_hex(alloc, request, set, &stream, out, turns, notes);
+            notes.stream_in_memory(&stream);
+            answer
+        }
     }
 }
 
@@ -210,19 +240,45 @@ fn perform_over<I: ByteInput, O: ByteOutput>(
     input: &mut I,
     out: &mut O,
     turns: u64,
+    notes: &mut Notes,
 ) -> Result<(), Refusal>
     requires turns { turns ≤ 2 ^ 40 }
-    ensures { PerformsOver request.entry.hex request.entry.command request.entry.mode set.now turns
+    ensures { PerformsOver request.entry.hex request.entry.command request.entry.mode
+        request.entry.form set.now turns
         (reader_by I.left I.calls I.errors I.ends input.old)
         (reader_by I.left I.calls I.errors I.ends input.new)
         (writer_by O.taken O.errors O.flushes out.old)
         (writer_by O.taken O.errors O.flushes out.new) result }
 {
     if request.hex {
-        perform_hex(alloc, request.command, set, request.mode, input, out, turns)
+        perform_hex(alloc, request, set, input, out, turns, notes)
     } else {
-        run_plain(alloc, request.command, set, request.mode, input, out, turns)
+        run_plain(alloc, request, set, input, out, turns, notes)
     }
+}
+
+/// Does what is asked of an input that is open, whose bytes are noted as they are read.
+fn perform_seen<I: ByteInput + Drop, O: ByteOutput>(
+    alloc: Global,
+    request: Request<'_>,
+    set: &TemplateSet,
+    input: I,
+    out: &mut O,
+    turns: u64,
+    notes: &mut Notes,
+) -> Result<(), Refusal>
+    requires turns { turns ≤ 2 ^ 40 }
+    ensures { (in_old : Reader) × (in_new : Reader) × (in_old.left ≡ I.left input)
+        × PerformsOver request.entry.hex request.entry.command request.entry.mode
+        request.entry.form set.now turns
+        in_old in_new
+        (writer_by O.taken O.errors O.flushes out.old)
+        (writer_by O.taken O.errors O.flushes out.new) result }
+{
+    let mut seen = Seen::new(alloc, input, notes.is_asked() && !request.hex);
+    let answer = perform_over(alloc, request, set, &mut seen, out, turns, notes);
+    notes.stream_seen(&seen);
+    answer
 }
 
 /// Opens the input, and does what is asked of it.
@@ -233,6 +289,7 @@ fn perform_with<S: Source, O: ByteOutput>(
     source: &mut S,
     out: &mut O,
     turns: u64,
+    notes: &mut Notes,
 ) -> Result<(), Refusal>
     requires turns { turns ≤ 2 ^ 40 }
     ensures { PerformsWith (asked_by request.entry) set.now (inputs_by S.file S.input source.old) turns
@@ -240,13 +297,10 @@ fn perform_with<S: Source, O: ByteOutput>(
         (writer_by O.taken O.errors O.flushes out.new) result }
 {
     match request.input {
-        None => {
-            let mut input = source.standard();
-            perform_over(alloc, request, set, &mut input, out, turns)
-        }
+        None => perform_seen(alloc, request, set, source.standard(), out, turns, notes),
         Some(name) => match source.open(name) {
             None => Err(Refusal::Open),
-            Some(mut file) => perform_over(alloc, request, set, &mut file, out, turns),
+            Some(file) => perform_seen(alloc, request, set, file, out, turns, notes),
         },
     }
 }
@@ -258,34 +312,21 @@ fn perform_asked<S: Source, O: ByteOutput>(
     source: &mut S,
     out: &mut O,
     turns: u64,
+    notes: &mut Notes,
 ) -> Result<(), Refusal>
     requires turns { turns ≤ 2 ^ 40 }
     ensures { PerformsAsked (asked_by request.entry) (inputs_by S.file S.input source.old) turns
         (writer_by O.taken O.errors O.flushes out.old)
         (writer_by O.taken O.errors O.flushes out.new) result }
 {
-    match load(alloc, request.templates, source, turns) {
+    match load(alloc, request.templates, source, turns, notes) {
         Err(refusal) => Err(refusal),
-        Ok(set) => perform_with(alloc, request, &set, source, out, turns),
-    }
-}
-
-/// Does what a command line asks for.
-fn perform<S: Source, O: ByteOutput>(
-    alloc: Global,
-    words: &[&str],
-    source: &mut S,
-    out: &mut O,
-    turns: u64,
-) -> Result<(), Refusal>
-    requires turns { turns ≤ 2 ^ 40 }
-    ensures { Performs (map (λ w. w.now) words.now) (inputs_by S.file S.input source.old) turns
-        (writer_by O.taken O.errors O.flushes out.old)
-        (writer_by O.taken O.errors O.flushes out.new) result }
-{
-    match parse_words(alloc, words) {
-        Err(error) => Err(Refusal::of_line(alloc, &error)),
-        Ok(request) => perform_asked(alloc, request, source, out, turns),
+        Ok(set) => {
+            notes.templates_loaded();
+            let answer = perform_with(alloc, request, &set, source, out, turns, notes);
+            notes.stream_refused(alloc, &set);
+            answer
+        }
     }
 }
 
@@ -301,10 +342,79 @@ pub fn report<E: ByteOutput>(refusal: &Refusal, err: &mut E) -> u8
     refusal.status()
 }
 
+/// The text of a refusal, and what it means.
+fn explained(
+    alloc: Global,
+    request: Request<'_>,
+    refusal: &Refusal,
+    notes: &Notes,
+) -> Result<String, AllocError>
+    ensures { IfOk result (λ text. (more : List ℕ)
+        × (string_bytes text ≡ text_of refusal.now ++ more)) }
+{
+    let files = Files {
+        templates: request.templates,
+        stream: request.input,
+    };
+    let more = explain(alloc, files, refusal, notes)?;
+    let text = refusal.text();
+    format!(in alloc; "{text}{more}")
+}
+
+/// Says why what is asked for is not done, and what that means where this is asked for and memory for it is given.
+fn report_asked<E: ByteOutput>(
+    alloc: Global,
+    request: Request<'_>,
+    refusal: &Refusal,
+    notes: &Notes,
+    err: &mut E,
+) -> u8
+    ensures status { result ≡ status_of refusal.now }
+    ensures said { Says request.entry.explain
+        (writer_by E.taken E.errors E.flushes err.old)
+        (writer_by E.taken E.errors E.flushes err.new) (Err refusal.now) }
+{
+    if request.explain
+        && let Ok(text) = explained(alloc, request, refusal, notes)
+    {
+        let _ = write_all(err, text.as_bytes());
+        refusal.status()
+    } else {
+        report(refusal, err)
+    }
+}
+
+/// Does what is asked, and says why not.
+fn serve_request<S: Source, O: ByteOutput, E: ByteOutput>(
+    alloc: Global,
+    request: Request<'_>,
+    source: &mut S,
+    out: &mut O,
+    err: &mut E,
+    turns: u64,
+) -> u8
+    requires turns { turns ≤ 2 ^ 40 }
+    ensures status { result ≤ 3 }
+    ensures quiet { result ≡ 0 → err.new ≡ err.old }
+    ensures performed { (r : _) × (result ≡ status_after r)
+        × PerformsAsked (asked_by request.entry) (inputs_by S.file S.input source.old) turns
+        (writer_by O.taken O.errors O.flushes out.old)
+        (writer_by O.taken O.errors O.flushes out.new) r
+        × Says request.entry.explain (writer_by E.taken E.errors E.flushes err.old)
+        (writer_by E.taken E.errors E.flushes err.new) r }
+{
+    let mut notes = Notes::new(request.explain);
+    match perform_asked(alloc, request, source, out, turns, &mut notes) {
+        Ok(()) => 0,
+        Err(refusal) => report_asked(alloc, request, &refusal, &notes, err),
+    }
+}
+
 /// Does what a command line asks for, and answers the exit status of the program: 0 where it is done, 1 where the
 /// stream is refused, 2 where the command line, the templates or a hex text is, and 3 for a fault of the machine. To
-/// `out` goes what the command writes, and to `err` the line that says why the status is not 0. The first word is the
-/// program's name. Of each input at most `turns` reads are made, of which there may be up to 2^40.
+/// `out` goes what the command writes, and to `err` the line that says why the status is not 0, and with `--explain` what
+/// that means and what to do. The first word is the program's name. Of each input at most `turns` reads are made, of
+/// which there may be up to 2^40.
 ///
 /// The first that fails is answered: the command line; opening, reading and loading the templates; opening the input;
 /// with `--hex` reading it whole, its size and its digits; the run.
@@ -324,12 +434,12 @@ pub fn serve<S: Source, O: ByteOutput, E: ByteOutput>(
         × Performs (map (λ w. w.now) words.now) (inputs_by S.file S.input source.old) turns
         (writer_by O.taken O.errors O.flushes out.old)
         (writer_by O.taken O.errors O.flushes out.new) r
-        × Says (writer_by E.taken E.errors E.flushes err.old)
+        × SaysAsked (map (λ w. w.now) words.now) (writer_by E.taken E.errors E.flushes err.old)
         (writer_by E.taken E.errors E.flushes err.new) r }
 {
-    match perform(alloc, words, source, out, turns) {
-        Ok(()) => 0,
-        Err(refusal) => report(&refusal, err),
+    match parse_words(alloc, words) {
+        Err(error) => report(&Refusal::of_line(alloc, &error), err),
+        Ok(request) => serve_request(alloc, request, source, out, err, turns),
     }
 }
 
@@ -366,7 +476,7 @@ pub fn serve_words<S: Source, O: ByteOutput, E: ByteOutput>(
         ⊎ Performs (map string_bytes texts.items) (inputs_by S.file S.input source.old) turns
         (writer_by O.taken O.errors O.flushes out.old)
         (writer_by O.taken O.errors O.flushes out.new) r)
-        × Says (writer_by E.taken E.errors E.flushes err.old)
+        × SaysAsked (map string_bytes texts.items) (writer_by E.taken E.errors E.flushes err.old)
         (writer_by E.taken E.errors E.flushes err.new) r) }
 {
     match words {

@@ -22,6 +22,7 @@ use Rattle.fast_pass.specs.declared.fault.CanonFault.{CanonFault}
 use Rattle.fast_pass.specs.declared.fault.CanonFault.TheVariants as canon
 use Rattle.fast_pass.specs.declared.summary.Summary.{Summary}
 use Rattle.fast_command.specs.Run.{LinesOf}
+use Rattle.fast_lines.specs.declared.form.Form.TheVariants.{Text}
 use Rattle.fast_slices.specs.declared.answer.Refusal.{Refusal}
 use Rattle.fast_slices.specs.declared.answer.Refusal.TheVariants as refusal
 
@@ -157,7 +158,7 @@ abbrev pub Canons : List ℕ → ℕ → List ℕ → List ℕ → List ℕ → 
 Canons text word stream old new r = Calls (λ mode set. Writes IsCanonical mode (templates_in set) stream old new) (new ≡ old) text word stream r
 
 abbrev pub Shows : List ℕ → ℕ → List ℕ → List ℕ → List ℕ → Done → Type 0
-Shows text word stream old new r = Calls (λ mode set. Writes (LinesOf set) mode (templates_in set) stream old new) (new ≡ old) text word stream r
+Shows text word stream old new r = Calls (λ mode set. Writes (LinesOf Text set) mode (templates_in set) stream old new) (new ≡ old) text word stream r
 
 abbrev pub Checks : List ℕ → ℕ → List ℕ → Done → Type 0
 Checks text word stream r = Calls (λ mode set. Counts mode (templates_in set) stream) (Unit {0}) text word stream r

@@ -4,6 +4,7 @@ ghost use Rattle.std.specs.Prelude.{◌<◌, ◌≡◌, ◌^◌, length, IfErr, 
 ghost use Rattle.fast_template.specs.TemplateSets.{IsSound, templates_in};
 ghost use Rattle.fast_writer.specs.Canonical.{IsCanonical};
 ghost use Rattle.fast_command.specs.Run.{LinesOf};
+ghost use Rattle.fast_lines.specs.declared.form.Form.TheVariants.{Text};
 ghost use Rattle.fast_slices.specs.Calls.{Canons, Checks, ChecksText, Counts, LoadsText, Prepares, RefusesCall, RefusesText, Settles, Shows, Writes, mode_of as mode_of_lem};
 
 use crate::answer::Refusal;
@@ -11,7 +12,7 @@ use crate::input::SliceInput;
 use crate::kept::Kept;
 use fast_build::Load;
 use fast_canon::{CanonFault, Summary, check};
-use fast_command::{Command, run};
+use fast_command::{Command, Form, run};
 use fast_stream::{Cause, Framing, Mode};
 use fast_template::TemplateSet;
 use fast_wire::Level;
@@ -95,6 +96,7 @@ fn canon_with(
         Command::Canon,
         set,
         mode,
+        Form::Text,
         &mut input,
         &mut kept,
         TURNS,
@@ -112,7 +114,7 @@ fn show_with(
 ) -> Result<Summary, Refusal>
     requires sound { IsSound set.now }
     requires few { length stream.now < 2 ^ 40 }
-    ensures { Writes (LinesOf set.now) mode (templates_in set.now) stream.now room.old room.new result }
+    ensures { Writes (LinesOf Text set.now) mode (templates_in set.now) stream.now room.old room.new result }
 {
     let mut input = SliceInput::new(stream);
     let mut kept = Kept::new(alloc, room.len() + 1);
@@ -121,6 +123,7 @@ fn show_with(
         Command::Show,
         set,
         mode,
+        Form::Text,
         &mut input,
         &mut kept,
         TURNS,

@@ -1,6 +1,6 @@
 //! The program `fastcat`: FAST 1.1 streams as lines of text, checked, and in canonical form.
 //!
-//! `fastcat show|check|canon --templates FILE [--hex] [--strict] [--blocks] [FILE]` reads a stream of messages of any templates.
+//! `fastcat show|check|canon --templates FILE [--hex] [--strict] [--blocks] [--json] [--explain] [FILE]` reads a stream of messages of any templates.
 #![tactic(auto)]
 
 use fast_host::Host;

@@ -1,6 +1,7 @@
 //! What no clause of `fast_command` says: worked streams through its calls, and devices that fail in mid-stream.
 
 mod blocks;
+mod json;
 mod lines;
 mod streams;
 mod strict;

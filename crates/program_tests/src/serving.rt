@@ -3,5 +3,6 @@
 mod blocks;
 mod devices;
 mod examples;
+mod explaining;
 mod programs;
 mod strict;

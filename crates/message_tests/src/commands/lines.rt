@@ -3,7 +3,7 @@
 use crate::modes::PLAIN;
 use crate::same::same;
 use crate::worked::worked_set;
-use fast_command::{ShowFault, show_line};
+use fast_command::{Form, ShowFault, show_line};
 use fast_decoder::Decoder;
 use fast_dictionary::MapEntries;
 use fast_stream::{Message, Node};
@@ -82,7 +82,7 @@ fn lines_of(alloc: Global, set: &TemplateSet, stream: &[u8]) -> Result<Vec<u8>, 
     decoder.feed(stream, &mut messages)?;
     let mut lines = Vec::new(alloc);
     for message in &messages {
-        show_line(set, message, &mut lines)?;
+        show_line(Form::Text, set, message, &mut lines)?;
     }
     Ok(lines)
 }
@@ -129,7 +129,7 @@ fn refused(
     let mut out = Vec::from_slice(alloc, b"before")?;
     same(
         rt,
-        show_line(set, message, &mut out),
+        show_line(Form::Text, set, message, &mut out),
         Err(ShowFault::Mismatch),
     );
     same(rt, out.as_slice(), b"before".as_slice());
@@ -176,7 +176,7 @@ fn a_line_stands_behind_what_was_there(rt: HostRuntime) -> Result<(), Fail> {
     // a quote, a backslash, `~` and DEL
     let message = one(alloc, 8, text(alloc, b"\"\\~\x7f")?)?;
     let mut out = Vec::from_slice(alloc, b"before")?;
-    same(&rt, show_line(&set, &message, &mut out), Ok(()));
+    same(&rt, show_line(Form::Text, &set, &message, &mut out), Ok(()));
     let line = b"before8 Tail S=\"\\x22\\x5c~\\x7f\"\n";
     same(&rt, out.as_slice(), line.as_slice());
     Ok(())

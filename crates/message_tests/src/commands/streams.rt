@@ -6,7 +6,7 @@ use crate::modes::PLAIN;
 use crate::same::same;
 use crate::worked::{QUOTE, TWO, TWO_SHORT, worked_set};
 use fast_canon::{CanonFault, Summary};
-use fast_command::{Command, run};
+use fast_command::{Command, Form, run};
 use fast_decoder::Mode;
 use fast_io::{Counted, ScriptInput, ScriptOutput};
 use fast_stream::{Cause, Fault, Place};
@@ -332,7 +332,16 @@ fn play(
 {
     let mut reader = Counted::new(reader);
     let mut writer = Counted::new(out);
-    run(alloc, command, set, mode, &mut reader, &mut writer, turns)
+    run(
+        alloc,
+        command,
+        set,
+        mode,
+        Form::Text,
+        &mut reader,
+        &mut writer,
+        turns,
+    )
 }
 
 /// A command writes this of a stream, and answers this.

@@ -18,6 +18,7 @@ pub struct Answer<'a> {
 }
 
 /// A command line, a standard input, and what is answered, written and said.
+#[derive(Clone, Copy)]
 pub struct Row {
     pub words: &'static [&'static str],
     pub input: &'static [u8],
@@ -42,6 +43,17 @@ const SHOW_HEX: &[&str] = &["fastcat", "show", "--templates", TEMPLATES, "--hex"
 const CHECK_HEX: &[&str] = &["fastcat", "check", "--hex", "--templates", TEMPLATES];
 
 const CANON_HEX: &[&str] = &["fastcat", "canon", "--hex", "--templates", TEMPLATES];
+
+const EXPLAINED: &[&str] = &["fastcat", "canon", "--explain", "--templates", TEMPLATES];
+
+const EXPLAINED_HEX: &[&str] = &[
+    "fastcat",
+    "canon",
+    "--hex",
+    "--explain",
+    "--templates",
+    TEMPLATES,
+];
 
 const TWO: &[u8] = b"\xe0\x90\x85\x86\xe0\x90\x87\x86";
 
@@ -770,7 +782,7 @@ fn long_text(
     want: Answer<'_>,
 ) -> Result<(), AllocError> {
     let text = blanks(alloc, count)?;
-    served(rt, alloc, CANON_HEX, &mut shelf(&text), 1 << 20, want);
+    served(rt, alloc, EXPLAINED_HEX, &mut shelf(&text), 1 << 20, want);
     Ok(())
 }
 
@@ -785,7 +797,7 @@ fn long_templates(
         templates: whole(&text),
         ..shelf(b"zz")
     };
-    served(rt, alloc, CANON, &mut source, 1 << 20, want);
+    served(rt, alloc, EXPLAINED, &mut source, 1 << 20, want);
     Ok(())
 }
 
@@ -799,12 +811,14 @@ fn long_texts(rt: HostRuntime) -> Result<(), AllocError> {
     const INPUT: Answer = Answer {
         status: 2,
         out: b"",
-        err: "input too long\n",
+        err: "input too long\n\
+            explain: the standard input has more than 16777216 bytes; give the stream's own bytes, without --hex\n",
     };
     const TEMPLATE_TEXT: Answer = Answer {
         status: 2,
         out: b"",
-        err: "templates too long\n",
+        err: "templates too long\n\
+            explain: the templates' file \"templates.json\" has more than 16777216 bytes; leave out templates that the stream does not need\n",
     };
     let alloc = rt.alloc();
     long_text(&rt, alloc, 16_777_216, TAKEN)?;

@@ -5,22 +5,22 @@ use Rattle.fast_template.specs.Resolved.{instruction_of, list_of}
 use Rattle.fast_stream.specs.Nodes.{item_of, items_in, elements_of, sequence_elements}
 use Rattle.fast_walk.proofs.Views.{item_of-sequence}
 use Rattle.fast_lines.specs.Lines.{braced, label, members_text, node_text, sequence_text}
-use Rattle.fast_lines.specs.Written.{Shows}
-use Rattle.fast_lines.proofs.Written.{adds_between, extends_same, leads_start, shows_behind}
-use Rattle.fast_lines.proofs.Nested.{elements_stop, lengths_differ, members_more, members_stop, node_text-sequence, shows_bracketed_err}
+use Rattle.fast_lines.specs.Written.{Adds, Shows}
+use Rattle.fast_lines.proofs.Written.{adds_between, extends_by, extends_more, extends_same, leads_start, shows_behind}
+use Rattle.fast_lines.proofs.Nested.{elements_more, elements_stop, lengths_differ, members_more, members_stop, node_text-sequence, shows_bracketed_err}
 use Rattle.fast_lines.proofs.lines.+showing.Goals as goal
 
 pub show_members-returns-then-nodes-members : goal.show_members-returns-then-nodes-members
-show_members-returns-then-nodes-members t c = (
-  lengths_differ c.args.before.now c.args.members.now c.args.nodes.now c.if-nodes-members.true,
+show_members-returns-then-nodes-members g t c = (
+  lengths_differ g.S.Escape.form c.args.before.now c.args.members.now c.args.nodes.now c.if-nodes-members.true,
   extends_same c.args.out.now.items,
 )
 
 pub show_members-loop-index-init : goal.show_members-loop-index-init
-show_members-loop-index-init t c = leads_start _ _
+show_members-loop-index-init g t c = leads_start _ _
 
 pub show_members-loop-index-preserved : goal.show_members-loop-index-preserved
-show_members-loop-index-preserved t c =
+show_members-loop-index-preserved g t c =
     let i = c.loop-index.index in
     let f = c.index-members-index.result in
     let n = c.index-nodes-index.result in
@@ -28,10 +28,10 @@ show_members-loop-index-preserved t c =
     let ln : i < length c.args.nodes.now = omega arith in
     let ff : get_or c.args.members.now i f ≡ f = search rules in
     let nn : get_or c.args.nodes.now i n ≡ n = search rules in
-    members_more _ c.loop-index.lead.now c.args.members.now c.args.nodes.now i f n _ _ _ lf ln ff nn c.loop-index.invariant c.in_ok-show_member.ensures
+    rw (c.between-lead.ensures) (members_more g.S.Escape.form _ c.loop-index.lead.now c.args.members.now c.args.nodes.now i f n _ _ _ lf ln ff nn c.loop-index.invariant c.in_ok-show_member.ensures)
 
 pub show_members-returns-in_err-show_member : goal.show_members-returns-in_err-show_member
-show_members-returns-in_err-show_member t c =
+show_members-returns-in_err-show_member g t c =
     let i = c.loop-index.index in
     let f = c.index-members-index.result in
     let n = c.index-nodes-index.result in
@@ -40,33 +40,47 @@ show_members-returns-in_err-show_member t c =
     let ff : get_or c.args.members.now i f ≡ f = search rules in
     let nn : get_or c.args.nodes.now i n ≡ n = search rules in
     let p = err_from_is_err_and c.from_residual.result c.from_residual.ensures.1 in
-    members_stop _ c.loop-index.lead.now c.args.members.now c.args.nodes.now i f n _ _ _ c.in_err-show_member.field-0.0 c.from_residual.result (p.1 ∙ ap Err p.2) lf ln ff nn c.loop-index.invariant c.in_err-show_member.ensures
+    members_stop g.S.Escape.form _ c.loop-index.lead.now c.args.members.now c.args.nodes.now i f n _ _ _ c.in_err-show_member.field-0.0 c.from_residual.result (p.1 ∙ ap Err p.2) lf ln ff nn c.loop-index.invariant c.in_err-show_member.ensures
+
+pub show_elements-returns-in_err-push : goal.show_elements-returns-in_err-push
+show_elements-returns-in_err-push g t c =
+    let p = err_from_is_err_and c.from_residual.result c.from_residual.ensures.1 in
+    rw (p.1 ∙ ap Err p.2) (extends_more _ _ _ (extends_by _ _ _ c.loop-nodes.invariant.appended) (c.in_err-push.ensures))
+
+pub show_elements-loop-nodes-preserved : goal.show_elements-loop-nodes-preserved
+show_elements-loop-nodes-preserved g t c =
+    let i = c.loop-nodes.nodes-index in
+    let v = c.nodes-item.result in
+    let le : i < length c.args.elements.now = omega arith in
+    let vv : get_or c.args.elements.now i v ≡ v = search rules in
+    let shown : Adds (braced (members_text g.S.Escape.form [] (list_of c.args.members.now) (items_in v.items))) c.push.new.out.items c.show_braced.new.out.items = subst (λ ns. Adds (braced (members_text g.S.Escape.form [] (list_of c.args.members.now) (items_in ns))) c.push.new.out.items c.show_braced.new.out.items) c.deref.ensures.value c.in_ok-show_braced.ensures in
+    rw (c.between-lead.ensures) (elements_more g.S.Escape.form _ (λ ns. members_text g.S.Escape.form [] (list_of c.args.members.now) ns) c.loop-nodes.lead.now c.args.elements.now i v _ _ _ _ le vv c.loop-nodes.invariant c.in_ok-push.ensures shown)
 
 pub show_elements-returns-in_err-show_braced : goal.show_elements-returns-in_err-show_braced
-show_elements-returns-in_err-show_braced t c =
+show_elements-returns-in_err-show_braced g t c =
     let i = c.loop-nodes.nodes-index in
     let v = c.nodes-item.result in
     let le : i < length c.args.elements.now = omega arith in
     let vv : get_or c.args.elements.now i v ≡ v = search rules in
     let p = err_from_is_err_and c.from_residual-in_err-show_braced.result c.from_residual-in_err-show_braced.ensures.1 in
-    let shown : Shows (braced (members_text [] (list_of c.args.members.now) (items_in v.items))) (Err c.in_err-show_braced.field-0.0) c.push.new.out.items c.show_braced.new.out.items = subst (λ ns. Shows (braced (members_text [] (list_of c.args.members.now) (items_in ns))) (Err c.in_err-show_braced.field-0.0) c.push.new.out.items c.show_braced.new.out.items) c.deref.ensures.value c.in_err-show_braced.ensures in
-    elements_stop _ (λ ns. members_text [] (list_of c.args.members.now) ns) c.loop-nodes.lead.now c.args.elements.now i v _ _ _ _ c.in_err-show_braced.field-0.0 c.from_residual-in_err-show_braced.result (p.1 ∙ ap Err p.2) le vv c.loop-nodes.invariant c.in_ok-push.ensures shown
+    let shown : Shows (braced (members_text g.S.Escape.form [] (list_of c.args.members.now) (items_in v.items))) (Err c.in_err-show_braced.field-0.0) c.push.new.out.items c.show_braced.new.out.items = subst (λ ns. Shows (braced (members_text g.S.Escape.form [] (list_of c.args.members.now) (items_in ns))) (Err c.in_err-show_braced.field-0.0) c.push.new.out.items c.show_braced.new.out.items) c.deref.ensures.value c.in_err-show_braced.ensures in
+    elements_stop g.S.Escape.form _ (λ ns. members_text g.S.Escape.form [] (list_of c.args.members.now) ns) c.loop-nodes.lead.now c.args.elements.now i v _ _ _ _ c.in_err-show_braced.field-0.0 c.from_residual-in_err-show_braced.result (p.1 ∙ ap Err p.2) le vv c.loop-nodes.invariant c.in_ok-push.ensures shown
 
 pub show_member-returns-in-Sequence : goal.show_member-returns-in-Sequence
-show_member-returns-in-Sequence t c =
-    let is : node_text (instruction_of c.args.flat.now) (item_of c.args.node.now) ≡ sequence_text (λ ns. members_text [] (list_of c.deref-in-Sequence.result.now) ns) c.in-Sequence.presence (item_of c.args.node.now) =
-    ap (λ f. node_text (instruction_of f) (item_of c.args.node.now)) c.in-Sequence.is
-    ∙ node_text-sequence _ _ _ _ _ (item_of c.args.node.now)
-    ∙ ap (λ ms. sequence_text (λ ns. members_text [] (list_of ms) ns) c.in-Sequence.presence (item_of c.args.node.now)) (sym c.deref-in-Sequence.ensures.value) in
-    shows_behind (c.args.before.now ++ label (instruction_of c.args.flat.now)) _ _ _ _ c.show_sequence.result c.in_ok-push_label.ensures (rw is c.show_sequence.ensures)
+show_member-returns-in-Sequence g t c =
+    let is : node_text g.S.Escape.form (instruction_of c.args.flat.now) (item_of c.args.node.now) ≡ sequence_text g.S.Escape.form (λ ns. members_text g.S.Escape.form [] (list_of c.deref-in-Sequence.result.now) ns) c.in-Sequence.presence (item_of c.args.node.now) =
+    ap (λ f. node_text g.S.Escape.form (instruction_of f) (item_of c.args.node.now)) c.in-Sequence.is
+    ∙ node_text-sequence g.S.Escape.form _ _ _ _ _ (item_of c.args.node.now)
+    ∙ ap (λ ms. sequence_text g.S.Escape.form (λ ns. members_text g.S.Escape.form [] (list_of ms) ns) c.in-Sequence.presence (item_of c.args.node.now)) (sym c.deref-in-Sequence.ensures.value) in
+    shows_behind (c.args.before.now ++ label g.S.Escape.form (instruction_of c.args.flat.now)) _ _ _ _ c.show_sequence.result c.in_ok-push_label.ensures (rw is c.show_sequence.ensures)
 
 pub show_sequence-returns-in_err-show_elements-in-Sequence : goal.show_sequence-returns-in_err-show_elements-in-Sequence
-show_sequence-returns-in_err-show_elements-in-Sequence t c =
+show_sequence-returns-in_err-show_elements-in-Sequence g t c =
     let is : item_of c.args.node.now ≡ sequence_elements (elements_of (map (λ v. items_in v.items) c.in-Sequence.elements.items)) = ap item_of c.in-Sequence.is ∙ item_of-sequence c.in-Sequence.elements in
     let p = err_from_is_err_and c.from_residual-in_err-show_elements-in-Sequence.result c.from_residual-in_err-show_elements-in-Sequence.ensures.1 in
     rw (is, ← c.deref.ensures.value) (shows_bracketed_err _ _ _ _ c.in_err-show_elements-in-Sequence.field-0.0 c.from_residual-in_err-show_elements-in-Sequence.result (p.1 ∙ ap Err p.2) c.in_ok-push_byte-in-Sequence.ensures c.in_err-show_elements-in-Sequence.ensures)
 
 pub show_sequence-returns-in_ok-push_byte-in-Sequence-2 : goal.show_sequence-returns-in_ok-push_byte-in-Sequence-2
-show_sequence-returns-in_ok-push_byte-in-Sequence-2 t c =
+show_sequence-returns-in_ok-push_byte-in-Sequence-2 g t c =
     let is : item_of c.args.node.now ≡ sequence_elements (elements_of (map (λ v. items_in v.items) c.in-Sequence.elements.items)) = ap item_of c.in-Sequence.is ∙ item_of-sequence c.in-Sequence.elements in
     rw (is, ← c.deref.ensures.value) (adds_between (codes "[") (codes "]") _ _ _ _ _ c.in_ok-push_byte-in-Sequence.ensures c.in_ok-show_elements-in-Sequence.ensures c.in_ok-push_byte-in-Sequence-2.ensures)

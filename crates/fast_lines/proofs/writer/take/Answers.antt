@@ -4,7 +4,7 @@ use Rattle.fast_field.specs.Found.{value_found}
 use Rattle.fast_lines.proofs.writer.take.Goals as goal
 
 pub returns-in-Some-clause-told : goal.returns-in-Some-clause-told
-returns-in-Some-clause-told c =
+returns-in-Some-clause-told g c =
     let i = c.args.part.now in
     let value = c.value.ensures ∙ ap (λ (e : Entry). value_found i e c.in-Some.found) c.view.ensures in (
       value_found i c.take_given.new.entry c.in-Some.found,

@@ -1,6 +1,6 @@
 use Rattle.std.proofs.Common.{◌≡◌, ◌∙◌, Option, None, Some, option_map, ap, sym, refl}
 use Rattle.std.specs.Prelude.{codes, option_and_then}
-use Rattle.clap.specs.Words.{Text, first_value, found_of}
+use Rattle.clap.specs.Words.{Text, first_of, found_of, rows_of}
 use Rattle.fast_request.specs.CommandLine.{command_named}
 use Rattle.fast_command.specs.declared.command.Command.{Command}
 use Rattle.fast_request.proofs.request.request_of.Goals as goal
@@ -12,15 +12,17 @@ named (Some word) command h = (word, refl, h)
 
 pub returns-in-Some-Some : goal.returns-in-Some-Some
 returns-in-Some-Some c =
-    let command = named (first_value (found_of c.args.matches.now) (codes "command")) c.in-Some-Some.command
-    (sym (ap (λ (o : Option Text). option_and_then command_named o) c.get_str.ensures) ∙ sym c.command_of-command.ensures ∙ c.in-Some-Some.is-0) in
+    let command = named (first_of (codes "command") (rows_of (found_of c.args.matches.now))) c.in-Some-Some.command
+    (sym (ap (λ (o : Option Text). option_and_then command_named o) c.word_of.ensures) ∙ sym c.command_of-command.ensures ∙ c.in-Some-Some.is-0) in
     record {
       word = command.0;
       command_word = command.1;
       command_is = command.2;
-      templates_are = sym c.get_str-2.ensures ∙ ap (option_map (λ s. s.now)) c.in-Some-Some.is-1;
-      hex_is = (c.get_flag.ensures.value, c.get_flag.ensures.other, c.get_flag.ensures.none);
-      strict_is = (λ e. c.mode_of.ensures.strict ∙ c.get_flag-in-Some-Some.ensures.value e, λ e. c.mode_of.ensures.strict ∙ c.get_flag-in-Some-Some.ensures.other e, λ e. c.mode_of.ensures.strict ∙ c.get_flag-in-Some-Some.ensures.none e);
-      blocks_is = (λ e. c.mode_of.ensures.blocks ∙ c.get_flag-in-Some-Some-2.ensures.value e, λ e. c.mode_of.ensures.blocks ∙ c.get_flag-in-Some-Some-2.ensures.other e, λ e. c.mode_of.ensures.blocks ∙ c.get_flag-in-Some-Some-2.ensures.none e);
-      input_is = sym c.get_str-in-Some-Some.ensures;
+      templates_are = sym c.word_of-2.ensures ∙ ap (option_map (λ s. s.now)) c.in-Some-Some.is-1;
+      hex_is = c.is_set.ensures;
+      strict_is = c.mode_of.ensures.strict;
+      blocks_is = c.mode_of.ensures.blocks;
+      json_is = c.form_of.ensures;
+      explain_is = c.is_set-in-Some-Some.ensures;
+      input_is = sym c.word_of-in-Some-Some.ensures;
     }

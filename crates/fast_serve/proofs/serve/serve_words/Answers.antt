@@ -1,6 +1,13 @@
-use Rattle.std.proofs.Common.{refl, inl, Err}
+use Rattle.std.proofs.Common.{refl, inl, inr, Err}
 use Rattle.fast_host.specs.declared.refusal.Refusal.TheVariants.{Memory}
+use Rattle.fast_serve.proofs.Sayings.{said_alone}
 use Rattle.fast_serve.proofs.serve.serve_words.Goals as goal
 
 pub returns-clause-performed : goal.returns-clause-performed
-returns-clause-performed g c = rw c.in-Ok.is (Err Memory, c.report-in-Err-texts_of.ensures.status, inl (refl, refl, refl), c.report-in-Err-texts_of.ensures.said)
+returns-clause-performed g c = rw c.in-Ok.is (Err Memory, c.report-in-Err-texts_of.ensures.status, inl (refl, refl, refl), said_alone _ _ _ Memory c.report-in-Err-texts_of.ensures.said)
+
+pub returns-in-Ok-texts_of-clause-performed : goal.returns-in-Ok-texts_of-clause-performed
+returns-in-Ok-texts_of-clause-performed g c =
+    let same = rw (← c.deref-in-Ok-texts_of.ensures.value, c.deref.ensures.value) at c.in-Ok-texts_of.ensures in
+    let p = rw same at c.serve.ensures.performed in
+    rw c.in-Ok.is (p.0, p.1, inr p.2, p.3)

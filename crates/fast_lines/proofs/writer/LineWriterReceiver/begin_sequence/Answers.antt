@@ -11,7 +11,7 @@ returns-in-Ok-None-clause-goes g c =
       rw (is) at c.in-Ok.ensures.took,
       λ number members is o next first has. (
         has.0,
-        has_no_length old.exponent (line_now old.line) (line_now c.tell_absent.new.self) o c.args.name.now number c.args.presence c.args.part.now members is next first c.in-Ok-tell_absent.ensures has.1,
+        has_no_length g.S.Escape.form old.exponent (line_now old.line) (line_now c.tell_absent.new.self) o c.args.name.now number c.args.presence c.args.part.now members is next first c.in-Ok-tell_absent.ensures has.1,
       ),
     )
 
@@ -23,6 +23,6 @@ returns-clause-goes g c =
       rw (is) at c.in-Ok.ensures.took,
       λ number members is o next first has. (
         has.0,
-        has_length old.exponent n (line_now old.line) (line_now c.open_under.new.self) o c.args.name.now number c.args.presence c.args.part.now members is next first c.in-Ok-open_under.ensures.text c.in-Ok-open_under.ensures.spaced has.1,
+        has_length g.S.Escape.form old.exponent n (line_now old.line) (line_now c.open_under.new.self) o c.args.name.now number c.args.presence c.args.part.now members is next first c.in-Ok-open_under.ensures.text c.in-Ok-open_under.ensures.led has.1,
       ),
     )

@@ -14,7 +14,7 @@ returns-in-Ok-None-clause-goes g c =
       refl,
       λ number mantissa is o next first has. (
         has.0,
-        has_no_decimal old.exponent (line_now old.line) (line_now c.tell_absent.new.self) o c.args.name.now number c.args.presence c.args.part.now mantissa is next first c.in-Ok-tell_absent.ensures has.1,
+        has_no_decimal g.S.Escape.form old.exponent (line_now old.line) (line_now c.tell_absent.new.self) o c.args.name.now number c.args.presence c.args.part.now mantissa is next first c.in-Ok-tell_absent.ensures has.1,
       ),
     )
 
@@ -28,6 +28,6 @@ returns-clause-goes g c =
       (e, refl),
       λ number mantissa is o next first has. (
         has.0,
-        has_exponent old.exponent _ e (line_now old.line) (line_now c.label.new.self) o c.args.name.now number c.args.presence c.args.part.now mantissa is next first c.in-Ok-label.ensures.text c.in-Ok-label.ensures.spaced (search rules) has.1,
+        has_exponent g.S.Escape.form old.exponent _ e (line_now old.line) (line_now c.label.new.self) o c.args.name.now number c.args.presence c.args.part.now mantissa is next first c.in-Ok-label.ensures.text c.in-Ok-label.ensures.led (search rules) has.1,
       ),
     )

@@ -8,5 +8,5 @@ returns-in-Ok-clause-goes g c =
     let r = c.in-Ok.ensures.told in (
       r.0,
       r.1,
-      λ number is o next first has. (has.0, has_field old.exponent (line_now old.line) (line_now c.tell.new.line) o c.args.name.now number c.args.presence c.args.part.now is r.0 next first r.2 has.1),
+      λ number is o next first has. (has.0, has_field g.S.Escape.form old.exponent (line_now old.line) (line_now c.tell.new.line) o c.args.name.now number c.args.presence c.args.part.now is r.0 next first r.2 has.1),
     )

@@ -3,6 +3,6 @@ use Rattle.fast_lines.proofs.Writing.{has_finished}
 use Rattle.fast_lines.proofs.writer.LineWriterReceiver.finish.Goals as goal
 
 pub returns-clause-stands : goal.returns-clause-stands
-returns-clause-stands c = λ o d next rest none known few has.
+returns-clause-stands g c = λ o d next rest none known few has.
     let old = c.args.self.now in
-    (has_finished old.exponent (line_now old.line) o old.out.items c.end.new.out.items next rest none known c.in_ok-end.ensures.ended has.0.0 has.1, has.0.1)
+    (has_finished g.S.Escape.form old.exponent (line_now old.line) o old.out.items c.end.new.out.items next rest none known c.in_ok-end.ensures.ended has.0.0 has.1, has.0.1)

@@ -3,6 +3,6 @@ use Rattle.fast_lines.proofs.Writing.{has_left_out}
 use Rattle.fast_lines.proofs.writer.LineWriterReceiver.left_out.Goals as goal
 
 pub returns-in-Ok-clause-has : goal.returns-in-Ok-clause-has
-returns-in-Ok-clause-has c = λ number presence members is o d next first optional has.
+returns-in-Ok-clause-has g c = λ number presence members is o d next first optional has.
     let old = c.args.self.now in
-    (has.0, has_left_out old.exponent (line_now old.line) (line_now c.tell_absent.new.self) o c.args.name.now number presence members is next first optional c.in-Ok.ensures has.1)
+    (has.0, has_left_out g.S.Escape.form old.exponent (line_now old.line) (line_now c.tell_absent.new.self) o c.args.name.now number presence members is next first optional c.in-Ok.ensures has.1)

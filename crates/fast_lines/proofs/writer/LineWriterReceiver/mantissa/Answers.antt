@@ -13,6 +13,6 @@ returns-clause-goes g c =
       rw (c.in-Ok-mantissa_in.ensures.ok) at c.in-Ok.ensures.took,
       λ e o next has. (
         has.0,
-        has_mantissa old.exponent e m (line_now old.line) (record { text = c.push_decimal.new.out.items; spaced = old.line.spaced }) o c.args.part.now next told refl has.1,
+        has_mantissa g.S.Escape.form old.exponent e m (line_now old.line) (record { text = c.push_decimal.new.out.items; led = old.line.led }) o c.args.part.now next told refl has.1,
       ),
     )

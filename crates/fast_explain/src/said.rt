@@ -1,0 +1,208 @@
+//! What is said behind the line of a refusal.
+
+use crate::hex_text::Stray;
+use crate::json::{Look, NoJson};
+use crate::meaning::{meaning_of, rule_of};
+use crate::notes::{Notes, Reading};
+use fast_host::Refusal;
+use fast_stream::{Cause, Fault};
+use fast_written::{LoadCause, LoadFault};
+use std::alloc::{AllocError, Global};
+
+/// The names of the files that a command line gives.
+#[derive(Clone, Copy)]
+pub struct Files<'a> {
+    pub templates: &'a str,
+    /// None: the stream is the standard input.
+    pub stream: Option<&'a str>,
+}
+
+/// The input at hand, as it is called in a sentence.
+fn input_text(alloc: Global, files: Files<'_>, reading: Reading) -> Result<String, AllocError> {
+    match (reading, files.stream) {
+        (Reading::Templates, _) => {
+            let name = files.templates;
+            format!(in alloc; "the templates' file {name:?}")
+        }
+        (Reading::Stream, Some(name)) => format!(in alloc; "the stream's file {name:?}"),
+        (Reading::Stream, None) => String::from_str(alloc, "the standard input"),
+    }
+}
+
+/// Why a text is no hex.
+fn stray_text(alloc: Global, input: &str, stray: Stray) -> Result<String, AllocError> {
+    match stray {
+        Stray::NoText => format!(in alloc;
+            "explain: {input} has bytes that are not ASCII; if they are the stream's own, leave out --hex\n"
+        ),
+        Stray::At { line, column } => format!(in alloc;
+            "explain: {input} has a character that is no hex digit and no blank, at line {line} column {column}; take it out\n"
+        ),
+        Stray::Odd => format!(in alloc;
+            "explain: {input} has an odd number of hex digits; see that it was copied whole\n"
+        ),
+    }
+}
+
+/// What to do about a text that is no JSON.
+fn look_text(look: Look) -> &'static str {
+    match look {
+        Look::Xml => {
+            "explain: it begins with <; if it is XML, convert it by tools/xml-templates FILE.xml\n"
+        }
+        Look::Mark => {
+            "explain: it begins with a byte order mark; save it as UTF-8 without one\n"
+        }
+        Look::Comma => "explain: a comma stands before the bracket there; take it out\n",
+        Look::Short => "explain: it ends before its last bracket; see that it was copied whole\n",
+        Look::Unknown => "",
+    }
+}
+
+/// Where a text is no JSON, and what to do.
+fn no_json_text(alloc: Global, input: &str, no_json: NoJson) -> Result<String, AllocError> {
+    let line = no_json.line;
+    let column = no_json.column;
+    let more = look_text(no_json.look);
+    format!(in alloc;
+        "explain: {input} is no JSON text from line {line} column {column} on\n{more}"
+    )
+}
+
+/// A name in quotes behind a space, where it is known.
+fn quoted(alloc: Global, name: Option<&String>) -> Result<String, AllocError> {
+    match name {
+        Some(name) => {
+            let name = name.as_str();
+            format!(in alloc; " {name:?}")
+        }
+        None => Ok(String::new(alloc)),
+    }
+}
+
+/// Where and why templates are refused whose text is JSON.
+fn load_text(alloc: Global, notes: &Notes, fault: LoadFault) -> Result<String, AllocError> {
+    let rule = rule_of(fault);
+    let template = fault.template;
+    let name = quoted(alloc, notes.names.template.as_ref())?;
+    if fault.instruction == 0 {
+        return format!(in alloc; "explain: template {template}{name}: {rule}\n");
+    }
+    let instruction = fault.instruction;
+    let field = quoted(alloc, notes.names.instruction.as_ref())?;
+    format!(in alloc;
+        "explain: template {template}{name}, instruction {instruction}{field}: {rule}\n"
+    )
+}
+
+/// Where and why templates are refused.
+fn templates_text(alloc: Global, input: &str, notes: &Notes) -> Result<String, AllocError> {
+    match (notes.no_json, notes.load) {
+        (Some(no_json), _) => no_json_text(alloc, input, no_json),
+        (None, Some(fault)) if fault.template > 0 || fault.cause != LoadCause::S1 => {
+            load_text(alloc, notes, fault)
+        }
+        (None, _) => format!(in alloc;
+            "explain: {input} is no object with \"templates\", an array, perhaps \"dictionary\", a name, and no other key\n"
+        ),
+    }
+}
+
+/// Where a stream is refused, by names.
+fn place_text(alloc: Global, notes: &Notes, fault: Fault) -> Result<String, AllocError> {
+    let message = fault.place.message;
+    let offset = fault.place.offset;
+    match (&notes.names.template, &notes.names.instruction) {
+        (Some(template), Some(field)) => {
+            let template = template.as_str();
+            let field = field.as_str();
+            format!(in alloc;
+                "message {message}, offset {offset}, field {field:?} of template {template:?}"
+            )
+        }
+        (Some(template), None) => {
+            let template = template.as_str();
+            format!(in alloc; "message {message}, offset {offset}, template {template:?}")
+        }
+        (None, _) => format!(in alloc; "message {message}, offset {offset}"),
+    }
+}
+
+/// Why a stream is refused.
+fn why_text(alloc: Global, notes: &Notes, fault: Fault) -> Result<String, AllocError> {
+    match (fault.cause, notes.identifier) {
+        (Cause::D9, Some(identifier)) => format!(in alloc;
+            "no template has the identifier {identifier}; add the template, or see that the stream begins where a message does"
+        ),
+        (_, _) => String::from_str(alloc, meaning_of(fault)),
+    }
+}
+
+/// Where and why a stream is refused.
+fn stream_text(alloc: Global, input: &str, notes: &Notes) -> Result<String, AllocError> {
+    let Some(fault) = notes.fault else {
+        return Ok(String::new(alloc));
+    };
+    let place = place_text(alloc, notes, fault)?;
+    let why = why_text(alloc, notes, fault)?;
+    if notes.looks_like_hex {
+        format!(in alloc;
+            "explain: {place}: {why}\nexplain: {input} begins with hex digits alone; for hex text give --hex\n"
+        )
+    } else {
+        format!(in alloc; "explain: {place}: {why}\n")
+    }
+}
+
+/// Where a run stopped that met a fault of the machine: behind a sentence's last word.
+fn stopped_text(alloc: Global, notes: &Notes) -> Result<String, AllocError> {
+    match notes.fault {
+        Some(fault) => {
+            let message = fault.place.message;
+            format!(in alloc; " in message {message}")
+        }
+        None => Ok(String::new(alloc)),
+    }
+}
+
+/// What a refusal means, in one or two lines with a line feed each, and what to do; nothing for a command line.
+pub fn explain(
+    alloc: Global,
+    files: Files<'_>,
+    refusal: &Refusal,
+    notes: &Notes,
+) -> Result<String, AllocError> {
+    let input = input_text(alloc, files, notes.reading)?;
+    let stopped = stopped_text(alloc, notes)?;
+    match refusal {
+        Refusal::Stream(_) => stream_text(alloc, &input, notes),
+        Refusal::Templates(_) => templates_text(alloc, &input, notes),
+        Refusal::TemplatesTooLong => format!(in alloc;
+            "explain: {input} has more than 16777216 bytes; leave out templates that the stream does not need\n"
+        ),
+        Refusal::TooLong => format!(in alloc;
+            "explain: {input} has more than 16777216 bytes; give the stream's own bytes, without --hex\n"
+        ),
+        Refusal::NotHex => match notes.stray {
+            Some(stray) => stray_text(alloc, &input, stray),
+            None => Ok(String::new(alloc)),
+        },
+        Refusal::Open => format!(in alloc;
+            "explain: {input} cannot be opened; see that it is there, is a file and may be read\n"
+        ),
+        Refusal::Read => format!(in alloc;
+            "explain: {input} cannot be read to its end: a read failed{stopped}\n"
+        ),
+        Refusal::Turns => format!(in alloc;
+            "explain: {input} has no end within the reads that are made{stopped}; cut it into shorter ones\n"
+        ),
+        Refusal::Write => String::from_str(
+            alloc,
+            "explain: the standard output took no more bytes; see that its disk has room, and its reader goes on\n",
+        ),
+        Refusal::Memory => format!(in alloc;
+            "explain: memory was refused while {input} was at hand{stopped}; give the program more\n"
+        ),
+        Refusal::Line(_) | Refusal::NotText => Ok(String::new(alloc)),
+    }
+}

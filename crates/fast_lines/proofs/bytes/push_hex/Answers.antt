@@ -1,0 +1,22 @@
+use Rattle.std.proofs.Common.{◌++◌, ◌∷◌, [], sym, ap, ◌∙◌, get_or, take}
+use Rattle.std.proofs.lemmas.List.{append-nil, append_assoc}
+use Rattle.hex.specs.Hex.{encode_lower}
+use Rattle.fast_lines.proofs.Written.{encode_none, encode_one, extends_more, extends_by, writes_err}
+use Rattle.fast_lines.proofs.bytes.push_hex.Goals as goal
+
+pub loop-byte-init : goal.loop-byte-init
+loop-byte-init c = sym (ap (λ l. c.args.out.now.items ++ l) encode_none ∙ append-nil c.args.out.now.items)
+
+pub returns-in_err-push_hex_pair : goal.returns-in_err-push_hex_pair
+returns-in_err-push_hex_pair c =
+    let more = extends_more _ _ _ (extends_by _ _ _ c.loop-byte.invariant) (c.in_err-push_hex_pair.ensures) in
+    writes_err _ _ _ c.from_residual.result c.from_residual.ensures.0 more
+
+pub loop-byte-preserved : goal.loop-byte-preserved
+loop-byte-preserved c =
+    let before = encode_lower (take c.loop-byte.byte-index c.args.bytes.now) in
+    let one = encode_lower (get_or c.args.bytes.now c.loop-byte.byte-index 0 ∷ []) in
+    c.in_ok-push_hex_pair.ensures
+    ∙ ap (λ l. l ++ one) c.loop-byte.invariant
+    ∙ append_assoc c.args.out.now.items before one
+    ∙ ap (λ l. c.args.out.now.items ++ l) (sym (encode_one c.args.bytes.now c.loop-byte.byte-index 0 c.loop-byte-test.true))

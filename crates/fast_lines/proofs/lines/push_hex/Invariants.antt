@@ -1,6 +1,0 @@
-use Rattle.std.proofs.Common.{◌≡◌, ◌++◌, take}
-use Rattle.hex.specs.Hex.{encode_lower}
-use Rattle.fast_lines.proofs.lines.push_hex.Given as goal
-
-abbrev pub invariant-loop-byte : goal.invariant-loop-byte
-invariant-loop-byte l = l.out.items ≡ l.fn.out.items ++ encode_lower (take l.byte-index l.bytes)

@@ -1,0 +1,135 @@
+//! The forms of a line.
+
+ghost use Rattle.fast_lines.specs.declared.form.Form.TheVariants.{Text, Json};
+
+use crate::bytes::{push, push_byte, push_hex, push_hex_pair, push_unsigned};
+use crate::signs::{Escape, Signs};
+use crate::strings::{push_quoted, stands};
+use std::alloc::AllocError;
+
+/// How a message is written as a line.
+#[derive(Clone, Copy, Debug, PartialEq, Eq)]
+pub enum Form {
+    /// `ID TEMPLATE NAME=VALUE ..`.
+    Text,
+    /// One JSON text, `{"template":TEMPLATE,"id":ID,"fields":{NAME:VALUE,..}}`.
+    Json,
+}
+
+/// The signs of a text.
+#[derive(Clone, Copy)]
+pub struct TextSigns;
+
+/// The signs of a JSON text.
+#[derive(Clone, Copy)]
+pub struct JsonSigns;
+
+impl Escape for TextSigns {
+    ghost form = { Text };
+
+    fn push_unit(self, byte: u8, out: &mut Vec<u8>) -> Result<(), AllocError> {
+        if stands(byte) {
+            return push_byte(byte, out);
+        }
+        push(b"\\x", out)?;
+        push_hex_pair(byte, out)
+    }
+}
+
+impl Signs for TextSigns {
+    #[inline(always)]
+    fn between(self) -> &'static [u8] {
+        b" "
+    }
+
+    #[inline(always)]
+    fn is_led(self) -> bool {
+        true
+    }
+
+    #[inline(always)]
+    fn absent(self) -> &'static [u8] {
+        b"-"
+    }
+
+    #[inline(always)]
+    fn ending(self) -> &'static [u8] {
+        b"\n"
+    }
+
+    fn push_vector(self, bytes: &[u8], out: &mut Vec<u8>) -> Result<(), AllocError> {
+        push_byte(b'x', out)?;
+        push_hex(bytes, out)
+    }
+
+    #[inline(always)]
+    fn push_label(self, name: &str, out: &mut Vec<u8>) -> Result<(), AllocError> {
+        push(name.as_bytes(), out)?;
+        push_byte(b'=', out)
+    }
+
+    #[inline(always)]
+    fn push_head(self, id: u32, name: &str, out: &mut Vec<u8>) -> Result<(), AllocError> {
+        push_unsigned(u64::from(id), out)?;
+        push_byte(b' ', out)?;
+        push(name.as_bytes(), out)
+    }
+}
+
+impl Escape for JsonSigns {
+    ghost form = { Json };
+
+    fn push_unit(self, byte: u8, out: &mut Vec<u8>) -> Result<(), AllocError> {
+        if byte < 0x20 || byte == 0x7F {
+            push(b"\\u00", out)?;
+            return push_hex_pair(byte, out);
+        }
+        if byte == b'"' || byte == b'\\' {
+            push_byte(b'\\', out)?;
+        }
+        push_byte(byte, out)
+    }
+}
+
+impl Signs for JsonSigns {
+    #[inline(always)]
+    fn between(self) -> &'static [u8] {
+        b","
+    }
+
+    #[inline(always)]
+    fn is_led(self) -> bool {
+        false
+    }
+
+    #[inline(always)]
+    fn absent(self) -> &'static [u8] {
+        b"null"
+    }
+
+    #[inline(always)]
+    fn ending(self) -> &'static [u8] {
+        b"}}\n"
+    }
+
+    fn push_vector(self, bytes: &[u8], out: &mut Vec<u8>) -> Result<(), AllocError> {
+        push_byte(b'"', out)?;
+        push_hex(bytes, out)?;
+        push_byte(b'"', out)
+    }
+
+    #[inline(always)]
+    fn push_label(self, name: &str, out: &mut Vec<u8>) -> Result<(), AllocError> {
+        push_quoted(self, name.as_bytes(), out)?;
+        push_byte(b':', out)
+    }
+
+    #[inline(always)]
+    fn push_head(self, id: u32, name: &str, out: &mut Vec<u8>) -> Result<(), AllocError> {
+        push(b"{\"template\":", out)?;
+        push_quoted(self, name.as_bytes(), out)?;
+        push(b",\"id\":", out)?;
+        push_unsigned(u64::from(id), out)?;
+        push(b",\"fields\":{", out)
+    }
+}

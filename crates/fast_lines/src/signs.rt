@@ -1,0 +1,65 @@
+//! The signs of a form of line.
+
+ghost use Rattle.std.specs.Prelude.{◌≡◌};
+ghost use Rattle.fast_lines.specs.declared.form.Form.{Form as FormOf};
+ghost use Rattle.fast_lines.specs.Signs.{absent_sign, between, ending, head_text, is_led, label_text, unit_text, vector_text};
+ghost use Rattle.fast_lines.specs.Written.{Writes};
+
+use std::alloc::AllocError;
+
+/// How the bytes of a string stand in a form of line.
+pub trait Escape: Copy {
+    // Which form it is.
+    ghost form: { FormOf };
+
+    /// Appends a byte of a string, as it is or escaped.
+    ///
+    /// # Errors
+    ///
+    /// An allocation was refused.
+    fn push_unit(self, byte: u8, out: &mut Vec<u8>) -> Result<(), AllocError>
+        ensures { Writes (unit_text form byte) result out.old.items out.new.items };
+}
+
+/// The signs of a form of line, which is known where the program is made: a line of text asks nothing of the other form.
+pub trait Signs: Escape {
+    /// What stands between two fields, and between two elements.
+    fn between(self) -> &'static [u8]
+        ensures { result.now ≡ between Self.form };
+
+    /// Whether that stands in front of a message's first field too.
+    fn is_led(self) -> bool
+        ensures { result ≡ is_led Self.form };
+
+    /// What stands for a field, a group or a sequence that is absent.
+    fn absent(self) -> &'static [u8]
+        ensures { result.now ≡ absent_sign Self.form };
+
+    /// What stands behind the fields of a message.
+    fn ending(self) -> &'static [u8]
+        ensures { result.now ≡ ending Self.form };
+
+    /// Appends a byte vector in hex digits.
+    ///
+    /// # Errors
+    ///
+    /// An allocation was refused.
+    fn push_vector(self, bytes: &[u8], out: &mut Vec<u8>) -> Result<(), AllocError>
+        ensures { Writes (vector_text Self.form bytes.now) result out.old.items out.new.items };
+
+    /// Appends what stands in front of the value of a field of a name.
+    ///
+    /// # Errors
+    ///
+    /// An allocation was refused.
+    fn push_label(self, name: &str, out: &mut Vec<u8>) -> Result<(), AllocError>
+        ensures { Writes (label_text Self.form name.now) result out.old.items out.new.items };
+
+    /// Appends what stands in front of the fields of a message of a template.
+    ///
+    /// # Errors
+    ///
+    /// An allocation was refused.
+    fn push_head(self, id: u32, name: &str, out: &mut Vec<u8>) -> Result<(), AllocError>
+        ensures { Writes (head_text Self.form id name.now) result out.old.items out.new.items };
+}

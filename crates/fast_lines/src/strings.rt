@@ -1,0 +1,158 @@
+//! Strings put behind an output, their bytes as they are or escaped.
+
+ghost use Rattle.std.specs.Prelude.{◌≡◌, ◌<◌, ◌≤◌, ◌+◌, ℕ, true, length, slice_index};
+ghost use Rattle.std.specs.List.{flat_map, list_all};
+ghost use Rattle.fast_lines.specs.Signs.{is_plain, quoted, unit_text};
+ghost use Rattle.fast_lines.specs.Written.{Writes};
+
+use crate::bytes::{push, push_byte};
+use crate::signs::Escape;
+use std::alloc::AllocError;
+use std::simd::prelude::*;
+
+/// Whether a byte stands as it is in a string of each form.
+pub(crate) fn stands(byte: u8) -> bool
+    ensures { result ≡ is_plain byte }
+{
+    0x20 <= byte && byte <= 0x7E && byte != b'"' && byte != b'\\'
+}
+
+fn push_units<S: Escape>(escape: S, text: &[u8], out: &mut Vec<u8>) -> Result<(), AllocError>
+    ensures { Writes (flat_map (unit_text S.form) text.now) result out.old.items out.new.items }
+{
+    for byte in text {
+        escape.push_unit(*byte, out)?;
+    }
+    Ok(())
+}
+
+/// Whether the 16 bytes from `at` on stand as they are.
+#[inline(always)]
+fn lanes_stand(text: &[u8], at: usize) -> bool
+    requires { at + 16 ≤ length text.now }
+    ensures { result ≡ true → (k : ℕ) → at ≤ k → k < at + 16 → is_plain (slice_index text.now k) ≡ true }
+{
+    let lanes = u8x16::from_slice(&text[at..]);
+    let below = lanes.simd_lt(u8x16::splat(0x20)).to_bitmask();
+    let above = lanes.simd_gt(u8x16::splat(0x7E)).to_bitmask();
+    let quotes = lanes.simd_eq(u8x16::splat(b'"')).to_bitmask();
+    let slashes = lanes.simd_eq(u8x16::splat(b'\\')).to_bitmask();
+    if below != 0 {
+        return false;
+    }
+    if above != 0 {
+        return false;
+    }
+    if quotes != 0 {
+        return false;
+    }
+    slashes == 0
+}
+
+/// The same of the 8 bytes.
+#[inline(always)]
+fn half_stands(text: &[u8], at: usize) -> bool
+    requires { at + 8 ≤ length text.now }
+    ensures { result ≡ true → (k : ℕ) → at ≤ k → k < at + 8 → is_plain (slice_index text.now k) ≡ true }
+{
+    let lanes = u8x8::from_slice(&text[at..]);
+    let below = lanes.simd_lt(u8x8::splat(0x20)).to_bitmask();
+    let above = lanes.simd_gt(u8x8::splat(0x7E)).to_bitmask();
+    let quotes = lanes.simd_eq(u8x8::splat(b'"')).to_bitmask();
+    let slashes = lanes.simd_eq(u8x8::splat(b'\\')).to_bitmask();
+    if below != 0 {
+        return false;
+    }
+    if above != 0 {
+        return false;
+    }
+    if quotes != 0 {
+        return false;
+    }
+    slashes == 0
+}
+
+/// The same of a string of 16 bytes at least.
+fn long_stands(text: &[u8]) -> bool
+    requires { 16 ≤ length text.now }
+    ensures { result ≡ true → list_all is_plain text.now ≡ true }
+{
+    let last = text.len() - 16;
+    let mut at = 0;
+    while at < last {
+        if !lanes_stand(text, at) {
+            return false;
+        }
+        at += 16;
+    }
+    lanes_stand(text, last)
+}
+
+/// Whether each byte of a string stands as it is, looked at one by one.
+#[inline(always)]
+fn each_stands(text: &[u8]) -> bool
+    ensures { result ≡ list_all is_plain text.now }
+{
+    text.iter().all(|byte| stands(*byte))
+}
+
+/// Whether each byte of a string stands as it is.
+#[inline(always)]
+fn all_stand(text: &[u8]) -> bool
+    ensures { result ≡ true → list_all is_plain text.now ≡ true }
+{
+    if text.len() >= 16 {
+        return long_stands(text);
+    }
+    if text.len() >= 8 {
+        return half_stands(text, 0) && half_stands(text, text.len() - 8);
+    }
+    each_stands(text)
+}
+
+/// Appends 8 bytes of a string.
+#[inline(always)]
+fn push_eight<S: Escape>(escape: S, text: &[u8], out: &mut Vec<u8>) -> Result<(), AllocError>
+    requires { length text.now ≡ 8 }
+    ensures { Writes (flat_map (unit_text S.form) text.now) result out.old.items out.new.items }
+{
+    if half_stands(text, 0) {
+        return push(text, out);
+    }
+    push_units(escape, text, out)
+}
+
+/// Appends a string without its quotes, 8 bytes in one step.
+fn push_pieces<S: Escape>(escape: S, text: &[u8], out: &mut Vec<u8>) -> Result<(), AllocError>
+    ensures { Writes (flat_map (unit_text S.form) text.now) result out.old.items out.new.items }
+{
+    let mut at = 0;
+    while text.len() - at >= 8 {
+        push_eight(escape, &text[at..at + 8], out)?;
+        at += 8;
+    }
+    push_units(escape, &text[at..], out)
+}
+
+/// Appends a string without its quotes; mostly it stands as it is, and goes there at once.
+fn push_text<S: Escape>(escape: S, text: &[u8], out: &mut Vec<u8>) -> Result<(), AllocError>
+    ensures { Writes (flat_map (unit_text S.form) text.now) result out.old.items out.new.items }
+{
+    if all_stand(text) {
+        return push(text, out);
+    }
+    push_pieces(escape, text, out)
+}
+
+/// Appends a string in its quotes.
+pub(crate) fn push_quoted<S: Escape>(
+    escape: S,
+    text: &[u8],
+    out: &mut Vec<u8>,
+) -> Result<(), AllocError>
+    ensures { Writes (quoted S.form text.now) result out.old.items out.new.items }
+{
+    push_byte(b'"', out)?;
+    push_text(escape, text, out)?;
+    push_byte(b'"', out)
+}

@@ -1,0 +1,202 @@
+//! Lines in JSON: which bytes they are, and what they are read back as.
+
+ghost use Rattle.std.specs.Prelude.{◌≤◌};
+
+use crate::modes::PLAIN;
+use crate::same::same;
+use crate::worked::worked_set;
+use fast_build::Load;
+use fast_command::{Command, Form, ShowFault, run, show_line};
+use fast_decoder::Decoder;
+use fast_dictionary::MapEntries;
+use fast_io::{Counted, ScriptInput, ScriptOutput};
+use fast_stream::{Message, Node};
+use fast_template::TemplateSet;
+use serde_json::Value;
+use std::alloc::Global;
+use std::process::Abort;
+use std::test::Fail;
+
+/// A stream of one message, its line, and another spelling of what that stands for.
+struct Row {
+    stream: &'static [u8],
+    line: &'static str,
+    read_as: &'static str,
+}
+
+const WORKED_ROWS: [Row; 8] = [
+    Row {
+        stream: b"\xf0\x81\x81\x41\xc2\xfe\x00\xe4",
+        line: "{\"template\":\"Quote\",\"id\":1,\"fields\":\
+            {\"Seq\":1,\"Sym\":\"AB\",\"Px\":100e-2,\"Qty\":null}}\n",
+        read_as: r#"{"id": 1, "template": "Quote",
+            "fields": {"Qty": null, "Px": 1.0, "Sym": "AB", "Seq": 1}}"#,
+    },
+    Row {
+        stream: b"\xf0\x83\x80\x85",
+        line: "{\"template\":\"Opt\",\"id\":3,\"fields\":{\"Px\":null,\"Flag\":5}}\n",
+        read_as: r#"{"id": 3, "template": "Opt", "fields": {"Flag": 5, "Px": null}}"#,
+    },
+    Row {
+        stream: b"\xc0\x84\x80",
+        line: "{\"template\":\"Legs\",\"id\":4,\"fields\":{\"L\":null}}\n",
+        read_as: r#"{"id": 4, "template": "Legs", "fields": {"L": null}}"#,
+    },
+    Row {
+        stream: b"\xc0\x84\x81",
+        line: "{\"template\":\"Legs\",\"id\":4,\"fields\":{\"L\":[]}}\n",
+        read_as: r#"{"id": 4, "template": "Legs", "fields": {"L": []}}"#,
+    },
+    Row {
+        stream: b"\xc0\x84\x83\x85\x86",
+        line: "{\"template\":\"Legs\",\"id\":4,\"fields\":{\"L\":[{\"P\":5},{\"P\":6}]}}\n",
+        read_as: r#"{"id": 4, "template": "Legs", "fields": {"L": [{"P": 5}, {"P": 6}]}}"#,
+    },
+    Row {
+        stream: b"\xf0\x8b\xc0\x85\x86",
+        line: "{\"template\":\"Grp\",\"id\":11,\"fields\":{\"Hd\":{\"A\":5},\"B\":6}}\n",
+        read_as: r#"{"id": 11, "template": "Grp", "fields": {"B": 6, "Hd": {"A": 5}}}"#,
+    },
+    Row {
+        stream: b"\xd0\x8b\x86",
+        line: "{\"template\":\"Grp\",\"id\":11,\"fields\":{\"Hd\":null,\"B\":6}}\n",
+        read_as: r#"{"id": 11, "template": "Grp", "fields": {"B": 6, "Hd": null}}"#,
+    },
+    Row {
+        stream: b"\xe0\x8f\x00\xe4\x83\x0a\xff",
+        line: "{\"template\":\"Fixed\",\"id\":15,\"fields\":{\"Px\":100e-2,\"Raw\":\"0aff\"}}\n",
+        read_as: r#"{"id": 15, "template": "Fixed", "fields": {"Raw": "0aff", "Px": 1.0}}"#,
+    },
+];
+
+/// A template with a field of each type, two of one name, names that are escaped, and a group in a group.
+const KINDS: &str = r#"{"templates":[
+{"name":"K\"\\","id":4294967295,"instructions":[
+ {"kind":"uInt32","name":"u32"},
+ {"kind":"int32","name":"i32"},
+ {"kind":"uInt64","name":"u64"},
+ {"kind":"int64","name":"i64"},
+ {"kind":"decimal","name":"d"},
+ {"kind":"string","name":"a"},
+ {"kind":"string","charset":"unicode","name":"t"},
+ {"kind":"byteVector","name":"b"},
+ {"kind":"uInt32","name":"twice","presence":"optional"},
+ {"kind":"uInt32","name":"twice","presence":"optional"},
+ {"kind":"group","name":"g","instructions":[
+  {"kind":"group","name":"\"","instructions":[]}]},
+ {"kind":"sequence","name":"s","instructions":[
+  {"kind":"int32","name":"\\"}]}]}]}"#;
+
+const KIND_ROWS: [Row; 2] = [
+    // what is farthest from nought, and strings that are escaped
+    Row {
+        stream: b"\xc0\x0f\x7f\x7f\x7f\xff\x0f\x7f\x7f\x7f\xff\x78\x00\x00\x00\x80\x01\x7f\x7f\x7f\x7f\x7f\
+            \x7f\x7f\x7f\xff\x7f\x00\x00\x00\x00\x00\x00\x00\x00\x80\xc1\x00\x7f\x7f\x7f\x7f\x7f\x7f\
+            \x7f\x7f\xff\x22\x5c\x7e\x7f\x00\x9f\x88\x22\x0a\xc3\xa9\xf0\x9f\x99\x82\x82\x0a\xff\x86\
+            \x80\x82\xff\x80",
+        line: "{\"template\":\"K\\\"\\\\\",\"id\":4294967295,\"fields\":{\"u32\":4294967295,\
+            \"i32\":-2147483648,\"u64\":18446744073709551615,\"i64\":-9223372036854775808,\
+            \"d\":9223372036854775807e-63,\"a\":\"\\\"\\\\~\\u007f\\u0000\\u001f\",\
+            \"t\":\"\\\"\\u000aé🙂\",\"b\":\"0aff\",\"twice\":5,\"twice\":null,\
+            \"g\":{\"\\\"\":{}},\"s\":[{\"\\\\\":-1},{\"\\\\\":0}]}}\n",
+        read_as: r#"{"template": "\u004b\u0022\u005c", "id": 4294967295, "fields": {
+            "u32": 4294967295, "i32": -2147483648, "u64": 18446744073709551615,
+            "i64": -9223372036854775808, "d": 9.223372036854775807e-45,
+            "a": "\u0022\u005c\u007e\u007f\u0000\u001f", "t": "\u0022\n\u00e9\ud83d\ude42",
+            "b": "0aff", "twice": null, "g": {"\u0022": {}},
+            "s": [{"\u005c": -1}, {"\u005c": 0}]}}"#,
+    },
+    // what is empty, and a string that is looked at in several steps
+    Row {
+        stream: b"\xc0\x0f\x7f\x7f\x7f\xff\x80\x07\x7f\x7f\x7f\xff\x80\x00\x7f\x7f\x7f\x7f\x7f\x7f\x7f\x7f\
+            \xff\xbf\xfb\x61\x62\x63\x64\x65\x66\x67\x68\x22\x6a\x6b\x6c\x6d\x6e\x6f\x70\x71\x72\x73\
+            \xf4\x80\x80\x80\x10\x00\x00\x00\x80\x80",
+        line: "{\"template\":\"K\\\"\\\\\",\"id\":4294967295,\"fields\":{\"u32\":0,\
+            \"i32\":2147483647,\"u64\":0,\"i64\":9223372036854775807,\"d\":-5e63,\
+            \"a\":\"abcdefgh\\\"jklmnopqrst\",\"t\":\"\",\"b\":\"\",\
+            \"twice\":null,\"twice\":4294967295,\"g\":{\"\\\"\":{}},\"s\":[]}}\n",
+        read_as: r#"{"template": "\u004b\u0022\u005c", "id": 4294967295, "fields": {
+            "u32": 0, "i32": 2147483647, "u64": 0, "i64": 9223372036854775807,
+            "d": -50e62, "a": "abcdefgh\u0022jklmnopqrst", "t": "", "b": "",
+            "twice": 4294967295, "g": {"\u0022": {}}, "s": []}}"#,
+    },
+];
+
+/// The lines of the messages of a short stream, each of which is at hand.
+fn lines_of(alloc: Global, set: &TemplateSet, stream: &[u8]) -> Result<Vec<u8>, Fail> {
+    let mut decoder = Decoder::new(alloc, set, PLAIN, MapEntries::new(alloc));
+    let mut messages = Vec::new(alloc);
+    let stream = &stream[..stream.len().min(100)];
+    decoder.feed(stream, &mut messages)?;
+    let mut lines = Vec::new(alloc);
+    for message in &messages {
+        show_line(Form::Json, set, message, &mut lines)?;
+    }
+    Ok(lines)
+}
+
+/// The line of a message that is at hand, and what `show` writes of its stream in steps of one size, are the row's, and
+/// it is read as the other spelling.
+fn is_shown(
+    rt: &impl Abort,
+    alloc: Global,
+    set: &TemplateSet,
+    row: &Row,
+    step: usize,
+) -> Result<(), Fail>
+    requires { 1 ≤ step }
+{
+    let line = row.line.as_bytes();
+    same(rt, lines_of(alloc, set, row.stream)?.as_slice(), line);
+    let mut reader = Counted::new(ScriptInput::new(row.stream, step, 0));
+    let mut out = ScriptOutput::new(alloc, 1_000_000, false, false);
+    let mut writer = Counted::new(&mut out);
+    let answer = run(
+        alloc,
+        Command::Show,
+        set,
+        PLAIN,
+        Form::Json,
+        &mut reader,
+        &mut writer,
+        1_000,
+    );
+    same(rt, answer.is_ok(), true);
+    same(rt, out.bytes(), line);
+    same(
+        rt,
+        Value::from_slice(alloc, line)?,
+        Value::from_str(alloc, row.read_as)?,
+    );
+    Ok(())
+}
+
+#[test]
+fn each_line_is_read_as_its_message(rt: HostRuntime) -> Result<(), Fail> {
+    let alloc = rt.alloc();
+    let set = worked_set(&rt, alloc);
+    for row in &WORKED_ROWS {
+        is_shown(&rt, alloc, &set, row, 1)?;
+        is_shown(&rt, alloc, &set, row, 4096)?;
+    }
+    let set = TemplateSet::from_json(alloc, KINDS.as_bytes())?;
+    for row in &KIND_ROWS {
+        is_shown(&rt, alloc, &set, row, 1)?;
+        is_shown(&rt, alloc, &set, row, 4096)?;
+    }
+    // a mandatory sequence is absent
+    let mut fields = Vec::new(alloc);
+    fields.push(Node::Absent)?;
+    let message = Message {
+        template: 6,
+        fields,
+    };
+    let mut out = Vec::from_slice(alloc, b"before")?;
+    same(
+        &rt,
+        show_line(Form::Json, &worked_set(&rt, alloc), &message, &mut out),
+        Err(ShowFault::Mismatch),
+    );
+    same(&rt, out.as_slice(), b"before".as_slice());
+    Ok(())
+}
