@@ -135,20 +135,18 @@ fn lines_of(alloc: Global, set: &TemplateSet, stream: &[u8]) -> Result<Vec<u8>, 
     Ok(lines)
 }
 
-/// The line of a message that is at hand, and what `show` writes of its stream in steps of one size, are the row's, and
-/// it is read as the other spelling.
-fn is_shown(
+/// This is what `show` writes of a stream in JSON, in steps of one size.
+fn is_written(
     rt: &impl Abort,
     alloc: Global,
     set: &TemplateSet,
-    row: &Row,
+    stream: &[u8],
     step: usize,
-) -> Result<(), Fail>
+    line: &[u8],
+)
     requires { 1 ≤ step }
 {
-    let line = row.line.as_bytes();
-    same(rt, lines_of(alloc, set, row.stream)?.as_slice(), line);
-    let mut reader = Counted::new(ScriptInput::new(row.stream, step, 0));
+    let mut reader = Counted::new(ScriptInput::new(stream, step, 0));
     let mut out = ScriptOutput::new(alloc, 1_000_000, false, false);
     let mut writer = Counted::new(&mut out);
     let answer = run(
@@ -163,11 +161,16 @@ fn is_shown(
     );
     same(rt, answer.is_ok(), true);
     same(rt, out.bytes(), line);
-    same(
-        rt,
-        Value::from_slice(alloc, line)?,
-        Value::from_str(alloc, row.read_as)?,
-    );
+}
+
+/// The line is that of the message at hand and of its stream, and is read as the other spelling.
+fn is_shown(rt: &impl Abort, alloc: Global, set: &TemplateSet, row: &Row) -> Result<(), Fail> {
+    let line = row.line.as_bytes();
+    same(rt, lines_of(alloc, set, row.stream)?.as_slice(), line);
+    is_written(rt, alloc, set, row.stream, 1, line);
+    is_written(rt, alloc, set, row.stream, 4096, line);
+    let read = Value::from_slice(alloc, line)?;
+    same(rt, read, Value::from_str(alloc, row.read_as)?);
     Ok(())
 }
 
@@ -176,13 +179,11 @@ fn each_line_is_read_as_its_message(rt: HostRuntime) -> Result<(), Fail> {
     let alloc = rt.alloc();
     let set = worked_set(&rt, alloc);
     for row in &WORKED_ROWS {
-        is_shown(&rt, alloc, &set, row, 1)?;
-        is_shown(&rt, alloc, &set, row, 4096)?;
+        is_shown(&rt, alloc, &set, row)?;
     }
     let set = TemplateSet::from_json(alloc, KINDS.as_bytes())?;
     for row in &KIND_ROWS {
-        is_shown(&rt, alloc, &set, row, 1)?;
-        is_shown(&rt, alloc, &set, row, 4096)?;
+        is_shown(&rt, alloc, &set, row)?;
     }
     // a mandatory sequence is absent
     let mut fields = Vec::new(alloc);

@@ -3,10 +3,8 @@
 ghost use Rattle.std.specs.Prelude.{◌≤◌, ◌^◌};
 
 use crate::same::same_of;
-use crate::serving::devices::{After, Feed, Full, STREAM, Shelf, Sink, TEMPLATES};
-use crate::serving::programs::{Answer, FIRST, Row, row_is_served, served, whole};
-use fast_io::Counted;
-use fast_serve::serve::serve;
+use crate::serving::devices::{After, Feed, Full, STREAM, Shelf, Sink, TEMPLATES, kept};
+use crate::serving::programs::{Answer, FIRST, Row, row_is_served, served, status_of, whole};
 use std::alloc::Global;
 use std::process::Abort;
 
@@ -404,24 +402,21 @@ fn machine_is_explained(rt: &impl Abort, alloc: Global, row: &Machine) {
 
 // Serves a line into an output that has no room.
 fn output_is_explained(rt: &impl Abort, alloc: Global, err: &str) {
-    let mut kept = Vec::new(alloc);
-    let mut said = Vec::new(alloc);
-    let status = serve(
-        alloc,
-        SHOW,
-        &mut Shelf {
-            templates: whole(FIRST.as_bytes()),
-            stream: whole(b""),
-            standard: whole(b"\xe0\x90\x85\x86"),
-        },
-        &mut Counted::new(Sink {
-            kept: &mut kept,
-            room: 0,
-            full: Full::Error,
-        }),
-        &mut Counted::new(&mut said),
-        9,
-    );
+    let (mut out, mut said) = (Vec::new(alloc), Vec::new(alloc));
+    let (mut ends, mut flushes) = (0, 0);
+    let mut source = Shelf {
+        templates: whole(FIRST.as_bytes()),
+        stream: whole(b""),
+        standard: whole(b"\xe0\x90\x85\x86"),
+    };
+    let sink = Sink {
+        kept: &mut out,
+        flushes: &mut ends,
+        room: 0,
+        full: Full::Error,
+    };
+    let err_sink = kept(&mut said, &mut flushes);
+    let status = status_of(alloc, SHOW, &mut source, sink, err_sink, 9);
     same_of(rt, SHOW, said.as_slice(), err.as_bytes());
     same_of(rt, SHOW, status, 3);
 }
