@@ -1,5 +1,7 @@
 //! What keeps a text from being hex, and what looks like hex.
 
+use fast_host::is_blank;
+
 /// What keeps a text from being hex.
 #[derive(Clone, Copy)]
 pub enum Stray {
@@ -9,11 +11,6 @@ pub enum Stray {
     At { line: u64, column: u64 },
     /// A last digit that stands alone.
     Odd,
-}
-
-/// Whether a byte may stand between digits.
-fn is_blank(byte: u8) -> bool {
-    matches!(byte, b' ' | b'\t' | b'\r' | b'\n')
 }
 
 /// What keeps a text from being hex, if anything does.

@@ -1,5 +1,6 @@
 //! Where a text is no JSON, and what its writer may not have seen.
 
+use fast_host::is_blank;
 use serde_json::Error;
 
 /// What a text that is no JSON looks like.
@@ -23,11 +24,6 @@ pub struct NoJson {
     pub line: usize,
     pub column: usize,
     pub look: Look,
-}
-
-/// Whether a byte may stand between the words of JSON.
-fn is_blank(byte: u8) -> bool {
-    matches!(byte, b' ' | b'\t' | b'\r' | b'\n')
 }
 
 /// The place in a text of the last byte that is no blank and stands before this one.

@@ -17,8 +17,9 @@ pub enum HexFault {
     Memory,
 }
 
-/// Whether a byte may stand between two digits: a space, a tab, a carriage return or a line feed.
-fn is_blank(byte: u8) -> bool
+/// Whether a byte may stand between two digits of hex, or two words of JSON: a space, a tab, a carriage return or a line
+/// feed.
+pub fn is_blank(byte: u8) -> bool
     ensures { result ≡ is_blank_lem byte }
 {
     matches!(byte, b' ' | b'\t' | b'\r' | b'\n')

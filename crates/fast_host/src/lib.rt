@@ -8,7 +8,7 @@ mod memory;
 mod refusal;
 mod source;
 
-pub use hex_text::{HexFault, hex_line, read_hex};
+pub use hex_text::{HexFault, hex_line, is_blank, read_hex};
 pub use input::{TEXT_LIMIT, TextFault, read_text};
 pub use memory::MemoryOutput;
 pub use refusal::Refusal;

@@ -50,6 +50,25 @@ const MANY: &str = r#"{"templates":[
 {"name":"Nest","id":6,"instructions":[{"kind":"group","name":"G","instructions":[
  {"kind":"sequence","name":"L","instructions":[{"kind":"uInt32","name":"E"}]}]}]}]}"#;
 
+// Each template has the next one twice, so that the first has 65,536 instructions.
+const DOUBLED: &str = r#"{"templates":[{"name":"N1","instructions":[{"kind":"templateRef","name":"N2"},{"kind":"templateRef","name":"N2"}]},
+{"name":"N2","instructions":[{"kind":"templateRef","name":"N3"},{"kind":"templateRef","name":"N3"}]},
+{"name":"N3","instructions":[{"kind":"templateRef","name":"N4"},{"kind":"templateRef","name":"N4"}]},
+{"name":"N4","instructions":[{"kind":"templateRef","name":"N5"},{"kind":"templateRef","name":"N5"}]},
+{"name":"N5","instructions":[{"kind":"templateRef","name":"N6"},{"kind":"templateRef","name":"N6"}]},
+{"name":"N6","instructions":[{"kind":"templateRef","name":"N7"},{"kind":"templateRef","name":"N7"}]},
+{"name":"N7","instructions":[{"kind":"templateRef","name":"N8"},{"kind":"templateRef","name":"N8"}]},
+{"name":"N8","instructions":[{"kind":"templateRef","name":"N9"},{"kind":"templateRef","name":"N9"}]},
+{"name":"N9","instructions":[{"kind":"templateRef","name":"N10"},{"kind":"templateRef","name":"N10"}]},
+{"name":"N10","instructions":[{"kind":"templateRef","name":"N11"},{"kind":"templateRef","name":"N11"}]},
+{"name":"N11","instructions":[{"kind":"templateRef","name":"N12"},{"kind":"templateRef","name":"N12"}]},
+{"name":"N12","instructions":[{"kind":"templateRef","name":"N13"},{"kind":"templateRef","name":"N13"}]},
+{"name":"N13","instructions":[{"kind":"templateRef","name":"N14"},{"kind":"templateRef","name":"N14"}]},
+{"name":"N14","instructions":[{"kind":"templateRef","name":"N15"},{"kind":"templateRef","name":"N15"}]},
+{"name":"N15","instructions":[{"kind":"templateRef","name":"N16"},{"kind":"templateRef","name":"N16"}]},
+{"name":"N16","instructions":[{"kind":"templateRef","name":"N17"},{"kind":"templateRef","name":"N17"}]},
+{"name":"N17","instructions":[{"kind":"uInt32","name":"A"}]}]}"#;
+
 /// A command line, a stream that is refused, and what is written and said.
 struct Refused {
     words: &'static [&'static str],
@@ -352,6 +371,11 @@ fn refused_templates(rt: HostRuntime) {
             r#"{"templates":[{"name":"T","id":1,"instructions":[{"kind":"group","name":"G","instructions":[{"kind":"group","name":"G","instructions":[{"kind":"group","name":"G","instructions":[{"kind":"group","name":"G","instructions":[{"kind":"group","name":"G","instructions":[{"kind":"group","name":"G","instructions":[{"kind":"group","name":"G","instructions":[{"kind":"group","name":"G","instructions":[{"kind":"group","name":"G","instructions":[{"kind":"uInt32","name":"A"}]}]}]}]}]}]}]}]}]}]}]}"#,
             "templates refused TooDeep template=1 instruction=0\n\
             explain: template 1 \"T\": groups and sequences nest in more than 8 levels; take some out\n",
+        ),
+        (
+            DOUBLED,
+            "templates refused TooMany template=1 instruction=0\n\
+            explain: template 1 \"N1\": up to here there are more than 65535 instructions, those behind references included; leave out templates that the stream does not need\n",
         ),
     ];
     for (templates, err) in ROWS {
