@@ -19,6 +19,9 @@ import tempfile
 
 WELL, WANT_OF_MEMORY = "well", "want of memory"
 
+# How a test says that it ended for want of memory: a call's own answer, or that of an allocation or a decoder.
+SAID = (b"rror: AllocError", b"rror: Memory", b"rror: Fault { cause: Memory")
+
 
 def run(program, test, library, number):
     """How a test ends with one allocation refused, and how many it asked for."""
@@ -32,7 +35,7 @@ def run(program, test, library, number):
         asked = told.read()
     if ended.returncode == 0:
         end = WELL
-    elif b"rror: AllocError" in ended.stdout:
+    elif any(said in ended.stdout for said in SAID):
         end = WANT_OF_MEMORY
     else:
         end = f"status {ended.returncode}"

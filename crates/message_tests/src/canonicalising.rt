@@ -2,14 +2,14 @@
 
 ghost use Rattle.std.specs.Prelude.{◌≤◌};
 
+use crate::granted::answers;
 use crate::modes::PLAIN;
-use crate::same::same;
-use crate::worked::{TWO, TWO_SHORT, worked_set};
+use crate::worked::{TWO, TWO_SHORT, worked};
 use fast_canon::{CanonFault, Summary, canonicalise, check};
 use fast_io::{Counted, ScriptInput, ScriptOutput};
 use fast_stream::{Cause, Fault, Place};
 use fast_template::TemplateSet;
-use std::alloc::Global;
+use std::alloc::{AllocError, Global};
 use std::process::Abort;
 
 // Checks a stream that comes in steps, whose reader fails at the call with this number.
@@ -25,6 +25,15 @@ fn checked(
 {
     let mut reader = Counted::new(ScriptInput::new(stream, step, failing));
     check(alloc, set, PLAIN, &mut reader, turns.min(100))
+}
+
+// A stream is checked with this answer.
+fn is_checked(
+    rt: &impl Abort,
+    given: Result<Summary, CanonFault>,
+    wanted: Result<Summary, CanonFault>,
+) -> Result<(), AllocError> {
+    answers(rt, given, wanted, b"", b"")
 }
 
 // Canonicalises a stream that comes in steps.
@@ -54,29 +63,30 @@ fn gives(
     step: usize,
     written: &[u8],
     answer: Result<Summary, CanonFault>,
-)
+) -> Result<(), AllocError>
     requires { 1 ≤ step }
 {
     let mut out = ScriptOutput::new(alloc, 1000, false, false);
-    same(rt, canonical(alloc, set, stream, step, &mut out), answer);
-    same(rt, out.bytes(), written);
-    same(rt, checked(alloc, set, stream, step, 0, 100), answer);
+    let given = canonical(alloc, set, stream, step, &mut out);
+    answers(rt, given, answer, out.bytes(), written)?;
+    is_checked(rt, checked(alloc, set, stream, step, 0, 100), answer)
 }
 
-fn rows_are_given(rt: &impl Abort, alloc: Global, rows: &[Row]) {
-    let set = worked_set(rt, alloc);
+fn rows_are_given(rt: &impl Abort, alloc: Global, rows: &[Row]) -> Result<(), AllocError> {
+    let set = worked(rt, alloc)?;
     for Row(stream, step, written, messages, read, out) in rows {
         let answer = Ok(Summary {
             messages: *messages,
             read: *read,
             written: *out,
         });
-        gives(rt, alloc, &set, stream, (*step).max(1), written, answer);
+        gives(rt, alloc, &set, stream, (*step).max(1), written, answer)?;
     }
+    Ok(())
 }
 
 #[test]
-fn streams_to_their_end(rt: HostRuntime) {
+fn streams_to_their_end(rt: HostRuntime) -> Result<(), AllocError> {
     const ROWS: &[Row] = &[
         Row(TWO, 1, TWO_SHORT, 2, 16, 11),
         Row(TWO, 3, TWO_SHORT, 2, 16, 11),
@@ -84,7 +94,7 @@ fn streams_to_their_end(rt: HostRuntime) {
         Row(TWO_SHORT, 2, TWO_SHORT, 2, 11, 11),
         Row(b"", 1, b"", 0, 0, 0),
     ];
-    rows_are_given(&rt, rt.alloc(), ROWS);
+    rows_are_given(&rt, rt.alloc(), ROWS)
 }
 
 fn refused(cause: Cause, message: u64, offset: u64, template: u32, instruction: u32) -> Fault {
@@ -98,43 +108,42 @@ fn refused(cause: Cause, message: u64, offset: u64, template: u32, instruction: 
 }
 
 #[test]
-fn streams_that_are_refused(rt: HostRuntime) {
+fn streams_that_are_refused(rt: HostRuntime) -> Result<(), AllocError> {
     let alloc = rt.alloc();
-    let set = worked_set(&rt, alloc);
+    let set = worked(&rt, alloc)?;
     let first = Err(CanonFault::Stream(refused(Cause::D5, 1, 1, 0, 0)));
-    gives(&rt, alloc, &set, &[0x80], 1, &[], first);
+    gives(&rt, alloc, &set, &[0x80], 1, &[], first)?;
     // what was read before the fault is written; the bytes of the message that is open are not
     let second = Err(CanonFault::Stream(refused(Cause::Truncated, 2, 13, 1, 3)));
-    gives(&rt, alloc, &set, &TWO[..14], 3, &TWO_SHORT[..8], second);
+    gives(&rt, alloc, &set, &TWO[..14], 3, &TWO_SHORT[..8], second)
 }
 
 #[test]
-fn a_writer_that_fails(rt: HostRuntime) {
+fn a_writer_that_fails(rt: HostRuntime) -> Result<(), AllocError> {
     let alloc = rt.alloc();
-    let set = worked_set(&rt, alloc);
+    let set = worked(&rt, alloc)?;
     let mut out = ScriptOutput::new(alloc, 3, false, false);
     let answer = canonical(alloc, &set, &TWO[..8], 8, &mut out);
-    same(&rt, answer, Err(CanonFault::Write));
-    same(&rt, out.bytes(), [0xf0, 0x81, 0x81].as_slice());
+    let written = [0xf0, 0x81, 0x81].as_slice();
+    answers(&rt, answer, Err(CanonFault::Write), out.bytes(), written)?;
     let mut out = ScriptOutput::new(alloc, 100, false, true);
     let answer = canonical(alloc, &set, TWO, 8, &mut out);
-    same(&rt, answer, Err(CanonFault::Write));
-    same(&rt, out.bytes(), TWO_SHORT);
+    answers(&rt, answer, Err(CanonFault::Write), out.bytes(), TWO_SHORT)
 }
 
 #[test]
-fn reads_that_are_used_up(rt: HostRuntime) {
+fn reads_that_are_used_up(rt: HostRuntime) -> Result<(), AllocError> {
     let alloc = rt.alloc();
-    let set = worked_set(&rt, alloc);
+    let set = worked(&rt, alloc)?;
     let turns = Err(CanonFault::Stream(refused(Cause::Turns, 2, 8, 0, 0)));
-    same(&rt, checked(alloc, &set, TWO, 4, 0, 2), turns);
+    is_checked(&rt, checked(alloc, &set, TWO, 4, 0, 2), turns)?;
     let read = Err(CanonFault::Stream(refused(Cause::Read, 1, 3, 1, 2)));
-    same(&rt, checked(alloc, &set, TWO, 4, 2, 9), read);
+    is_checked(&rt, checked(alloc, &set, TWO, 4, 2, 9), read)
 }
 
 // Streams that are longer than their canonical bytes, and two that are as long and not the same.
 #[test]
-fn no_stream_is_shorter(rt: HostRuntime) {
+fn no_stream_is_shorter(rt: HostRuntime) -> Result<(), AllocError> {
     const QUOTE: &[u8] = b"\xf0\x81\x81\x41\xc2\xfe\x00\xe4";
     const ROWS: &[Row] = &[
         Row(
@@ -190,5 +199,5 @@ fn no_stream_is_shorter(rt: HostRuntime) {
             18,
         ),
     ];
-    rows_are_given(&rt, rt.alloc(), ROWS);
+    rows_are_given(&rt, rt.alloc(), ROWS)
 }

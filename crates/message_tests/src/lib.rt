@@ -10,6 +10,8 @@ mod decoding;
 #[cfg(test)]
 mod encoding;
 #[cfg(test)]
+mod granted;
+#[cfg(test)]
 mod modes;
 #[cfg(test)]
 mod same;

@@ -1,23 +1,31 @@
 //! The worked templates, and streams and messages of them.
 
-use fast_build::Load;
+use crate::same::same;
+use fast_build::{Load, LoadCause};
 use fast_stream::{Message, Node};
 use fast_template::{ByteString, Scalar, TemplateSet};
 use std::alloc::{AllocError, Global};
 use std::process::Abort;
 use template_tests::texts::WORKED;
 
-// The set of the worked templates.
-pub(crate) fn worked(alloc: Global) -> Option<TemplateSet> {
-    TemplateSet::from_json(alloc, WORKED.as_bytes()).ok()
+// The set of these templates.
+pub(crate) fn loaded(
+    rt: &impl Abort,
+    alloc: Global,
+    text: &str,
+) -> Result<TemplateSet, AllocError> {
+    match TemplateSet::from_json(alloc, text.as_bytes()) {
+        Ok(set) => Ok(set),
+        Err(fault) => {
+            same(rt, fault.cause, LoadCause::Memory);
+            Err(AllocError)
+        }
+    }
 }
 
-// The same, where it is there.
-pub(crate) fn worked_set(rt: &impl Abort, alloc: Global) -> TemplateSet {
-    let Some(set) = worked(alloc) else {
-        panic!(rt; "refused");
-    };
-    set
+// The set of the worked templates.
+pub(crate) fn worked(rt: &impl Abort, alloc: Global) -> Result<TemplateSet, AllocError> {
+    loaded(rt, alloc, WORKED)
 }
 
 // Seq=1 Sym="AB" Px=100e-2, and no Qty.

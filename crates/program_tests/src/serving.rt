@@ -4,5 +4,6 @@ mod blocks;
 mod devices;
 mod examples;
 mod explaining;
+mod granted;
 mod programs;
 mod strict;

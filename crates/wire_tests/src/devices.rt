@@ -2,6 +2,7 @@
 
 use crate::same::same;
 use fast_io::{ByteInput, ByteOutput, Counted, Failed, ScriptInput, ScriptOutput};
+use std::alloc::AllocError;
 use std::io::{Read, Write};
 use std::process::Abort;
 
@@ -23,6 +24,14 @@ fn push_and_flush<W: ByteOutput>(
     (writer.push(bytes), writer.flush())
 }
 
+// How many bytes a device took that has room for one. It fails for memory alone, and that ends a test.
+fn granted(taken: Result<usize, Failed>) -> Result<usize, AllocError> {
+    match taken {
+        Ok(count) => Ok(count),
+        Err(_) => Err(AllocError),
+    }
+}
+
 #[test]
 fn pulls(rt: HostRuntime) {
     let mut whole = Counted::new(b"abcde".as_slice());
@@ -41,25 +50,20 @@ fn pulls(rt: HostRuntime) {
 }
 
 #[test]
-fn pushes(rt: HostRuntime) {
+fn pushes(rt: HostRuntime) -> Result<(), AllocError> {
     let mut whole = Counted::new(Vec::new(rt.alloc()));
-    same(
-        &rt,
-        push_and_flush(&mut &mut whole, b"abc"),
-        (Ok(3), Ok(())),
-    );
+    let (taken, flushed) = push_and_flush(&mut &mut whole, b"abc");
+    same(&rt, (granted(taken)?, flushed), (3, Ok(())));
     let mut narrow = Counted::new(ScriptOutput::new(rt.alloc(), 2, true, true));
-    same(
-        &rt,
-        push_and_flush(&mut narrow, b"abc"),
-        (Ok(2), Err(Failed)),
-    );
+    let (taken, flushed) = push_and_flush(&mut narrow, b"abc");
+    same(&rt, (granted(taken)?, flushed), (2, Err(Failed)));
     same(
         &rt,
         push_and_flush(&mut narrow, b"c"),
         (Err(Failed), Err(Failed)),
     );
     same(&rt, narrow.push(b""), Ok(0));
+    Ok(())
 }
 
 // A script gives so many bytes, or fails, and these stand in the buffer.
@@ -81,6 +85,22 @@ fn writes(rt: &impl Abort, output: &mut ScriptOutput, bytes: &[u8], count: Optio
     same(rt, output.write(bytes).ok(), count);
 }
 
+// A script takes so many of these bytes, for which it has room.
+fn takes(
+    rt: &impl Abort,
+    output: &mut ScriptOutput,
+    bytes: &[u8],
+    count: usize,
+) -> Result<(), AllocError> {
+    match output.write(bytes).ok() {
+        Some(taken) => {
+            same(rt, taken, count);
+            Ok(())
+        }
+        None => Err(AllocError),
+    }
+}
+
 #[test]
 fn input_fails_where_it_says(rt: HostRuntime) {
     let mut buf = [0u8; 3];
@@ -91,9 +111,9 @@ fn input_fails_where_it_says(rt: HostRuntime) {
 }
 
 #[test]
-fn output_fails_where_it_says(rt: HostRuntime) {
+fn output_fails_where_it_says(rt: HostRuntime) -> Result<(), AllocError> {
     let mut output = ScriptOutput::new(rt.alloc(), 2, false, false);
-    writes(&rt, &mut output, b"abc", Some(2));
+    takes(&rt, &mut output, b"abc", 2)?;
     writes(&rt, &mut output, b"c", None);
     writes(&rt, &mut output, b"", Some(0));
     same(&rt, output.flush().is_ok(), true);
@@ -101,4 +121,5 @@ fn output_fails_where_it_says(rt: HostRuntime) {
     let mut zero = ScriptOutput::new(rt.alloc(), 0, true, true);
     writes(&rt, &mut zero, b"c", Some(0));
     same(&rt, zero.flush().is_err(), true);
+    Ok(())
 }

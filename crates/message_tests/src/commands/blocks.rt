@@ -8,7 +8,7 @@ use crate::commands::streams::{
 };
 use crate::commands::strict::told;
 use crate::modes::{BLOCKS, STRICT_BLOCKS};
-use crate::worked::{QUOTE, TWO_SHORT, worked_set};
+use crate::worked::{QUOTE, TWO_SHORT, worked};
 use fast_command::Command;
 use fast_decoder::Mode;
 use fast_io::ScriptInput;
@@ -16,10 +16,9 @@ use fast_stream::Cause;
 use fast_template::TemplateSet;
 use std::alloc::{AllocError, Global};
 use std::process::Abort;
-use std::test::Fail;
 
 #[test]
-fn blocks_of_messages(rt: HostRuntime) {
+fn blocks_of_messages(rt: HostRuntime) -> Result<(), AllocError> {
     const STREAMS: &[Row] = &[
         Row {
             stream: b"",
@@ -65,16 +64,17 @@ fn blocks_of_messages(rt: HostRuntime) {
         },
     ];
     let alloc = rt.alloc();
-    let set = worked_set(&rt, alloc);
+    let set = worked(&rt, alloc)?;
     for row in STREAMS {
-        ends(&rt, alloc, &set, BLOCKS, row, 1);
-        ends(&rt, alloc, &set, BLOCKS, row, 2);
-        ends(&rt, alloc, &set, BLOCKS, row, 4096);
+        ends(&rt, alloc, &set, BLOCKS, row, 1)?;
+        ends(&rt, alloc, &set, BLOCKS, row, 2)?;
+        ends(&rt, alloc, &set, BLOCKS, row, 4096)?;
     }
+    Ok(())
 }
 
 #[test]
-fn blocks_that_are_refused(rt: HostRuntime) {
+fn blocks_that_are_refused(rt: HostRuntime) -> Result<(), AllocError> {
     const USUALLY: &[Refusal] = &[
         Refusal {
             stream: b"\x80",
@@ -216,15 +216,16 @@ fn blocks_that_are_refused(rt: HostRuntime) {
         },
     ];
     let alloc = rt.alloc();
-    let set = worked_set(&rt, alloc);
+    let set = worked(&rt, alloc)?;
     for row in USUALLY {
-        stops(&rt, alloc, &set, BLOCKS, row, 1);
-        stops(&rt, alloc, &set, BLOCKS, row, 4096);
+        stops(&rt, alloc, &set, BLOCKS, row, 1)?;
+        stops(&rt, alloc, &set, BLOCKS, row, 4096)?;
     }
     for row in STRICTLY {
-        stops(&rt, alloc, &set, STRICT_BLOCKS, row, 1);
-        stops(&rt, alloc, &set, STRICT_BLOCKS, row, 4096);
+        stops(&rt, alloc, &set, STRICT_BLOCKS, row, 1)?;
+        stops(&rt, alloc, &set, STRICT_BLOCKS, row, 4096)?;
     }
+    Ok(())
 }
 
 /// A stream in one block, whose size has one byte.
@@ -265,14 +266,13 @@ fn ends_in_block(
         shown: counted(row.messages, block.len(), lines.len()),
         counted: counted(row.messages, block.len(), row.canonical.len()),
     };
-    makes(rt, alloc, set, mode, &block, step, 0, made);
-    Ok(())
+    makes(rt, alloc, set, mode, &block, step, 0, made)
 }
 
 #[test]
-fn worked_streams_in_blocks(rt: HostRuntime) -> Result<(), Fail> {
+fn worked_streams_in_blocks(rt: HostRuntime) -> Result<(), AllocError> {
     let alloc = rt.alloc();
-    let set = worked_set(&rt, alloc);
+    let set = worked(&rt, alloc)?;
     for row in &ROWS {
         ends_in_block(&rt, alloc, &set, BLOCKS, row, row.stream, 1)?;
         ends_in_block(&rt, alloc, &set, BLOCKS, row, row.stream, 4096)?;
@@ -296,14 +296,13 @@ fn stops_in_block(
     let at = At(offset.saturating_add(1), template, instruction);
     let answer = refused(row.cause, row.messages.saturating_add(1), at);
     let made = made_before(row.lines.as_bytes(), row.canonical, answer);
-    makes(rt, alloc, set, BLOCKS, &block, step, 0, made);
-    Ok(())
+    makes(rt, alloc, set, BLOCKS, &block, step, 0, made)
 }
 
 #[test]
-fn worked_refusals_in_blocks(rt: HostRuntime) -> Result<(), Fail> {
+fn worked_refusals_in_blocks(rt: HostRuntime) -> Result<(), AllocError> {
     let alloc = rt.alloc();
-    let set = worked_set(&rt, alloc);
+    let set = worked(&rt, alloc)?;
     for row in &REFUSALS {
         stops_in_block(&rt, alloc, &set, row, 1)?;
         stops_in_block(&rt, alloc, &set, row, 4096)?;
@@ -313,9 +312,9 @@ fn worked_refusals_in_blocks(rt: HostRuntime) -> Result<(), Fail> {
 
 // As many elements as there may be, each empty, in a block.
 #[test]
-fn a_long_message_in_a_block(rt: HostRuntime) {
+fn a_long_message_in_a_block(rt: HostRuntime) -> Result<(), AllocError> {
     let alloc = rt.alloc();
-    let set = worked_set(&rt, alloc);
+    let set = worked(&rt, alloc)?;
     let reader = ScriptInput::new(b"\x85\xc0\x86\x03\x7f\xff", 2, 0);
     let told = b"ok messages=1 bytes=6 canonical=5\n";
     gives(
@@ -327,14 +326,14 @@ fn a_long_message_in_a_block(rt: HostRuntime) {
         reader,
         told,
         counted(1, 6, 5),
-    );
+    )
 }
 
 // A block whose size has three bytes, and one for each message.
 #[test]
-fn long_streams_in_blocks(rt: HostRuntime) -> Result<(), Fail> {
+fn long_streams_in_blocks(rt: HostRuntime) -> Result<(), AllocError> {
     let alloc = rt.alloc();
-    let set = worked_set(&rt, alloc);
+    let set = worked(&rt, alloc)?;
     let mut plain = Vec::from_slice(alloc, QUOTE)?;
     let mut block = Vec::from_slice(alloc, b"\x01\x6a\xb8")?;
     let mut blocks = Vec::from_slice(alloc, b"\x88")?;
@@ -356,7 +355,7 @@ fn long_streams_in_blocks(rt: HostRuntime) -> Result<(), Fail> {
         reader,
         &plain,
         answer,
-    );
+    )?;
     let reader = ScriptInput::new(&blocks, 1000, 0);
     let answer = counted(10_001, 40_009, 30_008);
     gives(
@@ -368,6 +367,5 @@ fn long_streams_in_blocks(rt: HostRuntime) -> Result<(), Fail> {
         reader,
         &plain,
         answer,
-    );
-    Ok(())
+    )
 }

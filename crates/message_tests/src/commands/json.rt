@@ -2,10 +2,11 @@
 
 ghost use Rattle.std.specs.Prelude.{◌≤◌};
 
+use crate::commands::lines::granted;
+use crate::granted::may_be_refused;
 use crate::modes::PLAIN;
 use crate::same::same;
-use crate::worked::worked_set;
-use fast_build::Load;
+use crate::worked::{loaded, worked};
 use fast_command::{Command, Form, ShowFault, run, show_line};
 use fast_decoder::Decoder;
 use fast_dictionary::MapEntries;
@@ -13,7 +14,7 @@ use fast_io::{Counted, ScriptInput, ScriptOutput};
 use fast_stream::{Message, Node};
 use fast_template::TemplateSet;
 use serde_json::Value;
-use std::alloc::Global;
+use std::alloc::{AllocError, Global};
 use std::process::Abort;
 use std::test::Fail;
 
@@ -143,7 +144,7 @@ fn is_written(
     stream: &[u8],
     step: usize,
     line: &[u8],
-)
+) -> Result<(), AllocError>
     requires { 1 ≤ step }
 {
     let mut reader = Counted::new(ScriptInput::new(stream, step, 0));
@@ -159,16 +160,21 @@ fn is_written(
         &mut writer,
         1_000,
     );
+    same(rt, line.starts_with(out.bytes()), true);
+    if may_be_refused(answer) {
+        return Err(AllocError);
+    }
     same(rt, answer.is_ok(), true);
     same(rt, out.bytes(), line);
+    Ok(())
 }
 
 /// The line is that of the message at hand and of its stream, and is read as the other spelling.
 fn is_shown(rt: &impl Abort, alloc: Global, set: &TemplateSet, row: &Row) -> Result<(), Fail> {
     let line = row.line.as_bytes();
     same(rt, lines_of(alloc, set, row.stream)?.as_slice(), line);
-    is_written(rt, alloc, set, row.stream, 1, line);
-    is_written(rt, alloc, set, row.stream, 4096, line);
+    is_written(rt, alloc, set, row.stream, 1, line)?;
+    is_written(rt, alloc, set, row.stream, 4096, line)?;
     let read = Value::from_slice(alloc, line)?;
     same(rt, read, Value::from_str(alloc, row.read_as)?);
     Ok(())
@@ -177,11 +183,11 @@ fn is_shown(rt: &impl Abort, alloc: Global, set: &TemplateSet, row: &Row) -> Res
 #[test]
 fn each_line_is_read_as_its_message(rt: HostRuntime) -> Result<(), Fail> {
     let alloc = rt.alloc();
-    let set = worked_set(&rt, alloc);
+    let set = worked(&rt, alloc)?;
     for row in &WORKED_ROWS {
         is_shown(&rt, alloc, &set, row)?;
     }
-    let set = TemplateSet::from_json(alloc, KINDS.as_bytes())?;
+    let set = loaded(&rt, alloc, KINDS)?;
     for row in &KIND_ROWS {
         is_shown(&rt, alloc, &set, row)?;
     }
@@ -193,11 +199,10 @@ fn each_line_is_read_as_its_message(rt: HostRuntime) -> Result<(), Fail> {
         fields,
     };
     let mut out = Vec::from_slice(alloc, b"before")?;
-    same(
-        &rt,
-        show_line(Form::Json, &worked_set(&rt, alloc), &message, &mut out),
-        Err(ShowFault::Mismatch),
-    );
+    let set = worked(&rt, alloc)?;
+    let answer = show_line(Form::Json, &set, &message, &mut out);
     same(&rt, out.as_slice(), b"before".as_slice());
+    granted(answer)?;
+    same(&rt, answer, Err(ShowFault::Mismatch));
     Ok(())
 }

@@ -2,7 +2,7 @@
 
 use crate::modes::PLAIN;
 use crate::same::same;
-use crate::worked::worked_set;
+use crate::worked::worked;
 use fast_command::{Form, ShowFault, show_line};
 use fast_decoder::Decoder;
 use fast_dictionary::MapEntries;
@@ -90,7 +90,7 @@ fn lines_of(alloc: Global, set: &TemplateSet, stream: &[u8]) -> Result<Vec<u8>, 
 #[test]
 fn worked_streams_have_their_lines(rt: HostRuntime) -> Result<(), Fail> {
     let alloc = rt.alloc();
-    let set = worked_set(&rt, alloc);
+    let set = worked(&rt, alloc)?;
     for row in &ROWS {
         let lines = lines_of(alloc, &set, row.stream)?;
         same(&rt, lines.as_slice(), row.lines.as_bytes());
@@ -120,6 +120,14 @@ fn text(alloc: Global, characters: &[u8]) -> Result<Node, AllocError> {
     Ok(Node::Value(Scalar::Ascii(characters)))
 }
 
+/// Want of memory ends a test.
+pub(crate) fn granted(answer: Result<(), ShowFault>) -> Result<(), AllocError> {
+    match answer {
+        Err(ShowFault::Memory) => Err(AllocError),
+        Ok(()) | Err(ShowFault::Mismatch) => Ok(()),
+    }
+}
+
 fn refused(
     rt: &impl Abort,
     alloc: Global,
@@ -127,19 +135,17 @@ fn refused(
     message: &Message,
 ) -> Result<(), Fail> {
     let mut out = Vec::from_slice(alloc, b"before")?;
-    same(
-        rt,
-        show_line(Form::Text, set, message, &mut out),
-        Err(ShowFault::Mismatch),
-    );
+    let answer = show_line(Form::Text, set, message, &mut out);
     same(rt, out.as_slice(), b"before".as_slice());
+    granted(answer)?;
+    same(rt, answer, Err(ShowFault::Mismatch));
     Ok(())
 }
 
 #[test]
 fn a_message_of_no_template_has_no_line(rt: HostRuntime) -> Result<(), Fail> {
     let alloc = rt.alloc();
-    let set = worked_set(&rt, alloc);
+    let set = worked(&rt, alloc)?;
     // no such template
     refused(&rt, alloc, &set, &one(alloc, 100, number(5))?)?;
     // too few nodes
@@ -154,7 +160,7 @@ fn a_message_of_no_template_has_no_line(rt: HostRuntime) -> Result<(), Fail> {
 #[test]
 fn a_value_of_another_type_has_no_line(rt: HostRuntime) -> Result<(), Fail> {
     let alloc = rt.alloc();
-    let set = worked_set(&rt, alloc);
+    let set = worked(&rt, alloc)?;
     let signed = Node::Value(Scalar::I32(6));
     refused(&rt, alloc, &set, &two(alloc, 16, number(5), signed)?)?;
     // no character of ASCII
@@ -172,11 +178,16 @@ fn a_value_of_another_type_has_no_line(rt: HostRuntime) -> Result<(), Fail> {
 #[test]
 fn a_line_stands_behind_what_was_there(rt: HostRuntime) -> Result<(), Fail> {
     let alloc = rt.alloc();
-    let set = worked_set(&rt, alloc);
+    let set = worked(&rt, alloc)?;
     // a quote, a backslash, `~` and DEL
     let message = one(alloc, 8, text(alloc, b"\"\\~\x7f")?)?;
     let mut out = Vec::from_slice(alloc, b"before")?;
-    same(&rt, show_line(Form::Text, &set, &message, &mut out), Ok(()));
+    let answer = show_line(Form::Text, &set, &message, &mut out);
+    if answer.is_err() {
+        same(&rt, out.as_slice(), b"before".as_slice());
+    }
+    granted(answer)?;
+    same(&rt, answer, Ok(()));
     let line = b"before8 Tail S=\"\\x22\\x5c~\\x7f\"\n";
     same(&rt, out.as_slice(), line.as_slice());
     Ok(())

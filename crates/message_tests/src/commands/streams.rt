@@ -2,18 +2,17 @@
 
 ghost use Rattle.std.specs.Prelude.{◌≤◌, ◌^◌};
 
+use crate::granted::answers;
 use crate::modes::PLAIN;
-use crate::same::same;
-use crate::worked::{QUOTE, TWO, TWO_SHORT, worked_set};
+use crate::worked::{QUOTE, TWO, TWO_SHORT, worked};
 use fast_canon::{CanonFault, Summary};
 use fast_command::{Command, Form, run};
 use fast_decoder::Mode;
 use fast_io::{Counted, ScriptInput, ScriptOutput};
 use fast_stream::{Cause, Fault, Place};
 use fast_template::TemplateSet;
-use std::alloc::Global;
+use std::alloc::{AllocError, Global};
 use std::process::Abort;
-use std::test::Fail;
 
 /// A stream, how many messages it has, and what each command writes of it.
 #[derive(Clone, Copy)]
@@ -354,11 +353,10 @@ pub(crate) fn gives(
     reader: ScriptInput<'_>,
     written: &[u8],
     answer: Result<Summary, CanonFault>,
-) {
+) -> Result<(), AllocError> {
     let mut out = ScriptOutput::new(alloc, 1_000_000, false, false);
     let got = play(alloc, set, mode, command, reader, &mut out, 100_000);
-    same(rt, got, answer);
-    same(rt, out.bytes(), written);
+    answers(rt, got, answer, out.bytes(), written)
 }
 
 /// What the commands write of a stream and answer: its lines, what is told, and its canonical bytes.
@@ -382,7 +380,7 @@ pub(crate) fn makes(
     step: usize,
     failing: u64,
     made: Made<'_>,
-)
+) -> Result<(), AllocError>
     requires { 1 ≤ step }
 {
     let show = ScriptInput::new(stream, step, failing);
@@ -395,7 +393,7 @@ pub(crate) fn makes(
         show,
         made.lines,
         made.shown,
-    );
+    )?;
     let check = ScriptInput::new(stream, step, failing);
     gives(
         rt,
@@ -406,7 +404,7 @@ pub(crate) fn makes(
         check,
         made.told,
         made.counted,
-    );
+    )?;
     let canon = ScriptInput::new(stream, step, failing);
     gives(
         rt,
@@ -417,7 +415,7 @@ pub(crate) fn makes(
         canon,
         made.canonical,
         made.counted,
-    );
+    )
 }
 
 // What is made of a stream that ends.
@@ -440,21 +438,22 @@ pub(crate) fn ends(
     mode: Mode,
     row: &Row,
     step: usize,
-)
+) -> Result<(), AllocError>
     requires { 1 ≤ step }
 {
-    makes(rt, alloc, set, mode, row.stream, step, 0, made_of(row));
+    makes(rt, alloc, set, mode, row.stream, step, 0, made_of(row))
 }
 
 #[test]
-fn worked_streams_end(rt: HostRuntime) {
+fn worked_streams_end(rt: HostRuntime) -> Result<(), AllocError> {
     let alloc = rt.alloc();
-    let set = worked_set(&rt, alloc);
+    let set = worked(&rt, alloc)?;
     for row in &ROWS {
-        ends(&rt, alloc, &set, PLAIN, row, 1);
-        ends(&rt, alloc, &set, PLAIN, row, 2);
-        ends(&rt, alloc, &set, PLAIN, row, 4096);
+        ends(&rt, alloc, &set, PLAIN, row, 1)?;
+        ends(&rt, alloc, &set, PLAIN, row, 2)?;
+        ends(&rt, alloc, &set, PLAIN, row, 4096)?;
     }
+    Ok(())
 }
 
 /// What is made of a stream that is refused.
@@ -480,23 +479,24 @@ pub(crate) fn stops(
     mode: Mode,
     row: &Refusal,
     step: usize,
-)
+) -> Result<(), AllocError>
     requires { 1 ≤ step }
 {
     let answer = refused(row.cause, row.messages.saturating_add(1), row.at);
     let made = made_before(row.lines.as_bytes(), row.canonical, answer);
-    makes(rt, alloc, set, mode, row.stream, step, 0, made);
+    makes(rt, alloc, set, mode, row.stream, step, 0, made)
 }
 
 #[test]
-fn worked_streams_are_refused(rt: HostRuntime) {
+fn worked_streams_are_refused(rt: HostRuntime) -> Result<(), AllocError> {
     let alloc = rt.alloc();
-    let set = worked_set(&rt, alloc);
+    let set = worked(&rt, alloc)?;
     for row in &REFUSALS {
-        stops(&rt, alloc, &set, PLAIN, row, 1);
-        stops(&rt, alloc, &set, PLAIN, row, 2);
-        stops(&rt, alloc, &set, PLAIN, row, 4096);
+        stops(&rt, alloc, &set, PLAIN, row, 1)?;
+        stops(&rt, alloc, &set, PLAIN, row, 2)?;
+        stops(&rt, alloc, &set, PLAIN, row, 4096)?;
     }
+    Ok(())
 }
 
 /// What each command makes of a reader that fails at the call with this number, each call giving one byte.
@@ -508,42 +508,49 @@ fn fails_at(
     messages: u64,
     at: At,
     written: [&[u8]; 2],
-) {
+) -> Result<(), AllocError> {
     let answer = refused(Cause::Read, messages.saturating_add(1), at);
     let made = made_before(written[0], written[1], answer);
-    makes(rt, alloc, set, PLAIN, QUOTE, 1, call, made);
+    makes(rt, alloc, set, PLAIN, QUOTE, 1, call, made)
 }
 
 #[test]
-fn a_read_fails(rt: HostRuntime) {
+fn a_read_fails(rt: HostRuntime) -> Result<(), AllocError> {
     let alloc = rt.alloc();
-    let set = worked_set(&rt, alloc);
+    let set = worked(&rt, alloc)?;
     let mut call = 0u64;
     for at in &PLACES {
         call = call.saturating_add(1);
-        fails_at(&rt, alloc, &set, call, 0, *at, [b"", b""]);
+        fails_at(&rt, alloc, &set, call, 0, *at, [b"", b""])?;
     }
     let whole = [QUOTE_LINE.as_bytes(), QUOTE];
-    fails_at(&rt, alloc, &set, 9, 1, At(8, 0, 0), whole);
+    fails_at(&rt, alloc, &set, 9, 1, At(8, 0, 0), whole)
 }
 
 /// A stream that is cut behind so many bytes of the first quote, whole and byte by byte.
-fn cut_behind(rt: &impl Abort, alloc: Global, set: &TemplateSet, count: usize, at: At) {
+fn cut_behind(
+    rt: &impl Abort,
+    alloc: Global,
+    set: &TemplateSet,
+    count: usize,
+    at: At,
+) -> Result<(), AllocError> {
     let stream = &QUOTE[..count.min(8)];
     let made = made_before(b"", b"", refused(Cause::Truncated, 1, at));
-    makes(rt, alloc, set, PLAIN, stream, 1, 0, made);
-    makes(rt, alloc, set, PLAIN, stream, 4096, 0, made);
+    makes(rt, alloc, set, PLAIN, stream, 1, 0, made)?;
+    makes(rt, alloc, set, PLAIN, stream, 4096, 0, made)
 }
 
 #[test]
-fn a_stream_is_cut(rt: HostRuntime) {
+fn a_stream_is_cut(rt: HostRuntime) -> Result<(), AllocError> {
     let alloc = rt.alloc();
-    let set = worked_set(&rt, alloc);
+    let set = worked(&rt, alloc)?;
     for (count, at) in PLACES.iter().enumerate() {
         if count > 0 {
-            cut_behind(&rt, alloc, &set, count, *at);
+            cut_behind(&rt, alloc, &set, count, *at)?;
         }
     }
+    Ok(())
 }
 
 /// A command over a reader, whose writer fails behind these bytes.
@@ -555,10 +562,9 @@ fn write_fails(
     reader: ScriptInput<'_>,
     mut out: ScriptOutput,
     written: &[u8],
-) {
+) -> Result<(), AllocError> {
     let got = play(alloc, set, PLAIN, command, reader, &mut out, 100);
-    same(rt, got, Err(CanonFault::Write));
-    same(rt, out.bytes(), written);
+    answers(rt, got, Err(CanonFault::Write), out.bytes(), written)
 }
 
 /// A writer that takes so many bytes in all.
@@ -569,41 +575,47 @@ fn breaks_at(
     command: Command,
     whole: &[u8],
     room: usize,
-) {
+) -> Result<(), AllocError> {
     let reader = ScriptInput::new(TWO, 4096, 0);
     let out = ScriptOutput::new(alloc, room as u64, false, false);
     let written = &whole[..room.min(whole.len())];
-    write_fails(rt, alloc, set, command, reader, out, written);
+    write_fails(rt, alloc, set, command, reader, out, written)
 }
 
 /// A writer that fails behind each number of bytes, one that takes none, and one that fails at the flush.
-fn breaks(rt: &impl Abort, alloc: Global, set: &TemplateSet, command: Command, whole: &[u8]) {
+fn breaks(
+    rt: &impl Abort,
+    alloc: Global,
+    set: &TemplateSet,
+    command: Command,
+    whole: &[u8],
+) -> Result<(), AllocError> {
     for room in 0..whole.len() {
-        breaks_at(rt, alloc, set, command, whole, room);
+        breaks_at(rt, alloc, set, command, whole, room)?;
     }
     let reader = ScriptInput::new(TWO, 4096, 0);
     let none = ScriptOutput::new(alloc, 0, true, false);
-    write_fails(rt, alloc, set, command, reader, none, b"");
+    write_fails(rt, alloc, set, command, reader, none, b"")?;
     let reader = ScriptInput::new(TWO, 3, 0);
     let unflushed = ScriptOutput::new(alloc, 1_000, false, true);
-    write_fails(rt, alloc, set, command, reader, unflushed, whole);
+    write_fails(rt, alloc, set, command, reader, unflushed, whole)
 }
 
 #[test]
-fn a_write_fails(rt: HostRuntime) {
+fn a_write_fails(rt: HostRuntime) -> Result<(), AllocError> {
     let alloc = rt.alloc();
-    let set = worked_set(&rt, alloc);
-    breaks(&rt, alloc, &set, Command::Show, TWO_LINES.as_bytes());
+    let set = worked(&rt, alloc)?;
+    breaks(&rt, alloc, &set, Command::Show, TWO_LINES.as_bytes())?;
     let told = b"ok messages=2 bytes=16 canonical=11\n";
-    breaks(&rt, alloc, &set, Command::Check, told);
-    breaks(&rt, alloc, &set, Command::Canon, TWO_SHORT);
+    breaks(&rt, alloc, &set, Command::Check, told)?;
+    breaks(&rt, alloc, &set, Command::Canon, TWO_SHORT)
 }
 
 /// A command that has nothing to write, and a flush that fails.
 struct Unflushed(Command, &'static [u8]);
 
 #[test]
-fn a_flush_fails(rt: HostRuntime) {
+fn a_flush_fails(rt: HostRuntime) -> Result<(), AllocError> {
     const ROWS: &[Unflushed] = &[
         Unflushed(Command::Show, b""),
         Unflushed(Command::Canon, b""),
@@ -613,12 +625,13 @@ fn a_flush_fails(rt: HostRuntime) {
         Unflushed(Command::Canon, b"\x80"),
     ];
     let alloc = rt.alloc();
-    let set = worked_set(&rt, alloc);
+    let set = worked(&rt, alloc)?;
     for Unflushed(command, stream) in ROWS {
         let reader = ScriptInput::new(stream, 1, 0);
         let out = ScriptOutput::new(alloc, 9, false, true);
-        write_fails(&rt, alloc, &set, *command, reader, out, b"");
+        write_fails(&rt, alloc, &set, *command, reader, out, b"")?;
     }
+    Ok(())
 }
 
 /// A command of the first quote, one byte a read, and at most so many reads.
@@ -628,8 +641,9 @@ fn turned(
     set: &TemplateSet,
     command: Command,
     turns: u64,
+    written: &[u8],
     answer: Result<Summary, CanonFault>,
-)
+) -> Result<(), AllocError>
     requires { turns ≤ 2 ^ 40 }
 {
     let mut out = ScriptOutput::new(alloc, 1_000, false, false);
@@ -642,27 +656,29 @@ fn turned(
         &mut out,
         turns,
     );
-    same(rt, got, answer);
+    answers(rt, got, answer, out.bytes(), written)
 }
 
 #[test]
-fn reads_are_used_up(rt: HostRuntime) {
+fn reads_are_used_up(rt: HostRuntime) -> Result<(), AllocError> {
     let alloc = rt.alloc();
-    let set = worked_set(&rt, alloc);
+    let set = worked(&rt, alloc)?;
     let two = refused(Cause::Turns, 1, At(2, 1, 1));
-    turned(&rt, alloc, &set, Command::Show, 2, two);
-    turned(&rt, alloc, &set, Command::Check, 2, two);
-    turned(&rt, alloc, &set, Command::Canon, 2, two);
-    let shown = counted(1, 8, QUOTE_LINE.len());
-    turned(&rt, alloc, &set, Command::Show, 9, shown);
-    turned(&rt, alloc, &set, Command::Check, 9, counted(1, 8, 8));
-    turned(&rt, alloc, &set, Command::Canon, 9, counted(1, 8, 8));
+    turned(&rt, alloc, &set, Command::Show, 2, b"", two)?;
+    turned(&rt, alloc, &set, Command::Check, 2, b"", two)?;
+    turned(&rt, alloc, &set, Command::Canon, 2, b"", two)?;
+    let line = QUOTE_LINE.as_bytes();
+    let shown = counted(1, 8, line.len());
+    turned(&rt, alloc, &set, Command::Show, 9, line, shown)?;
+    let told = b"ok messages=1 bytes=8 canonical=8\n";
+    turned(&rt, alloc, &set, Command::Check, 9, told, counted(1, 8, 8))?;
+    turned(&rt, alloc, &set, Command::Canon, 9, QUOTE, counted(1, 8, 8))
 }
 
 #[test]
-fn a_long_stream(rt: HostRuntime) -> Result<(), Fail> {
+fn a_long_stream(rt: HostRuntime) -> Result<(), AllocError> {
     let alloc = rt.alloc();
-    let set = worked_set(&rt, alloc);
+    let set = worked(&rt, alloc)?;
     let mut stream = Vec::from_slice(alloc, QUOTE)?;
     for _ in 0..10_000 {
         stream.extend_from_slice(b"\x80\x80\x81")?;
@@ -670,7 +686,7 @@ fn a_long_stream(rt: HostRuntime) -> Result<(), Fail> {
     let mut out = ScriptOutput::new(alloc, 1_000_000, false, false);
     let reader = ScriptInput::new(&stream, 4096, 0);
     let got = play(alloc, &set, PLAIN, Command::Show, reader, &mut out, 100);
-    same(&rt, got, counted(10_001, 30_008, 428_139));
+    answers(&rt, got, counted(10_001, 30_008, 428_139), b"", b"")?;
     let last = b"\n1 Quote Seq=10001 Sym=\"AB\" Px=10100e-2 Qty=-\n";
     assert!(rt; out.bytes().ends_with(last));
     let told = b"ok messages=10001 bytes=30008 canonical=30008\n";
@@ -685,7 +701,7 @@ fn a_long_stream(rt: HostRuntime) -> Result<(), Fail> {
         reader,
         told,
         answer,
-    );
+    )?;
     let reader = ScriptInput::new(&stream, 4096, 0);
     gives(
         &rt,
@@ -696,20 +712,19 @@ fn a_long_stream(rt: HostRuntime) -> Result<(), Fail> {
         reader,
         &stream,
         answer,
-    );
-    Ok(())
+    )
 }
 
 // As many elements as there may be, each empty: the line has three bytes for each but the first.
 #[test]
-fn a_long_line(rt: HostRuntime) {
+fn a_long_line(rt: HostRuntime) -> Result<(), AllocError> {
     let alloc = rt.alloc();
-    let set = worked_set(&rt, alloc);
+    let set = worked(&rt, alloc)?;
     let stream = b"\xc0\x86\x03\x7f\xff";
     let mut out = ScriptOutput::new(alloc, 1_000_000, false, false);
     let reader = ScriptInput::new(stream, 4096, 0);
     let got = play(alloc, &set, PLAIN, Command::Show, reader, &mut out, 100);
-    same(&rt, got, counted(1, 5, 196_616));
+    answers(&rt, got, counted(1, 5, 196_616), b"", b"")?;
     assert!(rt; out.bytes().starts_with(b"6 Bare L=[{} {} {} "));
     assert!(rt; out.bytes().ends_with(b" {} {}]\n"));
     let told = b"ok messages=1 bytes=5 canonical=5\n";
@@ -723,7 +738,7 @@ fn a_long_line(rt: HostRuntime) {
         reader,
         told,
         counted(1, 5, 5),
-    );
+    )?;
     let reader = ScriptInput::new(stream, 2, 0);
     gives(
         &rt,
@@ -734,5 +749,5 @@ fn a_long_line(rt: HostRuntime) {
         reader,
         stream,
         counted(1, 5, 5),
-    );
+    )
 }

@@ -6,13 +6,11 @@ use crate::commands::streams::{
     At, Made, QUOTE_LINE, REFUSALS, ROWS, Refusal, Row, counted, ends, makes, stops,
 };
 use crate::modes::{PLAIN, STRICT};
-use crate::worked::{QUOTE, worked_set};
-use fast_build::Load;
+use crate::worked::{QUOTE, loaded, worked};
 use fast_stream::Cause;
 use fast_template::TemplateSet;
 use std::alloc::{AllocError, Global};
 use std::process::Abort;
-use std::test::Fail;
 use template_tests::texts::KINDS;
 
 /// A stream that is longer than it must be, what each command makes of it at the usual level, and why its first
@@ -208,14 +206,13 @@ fn stays(
         shown: counted(messages, count, lines.len()),
         counted: counted(messages, count, count),
     };
-    makes(rt, alloc, set, STRICT, canonical, 1, 0, made);
-    Ok(())
+    makes(rt, alloc, set, STRICT, canonical, 1, 0, made)
 }
 
 #[test]
-fn canonical_streams_are_taken(rt: HostRuntime) -> Result<(), Fail> {
+fn canonical_streams_are_taken(rt: HostRuntime) -> Result<(), AllocError> {
     let alloc = rt.alloc();
-    let set = worked_set(&rt, alloc);
+    let set = worked(&rt, alloc)?;
     for row in &ROWS {
         stays(&rt, alloc, &set, row.messages, row.lines, row.canonical)?;
     }
@@ -235,10 +232,16 @@ fn canonical_streams_are_taken(rt: HostRuntime) -> Result<(), Fail> {
 }
 
 /// What is made of an overlong stream at both levels, in steps of one size.
-fn is_overlong(rt: &impl Abort, alloc: Global, set: &TemplateSet, row: &Overlong, step: usize)
+fn is_overlong(
+    rt: &impl Abort,
+    alloc: Global,
+    set: &TemplateSet,
+    row: &Overlong,
+    step: usize,
+) -> Result<(), AllocError>
     requires { 1 ≤ step }
 {
-    ends(rt, alloc, set, PLAIN, &row.usual, step);
+    ends(rt, alloc, set, PLAIN, &row.usual, step)?;
     let refusal = Refusal {
         stream: row.usual.stream,
         messages: 0,
@@ -247,22 +250,23 @@ fn is_overlong(rt: &impl Abort, alloc: Global, set: &TemplateSet, row: &Overlong
         cause: row.cause,
         at: row.at,
     };
-    stops(rt, alloc, set, STRICT, &refusal, step);
+    stops(rt, alloc, set, STRICT, &refusal, step)
 }
 
 #[test]
-fn overlong_streams(rt: HostRuntime) {
+fn overlong_streams(rt: HostRuntime) -> Result<(), AllocError> {
     let alloc = rt.alloc();
-    let set = worked_set(&rt, alloc);
+    let set = worked(&rt, alloc)?;
     for row in OVERLONG {
-        is_overlong(&rt, alloc, &set, row, 1);
-        is_overlong(&rt, alloc, &set, row, 2);
-        is_overlong(&rt, alloc, &set, row, 4096);
+        is_overlong(&rt, alloc, &set, row, 1)?;
+        is_overlong(&rt, alloc, &set, row, 2)?;
+        is_overlong(&rt, alloc, &set, row, 4096)?;
     }
+    Ok(())
 }
 
 #[test]
-fn streams_that_are_just_not_overlong(rt: HostRuntime) {
+fn streams_that_are_just_not_overlong(rt: HostRuntime) -> Result<(), AllocError> {
     const TAKEN: &[Row] = &[
         // bit 1 of an exponent is given by bit 0, its initial value
         Row {
@@ -306,22 +310,23 @@ fn streams_that_are_just_not_overlong(rt: HostRuntime) {
         },
     ];
     let alloc = rt.alloc();
-    let set = worked_set(&rt, alloc);
+    let set = worked(&rt, alloc)?;
     for row in TAKEN {
-        ends(&rt, alloc, &set, STRICT, row, 1);
-        ends(&rt, alloc, &set, STRICT, row, 4096);
+        ends(&rt, alloc, &set, STRICT, row, 1)?;
+        ends(&rt, alloc, &set, STRICT, row, 4096)?;
     }
     for row in STOPPED {
-        stops(&rt, alloc, &set, STRICT, row, 1);
-        stops(&rt, alloc, &set, STRICT, row, 4096);
+        stops(&rt, alloc, &set, STRICT, row, 1)?;
+        stops(&rt, alloc, &set, STRICT, row, 4096)?;
     }
+    Ok(())
 }
 
 // A stream whose first message is refused, why, and where.
 struct Refused(&'static [u8], Cause, At);
 
 #[test]
-fn overlong_entities_of_each_kind(rt: HostRuntime) -> Result<(), Fail> {
+fn overlong_entities_of_each_kind(rt: HostRuntime) -> Result<(), AllocError> {
     const STREAMS: &[Refused] = &[
         // the length of a vector and of a Unicode string
         Refused(b"\xc0\x81\x00\x82\xc3\xa9", Cause::R6, At(2, 1, 1)),
@@ -356,7 +361,7 @@ fn overlong_entities_of_each_kind(rt: HostRuntime) -> Result<(), Fail> {
         Refused(b"\xc0\x8d\x00\x80", Cause::R6, At(2, 13, 1)),
     ];
     let alloc = rt.alloc();
-    let set = TemplateSet::from_json(alloc, KINDS.as_bytes())?;
+    let set = loaded(&rt, alloc, KINDS)?;
     for Refused(stream, cause, at) in STREAMS {
         let refusal = Refusal {
             stream,
@@ -366,8 +371,8 @@ fn overlong_entities_of_each_kind(rt: HostRuntime) -> Result<(), Fail> {
             cause: *cause,
             at: *at,
         };
-        stops(&rt, alloc, &set, STRICT, &refusal, 1);
-        stops(&rt, alloc, &set, STRICT, &refusal, 4096);
+        stops(&rt, alloc, &set, STRICT, &refusal, 1)?;
+        stops(&rt, alloc, &set, STRICT, &refusal, 4096)?;
     }
     Ok(())
 }

@@ -2,6 +2,7 @@
 
 use crate::decoding::steps::{End, Step, follow};
 use crate::decoding::streams::{Row, Sent, Shown, agrees, all_read_in};
+use crate::granted::granted;
 use crate::modes::{BLOCKS, PLAIN, STRICT_BLOCKS};
 use crate::same::same;
 use crate::worked::{QUOTE, worked};
@@ -386,7 +387,7 @@ fn streams_in_blocks(rt: HostRuntime) -> Result<(), AllocError> {
 
 // A size is held, and no byte between two blocks; `finish` is refused inside a block, and a reset begins outside of one.
 #[test]
-fn held_in_blocks(rt: HostRuntime) {
+fn held_in_blocks(rt: HostRuntime) -> Result<(), AllocError> {
     const STEPS: &[Step] = &[
         Step::Byte(0x00, 1),
         Step::Byte(0x00, 2),
@@ -426,14 +427,11 @@ fn held_in_blocks(rt: HostRuntime) {
         Step::Byte(0x80, 0),
         Step::Finish(End::Fault(Cause::D12, 1, 0, 0, 0)),
     ];
-    match worked(rt.alloc()) {
-        Some(set) => {
-            let map = MapEntries::new(rt.alloc());
-            let messages = follow(&rt, rt.alloc(), &set, BLOCKS, map, STEPS);
-            same(&rt, messages.len(), 2);
-        }
-        None => panic!(rt; "refused"),
-    }
+    let set = worked(&rt, rt.alloc())?;
+    let map = MapEntries::new(rt.alloc());
+    let messages = follow(&rt, rt.alloc(), &set, BLOCKS, map, STEPS)?;
+    same(&rt, messages.len(), 2);
+    Ok(())
 }
 
 // Appends a block with a size of one byte.
@@ -494,9 +492,9 @@ fn plain_read(
     set: &TemplateSet,
     plain: &[u8],
     want: &mut Vec<Message>,
-) -> Option<Fault> {
+) -> Result<Option<Fault>, AllocError> {
     let mut decoder = Decoder::new(alloc, set, PLAIN, MapEntries::new(alloc));
-    plain_end(&mut decoder, plain, want)
+    granted(plain_end(&mut decoder, plain, want))
 }
 
 // Whether the messages of a plain stream are the same in one block, which has room for so many bytes more.
@@ -532,7 +530,7 @@ fn same_in_each(
 fn same_in_blocks(alloc: Global, set: &TemplateSet, pieces: &[&[u8]]) -> Result<bool, AllocError> {
     let plain = joined(alloc, pieces)?;
     let mut want = Vec::new(alloc);
-    let fault = plain_read(alloc, set, &plain, &mut want);
+    let fault = plain_read(alloc, set, &plain, &mut want)?;
     let more = if fault.is_some() { 1 } else { 0 };
     Ok(
         same_in_one(alloc, set, &plain, &want, fault, more)?
@@ -541,7 +539,7 @@ fn same_in_blocks(alloc: Global, set: &TemplateSet, pieces: &[&[u8]]) -> Result<
 }
 
 #[test]
-fn worked_streams_in_blocks(rt: HostRuntime) {
+fn worked_streams_in_blocks(rt: HostRuntime) -> Result<(), AllocError> {
     // the messages of each stream
     const ROWS: &[&[&[u8]]] = &[
         &[b"\xF0\x81\x81\x41\xC2\xFE\x00\xE4"],
@@ -608,12 +606,9 @@ fn worked_streams_in_blocks(rt: HostRuntime) {
         &[b"\xF0\x81\x00\x00\x00\x00\x00\x00\x00\x00\x00"],
         &[b"\xF0\x81\x00\x00\x00\x00\x00\x00\x00\x00\x00\x00"],
     ];
-    match worked(rt.alloc()) {
-        Some(set) => {
-            for pieces in ROWS {
-                same(&rt, same_in_blocks(rt.alloc(), &set, pieces), Ok(true));
-            }
-        }
-        None => panic!(rt; "refused"),
+    let set = worked(&rt, rt.alloc())?;
+    for pieces in ROWS {
+        same(&rt, same_in_blocks(rt.alloc(), &set, pieces)?, true);
     }
+    Ok(())
 }

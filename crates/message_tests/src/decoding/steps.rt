@@ -2,6 +2,7 @@
 
 ghost use Rattle.fast_walk.specs.Traversals.{ServesAll};
 
+use crate::granted::granted;
 use crate::modes::PLAIN;
 use crate::same::same;
 use crate::worked::worked;
@@ -9,7 +10,7 @@ use fast_decoder::{Decoder, Mode};
 use fast_dictionary::{Entries, MapEntries};
 use fast_stream::{Cause, Fault, Message, Place};
 use fast_template::TemplateSet;
-use std::alloc::Global;
+use std::alloc::{AllocError, Global};
 use std::process::Abort;
 
 // What stands at the end of a stream: nothing, or a fault in this message, at this offset, template and instruction.
@@ -54,10 +55,12 @@ fn feeds<E: Entries>(
     bytes: &[u8],
     end: End,
     out: &mut Vec<Message>,
-) -> bool {
-    decoder.fed() < 100_000
-        && bytes.len() < 100_000
-        && decoder.feed(bytes, out).err() == end.fault()
+) -> Result<bool, AllocError> {
+    if decoder.fed() >= 100_000 || bytes.len() >= 100_000 {
+        return Ok(false);
+    }
+    let fault = granted(decoder.feed(bytes, out).err())?;
+    Ok(fault == end.fault())
 }
 
 // Whether so many bytes are held after one byte more.
@@ -66,25 +69,29 @@ fn holds_behind<E: Entries>(
     byte: u8,
     held: usize,
     out: &mut Vec<Message>,
-) -> bool {
+) -> Result<bool, AllocError> {
     if decoder.fed() > 100_000 {
-        return false;
+        return Ok(false);
     }
-    let _fed = decoder.feed(&[byte], out);
-    decoder.held() == held
+    granted(decoder.feed(&[byte], out).err())?;
+    Ok(decoder.held() == held)
 }
 
-fn takes<E: Entries>(decoder: &mut Decoder<'_, E>, step: Step, out: &mut Vec<Message>) -> bool {
+fn takes<E: Entries>(
+    decoder: &mut Decoder<'_, E>,
+    step: Step,
+    out: &mut Vec<Message>,
+) -> Result<bool, AllocError> {
     match step {
         Step::Feed(bytes, end) => feeds(decoder, bytes, end, out),
         Step::Byte(byte, held) => holds_behind(decoder, byte, held, out),
-        Step::Finish(end) => decoder.finish().err() == end.fault(),
+        Step::Finish(end) => Ok(decoder.finish().err() == end.fault()),
         Step::Reset => {
             decoder.reset();
-            true
+            Ok(true)
         }
-        Step::Fed(count) => decoder.fed() == count,
-        Step::Held(count) => decoder.held() == count,
+        Step::Fed(count) => Ok(decoder.fed() == count),
+        Step::Held(count) => Ok(decoder.held() == count),
     }
 }
 
@@ -92,16 +99,17 @@ fn takes_all<E: Entries>(
     decoder: &mut Decoder<'_, E>,
     steps: &[Step],
     out: &mut Vec<Message>,
-) -> bool {
+) -> Result<bool, AllocError> {
     for step in steps {
-        if !takes(decoder, *step, out) {
-            return false;
+        if !takes(decoder, *step, out)? {
+            return Ok(false);
         }
     }
-    true
+    Ok(true)
 }
 
-// The messages of a decoder that answers all steps so.
+// The messages of a decoder that answers all steps so. Where memory was refused, it does after a reset, and the test
+// ends.
 pub(crate) fn follow<E: Entries>(
     rt: &impl Abort,
     alloc: Global,
@@ -109,19 +117,27 @@ pub(crate) fn follow<E: Entries>(
     mode: Mode,
     entries: E,
     steps: &[Step],
-) -> Vec<Message>
+) -> Result<Vec<Message>, AllocError>
     requires { ServesAll (E.serves entries) set.now }
 {
     let mut messages = Vec::new(alloc);
     let mut decoder = Decoder::new(alloc, set, mode, entries);
-    same(rt, takes_all(&mut decoder, steps, &mut messages), true);
-    messages
+    match takes_all(&mut decoder, steps, &mut messages) {
+        Ok(taken) => {
+            same(rt, taken, true);
+            Ok(messages)
+        }
+        Err(error) => {
+            decoder.reset();
+            same(rt, takes_all(&mut decoder, steps, &mut messages), Ok(true));
+            Err(error)
+        }
+    }
 }
 
 // The number of messages of the worked templates of a decoder that answers all steps so.
-pub(crate) fn count(rt: &impl Abort, alloc: Global, steps: &[Step]) -> usize {
-    match worked(alloc) {
-        Some(set) => follow(rt, alloc, &set, PLAIN, MapEntries::new(alloc), steps).len(),
-        None => panic!(rt; "refused"),
-    }
+pub(crate) fn count(rt: &impl Abort, alloc: Global, steps: &[Step]) -> Result<usize, AllocError> {
+    let set = worked(rt, alloc)?;
+    let messages = follow(rt, alloc, &set, PLAIN, MapEntries::new(alloc), steps)?;
+    Ok(messages.len())
 }

@@ -4,11 +4,11 @@ ghost use Rattle.std.specs.Prelude.{◌≤◌};
 ghost use Rattle.fast_walk.specs.Traversals.{ServesAll};
 
 use crate::decoding::steps::{End, Step, count, follow};
+use crate::granted::granted;
 use crate::modes::PLAIN;
 use crate::same::same;
 use crate::slots::slots_of;
-use crate::worked::{QUOTE, quote, text, worked};
-use fast_build::Load;
+use crate::worked::{QUOTE, loaded, quote, text, worked};
 use fast_decoder::{Decoder, MessageInputStream, Mode};
 use fast_dictionary::{Entries, MapEntries};
 use fast_io::{ByteInput, Counted, ScriptInput};
@@ -99,25 +99,29 @@ fn messages(alloc: Global, rows: &[Sent]) -> Result<Vec<Message>, AllocError> {
 fn gives_all<R: ByteInput, E: Entries>(
     input: &mut MessageInputStream<'_, R, E>,
     want: &[Message],
-) -> bool {
+) -> Result<bool, AllocError> {
     for message in want {
         match input.read_message() {
             Ok(Some(found)) if found == *message => {}
-            _ => return false,
+            Ok(_) => return Ok(false),
+            Err(fault) => {
+                granted(Some(fault))?;
+                return Ok(false);
+            }
         }
     }
-    true
+    Ok(true)
 }
 
 // Whether a reader gives no more messages, but this fault, or none.
 fn ends_so<R: ByteInput, E: Entries>(
     input: &mut MessageInputStream<'_, R, E>,
     fault: Option<Fault>,
-) -> bool {
+) -> Result<bool, AllocError> {
     match input.read_message() {
-        Ok(None) => fault.is_none(),
-        Ok(Some(_)) => false,
-        Err(found) => fault == Some(found),
+        Ok(None) => Ok(fault.is_none()),
+        Ok(Some(_)) => Ok(false),
+        Err(found) => Ok(granted(Some(found))? == fault),
     }
 }
 
@@ -131,13 +135,13 @@ fn reads<E: Entries>(
     step: usize,
     want: &[Message],
     fault: Option<Fault>,
-) -> bool
+) -> Result<bool, AllocError>
     requires step { 1 ≤ step }
     requires served { ServesAll (E.serves entries) set.now }
 {
     let reader = Counted::new(ScriptInput::new(stream, step, 0));
     let mut input = MessageInputStream::new(alloc, reader, set, mode, entries, 1_000_000);
-    gives_all(&mut input, want) && ends_so(&mut input, fault)
+    Ok(gives_all(&mut input, want)? && ends_so(&mut input, fault)?)
 }
 
 // The same over both kinds of entries.
@@ -153,11 +157,11 @@ fn both_read(
     requires { 1 ≤ step }
 {
     let map = MapEntries::new(alloc);
-    if !reads(alloc, set, mode, map, stream, step, want, fault) {
+    if !reads(alloc, set, mode, map, stream, step, want, fault)? {
         return Ok(false);
     }
     let slots = slots_of(alloc, set)?;
-    Ok(reads(alloc, set, mode, slots, stream, step, want, fault))
+    reads(alloc, set, mode, slots, stream, step, want, fault)
 }
 
 // Whether a fresh decoder answers this fault, or none, to a stream that is cut in two.
@@ -167,9 +171,9 @@ fn is_cut_so<E: Entries>(
     back: &[u8],
     out: &mut Vec<Message>,
     fault: Option<Fault>,
-) -> bool {
+) -> Result<bool, AllocError> {
     if decoder.fed() != 0 || front.len() > 100_000 || back.len() > 100_000 {
-        return false;
+        return Ok(false);
     }
     let end = match decoder.feed(front, out) {
         Err(fault) => Some(fault),
@@ -178,10 +182,11 @@ fn is_cut_so<E: Entries>(
             Ok(()) => decoder.finish().err(),
         },
     };
-    end == fault
+    Ok(granted(end)? == fault)
 }
 
-// Whether a stream that is cut in two gives these messages and then this fault, or none.
+// Whether a stream that is cut in two gives these messages and then this fault, or none. Where memory was refused, it
+// does after a reset, and the test ends.
 fn decodes<E: Entries>(
     alloc: Global,
     set: &TemplateSet,
@@ -191,12 +196,24 @@ fn decodes<E: Entries>(
     back: &[u8],
     want: &[Message],
     fault: Option<Fault>,
-) -> bool
+) -> Result<bool, AllocError>
     requires { ServesAll (E.serves entries) set.now }
 {
     let mut decoder = Decoder::new(alloc, set, mode, entries);
     let mut messages = Vec::new(alloc);
-    is_cut_so(&mut decoder, front, back, &mut messages, fault) && messages.as_slice() == want
+    match is_cut_so(&mut decoder, front, back, &mut messages, fault) {
+        Ok(ends) => Ok(ends && messages.as_slice() == want),
+        Err(error) => {
+            decoder.reset();
+            messages.clear();
+            let ends = is_cut_so(&mut decoder, front, back, &mut messages, fault)?;
+            if ends && messages.as_slice() == want {
+                Err(error)
+            } else {
+                Ok(false)
+            }
+        }
+    }
 }
 
 // The same over both kinds of entries.
@@ -210,11 +227,11 @@ fn both_decode(
     fault: Option<Fault>,
 ) -> Result<bool, AllocError> {
     let map = MapEntries::new(alloc);
-    if !decodes(alloc, set, mode, map, front, back, want, fault) {
+    if !decodes(alloc, set, mode, map, front, back, want, fault)? {
         return Ok(false);
     }
     let slots = slots_of(alloc, set)?;
-    Ok(decodes(alloc, set, mode, slots, front, back, want, fault))
+    decodes(alloc, set, mode, slots, front, back, want, fault)
 }
 
 // Whether a stream gives these messages and then this fault, or none: in steps of one, two and three bytes, whole, and
@@ -257,8 +274,8 @@ pub(crate) fn is_read(
     row: &Row,
 ) -> Result<(), AllocError> {
     let want = messages(alloc, row.want)?;
-    let agree = agrees(alloc, set, mode, row.stream, &want, row.end.fault());
-    same(rt, agree, Ok(true));
+    let agree = agrees(alloc, set, mode, row.stream, &want, row.end.fault())?;
+    same(rt, agree, true);
     Ok(())
 }
 
@@ -281,10 +298,8 @@ pub(crate) fn all_read_in(
     mode: Mode,
     rows: &[Row],
 ) -> Result<(), AllocError> {
-    match worked(alloc) {
-        Some(set) => each_read(rt, alloc, &set, mode, rows),
-        None => panic!(rt; "refused"),
-    }
+    let set = worked(rt, alloc)?;
+    each_read(rt, alloc, &set, mode, rows)
 }
 
 fn all_read(rt: &impl Abort, alloc: Global, rows: &[Row]) -> Result<(), AllocError> {
@@ -546,37 +561,37 @@ fn reads_long(
     let want = vec![in alloc; long_message(alloc, symbol)?]?;
     let want = if fault.is_none() { &want[..] } else { &[] };
     let map = MapEntries::new(alloc);
-    Ok(reads(alloc, set, mode, map, &stream, 4096, want, fault))
+    reads(alloc, set, mode, map, &stream, 4096, want, fault)
 }
 
-// The same of a symbol with so many zero groups in front, so many letters and one more.
+// It is read or refused so with so many zero groups in front, so many letters and one more.
 pub(crate) fn long(
+    rt: &impl Abort,
     alloc: Global,
     mode: Mode,
     zeros: usize,
     letters: usize,
     fault: Option<Fault>,
-) -> Result<bool, AllocError> {
+) -> Result<(), AllocError> {
     let mut symbol = vec![in alloc; 0x00; zeros]?;
     symbol.extend_from_slice(&vec![in alloc; 0x41; letters]?)?;
-    match worked(alloc) {
-        Some(set) => reads_long(alloc, &set, mode, &symbol, fault),
-        None => Ok(false),
-    }
+    let set = worked(rt, alloc)?;
+    same(rt, reads_long(alloc, &set, mode, &symbol, fault)?, true);
+    Ok(())
 }
 
 #[test]
-fn long_strings(rt: HostRuntime) {
+fn long_strings(rt: HostRuntime) -> Result<(), AllocError> {
     let alloc = rt.alloc();
-    same(&rt, long(alloc, PLAIN, 0, 65_534, None), Ok(true));
+    long(&rt, alloc, PLAIN, 0, 65_534, None)?;
     let fault = End::Fault(Cause::Limit, 1, 3, 1, 2).fault();
-    same(&rt, long(alloc, PLAIN, 0, 65_535, fault), Ok(true));
+    long(&rt, alloc, PLAIN, 0, 65_535, fault)?;
     // a preamble is no character
-    same(&rt, long(alloc, PLAIN, 1, 65_535, fault), Ok(true));
+    long(&rt, alloc, PLAIN, 1, 65_535, fault)
 }
 
 #[test]
-fn held_byte_by_byte(rt: HostRuntime) {
+fn held_byte_by_byte(rt: HostRuntime) -> Result<(), AllocError> {
     const STRING: &[Step] = &[
         Step::Byte(0xF0, 0),
         Step::Byte(0x81, 0),
@@ -595,9 +610,10 @@ fn held_byte_by_byte(rt: HostRuntime) {
         Step::Byte(0x85, 0),
         Step::Byte(0x80, 0),
     ];
-    same(&rt, count(&rt, rt.alloc(), STRING), 1);
-    same(&rt, count(&rt, rt.alloc(), SEQUENCE), 1);
-    same(&rt, count(&rt, rt.alloc(), &[Step::Byte(0x80, 0)]), 0);
+    same(&rt, count(&rt, rt.alloc(), STRING)?, 1);
+    same(&rt, count(&rt, rt.alloc(), SEQUENCE)?, 1);
+    same(&rt, count(&rt, rt.alloc(), &[Step::Byte(0x80, 0)])?, 0);
+    Ok(())
 }
 
 // The messages of a delta of 65,535 bytes, of which the most are held while the last is missing.
@@ -617,7 +633,8 @@ fn held_most(
         Step::Held(0),
     ];
     let slots = slots_of(alloc, set)?;
-    Ok(follow(rt, alloc, set, PLAIN, slots, &steps).len())
+    let messages = follow(rt, alloc, set, PLAIN, slots, &steps)?;
+    Ok(messages.len())
 }
 
 #[test]
@@ -625,19 +642,18 @@ fn the_most_held(rt: HostRuntime) -> Result<(), AllocError> {
     const RAW: &str = r#"{"templates":[{"name":"Raw","id":1,"instructions":[
         {"kind":"byteVector","name":"B","operator":"delta"}]}]}"#;
     let part = vec![in rt.alloc(); 0x41; 65_534]?;
-    match TemplateSet::from_json(rt.alloc(), RAW.as_bytes()) {
-        Ok(set) => same(&rt, held_most(&rt, rt.alloc(), &set, &part), Ok(1)),
-        Err(_) => panic!(rt; "refused"),
-    }
+    let set = loaded(&rt, rt.alloc(), RAW)?;
+    same(&rt, held_most(&rt, rt.alloc(), &set, &part)?, 1);
     Ok(())
 }
 
 // The faults that two calls answer.
 fn two_faults<R: ByteInput, E: Entries>(
     input: &mut MessageInputStream<'_, R, E>,
-) -> (Option<Fault>, Option<Fault>) {
-    let first = input.read_message().err();
-    (first, input.read_message().err())
+) -> Result<(Option<Fault>, Option<Fault>), AllocError> {
+    let first = granted(input.read_message().err())?;
+    let second = granted(input.read_message().err())?;
+    Ok((first, second))
 }
 
 // The same of a reader that gives so many bytes a call and fails at one, read so often.
@@ -648,7 +664,7 @@ fn faults_over(
     step: usize,
     fails: u64,
     turns: u64,
-) -> (Option<Fault>, Option<Fault>)
+) -> Result<(Option<Fault>, Option<Fault>), AllocError>
     requires step { 1 ≤ step }
     requires turns { turns ≤ 100 }
 {
@@ -665,42 +681,47 @@ fn faults_over(
 }
 
 fn faults(
+    rt: &impl Abort,
     alloc: Global,
     stream: &[u8],
     step: usize,
     fails: u64,
     turns: u64,
-) -> (Option<Fault>, Option<Fault>)
+) -> Result<(Option<Fault>, Option<Fault>), AllocError>
     requires step { 1 ≤ step }
     requires turns { turns ≤ 100 }
 {
-    match worked(alloc) {
-        Some(set) => faults_over(alloc, &set, stream, step, fails, turns),
-        None => (None, None),
-    }
+    let set = worked(rt, alloc)?;
+    faults_over(alloc, &set, stream, step, fails, turns)
 }
 
 #[test]
-fn failed_and_used_up_reads(rt: HostRuntime) {
+fn failed_and_used_up_reads(rt: HostRuntime) -> Result<(), AllocError> {
     let alloc = rt.alloc();
     let failed = End::Fault(Cause::Read, 1, 2, 1, 1).fault();
-    same(&rt, faults(alloc, b"\xF0\x81", 2, 2, 9), (failed, failed));
+    same(
+        &rt,
+        faults(&rt, alloc, b"\xF0\x81", 2, 2, 9)?,
+        (failed, failed),
+    );
     let used_up = End::Fault(Cause::Turns, 1, 2, 1, 1).fault();
-    same(&rt, faults(alloc, QUOTE, 1, 0, 2), (used_up, used_up));
+    same(&rt, faults(&rt, alloc, QUOTE, 1, 0, 2)?, (used_up, used_up));
     // eight reads for a message, and one that meets the end
-    same(&rt, faults(alloc, QUOTE, 1, 0, 9), (None, None));
+    same(&rt, faults(&rt, alloc, QUOTE, 1, 0, 9)?, (None, None));
     let later = End::Fault(Cause::Turns, 2, 8, 0, 0).fault();
-    same(&rt, faults(alloc, QUOTE, 1, 0, 8), (None, later));
+    same(&rt, faults(&rt, alloc, QUOTE, 1, 0, 8)?, (None, later));
+    Ok(())
 }
 
 // A stream is refused, and another behind it, before the decoder begins again.
 #[test]
-fn reset(rt: HostRuntime) {
+fn reset(rt: HostRuntime) -> Result<(), AllocError> {
     const STEPS: &[Step] = &[
         Step::Feed(b"\x80", End::Fault(Cause::D5, 1, 1, 0, 0)),
         Step::Feed(QUOTE, End::Fault(Cause::D5, 1, 1, 0, 0)),
         Step::Reset,
         Step::Feed(QUOTE, End::Whole),
     ];
-    same(&rt, count(&rt, rt.alloc(), STEPS), 1);
+    same(&rt, count(&rt, rt.alloc(), STEPS)?, 1);
+    Ok(())
 }

@@ -3,9 +3,7 @@
 use crate::decoding::steps::End;
 use crate::decoding::streams::{Row, Sent, Shown, all_read_in, each_read, is_read, long};
 use crate::modes::{PLAIN, STRICT};
-use crate::same::same;
-use crate::worked::worked;
-use fast_build::Load;
+use crate::worked::{loaded, worked};
 use fast_stream::Cause;
 use fast_template::TemplateSet;
 use std::alloc::{AllocError, Global};
@@ -13,8 +11,8 @@ use std::process::Abort;
 use template_tests::texts::KINDS;
 
 // The set of templates with fields of each kind.
-fn kinds(alloc: Global) -> Option<TemplateSet> {
-    TemplateSet::from_json(alloc, KINDS.as_bytes()).ok()
+fn kinds(rt: &impl Abort, alloc: Global) -> Result<TemplateSet, AllocError> {
+    loaded(rt, alloc, KINDS)
 }
 
 // A stream whose first message is refused, and its fault.
@@ -23,12 +21,9 @@ struct Refused(&'static [u8], End);
 fn all_refused(
     rt: &impl Abort,
     alloc: Global,
-    set: Option<TemplateSet>,
+    set: TemplateSet,
     rows: &[Refused],
 ) -> Result<(), AllocError> {
-    let Some(set) = set else {
-        panic!(rt; "refused");
-    };
     for Refused(stream, end) in rows {
         let row = Row {
             stream,
@@ -46,12 +41,9 @@ struct Judged(&'static [u8], End, End);
 fn all_judged(
     rt: &impl Abort,
     alloc: Global,
-    set: Option<TemplateSet>,
+    set: TemplateSet,
     rows: &[Judged],
 ) -> Result<(), AllocError> {
-    let Some(set) = set else {
-        panic!(rt; "refused");
-    };
     for Judged(stream, usual, strict) in rows {
         let mut row = Row {
             stream,
@@ -66,10 +58,8 @@ fn all_judged(
 }
 
 fn all_kinds_read(rt: &impl Abort, alloc: Global, rows: &[Row]) -> Result<(), AllocError> {
-    match kinds(alloc) {
-        Some(set) => each_read(rt, alloc, &set, STRICT, rows),
-        None => panic!(rt; "refused"),
-    }
+    let set = kinds(rt, alloc)?;
+    each_read(rt, alloc, &set, STRICT, rows)
 }
 
 #[test]
@@ -406,10 +396,10 @@ fn overlong_streams(rt: HostRuntime) -> Result<(), AllocError> {
             End::Fault(Cause::D5, 1, 9, 12, 7),
         ),
     ];
-    all_refused(&rt, rt.alloc(), worked(rt.alloc()), REFUSED_WORKED)?;
-    all_refused(&rt, rt.alloc(), kinds(rt.alloc()), REFUSED_KINDS)?;
-    all_judged(&rt, rt.alloc(), worked(rt.alloc()), JUDGED_WORKED)?;
-    all_judged(&rt, rt.alloc(), kinds(rt.alloc()), JUDGED_KINDS)
+    all_refused(&rt, rt.alloc(), worked(&rt, rt.alloc())?, REFUSED_WORKED)?;
+    all_refused(&rt, rt.alloc(), kinds(&rt, rt.alloc())?, REFUSED_KINDS)?;
+    all_judged(&rt, rt.alloc(), worked(&rt, rt.alloc())?, JUDGED_WORKED)?;
+    all_judged(&rt, rt.alloc(), kinds(&rt, rt.alloc())?, JUDGED_KINDS)
 }
 
 #[test]
@@ -788,12 +778,12 @@ fn streams_that_are_just_not_overlong(rt: HostRuntime) -> Result<(), AllocError>
 
 // A preamble is judged before the characters are counted.
 #[test]
-fn long_strings(rt: HostRuntime) {
+fn long_strings(rt: HostRuntime) -> Result<(), AllocError> {
     let alloc = rt.alloc();
-    same(&rt, long(alloc, STRICT, 0, 65_534, None), Ok(true));
+    long(&rt, alloc, STRICT, 0, 65_534, None)?;
     let overlong = End::Fault(Cause::R9, 1, 3, 1, 2).fault();
-    same(&rt, long(alloc, STRICT, 1, 65_535, overlong), Ok(true));
+    long(&rt, alloc, STRICT, 1, 65_535, overlong)?;
     let limit = End::Fault(Cause::Limit, 1, 3, 1, 2).fault();
-    same(&rt, long(alloc, STRICT, 0, 65_535, limit), Ok(true));
-    same(&rt, long(alloc, STRICT, 0, 65_540, limit), Ok(true));
+    long(&rt, alloc, STRICT, 0, 65_535, limit)?;
+    long(&rt, alloc, STRICT, 0, 65_540, limit)
 }

@@ -2,11 +2,12 @@
 
 ghost use Rattle.fast_walk.specs.Traversals.{ServesAll};
 
+use crate::granted::granted;
 use crate::modes::PLAIN;
 use crate::same::same;
 use crate::slots::slots_of;
 use crate::worked::{quote, text, worked};
-use fast_build::Load;
+use fast_build::{Load, LoadCause};
 use fast_decoder::Decoder;
 use fast_dictionary::{Entries, MapEntries};
 use fast_encoder::{EncodeCause, EncodeFault, Encoder, MessageOutputStream};
@@ -17,13 +18,40 @@ use std::alloc::{AllocError, Global};
 use std::process::Abort;
 
 // The messages of a stream.
-fn decoded(alloc: Global, set: &TemplateSet, stream: &[u8]) -> Vec<Message> {
+fn decoded(alloc: Global, set: &TemplateSet, stream: &[u8]) -> Result<Vec<Message>, AllocError> {
     let mut decoder = Decoder::new(alloc, set, PLAIN, MapEntries::new(alloc));
     let mut messages = Vec::new(alloc);
     if decoder.fed() < 1000 && stream.len() < 1000 {
-        let _fed = decoder.feed(stream, &mut messages);
+        granted(decoder.feed(stream, &mut messages).err())?;
     }
-    messages
+    Ok(messages)
+}
+
+// Whether an answer is that of refused memory.
+fn is_for_memory(answer: Result<(), EncodeFault>) -> bool {
+    match answer {
+        Ok(()) => false,
+        Err(fault) => fault.cause == EncodeCause::Memory,
+    }
+}
+
+// Whether an encoder answers this to a message. Where memory was refused, nothing was appended, the same call answers
+// it, and the test ends.
+fn answers<E: Entries>(
+    encoder: &mut Encoder<'_, E>,
+    message: &Message,
+    want: Result<(), EncodeFault>,
+    out: &mut Vec<u8>,
+) -> Result<bool, AllocError> {
+    let size = out.len();
+    let given = encoder.encode(message, out);
+    if !is_for_memory(given) {
+        return Ok(given == want);
+    }
+    if out.len() == size && encoder.encode(message, out) == want {
+        return Err(AllocError);
+    }
+    Ok(false)
 }
 
 // Whether all messages are encoded.
@@ -31,13 +59,13 @@ fn encodes_all<E: Entries>(
     encoder: &mut Encoder<'_, E>,
     messages: &[Message],
     out: &mut Vec<u8>,
-) -> bool {
+) -> Result<bool, AllocError> {
     for message in messages {
-        if encoder.encode(message, out).is_err() {
-            return false;
+        if !answers(encoder, message, Ok(()), out)? {
+            return Ok(false);
         }
     }
-    true
+    Ok(true)
 }
 
 // Whether messages have these canonical bytes, over these entries.
@@ -47,12 +75,12 @@ fn encodes<E: Entries>(
     entries: E,
     messages: &[Message],
     canonical: &[u8],
-) -> bool
+) -> Result<bool, AllocError>
     requires { ServesAll (E.serves entries) set.now }
 {
     let mut encoder = Encoder::new(alloc, set, entries);
     let mut out = Vec::new(alloc);
-    encodes_all(&mut encoder, messages, &mut out) && out.as_slice() == canonical
+    Ok(encodes_all(&mut encoder, messages, &mut out)? && out.as_slice() == canonical)
 }
 
 // The messages of a stream have these canonical bytes, over both kinds of entries.
@@ -63,11 +91,11 @@ fn has_canonical(
     stream: &[u8],
     canonical: &[u8],
 ) -> Result<(), AllocError> {
-    let messages = decoded(alloc, set, stream);
+    let messages = decoded(alloc, set, stream)?;
     let map = MapEntries::new(alloc);
-    same(rt, encodes(alloc, set, map, &messages, canonical), true);
+    same(rt, encodes(alloc, set, map, &messages, canonical)?, true);
     let slots = slots_of(alloc, set)?;
-    same(rt, encodes(alloc, set, slots, &messages, canonical), true);
+    same(rt, encodes(alloc, set, slots, &messages, canonical)?, true);
     Ok(())
 }
 
@@ -77,9 +105,7 @@ fn all_have_canonical(
     alloc: Global,
     rows: &[(&[u8], &[u8])],
 ) -> Result<(), AllocError> {
-    let Some(set) = worked(alloc) else {
-        panic!(rt; "refused");
-    };
+    let set = worked(rt, alloc)?;
     for (stream, canonical) in rows {
         has_canonical(rt, alloc, &set, stream, canonical)?;
     }
@@ -130,9 +156,9 @@ fn refuses_one<E: Entries>(
     message: &Message,
     fault: EncodeFault,
     out: &mut Vec<u8>,
-) -> bool {
+) -> Result<bool, AllocError> {
     let size = out.len();
-    encoder.encode(message, out) == Err(fault) && out.len() == size
+    Ok(answers(encoder, message, Err(fault), out)? && out.len() == size)
 }
 
 // Whether a message is refused for this behind others, and nothing appended, over these entries.
@@ -143,13 +169,15 @@ fn refuses_over<E: Entries>(
     before: &[Message],
     message: &Message,
     fault: EncodeFault,
-) -> bool
+) -> Result<bool, AllocError>
     requires { ServesAll (E.serves entries) set.now }
 {
     let mut encoder = Encoder::new(alloc, set, entries);
     let mut out = Vec::new(alloc);
-    encodes_all(&mut encoder, before, &mut out)
-        && refuses_one(&mut encoder, message, fault, &mut out)
+    Ok(
+        encodes_all(&mut encoder, before, &mut out)?
+            && refuses_one(&mut encoder, message, fault, &mut out)?,
+    )
 }
 
 fn both_refuse(
@@ -163,13 +191,13 @@ fn both_refuse(
     let map = MapEntries::new(alloc);
     same(
         rt,
-        refuses_over(alloc, set, map, before, message, fault),
+        refuses_over(alloc, set, map, before, message, fault)?,
         true,
     );
     let slots = slots_of(alloc, set)?;
     same(
         rt,
-        refuses_over(alloc, set, slots, before, message, fault),
+        refuses_over(alloc, set, slots, before, message, fault)?,
         true,
     );
     Ok(())
@@ -185,10 +213,8 @@ fn is_refused(
     instruction: u32,
 ) -> Result<(), AllocError> {
     let fault = EncodeFault { cause, instruction };
-    match worked(alloc) {
-        Some(set) => both_refuse(rt, alloc, &set, before, message, fault),
-        None => panic!(rt; "refused"),
-    }
+    let set = worked(rt, alloc)?;
+    both_refuse(rt, alloc, &set, before, message, fault)
 }
 
 fn message(template: u32, fields: Vec<Node>) -> Message {
@@ -332,13 +358,13 @@ fn goes_on_with<E: Entries>(
     long: &Message,
     short: &Message,
     out: &mut Vec<u8>,
-) -> bool {
-    let first = encoder.encode(long, out).is_ok();
+) -> Result<bool, AllocError> {
+    let first = answers(encoder, long, Ok(()), out)?;
     let second = encoder.encode(short, out).is_err();
-    let third = encoder.encode(long, out).is_ok();
+    let third = answers(encoder, long, Ok(()), out)?;
     encoder.reset();
-    let fourth = encoder.encode(long, out).is_ok();
-    first && second && third && fourth
+    let fourth = answers(encoder, long, Ok(()), out)?;
+    Ok(first && second && third && fourth)
 }
 
 // The same over these entries, and what is written.
@@ -348,13 +374,13 @@ fn goes_on<E: Entries>(
     entries: E,
     long: &Message,
     short: &Message,
-) -> bool
+) -> Result<bool, AllocError>
     requires { ServesAll (E.serves entries) set.now }
 {
     const WANT: &[u8] = b"\xe0\x88\x78\x61\xe2\x80\xe0\x88\x78\x61\xe2";
     let mut encoder = Encoder::new(alloc, set, entries);
     let mut out = Vec::new(alloc);
-    goes_on_with(&mut encoder, long, short, &mut out) && out.as_slice() == WANT
+    Ok(goes_on_with(&mut encoder, long, short, &mut out)? && out.as_slice() == WANT)
 }
 
 fn both_go_on(
@@ -365,9 +391,9 @@ fn both_go_on(
     short: &Message,
 ) -> Result<(), AllocError> {
     let map = MapEntries::new(alloc);
-    same(rt, goes_on(alloc, set, map, long, short), true);
+    same(rt, goes_on(alloc, set, map, long, short)?, true);
     let slots = slots_of(alloc, set)?;
-    same(rt, goes_on(alloc, set, slots, long, short), true);
+    same(rt, goes_on(alloc, set, slots, long, short)?, true);
     Ok(())
 }
 
@@ -375,9 +401,7 @@ fn both_go_on(
 fn a_refusal_changes_nothing(rt: HostRuntime) -> Result<(), AllocError> {
     let long = string(rt.alloc(), 8, b"xab")?;
     let short = string(rt.alloc(), 8, b"x")?;
-    let Some(set) = worked(rt.alloc()) else {
-        panic!(rt; "refused");
-    };
+    let set = worked(&rt, rt.alloc())?;
     both_go_on(&rt, rt.alloc(), &set, &long, &short)
 }
 
@@ -386,15 +410,27 @@ const WRITE: EncodeFault = EncodeFault {
     instruction: 0,
 };
 
+// Whether a write fails.
+fn fails<W: ByteOutput, E: Entries>(
+    stream: &mut MessageOutputStream<'_, W, E>,
+    first: &Message,
+) -> Result<bool, AllocError> {
+    let answer = stream.write_message(first);
+    if is_for_memory(answer) {
+        return Err(AllocError);
+    }
+    Ok(answer == Err(WRITE))
+}
+
 // Whether a write that fails is kept, also behind a reset.
 fn fails_thrice<W: ByteOutput, E: Entries>(
     stream: &mut MessageOutputStream<'_, W, E>,
     first: &Message,
-) -> bool {
-    let once = stream.write_message(first) == Err(WRITE);
-    let twice = stream.write_message(first) == Err(WRITE);
+) -> Result<bool, AllocError> {
+    let once = fails(stream, first)?;
+    let twice = fails(stream, first)?;
     stream.reset();
-    once && twice && stream.write_message(first) == Err(WRITE)
+    Ok(once && twice && fails(stream, first)?)
 }
 
 fn keeps_failing(
@@ -402,13 +438,13 @@ fn keeps_failing(
     set: &TemplateSet,
     first: &Message,
     out: &mut ScriptOutput,
-) -> bool {
+) -> Result<bool, AllocError> {
     let writer = Counted::new(out);
     let mut stream = MessageOutputStream::new(alloc, writer, set, MapEntries::new(alloc));
     fails_thrice(&mut stream, first)
 }
 
-// A writer keeps failing, and has taken these bytes.
+// A writer keeps failing, and has taken these bytes, or a front of them where its own memory was refused.
 fn fails_behind(
     rt: &impl Abort,
     alloc: Global,
@@ -416,21 +452,35 @@ fn fails_behind(
     first: &Message,
     writer: ScriptOutput,
     taken: &[u8],
-) {
+) -> Result<(), AllocError> {
     let mut out = writer;
-    same(rt, keeps_failing(alloc, set, first, &mut out), true);
-    same(rt, out.bytes(), taken);
+    same(rt, keeps_failing(alloc, set, first, &mut out)?, true);
+    same(rt, taken.starts_with(out.bytes()), true);
+    if out.bytes() != taken {
+        return Err(AllocError);
+    }
+    Ok(())
 }
 
-fn writers_fail(rt: &impl Abort, alloc: Global, set: &TemplateSet, first: &Message) {
+fn writers_fail(
+    rt: &impl Abort,
+    alloc: Global,
+    set: &TemplateSet,
+    first: &Message,
+) -> Result<(), AllocError> {
     let full = ScriptOutput::new(alloc, 3, false, false);
-    fails_behind(rt, alloc, set, first, full, &[0xf0, 0x81, 0x81]);
+    fails_behind(rt, alloc, set, first, full, &[0xf0, 0x81, 0x81])?;
     let none = ScriptOutput::new(alloc, 0, true, false);
-    fails_behind(rt, alloc, set, first, none, &[]);
+    fails_behind(rt, alloc, set, first, none, &[])
 }
 
-fn writers_fail_at(rt: &impl Abort, alloc: Global, set: &TemplateSet, stream: &[u8]) {
-    let messages = decoded(alloc, set, stream);
+fn writers_fail_at(
+    rt: &impl Abort,
+    alloc: Global,
+    set: &TemplateSet,
+    stream: &[u8],
+) -> Result<(), AllocError> {
+    let messages = decoded(alloc, set, stream)?;
     match messages.first() {
         Some(first) => writers_fail(rt, alloc, set, first),
         None => panic!(rt; "no message"),
@@ -438,53 +488,76 @@ fn writers_fail_at(rt: &impl Abort, alloc: Global, set: &TemplateSet, stream: &[
 }
 
 #[test]
-fn a_writer_that_fails(rt: HostRuntime) {
-    match worked(rt.alloc()) {
-        Some(set) => writers_fail_at(&rt, rt.alloc(), &set, b"\xf0\x81\x81\x41\xc2\xfe\x00\xe4"),
-        None => panic!(rt; "refused"),
+fn a_writer_that_fails(rt: HostRuntime) -> Result<(), AllocError> {
+    let set = worked(&rt, rt.alloc())?;
+    writers_fail_at(&rt, rt.alloc(), &set, b"\xf0\x81\x81\x41\xc2\xfe\x00\xe4")
+}
+
+// Whether a message is written. Where memory was refused, to the stream or to the writer, the test ends.
+fn writes<W: ByteOutput, E: Entries>(
+    stream: &mut MessageOutputStream<'_, W, E>,
+    message: &Message,
+) -> Result<bool, AllocError> {
+    let answer = stream.write_message(message);
+    if is_for_memory(answer) || answer == Err(WRITE) {
+        return Err(AllocError);
     }
+    Ok(answer.is_ok())
 }
 
 // Whether the messages are written one behind the other, and anew behind a reset.
 fn writes_each<W: ByteOutput, E: Entries>(
     stream: &mut MessageOutputStream<'_, W, E>,
     two: &[Message],
-) -> bool {
+) -> Result<bool, AllocError> {
     for message in two {
-        if stream.write_message(message).is_err() {
-            return false;
+        if !writes(stream, message)? {
+            return Ok(false);
         }
     }
     stream.reset();
     match two.first() {
-        Some(first) => stream.write_message(first).is_ok(),
-        None => false,
+        Some(first) => writes(stream, first),
+        None => Ok(false),
     }
 }
 
-fn writes_all(alloc: Global, set: &TemplateSet, two: &[Message], out: &mut ScriptOutput) -> bool {
+fn writes_all(
+    alloc: Global,
+    set: &TemplateSet,
+    two: &[Message],
+    out: &mut ScriptOutput,
+) -> Result<bool, AllocError> {
     let writer = Counted::new(out);
     let mut stream = MessageOutputStream::new(alloc, writer, set, MapEntries::new(alloc));
     writes_each(&mut stream, two)
 }
 
 // The messages of a stream are written so.
-fn are_written(rt: &impl Abort, alloc: Global, set: &TemplateSet, stream: &[u8], want: &[u8]) {
-    let two = decoded(alloc, set, stream);
+fn are_written(
+    rt: &impl Abort,
+    alloc: Global,
+    set: &TemplateSet,
+    stream: &[u8],
+    want: &[u8],
+) -> Result<(), AllocError> {
+    let two = decoded(alloc, set, stream)?;
     let mut out = ScriptOutput::new(alloc, 100, false, false);
-    same(rt, writes_all(alloc, set, &two, &mut out), true);
+    let written = writes_all(alloc, set, &two, &mut out);
+    // also where memory was refused
+    same(rt, want.starts_with(out.bytes()), true);
+    same(rt, written?, true);
     same(rt, out.bytes(), want);
+    Ok(())
 }
 
 #[test]
-fn a_writer_that_takes_all(rt: HostRuntime) {
+fn a_writer_that_takes_all(rt: HostRuntime) -> Result<(), AllocError> {
     const TWO: &[u8] = b"\xf0\x81\x81\x41\xc2\xfe\x00\xe4\x80\x80\x81";
     const WANT: &[u8] =
         b"\xf0\x81\x81\x41\xc2\xfe\x00\xe4\x80\x80\x81\xf0\x81\x81\x41\xc2\xfe\x00\xe4";
-    match worked(rt.alloc()) {
-        Some(set) => are_written(&rt, rt.alloc(), &set, TWO, WANT),
-        None => panic!(rt; "refused"),
-    }
+    let set = worked(&rt, rt.alloc())?;
+    are_written(&rt, rt.alloc(), &set, TWO, WANT)
 }
 
 // The last digit of a number, as a character.
@@ -530,7 +603,7 @@ fn wide_message(alloc: Global, fields: u32) -> Result<Message, AllocError> {
 }
 
 // Whether a message with a map bit too many is refused.
-fn refuses_wide(alloc: Global, set: &TemplateSet, wide: &Message) -> bool {
+fn refuses_wide(alloc: Global, set: &TemplateSet, wide: &Message) -> Result<bool, AllocError> {
     let fault = EncodeFault {
         cause: EncodeCause::Limit,
         instruction: 0,
@@ -543,8 +616,11 @@ fn a_map_without_room(rt: HostRuntime) -> Result<(), AllocError> {
     let template = wide_template(rt.alloc(), 1792)?;
     let wide = wide_message(rt.alloc(), 1792)?;
     match TemplateSet::from_json(rt.alloc(), &template) {
-        Ok(set) => same(&rt, refuses_wide(rt.alloc(), &set, &wide), true),
-        Err(_) => panic!(rt; "refused"),
+        Ok(set) => same(&rt, refuses_wide(rt.alloc(), &set, &wide)?, true),
+        Err(fault) => {
+            same(&rt, fault.cause, LoadCause::Memory);
+            return Err(AllocError);
+        }
     }
     Ok(())
 }

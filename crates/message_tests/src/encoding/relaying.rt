@@ -2,6 +2,7 @@
 
 ghost use Rattle.std.specs.Prelude.{◌≡◌};
 
+use crate::granted::granted;
 use crate::modes::PLAIN;
 use crate::same::same;
 use crate::slots::slots_of;
@@ -11,7 +12,7 @@ use fast_machine::Machine;
 use fast_template::TemplateSet;
 use fast_walk::Output;
 use fast_writer::Writer;
-use std::alloc::Global;
+use std::alloc::{AllocError, Global};
 use std::process::Abort;
 
 // More than the bytes of any stream here; a machine asks how many it is fed.
@@ -25,10 +26,16 @@ struct Row {
 }
 
 // Whether a machine that is new refuses a stream.
-fn is_refused(machine: &mut Machine<'_, Writer, SlotEntries<'_>>, stream: &[u8]) -> bool
+fn is_refused(
+    machine: &mut Machine<'_, Writer, SlotEntries<'_>>,
+    stream: &[u8],
+) -> Result<bool, AllocError>
     requires { machine.now.fed ≡ 0 }
 {
-    stream.len() > LONGEST || machine.feed(stream).is_err() || machine.finish().is_err()
+    if stream.len() > LONGEST || granted(machine.feed(stream).err())?.is_some() {
+        return Ok(true);
+    }
+    Ok(machine.finish().is_err())
 }
 
 // What waits in a machine, and nothing once it is handed on.
@@ -38,27 +45,36 @@ fn waits(rt: &impl Abort, machine: &mut Machine<'_, Writer, SlotEntries<'_>>, ca
     same(rt, machine.receiver.finished().len(), 0);
 }
 
-fn is_relayed(rt: &impl Abort, alloc: Global, set: &TemplateSet, row: &Row) {
-    let Ok(entries) = slots_of(alloc, set) else {
-        panic!(rt; "refused");
-    };
+fn is_relayed(
+    rt: &impl Abort,
+    alloc: Global,
+    set: &TemplateSet,
+    row: &Row,
+) -> Result<(), AllocError> {
+    let entries = slots_of(alloc, set)?;
     let mut machine = Machine::new(alloc, set, PLAIN, Writer::new(alloc), entries);
-    let fault = is_refused(&mut machine, row.stream);
-    same(rt, fault, row.refused);
+    let refused = is_refused(&mut machine, row.stream);
+    // also where memory was refused
+    same(
+        rt,
+        row.canonical.starts_with(machine.receiver.finished()),
+        true,
+    );
+    same(rt, refused?, row.refused);
     waits(rt, &mut machine, row.canonical);
+    Ok(())
 }
 
-fn all_relayed(rt: &impl Abort, alloc: Global, rows: &[Row]) {
-    let Some(set) = worked(alloc) else {
-        panic!(rt; "refused");
-    };
+fn all_relayed(rt: &impl Abort, alloc: Global, rows: &[Row]) -> Result<(), AllocError> {
+    let set = worked(rt, alloc)?;
     for row in rows {
-        is_relayed(rt, alloc, &set, row);
+        is_relayed(rt, alloc, &set, row)?;
     }
+    Ok(())
 }
 
 #[test]
-fn streams_that_are_relayed(rt: HostRuntime) {
+fn streams_that_are_relayed(rt: HostRuntime) -> Result<(), AllocError> {
     const ROWS: &[Row] = &[
         // numbers and texts
         Row {
@@ -203,5 +219,5 @@ fn streams_that_are_relayed(rt: HostRuntime) {
             refused: false,
         },
     ];
-    all_relayed(&rt, rt.alloc(), ROWS);
+    all_relayed(&rt, rt.alloc(), ROWS)
 }

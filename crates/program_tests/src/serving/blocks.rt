@@ -4,6 +4,7 @@ use crate::serving::devices::TEMPLATES;
 use crate::serving::examples::{BOOK, TRADE};
 use crate::serving::programs::{FIRST, Row, rows_are_served_over};
 use crate::serving::strict::{QUOTE_LINE, QUOTES};
+use std::alloc::AllocError;
 
 const SHOW: &[&str] = &["fastcat", "show", "--blocks", "--templates", TEMPLATES];
 
@@ -66,7 +67,7 @@ const TWO_LINES: &[u8] = b"1 Quote Seq=1 Sym=\"AB\" Px=100e-2 Qty=-\n\
     1 Quote Seq=2 Sym=\"AB\" Px=101e-2 Qty=-\n";
 
 #[test]
-fn blocks_of_messages(rt: HostRuntime) {
+fn blocks_of_messages(rt: HostRuntime) -> Result<(), AllocError> {
     const ROWS: &[Row] = &[
         Row {
             words: SHOW,
@@ -174,11 +175,11 @@ fn blocks_of_messages(rt: HostRuntime) {
             err: "",
         },
     ];
-    rows_are_served_over(&rt, rt.alloc(), QUOTES, ROWS);
+    rows_are_served_over(&rt, rt.alloc(), QUOTES, ROWS)
 }
 
 #[test]
-fn blocks_that_are_refused(rt: HostRuntime) {
+fn blocks_that_are_refused(rt: HostRuntime) -> Result<(), AllocError> {
     const ROWS: &[Row] = &[
         Row {
             words: SHOW,
@@ -272,11 +273,11 @@ fn blocks_that_are_refused(rt: HostRuntime) {
             err: "refused Truncated message=2 offset=18 template=0 instruction=0\n",
         },
     ];
-    rows_are_served_over(&rt, rt.alloc(), QUOTES, ROWS);
+    rows_are_served_over(&rt, rt.alloc(), QUOTES, ROWS)
 }
 
 #[test]
-fn strict_blocks(rt: HostRuntime) {
+fn strict_blocks(rt: HostRuntime) -> Result<(), AllocError> {
     const ROWS: &[Row] = &[
         Row {
             words: CANON_STRICTLY,
@@ -314,11 +315,11 @@ fn strict_blocks(rt: HostRuntime) {
             err: "",
         },
     ];
-    rows_are_served_over(&rt, rt.alloc(), QUOTES, ROWS);
+    rows_are_served_over(&rt, rt.alloc(), QUOTES, ROWS)
 }
 
 #[test]
-fn other_streams_in_blocks(rt: HostRuntime) {
+fn other_streams_in_blocks(rt: HostRuntime) -> Result<(), AllocError> {
     const ROWS: &[Row] = &[
         Row {
             words: CHECK,
@@ -356,12 +357,12 @@ fn other_streams_in_blocks(rt: HostRuntime) {
             err: "refused R6 message=1 offset=0 template=0 instruction=0\n",
         },
     ];
-    rows_are_served_over(&rt, rt.alloc(), FIRST, ROWS);
+    rows_are_served_over(&rt, rt.alloc(), FIRST, ROWS)
 }
 
 // The feeds of examples/, a block for each message and one for all.
 #[test]
-fn feeds_in_blocks(rt: HostRuntime) {
+fn feeds_in_blocks(rt: HostRuntime) -> Result<(), AllocError> {
     const BOOKS: &[Row] = &[
         Row {
             words: SHOW_HEX,
@@ -458,6 +459,6 @@ fn feeds_in_blocks(rt: HostRuntime) {
             err: "",
         },
     ];
-    rows_are_served_over(&rt, rt.alloc(), BOOK, BOOKS);
-    rows_are_served_over(&rt, rt.alloc(), TRADE, TRADES);
+    rows_are_served_over(&rt, rt.alloc(), BOOK, BOOKS)?;
+    rows_are_served_over(&rt, rt.alloc(), TRADE, TRADES)
 }

@@ -3,7 +3,7 @@
 use crate::serving::devices::{STREAM, Shelf, TEMPLATES};
 use crate::serving::programs::{Answer, served, whole};
 use fast_serve::serve::TURNS;
-use std::alloc::Global;
+use std::alloc::{AllocError, Global};
 use std::process::Abort;
 
 // The text of book.json.
@@ -74,7 +74,7 @@ fn is_served(
     templates: &str,
     stream: &str,
     want: &str,
-) {
+) -> Result<(), AllocError> {
     let mut source = Shelf {
         templates: whole(templates.as_bytes()),
         stream: whole(stream.as_bytes()),
@@ -85,7 +85,7 @@ fn is_served(
         out: want.as_bytes(),
         err: "",
     };
-    served(rt, alloc, words, &mut source, TURNS, want);
+    served(rt, alloc, words, &mut source, TURNS, want)
 }
 
 // An example, and the same of its canonical bytes, at both levels.
@@ -96,21 +96,22 @@ fn example(
     stream: &str,
     lines: &str,
     canon: &str,
-) {
+) -> Result<(), AllocError> {
     const SHOWS: &[&[&str]] = &[SHOW, SHOW_STRICTLY];
     const CANONS: &[&[&str]] = &[CANON, CANON_STRICTLY];
     for words in SHOWS {
-        is_served(rt, alloc, words, templates, stream, lines);
-        is_served(rt, alloc, words, templates, canon, lines);
+        is_served(rt, alloc, words, templates, stream, lines)?;
+        is_served(rt, alloc, words, templates, canon, lines)?;
     }
     for words in CANONS {
-        is_served(rt, alloc, words, templates, stream, canon);
-        is_served(rt, alloc, words, templates, canon, canon);
+        is_served(rt, alloc, words, templates, stream, canon)?;
+        is_served(rt, alloc, words, templates, canon, canon)?;
     }
+    Ok(())
 }
 
 #[test]
-fn an_order_book(rt: HostRuntime) {
+fn an_order_book(rt: HostRuntime) -> Result<(), AllocError> {
     let stream = "f0 81 81 45 d3 82 d0 80 1b 3b e9 8a c0 81 99\nf0 81 82 45 d3 81 d0 81 99 84\n";
     let lines = concat!(
         "1 Book Seq=1 Symbol=\"ES\" Entries=[{Side=0 Price=450025e-2 Size=10} ",
@@ -118,13 +119,13 @@ fn an_order_book(rt: HostRuntime) {
         "1 Book Seq=2 Symbol=\"ES\" Entries=[{Side=1 Price=450075e-2 Size=4}]\n",
     );
     let canon = "f0818145d382d0801b3be98ac081998081909984\n";
-    example(&rt, rt.alloc(), BOOK, stream, lines, canon);
+    example(&rt, rt.alloc(), BOOK, stream, lines, canon)?;
     let told = "ok messages=2 bytes=25 canonical=20\n";
-    is_served(&rt, rt.alloc(), CHECK, BOOK, stream, told);
+    is_served(&rt, rt.alloc(), CHECK, BOOK, stream, told)
 }
 
 #[test]
-fn a_trade_feed(rt: HostRuntime) {
+fn a_trade_feed(rt: HostRuntime) -> Result<(), AllocError> {
     let stream = concat!(
         "c0 82 10 27 33 c0 80 45 53 5a b6 fe 1b 3b e9\n",
         "b0 8f 80 80 80 99 01 fa 83 0a ff\n",
@@ -136,7 +137,7 @@ fn a_trade_feed(rt: HostRuntime) {
         "2 Trade Time=34200015 Symbol=\"ESH7\" Price=450050e-2 Size=100 Buyer=x0aff\n",
     );
     let canon = "c082102733c08045535ab6fe1b3be9b08f8080809901fa830aff80808248b78080\n";
-    example(&rt, rt.alloc(), TRADE, stream, lines, canon);
+    example(&rt, rt.alloc(), TRADE, stream, lines, canon)?;
     let told = "ok messages=3 bytes=36 canonical=33\n";
-    is_served(&rt, rt.alloc(), CHECK, TRADE, stream, told);
+    is_served(&rt, rt.alloc(), CHECK, TRADE, stream, told)
 }

@@ -4,8 +4,9 @@ ghost use Rattle.std.specs.Prelude.{◌≤◌, ◌^◌};
 
 use crate::same::same_of;
 use crate::serving::devices::{After, Feed, Full, STREAM, Shelf, Sink, TEMPLATES, kept};
+use crate::serving::granted::{granted, room};
 use crate::serving::programs::{Answer, FIRST, Row, row_is_served, served, status_of, whole};
-use std::alloc::Global;
+use std::alloc::{AllocError, Global};
 use std::process::Abort;
 
 const SHOW: &[&str] = &["fastcat", "show", "--templates", TEMPLATES, "--explain"];
@@ -78,7 +79,12 @@ struct Refused {
 }
 
 // Serves rows over these templates, from reads of each size.
-fn streams_are_explained(rt: &impl Abort, alloc: Global, templates: &str, rows: &[Refused]) {
+fn streams_are_explained(
+    rt: &impl Abort,
+    alloc: Global,
+    templates: &str,
+    rows: &[Refused],
+) -> Result<(), AllocError> {
     for refused in rows {
         let row = Row {
             words: refused.words,
@@ -88,13 +94,14 @@ fn streams_are_explained(rt: &impl Abort, alloc: Global, templates: &str, rows: 
             err: refused.err,
         };
         for width in 1..=refused.input.len() {
-            row_is_served(rt, alloc, templates, &row, width);
+            row_is_served(rt, alloc, templates, &row, width)?;
         }
     }
+    Ok(())
 }
 
 #[test]
-fn refused_streams(rt: HostRuntime) {
+fn refused_streams(rt: HostRuntime) -> Result<(), AllocError> {
     const ROWS: &[Refused] = &[
         Refused {
             words: SHOW,
@@ -254,12 +261,12 @@ fn refused_streams(rt: HostRuntime) {
                 explain: message 1, offset 2, field \"L\" of template \"Nest\": the stream ends inside a message or a block; see that it was copied whole\n",
         },
     ];
-    streams_are_explained(&rt, rt.alloc(), FIRST, ROWS);
-    streams_are_explained(&rt, rt.alloc(), MANY, MORE);
+    streams_are_explained(&rt, rt.alloc(), FIRST, ROWS)?;
+    streams_are_explained(&rt, rt.alloc(), MANY, MORE)
 }
 
 #[test]
-fn refused_templates(rt: HostRuntime) {
+fn refused_templates(rt: HostRuntime) -> Result<(), AllocError> {
     const ROWS: &[(&str, &str)] = &[
         (
             "",
@@ -386,8 +393,9 @@ fn refused_templates(rt: HostRuntime) {
             out: b"",
             err,
         };
-        row_is_served(&rt, rt.alloc(), templates, &row, 1);
+        row_is_served(&rt, rt.alloc(), templates, &row, 1)?;
     }
+    Ok(())
 }
 
 /// A command line, what the templates' file gives behind their text and the standard input, how many reads there may
@@ -402,7 +410,7 @@ struct Machine {
     err: &'static str,
 }
 
-fn machine_is_explained(rt: &impl Abort, alloc: Global, row: &Machine) {
+fn machine_is_explained(rt: &impl Abort, alloc: Global, row: &Machine) -> Result<(), AllocError> {
     let mut source = Shelf {
         templates: Feed {
             rest: FIRST.as_bytes(),
@@ -421,12 +429,18 @@ fn machine_is_explained(rt: &impl Abort, alloc: Global, row: &Machine) {
         out: b"",
         err: row.err,
     };
-    served(rt, alloc, row.words, &mut source, row.turns.min(99), want);
+    served(rt, alloc, row.words, &mut source, row.turns.min(99), want)
 }
 
 // Serves a line into an output that has no room.
-fn output_is_explained(rt: &impl Abort, alloc: Global, err: &str) {
-    let (mut out, mut said) = (Vec::new(alloc), Vec::new(alloc));
+fn output_is_explained(rt: &impl Abort, alloc: Global, err: &str) -> Result<(), AllocError> {
+    let want = Answer {
+        status: 3,
+        out: b"",
+        err,
+    };
+    let mut out = room(alloc)?;
+    let mut said = room(alloc)?;
     let (mut ends, mut flushes) = (0, 0);
     let mut source = Shelf {
         templates: whole(FIRST.as_bytes()),
@@ -441,12 +455,14 @@ fn output_is_explained(rt: &impl Abort, alloc: Global, err: &str) {
     };
     let err_sink = kept(&mut said, &mut flushes);
     let status = status_of(alloc, SHOW, &mut source, sink, err_sink, 9);
-    same_of(rt, SHOW, said.as_slice(), err.as_bytes());
-    same_of(rt, SHOW, status, 3);
+    granted(rt, SHOW, status, &said, &out, want)?;
+    same_of(rt, SHOW, said.as_slice(), want.err.as_bytes());
+    same_of(rt, SHOW, status, want.status);
+    Ok(())
 }
 
 #[test]
-fn refused_machines(rt: HostRuntime) {
+fn refused_machines(rt: HostRuntime) -> Result<(), AllocError> {
     const NO_TEMPLATES: &[&str] = &["fastcat", "show", "--templates", "none", "--explain"];
     const NO_STREAM: &[&str] = &[
         "fastcat",
@@ -588,12 +604,12 @@ fn refused_machines(rt: HostRuntime) {
         },
     ];
     for row in ROWS {
-        machine_is_explained(&rt, rt.alloc(), row);
+        machine_is_explained(&rt, rt.alloc(), row)?;
     }
     output_is_explained(
         &rt,
         rt.alloc(),
         "fault write\n\
         explain: the standard output took no more bytes; see that its disk has room, and its reader goes on\n",
-    );
+    )
 }

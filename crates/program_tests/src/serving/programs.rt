@@ -2,12 +2,12 @@
 
 use crate::same::{same, same_of};
 use crate::serving::devices::{After, Feed, Full, STREAM, Shelf, Sink, TEMPLATES, kept};
+use crate::serving::granted::{granted, room};
 use fast_io::Counted;
 use fast_serve::serve::{TURNS, serve, serve_words};
 use std::alloc::{AllocError, Global};
 use std::io;
 use std::process::Abort;
-use std::test::Fail;
 
 /// What is answered, written and said.
 #[derive(Clone, Copy)]
@@ -92,19 +92,28 @@ pub fn served(
     source: &mut Shelf<'_>,
     turns: u64,
     want: Answer<'_>,
-) {
-    let (mut out, mut err) = (Vec::new(alloc), Vec::new(alloc));
+) -> Result<(), AllocError> {
+    let mut out = room(alloc)?;
+    let mut err = room(alloc)?;
     let (mut ends, mut said) = (0, 0);
     let out_sink = kept(&mut out, &mut ends);
     let err_sink = kept(&mut err, &mut said);
     let status = status_of(alloc, words, source, out_sink, err_sink, turns);
+    granted(rt, words, status, &err, &out, want)?;
     same_of(rt, words, err.as_slice(), want.err.as_bytes());
     same_of(rt, words, out.as_slice(), want.out);
     same_of(rt, words, status, want.status);
+    Ok(())
 }
 
 /// Serves a row over these templates, from its input given at most `width` bytes a read.
-pub fn row_is_served(rt: &impl Abort, alloc: Global, templates: &str, row: &Row, width: usize) {
+pub fn row_is_served(
+    rt: &impl Abort,
+    alloc: Global,
+    templates: &str,
+    row: &Row,
+    width: usize,
+) -> Result<(), AllocError> {
     let mut source = Shelf {
         templates: whole(templates.as_bytes()),
         stream: whole(TWO),
@@ -119,29 +128,36 @@ pub fn row_is_served(rt: &impl Abort, alloc: Global, templates: &str, row: &Row,
         out: row.out,
         err: row.err,
     };
-    served(rt, alloc, row.words, &mut source, 999, want);
+    served(rt, alloc, row.words, &mut source, 999, want)
 }
 
-fn rows_are_served(rt: &impl Abort, alloc: Global, rows: &[Row]) {
+fn rows_are_served(rt: &impl Abort, alloc: Global, rows: &[Row]) -> Result<(), AllocError> {
     for row in rows {
-        row_is_served(rt, alloc, FIRST, row, 1);
-        row_is_served(rt, alloc, FIRST, row, 2);
-        row_is_served(rt, alloc, FIRST, row, 4096);
+        row_is_served(rt, alloc, FIRST, row, 1)?;
+        row_is_served(rt, alloc, FIRST, row, 2)?;
+        row_is_served(rt, alloc, FIRST, row, 4096)?;
     }
+    Ok(())
 }
 
 /// Serves rows over these templates, whole and from reads of each size up to theirs.
-pub fn rows_are_served_over(rt: &impl Abort, alloc: Global, templates: &str, rows: &[Row]) {
+pub fn rows_are_served_over(
+    rt: &impl Abort,
+    alloc: Global,
+    templates: &str,
+    rows: &[Row],
+) -> Result<(), AllocError> {
     for row in rows {
-        row_is_served(rt, alloc, templates, row, 4096);
+        row_is_served(rt, alloc, templates, row, 4096)?;
         for width in 1..=row.input.len() {
-            row_is_served(rt, alloc, templates, row, width);
+            row_is_served(rt, alloc, templates, row, width)?;
         }
     }
+    Ok(())
 }
 
 #[test]
-fn streams_are_served(rt: HostRuntime) {
+fn streams_are_served(rt: HostRuntime) -> Result<(), AllocError> {
     const ROWS: &[Row] = &[
         Row {
             words: SHOW,
@@ -214,11 +230,11 @@ fn streams_are_served(rt: HostRuntime) {
             err: "refused D9 message=2 offset=5 template=0 instruction=0\n",
         },
     ];
-    rows_are_served(&rt, rt.alloc(), ROWS);
+    rows_are_served(&rt, rt.alloc(), ROWS)
 }
 
 #[test]
-fn hex_texts_are_served(rt: HostRuntime) {
+fn hex_texts_are_served(rt: HostRuntime) -> Result<(), AllocError> {
     const ROWS: &[Row] = &[
         Row {
             words: CANON_HEX,
@@ -319,7 +335,7 @@ fn hex_texts_are_served(rt: HostRuntime) {
             err: "input is not hex\n",
         },
     ];
-    rows_are_served(&rt, rt.alloc(), ROWS);
+    rows_are_served(&rt, rt.alloc(), ROWS)
 }
 
 // A shelf with that template, and this standard input.
@@ -332,19 +348,27 @@ fn shelf(standard: &[u8]) -> Shelf<'_> {
 }
 
 // Serves a line that is not taken: the help, or what it says of the line.
-fn not_taken(rt: &impl Abort, alloc: Global, words: &[&str]) {
-    let (mut out, mut err) = (Vec::new(alloc), Vec::new(alloc));
+fn not_taken(rt: &impl Abort, alloc: Global, words: &[&str]) -> Result<(), AllocError> {
+    const NOTHING: Answer = Answer {
+        status: 2,
+        out: b"",
+        err: "",
+    };
+    let mut out = room(alloc)?;
+    let mut err = room(alloc)?;
     let (mut ends, mut said) = (0, 0);
     let out_sink = kept(&mut out, &mut ends);
     let err_sink = kept(&mut err, &mut said);
     let status = status_of(alloc, words, &mut shelf(TWO), out_sink, err_sink, 9);
+    granted(rt, words, status, &err, &out, NOTHING)?;
     same_of(rt, words, status, 2);
     same_of(rt, words, out.is_empty(), true);
     same_of(rt, words, err.is_empty(), false);
+    Ok(())
 }
 
 #[test]
-fn command_lines(rt: HostRuntime) {
+fn command_lines(rt: HostRuntime) -> Result<(), AllocError> {
     const LINES: &[&[&str]] = &[
         &[],
         &["fastcat"],
@@ -357,8 +381,9 @@ fn command_lines(rt: HostRuntime) {
         &["fastcat", "--version"],
     ];
     for words in LINES {
-        not_taken(&rt, rt.alloc(), words);
+        not_taken(&rt, rt.alloc(), words)?;
     }
+    Ok(())
 }
 
 /// A command line, what its files and its input give and what stands behind that, how many reads there may be, and what is
@@ -377,7 +402,7 @@ struct Case {
     err: &'static str,
 }
 
-fn case_is_served(rt: &impl Abort, alloc: Global, case: &Case) {
+fn case_is_served(rt: &impl Abort, alloc: Global, case: &Case) -> Result<(), AllocError> {
     let mut source = Shelf {
         templates: Feed {
             rest: case.templates.as_bytes(),
@@ -396,11 +421,11 @@ fn case_is_served(rt: &impl Abort, alloc: Global, case: &Case) {
         out: case.out,
         err: case.err,
     };
-    served(rt, alloc, case.words, &mut source, case.turns, want);
+    served(rt, alloc, case.words, &mut source, case.turns, want)
 }
 
 #[test]
-fn templates_and_inputs_that_fail(rt: HostRuntime) {
+fn templates_and_inputs_that_fail(rt: HostRuntime) -> Result<(), AllocError> {
     const TEXT: &str = r#"{"templates":[{"name":"T","id":1,"instructions":[
         {"kind":"string","name":"A","operator":"increment"}]}]}"#;
     const MISSING: &[&str] = &["fastcat", "canon", "none", "--templates", TEMPLATES];
@@ -592,16 +617,24 @@ fn templates_and_inputs_that_fail(rt: HostRuntime) {
         },
     ];
     for case in CASES {
-        case_is_served(&rt, rt.alloc(), case);
+        case_is_served(&rt, rt.alloc(), case)?;
     }
+    Ok(())
 }
+
 /// A command line, a standard input, and how its output fails behind these bytes.
 struct Failing(&'static [&'static str], &'static [u8], Full, &'static [u8]);
 
 // Serves a line into an output that fails.
-fn output_fails(rt: &impl Abort, alloc: Global, row: &Failing) {
+fn output_fails(rt: &impl Abort, alloc: Global, row: &Failing) -> Result<(), AllocError> {
     let Failing(words, input, full, written) = row;
-    let (mut out, mut err) = (Vec::new(alloc), Vec::new(alloc));
+    let want = Answer {
+        status: 3,
+        out: written,
+        err: "fault write\n",
+    };
+    let mut out = room(alloc)?;
+    let mut err = room(alloc)?;
     let (mut ends, mut said) = (0, 0);
     let sink = Sink {
         kept: &mut out,
@@ -611,13 +644,15 @@ fn output_fails(rt: &impl Abort, alloc: Global, row: &Failing) {
     };
     let err_sink = kept(&mut err, &mut said);
     let status = status_of(alloc, words, &mut shelf(input), sink, err_sink, 9);
-    same_of(rt, words, err.as_slice(), b"fault write\n".as_slice());
-    same_of(rt, words, out.as_slice(), written);
-    same_of(rt, words, status, 3);
+    granted(rt, words, status, &err, &out, want)?;
+    same_of(rt, words, err.as_slice(), want.err.as_bytes());
+    same_of(rt, words, out.as_slice(), want.out);
+    same_of(rt, words, status, want.status);
+    Ok(())
 }
 
 #[test]
-fn failing_outputs(rt: HostRuntime) {
+fn failing_outputs(rt: HostRuntime) -> Result<(), AllocError> {
     const HEX: &[u8] = b"e0908586";
     const HEX_LINE: &[u8] = b"e0908586\n";
     const COUNTED: &[u8] = b"ok messages=0 bytes=0 canonical=0\n";
@@ -632,28 +667,37 @@ fn failing_outputs(rt: HostRuntime) {
         Failing(CANON_HEX, b"80", Full::Error, b""),
     ];
     for row in ROWS {
-        output_fails(&rt, rt.alloc(), row);
+        output_fails(&rt, rt.alloc(), row)?;
     }
+    Ok(())
 }
 
 /// A command line, a standard input, what is answered, and how many bytes are written.
 struct Flush(&'static [&'static str], &'static [u8], u8, usize);
 
 // Serves a row, whose output is flushed once.
-fn flushed(rt: &impl Abort, alloc: Global, row: &Flush) {
+fn flushed(rt: &impl Abort, alloc: Global, row: &Flush) -> Result<(), AllocError> {
     let Flush(words, input, want, written) = row;
-    let (mut out, mut err) = (Vec::new(alloc), Vec::new(alloc));
+    let mut out = room(alloc)?;
+    let mut err = room(alloc)?;
     let (mut flushes, mut said) = (0, 0);
     let out_sink = kept(&mut out, &mut flushes);
     let err_sink = kept(&mut err, &mut said);
     let status = status_of(alloc, words, &mut shelf(input), out_sink, err_sink, 9);
+    let answer = Answer {
+        status: *want,
+        out: out.as_slice(),
+        err: "",
+    };
+    granted(rt, words, status, &err, &out, answer)?;
     same_of(rt, words, status, *want);
     same_of(rt, words, out.len(), *written);
     same_of(rt, words, flushes, 1);
+    Ok(())
 }
 
 #[test]
-fn flushes(rt: HostRuntime) {
+fn flushes(rt: HostRuntime) -> Result<(), AllocError> {
     const ROWS: &[Flush] = &[
         Flush(CANON, TWO, 0, 6),
         Flush(CANON, b"", 0, 0),
@@ -667,8 +711,9 @@ fn flushes(rt: HostRuntime) {
         Flush(CANON_HEX, b"80", 1, 1),
     ];
     for row in ROWS {
-        flushed(&rt, rt.alloc(), row);
+        flushed(&rt, rt.alloc(), row)?;
     }
+    Ok(())
 }
 
 // Serves the words of a process.
@@ -677,8 +722,9 @@ fn words_are_served(
     alloc: Global,
     words: io::Result<Vec<String>>,
     want: Answer<'_>,
-) {
-    let (mut out, mut err) = (Vec::new(alloc), Vec::new(alloc));
+) -> Result<(), AllocError> {
+    let mut out = room(alloc)?;
+    let mut err = room(alloc)?;
     let (mut ends, mut said) = (0, 0);
     let mut source = shelf(TWO);
     let status = serve_words(
@@ -689,9 +735,11 @@ fn words_are_served(
         &mut Counted::new(kept(&mut err, &mut said)),
         TURNS,
     );
+    granted(rt, &[], status, &err, &out, want)?;
     same(rt, err.as_slice(), want.err.as_bytes());
     same(rt, out.as_slice(), want.out);
     same(rt, status, want.status);
+    Ok(())
 }
 
 // The words of a process.
@@ -704,14 +752,20 @@ fn owned(alloc: Global, words: &[&str]) -> Result<Vec<String>, AllocError> {
 }
 
 // Words that the process does not have, of which this is said.
-fn no_words(rt: &impl Abort, alloc: Global, kind: io::ErrorKind, status: u8, err: &str) {
+fn no_words(
+    rt: &impl Abort,
+    alloc: Global,
+    kind: io::ErrorKind,
+    status: u8,
+    err: &str,
+) -> Result<(), AllocError> {
     let out = b"".as_slice();
     let words = Err(io::Error::from(kind));
-    words_are_served(rt, alloc, words, Answer { status, out, err });
+    words_are_served(rt, alloc, words, Answer { status, out, err })
 }
 
 #[test]
-fn process_words(rt: HostRuntime) -> Result<(), Fail> {
+fn process_words(rt: HostRuntime) -> Result<(), AllocError> {
     const WORDS: &[&str] = &["fastcat", "canon", "--templates", TEMPLATES];
     let alloc = rt.alloc();
     same(&rt, TURNS, 1_099_511_627_776);
@@ -721,20 +775,20 @@ fn process_words(rt: HostRuntime) -> Result<(), Fail> {
         out: b"\xe0\x90\x85\x86\x80\x87",
         err: "",
     };
-    words_are_served(&rt, alloc, Ok(words), want);
+    words_are_served(&rt, alloc, Ok(words), want)?;
     let said = "command line is not UTF-8\n";
-    no_words(&rt, alloc, io::ErrorKind::InvalidData, 2, said);
-    no_words(&rt, alloc, io::ErrorKind::OutOfMemory, 3, "fault memory\n");
-    Ok(())
+    no_words(&rt, alloc, io::ErrorKind::InvalidData, 2, said)?;
+    no_words(&rt, alloc, io::ErrorKind::OutOfMemory, 3, "fault memory\n")
 }
 
 /// A command line, how many reads there may be, and what is answered.
 struct Silent(&'static [&'static str], u64, u8);
 
-// Serves a refused stream where nothing can be said.
-fn error_fails(rt: &impl Abort, alloc: Global, row: &Silent) {
+// Serves a refused stream where nothing can be said. Another status is that of refused memory, and ends the test.
+fn error_fails(rt: &impl Abort, alloc: Global, row: &Silent) -> Result<(), AllocError> {
     let Silent(words, turns, want) = row;
-    let (mut out, mut err) = (Vec::new(alloc), Vec::new(alloc));
+    let mut out = room(alloc)?;
+    let mut err = room(alloc)?;
     let (mut ends, mut said) = (0, 0);
     let out_sink = kept(&mut out, &mut ends);
     let sink = Sink {
@@ -751,11 +805,15 @@ fn error_fails(rt: &impl Abort, alloc: Global, row: &Silent) {
         sink,
         *turns,
     );
+    if status == 3 && *want != 3 {
+        return Err(AllocError);
+    }
     same_of(rt, words, status, *want);
+    Ok(())
 }
 
 #[test]
-fn failing_errors(rt: HostRuntime) {
+fn failing_errors(rt: HostRuntime) -> Result<(), AllocError> {
     const ROWS: &[Silent] = &[
         Silent(CANON, 2, 1),
         Silent(CANON_HEX, 9, 2),
@@ -763,8 +821,9 @@ fn failing_errors(rt: HostRuntime) {
         Silent(CANON, 0, 3),
     ];
     for row in ROWS {
-        error_fails(&rt, rt.alloc(), row);
+        error_fails(&rt, rt.alloc(), row)?;
     }
+    Ok(())
 }
 
 // So many blanks.
@@ -782,8 +841,7 @@ fn long_text(
     want: Answer<'_>,
 ) -> Result<(), AllocError> {
     let text = blanks(alloc, count)?;
-    served(rt, alloc, EXPLAINED_HEX, &mut shelf(&text), 1 << 20, want);
-    Ok(())
+    served(rt, alloc, EXPLAINED_HEX, &mut shelf(&text), 1 << 20, want)
 }
 
 fn long_templates(
@@ -797,8 +855,7 @@ fn long_templates(
         templates: whole(&text),
         ..shelf(b"zz")
     };
-    served(rt, alloc, EXPLAINED, &mut source, 1 << 20, want);
-    Ok(())
+    served(rt, alloc, EXPLAINED, &mut source, 1 << 20, want)
 }
 
 #[test]

@@ -2,6 +2,7 @@
 
 use crate::serving::devices::TEMPLATES;
 use crate::serving::programs::{FIRST, Row, rows_are_served_over};
+use std::alloc::AllocError;
 
 // Two of the worked templates.
 pub const QUOTES: &str = r#"{"templates":[
@@ -28,7 +29,7 @@ const CANON_STRICTLY: &[&str] = &["fastcat", "canon", "--strict", "--templates",
 pub const QUOTE_LINE: &[u8] = b"1 Quote Seq=1 Sym=\"AB\" Px=100e-2 Qty=-\n";
 
 #[test]
-fn overlong_streams(rt: HostRuntime) {
+fn overlong_streams(rt: HostRuntime) -> Result<(), AllocError> {
     const ROWS: &[Row] = &[
         Row {
             words: SHOW_STRICTLY,
@@ -108,12 +109,12 @@ fn overlong_streams(rt: HostRuntime) {
         out: b"16 First A=5 B=6\n",
         err: "refused R6 message=2 offset=6 template=16 instruction=1\n",
     }];
-    rows_are_served_over(&rt, rt.alloc(), QUOTES, ROWS);
-    rows_are_served_over(&rt, rt.alloc(), FIRST, LATER);
+    rows_are_served_over(&rt, rt.alloc(), QUOTES, ROWS)?;
+    rows_are_served_over(&rt, rt.alloc(), FIRST, LATER)
 }
 
 #[test]
-fn streams_that_are_not_overlong(rt: HostRuntime) {
+fn streams_that_are_not_overlong(rt: HostRuntime) -> Result<(), AllocError> {
     const ROWS: &[Row] = &[
         Row {
             words: SHOW_STRICTLY,
@@ -186,5 +187,5 @@ fn streams_that_are_not_overlong(rt: HostRuntime) {
             err: "",
         },
     ];
-    rows_are_served_over(&rt, rt.alloc(), QUOTES, ROWS);
+    rows_are_served_over(&rt, rt.alloc(), QUOTES, ROWS)
 }

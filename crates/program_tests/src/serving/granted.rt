@@ -1,0 +1,58 @@
+//! Answers where memory is refused: such an answer ends a test, so that one whose allocations fail in turn ends with want
+//! of memory or with its rows.
+
+use crate::same::same_of;
+use crate::serving::programs::Answer;
+use std::alloc::{AllocError, Global};
+use std::process::Abort;
+
+/// What is said where memory is refused, without the line feed.
+const MEMORY: &[u8] = b"fault memory";
+
+/// Room for all that a row writes or says, so that no writer of a test has to grow.
+pub fn room(alloc: Global) -> Result<Vec<u8>, AllocError> {
+    Vec::with_capacity(alloc, 4096)
+}
+
+/// The first line of what is said, without the line feed.
+fn first_line(said: &[u8]) -> Option<&[u8]> {
+    for (i, byte) in said.iter().enumerate() {
+        if *byte == b'\n' {
+            return said.get(..i);
+        }
+    }
+    None
+}
+
+/// Whether bytes stand in front of others, but for a line feed behind them, as hex text that is refused has one.
+fn is_front(out: &[u8], whole: &[u8]) -> bool {
+    match out.get(..out.len().saturating_sub(1)) {
+        Some(front) if out.ends_with(b"\n") => whole.starts_with(front),
+        _ => whole.starts_with(out),
+    }
+}
+
+/// Ends a test where memory was refused. Where that is said, what was written is a front of what else would be. Where a
+/// refusal is said but less is explained, all else is as it would be.
+pub fn granted(
+    rt: &impl Abort,
+    words: &[&str],
+    status: u8,
+    said: &[u8],
+    out: &[u8],
+    want: Answer<'_>,
+) -> Result<(), AllocError> {
+    let line = first_line(said);
+    let wanted = first_line(want.err.as_bytes());
+    if line == Some(MEMORY) && wanted != Some(MEMORY) {
+        same_of(rt, words, status, 3);
+        same_of(rt, words, is_front(out, want.out), true);
+        return Err(AllocError);
+    }
+    if words.contains(&"--explain") && line == wanted && said != want.err.as_bytes() {
+        same_of(rt, words, status, want.status);
+        same_of(rt, words, out, want.out);
+        return Err(AllocError);
+    }
+    Ok(())
+}
