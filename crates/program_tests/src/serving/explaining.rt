@@ -52,7 +52,8 @@ const MANY: &str = r#"{"templates":[
  {"kind":"sequence","name":"L","instructions":[{"kind":"uInt32","name":"E"}]}]}]}]}"#;
 
 // Each template has the next one twice, so that the first has 65,536 instructions.
-const DOUBLED: &str = r#"{"templates":[{"name":"N1","instructions":[{"kind":"templateRef","name":"N2"},{"kind":"templateRef","name":"N2"}]},
+const DOUBLED: &str =
+    r#"{"templates":[{"name":"N1","instructions":[{"kind":"templateRef","name":"N2"},{"kind":"templateRef","name":"N2"}]},
 {"name":"N2","instructions":[{"kind":"templateRef","name":"N3"},{"kind":"templateRef","name":"N3"}]},
 {"name":"N3","instructions":[{"kind":"templateRef","name":"N4"},{"kind":"templateRef","name":"N4"}]},
 {"name":"N4","instructions":[{"kind":"templateRef","name":"N5"},{"kind":"templateRef","name":"N5"}]},
