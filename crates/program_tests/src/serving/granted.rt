@@ -32,6 +32,16 @@ fn is_front(out: &[u8], whole: &[u8]) -> bool {
     }
 }
 
+/// Whether a command line asks for an explanation.
+fn asks_to_explain(words: &[&str]) -> bool {
+    for word in words {
+        if *word == "--explain" {
+            return true;
+        }
+    }
+    false
+}
+
 /// Ends a test where memory was refused. Where that is said, what was written is a front of what else would be. Where a
 /// refusal is said but less is explained, all else is as it would be.
 pub fn granted(
@@ -49,7 +59,7 @@ pub fn granted(
         same_of(rt, words, is_front(out, want.out), true);
         return Err(AllocError);
     }
-    if words.contains(&"--explain") && line == wanted && said != want.err.as_bytes() {
+    if asks_to_explain(words) && line == wanted && said != want.err.as_bytes() {
         same_of(rt, words, status, want.status);
         same_of(rt, words, out, want.out);
         return Err(AllocError);
