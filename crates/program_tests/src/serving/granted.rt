@@ -6,8 +6,8 @@ use crate::serving::programs::Answer;
 use std::alloc::{AllocError, Global};
 use std::process::Abort;
 
-/// What is said where memory is refused, without the line feed.
-const MEMORY: &[u8] = b"fault memory";
+/// What is said where memory is refused.
+const MEMORY: &[u8] = b"fault memory\n";
 
 /// Room for all that a row writes or says, so that no writer of a test has to grow.
 pub fn room(alloc: Global) -> Result<Vec<u8>, AllocError> {
@@ -22,6 +22,14 @@ fn first_line(said: &[u8]) -> Option<&[u8]> {
         }
     }
     None
+}
+
+/// Whether the first line is said that is to be said, and not all that is to be.
+fn says_less(said: &[u8], wanted: &[u8]) -> bool {
+    match (first_line(said), first_line(wanted)) {
+        (Some(line), Some(wanted_line)) => line == wanted_line && said != wanted,
+        (_, _) => false,
+    }
 }
 
 /// Whether bytes stand in front of others, but for a line feed behind them, as hex text that is refused has one.
@@ -52,14 +60,12 @@ pub fn granted(
     out: &[u8],
     want: Answer<'_>,
 ) -> Result<(), AllocError> {
-    let line = first_line(said);
-    let wanted = first_line(want.err.as_bytes());
-    if line == Some(MEMORY) && wanted != Some(MEMORY) {
+    if said.starts_with(MEMORY) && !want.err.as_bytes().starts_with(MEMORY) {
         same_of(rt, words, status, 3);
         same_of(rt, words, is_front(out, want.out), true);
         return Err(AllocError);
     }
-    if asks_to_explain(words) && line == wanted && said != want.err.as_bytes() {
+    if asks_to_explain(words) && says_less(said, want.err.as_bytes()) {
         same_of(rt, words, status, want.status);
         same_of(rt, words, out, want.out);
         return Err(AllocError);
