@@ -19,8 +19,8 @@ import tempfile
 
 WELL, WANT_OF_MEMORY = "well", "want of memory"
 
-# How a test says that it ended for want of memory: a call's own answer, or that of an allocation or a decoder.
-SAID = (b"rror: AllocError", b"rror: Memory", b"rror: Fault { cause: Memory")
+# How a test says that it ended for want of memory: an allocation, a call's own answer, a decoder, or serde_json.
+SAID = (b"rror: AllocError", b"rror: Memory", b"rror: Fault { cause: Memory", b"rror: Error(out of memory)")
 
 
 def run(program, test, library, number):
