@@ -19,8 +19,10 @@ import tempfile
 
 WELL, WANT_OF_MEMORY = "well", "want of memory"
 
-# How a test says that it ended for want of memory: an allocation, a call's own answer, a decoder, or serde_json.
-SAID = (b"rror: AllocError", b"rror: Memory", b"rror: Fault { cause: Memory", b"rror: Error(out of memory)")
+# How a test says that it ended for want of memory: an allocation, a call's own answer, a decoder, serde_json, or the
+# test itself, where there is no memory to keep what another one said.
+SAID = (b"rror: AllocError", b"rror: Memory", b"rror: Fault { cause: Memory", b"rror: Error(out of memory)",
+        b"rror: AllocFailed")
 
 
 def run(program, test, library, number):
