@@ -7,3 +7,4 @@ pub mod Putting
 pub mod Serving
 pub mod Heads
 pub mod Opening
+pub mod Telling

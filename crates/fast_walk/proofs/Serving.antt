@@ -1,14 +1,19 @@
--- Each key of a set's template is a key of the set.
+-- Each part of a set's template is told as such, and its key is a key of the set.
 use Rattle.std.proofs.Common.{◌≡◌, ℕ, Bool, true, false, List, [], ◌∷◌, ◌++◌, map, Option, Some, refl, subst, arith}
 use Rattle.std.specs.Prelude.{Contains, IsTrue, find, option_map, if◌then◌else◌}
 use Rattle.std.proofs.lemmas.List.Elements.{Contains-append_left, Contains-append_right}
+use Rattle.std.specs.List.{AllByRecursion}
 use Rattle.fast_value.specs.declared.key.Key.{Key}
+use Rattle.fast_value.specs.declared.kind.Kind.TheVariants as kind
+use Rattle.fast_value.specs.declared.kind.Part.TheVariants as part
+use Rattle.fast_value.specs.declared.kind.Presence.TheVariants.{Mandatory}
 use Rattle.fast_template.specs.declared.resolved.FlatTemplate.{FlatTemplate}
 use Rattle.fast_template.specs.Resolved.{Instruction, Instructions, whole_field, field_in_parts, group_of, sequence_of, no_instructions, then_instruction, keys_of_one, keys_of, Resolved, resolved_of, list_of}
-use Rattle.fast_template.specs.TemplateSets.{TemplateList, templates_in, keys_of_all, identifier_key, has_id, template_of}
+use Rattle.fast_template.specs.TemplateSets.{TemplateList, IsSound, HasTypedParts, HaveTypedParts, templates_in, keys_of_all, identifier_key, has_id, template_of}
 use Rattle.fast_stream.specs.Streams.{members_of}
 use Rattle.fast_walk.specs.Walks.{IsServed, AreServed}
 use Rattle.fast_walk.specs.Traversals.{ServesAll}
+use Rattle.fast_walk.proofs.Telling.{part_told}
 
 first : (k : Key) (ks : List Key) → Contains (k ∷ ks) k
 first k ks = (0, omega arith, refl)
@@ -26,31 +31,36 @@ back : (serves : Key → Bool) (ks ls : List Key) → Serves serves (ks ++ ls) �
 back serves ks ls h k there = h k (Contains-append_right ks ls k there)
 
 mutual
-  served_one : (serves : Key → Bool) (i : Instruction) → Serves serves (keys_of_one i) → IsServed serves i
-  served_one serves (whole_field name number presence whole) h = h whole.key (first whole.key [])
-  served_one serves (field_in_parts name number presence exponent mantissa) h =
-      (h exponent.key (first exponent.key (mantissa.key ∷ [])), h mantissa.key (later exponent.key mantissa.key (mantissa.key ∷ []) (first mantissa.key [])))
-  served_one serves (group_of name number presence members) h = served_list serves members h
-  served_one serves (sequence_of name number presence length members) h =
-      (h length.key (first length.key (keys_of members)), served_list serves members (λ k there. h k (later length.key k (keys_of members) there)))
+  served_one : (serves : Key → Bool) (i : Instruction) → HasTypedParts i → Serves serves (keys_of_one i) → IsServed serves i
+  served_one serves (whole_field name number presence whole) typed h = (h whole.key (first whole.key []), part_told part.Whole whole.kind presence whole typed)
+  served_one serves (field_in_parts name number presence exponent mantissa) typed h = (
+    (h exponent.key (first exponent.key (mantissa.key ∷ [])), part_told part.Exponent kind.Int32 presence exponent typed.0),
+    (h mantissa.key (later exponent.key mantissa.key (mantissa.key ∷ []) (first mantissa.key [])), part_told part.Mantissa kind.Int64 Mandatory mantissa typed.1),
+  )
+  served_one serves (group_of name number presence members) typed h = served_list serves members typed h
+  served_one serves (sequence_of name number presence length members) typed h = (
+    (h length.key (first length.key (keys_of members)), part_told part.Length kind.UInt32 presence length typed.0),
+    served_list serves members typed.1 (λ k there. h k (later length.key k (keys_of members) there)),
+  )
 
-  served_list : (serves : Key → Bool) (is : Instructions) → Serves serves (keys_of is) → AreServed serves is
-  served_list serves no_instructions h = tt
-  served_list serves (then_instruction i is) h = (served_one serves i (front serves (keys_of_one i) (keys_of is) h), served_list serves is (back serves (keys_of_one i) (keys_of is) h))
+  served_list : (serves : Key → Bool) (is : Instructions) → HaveTypedParts is → Serves serves (keys_of is) → AreServed serves is
+  served_list serves no_instructions typed h = tt
+  served_list serves (then_instruction i is) typed h =
+      (served_one serves i typed.0 (front serves (keys_of_one i) (keys_of is) h), served_list serves is typed.1 (back serves (keys_of_one i) (keys_of is) h))
 
 chosen : (serves : Key → Bool) (t : Resolved) (ts : List Resolved) (id : ℕ) (members : Instructions) (b : Bool) → AreServed serves t.members → (members_of ts id ≡ Some members → AreServed serves members)
     → option_map (λ (r : Resolved). r.members) (if b then Some t else find (λ r. has_id id r.id) ts) ≡ Some members → AreServed serves members
 chosen serves t ts id members true own others h = let same : t.members ≡ members = cc in subst (λ (m : Instructions). AreServed serves m) same own
 chosen serves t ts id members false own others h = others h
 
-members_in : (serves : Key → Bool) (ts : List Resolved) (id : ℕ) (members : Instructions) → Serves serves (keys_of_all ts) → members_of ts id ≡ Some members → AreServed serves members
-members_in serves [] id members h e = absurd cc
-members_in serves (t ∷ ts) id members h e =
-    chosen serves t ts id members (has_id id t.id) (served_list serves t.members (front serves (keys_of t.members) (keys_of_all ts) h))
-    (members_in serves ts id members (back serves (keys_of t.members) (keys_of_all ts) h)) e
+members_in : (serves : Key → Bool) (ts : List Resolved) (id : ℕ) (members : Instructions) → AllByRecursion (λ t. HaveTypedParts t.members) ts → Serves serves (keys_of_all ts) → members_of ts id ≡ Some members → AreServed serves members
+members_in serves [] id members typed h e = absurd cc
+members_in serves (t ∷ ts) id members typed h e =
+    chosen serves t ts id members (has_id id t.id) (served_list serves t.members typed.0 (front serves (keys_of t.members) (keys_of_all ts) h))
+    (members_in serves ts id members typed.1 (back serves (keys_of t.members) (keys_of_all ts) h)) e
 
-pub members_served : (serves : Key → Bool) (set : TemplateList) (id : ℕ) (members : Instructions) → ServesAll serves set → members_of (templates_in set) id ≡ Some members → AreServed serves members
-members_served serves set id members h e = members_in serves (templates_in set) id members (λ k there. h k (later identifier_key k (keys_of_all (templates_in set)) there)) e
+pub members_served : (serves : Key → Bool) (set : TemplateList) (id : ℕ) (members : Instructions) → IsSound set → ServesAll serves set → members_of (templates_in set) id ≡ Some members → AreServed serves members
+members_served serves set id members sound h e = members_in serves (templates_in set) id members sound.typed (λ k there. h k (later identifier_key k (keys_of_all (templates_in set)) there)) e
 
 pub identifier_served : (serves : Key → Bool) (set : TemplateList) → ServesAll serves set → IsTrue (serves identifier_key)
 identifier_served serves set h = h identifier_key (first identifier_key (keys_of_all (templates_in set)))

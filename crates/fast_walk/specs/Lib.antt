@@ -3,3 +3,5 @@ pub mod Received
 pub mod Walks
 pub mod Traversals
 pub mod Passing
+pub mod Told
+pub mod OneProof

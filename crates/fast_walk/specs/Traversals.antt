@@ -62,7 +62,8 @@ Continues has stands keeps t r set d before start read = ContinuesAt has stands 
 abbrev pub ServesAll : (Key → Bool) → TemplateList → Type 0
 ServesAll serves set = (k : Key) → Contains (keys_in set) k → IsTrue (serves k)
 
--- Each key that an open body may ask for is served; before it no template is known, and no node counted.
+-- Each part that an open body may come to is one of a set, and its key is served; before it no template is known, and no
+-- node counted.
 abbrev pub IsReadyAt : StageNow → (Key → Bool) → TraversalNow → Type 0
 IsReadyAt stage.Map serves t = t.template ≡ 0
 IsReadyAt stage.Identifier serves t = (t.template ≡ 0) × (t.walk.spare ≡ node_limit)

@@ -1,6 +1,13 @@
 -- How a walk through a message's open segments stands to what was received.
 use Rattle.std.specs.Prelude.{◌≡◌, ℕ, ◌+◌, ◌*◌, pos, Bool, List, [], ◌∷◌, map, length, IsTrue}
 use Rattle.fast_value.specs.declared.key.Key.{Key}
+use Rattle.fast_value.specs.declared.kind.Kind.{Kind}
+use Rattle.fast_value.specs.declared.kind.Kind.TheVariants as kind
+use Rattle.fast_value.specs.declared.kind.Part.{Part}
+use Rattle.fast_value.specs.declared.kind.Part.TheVariants as part
+use Rattle.fast_value.specs.declared.kind.Presence.{Presence}
+use Rattle.fast_value.specs.declared.kind.Presence.TheVariants.{Mandatory}
+use Rattle.fast_template.specs.declared.resolved.FieldPart.{FieldPart}
 use Rattle.fast_template.specs.Resolved.{Instruction, Instructions, whole_field, field_in_parts, group_of, sequence_of, no_instructions, then_instruction, list_of}
 use Rattle.fast_dictionary.specs.Dictionary.{Dictionary}
 use Rattle.fast_wire.specs.declared.level.Level.{Level}
@@ -8,6 +15,7 @@ use Rattle.fast_stream.specs.Nodes.{Items}
 use Rattle.fast_stream.specs.Reading.{Reads, stopped}
 use Rattle.fast_walk.specs.OpenSegments.{Sequel, Inside, in_group, in_sequence, Waiting, Next, at_instruction, at_mantissa, at_element, all_around, top_on, cursor}
 use Rattle.fast_walk.specs.Received.{Received, Goes}
+use Rattle.fast_walk.specs.Told.{IsTold}
 use Rattle.fast_walk.specs.declared.halt.Halt.{Halt}
 use Rattle.fast_walk.specs.declared.walk.Sequel.{Sequel as SequelNow}
 use Rattle.fast_walk.specs.declared.walk.Inside.{Inside as InsideNow}
@@ -78,15 +86,19 @@ Moves level has w r d v s e bytes rest = Goes (At has w r d) (reads_on level w d
 abbrev pub HaltsAs : Level → WalkNow → Dictionary → List ℕ → Halt → Type 0
 HaltsAs level w d bytes h = (o : Received) → IsAt w o → reads_on level w d o bytes ≡ stopped h.number bytes h.cause
 
--- ---- keys
+-- ---- what is asked for
 
--- Each key that these instructions may ask for is served.
+-- The key of such a part is served, and the part is one of a set.
+abbrev pub IsServedAs : (Key → Bool) → Part → Kind → Presence → FieldPart → Type 0
+IsServedAs serves part kind presence p = IsTrue (serves p.key) × IsTold part kind presence p
+
+-- Each part of these instructions is one of a set, and its key is served.
 abbrev mutual
   pub IsServed : (Key → Bool) → Instruction → Type 0
-  IsServed serves (whole_field name number presence whole) = IsTrue (serves whole.key)
-  IsServed serves (field_in_parts name number presence exponent mantissa) = IsTrue (serves exponent.key) × IsTrue (serves mantissa.key)
+  IsServed serves (whole_field name number presence whole) = IsServedAs serves part.Whole whole.kind presence whole
+  IsServed serves (field_in_parts name number presence exponent mantissa) = IsServedAs serves part.Exponent kind.Int32 presence exponent × IsServedAs serves part.Mantissa kind.Int64 Mandatory mantissa
   IsServed serves (group_of name number presence members) = AreServed serves members
-  IsServed serves (sequence_of name number presence length members) = IsTrue (serves length.key) × AreServed serves members
+  IsServed serves (sequence_of name number presence length members) = IsServedAs serves part.Length kind.UInt32 presence length × AreServed serves members
 
   pub AreServed : (Key → Bool) → Instructions → Type 0
   AreServed serves no_instructions = Unit {0}
@@ -94,7 +106,7 @@ abbrev mutual
 
 abbrev pub IsNextServed : (Key → Bool) → Next → Type 0
 IsNextServed serves at_instruction = Unit {0}
-IsNextServed serves (at_mantissa e mantissa) = IsTrue (serves mantissa.key)
+IsNextServed serves (at_mantissa e mantissa) = IsServedAs serves part.Mantissa kind.Int64 Mandatory mantissa
 IsNextServed serves (at_element s) = AreServed serves s.members
 
 abbrev pub IsInsideServed : (Key → Bool) → Inside → Type 0
@@ -108,7 +120,7 @@ abbrev pub AreAllServed : (Key → Bool) → List Waiting → Type 0
 AreAllServed serves [] = Unit {0}
 AreAllServed serves (w ∷ ws) = IsWaitingServed serves w × AreAllServed serves ws
 
--- Each key that the walk may ask for is served.
+-- Each part that the walk may still come to is one of a set, and its key is served.
 pub record IsReady (serves : Key → Bool) (w : WalkNow) : Type 0 where
   pub next : IsNextServed serves (next_of w.next)
   pub rest : AreServed serves (list_of w.rest.now)

@@ -5,14 +5,18 @@ ghost use Rattle.fast_value.specs.declared.scalar.Scalar.{Scalar as ScalarOf};
 ghost use Rattle.fast_value.specs.declared.scalar.Scalar.TheVariants.{U32, I64, Decimal};
 ghost use Rattle.fast_template.specs.declared.resolved.FieldPart.{FieldPart as PartOf};
 ghost use Rattle.fast_value.specs.declared.kind.Presence.{Presence as PresenceOf};
+ghost use Rattle.fast_value.specs.declared.kind.Presence.TheVariants.{Mandatory};
+ghost use Rattle.fast_value.specs.declared.kind.Part.TheVariants.{Whole, Exponent, Mantissa, Length};
+ghost use Rattle.fast_value.specs.declared.kind.Kind.TheVariants.{Int32, Int64, UInt32};
 ghost use Rattle.fast_template.specs.Resolved.{Instructions, Resolved, list_of, whole_field, field_in_parts, group_of, sequence_of, no_instructions, then_instruction, has_map, is_optional, part_needs_bit};
 ghost use Rattle.fast_dictionary.specs.Dictionary.{Dictionary, entry_at};
 ghost use Rattle.fast_field.specs.FieldReading.{field_at};
 ghost use Rattle.fast_stream.specs.Nodes.{single, items_of, nodes_in, node_limit, Content};
-ghost use Rattle.fast_stream.specs.Streams.{members_of};
+ghost use Rattle.fast_stream.specs.Streams.{identifier as identifier_part, members_of};
 ghost use Rattle.fast_walk.specs.OpenSegments.{Sequel, Waiting, at_instruction, at_mantissa, at_element, in_group, in_sequence};
 ghost use Rattle.fast_walk.specs.Received.{Received, Took, IsExponent, after_exponent, after_length, after_sequence, content_received, ended_in, entered, in_element, length_of, opened, passed};
 ghost use Rattle.fast_walk.specs.Walks.{AreServed, IsNextServed};
+ghost use Rattle.fast_walk.specs.Told.{IsTold, KeepScalars};
 ghost use Rattle.fast_walk.specs.Passing.{Passes, next_behind};
 
 use fast_dictionary::Entries;
@@ -35,6 +39,9 @@ pub struct Fields<'a> {
 }
 
 /// Receives the fields of messages, and takes each from the bytes itself.
+///
+/// It is told what it stands on: each part is one of a set of templates, in its place, and each entry is within its type.
+/// A call fails for want of memory only where it asked for some.
 ///
 /// A call that fails for want of memory leaves no message that is open; `back` then forgets it.
 pub trait Receiver: Drop {
@@ -61,6 +68,8 @@ pub trait Receiver: Drop {
         requires place { at ≤ length bytes.now }
         requires bit { part_needs_bit identifier.now ≡ false → bit ≡ true }
         requires served { IsTrue (E.serves entries.now identifier.now.key) }
+        requires told { identifier.now ≡ identifier_part }
+        requires kept { KeepScalars (E.contents entries.now) }
         ensures place { IfOk result (λ x. (at ≤ x.1) × (x.1 ≤ length bytes.now)) }
         ensures goes { IfOk result (λ x. Took level identifier.now bit (E.contents entries.old)
             (E.contents entries.new)
@@ -112,6 +121,8 @@ pub trait Receiver: Drop {
         requires place { at ≤ length bytes.now }
         requires bit { part_needs_bit part.now ≡ false → bit ≡ true }
         requires served { IsTrue (E.serves entries.now part.now.key) }
+        requires told { IsTold Whole part.now.kind presence part.now }
+        requires kept { KeepScalars (E.contents entries.now) }
         ensures place { IfOk result (λ n. (at ≤ n) × (n ≤ length bytes.now)) }
         ensures goes { IfOk result (λ n. (v : Option ScalarOf)
             × Took level part.now bit (E.contents entries.old) (E.contents entries.new) v
@@ -145,6 +156,7 @@ pub trait Receiver: Drop {
     ) -> Result<Fields<'a>, AllocError>
         requires place { at ≤ length bytes.now }
         requires served { AreServed (E.serves entries.now) (list_of rest.now) }
+        requires kept { KeepScalars (E.contents entries.now) }
         ensures place { IfOk result (λ f. (at ≤ f.place) × (f.place ≤ length bytes.now)) }
         ensures few { IfOk result (λ f. f.spare ≤ spare) }
         ensures fewer { IfOk result (λ f. IsSome f.mantissa → f.spare < spare) }
@@ -155,6 +167,7 @@ pub trait Receiver: Drop {
             → Passes level (λ p. has self.new p (E.contents entries.new)) o (next_behind f.mantissa)
             (list_of f.rest.now) (E.contents entries.old) bits.old spare (drop at bytes.now)
             (E.contents entries.new) bits.new f.spare (drop f.place bytes.now)) }
+        ensures kept { OnOk result (KeepScalars (E.contents entries.new)) }
         ensures keeps { (set : List Resolved) (ms : List Content) (d : Dictionary)
             → keeps self.old set ms d → keeps self.new set ms d }
         ensures same_keys { E.serves entries.new ≡ E.serves entries.old }
@@ -183,6 +196,8 @@ pub trait Receiver: Drop {
         requires place { at ≤ length bytes.now }
         requires bit { part_needs_bit part.now ≡ false → bit ≡ true }
         requires served { IsTrue (E.serves entries.now part.now.key) }
+        requires told { IsTold Exponent Int32 presence part.now }
+        requires kept { KeepScalars (E.contents entries.now) }
         ensures place { IfOk result (λ x. (at ≤ x.1) × (x.1 ≤ length bytes.now)) }
         ensures goes { IfOk result (λ x. (v : Option ScalarOf)
             × Took level part.now bit (E.contents entries.old) (E.contents entries.new) v
@@ -217,6 +232,8 @@ pub trait Receiver: Drop {
         requires place { at ≤ length bytes.now }
         requires bit { part_needs_bit part.now ≡ false → bit ≡ true }
         requires served { IsTrue (E.serves entries.now part.now.key) }
+        requires told { IsTold Mantissa Int64 Mandatory part.now }
+        requires kept { KeepScalars (E.contents entries.now) }
         ensures place { IfOk result (λ n. (at ≤ n) × (n ≤ length bytes.now)) }
         ensures goes { IfOk result (λ n. (m : ℤ)
             × Took level part.now bit (E.contents entries.old) (E.contents entries.new) (Some (I64 m))
@@ -250,6 +267,8 @@ pub trait Receiver: Drop {
         requires place { at ≤ length bytes.now }
         requires bit { part_needs_bit part.now ≡ false → bit ≡ true }
         requires served { IsTrue (E.serves entries.now part.now.key) }
+        requires told { IsTold Length UInt32 presence part.now }
+        requires kept { KeepScalars (E.contents entries.now) }
         ensures place { IfOk result (λ x. (at ≤ x.1) × (x.1 ≤ length bytes.now)) }
         ensures goes { IfOk result (λ x.
             Took level part.now bit (E.contents entries.old) (E.contents entries.new) (length_of x.0)

@@ -10,6 +10,7 @@ ghost use Rattle.fast_stream.specs.Reading.{message_at};
 ghost use Rattle.fast_wire.specs.Level.{IsLeftClear, some_set};
 ghost use Rattle.fast_walk.specs.OpenSegments.{Reading, at_instruction};
 ghost use Rattle.fast_walk.specs.Received.{Received, content_received};
+ghost use Rattle.fast_walk.specs.Told.{KeepScalars};
 
 use crate::bits::{first_for, read_own_map};
 use crate::halt::Halt;
@@ -173,6 +174,7 @@ impl<'a> Traversal<'a> {
         requires spare { self.now.walk.spare ≡ node_limit }
         requires template { self.now.template ≡ 0 }
         requires served { ServesAll (E.serves entries.now) self.now.set.now }
+        requires kept { KeepScalars (E.contents entries.now) }
         ensures place { IfOk result (λ n. (at ≤ n) × (n ≤ length bytes.now)) }
         ensures goes { IfOk result (λ n. (before : List Content)
             → R.stands receiver.old (templates_in self.old.set.now) before (E.contents entries.old)
@@ -189,6 +191,7 @@ impl<'a> Traversal<'a> {
             (drop at bytes.now) ≡ Err (stop_of 0 h (drop at bytes.now))) }
         ensures stage { OnOk result (self.new.stage ≡ Stage.Body) }
         ensures ready { OnOk result (CanGoOn (E.serves entries.old) self.new) }
+        ensures kept { OnOk result (KeepScalars (E.contents entries.new)) }
         ensures waits { IfErr result (λ h. h.cause ≡ Cause.Truncated → (self.new ≡ self.old)
             × (E.contents entries.new ≡ E.contents entries.old)
             × ((set : List Resolved) (ms : List Content) (d : Dictionary)
@@ -212,6 +215,7 @@ impl<'a> Traversal<'a> {
                     number: 0,
                 }),
                 Some(template) => {
+                    self.set_is_sound();
                     self.template = id;
                     self.walk.open_message(needs, &template.members);
                     self.stage = Stage::Body;
@@ -271,6 +275,7 @@ impl<'a> Traversal<'a> {
         requires place { at ≤ length bytes.now }
         requires stage { self.now.stage ≡ Stage.Body }
         requires ready { CanGoOn (E.serves entries.now) self.now }
+        requires kept { KeepScalars (E.contents entries.now) }
         ensures place { IfOk result (λ n. (at ≤ n) × (n ≤ length bytes.now)) }
         ensures goes { IfOk result (λ n. (set : List Resolved) (before : List Content) (start :
             Dictionary)
@@ -305,6 +310,9 @@ impl<'a> Traversal<'a> {
             → length bytes.now ≤ x.0 + 65554) }
         ensures ready { IfErr result (λ x. (x.1).cause ≢ Cause.Memory
             → CanGoOn (E.serves entries.new) self.new) }
+        ensures kept { OnOk result (KeepScalars (E.contents entries.new)) }
+        ensures kept_on { IfErr result (λ x. (x.1).cause ≢ Cause.Memory
+            → KeepScalars (E.contents entries.new)) }
         ensures stage { OnErr result (self.new.stage ≡ Stage.Body) }
         ensures keeps { OnErr result ((set : List Resolved) (ms : List Content) (d : Dictionary)
             → R.keeps receiver.old set ms d → R.keeps receiver.new set ms d) }
@@ -337,6 +345,7 @@ impl<'a> Traversal<'a> {
         requires stage { self.now.stage ≡ Stage.Identifier }
         requires ready { CanGoOn (E.serves entries.now) self.now }
         requires served { ServesAll (E.serves entries.now) self.now.set.now }
+        requires kept { KeepScalars (E.contents entries.now) }
         ensures place { IfOk result (λ n. (at ≤ n) × (n ≤ length bytes.now)) }
         ensures goes { IfOk result (λ n. (before : List Content) (start : Dictionary) (read : List
             ℕ → Reading)
@@ -370,6 +379,9 @@ impl<'a> Traversal<'a> {
             → length bytes.now ≤ x.0 + 65554) }
         ensures ready { IfErr result (λ x. (x.1).cause ≡ Cause.Truncated
             → CanGoOn (E.serves entries.new) self.new) }
+        ensures kept { OnOk result (KeepScalars (E.contents entries.new)) }
+        ensures kept_on { IfErr result (λ x. (x.1).cause ≡ Cause.Truncated
+            → KeepScalars (E.contents entries.new)) }
         ensures keeps { OnErr result ((before : List Content) (start : Dictionary) (read : List ℕ
             → Reading)
             → Continues R.has R.stands R.keeps self.old receiver.old (templates_in self.old.set.now)
@@ -408,6 +420,7 @@ impl<'a> Traversal<'a> {
         requires place { at ≤ length bytes.now }
         requires ready { CanGoOn (E.serves entries.now) self.now }
         requires served { ServesAll (E.serves entries.now) self.now.set.now }
+        requires kept { KeepScalars (E.contents entries.now) }
         ensures place { IfOk result (λ n. (at ≤ n) × (n ≤ length bytes.now)) }
         ensures goes { IfOk result (λ n. (before : List Content) (start : Dictionary) (read : List
             ℕ → Reading)
@@ -441,6 +454,9 @@ impl<'a> Traversal<'a> {
             → length bytes.now ≤ x.0 + 65554) }
         ensures ready { IfErr result (λ x. (x.1).cause ≡ Cause.Truncated
             → CanGoOn (E.serves entries.new) self.new) }
+        ensures kept { OnOk result (KeepScalars (E.contents entries.new)) }
+        ensures kept_on { IfErr result (λ x. (x.1).cause ≡ Cause.Truncated
+            → KeepScalars (E.contents entries.new)) }
         ensures keeps { OnErr result ((before : List Content) (start : Dictionary) (read : List ℕ
             → Reading)
             → Continues R.has R.stands R.keeps self.old receiver.old (templates_in self.old.set.now)

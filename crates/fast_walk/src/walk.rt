@@ -13,6 +13,7 @@ ghost use Rattle.fast_walk.specs.OpenSegments.{Waiting, at_instruction, cursor, 
 ghost use Rattle.fast_walk.specs.Received.{Received, ended_in};
 ghost use Rattle.fast_walk.specs.Passing.{next_behind};
 ghost use Rattle.fast_walk.specs.Walks.{next_of, weight_of};
+ghost use Rattle.fast_walk.specs.Told.{KeepScalars};
 
 use crate::bits::{first_for, judge_left, read_own_map, take_for};
 use crate::halt::{Halt, field_cause};
@@ -254,6 +255,7 @@ impl<'a> Walk<'a> {
         requires first { list_of self.now.rest.now
             ≡ then_instruction (whole_field name.now number presence whole.now) (list_of others.now) }
         requires ready { IsReady (E.serves entries.now) self.now }
+        requires kept { KeepScalars (E.contents entries.now) }
         ensures place { IfOk result (λ n. (at ≤ n) × (n ≤ length bytes.now)) }
         ensures goes { IfOk result (λ n. Moves L.at R.has self.old receiver.old (E.contents entries.old)
             self.new receiver.new (E.contents entries.new) (drop at bytes.now) (drop n bytes.now)) }
@@ -263,6 +265,7 @@ impl<'a> Walk<'a> {
             → (self.new ≡ self.old) × (E.contents entries.new ≡ E.contents entries.old)
             × ((o : Received) (d : Dictionary) → R.has receiver.old o d → R.has receiver.new o d)) }
         ensures ready { OnOk result (IsReady (E.serves entries.old) self.new) }
+        ensures kept { OnOk result (KeepScalars (E.contents entries.new)) }
         ensures keeps { (set : List Resolved) (ms : List Content) (d : Dictionary)
             → R.keeps receiver.old set ms d → R.keeps receiver.new set ms d }
         ensures same_keys { E.serves entries.new ≡ E.serves entries.old }
@@ -317,6 +320,7 @@ impl<'a> Walk<'a> {
             ≡ then_instruction (field_in_parts name.now number presence exponent.now mantissa.now)
             (list_of others.now) }
         requires ready { IsReady (E.serves entries.now) self.now }
+        requires kept { KeepScalars (E.contents entries.now) }
         ensures place { IfOk result (λ n. (at ≤ n) × (n ≤ length bytes.now)) }
         ensures goes { IfOk result (λ n. Moves L.at R.has self.old receiver.old (E.contents entries.old)
             self.new receiver.new (E.contents entries.new) (drop at bytes.now) (drop n bytes.now)) }
@@ -326,6 +330,7 @@ impl<'a> Walk<'a> {
             → (self.new ≡ self.old) × (E.contents entries.new ≡ E.contents entries.old)
             × ((o : Received) (d : Dictionary) → R.has receiver.old o d → R.has receiver.new o d)) }
         ensures ready { OnOk result (IsReady (E.serves entries.old) self.new) }
+        ensures kept { OnOk result (KeepScalars (E.contents entries.new)) }
         ensures keeps { (set : List Resolved) (ms : List Content) (d : Dictionary)
             → R.keeps receiver.old set ms d → R.keeps receiver.new set ms d }
         ensures same_keys { E.serves entries.new ≡ E.serves entries.old }
@@ -377,6 +382,7 @@ impl<'a> Walk<'a> {
         requires place { at ≤ length bytes.now }
         requires next { self.now.next ≡ Next.Mantissa mantissa }
         requires ready { IsReady (E.serves entries.now) self.now }
+        requires kept { KeepScalars (E.contents entries.now) }
         ensures place { IfOk result (λ n. (at ≤ n) × (n ≤ length bytes.now)) }
         ensures goes { IfOk result (λ n. Moves L.at R.has self.old receiver.old (E.contents entries.old)
             self.new receiver.new (E.contents entries.new) (drop at bytes.now) (drop n bytes.now)) }
@@ -386,6 +392,7 @@ impl<'a> Walk<'a> {
             → (self.new ≡ self.old) × (E.contents entries.new ≡ E.contents entries.old)
             × ((o : Received) (d : Dictionary) → R.has receiver.old o d → R.has receiver.new o d)) }
         ensures ready { OnOk result (IsReady (E.serves entries.old) self.new) }
+        ensures kept { OnOk result (KeepScalars (E.contents entries.new)) }
         ensures keeps { (set : List Resolved) (ms : List Content) (d : Dictionary)
             → R.keeps receiver.old set ms d → R.keeps receiver.new set ms d }
         ensures same_keys { E.serves entries.new ≡ E.serves entries.old }
@@ -425,6 +432,7 @@ impl<'a> Walk<'a> {
             ≡ then_instruction (sequence_of name.now number presence part.now (list_of members.now))
             (list_of others.now) }
         requires ready { IsReady (E.serves entries.now) self.now }
+        requires kept { KeepScalars (E.contents entries.now) }
         ensures place { IfOk result (λ n. (at ≤ n) × (n ≤ length bytes.now)) }
         ensures goes { IfOk result (λ n. Moves L.at R.has self.old receiver.old (E.contents entries.old)
             self.new receiver.new (E.contents entries.new) (drop at bytes.now) (drop n bytes.now)) }
@@ -434,6 +442,7 @@ impl<'a> Walk<'a> {
             → (self.new ≡ self.old) × (E.contents entries.new ≡ E.contents entries.old)
             × ((o : Received) (d : Dictionary) → R.has receiver.old o d → R.has receiver.new o d)) }
         ensures ready { OnOk result (IsReady (E.serves entries.old) self.new) }
+        ensures kept { OnOk result (KeepScalars (E.contents entries.new)) }
         ensures keeps { (set : List Resolved) (ms : List Content) (d : Dictionary)
             → R.keeps receiver.old set ms d → R.keeps receiver.new set ms d }
         ensures same_keys { E.serves entries.new ≡ E.serves entries.old }
@@ -665,10 +674,7 @@ impl<'a> Walk<'a> {
         match self.judge_end(level.level()) {
             Err(halt) => Err(halt),
             Ok(()) => match self.around.pop() {
-                None => Err(Halt {
-                    cause: Cause::Memory,
-                    number: 0,
-                }),
+                None => unreachable!(),
                 Some(Frame { bits, rest, inside }) => {
                     self.bits = bits;
                     self.rest = rest;
@@ -743,6 +749,7 @@ impl<'a> Walk<'a> {
         requires inside { IsInside self.now }
         requires place { at ≤ length bytes.now }
         requires ready { IsReady (E.serves entries.now) self.now }
+        requires kept { KeepScalars (E.contents entries.now) }
         ensures place { IfOk result (λ n. (at ≤ n) × (n ≤ length bytes.now)) }
         ensures goes { IfOk result (λ n. Moves L.at R.has self.old receiver.old (E.contents entries.old)
             self.new receiver.new (E.contents entries.new) (drop at bytes.now) (drop n bytes.now)) }
@@ -752,6 +759,7 @@ impl<'a> Walk<'a> {
             → (self.new ≡ self.old) × (E.contents entries.new ≡ E.contents entries.old)
             × ((o : Received) (d : Dictionary) → R.has receiver.old o d → R.has receiver.new o d)) }
         ensures ready { OnOk result (IsReady (E.serves entries.old) self.new) }
+        ensures kept { OnOk result (KeepScalars (E.contents entries.new)) }
         ensures keeps { (set : List Resolved) (ms : List Content) (d : Dictionary)
             → R.keeps receiver.old set ms d → R.keeps receiver.new set ms d }
         ensures same_keys { E.serves entries.new ≡ E.serves entries.old }
@@ -830,10 +838,12 @@ impl<'a> Walk<'a> {
     ) -> Result<usize, AllocError>
         requires place { at ≤ length bytes.now }
         requires ready { IsReady (E.serves entries.now) self.now }
+        requires kept { KeepScalars (E.contents entries.now) }
         ensures place { IfOk result (λ n. (at ≤ n) × (n ≤ length bytes.now)) }
         ensures goes { IfOk result (λ n. Moves L.at R.has self.old receiver.old (E.contents entries.old)
             self.new receiver.new (E.contents entries.new) (drop at bytes.now) (drop n bytes.now)) }
         ensures ready { OnOk result (IsReady (E.serves entries.old) self.new) }
+        ensures kept { OnOk result (KeepScalars (E.contents entries.new)) }
         ensures keeps { (set : List Resolved) (ms : List Content) (d : Dictionary)
             → R.keeps receiver.old set ms d → R.keeps receiver.new set ms d }
         ensures same_keys { E.serves entries.new ≡ E.serves entries.old }
@@ -878,6 +888,7 @@ impl<'a> Walk<'a> {
         requires inside { IsInside self.now }
         requires place { at ≤ length bytes.now }
         requires ready { IsReady (E.serves entries.now) self.now }
+        requires kept { KeepScalars (E.contents entries.now) }
         ensures place { IfOk result (λ n. (at ≤ n) × (n ≤ length bytes.now)) }
         ensures goes { IfOk result (λ n. Moves L.at R.has self.old receiver.old (E.contents entries.old)
             self.new receiver.new (E.contents entries.new) (drop at bytes.now) (drop n bytes.now)) }
@@ -887,6 +898,7 @@ impl<'a> Walk<'a> {
             → (self.new ≡ self.old) × (E.contents entries.new ≡ E.contents entries.old)
             × ((o : Received) (d : Dictionary) → R.has receiver.old o d → R.has receiver.new o d)) }
         ensures ready { OnOk result (IsReady (E.serves entries.old) self.new) }
+        ensures kept { OnOk result (KeepScalars (E.contents entries.new)) }
         ensures keeps { (set : List Resolved) (ms : List Content) (d : Dictionary)
             → R.keeps receiver.old set ms d → R.keeps receiver.new set ms d }
         ensures same_keys { E.serves entries.new ≡ E.serves entries.old }
@@ -913,6 +925,7 @@ impl<'a> Walk<'a> {
     ) -> Result<usize, (usize, Halt)>
         requires place { at ≤ length bytes.now }
         requires ready { IsReady (E.serves entries.now) self.now }
+        requires kept { KeepScalars (E.contents entries.now) }
         ensures place { IfOk result (λ n. (at ≤ n) × (n ≤ length bytes.now)) }
         ensures goes { IfOk result (λ n. Moves L.at R.has self.old receiver.old (E.contents entries.old)
             self.new receiver.new (E.contents entries.new) (drop at bytes.now) (drop n bytes.now)) }
@@ -924,7 +937,8 @@ impl<'a> Walk<'a> {
             → Moves L.at R.has self.old receiver.old (E.contents entries.old)
             self.new receiver.new (E.contents entries.new) (drop at bytes.now) (drop x.0 bytes.now)
             × HaltsAs L.at self.new (E.contents entries.new) (drop x.0 bytes.now) x.1
-            × IsReady (E.serves entries.new) self.new) }
+            × IsReady (E.serves entries.new) self.new × KeepScalars (E.contents entries.new)) }
+        ensures kept { OnOk result (KeepScalars (E.contents entries.new)) }
         ensures keeps { (set : List Resolved) (ms : List Content) (d : Dictionary)
             → R.keeps receiver.old set ms d → R.keeps receiver.new set ms d }
         ensures same_keys { E.serves entries.new ≡ E.serves entries.old }
@@ -955,6 +969,7 @@ impl<'a> Walk<'a> {
     ) -> Result<usize, (usize, Halt)>
         requires place { at ≤ length bytes.now }
         requires ready { IsReady (E.serves entries.now) self.now }
+        requires kept { KeepScalars (E.contents entries.now) }
         ensures place { IfOk result (λ n. (at ≤ n) × (n ≤ length bytes.now)) }
         ensures goes { IfOk result (λ n. Moves level R.has self.old receiver.old (E.contents entries.old)
             self.new receiver.new (E.contents entries.new) (drop at bytes.now) (drop n bytes.now)) }
@@ -966,7 +981,8 @@ impl<'a> Walk<'a> {
             → Moves level R.has self.old receiver.old (E.contents entries.old)
             self.new receiver.new (E.contents entries.new) (drop at bytes.now) (drop x.0 bytes.now)
             × HaltsAs level self.new (E.contents entries.new) (drop x.0 bytes.now) x.1
-            × IsReady (E.serves entries.new) self.new) }
+            × IsReady (E.serves entries.new) self.new × KeepScalars (E.contents entries.new)) }
+        ensures kept { OnOk result (KeepScalars (E.contents entries.new)) }
         ensures keeps { (set : List Resolved) (ms : List Content) (d : Dictionary)
             → R.keeps receiver.old set ms d → R.keeps receiver.new set ms d }
         ensures same_keys { E.serves entries.new ≡ E.serves entries.old }

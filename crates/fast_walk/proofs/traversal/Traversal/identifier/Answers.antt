@@ -1,4 +1,4 @@
-use Rattle.std.proofs.Common.{Option, drop, map, refl, sym, ap, ◌∙◌}
+use Rattle.std.proofs.Common.{Option, drop, map, refl, sym, ap, ◌∙◌, arith, Some}
 use Rattle.std.specs.Prelude.{option_map}
 use Rattle.fast_template.specs.declared.resolved.FlatTemplate.{FlatTemplate}
 use Rattle.fast_template.specs.Resolved.{list_of, Instructions}
@@ -9,6 +9,11 @@ use Rattle.fast_walk.specs.Received.{opened}
 use Rattle.fast_walk.specs.Walks.{next_of, reads_on, frame_of}
 use Rattle.fast_walk.proofs.Heads.{identifier_goes, identifier_stops, unknown_stops}
 use Rattle.fast_walk.proofs.Serving.{found_members, members_served}
+use Rattle.fast_value.specs.declared.kind.Kind.TheVariants as kind
+use Rattle.fast_value.specs.declared.kind.Part.TheVariants as part
+use Rattle.fast_value.specs.declared.kind.Presence.TheVariants.{Mandatory}
+use Rattle.fast_value.specs.declared.scalar.Scalar.TheVariants.{U32}
+use Rattle.fast_walk.proofs.Telling.{asked_for, identifier_told, told_keeps}
 use Rattle.fast_walk.proofs.traversal.Traversal.identifier.Goals as goal
 
 abbrev members_found : Option FlatTemplate → Option Instructions
@@ -70,6 +75,13 @@ returns-in-Some-clause-ready g c =
     let end = c.open_message.ensures in
     record {
       next = rw (end.next) tt;
-      rest = rw (end.rest, c.deref.ensures.value) (members_served (g.E.Entries.serves c.args.entries.now) old.set.now id members c.requires.served named);
+      rest = rw (end.rest, c.deref.ensures.value) (members_served (g.E.Entries.serves c.args.entries.now) old.set.now id members c.set_is_sound.ensures c.requires.served named);
       around = rw (end.around) tt;
     }
+
+pub returns-in-Some-clause-kept : goal.returns-in-Some-clause-kept
+returns-in-Some-clause-kept g c =
+    let old = c.args.self.now in
+    told_keeps c.level-level.result old.identifier c.first_for-bit.result (g.E.Entries.contents c.args.entries.now) (g.E.Entries.contents c.begin.new.entries) c.args.bytes.now c.args.at c.in-Ok.next
+    (λ k. omega (arith, c.type_inv.bytes k)) (asked_for old.identifier c.part_needs_bit-needs.result c.first_for-bit.result old.walk.bits c.part_needs_bit-needs.ensures c.first_for-bit.ensures)
+    part.Whole kind.UInt32 Mandatory (Some (U32 c.in-Ok.id)) tt (rw (old.identifier_is) identifier_told) c.in-Ok.ensures.goes.0 c.requires.kept

@@ -1,4 +1,4 @@
-use Rattle.std.proofs.Common.{◌++◌, ◌-◌, Option, None, drop, refl, sym, ap, subst, ◌∙◌}
+use Rattle.std.proofs.Common.{◌++◌, ◌-◌, Option, None, drop, refl, sym, ap, subst, ◌∙◌, arith}
 use Rattle.fast_value.specs.declared.scalar.Scalar.{Scalar}
 use Rattle.fast_template.specs.Resolved.{list_of, field_in_parts}
 use Rattle.fast_stream.specs.Nodes.{single}
@@ -8,6 +8,9 @@ use Rattle.fast_walk.specs.Received.{moved, passed, after_exponent}
 use Rattle.fast_walk.specs.Walks.{next_of}
 use Rattle.fast_walk.proofs.Steps.{part_goes, part_stops}
 use Rattle.fast_walk.proofs.Walking.{exponent_on, no_exponent_on, piece_stops_on, is_instruction, is_there, not_there}
+use Rattle.fast_value.specs.declared.kind.Kind.TheVariants as kind
+use Rattle.fast_value.specs.declared.kind.Part.TheVariants as part
+use Rattle.fast_walk.proofs.Telling.{asked_for, told_keeps}
 use Rattle.fast_walk.proofs.walk.Walk.exponent.Goals as goal
 
 pub returns-in-Err-clause-stops : goal.returns-in-Err-clause-stops
@@ -87,3 +90,17 @@ returns-else-present-clause-goes g c = λ o at.
           (part_goes g.L.Leveled.at c.args.exponent.now d old.bits (old.spare - 1) bytes (drop c.in-Ok-exponent.next c.args.bytes.now ++ more) took.0
           (rw (c.level.ensures, c.first_for-bit.ensures, c.part_needs_bit-needs.ensures) at took.1.value more))),
     )
+
+pub returns-then-present-clause-kept : goal.returns-then-present-clause-kept
+returns-then-present-clause-kept g c =
+    let old = c.args.self.now in
+    told_keeps c.level.result c.args.exponent.now c.first_for-bit.result (g.E.Entries.contents c.args.entries.now) (g.E.Entries.contents c.exponent.new.entries) c.args.bytes.now c.args.at c.in-Ok-exponent.next
+    (λ k. omega (arith, c.type_inv.bytes k)) (asked_for c.args.exponent.now c.part_needs_bit-needs.result c.first_for-bit.result old.bits c.part_needs_bit-needs.ensures c.first_for-bit.ensures)
+    part.Exponent kind.Int32 c.args.presence c.in-Ok-exponent.ensures.goes.0 refl (rw (c.requires.first) at c.requires.ready.rest).0.0.1 c.in-Ok-exponent.ensures.goes.1 c.requires.kept
+
+pub returns-else-present-clause-kept : goal.returns-else-present-clause-kept
+returns-else-present-clause-kept g c =
+    let old = c.args.self.now in
+    told_keeps c.level.result c.args.exponent.now c.first_for-bit.result (g.E.Entries.contents c.args.entries.now) (g.E.Entries.contents c.exponent.new.entries) c.args.bytes.now c.args.at c.in-Ok-exponent.next
+    (λ k. omega (arith, c.type_inv.bytes k)) (asked_for c.args.exponent.now c.part_needs_bit-needs.result c.first_for-bit.result old.bits c.part_needs_bit-needs.ensures c.first_for-bit.ensures)
+    part.Exponent kind.Int32 c.args.presence c.in-Ok-exponent.ensures.goes.0 refl (rw (c.requires.first) at c.requires.ready.rest).0.0.1 c.in-Ok-exponent.ensures.goes.1 c.requires.kept

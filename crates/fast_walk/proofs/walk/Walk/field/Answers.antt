@@ -1,4 +1,4 @@
-use Rattle.std.proofs.Common.{◌++◌, ◌-◌, drop, refl, sym, ap, ◌∙◌}
+use Rattle.std.proofs.Common.{◌++◌, ◌-◌, drop, refl, sym, ap, ◌∙◌, arith}
 use Rattle.fast_template.specs.Resolved.{list_of, whole_field}
 use Rattle.fast_stream.specs.Nodes.{single}
 use Rattle.fast_stream.specs.Faults.{cause_of_field}
@@ -7,6 +7,8 @@ use Rattle.fast_walk.specs.Received.{passed}
 use Rattle.fast_walk.specs.Walks.{next_of}
 use Rattle.fast_walk.proofs.Steps.{part_goes, part_stops}
 use Rattle.fast_walk.proofs.Walking.{field_on, piece_stops_on, is_instruction}
+use Rattle.fast_value.specs.declared.kind.Part.TheVariants as part
+use Rattle.fast_walk.proofs.Telling.{asked_for, told_keeps}
 use Rattle.fast_walk.proofs.walk.Walk.field.Goals as goal
 
 pub returns-in-Err-clause-stops : goal.returns-in-Err-clause-stops
@@ -56,3 +58,10 @@ returns-in-Ok-field-clause-goes g c = λ o at.
           (part_goes g.L.Leveled.at c.args.whole.now d old.bits (old.spare - 1) bytes (drop c.in-Ok-field.next c.args.bytes.now ++ more) took.0
           (rw (c.level.ensures, c.first_for-bit.ensures, c.part_needs_bit-needs.ensures) at took.1.value more))),
     )
+
+pub returns-in-Ok-field-clause-kept : goal.returns-in-Ok-field-clause-kept
+returns-in-Ok-field-clause-kept g c =
+    let old = c.args.self.now in
+    told_keeps c.level.result c.args.whole.now c.first_for-bit.result (g.E.Entries.contents c.args.entries.now) (g.E.Entries.contents c.field.new.entries) c.args.bytes.now c.args.at c.in-Ok-field.next
+    (λ k. omega (arith, c.type_inv.bytes k)) (asked_for c.args.whole.now c.part_needs_bit-needs.result c.first_for-bit.result old.bits c.part_needs_bit-needs.ensures c.first_for-bit.ensures)
+    part.Whole c.args.whole.now.kind c.args.presence c.in-Ok-field.ensures.goes.0 tt (rw (c.requires.first) at c.requires.ready.rest).0.1 c.in-Ok-field.ensures.goes.1 c.requires.kept

@@ -1,4 +1,4 @@
-use Rattle.std.proofs.Common.{◌++◌, Some, drop, refl, ap, ◌∙◌}
+use Rattle.std.proofs.Common.{◌++◌, Some, drop, refl, ap, ◌∙◌, arith}
 use Rattle.fast_value.specs.declared.scalar.Scalar.TheVariants.{I64, Decimal}
 use Rattle.fast_stream.specs.Nodes.{single}
 use Rattle.fast_stream.specs.Faults.{cause_of_field}
@@ -7,6 +7,10 @@ use Rattle.fast_walk.specs.Received.{passed}
 use Rattle.fast_walk.specs.Walks.{next_of}
 use Rattle.fast_walk.proofs.Steps.{part_goes, part_stops}
 use Rattle.fast_walk.proofs.Walking.{mantissa_on_goes, mantissa_on_stops, is_mantissa}
+use Rattle.fast_value.specs.declared.kind.Kind.TheVariants as kind
+use Rattle.fast_value.specs.declared.kind.Part.TheVariants as part
+use Rattle.fast_value.specs.declared.kind.Presence.TheVariants.{Mandatory}
+use Rattle.fast_walk.proofs.Telling.{asked_for, told_keeps}
 use Rattle.fast_walk.proofs.walk.Walk.mantissa.Goals as goal
 
 pub returns-in-Err-clause-stops : goal.returns-in-Err-clause-stops
@@ -41,3 +45,10 @@ returns-in-Ok-clause-goes g c = λ o at.
           (part_goes g.L.Leveled.at c.args.mantissa.now d old.bits old.spare bytes (drop c.in-Ok.next c.args.bytes.now ++ more) (Some (I64 took.0))
           (rw (c.level.ensures, c.first_for-bit.ensures, c.part_needs_bit-needs.ensures) at took.1.value more))),
     )
+
+pub returns-in-Ok-clause-kept : goal.returns-in-Ok-clause-kept
+returns-in-Ok-clause-kept g c =
+    let old = c.args.self.now in
+    told_keeps c.level.result c.args.mantissa.now c.first_for-bit.result (g.E.Entries.contents c.args.entries.now) (g.E.Entries.contents c.mantissa.new.entries) c.args.bytes.now c.args.at c.in-Ok.next
+    (λ k. omega (arith, c.type_inv.bytes k)) (asked_for c.args.mantissa.now c.part_needs_bit-needs.result c.first_for-bit.result old.bits c.part_needs_bit-needs.ensures c.first_for-bit.ensures)
+    part.Mantissa kind.Int64 Mandatory (Some (I64 c.in-Ok.ensures.goes.0)) refl (rw (c.requires.next) at c.requires.ready.next).1 c.in-Ok.ensures.goes.1 c.requires.kept

@@ -7,6 +7,7 @@ pub pieces-init : goal.pieces-init
 pieces-init g c = record {
   place = search rules;
   ready = rw (c.fields.ensures.same_keys) c.in-Ok.ensures.ready;
+  kept = c.in-Ok.ensures.kept;
   goes = c.in-Ok.ensures.goes;
   keeps = c.fields.ensures.keeps;
   same_keys = c.fields.ensures.same_keys;
@@ -24,6 +25,7 @@ pieces-preserved g c =
     record {
       place = search rules;
       ready = rw (c.turn.ensures.same_keys) c.in-Ok-turn.ensures.ready;
+      kept = c.in-Ok-turn.ensures.kept;
       goes = goes;
       keeps = λ set ms s k. c.turn.ensures.keeps set ms s (c.pieces.invariant.keeps set ms s k);
       same_keys = c.turn.ensures.same_keys ∙ c.pieces.invariant.same_keys;
@@ -46,4 +48,5 @@ returns-in-Err-turn-clause-held g c = λ other.
           (goes_kept here kept (reads_on g.L.Leveled.at w e) rest (λ o at. (at.0, waits.2 o e at.1)))),
       rw (waits.0, waits.1) (c.in-Err-turn.ensures.stops other),
       rw (waits.0, c.turn.ensures.same_keys) c.pieces.invariant.ready,
+      rw (waits.1) c.pieces.invariant.kept,
     )

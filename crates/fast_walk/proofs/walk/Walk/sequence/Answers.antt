@@ -1,13 +1,16 @@
-use Rattle.std.proofs.Common.{◌++◌, ◌-◌, [], Some, None, drop, refl, sym, ap, ◌∙◌}
+use Rattle.std.proofs.Common.{◌++◌, ◌-◌, [], Some, None, drop, refl, sym, ap, ◌∙◌, arith}
 use Rattle.fast_value.specs.declared.scalar.Scalar.TheVariants.{U32}
 use Rattle.fast_template.specs.Resolved.{list_of, sequence_of, has_map}
 use Rattle.fast_stream.specs.Nodes.{single}
 use Rattle.fast_stream.specs.Faults.{cause_of_field}
 use Rattle.fast_walk.specs.OpenSegments.{cursor, at_element}
-use Rattle.fast_walk.specs.Received.{moved, passed}
+use Rattle.fast_walk.specs.Received.{length_of, moved, passed}
 use Rattle.fast_walk.specs.Walks.{next_of}
 use Rattle.fast_walk.proofs.Steps.{part_goes, part_stops}
 use Rattle.fast_walk.proofs.Walking.{length_on, no_length_on, piece_stops_on, is_instruction}
+use Rattle.fast_value.specs.declared.kind.Kind.TheVariants as kind
+use Rattle.fast_value.specs.declared.kind.Part.TheVariants as part
+use Rattle.fast_walk.proofs.Telling.{asked_for, told_keeps}
 use Rattle.fast_walk.proofs.walk.Walk.sequence.Goals as goal
 
 pub returns-in-Err-clause-stops : goal.returns-in-Err-clause-stops
@@ -83,3 +86,17 @@ returns-in-Some-clause-goes g c = λ o at.
           (part_goes g.L.Leveled.at c.args.part.now d old.bits (old.spare - 1) bytes (drop c.in-Ok-begin_sequence.next c.args.bytes.now ++ more) (Some (U32 many))
           (rw (c.level.ensures, c.first_for-bit.ensures, c.part_needs_bit-needs.ensures) at took.0.value more))),
     )
+
+pub returns-in-None-clause-kept : goal.returns-in-None-clause-kept
+returns-in-None-clause-kept g c =
+    let old = c.args.self.now in
+    told_keeps c.level.result c.args.part.now c.first_for-bit.result (g.E.Entries.contents c.args.entries.now) (g.E.Entries.contents c.begin_sequence.new.entries) c.args.bytes.now c.args.at c.in-Ok-begin_sequence.next
+    (λ k. omega (arith, c.type_inv.bytes k)) (asked_for c.args.part.now c.part_needs_bit-needs.result c.first_for-bit.result old.bits c.part_needs_bit-needs.ensures c.first_for-bit.ensures)
+    part.Length kind.UInt32 c.args.presence (length_of c.in-Ok-begin_sequence.length) refl (rw (c.requires.first) at c.requires.ready.rest).0.0.1 c.in-Ok-begin_sequence.ensures.goes.0 c.requires.kept
+
+pub returns-in-Some-clause-kept : goal.returns-in-Some-clause-kept
+returns-in-Some-clause-kept g c =
+    let old = c.args.self.now in
+    told_keeps c.level.result c.args.part.now c.first_for-bit.result (g.E.Entries.contents c.args.entries.now) (g.E.Entries.contents c.begin_sequence.new.entries) c.args.bytes.now c.args.at c.in-Ok-begin_sequence.next
+    (λ k. omega (arith, c.type_inv.bytes k)) (asked_for c.args.part.now c.part_needs_bit-needs.result c.first_for-bit.result old.bits c.part_needs_bit-needs.ensures c.first_for-bit.ensures)
+    part.Length kind.UInt32 c.args.presence (length_of c.in-Ok-begin_sequence.length) refl (rw (c.requires.first) at c.requires.ready.rest).0.0.1 c.in-Ok-begin_sequence.ensures.goes.0 c.requires.kept

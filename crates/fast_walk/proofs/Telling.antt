@@ -1,0 +1,197 @@
+-- What a receiver is told is true of the parts of a set and of the entries along a stream, and what it says of values.
+use Rattle.std.proofs.Common.{◌≡◌, ℕ, Bool, true, false, List, [], ◌++◌, Option, Some, None, Ok, refl, sym, ap, subst, ◌∙◌, append-nil, drop, get_or, ◌<◌}
+use Rattle.std.specs.Prelude.{IfSome, IsTrue, cond}
+use Rattle.std.specs.FinMap as map
+use Rattle.std.specs.Ordering.{is_eq}
+use Rattle.std.proofs.lemmas.Str.{is_utf8-from_IsUtf8, IsUtf8-from_is_utf8}
+use Rattle.fast_wire.specs.Reader.{IsBytes}
+use Rattle.fast_wire.proofs.Readers.{done}
+use Rattle.fast_wire.specs.declared.level.Level.{Level}
+use Rattle.fast_wire.specs.declared.level.Level.TheVariants.{Usual}
+use Rattle.fast_value.specs.Key.{key_cmp}
+use Rattle.fast_value.specs.declared.key.Key.{Key}
+use Rattle.fast_value.specs.declared.kind.Kind.{Kind}
+use Rattle.fast_value.specs.declared.kind.Kind.TheVariants as kind
+use Rattle.fast_value.specs.declared.kind.Part.{Part}
+use Rattle.fast_value.specs.declared.kind.Part.TheVariants as part
+use Rattle.fast_value.specs.declared.kind.Presence.{Presence}
+use Rattle.fast_value.specs.declared.kind.Presence.TheVariants.{Mandatory}
+use Rattle.fast_value.specs.declared.scalar.Scalar.{Scalar}
+use Rattle.fast_value.specs.declared.scalar.Scalar.TheVariants.{U32, I32, U64, I64, Decimal, Ascii, Unicode, Bytes}
+use Rattle.fast_value.specs.Scalar.{is_of, IsScalar}
+use Rattle.fast_template.specs.declared.resolved.FieldPart.{FieldPart}
+use Rattle.fast_template.specs.Resolved.{part_needs_bit}
+use Rattle.fast_template.specs.TemplateSets.{IsInitial, IsPartOf, IsTyped}
+use Rattle.fast_dictionary.specs.declared.entry.Entry.{Entry}
+use Rattle.fast_dictionary.specs.declared.entry.Entry.TheVariants.{Undefined, Empty, Assigned}
+use Rattle.fast_dictionary.specs.Dictionary.{Dictionary, entry_at, entry_at-empty, entry_at-set_entry}
+use Rattle.fast_field.specs.declared.fault.FieldFault.{FieldFault}
+use Rattle.fast_field.specs.Bases.{next}
+use Rattle.fast_field.specs.FieldReading.{field_at}
+use Rattle.fast_field.specs.Fields.{Form}
+use Rattle.fast_field.specs.Parts.{IsBitOf, IsFieldPart, IsKindOfPart}
+use Rattle.fast_field.specs.Within.{HoldsScalar}
+use Rattle.fast_field.proofs.FieldForms.{field_forms}
+use Rattle.fast_field.proofs.FieldsWithin.{values_within, entries_within}
+use Rattle.fast_field.proofs.LevelsAgree.{read_usually}
+use Rattle.fast_field.proofs.ReadFields.{bytes_from}
+use Rattle.fast_field.proofs.ValueKinds.{value_kind, value_there}
+use Rattle.fast_stream.specs.Bits.{bit_for}
+use Rattle.fast_stream.specs.Bodies.{with_entry, written}
+use Rattle.fast_stream.specs.Streams.{identifier}
+use Rattle.fast_walk.specs.Received.{Took}
+use Rattle.fast_walk.specs.Told.{HoldScalars, IsKeptScalar, KeepsScalar, KeepScalars, KeepsInitial, IsTold}
+
+-- ---- entries within their types
+
+scalar_kept : (v : Scalar) → IsScalar v → IsKeptScalar v
+scalar_kept (U32 n) h = h
+scalar_kept (I32 z) h = h
+scalar_kept (U64 n) h = h
+scalar_kept (I64 z) h = h
+scalar_kept (Decimal exponent mantissa) h = h
+scalar_kept (Ascii s) h = h
+scalar_kept (Unicode s) h = (h.0, (h.1, is_utf8-from_IsUtf8 s h.2))
+scalar_kept (Bytes s) h = h
+
+kept_scalar : (v : Scalar) → IsKeptScalar v → IsScalar v
+kept_scalar (U32 n) h = h
+kept_scalar (I32 z) h = h
+kept_scalar (U64 n) h = h
+kept_scalar (I64 z) h = h
+kept_scalar (Decimal exponent mantissa) h = h
+kept_scalar (Ascii s) h = h
+kept_scalar (Unicode s) h = (h.0, h.1.0, IsUtf8-from_is_utf8 s h.1.1)
+kept_scalar (Bytes s) h = h
+
+entry_kept : (e : Entry) → HoldsScalar e → KeepsScalar e
+entry_kept Undefined h = tt
+entry_kept Empty h = tt
+entry_kept (Assigned v) h = scalar_kept v h
+
+pub kept_entry : (e : Entry) → KeepsScalar e → HoldsScalar e
+kept_entry Undefined h = tt
+kept_entry Empty h = tt
+kept_entry (Assigned v) h = kept_scalar v h
+
+pub are_kept : (d : Dictionary) → HoldScalars d → KeepScalars d
+are_kept d h k = entry_kept (entry_at d k) (h k)
+
+pub kept_hold : (d : Dictionary) → KeepScalars d → HoldScalars d
+kept_hold d h k = kept_entry (entry_at d k) (h k)
+
+pub empty_holds : HoldScalars map.empty
+empty_holds k = subst HoldsScalar (sym (entry_at-empty k)) tt
+
+pub empty_kept : KeepScalars map.empty
+empty_kept = are_kept map.empty empty_holds
+
+either_holds : (b : Bool) (e f : Entry) → HoldsScalar e → HoldsScalar f → HoldsScalar (cond b e f)
+either_holds true e f h k = h
+either_holds false e f h k = k
+
+with_entry_holds : (d : Dictionary) (k : Key) (e : Entry) → HoldScalars d → HoldsScalar e → HoldScalars (with_entry d k e)
+with_entry_holds d k Undefined all one = all
+with_entry_holds d k Empty all one = λ q. subst HoldsScalar (sym (entry_at-set_entry d k Empty q)) (either_holds (is_eq (key_cmp q k)) Empty (entry_at d q) one (all q))
+with_entry_holds d k (Assigned v) all one = λ q. subst HoldsScalar (sym (entry_at-set_entry d k (Assigned v) q)) (either_holds (is_eq (key_cmp q k)) (Assigned v) (entry_at d q) one (all q))
+
+-- what has a form is written as a value of its type
+pub form_holds : (p : FieldPart) (d : Dictionary) (bit : Bool) (b : List ℕ) (v : Option Scalar) → IsFieldPart p → HoldScalars d → Form Usual p (entry_at d p.key) bit b v → HoldScalars (written p d v)
+form_holds p d bit b v is all form =
+    let here = all p.key in
+    with_entry_holds d p.key (next p (entry_at d p.key) v) all (entries_within p (entry_at d p.key) v here (values_within p (entry_at d p.key) bit b v is here form))
+
+-- ---- parts of a set
+
+initial_kept : (p : FieldPart) (o : Option Scalar) → IfSome o (IsInitial p) → KeepsInitial p o
+initial_kept p None h = tt
+initial_kept p (Some v) h = (h.0, (h.1, scalar_kept v h.2))
+
+kept_initial : (p : FieldPart) (o : Option Scalar) → KeepsInitial p o → IfSome o (IsInitial p)
+kept_initial p None h = tt
+kept_initial p (Some v) h = (h.0, h.1.0, kept_scalar v h.1.1)
+
+pub part_told : (part : Part) (kind : Kind) (presence : Presence) (p : FieldPart) → IsPartOf part kind presence p → IsTold part kind presence p
+part_told part kind presence p h = record {
+  part_is = h.part_is;
+  kind_is = h.kind_is;
+  presence_is = h.presence_is;
+  operator_applies = h.typed.operator_applies;
+  initial_fits = initial_kept p p.initial h.typed.initial_fits;
+  constant_has_value = h.typed.constant_has_value;
+  default_has_value = h.typed.default_has_value;
+}
+
+pub told_part : (part : Part) (kind : Kind) (presence : Presence) (p : FieldPart) → IsKindOfPart part kind → IsTold part kind presence p → IsFieldPart p
+told_part part kind presence p k h = record {
+  typed = record {
+    operator_applies = h.operator_applies;
+    initial_fits = kept_initial p p.initial h.initial_fits;
+    constant_has_value = h.constant_has_value;
+    default_has_value = h.default_has_value;
+  };
+  kind_of_part = rw (h.part_is, h.kind_is) k;
+}
+
+pub identifier_is : IsFieldPart identifier
+identifier_is = record { typed = record { operator_applies = refl; initial_fits = tt; constant_has_value = λ e. absurd cc; default_has_value = λ e m. absurd cc }; kind_of_part = tt }
+
+pub identifier_told : IsTold part.Whole kind.UInt32 Mandatory identifier
+identifier_told = record { part_is = refl; kind_is = refl; presence_is = refl; operator_applies = refl; initial_fits = tt; constant_has_value = λ e. absurd cc; default_has_value = λ e m. absurd cc }
+
+-- ---- what was taken
+
+-- the form that was read
+pub record Formed (p : FieldPart) (e : Entry) (bit : Bool) (v : Option Scalar) : Type 0 where
+  pub bytes : List ℕ
+  pub form : Form Usual p e bit bytes v
+
+pub taken_form : (level : Level) (p : FieldPart) (bit : Bool) (d e : Dictionary) (v : Option Scalar) (bytes rest : List ℕ) → IsBytes bytes → IsFieldPart p → IsBitOf p bit
+    → Took level p bit d e v bytes rest → Formed p (entry_at d p.key) bit v
+taken_form level p bit d e v bytes rest fits is asked took =
+    let here = entry_at d p.key in
+    let read : field_at level p here bit bytes ≡ Ok (v, rest) =
+        ap (λ (b : List ℕ). field_at level p here bit b) (sym (append-nil bytes)) ∙ took.value [] ∙ ap (λ (r : List ℕ). done {F = FieldFault} (v, r)) (append-nil rest) in
+    let t = (field_forms Usual p here bit asked is.typed.default_has_value).found bytes v rest fits (read_usually level p here bit bytes (v, rest) read) in
+    record { bytes = t.front; form = t.form }
+
+-- entries stay within their types
+pub taken_keeps : (level : Level) (p : FieldPart) (bit : Bool) (d e : Dictionary) (v : Option Scalar) (bytes rest : List ℕ) → IsBytes bytes → IsFieldPart p → IsBitOf p bit
+    → Took level p bit d e v bytes rest → KeepScalars d → KeepScalars e
+taken_keeps level p bit d e v bytes rest fits is asked took kept =
+    let f = taken_form level p bit d e v bytes rest fits is asked took in
+    are_kept e (subst HoldScalars (sym took.entry) (form_holds p d bit f.bytes v is (kept_hold d kept) f.form))
+
+-- a value is of its part's type
+pub taken_kind : (level : Level) (p : FieldPart) (bit : Bool) (d e : Dictionary) (v : Scalar) (bytes rest : List ℕ) → IsBytes bytes → IsFieldPart p → IsBitOf p bit
+    → Took level p bit d e (Some v) bytes rest → IsTrue (is_of p.kind v)
+taken_kind level p bit d e v bytes rest fits is asked took =
+    let f = taken_form level p bit d e (Some v) bytes rest fits is asked took in
+    value_kind p is.typed (entry_at d p.key) bit f.bytes v f.form
+
+-- a mandatory part has a value
+pub taken_there : (level : Level) (p : FieldPart) (bit : Bool) (d e : Dictionary) (bytes rest : List ℕ) → IsBytes bytes → IsFieldPart p → IsBitOf p bit
+    → p.presence ≡ Mandatory → Took level p bit d e None bytes rest → ⊥
+taken_there level p bit d e bytes rest fits is asked mandatory took =
+    let f = taken_form level p bit d e None bytes rest fits is asked took in
+    value_there p is.typed mandatory (entry_at d p.key) bit f.bytes f.form
+
+-- ---- the same at a place in a slice
+
+-- the bit of a part that needs one, or else 1
+pub asked_for : (p : FieldPart) (needs bit : Bool) (bits : List Bool) → needs ≡ part_needs_bit p → bit ≡ bit_for needs bits → IsBitOf p bit
+asked_for p needs bit bits n b none = b ∙ ap (λ n. bit_for n bits) (n ∙ none)
+
+module _ (level : Level) (p : FieldPart) (bit : Bool) (d e : Dictionary) (bytes : List ℕ) (at next : ℕ) (fits : (k : ℕ) → get_or bytes k 0 < 256) (asked : IsBitOf p bit) where
+  pub told_keeps : (part : Part) (kind : Kind) (presence : Presence) (v : Option Scalar) → IsKindOfPart part kind → IsTold part kind presence p
+      → Took level p bit d e v (drop at bytes) (drop next bytes) → KeepScalars d → KeepScalars e
+  told_keeps part kind presence v k told took = taken_keeps level p bit d e v (drop at bytes) (drop next bytes) (bytes_from bytes at fits) (told_part part kind presence p k told) asked took
+
+  pub told_kind : (part : Part) (kind : Kind) (presence : Presence) (v : Scalar) → IsKindOfPart part kind → IsTold part kind presence p
+      → Took level p bit d e (Some v) (drop at bytes) (drop next bytes) → IsTrue (is_of kind v)
+  told_kind part kind presence v k told took =
+      subst (λ (k : Kind). IsTrue (is_of k v)) told.kind_is (taken_kind level p bit d e v (drop at bytes) (drop next bytes) (bytes_from bytes at fits) (told_part part kind presence p k told) asked took)
+
+  pub told_there : (part : Part) (kind : Kind) → IsKindOfPart part kind → IsTold part kind Mandatory p
+      → Took level p bit d e None (drop at bytes) (drop next bytes) → ⊥
+  told_there part kind k told took = taken_there level p bit d e (drop at bytes) (drop next bytes) (bytes_from bytes at fits) (told_part part kind Mandatory p k told) asked told.presence_is took

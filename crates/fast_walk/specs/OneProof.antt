@@ -1,0 +1,69 @@
+-- What a receiver is told has one proof at most.
+use mathlib.Core.Bool.{Bool-set}
+use Rattle.std.specs.Prelude.{◌≡◌, ◌≤◌, ◌<◌, ℕ, Bool, true, List, [], ◌∷◌, Option, Some, None, IsSome, IsTrue}
+use Rattle.std.specs.Coded.{×_prop, Π_prop, →_prop, Unit-prop, le_prop}
+use Rattle.std.specs.List.{AllByRecursion}
+use Rattle.std.specs.Str.{is_utf8}
+use Rattle.std.proofs.Props.{props}
+use Rattle.fast_value.specs.declared.kind.Kind.{Kind}
+use Rattle.fast_value.specs.declared.kind.Operator.{Operator}
+use Rattle.fast_value.specs.declared.kind.Operator.TheVariants as operator
+use Rattle.fast_value.specs.declared.kind.Part.{Part}
+use Rattle.fast_value.specs.declared.kind.Presence.{Presence}
+use Rattle.fast_value.specs.declared.kind.Presence.TheVariants.{Mandatory}
+use Rattle.fast_value.specs.declared.scalar.Scalar.{Scalar}
+use Rattle.fast_value.specs.declared.scalar.Scalar.TheVariants.{U32, I32, U64, I64, Decimal, Ascii, Unicode, Bytes}
+use Rattle.fast_template.specs.declared.resolved.FieldPart.{FieldPart}
+use Rattle.fast_template.specs.TemplateSets.{applies}
+use Rattle.fast_dictionary.specs.declared.entry.Entry.{Entry}
+use Rattle.fast_dictionary.specs.declared.entry.Entry.TheVariants.{Undefined, Empty, Assigned}
+use Rattle.fast_dictionary.specs.Dictionary.{Dictionary, entry_at}
+use Rattle.fast_walk.specs.Told.{IsKeptScalar, KeepsScalar, KeepScalars, KeepsInitial, IsTold}
+
+pub true-prop : (b : Bool) → IsProp (IsTrue b)
+true-prop b = Bool-set b true
+
+below-prop : (limit : ℕ) (s : List ℕ) → IsProp (AllByRecursion (λ c. c < limit) s)
+below-prop limit [] = Unit-prop
+below-prop limit (c ∷ s) = ×_prop le_prop (below-prop limit s)
+
+scalar-prop : (v : Scalar) → IsProp (IsKeptScalar v)
+scalar-prop (U32 n) = le_prop
+scalar-prop (I32 z) = true-prop _
+scalar-prop (U64 n) = le_prop
+scalar-prop (I64 z) = true-prop _
+scalar-prop (Decimal exponent mantissa) = ×_prop (true-prop _) (true-prop _)
+scalar-prop (Ascii s) = ×_prop le_prop (below-prop 128 s)
+scalar-prop (Unicode s) = ×_prop le_prop (×_prop (below-prop 256 s) (true-prop (is_utf8 s)))
+scalar-prop (Bytes s) = ×_prop le_prop (below-prop 256 s)
+
+entry-prop : (e : Entry) → IsProp (KeepsScalar e)
+entry-prop Undefined = Unit-prop
+entry-prop Empty = Unit-prop
+entry-prop (Assigned v) = scalar-prop v
+
+pub KeepScalars-prop : (d : Dictionary) → IsProp (KeepScalars d)
+KeepScalars-prop d = Π_prop (λ k. entry-prop (entry_at d k))
+
+initial-prop : (p : FieldPart) (o : Option Scalar) → IsProp (KeepsInitial p o)
+initial-prop p None = Unit-prop
+initial-prop p (Some v) = ×_prop (true-prop _) (×_prop (true-prop _) (scalar-prop v))
+
+some-prop : {A : Type 0} (o : Option A) → IsProp (IsSome o)
+some-prop None = hlevel props
+some-prop (Some x) = hlevel props
+
+pub IsTold-prop : (part : Part) (kind : Kind) (presence : Presence) (p : FieldPart) → IsProp (IsTold part kind presence p)
+IsTold-prop part kind presence p x y =
+    let part_prop : IsProp (p.part ≡ part) = hlevel props in
+    let kind_prop : IsProp (p.kind ≡ kind) = hlevel props in
+    let presence_prop : IsProp (p.presence ≡ presence) = hlevel props in
+    λ i. record {
+      part_is = part_prop x.part_is y.part_is i;
+      kind_is = kind_prop x.kind_is y.kind_is i;
+      presence_is = presence_prop x.presence_is y.presence_is i;
+      operator_applies = true-prop (applies p.operator p.kind) x.operator_applies y.operator_applies i;
+      initial_fits = initial-prop p p.initial x.initial_fits y.initial_fits i;
+      constant_has_value = →_prop (some-prop p.initial) x.constant_has_value y.constant_has_value i;
+      default_has_value = →_prop (→_prop (some-prop p.initial)) x.default_has_value y.default_has_value i;
+    }
