@@ -1,8 +1,12 @@
--- What a decoder's fields keep of its keys has one proof at most.
-use mathlib.Core.Bool.{Bool-set}
-use Rattle.std.specs.Prelude.{Bool, true, List, [], ◌∷◌, map, IsTrue}
+-- What a machine keeps of its keys and parts has one proof at most.
+use Rattle.std.specs.Prelude.{Bool, List, [], ◌∷◌, map}
 use Rattle.std.specs.Coded.{×_prop, Π_prop, →_prop, Unit-prop, Coded-set, coded_ℕ}
 use Rattle.fast_value.specs.declared.key.Key.{Key}
+use Rattle.fast_value.specs.declared.kind.Kind.{Kind}
+use Rattle.fast_value.specs.declared.kind.Kind.TheVariants as kind
+use Rattle.fast_value.specs.declared.kind.Part.{Part}
+use Rattle.fast_value.specs.declared.kind.Part.TheVariants as part
+use Rattle.fast_template.specs.declared.resolved.FieldPart.{FieldPart}
 use Rattle.fast_template.specs.Resolved.{Instruction, Instructions, whole_field, field_in_parts, group_of, sequence_of, no_instructions, then_instruction, list_of}
 use Rattle.fast_template.specs.TemplateSets.{TemplateList}
 use Rattle.fast_walk.specs.declared.traversal.Stage.{Stage}
@@ -10,21 +14,25 @@ use Rattle.fast_walk.specs.declared.traversal.Stage.TheVariants as stage
 use Rattle.fast_walk.specs.declared.traversal.Traversal.{Traversal}
 use Rattle.fast_walk.specs.declared.walk.Walk.{Walk}
 use Rattle.fast_walk.specs.OpenSegments.{Inside, in_group, in_sequence, Waiting, Next, at_instruction, at_mantissa, at_element}
-use Rattle.fast_walk.specs.Walks.{IsServed, AreServed, IsNextServed, IsInsideServed, AreAllServed, IsReady, next_of, frame_of}
+use Rattle.fast_walk.specs.OneProof.{true-prop, mandatory-prop, IsTold-prop}
+use Rattle.fast_walk.specs.Walks.{IsServedAs, IsMantissaServed, IsServed, AreServed, IsNextServed, IsInsideServed, AreAllServed, IsReady, next_of, frame_of}
 use Rattle.fast_walk.specs.Traversals.{ServesAll, IsReadyAt, CanGoOn}
 
-served-prop : (b : Bool) → IsProp (IsTrue b)
-served-prop b = Bool-set b true
-
 pub ServesAll-prop : (serves : Key → Bool) (set : TemplateList) → IsProp (ServesAll serves set)
-ServesAll-prop serves set = Π_prop (λ k. →_prop (served-prop (serves k)))
+ServesAll-prop serves set = Π_prop (λ k. →_prop (true-prop (serves k)))
+
+part-prop : (serves : Key → Bool) (part : Part) (kind : Kind) (p : FieldPart) → IsProp (IsServedAs serves part kind p)
+part-prop serves part kind p = ×_prop (true-prop (serves p.key)) (IsTold-prop part kind p)
+
+mantissa-prop : (serves : Key → Bool) (p : FieldPart) → IsProp (IsMantissaServed serves p)
+mantissa-prop serves p = ×_prop (part-prop serves part.Mantissa kind.Int64 p) (mandatory-prop p)
 
 mutual
   one-prop : (serves : Key → Bool) (i : Instruction) → IsProp (IsServed serves i)
-  one-prop serves (whole_field name number presence whole) = served-prop (serves whole.key)
-  one-prop serves (field_in_parts name number presence exponent mantissa) = ×_prop (served-prop (serves exponent.key)) (served-prop (serves mantissa.key))
+  one-prop serves (whole_field name number presence whole) = part-prop serves part.Whole whole.kind whole
+  one-prop serves (field_in_parts name number presence exponent mantissa) = ×_prop (part-prop serves part.Exponent kind.Int32 exponent) (mantissa-prop serves mantissa)
   one-prop serves (group_of name number presence members) = list-prop serves members
-  one-prop serves (sequence_of name number presence length members) = ×_prop (served-prop (serves length.key)) (list-prop serves members)
+  one-prop serves (sequence_of name number presence length members) = ×_prop (part-prop serves part.Length kind.UInt32 length) (list-prop serves members)
 
   list-prop : (serves : Key → Bool) (is : Instructions) → IsProp (AreServed serves is)
   list-prop serves no_instructions = Unit-prop
@@ -32,7 +40,7 @@ mutual
 
 next-prop : (serves : Key → Bool) (n : Next) → IsProp (IsNextServed serves n)
 next-prop serves at_instruction = Unit-prop
-next-prop serves (at_mantissa e mantissa) = served-prop (serves mantissa.key)
+next-prop serves (at_mantissa e mantissa) = mantissa-prop serves mantissa
 next-prop serves (at_element s) = list-prop serves s.members
 
 inside-prop : (serves : Key → Bool) (i : Inside) → IsProp (IsInsideServed serves i)

@@ -5,6 +5,8 @@ mod calls;
 ghost use Rattle.std.specs.Prelude.{◌≡◌, ◌≤◌, [], None, IfSome, length};
 ghost use Rattle.std.specs.Coded.{→_prop};
 ghost use Rattle.std.proofs.Props.{props};
+ghost use Rattle.fast_walk.specs.OneProof.{KeepScalars-prop};
+ghost use Rattle.fast_walk.specs.Told.{KeepScalars};
 ghost use Rattle.fast_walk.specs.Traversals.{CanGoOn, ServesAll};
 ghost use Rattle.fast_machine.specs.OneProof.{CanGoOn-prop, ServesAll-prop};
 
@@ -39,4 +41,5 @@ pub struct Machine<'a, R: Receiver, E: Entries> {
     ghost bounded: { length held.items ≤ 65554 },
     ghost cleared: { IfSome fault (λ f. held.items ≡ []) } by { Prim.hlevel props },
     ghost ready: { fault ≡ None → CanGoOn (E.serves entries) traversal } by { →_prop (CanGoOn-prop (E.serves entries) traversal) },
+    ghost kept: { fault ≡ None → KeepScalars (E.contents entries) } by { →_prop (KeepScalars-prop (E.contents entries)) },
 }

@@ -7,6 +7,7 @@ ghost use Rattle.fast_dictionary.specs.Dictionary.{Dictionary};
 ghost use Rattle.fast_stream.specs.Nodes.{Content};
 ghost use Rattle.fast_machine.specs.Runs.{Ended, ReadsOn, RunStands};
 ghost use Rattle.fast_walk.specs.declared.traversal.Stage.TheVariants as stage;
+ghost use Rattle.fast_walk.specs.Told.{KeepScalars};
 ghost use Rattle.fast_walk.specs.Traversals.{CanGoOn, ServesAll, begun_of};
 
 use fast_dictionary::Entries;
@@ -47,6 +48,7 @@ pub(crate) fn read_message<R: Receiver, E: Entries>(
 ) -> Progress
     requires ready { CanGoOn (E.serves entries.now) traversal.now }
     requires served { ServesAll (E.serves entries.now) traversal.now.set.now }
+    requires kept { KeepScalars (E.contents entries.now) }
     ensures place { result.at ≤ length bytes.now }
     ensures many { result.messages ≤ 1 }
     ensures ended { (before : List Content) (origin : Dictionary) (run : List ℕ) (messages : List Content)
@@ -66,6 +68,9 @@ pub(crate) fn read_message<R: Receiver, E: Entries>(
     ensures ready { IfNone result.halt (CanGoOn (E.serves entries.new) traversal.new) }
     ensures waits { IfSome result.halt (λ h. h.cause ≡ Cause.Truncated
         → CanGoOn (E.serves entries.new) traversal.new) }
+    ensures kept { IfNone result.halt (KeepScalars (E.contents entries.new)) }
+    ensures kept_on { IfSome result.halt (λ h. h.cause ≡ Cause.Truncated
+        → KeepScalars (E.contents entries.new)) }
     // few bytes are left where more are wanted
     ensures few { IfSome result.halt (λ h. h.cause ≡ Cause.Truncated
         → length bytes.now ≤ result.at + 65554) }

@@ -35,7 +35,7 @@ mutual
   served_one serves (whole_field name number presence whole) typed h = (h whole.key (first whole.key []), part_told part.Whole whole.kind presence whole typed)
   served_one serves (field_in_parts name number presence exponent mantissa) typed h = (
     (h exponent.key (first exponent.key (mantissa.key ∷ [])), part_told part.Exponent kind.Int32 presence exponent typed.0),
-    (h mantissa.key (later exponent.key mantissa.key (mantissa.key ∷ []) (first mantissa.key [])), part_told part.Mantissa kind.Int64 Mandatory mantissa typed.1),
+    ((h mantissa.key (later exponent.key mantissa.key (mantissa.key ∷ []) (first mantissa.key [])), part_told part.Mantissa kind.Int64 Mandatory mantissa typed.1), typed.1.presence_is),
   )
   served_one serves (group_of name number presence members) typed h = served_list serves members typed h
   served_one serves (sequence_of name number presence length members) typed h = (

@@ -111,19 +111,18 @@ kept_initial : (p : FieldPart) (o : Option Scalar) → KeepsInitial p o → IfSo
 kept_initial p None h = tt
 kept_initial p (Some v) h = (h.0, h.1.0, kept_scalar v h.1.1)
 
-pub part_told : (part : Part) (kind : Kind) (presence : Presence) (p : FieldPart) → IsPartOf part kind presence p → IsTold part kind presence p
+pub part_told : (part : Part) (kind : Kind) (presence : Presence) (p : FieldPart) → IsPartOf part kind presence p → IsTold part kind p
 part_told part kind presence p h = record {
   part_is = h.part_is;
   kind_is = h.kind_is;
-  presence_is = h.presence_is;
   operator_applies = h.typed.operator_applies;
   initial_fits = initial_kept p p.initial h.typed.initial_fits;
   constant_has_value = h.typed.constant_has_value;
   default_has_value = h.typed.default_has_value;
 }
 
-pub told_part : (part : Part) (kind : Kind) (presence : Presence) (p : FieldPart) → IsKindOfPart part kind → IsTold part kind presence p → IsFieldPart p
-told_part part kind presence p k h = record {
+pub told_part : (part : Part) (kind : Kind) (p : FieldPart) → IsKindOfPart part kind → IsTold part kind p → IsFieldPart p
+told_part part kind p k h = record {
   typed = record {
     operator_applies = h.operator_applies;
     initial_fits = kept_initial p p.initial h.initial_fits;
@@ -136,8 +135,8 @@ told_part part kind presence p k h = record {
 pub identifier_is : IsFieldPart identifier
 identifier_is = record { typed = record { operator_applies = refl; initial_fits = tt; constant_has_value = λ e. absurd cc; default_has_value = λ e m. absurd cc }; kind_of_part = tt }
 
-pub identifier_told : IsTold part.Whole kind.UInt32 Mandatory identifier
-identifier_told = record { part_is = refl; kind_is = refl; presence_is = refl; operator_applies = refl; initial_fits = tt; constant_has_value = λ e. absurd cc; default_has_value = λ e m. absurd cc }
+pub identifier_told : IsTold part.Whole kind.UInt32 identifier
+identifier_told = record { part_is = refl; kind_is = refl; operator_applies = refl; initial_fits = tt; constant_has_value = λ e. absurd cc; default_has_value = λ e m. absurd cc }
 
 -- ---- what was taken
 
@@ -183,15 +182,15 @@ pub asked_for : (p : FieldPart) (needs bit : Bool) (bits : List Bool) → needs 
 asked_for p needs bit bits n b none = b ∙ ap (λ n. bit_for n bits) (n ∙ none)
 
 module _ (level : Level) (p : FieldPart) (bit : Bool) (d e : Dictionary) (bytes : List ℕ) (at next : ℕ) (fits : (k : ℕ) → get_or bytes k 0 < 256) (asked : IsBitOf p bit) where
-  pub told_keeps : (part : Part) (kind : Kind) (presence : Presence) (v : Option Scalar) → IsKindOfPart part kind → IsTold part kind presence p
+  pub told_keeps : (part : Part) (kind : Kind) (v : Option Scalar) → IsKindOfPart part kind → IsTold part kind p
       → Took level p bit d e v (drop at bytes) (drop next bytes) → KeepScalars d → KeepScalars e
-  told_keeps part kind presence v k told took = taken_keeps level p bit d e v (drop at bytes) (drop next bytes) (bytes_from bytes at fits) (told_part part kind presence p k told) asked took
+  told_keeps part kind v k told took = taken_keeps level p bit d e v (drop at bytes) (drop next bytes) (bytes_from bytes at fits) (told_part part kind p k told) asked took
 
-  pub told_kind : (part : Part) (kind : Kind) (presence : Presence) (v : Scalar) → IsKindOfPart part kind → IsTold part kind presence p
+  pub told_kind : (part : Part) (kind : Kind) (v : Scalar) → IsKindOfPart part kind → IsTold part kind p
       → Took level p bit d e (Some v) (drop at bytes) (drop next bytes) → IsTrue (is_of kind v)
-  told_kind part kind presence v k told took =
-      subst (λ (k : Kind). IsTrue (is_of k v)) told.kind_is (taken_kind level p bit d e v (drop at bytes) (drop next bytes) (bytes_from bytes at fits) (told_part part kind presence p k told) asked took)
+  told_kind part kind v k told took =
+      subst (λ (k : Kind). IsTrue (is_of k v)) told.kind_is (taken_kind level p bit d e v (drop at bytes) (drop next bytes) (bytes_from bytes at fits) (told_part part kind p k told) asked took)
 
-  pub told_there : (part : Part) (kind : Kind) → IsKindOfPart part kind → IsTold part kind Mandatory p
+  pub told_there : (part : Part) (kind : Kind) → IsKindOfPart part kind → IsTold part kind p → p.presence ≡ Mandatory
       → Took level p bit d e None (drop at bytes) (drop next bytes) → ⊥
-  told_there part kind k told took = taken_there level p bit d e (drop at bytes) (drop next bytes) (bytes_from bytes at fits) (told_part part kind Mandatory p k told) asked told.presence_is took
+  told_there part kind k told mandatory took = taken_there level p bit d e (drop at bytes) (drop next bytes) (bytes_from bytes at fits) (told_part part kind p k told) asked mandatory took

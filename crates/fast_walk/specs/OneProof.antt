@@ -9,7 +9,6 @@ use Rattle.fast_value.specs.declared.kind.Kind.{Kind}
 use Rattle.fast_value.specs.declared.kind.Operator.{Operator}
 use Rattle.fast_value.specs.declared.kind.Operator.TheVariants as operator
 use Rattle.fast_value.specs.declared.kind.Part.{Part}
-use Rattle.fast_value.specs.declared.kind.Presence.{Presence}
 use Rattle.fast_value.specs.declared.kind.Presence.TheVariants.{Mandatory}
 use Rattle.fast_value.specs.declared.scalar.Scalar.{Scalar}
 use Rattle.fast_value.specs.declared.scalar.Scalar.TheVariants.{U32, I32, U64, I64, Decimal, Ascii, Unicode, Bytes}
@@ -53,15 +52,16 @@ some-prop : {A : Type 0} (o : Option A) → IsProp (IsSome o)
 some-prop None = hlevel props
 some-prop (Some x) = hlevel props
 
-pub IsTold-prop : (part : Part) (kind : Kind) (presence : Presence) (p : FieldPart) → IsProp (IsTold part kind presence p)
-IsTold-prop part kind presence p x y =
+pub mandatory-prop : (p : FieldPart) → IsProp (p.presence ≡ Mandatory)
+mandatory-prop p = hlevel props
+
+pub IsTold-prop : (part : Part) (kind : Kind) (p : FieldPart) → IsProp (IsTold part kind p)
+IsTold-prop part kind p x y =
     let part_prop : IsProp (p.part ≡ part) = hlevel props in
     let kind_prop : IsProp (p.kind ≡ kind) = hlevel props in
-    let presence_prop : IsProp (p.presence ≡ presence) = hlevel props in
     λ i. record {
       part_is = part_prop x.part_is y.part_is i;
       kind_is = kind_prop x.kind_is y.kind_is i;
-      presence_is = presence_prop x.presence_is y.presence_is i;
       operator_applies = true-prop (applies p.operator p.kind) x.operator_applies y.operator_applies i;
       initial_fits = initial-prop p p.initial x.initial_fits y.initial_fits i;
       constant_has_value = →_prop (some-prop p.initial) x.constant_has_value y.constant_has_value i;

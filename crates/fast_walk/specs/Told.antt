@@ -7,7 +7,6 @@ use Rattle.fast_value.specs.declared.key.Key.{Key}
 use Rattle.fast_value.specs.declared.kind.Kind.{Kind}
 use Rattle.fast_value.specs.declared.kind.Operator.TheVariants as operator
 use Rattle.fast_value.specs.declared.kind.Part.{Part}
-use Rattle.fast_value.specs.declared.kind.Presence.{Presence}
 use Rattle.fast_value.specs.declared.kind.Presence.TheVariants.{Mandatory}
 use Rattle.fast_value.specs.declared.scalar.Scalar.{Scalar}
 use Rattle.fast_value.specs.declared.scalar.Scalar.TheVariants.{Unicode}
@@ -45,12 +44,11 @@ abbrev pub KeepsInitial : FieldPart → Option Scalar → Type 0
 KeepsInitial p None = Unit {0}
 KeepsInitial p (Some v) = IsTrue (is_of p.kind v) × (IsTrue (is_in_part p.part v) × IsKeptScalar v)
 
--- The part of an instruction of a set: which part, of which type and presence; its operator applies to the type, an
--- initial value is of it, and stands where it is needed.
-pub record IsTold (part : Part) (kind : Kind) (presence : Presence) (p : FieldPart) : Type 0 where
+-- The part of an instruction of a set: which part, of which type; its operator applies to the type, an initial value is
+-- of it, and stands where it is needed.
+pub record IsTold (part : Part) (kind : Kind) (p : FieldPart) : Type 0 where
   pub part_is : p.part ≡ part
   pub kind_is : p.kind ≡ kind
-  pub presence_is : p.presence ≡ presence
   pub operator_applies : IsTrue (applies p.operator p.kind)
   pub initial_fits : KeepsInitial p p.initial
   pub constant_has_value : p.operator ≡ operator.Constant → IsSome p.initial

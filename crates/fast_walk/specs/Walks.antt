@@ -5,7 +5,6 @@ use Rattle.fast_value.specs.declared.kind.Kind.{Kind}
 use Rattle.fast_value.specs.declared.kind.Kind.TheVariants as kind
 use Rattle.fast_value.specs.declared.kind.Part.{Part}
 use Rattle.fast_value.specs.declared.kind.Part.TheVariants as part
-use Rattle.fast_value.specs.declared.kind.Presence.{Presence}
 use Rattle.fast_value.specs.declared.kind.Presence.TheVariants.{Mandatory}
 use Rattle.fast_template.specs.declared.resolved.FieldPart.{FieldPart}
 use Rattle.fast_template.specs.Resolved.{Instruction, Instructions, whole_field, field_in_parts, group_of, sequence_of, no_instructions, then_instruction, list_of}
@@ -89,16 +88,19 @@ HaltsAs level w d bytes h = (o : Received) → IsAt w o → reads_on level w d o
 -- ---- what is asked for
 
 -- The key of such a part is served, and the part is one of a set.
-abbrev pub IsServedAs : (Key → Bool) → Part → Kind → Presence → FieldPart → Type 0
-IsServedAs serves part kind presence p = IsTrue (serves p.key) × IsTold part kind presence p
+abbrev pub IsServedAs : (Key → Bool) → Part → Kind → FieldPart → Type 0
+IsServedAs serves part kind p = IsTrue (serves p.key) × IsTold part kind p
+
+abbrev pub IsMantissaServed : (Key → Bool) → FieldPart → Type 0
+IsMantissaServed serves p = IsServedAs serves part.Mantissa kind.Int64 p × (p.presence ≡ Mandatory)
 
 -- Each part of these instructions is one of a set, and its key is served.
 abbrev mutual
   pub IsServed : (Key → Bool) → Instruction → Type 0
-  IsServed serves (whole_field name number presence whole) = IsServedAs serves part.Whole whole.kind presence whole
-  IsServed serves (field_in_parts name number presence exponent mantissa) = IsServedAs serves part.Exponent kind.Int32 presence exponent × IsServedAs serves part.Mantissa kind.Int64 Mandatory mantissa
+  IsServed serves (whole_field name number presence whole) = IsServedAs serves part.Whole whole.kind whole
+  IsServed serves (field_in_parts name number presence exponent mantissa) = IsServedAs serves part.Exponent kind.Int32 exponent × IsMantissaServed serves mantissa
   IsServed serves (group_of name number presence members) = AreServed serves members
-  IsServed serves (sequence_of name number presence length members) = IsServedAs serves part.Length kind.UInt32 presence length × AreServed serves members
+  IsServed serves (sequence_of name number presence length members) = IsServedAs serves part.Length kind.UInt32 length × AreServed serves members
 
   pub AreServed : (Key → Bool) → Instructions → Type 0
   AreServed serves no_instructions = Unit {0}
@@ -106,7 +108,7 @@ abbrev mutual
 
 abbrev pub IsNextServed : (Key → Bool) → Next → Type 0
 IsNextServed serves at_instruction = Unit {0}
-IsNextServed serves (at_mantissa e mantissa) = IsServedAs serves part.Mantissa kind.Int64 Mandatory mantissa
+IsNextServed serves (at_mantissa e mantissa) = IsMantissaServed serves mantissa
 IsNextServed serves (at_element s) = AreServed serves s.members
 
 abbrev pub IsInsideServed : (Key → Bool) → Inside → Type 0

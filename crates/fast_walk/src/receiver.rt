@@ -121,7 +121,7 @@ pub trait Receiver: Drop {
         requires place { at ≤ length bytes.now }
         requires bit { part_needs_bit part.now ≡ false → bit ≡ true }
         requires served { IsTrue (E.serves entries.now part.now.key) }
-        requires told { IsTold Whole part.now.kind presence part.now }
+        requires told { IsTold Whole part.now.kind part.now }
         requires kept { KeepScalars (E.contents entries.now) }
         ensures place { IfOk result (λ n. (at ≤ n) × (n ≤ length bytes.now)) }
         ensures goes { IfOk result (λ n. (v : Option ScalarOf)
@@ -196,7 +196,7 @@ pub trait Receiver: Drop {
         requires place { at ≤ length bytes.now }
         requires bit { part_needs_bit part.now ≡ false → bit ≡ true }
         requires served { IsTrue (E.serves entries.now part.now.key) }
-        requires told { IsTold Exponent Int32 presence part.now }
+        requires told { IsTold Exponent Int32 part.now }
         requires kept { KeepScalars (E.contents entries.now) }
         ensures place { IfOk result (λ x. (at ≤ x.1) × (x.1 ≤ length bytes.now)) }
         ensures goes { IfOk result (λ x. (v : Option ScalarOf)
@@ -232,7 +232,8 @@ pub trait Receiver: Drop {
         requires place { at ≤ length bytes.now }
         requires bit { part_needs_bit part.now ≡ false → bit ≡ true }
         requires served { IsTrue (E.serves entries.now part.now.key) }
-        requires told { IsTold Mantissa Int64 Mandatory part.now }
+        requires told { IsTold Mantissa Int64 part.now }
+        requires mandatory { part.now.presence ≡ Mandatory }
         requires kept { KeepScalars (E.contents entries.now) }
         ensures place { IfOk result (λ n. (at ≤ n) × (n ≤ length bytes.now)) }
         ensures goes { IfOk result (λ n. (m : ℤ)
@@ -267,7 +268,7 @@ pub trait Receiver: Drop {
         requires place { at ≤ length bytes.now }
         requires bit { part_needs_bit part.now ≡ false → bit ≡ true }
         requires served { IsTrue (E.serves entries.now part.now.key) }
-        requires told { IsTold Length UInt32 presence part.now }
+        requires told { IsTold Length UInt32 part.now }
         requires kept { KeepScalars (E.contents entries.now) }
         ensures place { IfOk result (λ x. (at ≤ x.1) × (x.1 ≤ length bytes.now)) }
         ensures goes { IfOk result (λ x.

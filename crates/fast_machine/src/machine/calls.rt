@@ -91,6 +91,7 @@ impl<'a, R: Receiver, E: Entries> Machine<'a, R, E> {
         ensures receiver { result.receiver ≡ receiver }
         ensures fed { result.fed ≡ 0 }
         ensures sound { IsSound set.now }
+        ensures undefined { E.contents result.entries ≡ finite.empty }
         ensures follows { (before : List Content)
             → R.stands receiver (templates_in set.now) before finite.empty
             → Follows result before [] [] }
@@ -684,6 +685,7 @@ impl<'a, R: Receiver, E: Entries> Machine<'a, R, E> {
         ensures same_keys { E.serves self.new.entries ≡ E.serves self.old.entries }
         ensures fault { self.new.fault ≡ None }
         ensures receiver { self.new.receiver ≡ self.old.receiver }
+        ensures undefined { E.contents self.new.entries ≡ finite.empty }
         ensures follows { (before : List Content)
             → R.stands self.old.receiver (templates_in self.old.traversal.set.now) before
             finite.empty → Follows self.new before [] [] }

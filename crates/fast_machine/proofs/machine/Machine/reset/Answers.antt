@@ -1,4 +1,6 @@
-use Rattle.std.proofs.Common.{inl, refl}
+use Rattle.std.proofs.Common.{inl, refl, subst, sym}
+use Rattle.fast_walk.specs.Told.{KeepScalars}
+use Rattle.fast_walk.proofs.Telling.{empty_kept}
 use Rattle.fast_machine.proofs.Standings.{stands_first}
 use Rattle.fast_machine.proofs.machine.Machine.reset.Goals as goal
 
@@ -14,3 +16,6 @@ returns-clause-follows g c = λ before stands.
       );
       counts = record { fed_is = refl; count_is = refl };
     }
+
+pub invariant_of-self-clause-kept : goal.invariant_of-self-clause-kept
+invariant_of-self-clause-kept g c = λ none. subst KeepScalars (sym c.reset.ensures.cleared) empty_kept

@@ -11,7 +11,6 @@ use Rattle.fast_walk.proofs.Heads.{identifier_goes, identifier_stops, unknown_st
 use Rattle.fast_walk.proofs.Serving.{found_members, members_served}
 use Rattle.fast_value.specs.declared.kind.Kind.TheVariants as kind
 use Rattle.fast_value.specs.declared.kind.Part.TheVariants as part
-use Rattle.fast_value.specs.declared.kind.Presence.TheVariants.{Mandatory}
 use Rattle.fast_value.specs.declared.scalar.Scalar.TheVariants.{U32}
 use Rattle.fast_walk.proofs.Telling.{asked_for, identifier_told, told_keeps}
 use Rattle.fast_walk.proofs.traversal.Traversal.identifier.Goals as goal
@@ -84,4 +83,4 @@ returns-in-Some-clause-kept g c =
     let old = c.args.self.now in
     told_keeps c.level-level.result old.identifier c.first_for-bit.result (g.E.Entries.contents c.args.entries.now) (g.E.Entries.contents c.begin.new.entries) c.args.bytes.now c.args.at c.in-Ok.next
     (λ k. omega (arith, c.type_inv.bytes k)) (asked_for old.identifier c.part_needs_bit-needs.result c.first_for-bit.result old.walk.bits c.part_needs_bit-needs.ensures c.first_for-bit.ensures)
-    part.Whole kind.UInt32 Mandatory (Some (U32 c.in-Ok.id)) tt (rw (old.identifier_is) identifier_told) c.in-Ok.ensures.goes.0 c.requires.kept
+    part.Whole kind.UInt32 (Some (U32 c.in-Ok.id)) tt (rw (old.identifier_is) identifier_told) c.in-Ok.ensures.goes.0 c.requires.kept

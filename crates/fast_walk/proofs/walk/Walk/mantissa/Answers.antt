@@ -9,7 +9,6 @@ use Rattle.fast_walk.proofs.Steps.{part_goes, part_stops}
 use Rattle.fast_walk.proofs.Walking.{mantissa_on_goes, mantissa_on_stops, is_mantissa}
 use Rattle.fast_value.specs.declared.kind.Kind.TheVariants as kind
 use Rattle.fast_value.specs.declared.kind.Part.TheVariants as part
-use Rattle.fast_value.specs.declared.kind.Presence.TheVariants.{Mandatory}
 use Rattle.fast_walk.proofs.Telling.{asked_for, told_keeps}
 use Rattle.fast_walk.proofs.walk.Walk.mantissa.Goals as goal
 
@@ -51,4 +50,4 @@ returns-in-Ok-clause-kept g c =
     let old = c.args.self.now in
     told_keeps c.level.result c.args.mantissa.now c.first_for-bit.result (g.E.Entries.contents c.args.entries.now) (g.E.Entries.contents c.mantissa.new.entries) c.args.bytes.now c.args.at c.in-Ok.next
     (λ k. omega (arith, c.type_inv.bytes k)) (asked_for c.args.mantissa.now c.part_needs_bit-needs.result c.first_for-bit.result old.bits c.part_needs_bit-needs.ensures c.first_for-bit.ensures)
-    part.Mantissa kind.Int64 Mandatory (Some (I64 c.in-Ok.ensures.goes.0)) refl (rw (c.requires.next) at c.requires.ready.next).1 c.in-Ok.ensures.goes.1 c.requires.kept
+    part.Mantissa kind.Int64 (Some (I64 c.in-Ok.ensures.goes.0)) refl (rw (c.requires.next) at c.requires.ready.next).0.1 c.in-Ok.ensures.goes.1 c.requires.kept
