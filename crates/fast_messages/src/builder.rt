@@ -5,7 +5,7 @@ ghost use Rattle.fast_stream.specs.Nodes.{item_of, single};
 
 use fast_dictionary::Entries;
 use fast_field::FieldFault;
-use fast_part::{exponent_in, mantissa_in, take_part, unsigned_in};
+use fast_part::{take_exponent, take_identifier, take_length, take_mantissa, take_part};
 use fast_stream::{Message, Node};
 use fast_template::{FieldPart, Name, Presence, Scalar};
 use fast_walk::Receiver;
@@ -105,17 +105,14 @@ impl Receiver for Builder {
         bytes: &[u8],
         at: usize,
     ) -> Result<(u32, usize), FieldFault> {
-        match take_part(alloc, entries, identifier, bit, level, bytes, at) {
+        match take_identifier(alloc, entries, identifier, bit, level, bytes, at) {
             Err(fault) => Err(fault),
-            Ok((value, next)) => match unsigned_in(&value) {
-                Ok(Some(id)) => {
-                    self.template = id;
-                    self.nodes = Vec::new(alloc);
-                    self.outer = Vec::new(alloc);
-                    Ok((id, next))
-                }
-                _ => Err(FieldFault::Memory),
-            },
+            Ok((id, next)) => {
+                self.template = id;
+                self.nodes = Vec::new(alloc);
+                self.outer = Vec::new(alloc);
+                Ok((id, next))
+            }
         }
     }
 
@@ -167,19 +164,16 @@ impl Receiver for Builder {
         bytes: &[u8],
         at: usize,
     ) -> Result<(bool, usize), FieldFault> {
-        match take_part(alloc, entries, part, bit, level, bytes, at) {
+        match take_exponent(alloc, entries, part, bit, level, bytes, at) {
             Err(fault) => Err(fault),
-            Ok((value, next)) => match exponent_in(&value) {
-                Err(fault) => Err(fault),
-                Ok(None) => match self.nodes.push(Node::Absent) {
-                    Err(_) => Err(FieldFault::Memory),
-                    Ok(()) => Ok((false, next)),
-                },
-                Ok(Some(exponent)) => {
-                    self.exponent = exponent;
-                    Ok((true, next))
-                }
+            Ok((None, next)) => match self.nodes.push(Node::Absent) {
+                Err(_) => Err(FieldFault::Memory),
+                Ok(()) => Ok((false, next)),
             },
+            Ok((Some(exponent), next)) => {
+                self.exponent = exponent;
+                Ok((true, next))
+            }
         }
     }
 
@@ -193,21 +187,18 @@ impl Receiver for Builder {
         bytes: &[u8],
         at: usize,
     ) -> Result<usize, FieldFault> {
-        match take_part(alloc, entries, part, bit, level, bytes, at) {
+        match take_mantissa(alloc, entries, part, bit, level, bytes, at) {
             Err(fault) => Err(fault),
-            Ok((value, next)) => match mantissa_in(&value) {
-                Err(fault) => Err(fault),
-                Ok(mantissa) => {
-                    let exponent = self.exponent;
-                    match self
-                        .nodes
-                        .push(Node::Value(Scalar::Decimal { exponent, mantissa }))
-                    {
-                        Err(_) => Err(FieldFault::Memory),
-                        Ok(()) => Ok(next),
-                    }
+            Ok((mantissa, next)) => {
+                let exponent = self.exponent;
+                match self
+                    .nodes
+                    .push(Node::Value(Scalar::Decimal { exponent, mantissa }))
+                {
+                    Err(_) => Err(FieldFault::Memory),
+                    Ok(()) => Ok(next),
                 }
-            },
+            }
         }
     }
 
@@ -223,19 +214,16 @@ impl Receiver for Builder {
         bytes: &[u8],
         at: usize,
     ) -> Result<(Option<u32>, usize), FieldFault> {
-        match take_part(alloc, entries, part, bit, level, bytes, at) {
+        match take_length(alloc, entries, part, bit, level, bytes, at) {
             Err(fault) => Err(fault),
-            Ok((value, next)) => match unsigned_in(&value) {
-                Err(fault) => Err(fault),
-                Ok(None) => match self.nodes.push(Node::Absent) {
-                    Err(_) => Err(FieldFault::Memory),
-                    Ok(()) => Ok((None, next)),
-                },
-                Ok(Some(length)) => {
-                    self.elements = Vec::new(alloc);
-                    Ok((Some(length), next))
-                }
+            Ok((None, next)) => match self.nodes.push(Node::Absent) {
+                Err(_) => Err(FieldFault::Memory),
+                Ok(()) => Ok((None, next)),
             },
+            Ok((Some(length), next)) => {
+                self.elements = Vec::new(alloc);
+                Ok((Some(length), next))
+            }
         }
     }
 
@@ -261,7 +249,8 @@ impl Receiver for Builder {
 
     fn leave(&mut self, _alloc: Global) -> Result<(), AllocError> {
         match self.outer.pop() {
-            None => Err(AllocError),
+            // (no group is open)
+            None => Ok(()),
             Some(Outer { nodes, .. }) => {
                 let inner = mem::replace(&mut self.nodes, nodes);
                 self.nodes.push(Node::Group(inner))?;
@@ -285,7 +274,8 @@ impl Receiver for Builder {
 
     fn leave_element(&mut self, _alloc: Global) -> Result<(), AllocError> {
         match self.outer.pop() {
-            None => Err(AllocError),
+            // (no element is open)
+            None => Ok(()),
             Some(Outer { nodes, elements }) => {
                 let inner = mem::replace(&mut self.nodes, nodes);
                 self.elements = elements;

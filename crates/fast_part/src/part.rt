@@ -1,12 +1,19 @@
 //! Taking the value of a part from the bytes.
 
-ghost use Rattle.std.specs.Prelude.{◌≡◌, ◌≢◌, ◌≤◌, ℕ, List, IfOk, IfErr, IfNone, IfSome, IsTrue, Err, Some, length, drop};
+ghost use Rattle.std.specs.Prelude.{◌≡◌, ◌≢◌, ◌≤◌, ℕ, List, false, true, IfOk, IfErr, IfNone, IfSome, IsTrue, Err, None, Some, length, drop};
 ghost use Rattle.fast_wire.specs.declared.level.Level as level_type;
-ghost use Rattle.fast_value.specs.declared.scalar.Scalar.TheVariants.{I64};
+ghost use Rattle.fast_value.specs.Scalar.{is_of};
+ghost use Rattle.fast_value.specs.declared.kind.Kind.TheVariants.{Int32, Int64, UInt32};
+ghost use Rattle.fast_value.specs.declared.kind.Part.TheVariants.{Exponent, Length, Mantissa};
+ghost use Rattle.fast_value.specs.declared.kind.Presence.TheVariants.{Mandatory};
+ghost use Rattle.fast_value.specs.declared.scalar.Scalar.TheVariants.{I64, U32};
+ghost use Rattle.fast_template.specs.Resolved.{part_needs_bit};
 ghost use Rattle.fast_dictionary.specs.Dictionary.{entry_at};
 ghost use Rattle.fast_field.specs.FieldReading.{field_at};
 ghost use Rattle.fast_field.specs.Found.{value_found};
+ghost use Rattle.fast_stream.specs.Streams.{identifier as identifier_part};
 ghost use Rattle.fast_walk.specs.Received.{Took, TookFrom, exponent_of, length_of};
+ghost use Rattle.fast_walk.specs.Told.{IsTold};
 
 use fast_dictionary::{Entries, Entry};
 use fast_field::{FieldFault, Found, pass_found, read_in_place, reads_as_usual};
@@ -154,40 +161,181 @@ pub fn take_part<E: Entries>(
     }
 }
 
-/// The number that an identifier or a length is.
+// The number that a value of this type is.
 #[inline(always)]
-pub fn unsigned_in(value: &Option<Scalar>) -> Result<Option<u32>, FieldFault>
-    ensures ok { IfOk result (λ n. value.now ≡ length_of n) }
-    ensures err { IfErr result (λ f. f ≡ FieldFault.Memory) }
+fn unsigned_in(value: &Option<Scalar>) -> Option<u32>
+    requires { IfSome value.now (λ v. IsTrue (is_of UInt32 v)) }
+    ensures { value.now ≡ length_of result }
 {
     match value {
-        None => Ok(None),
-        Some(Scalar::U32(number)) => Ok(Some(*number)),
-        Some(_) => Err(FieldFault::Memory),
+        None => None,
+        Some(Scalar::U32(number)) => Some(*number),
+        Some(_) => unreachable!(),
     }
 }
 
-/// The exponent that a value is.
+// The exponent that a value of its type is.
 #[inline(always)]
-pub fn exponent_in(value: &Option<Scalar>) -> Result<Option<i32>, FieldFault>
-    ensures ok { IfOk result (λ e. value.now ≡ exponent_of e) }
-    ensures err { IfErr result (λ f. f ≡ FieldFault.Memory) }
+fn exponent_in(value: &Option<Scalar>) -> Option<i32>
+    requires { IfSome value.now (λ v. IsTrue (is_of Int32 v)) }
+    ensures { value.now ≡ exponent_of result }
 {
     match value {
-        None => Ok(None),
-        Some(Scalar::I32(exponent)) => Ok(Some(*exponent)),
-        Some(_) => Err(FieldFault::Memory),
+        None => None,
+        Some(Scalar::I32(exponent)) => Some(*exponent),
+        Some(_) => unreachable!(),
     }
 }
 
-/// The mantissa that a value is.
+// The mantissa that a value of its type is.
 #[inline(always)]
-pub fn mantissa_in(value: &Option<Scalar>) -> Result<i64, FieldFault>
-    ensures ok { IfOk result (λ m. value.now ≡ Some (I64 m)) }
-    ensures err { IfErr result (λ f. f ≡ FieldFault.Memory) }
+fn mantissa_in(value: &Option<Scalar>) -> i64
+    requires kind { IfSome value.now (λ v. IsTrue (is_of Int64 v)) }
+    requires there { value.now ≢ None }
+    ensures { value.now ≡ Some (I64 result) }
 {
     match value {
-        Some(Scalar::I64(mantissa)) => Ok(*mantissa),
-        _ => Err(FieldFault::Memory),
+        Some(Scalar::I64(mantissa)) => *mantissa,
+        _ => unreachable!(),
+    }
+}
+
+/// Takes a template's identifier, which it answers with the place behind it.
+///
+/// # Errors
+///
+/// As `take_part`.
+#[inline(always)]
+pub fn take_identifier<E: Entries>(
+    alloc: Global,
+    entries: &mut E,
+    identifier: &FieldPart,
+    bit: bool,
+    level: Level,
+    bytes: &[u8],
+    at: usize,
+) -> Result<(u32, usize), FieldFault>
+    requires place { at ≤ length bytes.now }
+    requires bit { part_needs_bit identifier.now ≡ false → bit ≡ true }
+    requires served { IsTrue (E.serves entries.now identifier.now.key) }
+    requires told { identifier.now ≡ identifier_part }
+    ensures place { IfOk result (λ x. (at ≤ x.1) × (x.1 ≤ length bytes.now)) }
+    ensures took { IfOk result (λ x. Took level identifier.now bit (E.contents entries.old) (E.contents
+        entries.new) (Some (U32 x.0)) (drop at bytes.now) (drop x.1 bytes.now)) }
+    ensures stops { IfErr result (λ f. f ≢ FieldFault.Memory
+        → (field_at level identifier.now (entry_at (E.contents entries.old) identifier.now.key) bit (drop at
+        bytes.now) ≡ Err f)
+        × (E.contents entries.new ≡ E.contents entries.old)) }
+    ensures same_keys { E.serves entries.new ≡ E.serves entries.old }
+{
+    match take_part(alloc, entries, identifier, bit, level, bytes, at) {
+        Err(fault) => Err(fault),
+        Ok((value, next)) => match unsigned_in(&value) {
+            Some(id) => Ok((id, next)),
+            None => unreachable!(),
+        },
+    }
+}
+
+/// Takes the length of a sequence, none where that is absent, and the place behind it.
+///
+/// # Errors
+///
+/// As `take_part`.
+#[inline(always)]
+pub fn take_length<E: Entries>(
+    alloc: Global,
+    entries: &mut E,
+    part: &FieldPart,
+    bit: bool,
+    level: Level,
+    bytes: &[u8],
+    at: usize,
+) -> Result<(Option<u32>, usize), FieldFault>
+    requires place { at ≤ length bytes.now }
+    requires bit { part_needs_bit part.now ≡ false → bit ≡ true }
+    requires served { IsTrue (E.serves entries.now part.now.key) }
+    requires told { IsTold Length UInt32 part.now }
+    ensures place { IfOk result (λ x. (at ≤ x.1) × (x.1 ≤ length bytes.now)) }
+    ensures took { IfOk result (λ x. Took level part.now bit (E.contents entries.old) (E.contents
+        entries.new) (length_of x.0) (drop at bytes.now) (drop x.1 bytes.now)) }
+    ensures stops { IfErr result (λ f. f ≢ FieldFault.Memory
+        → (field_at level part.now (entry_at (E.contents entries.old) part.now.key) bit (drop at
+        bytes.now) ≡ Err f)
+        × (E.contents entries.new ≡ E.contents entries.old)) }
+    ensures same_keys { E.serves entries.new ≡ E.serves entries.old }
+{
+    match take_part(alloc, entries, part, bit, level, bytes, at) {
+        Err(fault) => Err(fault),
+        Ok((value, next)) => Ok((unsigned_in(&value), next)),
+    }
+}
+
+/// Takes the exponent of a decimal in parts, none where that is absent, and the place behind it.
+///
+/// # Errors
+///
+/// As `take_part`.
+#[inline(always)]
+pub fn take_exponent<E: Entries>(
+    alloc: Global,
+    entries: &mut E,
+    part: &FieldPart,
+    bit: bool,
+    level: Level,
+    bytes: &[u8],
+    at: usize,
+) -> Result<(Option<i32>, usize), FieldFault>
+    requires place { at ≤ length bytes.now }
+    requires bit { part_needs_bit part.now ≡ false → bit ≡ true }
+    requires served { IsTrue (E.serves entries.now part.now.key) }
+    requires told { IsTold Exponent Int32 part.now }
+    ensures place { IfOk result (λ x. (at ≤ x.1) × (x.1 ≤ length bytes.now)) }
+    ensures took { IfOk result (λ x. Took level part.now bit (E.contents entries.old) (E.contents
+        entries.new) (exponent_of x.0) (drop at bytes.now) (drop x.1 bytes.now)) }
+    ensures stops { IfErr result (λ f. f ≢ FieldFault.Memory
+        → (field_at level part.now (entry_at (E.contents entries.old) part.now.key) bit (drop at
+        bytes.now) ≡ Err f)
+        × (E.contents entries.new ≡ E.contents entries.old)) }
+    ensures same_keys { E.serves entries.new ≡ E.serves entries.old }
+{
+    match take_part(alloc, entries, part, bit, level, bytes, at) {
+        Err(fault) => Err(fault),
+        Ok((value, next)) => Ok((exponent_in(&value), next)),
+    }
+}
+
+/// Takes the mantissa of a decimal whose exponent is there, and the place behind it.
+///
+/// # Errors
+///
+/// As `take_part`.
+#[inline(always)]
+pub fn take_mantissa<E: Entries>(
+    alloc: Global,
+    entries: &mut E,
+    part: &FieldPart,
+    bit: bool,
+    level: Level,
+    bytes: &[u8],
+    at: usize,
+) -> Result<(i64, usize), FieldFault>
+    requires place { at ≤ length bytes.now }
+    requires bit { part_needs_bit part.now ≡ false → bit ≡ true }
+    requires served { IsTrue (E.serves entries.now part.now.key) }
+    requires told { IsTold Mantissa Int64 part.now }
+    requires mandatory { part.now.presence ≡ Mandatory }
+    ensures place { IfOk result (λ x. (at ≤ x.1) × (x.1 ≤ length bytes.now)) }
+    ensures took { IfOk result (λ x. Took level part.now bit (E.contents entries.old) (E.contents
+        entries.new) (Some (I64 x.0)) (drop at bytes.now) (drop x.1 bytes.now)) }
+    ensures stops { IfErr result (λ f. f ≢ FieldFault.Memory
+        → (field_at level part.now (entry_at (E.contents entries.old) part.now.key) bit (drop at
+        bytes.now) ≡ Err f)
+        × (E.contents entries.new ≡ E.contents entries.old)) }
+    ensures same_keys { E.serves entries.new ≡ E.serves entries.old }
+{
+    match take_part(alloc, entries, part, bit, level, bytes, at) {
+        Err(fault) => Err(fault),
+        Ok((value, next)) => Ok((mantissa_in(&value), next)),
     }
 }

@@ -1,0 +1,10 @@
+use Rattle.std.proofs.Common.{arith, refl}
+use Rattle.fast_value.specs.declared.kind.Kind.TheVariants as kind
+use Rattle.fast_value.specs.declared.kind.Part.TheVariants as part
+use Rattle.fast_part.proofs.TakenKinds.{kind_taken}
+use Rattle.fast_part.proofs.part.take_length.Goals as goal
+
+pub unsigned_in-requires : goal.unsigned_in-requires
+unsigned_in-requires g c =
+    kind_taken c.args.level c.args.part.now c.args.bit (g.E.Entries.contents c.args.entries.now) (g.E.Entries.contents c.take_part.new.entries) c.args.bytes.now c.args.at c.in-Ok.next
+    (λ k. omega (arith, c.type_inv.bytes k)) c.requires.bit part.Length kind.UInt32 refl c.requires.told c.in-Ok.value c.in-Ok.ensures.took
