@@ -16,7 +16,9 @@ use crate::line::Line;
 use crate::signs::Signs;
 use fast_dictionary::{Entries, Entry};
 use fast_field::{FieldFault, read_in_place};
-use fast_part::{exponent_in, mantissa_in, take_given, take_part, take_quickly, unsigned_in};
+use fast_part::{
+    take_exponent, take_given, take_identifier, take_length, take_mantissa, take_quickly,
+};
 use fast_template::{FieldPart, Name, Presence, TemplateSet};
 use fast_walk::{Output, Receiver};
 use fast_wire::Level;
@@ -230,14 +232,11 @@ impl<S: Signs> Receiver for LineWriter<'_, S> {
         bytes: &[u8],
         at: usize,
     ) -> Result<(u32, usize), FieldFault> {
-        match take_part(alloc, entries, identifier, bit, level, bytes, at) {
+        match take_identifier(alloc, entries, identifier, bit, level, bytes, at) {
             Err(fault) => Err(fault),
-            Ok((value, next)) => match unsigned_in(&value) {
-                Ok(Some(id)) => match self.open_line(id) {
-                    Err(_) => Err(FieldFault::Memory),
-                    Ok(()) => Ok((id, next)),
-                },
-                _ => Err(FieldFault::Memory),
+            Ok((id, next)) => match self.open_line(id) {
+                Err(_) => Err(FieldFault::Memory),
+                Ok(()) => Ok((id, next)),
             },
         }
     }
@@ -295,21 +294,18 @@ impl<S: Signs> Receiver for LineWriter<'_, S> {
         bytes: &[u8],
         at: usize,
     ) -> Result<(bool, usize), FieldFault> {
-        match take_part(alloc, entries, part, bit, level, bytes, at) {
+        match take_exponent(alloc, entries, part, bit, level, bytes, at) {
             Err(fault) => Err(fault),
-            Ok((value, next)) => match exponent_in(&value) {
-                Err(fault) => Err(fault),
-                Ok(None) => match self.line.tell_absent(self.signs, name, presence) {
-                    Err(_) => Err(FieldFault::Memory),
-                    Ok(()) => Ok((false, next)),
-                },
-                Ok(Some(exponent)) => match self.line.label(self.signs, name) {
-                    Err(_) => Err(FieldFault::Memory),
-                    Ok(()) => {
-                        self.exponent = exponent;
-                        Ok((true, next))
-                    }
-                },
+            Ok((None, next)) => match self.line.tell_absent(self.signs, name, presence) {
+                Err(_) => Err(FieldFault::Memory),
+                Ok(()) => Ok((false, next)),
+            },
+            Ok((Some(exponent), next)) => match self.line.label(self.signs, name) {
+                Err(_) => Err(FieldFault::Memory),
+                Ok(()) => {
+                    self.exponent = exponent;
+                    Ok((true, next))
+                }
             },
         }
     }
@@ -325,17 +321,14 @@ impl<S: Signs> Receiver for LineWriter<'_, S> {
         bytes: &[u8],
         at: usize,
     ) -> Result<usize, FieldFault> {
-        match take_part(alloc, entries, part, bit, level, bytes, at) {
+        match take_mantissa(alloc, entries, part, bit, level, bytes, at) {
             Err(fault) => Err(fault),
-            Ok((value, next)) => match mantissa_in(&value) {
-                Err(fault) => Err(fault),
-                Ok(mantissa) => {
-                    match push_decimal(mantissa, self.exponent, &mut self.line.text) {
-                        Err(_) => Err(FieldFault::Memory),
-                        Ok(()) => Ok(next),
-                    }
+            Ok((mantissa, next)) => {
+                match push_decimal(mantissa, self.exponent, &mut self.line.text) {
+                    Err(_) => Err(FieldFault::Memory),
+                    Ok(()) => Ok(next),
                 }
-            },
+            }
         }
     }
 
@@ -352,18 +345,15 @@ impl<S: Signs> Receiver for LineWriter<'_, S> {
         bytes: &[u8],
         at: usize,
     ) -> Result<(Option<u32>, usize), FieldFault> {
-        match take_part(alloc, entries, part, bit, level, bytes, at) {
+        match take_length(alloc, entries, part, bit, level, bytes, at) {
             Err(fault) => Err(fault),
-            Ok((value, next)) => match unsigned_in(&value) {
-                Err(fault) => Err(fault),
-                Ok(None) => match self.line.tell_absent(self.signs, name, presence) {
-                    Err(_) => Err(FieldFault::Memory),
-                    Ok(()) => Ok((None, next)),
-                },
-                Ok(Some(length)) => match self.line.open_under(self.signs, name, b'[') {
-                    Err(_) => Err(FieldFault::Memory),
-                    Ok(()) => Ok((Some(length), next)),
-                },
+            Ok((None, next)) => match self.line.tell_absent(self.signs, name, presence) {
+                Err(_) => Err(FieldFault::Memory),
+                Ok(()) => Ok((None, next)),
+            },
+            Ok((Some(length), next)) => match self.line.open_under(self.signs, name, b'[') {
+                Err(_) => Err(FieldFault::Memory),
+                Ok(()) => Ok((Some(length), next)),
             },
         }
     }

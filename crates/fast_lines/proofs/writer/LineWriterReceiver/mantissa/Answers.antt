@@ -4,13 +4,13 @@ use Rattle.fast_lines.specs.Told.{line_now}
 use Rattle.fast_lines.proofs.Writing.{has_mantissa}
 use Rattle.fast_lines.proofs.writer.LineWriterReceiver.mantissa.Goals as goal
 
-pub returns-clause-goes : goal.returns-clause-goes
-returns-clause-goes g c =
+pub returns-in-Ok-push_decimal-clause-goes : goal.returns-in-Ok-push_decimal-clause-goes
+returns-in-Ok-push_decimal-clause-goes g c =
     let old = c.args.self.now in
-    let m = c.in-Ok-mantissa_in.mantissa in
+    let m = c.in-Ok.mantissa in
     let told : c.push_decimal.new.out.items ≡ old.line.text.items ++ decimal_text m old.exponent = search rules in (
       m,
-      rw (c.in-Ok-mantissa_in.ensures.ok) at c.in-Ok.ensures.took,
+      c.in-Ok.ensures.took,
       λ e o next has. (
         has.0,
         has_mantissa g.S.Escape.form old.exponent e m (line_now old.line) (record { text = c.push_decimal.new.out.items; led = old.line.led }) o c.args.part.now next told refl has.1,
