@@ -8,3 +8,4 @@ pub mod Relays
 pub mod Writers
 mod Rooms
 pub mod Takings
+mod SpeltParts

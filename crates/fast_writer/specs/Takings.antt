@@ -1,6 +1,7 @@
 -- Fields that are taken one after the other into the segment that is open.
 use Rattle.std.specs.Prelude.{◌≡◌, ℕ, ◌+◌, Bool, true, false, List, Option, Some, None, drop}
 use Rattle.fast_value.specs.declared.kind.Kind.TheVariants as kind
+use Rattle.fast_value.specs.declared.kind.Part.TheVariants as part
 use Rattle.std.specs.Borrow.{Bor}
 use Rattle.fast_template.specs.declared.resolved.FieldPart.{FieldPart}
 use Rattle.fast_template.specs.Resolved.{Instruction, whole_field, field_in_parts, group_of, sequence_of, list_of}
@@ -8,6 +9,7 @@ use Rattle.fast_dictionary.specs.Dictionary.{Dictionary}
 use Rattle.fast_wire.specs.declared.level.Level.{Level}
 use Rattle.fast_walk.specs.declared.receiver.Fields.{Fields}
 use Rattle.fast_walk.specs.Received.{Received}
+use Rattle.fast_walk.specs.Told.{IsTold}
 use Rattle.fast_walk.specs.Walks.{bare_next}
 use Rattle.fast_walk.specs.Passing.{Passes, next_behind}
 use Rattle.fast_writer.specs.Written.{Segment, IsOpened}
@@ -27,6 +29,11 @@ BeginsWith (field_in_parts name number presence exponent behind) part mantissa =
     (part ≡ exponent) × (part.kind ≡ kind.Int32) × ((m : Bor FieldPart) × (mantissa ≡ Some m) × (m.now ≡ behind))
 BeginsWith (group_of name number presence members) part mantissa = ⊥
 BeginsWith (sequence_of name number presence length members) part mantissa = ⊥
+
+-- what is known of the part that a field begins with
+abbrev pub IsFirstTold : Option (Bor FieldPart) → FieldPart → Type 0
+IsFirstTold None p = IsTold part.Whole p.kind p
+IsFirstTold (Some mantissa) p = IsTold part.Exponent kind.Int32 p
 
 -- the mantissa that is next behind an exponent, whether that is there
 abbrev pub behind : Bool → Option (Bor FieldPart) → Option (Bor FieldPart)

@@ -3,9 +3,15 @@
 ghost use Rattle.std.specs.Prelude.{◌≡◌, ◌≢◌, ◌≤◌, Err, IfNone, IfOk, IfErr, IfSome, IsTrue, length, drop, false, true};
 ghost use Rattle.fast_template.specs.Resolved.{part_needs_bit as part_needs_bit_of};
 ghost use Rattle.fast_dictionary.specs.Dictionary.{entry_at};
+ghost use Rattle.std.specs.Option.{option_copied};
+ghost use Rattle.fast_value.specs.Scalar.{is_of};
+ghost use Rattle.fast_value.specs.declared.kind.Kind.TheVariants.{UInt32};
 ghost use Rattle.fast_field.specs.FieldReading.{field_at};
+ghost use Rattle.fast_field.specs.Parts.{IsFieldPart};
+ghost use Rattle.fast_field.specs.Within.{HoldsScalar};
 ghost use Rattle.fast_field.specs.Passed.{Passes};
 ghost use Rattle.fast_walk.specs.Received.{Took, length_of};
+ghost use Rattle.fast_walk.specs.Told.{KeepScalars};
 ghost use Rattle.fast_writer.specs.Levels.{level_of};
 ghost use Rattle.fast_writer.specs.Quick.{Relayed};
 ghost use Rattle.fast_writer.specs.Written.{Spelt};
@@ -82,6 +88,19 @@ fn count_quickly(
     }
 }
 
+// The number that a value of this type is.
+#[inline(always)]
+fn number_in(value: Option<&Scalar>) -> Option<u32>
+    requires { IfSome (option_copied value) (λ v. IsTrue (is_of UInt32 v)) }
+    ensures { option_copied value.entry ≡ length_of result }
+{
+    match value {
+        None => None,
+        Some(Scalar::U32(number)) => Some(*number),
+        Some(_) => unreachable!(),
+    }
+}
+
 // The same of any part, the general way.
 #[inline(never)]
 fn count_generally(
@@ -96,6 +115,9 @@ fn count_generally(
 ) -> Result<(Option<u32>, bool, usize), FieldFault>
     requires place { at ≤ length bytes.now }
     requires bit { part_needs_bit_of part.now ≡ false → bit ≡ true }
+    requires part { IsFieldPart part.now }
+    requires entry { HoldsScalar entry.old }
+    requires kind { part.now.kind ≡ UInt32 }
     ensures place { IfOk result (λ x. (at ≤ x.2) × (x.2 ≤ length bytes.now)) }
     ensures relayed { IfOk result (λ x.
         Relayed level part.now entry.old entry.new bit x.1 (length_of x.0) (drop at bytes.now)
@@ -106,11 +128,10 @@ fn count_generally(
 {
     match relay_entry(alloc, part, entry, bit, level, bytes, at, out) {
         Err(fault) => Err(fault),
-        Ok((found, best, next)) => match found.value(part, entry.view()) {
-            None => Ok((None, best, next)),
-            Some(Scalar::U32(number)) => Ok((Some(*number), best, next)),
-            Some(_) => Err(FieldFault::Memory),
-        },
+        Ok((found, best, next)) => {
+            let number = number_in(found.value(part, entry.view()));
+            Ok((number, best, next))
+        }
     }
 }
 
@@ -128,6 +149,9 @@ fn count_either(
 ) -> Result<(Option<u32>, bool, usize), FieldFault>
     requires place { at ≤ length bytes.now }
     requires bit { part_needs_bit_of part.now ≡ false → bit ≡ true }
+    requires part { IsFieldPart part.now }
+    requires entry { HoldsScalar entry.old }
+    requires kind { part.now.kind ≡ UInt32 }
     ensures place { IfOk result (λ x. (at ≤ x.2) × (x.2 ≤ length bytes.now)) }
     ensures relayed { IfOk result (λ x.
         Relayed level part.now entry.old entry.new bit x.1 (length_of x.0) (drop at bytes.now)
@@ -150,7 +174,7 @@ fn count_either(
 ///
 /// # Errors
 ///
-/// The first fault of the part; nothing has changed. Memory: a growth was refused, or the value is no such number.
+/// The first fault of the part; nothing has changed. Memory: a growth was refused.
 #[inline(never)]
 pub(crate) fn relay_count<E: Entries>(
     alloc: Global,
@@ -165,6 +189,9 @@ pub(crate) fn relay_count<E: Entries>(
     requires place { at ≤ length bytes.now }
     requires bit { part_needs_bit_of part.now ≡ false → bit ≡ true }
     requires served { IsTrue (E.serves entries.now part.now.key) }
+    requires part { IsFieldPart part.now }
+    requires kept { KeepScalars (E.contents entries.now) }
+    requires kind { part.now.kind ≡ UInt32 }
     ensures place { IfOk result (λ x. (at ≤ x.1) × (x.1 ≤ length bytes.now)) }
     ensures took { IfOk result (λ x. Took level part.now bit (E.contents entries.old) (E.contents
         entries.new) (length_of x.0) (drop at bytes.now) (drop x.1 bytes.now)) }

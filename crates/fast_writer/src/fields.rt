@@ -6,13 +6,17 @@ ghost use Rattle.fast_value.specs.declared.scalar.Scalar.{Scalar as ScalarOf};
 ghost use Rattle.fast_dictionary.specs.Dictionary.{entry_at};
 ghost use Rattle.fast_stream.specs.Bits.{after_bit, bit_for};
 ghost use Rattle.fast_walk.specs.Received.{Took};
-ghost use Rattle.fast_walk.specs.Walks.{AreServed, IsNextServed, IsServed};
+ghost use Rattle.fast_field.specs.Parts.{IsFieldPart};
+ghost use Rattle.fast_walk.specs.Told.{IsTold, KeepScalars};
+ghost use Rattle.fast_walk.specs.Walks.{AreServed, IsMantissaServed, IsNextServed, IsServed};
 ghost use Rattle.fast_walk.specs.Passing.{next_behind};
 ghost use Rattle.fast_relay.specs.Relayed.{IsThere};
 ghost use Rattle.fast_writer.specs.Levels.{level_of};
 ghost use Rattle.fast_writer.specs.Written.{Spelt};
-ghost use Rattle.fast_writer.specs.Takings.{BeginsWith, IfElsewhere, IfTaken, Takes, behind, counted_of, pieces_of};
+ghost use Rattle.fast_writer.specs.Takings.{BeginsWith, IfElsewhere, IsFirstTold, IfTaken, Takes, behind, counted_of, pieces_of};
 ghost use Rattle.fast_value.specs.declared.key.Key.{Key};
+ghost use Rattle.fast_value.specs.declared.kind.Kind.TheVariants.{Int32};
+ghost use Rattle.fast_value.specs.declared.kind.Part.TheVariants.{Exponent, Whole};
 
 use crate::quick::relay_quickly;
 use crate::segment::Segment;
@@ -64,6 +68,8 @@ fn take_part<E: Entries>(
 ) -> Taken
     requires place { at ≤ length bytes.now }
     requires served { IsTrue (E.serves entries.now part.now.key) }
+    requires part { IsFieldPart part.now }
+    requires kept { KeepScalars (E.contents entries.now) }
     ensures place { IfTaken result (λ there next. (at ≤ next) × (next ≤ length bytes.now)) }
     ensures took { IfTaken result (λ there next. (v : Option ScalarOf)
         × IsThere part.now.kind there v
@@ -76,6 +82,7 @@ fn take_part<E: Entries>(
         bits.new ≡ after_bit (part_needs_bit_of part.now) bits.old) }
     ensures nothing { IfElsewhere result ((E.contents entries.new ≡ E.contents entries.old)
         × (level_of segment.new ≡ level_of segment.old) × (bits.new ≡ bits.old)) }
+    ensures kept { IfTaken result (λ there next. KeepScalars (E.contents entries.new)) }
     ensures same_keys { E.serves entries.new ≡ E.serves entries.old }
 {
     let needs = part_needs_bit(part);
@@ -138,7 +145,8 @@ fn take_mantissa<'a, E: Entries>(
 ) -> Result<bool, AllocError>
     requires place { fields.now.place ≤ length bytes.now }
     requires next { fields.now.mantissa ≡ Some mantissa }
-    requires served { IsTrue (E.serves entries.now mantissa.now.key) }
+    requires served { IsMantissaServed (E.serves entries.now) mantissa.now }
+    requires kept { KeepScalars (E.contents entries.now) }
     requires all { AreServed (E.serves entries.now) (list_of fields.now.rest.now) }
     ensures place { OnOk result ((fields.old.place ≤ fields.new.place)
         × (fields.new.place ≤ length bytes.now)) }
@@ -150,28 +158,27 @@ fn take_mantissa<'a, E: Entries>(
     ensures served { OnOk result (AreServed (E.serves entries.old) (list_of fields.new.rest.now)) }
     ensures counted { OnOk result (counted_of fields.new ≤ counted_of fields.old) }
     ensures fewer { IfOk result (λ b. b ≡ true → pieces_of fields.new < pieces_of fields.old) }
+    ensures kept { OnOk result (KeepScalars (E.contents entries.new)) }
     ensures same_keys { E.serves entries.new ≡ E.serves entries.old }
 {
-    match mantissa.kind {
-        Kind::Int64 => match take_part(
-            alloc,
-            entries,
-            mantissa,
-            bits,
-            level,
-            bytes,
-            fields.place,
-            segment,
-        ) {
-            Taken::Part(true, next) => {
-                fields.mantissa = None;
-                fields.place = next;
-                Ok(true)
-            }
-            Taken::Elsewhere => Ok(false),
-            Taken::Part(false, _) | Taken::Refused => Err(AllocError),
-        },
-        _ => Ok(false),
+    match take_part(
+        alloc,
+        entries,
+        mantissa,
+        bits,
+        level,
+        bytes,
+        fields.place,
+        segment,
+    ) {
+        Taken::Part(true, next) => {
+            fields.mantissa = None;
+            fields.place = next;
+            Ok(true)
+        }
+        Taken::Part(false, _) => unreachable!(),
+        Taken::Elsewhere => Ok(false),
+        Taken::Refused => Err(AllocError),
     }
 }
 
@@ -181,7 +188,7 @@ fn take_mantissa<'a, E: Entries>(
 fn first_part(flat: &Flat) -> Option<(&FieldPart, Option<&FieldPart>)>
     ensures begins { IfSome result (λ x. BeginsWith (instruction_of flat.now) x.0.now x.1) }
     ensures served { IfSome result (λ x. (serves : Key → Bool) → IsServed serves (instruction_of flat.now)
-        → IsTrue (serves x.0.now.key) × IsNextServed serves (next_behind x.1)) }
+        → IsTrue (serves x.0.now.key) × IsFirstTold x.1 x.0.now × IsNextServed serves (next_behind x.1)) }
 {
     match flat {
         Flat::Field { whole, .. } => Some((whole, None)),
@@ -218,6 +225,8 @@ fn take_whole<'a, E: Entries>(
         ≡ then_instruction (instruction_of flat.now) (list_of others.now) }
     requires begins { BeginsWith (instruction_of flat.now) whole.now None }
     requires served { IsTrue (E.serves entries.now whole.now.key) }
+    requires kept { KeepScalars (E.contents entries.now) }
+    requires told { IsTold Whole whole.now.kind whole.now }
     requires all { AreServed (E.serves entries.now) (list_of fields.now.rest.now) }
     requires others { AreServed (E.serves entries.now) (list_of others.now) }
     ensures place { OnOk result ((fields.old.place ≤ fields.new.place)
@@ -230,6 +239,7 @@ fn take_whole<'a, E: Entries>(
     ensures served { OnOk result (AreServed (E.serves entries.old) (list_of fields.new.rest.now)) }
     ensures counted { OnOk result (counted_of fields.new ≤ counted_of fields.old) }
     ensures fewer { IfOk result (λ b. b ≡ true → pieces_of fields.new < pieces_of fields.old) }
+    ensures kept { OnOk result (KeepScalars (E.contents entries.new)) }
     ensures same_keys { E.serves entries.new ≡ E.serves entries.old }
 {
     match take_part(
@@ -273,9 +283,11 @@ fn take_exponent<'a, E: Entries>(
         ≡ then_instruction (instruction_of flat.now) (list_of others.now) }
     requires begins { BeginsWith (instruction_of flat.now) exponent.now (Some mantissa) }
     requires served { IsTrue (E.serves entries.now exponent.now.key) }
+    requires kept { KeepScalars (E.contents entries.now) }
+    requires told { IsTold Exponent Int32 exponent.now }
     requires all { AreServed (E.serves entries.now) (list_of fields.now.rest.now) }
     requires others { AreServed (E.serves entries.now) (list_of others.now) }
-    requires mantissa { IsTrue (E.serves entries.now mantissa.now.key) }
+    requires mantissa { IsMantissaServed (E.serves entries.now) mantissa.now }
     ensures place { OnOk result ((fields.old.place ≤ fields.new.place)
         × (fields.new.place ≤ length bytes.now)) }
     ensures takes { OnOk result (Takes level bytes.now (level_of segment.old)
@@ -286,6 +298,7 @@ fn take_exponent<'a, E: Entries>(
     ensures served { OnOk result (AreServed (E.serves entries.old) (list_of fields.new.rest.now)) }
     ensures counted { OnOk result (counted_of fields.new ≤ counted_of fields.old) }
     ensures fewer { IfOk result (λ b. b ≡ true → pieces_of fields.new < pieces_of fields.old) }
+    ensures kept { OnOk result (KeepScalars (E.contents entries.new)) }
     ensures same_keys { E.serves entries.new ≡ E.serves entries.old }
 {
     match take_part(
@@ -326,6 +339,7 @@ pub(crate) fn take_fields<'a, E: Entries>(
 ) -> Result<Fields<'a>, AllocError>
     requires place { at ≤ length bytes.now }
     requires served { AreServed (E.serves entries.now) (list_of rest.now) }
+    requires kept { KeepScalars (E.contents entries.now) }
     ensures place { IfOk result (λ f. (at ≤ f.place) × (f.place ≤ length bytes.now)) }
     ensures few { IfOk result (λ f. f.spare ≤ spare) }
     ensures fewer { IfOk result (λ f. IsSome f.mantissa → f.spare < spare) }
@@ -335,6 +349,7 @@ pub(crate) fn take_fields<'a, E: Entries>(
         (E.contents entries.old) bits.old
         (record { mantissa = None; rest = rest.entry; spare = spare; place = at })
         (level_of segment.new) (E.contents entries.new) bits.new f) }
+    ensures kept { OnOk result (KeepScalars (E.contents entries.new)) }
     ensures same_keys { E.serves entries.new ≡ E.serves entries.old }
 {
     let mut fields = Fields {

@@ -8,7 +8,6 @@
 
 mod count;
 mod fields;
-mod fit;
 mod laws;
 mod quick;
 mod relay;

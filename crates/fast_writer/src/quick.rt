@@ -1,12 +1,16 @@
 //! A part that is read and written at once, with no value in between.
 
 ghost use Rattle.std.specs.Prelude.{◌≡◌, ◌≢◌, ◌≤◌, Err, IfNone, IfOk, IfErr, IfSome, Option, IsTrue, length, drop, false, true};
+ghost use Rattle.std.specs.Option.{is_some, option_copied};
 ghost use Rattle.fast_template.specs.Resolved.{part_needs_bit as part_needs_bit_of};
 ghost use Rattle.fast_value.specs.declared.scalar.Scalar.{Scalar as ScalarOf};
 ghost use Rattle.fast_dictionary.specs.Dictionary.{entry_at};
 ghost use Rattle.fast_wire.specs.declared.level.Level.TheVariants.{Usual};
 ghost use Rattle.fast_field.specs.FieldReading.{field_at};
+ghost use Rattle.fast_field.specs.Parts.{IsFieldPart};
+ghost use Rattle.fast_field.specs.Within.{HoldsScalar};
 ghost use Rattle.fast_walk.specs.Received.{Took};
+ghost use Rattle.fast_walk.specs.Told.{KeepScalars};
 ghost use Rattle.fast_writer.specs.Levels.{level_of};
 ghost use Rattle.fast_relay.specs.Relayed.{IsThere};
 ghost use Rattle.fast_writer.specs.Quick.{Relayed};
@@ -17,8 +21,7 @@ use crate::segment::Segment;
 use fast_dictionary::{Entries, Entry};
 use fast_field::{FieldFault, Passed, pass_left_out, reads_as_usual};
 use fast_relay::{Relayed as Answer, relay_decimal, relay_null, relay_number, relay_text};
-use fast_template::{FieldPart, part_needs_bit};
-use fast_value::is_of_kind;
+use fast_template::{FieldPart, Scalar, part_needs_bit};
 use fast_wire::Level;
 use std::alloc::Global;
 
@@ -122,6 +125,17 @@ pub(crate) fn relay_quickly(
     }
 }
 
+// Whether there is a value.
+#[inline(always)]
+fn is_there(value: Option<&Scalar>) -> bool
+    ensures { result ≡ is_some (option_copied value.entry) }
+{
+    match value {
+        None => false,
+        Some(_) => true,
+    }
+}
+
 // The same of any part, the general way. (A call of its own, so that the walk over a segment has room for one answer
 // only.)
 #[inline(never)]
@@ -137,6 +151,8 @@ fn relay_generally(
 ) -> Result<(bool, bool, usize), FieldFault>
     requires place { at ≤ length bytes.now }
     requires bit { part_needs_bit_of part.now ≡ false → bit ≡ true }
+    requires part { IsFieldPart part.now }
+    requires entry { HoldsScalar entry.old }
     ensures place { IfOk result (λ x. (at ≤ x.2) × (x.2 ≤ length bytes.now)) }
     ensures relayed { IfOk result (λ x. (v : Option ScalarOf) × IsThere part.now.kind x.0 v
         × Relayed level part.now entry.old entry.new bit x.1 v (drop at bytes.now) (drop x.2 bytes.now)
@@ -147,16 +163,10 @@ fn relay_generally(
 {
     match relay_entry(alloc, part, entry, bit, level, bytes, at, out) {
         Err(fault) => Err(fault),
-        Ok((found, best, next)) => match found.value(part, entry.view()) {
-            None => Ok((false, best, next)),
-            Some(value) => {
-                if is_of_kind(part.kind, value) {
-                    Ok((true, best, next))
-                } else {
-                    Err(FieldFault::Memory)
-                }
-            }
-        },
+        Ok((found, best, next)) => {
+            let there = is_there(found.value(part, entry.view()));
+            Ok((there, best, next))
+        }
     }
 }
 
@@ -180,6 +190,8 @@ pub(crate) fn relay_part<E: Entries>(
     requires place { at ≤ length bytes.now }
     requires bit { part_needs_bit_of part.now ≡ false → bit ≡ true }
     requires served { IsTrue (E.serves entries.now part.now.key) }
+    requires part { IsFieldPart part.now }
+    requires kept { KeepScalars (E.contents entries.now) }
     ensures place { IfOk result (λ x. (at ≤ x.1) × (x.1 ≤ length bytes.now)) }
     ensures relays { IfOk result (λ x. (v : Option ScalarOf) × IsThere part.now.kind x.0 v
         × Took level part.now bit (E.contents entries.old) (E.contents entries.new) v

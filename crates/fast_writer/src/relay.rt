@@ -6,11 +6,12 @@ ghost use Rattle.fast_field.specs.Bases.{next};
 ghost use Rattle.fast_field.specs.Best.{IsBest};
 ghost use Rattle.fast_field.specs.FieldReading.{field_at};
 ghost use Rattle.fast_field.specs.Found.{value_found};
+ghost use Rattle.fast_field.specs.Parts.{HasDefault, IsFieldPart};
+ghost use Rattle.fast_field.specs.Within.{HoldsScalar};
 ghost use Rattle.fast_writer.specs.Written.{AppendsForm};
 
-use crate::fit::{has_default, holds_scalar, is_field_part};
 use fast_dictionary::Entry;
-use fast_field::{FieldFault, Found, find_field, read_in_place, write_found};
+use fast_field::{FieldFault, FieldRefusal, Found, find_field, read_in_place, write_found};
 use fast_template::FieldPart;
 use fast_wire::Level;
 use std::alloc::Global;
@@ -26,6 +27,7 @@ fn repeat(
     at: usize,
 ) -> Result<(Found, usize), FieldFault>
     requires place { at ≤ length bytes.now }
+    requires default { HasDefault part.now }
     ensures place { IfOk result (λ x. (at ≤ x.1) × (x.1 ≤ length bytes.now)) }
     ensures goes { IfOk result (λ x. (more : List ℕ)
         → field_at level part.now entry.old false (drop at bytes.now ++ more)
@@ -38,12 +40,20 @@ fn repeat(
         → field_at level part.now entry.old false (drop at bytes.now) ≡ Err f) }
     ensures unchanged { OnErr result (entry.new ≡ entry.old) }
 {
-    if !has_default(part) {
-        return Err(FieldFault::Memory);
-    }
     match read_in_place(alloc, part, entry, false, level, bytes, at) {
         Err(fault) => Err(fault),
         Ok((found, next)) => Ok((found, next)),
+    }
+}
+
+// The fault of a part whose form was refused: what was read has one, so no other refusal comes.
+fn want_of_memory(refusal: FieldRefusal) -> FieldFault
+    requires { refusal ≡ FieldRefusal.Memory }
+    ensures { result ≡ FieldFault.Memory }
+{
+    match refusal {
+        FieldRefusal::Memory => FieldFault::Memory,
+        _ => unreachable!(),
     }
 }
 
@@ -59,6 +69,8 @@ fn rewrite(
     out: &mut Vec<u8>,
 ) -> Result<(Found, bool, usize), FieldFault>
     requires place { at ≤ length bytes.now }
+    requires part { IsFieldPart part.now }
+    requires entry { HoldsScalar entry.old }
     ensures place { IfOk result (λ x. (at ≤ x.2) × (x.2 ≤ length bytes.now)) }
     ensures goes { IfOk result (λ x. (more : List ℕ)
         → field_at level part.now entry.old true (drop at bytes.now ++ more)
@@ -72,13 +84,10 @@ fn rewrite(
     ensures unchanged { OnErr result (entry.new ≡ entry.old) }
     ensures nothing { OnErr result (out.new.items ≡ out.old.items) }
 {
-    if !is_field_part(part) || !holds_scalar(entry.view()) {
-        return Err(FieldFault::Memory);
-    }
     match find_field(alloc, part, entry.view(), true, level, bytes, at) {
         Err(fault) => Err(fault),
         Ok((found, next)) => match write_found(alloc, part, entry, found, out) {
-            Err(_) => Err(FieldFault::Memory),
+            Err(refusal) => Err(want_of_memory(refusal)),
             Ok((found, bit)) => Ok((found, bit, next)),
         },
     }
@@ -103,6 +112,8 @@ pub(crate) fn relay_entry(
 ) -> Result<(Found, bool, usize), FieldFault>
     requires place { at ≤ length bytes.now }
     requires bit { part_needs_bit_of part.now ≡ false → bit ≡ true }
+    requires part { IsFieldPart part.now }
+    requires entry { HoldsScalar entry.old }
     ensures place { IfOk result (λ x. (at ≤ x.2) × (x.2 ≤ length bytes.now)) }
     ensures goes { IfOk result (λ x. (more : List ℕ)
         → field_at level part.now entry.old bit (drop at bytes.now ++ more)

@@ -2,12 +2,11 @@
 
 use crate::count::relay_count;
 use crate::fields::take_fields;
-use crate::fit::is_identifier;
 use crate::quick::relay_part;
 use crate::segment::Segment;
 use fast_dictionary::Entries;
 use fast_field::FieldFault;
-use fast_template::{FieldPart, Flat, Kind, Name, Presence};
+use fast_template::{FieldPart, Flat, Name, Presence};
 use fast_walk::{Fields, Output, Receiver};
 use fast_wire::{Bits, Level};
 use std::alloc::{AllocError, Global};
@@ -29,7 +28,7 @@ pub struct Writer {
 }
 
 impl Writer {
-    ghost use Rattle.std.specs.Prelude.{◌≡◌, [], ◌∷◌, ◌++◌, List, ℕ, map, OnOk};
+    ghost use Rattle.std.specs.Prelude.{◌≡◌, ◌≢◌, [], ◌∷◌, ◌++◌, List, ℕ, map, OnOk};
     ghost use Rattle.std.specs.FinMap as finite;
     ghost use Rattle.fast_template.specs.Resolved.{Resolved};
     ghost use Rattle.fast_walk.specs.Received.{handed_on};
@@ -89,13 +88,14 @@ impl Writer {
     // Ends the segment that is open, in the one around it.
     #[inline(always)]
     fn close(&mut self) -> Result<(), AllocError>
-        ensures closed { OnOk result (Closes (map level_of self.old.outer.items)
+        ensures closed { OnOk result (self.old.outer.items ≢ [] → Closes (map level_of self.old.outer.items)
             (level_of self.old.inner) (map level_of self.new.outer.items)
             (level_of self.new.inner)) }
         ensures out { self.new.out ≡ self.old.out }
     {
         match self.outer.pop() {
-            None => Err(AllocError),
+            // (nothing is open)
+            None => Ok(()),
             Some(around) => {
                 let inner = mem::replace(&mut self.inner, around);
                 inner.end(&mut self.inner.bytes)?;
@@ -126,9 +126,6 @@ impl Receiver for Writer {
         bytes: &[u8],
         at: usize,
     ) -> Result<(u32, usize), FieldFault> {
-        if !is_identifier(identifier) {
-            return Err(FieldFault::Memory);
-        }
         self.outer.clear();
         self.inner.begin(true);
         match relay_count(
@@ -143,7 +140,7 @@ impl Receiver for Writer {
         ) {
             Err(fault) => Err(fault),
             Ok((Some(id), next)) => Ok((id, next)),
-            Ok((None, _)) => Err(FieldFault::Memory),
+            Ok((None, _)) => unreachable!(),
         }
     }
 
@@ -218,21 +215,9 @@ impl Receiver for Writer {
         bytes: &[u8],
         at: usize,
     ) -> Result<(bool, usize), FieldFault> {
-        match part.kind {
-            Kind::Int32 => match relay_part(
-                alloc,
-                entries,
-                part,
-                bit,
-                level,
-                bytes,
-                at,
-                &mut self.inner,
-            ) {
-                Err(fault) => Err(fault),
-                Ok((there, next)) => Ok((there, next)),
-            },
-            _ => Err(FieldFault::Memory),
+        match relay_part(alloc, entries, part, bit, level, bytes, at, &mut self.inner) {
+            Err(fault) => Err(fault),
+            Ok((there, next)) => Ok((there, next)),
         }
     }
 
@@ -247,27 +232,9 @@ impl Receiver for Writer {
         bytes: &[u8],
         at: usize,
     ) -> Result<usize, FieldFault> {
-        match part.kind {
-            Kind::Int64 => match relay_part(
-                alloc,
-                entries,
-                part,
-                bit,
-                level,
-                bytes,
-                at,
-                &mut self.inner,
-            ) {
-                Err(fault) => Err(fault),
-                Ok((there, next)) => {
-                    if there {
-                        Ok(next)
-                    } else {
-                        Err(FieldFault::Memory)
-                    }
-                }
-            },
-            _ => Err(FieldFault::Memory),
+        match relay_part(alloc, entries, part, bit, level, bytes, at, &mut self.inner) {
+            Err(fault) => Err(fault),
+            Ok((_there, next)) => Ok(next),
         }
     }
 

@@ -4,6 +4,8 @@ use Rattle.fast_dictionary.specs.Dictionary.{set_entry, set_entry-there}
 use Rattle.fast_walk.specs.Received.{length_of}
 use Rattle.fast_writer.specs.Levels.{level_of}
 use Rattle.fast_writer.proofs.Relays.{level_bytes, took_of}
+use Rattle.fast_field.specs.Within.{HoldsScalar}
+use Rattle.fast_walk.proofs.Telling.{kept_hold}
 use Rattle.fast_writer.proofs.count.relay_count.Goals as goal
 
 pub returns-in-Err-count_either-clause-stops : goal.returns-in-Err-count_either-clause-stops
@@ -23,3 +25,6 @@ returns-in-Ok-ask-clause-took g c =
     let r = c.in-Ok-count_either.ensures.relayed in
     took_of c.args.level c.args.part.now c.args.bit d (g.E.Entries.contents (c.entry_mut.follows.lender new)) c.in-Ok.entry.now new (length_of c.in-Ok-count_either.count) _ _ c.in-Ok.ensures.value
     (c.entry_mut.follows.holds new (ap is_ok c.in-Ok.is)).0 r.entry r.read
+
+pub count_either-requires-clause-entry : goal.count_either-requires-clause-entry
+count_either-requires-clause-entry g c = rw (c.in-Ok.ensures.value) (kept_hold (g.E.Entries.contents c.args.entries.now) c.requires.kept c.args.part.now.key)

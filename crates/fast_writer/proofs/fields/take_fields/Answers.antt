@@ -14,6 +14,7 @@ pieces-preserved-in-Ok-true g c =
       place = search rules;
       next = rw (c.take_mantissa.ensures.same_keys) c.in-Ok-true.ensures.next;
       served = rw (c.take_mantissa.ensures.same_keys) c.in-Ok-true.ensures.served;
+      kept = c.in-Ok-true.ensures.kept;
       counted = search rules;
       takes = takes_on c.args.level c.args.bytes.now (level_of c.args.segment.now) (level_of c.pieces.segment) (level_of c.take_mantissa.new.segment) d e h
           c.args.bits.now c.pieces.bits c.take_mantissa.new.bits from c.pieces.fields c.take_mantissa.new.fields c.pieces.invariant.takes c.in-Ok-true.ensures.takes;
@@ -39,6 +40,7 @@ pieces-preserved-in-Ok-true-take_whole g c =
       place = search rules;
       next = rw (c.take_whole.ensures.same_keys) c.in-Ok-true-take_whole.ensures.next;
       served = rw (c.take_whole.ensures.same_keys) c.in-Ok-true-take_whole.ensures.served;
+      kept = c.in-Ok-true-take_whole.ensures.kept;
       counted = search rules;
       takes = takes_on c.args.level c.args.bytes.now (level_of c.args.segment.now) (level_of c.pieces.segment) (level_of c.take_whole.new.segment) d e h
           c.args.bits.now c.pieces.bits c.take_whole.new.bits from c.pieces.fields c.take_whole.new.fields c.pieces.invariant.takes c.in-Ok-true-take_whole.ensures.takes;
@@ -64,6 +66,7 @@ pieces-preserved g c =
       place = search rules;
       next = rw (c.take_exponent.ensures.same_keys) c.in-Ok-true-take_exponent.ensures.next;
       served = rw (c.take_exponent.ensures.same_keys) c.in-Ok-true-take_exponent.ensures.served;
+      kept = c.in-Ok-true-take_exponent.ensures.kept;
       counted = search rules;
       takes = takes_on c.args.level c.args.bytes.now (level_of c.args.segment.now) (level_of c.pieces.segment) (level_of c.take_exponent.new.segment) d e h
           c.args.bits.now c.pieces.bits c.take_exponent.new.bits from c.pieces.fields c.take_exponent.new.fields c.pieces.invariant.takes c.in-Ok-true-take_exponent.ensures.takes;

@@ -2,7 +2,7 @@ use Rattle.std.proofs.Common.{None, refl}
 use Rattle.fast_walk.specs.declared.receiver.Fields.{Fields}
 use Rattle.fast_writer.specs.Levels.{level_of}
 use Rattle.fast_writer.proofs.QuickWays.{mantissa_there}
-use Rattle.fast_writer.proofs.Takings.{takes_mantissa, takes_none, takes_same}
+use Rattle.fast_writer.proofs.Takings.{takes_mantissa, takes_same}
 use Rattle.fast_writer.proofs.fields.take_mantissa.Goals as goal
 
 pub returns-in-Part-true-default-clause-takes : goal.returns-in-Part-true-default-clause-takes
@@ -13,7 +13,7 @@ returns-in-Part-true-default-clause-takes g c =
     let next = c.in-Part-true-default.next in
     let h : Fields = record { mantissa = None; rest = f.rest; spare = f.spare; place = next } in
     let r = c.in-Part-true-default.ensures.took in
-    let x = mantissa_there c.args.mantissa.now.kind r.0 c.in-Int64.is (rw (c.in-Part-true-default.field-0-test) at r.1) in
+    let x = mantissa_there c.args.mantissa.now.kind r.0 c.requires.served.0.1.kind_is (rw (c.in-Part-true-default.field-0-test) at r.1) in
     takes_mantissa c.args.level c.args.bytes.now (level_of c.args.segment.now) (level_of c.take_part.new.segment) d e c.args.bits.now c.take_part.new.bits f h c.args.mantissa x.0 next
     c.requires.next refl refl refl refl (rw (x.1) at r.2) (rw (x.1) at r.3) c.in-Part-true-default.ensures.bits
 
@@ -23,6 +23,3 @@ returns-in-Elsewhere-clause-takes g c =
     let e = g.E.Entries.contents c.take_part.new.entries in
     let same = c.in-Elsewhere.ensures.nothing in
     takes_same c.args.level c.args.bytes.now (level_of c.args.segment.now) (level_of c.take_part.new.segment) d e c.args.bits.now c.take_part.new.bits c.args.fields.now same.0 same.1 same.2
-
-pub returns-in_default-clause-takes : goal.returns-in_default-clause-takes
-returns-in_default-clause-takes g c = takes_none c.args.level c.args.bytes.now (level_of c.args.segment.now) (g.E.Entries.contents c.args.entries.now) c.args.bits.now c.args.fields.now

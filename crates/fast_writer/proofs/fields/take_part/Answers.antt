@@ -5,6 +5,7 @@ use Rattle.fast_dictionary.specs.Dictionary.{set_entry, set_entry-there}
 use Rattle.fast_stream.specs.Bits.{bit_for}
 use Rattle.fast_writer.specs.Levels.{level_of}
 use Rattle.fast_writer.proofs.Relays.{level_bytes, spelt_of, took_of}
+use Rattle.fast_writer.proofs.SpeltParts.{spelt_keeps}
 use Rattle.fast_writer.proofs.fields.take_part.Goals as goal
 
 pub returns-in-None-clause-nothing : goal.returns-in-None-clause-nothing
@@ -31,3 +32,10 @@ returns-in-Ok-ask-clause-took g c =
       spelt_of i d old v c.in-Some.best c.part_needs_bit-needs.result (level_of c.args.segment.now) (level_of c.ask.new.self) c.relay_quickly.new.out.items
           c.in-Ok.ensures.value c.part_needs_bit-needs.ensures r.2.form c.in-Ok-ask.ensures,
     )
+
+pub returns-in-Ok-ask-clause-kept : goal.returns-in-Ok-ask-clause-kept
+returns-in-Ok-ask-clause-kept g c =
+    let d = g.E.Entries.contents c.args.entries.now in
+    let i = c.args.part.now in
+    let t = returns-in-Ok-ask-clause-took g c in
+    spelt_keeps i d (g.E.Entries.contents (c.entry_mut.follows.lender c.relay_quickly.new.entry)) t.0 (level_of c.args.segment.now) (level_of c.ask.new.self) c.requires.part c.requires.kept t.2.entry t.3

@@ -4,6 +4,8 @@ use Rattle.fast_template.specs.declared.resolved.Flat.{Flat}
 use Rattle.fast_template.specs.Resolved.{instruction_of, list_of}
 use Rattle.fast_writer.specs.Levels.{level_of}
 use Rattle.fast_writer.proofs.Takings.{behind_whole, takes_first, takes_same}
+use Rattle.fast_value.specs.declared.kind.Part.TheVariants as part
+use Rattle.fast_walk.proofs.Telling.{told_part}
 use Rattle.fast_writer.proofs.fields.take_whole.Goals as goal
 
 pub returns-in-Part-clause-takes : goal.returns-in-Part-clause-takes
@@ -22,3 +24,6 @@ returns-in-Elsewhere-clause-takes g c =
     let e = g.E.Entries.contents c.take_part.new.entries in
     let same = c.in-Elsewhere.ensures.nothing in
     takes_same c.args.level c.args.bytes.now (level_of c.args.segment.now) (level_of c.take_part.new.segment) d e c.args.bits.now c.take_part.new.bits c.args.fields.now same.0 same.1 same.2
+
+pub take_part-requires-clause-part : goal.take_part-requires-clause-part
+take_part-requires-clause-part g c = told_part part.Whole c.args.whole.now.kind c.args.whole.now tt c.requires.told

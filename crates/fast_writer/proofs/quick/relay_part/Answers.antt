@@ -3,6 +3,8 @@ use Rattle.std.specs.Result.{is_ok}
 use Rattle.fast_dictionary.specs.Dictionary.{set_entry, set_entry-there}
 use Rattle.fast_writer.specs.Levels.{level_of}
 use Rattle.fast_writer.proofs.Relays.{level_bytes, spelt_of, took_of}
+use Rattle.fast_field.specs.Within.{HoldsScalar}
+use Rattle.fast_walk.proofs.Telling.{kept_hold}
 use Rattle.fast_writer.proofs.quick.relay_part.Goals as goal
 
 pub returns-in-Err-relay_generally-clause-stops : goal.returns-in-Err-relay_generally-clause-stops
@@ -30,3 +32,6 @@ returns-in-Ok-ask-clause-relays g c =
       spelt_of i d old v c.in-Ok-relay_generally.best c.part_needs_bit.result (level_of c.args.segment.now) (level_of c.ask.new.self) c.relay_generally.new.out.items
           c.in-Ok.ensures.value c.part_needs_bit.ensures r.2.form c.in-Ok-ask.ensures,
     )
+
+pub relay_generally-requires-clause-entry : goal.relay_generally-requires-clause-entry
+relay_generally-requires-clause-entry g c = rw (c.in-Ok.ensures.value) (kept_hold (g.E.Entries.contents c.args.entries.now) c.requires.kept c.args.part.now.key)

@@ -11,7 +11,7 @@ returns-in-Ok-clause-goes g c =
     let d = g.E.Entries.contents c.args.entries.now in
     let e = g.E.Entries.contents c.relay_part.new.entries in
     let r = c.in-Ok.ensures.relays in
-    let x = exponent_there c.args.part.now.kind c.in-Ok.there r.0 c.in-Int32.is r.1 in
+    let x = exponent_there c.args.part.now.kind c.in-Ok.there r.0 c.requires.told.kind_is r.1 in
     let took = rw (x.1) at r.2 in (
       exponent_of x.0,
       took,

@@ -1,6 +1,8 @@
 use Rattle.std.proofs.Common.{map}
 use Rattle.fast_writer.specs.Levels.{level_of}
 use Rattle.fast_writer.proofs.Writers.{has_field}
+use Rattle.fast_value.specs.declared.kind.Part.TheVariants as part
+use Rattle.fast_walk.proofs.Telling.{told_part}
 use Rattle.fast_writer.proofs.writer.WriterReceiver.field.Goals as goal
 
 pub returns-in-Ok-clause-goes : goal.returns-in-Ok-clause-goes
@@ -16,3 +18,6 @@ returns-in-Ok-clause-goes g c =
         has_field (map level_of old.outer.items) (level_of old.inner) (level_of c.relay_part.new.segment) o c.args._name.now number c.args._presence c.args.part.now is d e r.0 next first r.2.entry r.3 has.1,
       ),
     )
+
+pub relay_part-requires-clause-part : goal.relay_part-requires-clause-part
+relay_part-requires-clause-part g c = told_part part.Whole c.args.part.now.kind c.args.part.now tt c.requires.told

@@ -1,0 +1,92 @@
+-- What is spelled of a part of a set: a value of its type, and of a mandatory part a value.
+use Rattle.std.proofs.Common.{◌≡◌, ◌≢◌, ℕ, Bool, true, false, List, [], ◌++◌, ◌∷◌, Option, Some, None, Ok, refl, sym, ap, subst, ◌∙◌, ◌⊎◌, inl, inr, append-nil}
+use Rattle.std.specs.Option.{is_some}
+use Rattle.std.specs.Prelude.{ℤ, IfSome, IsTrue}
+use Rattle.fast_wire.specs.Reader.{IsBytes}
+use Rattle.fast_wire.specs.declared.level.Level.{Level}
+use Rattle.fast_wire.specs.declared.level.Level.TheVariants.{Usual}
+use Rattle.fast_wire.proofs.Readers.{done}
+use Rattle.fast_value.specs.Scalar.{is_of}
+use Rattle.fast_value.specs.declared.kind.Kind.{Kind}
+use Rattle.fast_value.specs.declared.kind.Kind.TheVariants as kind
+use Rattle.fast_value.specs.declared.kind.Part.TheVariants as part
+use Rattle.fast_value.specs.declared.kind.Presence.TheVariants.{Mandatory}
+use Rattle.fast_value.specs.declared.scalar.Scalar.{Scalar}
+use Rattle.fast_value.specs.declared.scalar.Scalar.TheVariants.{I64}
+use Rattle.fast_template.specs.declared.resolved.FieldPart.{FieldPart}
+use Rattle.fast_template.specs.TemplateSets.{IsTyped}
+use Rattle.fast_dictionary.specs.declared.entry.Entry.{Entry}
+use Rattle.fast_dictionary.specs.Dictionary.{Dictionary, entry_at}
+use Rattle.fast_field.specs.declared.fault.FieldFault.{FieldFault}
+use Rattle.fast_field.specs.declared.fault.FieldRefusal.{FieldRefusal}
+use Rattle.fast_field.specs.declared.fault.FieldRefusal.TheVariants as refusal
+use Rattle.fast_field.specs.FieldReading.{field_at}
+use Rattle.fast_field.specs.Parts.{IsFieldPart}
+use Rattle.fast_field.specs.Refusals.{refusal_of}
+use Rattle.fast_field.specs.Within.{HoldsScalar}
+use Rattle.fast_field.specs.Written.{IsRefusal}
+use Rattle.fast_field.proofs.FieldForms.{field_forms}
+use Rattle.fast_field.proofs.LevelsAgree.{read_usually}
+use Rattle.fast_field.proofs.Refused.{not_refused}
+use Rattle.fast_field.proofs.ValueKinds.{value_kind, value_there}
+use Rattle.fast_stream.specs.Bodies.{written}
+use Rattle.fast_walk.specs.OpenSegments.{Waiting}
+use Rattle.fast_walk.specs.Told.{HoldScalars, KeepScalars, IsTold}
+use Rattle.fast_walk.proofs.Telling.{are_kept, form_holds, kept_hold, told_part}
+use Rattle.fast_relay.specs.Relayed.{IsThere}
+use Rattle.fast_writer.specs.Written.{AppendsForm, Chain, Opening, Segment, Spelt}
+use Rattle.fast_writer.proofs.QuickWays.{mantissa_there}
+
+-- ---- values
+
+pub appended_kinds : (p : FieldPart) (e : Entry) (v : Option Scalar) (bit : Bool) (old new : List ℕ) → IsTyped p → AppendsForm p e v bit old new → IfSome v (λ w. IsTrue (is_of p.kind w))
+appended_kinds p e None bit old new typed a = tt
+appended_kinds p e (Some v) bit old new typed a = value_kind p typed e bit a.form v (a.best.cut, a.best.form)
+
+pub spelt_there : (p : FieldPart) (e : Entry) (l k : Segment) → IsTyped p → p.presence ≡ Mandatory → Spelt p e None l k → ⊥
+spelt_there p e l k typed mandatory s = value_there p typed mandatory e s.bit s.form (s.best.cut, s.best.form)
+
+-- whether there is a value
+pub is_there : (k : Kind) (v : Option Scalar) (b : Bool) → b ≡ is_some v → IfSome v (λ w. IsTrue (is_of k w)) → IsThere k b v
+is_there k None b is h = rw (is) refl
+is_there k (Some v) b is h = rw (is) (v, refl, h)
+
+-- a mantissa has a value, which is an integer of 64 bits
+pub mantissa_taken : (p : FieldPart) (e : Entry) (there : Bool) (v : Option Scalar) (l k : Segment) → IsTold part.Mantissa kind.Int64 p → p.presence ≡ Mandatory
+    → IsThere p.kind there v → Spelt p e v l k → (m : ℤ) × (v ≡ Some (I64 m))
+mantissa_taken p e true v l k told mandatory is s = mantissa_there p.kind v told.kind_is is
+mantissa_taken p e false v l k told mandatory is s =
+    absurd (spelt_there p e l k (told_part part.Mantissa kind.Int64 p refl told).typed mandatory (subst (λ (v : Option Scalar). Spelt p e v l k) is s))
+
+-- ---- entries
+
+pub spelt_keeps : (p : FieldPart) (d e : Dictionary) (v : Option Scalar) (l k : Segment) → IsFieldPart p → KeepScalars d → e ≡ written p d v → Spelt p (entry_at d p.key) v l k → KeepScalars e
+spelt_keeps p d e v l k is kept after s =
+    are_kept e (subst HoldScalars (sym after) (form_holds p d s.bit s.form v is (kept_hold d kept) (s.best.cut, s.best.form)))
+
+-- ---- refusals
+
+-- what was read has a form, so that it is refused for want of memory alone
+pub only_memory : (level : Level) (p : FieldPart) (e : Entry) (v : Option Scalar) (bytes rest : List ℕ) (f : FieldRefusal) → IsBytes bytes → IsFieldPart p → HoldsScalar e
+    → ((more : List ℕ) → field_at level p e true (bytes ++ more) ≡ Ok (v, rest ++ more)) → IsRefusal p e v f → f ≡ refusal.Memory
+only_memory level p e v bytes rest f fits is holds goes (inr h) = h.1
+only_memory level p e v bytes rest f fits is holds goes (inl h) =
+    let read : field_at level p e true bytes ≡ Ok (v, rest) =
+        ap (λ (b : List ℕ). field_at level p e true b) (sym (append-nil bytes)) ∙ goes [] ∙ ap (λ (r : List ℕ). done {F = FieldFault} (v, r)) (append-nil rest) in
+    let t = (field_forms Usual p e true (λ none. refl) is.typed.default_has_value).found bytes v rest fits (read_usually level p e true bytes (v, rest) read) in
+    absurd (let none = not_refused p e true t.front v is holds t.form in none_is_some f (sym none ∙ h))
+  where
+    none_is_some : (f : FieldRefusal) → None ≡ Some f → ⊥
+    none_is_some f h = absurd cc
+
+-- ---- what is open
+
+no_end : (ws : List Waiting) (w : Waiting) → [] ≡ ws ++ w ∷ [] → ⊥
+no_end [] w is = absurd cc
+no_end (x ∷ ws) w is = absurd cc
+
+-- inside a body that waits there is a segment that waits
+pub some_open : (g : Opening) (ws around : List Waiting) (w : Waiting) (outer : List Segment) (Inner : Opening → Type 0) → around ≡ ws ++ w ∷ [] → Chain g around outer Inner → outer ≡ [] → ⊥
+some_open g ws [] w outer Inner is c none = no_end ws w is
+some_open g ws (x ∷ xs) w [] Inner is c none = c
+some_open g ws (x ∷ xs) w (l ∷ ls) Inner is c none = absurd cc
