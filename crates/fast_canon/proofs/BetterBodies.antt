@@ -18,7 +18,8 @@ use Rattle.fast_stream.specs.Streams.{members_of, identifier, MapAt, BodyOfBy, M
 use Rattle.fast_stream.proofs.FoundMembers.{members_have}
 use Rattle.fast_writer.specs.Canonical.{IsShortestMap, CanonMessage, CanonFrom}
 use Rattle.fast_canon.proofs.AskedBits.{behind}
-use Rattle.fast_canon.proofs.Entries.{HoldScalars}
+use Rattle.fast_walk.specs.Told.{HoldScalars}
+use Rattle.fast_walk.proofs.Telling.{identifier_is}
 use Rattle.fast_canon.proofs.PartBits.{one_asked, asked_is, asked_left, asked_below}
 use Rattle.fast_canon.proofs.Stages.{with_bits}
 use Rattle.fast_canon.proofs.BetterParts.{IsBetter, IsBetterWhole, better_then, whole_then, whole_none, better_part, better_with_map, better_segment, better_each}
@@ -125,9 +126,6 @@ mutual
   better_body members is ns s b t holds h = absurd h
 
 -- ---- messages
-
-identifier_is : IsFieldPart identifier
-identifier_is = record { typed = record { operator_applies = refl; initial_fits = tt; constant_has_value = λ e. absurd cc; default_has_value = λ e m. absurd cc }; kind_of_part = tt }
 
 better_body_of : (members : Option Instructions) → ((is : Instructions) → members ≡ Some is → EachPartIn IsFieldPart is) → (ns : Items) (s : State) (b : List ℕ) (t : State) → HoldScalars s.dictionary
     → BodyOfBy (Form Usual) (MapAt Usual) members s b ns t → IsBetter (λ s b t. BodyOfBy IsBest IsShortestMap members s b ns t) s b t

@@ -16,7 +16,8 @@ use Rattle.fast_stream.specs.Nodes.{Items, Elements, no_elements, then_element}
 use Rattle.fast_stream.specs.Streams.{MapAt}
 use Rattle.fast_writer.specs.Canonical.{IsShortestMap}
 use Rattle.fast_canon.proofs.AskedBits.{Begins, behind, AreBelow, begins_front, begins_back, behind_both, below_both, below_none, behind_none}
-use Rattle.fast_canon.proofs.Entries.{HoldScalars, written_holds}
+use Rattle.fast_walk.specs.Told.{HoldScalars}
+use Rattle.fast_walk.proofs.Telling.{form_holds}
 use Rattle.fast_canon.proofs.PartBits.{one_asked, asked_is, asked_left, asked_below, form_bit}
 use Rattle.fast_canon.proofs.Stages.{Stage, with_bits}
 use Rattle.fast_canon.proofs.ShortestMaps.{shorter_map, map_of_asked}
@@ -95,7 +96,7 @@ better_part p v s b t is holds h =
       below = asked_below needs best.0 s.bits least.0;
       left = ap (λ t. t.bits) h.1 ∙ sym (asked_left needs best.0 s.bits);
       no_longer = least.1;
-      holds = subst HoldScalars (sym after) (written_holds p s.dictionary (bit_for needs s.bits) b v is holds h.0);
+      holds = subst HoldScalars (sym after) (form_holds p s.dictionary (bit_for needs s.bits) b v is holds h.0);
     }
 
 -- ---- a segment

@@ -2,7 +2,6 @@ pub mod CanonicalBytes
 pub mod AskedBits
 pub mod PartBits
 pub mod ShortestMaps
-pub mod Entries
 pub mod Stages
 pub mod BetterParts
 pub mod BetterBodies

@@ -17,7 +17,7 @@ use Rattle.fast_stream.proofs.ModeStreams.{one_list}
 use Rattle.fast_writer.specs.Canonical.{IsCanonical}
 use Rattle.fast_writer.proofs.LawProofs.{canonical_carries}
 use Rattle.fast_canon.proofs.BetterBodies.{better_stream}
-use Rattle.fast_canon.proofs.Entries.{empty_holds}
+use Rattle.fast_walk.proofs.Telling.{empty_holds}
 use Rattle.fast_canon.proofs.OneCanonical.{one_canonical}
 
 module _ (set : TemplateList) (sound : IsSound set) where

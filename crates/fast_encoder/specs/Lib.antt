@@ -1,2 +1,1 @@
-pub mod OneProof
 pub mod Outputs

@@ -6,7 +6,8 @@ ghost use Rattle.std.specs.Prelude.{◌≡◌};
 ghost use Rattle.fast_stream.specs.Streams.{identifier as identifier_part};
 ghost use Rattle.fast_walk.specs.Traversals.{ServesAll};
 ghost use Rattle.fast_machine.specs.OneProof.{ServesAll-prop};
-ghost use Rattle.fast_encoder.specs.OneProof.{KeepScalars, KeepScalars-prop};
+ghost use Rattle.fast_walk.specs.OneProof.{KeepScalars-prop};
+ghost use Rattle.fast_walk.specs.Told.{KeepScalars};
 
 use fast_dictionary::Entries;
 use fast_nodes::Journal;

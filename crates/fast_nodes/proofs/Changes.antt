@@ -18,29 +18,13 @@ use Rattle.fast_field.specs.Fields.{Form}
 use Rattle.fast_field.specs.Within.{HoldsScalar}
 use Rattle.fast_field.proofs.FieldsWithin.{values_within, entries_within}
 use Rattle.fast_stream.specs.Bodies.{with_entry, written}
+use Rattle.fast_walk.specs.Told.{HoldScalars}
 use Rattle.fast_walk.proofs.Putting.{set_written}
+use Rattle.fast_walk.proofs.Telling.{form_holds}
 use Rattle.fast_nodes.specs.declared.journal.Change.{Change}
-use Rattle.fast_nodes.specs.Added.{Changed, GoesOn, HoldScalars}
+use Rattle.fast_nodes.specs.Added.{Changed, GoesOn}
 
 -- ---- entries within their types
-
-pub empty_holds : HoldScalars map.empty
-empty_holds k = subst HoldsScalar (sym (entry_at-empty k)) tt
-
-either_holds : (b : Bool) (e f : Entry) → HoldsScalar e → HoldsScalar f → HoldsScalar (cond b e f)
-either_holds true e f h k = h
-either_holds false e f h k = k
-
-with_entry_holds : (d : Dictionary) (k : Key) (e : Entry) → HoldScalars d → HoldsScalar e → HoldScalars (with_entry d k e)
-with_entry_holds d k Undefined all one = all
-with_entry_holds d k Empty all one = λ q. subst HoldsScalar (sym (entry_at-set_entry d k Empty q)) (either_holds (is_eq (key_cmp q k)) Empty (entry_at d q) one (all q))
-with_entry_holds d k (Assigned v) all one = λ q. subst HoldsScalar (sym (entry_at-set_entry d k (Assigned v) q)) (either_holds (is_eq (key_cmp q k)) (Assigned v) (entry_at d q) one (all q))
-
--- what has a form is written as a value of its type
-pub form_holds : (p : FieldPart) (d : Dictionary) (bit : Bool) (b : List ℕ) (v : Option Scalar) → IsFieldPart p → HoldScalars d → Form Usual p (entry_at d p.key) bit b v → HoldScalars (written p d v)
-form_holds p d bit b v is all form =
-    let here = all p.key in
-    with_entry_holds d p.key (next p (entry_at d p.key) v) all (entries_within p (entry_at d p.key) v here (values_within p (entry_at d p.key) bit b v is here form))
 
 pub best_holds : (p : FieldPart) (d : Dictionary) (bit : Bool) (b : List ℕ) (v : Option Scalar) → IsFieldPart p → HoldScalars d → IsBest p (entry_at d p.key) bit b v → HoldScalars (written p d v)
 best_holds p d bit b v is all best = form_holds p d bit b v is all (best.cut, best.form)

@@ -31,7 +31,7 @@ use Rattle.fast_stream.specs.Bodies.{State, Then, PartBy, PieceBy, Each, written
 use Rattle.fast_stream.specs.Streams.{members_of, identifier}
 use Rattle.fast_stream.proofs.FoundMembers.{members_have}
 use Rattle.fast_nodes.specs.declared.fault.EncodeFault.{EncodeFault}
-use Rattle.fast_nodes.specs.Added.{Standing, Judging, Adds, AddsBytes, HoldScalars, IsSmall, AreSmall, AreSmallIn, message_judged}
+use Rattle.fast_nodes.specs.Added.{Standing, Judging, Adds, AddsBytes, IsSmall, AreSmall, AreSmallIn, message_judged}
 use Rattle.fast_writer.specs.Canonical.{CanonBody, CanonMessage, IsShortestMap}
 use Rattle.fast_nodes.specs.FirstRefusal.{item_fits, items_fit, elements_fit, whole_refusal, judged, part_judged, segment_judged, item_judged, items_judged, elements_judged, or_else, error_in, message_refusal, first_refusal}
 use Rattle.fast_nodes.specs.Ranges.{HasRanges, HaveRanges, HaveRangesIn, IsInRange}
@@ -39,7 +39,8 @@ use Rattle.fast_writer.specs.Written.{has_set, Segment, state, bits_for, CanonSe
 use Rattle.fast_nodes.proofs.Additions.{adds_then, body_none, body_more, part_added, no_group_added, group_added, sequence_added, elements_none, elements_more, segment_added}
 use Rattle.fast_nodes.proofs.Changes.{best_holds}
 use Rattle.fast_nodes.proofs.Messages.{fitting, message_added, written_is}
-use Rattle.fast_nodes.proofs.NoForms.{identifier_is}
+use Rattle.fast_walk.specs.Told.{HoldScalars}
+use Rattle.fast_walk.proofs.Telling.{identifier_is}
 use Rattle.fast_nodes.proofs.Puts.{bit_is}
 use Rattle.fast_nodes.proofs.Tries.{and_true, or_false, small_all}
 

@@ -52,7 +52,7 @@ can_try serves set m members sound served named whole =
     let f = fitting members m.items whole in
     record {
       parts = members_have (EachPartIn IsFieldPart) (templates_in set) (parts_of_sets set sound) m.template members named;
-      served = members_served serves set m.template members served named;
+      served = members_served serves set m.template members sound served named;
       fits = f.fits;
       small = small_all m.items f.large;
     }

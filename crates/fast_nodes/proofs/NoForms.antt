@@ -35,10 +35,11 @@ use Rattle.fast_stream.specs.Bodies.{State, Then, Each, WithMap, SegmentBy, Part
 use Rattle.fast_stream.specs.Streams.{members_of, identifier, MapAt, BodyOfBy, MessageForm}
 use Rattle.fast_stream.proofs.FoundMembers.{members_have}
 use Rattle.fast_nodes.specs.declared.fault.EncodeFault.{EncodeFault}
-use Rattle.fast_nodes.specs.Added.{Judging, HoldScalars}
+use Rattle.fast_nodes.specs.Added.{Judging}
+use Rattle.fast_walk.specs.Told.{HoldScalars}
 use Rattle.fast_nodes.specs.FirstRefusal.{value_fits, item_fits, items_fit, elements_fit, item_is_large, has_large, has_large_in, whole_refusal, part_judged, segment_judged, item_judged, items_judged, elements_judged, message_refusal, first_refusal}
 use Rattle.fast_writer.specs.Written.{state, bits_for, has_set}
-use Rattle.fast_nodes.proofs.Changes.{form_holds}
+use Rattle.fast_walk.proofs.Telling.{form_holds, identifier_is}
 
 -- One after the other these bits stand no higher than those taken of a map, and the later ones are left of it.
 abbrev Below : List Bool → List Bool → List Bool → Type 0
@@ -292,9 +293,6 @@ mutual
       }
 
 -- ---- messages
-
-pub identifier_is : IsFieldPart identifier
-identifier_is = record { typed = record { operator_applies = refl; initial_fits = tt; constant_has_value = λ e. absurd cc; default_has_value = λ e m. absurd cc }; kind_of_part = tt }
 
 not_over : (n : ℕ) → n ≤ 65536 → nat_lt 65536 n ≡ false
 not_over n h = grind (arith, nat_tests)

@@ -8,10 +8,10 @@ use Rattle.fast_dictionary.specs.Dictionary.{Dictionary, entry_at}
 use Rattle.fast_wire.specs.Reading.{◌>>=◌}
 use Rattle.fast_field.specs.Best.{IsBest}
 use Rattle.fast_field.specs.Parts.{IsFieldPart, EachPart, EachPartIn}
-use Rattle.fast_field.specs.Within.{HoldsScalar}
 use Rattle.fast_stream.specs.Nodes.{Item, single, group_items, sequence_elements, Items, no_items, then_item, Elements, no_elements, then_element, element_count, Content}
 use Rattle.fast_stream.specs.Bodies.{State, Then, PartBy, written}
 use Rattle.fast_stream.specs.Streams.{identifier}
+use Rattle.fast_walk.specs.Told.{HoldScalars}
 use Rattle.fast_walk.specs.Walks.{IsServed, AreServed}
 use Rattle.fast_nodes.specs.declared.fault.EncodeCause.TheVariants as cause
 use Rattle.fast_nodes.specs.declared.fault.EncodeFault.{EncodeFault}
@@ -69,10 +69,6 @@ abbrev pub rest_judged : Bool → Instructions → Items → State → Result Di
 rest_judged own members ns s = items_judged members ns s >>= λ t. if own && has_set (drop 1792 t.bits) then Err (refused cause.Limit) else Ok t.dictionary
 
 -- ---- to the entries
-
--- each entry is undefined, empty or a value within its type
-abbrev pub HoldScalars : Dictionary → Type 0
-HoldScalars d = (k : Key) → HoldsScalar (entry_at d k)
 
 -- One after the other these parts had values, and each change has what the part's entry was before.
 abbrev pub Changed : (Key → Bool) → List Change → Dictionary → Dictionary → Type 0

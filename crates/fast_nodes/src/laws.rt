@@ -6,7 +6,7 @@ ghost use Rattle.fast_template.specs.TemplateSets.{IsSound, TemplateList, templa
 ghost use Rattle.fast_dictionary.specs.Dictionary.{Dictionary};
 ghost use Rattle.fast_stream.specs.Nodes.{Content};
 ghost use Rattle.fast_stream.specs.Streams.{MessageForm};
-ghost use Rattle.fast_nodes.specs.Added.{HoldScalars};
+ghost use Rattle.fast_walk.specs.Told.{HoldScalars};
 ghost use Rattle.fast_writer.specs.Canonical.{CanonMessage};
 ghost use Rattle.fast_nodes.specs.FirstRefusal.{first_refusal};
 ghost use Rattle.fast_nodes.specs.Ranges.{IsInRange};

@@ -8,7 +8,8 @@ ghost use Rattle.fast_dictionary.specs.Dictionary.{Dictionary, entry_at};
 ghost use Rattle.fast_field.specs.Best.{IsBest};
 ghost use Rattle.fast_field.specs.Parts.{IsFieldPart};
 ghost use Rattle.fast_stream.specs.Bodies.{PartBy, written};
-ghost use Rattle.fast_nodes.specs.Added.{Answers, Changed, GoesOn, HoldScalars};
+ghost use Rattle.fast_nodes.specs.Added.{Answers, Changed, GoesOn};
+ghost use Rattle.fast_walk.specs.Told.{HoldScalars};
 ghost use Rattle.fast_nodes.specs.FirstRefusal.{part_judged};
 ghost use Rattle.fast_writer.specs.Levels.{level_of};
 

@@ -1,7 +1,8 @@
 use Rattle.std.proofs.Common.{Some, refl, sym, subst, ◌∙◌}
 use Rattle.fast_template.specs.Resolved.{list_of}
 use Rattle.fast_stream.specs.Nodes.{content_of}
-use Rattle.fast_nodes.specs.Added.{Changed, HoldScalars}
+use Rattle.fast_nodes.specs.Added.{Changed}
+use Rattle.fast_walk.specs.Told.{HoldScalars}
 use Rattle.fast_writer.specs.Levels.{level_of}
 use Rattle.fast_nodes.proofs.Messages.{message_added}
 use Rattle.fast_encoder.proofs.message.put_message.Goals as goal

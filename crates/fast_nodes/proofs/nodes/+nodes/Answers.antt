@@ -11,7 +11,8 @@ use Rattle.fast_stream.specs.declared.message.Node.{Node, fold_out-Node}
 use Rattle.fast_stream.specs.declared.message.Node.TheVariants.{Absent, outs-Absent, Value, outs-Value}
 use Rattle.fast_stream.specs.Nodes.{Item, single, node_step, item_of, items_in, elements_of, element_count}
 use Rattle.fast_walk.proofs.Views.{item_of-group, item_of-sequence}
-use Rattle.fast_nodes.specs.Added.{CanTry, HoldScalars}
+use Rattle.fast_nodes.specs.Added.{CanTry}
+use Rattle.fast_walk.specs.Told.{HoldScalars}
 use Rattle.fast_writer.specs.Levels.{level_of}
 use Rattle.fast_nodes.proofs.Additions.{no_group_added, segment_added}
 use Rattle.fast_nodes.proofs.Changes.{goes_on_then}

@@ -1,7 +1,7 @@
 use Rattle.fast_template.specs.Resolved.{list_of}
 use Rattle.fast_template.specs.TemplateSets.{templates_in}
 use Rattle.fast_stream.specs.Nodes.{content_of}
-use Rattle.fast_encoder.proofs.Kept.{are_kept, kept_hold}
+use Rattle.fast_walk.proofs.Telling.{are_kept, kept_hold}
 use Rattle.fast_nodes.proofs.Messages.{can_try, written_of}
 use Rattle.fast_encoder.proofs.encoder.Encoder.encode.Goals as goal
 

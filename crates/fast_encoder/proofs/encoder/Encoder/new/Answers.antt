@@ -1,6 +1,6 @@
 use Rattle.std.proofs.Common.{subst, sym}
-use Rattle.fast_encoder.specs.OneProof.{KeepScalars}
-use Rattle.fast_encoder.proofs.Kept.{empty_kept}
+use Rattle.fast_walk.specs.Told.{KeepScalars}
+use Rattle.fast_walk.proofs.Telling.{empty_kept}
 use Rattle.fast_encoder.proofs.encoder.Encoder.new.Goals as goal
 
 pub invariant_of-result-clause-kept : goal.invariant_of-result-clause-kept

@@ -5,7 +5,7 @@ use Rattle.fast_dictionary.specs.declared.entry.Entry.{Entry}
 use Rattle.fast_dictionary.specs.Dictionary.{set_entry, set_entry-there}
 use Rattle.fast_field.specs.Bases.{next}
 use Rattle.fast_walk.proofs.Putting.{set_written}
-use Rattle.fast_nodes.specs.Added.{HoldScalars}
+use Rattle.fast_walk.specs.Told.{HoldScalars}
 use Rattle.fast_writer.specs.Levels.{level_of}
 use Rattle.fast_nodes.proofs.Additions.{part_added}
 use Rattle.fast_nodes.proofs.Changes.{best_holds}
