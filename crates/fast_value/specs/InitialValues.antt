@@ -1,6 +1,6 @@
 -- What the text of an initial value means for each type.
 -- FAST 1.1, Field Operators, Initial Values. The spellings and their limits are this project's own.
-use Rattle.std.specs.Prelude.{ℕ, ◌+◌, ◌-◌, ◌*◌, ℤ, pos, neg_ℤ, Bool, true, false, ◌&&◌, ◌==◌, nat_le, nat_lt, if◌then◌else◌, List, [], ◌∷◌, length, fold, Option, Some, None, option_map, option_and_then}
+use Rattle.std.specs.Prelude.{ℕ, ◌+◌, ◌-◌, ◌*◌, ℤ, pos, neg_ℤ, Bool, ◌&&◌, ◌==◌, nat_le, nat_lt, if◌then◌else◌, List, [], ◌∷◌, length, fold, Option, Some, None, option_map, option_and_then}
 use Rattle.std.specs.List.{list_all, before_first, after_first}
 use Rattle.fast_value.specs.declared.scalar.Scalar.{Scalar}
 use Rattle.fast_value.specs.declared.scalar.Scalar.TheVariants.{Decimal, Ascii, Unicode, Bytes}
@@ -56,13 +56,6 @@ hex_bytes_of (high ∷ low ∷ text) = option_and_then (λ h. option_and_then (�
 -- at most 65,535 characters or bytes
 abbrev pub is_short : List ℕ → Bool
 is_short units = nat_le (length units) 65535
-
--- the types of values that are kept in memory of their own
-abbrev pub has_units : Kind → Bool
-has_units kind.Ascii = true
-has_units kind.Unicode = true
-has_units kind.Bytes = true
-has_units k = false
 
 -- the value that a text spells for a part and type, if it spells one
 abbrev pub value_of_text : Part → Kind → List ℕ → Option Scalar

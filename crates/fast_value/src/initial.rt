@@ -3,9 +3,9 @@
 ghost use Rattle.std.specs.Prelude.{◌≡◌, ◌≤◌, ◌^◌, ◌*◌, ◌+◌, ◌-◌, ◌==◌, ◌&&◌, IfOk, IsSome, IsTrue, OnErr, drop, fold, is_some, length, min, nat_lt};
 ghost use Rattle.std.specs.List.{after_first, before_first, list_all, position_or_len};
 ghost use Rattle.std.specs.Char.{is_ascii_hexdigit};
-ghost use Rattle.fast_value.specs.InitialValues.{decimal_value, has_units, in_range_of as in_range_of_part, integer_of, integer_value, is_digit, where_so, value_of_text as value_of_text_of};
+ghost use Rattle.fast_value.specs.InitialValues.{decimal_value, in_range_of as in_range_of_part, integer_of, integer_value, is_digit, where_so, value_of_text as value_of_text_of};
 ghost use Rattle.fast_value.specs.Numbers.{small_integer, small_number};
-ghost use Rattle.fast_value.specs.Scalar.{exponent_in_range, greatest_of, in_range, least_of, of_integer as of_integer_of};
+ghost use Rattle.fast_value.specs.Scalar.{exponent_in_range, greatest_of, has_units, in_range, least_of, of_integer as of_integer_of};
 ghost use Rattle.fast_value.specs.declared.scalar.Scalar.TheVariants.{Decimal};
 ghost use Rattle.fast_value.specs.declared.kind.Part.TheVariants.{Exponent, Whole};
 ghost use Rattle.fast_value.specs.declared.kind.Kind.TheVariants.{Int32};
