@@ -1,1 +1,2 @@
 pub mod Showings
+mod Shapes

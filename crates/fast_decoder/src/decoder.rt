@@ -1,6 +1,7 @@
 //! Streams to messages.
 
 ghost use Rattle.std.specs.Prelude.{◌≡◌, ◌≢◌, ◌≤◌, ◌+◌, ◌^◌, ◌++◌, [], ℕ, List, None, Some, Err, OnOk, IfErr, IfSome, length, map};
+ghost use Rattle.std.specs.FinMap as finite;
 ghost use Rattle.fast_template.specs.TemplateSets.{templates_in};
 ghost use Rattle.fast_stream.specs.Nodes.{Content, content_of};
 ghost use Rattle.fast_stream.specs.Modes.{Carries};
@@ -32,6 +33,7 @@ impl<'a, E: Entries> Decoder<'a, E> {
         ensures set { result.machine.traversal.set.now ≡ set.now }
         ensures mode { mode_of result.machine ≡ mode }
         ensures fault { result.machine.fault ≡ None }
+        ensures empty { E.contents result.machine.entries ≡ finite.empty }
         ensures follows { Follows result.machine [] [] [] }
     {
         Decoder {
@@ -146,6 +148,7 @@ impl<'a, E: Entries> Decoder<'a, E> {
         ensures mode { mode_of self.new.machine ≡ mode_of self.old.machine }
         ensures same_keys { E.serves self.new.machine.entries ≡ E.serves self.old.machine.entries }
         ensures fault { self.new.machine.fault ≡ None }
+        ensures empty { E.contents self.new.machine.entries ≡ finite.empty }
         ensures follows { Follows self.new.machine [] [] [] }
     {
         let machine = &mut self.machine;

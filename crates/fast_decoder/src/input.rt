@@ -1,6 +1,7 @@
 //! Messages from a reader.
 
 ghost use Rattle.std.specs.Prelude.{◌≡◌, ◌≢◌, ◌≤◌, ◌<◌, ◌+◌, ◌*◌, ◌++◌, ◌^◌, [], ℕ, true, false, List, Option, None, Some, Ok, Err, OnOk, IfErr, length};
+ghost use Rattle.std.specs.FinMap as finite;
 ghost use Rattle.std.specs.Io.KnownBytes.{IsAtEnd};
 ghost use Rattle.fast_template.specs.TemplateSets.{templates_in};
 ghost use Rattle.fast_stream.specs.Nodes.{Content};
@@ -108,6 +109,7 @@ impl<'a, R: ByteInput, E: Entries> MessageInputStream<'a, R, E> {
         ensures reached { result.reached ≡ Reached.Open }
         ensures reads { result.reads ≡ 0 }
         ensures waiting { result.waiting.items ≡ [] }
+        ensures empty { E.contents result.decoder.machine.entries ≡ finite.empty }
         ensures stands { Stands result.reached result.decoder result.waiting.items result.turns
             result.reads (R.left result.reader) [] [] }
     {
@@ -256,6 +258,7 @@ impl<'a, R: ByteInput, E: Entries> MessageInputStream<'a, R, E> {
         ensures reached { self.new.reached ≡ Reached.Open }
         ensures reads { self.new.reads ≡ 0 }
         ensures waiting { self.new.waiting.items ≡ [] }
+        ensures empty { E.contents self.new.decoder.machine.entries ≡ finite.empty }
         ensures stands { Stands self.new.reached self.new.decoder self.new.waiting.items
             self.new.turns self.new.reads (R.left self.new.reader) [] [] }
     {

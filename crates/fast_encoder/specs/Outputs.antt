@@ -20,10 +20,16 @@ pub record AreSent (set : List Resolved) (runs : List (List Content)) (messages 
   pub earlier : CanonRuns set runs before
   pub since : CanonFrom set map.empty now messages after
 
--- Until a write has failed these are the bytes; from then on they are a front of those of one message more.
-abbrev pub Sends : Bool → List Resolved → Dictionary → List (List Content) → List Content → List ℕ → Type 0
-Sends false set d runs messages bytes = AreSent set runs messages bytes d
-Sends true set d runs messages bytes = (m : Content) × (rest : List ℕ) × (after : Dictionary) × AreSent set runs (messages ++ m ∷ []) (bytes ++ rest) after
+-- Until a write has failed these are the bytes; from then on they are a front of those with the last message's, the one
+-- whose write failed.
+abbrev pub Sends : Bool → List Resolved → Dictionary → List (List Content) → List Content → Content → List ℕ → Type 0
+Sends false set d runs messages last bytes = AreSent set runs messages bytes d
+Sends true set d runs messages last bytes = (rest : List ℕ) × (after : Dictionary) × AreSent set runs (messages ++ last ∷ []) (bytes ++ rest) after
+
+-- the message handed in last while no write had failed: this one, unless one had
+abbrev pub last_tried : Bool → Content → Content → Content
+last_tried false last m = m
+last_tried true last m = last
 
 -- the messages answered Ok, with this one
 abbrev pub answered : Result (Unit {0}) EncodeFault → List Content → Content → List Content

@@ -298,6 +298,7 @@ module _ (templates : List Template) (names : BTreeMap (List ℕ) ℕ) (rows : L
   build_order_is order o known = record {
     within = λ p a at. let k : a < length rows = o.within p a at in let len : length rows ≡ length ts = rows_len in omega (arith, k, len);
     complete = λ a inside. o.complete a (let len : length rows ≡ length ts = rows_len in omega (arith, inside, len));
+    once = o.once;
     behind = λ p a w at_p at_a. each_of (IsBehind ts order p) w.members (λ j name ref. behind_so p a w at_p at_a j name ref);
   } where
     behind_so : (p a : ℕ) (w : WrittenTemplate) → slice_get order p ≡ Some a → slice_get ts a ≡ Some w → (j : ℕ) (name : List ℕ) → slice_get (references_in w.members) j ≡ Some name → IsBehind ts order p name

@@ -58,8 +58,9 @@ abbrev mutual
 abbrev pub IsBehind : List WrittenTemplate → List ℕ → ℕ → List ℕ → Type 0
 IsBehind ts order p name = (b : ℕ) × (q : ℕ) × (place_named ts name ≡ Some b) × (q < p) × (slice_get order q ≡ Some b)
 
--- The places of templates in an order in which each stands behind those that it refers to.
+-- The places of templates in an order in which each stands once, behind those that it refers to.
 pub record IsBuildOrder (ts : List WrittenTemplate) (order : List ℕ) : Type 0 where
   pub within : (p a : ℕ) → slice_get order p ≡ Some a → a < length ts
   pub complete : (a : ℕ) → a < length ts → (p : ℕ) × (slice_get order p ≡ Some a)
+  pub once : (p q a : ℕ) → slice_get order p ≡ Some a → slice_get order q ≡ Some a → p ≡ q
   pub behind : (p a : ℕ) (w : WrittenTemplate) → slice_get order p ≡ Some a → slice_get ts a ≡ Some w → EachReference (IsBehind ts order p) w.members

@@ -1,6 +1,6 @@
 //! Lists of instructions whose references are replaced.
 
-ghost use Rattle.std.specs.Prelude.{◌≡◌, ◌≤◌, IfOk, OnOk, length, map, option_map, string_bytes};
+ghost use Rattle.std.specs.Prelude.{◌≡◌, ◌≤◌, IfOk, OnOk, OnErr, length, map, option_map, string_bytes};
 ghost use Rattle.fast_load.specs.Duplicates.{NamesLead};
 ghost use Rattle.fast_load.specs.FlatLists.{exponent_part, field_part, flat_list, flat_one, length_key, length_part, mantissa_part};
 ghost use Rattle.fast_load.specs.Links.{IsBuildOrder};
@@ -200,8 +200,9 @@ fn append_placed(
 
 #[tactic(auto, using(crate::proofs::FlatLaws::list_of_append))]
 fn append_copies(list: &[Flat], alloc: Global, flats: &mut Vec<Flat>) -> Result<(), AllocError>
-    ensures { OnOk result (list_of flats.new.items ≡ joined (list_of flats.old.items)
+    ensures added { OnOk result (list_of flats.new.items ≡ joined (list_of flats.old.items)
         (list_of list.now)) }
+    ensures unchanged { OnErr result (flats.new.items ≡ flats.old.items) }
 {
     let mut copies = copy_all(list, alloc)?;
     flats.append(&mut copies)?;

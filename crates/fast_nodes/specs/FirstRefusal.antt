@@ -140,6 +140,11 @@ whole_refusal members ns =
     if not (items_fit members ns) then Some (refused cause.Mismatch)
     else if is_too_large ns then Some (refused cause.Limit) else None
 
+-- what is judged of a message before its fields, whatever the entries are: its template, its shape and its size
+abbrev pub early_refusal : Option Instructions → Items → Option EncodeFault
+early_refusal None ns = Some (refused cause.D9)
+early_refusal (Some members) ns = whole_refusal members ns
+
 abbrev pub or_else : Option EncodeFault → Option EncodeFault → Option EncodeFault
 or_else (Some f) later = Some f
 or_else None later = later

@@ -7,7 +7,7 @@ ghost use Rattle.fast_dictionary.specs.Dictionary.{Dictionary};
 ghost use Rattle.fast_field.specs.Calls.{Judges};
 ghost use Rattle.fast_stream.specs.Nodes.{content_of, items_in};
 ghost use Rattle.fast_stream.specs.Streams.{members_of};
-ghost use Rattle.fast_nodes.specs.FirstRefusal.{first_refusal, is_too_large, whole_refusal};
+ghost use Rattle.fast_nodes.specs.FirstRefusal.{early_refusal, first_refusal, is_too_large, whole_refusal};
 
 use crate::fault::{EncodeCause, EncodeFault};
 use crate::shape::all_fit;
@@ -58,6 +58,8 @@ pub fn template_for<'a>(
         ≡ Some (list_of t.now.members.items)) }
     ensures whole { IfOk result (λ t. whole_refusal (list_of t.now.members.items)
         (content_of message.now).items ≡ None) }
+    ensures early { IfErr result (λ f. early_refusal (members_of (templates_in set.now) message.now.template)
+        (content_of message.now).items ≡ Some f) }
     ensures refused { IfErr result (λ f. (d : Dictionary)
         → first_refusal (templates_in set.now) d (content_of message.now) ≡ Some f) }
 {

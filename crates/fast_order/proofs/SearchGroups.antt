@@ -71,7 +71,8 @@ group_done rows s x on_cycle front through last_start front_is judged_so h = rec
   judged = λ v. (λ at. judged_true v (set_all_back s.marks group (Done on_cycle) v (Done true) at), λ at. judged_false v (set_all_back s.marks group (Done on_cycle) v (Done false) at));
   placed = λ v done. placed_so v (done_cases v done);
   behind = λ p v k w at ref. behind_so p v k w (at_append s.order group p v at) ref;
-  within = λ p v at. within_so p v (at_append s.order group p v at);
+  ordered = λ p v at. ordered_so p v (at_append s.order group p v at);
+  once = λ p q v at_p at_q. once_so p q v (at_append s.order group p v at_p) (at_append s.order group q v at_q);
 } where
   group : List ℕ
   group = drop x.place s.opened
@@ -225,12 +226,18 @@ group_done rows s x on_cycle front through last_start front_is judged_so h = rec
   behind_so p v k w (inl a) ref = elim (h.behind p v k w a ref) [ inl cycle ↦ inl cycle | inr r ↦ inr (r.0, r.1, at_old s.order group r.0 w r.2) ]
   behind_so p v k w (inr (j, there, at)) ref = by_flag on_cycle refl p v k w j there at ref
 
-  within_so : (p v : ℕ) → (slice_get s.order p ≡ Some v) ⊎ ((j : ℕ) × (p ≡ length s.order + j) × (slice_get group j ≡ Some v)) → v < length rows
-  within_so p v (inl a) = h.within p v a
-  within_so p v (inr (j, there, at)) =
-      let inside : v < length s.marks = slice_get_within s.marks v (Open (x.place + j)) (group_marked j v at) in
-      let same : length s.marks ≡ length rows = h.marks_len in
-      omega (arith, inside, same)
+  ordered_so : (p v : ℕ) → (slice_get s.order p ≡ Some v) ⊎ ((j : ℕ) × (p ≡ length s.order + j) × (slice_get group j ≡ Some v)) → IsDone (set_all s.marks group (Done on_cycle)) v
+  ordered_so p v (inl a) = kept_done v (h.ordered p v a)
+  ordered_so p v (inr (j, there, at)) = (on_cycle, group_now j v at)
+
+  -- what was done before is not in the group, and what is open is so once
+  once_so : (p q v : ℕ) → (slice_get s.order p ≡ Some v) ⊎ ((j : ℕ) × (p ≡ length s.order + j) × (slice_get group j ≡ Some v)) → (slice_get s.order q ≡ Some v) ⊎ ((j : ℕ) × (q ≡ length s.order + j) × (slice_get group j ≡ Some v)) → p ≡ q
+  once_so p q v (inl a) (inl b) = h.once p q v a b
+  once_so p q v (inl a) (inr (j, there, at)) = absurd (cc (sym (h.ordered p v a).1 ∙ group_marked j v at))
+  once_so p q v (inr (j, there, at)) (inl b) = absurd (cc (sym (h.ordered q v b).1 ∙ group_marked j v at))
+  once_so p q v (inr (i, there_p, at_p)) (inr (j, there_q, at_q)) =
+      let same : x.place + i ≡ x.place + j = cc (sym (group_marked i v at_p) ∙ group_marked j v at_q) in
+      omega (arith, same, there_p, there_q)
 
 -- ---- whether a group lies on cycles
 
@@ -377,16 +384,25 @@ at_first rows s len new opened starts path order = record {
   judged = λ v. (λ at. absurd (cc (new v (Done true) at)), λ at. absurd (cc (new v (Done false) at)));
   placed = λ v done. absurd (cc (new v (Done done.0) done.1));
   behind = λ p v k w at ref. absurd (cc (sym at ∙ ap (λ l. slice_get l p) order));
-  within = λ p v at. absurd (cc (sym at ∙ ap (λ l. slice_get l p) order));
+  ordered = λ p v at. absurd (cc (sym at ∙ ap (λ l. slice_get l p) order));
+  once = λ p q v at_p at_q. absurd (cc (sym at_p ∙ ap (λ l. slice_get l p) order));
 }
 
 -- all done
 pub order_is : (rows : List (Vec ℕ Global)) (s : State) → Stands rows s None → ((v : ℕ) → v < length rows → IsDone s.marks v) → ((v : ℕ) → ¬ (slice_get s.marks v ≡ Some (Done true))) → IsOrder rows s.order
 order_is rows s h done free = record {
-  within = h.within;
+  within = inside;
   complete = λ a l. h.placed a (done a l);
-  behind = λ p a k b at ref. elim (h.behind p a k b at ref) [ inl cycle ↦ absurd (off a (done a (h.within p a at)) cycle) | inr r ↦ r ];
+  once = h.once;
+  behind = λ p a k b at ref. elim (h.behind p a k b at ref) [ inl cycle ↦ absurd (off a (done a (inside p a at)) cycle) | inr r ↦ r ];
 } where
+  inside : (p a : ℕ) → slice_get s.order p ≡ Some a → a < length rows
+  inside p a at =
+      let done_at = h.ordered p a at in
+      let k : a < length s.marks = slice_get_within s.marks a (Done done_at.0) done_at.1 in
+      let len : length s.marks ≡ length rows = h.marks_len in
+      omega (arith, k, len)
+
   off : (a : ℕ) → IsDone s.marks a → ¬ (Reaches rows a a)
   off a (true, at) = λ cycle. free a at
   off a (false, at) = (h.judged a).1 at

@@ -127,7 +127,8 @@ advanced rows s x y node place next h = record {
   judged = h.judged;
   placed = h.placed;
   behind = h.behind;
-  within = h.within;
+  ordered = h.ordered;
+  once = h.once;
 } where
   to_come_or_now : (i k : ℕ) → ToCome (s.path ++ x ∷ []) i k → IsNow (Some x) i k ⊎ ToCome (s.path ++ y ∷ []) i k
   to_come_or_now i k (p, z, at, there, le) = elim (at_push s.path x p z at) [
@@ -183,7 +184,8 @@ resolved rows s x followed h = record {
   judged = h.judged;
   placed = h.placed;
   behind = h.behind;
-  within = h.within;
+  ordered = h.ordered;
+  once = h.once;
 } where
   explored_so : (i k u w : ℕ) → slice_get s.opened i ≡ Some u → IsReference rows u k w → (IsNow (Some x) i k ⊎ ToCome s.path i k) ⊎ IsFollowed s.marks s.starts i w → (⊥ ⊎ ToCome s.path i k) ⊎ IsFollowed s.marks s.starts i w
   explored_so i k u w at ref (inl (inl n)) =
@@ -211,7 +213,8 @@ opened_one rows s v now new parent h = record {
   judged = λ u. (λ at. (h.judged u).0 (still_done u true at), λ at. (h.judged u).1 (still_done u false at));
   placed = λ u done. h.placed u (done_before u done);
   behind = h.behind;
-  within = h.within;
+  ordered = λ p u at. kept u (h.ordered p u at);
+  once = h.once;
 } where
   mine : Visit
   mine = record { node = v; place = length s.opened; next = 0 }
@@ -343,7 +346,8 @@ lowered rows s t now i0 u0 k0 q w0 marks opened path order rest gone at_i0 ref0 
   judged = λ v. (λ at. (h.judged v).0 (sym (ap (λ m. slice_get m v) marks) ∙ at), λ at. (h.judged v).1 (sym (ap (λ m. slice_get m v) marks) ∙ at));
   placed = λ v done. let r = h.placed v (done_then v done) in (r.0, ap (λ o. slice_get o r.0) order ∙ r.1);
   behind = λ p v k w at ref. elim (h.behind p v k w (sym (ap (λ o. slice_get o p) order) ∙ at) ref) [ inl cycle ↦ inl cycle | inr r ↦ inr (r.0, r.1, ap (λ o. slice_get o r.0) order ∙ r.2) ];
-  within = λ p v at. h.within p v (sym (ap (λ o. slice_get o p) order) ∙ at);
+  ordered = λ p v at. done_now v (h.ordered p v (sym (ap (λ o. slice_get o p) order) ∙ at));
+  once = λ p r v at_p at_r. h.once p r v (sym (ap (λ o. slice_get o p) order) ∙ at_p) (sym (ap (λ o. slice_get o r) order) ∙ at_r);
 } where
   done_now : (v : ℕ) → IsDone s.marks v → IsDone t.marks v
   done_now v (b, at) = (b, ap (λ m. slice_get m v) marks ∙ at)
@@ -418,7 +422,8 @@ left rows s x through no_start h = record {
   judged = h.judged;
   placed = h.placed;
   behind = h.behind;
-  within = h.within;
+  ordered = h.ordered;
+  once = h.once;
 } where
   explored_so : (i k u w : ℕ) → slice_get s.opened i ≡ Some u → IsReference rows u k w → (⊥ ⊎ ToCome (s.path ++ x ∷ []) i k) ⊎ IsFollowed s.marks s.starts i w → (⊥ ⊎ ToCome s.path i k) ⊎ IsFollowed s.marks s.starts i w
   explored_so i k u w at ref (inl (inl never)) = absurd never

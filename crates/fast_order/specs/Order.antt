@@ -22,8 +22,9 @@ pub record IsFirstOnCycle (rows : List (Vec ℕ Global)) (t : ℕ) : Type 0 wher
   pub on_cycle : Reaches rows t t
   pub first : (u : ℕ) → u < t → ¬ (Reaches rows u u)
 
--- each stands in the order, behind those that it refers to
+-- each stands in the order once, behind those that it refers to
 pub record IsOrder (rows : List (Vec ℕ Global)) (order : List ℕ) : Type 0 where
   pub within : (p a : ℕ) → slice_get order p ≡ Some a → a < length rows
   pub complete : (a : ℕ) → a < length rows → (p : ℕ) × (slice_get order p ≡ Some a)
+  pub once : (p q a : ℕ) → slice_get order p ≡ Some a → slice_get order q ≡ Some a → p ≡ q
   pub behind : (p a k b : ℕ) → slice_get order p ≡ Some a → IsReference rows a k b → (q : ℕ) × (q < p) × (slice_get order q ≡ Some b)

@@ -65,7 +65,8 @@ pub record Stands (rows : List (Vec ℕ Global)) (s : State) (now : Option Visit
   pub judged : (v : ℕ) → (slice_get s.marks v ≡ Some (Done true) → Reaches rows v v) × (slice_get s.marks v ≡ Some (Done false) → ¬ (Reaches rows v v))
   pub placed : (v : ℕ) → IsDone s.marks v → (p : ℕ) × (slice_get s.order p ≡ Some v)
   pub behind : (p v k w : ℕ) → slice_get s.order p ≡ Some v → IsReference rows v k w → Reaches rows v v ⊎ ((q : ℕ) × (q < p) × (slice_get s.order q ≡ Some w))
-  pub within : (p v : ℕ) → slice_get s.order p ≡ Some v → v < length rows
+  pub ordered : (p v : ℕ) → slice_get s.order p ≡ Some v → IsDone s.marks v
+  pub once : (p q v : ℕ) → slice_get s.order p ≡ Some v → slice_get s.order q ≡ Some v → p ≡ q
 
 -- what was seen stays seen
 abbrev pub KeepsSeen : State → State → Type 0

@@ -43,7 +43,7 @@ pub(crate) struct Search {
     order: Vec<usize>,
 }
 
-/// An order in which each template stands behind those that it refers to, or the first that lies on
+/// An order in which each template stands once, behind those that it refers to, or the first that lies on
 /// a cycle.
 ///
 /// # Errors

@@ -1,14 +1,17 @@
 -- Hexadecimal texts, as the library reads them.
-use Rattle.std.proofs.Common.{◌≡◌, ◌≤◌, ◌+◌, ◌-◌, ◌*◌, ◌%◌, ◌==◌, ◌&&◌, suc, ℕ, List, [], ◌∷◌, length, nat_le, if◌then◌else◌, Option, Some, None, Result, Ok, Err, Bool, true, false, ◌⊎◌, inl, inr, refl, sym, ap, ◌∙◌, arith, true≢false}
-use Rattle.std.specs.Prelude.{option_map, option_and_then}
+use Rattle.std.proofs.Common.{◌≡◌, ◌≤◌, ◌+◌, ◌-◌, ◌*◌, ◌%◌, ◌==◌, ◌&&◌, ◌||◌, suc, ℕ, List, [], ◌∷◌, length, nat_le, if◌then◌else◌, Option, Some, None, Result, Ok, Err, Bool, true, false, refl, sym, ap, ◌∙◌, arith, true≢false, ◌<◌}
+use Rattle.std.specs.Prelude.{is_some, option_map, option_and_then}
+use Rattle.std.specs.Char.{is_ascii_hexdigit}
+use Rattle.std.specs.List.{list_all}
 use Rattle.std.specs.Option.{option_map_or}
 use Rattle.std.specs.Cmp.{unsigned_Decides}
 use Rattle.std.proofs.Math.Nat.{mul-add-mod_self_left}
-use Rattle.std.proofs.lemmas.Bool.{leb-true}
+use Rattle.std.proofs.lemmas.Bool.{leb-true, le-leb}
 use Rattle.hex.specs.Hex.{hex_digit_value, digit_or_error, decode_pairs, decode_of, ◌>>=◌}
 use Rattle.hex.specs.declared.error.FromHexError.{FromHexError}
-use Rattle.hex.specs.declared.error.FromHexError.TheVariants.{OutOfMemory}
-use Rattle.fast_value.specs.InitialValues.{is_digit, hex_digit_of, hex_bytes_of}
+use Rattle.fast_value.specs.InitialValues.{is_digit, hex_digit_of, hex_bytes_of, is_short, where_so}
+use Rattle.fast_value.specs.declared.scalar.Scalar.{Scalar}
+use Rattle.fast_value.specs.declared.scalar.Scalar.TheVariants.{Bytes}
 
 abbrev pub good : {A : Type 0} → Result A FromHexError → Option A
 good (Ok x) = Some x
@@ -93,7 +96,79 @@ pub decoded_bytes : (text : List ℕ) → good (decode_of text) ≡ hex_bytes_of
 decoded_bytes text =
     if_not_odd (length text % 2 == 1) (decode_pairs 0 text) _ (λ odd. decoded 0 text ∙ no_bytes text (hex_bytes_of text) refl odd) ∙ decoded 0 text
 
--- a text that the library refuses spells no bytes
-pub refused : (text : List ℕ) (e : FromHexError) → (e ≡ OutOfMemory → ⊥) → (e ≡ OutOfMemory) ⊎ (decode_of text ≡ Err e) → hex_bytes_of text ≡ None
-refused text e other (inl memory) = absurd (other memory)
-refused text e other (inr is) = sym (decoded_bytes text) ∙ ap good is
+-- ---- which texts spell bytes
+
+is_digit_of : (d u l : Bool) (x y z : ℕ) → is_some (if d then Some x else if u then Some y else if l then Some z else None) ≡ ((d || u) || l)
+is_digit_of true u l x y z = refl
+is_digit_of false true l x y z = refl
+is_digit_of false false true x y z = refl
+is_digit_of false false false x y z = refl
+
+pair_spells : (h l : Option ℕ) (o : Option (List ℕ)) (a b even digits : Bool) → is_some h ≡ a → is_some l ≡ b → is_some o ≡ (even && digits)
+    → is_some (option_and_then (λ x. option_and_then (λ y. option_map (λ bytes. (16 * x + y) ∷ bytes) o) l) h) ≡ (even && (a && (b && digits)))
+pair_spells None l o true b even digits h_is l_is o_is = absurd (true≢false (sym h_is))
+pair_spells None l o false b true digits h_is l_is o_is = refl
+pair_spells None l o false b false digits h_is l_is o_is = refl
+pair_spells (Some x) l o false b even digits h_is l_is o_is = absurd (true≢false h_is)
+pair_spells (Some x) None o true true even digits h_is l_is o_is = absurd (true≢false (sym l_is))
+pair_spells (Some x) None o true false true digits h_is l_is o_is = refl
+pair_spells (Some x) None o true false false digits h_is l_is o_is = refl
+pair_spells (Some x) (Some y) o true false even digits h_is l_is o_is = absurd (true≢false l_is)
+pair_spells (Some x) (Some y) None true true even digits h_is l_is o_is = o_is
+pair_spells (Some x) (Some y) (Some bytes) true true even digits h_is l_is o_is = o_is
+
+-- two digits for each byte, and nothing else
+digits_spell : (text : List ℕ) → is_some (hex_bytes_of text) ≡ ((length text % 2 == 0) && list_all is_ascii_hexdigit text)
+digits_spell [] = refl
+digits_spell (high ∷ []) = refl
+digits_spell (high ∷ low ∷ rest) =
+    let two : length (high ∷ low ∷ rest) % 2 ≡ length rest % 2 = ap (λ n. n % 2) (let k : suc (suc (length rest)) ≡ 2 * 1 + length rest = omega arith in k) ∙ mul-add-mod_self_left 2 1 (length rest) in
+    pair_spells (hex_digit_of high) (hex_digit_of low) (hex_bytes_of rest) (is_ascii_hexdigit high) (is_ascii_hexdigit low) (length rest % 2 == 0) (list_all is_ascii_hexdigit rest)
+    (is_digit_of (is_digit high) (nat_le 65 high && nat_le high 70) (nat_le 97 high && nat_le high 102) (high - 48) (high - 55) (high - 87))
+    (is_digit_of (is_digit low) (nat_le 65 low && nat_le low 70) (nat_le 97 low && nat_le low 102) (low - 48) (low - 55) (low - 87))
+    (digits_spell rest)
+    ∙ ap (λ n. (n == 0) && list_all is_ascii_hexdigit (high ∷ low ∷ rest)) (sym two)
+
+-- what the text of a byte vector spells
+abbrev pub value_of_hex : Option (List ℕ) → Option Scalar
+value_of_hex o = option_and_then (λ bytes. where_so (is_short bytes) (Bytes bytes)) o
+
+short_is : (bytes : List ℕ) (b : Bool) → is_short bytes ≡ b → is_some (where_so (is_short bytes) (Bytes bytes)) ≡ b
+short_is bytes true is = ap (λ s. is_some (where_so s (Bytes bytes))) is
+short_is bytes false is = ap (λ s. is_some (where_so s (Bytes bytes))) is
+
+few_spell : (text : List ℕ) (o : Option (List ℕ)) → hex_bytes_of text ≡ o → length text ≤ 131070 → is_some (value_of_hex o) ≡ is_some o
+few_spell text None is few = refl
+few_spell text (Some bytes) is few = let twice_as_long = length-hex text bytes is in short_is bytes true (le-leb (length bytes) 65535 (omega (arith, twice_as_long, few)))
+
+many_spell_none : (text : List ℕ) (o : Option (List ℕ)) → hex_bytes_of text ≡ o → 131070 < length text → is_some (value_of_hex o) ≡ false
+many_spell_none text None is many = refl
+many_spell_none text (Some bytes) is many = short_is bytes false (by (is_short bytes) refl) where
+  by : (b : Bool) → is_short bytes ≡ b → is_short bytes ≡ false
+  by true e = let short : length bytes ≤ 65535 = leb-true (length bytes) 65535 e in let twice_as_long = length-hex text bytes is in absurd (omega (arith, twice_as_long, many, short))
+  by false e = e
+
+pub spells_by_digits : (text : List ℕ) → length text ≤ 131070 → (length text % 2 == 0) ≡ true → list_all is_ascii_hexdigit text ≡ is_some (value_of_hex (hex_bytes_of text))
+spells_by_digits text few even_so = sym (few_spell text (hex_bytes_of text) refl few ∙ digits_spell text ∙ ap (λ b. b && list_all is_ascii_hexdigit text) even_so)
+
+pub odd_spells_none : (text : List ℕ) → length text ≤ 131070 → (length text % 2 == 0) ≡ false → false ≡ is_some (value_of_hex (hex_bytes_of text))
+odd_spells_none text few odd = sym (few_spell text (hex_bytes_of text) refl few ∙ digits_spell text ∙ ap (λ b. b && list_all is_ascii_hexdigit text) odd)
+
+pub long_spells_none : (text : List ℕ) → 131070 < length text → false ≡ is_some (value_of_hex (hex_bytes_of text))
+long_spells_none text many = sym (many_spell_none text (hex_bytes_of text) refl many)
+
+-- what the library gives for a text that spells bytes
+pub spelled_none : (text : List ℕ) (spells : Bool) → spells ≡ is_some (value_of_hex (hex_bytes_of text)) → spells ≡ false → None ≡ value_of_hex (hex_bytes_of text)
+spelled_none text spells is false_so = none_of (value_of_hex (hex_bytes_of text)) (sym is ∙ false_so) where
+  none_of : (o : Option Scalar) → is_some o ≡ false → None ≡ o
+  none_of None e = refl
+  none_of (Some v) e = absurd (true≢false e)
+
+pub spelled_bytes : (text bytes : List ℕ) (spells : Bool) → decode_of text ≡ Ok bytes → spells ≡ is_some (value_of_hex (hex_bytes_of text)) → spells ≡ true → Some (Bytes bytes) ≡ value_of_hex (hex_bytes_of text)
+spelled_bytes text bytes spells is spelled so = sym (ap value_of_hex bytes_are ∙ short (is_short bytes) (sym (ap (λ o. is_some (value_of_hex o)) bytes_are) ∙ sym spelled ∙ so)) where
+  bytes_are : hex_bytes_of text ≡ Some bytes
+  bytes_are = sym (decoded_bytes text) ∙ ap good is
+
+  short : (b : Bool) → is_some (where_so b (Bytes bytes)) ≡ true → where_so b (Bytes bytes) ≡ Some (Bytes bytes)
+  short true e = refl
+  short false e = absurd (true≢false (sym e))

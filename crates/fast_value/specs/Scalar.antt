@@ -36,6 +36,13 @@ is_of kind.Unicode (Unicode s) = true
 is_of kind.Bytes (Bytes s) = true
 is_of k v = false
 
+-- the types of values that are kept in memory of their own
+abbrev pub has_units : Kind → Bool
+has_units kind.Ascii = true
+has_units kind.Unicode = true
+has_units kind.Bytes = true
+has_units k = false
+
 -- the types of integers, and their ranges
 abbrev pub is_integer : Kind → Bool
 is_integer kind.UInt32 = true

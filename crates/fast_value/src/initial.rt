@@ -1,10 +1,11 @@
 //! Texts of initial values.
 
-ghost use Rattle.std.specs.Prelude.{◌≡◌, ◌≤◌, ◌^◌, ◌*◌, ◌+◌, ◌-◌, ◌==◌, ◌&&◌, IfOk, IsTrue, drop, fold, length, min, nat_lt};
+ghost use Rattle.std.specs.Prelude.{◌≡◌, ◌≤◌, ◌^◌, ◌*◌, ◌+◌, ◌-◌, ◌==◌, ◌&&◌, IfOk, IsSome, IsTrue, OnErr, drop, fold, is_some, length, min, nat_lt};
 ghost use Rattle.std.specs.List.{after_first, before_first, list_all, position_or_len};
+ghost use Rattle.std.specs.Char.{is_ascii_hexdigit};
 ghost use Rattle.fast_value.specs.InitialValues.{decimal_value, in_range_of as in_range_of_part, integer_of, integer_value, is_digit, where_so, value_of_text as value_of_text_of};
 ghost use Rattle.fast_value.specs.Numbers.{small_integer, small_number};
-ghost use Rattle.fast_value.specs.Scalar.{exponent_in_range, greatest_of, in_range, least_of, of_integer as of_integer_of};
+ghost use Rattle.fast_value.specs.Scalar.{exponent_in_range, greatest_of, has_units, in_range, least_of, of_integer as of_integer_of};
 ghost use Rattle.fast_value.specs.declared.scalar.Scalar.TheVariants.{Decimal};
 ghost use Rattle.fast_value.specs.declared.kind.Part.TheVariants.{Exponent, Whole};
 ghost use Rattle.fast_value.specs.declared.kind.Kind.TheVariants.{Int32};
@@ -13,7 +14,6 @@ ghost use Rattle.fast_value.specs.declared.kind.Kind.TheVariants as kind_type;
 use crate::kind::{Kind, Part, UNIT_LIMIT};
 use crate::scalar::{ByteString, Scalar};
 use crate::unicode_text::UnicodeText;
-use hex::FromHexError;
 use std::alloc::{AllocError, Global};
 
 /// The value that the text of an initial value spells for a part, if it spells one. FAST 1.1, Initial Values.
@@ -24,7 +24,7 @@ use std::alloc::{AllocError, Global};
 ///
 /// # Errors
 ///
-/// Where memory is refused.
+/// Where memory is refused, which only a string or bytes ask for, and only once they are known to spell a value.
 pub fn value_of_text(
     alloc: Global,
     part: Part,
@@ -32,7 +32,9 @@ pub fn value_of_text(
     text: &str,
 ) -> Result<Option<Scalar>, AllocError>
     requires { part ≡ Exponent → kind ≡ Int32 }
-    ensures { IfOk result (λ value. value ≡ value_of_text_of part kind text.now) }
+    ensures value { IfOk result (λ value. value ≡ value_of_text_of part kind text.now) }
+    ensures memory { OnErr result (IsTrue (has_units kind)
+        × IsSome (value_of_text_of part kind text.now)) }
 {
     match kind {
         Kind::Decimal => Ok(decimal(text.as_bytes())),
@@ -47,7 +49,8 @@ pub fn value_of_text(
 
 // The characters of a text, where it has at most 65,535 and all are ASCII.
 fn ascii(alloc: Global, text: &str) -> Result<Option<Scalar>, AllocError>
-    ensures { IfOk result (λ value. value ≡ value_of_text_of Whole kind_type.Ascii text.now) }
+    ensures value { IfOk result (λ value. value ≡ value_of_text_of Whole kind_type.Ascii text.now) }
+    ensures memory { OnErr result (IsSome (value_of_text_of Whole kind_type.Ascii text.now)) }
 {
     let bytes = text.as_bytes();
     if are_ascii(bytes) && bytes.len() <= UNIT_LIMIT {
@@ -66,7 +69,8 @@ fn are_ascii(bytes: &[u8]) -> bool
 
 // A text, where it has at most 65,535 bytes.
 fn unicode(alloc: Global, text: &str) -> Result<Option<Scalar>, AllocError>
-    ensures { IfOk result (λ value. value ≡ value_of_text_of Whole kind_type.Unicode text.now) }
+    ensures value { IfOk result (λ value. value ≡ value_of_text_of Whole kind_type.Unicode text.now) }
+    ensures memory { OnErr result (IsSome (value_of_text_of Whole kind_type.Unicode text.now)) }
 {
     if text.len() <= UNIT_LIMIT {
         let copy = String::from_str(alloc, text)?;
@@ -78,23 +82,31 @@ fn unicode(alloc: Global, text: &str) -> Result<Option<Scalar>, AllocError>
 
 // The bytes of two hexadecimal digits each, where there are at most 65,535.
 fn hexadecimal(alloc: Global, text: &str) -> Result<Option<Scalar>, AllocError>
-    ensures { IfOk result (λ value. value ≡ value_of_text_of Whole kind_type.Bytes text.now) }
+    ensures value { IfOk result (λ value. value ≡ value_of_text_of Whole kind_type.Bytes text.now) }
+    ensures memory { OnErr result (IsSome (value_of_text_of Whole kind_type.Bytes text.now)) }
 {
-    match hex::decode(alloc, text.as_bytes()) {
-        Ok(bytes) => {
-            if bytes.len() <= UNIT_LIMIT {
-                Ok(Some(Scalar::Bytes(ByteString::from_vec(bytes))))
-            } else {
-                Ok(None)
-            }
-        }
-        Err(error) => match error {
-            FromHexError::OutOfMemory => Err(AllocError),
-            FromHexError::InvalidHexCharacter { .. } => Ok(None),
-            FromHexError::OddLength => Ok(None),
-            FromHexError::InvalidStringLength => Ok(None),
-        },
+    let digits = text.as_bytes();
+    if !spells_bytes(digits) {
+        return Ok(None);
     }
+    match hex::decode(alloc, digits) {
+        Ok(bytes) => Ok(Some(Scalar::Bytes(ByteString::from_vec(bytes)))),
+        Err(_) => Err(AllocError),
+    }
+}
+
+// Whether a text is two hexadecimal digits for each of at most 65,535 bytes. The decoder asks for memory before it
+// looks at the digits.
+fn spells_bytes(text: &[u8]) -> bool
+    ensures { result ≡ is_some (value_of_text_of Whole kind_type.Bytes text.now) }
+{
+    text.len() <= 2 * UNIT_LIMIT && text.len() % 2 == 0 && are_hex_digits(text)
+}
+
+fn are_hex_digits(text: &[u8]) -> bool
+    ensures { result ≡ list_all is_ascii_hexdigit text.now }
+{
+    text.iter().all(|c| c.is_ascii_hexdigit())
 }
 
 // The decimal of a mantissa, `e` and an exponent.

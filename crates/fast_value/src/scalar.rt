@@ -87,13 +87,17 @@ pub enum Scalar {
 }
 
 impl Scalar {
+    ghost use Rattle.std.specs.Prelude.{IsTrue, OnErr};
+    ghost use Rattle.fast_value.specs.Scalar.{has_units, kind_of};
+
     /// The same value once more.
     ///
     /// # Errors
     ///
-    /// Where memory is refused.
+    /// Where memory is refused, which only strings and bytes ask for.
     pub fn copy(&self, alloc: Global) -> Result<Scalar, AllocError>
-        ensures { IfOk result (λ other. other ≡ self.now) }
+        ensures value { IfOk result (λ other. other ≡ self.now) }
+        ensures memory { OnErr result (IsTrue (has_units (kind_of self.now))) }
     {
         match self {
             Scalar::U32(number) => Ok(Scalar::U32(*number)),

@@ -1,12 +1,15 @@
 //! The calls of an encoder.
 
-ghost use Rattle.std.specs.Prelude.{◌≡◌, ◌⊎◌, ◌++◌, ℕ, List, None, Some, OnOk, OnErr, IfErr};
+ghost use Rattle.std.specs.Prelude.{◌≡◌, ◌⊎◌, ◌++◌, ℕ, List, None, Some, OnOk, OnErr, IfErr, IfSome, Err};
 ghost use Rattle.std.specs.FinMap as finite;
 ghost use Rattle.fast_template.specs.TemplateSets.{templates_in};
+ghost use Rattle.fast_wire.specs.declared.level.Level.TheVariants.{Usual};
+ghost use Rattle.fast_dictionary.specs.Dictionary.{Dictionary};
 ghost use Rattle.fast_stream.specs.Nodes.{content_of};
+ghost use Rattle.fast_stream.specs.Streams.{MessageForm, members_of};
 ghost use Rattle.fast_walk.specs.Traversals.{ServesAll};
 ghost use Rattle.fast_writer.specs.Canonical.{CanonMessage};
-ghost use Rattle.fast_nodes.specs.FirstRefusal.{first_refusal, refused};
+ghost use Rattle.fast_nodes.specs.FirstRefusal.{early_refusal, first_refusal, refused};
 
 use crate::encoder::Encoder;
 use crate::message::put_message;
@@ -64,6 +67,13 @@ impl<'a, E: Entries> Encoder<'a, E> {
         ensures refused { IfErr result (λ f. (f ≡ refused EncodeCause.Memory)
             ⊎ (first_refusal (templates_in self.old.set.now) (E.contents self.old.journal.entries)
             (content_of message.now) ≡ Some f)) }
+        // a template that is not there, another shape or type and too many nodes are seen before memory is asked for
+        ensures early { IfSome (early_refusal (members_of (templates_in self.old.set.now) message.now.template)
+            (content_of message.now).items) (λ f. result ≡ Err f) }
+        // no form of the message, canonical or not, stands where it is refused
+        ensures no_form { IfErr result (λ f. (f ≡ refused EncodeCause.Memory)
+            ⊎ ((bytes : List ℕ) (after : Dictionary) → MessageForm Usual (templates_in self.old.set.now)
+            (E.contents self.old.journal.entries) bytes (content_of message.now) after → ⊥)) }
         ensures unchanged { OnErr result ((out.new.items ≡ out.old.items)
             × (E.contents self.new.journal.entries ≡ E.contents self.old.journal.entries)) }
         ensures set { self.new.set ≡ self.old.set }

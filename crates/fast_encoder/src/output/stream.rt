@@ -9,7 +9,7 @@ ghost use Rattle.fast_walk.specs.Traversals.{ServesAll};
 ghost use Rattle.fast_io.specs.Counts.{counted};
 ghost use Rattle.fast_writer.specs.Canonical.{CanonMessage};
 ghost use Rattle.fast_nodes.specs.FirstRefusal.{first_refusal, refused};
-ghost use Rattle.fast_encoder.specs.Outputs.{Sends, answered};
+ghost use Rattle.fast_encoder.specs.Outputs.{Sends, answered, last_tried};
 
 use crate::encoder::Encoder;
 use crate::output::MessageOutputStream;
@@ -42,8 +42,8 @@ impl<'a, W: ByteOutput, E: Entries> MessageOutputStream<'a, W, E> {
         ensures writer { result.writer ≡ writer }
         ensures set { result.encoder.set.now ≡ set.now }
         ensures failed { result.failed ≡ false }
-        ensures sends { Sends result.failed (templates_in set.now)
-            (E.contents result.encoder.journal.entries) [] [] [] }
+        ensures sends { (last : Content) → Sends result.failed (templates_in set.now)
+            (E.contents result.encoder.journal.entries) [] [] last [] }
         ensures same_keys { E.serves result.encoder.journal.entries ≡ E.serves entries }
     {
         MessageOutputStream {
@@ -85,14 +85,15 @@ impl<'a, W: ByteOutput, E: Entries> MessageOutputStream<'a, W, E> {
             ≡ E.contents self.old.encoder.journal.entries)
             × (self.new.failed ≡ false))) }
         // the bytes that are out are those of the messages answered Ok; behind a failed write they are a front of
-        // those and of its message's
-        ensures sends { (runs : List (List Content)) (messages : List Content) (sent : List ℕ)
+        // those and of the bytes of the message that was handed in then
+        ensures sends { (runs : List (List Content)) (messages : List Content) (last : Content) (sent : List ℕ)
             → Sends self.old.failed (templates_in self.old.encoder.set.now)
-            (E.contents self.old.encoder.journal.entries) runs messages sent
+            (E.contents self.old.encoder.journal.entries) runs messages last sent
             → (bytes : List ℕ) × Appends (W.taken self.old.writer) (W.taken self.new.writer) bytes
             × Sends self.new.failed (templates_in self.old.encoder.set.now)
             (E.contents self.new.encoder.journal.entries) runs
-            (answered result messages (content_of message.now)) (sent ++ bytes) }
+            (answered result messages (content_of message.now))
+            (last_tried self.old.failed last (content_of message.now)) (sent ++ bytes) }
         ensures set { self.new.encoder.set ≡ self.old.encoder.set }
         ensures same_keys { E.serves self.new.encoder.journal.entries
             ≡ E.serves self.old.encoder.journal.entries }
@@ -122,11 +123,11 @@ impl<'a, W: ByteOutput, E: Entries> MessageOutputStream<'a, W, E> {
         ensures writer { self.new.writer ≡ self.old.writer }
         ensures failed { self.new.failed ≡ self.old.failed }
         ensures sends { self.old.failed ≡ false → (runs : List (List Content))
-            (messages : List Content) (sent : List ℕ)
+            (messages : List Content) (last : Content) (sent : List ℕ)
             → Sends self.old.failed (templates_in self.old.encoder.set.now)
-            (E.contents self.old.encoder.journal.entries) runs messages sent
+            (E.contents self.old.encoder.journal.entries) runs messages last sent
             → Sends self.new.failed (templates_in self.old.encoder.set.now)
-            (E.contents self.new.encoder.journal.entries) (runs ++ messages ∷ []) [] sent }
+            (E.contents self.new.encoder.journal.entries) (runs ++ messages ∷ []) [] last sent }
         ensures set { self.new.encoder.set ≡ self.old.encoder.set }
         ensures same_keys { E.serves self.new.encoder.journal.entries
             ≡ E.serves self.old.encoder.journal.entries }

@@ -1,7 +1,9 @@
+use Rattle.std.proofs.Common.{inr}
 use Rattle.fast_template.specs.Resolved.{list_of}
 use Rattle.fast_template.specs.TemplateSets.{templates_in}
 use Rattle.fast_stream.specs.Nodes.{content_of}
 use Rattle.fast_walk.proofs.Telling.{are_kept, kept_hold}
+use Rattle.fast_encoder.proofs.NoForm.{no_form, no_form_of}
 use Rattle.fast_nodes.proofs.Messages.{can_try, written_of}
 use Rattle.fast_encoder.proofs.encoder.Encoder.encode.Goals as goal
 
@@ -25,3 +27,16 @@ returns-in-Ok-clause-written g c =
     let old = c.args.self.now in
     written_of (templates_in old.set.now) (g.E.Entries.contents old.journal.entries) (g.E.Entries.contents c.put_message.new.journal.entries) (content_of c.args.message.now) (list_of c.in-Ok.template.now.members.items)
     c.args.out.now.items c.put_message.new.out.items c.put_message.result c.in-Ok.ensures.known c.in-Ok.ensures.whole (rw (c.deref.ensures.value) at c.put_message.ensures.answer)
+
+pub returns-in-Err-clause-no_form : goal.returns-in-Err-clause-no_form
+returns-in-Err-clause-no_form g c =
+    let old = c.args.self.now in
+    let d = g.E.Entries.contents old.journal.entries in
+    no_form old.set.now d (content_of c.args.message.now) c.in-Err.fault c.template_for.ensures.sound (kept_hold d old.kept) (inr (c.in-Err.ensures.refused d))
+
+pub returns-in-Ok-clause-no_form : goal.returns-in-Ok-clause-no_form
+returns-in-Ok-clause-no_form g c =
+    let old = c.args.self.now in
+    let d = g.E.Entries.contents old.journal.entries in
+    no_form_of old.set.now d (g.E.Entries.contents c.put_message.new.journal.entries) (content_of c.args.message.now) (list_of c.in-Ok.template.now.members.items)
+    c.args.out.now.items c.put_message.new.out.items c.put_message.result c.in-Ok.ensures.sound (kept_hold d old.kept) c.in-Ok.ensures.known c.in-Ok.ensures.whole (rw (c.deref.ensures.value) at c.put_message.ensures.answer)

@@ -5,7 +5,7 @@ use Rattle.fast_encoder.proofs.Outputs.{sent_more, sent_part}
 use Rattle.fast_encoder.proofs.output.MessageOutputStream.write_message.Goals as goal
 
 pub returns-in-Err-push_all-clause-sends : goal.returns-in-Err-push_all-clause-sends
-returns-in-Err-push_all-clause-sends g c = λ runs messages sent h.
+returns-in-Err-push_all-clause-sends g c = λ runs messages last sent h.
     let old = c.args.self.now.encoder in
     let d = g.E.Entries.contents old.journal.entries in
     let e = g.E.Entries.contents c.encode.new.self.journal.entries in
@@ -15,8 +15,7 @@ returns-in-Err-push_all-clause-sends g c = λ runs messages sent h.
     let bytes : c.encode.new.out.items ≡ w.0 = w.1 ∙ ap (λ (l : List ℕ). l ++ w.0) c.clear.ensures.items in (
       part.1.front,
       part.1.appended,
-      (
-        m,
+      rw (c.if-self.false) (
         part.0,
         e,
         sent_part (templates_in old.set.now) runs messages m sent w.0 part.1.front part.0 d e (sym bytes ∙ sym c.deref.ensures.value ∙ part.1.parts) (rw (c.if-self.false) at h) w.2,
@@ -24,7 +23,7 @@ returns-in-Err-push_all-clause-sends g c = λ runs messages sent h.
     )
 
 pub returns-in-Ok-push_all-clause-sends : goal.returns-in-Ok-push_all-clause-sends
-returns-in-Ok-push_all-clause-sends g c = λ runs messages sent h.
+returns-in-Ok-push_all-clause-sends g c = λ runs messages last sent h.
     let old = c.args.self.now.encoder in
     let d = g.E.Entries.contents old.journal.entries in
     let e = g.E.Entries.contents c.encode.new.self.journal.entries in
