@@ -1,5 +1,5 @@
 use Rattle.std.proofs.Common.{rules}
-use Rattle.fast_value.proofs.scalar.ByteString.into_vec.Goals as goal
+use Rattle.fast_writer.proofs.writer.WriterOutput.finished.Goals as goal
 
 pub returns : goal.returns
 returns c = search rules
