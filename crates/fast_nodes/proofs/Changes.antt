@@ -1,22 +1,17 @@
 -- What was changed can be put back.
-use Rattle.std.proofs.Common.{◌≡◌, ℕ, Bool, true, false, List, [], ◌∷◌, ◌++◌, Option, refl, sym, ap, subst, ◌∙◌}
+use Rattle.std.proofs.Common.{◌≡◌, ℕ, Bool, true, false, List, [], ◌∷◌, ◌++◌, Option, refl, sym, ap, ◌∙◌}
 use Rattle.std.specs.Prelude.{cond, IsTrue}
-use Rattle.std.specs.FinMap as map
 use Rattle.std.specs.Ordering.{is_eq}
-use Rattle.fast_wire.specs.declared.level.Level.TheVariants.{Usual}
 use Rattle.fast_value.specs.Key.{key_cmp}
 use Rattle.fast_value.specs.declared.key.Key.{Key}
 use Rattle.fast_value.specs.declared.scalar.Scalar.{Scalar}
 use Rattle.fast_template.specs.declared.resolved.FieldPart.{FieldPart}
 use Rattle.fast_dictionary.specs.declared.entry.Entry.{Entry}
-use Rattle.fast_dictionary.specs.declared.entry.Entry.TheVariants.{Undefined, Empty, Assigned}
-use Rattle.fast_dictionary.specs.Dictionary.{Dictionary, entry_at, entry_at-empty, entry_at-set_entry, entry_at-set_same, set_entry, set_entry-there, same_dictionary}
+use Rattle.fast_dictionary.specs.declared.entry.Entry.TheVariants.{Undefined}
+use Rattle.fast_dictionary.specs.Dictionary.{Dictionary, entry_at, entry_at-set_entry, entry_at-set_same, set_entry, set_entry-there, same_dictionary}
 use Rattle.fast_field.specs.Bases.{next}
 use Rattle.fast_field.specs.Best.{IsBest}
 use Rattle.fast_field.specs.Parts.{IsFieldPart}
-use Rattle.fast_field.specs.Fields.{Form}
-use Rattle.fast_field.specs.Within.{HoldsScalar}
-use Rattle.fast_field.proofs.FieldsWithin.{values_within, entries_within}
 use Rattle.fast_stream.specs.Bodies.{with_entry, written}
 use Rattle.fast_walk.specs.Told.{HoldScalars}
 use Rattle.fast_walk.proofs.Putting.{set_written}

@@ -1,5 +1,5 @@
 -- What a receiver is told is true of the parts of a set and of the entries along a stream, and what it says of values.
-use Rattle.std.proofs.Common.{◌≡◌, ℕ, Bool, true, false, List, [], ◌++◌, Option, Some, None, Ok, refl, sym, ap, subst, ◌∙◌, append-nil, drop, get_or, ◌<◌}
+use Rattle.std.proofs.Common.{◌≡◌, ℕ, Bool, true, false, List, [], Option, Some, None, Ok, refl, sym, ap, subst, ◌∙◌, append-nil, drop, get_or, ◌<◌}
 use Rattle.std.specs.Prelude.{IfSome, IsTrue, cond}
 use Rattle.std.specs.FinMap as map
 use Rattle.std.specs.Ordering.{is_eq}
@@ -21,7 +21,7 @@ use Rattle.fast_value.specs.declared.scalar.Scalar.TheVariants.{U32, I32, U64, I
 use Rattle.fast_value.specs.Scalar.{is_of, IsScalar}
 use Rattle.fast_template.specs.declared.resolved.FieldPart.{FieldPart}
 use Rattle.fast_template.specs.Resolved.{part_needs_bit}
-use Rattle.fast_template.specs.TemplateSets.{IsInitial, IsPartOf, IsTyped}
+use Rattle.fast_template.specs.TemplateSets.{IsInitial, IsPartOf}
 use Rattle.fast_dictionary.specs.declared.entry.Entry.{Entry}
 use Rattle.fast_dictionary.specs.declared.entry.Entry.TheVariants.{Undefined, Empty, Assigned}
 use Rattle.fast_dictionary.specs.Dictionary.{Dictionary, entry_at, entry_at-empty, entry_at-set_entry}
@@ -150,7 +150,7 @@ pub taken_form : (level : Level) (p : FieldPart) (bit : Bool) (d e : Dictionary)
 taken_form level p bit d e v bytes rest fits is asked took =
     let here = entry_at d p.key in
     let read : field_at level p here bit bytes ≡ Ok (v, rest) =
-        ap (λ (b : List ℕ). field_at level p here bit b) (sym (append-nil bytes)) ∙ took.value [] ∙ ap (λ (r : List ℕ). done {F = FieldFault} (v, r)) (append-nil rest) in
+    ap (λ (b : List ℕ). field_at level p here bit b) (sym (append-nil bytes)) ∙ took.value [] ∙ ap (λ (r : List ℕ). done {F = FieldFault} (v, r)) (append-nil rest) in
     let t = (field_forms Usual p here bit asked is.typed.default_has_value).found bytes v rest fits (read_usually level p here bit bytes (v, rest) read) in
     record { bytes = t.front; form = t.form }
 

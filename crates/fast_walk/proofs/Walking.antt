@@ -8,7 +8,6 @@ use Rattle.fast_value.specs.declared.scalar.Scalar.TheVariants.{U32, I32, I64, D
 use Rattle.fast_value.specs.declared.kind.Presence.{Presence}
 use Rattle.fast_template.specs.declared.resolved.FieldPart.{FieldPart}
 use Rattle.fast_template.specs.Resolved.{Instruction, Instructions, whole_field, field_in_parts, group_of, sequence_of, no_instructions, then_instruction, is_optional, has_map, Resolved}
-use Rattle.fast_wire.specs.Reading.{◌>>=◌}
 use Rattle.fast_wire.specs.Level.{IsLeftClear, some_set}
 use Rattle.fast_wire.specs.declared.level.Level.{Level}
 use Rattle.fast_wire.specs.declared.level.Level.TheVariants.{Strict}
@@ -18,7 +17,7 @@ use Rattle.fast_stream.specs.Bits.{bit_for, after_bit}
 use Rattle.fast_stream.specs.Faults.{Stop}
 use Rattle.fast_stream.specs.Streams.{members_of}
 use Rattle.fast_stream.specs.Reading.{Cursor, Reads, node_at, field_part_at, own_map_at, behind_bit, piece_at, stopped}
-use Rattle.fast_walk.specs.OpenSegments.{items_before, Body, Sequel, Waiting, Inside, in_group, in_sequence, Next, at_instruction, at_mantissa, at_element, with_item, fewer, under_bits, body_on, mantissa_on, elements_on, top_on, behind_inside, all_around}
+use Rattle.fast_walk.specs.OpenSegments.{Body, Sequel, Waiting, Inside, in_group, in_sequence, Next, at_instruction, at_mantissa, at_element, with_item, fewer, under_bits, body_on, mantissa_on, elements_on, top_on, behind_inside, all_around}
 use Rattle.fast_walk.specs.Received.{Received, Same, Goes, IsExponent, ended_in}
 use Rattle.fast_walk.specs.Walks.{bare_inside, bare, bare_next, bare_sequel, frame_of, AreAllServed, IsWaitingServed}
 use Rattle.fast_walk.specs.declared.walk.Frame.{Frame as FrameNow}

@@ -1,5 +1,5 @@
 -- What is spelled of a part of a set: a value of its type, and of a mandatory part a value.
-use Rattle.std.proofs.Common.{◌≡◌, ◌≢◌, ℕ, Bool, true, false, List, [], ◌++◌, ◌∷◌, Option, Some, None, Ok, refl, sym, ap, subst, ◌∙◌, ◌⊎◌, inl, inr, append-nil}
+use Rattle.std.proofs.Common.{◌≡◌, ℕ, Bool, true, false, List, [], ◌++◌, ◌∷◌, Option, Some, None, Ok, refl, sym, ap, subst, ◌∙◌, inl, inr, append-nil}
 use Rattle.std.specs.Option.{is_some}
 use Rattle.std.specs.Prelude.{ℤ, IfSome, IsTrue}
 use Rattle.fast_wire.specs.Reader.{IsBytes}
@@ -22,7 +22,6 @@ use Rattle.fast_field.specs.declared.fault.FieldRefusal.{FieldRefusal}
 use Rattle.fast_field.specs.declared.fault.FieldRefusal.TheVariants as refusal
 use Rattle.fast_field.specs.FieldReading.{field_at}
 use Rattle.fast_field.specs.Parts.{IsFieldPart}
-use Rattle.fast_field.specs.Refusals.{refusal_of}
 use Rattle.fast_field.specs.Within.{HoldsScalar}
 use Rattle.fast_field.specs.Written.{IsRefusal}
 use Rattle.fast_field.proofs.FieldForms.{field_forms}
@@ -72,7 +71,7 @@ pub only_memory : (level : Level) (p : FieldPart) (e : Entry) (v : Option Scalar
 only_memory level p e v bytes rest f fits is holds goes (inr h) = h.1
 only_memory level p e v bytes rest f fits is holds goes (inl h) =
     let read : field_at level p e true bytes ≡ Ok (v, rest) =
-        ap (λ (b : List ℕ). field_at level p e true b) (sym (append-nil bytes)) ∙ goes [] ∙ ap (λ (r : List ℕ). done {F = FieldFault} (v, r)) (append-nil rest) in
+    ap (λ (b : List ℕ). field_at level p e true b) (sym (append-nil bytes)) ∙ goes [] ∙ ap (λ (r : List ℕ). done {F = FieldFault} (v, r)) (append-nil rest) in
     let t = (field_forms Usual p e true (λ none. refl) is.typed.default_has_value).found bytes v rest fits (read_usually level p e true bytes (v, rest) read) in
     absurd (let none = not_refused p e true t.front v is holds t.form in none_is_some f (sym none ∙ h))
   where

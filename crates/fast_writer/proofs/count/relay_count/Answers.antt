@@ -4,7 +4,6 @@ use Rattle.fast_dictionary.specs.Dictionary.{set_entry, set_entry-there}
 use Rattle.fast_walk.specs.Received.{length_of}
 use Rattle.fast_writer.specs.Levels.{level_of}
 use Rattle.fast_writer.proofs.Relays.{level_bytes, took_of}
-use Rattle.fast_field.specs.Within.{HoldsScalar}
 use Rattle.fast_walk.proofs.Telling.{kept_hold}
 use Rattle.fast_writer.proofs.count.relay_count.Goals as goal
 

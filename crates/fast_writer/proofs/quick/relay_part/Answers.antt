@@ -3,7 +3,6 @@ use Rattle.std.specs.Result.{is_ok}
 use Rattle.fast_dictionary.specs.Dictionary.{set_entry, set_entry-there}
 use Rattle.fast_writer.specs.Levels.{level_of}
 use Rattle.fast_writer.proofs.Relays.{level_bytes, spelt_of, took_of}
-use Rattle.fast_field.specs.Within.{HoldsScalar}
 use Rattle.fast_walk.proofs.Telling.{kept_hold}
 use Rattle.fast_writer.proofs.quick.relay_part.Goals as goal
 

@@ -1,4 +1,4 @@
-use Rattle.std.proofs.Common.{rules, drop, arith}
+use Rattle.std.proofs.Common.{drop, arith}
 use Rattle.fast_field.proofs.ReadFields.{bytes_from}
 use Rattle.fast_field.specs.Found.{value_found}
 use Rattle.fast_writer.proofs.Repeated.{repeated_best}

@@ -1,4 +1,4 @@
-use Rattle.std.proofs.Common.{◌++◌, [], map, sym, ap, ◌∙◌}
+use Rattle.std.proofs.Common.{◌++◌, map, ap, ◌∙◌}
 use Rattle.fast_template.specs.Resolved.{list_of}
 use Rattle.fast_walk.specs.OpenSegments.{cursor}
 use Rattle.fast_walk.specs.Received.{ended_in}
