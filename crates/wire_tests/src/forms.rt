@@ -232,14 +232,6 @@ fn short_forms_of_one_byte(rt: HostRuntime) -> Result<(), WireFault> {
     Ok(())
 }
 
-// Reads a map, once more where memory was refused.
-fn map_read(alloc: Global, bytes: &[u8]) -> Result<(Bits, usize), WireFault> {
-    match read_map(alloc, bytes, 0) {
-        Err(WireFault::Memory) => read_map(alloc, bytes, 0),
-        read => read,
-    }
-}
-
 fn bit_is(rt: &impl Abort, bits: &mut Bits, wanted: bool) {
     if wanted {
         same(rt, bits.left_set(), true);
@@ -279,7 +271,7 @@ fn wide_maps(rt: HostRuntime) -> Result<(), WireFault> {
         &[0x41, 0x00, 0x7f, 0x02, 0x00, 0x00, 0x00, 0x01, 0x20, 0xc1],
     ];
     for map in MAPS {
-        let (mut bits, next) = map_read(rt.alloc(), map)?;
+        let (mut bits, next) = read_map(rt.alloc(), map, 0)?;
         same(&rt, next, map.len());
         bytes_are(&rt, &mut bits, map);
     }
@@ -431,24 +423,81 @@ fn short_signed_nullable_integers(rt: HostRuntime) {
     }
 }
 
-// Reads a text, once more where memory was refused.
-fn ascii_read(alloc: Global, bytes: &[u8]) -> Result<(Vec<u8>, usize), WireFault> {
-    match read_ascii(alloc, bytes, 0) {
-        Err(WireFault::Memory) => read_ascii(alloc, bytes, 0),
-        read => read,
+// How bytes are read: as characters or as they stand, with NULL or without.
+#[derive(Clone, Copy)]
+enum Reader {
+    Ascii,
+    AsciiNullable,
+    Vector,
+    VectorNullable,
+}
+
+// The value that a reader without NULL gives.
+fn given(
+    read: Result<(Vec<u8>, usize), WireFault>,
+) -> Result<(Nullable<Vec<u8>>, usize), WireFault> {
+    match read {
+        Ok((bytes, next)) => Ok((Nullable::Value(bytes), next)),
+        Err(fault) => Err(fault),
     }
 }
 
-fn ascii_is_read(
+impl Reader {
+    fn read(self, alloc: Global, bytes: &[u8]) -> Result<(Nullable<Vec<u8>>, usize), WireFault> {
+        match self {
+            Reader::Ascii => given(read_ascii(alloc, bytes, 0)),
+            Reader::AsciiNullable => read_ascii_nullable(alloc, bytes, 0),
+            Reader::Vector => given(read_vector(alloc, bytes, 0)),
+            Reader::VectorNullable => read_vector_nullable(alloc, bytes, 0),
+        }
+    }
+
+    fn fault(self, alloc: Global, bytes: &[u8]) -> Option<WireFault> {
+        self.read(alloc, bytes).err()
+    }
+}
+
+// This value was read, up to this place.
+fn is_value(
+    rt: &impl Abort,
+    read: (Nullable<Vec<u8>>, usize),
+    value: Nullable<&[u8]>,
+    next: usize,
+) {
+    same(rt, shown(&read.0), value);
+    same(rt, read.1, next);
+}
+
+// Bytes are read as this value, up to this place. Where memory was refused, the same call reads it, and the test ends.
+fn is_read_to(
     rt: &impl Abort,
     alloc: Global,
-    text: &[u8],
+    reader: Reader,
+    value: Nullable<&[u8]>,
+    bytes: &[u8],
+    next: usize,
+) -> Result<(), WireFault> {
+    match reader.read(alloc, bytes) {
+        Ok(read) => {
+            is_value(rt, read, value, next);
+            Ok(())
+        }
+        Err(fault) => {
+            same(rt, fault, WireFault::Memory);
+            is_value(rt, reader.read(alloc, bytes)?, value, next);
+            Err(fault)
+        }
+    }
+}
+
+fn bytes_are_read(
+    rt: &impl Abort,
+    alloc: Global,
+    reader: Reader,
+    value: Nullable<&[u8]>,
     bytes: &[u8],
 ) -> Result<(), WireFault> {
-    let (read, next) = ascii_read(alloc, bytes)?;
-    same(rt, read.as_slice(), text);
-    same(rt, next, bytes.len());
-    Ok(())
+    is_read_to(rt, alloc, reader, value, bytes, bytes.len())
 }
 
 #[test]
@@ -460,7 +509,8 @@ fn ascii_vectors(rt: HostRuntime) -> Result<(), WireFault> {
         (Form::Ascii(b"A"), &[0xc1]),
     ];
     all_agree(&rt, rt.alloc(), VECTORS)?;
-    ascii_is_read(&rt, rt.alloc(), b"A", &[0x00, 0xc1])
+    let letter = Nullable::Value(b"A".as_slice());
+    bytes_are_read(&rt, rt.alloc(), Reader::Ascii, letter, &[0x00, 0xc1])
 }
 
 // The bytes of a value that was read, where there is one.
@@ -471,44 +521,14 @@ fn shown(value: &Nullable<Vec<u8>>) -> Nullable<&[u8]> {
     }
 }
 
-// Reads a text or NULL, once more where memory was refused.
-fn ascii_nullable_read(
-    alloc: Global,
-    bytes: &[u8],
-) -> Result<(Nullable<Vec<u8>>, usize), WireFault> {
-    match read_ascii_nullable(alloc, bytes, 0) {
-        Err(WireFault::Memory) => read_ascii_nullable(alloc, bytes, 0),
-        read => read,
-    }
-}
-
-fn ascii_nullable_is_read(
-    rt: &impl Abort,
-    alloc: Global,
-    value: Nullable<&[u8]>,
-    bytes: &[u8],
-) -> Result<(), WireFault> {
-    let (read, next) = ascii_nullable_read(alloc, bytes)?;
-    same(rt, shown(&read), value);
-    same(rt, next, bytes.len());
-    Ok(())
-}
-
 #[test]
 fn ascii_overlong(rt: HostRuntime) -> Result<(), WireFault> {
     const OVERLONG: &[&[u8]] = &[&[0x00, 0xc1], &[0x00, 0x00, 0xc1]];
     for bytes in OVERLONG {
-        ascii_nullable_is_read(&rt, rt.alloc(), Nullable::Value(b"A"), bytes)?;
+        let letter = Nullable::Value(b"A".as_slice());
+        bytes_are_read(&rt, rt.alloc(), Reader::AsciiNullable, letter, bytes)?;
     }
     Ok(())
-}
-
-fn ascii_fault(alloc: Global, bytes: &[u8]) -> Option<WireFault> {
-    read_ascii(alloc, bytes, 0).err()
-}
-
-fn ascii_nullable_fault(alloc: Global, bytes: &[u8]) -> Option<WireFault> {
-    read_ascii_nullable(alloc, bytes, 0).err()
 }
 
 #[test]
@@ -525,39 +545,15 @@ fn ascii_is_not_written(rt: HostRuntime) {
 fn ascii_limits(rt: HostRuntime) -> Result<(), WireFault> {
     let alloc = rt.alloc();
     let mut groups = [0x00; 65_540];
-    let cut = ascii_fault(alloc, &groups[..65_539]);
+    let cut = Reader::Ascii.fault(alloc, &groups[..65_539]);
     same(&rt, cut, Some(WireFault::NeedMore));
-    same(&rt, ascii_fault(alloc, &groups), Some(WireFault::TooLong));
+    let endless = Reader::Ascii.fault(alloc, &groups);
+    same(&rt, endless, Some(WireFault::TooLong));
     groups[65_536] = 0x80;
-    same(&rt, ascii_fault(alloc, &groups), Some(WireFault::TooLong));
-    let (text, next) = ascii_nullable_read(alloc, &groups)?;
-    same(&rt, shown(&text), Nullable::Value(&groups[..65_535]));
-    same(&rt, next, 65_537);
-    Ok(())
-}
-
-// Reads a vector, once more where memory was refused.
-fn vector_read(alloc: Global, bytes: &[u8]) -> Result<(Vec<u8>, usize), WireFault> {
-    match read_vector(alloc, bytes, 0) {
-        Err(WireFault::Memory) => read_vector(alloc, bytes, 0),
-        read => read,
-    }
-}
-
-fn vector_is_read(
-    rt: &impl Abort,
-    alloc: Global,
-    items: &[u8],
-    bytes: &[u8],
-) -> Result<(), WireFault> {
-    let (read, next) = vector_read(alloc, bytes)?;
-    same(rt, read.as_slice(), items);
-    same(rt, next, bytes.len());
-    Ok(())
-}
-
-fn vector_fault(alloc: Global, bytes: &[u8]) -> Option<WireFault> {
-    read_vector(alloc, bytes, 0).err()
+    let long = Reader::Ascii.fault(alloc, &groups);
+    same(&rt, long, Some(WireFault::TooLong));
+    let zeros = Nullable::Value(&groups[..65_535]);
+    is_read_to(&rt, alloc, Reader::AsciiNullable, zeros, &groups, 65_537)
 }
 
 #[test]
@@ -568,43 +564,19 @@ fn vector_vectors(rt: HostRuntime) -> Result<(), WireFault> {
         (&[0x04], WireFault::NeedMore),
     ];
     for (bytes, fault) in REFUSED {
-        same(&rt, vector_fault(rt.alloc(), bytes), Some(*fault));
+        same(&rt, Reader::Vector.fault(rt.alloc(), bytes), Some(*fault));
     }
-    let vector = Form::Vector(&[0xc3, 0xa9]);
-    agrees(&rt, rt.alloc(), vector, &[0x82, 0xc3, 0xa9])
+    const VECTORS: &[(Form, &[u8])] = &[
+        (Form::Vector(&[0xc3, 0xa9]), &[0x82, 0xc3, 0xa9]),
+        (Form::Vector(b""), &[0x80]),
+    ];
+    all_agree(&rt, rt.alloc(), VECTORS)
 }
 
 #[test]
 fn long_vectors_are_not_written(rt: HostRuntime) {
     let long = [0x00; 65_536];
     is_refused(&rt, rt.alloc(), Form::Vector(&long), WireFault::TooLong);
-}
-
-// Reads a vector or NULL, once more where memory was refused.
-fn vector_nullable_read(
-    alloc: Global,
-    bytes: &[u8],
-) -> Result<(Nullable<Vec<u8>>, usize), WireFault> {
-    match read_vector_nullable(alloc, bytes, 0) {
-        Err(WireFault::Memory) => read_vector_nullable(alloc, bytes, 0),
-        read => read,
-    }
-}
-
-fn vector_nullable_is_read(
-    rt: &impl Abort,
-    alloc: Global,
-    value: Nullable<&[u8]>,
-    bytes: &[u8],
-) -> Result<(), WireFault> {
-    let (read, next) = vector_nullable_read(alloc, bytes)?;
-    same(rt, shown(&read), value);
-    same(rt, next, bytes.len());
-    Ok(())
-}
-
-fn vector_nullable_fault(alloc: Global, bytes: &[u8]) -> Option<WireFault> {
-    read_vector_nullable(alloc, bytes, 0).err()
 }
 
 #[test]
@@ -617,7 +589,7 @@ fn vector_nullable_vectors(rt: HostRuntime) -> Result<(), WireFault> {
         (Form::VectorNullable(Nullable::Value(b"")), &[0x81]),
         (Form::VectorNullable(Nullable::Null), &[0x80]),
     ];
-    let long = vector_nullable_fault(rt.alloc(), &[0x04, 0x00, 0x81]);
+    let long = Reader::VectorNullable.fault(rt.alloc(), &[0x04, 0x00, 0x81]);
     same(&rt, long, Some(WireFault::TooLong));
     all_agree(&rt, rt.alloc(), VECTORS)
 }
@@ -634,7 +606,7 @@ fn map_is_read(
     bits: &[bool],
     bytes: &[u8],
 ) -> Result<(), WireFault> {
-    let (mut read, next) = map_read(alloc, bytes)?;
+    let (mut read, next) = read_map(alloc, bytes, 0)?;
     same(rt, next, bytes.len());
     bits_are(rt, &mut read, bits);
     Ok(())
@@ -870,10 +842,28 @@ fn is_read(rt: &impl Abort, alloc: Global, form: Form, bytes: &[u8]) -> Result<(
             same(rt, read_signed_nullable(bytes, 0), Ok((value, bytes.len())));
             Ok(())
         }
-        Form::Ascii(text) => ascii_is_read(rt, alloc, text, bytes),
-        Form::AsciiNullable(value) => ascii_nullable_is_read(rt, alloc, value, bytes),
-        Form::Vector(items) => vector_is_read(rt, alloc, items, bytes),
-        Form::VectorNullable(value) => vector_nullable_is_read(rt, alloc, value, bytes),
+        Form::Ascii(text) => bytes_are_read(rt, alloc, Reader::Ascii, Nullable::Value(text), bytes),
+        Form::AsciiNullable(value) => bytes_are_read(
+            rt,
+            alloc,
+            Reader::AsciiNullable,
+            value,
+            bytes,
+        ),
+        Form::Vector(items) => bytes_are_read(
+            rt,
+            alloc,
+            Reader::Vector,
+            Nullable::Value(items),
+            bytes,
+        ),
+        Form::VectorNullable(value) => bytes_are_read(
+            rt,
+            alloc,
+            Reader::VectorNullable,
+            value,
+            bytes,
+        ),
         Form::Map(bits) => map_is_read(rt, alloc, bits, bytes),
         // the tests of the readers in 64 bits have tables of their own
         Form::U64(_) | Form::I64(_) | Form::U64Nullable(_) | Form::I64Nullable(_) => Ok(()),
@@ -907,28 +897,19 @@ const FRONT: [u8; 3] = [0xd5, 0x00, 0x80];
 
 /// An output in which these bytes stand.
 fn begun(alloc: Global) -> Result<Vec<u8>, AllocError> {
-    let mut out = Vec::new(alloc);
-    if out.extend_from_slice(&FRONT).is_err() {
-        out.extend_from_slice(&FRONT)?;
-    }
-    Ok(out)
+    FRONT.to_vec(alloc)
 }
 
-/// A refused growth is Memory, and nothing was appended.
-fn nothing_written(rt: &impl Abort, fault: WireFault, out: &[u8]) {
-    same(rt, fault, WireFault::Memory);
-    same(rt, out, FRONT.as_slice());
-}
-
-/// Writes behind bytes that are there, and once more where memory was refused.
+/// Writes behind bytes that are there. Where memory was refused, nothing was appended, and the same call writes; that it
+/// was refused is answered.
 fn append(rt: &impl Abort, form: Form, out: &mut Vec<u8>) -> Result<(), WireFault> {
-    match form.write(out) {
-        Ok(()) => Ok(()),
-        Err(fault) => {
-            nothing_written(rt, fault, out);
-            form.write(out)
-        }
+    let first = form.write(out);
+    if first.is_err() {
+        same(rt, first, Err(WireFault::Memory));
+        same(rt, out.as_slice(), FRONT.as_slice());
+        form.write(out)?;
     }
+    first
 }
 
 /// Behind the bytes that stood there stand these.
@@ -939,9 +920,9 @@ fn stands_behind(rt: &impl Abort, out: &[u8], bytes: &[u8]) {
 
 fn is_appended(rt: &impl Abort, alloc: Global, form: Form, bytes: &[u8]) -> Result<(), WireFault> {
     let mut out = begun(alloc)?;
-    append(rt, form, &mut out)?;
+    let first = append(rt, form, &mut out);
     stands_behind(rt, &out, bytes);
-    Ok(())
+    first
 }
 
 fn all_appended(
@@ -995,30 +976,90 @@ fn refused_growths(rt: HostRuntime) -> Result<(), WireFault> {
 /// A refused copy is Memory, and the same call then gives the row's answer.
 #[test]
 fn refused_copies(rt: HostRuntime) -> Result<(), WireFault> {
+    const LETTER: Nullable<&[u8]> = Nullable::Value(b"A");
+    const READ: &[(Reader, Nullable<&[u8]>, &[u8])] = &[
+        (Reader::Ascii, LETTER, &[0xc1]),
+        (
+            Reader::Vector,
+            Nullable::Value(&[0xc3, 0xa9]),
+            &[0x82, 0xc3, 0xa9],
+        ),
+        (Reader::AsciiNullable, LETTER, &[0xc1]),
+        (Reader::VectorNullable, LETTER, &[0x82, 0x41]),
+    ];
+    for (reader, value, bytes) in READ {
+        bytes_are_read(&rt, rt.alloc(), *reader, *value, bytes)?;
+    }
+    map_is_read(&rt, rt.alloc(), &[true, true, true], &[0xf0])
+}
+
+// These bytes, so many letters, and these bytes.
+fn letters(alloc: Global, front: &[u8], count: usize, back: &[u8]) -> Result<Vec<u8>, AllocError> {
+    let mut bytes = front.to_vec(alloc)?;
+    for _ in 0..count {
+        bytes.push(0x41)?;
+    }
+    bytes.extend_from_slice(back)?;
+    Ok(bytes)
+}
+
+// A text of so many letters and one more is written, sized and read, with NULL and without.
+fn long_text_agrees(rt: &impl Abort, alloc: Global, count: usize) -> Result<(), WireFault> {
+    let text = letters(alloc, b"", count, b"A")?;
+    let entity = letters(alloc, b"", count, b"\xC1")?;
+    agrees(rt, alloc, Form::Ascii(&text), &entity)?;
+    let text = Form::AsciiNullable(Nullable::Value(&text));
+    agrees(rt, alloc, text, &entity)
+}
+
+// The same of a vector of so many letters, whose lengths have these forms.
+fn long_vector_agrees(
+    rt: &impl Abort,
+    alloc: Global,
+    count: usize,
+    lengths: [&[u8]; 2],
+) -> Result<(), WireFault> {
+    let items = letters(alloc, b"", count, b"")?;
+    let vector = letters(alloc, lengths[0], count, b"")?;
+    agrees(rt, alloc, Form::Vector(&items), &vector)?;
+    let vector = letters(alloc, lengths[1], count, b"")?;
+    let items = Form::VectorNullable(Nullable::Value(&items));
+    agrees(rt, alloc, items, &vector)
+}
+
+/// Longer than a page of memory, and as long as may be.
+#[test]
+fn long_forms(rt: HostRuntime) -> Result<(), WireFault> {
     let alloc = rt.alloc();
-    let letter = Nullable::Value(b"A".as_slice());
-    ascii_is_read(&rt, alloc, b"A", &[0xc1])?;
-    vector_is_read(&rt, alloc, &[0xc3, 0xa9], &[0x82, 0xc3, 0xa9])?;
-    map_is_read(&rt, alloc, &[true, true, true], &[0xf0])?;
-    ascii_nullable_is_read(&rt, alloc, letter, &[0xc1])?;
-    vector_nullable_is_read(&rt, alloc, letter, &[0x82, 0x41])
+    long_text_agrees(&rt, alloc, 4_096)?;
+    long_text_agrees(&rt, alloc, 65_534)?;
+    long_vector_agrees(&rt, alloc, 4_097, [&[0x20, 0x81], &[0x20, 0x82]])?;
+    let most: [&[u8]; 2] = [&[0x03, 0x7f, 0xff], &[0x04, 0x00, 0x80]];
+    long_vector_agrees(&rt, alloc, 65_535, most)
 }
 
 /// Where no value stands no memory is asked for: the answer is the same, whichever allocation is refused.
 #[test]
 fn no_memory_for_no_value(rt: HostRuntime) {
     let alloc = rt.alloc();
-    let more = Some(WireFault::NeedMore);
-    let long = Some(WireFault::TooLong);
     let zeros = [0u8; 65_540];
-    same(&rt, ascii_fault(alloc, b"Hey"), more);
-    same(&rt, ascii_fault(alloc, &zeros), long);
-    same(&rt, ascii_nullable_fault(alloc, b"Hey"), more);
-    same(&rt, vector_fault(alloc, &[0x83, 0x41, 0x42]), more);
-    same(&rt, vector_fault(alloc, &[0x04, 0x00, 0x80]), long);
-    same(&rt, vector_nullable_fault(alloc, &[0x84, 0x41]), more);
-    same(&rt, map_fault(alloc, &[0x40]), more);
-    same(&rt, map_fault(alloc, &zeros[..256]), long);
+    let faults: &[(Reader, &[u8], WireFault)] = &[
+        (Reader::Ascii, b"Hey", WireFault::NeedMore),
+        (Reader::Ascii, &zeros, WireFault::TooLong),
+        (Reader::AsciiNullable, b"Hey", WireFault::NeedMore),
+        (Reader::Vector, &[0x83, 0x41, 0x42], WireFault::NeedMore),
+        (Reader::Vector, &[0x04, 0x00, 0x80], WireFault::TooLong),
+        (Reader::VectorNullable, &[0x84, 0x41], WireFault::NeedMore),
+    ];
+    for (reader, bytes, fault) in faults {
+        same(&rt, reader.fault(alloc, bytes), Some(*fault));
+    }
+    same(&rt, map_fault(alloc, &[0x40]), Some(WireFault::NeedMore));
+    same(
+        &rt,
+        map_fault(alloc, &zeros[..256]),
+        Some(WireFault::TooLong),
+    );
 }
 
 // Forms of sixteen bytes.
@@ -1040,9 +1081,7 @@ fn no_memory_where_it_fits(rt: HostRuntime) -> Result<(), WireFault> {
         0xc0,
     ];
     let mut out = Vec::new(rt.alloc());
-    if out.reserve(64).is_err() {
-        out.reserve(64)?;
-    }
+    out.reserve(64)?;
     write_small(&mut out)?;
     same(&rt, out.as_slice(), WANTED);
     Ok(())
