@@ -1,30 +1,51 @@
 //! Streams that are canonicalised and checked.
 
-ghost use Rattle.std.specs.Prelude.{◌≤◌};
-
+use crate::cuts::{CUTS, Cut};
 use crate::granted::answers;
-use crate::modes::PLAIN;
+use crate::long::{LONG, MANY, stream_of};
+use crate::modes::{InMode, PLAIN, in_each_mode};
 use crate::worked::{TWO, TWO_SHORT, worked};
 use fast_canon::{CanonFault, Summary, canonicalise, check};
+use fast_decoder::Mode;
 use fast_io::{Counted, ScriptInput, ScriptOutput};
 use fast_stream::{Cause, Fault, Place};
 use fast_template::TemplateSet;
 use std::alloc::{AllocError, Global};
 use std::process::Abort;
 
-// Checks a stream that comes in steps, whose reader fails at the call with this number.
+// A stream in a mode, how much of it one read gives, and which of its reads fails.
+#[derive(Clone, Copy)]
+struct Given<'a> {
+    mode: Mode,
+    stream: &'a [u8],
+    step: usize,
+    failing: u64,
+}
+
+impl<'a> Given<'a> {
+    fn reader(self) -> ScriptInput<'a> {
+        ScriptInput::new(self.stream, self.step.max(1), self.failing)
+    }
+}
+
+// A plain stream, given in steps.
+fn plainly(stream: &[u8], step: usize) -> Given<'_> {
+    Given {
+        mode: PLAIN,
+        stream,
+        step,
+        failing: 0,
+    }
+}
+
 fn checked(
     alloc: Global,
     set: &TemplateSet,
-    stream: &[u8],
-    step: usize,
-    failing: u64,
+    given: Given<'_>,
     turns: u64,
-) -> Result<Summary, CanonFault>
-    requires { 1 ≤ step }
-{
-    let mut reader = Counted::new(ScriptInput::new(stream, step, failing));
-    check(alloc, set, PLAIN, &mut reader, turns.min(100))
+) -> Result<Summary, CanonFault> {
+    let mut reader = Counted::new(given.reader());
+    check(alloc, set, given.mode, &mut reader, turns.min(100))
 }
 
 // A stream is checked with this answer.
@@ -36,40 +57,46 @@ fn is_checked(
     answers(rt, given, wanted, b"", b"")
 }
 
-// Canonicalises a stream that comes in steps.
 fn canonical(
     alloc: Global,
     set: &TemplateSet,
-    stream: &[u8],
-    step: usize,
+    given: Given<'_>,
     out: &mut ScriptOutput,
-) -> Result<Summary, CanonFault>
-    requires { 1 ≤ step }
-{
-    let mut reader = Counted::new(ScriptInput::new(stream, step, 0));
+) -> Result<Summary, CanonFault> {
+    let mut reader = Counted::new(given.reader());
     let mut writer = Counted::new(out);
-    canonicalise(alloc, set, PLAIN, &mut reader, &mut writer, 100)
+    canonicalise(alloc, set, given.mode, &mut reader, &mut writer, 100)
+}
+
+// A stream is canonicalised into a writer as these bytes, with this answer.
+fn is_canonicalised(
+    rt: &impl Abort,
+    alloc: Global,
+    set: &TemplateSet,
+    given: Given<'_>,
+    mut out: ScriptOutput,
+    written: &[u8],
+    answer: Result<Summary, CanonFault>,
+) -> Result<(), AllocError> {
+    let got = canonical(alloc, set, given, &mut out);
+    answers(rt, got, answer, out.bytes(), written)
 }
 
 // A stream, how much of it one read gives, what is written, and what is counted: messages, bytes read, bytes written.
 struct Row(&'static [u8], usize, &'static [u8], u64, u64, u64);
 
-// A stream in steps of one size gives this output and this answer, of `check` too.
+// A stream gives these canonical bytes and this answer, of `check` too.
 fn gives(
     rt: &impl Abort,
     alloc: Global,
     set: &TemplateSet,
-    stream: &[u8],
-    step: usize,
+    given: Given<'_>,
     written: &[u8],
     answer: Result<Summary, CanonFault>,
-) -> Result<(), AllocError>
-    requires { 1 ≤ step }
-{
-    let mut out = ScriptOutput::new(alloc, 1000, false, false);
-    let given = canonical(alloc, set, stream, step, &mut out);
-    answers(rt, given, answer, out.bytes(), written)?;
-    is_checked(rt, checked(alloc, set, stream, step, 0, 100), answer)
+) -> Result<(), AllocError> {
+    let out = ScriptOutput::new(alloc, 100_000, false, false);
+    is_canonicalised(rt, alloc, set, given, out, written, answer)?;
+    is_checked(rt, checked(alloc, set, given, 100), answer)
 }
 
 fn rows_are_given(rt: &impl Abort, alloc: Global, rows: &[Row]) -> Result<(), AllocError> {
@@ -80,7 +107,7 @@ fn rows_are_given(rt: &impl Abort, alloc: Global, rows: &[Row]) -> Result<(), Al
             read: *read,
             written: *out,
         });
-        gives(rt, alloc, &set, stream, (*step).max(1), written, answer)?;
+        gives(rt, alloc, &set, plainly(stream, *step), written, answer)?;
     }
     Ok(())
 }
@@ -112,23 +139,99 @@ fn streams_that_are_refused(rt: HostRuntime) -> Result<(), AllocError> {
     let alloc = rt.alloc();
     let set = worked(&rt, alloc)?;
     let first = Err(CanonFault::Stream(refused(Cause::D5, 1, 1, 0, 0)));
-    gives(&rt, alloc, &set, &[0x80], 1, &[], first)?;
+    gives(&rt, alloc, &set, plainly(&[0x80], 1), &[], first)?;
     // what was read before the fault is written; the bytes of the message that is open are not
     let second = Err(CanonFault::Stream(refused(Cause::Truncated, 2, 13, 1, 3)));
-    gives(&rt, alloc, &set, &TWO[..14], 3, &TWO_SHORT[..8], second)
+    gives(
+        &rt,
+        alloc,
+        &set,
+        plainly(&TWO[..14], 3),
+        &TWO_SHORT[..8],
+        second,
+    )
+}
+
+// A writer for two quotes fails behind each number of bytes; it has room for all of them; it takes none; it fails at the
+// flush.
+fn breaks(
+    rt: &impl Abort,
+    alloc: Global,
+    set: &TemplateSet,
+    given: Given<'_>,
+) -> Result<(), AllocError> {
+    const WRITE: Result<Summary, CanonFault> = Err(CanonFault::Write);
+    for room in 0..11 {
+        let out = ScriptOutput::new(alloc, room as u64, false, false);
+        is_canonicalised(rt, alloc, set, given, out, &TWO_SHORT[..room], WRITE)?;
+    }
+    let full = ScriptOutput::new(alloc, 11, false, false);
+    let counted = Ok(Summary {
+        messages: 2,
+        read: given.stream.len() as u64,
+        written: 11,
+    });
+    is_canonicalised(rt, alloc, set, given, full, TWO_SHORT, counted)?;
+    let none = ScriptOutput::new(alloc, 0, true, false);
+    is_canonicalised(rt, alloc, set, given, none, b"", WRITE)?;
+    let unflushed = ScriptOutput::new(alloc, 11, false, true);
+    is_canonicalised(rt, alloc, set, given, unflushed, TWO_SHORT, WRITE)
 }
 
 #[test]
 fn a_writer_that_fails(rt: HostRuntime) -> Result<(), AllocError> {
     let alloc = rt.alloc();
     let set = worked(&rt, alloc)?;
-    let mut out = ScriptOutput::new(alloc, 3, false, false);
-    let answer = canonical(alloc, &set, &TWO[..8], 8, &mut out);
-    let written = [0xf0, 0x81, 0x81].as_slice();
-    answers(&rt, answer, Err(CanonFault::Write), out.bytes(), written)?;
-    let mut out = ScriptOutput::new(alloc, 100, false, true);
-    let answer = canonical(alloc, &set, TWO, 8, &mut out);
-    answers(&rt, answer, Err(CanonFault::Write), out.bytes(), TWO_SHORT)
+    for stream in &in_each_mode(alloc, TWO, false)? {
+        let given = Given {
+            mode: stream.mode,
+            stream: &stream.stream,
+            step: 4096,
+            failing: 0,
+        };
+        breaks(&rt, alloc, &set, given)?;
+    }
+    Ok(())
+}
+
+// A reader, one byte a read, that fails where it is to give the byte behind so many of a stream.
+fn fails_behind(
+    rt: &impl Abort,
+    alloc: Global,
+    set: &TemplateSet,
+    row: &Cut,
+    stream: &InMode,
+    count: usize,
+) -> Result<(), AllocError> {
+    let front = row.front(count);
+    let written = &row.stream[..front.bytes.min(row.stream.len())];
+    let call = stream.front.saturating_add(count).saturating_add(1);
+    let given = Given {
+        mode: stream.mode,
+        stream: &stream.stream,
+        step: 1,
+        failing: call as u64,
+    };
+    let answer = match stream.moved(front.unread()) {
+        Some(fault) => Err(CanonFault::Stream(fault)),
+        None => Err(CanonFault::Memory),
+    };
+    gives(rt, alloc, set, given, written, answer)
+}
+
+#[test]
+fn a_reader_that_fails(rt: HostRuntime) -> Result<(), AllocError> {
+    let alloc = rt.alloc();
+    let set = worked(&rt, alloc)?;
+    for row in CUTS {
+        let is_refused = row.front(row.missing.len()).truncated().is_some();
+        for stream in &in_each_mode(alloc, row.stream, is_refused)? {
+            for count in 0..=row.missing.len() {
+                fails_behind(&rt, alloc, &set, row, stream, count)?;
+            }
+        }
+    }
+    Ok(())
 }
 
 #[test]
@@ -136,9 +239,57 @@ fn reads_that_are_used_up(rt: HostRuntime) -> Result<(), AllocError> {
     let alloc = rt.alloc();
     let set = worked(&rt, alloc)?;
     let turns = Err(CanonFault::Stream(refused(Cause::Turns, 2, 8, 0, 0)));
-    is_checked(&rt, checked(alloc, &set, TWO, 4, 0, 2), turns)?;
-    let read = Err(CanonFault::Stream(refused(Cause::Read, 1, 3, 1, 2)));
-    is_checked(&rt, checked(alloc, &set, TWO, 4, 2, 9), read)
+    is_checked(&rt, checked(alloc, &set, plainly(TWO, 4), 2), turns)
+}
+
+// A stream of so many messages that is canonical itself, or is refused with nothing before.
+fn stays(
+    rt: &impl Abort,
+    alloc: Global,
+    set: &TemplateSet,
+    plain: &[u8],
+    messages: u64,
+    fault: Option<Fault>,
+) -> Result<(), AllocError> {
+    for stream in &in_each_mode(alloc, plain, fault.is_some())? {
+        let given = Given {
+            mode: stream.mode,
+            stream: &stream.stream,
+            step: 4096,
+            failing: 0,
+        };
+        let (written, answer) = match stream.moved(fault) {
+            Some(fault) => (b"".as_slice(), Err(CanonFault::Stream(fault))),
+            None => {
+                let counted = Summary {
+                    messages,
+                    read: stream.stream.len() as u64,
+                    written: plain.len() as u64,
+                };
+                (plain, Ok(counted))
+            }
+        };
+        gives(rt, alloc, set, given, written, answer)?;
+    }
+    Ok(())
+}
+
+#[test]
+fn long_streams(rt: HostRuntime) -> Result<(), AllocError> {
+    let set = worked(&rt, rt.alloc())?;
+    for row in LONG {
+        let plain = stream_of(rt.alloc(), row.pieces)?;
+        let messages = row.want.len() as u64;
+        stays(&rt, rt.alloc(), &set, &plain, messages, row.end.fault())?;
+    }
+    Ok(())
+}
+
+#[test]
+fn long_streams_of_many_messages(rt: HostRuntime) -> Result<(), AllocError> {
+    let set = worked(&rt, rt.alloc())?;
+    let stream = stream_of(rt.alloc(), MANY)?;
+    stays(&rt, rt.alloc(), &set, &stream, 10_001, None)
 }
 
 // Streams that are longer than their canonical bytes, and two that are as long and not the same.

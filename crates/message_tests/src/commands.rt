@@ -3,5 +3,6 @@
 mod blocks;
 mod json;
 mod lines;
+mod relaying;
 mod streams;
 mod strict;

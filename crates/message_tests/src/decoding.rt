@@ -1,7 +1,9 @@
 //! Streams that are decoded.
 
 mod blocks;
+mod cuts;
+mod long;
 mod messages;
-mod steps;
-mod streams;
+pub(crate) mod steps;
+pub(crate) mod streams;
 mod strict;

@@ -6,11 +6,15 @@ mod canonicalising;
 #[cfg(test)]
 mod commands;
 #[cfg(test)]
+mod cuts;
+#[cfg(test)]
 mod decoding;
 #[cfg(test)]
 mod encoding;
 #[cfg(test)]
 mod granted;
+#[cfg(test)]
+mod long;
 #[cfg(test)]
 mod modes;
 #[cfg(test)]

@@ -2,8 +2,10 @@
 
 ghost use Rattle.std.specs.Prelude.{◌≤◌, ◌^◌};
 
+use crate::commands::strict::told;
+use crate::cuts::{CUTS, Cut, Front};
 use crate::granted::answers;
-use crate::modes::PLAIN;
+use crate::modes::{BLOCKS, InMode, PLAIN, in_each_mode};
 use crate::worked::{QUOTE, TWO, TWO_SHORT, worked};
 use fast_canon::{CanonFault, Summary};
 use fast_command::{Command, Form, run};
@@ -287,18 +289,6 @@ pub(crate) const REFUSALS: [Refusal; 12] = [
     },
 ];
 
-/// The place in the first quote where the byte at each index is missing.
-const PLACES: [At; 8] = [
-    At(0, 0, 0),
-    At(1, 0, 0),
-    At(2, 1, 1),
-    At(3, 1, 2),
-    At(3, 1, 2),
-    At(5, 1, 3),
-    At(5, 1, 3),
-    At(5, 1, 3),
-];
-
 pub(crate) fn counted(messages: u64, read: usize, written: usize) -> Result<Summary, CanonFault> {
     Ok(Summary {
         messages,
@@ -343,6 +333,22 @@ fn play(
     )
 }
 
+/// A command writes this of a stream into a writer, and answers this.
+fn gives_into(
+    rt: &impl Abort,
+    alloc: Global,
+    set: &TemplateSet,
+    mode: Mode,
+    command: Command,
+    reader: ScriptInput<'_>,
+    mut out: ScriptOutput,
+    written: &[u8],
+    answer: Result<Summary, CanonFault>,
+) -> Result<(), AllocError> {
+    let got = play(alloc, set, mode, command, reader, &mut out, 100_000);
+    answers(rt, got, answer, out.bytes(), written)
+}
+
 /// A command writes this of a stream, and answers this.
 pub(crate) fn gives(
     rt: &impl Abort,
@@ -354,9 +360,8 @@ pub(crate) fn gives(
     written: &[u8],
     answer: Result<Summary, CanonFault>,
 ) -> Result<(), AllocError> {
-    let mut out = ScriptOutput::new(alloc, 1_000_000, false, false);
-    let got = play(alloc, set, mode, command, reader, &mut out, 100_000);
-    answers(rt, got, answer, out.bytes(), written)
+    let out = ScriptOutput::new(alloc, 1_000_000, false, false);
+    gives_into(rt, alloc, set, mode, command, reader, out, written, answer)
 }
 
 /// What the commands write of a stream and answer: its lines, what is told, and its canonical bytes.
@@ -499,116 +504,218 @@ fn worked_streams_are_refused(rt: HostRuntime) -> Result<(), AllocError> {
     Ok(())
 }
 
-/// What each command makes of a reader that fails at the call with this number, each call giving one byte.
-fn fails_at(
+/// The answer to a stream that is refused.
+pub(crate) fn stopped(fault: Option<Fault>) -> Result<Summary, CanonFault> {
+    match fault {
+        Some(fault) => Err(CanonFault::Stream(fault)),
+        None => counted(0, 0, 0),
+    }
+}
+
+/// What each command makes of a reader that fails where it is to give the byte behind so many of a stream.
+fn fails_behind(
     rt: &impl Abort,
     alloc: Global,
     set: &TemplateSet,
-    call: u64,
-    messages: u64,
-    at: At,
-    written: [&[u8]; 2],
+    row: &Cut,
+    given: &InMode,
+    count: usize,
 ) -> Result<(), AllocError> {
-    let answer = refused(Cause::Read, messages.saturating_add(1), at);
-    let made = made_before(written[0], written[1], answer);
-    makes(rt, alloc, set, PLAIN, QUOTE, 1, call, made)
+    let front = row.front(count);
+    let lines = &row.lines.as_bytes()[..front.line_bytes.min(row.lines.len())];
+    let canonical = &row.stream[..front.bytes.min(row.stream.len())];
+    let answer = stopped(given.moved(front.unread()));
+    let call = given.front.saturating_add(count).saturating_add(1);
+    let made = made_before(lines, canonical, answer);
+    makes(
+        rt,
+        alloc,
+        set,
+        given.mode,
+        &given.stream,
+        1,
+        call as u64,
+        made,
+    )
+}
+
+/// The same behind each number of bytes, in each mode.
+fn fails_everywhere(
+    rt: &impl Abort,
+    alloc: Global,
+    set: &TemplateSet,
+    row: &Cut,
+) -> Result<(), AllocError> {
+    let is_refused = row.front(row.missing.len()).truncated().is_some();
+    for given in &in_each_mode(alloc, row.stream, is_refused)? {
+        for count in 0..=row.missing.len() {
+            fails_behind(rt, alloc, set, row, given, count)?;
+        }
+    }
+    Ok(())
 }
 
 #[test]
 fn a_read_fails(rt: HostRuntime) -> Result<(), AllocError> {
     let alloc = rt.alloc();
     let set = worked(&rt, alloc)?;
-    let mut call = 0u64;
-    for at in &PLACES {
-        call = call.saturating_add(1);
-        fails_at(&rt, alloc, &set, call, 0, *at, [b"", b""])?;
+    for row in CUTS {
+        fails_everywhere(&rt, alloc, &set, row)?;
     }
-    let whole = [QUOTE_LINE.as_bytes(), QUOTE];
-    fails_at(&rt, alloc, &set, 9, 1, At(8, 0, 0), whole)
+    // before the size of a block
+    let made = made_before(b"", b"", refused(Cause::Read, 1, At(0, 0, 0)));
+    makes(&rt, alloc, &set, BLOCKS, b"\x88", 1, 1, made)
 }
 
-/// A stream that is cut behind so many bytes of the first quote, whole and byte by byte.
+/// What each command makes of a stream that is cut behind so many of its bytes, whole and byte by byte.
 fn cut_behind(
     rt: &impl Abort,
     alloc: Global,
     set: &TemplateSet,
-    count: usize,
-    at: At,
+    row: &Cut,
+    given: &InMode,
+    front: Front,
 ) -> Result<(), AllocError> {
-    let stream = &QUOTE[..count.min(8)];
-    let made = made_before(b"", b"", refused(Cause::Truncated, 1, at));
-    makes(rt, alloc, set, PLAIN, stream, 1, 0, made)?;
-    makes(rt, alloc, set, PLAIN, stream, 4096, 0, made)
+    let read = given.stream.len();
+    let lines = &row.lines.as_bytes()[..front.line_bytes.min(row.lines.len())];
+    let canonical = &row.stream[..front.bytes.min(row.stream.len())];
+    let told = told(alloc, front.messages, read, canonical.len())?;
+    let made = match given.moved(front.truncated()) {
+        Some(fault) => made_before(lines, canonical, Err(CanonFault::Stream(fault))),
+        None => Made {
+            lines,
+            told: told.as_bytes(),
+            canonical,
+            shown: counted(front.messages, read, lines.len()),
+            counted: counted(front.messages, read, canonical.len()),
+        },
+    };
+    makes(rt, alloc, set, given.mode, &given.stream, 1, 0, made)?;
+    makes(rt, alloc, set, given.mode, &given.stream, 4096, 0, made)
+}
+
+/// The same in each mode.
+fn is_cut(
+    rt: &impl Abort,
+    alloc: Global,
+    set: &TemplateSet,
+    row: &Cut,
+    count: usize,
+) -> Result<(), AllocError> {
+    let front = row.front(count);
+    let stream = &row.stream[..count.min(row.stream.len())];
+    for given in &in_each_mode(alloc, stream, front.truncated().is_some())? {
+        cut_behind(rt, alloc, set, row, given, front)?;
+    }
+    Ok(())
 }
 
 #[test]
 fn a_stream_is_cut(rt: HostRuntime) -> Result<(), AllocError> {
     let alloc = rt.alloc();
     let set = worked(&rt, alloc)?;
-    for (count, at) in PLACES.iter().enumerate() {
-        if count > 0 {
-            cut_behind(&rt, alloc, &set, count, *at)?;
+    for row in CUTS {
+        for count in 1..=row.missing.len() {
+            is_cut(&rt, alloc, &set, row, count)?;
         }
     }
     Ok(())
 }
 
-/// A command over a reader, whose writer fails behind these bytes.
-fn write_fails(
-    rt: &impl Abort,
-    alloc: Global,
-    set: &TemplateSet,
+/// What a command writes of two quotes, and its answer.
+#[derive(Clone, Copy)]
+struct Whole<'a> {
     command: Command,
-    reader: ScriptInput<'_>,
-    mut out: ScriptOutput,
-    written: &[u8],
-) -> Result<(), AllocError> {
-    let got = play(alloc, set, PLAIN, command, reader, &mut out, 100);
-    answers(rt, got, Err(CanonFault::Write), out.bytes(), written)
+    written: &'a [u8],
+    answer: Result<Summary, CanonFault>,
 }
 
-/// A writer that takes so many bytes in all.
+/// A writer for the two quotes fails behind these bytes, or takes them all.
 fn breaks_at(
     rt: &impl Abort,
     alloc: Global,
     set: &TemplateSet,
-    command: Command,
-    whole: &[u8],
+    given: &InMode,
+    whole: Whole<'_>,
+    out: ScriptOutput,
     room: usize,
 ) -> Result<(), AllocError> {
-    let reader = ScriptInput::new(TWO, 4096, 0);
-    let out = ScriptOutput::new(alloc, room as u64, false, false);
-    let written = &whole[..room.min(whole.len())];
-    write_fails(rt, alloc, set, command, reader, out, written)
+    let reader = ScriptInput::new(&given.stream, 4096, 0);
+    let written = &whole.written[..room.min(whole.written.len())];
+    let answer = if room > whole.written.len() {
+        whole.answer
+    } else {
+        Err(CanonFault::Write)
+    };
+    gives_into(
+        rt,
+        alloc,
+        set,
+        given.mode,
+        whole.command,
+        reader,
+        out,
+        written,
+        answer,
+    )
 }
 
-/// A writer that fails behind each number of bytes, one that takes none, and one that fails at the flush.
+/// A writer that fails behind each number of bytes, one with room for all of them, one that takes none, and one that
+/// fails at the flush.
 fn breaks(
     rt: &impl Abort,
     alloc: Global,
     set: &TemplateSet,
-    command: Command,
-    whole: &[u8],
+    given: &InMode,
+    whole: Whole<'_>,
 ) -> Result<(), AllocError> {
-    for room in 0..whole.len() {
-        breaks_at(rt, alloc, set, command, whole, room)?;
+    let size = whole.written.len();
+    for room in 0..size {
+        let out = ScriptOutput::new(alloc, room as u64, false, false);
+        breaks_at(rt, alloc, set, given, whole, out, room)?;
     }
-    let reader = ScriptInput::new(TWO, 4096, 0);
+    let full = ScriptOutput::new(alloc, size as u64, false, false);
+    breaks_at(rt, alloc, set, given, whole, full, usize::MAX)?;
     let none = ScriptOutput::new(alloc, 0, true, false);
-    write_fails(rt, alloc, set, command, reader, none, b"")?;
-    let reader = ScriptInput::new(TWO, 3, 0);
-    let unflushed = ScriptOutput::new(alloc, 1_000, false, true);
-    write_fails(rt, alloc, set, command, reader, unflushed, whole)
+    breaks_at(rt, alloc, set, given, whole, none, 0)?;
+    let unflushed = ScriptOutput::new(alloc, size as u64, false, true);
+    breaks_at(rt, alloc, set, given, whole, unflushed, size)
+}
+
+/// Each command of the two quotes, in one mode.
+fn each_breaks(
+    rt: &impl Abort,
+    alloc: Global,
+    set: &TemplateSet,
+    given: &InMode,
+) -> Result<(), AllocError> {
+    let read = given.stream.len();
+    let told = told(alloc, 2, read, 11)?;
+    let commands = [
+        (Command::Show, TWO_LINES.as_bytes(), TWO_LINES.len()),
+        (Command::Check, told.as_bytes(), 11),
+        (Command::Canon, TWO_SHORT, 11),
+    ];
+    for (command, written, count) in commands {
+        let answer = counted(2, read, count);
+        let whole = Whole {
+            command,
+            written,
+            answer,
+        };
+        breaks(rt, alloc, set, given, whole)?;
+    }
+    Ok(())
 }
 
 #[test]
 fn a_write_fails(rt: HostRuntime) -> Result<(), AllocError> {
     let alloc = rt.alloc();
     let set = worked(&rt, alloc)?;
-    breaks(&rt, alloc, &set, Command::Show, TWO_LINES.as_bytes())?;
-    let told = b"ok messages=2 bytes=16 canonical=11\n";
-    breaks(&rt, alloc, &set, Command::Check, told)?;
-    breaks(&rt, alloc, &set, Command::Canon, TWO_SHORT)
+    for given in &in_each_mode(alloc, TWO, false)? {
+        each_breaks(&rt, alloc, &set, given)?;
+    }
+    Ok(())
 }
 
 /// A command that has nothing to write, and a flush that fails.
@@ -629,7 +736,8 @@ fn a_flush_fails(rt: HostRuntime) -> Result<(), AllocError> {
     for Unflushed(command, stream) in ROWS {
         let reader = ScriptInput::new(stream, 1, 0);
         let out = ScriptOutput::new(alloc, 9, false, true);
-        write_fails(&rt, alloc, &set, *command, reader, out, b"")?;
+        let answer = Err(CanonFault::Write);
+        gives_into(&rt, alloc, &set, PLAIN, *command, reader, out, b"", answer)?;
     }
     Ok(())
 }

@@ -1,7 +1,7 @@
 //! Streams in blocks: their sizes, where they end, and that each worked stream is the same in them.
 
 use crate::decoding::steps::{End, Step, follow};
-use crate::decoding::streams::{Row, Sent, Shown, agrees, all_read_in};
+use crate::decoding::streams::{BOTH, ONE, Row, agrees, all_read_in};
 use crate::granted::granted;
 use crate::modes::{BLOCKS, PLAIN, STRICT_BLOCKS};
 use crate::same::same;
@@ -12,39 +12,6 @@ use fast_stream::{Cause, Fault, Message};
 use fast_template::TemplateSet;
 use std::alloc::{AllocError, Global};
 use std::process::Abort;
-
-// The first quote.
-const ONE: &[Sent] = &[Sent {
-    template: 1,
-    fields: &[
-        Shown::Number(1),
-        Shown::Text(b"AB"),
-        Shown::Decimal(-2, 100),
-        Shown::Absent,
-    ],
-}];
-
-// And a second one.
-const TWO: &[Sent] = &[
-    Sent {
-        template: 1,
-        fields: &[
-            Shown::Number(1),
-            Shown::Text(b"AB"),
-            Shown::Decimal(-2, 100),
-            Shown::Absent,
-        ],
-    },
-    Sent {
-        template: 1,
-        fields: &[
-            Shown::Number(2),
-            Shown::Text(b"AB"),
-            Shown::Decimal(-2, 101),
-            Shown::Absent,
-        ],
-    },
-];
 
 #[test]
 fn streams_in_blocks(rt: HostRuntime) -> Result<(), AllocError> {
@@ -62,12 +29,12 @@ fn streams_in_blocks(rt: HostRuntime) -> Result<(), AllocError> {
         },
         Row {
             stream: b"\x8B\xF0\x81\x81\x41\xC2\xFE\x00\xE4\x80\x80\x81",
-            want: TWO,
+            want: BOTH,
             end: End::Whole,
         },
         Row {
             stream: b"\x88\xF0\x81\x81\x41\xC2\xFE\x00\xE4\x83\x80\x80\x81",
-            want: TWO,
+            want: BOTH,
             end: End::Whole,
         },
         // a size may be longer than it must be
@@ -83,7 +50,7 @@ fn streams_in_blocks(rt: HostRuntime) -> Result<(), AllocError> {
         },
         Row {
             stream: b"\x88\xF0\x81\x81\x41\xC2\xFE\x00\xE4\x00\x00\x83\x80\x80\x81",
-            want: TWO,
+            want: BOTH,
             end: End::Whole,
         },
         // sizes
@@ -155,7 +122,7 @@ fn streams_in_blocks(rt: HostRuntime) -> Result<(), AllocError> {
         },
         Row {
             stream: b"\x7F\x7F\x7F\x7F\x7F\x7F\x7F\x7F\x7F\xFF\xF0\x81\x81\x41\xC2\xFE\x00\xE4\x80\x80\x81",
-            want: TWO,
+            want: BOTH,
             end: End::Fault(Cause::Truncated, 3, 21, 0, 0),
         },
         Row {
@@ -305,7 +272,7 @@ fn streams_in_blocks(rt: HostRuntime) -> Result<(), AllocError> {
         },
         Row {
             stream: b"\x88\xF0\x81\x81\x41\xC2\xFE\x00\xE4\x83\x80\x80\x81",
-            want: TWO,
+            want: BOTH,
             end: End::Whole,
         },
         Row {

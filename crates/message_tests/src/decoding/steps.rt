@@ -5,6 +5,7 @@ ghost use Rattle.fast_walk.specs.Traversals.{ServesAll};
 use crate::granted::granted;
 use crate::modes::PLAIN;
 use crate::same::same;
+use crate::slots::slots_of;
 use crate::worked::worked;
 use fast_decoder::{Decoder, Mode};
 use fast_dictionary::{Entries, MapEntries};
@@ -21,6 +22,19 @@ pub(crate) enum End {
 }
 
 impl End {
+    pub(crate) fn of(fault: Option<Fault>) -> End {
+        match fault {
+            None => End::Whole,
+            Some(Fault { cause, place }) => End::Fault(
+                cause,
+                place.message,
+                place.offset,
+                place.template,
+                place.instruction,
+            ),
+        }
+    }
+
     pub(crate) fn fault(self) -> Option<Fault> {
         match self {
             End::Whole => None,
@@ -135,9 +149,22 @@ pub(crate) fn follow<E: Entries>(
     }
 }
 
-// The number of messages of the worked templates of a decoder that answers all steps so.
+// The number of messages of a decoder that answers all steps so, over both kinds of entries.
+pub(crate) fn count_in(
+    rt: &impl Abort,
+    alloc: Global,
+    set: &TemplateSet,
+    mode: Mode,
+    steps: &[Step],
+) -> Result<usize, AllocError> {
+    let messages = follow(rt, alloc, set, mode, MapEntries::new(alloc), steps)?;
+    let others = follow(rt, alloc, set, mode, slots_of(alloc, set)?, steps)?;
+    same(rt, others.as_slice() == messages.as_slice(), true);
+    Ok(messages.len())
+}
+
+// The same of the worked templates and plain messages.
 pub(crate) fn count(rt: &impl Abort, alloc: Global, steps: &[Step]) -> Result<usize, AllocError> {
     let set = worked(rt, alloc)?;
-    let messages = follow(rt, alloc, &set, PLAIN, MapEntries::new(alloc), steps)?;
-    Ok(messages.len())
+    count_in(rt, alloc, &set, PLAIN, steps)
 }

@@ -5,7 +5,7 @@ ghost use Rattle.fast_walk.specs.Traversals.{ServesAll};
 
 use crate::decoding::steps::{End, Step, count, follow};
 use crate::granted::granted;
-use crate::modes::PLAIN;
+use crate::modes::{PLAIN, STRICT};
 use crate::same::same;
 use crate::slots::slots_of;
 use crate::worked::{QUOTE, loaded, quote, text, worked};
@@ -13,11 +13,11 @@ use fast_decoder::{Decoder, MessageInputStream, Mode};
 use fast_dictionary::{Entries, MapEntries};
 use fast_io::{ByteInput, Counted, ScriptInput};
 use fast_stream::{Cause, Fault, Message, Node};
-use fast_template::{ByteString, Scalar, TemplateSet};
+use fast_template::{ByteString, Scalar, TemplateSet, UnicodeText};
 use std::alloc::{AllocError, Global};
 use std::process::Abort;
 
-// A node of a row. Each group here holds numbers, and so does each element of a sequence.
+// A node of a row. Each group here holds numbers, or a group of numbers, and each element of a sequence holds numbers.
 #[derive(Clone, Copy)]
 pub(crate) enum Shown {
     Absent,
@@ -25,9 +25,15 @@ pub(crate) enum Shown {
     Signed(i32),
     Decimal(i32, i64),
     Text(&'static [u8]),
+    // so many times the letter A
+    Letters(usize),
+    Unicode(&'static str),
     Bytes(&'static [u8]),
     Group(&'static [u32]),
+    GroupInGroup(&'static [u32]),
     Sequence(&'static [&'static [u32]]),
+    // so many times this element
+    Repeated(usize, &'static [u32]),
 }
 
 fn vector(alloc: Global, bytes: &[u8]) -> Result<Node, AllocError> {
@@ -41,6 +47,28 @@ fn numbers(alloc: Global, values: &[u32]) -> Result<Vec<Node>, AllocError> {
         nodes.push(Node::Value(Scalar::U32(*value)))?;
     }
     Ok(nodes)
+}
+
+fn letters(alloc: Global, count: usize) -> Result<Node, AllocError> {
+    text(alloc, &vec![in alloc; 0x41; count]?)
+}
+
+fn unicode(alloc: Global, characters: &str) -> Result<Node, AllocError> {
+    let characters = UnicodeText::from_string(String::from_str(alloc, characters)?);
+    Ok(Node::Value(Scalar::Unicode(characters)))
+}
+
+fn group_in_group(alloc: Global, values: &[u32]) -> Result<Node, AllocError> {
+    let inner = Node::Group(numbers(alloc, values)?);
+    Ok(Node::Group(vec![in alloc; inner]?))
+}
+
+fn repeated(alloc: Global, count: usize, values: &[u32]) -> Result<Node, AllocError> {
+    let mut elements = Vec::new(alloc);
+    for _ in 0..count {
+        elements.push(numbers(alloc, values)?)?;
+    }
+    Ok(Node::Sequence(elements))
 }
 
 fn elements(alloc: Global, rows: &[&[u32]]) -> Result<Vec<Vec<Node>>, AllocError> {
@@ -61,9 +89,13 @@ impl Shown {
                 Ok(Node::Value(Scalar::Decimal { exponent, mantissa }))
             }
             Shown::Text(bytes) => text(alloc, bytes),
+            Shown::Letters(count) => letters(alloc, count),
+            Shown::Unicode(characters) => unicode(alloc, characters),
             Shown::Bytes(bytes) => vector(alloc, bytes),
             Shown::Group(values) => Ok(Node::Group(numbers(alloc, values)?)),
+            Shown::GroupInGroup(values) => group_in_group(alloc, values),
             Shown::Sequence(rows) => Ok(Node::Sequence(elements(alloc, rows)?)),
+            Shown::Repeated(count, values) => repeated(alloc, count, values),
         }
     }
 }
@@ -87,7 +119,40 @@ impl Sent {
     }
 }
 
-fn messages(alloc: Global, rows: &[Sent]) -> Result<Vec<Message>, AllocError> {
+// The first quote.
+pub(crate) const ONE: &[Sent] = &[Sent {
+    template: 1,
+    fields: &[
+        Shown::Number(1),
+        Shown::Text(b"AB"),
+        Shown::Decimal(-2, 100),
+        Shown::Absent,
+    ],
+}];
+
+// And a second one.
+pub(crate) const BOTH: &[Sent] = &[
+    Sent {
+        template: 1,
+        fields: &[
+            Shown::Number(1),
+            Shown::Text(b"AB"),
+            Shown::Decimal(-2, 100),
+            Shown::Absent,
+        ],
+    },
+    Sent {
+        template: 1,
+        fields: &[
+            Shown::Number(2),
+            Shown::Text(b"AB"),
+            Shown::Decimal(-2, 101),
+            Shown::Absent,
+        ],
+    },
+];
+
+pub(crate) fn messages(alloc: Global, rows: &[Sent]) -> Result<Vec<Message>, AllocError> {
     let mut messages = Vec::new(alloc);
     for row in rows {
         messages.push(row.message(alloc)?)?;
@@ -145,7 +210,7 @@ fn reads<E: Entries>(
 }
 
 // The same over both kinds of entries.
-fn both_read(
+pub(crate) fn both_read(
     alloc: Global,
     set: &TemplateSet,
     mode: Mode,
@@ -217,7 +282,7 @@ fn decodes<E: Entries>(
 }
 
 // The same over both kinds of entries.
-fn both_decode(
+pub(crate) fn both_decode(
     alloc: Global,
     set: &TemplateSet,
     mode: Mode,
@@ -312,26 +377,7 @@ fn streams_that_are_read(rt: HostRuntime) -> Result<(), AllocError> {
         // fields
         Row {
             stream: b"\xF0\x81\x81\x41\xC2\xFE\x00\xE4\x80\x80\x81",
-            want: &[
-                Sent {
-                    template: 1,
-                    fields: &[
-                        Shown::Number(1),
-                        Shown::Text(b"AB"),
-                        Shown::Decimal(-2, 100),
-                        Shown::Absent,
-                    ],
-                },
-                Sent {
-                    template: 1,
-                    fields: &[
-                        Shown::Number(2),
-                        Shown::Text(b"AB"),
-                        Shown::Decimal(-2, 101),
-                        Shown::Absent,
-                    ],
-                },
-            ],
+            want: BOTH,
             end: End::Whole,
         },
         Row {
@@ -533,6 +579,202 @@ fn streams_that_are_read(rt: HostRuntime) -> Result<(), AllocError> {
     all_read(&rt, rt.alloc(), ROWS)
 }
 
+// What the rows above leave out: spellings that are longer than they must be, tails, Unicode, byte vectors, constants.
+#[test]
+fn other_streams_that_are_read(rt: HostRuntime) -> Result<(), AllocError> {
+    const ROWS: &[Row] = &[
+        // longer than they must be
+        Row {
+            stream: b"\xF0\x81\x81\x41\xC2\xFE\x00\xE4\xF8\x81\x82\x41\xC2\x80\x81\x80",
+            want: BOTH,
+            end: End::Whole,
+        },
+        Row {
+            stream: b"\xF0\x81\x00\x00\x81\x41\xC2\xFE\x00\xE4",
+            want: ONE,
+            end: End::Whole,
+        },
+        Row {
+            stream: b"\x70\x00\x80\x81\x81\x41\xC2\xFE\x00\xE4",
+            want: ONE,
+            end: End::Whole,
+        },
+        Row {
+            stream: b"\xF1\x81\x81\x41\xC2\xFE\x00\xE4",
+            want: ONE,
+            end: End::Whole,
+        },
+        Row {
+            stream: b"\xF0\x83\x80\x85\xB0\x83\x39\x45\xA3",
+            want: &[
+                Sent {
+                    template: 3,
+                    fields: &[Shown::Absent, Shown::Number(5)],
+                },
+                Sent {
+                    template: 3,
+                    fields: &[Shown::Decimal(2, 942_755), Shown::Number(5)],
+                },
+            ],
+            end: End::Whole,
+        },
+        Row {
+            stream: b"\xC0\x8A\x80\x47\x45\x48\xB6\x80\x82\x4D\xB6\x80\xFD\x45\xD3\x80\xFF\x80",
+            want: &[
+                Sent {
+                    template: 10,
+                    fields: &[Shown::Text(b"GEH6")],
+                },
+                Sent {
+                    template: 10,
+                    fields: &[Shown::Text(b"GEM6")],
+                },
+                Sent {
+                    template: 10,
+                    fields: &[Shown::Text(b"ESM6")],
+                },
+                Sent {
+                    template: 10,
+                    fields: &[Shown::Text(b"ESM6")],
+                },
+            ],
+            end: End::Whole,
+        },
+        // tails
+        Row {
+            stream: b"\xE0\x88\x78\x61\xE2\xA0\x00\x00\x00\xE2",
+            want: &[
+                Sent {
+                    template: 8,
+                    fields: &[Shown::Text(b"xab")],
+                },
+                Sent {
+                    template: 8,
+                    fields: &[Shown::Text(b"x\0b")],
+                },
+            ],
+            end: End::Whole,
+        },
+        Row {
+            stream: b"\xE0\x89\x80\xA0\x00\x80",
+            want: &[
+                Sent {
+                    template: 9,
+                    fields: &[Shown::Absent],
+                },
+                Sent {
+                    template: 9,
+                    fields: &[Shown::Text(b"ab")],
+                },
+            ],
+            end: End::Whole,
+        },
+        Row {
+            stream: b"\xE0\x8C\x82\xC3\xA9\xA0\x81\xA8\xA0\x81\x41",
+            want: &[
+                Sent {
+                    template: 12,
+                    fields: &[Shown::Unicode("é")],
+                },
+                Sent {
+                    template: 12,
+                    fields: &[Shown::Unicode("è")],
+                },
+            ],
+            end: End::Fault(Cause::R2, 3, 9, 12, 1),
+        },
+        // constants, a default, keys and an identifier
+        Row {
+            stream: b"\xE0\x8E\x80\x90\x83\x90\x10\x00\x00\x00\x80",
+            want: &[
+                Sent {
+                    template: 14,
+                    fields: &[Shown::Number(7), Shown::Number(9), Shown::Number(3)],
+                },
+                Sent {
+                    template: 14,
+                    fields: &[Shown::Number(7), Shown::Absent, Shown::Number(3)],
+                },
+                Sent {
+                    template: 14,
+                    fields: &[Shown::Number(7), Shown::Absent, Shown::Number(3)],
+                },
+            ],
+            end: End::Fault(Cause::D2, 4, 6, 14, 3),
+        },
+        Row {
+            stream: b"\xE0\x8F\x00\xE4\x83\x0A\xFF\x80\x81",
+            want: &[
+                Sent {
+                    template: 15,
+                    fields: &[Shown::Decimal(-2, 100), Shown::Bytes(b"\x0a\xff")],
+                },
+                Sent {
+                    template: 15,
+                    fields: &[Shown::Decimal(-2, 101), Shown::Bytes(b"\x0a\xff")],
+                },
+            ],
+            end: End::Whole,
+        },
+        Row {
+            stream: b"\xF0\x87\x85\xC1\xB0\x86\xC1",
+            want: &[
+                Sent {
+                    template: 7,
+                    fields: &[Shown::Number(5), Shown::Text(b"A")],
+                },
+                Sent {
+                    template: 7,
+                    fields: &[Shown::Number(6), Shown::Text(b"A")],
+                },
+            ],
+            end: End::Whole,
+        },
+        Row {
+            stream: b"\xE0\x90\x85\x86\xE0\x90\x87\x86",
+            want: &[
+                Sent {
+                    template: 16,
+                    fields: &[Shown::Number(5), Shown::Number(6)],
+                },
+                Sent {
+                    template: 16,
+                    fields: &[Shown::Number(7), Shown::Number(6)],
+                },
+            ],
+            end: End::Whole,
+        },
+    ];
+    all_read(&rt, rt.alloc(), ROWS)
+}
+
+// A group that may be absent, in one that may not.
+const NEST: &str = r#"{"templates":[{"name":"Nest","id":1,"instructions":[
+    {"kind":"group","name":"Outer","instructions":[
+     {"kind":"group","name":"Inner","presence":"optional","instructions":[
+      {"kind":"uInt32","name":"A","operator":"copy"}]}]}]}]}"#;
+
+#[test]
+fn a_group_in_a_group(rt: HostRuntime) -> Result<(), AllocError> {
+    const ROW: Row = Row {
+        stream: b"\xC0\x81\xC0\xC0\x85\x80\xC0\x80\x80\xC0",
+        want: &[
+            Sent {
+                template: 1,
+                fields: &[Shown::GroupInGroup(&[5])],
+            },
+            Sent {
+                template: 1,
+                fields: &[Shown::GroupInGroup(&[5])],
+            },
+        ],
+        end: End::Fault(Cause::Truncated, 3, 10, 1, 2),
+    };
+    let set = loaded(&rt, rt.alloc(), NEST)?;
+    is_read(&rt, rt.alloc(), &set, PLAIN, &ROW)?;
+    is_read(&rt, rt.alloc(), &set, STRICT, &ROW)
+}
+
 // A quote with this symbol but for its last letter, an A.
 fn long_stream(alloc: Global, symbol: &[u8]) -> Result<Vec<u8>, AllocError> {
     let mut stream = Vec::new(alloc);
@@ -560,8 +802,7 @@ fn reads_long(
     let stream = long_stream(alloc, symbol)?;
     let want = vec![in alloc; long_message(alloc, symbol)?]?;
     let want = if fault.is_none() { &want[..] } else { &[] };
-    let map = MapEntries::new(alloc);
-    reads(alloc, set, mode, map, &stream, 4096, want, fault)
+    both_read(alloc, set, mode, &stream, 4096, want, fault)
 }
 
 // It is read or refused so with so many zero groups in front, so many letters and one more.
@@ -657,59 +898,95 @@ fn two_faults<R: ByteInput, E: Entries>(
 }
 
 // The same of a reader that gives so many bytes a call and fails at one, read so often.
-fn faults_over(
+fn faults_over<E: Entries>(
     alloc: Global,
     set: &TemplateSet,
-    stream: &[u8],
-    step: usize,
-    fails: u64,
+    mode: Mode,
+    entries: E,
+    reader: ScriptInput<'_>,
     turns: u64,
 ) -> Result<(Option<Fault>, Option<Fault>), AllocError>
-    requires step { 1 ≤ step }
     requires turns { turns ≤ 100 }
+    requires served { ServesAll (E.serves entries) set.now }
 {
-    let reader = Counted::new(ScriptInput::new(stream, step, fails));
-    let mut input = MessageInputStream::new(
-        alloc,
-        reader,
-        set,
-        PLAIN,
-        MapEntries::new(alloc),
-        turns,
-    );
+    let reader = Counted::new(reader);
+    let mut input = MessageInputStream::new(alloc, reader, set, mode, entries, turns);
     two_faults(&mut input)
 }
 
-fn faults(
-    rt: &impl Abort,
-    alloc: Global,
-    stream: &[u8],
+// A reader's script, how often it is read, and the ends that two calls tell.
+struct Reading {
+    stream: &'static [u8],
     step: usize,
     fails: u64,
     turns: u64,
-) -> Result<(Option<Fault>, Option<Fault>), AllocError>
-    requires step { 1 ≤ step }
-    requires turns { turns ≤ 100 }
-{
-    let set = worked(rt, alloc)?;
-    faults_over(alloc, &set, stream, step, fails, turns)
+    ends: [End; 2],
+}
+
+// The two calls answer so over both kinds of entries.
+fn both_answer(
+    rt: &impl Abort,
+    alloc: Global,
+    set: &TemplateSet,
+    mode: Mode,
+    row: &Reading,
+) -> Result<(), AllocError> {
+    let ends = (row.ends[0].fault(), row.ends[1].fault());
+    let (step, turns) = (row.step.max(1), row.turns.min(100));
+    let reader = ScriptInput::new(row.stream, step, row.fails);
+    let map = MapEntries::new(alloc);
+    same(rt, faults_over(alloc, set, mode, map, reader, turns)?, ends);
+    let reader = ScriptInput::new(row.stream, step, row.fails);
+    let slots = slots_of(alloc, set)?;
+    same(
+        rt,
+        faults_over(alloc, set, mode, slots, reader, turns)?,
+        ends,
+    );
+    Ok(())
 }
 
 #[test]
 fn failed_and_used_up_reads(rt: HostRuntime) -> Result<(), AllocError> {
-    let alloc = rt.alloc();
-    let failed = End::Fault(Cause::Read, 1, 2, 1, 1).fault();
-    same(
-        &rt,
-        faults(&rt, alloc, b"\xF0\x81", 2, 2, 9)?,
-        (failed, failed),
-    );
-    let used_up = End::Fault(Cause::Turns, 1, 2, 1, 1).fault();
-    same(&rt, faults(&rt, alloc, QUOTE, 1, 0, 2)?, (used_up, used_up));
-    // eight reads for a message, and one that meets the end
-    same(&rt, faults(&rt, alloc, QUOTE, 1, 0, 9)?, (None, None));
-    let later = End::Fault(Cause::Turns, 2, 8, 0, 0).fault();
-    same(&rt, faults(&rt, alloc, QUOTE, 1, 0, 8)?, (None, later));
+    const FAILED: End = End::Fault(Cause::Read, 1, 2, 1, 1);
+    const USED_UP: End = End::Fault(Cause::Turns, 1, 2, 1, 1);
+    const LATER: End = End::Fault(Cause::Turns, 2, 8, 0, 0);
+    const ROWS: &[Reading] = &[
+        Reading {
+            stream: b"\xF0\x81",
+            step: 2,
+            fails: 2,
+            turns: 9,
+            ends: [FAILED, FAILED],
+        },
+        Reading {
+            stream: QUOTE,
+            step: 1,
+            fails: 0,
+            turns: 2,
+            ends: [USED_UP, USED_UP],
+        },
+        // eight reads for a message, and one that meets the end
+        Reading {
+            stream: QUOTE,
+            step: 1,
+            fails: 0,
+            turns: 9,
+            ends: [End::Whole, End::Whole],
+        },
+        Reading {
+            stream: QUOTE,
+            step: 1,
+            fails: 0,
+            turns: 8,
+            ends: [End::Whole, LATER],
+        },
+    ];
+    let set = worked(&rt, rt.alloc())?;
+    for row in ROWS {
+        both_answer(&rt, rt.alloc(), &set, PLAIN, row)?;
+        both_answer(&rt, rt.alloc(), &set, STRICT, row)?;
+    }
     Ok(())
 }
 

@@ -1,0 +1,204 @@
+//! When what is made of messages is handed on: behind each read, and where 65,536 bytes wait between two messages.
+
+use crate::granted::may_be_refused;
+use crate::long::stream_of;
+use crate::modes::PLAIN;
+use crate::same::same;
+use crate::worked::loaded;
+use fast_canon::{CanonFault, Summary};
+use fast_command::{Command, Form, run};
+use fast_io::{Counted, ScriptInput};
+use fast_template::TemplateSet;
+use std::alloc::{AllocError, Global};
+use std::io::{self, Write};
+use std::process::Abort;
+
+// How many bytes each write had, of which all are taken.
+#[derive(Drop)]
+struct Pushes<'a> {
+    sizes: &'a mut Vec<usize>,
+}
+
+impl Write for Pushes<'_> {
+    fn write(&mut self, bytes: &[u8]) -> io::Result<usize> {
+        self.sizes.push(bytes.len())?;
+        Ok(bytes.len())
+    }
+
+    fn flush(&mut self) -> io::Result<()> {
+        Ok(())
+    }
+}
+
+// A string that may be given by bit 0, and elements of such strings.
+const COPIES: &str = r#"{"templates":[
+    {"name":"T","id":1,"instructions":[{"kind":"string","name":"S","operator":"copy"}]},
+    {"name":"Ten","id":2,"instructions":[{"kind":"sequence","name":"L","instructions":[
+     {"kind":"string","name":"S","operator":"copy"}]}]}]}"#;
+
+// A command, a stream of pieces, and the sizes of the writes.
+struct Row {
+    command: Command,
+    pieces: &'static [(&'static [u8], usize)],
+    sizes: &'static [usize],
+}
+
+// What a command answers that writes so, in reads of 4,096 bytes.
+fn run_over(
+    alloc: Global,
+    set: &TemplateSet,
+    command: Command,
+    stream: &[u8],
+    sizes: &mut Vec<usize>,
+) -> Result<Summary, CanonFault> {
+    let mut reader = Counted::new(ScriptInput::new(stream, 4096, 0));
+    let mut writer = Counted::new(Pushes { sizes });
+    run(
+        alloc,
+        command,
+        set,
+        PLAIN,
+        Form::Text,
+        &mut reader,
+        &mut writer,
+        1000,
+    )
+}
+
+fn is_handed_on(
+    rt: &impl Abort,
+    alloc: Global,
+    set: &TemplateSet,
+    row: &Row,
+) -> Result<(), AllocError> {
+    let stream = stream_of(alloc, row.pieces)?;
+    let mut sizes = Vec::with_capacity(alloc, 16)?;
+    match run_over(alloc, set, row.command, &stream, &mut sizes) {
+        Ok(_) => {
+            same(rt, sizes.as_slice(), row.sizes);
+            Ok(())
+        }
+        Err(fault) => {
+            same(rt, may_be_refused(Err(fault)), true);
+            Err(AllocError)
+        }
+    }
+}
+
+#[test]
+fn long_streams_are_handed_on(rt: HostRuntime) -> Result<(), AllocError> {
+    const ROWS: &[Row] = &[
+        // Lines of 65,535 bytes, the first of which ends in the sixteenth read as the others do: two are handed on at
+        // once, and what is left behind the read.
+        Row {
+            command: Command::Show,
+            pieces: &[
+                (b"\xE0\x81", 1),
+                (b"\x41", 65_525),
+                (b"\xC1", 1),
+                (b"\x80", 3),
+            ],
+            sizes: &[131_070, 131_070],
+        },
+        Row {
+            command: Command::Show,
+            pieces: &[
+                (b"\xE0\x81", 1),
+                (b"\x41", 65_525),
+                (b"\xC1", 1),
+                (b"\x80", 2),
+            ],
+            sizes: &[131_070, 65_535],
+        },
+        // lines of 65,536 bytes
+        Row {
+            command: Command::Show,
+            pieces: &[
+                (b"\xE0\x81", 1),
+                (b"\x41", 65_526),
+                (b"\xC1", 1),
+                (b"\x80", 2),
+            ],
+            sizes: &[65_536, 65_536, 65_536],
+        },
+        // two lines of ten million bytes
+        Row {
+            command: Command::Show,
+            pieces: &[
+                (b"\xC0\x82\x01\x9A\xC0", 1),
+                (b"\x41", 64_927),
+                (b"\xC1", 1),
+                (b"\x80", 153),
+                (b"\x80\x01\x9A", 1),
+                (b"\x80", 154),
+            ],
+            sizes: &[10_000_000, 10_000_000],
+        },
+        // Canonical bytes: a message of 65,535 and one of one byte, which end in the same read; one of 65,536, and two
+        // in the next read; one of 65,537, and two in the same read.
+        Row {
+            command: Command::Canon,
+            pieces: &[
+                (b"\xE0\x81", 1),
+                (b"\x41", 65_532),
+                (b"\xC1", 1),
+                (b"\x80", 1),
+            ],
+            sizes: &[65_536],
+        },
+        Row {
+            command: Command::Canon,
+            pieces: &[
+                (b"\xE0\x81", 1),
+                (b"\x41", 65_533),
+                (b"\xC1", 1),
+                (b"\x80", 2),
+            ],
+            sizes: &[65_536, 2],
+        },
+        Row {
+            command: Command::Canon,
+            pieces: &[
+                (b"\xE0\x81", 1),
+                (b"\x41", 65_534),
+                (b"\xC1", 1),
+                (b"\x80", 2),
+            ],
+            sizes: &[65_537, 2],
+        },
+        // many messages of a read are few bytes
+        Row {
+            command: Command::Canon,
+            pieces: &[
+                (b"\xE0\x81", 1),
+                (b"\x41", 99),
+                (b"\xC1", 1),
+                (b"\x80", 3_994),
+                (b"\x80", 7),
+            ],
+            sizes: &[4_096, 7],
+        },
+        // a check makes no bytes of a message, and its line is written once
+        Row {
+            command: Command::Check,
+            pieces: &[
+                (b"\xE0\x81", 1),
+                (b"\x41", 65_525),
+                (b"\xC1", 1),
+                (b"\x80", 3),
+            ],
+            sizes: &[42],
+        },
+        // nothing is written of no message
+        Row {
+            command: Command::Canon,
+            pieces: &[],
+            sizes: &[],
+        },
+    ];
+    let set = loaded(&rt, rt.alloc(), COPIES)?;
+    for row in ROWS {
+        is_handed_on(&rt, rt.alloc(), &set, row)?;
+    }
+    Ok(())
+}

@@ -1,0 +1,57 @@
+//! Streams that are cut behind each of their bytes, over both kinds of entries.
+
+use crate::cuts::{CUTS, Cut};
+use crate::decoding::steps::{End, Step, count_in};
+use crate::modes::{InMode, in_each_mode};
+use crate::same::same;
+use crate::worked::worked;
+use fast_stream::Fault;
+use fast_template::TemplateSet;
+use std::alloc::{AllocError, Global};
+use std::process::Abort;
+
+// A stream has so many messages, and then ends so.
+fn ends_so(
+    rt: &impl Abort,
+    alloc: Global,
+    set: &TemplateSet,
+    stream: &InMode,
+    messages: u64,
+    fault: Option<Fault>,
+) -> Result<(), AllocError> {
+    let steps = [
+        Step::Feed(&stream.stream, End::Whole),
+        Step::Finish(End::of(stream.moved(fault))),
+    ];
+    let count = count_in(rt, alloc, set, stream.mode, &steps)?;
+    same(rt, count as u64, messages);
+    Ok(())
+}
+
+// A stream that is cut behind so many bytes, in each mode.
+fn is_cut(
+    rt: &impl Abort,
+    alloc: Global,
+    set: &TemplateSet,
+    row: &Cut,
+    count: usize,
+) -> Result<(), AllocError> {
+    let front = row.front(count);
+    let fault = front.truncated();
+    let stream = &row.stream[..count.min(row.stream.len())];
+    for stream in &in_each_mode(alloc, stream, fault.is_some())? {
+        ends_so(rt, alloc, set, stream, front.messages, fault)?;
+    }
+    Ok(())
+}
+
+#[test]
+fn streams_that_are_cut(rt: HostRuntime) -> Result<(), AllocError> {
+    let set = worked(&rt, rt.alloc())?;
+    for row in CUTS {
+        for count in 1..=row.missing.len() {
+            is_cut(&rt, rt.alloc(), &set, row, count)?;
+        }
+    }
+    Ok(())
+}
