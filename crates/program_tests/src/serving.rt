@@ -7,3 +7,4 @@ mod explaining;
 mod granted;
 mod programs;
 mod strict;
+mod worked;

@@ -96,13 +96,17 @@ pub struct Sink<'a> {
     pub full: Full,
 }
 
-/// Keeps all bytes.
-pub fn kept<'a>(kept: &'a mut Vec<u8>, flushes: &'a mut u32) -> Sink<'a> {
+/// A sink with so much room.
+pub fn with_room<'a>(
+    kept: &'a mut Vec<u8>,
+    flushes: &'a mut u32,
+    (room, full): (usize, Full),
+) -> Sink<'a> {
     Sink {
         kept,
         flushes,
-        room: usize::MAX,
-        full: Full::Nothing,
+        room,
+        full,
     }
 }
 

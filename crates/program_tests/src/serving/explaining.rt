@@ -2,10 +2,8 @@
 
 ghost use Rattle.std.specs.Prelude.{◌≤◌, ◌^◌};
 
-use crate::same::same_of;
-use crate::serving::devices::{After, Feed, Full, STREAM, Shelf, Sink, TEMPLATES, kept};
-use crate::serving::granted::{granted, room};
-use crate::serving::programs::{Answer, FIRST, Row, row_is_served, served, status_of, whole};
+use crate::serving::devices::{After, Feed, Full, STREAM, Shelf, TEMPLATES};
+use crate::serving::programs::{Answer, FIRST, Row, row_is_served, served, served_into, whole};
 use std::alloc::{AllocError, Global};
 use std::process::Abort;
 
@@ -440,26 +438,12 @@ fn output_is_explained(rt: &impl Abort, alloc: Global, err: &str) -> Result<(), 
         out: b"",
         err,
     };
-    let mut out = room(alloc)?;
-    let mut said = room(alloc)?;
-    let (mut ends, mut flushes) = (0, 0);
     let mut source = Shelf {
         templates: whole(FIRST.as_bytes()),
         stream: whole(b""),
         standard: whole(b"\xe0\x90\x85\x86"),
     };
-    let sink = Sink {
-        kept: &mut out,
-        flushes: &mut ends,
-        room: 0,
-        full: Full::Error,
-    };
-    let err_sink = kept(&mut said, &mut flushes);
-    let status = status_of(alloc, SHOW, &mut source, sink, err_sink, 9);
-    granted(rt, SHOW, status, &said, &out, want)?;
-    same_of(rt, SHOW, said.as_slice(), want.err.as_bytes());
-    same_of(rt, SHOW, status, want.status);
-    Ok(())
+    served_into(rt, alloc, SHOW, &mut source, 9, (0, Full::Error), want)
 }
 
 #[test]

@@ -1,7 +1,7 @@
 //! The program: its exit status, what it writes, and what it says.
 
 use crate::same::{same, same_of};
-use crate::serving::devices::{After, Feed, Full, STREAM, Shelf, Sink, TEMPLATES, kept};
+use crate::serving::devices::{After, Feed, Full, STREAM, Shelf, Sink, TEMPLATES, with_room};
 use crate::serving::granted::{granted, room};
 use fast_io::Counted;
 use fast_serve::serve::{TURNS, serve, serve_words};
@@ -84,7 +84,60 @@ pub fn status_of(
     serve(alloc, words, source, &mut out, &mut err, turns.min(TURNS))
 }
 
-/// Serves a line over a shelf: the status, what is written and what is said.
+/// What came of a line that was served.
+#[derive(Drop)]
+pub struct Ended {
+    pub status: u8,
+    pub out: Vec<u8>,
+    pub err: Vec<u8>,
+    pub flushes: u32,
+}
+
+/// An output that takes all bytes.
+pub const ENOUGH: (usize, Full) = (usize::MAX, Full::Nothing);
+
+/// Serves a line over a shelf, into outputs with so much room.
+pub fn outcome(
+    alloc: Global,
+    words: &[&str],
+    source: &mut Shelf<'_>,
+    turns: u64,
+    out_room: (usize, Full),
+    err_room: (usize, Full),
+) -> Result<Ended, AllocError> {
+    let mut out = room(alloc)?;
+    let mut err = room(alloc)?;
+    let (mut flushes, mut said) = (0, 0);
+    let out_sink = with_room(&mut out, &mut flushes, out_room);
+    let err_sink = with_room(&mut err, &mut said, err_room);
+    let status = status_of(alloc, words, source, out_sink, err_sink, turns);
+    Ok(Ended {
+        status,
+        out,
+        err,
+        flushes,
+    })
+}
+
+/// Serves a line over a shelf, into an output with so much room: the status, what is written and what is said.
+pub fn served_into(
+    rt: &impl Abort,
+    alloc: Global,
+    words: &[&str],
+    source: &mut Shelf<'_>,
+    turns: u64,
+    out_room: (usize, Full),
+    want: Answer<'_>,
+) -> Result<(), AllocError> {
+    let ended = outcome(alloc, words, source, turns, out_room, ENOUGH)?;
+    granted(rt, words, ended.status, &ended.err, &ended.out, want)?;
+    same_of(rt, words, ended.err.as_slice(), want.err.as_bytes());
+    same_of(rt, words, ended.out.as_slice(), want.out);
+    same_of(rt, words, ended.status, want.status);
+    Ok(())
+}
+
+/// The same into an output that takes all bytes.
 pub fn served(
     rt: &impl Abort,
     alloc: Global,
@@ -93,17 +146,7 @@ pub fn served(
     turns: u64,
     want: Answer<'_>,
 ) -> Result<(), AllocError> {
-    let mut out = room(alloc)?;
-    let mut err = room(alloc)?;
-    let (mut ends, mut said) = (0, 0);
-    let out_sink = kept(&mut out, &mut ends);
-    let err_sink = kept(&mut err, &mut said);
-    let status = status_of(alloc, words, source, out_sink, err_sink, turns);
-    granted(rt, words, status, &err, &out, want)?;
-    same_of(rt, words, err.as_slice(), want.err.as_bytes());
-    same_of(rt, words, out.as_slice(), want.out);
-    same_of(rt, words, status, want.status);
-    Ok(())
+    served_into(rt, alloc, words, source, turns, ENOUGH, want)
 }
 
 /// Serves a row over these templates, from its input given at most `width` bytes a read.
@@ -354,16 +397,11 @@ fn not_taken(rt: &impl Abort, alloc: Global, words: &[&str]) -> Result<(), Alloc
         out: b"",
         err: "",
     };
-    let mut out = room(alloc)?;
-    let mut err = room(alloc)?;
-    let (mut ends, mut said) = (0, 0);
-    let out_sink = kept(&mut out, &mut ends);
-    let err_sink = kept(&mut err, &mut said);
-    let status = status_of(alloc, words, &mut shelf(TWO), out_sink, err_sink, 9);
-    granted(rt, words, status, &err, &out, NOTHING)?;
-    same_of(rt, words, status, 2);
-    same_of(rt, words, out.is_empty(), true);
-    same_of(rt, words, err.is_empty(), false);
+    let given = outcome(alloc, words, &mut shelf(TWO), 9, ENOUGH, ENOUGH)?;
+    granted(rt, words, given.status, &given.err, &given.out, NOTHING)?;
+    same_of(rt, words, given.status, 2);
+    same_of(rt, words, given.out.is_empty(), true);
+    same_of(rt, words, given.err.is_empty(), false);
     Ok(())
 }
 
@@ -633,22 +671,15 @@ fn output_fails(rt: &impl Abort, alloc: Global, row: &Failing) -> Result<(), All
         out: written,
         err: "fault write\n",
     };
-    let mut out = room(alloc)?;
-    let mut err = room(alloc)?;
-    let (mut ends, mut said) = (0, 0);
-    let sink = Sink {
-        kept: &mut out,
-        flushes: &mut ends,
-        room: written.len(),
-        full: *full,
-    };
-    let err_sink = kept(&mut err, &mut said);
-    let status = status_of(alloc, words, &mut shelf(input), sink, err_sink, 9);
-    granted(rt, words, status, &err, &out, want)?;
-    same_of(rt, words, err.as_slice(), want.err.as_bytes());
-    same_of(rt, words, out.as_slice(), want.out);
-    same_of(rt, words, status, want.status);
-    Ok(())
+    served_into(
+        rt,
+        alloc,
+        words,
+        &mut shelf(input),
+        9,
+        (written.len(), *full),
+        want,
+    )
 }
 
 #[test]
@@ -678,21 +709,16 @@ struct Flush(&'static [&'static str], &'static [u8], u8, usize);
 // Serves a row, whose output is flushed once.
 fn flushed(rt: &impl Abort, alloc: Global, row: &Flush) -> Result<(), AllocError> {
     let Flush(words, input, want, written) = row;
-    let mut out = room(alloc)?;
-    let mut err = room(alloc)?;
-    let (mut flushes, mut said) = (0, 0);
-    let out_sink = kept(&mut out, &mut flushes);
-    let err_sink = kept(&mut err, &mut said);
-    let status = status_of(alloc, words, &mut shelf(input), out_sink, err_sink, 9);
+    let given = outcome(alloc, words, &mut shelf(input), 9, ENOUGH, ENOUGH)?;
     let answer = Answer {
         status: *want,
-        out: out.as_slice(),
+        out: given.out.as_slice(),
         err: "",
     };
-    granted(rt, words, status, &err, &out, answer)?;
-    same_of(rt, words, status, *want);
-    same_of(rt, words, out.len(), *written);
-    same_of(rt, words, flushes, 1);
+    granted(rt, words, given.status, &given.err, &given.out, answer)?;
+    same_of(rt, words, given.status, *want);
+    same_of(rt, words, given.out.len(), *written);
+    same_of(rt, words, given.flushes, 1);
     Ok(())
 }
 
@@ -731,8 +757,8 @@ fn words_are_served(
         alloc,
         words,
         &mut source,
-        &mut Counted::new(kept(&mut out, &mut ends)),
-        &mut Counted::new(kept(&mut err, &mut said)),
+        &mut Counted::new(with_room(&mut out, &mut ends, ENOUGH)),
+        &mut Counted::new(with_room(&mut err, &mut said, ENOUGH)),
         TURNS,
     );
     granted(rt, &[], status, &err, &out, want)?;
@@ -787,28 +813,12 @@ struct Silent(&'static [&'static str], u64, u8);
 // Serves a refused stream where nothing can be said. Another status is that of refused memory, and ends the test.
 fn error_fails(rt: &impl Abort, alloc: Global, row: &Silent) -> Result<(), AllocError> {
     let Silent(words, turns, want) = row;
-    let mut out = room(alloc)?;
-    let mut err = room(alloc)?;
-    let (mut ends, mut said) = (0, 0);
-    let out_sink = kept(&mut out, &mut ends);
-    let sink = Sink {
-        kept: &mut err,
-        flushes: &mut said,
-        room: 0,
-        full: Full::Error,
-    };
-    let status = status_of(
-        alloc,
-        words,
-        &mut shelf(b"\x80\x80"),
-        out_sink,
-        sink,
-        *turns,
-    );
-    if status == 3 && *want != 3 {
+    let mut source = shelf(b"\x80\x80");
+    let given = outcome(alloc, words, &mut source, *turns, ENOUGH, (0, Full::Error))?;
+    if given.status == 3 && *want != 3 {
         return Err(AllocError);
     }
-    same_of(rt, words, status, *want);
+    same_of(rt, words, given.status, *want);
     Ok(())
 }
 

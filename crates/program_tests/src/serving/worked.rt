@@ -1,0 +1,732 @@
+//! Worked streams through each command of the program: whole, cut behind each of their bytes, long, and over devices that
+//! fail at each place.
+
+use crate::serving::devices::{After, Feed, Full, Shelf, TEMPLATES};
+use crate::serving::programs::{Answer, ENOUGH, served_into, whole};
+use std::alloc::{AllocError, Global};
+use std::process::Abort;
+use template_tests::texts::WORKED;
+
+/// The line of each command in a mode.
+#[derive(Clone, Copy)]
+struct Lines {
+    show: &'static [&'static str],
+    check: &'static [&'static str],
+    canon: &'static [&'static str],
+}
+
+const SHOW: &[&str] = &["fastcat", "show", "--templates", TEMPLATES];
+
+const CHECK: &[&str] = &["fastcat", "check", "--templates", TEMPLATES];
+
+const CANON: &[&str] = &["fastcat", "canon", "--templates", TEMPLATES];
+
+const PLAIN: Lines = Lines {
+    show: SHOW,
+    check: CHECK,
+    canon: CANON,
+};
+
+const SHOW_STRICTLY: &[&str] = &["fastcat", "show", "--strict", "--templates", TEMPLATES];
+
+const CHECK_STRICTLY: &[&str] = &["fastcat", "check", "--strict", "--templates", TEMPLATES];
+
+const CANON_STRICTLY: &[&str] = &["fastcat", "canon", "--strict", "--templates", TEMPLATES];
+
+const STRICT: Lines = Lines {
+    show: SHOW_STRICTLY,
+    check: CHECK_STRICTLY,
+    canon: CANON_STRICTLY,
+};
+
+const SHOW_BLOCKS: &[&str] = &["fastcat", "show", "--blocks", "--templates", TEMPLATES];
+
+const CHECK_BLOCKS: &[&str] = &["fastcat", "check", "--blocks", "--templates", TEMPLATES];
+
+const CANON_BLOCKS: &[&str] = &["fastcat", "canon", "--blocks", "--templates", TEMPLATES];
+
+const BLOCKS: Lines = Lines {
+    show: SHOW_BLOCKS,
+    check: CHECK_BLOCKS,
+    canon: CANON_BLOCKS,
+};
+
+const CANON_HEX: &[&str] = &["fastcat", "canon", "--hex", "--templates", TEMPLATES];
+
+/// What each command writes of a stream, and what is said of it.
+#[derive(Clone, Copy)]
+struct Made<'a> {
+    lines: &'a [u8],
+    told: &'a [u8],
+    canonical: &'a [u8],
+    status: u8,
+    said: &'a str,
+}
+
+/// A standard input behind the worked templates.
+fn given(standard: Feed<'_>) -> Shelf<'_> {
+    Shelf {
+        templates: whole(WORKED.as_bytes()),
+        stream: whole(b""),
+        standard,
+    }
+}
+
+/// One command writes this.
+fn is_served(
+    rt: &impl Abort,
+    alloc: Global,
+    words: &[&str],
+    standard: Feed<'_>,
+    out: &[u8],
+    made: Made<'_>,
+) -> Result<(), AllocError> {
+    let want = Answer {
+        status: made.status,
+        out,
+        err: made.said,
+    };
+    served_into(
+        rt,
+        alloc,
+        words,
+        &mut given(standard),
+        1 << 20,
+        ENOUGH,
+        want,
+    )
+}
+
+/// Each command in a mode does.
+fn each_serves(
+    rt: &impl Abort,
+    alloc: Global,
+    words: &Lines,
+    standard: Feed<'_>,
+    made: Made<'_>,
+) -> Result<(), AllocError> {
+    is_served(rt, alloc, words.show, standard, made.lines, made)?;
+    is_served(rt, alloc, words.check, standard, made.told, made)?;
+    is_served(rt, alloc, words.canon, standard, made.canonical, made)
+}
+
+/// A stream, what each command writes of it, and what is said where it is refused.
+struct Stream {
+    input: &'static [u8],
+    lines: &'static str,
+    told: &'static str,
+    canonical: &'static [u8],
+    said: &'static str,
+}
+
+fn stream_is_served(rt: &impl Abort, alloc: Global, row: &Stream) -> Result<(), AllocError> {
+    let made = Made {
+        lines: row.lines.as_bytes(),
+        told: row.told.as_bytes(),
+        canonical: row.canonical,
+        status: if row.said.is_empty() { 0 } else { 1 },
+        said: row.said,
+    };
+    let bytewise = Feed {
+        rest: row.input,
+        width: 1,
+        after: After::End,
+    };
+    each_serves(rt, alloc, &PLAIN, bytewise, made)?;
+    each_serves(rt, alloc, &PLAIN, whole(row.input), made)
+}
+
+#[test]
+fn worked_streams(rt: HostRuntime) -> Result<(), AllocError> {
+    const ROWS: &[Stream] = &[
+        Stream {
+            input: b"\xf0\x81\x81\x41\xc2\xfe\x00\xe4\xf8\x81\x82\x41\xc2\x80\x81\x80",
+            lines: "1 Quote Seq=1 Sym=\"AB\" Px=100e-2 Qty=-\n1 Quote Seq=2 Sym=\"AB\" Px=101e-2 Qty=-\n",
+            told: "ok messages=2 bytes=16 canonical=11\n",
+            canonical: b"\xf0\x81\x81\x41\xc2\xfe\x00\xe4\x80\x80\x81",
+            said: "",
+        },
+        Stream {
+            input: b"\xf0\x81\x00\x00\x81\x41\xc2\xfe\x00\xe4",
+            lines: "1 Quote Seq=1 Sym=\"AB\" Px=100e-2 Qty=-\n",
+            told: "ok messages=1 bytes=10 canonical=8\n",
+            canonical: b"\xf0\x81\x81\x41\xc2\xfe\x00\xe4",
+            said: "",
+        },
+        Stream {
+            input: b"\x70\x00\x80\x81\x81\x41\xc2\xfe\x00\xe4",
+            lines: "1 Quote Seq=1 Sym=\"AB\" Px=100e-2 Qty=-\n",
+            told: "ok messages=1 bytes=10 canonical=8\n",
+            canonical: b"\xf0\x81\x81\x41\xc2\xfe\x00\xe4",
+            said: "",
+        },
+        Stream {
+            input: b"\xf1\x81\x81\x41\xc2\xfe\x00\xe4",
+            lines: "1 Quote Seq=1 Sym=\"AB\" Px=100e-2 Qty=-\n",
+            told: "ok messages=1 bytes=8 canonical=8\n",
+            canonical: b"\xf0\x81\x81\x41\xc2\xfe\x00\xe4",
+            said: "",
+        },
+        Stream {
+            input: b"\xc0\x8a\x80\x47\x45\x48\xb6\x80\x82\x4d\xb6\x80\xfd\x45\xd3\x80\xff\x80",
+            lines: "10 Delta S=\"GEH6\"\n10 Delta S=\"GEM6\"\n10 Delta S=\"ESM6\"\n10 Delta S=\"ESM6\"\n",
+            told: "ok messages=4 bytes=18 canonical=18\n",
+            canonical: b"\xc0\x8a\x80\x47\x45\x48\xb6\x80\x82\x4d\xb6\x80\xfd\x45\xd3\x80\x80\x80",
+            said: "",
+        },
+        Stream {
+            input: b"\xc0\x8a\x80\x47\x45\x48\xb6\x80\x82\x4d\xb6\x80\xfd\x45\xd3\x80\x85\x80",
+            lines: "10 Delta S=\"GEH6\"\n10 Delta S=\"GEM6\"\n10 Delta S=\"ESM6\"\n",
+            told: "",
+            canonical: b"\xc0\x8a\x80\x47\x45\x48\xb6\x80\x82\x4d\xb6\x80\xfd\x45\xd3",
+            said: "refused D7 message=4 offset=16 template=10 instruction=1\n",
+        },
+        Stream {
+            input: b"\xe0\x88\x78\x61\xe2\xa0\x00\x00\x00\xe2",
+            lines: "8 Tail S=\"xab\"\n8 Tail S=\"x\\x00b\"\n",
+            told: "ok messages=2 bytes=10 canonical=9\n",
+            canonical: b"\xe0\x88\x78\x61\xe2\xa0\x78\x00\xe2",
+            said: "",
+        },
+        Stream {
+            input: b"\xe0\x89\x80\xa0\x00\x80",
+            lines: "9 Init S=-\n9 Init S=\"ab\"\n",
+            told: "ok messages=2 bytes=6 canonical=5\n",
+            canonical: b"\xe0\x89\x80\xa0\xe2",
+            said: "",
+        },
+        Stream {
+            input: b"\xe0\x82\x0f\x7f\x7f\x7f\xff\x0f\x7f\x7f\x7f\xff\x80\x80\x80\x81",
+            lines: "2 Wrap A=4294967295 B=4294967295\n2 Wrap A=0 B=4294967295\n",
+            told: "",
+            canonical: b"\xe0\x82\x0f\x7f\x7f\x7f\xff\x0f\x7f\x7f\x7f\xff\x80\x80",
+            said: "refused D2 message=3 offset=15 template=2 instruction=2\n",
+        },
+        Stream {
+            input: b"\xf0\x83\x80\x85\x90\x39\x45\xa3",
+            lines: "3 Opt Px=- Flag=5\n3 Opt Px=942755e2 Flag=5\n",
+            told: "ok messages=2 bytes=8 canonical=8\n",
+            canonical: b"\xf0\x83\x80\x85\x90\x39\x45\xa3",
+            said: "",
+        },
+        Stream {
+            input: b"\xf0\x83\x80\x85\xb0\x83\x39\x45\xa3",
+            lines: "3 Opt Px=- Flag=5\n3 Opt Px=942755e2 Flag=5\n",
+            told: "ok messages=2 bytes=9 canonical=8\n",
+            canonical: b"\xf0\x83\x80\x85\x90\x39\x45\xa3",
+            said: "",
+        },
+        Stream {
+            input: b"\xc0\x84\x04\x00\x81",
+            lines: "",
+            told: "",
+            canonical: b"",
+            said: "refused Limit message=1 offset=2 template=4 instruction=1\n",
+        },
+        Stream {
+            input: b"\xf0\x87\x85\xc1\x80",
+            lines: "7 Clash A=5 B=\"A\"\n",
+            told: "",
+            canonical: b"\xf0\x87\x85\xc1",
+            said: "refused D4 message=2 offset=5 template=7 instruction=1\n",
+        },
+        Stream {
+            input: b"\xf0\x87\x85\xc1\xb0\x86\xc1",
+            lines: "7 Clash A=5 B=\"A\"\n7 Clash A=6 B=\"A\"\n",
+            told: "ok messages=2 bytes=7 canonical=7\n",
+            canonical: b"\xf0\x87\x85\xc1\xb0\x86\xc1",
+            said: "",
+        },
+        Stream {
+            input: b"\xe0\x8c\x82\xc3\xa9\xa0\x81\xa8\xa0\x81\x41",
+            lines: "12 Uni S=\"\\xc3\\xa9\"\n12 Uni S=\"\\xc3\\xa8\"\n",
+            told: "",
+            canonical: b"\xe0\x8c\x82\xc3\xa9\xa0\x81\xa8",
+            said: "refused R2 message=3 offset=9 template=12 instruction=1\n",
+        },
+        Stream {
+            input: b"\xc0\x8d\x85",
+            lines: "",
+            told: "",
+            canonical: b"",
+            said: "refused D6 message=1 offset=2 template=13 instruction=2\n",
+        },
+        Stream {
+            input: b"\xe0\x8e\x80\x90\x83\x90\x10\x00\x00\x00\x80",
+            lines: "14 Const K=7 O=9 D=3\n14 Const K=7 O=- D=3\n14 Const K=7 O=- D=3\n",
+            told: "",
+            canonical: b"\xe0\x8e\x80\x80",
+            said: "refused D2 message=4 offset=6 template=14 instruction=3\n",
+        },
+        Stream {
+            input: b"\xe0\x8f\x00\xe4\x83\x0a\xff\x80\x81",
+            lines: "15 Fixed Px=100e-2 Raw=x0aff\n15 Fixed Px=101e-2 Raw=x0aff\n",
+            told: "ok messages=2 bytes=9 canonical=9\n",
+            canonical: b"\xe0\x8f\x00\xe4\x83\x0a\xff\x80\x81",
+            said: "",
+        },
+        Stream {
+            input: b"\xf0\x81\x81\x41\xc2\x00\xc0",
+            lines: "",
+            told: "",
+            canonical: b"",
+            said: "refused R1 message=1 offset=5 template=1 instruction=3\n",
+        },
+        Stream {
+            input: b"\xf0\x81\x00\x00\x00\x00\x00\x00\x00\x00\x00\x00",
+            lines: "",
+            told: "",
+            canonical: b"",
+            said: "refused Limit message=1 offset=2 template=1 instruction=1\n",
+        },
+    ];
+    for row in ROWS {
+        stream_is_served(&rt, rt.alloc(), row)?;
+    }
+    Ok(())
+}
+
+/// A stream that is canonical itself, its lines, and what is said where it is cut behind each of its bytes: nothing where
+/// a message ends.
+struct Cut {
+    stream: &'static [u8],
+    lines: &'static str,
+    said: &'static [&'static str],
+}
+
+const CUTS: &[Cut] = &[
+    Cut {
+        stream: b"\xf0\x81\x81\x41\xc2\xfe\x00\xe4",
+        lines: "1 Quote Seq=1 Sym=\"AB\" Px=100e-2 Qty=-\n",
+        said: &[
+            "refused Truncated message=1 offset=1 template=0 instruction=0\n",
+            "refused Truncated message=1 offset=2 template=1 instruction=1\n",
+            "refused Truncated message=1 offset=3 template=1 instruction=2\n",
+            "refused Truncated message=1 offset=3 template=1 instruction=2\n",
+            "refused Truncated message=1 offset=5 template=1 instruction=3\n",
+            "refused Truncated message=1 offset=5 template=1 instruction=3\n",
+            "refused Truncated message=1 offset=5 template=1 instruction=3\n",
+            "",
+        ],
+    },
+    Cut {
+        stream: b"\xc0\x8a\x80\x47\x45\x48\xb6\x80\x82\x4d\xb6\x80\xfd\x45\xd3",
+        lines: "10 Delta S=\"GEH6\"\n10 Delta S=\"GEM6\"\n10 Delta S=\"ESM6\"\n",
+        said: &[
+            "refused Truncated message=1 offset=1 template=0 instruction=0\n",
+            "refused Truncated message=1 offset=2 template=10 instruction=1\n",
+            "refused Truncated message=1 offset=2 template=10 instruction=1\n",
+            "refused Truncated message=1 offset=2 template=10 instruction=1\n",
+            "refused Truncated message=1 offset=2 template=10 instruction=1\n",
+            "refused Truncated message=1 offset=2 template=10 instruction=1\n",
+            "",
+            "refused Truncated message=2 offset=8 template=10 instruction=1\n",
+            "refused Truncated message=2 offset=8 template=10 instruction=1\n",
+            "refused Truncated message=2 offset=8 template=10 instruction=1\n",
+            "",
+            "refused Truncated message=3 offset=12 template=10 instruction=1\n",
+            "refused Truncated message=3 offset=12 template=10 instruction=1\n",
+            "refused Truncated message=3 offset=12 template=10 instruction=1\n",
+            "",
+        ],
+    },
+    Cut {
+        stream: b"\xc0\x84\x80\x80\x81\x80\x83\x85\x86",
+        lines: "4 Legs L=-\n4 Legs L=[]\n4 Legs L=[{P=5} {P=6}]\n",
+        said: &[
+            "refused Truncated message=1 offset=1 template=0 instruction=0\n",
+            "refused Truncated message=1 offset=2 template=4 instruction=1\n",
+            "",
+            "refused Truncated message=2 offset=4 template=4 instruction=1\n",
+            "",
+            "refused Truncated message=3 offset=6 template=4 instruction=1\n",
+            "refused Truncated message=3 offset=7 template=4 instruction=2\n",
+            "refused Truncated message=3 offset=8 template=4 instruction=2\n",
+            "",
+        ],
+    },
+    Cut {
+        stream: b"\xf0\x8b\xc0\x85\x86\x80\xa0\x80",
+        lines: "11 Grp Hd={A=5} B=6\n11 Grp Hd=- B=6\n11 Grp Hd={A=5} B=6\n",
+        said: &[
+            "refused Truncated message=1 offset=1 template=0 instruction=0\n",
+            "refused Truncated message=1 offset=2 template=11 instruction=1\n",
+            "refused Truncated message=1 offset=3 template=11 instruction=2\n",
+            "refused Truncated message=1 offset=4 template=11 instruction=3\n",
+            "",
+            "",
+            "refused Truncated message=3 offset=7 template=11 instruction=1\n",
+            "",
+        ],
+    },
+    Cut {
+        stream: b"\xe0\x8c\x82\xc3\xa9\xa0\x81\xa8\xa0\x81",
+        lines: "12 Uni S=\"\\xc3\\xa9\"\n12 Uni S=\"\\xc3\\xa8\"\n",
+        said: &[
+            "refused Truncated message=1 offset=1 template=0 instruction=0\n",
+            "refused Truncated message=1 offset=2 template=12 instruction=1\n",
+            "refused Truncated message=1 offset=2 template=12 instruction=1\n",
+            "refused Truncated message=1 offset=2 template=12 instruction=1\n",
+            "",
+            "refused Truncated message=2 offset=6 template=12 instruction=1\n",
+            "refused Truncated message=2 offset=6 template=12 instruction=1\n",
+            "",
+            "refused Truncated message=3 offset=9 template=12 instruction=1\n",
+            "refused Truncated message=3 offset=9 template=12 instruction=1\n",
+        ],
+    },
+    Cut {
+        stream: b"\xe0\x8f\x00\xe4\x83\x0a\xff\x80\x81",
+        lines: "15 Fixed Px=100e-2 Raw=x0aff\n15 Fixed Px=101e-2 Raw=x0aff\n",
+        said: &[
+            "refused Truncated message=1 offset=1 template=0 instruction=0\n",
+            "refused Truncated message=1 offset=2 template=15 instruction=1\n",
+            "refused Truncated message=1 offset=2 template=15 instruction=1\n",
+            "refused Truncated message=1 offset=4 template=15 instruction=2\n",
+            "refused Truncated message=1 offset=4 template=15 instruction=2\n",
+            "refused Truncated message=1 offset=4 template=15 instruction=2\n",
+            "",
+            "refused Truncated message=2 offset=8 template=15 instruction=1\n",
+            "",
+        ],
+    },
+];
+
+/// The first lines, so many.
+fn first_lines(lines: &str, count: usize) -> &[u8] {
+    let mut left = count;
+    let bytes = lines.as_bytes();
+    for (i, byte) in bytes.iter().enumerate() {
+        if left == 0 {
+            return &bytes[..i];
+        }
+        if *byte == b'\n' {
+            left = left.saturating_sub(1);
+        }
+    }
+    bytes
+}
+
+/// What stands in front of a cut behind so many bytes: how many messages, and how many bytes they have.
+fn front(row: &Cut, count: usize) -> (usize, usize) {
+    let mut messages = 0usize;
+    let mut bytes = 0usize;
+    for (i, said) in row.said.iter().enumerate() {
+        if i < count && said.is_empty() {
+            messages = messages.saturating_add(1);
+            bytes = i.saturating_add(1);
+        }
+    }
+    (messages, bytes.min(row.stream.len()))
+}
+
+/// What is told of so many messages whose bytes are canonical.
+fn told(alloc: Global, messages: usize, bytes: usize) -> Result<String, AllocError> {
+    format!(in alloc; "ok messages={messages} bytes={bytes} canonical={bytes}\n")
+}
+
+fn cut_is_served(
+    rt: &impl Abort,
+    alloc: Global,
+    row: &Cut,
+    count: usize,
+    said: &str,
+) -> Result<(), AllocError> {
+    let (messages, bytes) = front(row, count);
+    let told = told(alloc, messages, bytes)?;
+    let is_whole = said.is_empty();
+    let made = Made {
+        lines: first_lines(row.lines, messages),
+        told: if is_whole { told.as_bytes() } else { b"" },
+        canonical: &row.stream[..bytes],
+        status: if is_whole { 0 } else { 1 },
+        said,
+    };
+    let input = whole(&row.stream[..count.min(row.stream.len())]);
+    each_serves(rt, alloc, &PLAIN, input, made)?;
+    each_serves(rt, alloc, &STRICT, input, made)
+}
+
+#[test]
+fn streams_that_are_cut(rt: HostRuntime) -> Result<(), AllocError> {
+    for row in CUTS {
+        for (i, said) in row.said.iter().enumerate() {
+            cut_is_served(&rt, rt.alloc(), row, i.saturating_add(1), said)?;
+        }
+    }
+    Ok(())
+}
+
+/// The read behind so many bytes of a stream fails, one byte a read.
+fn read_fails(
+    rt: &impl Abort,
+    alloc: Global,
+    words: &Lines,
+    input: &[u8],
+    made: Made<'_>,
+) -> Result<(), AllocError> {
+    let standard = Feed {
+        rest: input,
+        width: 1,
+        after: After::Error,
+    };
+    each_serves(rt, alloc, words, standard, made)
+}
+
+#[test]
+fn reads_that_fail(rt: HostRuntime) -> Result<(), AllocError> {
+    for row in CUTS {
+        for count in 0..=row.said.len() {
+            let (messages, bytes) = front(row, count);
+            let made = Made {
+                lines: first_lines(row.lines, messages),
+                told: b"",
+                canonical: &row.stream[..bytes],
+                status: 3,
+                said: "fault read\n",
+            };
+            let input = &row.stream[..count.min(row.stream.len())];
+            read_fails(&rt, rt.alloc(), &PLAIN, input, made)?;
+            read_fails(&rt, rt.alloc(), &STRICT, input, made)?;
+        }
+    }
+    Ok(())
+}
+
+// In a block, where the read fails that is to give the size, one of the bytes, or the next size.
+#[test]
+fn reads_that_fail_in_a_block(rt: HostRuntime) -> Result<(), AllocError> {
+    const QUOTE: &[u8] = b"\x88\xf0\x81\x81\x41\xc2\xfe\x00\xe4";
+    for count in 0..=9 {
+        let is_whole = count == 9;
+        let made = Made {
+            lines: if is_whole {
+                b"1 Quote Seq=1 Sym=\"AB\" Px=100e-2 Qty=-\n"
+            } else {
+                b""
+            },
+            told: b"",
+            canonical: if is_whole { &QUOTE[1..] } else { b"" },
+            status: 3,
+            said: "fault read\n",
+        };
+        read_fails(&rt, rt.alloc(), &BLOCKS, &QUOTE[..count], made)?;
+    }
+    Ok(())
+}
+
+/// A line, a stream, and what is written of it.
+struct Written {
+    words: &'static [&'static str],
+    input: &'static [u8],
+    out: &'static [u8],
+}
+
+/// Its output has so much room, and then this is answered and said.
+fn breaks_at(
+    rt: &impl Abort,
+    alloc: Global,
+    row: &Written,
+    count: usize,
+    out_room: (usize, Full),
+    failure: (u8, &str),
+) -> Result<(), AllocError> {
+    let want = Answer {
+        status: failure.0,
+        out: &row.out[..count.min(row.out.len())],
+        err: failure.1,
+    };
+    let mut source = given(whole(row.input));
+    served_into(rt, alloc, row.words, &mut source, 9, out_room, want)
+}
+
+/// The output fails behind each number of bytes, has room for all of them, takes none, or fails at the flush.
+fn breaks(rt: &impl Abort, alloc: Global, row: &Written) -> Result<(), AllocError> {
+    const FAILS: (u8, &str) = (3, "fault write\n");
+    let size = row.out.len();
+    for count in 0..size {
+        breaks_at(rt, alloc, row, count, (count, Full::Error), FAILS)?;
+    }
+    breaks_at(rt, alloc, row, size, (size, Full::Error), (0, ""))?;
+    breaks_at(rt, alloc, row, 0, (0, Full::Nothing), FAILS)?;
+    breaks_at(rt, alloc, row, size, (size, Full::Flush), FAILS)
+}
+
+#[test]
+fn writes_that_fail(rt: HostRuntime) -> Result<(), AllocError> {
+    const TWO: &[u8] = b"\xf0\x81\x81\x41\xc2\xfe\x00\xe4\xf8\x81\x82\x41\xc2\x80\x81\x80";
+    const BLOCK: &[u8] = b"\x90\xf0\x81\x81\x41\xc2\xfe\x00\xe4\xf8\x81\x82\x41\xc2\x80\x81\x80";
+    const HEX: &[u8] = b"f0818141c2fe00e4f8818241c2808180";
+    const LINES: &[u8] = b"1 Quote Seq=1 Sym=\"AB\" Px=100e-2 Qty=-\n\
+        1 Quote Seq=2 Sym=\"AB\" Px=101e-2 Qty=-\n";
+    const TOLD: &[u8] = b"ok messages=2 bytes=16 canonical=11\n";
+    const BLOCK_TOLD: &[u8] = b"ok messages=2 bytes=17 canonical=11\n";
+    const SHORT: &[u8] = b"\xf0\x81\x81\x41\xc2\xfe\x00\xe4\x80\x80\x81";
+    const ROWS: &[Written] = &[
+        Written {
+            words: SHOW,
+            input: TWO,
+            out: LINES,
+        },
+        Written {
+            words: CHECK,
+            input: TWO,
+            out: TOLD,
+        },
+        Written {
+            words: CANON,
+            input: TWO,
+            out: SHORT,
+        },
+        Written {
+            words: SHOW_STRICTLY,
+            input: TWO,
+            out: LINES,
+        },
+        Written {
+            words: CHECK_STRICTLY,
+            input: TWO,
+            out: TOLD,
+        },
+        Written {
+            words: CANON_STRICTLY,
+            input: TWO,
+            out: SHORT,
+        },
+        Written {
+            words: SHOW_BLOCKS,
+            input: BLOCK,
+            out: LINES,
+        },
+        Written {
+            words: CHECK_BLOCKS,
+            input: BLOCK,
+            out: BLOCK_TOLD,
+        },
+        Written {
+            words: CANON_BLOCKS,
+            input: BLOCK,
+            out: SHORT,
+        },
+        Written {
+            words: CANON_HEX,
+            input: HEX,
+            out: b"f0818141c2fe00e4808081\n",
+        },
+    ];
+    for row in ROWS {
+        breaks(&rt, rt.alloc(), row)?;
+    }
+    Ok(())
+}
+
+/// A long stream of pieces, each so many times, how many messages it has, and what is said where it is refused. One that
+/// is not refused is canonical itself.
+struct Long {
+    pieces: &'static [(&'static [u8], usize)],
+    messages: usize,
+    said: &'static str,
+}
+
+fn stream_of(alloc: Global, pieces: &[(&[u8], usize)]) -> Result<Vec<u8>, AllocError> {
+    let mut stream = Vec::new(alloc);
+    for (piece, count) in pieces {
+        for _ in 0..*count {
+            stream.extend_from_slice(piece)?;
+        }
+    }
+    Ok(stream)
+}
+
+fn long_is_served(
+    rt: &impl Abort,
+    alloc: Global,
+    words: &Lines,
+    row: &Long,
+    stream: &[u8],
+) -> Result<(), AllocError> {
+    let told = told(alloc, row.messages, stream.len())?;
+    let is_whole = row.said.is_empty();
+    let made = Made {
+        lines: b"",
+        told: if is_whole { told.as_bytes() } else { b"" },
+        canonical: if is_whole { stream } else { b"" },
+        status: if is_whole { 0 } else { 1 },
+        said: row.said,
+    };
+    is_served(rt, alloc, words.check, whole(stream), made.told, made)?;
+    is_served(rt, alloc, words.canon, whole(stream), made.canonical, made)
+}
+
+#[test]
+fn long_texts_and_streams(rt: HostRuntime) -> Result<(), AllocError> {
+    const ROWS: &[Long] = &[
+        Long {
+            pieces: &[
+                (b"\xf0\x81\x81\x41\xc2\xfe\x00\xe4", 1),
+                (b"\x80\x80\x81", 10_000),
+            ],
+            messages: 10_001,
+            said: "",
+        },
+        Long {
+            pieces: &[(b"\x00", 255)],
+            messages: 0,
+            said: "refused Truncated message=1 offset=0 template=0 instruction=0\n",
+        },
+        Long {
+            pieces: &[(b"\x00", 256)],
+            messages: 0,
+            said: "refused Limit message=1 offset=0 template=0 instruction=0\n",
+        },
+        Long {
+            pieces: &[(b"\xf0\x81\x81", 1), (b"\x41", 65_539)],
+            messages: 0,
+            said: "refused Truncated message=1 offset=3 template=1 instruction=2\n",
+        },
+        Long {
+            pieces: &[(b"\xf0\x81\x81", 1), (b"\x41", 65_540)],
+            messages: 0,
+            said: "refused Limit message=1 offset=3 template=1 instruction=2\n",
+        },
+        Long {
+            pieces: &[
+                (b"\xf0\x81\x81", 1),
+                (b"\x41", 65_534),
+                (b"\xc1\xfe\x00\xe4", 1),
+            ],
+            messages: 1,
+            said: "",
+        },
+        Long {
+            pieces: &[
+                (b"\xf0\x81\x81", 1),
+                (b"\x41", 65_535),
+                (b"\xc1\xfe\x00\xe4", 1),
+            ],
+            messages: 0,
+            said: "refused Limit message=1 offset=3 template=1 instruction=2\n",
+        },
+        Long {
+            pieces: &[(b"\xc0\x84\x02\x00\x80", 1), (b"\x85", 32_767)],
+            messages: 1,
+            said: "",
+        },
+        Long {
+            pieces: &[(b"\xc0\x84\x02\x00\x81", 1), (b"\x85", 32_767)],
+            messages: 0,
+            said: "refused Limit message=1 offset=32772 template=4 instruction=2\n",
+        },
+        Long {
+            pieces: &[(b"\xc0\x86\x03\x7f\xff", 1)],
+            messages: 1,
+            said: "",
+        },
+    ];
+    for row in ROWS {
+        let stream = stream_of(rt.alloc(), row.pieces)?;
+        long_is_served(&rt, rt.alloc(), &PLAIN, row, &stream)?;
+        long_is_served(&rt, rt.alloc(), &STRICT, row, &stream)?;
+    }
+    Ok(())
+}
