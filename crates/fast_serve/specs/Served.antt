@@ -6,6 +6,7 @@ use Rattle.hex.specs.Hex.{decode_of, encode_lower}
 use Rattle.serde_json.specs.Data.{Data}
 use Rattle.serde_json.specs.Read.{read}
 use Rattle.fast_io.specs.Counts.{counted}
+use Rattle.fast_io.specs.Traffic.{Taken}
 use Rattle.fast_load.specs.JsonLoads.{IsNoText, Loads}
 use Rattle.fast_written.specs.JsonTemplates.{templates_of}
 use Rattle.fast_template.specs.TemplateSets.{TemplateList}
@@ -103,24 +104,32 @@ pub record RunsPlain (command : Command) (mode : Mode) (form : Form) (set : Temp
 
 -- ---- a run in hex text
 
--- a line of hex was written and flushed
-abbrev pub WritesLine : Writer → Writer → List ℕ → Type 0
-WritesLine old new bytes =
-    Appends old.taken new.taken (encode_lower bytes ++ 10 ∷ []) × (new.errors ≡ old.errors) × (new.flushes ≡ counted old.flushes)
+-- a text was written and flushed
+abbrev pub WritesText : Writer → Writer → List ℕ → Type 0
+WritesText old new text =
+    Appends old.taken new.taken text × (new.errors ≡ old.errors) × (new.flushes ≡ counted old.flushes)
+
+-- a call of the writer failed, and a front of a text was written
+abbrev pub WritesFront : Writer → Writer → List ℕ → Type 0
+WritesFront old new text = (rest : List ℕ) × Taken old.taken new.taken text rest × (new.errors ≡ counted old.errors)
+
+-- bytes as a line of hex
+abbrev pub line_of_hex : List ℕ → List ℕ
+line_of_hex bytes = encode_lower bytes ++ 10 ∷ []
 
 -- bytes were written as a line of hex and flushed, or the output failed, or memory did before anything was written
 abbrev pub WritesHex : Writer → Writer → List ℕ → Answer → Type 0
 WritesHex old new bytes r =
-    ((r ≡ Ok tt) × WritesLine old new bytes)
-    ⊎ ((r ≡ Err refusal.Write) × (new.errors ≡ counted old.errors))
+    ((r ≡ Ok tt) × WritesText old new (line_of_hex bytes))
+    ⊎ ((r ≡ Err refusal.Write) × WritesFront old new (line_of_hex bytes))
     ⊎ ((r ≡ Err refusal.Memory) × (new ≡ old))
 
 -- what is answered of a run in memory that wrote these bytes
 abbrev pub AnswersInHex : Writer → Writer → List ℕ → Result Summary CanonFault → Answer → Type 0
 AnswersInHex old new bytes (Ok summary) r = WritesHex old new bytes r
 AnswersInHex old new bytes (Err (fault.Stream f)) r =
-    (WritesLine old new bytes × IsErrAnd r (IsOfStream f))
-    ⊎ ((r ≡ Err refusal.Write) × (new.errors ≡ counted old.errors))
+    (WritesText old new (line_of_hex bytes) × IsErrAnd r (IsOfStream f))
+    ⊎ ((r ≡ Err refusal.Write) × WritesFront old new (line_of_hex bytes))
     ⊎ ((r ≡ Err refusal.Memory) × (new ≡ old))
 AnswersInHex old new bytes (Err fault.Write) r = (r ≡ Err refusal.Memory) × (new ≡ old)
 AnswersInHex old new bytes (Err fault.Memory) r = (r ≡ Err refusal.Memory) × (new ≡ old)
@@ -185,10 +194,10 @@ PerformsAsked asked inputs turns out_old out_new r =
     (IsErrAnd r (RefusesTemplates (inputs.file asked.templates) turns) × (out_new ≡ out_old))
     ⊎ ((set : TemplateList) × LoadsSet (inputs.file asked.templates) turns set × PerformsWith asked set inputs turns out_old out_new r)
 
--- the command line is refused, and nothing was written; or it asks for something
-abbrev pub Performs : List (List ℕ) → Inputs → ℕ → Writer → Writer → Answer → Type 0
-Performs words inputs turns out_old out_new r =
-    (IsErrAnd r IsTextOrMemory × (out_new ≡ out_old))
+-- the command line is refused, and this was left untouched; or it asks for something
+abbrev pub Performs : List (List ℕ) → Inputs → ℕ → Type 0 → Writer → Writer → Answer → Type 0
+Performs words inputs turns Untouched out_old out_new r =
+    (IsErrAnd r IsTextOrMemory × Untouched)
     ⊎ ((asked : Asked) × AsksFor words asked × PerformsAsked asked inputs turns out_old out_new r)
 
 -- ---- what is said
@@ -198,11 +207,9 @@ abbrev pub status_after : Answer → ℕ
 status_after (Ok done) = 0
 status_after (Err r) = status_of r
 
--- a text was written and flushed, or a call failed
+-- a text was written and flushed, or a call failed behind a front of it
 abbrev pub SaysText : Writer → Writer → List ℕ → Type 0
-SaysText old new text =
-    (Appends old.taken new.taken text × (new.errors ≡ old.errors) × (new.flushes ≡ counted old.flushes))
-    ⊎ (new.errors ≡ counted old.errors)
+SaysText old new text = WritesText old new text ⊎ WritesFront old new text
 
 -- what is said of what was done: nothing where it was done, and else the refusal's text, and where it is explained more
 -- behind it, unless a call failed

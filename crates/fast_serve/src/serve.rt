@@ -173,8 +173,10 @@ fn canon_in_hex<O: ByteOutput>(
         Ok(_) => write_hex_line(alloc, &kept.bytes, out),
         Err(CanonFault::Stream(fault)) => {
             notes.stream_stopped(fault);
-            write_hex_line(alloc, &kept.bytes, out)?;
-            Err(Refusal::of_stream(alloc, fault))
+            match write_hex_line(alloc, &kept.bytes, out) {
+                Err(refusal) => Err(refusal),
+                Ok(()) => Err(Refusal::of_stream(alloc, fault)),
+            }
         }
         // An output in memory fails only where there is no memory.
         Err(CanonFault::Write | CanonFault::Memory) => Err(Refusal::Memory),
@@ -334,7 +336,7 @@ fn perform_asked<S: Source, O: ByteOutput>(
 /// no status.
 pub fn report<E: ByteOutput>(refusal: &Refusal, err: &mut E) -> u8
     ensures status { result ≡ status_of refusal.now }
-    // its text is written and flushed, or a call failed
+    // its text is written and flushed, or a call failed behind a front of it
     ensures said { SaysText (writer_by E.taken E.errors E.flushes err.old)
         (writer_by E.taken E.errors E.flushes err.new) (text_of refusal.now) }
 {
@@ -429,9 +431,11 @@ pub fn serve<S: Source, O: ByteOutput, E: ByteOutput>(
     requires turns { turns ≤ 2 ^ 40 }
     ensures status { result ≤ 3 }
     ensures quiet { result ≡ 0 → err.new ≡ err.old }
-    // what was read, written and answered, that the status is that of the answer, and what is said
+    // what was read, written and answered, that the status is that of the answer, and what is said; where the command
+    // line is refused nothing is opened or written
     ensures performed { (r : _) × (result ≡ status_after r)
         × Performs (map (λ w. w.now) words.now) (inputs_by S.file S.input source.old) turns
+        ((source.new ≡ source.old) × (out.new ≡ out.old))
         (writer_by O.taken O.errors O.flushes out.old)
         (writer_by O.taken O.errors O.flushes out.new) r
         × SaysAsked (map (λ w. w.now) words.now) (writer_by E.taken E.errors E.flushes err.old)
@@ -474,6 +478,7 @@ pub fn serve_words<S: Source, O: ByteOutput, E: ByteOutput>(
     ensures performed { IfOk words (λ texts. (r : _) × (result ≡ status_after r)
         × (((r ≡ Err Refusal.Memory) × (source.new ≡ source.old) × (out.new ≡ out.old))
         ⊎ Performs (map string_bytes texts.items) (inputs_by S.file S.input source.old) turns
+        ((source.new ≡ source.old) × (out.new ≡ out.old))
         (writer_by O.taken O.errors O.flushes out.old)
         (writer_by O.taken O.errors O.flushes out.new) r)
         × SaysAsked (map string_bytes texts.items) (writer_by E.taken E.errors E.flushes err.old)

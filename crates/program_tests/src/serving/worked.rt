@@ -425,6 +425,21 @@ fn told(alloc: Global, messages: usize, bytes: usize) -> Result<String, AllocErr
     format!(in alloc; "ok messages={messages} bytes={bytes} canonical={bytes}\n")
 }
 
+/// So many bytes of a stream, or all.
+fn first_bytes(stream: &[u8], count: usize) -> &[u8] {
+    &stream[..count.min(stream.len())]
+}
+
+/// What is written where nothing is said of a refusal.
+fn unless_refused<'a>(said: &str, bytes: &'a [u8]) -> &'a [u8] {
+    if said.is_empty() { bytes } else { b"" }
+}
+
+/// The status of what is said: done, or a stream that is refused.
+fn status_for(said: &str) -> u8 {
+    if said.is_empty() { 0 } else { 1 }
+}
+
 fn cut_is_served(
     rt: &impl Abort,
     alloc: Global,
@@ -434,15 +449,14 @@ fn cut_is_served(
 ) -> Result<(), AllocError> {
     let (messages, bytes) = front(row, count);
     let told = told(alloc, messages, bytes)?;
-    let is_whole = said.is_empty();
     let made = Made {
         lines: first_lines(row.lines, messages),
-        told: if is_whole { told.as_bytes() } else { b"" },
-        canonical: &row.stream[..bytes],
-        status: if is_whole { 0 } else { 1 },
+        told: unless_refused(said, told.as_bytes()),
+        canonical: first_bytes(row.stream, bytes),
+        status: status_for(said),
         said,
     };
-    let input = whole(&row.stream[..count.min(row.stream.len())]);
+    let input = whole(first_bytes(row.stream, count));
     each_serves(rt, alloc, &PLAIN, input, made)?;
     each_serves(rt, alloc, &STRICT, input, made)
 }
@@ -473,21 +487,31 @@ fn read_fails(
     each_serves(rt, alloc, words, standard, made)
 }
 
+/// The read behind so many bytes of a worked stream fails.
+fn read_fails_behind(
+    rt: &impl Abort,
+    alloc: Global,
+    row: &Cut,
+    count: usize,
+) -> Result<(), AllocError> {
+    let (messages, bytes) = front(row, count);
+    let made = Made {
+        lines: first_lines(row.lines, messages),
+        told: b"",
+        canonical: first_bytes(row.stream, bytes),
+        status: 3,
+        said: "fault read\n",
+    };
+    let input = first_bytes(row.stream, count);
+    read_fails(rt, alloc, &PLAIN, input, made)?;
+    read_fails(rt, alloc, &STRICT, input, made)
+}
+
 #[test]
 fn reads_that_fail(rt: HostRuntime) -> Result<(), AllocError> {
     for row in CUTS {
         for count in 0..=row.said.len() {
-            let (messages, bytes) = front(row, count);
-            let made = Made {
-                lines: first_lines(row.lines, messages),
-                told: b"",
-                canonical: &row.stream[..bytes],
-                status: 3,
-                said: "fault read\n",
-            };
-            let input = &row.stream[..count.min(row.stream.len())];
-            read_fails(&rt, rt.alloc(), &PLAIN, input, made)?;
-            read_fails(&rt, rt.alloc(), &STRICT, input, made)?;
+            read_fails_behind(&rt, rt.alloc(), row, count)?;
         }
     }
     Ok(())
@@ -646,12 +670,11 @@ fn long_is_served(
     stream: &[u8],
 ) -> Result<(), AllocError> {
     let told = told(alloc, row.messages, stream.len())?;
-    let is_whole = row.said.is_empty();
     let made = Made {
         lines: b"",
-        told: if is_whole { told.as_bytes() } else { b"" },
-        canonical: if is_whole { stream } else { b"" },
-        status: if is_whole { 0 } else { 1 },
+        told: unless_refused(row.said, told.as_bytes()),
+        canonical: unless_refused(row.said, stream),
+        status: status_for(row.said),
         said: row.said,
     };
     is_served(rt, alloc, words.check, whole(stream), made.told, made)?;

@@ -5,7 +5,7 @@ use Rattle.fast_serve.proofs.serve.serve.Goals as goal
 
 pub returns-in-Err-clause-performed : goal.returns-in-Err-clause-performed
 returns-in-Err-clause-performed g c =
-    (Err c.of_line.result, c.report.ensures.status, inl (c.of_line.ensures.line, refl), said_alone (map (λ w. w.now) c.args.words.now) _ _ c.of_line.result c.report.ensures.said)
+    (Err c.of_line.result, c.report.ensures.status, inl (c.of_line.ensures.line, (refl, refl)), said_alone (map (λ w. w.now) c.args.words.now) _ _ c.of_line.result c.report.ensures.said)
 
 pub returns-in-Ok-clause-performed : goal.returns-in-Ok-clause-performed
 returns-in-Ok-clause-performed g c =
