@@ -1,6 +1,6 @@
 //! The line of a message that is open.
 
-ghost use Rattle.std.specs.Prelude.{◌≡◌, ◌++◌, ◌∷◌, [], true, false, codes, OnOk, OnErr};
+ghost use Rattle.std.specs.Prelude.{◌≡◌, ◌≢◌, None, ◌++◌, ◌∷◌, [], true, false, codes, OnOk, OnErr};
 ghost use Rattle.std.specs.Option.{option_copied};
 ghost use Rattle.fast_stream.specs.Nodes.{single};
 ghost use Rattle.fast_lines.specs.Lines.{absent_text, field_text};
@@ -8,7 +8,7 @@ ghost use Rattle.fast_lines.specs.Signs.{ending, head_text, is_led, label_text, 
 ghost use Rattle.fast_lines.specs.Told.{Said, line_now};
 
 use crate::bytes::{push_byte, push_sign};
-use crate::lines::{ShowFault, show_absent, show_item};
+use crate::lines::{ShowFault, show_item};
 use crate::signs::Signs;
 use fast_template::{Kind, Name, Presence, Scalar};
 use std::alloc::{AllocError, Global};
@@ -75,7 +75,7 @@ impl Line {
         Ok(())
     }
 
-    /// Appends the label and the value of a field.
+    /// Appends the label and the value of a field, which has one of its type, or may be left out.
     #[inline(never)]
     pub(crate) fn tell<S: Signs>(
         &mut self,
@@ -84,28 +84,28 @@ impl Line {
         kind: Kind,
         presence: Presence,
         value: Option<&Scalar>,
-    ) -> Result<(), ShowFault>
+    ) -> Result<(), AllocError>
+        requires { field_text S.form kind presence (single (option_copied value)) ≢ None }
         ensures { OnOk result (Said S.form name.now
             (field_text S.form kind presence (single (option_copied value.entry)))
             (line_now self.old) (line_now self.new)) }
     {
         self.label(signs, name)?;
-        show_item(signs, kind, presence, value, &mut self.text)
+        match show_item(signs, kind, presence, value, &mut self.text) {
+            Err(ShowFault::Memory) => Err(AllocError),
+            Err(ShowFault::Mismatch) => unreachable!(),
+            Ok(()) => Ok(()),
+        }
     }
 
-    /// Appends the label of what is left out, and what stands for it.
+    /// Appends the label of what is left out, which may be, and what stands for it.
     #[inline(always)]
-    pub(crate) fn tell_absent<S: Signs>(
-        &mut self,
-        signs: S,
-        name: &Name,
-        presence: Presence,
-    ) -> Result<(), ShowFault>
-        ensures { OnOk result (Said S.form name.now (absent_text S.form presence)
+    pub(crate) fn tell_absent<S: Signs>(&mut self, signs: S, name: &Name) -> Result<(), AllocError>
+        ensures { OnOk result (Said S.form name.now (absent_text S.form Presence.Optional)
             (line_now self.old) (line_now self.new)) }
     {
         self.label(signs, name)?;
-        show_absent(signs, presence, &mut self.text)
+        push_sign(signs.absent(), &mut self.text)
     }
 
     /// Appends a brace, behind what stands between two where it is due; behind the brace it is not.

@@ -1,11 +1,16 @@
 //! Writes lines of messages as their fields are read.
 
-ghost use Rattle.std.specs.Prelude.{◌≡◌, ◌≢◌, ◌≤◌, true, Option, Err, IfOk, IfErr, OnOk, IsTrue, length, drop};
+ghost use Rattle.std.specs.Prelude.{◌≡◌, ◌≢◌, ◌≤◌, true, false, Option, Err, IfOk, IfErr, OnOk, IsTrue, length, drop};
 ghost use Rattle.fast_value.specs.declared.scalar.Scalar.{Scalar as ScalarOf};
 ghost use Rattle.fast_dictionary.specs.Dictionary.{entry_at};
 ghost use Rattle.fast_field.specs.FieldReading.{field_at};
 ghost use Rattle.fast_stream.specs.Nodes.{single};
 ghost use Rattle.fast_walk.specs.Received.{Took, TookFrom};
+ghost use Rattle.fast_walk.specs.Told.{IsTold, KeepScalars};
+ghost use Rattle.fast_field.specs.Parts.{IsFieldPart};
+ghost use Rattle.fast_field.specs.Within.{HoldsScalar};
+ghost use Rattle.fast_template.specs.Resolved.{part_needs_bit};
+ghost use Rattle.fast_value.specs.declared.kind.Part.TheVariants.{Whole};
 ghost use Rattle.fast_lines.specs.Lines.{field_text};
 ghost use Rattle.fast_template.specs.TemplateSets.{templates_in};
 ghost use Rattle.fast_lines.specs.Signs.{is_led};
@@ -39,7 +44,11 @@ fn take_generally<S: Signs>(
     at: usize,
     line: &mut Line,
 ) -> Result<usize, FieldFault>
-    requires { at ≤ length bytes.now }
+    requires place { at ≤ length bytes.now }
+    requires part { IsFieldPart part.now }
+    requires presence { part.now.presence ≡ presence }
+    requires bit { part_needs_bit part.now ≡ false → bit ≡ true }
+    requires entry { HoldsScalar entry.old }
     ensures place { IfOk result (λ n. (at ≤ n) × (n ≤ length bytes.now)) }
     ensures told { IfOk result (λ n. (v : Option ScalarOf)
         × TookFrom level part.now bit entry.old entry.new v (drop at bytes.now) (drop n bytes.now)
@@ -81,7 +90,11 @@ fn take<S: Signs>(
     at: usize,
     line: &mut Line,
 ) -> Result<usize, FieldFault>
-    requires { at ≤ length bytes.now }
+    requires place { at ≤ length bytes.now }
+    requires part { IsFieldPart part.now }
+    requires presence { part.now.presence ≡ presence }
+    requires bit { part_needs_bit part.now ≡ false → bit ≡ true }
+    requires entry { HoldsScalar entry.old }
     ensures place { IfOk result (λ n. (at ≤ n) × (n ≤ length bytes.now)) }
     ensures told { IfOk result (λ n. (v : Option ScalarOf)
         × TookFrom level part.now bit entry.old entry.new v (drop at bytes.now) (drop n bytes.now)
@@ -133,6 +146,10 @@ fn tell<S: Signs, E: Entries>(
 ) -> Result<usize, FieldFault>
     requires place { at ≤ length bytes.now }
     requires served { IsTrue (E.serves entries.now part.now.key) }
+    requires told { IsTold Whole part.now.kind part.now }
+    requires presence { part.now.presence ≡ presence }
+    requires bit { part_needs_bit part.now ≡ false → bit ≡ true }
+    requires kept { KeepScalars (E.contents entries.now) }
     ensures place { IfOk result (λ n. (at ≤ n) × (n ≤ length bytes.now)) }
     ensures told { IfOk result (λ n. (v : Option ScalarOf)
         × Took level part.now bit (E.contents entries.old) (E.contents entries.new) v
@@ -221,6 +238,8 @@ impl<S: Signs> Receiver for LineWriter<'_, S> {
 
     ghost keeps = { λ w set ms d. HasLines S.form w.out.items w.set.now set ms };
 
+    ghost room = { λ w around left. true };
+
     #[inline(always)]
     fn begin<E: Entries>(
         &mut self,
@@ -296,7 +315,7 @@ impl<S: Signs> Receiver for LineWriter<'_, S> {
     ) -> Result<(bool, usize), FieldFault> {
         match take_exponent(alloc, entries, part, bit, level, bytes, at) {
             Err(fault) => Err(fault),
-            Ok((None, next)) => match self.line.tell_absent(self.signs, name, presence) {
+            Ok((None, next)) => match self.line.tell_absent(self.signs, name) {
                 Err(_) => Err(FieldFault::Memory),
                 Ok(()) => Ok((false, next)),
             },
@@ -347,7 +366,7 @@ impl<S: Signs> Receiver for LineWriter<'_, S> {
     ) -> Result<(Option<u32>, usize), FieldFault> {
         match take_length(alloc, entries, part, bit, level, bytes, at) {
             Err(fault) => Err(fault),
-            Ok((None, next)) => match self.line.tell_absent(self.signs, name, presence) {
+            Ok((None, next)) => match self.line.tell_absent(self.signs, name) {
                 Err(_) => Err(FieldFault::Memory),
                 Ok(()) => Ok((None, next)),
             },
@@ -360,10 +379,8 @@ impl<S: Signs> Receiver for LineWriter<'_, S> {
 
     #[inline(always)]
     fn left_out(&mut self, name: &Name) -> Result<(), AllocError> {
-        match self.line.tell_absent(self.signs, name, Presence::Optional) {
-            Err(_) => Err(AllocError),
-            Ok(()) => Ok(()),
-        }
+        self.line.tell_absent(self.signs, name)?;
+        Ok(())
     }
 
     #[inline(always)]

@@ -6,13 +6,14 @@ ghost use Rattle.std.specs.Prelude.{◌≡◌, ◌≤◌, [], None, IfSome, leng
 ghost use Rattle.std.specs.Coded.{→_prop};
 ghost use Rattle.std.proofs.Props.{props};
 ghost use Rattle.fast_walk.specs.OneProof.{KeepScalars-prop};
+ghost use Rattle.fast_walk.specs.Room.{HasRoomAt};
 ghost use Rattle.fast_walk.specs.Told.{KeepScalars};
 ghost use Rattle.fast_walk.specs.Traversals.{CanGoOn, ServesAll};
-ghost use Rattle.fast_machine.specs.OneProof.{CanGoOn-prop, ServesAll-prop};
+ghost use Rattle.fast_machine.specs.OneProof.{CanGoOn-prop, HasRoomAt-prop, ServesAll-prop};
 
 use fast_dictionary::Entries;
 use fast_stream::{Fault, Framing};
-use fast_walk::{Receiver, Traversal};
+use fast_walk::{HaltedBy, Receiver, Traversal};
 use std::alloc::Global;
 
 /// Reads a stream that comes in chunks, stops anywhere, and hands what it reads to a receiver.
@@ -35,6 +36,8 @@ pub struct Machine<'a, R: Receiver, E: Entries> {
     // how many bytes are left of the open block, those that are held among them; none between two blocks
     left: u128,
     fault: Option<Fault>,
+    // whose growth was refused, where the fault is want of memory
+    halted_by: HaltedBy,
     fed: u64,
     messages: u64,
     ghost served: { ServesAll (E.serves entries) traversal.set.now } by { ServesAll-prop (E.serves entries) traversal.set.now },
@@ -42,4 +45,5 @@ pub struct Machine<'a, R: Receiver, E: Entries> {
     ghost cleared: { IfSome fault (λ f. held.items ≡ []) } by { Prim.hlevel props },
     ghost ready: { fault ≡ None → CanGoOn (E.serves entries) traversal } by { →_prop (CanGoOn-prop (E.serves entries) traversal) },
     ghost kept: { fault ≡ None → KeepScalars (E.contents entries) } by { →_prop (KeepScalars-prop (E.contents entries)) },
+    ghost room: { fault ≡ None → HasRoomAt (R.room receiver) traversal.stage traversal.walk } by { →_prop (HasRoomAt-prop (R.room receiver) traversal.stage traversal.walk) },
 }

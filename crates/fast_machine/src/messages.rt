@@ -8,6 +8,7 @@ ghost use Rattle.fast_stream.specs.Nodes.{Content};
 ghost use Rattle.fast_machine.specs.Runs.{Ended, ReadsOn, RunStands};
 ghost use Rattle.fast_walk.specs.declared.traversal.Stage.TheVariants as stage;
 ghost use Rattle.fast_walk.specs.Told.{KeepScalars};
+ghost use Rattle.fast_walk.specs.Room.{HasRoomAt};
 ghost use Rattle.fast_walk.specs.Traversals.{CanGoOn, ServesAll, begun_of};
 
 use fast_dictionary::Entries;
@@ -49,6 +50,7 @@ pub(crate) fn read_message<R: Receiver, E: Entries>(
     requires ready { CanGoOn (E.serves entries.now) traversal.now }
     requires served { ServesAll (E.serves entries.now) traversal.now.set.now }
     requires kept { KeepScalars (E.contents entries.now) }
+    requires room { HasRoomAt (R.room receiver.now) traversal.now.stage traversal.now.walk }
     ensures place { result.at ≤ length bytes.now }
     ensures many { result.messages ≤ 1 }
     ensures ended { (before : List Content) (origin : Dictionary) (run : List ℕ) (messages : List Content)
@@ -71,6 +73,8 @@ pub(crate) fn read_message<R: Receiver, E: Entries>(
     ensures kept { IfNone result.halt (KeepScalars (E.contents entries.new)) }
     ensures kept_on { IfSome result.halt (λ h. h.cause ≡ Cause.Truncated
         → KeepScalars (E.contents entries.new)) }
+    ensures room { IfSome result.halt (λ h. h.cause ≡ Cause.Truncated
+        → HasRoomAt (R.room receiver.new) traversal.new.stage traversal.new.walk) }
     // few bytes are left where more are wanted
     ensures few { IfSome result.halt (λ h. h.cause ≡ Cause.Truncated
         → length bytes.now ≤ result.at + 65554) }

@@ -95,6 +95,8 @@ impl Receiver for Builder {
 
     ghost keeps = { λ b set ms d. ms ≡ map content_of b.whole.items };
 
+    ghost room = { λ w around left. true };
+
     fn begin<E: Entries>(
         &mut self,
         alloc: Global,

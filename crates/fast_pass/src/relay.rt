@@ -239,9 +239,9 @@ fn relay<O: Output, R: ByteInput, W: ByteOutput, E: Entries>(
 ///
 /// # Errors
 ///
-/// Stream: the bytes read are refused, the reader failed, the reads are used up, or memory was refused while a message
-/// was read; what is made of the messages before is written. Write: the writer failed. Memory: the entries were refused
-/// their memory. After these two a front is written of what is made of messages that were read.
+/// Stream: the bytes read are refused, the reader failed, the reads are used up, or memory was refused that reading
+/// asked for; what is made of the messages before is written. Write: the writer failed. Memory: the entries or the
+/// output were refused memory. After these two a front is written of what is made of messages that were read.
 pub fn pass_through<O: Output, R: ByteInput, W: ByteOutput>(
     alloc: Global,
     set: &TemplateSet,
@@ -278,7 +278,12 @@ pub fn pass_through<O: Output, R: ByteInput, W: ByteOutput>(
         Ok((reached, written)) => match writer.flush() {
             Err(_) => Err(CanonFault::Write),
             Ok(()) => match reached {
-                Reached::Fault(fault) => Err(CanonFault::Stream(fault)),
+                Reached::Fault(fault) => {
+                    if machine.receiver_refused() {
+                        return Err(CanonFault::Memory);
+                    }
+                    Err(CanonFault::Stream(fault))
+                }
                 Reached::End | Reached::Open => Ok(Summary {
                     messages: machine.messages(),
                     read: machine.fed(),

@@ -32,14 +32,14 @@ back serves ks ls h k there = h k (Contains-append_right ks ls k there)
 
 mutual
   served_one : (serves : Key → Bool) (i : Instruction) → HasTypedParts i → Serves serves (keys_of_one i) → IsServed serves i
-  served_one serves (whole_field name number presence whole) typed h = (h whole.key (first whole.key []), part_told part.Whole whole.kind presence whole typed)
+  served_one serves (whole_field name number presence whole) typed h = ((h whole.key (first whole.key []), part_told part.Whole whole.kind presence whole typed), typed.presence_is)
   served_one serves (field_in_parts name number presence exponent mantissa) typed h = (
-    (h exponent.key (first exponent.key (mantissa.key ∷ [])), part_told part.Exponent kind.Int32 presence exponent typed.0),
+    ((h exponent.key (first exponent.key (mantissa.key ∷ [])), part_told part.Exponent kind.Int32 presence exponent typed.0), typed.0.presence_is),
     ((h mantissa.key (later exponent.key mantissa.key (mantissa.key ∷ []) (first mantissa.key [])), part_told part.Mantissa kind.Int64 Mandatory mantissa typed.1), typed.1.presence_is),
   )
   served_one serves (group_of name number presence members) typed h = served_list serves members typed h
   served_one serves (sequence_of name number presence length members) typed h = (
-    (h length.key (first length.key (keys_of members)), part_told part.Length kind.UInt32 presence length typed.0),
+    ((h length.key (first length.key (keys_of members)), part_told part.Length kind.UInt32 presence length typed.0), typed.0.presence_is),
     served_list serves members typed.1 (λ k there. h k (later length.key k (keys_of members) there)),
   )
 

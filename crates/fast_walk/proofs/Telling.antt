@@ -39,7 +39,7 @@ use Rattle.fast_field.proofs.ValueKinds.{value_kind, value_there}
 use Rattle.fast_stream.specs.Bits.{bit_for}
 use Rattle.fast_stream.specs.Bodies.{with_entry, written}
 use Rattle.fast_stream.specs.Streams.{identifier}
-use Rattle.fast_walk.specs.Received.{Took}
+use Rattle.fast_walk.specs.Received.{Took, TookFrom}
 use Rattle.fast_walk.specs.Told.{HoldScalars, IsKeptScalar, KeepsScalar, KeepScalars, KeepsInitial, IsTold}
 
 -- ---- entries within their types
@@ -145,14 +145,18 @@ pub record Formed (p : FieldPart) (e : Entry) (bit : Bool) (v : Option Scalar) :
   pub bytes : List ℕ
   pub form : Form Usual p e bit bytes v
 
+pub form_taken : (level : Level) (p : FieldPart) (bit : Bool) (old new : Entry) (v : Option Scalar) (bytes rest : List ℕ) → IsBytes bytes → IsFieldPart p → IsBitOf p bit
+    → TookFrom level p bit old new v bytes rest → Formed p old bit v
+form_taken level p bit old new v bytes rest fits is asked took =
+    let read : field_at level p old bit bytes ≡ Ok (v, rest) =
+    ap (λ (b : List ℕ). field_at level p old bit b) (sym (append-nil bytes)) ∙ took.value [] ∙ ap (λ (r : List ℕ). done {F = FieldFault} (v, r)) (append-nil rest) in
+    let t = (field_forms Usual p old bit asked is.typed.default_has_value).found bytes v rest fits (read_usually level p old bit bytes (v, rest) read) in
+    record { bytes = t.front; form = t.form }
+
 pub taken_form : (level : Level) (p : FieldPart) (bit : Bool) (d e : Dictionary) (v : Option Scalar) (bytes rest : List ℕ) → IsBytes bytes → IsFieldPart p → IsBitOf p bit
     → Took level p bit d e v bytes rest → Formed p (entry_at d p.key) bit v
 taken_form level p bit d e v bytes rest fits is asked took =
-    let here = entry_at d p.key in
-    let read : field_at level p here bit bytes ≡ Ok (v, rest) =
-    ap (λ (b : List ℕ). field_at level p here bit b) (sym (append-nil bytes)) ∙ took.value [] ∙ ap (λ (r : List ℕ). done {F = FieldFault} (v, r)) (append-nil rest) in
-    let t = (field_forms Usual p here bit asked is.typed.default_has_value).found bytes v rest fits (read_usually level p here bit bytes (v, rest) read) in
-    record { bytes = t.front; form = t.form }
+    form_taken level p bit (entry_at d p.key) (next p (entry_at d p.key) v) v bytes rest fits is asked (record { value = took.value; entry = refl })
 
 -- entries stay within their types
 pub taken_keeps : (level : Level) (p : FieldPart) (bit : Bool) (d e : Dictionary) (v : Option Scalar) (bytes rest : List ℕ) → IsBytes bytes → IsFieldPart p → IsBitOf p bit

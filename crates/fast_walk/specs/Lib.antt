@@ -4,4 +4,5 @@ pub mod Walks
 pub mod Traversals
 pub mod Passing
 pub mod Told
+pub mod Room
 pub mod OneProof

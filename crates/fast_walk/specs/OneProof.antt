@@ -7,7 +7,7 @@ use Rattle.std.specs.Str.{is_utf8}
 use Rattle.std.proofs.Props.{props}
 use Rattle.fast_value.specs.declared.kind.Kind.{Kind}
 use Rattle.fast_value.specs.declared.kind.Part.{Part}
-use Rattle.fast_value.specs.declared.kind.Presence.TheVariants.{Mandatory}
+use Rattle.fast_value.specs.declared.kind.Presence.{Presence}
 use Rattle.fast_value.specs.declared.scalar.Scalar.{Scalar}
 use Rattle.fast_value.specs.declared.scalar.Scalar.TheVariants.{U32, I32, U64, I64, Decimal, Ascii, Unicode, Bytes}
 use Rattle.fast_template.specs.declared.resolved.FieldPart.{FieldPart}
@@ -50,8 +50,8 @@ some-prop : {A : Type 0} (o : Option A) → IsProp (IsSome o)
 some-prop None = hlevel props
 some-prop (Some x) = hlevel props
 
-pub mandatory-prop : (p : FieldPart) → IsProp (p.presence ≡ Mandatory)
-mandatory-prop p = hlevel props
+pub presence-prop : (presence : Presence) (p : FieldPart) → IsProp (p.presence ≡ presence)
+presence-prop presence p = hlevel props
 
 pub IsTold-prop : (part : Part) (kind : Kind) (p : FieldPart) → IsProp (IsTold part kind p)
 IsTold-prop part kind p x y =

@@ -5,6 +5,7 @@ use Rattle.fast_value.specs.declared.kind.Kind.{Kind}
 use Rattle.fast_value.specs.declared.kind.Kind.TheVariants as kind
 use Rattle.fast_value.specs.declared.kind.Part.{Part}
 use Rattle.fast_value.specs.declared.kind.Part.TheVariants as part
+use Rattle.fast_value.specs.declared.kind.Presence.{Presence}
 use Rattle.fast_value.specs.declared.kind.Presence.TheVariants.{Mandatory}
 use Rattle.fast_template.specs.declared.resolved.FieldPart.{FieldPart}
 use Rattle.fast_template.specs.Resolved.{Instruction, Instructions, whole_field, field_in_parts, group_of, sequence_of, no_instructions, then_instruction, list_of}
@@ -91,16 +92,20 @@ HaltsAs level w d bytes h = (o : Received) → IsAt w o → reads_on level w d o
 abbrev pub IsServedAs : (Key → Bool) → Part → Kind → FieldPart → Type 0
 IsServedAs serves part kind p = IsTrue (serves p.key) × IsTold part kind p
 
+-- and it may be absent where that instruction may
+abbrev pub IsServedWith : (Key → Bool) → Part → Kind → Presence → FieldPart → Type 0
+IsServedWith serves part kind presence p = IsServedAs serves part kind p × (p.presence ≡ presence)
+
 abbrev pub IsMantissaServed : (Key → Bool) → FieldPart → Type 0
-IsMantissaServed serves p = IsServedAs serves part.Mantissa kind.Int64 p × (p.presence ≡ Mandatory)
+IsMantissaServed serves p = IsServedWith serves part.Mantissa kind.Int64 Mandatory p
 
 -- Each part of these instructions is one of a set, and its key is served.
 abbrev mutual
   pub IsServed : (Key → Bool) → Instruction → Type 0
-  IsServed serves (whole_field name number presence whole) = IsServedAs serves part.Whole whole.kind whole
-  IsServed serves (field_in_parts name number presence exponent mantissa) = IsServedAs serves part.Exponent kind.Int32 exponent × IsMantissaServed serves mantissa
+  IsServed serves (whole_field name number presence whole) = IsServedWith serves part.Whole whole.kind presence whole
+  IsServed serves (field_in_parts name number presence exponent mantissa) = IsServedWith serves part.Exponent kind.Int32 presence exponent × IsMantissaServed serves mantissa
   IsServed serves (group_of name number presence members) = AreServed serves members
-  IsServed serves (sequence_of name number presence length members) = IsServedAs serves part.Length kind.UInt32 length × AreServed serves members
+  IsServed serves (sequence_of name number presence length members) = IsServedWith serves part.Length kind.UInt32 presence length × AreServed serves members
 
   pub AreServed : (Key → Bool) → Instructions → Type 0
   AreServed serves no_instructions = Unit {0}

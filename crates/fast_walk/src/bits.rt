@@ -8,6 +8,7 @@ ghost use Rattle.fast_stream.specs.Faults.{cause_of_wire};
 ghost use Rattle.fast_stream.specs.Reading.{own_map_at, stopped};
 ghost use Rattle.fast_wire.specs.Level.{judge, overlong_map as overlong_map_of, some_set};
 ghost use Rattle.fast_field.specs.Calls.{Answers};
+ghost use Rattle.fast_wire.specs.Sizes.{CanBeMap};
 
 use crate::halt::{Halt, wire_cause};
 use fast_stream::Cause;
@@ -64,10 +65,7 @@ pub(crate) fn judge_left(number: u32, bits: &Bits) -> Result<(), Halt>
     ensures number { IfErr result (λ h. h.number ≡ number) }
 {
     if bits.left_set() {
-        return Err(Halt {
-            cause: Cause::R8,
-            number,
-        });
+        return Err(Halt::new(Cause::R8, number));
     }
     Ok(())
 }
@@ -86,6 +84,7 @@ pub(crate) fn read_own_map(
     requires { at ≤ length bytes.now }
     ensures place { IfOk result (λ x. (at ≤ x.1) × (x.1 ≤ length bytes.now)) }
     ensures took { IfOk result (λ x. IsTrue own_map → at < x.1) }
+    ensures room { IfOk result (λ x. CanBeMap x.0) }
     ensures goes { IfOk result (λ x. (d : Dictionary) (bits : List Bool) (spare : ℕ) (more : List ℕ)
         → own_map_at level number own_map (cursor d bits spare (drop at bytes.now ++ more))
         ≡ Ok (cursor d x.0 spare (drop x.1 bytes.now ++ more))) }
@@ -96,13 +95,10 @@ pub(crate) fn read_own_map(
 {
     if own_map {
         match judge_map(level, bytes, at) {
-            Err(cause) => Err(Halt { cause, number }),
+            Err(cause) => Err(Halt::new(cause, number)),
             Ok(()) => match read_map(alloc, bytes, at) {
                 Ok(x) => Ok(x),
-                Err(fault) => Err(Halt {
-                    cause: wire_cause(fault),
-                    number,
-                }),
+                Err(fault) => Err(Halt::new(wire_cause(fault), number)),
             },
         }
     } else {

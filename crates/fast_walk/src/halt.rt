@@ -8,13 +8,37 @@ use fast_stream::Cause;
 use fast_wire::WireFault;
 use std::alloc::AllocError;
 
+/// Who could not go on: the walk itself, or the receiver, with the entries that it puts.
+#[derive(Clone, Copy, Debug, PartialEq, Eq)]
+pub enum HaltedBy {
+    Walk,
+    Receiver,
+}
+
 /// Why a piece was not read, with the number of its instruction.
 #[derive(Clone, Copy, Debug, PartialEq, Eq, Drop)]
 pub struct Halt {
     pub cause: Cause,
     pub number: u32,
+    /// Whose growth it was where memory was refused.
+    pub by: HaltedBy,
 }
 
+impl Halt {
+    /// The walk itself cannot go on.
+    pub(crate) fn new(cause: Cause, number: u32) -> Halt
+        ensures cause { result.cause ≡ cause }
+        ensures number { result.number ≡ number }
+    {
+        Halt {
+            cause,
+            number,
+            by: HaltedBy::Walk,
+        }
+    }
+}
+
+/// Memory was refused to the receiver.
 impl From<AllocError> for Halt {
     ghost use Rattle.fast_stream.specs.declared.fault.Cause.TheVariants.{Memory};
 
@@ -24,6 +48,7 @@ impl From<AllocError> for Halt {
         Halt {
             cause: Cause::Memory,
             number: 0,
+            by: HaltedBy::Receiver,
         }
     }
 }

@@ -15,7 +15,7 @@ mod receiver;
 mod traversal;
 mod walk;
 
-pub use halt::{Halt, wire_cause};
+pub use halt::{Halt, HaltedBy, wire_cause};
 pub use output::Output;
 pub use receiver::{Fields, Receiver};
 pub use traversal::{Stage, Traversal};

@@ -1,6 +1,6 @@
 //! Receivers that make bytes of what they receive.
 
-ghost use Rattle.std.specs.Prelude.{◌≡◌, ◌⊎◌, ◌++◌, ◌∷◌, [], ℕ, List};
+ghost use Rattle.std.specs.Prelude.{◌≡◌, ◌⊎◌, ◌++◌, ◌∷◌, [], ℕ, Bool, List, IsTrue};
 ghost use Rattle.fast_template.specs.Resolved.{Resolved};
 ghost use Rattle.fast_dictionary.specs.Dictionary.{Dictionary};
 ghost use Rattle.fast_stream.specs.Nodes.{Content};
@@ -35,6 +35,8 @@ pub trait Output: Receiver {
             (d : Dictionary)
             → Self.keeps self.old set (handed_on handed ∷ ms) d
             → Self.keeps self.new set (handed_on (handed ++ waiting self.old) ∷ ms) d }
+        ensures room { (around : List (List Bool)) (b : List Bool) → IsTrue (Self.room self.old around b)
+            → IsTrue (Self.room self.new around b) }
         ensures empty { waiting self.new ≡ [] };
 
     // The bytes handed on and those that wait are what it makes of the messages, whatever is open.

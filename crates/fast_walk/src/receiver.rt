@@ -17,6 +17,8 @@ ghost use Rattle.fast_walk.specs.OpenSegments.{Sequel, Waiting, at_instruction, 
 ghost use Rattle.fast_walk.specs.Received.{Received, Took, IsExponent, after_exponent, after_length, after_sequence, content_received, ended_in, entered, in_element, length_of, opened, passed};
 ghost use Rattle.fast_walk.specs.Walks.{AreServed, IsNextServed};
 ghost use Rattle.fast_walk.specs.Told.{IsTold, KeepScalars};
+ghost use Rattle.fast_stream.specs.Bits.{after_bit, bit_for};
+ghost use Rattle.fast_wire.specs.Sizes.{CanBeMap};
 ghost use Rattle.fast_walk.specs.Passing.{Passes, next_behind};
 
 use fast_dictionary::Entries;
@@ -54,6 +56,10 @@ pub trait Receiver: Drop {
     // Whatever is open: these have been received before it, and this is the dictionary behind them.
     ghost keeps: { Self → List Resolved → List Content → Dictionary → Type 0 };
 
+    // What is open has room for a bit of its own for each of these, which are left of the maps that were read: of those
+    // around the innermost, the message's own first, and of the innermost.
+    ghost room: { Self → List (List Bool) → List Bool → Bool };
+
     /// Takes a message's identifier from the bytes, and puts its entry; answers it and the place behind it.
     fn begin<E: Entries>(
         &mut self,
@@ -84,12 +90,15 @@ pub trait Receiver: Drop {
             ≡ Err f) × (E.contents entries.new ≡ E.contents entries.old)
             × ((set : List Resolved) (ms : List Content) (d : Dictionary)
             → stands self.old set ms d → stands self.new set ms d)) }
+        ensures room { IfOk result (λ x. (b : List Bool) → bit ≡ bit_for (part_needs_bit identifier.now) b
+            → CanBeMap b → IsTrue (room self.new [] (after_bit (part_needs_bit identifier.now) b))) }
         ensures keeps { (set : List Resolved) (ms : List Content) (d : Dictionary)
             → stands self.old set ms d → keeps self.new set ms d }
         ensures same_keys { E.serves entries.new ≡ E.serves entries.old };
 
     /// The end of a message.
     fn finish(&mut self, alloc: Global) -> Result<(), AllocError>
+        requires room { (b : List Bool) × IsTrue (room self.now [] b) }
         ensures stands { OnOk result ((o : Received) (d : Dictionary) → o.next ≡ at_instruction
             → o.body.rest ≡ no_instructions → o.around ≡ [] → members_of o.set o.template
             ≡ Some o.members
@@ -122,6 +131,7 @@ pub trait Receiver: Drop {
         requires bit { part_needs_bit part.now ≡ false → bit ≡ true }
         requires served { IsTrue (E.serves entries.now part.now.key) }
         requires told { IsTold Whole part.now.kind part.now }
+        requires presence { part.now.presence ≡ presence }
         requires kept { KeepScalars (E.contents entries.now) }
         ensures place { IfOk result (λ n. (at ≤ n) × (n ≤ length bytes.now)) }
         ensures goes { IfOk result (λ n. (v : Option ScalarOf)
@@ -137,6 +147,11 @@ pub trait Receiver: Drop {
             bytes.now) ≡ Err f)
             × (E.contents entries.new ≡ E.contents entries.old)
             × ((o : Received) (d : Dictionary) → has self.old o d → has self.new o d)) }
+        ensures room { OnOk result ((around : List (List Bool)) (b : List Bool)
+            → bit ≡ bit_for (part_needs_bit part.now) b → IsTrue (room self.old around b)
+            → IsTrue (room self.new around (after_bit (part_needs_bit part.now) b))) }
+        ensures room_on { IfErr result (λ f. f ≢ FieldFault.Memory → (around : List (List Bool)) (b : List Bool)
+            → IsTrue (room self.old around b) → IsTrue (room self.new around b)) }
         ensures keeps { (set : List Resolved) (ms : List Content) (d : Dictionary)
             → keeps self.old set ms d → keeps self.new set ms d }
         ensures same_keys { E.serves entries.new ≡ E.serves entries.old };
@@ -168,6 +183,8 @@ pub trait Receiver: Drop {
             (list_of f.rest.now) (E.contents entries.old) bits.old spare (drop at bytes.now)
             (E.contents entries.new) bits.new f.spare (drop f.place bytes.now)) }
         ensures kept { OnOk result (KeepScalars (E.contents entries.new)) }
+        ensures room { OnOk result ((around : List (List Bool)) → IsTrue (room self.old around bits.old)
+            → IsTrue (room self.new around bits.new)) }
         ensures keeps { (set : List Resolved) (ms : List Content) (d : Dictionary)
             → keeps self.old set ms d → keeps self.new set ms d }
         ensures same_keys { E.serves entries.new ≡ E.serves entries.old }
@@ -197,6 +214,7 @@ pub trait Receiver: Drop {
         requires bit { part_needs_bit part.now ≡ false → bit ≡ true }
         requires served { IsTrue (E.serves entries.now part.now.key) }
         requires told { IsTold Exponent Int32 part.now }
+        requires presence { part.now.presence ≡ presence }
         requires kept { KeepScalars (E.contents entries.now) }
         ensures place { IfOk result (λ x. (at ≤ x.1) × (x.1 ≤ length bytes.now)) }
         ensures goes { IfOk result (λ x. (v : Option ScalarOf)
@@ -214,6 +232,11 @@ pub trait Receiver: Drop {
             bytes.now) ≡ Err f)
             × (E.contents entries.new ≡ E.contents entries.old)
             × ((o : Received) (d : Dictionary) → has self.old o d → has self.new o d)) }
+        ensures room { OnOk result ((around : List (List Bool)) (b : List Bool)
+            → bit ≡ bit_for (part_needs_bit part.now) b → IsTrue (room self.old around b)
+            → IsTrue (room self.new around (after_bit (part_needs_bit part.now) b))) }
+        ensures room_on { IfErr result (λ f. f ≢ FieldFault.Memory → (around : List (List Bool)) (b : List Bool)
+            → IsTrue (room self.old around b) → IsTrue (room self.new around b)) }
         ensures keeps { (set : List Resolved) (ms : List Content) (d : Dictionary)
             → keeps self.old set ms d → keeps self.new set ms d }
         ensures same_keys { E.serves entries.new ≡ E.serves entries.old };
@@ -248,6 +271,11 @@ pub trait Receiver: Drop {
             bytes.now) ≡ Err f)
             × (E.contents entries.new ≡ E.contents entries.old)
             × ((o : Received) (d : Dictionary) → has self.old o d → has self.new o d)) }
+        ensures room { OnOk result ((around : List (List Bool)) (b : List Bool)
+            → bit ≡ bit_for (part_needs_bit part.now) b → IsTrue (room self.old around b)
+            → IsTrue (room self.new around (after_bit (part_needs_bit part.now) b))) }
+        ensures room_on { IfErr result (λ f. f ≢ FieldFault.Memory → (around : List (List Bool)) (b : List Bool)
+            → IsTrue (room self.old around b) → IsTrue (room self.new around b)) }
         ensures keeps { (set : List Resolved) (ms : List Content) (d : Dictionary)
             → keeps self.old set ms d → keeps self.new set ms d }
         ensures same_keys { E.serves entries.new ≡ E.serves entries.old };
@@ -269,6 +297,7 @@ pub trait Receiver: Drop {
         requires bit { part_needs_bit part.now ≡ false → bit ≡ true }
         requires served { IsTrue (E.serves entries.now part.now.key) }
         requires told { IsTold Length UInt32 part.now }
+        requires presence { part.now.presence ≡ presence }
         requires kept { KeepScalars (E.contents entries.now) }
         ensures place { IfOk result (λ x. (at ≤ x.1) × (x.1 ≤ length bytes.now)) }
         ensures goes { IfOk result (λ x.
@@ -285,6 +314,11 @@ pub trait Receiver: Drop {
             bytes.now) ≡ Err f)
             × (E.contents entries.new ≡ E.contents entries.old)
             × ((o : Received) (d : Dictionary) → has self.old o d → has self.new o d)) }
+        ensures room { OnOk result ((around : List (List Bool)) (b : List Bool)
+            → bit ≡ bit_for (part_needs_bit part.now) b → IsTrue (room self.old around b)
+            → IsTrue (room self.new around (after_bit (part_needs_bit part.now) b))) }
+        ensures room_on { IfErr result (λ f. f ≢ FieldFault.Memory → (around : List (List Bool)) (b : List Bool)
+            → IsTrue (room self.old around b) → IsTrue (room self.new around b)) }
         ensures keeps { (set : List Resolved) (ms : List Content) (d : Dictionary)
             → keeps self.old set ms d → keeps self.new set ms d }
         ensures same_keys { E.serves entries.new ≡ E.serves entries.old };
@@ -296,6 +330,9 @@ pub trait Receiver: Drop {
             → o.body.rest ≡ then_instruction (group_of name.now number presence members) is
             → is_optional presence ≡ true → has self.old o d
             → has self.new (passed o is (single None)) d) }
+        ensures room { OnOk result ((around : List (List Bool)) (optional : Bool) (b : List Bool)
+            → bit_for optional b ≡ false → IsTrue (room self.old around b)
+            → IsTrue (room self.new around (after_bit optional b))) }
         ensures keeps { (set : List Resolved) (ms : List Content) (d : Dictionary)
             → keeps self.old set ms d → keeps self.new set ms d };
 
@@ -313,15 +350,22 @@ pub trait Receiver: Drop {
             → o.body.rest ≡ then_instruction (group_of name.now number presence members) is
             → optional ≡ is_optional presence → own_map ≡ has_map members
             → has self.old o d → has self.new (entered o number bits members is) d) }
+        ensures room { OnOk result ((around : List (List Bool)) (b bits : List Bool)
+            → bit_for optional b ≡ true → CanBeMap bits → IsTrue (room self.old around b)
+            → IsTrue (room self.new (around ++ after_bit optional b ∷ []) bits)) }
         ensures keeps { (set : List Resolved) (ms : List Content) (d : Dictionary)
             → keeps self.old set ms d → keeps self.new set ms d };
 
     /// The end of a group.
     fn leave(&mut self, alloc: Global) -> Result<(), AllocError>
+        requires room { (around : List (List Bool)) × (b : List Bool) × (bits : List Bool)
+            × IsTrue (room self.now (around ++ b ∷ []) bits) }
         ensures has { OnOk result ((o : Received) (d : Dictionary) (ws : List Waiting) (w : Waiting)
             → o.next ≡ at_instruction → o.body.rest ≡ no_instructions → o.around ≡ ws ++ w ∷ []
             → w.inside ≡ in_group → has self.old o d
             → has self.new (ended_in o ws w.body in_group) d) }
+        ensures room { OnOk result ((around : List (List Bool)) (b bits : List Bool)
+            → IsTrue (room self.old (around ++ b ∷ []) bits) → IsTrue (room self.new around b)) }
         ensures keeps { (set : List Resolved) (ms : List Content) (d : Dictionary)
             → keeps self.old set ms d → keeps self.new set ms d };
 
@@ -330,16 +374,23 @@ pub trait Receiver: Drop {
         ensures has { OnOk result ((s : Sequel) (bits : List Bool) (o : Received) (d : Dictionary)
             → o.next ≡ at_element s → own_map ≡ s.own_map → 0 < s.left
             → has self.old o d → has self.new (in_element o bits s) d) }
+        ensures room { OnOk result ((around : List (List Bool)) (b bits : List Bool)
+            → CanBeMap bits → IsTrue (room self.old around b)
+            → IsTrue (room self.new (around ++ b ∷ []) bits)) }
         ensures keeps { (set : List Resolved) (ms : List Content) (d : Dictionary)
             → keeps self.old set ms d → keeps self.new set ms d };
 
     /// The end of an element.
     fn leave_element(&mut self, alloc: Global) -> Result<(), AllocError>
+        requires room { (around : List (List Bool)) × (b : List Bool) × (bits : List Bool)
+            × IsTrue (room self.now (around ++ b ∷ []) bits) }
         ensures has { OnOk result ((o : Received) (d : Dictionary) (ws : List Waiting) (w :
             Waiting) (s : Sequel)
             → o.next ≡ at_instruction → o.body.rest ≡ no_instructions → o.around ≡ ws ++ w ∷ []
             → w.inside ≡ in_sequence s → has self.old o d
             → has self.new (ended_in o ws w.body (in_sequence s)) d) }
+        ensures room { OnOk result ((around : List (List Bool)) (b bits : List Bool)
+            → IsTrue (room self.old (around ++ b ∷ []) bits) → IsTrue (room self.new around b)) }
         ensures keeps { (set : List Resolved) (ms : List Content) (d : Dictionary)
             → keeps self.old set ms d → keeps self.new set ms d };
 
@@ -348,6 +399,8 @@ pub trait Receiver: Drop {
         ensures has { OnOk result ((o : Received) (d : Dictionary) (s : Sequel)
             → o.next ≡ at_element s → s.left ≡ 0 → has self.old o d
             → has self.new (after_sequence o s) d) }
+        ensures room { OnOk result ((around : List (List Bool)) (b : List Bool)
+            → IsTrue (room self.old around b) → IsTrue (room self.new around b)) }
         ensures keeps { (set : List Resolved) (ms : List Content) (d : Dictionary)
             → keeps self.old set ms d → keeps self.new set ms d };
 }

@@ -11,6 +11,8 @@ ghost use Rattle.fast_wire.specs.Level.{IsLeftClear, some_set};
 ghost use Rattle.fast_walk.specs.OpenSegments.{Reading, at_instruction};
 ghost use Rattle.fast_walk.specs.Received.{Received, content_received};
 ghost use Rattle.fast_walk.specs.Told.{KeepScalars};
+ghost use Rattle.fast_walk.specs.Room.{HasRoom, HasRoomAt};
+ghost use Rattle.fast_wire.specs.Sizes.{CanBeMap};
 
 use crate::bits::{first_for, read_own_map};
 use crate::halt::Halt;
@@ -144,6 +146,7 @@ impl<'a> Traversal<'a> {
             ≡ Err (stop_of 0 h (drop at bytes.now))) }
         ensures stage { OnOk result (self.new.stage ≡ Stage.Identifier) }
         ensures spare { OnOk result (self.new.walk.spare ≡ node_limit) }
+        ensures room { OnOk result (CanBeMap self.new.walk.bits) }
         ensures waits { OnErr result (self.new.stage ≡ self.old.stage) }
         ensures template { self.new.template ≡ 0 }
         ensures set { self.new.set ≡ self.old.set }
@@ -175,6 +178,7 @@ impl<'a> Traversal<'a> {
         requires template { self.now.template ≡ 0 }
         requires served { ServesAll (E.serves entries.now) self.now.set.now }
         requires kept { KeepScalars (E.contents entries.now) }
+        requires room { CanBeMap self.now.walk.bits }
         ensures place { IfOk result (λ n. (at ≤ n) × (n ≤ length bytes.now)) }
         ensures goes { IfOk result (λ n. (before : List Content)
             → R.stands receiver.old (templates_in self.old.set.now) before (E.contents entries.old)
@@ -192,6 +196,7 @@ impl<'a> Traversal<'a> {
         ensures stage { OnOk result (self.new.stage ≡ Stage.Body) }
         ensures ready { OnOk result (CanGoOn (E.serves entries.old) self.new) }
         ensures kept { OnOk result (KeepScalars (E.contents entries.new)) }
+        ensures room { OnOk result (HasRoom (R.room receiver.new) self.new.walk) }
         ensures waits { IfErr result (λ h. h.cause ≡ Cause.Truncated → (self.new ≡ self.old)
             × (E.contents entries.new ≡ E.contents entries.old)
             × ((set : List Resolved) (ms : List Content) (d : Dictionary)
@@ -210,10 +215,7 @@ impl<'a> Traversal<'a> {
         match receiver.begin(self.alloc, entries, &self.identifier, bit, level, bytes, at) {
             Err(fault) => Err(part_halt(&self.identifier, fault)),
             Ok((id, next)) => match self.set.find(id) {
-                None => Err(Halt {
-                    cause: Cause::D9,
-                    number: 0,
-                }),
+                None => Err(Halt::new(Cause::D9, 0)),
                 Some(template) => {
                     self.set_is_sound();
                     self.template = id;
@@ -229,6 +231,7 @@ impl<'a> Traversal<'a> {
     #[inline(always)]
     fn end<R: Receiver>(&mut self, receiver: &mut R) -> Result<(), Halt>
         requires whole { self.now.walk.around.items ≡ [] }
+        requires room { HasRoom (R.room receiver.now) self.now.walk }
         ensures clear { OnOk result (IsLeftClear self.old.level self.old.walk.bits) }
         ensures stands { OnOk result ((o : Received) (d : Dictionary) → o.next ≡ at_instruction
             → o.body.rest ≡ no_instructions → o.around ≡ [] → members_of o.set o.template
@@ -250,10 +253,7 @@ impl<'a> Traversal<'a> {
         match self.walk.judge_end(level) {
             Err(halt) => Err(halt),
             Ok(()) => match receiver.finish(self.alloc) {
-                Err(_) => Err(Halt {
-                    cause: Cause::Memory,
-                    number: 0,
-                }),
+                Err(error) => Err(Halt::from(error)),
                 Ok(()) => {
                     self.stage = Stage::Map;
                     self.template = 0;
@@ -276,6 +276,7 @@ impl<'a> Traversal<'a> {
         requires stage { self.now.stage ≡ Stage.Body }
         requires ready { CanGoOn (E.serves entries.now) self.now }
         requires kept { KeepScalars (E.contents entries.now) }
+        requires room { HasRoom (R.room receiver.now) self.now.walk }
         ensures place { IfOk result (λ n. (at ≤ n) × (n ≤ length bytes.now)) }
         ensures goes { IfOk result (λ n. (set : List Resolved) (before : List Content) (start :
             Dictionary)
@@ -313,6 +314,8 @@ impl<'a> Traversal<'a> {
         ensures kept { OnOk result (KeepScalars (E.contents entries.new)) }
         ensures kept_on { IfErr result (λ x. (x.1).cause ≢ Cause.Memory
             → KeepScalars (E.contents entries.new)) }
+        ensures room { IfErr result (λ x. (x.1).cause ≢ Cause.Memory
+            → HasRoom (R.room receiver.new) self.new.walk) }
         ensures stage { OnErr result (self.new.stage ≡ Stage.Body) }
         ensures keeps { OnErr result ((set : List Resolved) (ms : List Content) (d : Dictionary)
             → R.keeps receiver.old set ms d → R.keeps receiver.new set ms d) }
@@ -346,6 +349,7 @@ impl<'a> Traversal<'a> {
         requires ready { CanGoOn (E.serves entries.now) self.now }
         requires served { ServesAll (E.serves entries.now) self.now.set.now }
         requires kept { KeepScalars (E.contents entries.now) }
+        requires room { CanBeMap self.now.walk.bits }
         ensures place { IfOk result (λ n. (at ≤ n) × (n ≤ length bytes.now)) }
         ensures goes { IfOk result (λ n. (before : List Content) (start : Dictionary) (read : List
             ℕ → Reading)
@@ -382,6 +386,8 @@ impl<'a> Traversal<'a> {
         ensures kept { OnOk result (KeepScalars (E.contents entries.new)) }
         ensures kept_on { IfErr result (λ x. (x.1).cause ≡ Cause.Truncated
             → KeepScalars (E.contents entries.new)) }
+        ensures room { IfErr result (λ x. (x.1).cause ≡ Cause.Truncated
+            → HasRoomAt (R.room receiver.new) self.new.stage self.new.walk) }
         ensures keeps { OnErr result ((before : List Content) (start : Dictionary) (read : List ℕ
             → Reading)
             → Continues R.has R.stands R.keeps self.old receiver.old (templates_in self.old.set.now)
@@ -421,6 +427,7 @@ impl<'a> Traversal<'a> {
         requires ready { CanGoOn (E.serves entries.now) self.now }
         requires served { ServesAll (E.serves entries.now) self.now.set.now }
         requires kept { KeepScalars (E.contents entries.now) }
+        requires room { HasRoomAt (R.room receiver.now) self.now.stage self.now.walk }
         ensures place { IfOk result (λ n. (at ≤ n) × (n ≤ length bytes.now)) }
         ensures goes { IfOk result (λ n. (before : List Content) (start : Dictionary) (read : List
             ℕ → Reading)
@@ -457,6 +464,8 @@ impl<'a> Traversal<'a> {
         ensures kept { OnOk result (KeepScalars (E.contents entries.new)) }
         ensures kept_on { IfErr result (λ x. (x.1).cause ≡ Cause.Truncated
             → KeepScalars (E.contents entries.new)) }
+        ensures room { IfErr result (λ x. (x.1).cause ≡ Cause.Truncated
+            → HasRoomAt (R.room receiver.new) self.new.stage self.new.walk) }
         ensures keeps { OnErr result ((before : List Content) (start : Dictionary) (read : List ℕ
             → Reading)
             → Continues R.has R.stands R.keeps self.old receiver.old (templates_in self.old.set.now)

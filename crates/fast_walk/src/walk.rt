@@ -1,6 +1,6 @@
 //! A walk through the open segments of a message, without its items.
 
-ghost use Rattle.std.specs.Prelude.{◌≡◌, ◌≢◌, ◌≤◌, ◌<◌, ◌++◌, ◌∷◌, ◌-◌, ◌+◌, [], ℕ, Bool, true, false, List, Option, IsSome, ◌⊎◌, IfOk, IfErr, OnOk, length, drop, map};
+ghost use Rattle.std.specs.Prelude.{◌≡◌, ◌≢◌, ◌≤◌, ◌<◌, ◌++◌, ◌∷◌, ◌-◌, ◌+◌, [], ℕ, Bool, true, false, List, Option, IsSome, ◌⊎◌, IfOk, IfErr, OnOk, IsTrue, length, drop, map};
 ghost use Rattle.fast_value.specs.declared.key.Key as key_type;
 ghost use Rattle.fast_template.specs.Resolved.{Resolved, list_of, then_instruction, no_instructions, whole_field, field_in_parts, group_of, sequence_of, is_optional as is_optional_of};
 ghost use Rattle.fast_dictionary.specs.Dictionary.{Dictionary};
@@ -14,9 +14,10 @@ ghost use Rattle.fast_walk.specs.Received.{Received, ended_in};
 ghost use Rattle.fast_walk.specs.Passing.{next_behind};
 ghost use Rattle.fast_walk.specs.Walks.{next_of, weight_of};
 ghost use Rattle.fast_walk.specs.Told.{KeepScalars};
+ghost use Rattle.fast_walk.specs.Room.{HasRoom};
 
 use crate::bits::{first_for, judge_left, read_own_map, take_for};
-use crate::halt::{Halt, field_cause};
+use crate::halt::{Halt, HaltedBy, field_cause};
 use crate::leveled::{Leveled, Strictly, Usually};
 use crate::receiver::Receiver;
 use fast_dictionary::Entries;
@@ -80,6 +81,7 @@ pub(crate) fn part_halt(part: &FieldPart, fault: FieldFault) -> Halt
     Halt {
         cause: field_cause(fault),
         number: part.number,
+        by: HaltedBy::Receiver,
     }
 }
 
@@ -159,10 +161,7 @@ impl<'a> Walk<'a> {
             ≡ stopped h.number bytes h.cause) }
     {
         if self.spare == 0 {
-            return Err(Halt {
-                cause: Cause::Limit,
-                number,
-            });
+            return Err(Halt::new(Cause::Limit, number));
         }
         Ok(())
     }
@@ -206,7 +205,7 @@ impl<'a> Walk<'a> {
         others: &'a [Flat],
         bits: Bits,
         inside: Inside<'a>,
-    ) -> Result<(), AllocError>
+    ) -> Result<(), Halt>
         requires spare { 0 < self.now.spare }
         ensures bits { OnOk result (self.new.bits ≡ bits) }
         ensures spare { OnOk result (self.new.spare ≡ self.old.spare - 1) }
@@ -221,17 +220,23 @@ impl<'a> Walk<'a> {
             } ∷ []) }
         ensures depth { OnOk result (length self.new.around.items
             ≡ length self.old.around.items + 1) }
+        ensures memory { IfErr result (λ h. h.cause ≡ Cause.Memory) }
     {
         let outer = mem::replace(&mut self.bits, bits);
-        self.around.push(Frame {
+        let frame = Frame {
             bits: outer,
             rest: others,
             inside,
-        })?;
-        self.spare -= 1;
-        self.rest = members;
-        self.next = Next::Instruction;
-        Ok(())
+        };
+        match self.around.push(frame) {
+            Err(_) => Err(Halt::new(Cause::Memory, 0)),
+            Ok(()) => {
+                self.spare -= 1;
+                self.rest = members;
+                self.next = Next::Instruction;
+                Ok(())
+            }
+        }
     }
 
     // Takes a field.
@@ -256,6 +261,7 @@ impl<'a> Walk<'a> {
             ≡ then_instruction (whole_field name.now number presence whole.now) (list_of others.now) }
         requires ready { IsReady (E.serves entries.now) self.now }
         requires kept { KeepScalars (E.contents entries.now) }
+        requires room { HasRoom (R.room receiver.now) self.now }
         ensures place { IfOk result (λ n. (at ≤ n) × (n ≤ length bytes.now)) }
         ensures goes { IfOk result (λ n. Moves L.at R.has self.old receiver.old (E.contents entries.old)
             self.new receiver.new (E.contents entries.new) (drop at bytes.now) (drop n bytes.now)) }
@@ -266,6 +272,9 @@ impl<'a> Walk<'a> {
             × ((o : Received) (d : Dictionary) → R.has receiver.old o d → R.has receiver.new o d)) }
         ensures ready { OnOk result (IsReady (E.serves entries.old) self.new) }
         ensures kept { OnOk result (KeepScalars (E.contents entries.new)) }
+        ensures room_on { IfErr result (λ h. h.cause ≢ Cause.Memory
+            → HasRoom (R.room receiver.new) self.new) }
+        ensures room { OnOk result (HasRoom (R.room receiver.new) self.new) }
         ensures keeps { (set : List Resolved) (ms : List Content) (d : Dictionary)
             → R.keeps receiver.old set ms d → R.keeps receiver.new set ms d }
         ensures same_keys { E.serves entries.new ≡ E.serves entries.old }
@@ -321,6 +330,7 @@ impl<'a> Walk<'a> {
             (list_of others.now) }
         requires ready { IsReady (E.serves entries.now) self.now }
         requires kept { KeepScalars (E.contents entries.now) }
+        requires room { HasRoom (R.room receiver.now) self.now }
         ensures place { IfOk result (λ n. (at ≤ n) × (n ≤ length bytes.now)) }
         ensures goes { IfOk result (λ n. Moves L.at R.has self.old receiver.old (E.contents entries.old)
             self.new receiver.new (E.contents entries.new) (drop at bytes.now) (drop n bytes.now)) }
@@ -331,6 +341,9 @@ impl<'a> Walk<'a> {
             × ((o : Received) (d : Dictionary) → R.has receiver.old o d → R.has receiver.new o d)) }
         ensures ready { OnOk result (IsReady (E.serves entries.old) self.new) }
         ensures kept { OnOk result (KeepScalars (E.contents entries.new)) }
+        ensures room_on { IfErr result (λ h. h.cause ≢ Cause.Memory
+            → HasRoom (R.room receiver.new) self.new) }
+        ensures room { OnOk result (HasRoom (R.room receiver.new) self.new) }
         ensures keeps { (set : List Resolved) (ms : List Content) (d : Dictionary)
             → R.keeps receiver.old set ms d → R.keeps receiver.new set ms d }
         ensures same_keys { E.serves entries.new ≡ E.serves entries.old }
@@ -383,6 +396,7 @@ impl<'a> Walk<'a> {
         requires next { self.now.next ≡ Next.Mantissa mantissa }
         requires ready { IsReady (E.serves entries.now) self.now }
         requires kept { KeepScalars (E.contents entries.now) }
+        requires room { HasRoom (R.room receiver.now) self.now }
         ensures place { IfOk result (λ n. (at ≤ n) × (n ≤ length bytes.now)) }
         ensures goes { IfOk result (λ n. Moves L.at R.has self.old receiver.old (E.contents entries.old)
             self.new receiver.new (E.contents entries.new) (drop at bytes.now) (drop n bytes.now)) }
@@ -393,6 +407,9 @@ impl<'a> Walk<'a> {
             × ((o : Received) (d : Dictionary) → R.has receiver.old o d → R.has receiver.new o d)) }
         ensures ready { OnOk result (IsReady (E.serves entries.old) self.new) }
         ensures kept { OnOk result (KeepScalars (E.contents entries.new)) }
+        ensures room_on { IfErr result (λ h. h.cause ≢ Cause.Memory
+            → HasRoom (R.room receiver.new) self.new) }
+        ensures room { OnOk result (HasRoom (R.room receiver.new) self.new) }
         ensures keeps { (set : List Resolved) (ms : List Content) (d : Dictionary)
             → R.keeps receiver.old set ms d → R.keeps receiver.new set ms d }
         ensures same_keys { E.serves entries.new ≡ E.serves entries.old }
@@ -433,6 +450,7 @@ impl<'a> Walk<'a> {
             (list_of others.now) }
         requires ready { IsReady (E.serves entries.now) self.now }
         requires kept { KeepScalars (E.contents entries.now) }
+        requires room { HasRoom (R.room receiver.now) self.now }
         ensures place { IfOk result (λ n. (at ≤ n) × (n ≤ length bytes.now)) }
         ensures goes { IfOk result (λ n. Moves L.at R.has self.old receiver.old (E.contents entries.old)
             self.new receiver.new (E.contents entries.new) (drop at bytes.now) (drop n bytes.now)) }
@@ -443,6 +461,9 @@ impl<'a> Walk<'a> {
             × ((o : Received) (d : Dictionary) → R.has receiver.old o d → R.has receiver.new o d)) }
         ensures ready { OnOk result (IsReady (E.serves entries.old) self.new) }
         ensures kept { OnOk result (KeepScalars (E.contents entries.new)) }
+        ensures room_on { IfErr result (λ h. h.cause ≢ Cause.Memory
+            → HasRoom (R.room receiver.new) self.new) }
+        ensures room { OnOk result (HasRoom (R.room receiver.new) self.new) }
         ensures keeps { (set : List Resolved) (ms : List Content) (d : Dictionary)
             → R.keeps receiver.old set ms d → R.keeps receiver.new set ms d }
         ensures same_keys { E.serves entries.new ≡ E.serves entries.old }
@@ -506,6 +527,7 @@ impl<'a> Walk<'a> {
         requires first { list_of self.now.rest.now
             ≡ then_instruction (group_of name.now number presence (list_of members.now)) (list_of
             others.now) }
+        requires room { HasRoom (R.room receiver.now) self.now }
         ensures place { IfOk result (λ n. (at ≤ n) × (n ≤ length bytes.now)) }
         ensures goes { IfOk result (λ n. (d : Dictionary) → Moves L.at R.has self.old receiver.old d
             self.new receiver.new d (drop at bytes.now) (drop n bytes.now)) }
@@ -515,6 +537,7 @@ impl<'a> Walk<'a> {
             → (self.new ≡ self.old) × (receiver.new ≡ receiver.old)) }
         ensures ready { OnOk result ((serves : key_type.Key → Bool) → IsReady serves self.old
             → IsReady serves self.new) }
+        ensures room { OnOk result (HasRoom (R.room receiver.new) self.new) }
         ensures keeps { (set : List Resolved) (ms : List Content) (d : Dictionary)
             → R.keeps receiver.old set ms d → R.keeps receiver.new set ms d }
         ensures rank { OnOk result (rank_of self.new < rank_of self.old) }
@@ -556,6 +579,7 @@ impl<'a> Walk<'a> {
     ) -> Result<usize, Halt>
         requires place { at ≤ length bytes.now }
         requires next { IsElement self.now.next sequel }
+        requires room { HasRoom (R.room receiver.now) self.now }
         ensures place { IfOk result (λ n. (at ≤ n) × (n ≤ length bytes.now)) }
         ensures goes { IfOk result (λ n. (d : Dictionary) → Moves L.at R.has self.old receiver.old d
             self.new receiver.new d (drop at bytes.now) (drop n bytes.now)) }
@@ -565,6 +589,7 @@ impl<'a> Walk<'a> {
             → (self.new ≡ self.old) × (receiver.new ≡ receiver.old)) }
         ensures ready { OnOk result ((serves : key_type.Key → Bool) → IsReady serves self.old
             → IsReady serves self.new) }
+        ensures room { OnOk result (HasRoom (R.room receiver.new) self.new) }
         ensures keeps { (set : List Resolved) (ms : List Content) (d : Dictionary)
             → R.keeps receiver.old set ms d → R.keeps receiver.new set ms d }
         ensures rank { OnOk result (rank_of self.new < rank_of self.old) }
@@ -590,7 +615,7 @@ impl<'a> Walk<'a> {
 
     // Opens the next element of a sequence.
     #[inline(always)]
-    fn one_more(&mut self, sequel: Sequel<'a>, bits: Bits) -> Result<(), AllocError>
+    fn one_more(&mut self, sequel: Sequel<'a>, bits: Bits) -> Result<(), Halt>
         requires spare { 0 < self.now.spare }
         requires left { 0 < sequel.left }
         ensures bits { OnOk result (self.new.bits ≡ bits) }
@@ -606,6 +631,7 @@ impl<'a> Walk<'a> {
             } ∷ []) }
         ensures depth { OnOk result (length self.new.around.items
             ≡ length self.old.around.items + 1) }
+        ensures memory { IfErr result (λ h. h.cause ≡ Cause.Memory) }
     {
         let others = Sequel {
             number: sequel.number,
@@ -658,6 +684,7 @@ impl<'a> Walk<'a> {
         requires inside { IsInside self.now }
         requires next { self.now.next ≡ Next.Instruction }
         requires rest { self.now.rest.now ≡ [] }
+        requires room { HasRoom (R.room receiver.now) self.now }
         ensures goes { OnOk result ((d : Dictionary) (bytes : List ℕ)
             → Moves L.at R.has self.old receiver.old d
             self.new receiver.new d bytes bytes) }
@@ -667,6 +694,7 @@ impl<'a> Walk<'a> {
             → (self.new ≡ self.old) × (receiver.new ≡ receiver.old)) }
         ensures ready { OnOk result ((serves : key_type.Key → Bool) → IsReady serves self.old
             → IsReady serves self.new) }
+        ensures room { OnOk result (HasRoom (R.room receiver.new) self.new) }
         ensures keeps { (set : List Resolved) (ms : List Content) (d : Dictionary)
             → R.keeps receiver.old set ms d → R.keeps receiver.new set ms d }
         ensures rank { OnOk result (rank_of self.new < rank_of self.old) }
@@ -694,6 +722,8 @@ impl<'a> Walk<'a> {
         inside: Inside<'a>,
     ) -> Result<(), AllocError>
         requires next { self.now.next ≡ Next.Instruction }
+        requires room { (around : List (List Bool)) × (b : List Bool) × (bits : List Bool)
+            × IsTrue (R.room receiver.now (around ++ b ∷ []) bits) }
         ensures has { OnOk result ((o : Received) (d : Dictionary) (ws : List Waiting) (w : Waiting)
             → o.next ≡ at_instruction → o.body.rest ≡ no_instructions → o.around ≡ ws ++ w ∷ []
             → bare_inside w.inside ≡ inside_of inside.entry → R.has receiver.old o d
@@ -706,6 +736,9 @@ impl<'a> Walk<'a> {
         ensures served { OnOk result ((serves : key_type.Key → Bool)
             → IsInsideServed serves (inside_of inside.entry)
             → IsNextServed serves (next_of self.new.next)) }
+        ensures room { OnOk result ((around : List (List Bool)) (b bits : List Bool)
+            → IsTrue (R.room receiver.old (around ++ b ∷ []) bits)
+            → IsTrue (R.room receiver.new around b)) }
         ensures keeps { (set : List Resolved) (ms : List Content) (d : Dictionary)
             → R.keeps receiver.old set ms d → R.keeps receiver.new set ms d }
         ensures weight { weight_of self.new.next ≤ 2 }
@@ -750,6 +783,7 @@ impl<'a> Walk<'a> {
         requires place { at ≤ length bytes.now }
         requires ready { IsReady (E.serves entries.now) self.now }
         requires kept { KeepScalars (E.contents entries.now) }
+        requires room { HasRoom (R.room receiver.now) self.now }
         ensures place { IfOk result (λ n. (at ≤ n) × (n ≤ length bytes.now)) }
         ensures goes { IfOk result (λ n. Moves L.at R.has self.old receiver.old (E.contents entries.old)
             self.new receiver.new (E.contents entries.new) (drop at bytes.now) (drop n bytes.now)) }
@@ -760,6 +794,9 @@ impl<'a> Walk<'a> {
             × ((o : Received) (d : Dictionary) → R.has receiver.old o d → R.has receiver.new o d)) }
         ensures ready { OnOk result (IsReady (E.serves entries.old) self.new) }
         ensures kept { OnOk result (KeepScalars (E.contents entries.new)) }
+        ensures room_on { IfErr result (λ h. h.cause ≢ Cause.Memory
+            → HasRoom (R.room receiver.new) self.new) }
+        ensures room { OnOk result (HasRoom (R.room receiver.new) self.new) }
         ensures keeps { (set : List Resolved) (ms : List Content) (d : Dictionary)
             → R.keeps receiver.old set ms d → R.keeps receiver.new set ms d }
         ensures same_keys { E.serves entries.new ≡ E.serves entries.old }
@@ -839,11 +876,13 @@ impl<'a> Walk<'a> {
         requires place { at ≤ length bytes.now }
         requires ready { IsReady (E.serves entries.now) self.now }
         requires kept { KeepScalars (E.contents entries.now) }
+        requires room { HasRoom (R.room receiver.now) self.now }
         ensures place { IfOk result (λ n. (at ≤ n) × (n ≤ length bytes.now)) }
         ensures goes { IfOk result (λ n. Moves L.at R.has self.old receiver.old (E.contents entries.old)
             self.new receiver.new (E.contents entries.new) (drop at bytes.now) (drop n bytes.now)) }
         ensures ready { OnOk result (IsReady (E.serves entries.old) self.new) }
         ensures kept { OnOk result (KeepScalars (E.contents entries.new)) }
+        ensures room { OnOk result (HasRoom (R.room receiver.new) self.new) }
         ensures keeps { (set : List Resolved) (ms : List Content) (d : Dictionary)
             → R.keeps receiver.old set ms d → R.keeps receiver.new set ms d }
         ensures same_keys { E.serves entries.new ≡ E.serves entries.old }
@@ -889,6 +928,7 @@ impl<'a> Walk<'a> {
         requires place { at ≤ length bytes.now }
         requires ready { IsReady (E.serves entries.now) self.now }
         requires kept { KeepScalars (E.contents entries.now) }
+        requires room { HasRoom (R.room receiver.now) self.now }
         ensures place { IfOk result (λ n. (at ≤ n) × (n ≤ length bytes.now)) }
         ensures goes { IfOk result (λ n. Moves L.at R.has self.old receiver.old (E.contents entries.old)
             self.new receiver.new (E.contents entries.new) (drop at bytes.now) (drop n bytes.now)) }
@@ -899,6 +939,9 @@ impl<'a> Walk<'a> {
             × ((o : Received) (d : Dictionary) → R.has receiver.old o d → R.has receiver.new o d)) }
         ensures ready { OnOk result (IsReady (E.serves entries.old) self.new) }
         ensures kept { OnOk result (KeepScalars (E.contents entries.new)) }
+        ensures room_on { IfErr result (λ h. h.cause ≢ Cause.Memory
+            → HasRoom (R.room receiver.new) self.new) }
+        ensures room { OnOk result (HasRoom (R.room receiver.new) self.new) }
         ensures keeps { (set : List Resolved) (ms : List Content) (d : Dictionary)
             → R.keeps receiver.old set ms d → R.keeps receiver.new set ms d }
         ensures same_keys { E.serves entries.new ≡ E.serves entries.old }
@@ -926,6 +969,7 @@ impl<'a> Walk<'a> {
         requires place { at ≤ length bytes.now }
         requires ready { IsReady (E.serves entries.now) self.now }
         requires kept { KeepScalars (E.contents entries.now) }
+        requires room { HasRoom (R.room receiver.now) self.now }
         ensures place { IfOk result (λ n. (at ≤ n) × (n ≤ length bytes.now)) }
         ensures goes { IfOk result (λ n. Moves L.at R.has self.old receiver.old (E.contents entries.old)
             self.new receiver.new (E.contents entries.new) (drop at bytes.now) (drop n bytes.now)) }
@@ -939,6 +983,9 @@ impl<'a> Walk<'a> {
             × HaltsAs L.at self.new (E.contents entries.new) (drop x.0 bytes.now) x.1
             × IsReady (E.serves entries.new) self.new × KeepScalars (E.contents entries.new)) }
         ensures kept { OnOk result (KeepScalars (E.contents entries.new)) }
+        ensures room_on { IfErr result (λ x. (x.1).cause ≢ Cause.Memory
+            → HasRoom (R.room receiver.new) self.new) }
+        ensures room { OnOk result (HasRoom (R.room receiver.new) self.new) }
         ensures keeps { (set : List Resolved) (ms : List Content) (d : Dictionary)
             → R.keeps receiver.old set ms d → R.keeps receiver.new set ms d }
         ensures same_keys { E.serves entries.new ≡ E.serves entries.old }
@@ -970,6 +1017,7 @@ impl<'a> Walk<'a> {
         requires place { at ≤ length bytes.now }
         requires ready { IsReady (E.serves entries.now) self.now }
         requires kept { KeepScalars (E.contents entries.now) }
+        requires room { HasRoom (R.room receiver.now) self.now }
         ensures place { IfOk result (λ n. (at ≤ n) × (n ≤ length bytes.now)) }
         ensures goes { IfOk result (λ n. Moves level R.has self.old receiver.old (E.contents entries.old)
             self.new receiver.new (E.contents entries.new) (drop at bytes.now) (drop n bytes.now)) }
@@ -983,6 +1031,9 @@ impl<'a> Walk<'a> {
             × HaltsAs level self.new (E.contents entries.new) (drop x.0 bytes.now) x.1
             × IsReady (E.serves entries.new) self.new × KeepScalars (E.contents entries.new)) }
         ensures kept { OnOk result (KeepScalars (E.contents entries.new)) }
+        ensures room_on { IfErr result (λ x. (x.1).cause ≢ Cause.Memory
+            → HasRoom (R.room receiver.new) self.new) }
+        ensures room { OnOk result (HasRoom (R.room receiver.new) self.new) }
         ensures keeps { (set : List Resolved) (ms : List Content) (d : Dictionary)
             → R.keeps receiver.old set ms d → R.keeps receiver.new set ms d }
         ensures same_keys { E.serves entries.new ≡ E.serves entries.old }

@@ -7,5 +7,6 @@ mod QuickWays
 pub mod Relays
 pub mod Writers
 mod Rooms
+mod MapRoom
 pub mod Takings
 mod SpeltParts

@@ -1,6 +1,7 @@
 -- What is spelled of a part of a set: a value of its type, and of a mandatory part a value.
 use Rattle.std.proofs.Common.{◌≡◌, ℕ, Bool, true, false, List, [], ◌++◌, ◌∷◌, Option, Some, None, Ok, refl, sym, ap, subst, ◌∙◌, inl, inr, append-nil}
-use Rattle.std.specs.Option.{is_some}
+use Rattle.std.specs.Borrow.{Bor}
+use Rattle.std.specs.Option.{is_some, option_copied}
 use Rattle.std.specs.Prelude.{ℤ, IfSome, IsTrue}
 use Rattle.fast_wire.specs.Reader.{IsBytes}
 use Rattle.fast_wire.specs.declared.level.Level.{Level}
@@ -46,6 +47,10 @@ pub spelt_there : (p : FieldPart) (e : Entry) (l k : Segment) → IsTyped p → 
 spelt_there p e l k typed mandatory s = value_there p typed mandatory e s.bit s.form (s.best.cut, s.best.form)
 
 -- whether there is a value
+pub still_some : (o : Option (Bor Scalar)) → is_some o ≡ is_some (option_copied o)
+still_some None = refl
+still_some (Some v) = refl
+
 pub is_there : (k : Kind) (v : Option Scalar) (b : Bool) → b ≡ is_some v → IfSome v (λ w. IsTrue (is_of k w)) → IsThere k b v
 is_there k None b is h = rw (is) refl
 is_there k (Some v) b is h = rw (is) (v, refl, h)

@@ -2,4 +2,5 @@ pub mod Canonical
 pub mod Written
 pub mod Quick
 pub mod Levels
+pub mod Room
 pub mod Takings

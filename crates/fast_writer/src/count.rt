@@ -64,6 +64,7 @@ fn count_quickly(
     ensures relayed { IfSome result (λ x.
         Relayed level part.now entry.old entry.new bit x.1 (length_of x.0) (drop at bytes.now)
         (drop x.2 bytes.now) out.old.items out.new.items) }
+    ensures lower { IfSome result (λ x. bit ≡ false → x.1 ≡ false) }
     ensures entry { IfNone result (entry.new ≡ entry.old) }
     ensures out { IfNone result (out.new.items ≡ out.old.items) }
 {
@@ -122,6 +123,7 @@ fn count_generally(
     ensures relayed { IfOk result (λ x.
         Relayed level part.now entry.old entry.new bit x.1 (length_of x.0) (drop at bytes.now)
         (drop x.2 bytes.now) out.old.items out.new.items) }
+    ensures lower { IfOk result (λ x. bit ≡ false → x.1 ≡ false) }
     ensures stops { IfErr result (λ f. f ≢ FieldFault.Memory
         → (field_at level part.now entry.old bit (drop at bytes.now) ≡ Err f)
         × (entry.new ≡ entry.old) × (out.new.items ≡ out.old.items)) }
@@ -156,6 +158,7 @@ fn count_either(
     ensures relayed { IfOk result (λ x.
         Relayed level part.now entry.old entry.new bit x.1 (length_of x.0) (drop at bytes.now)
         (drop x.2 bytes.now) out.old.items out.new.items) }
+    ensures lower { IfOk result (λ x. bit ≡ false → x.1 ≡ false) }
     ensures stops { IfErr result (λ f. f ≢ FieldFault.Memory
         → (field_at level part.now entry.old bit (drop at bytes.now) ≡ Err f)
         × (entry.new ≡ entry.old) × (out.new.items ≡ out.old.items)) }
@@ -198,6 +201,10 @@ pub(crate) fn relay_count<E: Entries>(
     ensures spelt { IfOk result (λ x.
         Spelt part.now (entry_at (E.contents entries.old) part.now.key) (length_of x.0)
         (level_of segment.old) (level_of segment.new)) }
+    // (a map that had room for the bit that was read has room for the one that is written)
+    ensures room { OnOk result ((left : List Bool) → bit ≡ bit_for (part_needs_bit_of part.now) left
+        → IsTrue (has_room (level_of segment.old) left)
+        → IsTrue (has_room (level_of segment.new) (after_bit (part_needs_bit_of part.now) left))) }
     ensures stops { IfErr result (λ f. f ≢ FieldFault.Memory
         → (field_at level part.now (entry_at (E.contents entries.old) part.now.key) bit
         (drop at bytes.now) ≡ Err f)

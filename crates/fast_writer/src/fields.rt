@@ -12,6 +12,7 @@ ghost use Rattle.fast_walk.specs.Walks.{AreServed, IsMantissaServed, IsNextServe
 ghost use Rattle.fast_walk.specs.Passing.{next_behind};
 ghost use Rattle.fast_relay.specs.Relayed.{IsThere};
 ghost use Rattle.fast_writer.specs.Levels.{level_of};
+ghost use Rattle.fast_writer.specs.Room.{has_room};
 ghost use Rattle.fast_writer.specs.Written.{Spelt};
 ghost use Rattle.fast_writer.specs.Takings.{BeginsWith, IfElsewhere, IsFirstTold, IfTaken, Takes, behind, counted_of, pieces_of};
 ghost use Rattle.fast_value.specs.declared.key.Key.{Key};
@@ -80,6 +81,8 @@ fn take_part<E: Entries>(
         (level_of segment.old) (level_of segment.new)) }
     ensures bits { IfTaken result (λ there next.
         bits.new ≡ after_bit (part_needs_bit_of part.now) bits.old) }
+    ensures room { IfTaken result (λ there next. IsTrue (has_room (level_of segment.old) bits.old)
+        → IsTrue (has_room (level_of segment.new) bits.new)) }
     ensures nothing { IfElsewhere result ((E.contents entries.new ≡ E.contents entries.old)
         × (level_of segment.new ≡ level_of segment.old) × (bits.new ≡ bits.old)) }
     ensures kept { IfTaken result (λ there next. KeepScalars (E.contents entries.new)) }
@@ -158,6 +161,8 @@ fn take_mantissa<'a, E: Entries>(
     ensures served { OnOk result (AreServed (E.serves entries.old) (list_of fields.new.rest.now)) }
     ensures counted { OnOk result (counted_of fields.new ≤ counted_of fields.old) }
     ensures fewer { IfOk result (λ b. b ≡ true → pieces_of fields.new < pieces_of fields.old) }
+    ensures room { OnOk result (IsTrue (has_room (level_of segment.old) bits.old)
+        → IsTrue (has_room (level_of segment.new) bits.new)) }
     ensures kept { OnOk result (KeepScalars (E.contents entries.new)) }
     ensures same_keys { E.serves entries.new ≡ E.serves entries.old }
 {
@@ -171,12 +176,11 @@ fn take_mantissa<'a, E: Entries>(
         fields.place,
         segment,
     ) {
-        Taken::Part(true, next) => {
+        Taken::Part(_there, next) => {
             fields.mantissa = None;
             fields.place = next;
             Ok(true)
         }
-        Taken::Part(false, _) => unreachable!(),
         Taken::Elsewhere => Ok(false),
         Taken::Refused => Err(AllocError),
     }
@@ -239,6 +243,8 @@ fn take_whole<'a, E: Entries>(
     ensures served { OnOk result (AreServed (E.serves entries.old) (list_of fields.new.rest.now)) }
     ensures counted { OnOk result (counted_of fields.new ≤ counted_of fields.old) }
     ensures fewer { IfOk result (λ b. b ≡ true → pieces_of fields.new < pieces_of fields.old) }
+    ensures room { OnOk result (IsTrue (has_room (level_of segment.old) bits.old)
+        → IsTrue (has_room (level_of segment.new) bits.new)) }
     ensures kept { OnOk result (KeepScalars (E.contents entries.new)) }
     ensures same_keys { E.serves entries.new ≡ E.serves entries.old }
 {
@@ -298,6 +304,8 @@ fn take_exponent<'a, E: Entries>(
     ensures served { OnOk result (AreServed (E.serves entries.old) (list_of fields.new.rest.now)) }
     ensures counted { OnOk result (counted_of fields.new ≤ counted_of fields.old) }
     ensures fewer { IfOk result (λ b. b ≡ true → pieces_of fields.new < pieces_of fields.old) }
+    ensures room { OnOk result (IsTrue (has_room (level_of segment.old) bits.old)
+        → IsTrue (has_room (level_of segment.new) bits.new)) }
     ensures kept { OnOk result (KeepScalars (E.contents entries.new)) }
     ensures same_keys { E.serves entries.new ≡ E.serves entries.old }
 {
@@ -349,6 +357,8 @@ pub(crate) fn take_fields<'a, E: Entries>(
         (E.contents entries.old) bits.old
         (record { mantissa = None; rest = rest.entry; spare = spare; place = at })
         (level_of segment.new) (E.contents entries.new) bits.new f) }
+    ensures room { OnOk result (IsTrue (has_room (level_of segment.old) bits.old)
+        → IsTrue (has_room (level_of segment.new) bits.new)) }
     ensures kept { OnOk result (KeepScalars (E.contents entries.new)) }
     ensures same_keys { E.serves entries.new ≡ E.serves entries.old }
 {

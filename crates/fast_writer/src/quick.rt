@@ -1,7 +1,6 @@
 //! A part that is read and written at once, with no value in between.
 
-ghost use Rattle.std.specs.Prelude.{◌≡◌, ◌≢◌, ◌≤◌, Err, IfNone, IfOk, IfErr, IfSome, Option, IsTrue, length, drop, false, true};
-ghost use Rattle.std.specs.Option.{is_some, option_copied};
+ghost use Rattle.std.specs.Prelude.{◌≡◌, ◌≢◌, ◌≤◌, Err, IfNone, IfOk, IfErr, IfSome, OnOk, Option, Bool, List, IsTrue, length, drop, false, true};
 ghost use Rattle.fast_template.specs.Resolved.{part_needs_bit as part_needs_bit_of};
 ghost use Rattle.fast_value.specs.declared.scalar.Scalar.{Scalar as ScalarOf};
 ghost use Rattle.fast_dictionary.specs.Dictionary.{entry_at};
@@ -11,7 +10,9 @@ ghost use Rattle.fast_field.specs.Parts.{IsFieldPart};
 ghost use Rattle.fast_field.specs.Within.{HoldsScalar};
 ghost use Rattle.fast_walk.specs.Received.{Took};
 ghost use Rattle.fast_walk.specs.Told.{KeepScalars};
+ghost use Rattle.fast_stream.specs.Bits.{after_bit, bit_for};
 ghost use Rattle.fast_writer.specs.Levels.{level_of};
+ghost use Rattle.fast_writer.specs.Room.{has_room};
 ghost use Rattle.fast_relay.specs.Relayed.{IsThere};
 ghost use Rattle.fast_writer.specs.Quick.{Relayed};
 ghost use Rattle.fast_writer.specs.Written.{Spelt};
@@ -21,7 +22,7 @@ use crate::segment::Segment;
 use fast_dictionary::{Entries, Entry};
 use fast_field::{FieldFault, Passed, pass_left_out, reads_as_usual};
 use fast_relay::{Relayed as Answer, relay_decimal, relay_null, relay_number, relay_text};
-use fast_template::{FieldPart, Scalar, part_needs_bit};
+use fast_template::{FieldPart, part_needs_bit};
 use fast_wire::Level;
 use std::alloc::Global;
 
@@ -104,6 +105,7 @@ pub(crate) fn relay_quickly(
     ensures relayed { IfSome result (λ x. (v : Option ScalarOf) × IsThere part.now.kind x.0 v
         × Relayed level part.now entry.old entry.new bit x.1 v (drop at bytes.now) (drop x.2 bytes.now)
         out.old.items out.new.items) }
+    ensures lower { IfSome result (λ x. bit ≡ false → x.1 ≡ false) }
     ensures entry { IfNone result (entry.new ≡ entry.old) }
     ensures out { IfNone result (out.new.items ≡ out.old.items) }
 {
@@ -122,17 +124,6 @@ pub(crate) fn relay_quickly(
             Passed::Absent => Some((false, false, at)),
             Passed::Present => Some((true, false, at)),
         }
-    }
-}
-
-// Whether there is a value.
-#[inline(always)]
-fn is_there(value: Option<&Scalar>) -> bool
-    ensures { result ≡ is_some (option_copied value.entry) }
-{
-    match value {
-        None => false,
-        Some(_) => true,
     }
 }
 
@@ -157,6 +148,7 @@ fn relay_generally(
     ensures relayed { IfOk result (λ x. (v : Option ScalarOf) × IsThere part.now.kind x.0 v
         × Relayed level part.now entry.old entry.new bit x.1 v (drop at bytes.now) (drop x.2 bytes.now)
         out.old.items out.new.items) }
+    ensures lower { IfOk result (λ x. bit ≡ false → x.1 ≡ false) }
     ensures stops { IfErr result (λ f. f ≢ FieldFault.Memory
         → (field_at level part.now entry.old bit (drop at bytes.now) ≡ Err f)
         × (entry.new ≡ entry.old) × (out.new.items ≡ out.old.items)) }
@@ -164,7 +156,7 @@ fn relay_generally(
     match relay_entry(alloc, part, entry, bit, level, bytes, at, out) {
         Err(fault) => Err(fault),
         Ok((found, best, next)) => {
-            let there = is_there(found.value(part, entry.view()));
+            let there = found.value(part, entry.view()).is_some();
             Ok((there, best, next))
         }
     }
@@ -198,6 +190,10 @@ pub(crate) fn relay_part<E: Entries>(
         (drop at bytes.now) (drop x.1 bytes.now)
         × Spelt part.now (entry_at (E.contents entries.old) part.now.key) v
         (level_of segment.old) (level_of segment.new)) }
+    // (a map that had room for the bit that was read has room for the one that is written)
+    ensures room { OnOk result ((left : List Bool) → bit ≡ bit_for (part_needs_bit_of part.now) left
+        → IsTrue (has_room (level_of segment.old) left)
+        → IsTrue (has_room (level_of segment.new) (after_bit (part_needs_bit_of part.now) left))) }
     ensures stops { IfErr result (λ f. f ≢ FieldFault.Memory
         → (field_at level part.now (entry_at (E.contents entries.old) part.now.key) bit
         (drop at bytes.now) ≡ Err f)

@@ -122,6 +122,7 @@ pub(crate) fn relay_entry(
         ≡ next part.now entry.old (value_found part.now entry.new x.0)) }
     ensures best { IfOk result (λ x. AppendsForm part.now entry.old
         (value_found part.now entry.new x.0) x.1 out.old.items out.new.items) }
+    ensures lower { IfOk result (λ x. bit ≡ false → x.1 ≡ false) }
     ensures stops { IfErr result (λ f. f ≢ FieldFault.Memory
         → field_at level part.now entry.old bit (drop at bytes.now) ≡ Err f) }
     ensures unchanged { OnErr result (entry.new ≡ entry.old) }

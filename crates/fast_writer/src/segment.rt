@@ -63,14 +63,16 @@ impl Segment {
     ///
     /// # Errors
     ///
-    /// A growth was refused, or the map has no room for a bit.
+    /// A growth was refused.
     #[inline(always)]
     pub fn end(&self, out: &mut Vec<u8>) -> Result<(), AllocError>
+        requires room { (self.now.own && has_set (drop 1792 self.now.bits)) ≡ false }
         ensures ended { OnOk result (Ended (level_of self.now) out.old.items out.new.items) }
         ensures unchanged { OnErr result (out.new.items ≡ out.old.items) }
     {
         match self.seal(out) {
-            Err(_) => Err(AllocError),
+            Err(WireFault::Memory) => Err(AllocError),
+            Err(_) => unreachable!(),
             Ok(()) => Ok(()),
         }
     }

@@ -28,11 +28,12 @@ pub struct Writer {
 }
 
 impl Writer {
-    ghost use Rattle.std.specs.Prelude.{◌≡◌, ◌≢◌, [], ◌∷◌, ◌++◌, List, ℕ, map, OnOk};
+    ghost use Rattle.std.specs.Prelude.{◌≡◌, [], ◌∷◌, ◌++◌, List, Bool, ℕ, map, IsTrue, OnOk};
     ghost use Rattle.std.specs.FinMap as finite;
     ghost use Rattle.fast_template.specs.Resolved.{Resolved};
     ghost use Rattle.fast_walk.specs.Received.{handed_on};
     ghost use Rattle.fast_writer.specs.Levels.{level_of};
+    ghost use Rattle.fast_writer.specs.Room.{writer_room};
     ghost use Rattle.fast_writer.specs.Written.{Closes};
 
     /// With no message, and nothing handed on. Takes no memory.
@@ -88,14 +89,18 @@ impl Writer {
     // Ends the segment that is open, in the one around it.
     #[inline(always)]
     fn close(&mut self) -> Result<(), AllocError>
-        ensures closed { OnOk result (self.old.outer.items ≢ [] → Closes (map level_of self.old.outer.items)
+        requires room { (around : List (List Bool)) × (left : List Bool) × (bits : List Bool)
+            × IsTrue (writer_room self.now (around ++ left ∷ []) bits) }
+        ensures closed { OnOk result (Closes (map level_of self.old.outer.items)
             (level_of self.old.inner) (map level_of self.new.outer.items)
             (level_of self.new.inner)) }
+        ensures room { OnOk result ((around : List (List Bool)) (left bits : List Bool)
+            → IsTrue (writer_room self.old (around ++ left ∷ []) bits)
+            → IsTrue (writer_room self.new around left)) }
         ensures out { self.new.out ≡ self.old.out }
     {
         match self.outer.pop() {
-            // (nothing is open)
-            None => Ok(()),
+            None => unreachable!(),
             Some(around) => {
                 let inner = mem::replace(&mut self.inner, around);
                 inner.end(&mut self.inner.bytes)?;
@@ -108,12 +113,15 @@ impl Writer {
 
 impl Receiver for Writer {
     ghost use Rattle.fast_writer.specs.Levels.{HasFinished, HasWritten};
+    ghost use Rattle.fast_writer.specs.Room.{writer_room};
 
     ghost has = { λ w o d. HasWritten w o d };
 
     ghost stands = { λ w set ms d. HasFinished w set ms d };
 
     ghost keeps = { λ w set ms d. HasFinished w set ms d };
+
+    ghost room = { λ w around left. writer_room w around left };
 
     #[inline(always)]
     fn begin<E: Entries>(

@@ -1,6 +1,6 @@
 //! The calls of a machine.
 
-ghost use Rattle.std.specs.Prelude.{◌≡◌, ◌≢◌, ◌≤◌, ◌<◌, ◌+◌, ◌*◌, ◌-◌, ◌^◌, ◌++◌, ◌⊎◌, [], ℕ, List, None, Some, Err, OnOk, IfOk, IfErr, IfSome, IfNone, length, take, drop, map};
+ghost use Rattle.std.specs.Prelude.{◌≡◌, ◌≢◌, ◌≤◌, ◌<◌, ◌+◌, ◌*◌, ◌-◌, ◌^◌, ◌++◌, ◌⊎◌, [], ℕ, true, List, None, Some, Err, OnOk, IfOk, IfErr, IfSome, IfNone, length, take, drop, map};
 ghost use Rattle.std.specs.FinMap as finite;
 ghost use Rattle.fast_template.specs.Resolved.{Resolved};
 ghost use Rattle.fast_template.specs.TemplateSets.{IsSound, templates_in};
@@ -21,7 +21,7 @@ use crate::messages::read_message;
 use fast_dictionary::Entries;
 use fast_stream::{Cause, Fault, Framing, Mode, Place};
 use fast_template::TemplateSet;
-use fast_walk::{Halt, Receiver, Traversal};
+use fast_walk::{Halt, HaltedBy, Receiver, Traversal};
 use std::alloc::Global;
 use std::mem;
 
@@ -110,6 +110,7 @@ impl<'a, R: Receiver, E: Entries> Machine<'a, R, E> {
             waiting: 0,
             left: 0,
             fault: None,
+            halted_by: HaltedBy::Walk,
             fed: 0,
             messages: 0,
         }
@@ -120,6 +121,17 @@ impl<'a, R: Receiver, E: Entries> Machine<'a, R, E> {
         ensures { result ≡ self.now.fault }
     {
         self.fault
+    }
+
+    /// Whether the fault that is kept is want of memory for what the receiver or the entries asked for, and not the
+    /// machine itself.
+    pub fn receiver_refused(&self) -> bool
+        ensures { result ≡ true → IfSome self.now.fault (λ f. f.cause ≡ Cause.Memory) × (self.now.fault ≢ None) }
+    {
+        match self.fault {
+            None => false,
+            Some(fault) => fault.cause == Cause::Memory && self.halted_by == HaltedBy::Receiver,
+        }
     }
 
     /// How many messages ended since the reset, before a fault.
@@ -173,6 +185,7 @@ impl<'a, R: Receiver, E: Entries> Machine<'a, R, E> {
         let template = self.traversal.template();
         let fault = fault_at(cause, self.messages, self.fed, left, template, number);
         self.fault = Some(fault);
+        self.halted_by = HaltedBy::Walk;
         self.held.clear();
         self.receiver.back(self.alloc);
         fault
@@ -200,6 +213,7 @@ impl<'a, R: Receiver, E: Entries> Machine<'a, R, E> {
     {
         let fault = fault_at(Cause::Memory, self.messages, 0, 0, 0, 0);
         self.fault = Some(fault);
+        self.halted_by = HaltedBy::Walk;
         self.held.clear();
         self.receiver.back(self.alloc);
         fault
@@ -291,6 +305,7 @@ impl<'a, R: Receiver, E: Entries> Machine<'a, R, E> {
                 _ => {
                     let fault = fault_of(halt, self.messages, self.fed, rest.len(), template);
                     self.fault = Some(fault);
+                    self.halted_by = halt.by;
                     Err(fault)
                 }
             },
@@ -404,6 +419,7 @@ impl<'a, R: Receiver, E: Entries> Machine<'a, R, E> {
                 _ => {
                     let fault = fault_of(halt, self.messages, self.fed, rest.len(), template);
                     self.fault = Some(fault);
+                    self.halted_by = halt.by;
                     Err(fault)
                 }
             },

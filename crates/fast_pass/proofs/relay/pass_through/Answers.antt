@@ -81,6 +81,35 @@ returns-in-Err-flush-clause-answer g c =
       tt,
     )
 
+pub returns-then-receiver_refused-clause-answer : goal.returns-then-receiver_refused-clause-answer
+returns-then-receiver_refused-clause-answer g c =
+    let O = g.O.Output in
+    let same = ap (λ x. x.now) c.relay.ensures.set ∙ c.new-machine.ensures.set in
+    let how = c.relay.ensures.mode ∙ c.new-machine.ensures.mode in
+    let nothing = g.met.O.Output.made c.args.output (templates_in c.args.set.now) [] [] finite.empty (inr c.requires.begins) in
+    let r = c.in-Ok-relay.ensures.relayed (record {
+      holds = record { unrefused = c.new-machine.ensures.fault; follows = c.new-machine.ensures.follows (handed_on [] ∷ []) c.requires.begins };
+      made = rw (c.new-machine.ensures.set, c.new-machine.ensures.receiver) nothing;
+      counts = λ e. absurd cc;
+    }) in
+    let m = c.relay.new.machine in (
+      r.count,
+      r.input,
+      r.moves.reads,
+      r.moves.bounded,
+      subst (λ (x : Mode). PassesFront O.makes x (templates_in c.args.set.now) (g.W.ByteOutput.taken c.args.writer.now) (g.W.ByteOutput.taken c.flush.new.self) r.input) how
+          (subst (λ (s : TemplateList). PassesFront O.makes (mode_of m) (templates_in s) (g.W.ByteOutput.taken c.args.writer.now) (g.W.ByteOutput.taken c.flush.new.self) r.input) same
+          (record {
+            messages = r.messages;
+            front = r.handed;
+            rest = [];
+            carried = carried_reached c.in-Ok-relay.reached (mode_of m) (templates_in m.traversal.set.now) c.args.turns (g.R.ByteInput.left c.relay.new.reader) r.input r.messages r.holds;
+            made = subst (λ (bytes : List ℕ). O.makes (templates_in m.traversal.set.now) r.messages bytes) (sym (append-nil r.handed)) r.made;
+            written = Appends-kept _ _ _ r.handed r.moves.written c.in-Ok-flush.ensures.bytes;
+          })),
+      tt,
+    )
+
 pub returns-in-Fault-clause-answer : goal.returns-in-Fault-clause-answer
 returns-in-Fault-clause-answer g c =
     let O = g.O.Output in

@@ -1,21 +1,23 @@
 use Rattle.std.proofs.Common.{None, refl}
 use Rattle.fast_walk.specs.declared.receiver.Fields.{Fields}
 use Rattle.fast_writer.specs.Levels.{level_of}
-use Rattle.fast_writer.proofs.QuickWays.{mantissa_there}
+use Rattle.fast_dictionary.specs.Dictionary.{entry_at}
+use Rattle.fast_writer.proofs.SpeltParts.{mantissa_taken}
 use Rattle.fast_writer.proofs.Takings.{takes_mantissa, takes_same}
 use Rattle.fast_writer.proofs.fields.take_mantissa.Goals as goal
 
-pub returns-in-Part-true-default-clause-takes : goal.returns-in-Part-true-default-clause-takes
-returns-in-Part-true-default-clause-takes g c =
+pub returns-in-Part-clause-takes : goal.returns-in-Part-clause-takes
+returns-in-Part-clause-takes g c =
     let d = g.E.Entries.contents c.args.entries.now in
     let e = g.E.Entries.contents c.take_part.new.entries in
     let f = c.args.fields.now in
-    let next = c.in-Part-true-default.next in
+    let next = c.in-Part.next in
     let h : Fields = record { mantissa = None; rest = f.rest; spare = f.spare; place = next } in
-    let r = c.in-Part-true-default.ensures.took in
-    let x = mantissa_there c.args.mantissa.now.kind r.0 c.requires.served.0.1.kind_is (rw (c.in-Part-true-default.field-0-test) at r.1) in
+    let r = c.in-Part.ensures.took in
+    let mantissa = c.args.mantissa.now in
+    let x = mantissa_taken mantissa (entry_at d mantissa.key) c.in-Part._there r.0 (level_of c.args.segment.now) (level_of c.take_part.new.segment) c.requires.served.0.1 c.requires.served.1 r.1 r.3 in
     takes_mantissa c.args.level c.args.bytes.now (level_of c.args.segment.now) (level_of c.take_part.new.segment) d e c.args.bits.now c.take_part.new.bits f h c.args.mantissa x.0 next
-    c.requires.next refl refl refl refl (rw (x.1) at r.2) (rw (x.1) at r.3) c.in-Part-true-default.ensures.bits
+    c.requires.next refl refl refl refl (rw (x.1) at r.2) (rw (x.1) at r.3) c.in-Part.ensures.bits
 
 pub returns-in-Elsewhere-clause-takes : goal.returns-in-Elsewhere-clause-takes
 returns-in-Elsewhere-clause-takes g c =

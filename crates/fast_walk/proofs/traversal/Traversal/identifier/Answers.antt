@@ -34,7 +34,7 @@ returns-in-None-clause-stops g c = λ other.
     let e = g.E.Entries.contents c.begin.new.entries in
     let took = rw (c.level-level.ensures, c.first_for-bit.ensures, c.part_needs_bit-needs.ensures, old.identifier_is) at c.in-Ok.ensures.goes.0 in
     let none = found_members old.set.now c.in-Ok.id ∙ ap members_found (sym (rw (c.in-None.is) at c.find.ensures.value)) in
-    unknown_stops old.level (templates_in old.set.now) d e old.walk.bits (drop c.args.at c.args.bytes.now) (drop c.in-Ok.next c.args.bytes.now) c.in-Ok.id took none
+    rw (c.new.ensures.cause, c.new.ensures.number) (unknown_stops old.level (templates_in old.set.now) d e old.walk.bits (drop c.args.at c.args.bytes.now) (drop c.in-Ok.next c.args.bytes.now) c.in-Ok.id took none)
 
 pub returns-in-Some-clause-goes : goal.returns-in-Some-clause-goes
 returns-in-Some-clause-goes g c = λ before stands.

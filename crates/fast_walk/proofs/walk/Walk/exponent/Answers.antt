@@ -96,11 +96,11 @@ returns-then-present-clause-kept g c =
     let old = c.args.self.now in
     told_keeps c.level.result c.args.exponent.now c.first_for-bit.result (g.E.Entries.contents c.args.entries.now) (g.E.Entries.contents c.exponent.new.entries) c.args.bytes.now c.args.at c.in-Ok-exponent.next
     (λ k. omega (arith, c.type_inv.bytes k)) (asked_for c.args.exponent.now c.part_needs_bit-needs.result c.first_for-bit.result old.bits c.part_needs_bit-needs.ensures c.first_for-bit.ensures)
-    part.Exponent kind.Int32 c.in-Ok-exponent.ensures.goes.0 refl (rw (c.requires.first) at c.requires.ready.rest).0.0.1 c.in-Ok-exponent.ensures.goes.1 c.requires.kept
+    part.Exponent kind.Int32 c.in-Ok-exponent.ensures.goes.0 refl (rw (c.requires.first) at c.requires.ready.rest).0.0.0.1 c.in-Ok-exponent.ensures.goes.1 c.requires.kept
 
 pub returns-else-present-clause-kept : goal.returns-else-present-clause-kept
 returns-else-present-clause-kept g c =
     let old = c.args.self.now in
     told_keeps c.level.result c.args.exponent.now c.first_for-bit.result (g.E.Entries.contents c.args.entries.now) (g.E.Entries.contents c.exponent.new.entries) c.args.bytes.now c.args.at c.in-Ok-exponent.next
     (λ k. omega (arith, c.type_inv.bytes k)) (asked_for c.args.exponent.now c.part_needs_bit-needs.result c.first_for-bit.result old.bits c.part_needs_bit-needs.ensures c.first_for-bit.ensures)
-    part.Exponent kind.Int32 c.in-Ok-exponent.ensures.goes.0 refl (rw (c.requires.first) at c.requires.ready.rest).0.0.1 c.in-Ok-exponent.ensures.goes.1 c.requires.kept
+    part.Exponent kind.Int32 c.in-Ok-exponent.ensures.goes.0 refl (rw (c.requires.first) at c.requires.ready.rest).0.0.0.1 c.in-Ok-exponent.ensures.goes.1 c.requires.kept

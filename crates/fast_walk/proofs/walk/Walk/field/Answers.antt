@@ -64,4 +64,4 @@ returns-in-Ok-field-clause-kept g c =
     let old = c.args.self.now in
     told_keeps c.level.result c.args.whole.now c.first_for-bit.result (g.E.Entries.contents c.args.entries.now) (g.E.Entries.contents c.field.new.entries) c.args.bytes.now c.args.at c.in-Ok-field.next
     (λ k. omega (arith, c.type_inv.bytes k)) (asked_for c.args.whole.now c.part_needs_bit-needs.result c.first_for-bit.result old.bits c.part_needs_bit-needs.ensures c.first_for-bit.ensures)
-    part.Whole c.args.whole.now.kind c.in-Ok-field.ensures.goes.0 tt (rw (c.requires.first) at c.requires.ready.rest).0.1 c.in-Ok-field.ensures.goes.1 c.requires.kept
+    part.Whole c.args.whole.now.kind c.in-Ok-field.ensures.goes.0 tt (rw (c.requires.first) at c.requires.ready.rest).0.0.1 c.in-Ok-field.ensures.goes.1 c.requires.kept

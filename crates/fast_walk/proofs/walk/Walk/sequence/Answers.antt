@@ -92,11 +92,11 @@ returns-in-None-clause-kept g c =
     let old = c.args.self.now in
     told_keeps c.level.result c.args.part.now c.first_for-bit.result (g.E.Entries.contents c.args.entries.now) (g.E.Entries.contents c.begin_sequence.new.entries) c.args.bytes.now c.args.at c.in-Ok-begin_sequence.next
     (λ k. omega (arith, c.type_inv.bytes k)) (asked_for c.args.part.now c.part_needs_bit-needs.result c.first_for-bit.result old.bits c.part_needs_bit-needs.ensures c.first_for-bit.ensures)
-    part.Length kind.UInt32 (length_of c.in-Ok-begin_sequence.length) refl (rw (c.requires.first) at c.requires.ready.rest).0.0.1 c.in-Ok-begin_sequence.ensures.goes.0 c.requires.kept
+    part.Length kind.UInt32 (length_of c.in-Ok-begin_sequence.length) refl (rw (c.requires.first) at c.requires.ready.rest).0.0.0.1 c.in-Ok-begin_sequence.ensures.goes.0 c.requires.kept
 
 pub returns-in-Some-clause-kept : goal.returns-in-Some-clause-kept
 returns-in-Some-clause-kept g c =
     let old = c.args.self.now in
     told_keeps c.level.result c.args.part.now c.first_for-bit.result (g.E.Entries.contents c.args.entries.now) (g.E.Entries.contents c.begin_sequence.new.entries) c.args.bytes.now c.args.at c.in-Ok-begin_sequence.next
     (λ k. omega (arith, c.type_inv.bytes k)) (asked_for c.args.part.now c.part_needs_bit-needs.result c.first_for-bit.result old.bits c.part_needs_bit-needs.ensures c.first_for-bit.ensures)
-    part.Length kind.UInt32 (length_of c.in-Ok-begin_sequence.length) refl (rw (c.requires.first) at c.requires.ready.rest).0.0.1 c.in-Ok-begin_sequence.ensures.goes.0 c.requires.kept
+    part.Length kind.UInt32 (length_of c.in-Ok-begin_sequence.length) refl (rw (c.requires.first) at c.requires.ready.rest).0.0.0.1 c.in-Ok-begin_sequence.ensures.goes.0 c.requires.kept

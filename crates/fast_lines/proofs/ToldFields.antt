@@ -1,0 +1,57 @@
+-- What was read of a field of a set is told: a value of its type, or that it is left out where it may be.
+use Rattle.std.proofs.Common.{◌≡◌, ◌<◌, ℕ, Bool, true, ◌&&◌, List, [], ◌∷◌, Option, Some, None, refl, sym, ap, ◌∙◌, drop, get_or, arith}
+use Rattle.std.specs.Prelude.{IsTrue, nat_lt}
+use Rattle.std.specs.List.{AllByRecursion}
+use Rattle.std.proofs.Common.{nat_tests}
+use Rattle.fast_wire.specs.declared.level.Level.{Level}
+use Rattle.fast_value.specs.Scalar.{IsScalar, is_of}
+use Rattle.fast_value.specs.declared.kind.Kind.{Kind}
+use Rattle.fast_value.specs.declared.kind.Presence.{Presence}
+use Rattle.fast_value.specs.declared.kind.Presence.TheVariants.{Mandatory, Optional}
+use Rattle.fast_value.specs.declared.scalar.Scalar.{Scalar}
+use Rattle.fast_value.specs.declared.scalar.Scalar.TheVariants.{U32, I32, U64, I64, Decimal, Ascii, Unicode, Bytes}
+use Rattle.fast_template.specs.declared.resolved.FieldPart.{FieldPart}
+use Rattle.fast_dictionary.specs.declared.entry.Entry.{Entry}
+use Rattle.fast_field.specs.Parts.{IsBitOf, IsFieldPart}
+use Rattle.fast_field.specs.Refusals.{are_characters, has_characters}
+use Rattle.fast_field.specs.Within.{HoldsScalar, IsOfField}
+use Rattle.fast_field.proofs.FieldsWithin.{values_within}
+use Rattle.fast_field.proofs.ReadFields.{bytes_from}
+use Rattle.fast_stream.specs.Nodes.{single}
+use Rattle.fast_walk.specs.Received.{TookFrom}
+use Rattle.fast_walk.proofs.Telling.{form_taken}
+use Rattle.fast_lines.specs.declared.form.Form.{Form}
+use Rattle.fast_lines.specs.Lines.{absent_text, field_text, scalar_text}
+
+characters : (s : List ℕ) → AllByRecursion (λ c. c < 128) s → are_characters s ≡ true
+characters [] all = refl
+characters (c ∷ s) all =
+    let low : nat_lt c 128 ≡ true = grind (arith, nat_tests, all.0) in
+    rw (low, characters s all.1) refl
+
+of_characters : (v : Scalar) → IsScalar v → has_characters v ≡ true
+of_characters (U32 n) h = refl
+of_characters (I32 z) h = refl
+of_characters (U64 n) h = refl
+of_characters (I64 z) h = refl
+of_characters (Decimal exponent mantissa) h = refl
+of_characters (Ascii s) h = characters s h.1
+of_characters (Unicode s) h = refl
+of_characters (Bytes s) h = refl
+
+told : (form : Form) (p : FieldPart) (v : Option Scalar) → IsOfField p v → field_text form p.kind p.presence (single v) ≡ None → ⊥
+told form p None of_field none = absurd (let text = rw (of_field) at none in cc)
+told form p (Some v) of_field none = absurd (let text = rw (of_field.0, of_characters v of_field.1) at none in cc)
+
+-- of a part of a set whose entry is within its type
+pub tells : (form : Form) (level : Level) (p : FieldPart) (presence : Presence) (bit : Bool) (old new : Entry) (v : Option Scalar) (bytes : List ℕ) (at next : ℕ) → ((k : ℕ) → get_or bytes k 0 < 256)
+    → IsFieldPart p → p.presence ≡ presence → IsBitOf p bit → HoldsScalar old → TookFrom level p bit old new v (drop at bytes) (drop next bytes)
+    → field_text form p.kind presence (single v) ≡ None → ⊥
+tells form level p presence bit old new v bytes at next fits is same asked holds took none =
+    let f = form_taken level p bit old new v (drop at bytes) (drop next bytes) (bytes_from bytes at fits) is asked took in
+    told form p v (values_within p old bit f.bytes v is holds f.form).of_field (ap (λ (q : Presence). field_text form p.kind q (single v)) same ∙ none)
+
+-- a part that has no value may be left out
+pub may_be_absent : (p : FieldPart) (presence : Presence) → p.presence ≡ presence → (p.presence ≡ Mandatory → ⊥) → presence ≡ Optional
+may_be_absent p Mandatory same there = absurd (there same)
+may_be_absent p Optional same there = refl
