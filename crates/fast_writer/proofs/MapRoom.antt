@@ -91,3 +91,7 @@ some_room (a ∷ around) left all = absurd cc
 
 pub both_room : (b c : Bool) → IsTrue (b && c) → IsTrue b × IsTrue c
 both_room b c h = both b c h
+
+-- what is open around stays
+pub inner_room : (one other around : Bool) → (IsTrue one → IsTrue other) → IsTrue (one && around) → IsTrue (other && around)
+inner_room one other around next h = let r = both one around h in rw (next r.0, r.1) refl

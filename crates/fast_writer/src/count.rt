@@ -1,6 +1,6 @@
 //! The identifier of a template or the length of a sequence, read and written at once: a part whose number is wanted.
 
-ghost use Rattle.std.specs.Prelude.{◌≡◌, ◌≢◌, ◌≤◌, Err, IfNone, IfOk, IfErr, IfSome, IsTrue, length, drop, false, true};
+ghost use Rattle.std.specs.Prelude.{◌≡◌, ◌≢◌, ◌≤◌, Err, IfNone, IfOk, IfErr, IfSome, OnOk, Bool, List, IsTrue, length, drop, false, true};
 ghost use Rattle.fast_template.specs.Resolved.{part_needs_bit as part_needs_bit_of};
 ghost use Rattle.fast_dictionary.specs.Dictionary.{entry_at};
 ghost use Rattle.std.specs.Option.{option_copied};
@@ -12,7 +12,9 @@ ghost use Rattle.fast_field.specs.Within.{HoldsScalar};
 ghost use Rattle.fast_field.specs.Passed.{Passes};
 ghost use Rattle.fast_walk.specs.Received.{Took, length_of};
 ghost use Rattle.fast_walk.specs.Told.{KeepScalars};
+ghost use Rattle.fast_stream.specs.Bits.{after_bit, bit_for};
 ghost use Rattle.fast_writer.specs.Levels.{level_of};
+ghost use Rattle.fast_writer.specs.Room.{has_room};
 ghost use Rattle.fast_writer.specs.Quick.{Relayed};
 ghost use Rattle.fast_writer.specs.Written.{Spelt};
 
