@@ -5,3 +5,4 @@ pub mod Traversals
 pub mod Passing
 pub mod Told
 pub mod OneProof
+pub mod Lacks
