@@ -8,3 +8,4 @@ pub mod Serving
 pub mod Heads
 pub mod Opening
 pub mod Telling
+pub mod Lacking

@@ -6,3 +6,4 @@ pub mod Passing
 pub mod Told
 pub mod Room
 pub mod OneProof
+pub mod Lacks

@@ -1,6 +1,6 @@
 -- What a receiver is told has one proof at most.
 use mathlib.Core.Bool.{Bool-set}
-use Rattle.std.specs.Prelude.{◌≡◌, ◌<◌, ℕ, Bool, true, List, [], ◌∷◌, Option, Some, None, IsSome, IsTrue}
+use Rattle.std.specs.Prelude.{◌≡◌, ◌<◌, ℕ, Bool, true, List, [], ◌∷◌, ◌++◌, length, Option, Some, None, IsSome, IfSome, IsTrue, Ok, Err}
 use Rattle.std.specs.Coded.{×_prop, Π_prop, →_prop, Unit-prop, le_prop}
 use Rattle.std.specs.List.{AllByRecursion}
 use Rattle.std.specs.Str.{is_utf8}
@@ -15,6 +15,16 @@ use Rattle.fast_template.specs.TemplateSets.{applies}
 use Rattle.fast_dictionary.specs.declared.entry.Entry.{Entry}
 use Rattle.fast_dictionary.specs.declared.entry.Entry.TheVariants.{Undefined, Empty, Assigned}
 use Rattle.fast_dictionary.specs.Dictionary.{Dictionary, entry_at}
+use Rattle.fast_stream.specs.Reading.{Reads}
+use Rattle.fast_walk.specs.Walks.{reads_on}
+use Rattle.fast_wire.specs.declared.level.Level.{Level}
+use Rattle.fast_stream.specs.declared.fault.Cause.TheVariants.{Truncated}
+use Rattle.fast_stream.specs.Nodes.{Items}
+use Rattle.fast_walk.specs.Lacks.{Lacks, StopsShort, WalkLacks}
+use Rattle.fast_walk.specs.declared.traversal.Stage.TheVariants as stage
+use Rattle.fast_walk.specs.declared.walk.Walk.{Walk}
+use Rattle.fast_walk.specs.declared.lack.Lack.{Lack}
+use Rattle.fast_walk.specs.declared.traversal.Traversal.{Traversal}
 use Rattle.fast_walk.specs.Told.{IsKeptScalar, KeepsScalar, KeepScalars, KeepsInitial, IsTold}
 
 pub true-prop : (b : Bool) → IsProp (IsTrue b)
@@ -65,3 +75,23 @@ IsTold-prop part kind p x y =
       constant_has_value = →_prop (some-prop p.initial) x.constant_has_value y.constant_has_value i;
       default_has_value = →_prop (→_prop (some-prop p.initial)) x.default_has_value y.default_has_value i;
     }
+
+short-prop : (number left : ℕ) (r : Reads Items) → IsProp (StopsShort number left r)
+short-prop number left (Ok x) = hlevel props
+short-prop number left (Err s) =
+    let cause : IsProp (s.cause ≡ Truncated) = hlevel props in
+    let instruction : IsProp (s.instruction ≡ number) = hlevel props in
+    let rest : IsProp (s.left ≡ left) = hlevel props in
+    ×_prop cause (×_prop instruction rest)
+
+walk-prop : (level : Level) (w : Walk) (bytes : List ℕ) (l : Lack) → IsProp (WalkLacks level w bytes l)
+walk-prop level w bytes l = Π_prop (λ d. Π_prop (λ o. Π_prop (λ more. →_prop (→_prop (short-prop l.number (length (bytes ++ more)) (reads_on level w d o (bytes ++ more)))))))
+
+lacks-prop : (t : Traversal) (bytes : List ℕ) (l : Lack) → IsProp (Lacks t bytes l)
+lacks-prop t bytes l =
+    let at : IsProp (t.stage ≡ stage.Body) = hlevel props in
+    ×_prop at (walk-prop t.level t.walk bytes l)
+
+pub if-lacks-prop : (t : Traversal) (bytes : List ℕ) (o : Option Lack) → IsProp (IfSome o (Lacks t bytes))
+if-lacks-prop t bytes None = Unit-prop
+if-lacks-prop t bytes (Some l) = lacks-prop t bytes l

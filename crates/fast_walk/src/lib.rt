@@ -9,6 +9,7 @@
 
 mod bits;
 mod halt;
+mod lack;
 mod leveled;
 mod output;
 mod receiver;
@@ -16,6 +17,7 @@ mod traversal;
 mod walk;
 
 pub use halt::{Halt, HaltedBy, wire_cause};
+pub use lack::Lack;
 pub use output::Output;
 pub use receiver::{Fields, Receiver};
 pub use traversal::{Stage, Traversal};

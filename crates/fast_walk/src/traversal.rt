@@ -45,12 +45,12 @@ pub enum Stage {
 pub struct Traversal<'a> {
     alloc: Global,
     set: &'a TemplateSet,
-    level: Level,
+    pub(crate) level: Level,
     identifier: FieldPart,
-    stage: Stage,
+    pub(crate) stage: Stage,
     // 0 until the identifier is known
     template: u32,
-    walk: Walk<'a>,
+    pub(crate) walk: Walk<'a>,
     ghost identifier_is: { identifier ≡ identifier_part },
 }
 

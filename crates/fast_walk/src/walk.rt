@@ -67,8 +67,8 @@ pub struct Walk<'a> {
     pub(crate) bits: Bits,
     // how many nodes may still come
     pub(crate) spare: u32,
-    next: Next<'a>,
-    rest: &'a [Flat],
+    pub(crate) next: Next<'a>,
+    pub(crate) rest: &'a [Flat],
     around: Vec<Frame<'a>>,
 }
 

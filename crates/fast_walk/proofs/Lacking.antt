@@ -1,0 +1,333 @@
+-- What is too short to be read stays so until what it lacks has come.
+use Rattle.std.proofs.Common.{◌≡◌, ℕ, zero, suc, ◌+◌, ◌<◌, ◌≤◌, Bool, true, false, List, [], ◌∷◌, ◌++◌, length, Option, Some, None, Result, Ok, Err, refl, sym, ap, subst, ◌∙◌, arith, length-append, ◌⊎◌, inl, inr, ◌-◌, append-nil}
+use Rattle.std.specs.Prelude.{nat_le, IfSome}
+use Rattle.fast_template.specs.Resolved.{Resolved, Instructions, no_instructions, then_instruction, whole_field, field_in_parts, group_of, sequence_of, list_of, part_needs_bit}
+use Rattle.fast_dictionary.specs.Dictionary.{entry_at}
+use Rattle.fast_stream.specs.Bits.{bit_for}
+use Rattle.fast_stream.specs.Nodes.{Content, Items}
+use Rattle.fast_stream.specs.Faults.{Stop}
+use Rattle.fast_stream.specs.declared.fault.Cause.{Cause}
+use Rattle.fast_dictionary.specs.Dictionary.{Dictionary}
+use Rattle.fast_stream.specs.Reading.{Reads, piece_at, stopped}
+use Rattle.fast_stream.specs.declared.fault.Cause.TheVariants.{Truncated}
+use Rattle.fast_walk.specs.OpenSegments.{Reading, cursor, message_of}
+use Rattle.fast_walk.specs.Received.{Received}
+use Rattle.fast_walk.specs.Traversals.{Continues, ContinuesAt, IsOpen, stop_of}
+use Rattle.fast_walk.specs.declared.traversal.Stage.{Stage}
+use Rattle.fast_walk.specs.declared.traversal.Traversal.{Traversal}
+use Rattle.fast_walk.proofs.Heads.{content_fails}
+use Rattle.fast_walk.specs.Walks.{next_of, reads_on}
+use Rattle.fast_walk.specs.declared.walk.Next.TheVariants as next
+use Rattle.fast_walk.specs.declared.walk.Walk.{Walk}
+use Rattle.fast_walk.proofs.Steps.{count_goes, part_stops}
+use Rattle.fast_walk.proofs.Walking.{is_instruction, piece_stops_on}
+use Rattle.fast_wire.specs.Entity.{HasNoStop}
+use Rattle.fast_wire.specs.Level.{judge, overlong_unsigned}
+use Rattle.fast_wire.specs.Reading.{◌>>=◌, entity_at, unsigned_at, signed_at, unsigned_nullable_at, signed_nullable_at, ascii_at, ascii_nullable_at, bytes_at, vector_at, behind_length, vector_nullable_at}
+use Rattle.fast_wire.specs.declared.level.Level.{Level}
+use Rattle.fast_wire.specs.declared.level.Level.TheVariants.{Usual, Strict}
+use Rattle.fast_wire.specs.declared.fault.WireFault.{WireFault}
+use Rattle.fast_wire.specs.declared.fault.WireFault.TheVariants as wire
+use Rattle.fast_wire.specs.declared.nullable.Nullable.{Nullable}
+use Rattle.fast_wire.specs.declared.nullable.Nullable.TheVariants.{Value}
+use Rattle.fast_wire.proofs.GoingOn.{entity_goes, unsigned_goes, unsigned_nullable_goes}
+use Rattle.fast_wire.proofs.Readers.{ok_is}
+use Rattle.fast_wire.proofs.VectorForms.{bytes_wait}
+use Rattle.fast_value.specs.declared.kind.Kind.{Kind}
+use Rattle.fast_value.specs.declared.kind.Kind.TheVariants as kind
+use Rattle.fast_value.specs.declared.kind.Operator.{Operator}
+use Rattle.fast_value.specs.declared.kind.Operator.TheVariants as operator
+use Rattle.fast_value.specs.declared.kind.Presence.{Presence}
+use Rattle.fast_value.specs.declared.kind.Presence.TheVariants.{Mandatory, Optional}
+use Rattle.fast_template.specs.declared.resolved.FieldPart.{FieldPart}
+use Rattle.fast_dictionary.specs.declared.entry.Entry.{Entry}
+use Rattle.fast_field.specs.declared.fault.FieldFault.TheVariants as fault
+use Rattle.fast_field.specs.Faults.{field_fault}
+use Rattle.fast_field.specs.FieldReading.{part_at, units_at, units_usually_at, integer_at, integer_spelled_at, decimal_spelled_at, units_spelled_at, spelled_at, integer_delta_at, decimal_delta_at, unit_delta_at, delta_at, tail_at, whole_at, row_at, field_at}
+use Rattle.fast_walk.specs.declared.lack.Lack.{Lack}
+use Rattle.fast_walk.specs.Lacks.{AreUnstopped, IsFirst, IsLacking, IsVectorKind, Lacks, StopsShort, WalkLacks, count_at, first_limit, sends, sends_units, whole_limit}
+use Rattle.fast_field.specs.Values.{is_unsigned}
+use Rattle.fast_value.specs.declared.kind.Part.{Part}
+
+-- ---- bytes with no stop bit
+
+pub unstopped : (bytes : List ℕ) → HasNoStop bytes → AreUnstopped bytes
+unstopped [] h = tt
+unstopped (b ∷ bs) h = (h 0 (omega arith), unstopped bs (λ k below. h (suc k) (omega (arith, below))))
+
+pub both_unstopped : (xs ys : List ℕ) → AreUnstopped xs → AreUnstopped ys → AreUnstopped (xs ++ ys)
+both_unstopped [] ys h k = k
+both_unstopped (x ∷ xs) ys h k = (h.0, both_unstopped xs ys h.1 k)
+
+-- ---- entities
+
+pub entity_waits : (limit : ℕ) (bytes : List ℕ) → AreUnstopped bytes → length bytes < limit → entity_at limit bytes ≡ Err wire.NeedMore
+unfolding entity_at
+entity_waits zero bytes h short = absurd (omega (arith, short))
+entity_waits (suc limit) [] h short = refl
+entity_waits (suc limit) (b ∷ bs) h short =
+    let low = h.0 in
+    let t : nat_le 128 b ≡ false = grind arith in
+    rw (t, entity_waits limit bs h.1 (omega (arith, short))) refl
+
+ascii_waits : (bytes : List ℕ) → entity_at 65540 bytes ≡ Err wire.NeedMore → ascii_at bytes ≡ Err wire.NeedMore
+unfolding ascii_at
+ascii_waits bytes h = rw h refl
+
+ascii_nullable_waits : (bytes : List ℕ) → entity_at 65540 bytes ≡ Err wire.NeedMore → ascii_nullable_at bytes ≡ Err wire.NeedMore
+unfolding ascii_nullable_at
+ascii_nullable_waits bytes h = rw h refl
+
+-- ---- what begins with an entity
+
+integer_waits : (level : Level) (u : Bool) (p : Presence) (bytes : List ℕ) → entity_at 10 bytes ≡ Err wire.NeedMore → integer_at level u p bytes ≡ Err fault.NeedMore
+unfolding integer_at unsigned_at signed_at unsigned_nullable_at signed_nullable_at
+integer_waits Usual true Mandatory bytes h = rw h refl
+integer_waits Usual true Optional bytes h = rw h refl
+integer_waits Usual false Mandatory bytes h = rw h refl
+integer_waits Usual false Optional bytes h = rw h refl
+integer_waits Strict u p bytes h = rw h refl
+
+text_waits : (level : Level) (p : Presence) (bytes : List ℕ) → entity_at 65540 bytes ≡ Err wire.NeedMore → units_at level kind.Ascii p bytes ≡ Err fault.NeedMore
+unfolding units_at part_at
+text_waits Usual Mandatory bytes h = rw (ascii_waits bytes h) refl
+text_waits Usual Optional bytes h = rw (ascii_nullable_waits bytes h) refl
+text_waits Strict p bytes h = rw h refl
+
+unicode_begins : (level : Level) (p : Presence) (bytes : List ℕ) → entity_at 10 bytes ≡ Err wire.NeedMore → units_at level kind.Unicode p bytes ≡ Err fault.NeedMore
+unfolding units_at part_at vector_at vector_nullable_at unsigned_at unsigned_nullable_at
+unicode_begins Usual Mandatory bytes h = rw h refl
+unicode_begins Usual Optional bytes h = rw h refl
+unicode_begins Strict p bytes h = rw h refl
+
+bytes_begin : (level : Level) (p : Presence) (bytes : List ℕ) → entity_at 10 bytes ≡ Err wire.NeedMore → units_at level kind.Bytes p bytes ≡ Err fault.NeedMore
+unfolding units_at part_at vector_at vector_nullable_at unsigned_at unsigned_nullable_at
+bytes_begin Usual Mandatory bytes h = rw h refl
+bytes_begin Usual Optional bytes h = rw h refl
+bytes_begin Strict p bytes h = rw h refl
+
+-- ---- vectors
+
+-- a length that is not overlong is none whatever follows
+pub length_judged : (bytes more entity rest : List ℕ) → entity_at 10 bytes ≡ Ok (entity, rest) → overlong_unsigned entity ≡ false → judge Strict 10 overlong_unsigned field_fault fault.R6 (bytes ++ more) ≡ Ok tt
+length_judged bytes more entity rest h k = rw (entity_goes 10 bytes entity rest more h, k) refl
+
+abbrev as_counted : ℕ × List ℕ → Result (Nullable ℕ × List ℕ) WireFault
+as_counted n = Ok (Value n.0, n.1)
+
+vector_waits : (bytes more rest : List ℕ) (n : ℕ) → n ≤ 65535 → length (rest ++ more) < n → count_at Mandatory bytes ≡ Ok (Value n, rest) → vector_at (bytes ++ more) ≡ Err wire.NeedMore
+unfolding vector_at
+vector_waits bytes more rest n few short h = of_count (unsigned_at bytes) refl h
+  where
+    of_count : (r : Result (ℕ × List ℕ) WireFault) → unsigned_at bytes ≡ r → (r >>= as_counted) ≡ Ok (Value n, rest) → (unsigned_at (bytes ++ more) >>= λ n. bytes_at n.0 n.1) ≡ Err wire.NeedMore
+    of_count (Err w) e k = absurd cc
+    of_count (Ok x) e k =
+        let same = ok_is {F = WireFault} (Value x.0, x.1) (Value n, rest) k in
+        let whole : Value x.0 ≡ Value n = ap (λ (p : Nullable ℕ × List ℕ). p.0) same in
+        let count : x.0 ≡ n = cc in
+        let back : x.1 ≡ rest = ap (λ (p : Nullable ℕ × List ℕ). p.1) same in
+        rw (unsigned_goes bytes x.0 x.1 more e, count, back) (bytes_wait n (rest ++ more) few short)
+
+vector_nullable_waits : (bytes more rest : List ℕ) (n : ℕ) → n ≤ 65535 → length (rest ++ more) < n → unsigned_nullable_at bytes ≡ Ok (Value n, rest) → vector_nullable_at (bytes ++ more) ≡ Err wire.NeedMore
+unfolding vector_nullable_at behind_length
+vector_nullable_waits bytes more rest n few short h = rw (unsigned_nullable_goes bytes (Value n) rest more h, bytes_wait n (rest ++ more) few short) refl
+
+unicode_waits : (p : Presence) (bytes more rest : List ℕ) (n : ℕ) → n ≤ 65535 → length (rest ++ more) < n → count_at p bytes ≡ Ok (Value n, rest) → units_usually_at kind.Unicode p (bytes ++ more) ≡ Err fault.NeedMore
+unfolding part_at
+unicode_waits Mandatory bytes more rest n few short h = rw (vector_waits bytes more rest n few short h) refl
+unicode_waits Optional bytes more rest n few short h = rw (vector_nullable_waits bytes more rest n few short h) refl
+
+bytes_waits : (p : Presence) (bytes more rest : List ℕ) (n : ℕ) → n ≤ 65535 → length (rest ++ more) < n → count_at p bytes ≡ Ok (Value n, rest) → units_usually_at kind.Bytes p (bytes ++ more) ≡ Err fault.NeedMore
+unfolding part_at
+bytes_waits Mandatory bytes more rest n few short h = rw (vector_waits bytes more rest n few short h) refl
+bytes_waits Optional bytes more rest n few short h = rw (vector_nullable_waits bytes more rest n few short h) refl
+
+pub counted_waits : (level : Level) (k : Kind) (p : Presence) (bytes more rest : List ℕ) (n : ℕ) → IsVectorKind k → judge level 10 overlong_unsigned field_fault fault.R6 (bytes ++ more) ≡ Ok tt → n ≤ 65535 → length (rest ++ more) < n
+    → count_at p bytes ≡ Ok (Value n, rest) → units_at level k p (bytes ++ more) ≡ Err fault.NeedMore
+unfolding units_at
+counted_waits level kind.Unicode p bytes more rest n v fit few short h = rw (fit, unicode_waits p bytes more rest n few short h) refl
+counted_waits level kind.Bytes p bytes more rest n v fit few short h = rw (fit, bytes_waits p bytes more rest n few short h) refl
+counted_waits level kind.Int32 p bytes more rest n v fit few short h = absurd v
+counted_waits level kind.UInt32 p bytes more rest n v fit few short h = absurd v
+counted_waits level kind.Int64 p bytes more rest n v fit few short h = absurd v
+counted_waits level kind.UInt64 p bytes more rest n v fit few short h = absurd v
+counted_waits level kind.Decimal p bytes more rest n v fit few short h = absurd v
+counted_waits level kind.Ascii p bytes more rest n v fit few short h = absurd v
+
+-- ---- what is lacking of them
+
+pub vector_lacks : (level : Level) (k : Kind) (p : Presence) (bytes rest : List ℕ) (n have : ℕ) (o : Option Lack) → (k ≡ kind.Unicode) ⊎ (k ≡ kind.Bytes) → ((more : List ℕ) → judge level 10 overlong_unsigned field_fault fault.R6 (bytes ++ more) ≡ Ok tt)
+    → count_at p bytes ≡ Ok (Value n, rest) → have ≡ length rest → IfSome o (λ l. (n ≤ 65535) × (have + l.most < n))
+    → IfSome o (λ l. IsVectorKind k × ((more : List ℕ) → IsLacking l more → units_at level k p (bytes ++ more) ≡ Err fault.NeedMore))
+vector_lacks level k p bytes rest n have None v fit h is few = tt
+vector_lacks level k p bytes rest n have (Some l) v fit h is few = (
+  of_kind k v,
+  λ more lacking.
+      let size = length-append rest more in
+      let short = lacking.few in
+      let within = few.1 in
+      counted_waits level k p bytes more rest n (of_kind k v) (fit more) few.0 (omega (arith, size, is, within, short)) h,
+)
+  where
+    of_kind : (k : Kind) → (k ≡ kind.Unicode) ⊎ (k ≡ kind.Bytes) → IsVectorKind k
+    of_kind k (inl is) = subst IsVectorKind (sym is) tt
+    of_kind k (inr is) = subst IsVectorKind (sym is) tt
+
+-- ---- fields
+
+number_begins : (level : Level) (pt : Part) (k : Kind) (p : Presence) (bytes : List ℕ) → entity_at 10 bytes ≡ Err wire.NeedMore → integer_spelled_at level pt k p bytes ≡ Err fault.NeedMore
+unfolding integer_spelled_at
+number_begins level pt k p bytes h = rw (integer_waits level (is_unsigned k) p bytes h) refl
+
+decimal_begins : (level : Level) (p : Presence) (bytes : List ℕ) → entity_at 10 bytes ≡ Err wire.NeedMore → decimal_spelled_at level p bytes ≡ Err fault.NeedMore
+unfolding decimal_spelled_at
+decimal_begins level p bytes h = rw (integer_waits level false p bytes h) refl
+
+units_begin : (level : Level) (k : Kind) (p : Presence) (bytes : List ℕ) → units_at level k p bytes ≡ Err fault.NeedMore → units_spelled_at level k p bytes ≡ Err fault.NeedMore
+unfolding units_spelled_at
+units_begin level k p bytes h = rw h refl
+
+whole_begins : (level : Level) (pt : Part) (k : Kind) (p : Presence) (bytes : List ℕ) → entity_at (whole_limit k) bytes ≡ Err wire.NeedMore → spelled_at level pt k p bytes ≡ Err fault.NeedMore
+unfolding spelled_at
+whole_begins level pt kind.Ascii p bytes h = units_begin level kind.Ascii p bytes (text_waits level p bytes h)
+whole_begins level pt kind.Unicode p bytes h = units_begin level kind.Unicode p bytes (unicode_begins level p bytes h)
+whole_begins level pt kind.Bytes p bytes h = units_begin level kind.Bytes p bytes (bytes_begin level p bytes h)
+whole_begins level pt kind.Decimal p bytes h = decimal_begins level p bytes h
+whole_begins level pt kind.Int32 p bytes h = number_begins level pt kind.Int32 p bytes h
+whole_begins level pt kind.UInt32 p bytes h = number_begins level pt kind.UInt32 p bytes h
+whole_begins level pt kind.Int64 p bytes h = number_begins level pt kind.Int64 p bytes h
+whole_begins level pt kind.UInt64 p bytes h = number_begins level pt kind.UInt64 p bytes h
+
+delta_begins : (level : Level) (k : Kind) (i : FieldPart) (e : Entry) (bytes : List ℕ) → entity_at 10 bytes ≡ Err wire.NeedMore → delta_at level k i e bytes ≡ Err fault.NeedMore
+unfolding delta_at decimal_delta_at unit_delta_at integer_delta_at
+delta_begins level kind.Ascii i e bytes h = rw (integer_waits level false i.presence bytes h) refl
+delta_begins level kind.Unicode i e bytes h = rw (integer_waits level false i.presence bytes h) refl
+delta_begins level kind.Bytes i e bytes h = rw (integer_waits level false i.presence bytes h) refl
+delta_begins level kind.Decimal i e bytes h = rw (integer_waits level false i.presence bytes h) refl
+delta_begins level kind.Int32 i e bytes h = rw (integer_waits level false i.presence bytes h) refl
+delta_begins level kind.UInt32 i e bytes h = rw (integer_waits level false i.presence bytes h) refl
+delta_begins level kind.Int64 i e bytes h = rw (integer_waits level false i.presence bytes h) refl
+delta_begins level kind.UInt64 i e bytes h = rw (integer_waits level false i.presence bytes h) refl
+
+tail_waits : (level : Level) (i : FieldPart) (e : Entry) (bytes : List ℕ) → units_at level i.kind i.presence bytes ≡ Err fault.NeedMore → tail_at level i e bytes ≡ Err fault.NeedMore
+unfolding tail_at
+tail_waits level i e bytes h = rw h refl
+
+-- a tail is characters or bytes
+units_wait : (level : Level) (k : Kind) (p : Presence) (bytes : List ℕ) → entity_at (whole_limit k) bytes ≡ Err wire.NeedMore → units_at level k p bytes ≡ Err fault.NeedMore
+unfolding units_at part_at vector_at vector_nullable_at unsigned_at unsigned_nullable_at
+units_wait level kind.Ascii p bytes h = text_waits level p bytes h
+units_wait Usual k Mandatory bytes h = rw h refl
+units_wait Usual k Optional bytes h = rw h refl
+units_wait Strict k p bytes h = rw h refl
+
+row_begins : (level : Level) (o : Operator) (i : FieldPart) (e : Entry) (bit : Bool) (bytes : List ℕ) → sends o bit ≡ true → entity_at (first_limit o i.kind) bytes ≡ Err wire.NeedMore → row_at level o i e bit bytes ≡ Err fault.NeedMore
+unfolding row_at whole_at
+row_begins level operator.Plain i e bit bytes s h = whole_begins level i.part i.kind i.presence bytes h
+row_begins level operator.Default i e true bytes s h = whole_begins level i.part i.kind i.presence bytes h
+row_begins level operator.Copy i e true bytes s h = whole_begins level i.part i.kind i.presence bytes h
+row_begins level operator.Increment i e true bytes s h = whole_begins level i.part i.kind i.presence bytes h
+row_begins level operator.Tail i e true bytes s h = tail_waits level i e bytes (units_wait level i.kind i.presence bytes h)
+row_begins level operator.Delta i e bit bytes s h = delta_begins level i.kind i e bytes h
+row_begins level operator.Default i e false bytes s h = absurd cc
+row_begins level operator.Copy i e false bytes s h = absurd cc
+row_begins level operator.Increment i e false bytes s h = absurd cc
+row_begins level operator.Tail i e false bytes s h = absurd cc
+row_begins level operator.Constant i e bit bytes s h = absurd cc
+
+field_begins : (level : Level) (i : FieldPart) (e : Entry) (bit : Bool) (bytes : List ℕ) → sends i.operator bit ≡ true → entity_at (first_limit i.operator i.kind) bytes ≡ Err wire.NeedMore → field_at level i e bit bytes ≡ Err fault.NeedMore
+unfolding field_at
+field_begins level i e bit bytes s h = rw (row_begins level i.operator i e bit bytes s h) refl
+
+-- a field whose first entity has not ended
+pub entity_lacks : (level : Level) (i : FieldPart) (e : Entry) (bit : Bool) (bytes more : List ℕ) (l : Lack) → sends i.operator bit ≡ true → length bytes + l.most < first_limit i.operator i.kind → (l.until_stop ≡ true) × AreUnstopped bytes
+    → IsLacking l more → field_at level i e bit (bytes ++ more) ≡ Err fault.NeedMore
+entity_lacks level i e bit bytes more l s few h lacking =
+    let size = length-append bytes more in
+    let short = lacking.few in
+    field_begins level i e bit (bytes ++ more) s
+    (entity_waits (first_limit i.operator i.kind) (bytes ++ more) (both_unstopped bytes more h.1 (lacking.unstopped h.0)) (omega (arith, size, few, short)))
+
+spelled_waits : (level : Level) (i : FieldPart) (k : Kind) (bytes : List ℕ) → IsVectorKind k → units_at level k i.presence bytes ≡ Err fault.NeedMore → spelled_at level i.part k i.presence bytes ≡ Err fault.NeedMore
+unfolding spelled_at
+spelled_waits level i kind.Unicode bytes v h = units_begin level kind.Unicode i.presence bytes h
+spelled_waits level i kind.Bytes bytes v h = units_begin level kind.Bytes i.presence bytes h
+spelled_waits level i kind.Ascii bytes v h = absurd v
+spelled_waits level i kind.Int32 bytes v h = absurd v
+spelled_waits level i kind.UInt32 bytes v h = absurd v
+spelled_waits level i kind.Int64 bytes v h = absurd v
+spelled_waits level i kind.UInt64 bytes v h = absurd v
+spelled_waits level i kind.Decimal bytes v h = absurd v
+
+vector_row : (level : Level) (o : Operator) (i : FieldPart) (e : Entry) (bit : Bool) (bytes : List ℕ) → sends_units o bit ≡ true → IsVectorKind i.kind → units_at level i.kind i.presence bytes ≡ Err fault.NeedMore → row_at level o i e bit bytes ≡ Err fault.NeedMore
+unfolding row_at whole_at
+vector_row level operator.Plain i e bit bytes s v h = spelled_waits level i i.kind bytes v h
+vector_row level operator.Default i e true bytes s v h = spelled_waits level i i.kind bytes v h
+vector_row level operator.Copy i e true bytes s v h = spelled_waits level i i.kind bytes v h
+vector_row level operator.Tail i e true bytes s v h = tail_waits level i e bytes h
+vector_row level operator.Default i e false bytes s v h = absurd cc
+vector_row level operator.Copy i e false bytes s v h = absurd cc
+vector_row level operator.Tail i e false bytes s v h = absurd cc
+vector_row level operator.Constant i e bit bytes s v h = absurd cc
+vector_row level operator.Increment i e bit bytes s v h = absurd cc
+vector_row level operator.Delta i e bit bytes s v h = absurd cc
+
+pub field_waits : (level : Level) (i : FieldPart) (e : Entry) (bit : Bool) (bytes : List ℕ) → sends_units i.operator bit ≡ true → IsVectorKind i.kind → units_at level i.kind i.presence bytes ≡ Err fault.NeedMore → field_at level i e bit bytes ≡ Err fault.NeedMore
+unfolding field_at
+field_waits level i e bit bytes s v h = rw (vector_row level i.operator i e bit bytes s v h) refl
+
+-- ---- walks
+
+-- where the field that is next waits, all that is left to be read does
+pub walk_lacks : (level : Level) (w : Walk) (name : List ℕ) (number : ℕ) (presence : Presence) (whole : FieldPart) (others : Instructions) (bytes : List ℕ) (l : Lack)
+    → 0 < w.spare → w.next ≡ next.Instruction → list_of w.rest.now ≡ then_instruction (whole_field name number presence whole) others
+    → ((e : Entry) (more : List ℕ) → IsLacking l more → field_at level whole e (bit_for (part_needs_bit whole) w.bits) (bytes ++ more) ≡ Err fault.NeedMore) → l.number ≡ whole.number
+    → WalkLacks level w bytes l
+walk_lacks level w name number presence whole others bytes l some is first h same = λ d o more lacking at.
+    let xs = bytes ++ more in
+    let part = part_stops level whole d w.bits (w.spare - 1) xs fault.NeedMore (h (entry_at d whole.key) more lacking) in
+    let piece : piece_at level (whole_field name number presence whole) (cursor d w.bits w.spare xs) ≡ stopped whole.number xs Truncated = rw (count_goes number w.spare d w.bits xs some, part) refl in
+    let stops = piece_stops_on level o.around o.next o.body (whole_field name number presence whole) others (cursor d w.bits w.spare xs) _ (is_instruction o.next (at.next ∙ ap next_of is)) (at.rest ∙ first) piece in
+    subst (λ (r : Reads Items). StopsShort l.number (length xs) r) (sym stops) (refl, (sym same, refl))
+
+first_lacks : (level : Level) (w : Walk) (whole : FieldPart) (is : Instructions) (bytes : List ℕ) (l : Lack) → 0 < w.spare → w.next ≡ next.Instruction → list_of w.rest.now ≡ is → IsFirst whole is
+    → ((e : Entry) (more : List ℕ) → IsLacking l more → field_at level whole e (bit_for (part_needs_bit whole) w.bits) (bytes ++ more) ≡ Err fault.NeedMore) → l.number ≡ whole.number
+    → WalkLacks level w bytes l
+first_lacks level w whole (then_instruction (whole_field name number presence part) others) bytes l some is rest first h same =
+    walk_lacks level w name number presence whole others bytes l some is (rest ∙ ap (λ (p : FieldPart). then_instruction (whole_field name number presence p) others) first) h same
+first_lacks level w whole (then_instruction (field_in_parts name number presence exponent mantissa) others) bytes l some is rest first h same = absurd first
+first_lacks level w whole (then_instruction (group_of name number presence members) others) bytes l some is rest first h same = absurd first
+first_lacks level w whole (then_instruction (sequence_of name number presence part members) others) bytes l some is rest first h same = absurd first
+first_lacks level w whole no_instructions bytes l some is rest first h same = absurd first
+
+pub if_first_lacks : (level : Level) (w : Walk) (whole : FieldPart) (bytes : List ℕ) (o : Option Lack) → 0 < w.spare → w.next ≡ next.Instruction → IsFirst whole (list_of w.rest.now)
+    → IfSome o (λ l. (e : Entry) (more : List ℕ) → IsLacking l more → field_at level whole e (bit_for (part_needs_bit whole) w.bits) (bytes ++ more) ≡ Err fault.NeedMore) → IfSome o (λ l. l.number ≡ whole.number)
+    → IfSome o (WalkLacks level w bytes)
+if_first_lacks level w whole bytes None some is first h same = tt
+if_first_lacks level w whole bytes (Some l) some is first h same = first_lacks level w whole (list_of w.rest.now) bytes l some is refl first h same
+
+-- ---- messages
+
+stop_same : (c d : Cause) (i j m n : ℕ) → c ≡ d → i ≡ j → m ≡ n → ◌≡◌ {A = Stop} (record { cause = c; instruction = i; left = m }) (record { cause = d; instruction = j; left = n })
+stop_same c d i j m n is number left = rw (is, number, left) refl
+
+message_stops : (level : Level) (template number left : ℕ) (r : Reads Items) → StopsShort number left r → message_of level template r ≡ Err (record { template = template; stop = record { cause = Truncated; instruction = number; left = left } })
+message_stops level template number left (Ok x) h = absurd h
+message_stops level template number left (Err s) h =
+    content_fails level template s ∙ ap (λ (s : Stop). Err (record { template = template; stop = s })) (stop_same s.cause Truncated s.instruction number s.left left h.0 h.1.0 h.1.1)
+
+-- whatever is still read of the message stops there
+pub lacking_stops : {R : Type 0} (has : R → Received → Dictionary → Type 0) (stands keeps : R → List Resolved → List Content → Dictionary → Type 0) (t : Traversal) (r : R) (set : List Resolved) (d start : Dictionary) (before : List Content) (read : List ℕ → Reading) (bytes : List ℕ) (l : Lack)
+    → Continues has stands keeps t r set d before start read → Lacks t bytes l
+    → read bytes ≡ Err (stop_of t.template (record { cause = Truncated; number = l.number }) bytes)
+lacking_stops {R} has stands keeps t r set d start before read bytes l goes lacks =
+    opened.reads bytes ∙ message_stops t.level t.template l.number (length bytes) (reads_on t.level t.walk d opened.received bytes) stops
+  where
+    opened : IsOpen has keeps t r set d before start read
+    opened = subst (λ (s : Stage). ContinuesAt has stands keeps s t r set d before start read) lacks.0 goes
+
+    none : IsLacking l []
+    none = record { few = omega arith; unstopped = λ _. tt }
+
+    stops : StopsShort l.number (length bytes) (reads_on t.level t.walk d opened.received bytes)
+    stops = subst (λ (xs : List ℕ). StopsShort l.number (length xs) (reads_on t.level t.walk d opened.received xs)) (append-nil bytes) (lacks.1 d opened.received [] none opened.at)

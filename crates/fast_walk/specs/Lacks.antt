@@ -1,0 +1,89 @@
+-- How many bytes more a piece lacks at least that has begun.
+use Rattle.std.specs.Prelude.{◌≡◌, ◌≤◌, ◌<◌, ℕ, Bool, true, false, List, ◌++◌, length, Result, Ok, Err}
+use Rattle.std.specs.List.{AllByRecursion}
+use Rattle.fast_wire.specs.Reading.{◌>>=◌, unsigned_at, unsigned_nullable_at}
+use Rattle.fast_wire.specs.declared.fault.WireFault.{WireFault}
+use Rattle.fast_wire.specs.declared.nullable.Nullable.{Nullable}
+use Rattle.fast_wire.specs.declared.nullable.Nullable.TheVariants.{Value}
+use Rattle.fast_value.specs.declared.kind.Kind.{Kind}
+use Rattle.fast_value.specs.declared.kind.Kind.TheVariants as kind
+use Rattle.fast_value.specs.declared.kind.Operator.{Operator}
+use Rattle.fast_value.specs.declared.kind.Operator.TheVariants as operator
+use Rattle.fast_value.specs.declared.kind.Presence.{Presence}
+use Rattle.fast_value.specs.declared.kind.Presence.TheVariants.{Mandatory, Optional}
+use Rattle.fast_template.specs.declared.resolved.FieldPart.{FieldPart}
+use Rattle.fast_template.specs.Resolved.{Instructions, then_instruction, whole_field}
+use Rattle.fast_dictionary.specs.Dictionary.{Dictionary}
+use Rattle.fast_stream.specs.declared.fault.Cause.TheVariants.{Truncated}
+use Rattle.fast_stream.specs.Reading.{Reads}
+use Rattle.fast_wire.specs.declared.level.Level.{Level}
+use Rattle.fast_walk.specs.Received.{Received}
+use Rattle.fast_walk.specs.Walks.{IsAt, reads_on}
+use Rattle.fast_walk.specs.declared.lack.Lack.{Lack}
+use Rattle.fast_walk.specs.declared.traversal.Stage.TheVariants as stage
+use Rattle.fast_walk.specs.declared.traversal.Traversal.{Traversal}
+use Rattle.fast_walk.specs.declared.walk.Walk.{Walk}
+
+-- no byte has its stop bit set
+abbrev pub AreUnstopped : List ℕ → Type 0
+AreUnstopped bytes = AllByRecursion (λ b. b < 128) bytes
+
+-- with these bytes more, too few have come
+pub record IsLacking (l : Lack) (more : List ℕ) : Type 0 where
+  pub few : length more ≤ l.most
+  pub unstopped : l.until_stop ≡ true → AreUnstopped more
+
+-- whether something of a field stands in the stream under this bit
+abbrev pub sends : Operator → Bool → Bool
+sends operator.Plain bit = true
+sends operator.Default bit = bit
+sends operator.Copy bit = bit
+sends operator.Increment bit = bit
+sends operator.Tail bit = bit
+sends operator.Delta bit = true
+sends operator.Constant bit = false
+
+-- whether what stands there is a string, a vector or a tail
+abbrev pub sends_units : Operator → Bool → Bool
+sends_units operator.Delta bit = false
+sends_units operator.Increment bit = false
+sends_units o bit = sends o bit
+
+-- the most bytes of the entity that what stands whole begins with
+abbrev pub whole_limit : Kind → ℕ
+whole_limit kind.Ascii = 65540
+whole_limit k = 10
+
+-- the most bytes of the entity that what stands in the stream begins with
+abbrev pub first_limit : Operator → Kind → ℕ
+first_limit operator.Delta k = 10
+first_limit o k = whole_limit k
+
+-- a kind that is spelled by a vector
+abbrev pub IsVectorKind : Kind → Type 0
+IsVectorKind kind.Unicode = Unit {0}
+IsVectorKind kind.Bytes = Unit {0}
+IsVectorKind k = ⊥
+
+-- the length of a vector
+abbrev pub count_at : Presence → List ℕ → Result (Nullable ℕ × List ℕ) WireFault
+count_at Mandatory bytes = unsigned_at bytes >>= λ n. Ok (Value n.0, n.1)
+count_at Optional bytes = unsigned_nullable_at bytes
+
+-- a reading stops at the first of so many bytes, for want of more
+abbrev pub StopsShort : {A : Type 0} → ℕ → ℕ → Reads A → Type 0
+StopsShort number left (Ok x) = ⊥
+StopsShort number left (Err s) = (s.cause ≡ Truncated) × ((s.instruction ≡ number) × (s.left ≡ left))
+
+-- a field of this part comes first
+abbrev pub IsFirst : FieldPart → Instructions → Type 0
+IsFirst p (then_instruction (whole_field name number presence whole) is) = whole ≡ p
+IsFirst p is = ⊥
+
+-- of the piece that a walk comes to next, some bytes have come, and this is lacking
+abbrev pub WalkLacks : Level → Walk → List ℕ → Lack → Type 0
+WalkLacks level w bytes l = (d : Dictionary) (o : Received) (more : List ℕ) → IsLacking l more → IsAt w o → StopsShort l.number (length (bytes ++ more)) (reads_on level w d o (bytes ++ more))
+
+-- the same of the body that is open
+abbrev pub Lacks : Traversal → List ℕ → Lack → Type 0
+Lacks t bytes l = (t.stage ≡ stage.Body) × WalkLacks t.level t.walk bytes l

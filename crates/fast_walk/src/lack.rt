@@ -1,0 +1,254 @@
+//! How many bytes more a piece lacks at least that has begun, so that whoever holds its bytes need not read it again
+//! before they have come.
+//!
+//! Asked of fields: of the entity that one begins with, and of a vector behind its length. What else there is, is read
+//! again.
+
+ghost use Rattle.std.specs.Prelude.{◌≡◌, ◌≤◌, ◌<◌, ◌+◌, ◌++◌, ℕ, true, false, List, IfSome, Err, Ok, length, drop};
+ghost use Rattle.fast_wire.specs.Level.{judge, overlong_unsigned as overlong_unsigned_of};
+ghost use Rattle.fast_wire.specs.declared.nullable.Nullable.TheVariants.{Value};
+ghost use Rattle.fast_template.specs.Resolved.{list_of};
+ghost use Rattle.fast_dictionary.specs.declared.entry.Entry.{Entry};
+ghost use Rattle.fast_field.specs.Faults.{field_fault};
+ghost use Rattle.fast_field.specs.FieldReading.{field_at, units_at};
+ghost use Rattle.fast_walk.specs.Lacks.{AreUnstopped, IsFirst, IsLacking, IsVectorKind, Lacks, WalkLacks, count_at, first_limit as first_limit_of, sends, sends_units as sends_units_of};
+
+use crate::bits::first_for;
+use crate::traversal::{Stage, Traversal};
+use crate::walk::{Next, Walk};
+use fast_field::FieldFault;
+use fast_template::{FieldPart, Flat, Kind, Operator, Presence, part_needs_bit};
+use fast_wire::{
+    Level, Nullable, entity_end, find_stop, overlong_unsigned, read_unsigned,
+    read_unsigned_nullable,
+};
+
+/// The most bytes of an ASCII string.
+const TEXT_LIMIT: usize = 65_540;
+
+/// The most bytes of a number, a vector's length among them.
+const NUMBER_LIMIT: usize = 10;
+
+/// The most bytes of a vector behind its length.
+const VECTOR_LIMIT: u128 = 65_535;
+
+/// Bytes that are too few for the piece that has begun.
+#[derive(Clone, Copy)]
+pub struct Lack {
+    /// Of which instruction the piece is.
+    pub number: u32,
+    /// So many bytes more are too few.
+    pub most: usize,
+    /// Only if none of them has its stop bit set.
+    pub until_stop: bool,
+}
+
+// Whether a stop bit is set in these bytes.
+fn has_stop(bytes: &[u8]) -> bool
+    ensures { result ≡ false → AreUnstopped bytes.now }
+{
+    find_stop(bytes).is_some()
+}
+
+impl Lack {
+    /// What is still lacking behind these bytes more; none where they may be enough.
+    pub fn behind(self, chunk: &[u8]) -> Option<Lack>
+        ensures lacking { IfSome result (λ l. (more : List ℕ) → IsLacking l more → IsLacking self (chunk.now ++ more)) }
+        ensures number { IfSome result (λ l. l.number ≡ self.number) }
+    {
+        if chunk.len() > self.most || (self.until_stop && has_stop(chunk)) {
+            return None;
+        }
+        Some(Lack {
+            most: self.most - chunk.len(),
+            ..self
+        })
+    }
+}
+
+// Whether something of a field stands in the stream under this bit.
+fn is_sent(operator: Operator, bit: bool) -> bool
+    ensures { result ≡ sends operator bit }
+{
+    match operator {
+        Operator::Plain | Operator::Delta => true,
+        Operator::Default | Operator::Copy | Operator::Increment | Operator::Tail => bit,
+        Operator::Constant => false,
+    }
+}
+
+// The most bytes of the entity that it begins with.
+fn first_limit(operator: Operator, kind: Kind) -> usize
+    ensures { result ≡ first_limit_of operator kind }
+{
+    match operator {
+        Operator::Delta => NUMBER_LIMIT,
+        _ => match kind {
+            Kind::Ascii => TEXT_LIMIT,
+            _ => NUMBER_LIMIT,
+        },
+    }
+}
+
+// What an entity of at most so many bytes lacks: its stop bit.
+fn entity_lack(number: u32, limit: usize, bytes: &[u8]) -> Option<Lack>
+    ensures few { IfSome result (λ l. length bytes.now + l.most < limit) }
+    ensures unstopped { IfSome result (λ l. (l.until_stop ≡ true) × AreUnstopped bytes.now) }
+    ensures number { IfSome result (λ l. l.number ≡ number) }
+{
+    if bytes.len() >= limit || has_stop(bytes) {
+        return None;
+    }
+    Some(Lack {
+        number,
+        most: limit - 1 - bytes.len(),
+        until_stop: true,
+    })
+}
+
+#[tactic(auto, using(crate::proofs::Lacking::length_judged))]
+// Whether a vector's length is not longer than the level allows, where it is whole.
+fn is_fit_length(level: Level, bytes: &[u8]) -> bool
+    ensures { result ≡ true → (more : List ℕ) → judge level 10 overlong_unsigned_of field_fault FieldFault.R6 (bytes.now ++ more) ≡ Ok tt }
+{
+    match level {
+        Level::Usual => true,
+        Level::Strict => match entity_end(bytes, 0, NUMBER_LIMIT) {
+            Err(_) => false,
+            Ok(next) => !overlong_unsigned(&bytes[..next]),
+        },
+    }
+}
+
+// The length of a vector, and the place behind it; none where it is not whole, or NULL.
+fn length_of(presence: Presence, bytes: &[u8]) -> Option<(u128, usize)>
+    ensures place { IfSome result (λ x. x.1 ≤ length bytes.now) }
+    ensures count { IfSome result (λ x. count_at presence bytes.now ≡ Ok (Value x.0, drop x.1 bytes.now)) }
+{
+    match presence {
+        Presence::Mandatory => match read_unsigned(bytes, 0) {
+            Err(_) => None,
+            Ok(found) => Some(found),
+        },
+        Presence::Optional => match read_unsigned_nullable(bytes, 0) {
+            Err(_) | Ok((Nullable::Null, _)) => None,
+            Ok((Nullable::Value(count), next)) => Some((count, next)),
+        },
+    }
+}
+
+// What a vector lacks whose length has come: the rest of so many bytes.
+fn vector_lack(number: u32, count: u128, have: usize) -> Option<Lack>
+    ensures short { IfSome result (λ l. (count ≤ 65535) × (have + l.most < count)) }
+    ensures number { IfSome result (λ l. l.number ≡ number) }
+{
+    if count > VECTOR_LIMIT || count <= have as u128 {
+        return None;
+    }
+    Some(Lack {
+        number,
+        most: count as usize - have - 1,
+        until_stop: false,
+    })
+}
+
+// What a vector lacks, whose length may have come.
+fn units_lack(level: Level, part: &FieldPart, bytes: &[u8]) -> Option<Lack>
+    ensures lacks { IfSome result (λ l. IsVectorKind part.now.kind × ((more : List ℕ) → IsLacking l more
+        → units_at level part.now.kind part.now.presence (bytes.now ++ more) ≡ Err FieldFault.NeedMore)) }
+    ensures number { IfSome result (λ l. l.number ≡ part.now.number) }
+{
+    match part.kind {
+        Kind::Unicode | Kind::Bytes if is_fit_length(level, bytes) => {
+            match length_of(part.presence, bytes) {
+                None => None,
+                Some((count, next)) => vector_lack(part.number, count, bytes.len() - next),
+            }
+        }
+        _ => None,
+    }
+}
+
+// Whether a string, a vector or a tail stands in the stream under this bit.
+fn sends_units(operator: Operator, bit: bool) -> bool
+    ensures { result ≡ sends_units_of operator bit }
+{
+    match operator {
+        Operator::Delta | Operator::Increment => false,
+        _ => is_sent(operator, bit),
+    }
+}
+
+// What a field lacks whose first entity has come.
+#[tactic(auto, using(crate::proofs::Lacking::field_waits))]
+fn rest_lack(level: Level, part: &FieldPart, bit: bool, bytes: &[u8]) -> Option<Lack>
+    ensures lacks { IfSome result (λ l. (e : Entry) (more : List ℕ) → IsLacking l more
+        → field_at level part.now e bit (bytes.now ++ more) ≡ Err FieldFault.NeedMore) }
+    ensures number { IfSome result (λ l. l.number ≡ part.now.number) }
+{
+    if sends_units(part.operator, bit) {
+        units_lack(level, part, bytes)
+    } else {
+        None
+    }
+}
+
+/// What a field lacks, of which these bytes have come.
+pub(crate) fn field_lack(level: Level, part: &FieldPart, bit: bool, bytes: &[u8]) -> Option<Lack>
+    ensures lacks { IfSome result (λ l. (e : Entry) (more : List ℕ) → IsLacking l more
+        → field_at level part.now e bit (bytes.now ++ more) ≡ Err FieldFault.NeedMore) }
+    ensures number { IfSome result (λ l. l.number ≡ part.now.number) }
+{
+    if !is_sent(part.operator, bit) {
+        return None;
+    }
+    match entity_lack(part.number, first_limit(part.operator, part.kind), bytes) {
+        Some(lack) => Some(lack),
+        None => rest_lack(level, part, bit, bytes),
+    }
+}
+
+impl<'a> Walk<'a> {
+    // What the field lacks that is next.
+    fn first_lack(&self, level: Level, whole: &FieldPart, bytes: &[u8]) -> Option<Lack>
+        requires spare { 0 < self.now.spare }
+        requires next { self.now.next ≡ Next.Instruction }
+        requires first { IsFirst whole.now (list_of self.now.rest.now) }
+        ensures { IfSome result (WalkLacks level self.now bytes.now) }
+    {
+        let bit = first_for(&self.bits, part_needs_bit(whole));
+        field_lack(level, whole, bit, bytes)
+    }
+
+    // What the piece that is next lacks, of which these bytes have come.
+    fn lack(&self, level: Level, bytes: &[u8]) -> Option<Lack>
+        ensures { IfSome result (WalkLacks level self.now bytes.now) }
+    {
+        if self.spare == 0 {
+            return None;
+        }
+        match self.next {
+            Next::Instruction => match self.rest.split_first() {
+                Some((flat, _)) => match flat {
+                    Flat::Field { whole, .. } => self.first_lack(level, whole, bytes),
+                    _ => None,
+                },
+                None => None,
+            },
+            Next::Mantissa(_) | Next::Element(_) => None,
+        }
+    }
+}
+
+impl<'a> Traversal<'a> {
+    /// What the piece lacks at which the traversal has stopped, of which these bytes have come; none where that is not
+    /// known.
+    pub fn lack(&self, bytes: &[u8]) -> Option<Lack>
+        ensures { IfSome result (Lacks self.now bytes.now) }
+    {
+        match self.stage {
+            Stage::Map | Stage::Identifier => None,
+            Stage::Body => self.walk.lack(self.level, bytes),
+        }
+    }
+}
