@@ -13,6 +13,7 @@ use Rattle.fast_stream.specs.declared.fault.Cause.TheVariants.{Truncated}
 use Rattle.fast_walk.specs.OpenSegments.{Reading, cursor, message_of}
 use Rattle.fast_walk.specs.Received.{Received}
 use Rattle.fast_walk.specs.Traversals.{Continues, ContinuesAt, IsOpen, stop_of}
+use Rattle.fast_walk.specs.declared.halt.HaltedBy.TheVariants as halted
 use Rattle.fast_walk.specs.declared.traversal.Stage.{Stage}
 use Rattle.fast_walk.specs.declared.traversal.Traversal.{Traversal}
 use Rattle.fast_walk.proofs.Heads.{content_fails}
@@ -319,7 +320,7 @@ message_stops level template number left (Err s) h =
 -- whatever is still read of the message stops there
 pub lacking_stops : {R : Type 0} (has : R → Received → Dictionary → Type 0) (stands keeps : R → List Resolved → List Content → Dictionary → Type 0) (t : Traversal) (r : R) (set : List Resolved) (d start : Dictionary) (before : List Content) (read : List ℕ → Reading) (bytes : List ℕ) (l : Lack)
     → Continues has stands keeps t r set d before start read → Lacks t bytes l
-    → read bytes ≡ Err (stop_of t.template (record { cause = Truncated; number = l.number }) bytes)
+    → read bytes ≡ Err (stop_of t.template (record { cause = Truncated; number = l.number; by = halted.Walk }) bytes)
 lacking_stops {R} has stands keeps t r set d start before read bytes l goes lacks =
     opened.reads bytes ∙ message_stops t.level t.template l.number (length bytes) (reads_on t.level t.walk d opened.received bytes) stops
   where

@@ -2,7 +2,9 @@ use Rattle.std.proofs.Common.{ap, ◌∙◌}
 use Rattle.std.specs.Result.{is_ok}
 use Rattle.fast_dictionary.specs.Dictionary.{set_entry, set_entry-there}
 use Rattle.fast_walk.specs.Received.{length_of}
+use Rattle.fast_template.specs.Resolved.{part_needs_bit}
 use Rattle.fast_writer.specs.Levels.{level_of}
+use Rattle.fast_writer.proofs.MapRoom.{asked_room}
 use Rattle.fast_writer.proofs.Relays.{level_bytes, took_of}
 use Rattle.fast_walk.proofs.Telling.{kept_hold}
 use Rattle.fast_writer.proofs.count.relay_count.Goals as goal
@@ -27,3 +29,8 @@ returns-in-Ok-ask-clause-took g c =
 
 pub count_either-requires-clause-entry : goal.count_either-requires-clause-entry
 count_either-requires-clause-entry g c = rw (c.in-Ok.ensures.value) (kept_hold (g.E.Entries.contents c.args.entries.now) c.requires.kept c.args.part.now.key)
+
+pub returns-in-Ok-ask-clause-room : goal.returns-in-Ok-ask-clause-room
+returns-in-Ok-ask-clause-room g c = λ left is room.
+    let asked = rw (c.part_needs_bit.ensures) at c.in-Ok-ask.ensures in
+    asked_room (part_needs_bit c.args.part.now) c.args.bit c.in-Ok-count_either.best (level_of c.args.segment.now) (level_of c.ask.new.self) left is c.in-Ok-count_either.ensures.lower asked.bits asked.own room

@@ -15,6 +15,7 @@ pieces-preserved-in-Ok-true g c =
       next = rw (c.take_mantissa.ensures.same_keys) c.in-Ok-true.ensures.next;
       served = rw (c.take_mantissa.ensures.same_keys) c.in-Ok-true.ensures.served;
       kept = c.in-Ok-true.ensures.kept;
+      room = λ room. c.in-Ok-true.ensures.room (c.pieces.invariant.room room);
       counted = search rules;
       takes = takes_on c.args.level c.args.bytes.now (level_of c.args.segment.now) (level_of c.pieces.segment) (level_of c.take_mantissa.new.segment) d e h
           c.args.bits.now c.pieces.bits c.take_mantissa.new.bits from c.pieces.fields c.take_mantissa.new.fields c.pieces.invariant.takes c.in-Ok-true.ensures.takes;
@@ -41,6 +42,7 @@ pieces-preserved-in-Ok-true-take_whole g c =
       next = rw (c.take_whole.ensures.same_keys) c.in-Ok-true-take_whole.ensures.next;
       served = rw (c.take_whole.ensures.same_keys) c.in-Ok-true-take_whole.ensures.served;
       kept = c.in-Ok-true-take_whole.ensures.kept;
+      room = λ room. c.in-Ok-true-take_whole.ensures.room (c.pieces.invariant.room room);
       counted = search rules;
       takes = takes_on c.args.level c.args.bytes.now (level_of c.args.segment.now) (level_of c.pieces.segment) (level_of c.take_whole.new.segment) d e h
           c.args.bits.now c.pieces.bits c.take_whole.new.bits from c.pieces.fields c.take_whole.new.fields c.pieces.invariant.takes c.in-Ok-true-take_whole.ensures.takes;
@@ -67,6 +69,7 @@ pieces-preserved g c =
       next = rw (c.take_exponent.ensures.same_keys) c.in-Ok-true-take_exponent.ensures.next;
       served = rw (c.take_exponent.ensures.same_keys) c.in-Ok-true-take_exponent.ensures.served;
       kept = c.in-Ok-true-take_exponent.ensures.kept;
+      room = λ room. c.in-Ok-true-take_exponent.ensures.room (c.pieces.invariant.room room);
       counted = search rules;
       takes = takes_on c.args.level c.args.bytes.now (level_of c.args.segment.now) (level_of c.pieces.segment) (level_of c.take_exponent.new.segment) d e h
           c.args.bits.now c.pieces.bits c.take_exponent.new.bits from c.pieces.fields c.take_exponent.new.fields c.pieces.invariant.takes c.in-Ok-true-take_exponent.ensures.takes;

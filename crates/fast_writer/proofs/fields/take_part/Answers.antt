@@ -4,6 +4,7 @@ use Rattle.fast_template.specs.Resolved.{part_needs_bit}
 use Rattle.fast_dictionary.specs.Dictionary.{set_entry, set_entry-there}
 use Rattle.fast_stream.specs.Bits.{bit_for}
 use Rattle.fast_writer.specs.Levels.{level_of}
+use Rattle.fast_writer.proofs.MapRoom.{asked_room}
 use Rattle.fast_writer.proofs.Relays.{level_bytes, spelt_of, took_of}
 use Rattle.fast_writer.proofs.SpeltParts.{spelt_keeps}
 use Rattle.fast_writer.proofs.fields.take_part.Goals as goal
@@ -39,3 +40,10 @@ returns-in-Ok-ask-clause-kept g c =
     let i = c.args.part.now in
     let t = returns-in-Ok-ask-clause-took g c in
     spelt_keeps i d (g.E.Entries.contents (c.entry_mut.follows.lender c.relay_quickly.new.entry)) t.0 (level_of c.args.segment.now) (level_of c.ask.new.self) c.requires.part c.requires.kept t.2.entry t.3
+
+pub returns-in-Ok-ask-clause-room : goal.returns-in-Ok-ask-clause-room
+returns-in-Ok-ask-clause-room g c = λ room.
+    let needs = c.part_needs_bit-needs.ensures in
+    let asked = rw (needs) at c.in-Ok-ask.ensures in
+    rw (c.take_for.ensures, needs)
+    (asked_room (part_needs_bit c.args.part.now) c.first_for-bit.result c.in-Some.best (level_of c.args.segment.now) (level_of c.ask.new.self) c.args.bits.now (rw (needs) at c.first_for-bit.ensures) c.in-Some.ensures.lower asked.bits asked.own room)

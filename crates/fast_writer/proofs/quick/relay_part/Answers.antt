@@ -1,7 +1,9 @@
 use Rattle.std.proofs.Common.{ap, ◌∙◌}
 use Rattle.std.specs.Result.{is_ok}
 use Rattle.fast_dictionary.specs.Dictionary.{set_entry, set_entry-there}
+use Rattle.fast_template.specs.Resolved.{part_needs_bit}
 use Rattle.fast_writer.specs.Levels.{level_of}
+use Rattle.fast_writer.proofs.MapRoom.{asked_room}
 use Rattle.fast_writer.proofs.Relays.{level_bytes, spelt_of, took_of}
 use Rattle.fast_walk.proofs.Telling.{kept_hold}
 use Rattle.fast_writer.proofs.quick.relay_part.Goals as goal
@@ -34,3 +36,8 @@ returns-in-Ok-ask-clause-relays g c =
 
 pub relay_generally-requires-clause-entry : goal.relay_generally-requires-clause-entry
 relay_generally-requires-clause-entry g c = rw (c.in-Ok.ensures.value) (kept_hold (g.E.Entries.contents c.args.entries.now) c.requires.kept c.args.part.now.key)
+
+pub returns-in-Ok-ask-clause-room : goal.returns-in-Ok-ask-clause-room
+returns-in-Ok-ask-clause-room g c = λ left is room.
+    let asked = rw (c.part_needs_bit.ensures) at c.in-Ok-ask.ensures in
+    asked_room (part_needs_bit c.args.part.now) c.args.bit c.in-Ok-relay_generally.best (level_of c.args.segment.now) (level_of c.ask.new.self) left is c.in-Ok-relay_generally.ensures.lower asked.bits asked.own room

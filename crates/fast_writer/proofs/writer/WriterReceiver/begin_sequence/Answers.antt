@@ -1,6 +1,8 @@
 use Rattle.std.proofs.Common.{map}
 use Rattle.fast_writer.specs.Levels.{level_of}
 use Rattle.fast_writer.proofs.Writers.{length_finished, has_length}
+use Rattle.fast_writer.specs.Room.{have_room}
+use Rattle.fast_writer.proofs.MapRoom.{inner_room}
 use Rattle.fast_writer.proofs.writer.WriterReceiver.begin_sequence.Goals as goal
 
 pub returns-in-Ok-clause-goes : goal.returns-in-Ok-clause-goes
@@ -16,3 +18,7 @@ returns-in-Ok-clause-goes g c =
         has_length n (map level_of old.outer.items) (level_of old.inner) (level_of c.relay_count.new.segment) o c.args._name.now number c.args._presence c.args.part.now members is d e next first took.entry c.in-Ok.ensures.spelt has.1,
       ),
     )
+
+pub returns-in-Ok-clause-room : goal.returns-in-Ok-clause-room
+returns-in-Ok-clause-room g c = λ around left is.
+    inner_room _ _ (have_room (map level_of c.args.self.now.outer.items) around) (c.in-Ok.ensures.room left is)

@@ -3,6 +3,8 @@ use Rattle.fast_walk.specs.Received.{exponent_of}
 use Rattle.fast_writer.specs.Levels.{level_of}
 use Rattle.fast_writer.proofs.QuickWays.{exponent_there}
 use Rattle.fast_writer.proofs.Writers.{exponent_finished, has_exponent, is_exponent}
+use Rattle.fast_writer.specs.Room.{have_room}
+use Rattle.fast_writer.proofs.MapRoom.{inner_room}
 use Rattle.fast_writer.proofs.writer.WriterReceiver.exponent.Goals as goal
 
 pub returns-in-Ok-clause-goes : goal.returns-in-Ok-clause-goes
@@ -21,3 +23,7 @@ returns-in-Ok-clause-goes g c =
         has_exponent x.0 (map level_of old.outer.items) (level_of old.inner) (level_of c.relay_part.new.segment) o c.args._name.now number c.args._presence c.args.part.now mantissa is d e next first took.entry (rw (x.1) at r.3) has.1,
       ),
     )
+
+pub returns-in-Ok-clause-room : goal.returns-in-Ok-clause-room
+returns-in-Ok-clause-room g c = λ around left is.
+    inner_room _ _ (have_room (map level_of c.args.self.now.outer.items) around) (c.in-Ok.ensures.room left is)

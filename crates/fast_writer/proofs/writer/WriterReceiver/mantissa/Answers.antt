@@ -3,6 +3,8 @@ use Rattle.fast_writer.specs.Levels.{level_of}
 use Rattle.fast_dictionary.specs.Dictionary.{entry_at}
 use Rattle.fast_writer.proofs.SpeltParts.{mantissa_taken}
 use Rattle.fast_writer.proofs.Writers.{has_mantissa}
+use Rattle.fast_writer.specs.Room.{have_room}
+use Rattle.fast_writer.proofs.MapRoom.{inner_room}
 use Rattle.fast_writer.proofs.writer.WriterReceiver.mantissa.Goals as goal
 
 pub returns-in-Ok-clause-goes : goal.returns-in-Ok-clause-goes
@@ -20,3 +22,7 @@ returns-in-Ok-clause-goes g c =
         has_mantissa (map level_of old.outer.items) (level_of old.inner) (level_of c.relay_part.new.segment) o z x.0 c.args.part.now d e next took.entry (rw (x.1) at r.3) has.1,
       ),
     )
+
+pub returns-in-Ok-clause-room : goal.returns-in-Ok-clause-room
+returns-in-Ok-clause-room g c = λ around left is.
+    inner_room _ _ (have_room (map level_of c.args.self.now.outer.items) around) (c.in-Ok.ensures.room left is)
