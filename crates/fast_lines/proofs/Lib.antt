@@ -4,4 +4,5 @@ pub mod Nested
 pub mod SameLines
 mod Telling
 mod Writing
+mod ToldFields
 mod LineRows

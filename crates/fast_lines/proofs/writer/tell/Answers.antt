@@ -4,6 +4,8 @@ use Rattle.fast_dictionary.specs.declared.entry.Entry.{Entry}
 use Rattle.fast_dictionary.specs.Dictionary.{set_entry, set_entry-there}
 use Rattle.fast_field.specs.Bases.{next}
 use Rattle.fast_walk.proofs.Putting.{set_written}
+use Rattle.fast_value.specs.declared.kind.Part.TheVariants as part
+use Rattle.fast_walk.proofs.Telling.{kept_hold, told_part}
 use Rattle.fast_lines.proofs.writer.tell.Goals as goal
 
 pub returns-in-Err-take-clause-stops : goal.returns-in-Err-take-clause-stops
@@ -32,3 +34,9 @@ returns-in-Ok-take-clause-told g c =
       },
       told.2,
     )
+
+pub take-requires-clause-part : goal.take-requires-clause-part
+take-requires-clause-part g c = told_part part.Whole c.args.part.now.kind c.args.part.now tt c.requires.told
+
+pub take-requires-clause-entry : goal.take-requires-clause-entry
+take-requires-clause-entry g c = rw (c.in-Ok.ensures.value) (kept_hold (g.E.Entries.contents c.args.entries.now) c.requires.kept c.args.part.now.key)
