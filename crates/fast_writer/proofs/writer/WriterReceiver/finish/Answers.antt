@@ -14,4 +14,4 @@ pub end-requires : goal.end-requires
 end-requires c =
     let old = c.args.self.now in
     let room = c.requires.room in
-    end_room (level_of old.inner) room.0 (both_room (has_room (level_of old.inner) room.0) _ room.1).0
+    record { room = end_room (level_of old.inner) room.0 (both_room (has_room (level_of old.inner) room.0) _ room.1).0 }
