@@ -4,3 +4,4 @@ pub mod Followings
 pub mod PlainReads
 pub mod BlockReads
 pub mod MessageEnds
+pub mod Lackings

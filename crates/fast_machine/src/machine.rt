@@ -5,7 +5,8 @@ mod calls;
 ghost use Rattle.std.specs.Prelude.{◌≡◌, ◌≤◌, [], None, IfSome, length};
 ghost use Rattle.std.specs.Coded.{→_prop};
 ghost use Rattle.std.proofs.Props.{props};
-ghost use Rattle.fast_walk.specs.OneProof.{KeepScalars-prop};
+ghost use Rattle.fast_walk.specs.Lacks.{Lacks};
+ghost use Rattle.fast_walk.specs.OneProof.{KeepScalars-prop, if-lacks-prop};
 ghost use Rattle.fast_walk.specs.Room.{HasRoomAt};
 ghost use Rattle.fast_walk.specs.Told.{KeepScalars};
 ghost use Rattle.fast_walk.specs.Traversals.{CanGoOn, ServesAll};
@@ -13,13 +14,13 @@ ghost use Rattle.fast_machine.specs.OneProof.{CanGoOn-prop, HasRoomAt-prop, Serv
 
 use fast_dictionary::Entries;
 use fast_stream::{Fault, Framing};
-use fast_walk::{HaltedBy, Receiver, Traversal};
+use fast_walk::{HaltedBy, Lack, Receiver, Traversal};
 use std::alloc::Global;
 
 /// Reads a stream that comes in chunks, stops anywhere, and hands what it reads to a receiver.
 ///
 /// It keeps the segments that are open, and the bytes of the one piece that is not whole. Nothing but that piece is
-/// read again.
+/// read again, and where it may be long, not before what it lacks has come.
 #[derive(Drop)]
 pub struct Machine<'a, R: Receiver, E: Entries> {
     alloc: Global,
@@ -33,6 +34,8 @@ pub struct Machine<'a, R: Receiver, E: Entries> {
     held: Vec<u8>,
     // the number of the instruction of the piece that is not whole; 0 where nothing of one has come
     waiting: u32,
+    // what that piece lacks at least, where it is known
+    lack: Option<Lack>,
     // how many bytes are left of the open block, those that are held among them; none between two blocks
     left: u128,
     fault: Option<Fault>,
@@ -44,6 +47,7 @@ pub struct Machine<'a, R: Receiver, E: Entries> {
     ghost bounded: { length held.items ≤ 65554 },
     ghost cleared: { IfSome fault (λ f. held.items ≡ []) } by { Prim.hlevel props },
     ghost ready: { fault ≡ None → CanGoOn (E.serves entries) traversal } by { →_prop (CanGoOn-prop (E.serves entries) traversal) },
+    ghost lacks: { IfSome lack (Lacks traversal held.items) } by { if-lacks-prop traversal held.items lack },
     ghost kept: { fault ≡ None → KeepScalars (E.contents entries) } by { →_prop (KeepScalars-prop (E.contents entries)) },
     ghost room: { fault ≡ None → HasRoomAt (R.room receiver) traversal.stage traversal.walk } by { →_prop (HasRoomAt-prop (R.room receiver) traversal.stage traversal.walk) },
 }

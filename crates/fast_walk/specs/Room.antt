@@ -1,5 +1,5 @@
 -- Room in the maps that a receiver writes, for the bits that are left of those that are read.
-use Rattle.std.specs.Prelude.{ℕ, ◌≤◌, Bool, List, map, length, IsTrue}
+use Rattle.std.specs.Prelude.{Bool, List, map, IsTrue}
 use Rattle.fast_wire.specs.Sizes.{CanBeMap}
 use Rattle.fast_walk.specs.OpenSegments.{Waiting}
 use Rattle.fast_walk.specs.Walks.{frame_of}

@@ -1,11 +1,11 @@
 -- The maps that are written have room for what is asked for, since those that were read had it.
-use Rattle.std.proofs.Common.{◌≡◌, ◌≤◌, ℕ, zero, suc, Bool, true, false, ◌||◌, List, [], ◌∷◌, ◌++◌, refl, drop, length, append-nil, ◌∙◌, arith}
-use Rattle.std.specs.Prelude.{◌&&◌, not, IsTrue, map}
+use Rattle.std.proofs.Common.{◌≡◌, ◌≤◌, ℕ, zero, suc, Bool, true, false, ◌||◌, List, [], ◌∷◌, ◌++◌, refl, drop, length, sym, append-nil, ◌∙◌}
+use Rattle.std.specs.Prelude.{◌&&◌, not, IsTrue}
 use Rattle.std.proofs.Math.ListN.{drop_of_length-le}
 use Rattle.fast_wire.specs.PresenceMap.{next_bit, later_bits}
 use Rattle.fast_wire.specs.Sizes.{CanBeMap}
 use Rattle.fast_stream.specs.Bits.{after_bit, bit_for}
-use Rattle.fast_writer.specs.Written.{Segment, bits_for, has_set, with_bytes}
+use Rattle.fast_writer.specs.Written.{Asked, Segment, bits_for, has_set}
 use Rattle.fast_writer.specs.Room.{has_room, have_room}
 
 -- ---- of one map
@@ -95,3 +95,8 @@ both_room b c h = both b c h
 -- what is open around stays
 pub inner_room : (one other around : Bool) → (IsTrue one → IsTrue other) → IsTrue (one && around) → IsTrue (other && around)
 inner_room one other around next h = let r = both one around h in rw (next r.0, r.1) refl
+
+-- what is left out takes a 0 in place of the one that was read
+pub left_room : (optional : Bool) (l k : Segment) (left : List Bool) → bit_for optional left ≡ false → Asked true false l k → IsTrue (has_room l left) → IsTrue (has_room k (after_bit optional left))
+left_room true l k left none asked room = asked_room true false false l k left (sym none) (λ e. refl) asked.bits asked.own room
+left_room false l k left none asked room = absurd cc

@@ -82,15 +82,3 @@ only_memory level p e v bytes rest f fits is holds goes (inl h) =
   where
     none_is_some : (f : FieldRefusal) → None ≡ Some f → ⊥
     none_is_some f h = absurd cc
-
--- ---- what is open
-
-no_end : (ws : List Waiting) (w : Waiting) → [] ≡ ws ++ w ∷ [] → ⊥
-no_end [] w is = absurd cc
-no_end (x ∷ ws) w is = absurd cc
-
--- inside a body that waits there is a segment that waits
-pub some_open : (g : Opening) (ws around : List Waiting) (w : Waiting) (outer : List Segment) (Inner : Opening → Type 0) → around ≡ ws ++ w ∷ [] → Chain g around outer Inner → outer ≡ [] → ⊥
-some_open g ws [] w outer Inner is c none = no_end ws w is
-some_open g ws (x ∷ xs) w [] Inner is c none = c
-some_open g ws (x ∷ xs) w (l ∷ ls) Inner is c none = absurd cc

@@ -13,6 +13,7 @@ ghost use Rattle.fast_walk.specs.declared.traversal.Stage.TheVariants as stage;
 ghost use Rattle.fast_walk.specs.declared.traversal.Traversal.{Traversal as TraversalNow};
 ghost use Rattle.fast_machine.specs.Following.{Counts, IsHeld, Refused, Waits};
 ghost use Rattle.fast_machine.specs.Standing.{Carried, ReadsOn, Stands, StopsBehind};
+ghost use Rattle.fast_walk.specs.Lacks.{Lacks};
 ghost use Rattle.fast_walk.specs.Traversals.{CanGoOn, ServesAll, begun_of, stop_of};
 
 use crate::blocks::{open_block, within};
@@ -21,9 +22,12 @@ use crate::messages::read_message;
 use fast_dictionary::Entries;
 use fast_stream::{Cause, Fault, Framing, Mode, Place};
 use fast_template::TemplateSet;
-use fast_walk::{Halt, HaltedBy, Receiver, Traversal};
+use fast_walk::{Halt, HaltedBy, Lack, Receiver, Traversal};
 use std::alloc::Global;
 use std::mem;
+
+/// The most bytes that are held.
+const HELD_LIMIT: usize = 65_554;
 
 // So many more; the count stops at the greatest number.
 fn counted(count: u64, more: u64) -> u64
@@ -108,6 +112,7 @@ impl<'a, R: Receiver, E: Entries> Machine<'a, R, E> {
             entries,
             held: Vec::new(alloc),
             waiting: 0,
+            lack: None,
             left: 0,
             fault: None,
             halted_by: HaltedBy::Walk,
@@ -186,6 +191,7 @@ impl<'a, R: Receiver, E: Entries> Machine<'a, R, E> {
         let fault = fault_at(cause, self.messages, self.fed, left, template, number);
         self.fault = Some(fault);
         self.halted_by = HaltedBy::Walk;
+        self.lack = None;
         self.held.clear();
         self.receiver.back(self.alloc);
         fault
@@ -214,6 +220,7 @@ impl<'a, R: Receiver, E: Entries> Machine<'a, R, E> {
         let fault = fault_at(Cause::Memory, self.messages, 0, 0, 0, 0);
         self.fault = Some(fault);
         self.halted_by = HaltedBy::Walk;
+        self.lack = None;
         self.held.clear();
         self.receiver.back(self.alloc);
         fault
@@ -222,6 +229,7 @@ impl<'a, R: Receiver, E: Entries> Machine<'a, R, E> {
     // Keeps the bytes of the piece that is not whole, of the instruction with this number.
     fn hold(&mut self, number: u32, rest: &[u8]) -> Result<(), Fault>
         requires fault { self.now.fault ≡ None }
+        requires unknown { self.now.lack ≡ None }
         requires held { self.now.held.items ≡ [] }
         requires few { length rest.now ≤ 65554 }
         ensures follows { (before : List Content) (fed : List ℕ) (messages : List Content)
@@ -241,6 +249,57 @@ impl<'a, R: Receiver, E: Entries> Machine<'a, R, E> {
             Err(_) => Err(self.refuse()),
             Ok(()) => {
                 self.waiting = number;
+                self.lack = self.traversal.lack(&self.held);
+                Ok(())
+            }
+        }
+    }
+
+    // What the piece that is not whole still lacks behind these bytes, in the same block; none where that is not known.
+    fn still_lacking(&self, chunk: &[u8]) -> Option<Lack>
+        ensures lacks { IfSome result (Lacks self.now.traversal (self.now.held.items ++ chunk.now)) }
+        ensures few { IfSome result (λ l. length (self.now.held.items ++ chunk.now) ≤ 65554) }
+        ensures room { IfSome result (λ l. self.now.framing ≡ Framing.Blocks
+            → length (self.now.held.items ++ chunk.now) < self.now.left) }
+    {
+        match self.lack {
+            None => None,
+            Some(lack) => {
+                let count = self.held.len() + chunk.len();
+                let fits = match self.framing {
+                    Framing::Plain => count <= HELD_LIMIT,
+                    Framing::Blocks => count <= HELD_LIMIT && (count as u128) < self.left,
+                };
+                if fits { lack.behind(chunk) } else { None }
+            }
+        }
+    }
+
+    // Holds these bytes too, behind which the piece that is not whole still lacks some.
+    fn hold_more(&mut self, lack: Lack, chunk: &[u8]) -> Result<(), Fault>
+        requires fault { self.now.fault ≡ None }
+        requires lacks { Lacks self.now.traversal (self.now.held.items ++ chunk.now) lack }
+        requires few { length (self.now.held.items ++ chunk.now) ≤ 65554 }
+        requires room { self.now.framing ≡ Framing.Blocks
+            → length (self.now.held.items ++ chunk.now) < self.now.left }
+        ensures follows { (before : List Content) (fed : List ℕ) (messages : List Content)
+            → length fed < 2 ^ 61 → Counts self.old.fed self.old.messages fed messages
+            → Stands self.old.framing self.old.left (ReadsOn R.has R.stands R.keeps self.old.traversal self.old.receiver
+            (E.contents self.old.entries) before) self.old.traversal (self.old.held.items ++ chunk.now) fed messages
+            → Follows self.new before fed messages }
+        ensures answer { Answers result self.new.fault }
+        ensures cause { IfErr result (λ f. f.cause ≡ Cause.Memory) }
+        ensures traversal { self.new.traversal ≡ self.old.traversal }
+        ensures entries { self.new.entries ≡ self.old.entries }
+        ensures fed { self.new.fed ≡ self.old.fed }
+        ensures framing { self.new.framing ≡ self.old.framing }
+    {
+        self.lack = None;
+        match self.held.extend_from_slice(chunk) {
+            Err(_) => Err(self.refuse()),
+            Ok(()) => {
+                self.waiting = lack.number;
+                self.lack = Some(lack);
                 Ok(())
             }
         }
@@ -251,6 +310,7 @@ impl<'a, R: Receiver, E: Entries> Machine<'a, R, E> {
     #[inline(always)]
     fn read_plain(&mut self, bytes: &[u8]) -> Result<Option<usize>, Fault>
         requires fault { self.now.fault ≡ None }
+        requires unknown { self.now.lack ≡ None }
         requires held { self.now.held.items ≡ [] }
         requires framing { self.now.framing ≡ Framing.Plain }
         requires some { (0 < length bytes.now) ⊎ (begun_of self.now.traversal ≡ 1) }
@@ -315,6 +375,7 @@ impl<'a, R: Receiver, E: Entries> Machine<'a, R, E> {
     // Stops at the size of a block, with which the bytes begin: holds it where it is not whole, or keeps its fault.
     fn stop_at_size(&mut self, cause: Cause, bytes: &[u8]) -> Result<(), Fault>
         requires fault { self.now.fault ≡ None }
+        requires unknown { self.now.lack ≡ None }
         requires held { self.now.held.items ≡ [] }
         requires framing { self.now.framing ≡ Framing.Blocks }
         requires few { cause ≡ Cause.Truncated → length bytes.now ≤ 9 }
@@ -347,6 +408,7 @@ impl<'a, R: Receiver, E: Entries> Machine<'a, R, E> {
     // the place behind it; none where they are all read or held.
     fn read_block(&mut self, bytes: &[u8]) -> Result<Option<usize>, Fault>
         requires fault { self.now.fault ≡ None }
+        requires unknown { self.now.lack ≡ None }
         requires held { self.now.held.items ≡ [] }
         requires framing { self.now.framing ≡ Framing.Blocks }
         requires some { (0 < length bytes.now) ⊎ (begun_of self.now.traversal ≡ 1) }
@@ -431,6 +493,7 @@ impl<'a, R: Receiver, E: Entries> Machine<'a, R, E> {
     #[inline(always)]
     fn read(&mut self, bytes: &[u8]) -> Result<Option<usize>, Fault>
         requires fault { self.now.fault ≡ None }
+        requires unknown { self.now.lack ≡ None }
         requires held { self.now.held.items ≡ [] }
         requires some { (0 < length bytes.now) ⊎ (begun_of self.now.traversal ≡ 1) }
         ensures goes { IfOk result (λ o. IfSome o (λ n. (before : List Content) (fed : List ℕ)
@@ -537,6 +600,13 @@ impl<'a, R: Receiver, E: Entries> Machine<'a, R, E> {
         ensures same_keys { E.serves self.new.entries ≡ E.serves self.old.entries }
         ensures fed { self.new.fed ≡ self.old.fed }
     {
+        if let Some(lack) = self.still_lacking(chunk) {
+            return match self.hold_more(lack, chunk) {
+                Err(fault) => Err(fault),
+                Ok(()) => Ok(None),
+            };
+        }
+        self.lack = None;
         if self.held.is_empty() {
             return match self.read(chunk) {
                 Err(fault) => Err(fault),
@@ -710,6 +780,7 @@ impl<'a, R: Receiver, E: Entries> Machine<'a, R, E> {
         self.traversal.reset();
         self.held.clear();
         self.waiting = 0;
+        self.lack = None;
         self.left = 0;
         self.fault = None;
         self.fed = 0;

@@ -28,10 +28,20 @@ returns-in-Err-extend_from_slice-clause-fails g c = (
       ),
 )
 
-pub returns-in-Ok-clause-goes : goal.returns-in-Ok-clause-goes
-returns-in-Ok-clause-goes g c =
+pub returns-in-Err-clause-fails : goal.returns-in-Err-clause-fails
+returns-in-Err-clause-fails g c = (
+  c.in-Err.ensures.answer,
+  (λ e. not_memory c.in-Err.fault.cause e c.in-Err.ensures.cause),
+  λ before fed messages short counts stands. ([], rw (append-nil messages, append-nil before) (c.in-Err.ensures.follows before fed messages (omega (arith, short)) counts stands)),
+)
+
+pub returns-in-Ok-clause-waits : goal.returns-in-Ok-clause-waits
+returns-in-Ok-clause-waits g c = (c.in-Ok.ensures.answer, λ before fed messages short counts stands. ([], rw (append-nil messages, append-nil before) (c.in-Ok.ensures.follows before fed messages (omega (arith, short)) counts stands)))
+
+pub returns-in-Ok-read-clause-goes : goal.returns-in-Ok-read-clause-goes
+returns-in-Ok-read-clause-goes g c =
     let zero : length c.args.self.now.held.items ≡ 0 = search rules in
-    rw (none_of c.args.self.now.held.items zero) c.in-Ok.ensures.goes
+    rw (none_of c.args.self.now.held.items zero) c.in-Ok-read.ensures.goes
 
 pub returns-clause-goes : goal.returns-clause-goes
-returns-clause-goes g c = rw (c.deref.ensures.value, c.in-Ok-extend_from_slice.ensures.items, c.replace-bytes.ensures.value) at c.in-Ok-read.ensures.goes
+returns-clause-goes g c = rw (c.deref.ensures.value, c.in-Ok-extend_from_slice.ensures.items, c.replace-bytes.ensures.value) at c.in-Ok-read-2.ensures.goes

@@ -1,7 +1,8 @@
-use Rattle.std.proofs.Common.{ap, map, rules, ◌≡◌}
+use Rattle.std.proofs.Common.{refl, ap, map, rules, ◌≡◌}
 use Rattle.fast_stream.specs.Streams.{identifier}
 use Rattle.fast_writer.specs.Levels.{level_of}
 use Rattle.fast_writer.proofs.Writers.{has_opened}
+use Rattle.fast_writer.proofs.MapRoom.{fresh_room}
 use Rattle.fast_writer.proofs.writer.WriterReceiver.begin.Goals as goal
 
 pub returns-in-Ok-Some-default-clause-goes : goal.returns-in-Ok-Some-default-clause-goes
@@ -18,3 +19,7 @@ returns-in-Ok-Some-default-clause-goes g c =
             (ap (map level_of) c.clear.ensures.items) c.begin.ensures.bits c.begin.ensures.own c.begin.ensures.bytes (rw (named) at took.entry) (rw (named) at spelt),
       ),
     )
+
+pub returns-in-Ok-Some-default-clause-room : goal.returns-in-Ok-Some-default-clause-room
+returns-in-Ok-Some-default-clause-room g c = λ left is few.
+    rw (c.in-Ok-Some-default.ensures.room left is (fresh_room (level_of c.begin.new.self) left c.begin.ensures.bits few), c.clear.ensures.items) refl

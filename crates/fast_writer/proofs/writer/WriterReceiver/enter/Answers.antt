@@ -1,8 +1,11 @@
-use Rattle.std.proofs.Common.{ℕ, subst, ◌∙◌, sym, map}
+use Rattle.std.proofs.Common.{ℕ, true, subst, ◌∙◌, sym, map}
 use Rattle.std.specs.Global.{Vec}
 use Rattle.fast_writer.specs.Written.{IsFinished}
 use Rattle.fast_writer.specs.Levels.{level_of}
 use Rattle.fast_writer.proofs.Writers.{has_entered}
+use Rattle.fast_stream.specs.Bits.{after_bit}
+use Rattle.fast_writer.specs.Room.{has_room, have_room}
+use Rattle.fast_writer.proofs.MapRoom.{asked_room, both_room, fresh_room, push_room}
 use Rattle.fast_writer.proofs.writer.WriterReceiver.enter.Goals as goal
 
 pub returns-clause-has : goal.returns-clause-has
@@ -13,3 +16,12 @@ returns-clause-has c = λ number presence members is bits o d next first optiona
       has_entered (map level_of old.outer.items) (map level_of new.outer.items) (level_of old.inner) (level_of c.ask.new.self) (level_of new.inner) o c.args._name.now number presence members is bits d c.args.optional
           next first optional c.in_ok-ask.ensures c.in_ok-open.ensures.outer c.in_ok-open.ensures.bits (c.in_ok-open.ensures.own ∙ own) c.in_ok-open.ensures.bytes has.1,
     )
+
+pub returns-clause-room : goal.returns-clause-room
+returns-clause-room c = λ around left bits bit few room.
+    let old = c.args.self.now in
+    let new = c.open.new.self in
+    let r = both_room (has_room (level_of old.inner) left) (have_room (map level_of old.outer.items) around) room in
+    let asked = asked_room c.args.optional true true (level_of old.inner) (level_of c.ask.new.self) left (sym bit) (λ e. absurd cc) c.in_ok-ask.ensures.bits c.in_ok-ask.ensures.own r.0 in
+    rw (fresh_room (level_of new.inner) bits c.in_ok-open.ensures.bits few, c.in_ok-open.ensures.outer)
+    (push_room (map level_of old.outer.items) around (level_of c.ask.new.self) (after_bit c.args.optional left) r.1 asked)

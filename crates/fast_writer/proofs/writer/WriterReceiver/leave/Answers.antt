@@ -1,9 +1,8 @@
-use Rattle.std.proofs.Common.{ℕ, subst, sym, ap, map}
+use Rattle.std.proofs.Common.{ℕ, subst, sym, map}
 use Rattle.std.specs.Global.{Vec}
 use Rattle.fast_walk.specs.OpenSegments.{in_group}
 use Rattle.fast_writer.specs.Written.{IsFinished}
 use Rattle.fast_writer.specs.Levels.{level_of}
-use Rattle.fast_writer.proofs.SpeltParts.{some_open}
 use Rattle.fast_writer.proofs.Writers.{has_ended}
 use Rattle.fast_writer.proofs.writer.WriterReceiver.leave.Goals as goal
 
@@ -12,5 +11,5 @@ returns-clause-has c = λ o d ws w next rest is inside has.
     let old = c.args.self.now in
     let new = c.close.new.self in (
       subst (λ (v : Vec ℕ). IsFinished v.items o.set o.before o.start) (sym c.close.ensures.out) has.0,
-      has_ended in_group (map level_of old.outer.items) (map level_of new.outer.items) (level_of old.inner) (level_of new.inner) o ws w d next rest is inside (c.in_ok-close.ensures.closed (λ none. some_open _ ws o.around w (map level_of old.outer.items) _ is has.1 (ap (map level_of) none))) has.1,
+      has_ended in_group (map level_of old.outer.items) (map level_of new.outer.items) (level_of old.inner) (level_of new.inner) o ws w d next rest is inside c.in_ok-close.ensures.closed has.1,
     )

@@ -1,0 +1,61 @@
+-- Where the piece that is next still lacks bytes, the stream stops at it.
+use Rattle.std.proofs.Common.{◌≡◌, ◌<◌, ℕ, List, [], length, take, refl, sym, ap, subst, ◌∙◌, append-nil, arith}
+use Rattle.std.proofs.lemmas.List.{take_all}
+use Rattle.fast_template.specs.TemplateSets.{templates_in}
+use Rattle.fast_dictionary.specs.Dictionary.{Dictionary}
+use Rattle.fast_stream.specs.declared.fault.Cause.TheVariants.{Truncated}
+use Rattle.fast_stream.specs.declared.mode.Framing.{Framing}
+use Rattle.fast_stream.specs.declared.mode.Framing.TheVariants.{Plain, Blocks}
+use Rattle.fast_stream.specs.Nodes.{Content}
+use Rattle.fast_stream.specs.Reading.{message_at}
+use Rattle.fast_walk.specs.OpenSegments.{Reading}
+use Rattle.fast_walk.specs.Lacks.{Lacks}
+use Rattle.fast_walk.specs.Traversals.{stop_of}
+use Rattle.fast_walk.specs.declared.halt.Halt.{Halt}
+use Rattle.fast_walk.specs.declared.lack.Lack.{Lack}
+use Rattle.fast_walk.specs.declared.traversal.Stage.TheVariants as stage
+use Rattle.fast_walk.specs.declared.traversal.Traversal.{Traversal}
+use Rattle.fast_walk.proofs.Lacking.{lacking_stops}
+use Rattle.fast_machine.specs.Runs.{Having, ReadsOn, RunStops, Standing, Unfinished}
+use Rattle.fast_machine.specs.Standing.{Stands, StopsBehind, framed_as}
+use Rattle.fast_machine.proofs.BlockReads.{block_waits, open_stands}
+use Rattle.fast_machine.proofs.PlainReads.{plain_stops}
+
+module _ {R : Type 0} (has : Having R) (stands keeps : Standing R) (t : Traversal) (r : R) (d : Dictionary) (before : List Content) (l : Lack) where
+  abbrev Goes : Dictionary → (List ℕ → Reading) → Type 0
+  Goes = ReadsOn has stands keeps t r d before
+
+  abbrev halt : Halt
+  halt = record { cause = Truncated; number = l.number }
+
+  inside : t.stage ≡ stage.Body → t.stage ≡ stage.Map → ⊥
+  inside body map = let same : stage.Body ≡ stage.Map = sym body ∙ map in absurd cc
+
+  message_stops : (unread : List ℕ) (start : Dictionary) (rest : List ℕ) → Lacks t unread l → Unfinished Goes t unread start rest → RunStops t.level (templates_in t.set.now) start rest [] (stop_of t.template halt unread)
+  message_stops unread start rest lacks u = record {
+    front = [];
+    rest = rest;
+    start = start;
+    parts = refl;
+    carried = (refl, refl);
+    ends = (
+      u.some (inside lacks.0),
+      u.fits,
+      ap (message_at t.level (templates_in t.set.now) start) (sym (append-nil rest)) ∙ u.reads [] ∙ ap u.read (append-nil unread)
+          ∙ lacking_stops has stands keeps t r (templates_in t.set.now) d start before u.read unread l u.goes lacks,
+    );
+  }
+
+  pub still_waits : (framing : Framing) (left : ℕ) (unread fed : List ℕ) (messages : List Content) → Lacks t unread l → (framing ≡ Blocks → length unread < left) → Stands framing left Goes t unread fed messages
+      → StopsBehind (framed_as framing t) (templates_in t.set.now) fed messages (stop_of t.template halt unread)
+  still_waits Plain left unread fed messages lacks room s =
+      subst (λ (ms : List Content). StopsBehind (framed_as Plain t) (templates_in t.set.now) fed ms (stop_of t.template halt unread)) (append-nil messages)
+      (plain_stops Goes t t left unread fed messages [] s refl refl (stop_of t.template halt unread) (message_stops unread s.start.dictionary s.rest lacks s.ends.0))
+  still_waits Blocks left unread fed messages lacks room s =
+      let short = room refl in
+      let some : 0 < left = omega (arith, short) in
+      let b = open_stands Goes t t.level left left 0 unread fed messages refl (λ k. (refl, refl)) (λ none. absurd (omega (arith, none, some))) some s in
+      let all : take left unread ≡ unread = take_all left unread (omega (arith, short)) in
+      let run = message_stops (take left unread) b.start.dictionary b.ends.within (subst (λ (xs : List ℕ). Lacks t xs l) (sym all) lacks) b.ends.next in
+      subst (λ (ms : List Content). StopsBehind (framed_as Blocks t) (templates_in t.set.now) fed ms (stop_of t.template halt unread)) (append-nil messages)
+      (block_waits Goes t t left 0 unread (take left unread) fed messages [] b refl (omega arith) refl refl halt (omega (arith, short)) run)
