@@ -1,5 +1,5 @@
 -- The maps that are written have room for what is asked for, since those that were read had it.
-use Rattle.std.proofs.Common.{◌≡◌, ◌≤◌, ℕ, zero, suc, Bool, true, false, ◌||◌, List, [], ◌∷◌, ◌++◌, refl, drop, length, sym, append-nil, ◌∙◌}
+use Rattle.std.proofs.Common.{◌≡◌, ℕ, zero, suc, Bool, true, false, ◌||◌, List, [], ◌∷◌, ◌++◌, refl, drop, sym, append-nil, ◌∙◌}
 use Rattle.std.specs.Prelude.{◌&&◌, not, IsTrue}
 use Rattle.std.proofs.Math.ListN.{drop_of_length-le}
 use Rattle.fast_wire.specs.PresenceMap.{next_bit, later_bits}

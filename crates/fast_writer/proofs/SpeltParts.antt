@@ -1,5 +1,5 @@
 -- What is spelled of a part of a set: a value of its type, and of a mandatory part a value.
-use Rattle.std.proofs.Common.{◌≡◌, ℕ, Bool, true, false, List, [], ◌++◌, ◌∷◌, Option, Some, None, Ok, refl, sym, ap, subst, ◌∙◌, inl, inr, append-nil}
+use Rattle.std.proofs.Common.{◌≡◌, ℕ, Bool, true, false, List, [], ◌++◌, Option, Some, None, Ok, refl, sym, ap, subst, ◌∙◌, inl, inr, append-nil}
 use Rattle.std.specs.Borrow.{Bor}
 use Rattle.std.specs.Option.{is_some, option_copied}
 use Rattle.std.specs.Prelude.{ℤ, IfSome, IsTrue}
@@ -30,11 +30,10 @@ use Rattle.fast_field.proofs.LevelsAgree.{read_usually}
 use Rattle.fast_field.proofs.Refused.{not_refused}
 use Rattle.fast_field.proofs.ValueKinds.{value_kind, value_there}
 use Rattle.fast_stream.specs.Bodies.{written}
-use Rattle.fast_walk.specs.OpenSegments.{Waiting}
 use Rattle.fast_walk.specs.Told.{HoldScalars, KeepScalars, IsTold}
 use Rattle.fast_walk.proofs.Telling.{are_kept, form_holds, kept_hold, told_part}
 use Rattle.fast_relay.specs.Relayed.{IsThere}
-use Rattle.fast_writer.specs.Written.{AppendsForm, Chain, Opening, Segment, Spelt}
+use Rattle.fast_writer.specs.Written.{AppendsForm, Segment, Spelt}
 use Rattle.fast_writer.proofs.QuickWays.{mantissa_there}
 
 -- ---- values

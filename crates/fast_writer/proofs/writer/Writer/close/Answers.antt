@@ -1,9 +1,9 @@
 use Rattle.std.proofs.Common.{◌≡◌, [], ◌∷◌, ◌++◌, List, map, ap, subst, ◌∙◌, rules}
-use Rattle.std.specs.Prelude.{Bool, IsTrue}
+use Rattle.std.specs.Prelude.{IsTrue}
 use Rattle.std.proofs.lemmas.List.{map_push}
 use Rattle.fast_writer.specs.Levels.{level_of}
 use Rattle.fast_writer.specs.Written.{Segment}
-use Rattle.fast_writer.specs.Room.{has_room, have_room, writer_room}
+use Rattle.fast_writer.specs.Room.{has_room, have_room}
 use Rattle.fast_writer.proofs.MapRoom.{both_room, end_room, pop_room, some_room}
 use Rattle.fast_writer.proofs.writer.Writer.close.Goals as goal
 
