@@ -2,7 +2,7 @@
 use Rattle.std.proofs.Common.{◌≡◌, ◌<◌, ℕ, Bool, true, ◌&&◌, List, [], ◌∷◌, Option, Some, None, refl, sym, ap, ◌∙◌, drop, get_or, arith}
 use Rattle.std.specs.Prelude.{IsTrue, nat_lt}
 use Rattle.std.specs.List.{AllByRecursion}
-use Rattle.std.proofs.Common.{nat_tests}
+use Rattle.std.proofs.lemmas.Bool.Decides.{nat_tests}
 use Rattle.fast_wire.specs.declared.level.Level.{Level}
 use Rattle.fast_value.specs.Scalar.{IsScalar, is_of}
 use Rattle.fast_value.specs.declared.kind.Kind.{Kind}
@@ -25,9 +25,7 @@ use Rattle.fast_lines.specs.Lines.{absent_text, field_text, scalar_text}
 
 characters : (s : List ℕ) → AllByRecursion (λ c. c < 128) s → are_characters s ≡ true
 characters [] all = refl
-characters (c ∷ s) all =
-    let low : nat_lt c 128 ≡ true = grind (arith, nat_tests, all.0) in
-    rw (low, characters s all.1) refl
+characters (c ∷ s) all = let low = all.0 in let t : nat_lt c 128 ≡ true = grind (arith, nat_tests) in rw (t) (characters s all.1)
 
 of_characters : (v : Scalar) → IsScalar v → has_characters v ≡ true
 of_characters (U32 n) h = refl

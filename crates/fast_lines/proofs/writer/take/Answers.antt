@@ -26,7 +26,7 @@ tell-requires g c = λ none.
     (λ k. omega (arith, c.type_inv.bytes k)) c.requires.part c.requires.presence c.requires.bit c.requires.entry (c.in-Some.ensures.taken c.args.level (drop c.args.at c.args.bytes.now))
     (ap (λ (o : Option Scalar). field_text form i.kind c.args.presence (single o)) (sym value) ∙ none)
 
-pub tell-in-Some-requires : goal.tell-in-Some-requires
-tell-in-Some-requires g c =
-    tells g.S.Escape.form c.args.level c.args.part.now c.args.presence c.args.bit c.args.entry.now c.take_quickly.new.entry (Some c.in-Some-take_quickly.value) c.args.bytes.now c.args.at c.in-Some-take_quickly.next
-    (λ k. omega (arith, c.type_inv.bytes k)) c.requires.part c.requires.presence c.requires.bit c.requires.entry (c.in-Some-take_quickly.ensures.taken)
+pub tell-requires-in-Some-take_quickly : goal.tell-requires-in-Some-take_quickly
+tell-requires-in-Some-take_quickly g c =
+    tells g.S.Escape.form c.args.level c.args.part.now c.args.presence c.args.bit c.take_given.new.entry c.take_quickly.new.entry (Some c.in-Some-take_quickly.value) c.args.bytes.now c.args.at c.in-Some-take_quickly.next
+    (λ k. omega (arith, c.type_inv.bytes k)) c.requires.part c.requires.presence c.requires.bit (rw (c.in-None.ensures.entry) c.requires.entry) (c.in-Some-take_quickly.ensures.taken)
