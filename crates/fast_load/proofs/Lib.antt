@@ -15,6 +15,7 @@ pub mod Places
 pub mod OperatorPhase
 pub mod NamePhase
 pub mod WalkLaws
+pub mod KeptLaws
 pub mod WorkedLists
 pub mod WorkedRows
 pub mod OneFault

@@ -3,12 +3,14 @@
 ghost use Rattle.std.specs.Prelude.{◌≤◌, ◌<◌, ℕ, IfOk, MatchOption, MatchResult, length, map};
 ghost use Rattle.fast_load.specs.Duplicates.{NamesLead};
 ghost use Rattle.fast_load.specs.FlatLists.{AreResolved};
+ghost use Rattle.fast_load.specs.Initials.{AreInitials};
 ghost use Rattle.fast_load.specs.Links.{IsBuildOrder};
 ghost use Rattle.fast_load.specs.LoadChecks.{IsAccepted, IsFirstFault};
 ghost use Rattle.fast_load.specs.Phases.{IsFirstOf, Passes};
 ghost use Rattle.fast_template.specs.TemplateSets.{templates_in};
 ghost use Rattle.fast_written.specs.Written.{written_template_of};
 
+use crate::checks::Checked;
 use crate::extents::{extents_of, first_too_large};
 use crate::flat_lists::flat_templates;
 use crate::id_places::id_places;
@@ -28,9 +30,10 @@ use std::collections::BTreeMap;
 pub(crate) fn resolve(
     alloc: Global,
     templates: &[Template],
-    names: &BTreeMap<Name, u32>,
+    checked: &Checked,
 ) -> Result<Result<TemplateSet, LoadFault>, AllocError>
-    requires lead { NamesLead names.now (map written_template_of templates.now) }
+    requires lead { NamesLead checked.now.names (map written_template_of templates.now) }
+    requires initials { AreInitials templates.now checked.now.initials.items }
     requires passed { (phase : ℕ) → phase < 5 → Passes
         (map written_template_of templates.now) phase }
     ensures { IfOk result (λ answer. MatchResult answer
@@ -38,8 +41,8 @@ pub(crate) fn resolve(
         × AreResolved (map written_template_of templates.now) (templates_in set))
         (λ fault. IsFirstFault (map written_template_of templates.now) fault)) }
 {
-    match order_within_limits(alloc, templates, names)? {
-        Ok(order) => Ok(Ok(set_of(alloc, templates, names, &order)?)),
+    match order_within_limits(alloc, templates, &checked.names)? {
+        Ok(order) => Ok(Ok(set_of(alloc, templates, checked, &order)?)),
         Err(fault) => Ok(Err(fault)),
     }
 }
@@ -92,11 +95,12 @@ fn limit_passed(
 fn set_of(
     alloc: Global,
     templates: &[Template],
-    names: &BTreeMap<Name, u32>,
+    checked: &Checked,
     order: &[usize],
 ) -> Result<TemplateSet, AllocError>
     requires few { length templates.now ≤ 65535 }
-    requires lead { NamesLead names.now (map written_template_of templates.now) }
+    requires lead { NamesLead checked.now.names (map written_template_of templates.now) }
+    requires initials { AreInitials templates.now checked.now.initials.items }
     requires differ { Passes (map written_template_of templates.now) 2 }
     requires operators { Passes (map written_template_of templates.now) 3 }
     requires limits { Passes (map written_template_of templates.now) 6 }
@@ -104,7 +108,7 @@ fn set_of(
     ensures { IfOk result (λ set. AreResolved (map written_template_of templates.now)
         (templates_in set)) }
 {
-    let mut flats = flat_templates(alloc, templates, names, order)?;
+    let mut flats = flat_templates(alloc, templates, checked, order)?;
     let slots = settle(&mut flats, alloc)?;
     let places = id_places(alloc, &flats)?;
     Ok(TemplateSet::of(flats, slots, places))

@@ -1,6 +1,6 @@
 //! Whether references name templates.
 
-ghost use Rattle.std.specs.Prelude.{◌≡◌, ◌≤◌, ◌⊎◌, MatchResult, None, is_some, length, map};
+ghost use Rattle.std.specs.Prelude.{[], ◌≡◌, ◌≤◌, ◌⊎◌, MatchResult, None, is_some, length, map};
 ghost use Rattle.std.specs.BTreeMap.{get};
 ghost use Rattle.std.specs.Cmp.Lexicographic.{slice_cmp};
 ghost use Rattle.std.specs.Ordering.{nat_cmp};
@@ -10,7 +10,7 @@ ghost use Rattle.fast_load.specs.Phases.{IsFirstOf, Passes};
 ghost use Rattle.fast_load.specs.References.{reference_cause};
 ghost use Rattle.fast_written.specs.Written.{written_template_of};
 
-use crate::walk::{Judge, first_at_fault};
+use crate::walk::{Judge, judge_all};
 use fast_value::Name;
 use fast_written::{Instruction, LoadCause, LoadFault, Template, want_of_memory};
 use std::alloc::{AllocError, Global};
@@ -24,16 +24,24 @@ pub(crate) struct References<'a> {
 }
 
 impl Judge for References<'_> {
+    type Kept = ();
+
     ghost judges_template = { λ s w. None };
 
     ghost judges = { λ s. reference_cause (λ name. is_some (get
         (slice_cmp nat_cmp) s.names.now name)) };
 
+    ghost keeps = { λ s i. [] };
+
     fn judge_template(&self, _template: &Template) -> Option<LoadCause> {
         None
     }
 
-    fn judge(&self, instruction: &Instruction) -> Result<Option<LoadCause>, AllocError> {
+    fn judge(
+        &self,
+        instruction: &Instruction,
+        _kept: &mut Vec<()>,
+    ) -> Result<Option<LoadCause>, AllocError> {
         match instruction {
             Instruction::Reference { name } => {
                 let name = Name::of(self.alloc, name)?;
@@ -64,9 +72,9 @@ pub(crate) fn check_references(
         (λ fault. IsFirstOf (map written_template_of templates.now) 4 fault
         ⊎ (fault ≡ want_of_memory_of)) }
 {
-    match first_at_fault(alloc, templates, &References { alloc, names }) {
-        Ok(None) => Ok(()),
-        Ok(Some(fault)) => Err(fault),
+    match judge_all(alloc, templates, &References { alloc, names }) {
+        Ok(Ok(_)) => Ok(()),
+        Ok(Err(fault)) => Err(fault),
         Err(AllocError) => Err(want_of_memory()),
     }
 }

@@ -9,17 +9,17 @@ use Rattle.fast_load.specs.Walks.{first_at_fault}
 use Rattle.fast_load.proofs.ReferencePhase.{references_pass, references_fault}
 use Rattle.fast_load.proofs.references.check_references.Goals as goal
 
-pub returns-in-Ok-None : goal.returns-in-Ok-None
-returns-in-Ok-None c =
+pub returns-in-Ok-Ok : goal.returns-in-Ok-Ok
+returns-in-Ok-Ok c =
     let ts : List WrittenTemplate = map written_template_of c.args.templates.now in
     let known : List ℕ → Bool = λ name. is_some (get (slice_cmp nat_cmp) c.args.names.now name) in
     let none : first_at_fault (λ w. None) (reference_cause known) ts 1 ≡ None = search rules in
     references_pass ts known (λ name. ap is_some (c.requires.lead name)) none
 
-pub returns-in-Ok-Some : goal.returns-in-Ok-Some
-returns-in-Ok-Some c =
+pub returns-in-Ok-Err : goal.returns-in-Ok-Err
+returns-in-Ok-Err c =
     let ts : List WrittenTemplate = map written_template_of c.args.templates.now in
     let known : List ℕ → Bool = λ name. is_some (get (slice_cmp nat_cmp) c.args.names.now name) in
     let few : length ts ≤ 65535 = subst (λ n. n ≤ 65535) (sym (length-map c.args.templates.now written_template_of)) c.requires.few in
-    let some : first_at_fault (λ w. None) (reference_cause known) ts 1 ≡ Some c.in-Ok-Some.fault = search rules in
-    inl (references_fault ts known (λ name. ap is_some (c.requires.lead name)) c.in-Ok-Some.fault few some)
+    let some : first_at_fault (λ w. None) (reference_cause known) ts 1 ≡ Some c.in-Ok-Err.fault = search rules in
+    inl (references_fault ts known (λ name. ap is_some (c.requires.lead name)) c.in-Ok-Err.fault few some)
