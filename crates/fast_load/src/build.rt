@@ -4,7 +4,7 @@ ghost use Rattle.std.specs.Prelude.{◌≤◌, ◌<◌, ℕ, IfOk, MatchOption, 
 ghost use Rattle.fast_load.specs.Duplicates.{NamesLead};
 ghost use Rattle.fast_load.specs.FlatLists.{AreResolved};
 ghost use Rattle.fast_load.specs.Initials.{AreInitials};
-ghost use Rattle.fast_load.specs.Links.{IsBuildOrder};
+ghost use Rattle.fast_load.specs.Links.{AreLinks, IsBuildOrder};
 ghost use Rattle.fast_load.specs.LoadChecks.{IsAccepted, IsFirstFault};
 ghost use Rattle.fast_load.specs.Phases.{IsFirstOf, Passes};
 ghost use Rattle.fast_template.specs.TemplateSets.{templates_in};
@@ -33,6 +33,7 @@ pub(crate) fn resolve(
     checked: &Checked,
 ) -> Result<Result<TemplateSet, LoadFault>, AllocError>
     requires lead { NamesLead checked.now.names (map written_template_of templates.now) }
+    requires linked { AreLinks templates.now checked.now.links.items }
     requires initials { AreInitials templates.now checked.now.initials.items }
     requires passed { (phase : ℕ) → phase < 5 → Passes
         (map written_template_of templates.now) phase }
@@ -41,7 +42,7 @@ pub(crate) fn resolve(
         × AreResolved (map written_template_of templates.now) (templates_in set))
         (λ fault. IsFirstFault (map written_template_of templates.now) fault)) }
 {
-    match order_within_limits(alloc, templates, &checked.names)? {
+    match order_within_limits(alloc, templates, checked)? {
         Ok(order) => Ok(Ok(set_of(alloc, templates, checked, &order)?)),
         Err(fault) => Ok(Err(fault)),
     }
@@ -52,9 +53,10 @@ pub(crate) fn resolve(
 fn order_within_limits(
     alloc: Global,
     templates: &[Template],
-    names: &BTreeMap<Name, u32>,
+    checked: &Checked,
 ) -> Result<Result<Vec<usize>, LoadFault>, AllocError>
-    requires lead { NamesLead names.now (map written_template_of templates.now) }
+    requires lead { NamesLead checked.now.names (map written_template_of templates.now) }
+    requires linked { AreLinks templates.now checked.now.links.items }
     requires passed { (phase : ℕ) → phase < 5 → Passes
         (map written_template_of templates.now) phase }
     ensures { IfOk result (λ answer. MatchResult answer
@@ -63,8 +65,8 @@ fn order_within_limits(
         × Passes (map written_template_of templates.now) 6)
         (λ fault. IsFirstFault (map written_template_of templates.now) fault)) }
 {
-    match build_order(alloc, templates, names)? {
-        Ok(order) => match limit_passed(alloc, templates, names, &order)? {
+    match build_order(alloc, templates, &checked.links)? {
+        Ok(order) => match limit_passed(alloc, templates, &checked.names, &order)? {
             Some(fault) => Ok(Err(fault)),
             None => Ok(Ok(order)),
         },

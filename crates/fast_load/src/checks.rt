@@ -3,6 +3,7 @@
 ghost use Rattle.std.specs.Prelude.{◌≡◌, ◌<◌, ◌⊎◌, MatchResult, ℕ, map};
 ghost use Rattle.fast_load.specs.Duplicates.{NamesLead};
 ghost use Rattle.fast_load.specs.Initials.{AreInitials};
+ghost use Rattle.fast_load.specs.Links.{AreLinks};
 ghost use Rattle.fast_load.specs.LoadChecks.{IsFirstFault};
 ghost use Rattle.fast_written.specs.LoadFaults.{want_of_memory};
 ghost use Rattle.fast_load.specs.Phases.{Passes};
@@ -23,6 +24,8 @@ use std::collections::BTreeMap;
 pub(crate) struct Checked {
     /// Where the name of each template stands.
     pub(crate) names: BTreeMap<Name, u32>,
+    /// The places of the templates that each template refers to, depth first.
+    pub(crate) links: Vec<Vec<usize>>,
     /// The initial values of each template's parts, in their order.
     pub(crate) initials: Vec<Vec<Option<Initial>>>,
 }
@@ -36,6 +39,7 @@ pub(crate) fn check_written(alloc: Global, templates: &[Template]) -> Result<Che
     ensures { MatchResult result
         (λ checked. ((phase : ℕ) → phase < 5 → Passes (map written_template_of templates.now) phase)
         × NamesLead checked.names (map written_template_of templates.now)
+        × AreLinks templates.now checked.links.items
         × AreInitials templates.now checked.initials.items)
         (λ fault. IsFirstFault (map written_template_of templates.now) fault
         ⊎ (fault ≡ want_of_memory)) }
@@ -55,9 +59,13 @@ pub(crate) fn check_written(alloc: Global, templates: &[Template]) -> Result<Che
         Ok(initials) => initials,
         Err(fault) => return Err(fault),
     };
-    match check_references(alloc, templates, &names) {
-        Ok(()) => (),
+    let links = match check_references(alloc, templates, &names) {
+        Ok(links) => links,
         Err(fault) => return Err(fault),
-    }
-    Ok(Checked { names, initials })
+    };
+    Ok(Checked {
+        names,
+        links,
+        initials,
+    })
 }
