@@ -2,7 +2,7 @@
 use Rattle.std.proofs.Common.{◌≡◌, ◌<◌, ◌≤◌, ◌+◌, ◌∷◌, ◌++◌, [], ℕ, List, map, drop, get_or, length, sym, ap, Option, Vec, subst, ◌∙◌, append_assoc, append-nil}
 use Rattle.std.specs.List.{flat_map}
 use Rattle.fast_value.specs.declared.scalar.Scalar.{Scalar}
-use Rattle.std.proofs.lemmas.List.{drop_all, drop_more, length-map, get_or-map}
+use Rattle.std.proofs.lemmas.List.{drop_all, drop_more, length-map, get_or-map, map-append}
 use Rattle.std.proofs.lemmas.Grind.{flat_map-append}
 use Rattle.std.proofs.Math.Seq.{drop-append_seam}
 use Rattle.fast_written.specs.declared.written.Instruction.{Instruction}
@@ -12,6 +12,7 @@ use Rattle.fast_load.specs.declared.in_order.Leveled.{Leveled}
 use Rattle.fast_load.specs.InOrder.{found_of}
 use Rattle.fast_load.specs.Walks.{kept_of}
 use Rattle.std.specs.declared.alloc.Global.{Global}
+use Rattle.fast_load.specs.Links.{references_in, references_in_one}
 use Rattle.fast_load.specs.Initials.{AreInitials, Leads, initials_of, initials_in, initials_in_one}
 
 module _ {K : Type 0} (keeps : WrittenInstruction → List K) where
@@ -68,21 +69,46 @@ rest_member is d i rest new after inside at e h = behind (initials_in_one (writt
 pub rest_end : (is : List Instruction) (i : ℕ) (rest after : List (Option Scalar)) → length is ≤ i → rest ≡ initials_in (written_list (map written_of (drop i is))) ++ after → rest ≡ after
 rest_end is i rest after le h = h ∙ ap (λ l. initials_in (written_list (map written_of l)) ++ after) (drop_all i is le)
 
+-- ---- places of one reference after another
+
+links_split : (f : List ℕ → ℕ) (is : List Instruction) (d : Instruction) (i : ℕ) (rest after : List ℕ) → i < length is → d ≡ get_or is i d → rest ≡ map f (references_in (written_list (map written_of (drop i is)))) ++ after → rest ≡ map f (references_in_one (written_of d)) ++ (map f (references_in (written_list (map written_of (drop (i + 1) is)))) ++ after)
+links_split f is d i rest after inside at h =
+    let more = references_in (written_list (map written_of (drop (i + 1) is))) in
+    let split : drop i is ≡ d ∷ drop (i + 1) is = drop_more is i d inside ∙ ap (λ e. e ∷ drop (i + 1) is) (sym at) in
+    h
+    ∙ ap (λ l. map f (references_in (written_list (map written_of l))) ++ after) split
+    ∙ ap (λ l. l ++ after) (map-append f (references_in_one (written_of d)) more)
+    ∙ append_assoc (map f (references_in_one (written_of d))) (map f more) after
+
+pub linked_member : (f : List ℕ → ℕ) (is : List Instruction) (d : Instruction) (i : ℕ) (rest after : List ℕ) → i < length is → d ≡ get_or is i d → rest ≡ map f (references_in (written_list (map written_of (drop i is)))) ++ after → Leads (map f (references_in_one (written_of d))) rest
+linked_member f is d i rest after inside at h = leads_so (map f (references_in_one (written_of d))) _ rest (links_split f is d i rest after inside at h)
+
+pub links_member : (f : List ℕ → ℕ) (is : List Instruction) (d : Instruction) (i : ℕ) (rest new after : List ℕ) → i < length is → d ≡ get_or is i d → new ≡ drop (length (references_in_one (written_of d))) rest → rest ≡ map f (references_in (written_list (map written_of (drop i is)))) ++ after → new ≡ map f (references_in (written_list (map written_of (drop (i + 1) is)))) ++ after
+links_member f is d i rest new after inside at e h = behind (map f (references_in_one (written_of d))) _ rest new (links_split f is d i rest after inside at h) (e ∙ ap (λ n. drop n rest) (sym (length-map (references_in_one (written_of d)) f)))
+
+pub links_end : (f : List ℕ → ℕ) (is : List Instruction) (i : ℕ) (rest after : List ℕ) → length is ≤ i → rest ≡ map f (references_in (written_list (map written_of (drop i is)))) ++ after → rest ≡ after
+links_end f is i rest after le h = h ∙ ap (λ l. map f (references_in (written_list (map written_of l))) ++ after) (drop_all i is le)
+
 -- ---- a row for each template
 
-rows_len : (templates : List Template) (rows : List (Vec (Option Scalar) Global)) → AreInitials templates rows → length rows ≡ length templates
-rows_len templates rows are = sym (length-map rows (λ (row : Vec (Option Scalar) Global). row.items)) ∙ ap length are ∙ length-map templates (λ t. initials_in (written_template_of t).members)
+module _ {A : Type 0} (f : Template → List A) (templates : List Template) (rows : List (Vec A Global)) (are : map (λ (row : Vec A Global). row.items) rows ≡ map f templates) where
+  rows_len : length rows ≡ length templates
+  rows_len = sym (length-map rows (λ (row : Vec A Global). row.items)) ∙ ap length are ∙ length-map templates f
 
-pub row_within : (templates : List Template) (rows : List (Vec (Option Scalar) Global)) (a : ℕ) → AreInitials templates rows → a < length templates → a < length rows
-row_within templates rows a are inside = subst (λ n. a < n) (sym (rows_len templates rows are)) inside
+  pub row_within : (a : ℕ) → a < length templates → a < length rows
+  row_within a inside = subst (λ n. a < n) (sym rows_len) inside
+
+  pub row_is : (a : ℕ) (t : Template) (row : Vec A Global) → a < length templates → t ≡ get_or templates a t → row ≡ get_or rows a row → row.items ≡ f t
+  row_is a t row inside at_t at_row =
+      ap (λ (r : Vec A Global). r.items) at_row
+      ∙ sym (get_or-map (λ (r : Vec A Global). r.items) rows a row [] (row_within a inside))
+      ∙ ap (λ l. get_or l a []) are
+      ∙ get_or-map f templates a t [] inside
+      ∙ ap f (sym at_t)
+
+pub leads_whole : {A : Type 0} (front all : List A) → all ≡ front → Leads front all
+leads_whole front all is = leads_so front [] all (is ∙ sym (append-nil front))
 
 -- it has the initial values of its template's instructions, and nothing behind them
 pub row_led : (templates : List Template) (rows : List (Vec (Option Scalar) Global)) (a : ℕ) (t : Template) (row : Vec (Option Scalar) Global) → AreInitials templates rows → a < length templates → t ≡ get_or templates a t → row ≡ get_or rows a row → Leads (initials_in (written_template_of t).members) row.items
-row_led templates rows a t row are inside at_t at_row =
-    let items : row.items ≡ initials_in (written_template_of t).members =
-    ap (λ (r : Vec (Option Scalar) Global). r.items) at_row
-    ∙ sym (get_or-map (λ (r : Vec (Option Scalar) Global). r.items) rows a row [] (row_within templates rows a are inside))
-    ∙ ap (λ l. get_or l a []) are
-    ∙ get_or-map (λ t. initials_in (written_template_of t).members) templates a t [] inside
-    ∙ ap (λ t. initials_in (written_template_of t).members) (sym at_t) in
-    leads_so (initials_in (written_template_of t).members) [] row.items (items ∙ sym (append-nil (initials_in (written_template_of t).members)))
+row_led templates rows a t row are inside at_t at_row = leads_whole (initials_in (written_template_of t).members) row.items (row_is (λ t. initials_in (written_template_of t).members) templates rows are a t row inside at_t at_row)

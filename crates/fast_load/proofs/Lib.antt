@@ -28,6 +28,7 @@ pub mod InOrderLaws
 pub mod LinkLaws
 pub mod FlatLaws
 pub mod LinkOrder
+pub mod LinkRows
 pub mod ExtentLaws
 pub mod Flattening
 pub mod LimitPhase

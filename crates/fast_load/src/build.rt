@@ -101,7 +101,8 @@ fn set_of(
     order: &[usize],
 ) -> Result<TemplateSet, AllocError>
     requires few { length templates.now ≤ 65535 }
-    requires lead { NamesLead checked.now.names (map written_template_of templates.now) }
+    requires known { Passes (map written_template_of templates.now) 4 }
+    requires linked { AreLinks templates.now checked.now.links.items }
     requires initials { AreInitials templates.now checked.now.initials.items }
     requires differ { Passes (map written_template_of templates.now) 2 }
     requires operators { Passes (map written_template_of templates.now) 3 }

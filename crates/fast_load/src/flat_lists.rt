@@ -1,11 +1,11 @@
 //! Lists of instructions whose references are replaced.
 
 ghost use Rattle.std.specs.Prelude.{◌≡◌, ◌≤◌, ◌∷◌, [], IfOk, OnOk, OnErr, drop, length, map, option_map, string_bytes};
-ghost use Rattle.fast_load.specs.Duplicates.{NamesLead};
 ghost use Rattle.fast_load.specs.FlatLists.{exponent_part, field_part, flat_list, flat_one, length_key, length_part, mantissa_part};
 ghost use Rattle.fast_load.specs.Initials.{AreInitials, Leads, initial_in, initials_in, initials_in_one};
-ghost use Rattle.fast_load.specs.Links.{IsBuildOrder};
-ghost use Rattle.fast_load.specs.NamedLists.{AreFlattened, heading, heading_of, list_at, list_named};
+ghost use Rattle.fast_load.specs.Links.{AreLinks, IsBuildOrder, references_in, references_in_one};
+ghost use Rattle.fast_load.specs.NamedLists.{AreFlattened, heading, heading_of, list_at, list_named, place_among};
+ghost use Rattle.fast_load.specs.Phases.{Passes};
 ghost use Rattle.fast_template.specs.Resolved.{field_in_parts, group_of, instruction_of, joined, list_of, sequence_of, whole_field};
 ghost use Rattle.fast_load.specs.Surroundings.{context_in};
 ghost use Rattle.fast_value.specs.declared.kind.Kind.TheVariants.{Int32, Int64, UInt32};
@@ -14,12 +14,12 @@ ghost use Rattle.fast_written.specs.Written.{operation_of, written_list, written
 
 use crate::checks::Checked;
 use crate::initials::{Initials, copied};
+use crate::links::Links;
 use crate::surroundings::{Around, directly_in, inside, key_of, part_of};
 use fast_template::{FieldPart, Flat, FlatTemplate, Initial};
 use fast_value::{Key, Kind, Name, Part, Presence};
 use fast_written::{Instruction, Operation, Template};
 use std::alloc::{AllocError, Global};
-use std::collections::BTreeMap;
 
 /// The templates as written, each with its flat list: keys have no slot yet, and instructions no
 /// number.
@@ -34,7 +34,8 @@ pub(crate) fn flat_templates(
     order: &[usize],
 ) -> Result<Vec<FlatTemplate>, AllocError>
     requires few { length templates.now ≤ 65535 }
-    requires lead { NamesLead checked.now.names (map written_template_of templates.now) }
+    requires known { Passes (map written_template_of templates.now) 4 }
+    requires linked { AreLinks templates.now checked.now.links.items }
     requires initials { AreInitials templates.now checked.now.initials.items }
     requires in_order { IsBuildOrder (map written_template_of templates.now) order.now }
     ensures { IfOk result (λ flats. AreFlattened
@@ -45,14 +46,17 @@ pub(crate) fn flat_templates(
         let template = &templates[*place];
         let mut members = Vec::new(alloc);
         let around = directly_in(template, *place as u32 + 1);
+        let mut links = Links {
+            rest: &checked.links[*place],
+        };
         let mut initials = Initials {
             rest: &checked.initials[*place],
         };
         append_all(
             &template.members,
             around,
-            &checked.names,
             &flats,
+            &mut links,
             &mut initials,
             alloc,
             &mut members,
@@ -85,26 +89,30 @@ fn without_members(alloc: Global, templates: &[Template]) -> Result<Vec<FlatTemp
 ///
 /// Where memory is refused.
 #[cycle(appends)]
-#[tactic(auto, using(crate::proofs::KeptLaws::leads_member))]
+#[tactic(auto, using(crate::proofs::KeptLaws::leads_member, crate::proofs::KeptLaws::linked_member))]
 pub(crate) fn append_all(
     members: &[Instruction],
     around: Around<'_>,
-    names: &BTreeMap<Name, u32>,
     lists: &[FlatTemplate],
+    links: &mut Links<'_>,
     initials: &mut Initials<'_>,
     alloc: Global,
     flats: &mut Vec<Flat>,
 ) -> Result<(), AllocError>
+    requires linked { Leads (map (place_among lists.now) (references_in (written_list
+        (map written_of members.now)))) links.old.rest.now }
     requires led { Leads (initials_in (written_list (map written_of members.now)))
         initials.old.rest.now }
     ensures appended { OnOk result (list_of flats.new.items ≡ joined (list_of flats.old.items)
-        (flat_list (list_named names.now lists.now) (context_in around.entry) (written_list
+        (flat_list (list_named lists.now) (context_in around.entry) (written_list
         (map written_of members.now)))) }
+    ensures links { OnOk result (links.new.rest.now ≡ drop (length (references_in (written_list
+        (map written_of members.now)))) links.old.rest.now) }
     ensures rest { OnOk result (initials.new.rest.now ≡ drop (length (initials_in (written_list
         (map written_of members.now)))) initials.old.rest.now) }
 {
     for member in members {
-        append_one(member, around, names, lists, initials, alloc, flats)?;
+        append_one(member, around, lists, links, initials, alloc, flats)?;
     }
     Ok(())
 }
@@ -114,16 +122,20 @@ pub(crate) fn append_all(
 fn append_one(
     member: &Instruction,
     around: Around<'_>,
-    names: &BTreeMap<Name, u32>,
     lists: &[FlatTemplate],
+    links: &mut Links<'_>,
     initials: &mut Initials<'_>,
     alloc: Global,
     flats: &mut Vec<Flat>,
 ) -> Result<(), AllocError>
+    requires linked { Leads (map (place_among lists.now)
+        (references_in_one (written_of member.now))) links.old.rest.now }
     requires led { Leads (initials_in_one (written_of member.now)) initials.old.rest.now }
     ensures appended { OnOk result (list_of flats.new.items ≡ joined (list_of flats.old.items)
-        (flat_one (list_named names.now lists.now) (context_in around.entry)
+        (flat_one (list_named lists.now) (context_in around.entry)
         (written_of member.now))) }
+    ensures links { OnOk result (links.new.rest.now
+        ≡ drop (length (references_in_one (written_of member.now))) links.old.rest.now) }
     ensures rest { OnOk result (initials.new.rest.now
         ≡ drop (length (initials_in_one (written_of member.now))) initials.old.rest.now) }
 {
@@ -158,7 +170,7 @@ fn append_one(
         } => {
             let around = inside(around, dictionary, type_ref);
             let mut inner = Vec::new(alloc);
-            append_all(members, around, names, lists, initials, alloc, &mut inner)?;
+            append_all(members, around, lists, links, initials, alloc, &mut inner)?;
             let group = group_flat(alloc, name, *presence, inner)?;
             flats.push(group)?;
             Ok(())
@@ -176,31 +188,12 @@ fn append_one(
             let initial = initials.take_next()?;
             let length = length_of(alloc, around, name, *presence, length_name, length, initial)?;
             let mut inner = Vec::new(alloc);
-            append_all(members, around, names, lists, initials, alloc, &mut inner)?;
+            append_all(members, around, lists, links, initials, alloc, &mut inner)?;
             let sequence = sequence_flat(alloc, name, *presence, length, inner)?;
             flats.push(sequence)?;
             Ok(())
         }
-        Instruction::Reference { name } => append_named(name, names, lists, alloc, flats),
-    }
-}
-
-// Appends the list that stands for a name.
-#[tactic(auto, using(crate::proofs::FlatLaws::joined_none))]
-fn append_named(
-    name: &str,
-    names: &BTreeMap<Name, u32>,
-    lists: &[FlatTemplate],
-    alloc: Global,
-    flats: &mut Vec<Flat>,
-) -> Result<(), AllocError>
-    ensures { OnOk result (list_of flats.new.items ≡ joined (list_of flats.old.items)
-        (list_named names.now lists.now name.now)) }
-{
-    let name = Name::of(alloc, name)?;
-    match names.get(&name) {
-        Some(place) => append_placed(*place as usize, lists, alloc, flats),
-        None => Ok(()),
+        Instruction::Reference { .. } => append_placed(links.take_next(), lists, alloc, flats),
     }
 }
 

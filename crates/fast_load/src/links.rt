@@ -1,6 +1,6 @@
-//! An order of templates by what they refer to.
+//! The places that references lead to, and an order of templates by these.
 
-ghost use Rattle.std.specs.Prelude.{◌≡◌, ◌≤◌, ◌<◌, ◌+◌, IfOk, MatchResult, length, map};
+ghost use Rattle.std.specs.Prelude.{◌≡◌, ◌≤◌, ◌<◌, ◌+◌, IfOk, MatchResult, drop, get_or, length, map};
 ghost use Rattle.fast_written.specs.declared.fault.LoadCause.TheVariants.{Cycle};
 ghost use Rattle.fast_load.specs.Phases.{IsFirstOf, Passes};
 ghost use Rattle.fast_load.specs.Links.{AreLinks, IsBuildOrder};
@@ -9,6 +9,28 @@ ghost use Rattle.fast_written.specs.Written.{written_template_of};
 use fast_order::order_of;
 use fast_written::{LoadCause, LoadFault, Template, fault_at};
 use std::alloc::{AllocError, Global};
+
+/// Places that references lead to and that are still to be taken, in the order of the references.
+#[derive(Drop)]
+pub(crate) struct Links<'a> {
+    pub(crate) rest: &'a [usize],
+}
+
+impl Links<'_> {
+    /// The next one, or 0 past the last.
+    pub(crate) fn take_next(&mut self) -> usize
+        ensures place { result ≡ get_or self.old.rest.now 0 0 }
+        ensures rest { self.new.rest.now ≡ drop 1 self.old.rest.now }
+    {
+        match self.rest.split_first() {
+            Some((first, rest)) => {
+                self.rest = rest;
+                *first
+            }
+            None => 0,
+        }
+    }
+}
 
 /// The places of templates in an order in which each stands behind those that it refers to, or the
 /// fault of the first template that lies on a cycle.
