@@ -14,7 +14,7 @@ use Rattle.fast_load.specs.Links.{IsBehind, IsBuildOrder}
 use Rattle.fast_load.specs.NamedLists.{list_at, list_named, place_among, heading, heading_of, AreFlattened}
 use Rattle.fast_order.proofs.SearchSteps.{at_set, at_set_same, at_set_other}
 use Rattle.fast_load.proofs.LinkOrder.{named_there}
-use Rattle.fast_load.proofs.LinkRows.{place_or}
+use Rattle.fast_load.specs.Duplicates.{place_or}
 use Rattle.fast_load.proofs.Solutions.{same_list}
 
 -- the lists of the first templates in the order are put together

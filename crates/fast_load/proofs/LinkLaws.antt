@@ -1,5 +1,5 @@
 -- References, one instruction after another.
-use Rattle.std.proofs.Common.{◌≡◌, ◌∷◌, ◌++◌, [], ℕ, List, map, option_to_list, Option, Vec, refl, sym, ap, ◌∙◌, append_assoc}
+use Rattle.std.proofs.Common.{◌≡◌, ◌<◌, ◌+◌, ◌∷◌, ◌++◌, [], ℕ, List, map, drop, get_or, length, option_to_list, Option, Vec, refl, sym, ap, ◌∙◌, append_assoc}
 use Rattle.std.specs.List.{flat_map}
 use Rattle.std.specs.BTreeMap.{BTreeMap}
 use Rattle.std.specs.declared.alloc.Global.{Global}
@@ -8,6 +8,11 @@ use Rattle.fast_written.specs.Written.{WrittenInstruction, WrittenInstructions, 
 use Rattle.fast_load.specs.Duplicates.{NamesLead, place_named}
 use Rattle.fast_load.specs.Walks.{kept_of}
 use Rattle.fast_load.specs.Links.{AreLinks, place_in, places_of, referred_along, referred_by, references_in}
+use Rattle.std.proofs.lemmas.List.{drop_more, length-map, map-append}
+use Rattle.fast_load.specs.declared.in_order.Leveled.{Leveled}
+use Rattle.fast_load.specs.InOrder.{found_of}
+use Rattle.fast_load.specs.Initials.{Leads}
+use Rattle.fast_load.proofs.KeptLaws.{behind, leads_so}
 use Rattle.fast_load.proofs.InOrderLaws.{referred_all}
 
 pub places_of-append : (f : List ℕ → Option ℕ) (xs ys : List (List ℕ)) → places_of f (xs ++ ys) ≡ places_of f xs ++ places_of f ys
@@ -32,3 +37,20 @@ are_links templates names rows lead are = are ∙ each templates where
   each : (ts : List Template) → map (λ t. kept_of (λ i. places_of (place_in names) (referred_by i)) (written_template_of t).members) ts ≡ map (λ t. places_of (place_named (map written_template_of templates)) (references_in (written_template_of t).members)) ts
   each [] = refl
   each (t ∷ ts) = (λ i. (kept_places (place_in names) (written_template_of t).members ∙ places_of-same (place_in names) (place_named (map written_template_of templates)) lead (references_in (written_template_of t).members)) i ∷ each ts i)
+
+-- ---- places of references along a list of instructions that were put in order
+
+along_split : (f : List ℕ → ℕ) (ls : List Leveled) (d : Leveled) (i : ℕ) (rest : List ℕ) → i < length ls → d ≡ get_or ls i d → rest ≡ map f (referred_along (map found_of (drop i ls))) → rest ≡ map f (referred_by (found_of d)) ++ map f (referred_along (map found_of (drop (i + 1) ls)))
+along_split f ls d i rest inside at h =
+    h
+    ∙ ap (λ l. map f (referred_along (map found_of l))) (drop_more ls i d inside ∙ ap (λ e. e ∷ drop (i + 1) ls) (sym at))
+    ∙ map-append f (referred_by (found_of d)) (referred_along (map found_of (drop (i + 1) ls)))
+
+pub linked_along : (f : List ℕ → ℕ) (ls : List Leveled) (d : Leveled) (i : ℕ) (rest : List ℕ) → i < length ls → d ≡ get_or ls i d → rest ≡ map f (referred_along (map found_of (drop i ls))) → Leads (map f (referred_by (found_of d))) rest
+linked_along f ls d i rest inside at h = leads_so (map f (referred_by (found_of d))) _ rest (along_split f ls d i rest inside at h)
+
+pub along_taken : (f : List ℕ → ℕ) (ls : List Leveled) (d : Leveled) (i : ℕ) (rest new : List ℕ) → i < length ls → d ≡ get_or ls i d → rest ≡ map f (referred_along (map found_of (drop i ls))) → new ≡ drop (length (referred_by (found_of d))) rest → new ≡ map f (referred_along (map found_of (drop (i + 1) ls)))
+along_taken f ls d i rest new inside at h e = behind (map f (referred_by (found_of d))) _ rest new (along_split f ls d i rest inside at h) (e ∙ ap (λ n. drop n rest) (sym (length-map (referred_by (found_of d)) f)))
+
+pub along_start : (f : List ℕ → ℕ) (ls made : List Leveled) (is : WrittenInstructions) (rest : List ℕ) → ls ≡ made → map found_of made ≡ listed is → rest ≡ map f (references_in is) → rest ≡ map f (referred_along (map found_of ls))
+along_start f ls made is rest same put h = h ∙ ap (map f) (sym (ap (λ l. referred_along (map found_of l)) same ∙ ap referred_along put ∙ referred_all is))

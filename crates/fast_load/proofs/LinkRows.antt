@@ -7,17 +7,13 @@ use Rattle.std.proofs.lemmas.Option.{slice_get-get_or, slice_get-map}
 use Rattle.fast_template.specs.declared.resolved.FlatTemplate.{FlatTemplate}
 use Rattle.fast_written.specs.declared.written.Template.{Template}
 use Rattle.fast_written.specs.Written.{WrittenTemplate, written_template_of}
-use Rattle.fast_load.specs.Duplicates.{place_named}
+use Rattle.fast_load.specs.Duplicates.{place_named, place_or}
 use Rattle.fast_load.specs.Initials.{Leads}
 use Rattle.fast_load.specs.Links.{AreLinks, places_of, references_in}
 use Rattle.fast_load.specs.NamedLists.{first_named, heading, heading_of, place_among, Heading}
 use Rattle.fast_load.specs.Phases.{Passes}
 use Rattle.fast_load.proofs.KeptLaws.{leads_whole, row_is}
 use Rattle.fast_load.proofs.LinkOrder.{is_known}
-
--- the place of a name, or 0 where there is none
-abbrev pub place_or : List WrittenTemplate → List ℕ → ℕ
-place_or ts name = unwrap_or (place_named ts name) 0
 
 -- where each name has a place, places are one for each
 known_each : (f : List ℕ → Option ℕ) (names : List (List ℕ)) → ((j : ℕ) (name : List ℕ) → slice_get names j ≡ Some name → (b : ℕ) × (f name ≡ Some b)) → places_of f names ≡ map (λ name. unwrap_or (f name) 0) names
@@ -55,7 +51,7 @@ among templates flats heads name =
     ap (λ ns. unwrap_or (first_named ns name) 0) (names_of_flats flats ∙ ap (map (λ (h : Heading). h.name)) heads ∙ names_of_written templates)
     ∙ ap (λ o. unwrap_or o 0) (first_is (map written_template_of templates) name)
 
-map_same : (f g : List ℕ → ℕ) → ((name : List ℕ) → f name ≡ g name) → (names : List (List ℕ)) → map f names ≡ map g names
+pub map_same : (f g : List ℕ → ℕ) → ((name : List ℕ) → f name ≡ g name) → (names : List (List ℕ)) → map f names ≡ map g names
 map_same f g same [] = refl
 map_same f g same (name ∷ names) = (λ i. same name i ∷ map_same f g same names i)
 

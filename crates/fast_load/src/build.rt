@@ -1,7 +1,6 @@
 //! Sets of resolved templates, from templates that passed the first checks of a load.
 
 ghost use Rattle.std.specs.Prelude.{◌≤◌, ◌<◌, ℕ, IfOk, MatchOption, MatchResult, length, map};
-ghost use Rattle.fast_load.specs.Duplicates.{NamesLead};
 ghost use Rattle.fast_load.specs.FlatLists.{AreResolved};
 ghost use Rattle.fast_load.specs.Initials.{AreInitials};
 ghost use Rattle.fast_load.specs.Links.{AreLinks, IsBuildOrder};
@@ -17,10 +16,8 @@ use crate::id_places::id_places;
 use crate::links::build_order;
 use crate::settle::settle;
 use fast_template::TemplateSet;
-use fast_value::Name;
 use fast_written::{LoadFault, Template};
 use std::alloc::{AllocError, Global};
-use std::collections::BTreeMap;
 
 /// Templates that pass the checks up to that of references, resolved; or the first fault.
 ///
@@ -32,7 +29,6 @@ pub(crate) fn resolve(
     templates: &[Template],
     checked: &Checked,
 ) -> Result<Result<TemplateSet, LoadFault>, AllocError>
-    requires lead { NamesLead checked.now.names (map written_template_of templates.now) }
     requires linked { AreLinks templates.now checked.now.links.items }
     requires initials { AreInitials templates.now checked.now.initials.items }
     requires passed { (phase : ℕ) → phase < 5 → Passes
@@ -55,7 +51,6 @@ fn order_within_limits(
     templates: &[Template],
     checked: &Checked,
 ) -> Result<Result<Vec<usize>, LoadFault>, AllocError>
-    requires lead { NamesLead checked.now.names (map written_template_of templates.now) }
     requires linked { AreLinks templates.now checked.now.links.items }
     requires passed { (phase : ℕ) → phase < 5 → Passes
         (map written_template_of templates.now) phase }
@@ -66,7 +61,7 @@ fn order_within_limits(
         (λ fault. IsFirstFault (map written_template_of templates.now) fault)) }
 {
     match build_order(alloc, templates, &checked.links)? {
-        Ok(order) => match limit_passed(alloc, templates, &checked.names, &order)? {
+        Ok(order) => match limit_passed(alloc, templates, &checked.links, &order)? {
             Some(fault) => Ok(Err(fault)),
             None => Ok(Ok(order)),
         },
@@ -78,18 +73,19 @@ fn order_within_limits(
 fn limit_passed(
     alloc: Global,
     templates: &[Template],
-    names: &BTreeMap<Name, u32>,
+    links: &[Vec<usize>],
     order: &[usize],
 ) -> Result<Option<LoadFault>, AllocError>
     requires few { length templates.now ≤ 65535 }
-    requires lead { NamesLead names.now (map written_template_of templates.now) }
+    requires known { Passes (map written_template_of templates.now) 4 }
+    requires linked { AreLinks templates.now links.now }
     requires differ { Passes (map written_template_of templates.now) 2 }
     requires in_order { IsBuildOrder (map written_template_of templates.now) order.now }
     ensures { IfOk result (λ answer. MatchOption answer
         (Passes (map written_template_of templates.now) 6)
         (λ fault. IsFirstOf (map written_template_of templates.now) 6 fault)) }
 {
-    let extents = extents_of(alloc, templates, names, order)?;
+    let extents = extents_of(alloc, templates, links, order)?;
     Ok(first_too_large(&extents))
 }
 

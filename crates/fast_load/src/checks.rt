@@ -1,7 +1,6 @@
 //! The checks of templates as they are written, in their order.
 
 ghost use Rattle.std.specs.Prelude.{◌≡◌, ◌<◌, ◌⊎◌, MatchResult, ℕ, map};
-ghost use Rattle.fast_load.specs.Duplicates.{NamesLead};
 ghost use Rattle.fast_load.specs.Initials.{AreInitials};
 ghost use Rattle.fast_load.specs.Links.{AreLinks};
 ghost use Rattle.fast_load.specs.LoadChecks.{IsFirstFault};
@@ -14,16 +13,12 @@ use crate::names::check_names;
 use crate::operators::check_operators;
 use crate::references::check_references;
 use fast_template::Initial;
-use fast_value::Name;
 use fast_written::{LoadCause, LoadFault, Template, fault_at};
 use std::alloc::Global;
-use std::collections::BTreeMap;
 
 /// What the checks found of templates that resolving them takes up.
 #[derive(Drop)]
 pub(crate) struct Checked {
-    /// Where the name of each template stands.
-    pub(crate) names: BTreeMap<Name, u32>,
     /// The places of the templates that each template refers to, depth first.
     pub(crate) links: Vec<Vec<usize>>,
     /// The initial values of each template's parts, in their order.
@@ -38,7 +33,6 @@ pub(crate) struct Checked {
 pub(crate) fn check_written(alloc: Global, templates: &[Template]) -> Result<Checked, LoadFault>
     ensures { MatchResult result
         (λ checked. ((phase : ℕ) → phase < 5 → Passes (map written_template_of templates.now) phase)
-        × NamesLead checked.names (map written_template_of templates.now)
         × AreLinks templates.now checked.links.items
         × AreInitials templates.now checked.initials.items)
         (λ fault. IsFirstFault (map written_template_of templates.now) fault
@@ -63,9 +57,5 @@ pub(crate) fn check_written(alloc: Global, templates: &[Template]) -> Result<Che
         Ok(links) => links,
         Err(fault) => return Err(fault),
     };
-    Ok(Checked {
-        names,
-        links,
-        initials,
-    })
+    Ok(Checked { links, initials })
 }

@@ -40,4 +40,4 @@ pub returns : goal.returns
 returns c =
     let ts : List WrittenTemplate = map written_template_of c.args.templates.now in
     let few : length ts ≤ 65535 = subst (λ n. n ≤ 65535) (sym (length-map c.args.templates.now written_template_of)) c.if-templates-gt65535.false in
-    (all_pass ts few c.in-Ok.ensures c.in-Ok-check_duplicates.ensures.0 c.in-Ok-check_operators.ensures.0 c.in-Ok-check_references.ensures.0, c.in-Ok-check_duplicates.ensures.1, c.in-Ok-check_references.ensures.1, c.in-Ok-check_operators.ensures.1)
+    (all_pass ts few c.in-Ok.ensures c.in-Ok-check_duplicates.ensures.0 c.in-Ok-check_operators.ensures.0 c.in-Ok-check_references.ensures.0, c.in-Ok-check_references.ensures.1, c.in-Ok-check_operators.ensures.1)
