@@ -1,17 +1,16 @@
 -- Extents are those of flat lists, up to where their counts stop.
-use Rattle.std.proofs.Common.{◌≡◌, ◌≤◌, ◌<◌, ◌+◌, ℕ, List, length, max, set, option_and_then, Some, inl, inr, refl, sym, ap, subst, ◌∙◌, arith}
-use Rattle.std.specs.Prelude.{slice_get}
+use Rattle.std.proofs.Common.{◌≡◌, ◌≤◌, ◌<◌, ◌+◌, ℕ, List, length, max, set, Some, inl, inr, refl, sym, ap, subst, ◌∙◌, arith}
+use Rattle.std.specs.Prelude.{slice_get, unwrap_or}
 use Rattle.std.specs.Option.{option_map_or}
-use Rattle.std.specs.BTreeMap.{BTreeMap}
 use Rattle.std.proofs.lemmas.Bool.{cases_lt}
 use Rattle.std.proofs.lemmas.Option.{slice_get_within, slice_get-get_or}
 use Rattle.fast_load.specs.declared.extents.Extent.{Extent}
 use Rattle.fast_written.specs.Written.{WrittenInstruction, WrittenInstructions, written_field, written_parts, written_group, written_sequence, written_reference, no_written, then_written, WrittenTemplate}
 use Rattle.fast_template.specs.Resolved.{Instructions, no_instructions, then_instruction, joined, size_of, depth_of}
 use Rattle.fast_load.specs.FlatLists.{Context, context_of, inside, flat_one, flat_list, AreFlatLists}
-use Rattle.fast_load.specs.Duplicates.{NamesLead}
-use Rattle.fast_load.specs.Links.{EachReference, EachReferenceOne, IsBehind, IsBuildOrder, place_in}
-use Rattle.fast_load.specs.Extents.{size_with, size_with_one, depth_with, depth_with_one, stopped_size, stopped_depth, extent_named, size_named, depth_named, IsExtentOf}
+use Rattle.fast_load.specs.Duplicates.{place_or}
+use Rattle.fast_load.specs.Links.{EachReference, EachReferenceOne, IsBehind, IsBuildOrder}
+use Rattle.fast_load.specs.Extents.{size_with, size_with_one, depth_with, depth_with_one, stopped_size, stopped_depth, size_named, depth_named, IsExtentOf}
 use Rattle.fast_order.proofs.SearchSteps.{at_set, at_set_same}
 use Rattle.fast_load.proofs.LinkOrder.{named_there}
 
@@ -114,29 +113,26 @@ mutual
 abbrev pub KnowsExtents : List WrittenTemplate → List ℕ → ℕ → List Extent → Type 0
 KnowsExtents ts order i extents = (stands : List ℕ → Instructions) → AreFlatLists ts stands → (p a : ℕ) (w : WrittenTemplate) (e : Extent) → p < i → slice_get order p ≡ Some a → slice_get ts a ≡ Some w → slice_get extents a ≡ Some e → IsExtentOf (stands w.name) e
 
-named_extent : (names : BTreeMap (List ℕ) ℕ) (extents : List Extent) (name : List ℕ) (b : ℕ) (e : Extent) → place_in names name ≡ Some b → slice_get extents b ≡ Some e → extent_named names extents name ≡ Some e
-named_extent names extents name b e placed at = ap (option_and_then (slice_get extents)) placed ∙ at
-
-pub extent_is : (ts : List WrittenTemplate) (names : BTreeMap (List ℕ) ℕ) (order : List ℕ) (i a : ℕ) (w : WrittenTemplate) (extents : List Extent) (e : Extent) → NamesLead names ts → IsBuildOrder ts order → length extents ≡ length ts → KnowsExtents ts order i extents → slice_get order i ≡ Some a → slice_get ts a ≡ Some w →
-    e.size ≡ stopped_size (size_with (size_named names extents) w.members) → e.depth ≡ stopped_depth (depth_with (depth_named names extents) w.members) →
+pub extent_is : (ts : List WrittenTemplate) (place : List ℕ → ℕ) (order : List ℕ) (i a : ℕ) (w : WrittenTemplate) (extents : List Extent) (e : Extent) → ((name : List ℕ) → place name ≡ place_or ts name) → IsBuildOrder ts order → length extents ≡ length ts → KnowsExtents ts order i extents → slice_get order i ≡ Some a → slice_get ts a ≡ Some w →
+    e.size ≡ stopped_size (size_with (size_named place extents) w.members) → e.depth ≡ stopped_depth (depth_with (depth_named place extents) w.members) →
     (stands : List ℕ → Instructions) → AreFlatLists ts stands → IsExtentOf (stands w.name) e
-extent_is ts names order i a w extents e lead o len known at_i at_a size depth stands flat =
+extent_is ts place order i a w extents e placed_at o len known at_i at_a size depth stands flat =
     let fixed : stands w.name ≡ flat_list stands (context_of (a + 1) w) w.members = flat a w at_a in
-    let size_so : stopped_size (size_with (size_named names extents) w.members) ≡ stopped_size (size_with (λ n. size_of (stands n)) w.members) = size_stops (size_named names extents) (λ n. size_of (stands n)) w.members (each_so (IsBehind ts order i) (SameSize (size_named names extents) (λ n. size_of (stands n))) (λ name b. (of_name name b).0) w.members (o.behind i a w at_i at_a)) in
-    let depth_so : stopped_depth (depth_with (depth_named names extents) w.members) ≡ stopped_depth (depth_with (λ n. depth_of (stands n)) w.members) = depth_stops (depth_named names extents) (λ n. depth_of (stands n)) w.members (each_so (IsBehind ts order i) (SameDepth (depth_named names extents) (λ n. depth_of (stands n))) (λ name b. (of_name name b).1) w.members (o.behind i a w at_i at_a)) in (
+    let size_so : stopped_size (size_with (size_named place extents) w.members) ≡ stopped_size (size_with (λ n. size_of (stands n)) w.members) = size_stops (size_named place extents) (λ n. size_of (stands n)) w.members (each_so (IsBehind ts order i) (SameSize (size_named place extents) (λ n. size_of (stands n))) (λ name b. (of_name name b).0) w.members (o.behind i a w at_i at_a)) in
+    let depth_so : stopped_depth (depth_with (depth_named place extents) w.members) ≡ stopped_depth (depth_with (λ n. depth_of (stands n)) w.members) = depth_stops (depth_named place extents) (λ n. depth_of (stands n)) w.members (each_so (IsBehind ts order i) (SameDepth (depth_named place extents) (λ n. depth_of (stands n))) (λ name b. (of_name name b).1) w.members (o.behind i a w at_i at_a)) in (
       size ∙ size_so ∙ ap stopped_size (sym (ap size_of fixed ∙ size_flat stands (context_of (a + 1) w) w.members)),
       depth ∙ depth_so ∙ ap stopped_depth (sym (ap depth_of fixed ∙ depth_flat stands (context_of (a + 1) w) w.members)),
     )
   where
-    of_name : (name : List ℕ) → IsBehind ts order i name → SameSize (size_named names extents) (λ n. size_of (stands n)) name × SameDepth (depth_named names extents) (λ n. depth_of (stands n)) name
+    of_name : (name : List ℕ) → IsBehind ts order i name → SameSize (size_named place extents) (λ n. size_of (stands n)) name × SameDepth (depth_named place extents) (λ n. depth_of (stands n)) name
     of_name name (b, q, placed, less, at_q) =
         let t = named_there ts name b placed in
         let inside : b < length extents = (let k : b < length ts = slice_get_within ts b t.0 t.1 in omega (arith, k, len)) in
         let at_e = slice_get-get_or extents b (record { size = 0; depth = 0 }) inside in
         let is = known stands flat q b t.0 _ less at_q t.1 at_e in
-        let named = named_extent names extents name b _ (lead name ∙ placed) at_e in
-        let size_is : size_named names extents name ≡ stopped_size (size_of (stands name)) = ap (λ o. option_map_or (λ (x : Extent). x.size) o 0) named ∙ is.0 ∙ ap (λ n. stopped_size (size_of (stands n))) t.2 in
-        let depth_is : depth_named names extents name ≡ stopped_depth (depth_of (stands name)) = ap (λ o. option_map_or (λ (x : Extent). x.depth) o 0) named ∙ is.1 ∙ ap (λ n. stopped_depth (depth_of (stands n))) t.2 in
+        let named = ap (slice_get extents) (placed_at name ∙ ap (λ o. unwrap_or o 0) placed) ∙ at_e in
+        let size_is : size_named place extents name ≡ stopped_size (size_of (stands name)) = ap (λ o. option_map_or (λ (x : Extent). x.size) o 0) named ∙ is.0 ∙ ap (λ n. stopped_size (size_of (stands n))) t.2 in
+        let depth_is : depth_named place extents name ≡ stopped_depth (depth_of (stands name)) = ap (λ o. option_map_or (λ (x : Extent). x.depth) o 0) named ∙ is.1 ∙ ap (λ n. stopped_depth (depth_of (stands n))) t.2 in
         ((omega (arith, size_is)), (omega (arith, depth_is)))
 
 -- one extent more

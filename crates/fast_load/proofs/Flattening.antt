@@ -1,8 +1,7 @@
 -- Flat lists, in the order of references.
 use Rattle.std.proofs.Common.{◌≡◌, ◌≢◌, ◌≤◌, ◌<◌, ◌+◌, ℕ, List, length, get_or, map, set, option_map, Option, Some, None, ◌⊎◌, inl, inr, refl, sym, ap, subst, ◌∙◌, arith}
-use Rattle.std.specs.Prelude.{slice_get, slice_index_or}
+use Rattle.std.specs.Prelude.{slice_get, slice_index_or, unwrap_or}
 use Rattle.std.specs.Option.{option_map_or}
-use Rattle.std.specs.BTreeMap.{BTreeMap}
 use Rattle.std.proofs.lemmas.Bool.{cases_lt}
 use Rattle.std.proofs.lemmas.Option.{slice_get_within, slice_get-get_or, slice_get-map}
 use Rattle.std.proofs.lemmas.List.{length-map, map-set, set-get_or, get_or-map}
@@ -11,28 +10,28 @@ use Rattle.fast_written.specs.declared.written.Template.{Template}
 use Rattle.fast_written.specs.Written.{WrittenTemplate, written_template_of}
 use Rattle.fast_template.specs.Resolved.{Instructions, no_instructions, list_of}
 use Rattle.fast_load.specs.FlatLists.{context_of, flat_list, AreFlatLists}
-use Rattle.fast_load.specs.Duplicates.{NamesLead}
 use Rattle.fast_load.specs.Links.{IsBehind, IsBuildOrder}
-use Rattle.fast_load.specs.NamedLists.{list_at, list_named, heading, heading_of, AreFlattened}
+use Rattle.fast_load.specs.NamedLists.{list_at, list_named, place_among, heading, heading_of, AreFlattened}
 use Rattle.fast_order.proofs.SearchSteps.{at_set, at_set_same, at_set_other}
 use Rattle.fast_load.proofs.LinkOrder.{named_there}
+use Rattle.fast_load.specs.Duplicates.{place_or}
 use Rattle.fast_load.proofs.Solutions.{same_list}
 
 -- the lists of the first templates in the order are put together
 abbrev pub KnowsLists : List WrittenTemplate → List ℕ → ℕ → List FlatTemplate → Type 0
 KnowsLists ts order i flats = (stands : List ℕ → Instructions) → AreFlatLists ts stands → (p a : ℕ) (w : WrittenTemplate) → p < i → slice_get order p ≡ Some a → slice_get ts a ≡ Some w → list_at flats a ≡ stands w.name
 
-pub list_is : (ts : List WrittenTemplate) (names : BTreeMap (List ℕ) ℕ) (order : List ℕ) (i a : ℕ) (w : WrittenTemplate) (flats : List FlatTemplate) (list : Instructions) → NamesLead names ts → IsBuildOrder ts order → KnowsLists ts order i flats → slice_get order i ≡ Some a → slice_get ts a ≡ Some w →
-    list ≡ flat_list (list_named names flats) (context_of (a + 1) w) w.members → (stands : List ℕ → Instructions) → AreFlatLists ts stands → list ≡ stands w.name
-list_is ts names order i a w flats list lead o known at_i at_a made stands flat =
+pub list_is : (ts : List WrittenTemplate) (order : List ℕ) (i a : ℕ) (w : WrittenTemplate) (flats : List FlatTemplate) (list : Instructions) → ((name : List ℕ) → place_among flats name ≡ place_or ts name) → IsBuildOrder ts order → KnowsLists ts order i flats → slice_get order i ≡ Some a → slice_get ts a ≡ Some w →
+    list ≡ flat_list (list_named flats) (context_of (a + 1) w) w.members → (stands : List ℕ → Instructions) → AreFlatLists ts stands → list ≡ stands w.name
+list_is ts order i a w flats list placed_at o known at_i at_a made stands flat =
     made
-    ∙ same_list (list_named names flats) stands (IsBehind ts order i) of_name (context_of (a + 1) w) w.members (o.behind i a w at_i at_a)
+    ∙ same_list (list_named flats) stands (IsBehind ts order i) of_name (context_of (a + 1) w) w.members (o.behind i a w at_i at_a)
     ∙ sym (flat a w at_a)
   where
-    of_name : (name : List ℕ) → IsBehind ts order i name → list_named names flats name ≡ stands name
+    of_name : (name : List ℕ) → IsBehind ts order i name → list_named flats name ≡ stands name
     of_name name (b, q, placed, less, at_q) =
         let t = named_there ts name b placed in
-        ap (λ o. option_map_or (list_at flats) o no_instructions) (lead name ∙ placed) ∙ known stands flat q b t.0 less at_q t.1 ∙ ap stands t.2
+        ap (list_at flats) (placed_at name ∙ ap (λ o. unwrap_or o 0) placed) ∙ known stands flat q b t.0 less at_q t.1 ∙ ap stands t.2
 
 -- one list more
 pub lists_more : (ts : List WrittenTemplate) (order : List ℕ) (i a : ℕ) (w : WrittenTemplate) (flats : List FlatTemplate) (t : FlatTemplate) → a < length flats → slice_get order i ≡ Some a → slice_get ts a ≡ Some w → KnowsLists ts order i flats → ((stands : List ℕ → Instructions) → AreFlatLists ts stands → list_of t.members.items ≡ stands w.name) → KnowsLists ts order (i + 1) (set flats a t)

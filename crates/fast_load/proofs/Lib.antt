@@ -15,6 +15,7 @@ pub mod Places
 pub mod OperatorPhase
 pub mod NamePhase
 pub mod WalkLaws
+pub mod KeptLaws
 pub mod WorkedLists
 pub mod WorkedRows
 pub mod OneFault
@@ -27,6 +28,7 @@ pub mod InOrderLaws
 pub mod LinkLaws
 pub mod FlatLaws
 pub mod LinkOrder
+pub mod LinkRows
 pub mod ExtentLaws
 pub mod Flattening
 pub mod LimitPhase

@@ -6,7 +6,6 @@ use Rattle.std.specs.Cmp.{ranked}
 use Rattle.std.specs.declared.cmp.Ordering.{Ordering}
 use Rattle.std.specs.declared.cmp.Ordering.TheVariants.{Less, Equal, Greater}
 use Rattle.std.specs.Cmp.Lexicographic.{pointwise, nat_list_eq_equiv, same_text}
-use Rattle.std.specs.BTreeMap.{BTreeMap}
 use Rattle.std.specs.declared.alloc.Global.{Global}
 use Rattle.std.proofs.lemmas.Bool.{cases_eq, cases_lt}
 use Rattle.std.proofs.lemmas.Option.{slice_get_within, slice_get-map, slice_get_cases}
@@ -17,9 +16,9 @@ use Rattle.fast_written.specs.declared.written.Template.{Template}
 use Rattle.fast_written.specs.Written.{WrittenInstruction, WrittenInstructions, written_field, written_parts, written_group, written_sequence, written_reference, no_written, then_written, WrittenTemplate, written_template_of, listed, listed_one}
 use Rattle.fast_load.specs.LoadChecks.{Check, few_templates, names_well_made, name_new, id_new, operator_allowed, constant_has_value, default_has_value, value_spelled, reference_known, off_cycles, nests_little, sum_small, IsTemplateAt, Fails, Before, Refers, Leads, directly, onwards}
 use Rattle.fast_load.specs.Phases.{phase_of, Passes, IsFirstOf}
-use Rattle.fast_load.specs.Duplicates.{place_named, NamesLead}
+use Rattle.fast_load.specs.Duplicates.{place_named}
 use Rattle.fast_order.specs.Order.{IsReference, AreWithin, Reaches, one, further, IsOrder, IsFirstOnCycle}
-use Rattle.fast_load.specs.Links.{references_in, references_in_one, places_of, place_in, EachReference, EachReferenceOne, IsBehind, IsBuildOrder}
+use Rattle.fast_load.specs.Links.{AreLinks, references_in, references_in_one, places_of, EachReference, EachReferenceOne, IsBehind, IsBuildOrder}
 use Rattle.fast_load.proofs.DuplicatePhase.{Found, found, placed}
 use Rattle.fast_order.proofs.SearchSteps.{at_append, at_old, at_right}
 
@@ -135,32 +134,32 @@ is_known ts known a w j name at ref = by (place_named ts name) refl where
   by (Some b) is = (b, is)
   by None is = absurd (known (reference_known (suc a) (suc listed_at.0)) refl (name, (w, at, listed_at.1), none is))
 
-module _ (templates : List Template) (names : BTreeMap (List ℕ) ℕ) (rows : List (Vec ℕ Global)) (lead : NamesLead names (map written_template_of templates)) (are : map (λ (row : Vec ℕ Global). row.items) rows ≡ map (λ t. places_of (place_in names) (references_in (written_template_of t).members)) templates) where
+module _ (templates : List Template) (rows : List (Vec ℕ Global)) (are : AreLinks templates rows) where
   abbrev ts : List WrittenTemplate
   ts = map written_template_of templates
 
   rows_len : length rows ≡ length ts
-  rows_len = sym (length-map rows (λ (row : Vec ℕ Global). row.items)) ∙ ap length are ∙ length-map templates (λ t. places_of (place_in names) (references_in (written_template_of t).members)) ∙ sym (length-map templates written_template_of)
+  rows_len = sym (length-map rows (λ (row : Vec ℕ Global). row.items)) ∙ ap length are ∙ length-map templates (λ t. places_of (place_named ts) (references_in (written_template_of t).members)) ∙ sym (length-map templates written_template_of)
 
   -- the row of a template
-  row_at : (a : ℕ) (row : Vec ℕ Global) (o : Option Template) → slice_get templates a ≡ o → slice_get rows a ≡ Some row → option_map (λ t. places_of (place_in names) (references_in (written_template_of t).members)) o ≡ Some row.items → (w : WrittenTemplate) × (slice_get ts a ≡ Some w) × (row.items ≡ places_of (place_in names) (references_in w.members))
+  row_at : (a : ℕ) (row : Vec ℕ Global) (o : Option Template) → slice_get templates a ≡ o → slice_get rows a ≡ Some row → option_map (λ t. places_of (place_named ts) (references_in (written_template_of t).members)) o ≡ Some row.items → (w : WrittenTemplate) × (slice_get ts a ≡ Some w) × (row.items ≡ places_of (place_named ts) (references_in w.members))
   row_at a row None there at e = absurd (cc e)
   row_at a row (Some t) there at e = (written_template_of t, slice_get-map written_template_of templates a ∙ ap (option_map written_template_of) there, cc (e))
 
-  of_row : (a : ℕ) (row : Vec ℕ Global) → slice_get rows a ≡ Some row → (w : WrittenTemplate) × (slice_get ts a ≡ Some w) × (row.items ≡ places_of (place_in names) (references_in w.members))
-  of_row a row at = row_at a row (slice_get templates a) refl at (sym (slice_get-map (λ t. places_of (place_in names) (references_in (written_template_of t).members)) templates a) ∙ sym (ap (λ l. slice_get l a) are) ∙ slice_get-map (λ (r : Vec ℕ Global). r.items) rows a ∙ ap (option_map (λ (r : Vec ℕ Global). r.items)) at)
+  of_row : (a : ℕ) (row : Vec ℕ Global) → slice_get rows a ≡ Some row → (w : WrittenTemplate) × (slice_get ts a ≡ Some w) × (row.items ≡ places_of (place_named ts) (references_in w.members))
+  of_row a row at = row_at a row (slice_get templates a) refl at (sym (slice_get-map (λ t. places_of (place_named ts) (references_in (written_template_of t).members)) templates a) ∙ sym (ap (λ l. slice_get l a) are) ∙ slice_get-map (λ (r : Vec ℕ Global). r.items) rows a ∙ ap (option_map (λ (r : Vec ℕ Global). r.items)) at)
 
   -- a reference by place is one by name
   by_name : (a k b : ℕ) → IsReference rows a k b → (w : WrittenTemplate) × (j : ℕ) × (name : List ℕ) × (slice_get ts a ≡ Some w) × (slice_get (references_in w.members) j ≡ Some name) × (place_named ts name ≡ Some b)
   by_name a k b (row, at, ref) =
       let r = of_row a row at in
-      let m = places_from (place_in names) (references_in r.0.members) k b (sym (ap (λ l. slice_get l k) r.2) ∙ ref) in
-      (r.0, m.0, m.1, r.1, m.2, sym (lead m.1) ∙ m.3)
+      let m = places_from (place_named ts) (references_in r.0.members) k b (sym (ap (λ l. slice_get l k) r.2) ∙ ref) in
+      (r.0, m.0, m.1, r.1, m.2, m.3)
 
-  row_there : (a : ℕ) (w : WrittenTemplate) → slice_get ts a ≡ Some w → (row : Vec ℕ Global) × (slice_get rows a ≡ Some row) × (row.items ≡ places_of (place_in names) (references_in w.members))
+  row_there : (a : ℕ) (w : WrittenTemplate) → slice_get ts a ≡ Some w → (row : Vec ℕ Global) × (slice_get rows a ≡ Some row) × (row.items ≡ places_of (place_named ts) (references_in w.members))
   row_there a w at = by (slice_get rows a) refl (slice_get_cases rows a).1 where
-    by : (o : Option (Vec ℕ Global)) → slice_get rows a ≡ o → ((row : Vec ℕ Global) × (a < length rows) × (slice_get rows a ≡ Some row) × (get_or rows a row ≡ row)) ⊎ ((length rows ≤ a) × (slice_get rows a ≡ None)) → (row : Vec ℕ Global) × (slice_get rows a ≡ Some row) × (row.items ≡ places_of (place_in names) (references_in w.members))
-    by o is (inl r) = let m = of_row a r.0 r.2 in let same : m.0 ≡ w = cc (sym m.1 ∙ at) in (r.0, r.2, m.2 ∙ ap (λ v. places_of (place_in names) (references_in v.members)) same)
+    by : (o : Option (Vec ℕ Global)) → slice_get rows a ≡ o → ((row : Vec ℕ Global) × (a < length rows) × (slice_get rows a ≡ Some row) × (get_or rows a row ≡ row)) ⊎ ((length rows ≤ a) × (slice_get rows a ≡ None)) → (row : Vec ℕ Global) × (slice_get rows a ≡ Some row) × (row.items ≡ places_of (place_named ts) (references_in w.members))
+    by o is (inl r) = let m = of_row a r.0 r.2 in let same : m.0 ≡ w = cc (sym m.1 ∙ at) in (r.0, r.2, m.2 ∙ ap (λ v. places_of (place_named ts) (references_in v.members)) same)
     by o is (inr past) =
         let inside : a < length ts = slice_get_within ts a w at in
         let k : length rows ≡ length ts = rows_len in
@@ -171,7 +170,7 @@ module _ (templates : List Template) (names : BTreeMap (List ℕ) ℕ) (rows : L
   by_place : (a : ℕ) (w : WrittenTemplate) (j : ℕ) (name : List ℕ) (b : ℕ) → slice_get ts a ≡ Some w → slice_get (references_in w.members) j ≡ Some name → place_named ts name ≡ Some b → (k : ℕ) × IsReference rows a k b
   by_place a w j name b at ref is =
       let row = row_there a w at in
-      let m = places_to (place_in names) (references_in w.members) j name b ref (lead name ∙ is) in
+      let m = places_to (place_named ts) (references_in w.members) j name b ref is in
       (m.0, (row.0, row.1, ap (λ l. slice_get l m.0) row.2 ∙ m.1))
 
   pub links_within : AreWithin rows

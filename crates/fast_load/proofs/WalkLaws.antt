@@ -245,6 +245,13 @@ along_fault judge ls d i next n cause inside at is h =
     let split : drop i ls ≡ d ∷ drop (i + 1) ls = drop_more ls i d inside ∙ ap (λ e. e ∷ drop (i + 1) ls) (sym at) in
     sym (ap (λ xs. along judge (map found_of xs) next) split ∙ ap (λ o. and_then (judged o next) (along judge (map found_of (drop (i + 1) ls)))) is) ∙ h
 
+pub along_more : (judge : WrittenInstruction → Option LoadCause) (ls : List Leveled) (d : Leveled) (i next new : ℕ) (all : Walked) → i < length ls → d ≡ get_or ls i d → judge (found_of d) ≡ None → new ≡ next_number next → along judge (map found_of (drop i ls)) next ≡ all → along judge (map found_of (drop (i + 1) ls)) new ≡ all
+along_more judge ls d i next new all inside at is number h =
+    let split : drop i ls ≡ d ∷ drop (i + 1) ls = drop_more ls i d inside ∙ ap (λ e. e ∷ drop (i + 1) ls) (sym at) in
+    ap (along judge (map found_of (drop (i + 1) ls))) number
+    ∙ sym (ap (λ xs. along judge (map found_of xs) next) split ∙ ap (λ o. and_then (judged o next) (along judge (map found_of (drop (i + 1) ls)))) is)
+    ∙ h
+
 pub along_end : (judge : WrittenInstruction → Option LoadCause) (ls : List Leveled) (i next n : ℕ) → length ls ≤ i → along judge (map found_of (drop i ls)) next ≡ along judge (map found_of ls) n → Next next ≡ along judge (map found_of ls) n
 along_end judge ls i next n le h = sym (ap (λ xs. along judge (map found_of xs) next) (drop_all i ls le)) ∙ h
 

@@ -1,5 +1,5 @@
 -- Where names and identifiers stand first, and templates that repeat them.
-use Rattle.std.specs.Prelude.{◌≡◌, ℕ, suc, ◌+◌, nat_eq, Bool, false, if◌then◌else◌, List, [], ◌∷◌, ◌++◌, Option, Some, None, option_map, is_some}
+use Rattle.std.specs.Prelude.{◌≡◌, ℕ, suc, ◌+◌, nat_eq, Bool, false, if◌then◌else◌, List, [], ◌∷◌, ◌++◌, Option, Some, None, option_map, is_some, unwrap_or}
 use Rattle.std.specs.Cmp.Lexicographic.{pointwise, slice_cmp}
 use Rattle.std.specs.Ordering.{nat_cmp}
 use Rattle.std.specs.BTreeMap.{BTreeMap, Updates, get}
@@ -17,6 +17,10 @@ place_where test (w ∷ ws) = if test w then Some 0 else option_map suc (place_w
 
 abbrev pub place_named : List WrittenTemplate → List ℕ → Option ℕ
 place_named ts name = place_where (λ w. pointwise nat_eq w.name name) ts
+
+-- the same, or 0 where no template has the name
+abbrev pub place_or : List WrittenTemplate → List ℕ → ℕ
+place_or ts name = unwrap_or (place_named ts name) 0
 
 abbrev pub place_of_id : List WrittenTemplate → ℕ → Option ℕ
 place_of_id ts id = place_where (λ w. has_id id w.id) ts

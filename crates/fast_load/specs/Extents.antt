@@ -1,14 +1,12 @@
 -- How large the flat lists of templates are and how deep they nest, before any is put together.
 -- Own: the limits.
-use Rattle.std.specs.Prelude.{◌≡◌, ◌+◌, ℕ, max, min, nat_lt, if◌then◌else◌, List, [], ◌∷◌, slice_get, Option, Some, None, option_and_then}
+use Rattle.std.specs.Prelude.{◌≡◌, ◌+◌, ℕ, max, min, nat_lt, if◌then◌else◌, List, [], ◌∷◌, slice_get, Option, Some, None}
 use Rattle.fast_written.specs.declared.fault.LoadCause.TheVariants.{TooDeep, TooMany}
 use Rattle.fast_written.specs.declared.fault.LoadFault.{LoadFault}
 use Rattle.std.specs.Option.{option_map_or}
-use Rattle.std.specs.BTreeMap.{BTreeMap}
 use Rattle.fast_load.specs.declared.extents.Extent.{Extent}
 use Rattle.fast_written.specs.Written.{WrittenInstruction, WrittenInstructions, written_field, written_parts, written_group, written_sequence, written_reference, no_written, then_written}
 use Rattle.fast_template.specs.Resolved.{Instructions, size_of, depth_of}
-use Rattle.fast_load.specs.Links.{place_in}
 
 -- how many instructions there are with references replaced by lists of these sizes
 abbrev mutual
@@ -67,15 +65,12 @@ stopped_size n = min 65536 n
 abbrev pub stopped_depth : ℕ → ℕ
 stopped_depth n = min 9 n
 
--- the extent of a name's list, as far as it is known
-abbrev pub extent_named : BTreeMap (List ℕ) ℕ → List Extent → List ℕ → Option Extent
-extent_named names extents name = option_and_then (slice_get extents) (place_in names name)
+-- the size and depth of a name's list, by the place that the name has
+abbrev pub size_named : (List ℕ → ℕ) → List Extent → List ℕ → ℕ
+size_named place extents name = option_map_or (λ e. e.size) (slice_get extents (place name)) 0
 
-abbrev pub size_named : BTreeMap (List ℕ) ℕ → List Extent → List ℕ → ℕ
-size_named names extents name = option_map_or (λ e. e.size) (extent_named names extents name) 0
-
-abbrev pub depth_named : BTreeMap (List ℕ) ℕ → List Extent → List ℕ → ℕ
-depth_named names extents name = option_map_or (λ e. e.depth) (extent_named names extents name) 0
+abbrev pub depth_named : (List ℕ → ℕ) → List Extent → List ℕ → ℕ
+depth_named place extents name = option_map_or (λ e. e.depth) (slice_get extents (place name)) 0
 
 -- the extent of a flat list
 abbrev pub IsExtentOf : Instructions → Extent → Type 0

@@ -13,3 +13,4 @@ pub mod Extents
 pub mod NamedLists
 pub mod IdPlaces
 pub mod InOrder
+pub mod Initials

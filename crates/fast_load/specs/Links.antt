@@ -1,10 +1,12 @@
 -- The references of templates, and orders in which each template stands behind those that it refers to.
 -- FAST 1.1, Templates, Template Reference Instructions.
-use Rattle.std.specs.Prelude.{◌≡◌, ◌<◌, ℕ, List, [], ◌∷◌, ◌++◌, length, slice_get, option_to_list, Option, Some}
+use Rattle.std.specs.Prelude.{◌≡◌, ◌<◌, ℕ, List, [], ◌∷◌, ◌++◌, length, map, slice_get, option_to_list, Option, Some, Vec}
+use Rattle.std.specs.declared.alloc.Global.{Global}
 use Rattle.std.specs.BTreeMap.{BTreeMap, get}
 use Rattle.std.specs.Cmp.Lexicographic.{slice_cmp}
 use Rattle.std.specs.Ordering.{nat_cmp}
-use Rattle.fast_written.specs.Written.{WrittenInstruction, WrittenInstructions, written_field, written_parts, written_group, written_sequence, written_reference, no_written, then_written, WrittenTemplate}
+use Rattle.fast_written.specs.declared.written.Template.{Template}
+use Rattle.fast_written.specs.Written.{written_template_of, WrittenInstruction, WrittenInstructions, written_field, written_parts, written_group, written_sequence, written_reference, no_written, then_written, WrittenTemplate}
 use Rattle.fast_load.specs.Duplicates.{place_named}
 
 -- the names that references give, depth first
@@ -40,6 +42,10 @@ places_of place (name ∷ names) = option_to_list (place name) ++ places_of plac
 -- the place of a name by an index
 abbrev pub place_in : BTreeMap (List ℕ) ℕ → List ℕ → Option ℕ
 place_in names = get (slice_cmp nat_cmp) names
+
+-- a row for each template: the places that its references lead to
+abbrev pub AreLinks : List Template → List (Vec ℕ Global) → Type 0
+AreLinks templates rows = map (λ row. row.items) rows ≡ map (λ t. places_of (place_named (map written_template_of templates)) (references_in (written_template_of t).members)) templates
 
 -- P holds of the name of each reference
 abbrev mutual

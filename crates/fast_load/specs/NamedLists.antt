@@ -1,19 +1,26 @@
 -- Flat lists that are put together already, by the names of their templates.
-use Rattle.std.specs.Prelude.{◌≡◌, ℕ, List, length, Option, Some, slice_get}
+use Rattle.std.specs.Prelude.{◌≡◌, ℕ, suc, if◌then◌else◌, nat_eq, List, [], ◌∷◌, length, map, Option, Some, None, option_map, slice_get, unwrap_or}
+use Rattle.std.specs.Cmp.Lexicographic.{pointwise}
 use Rattle.std.specs.Option.{option_map_or}
-use Rattle.std.specs.BTreeMap.{BTreeMap}
 use Rattle.fast_template.specs.declared.resolved.FlatTemplate.{FlatTemplate}
 use Rattle.fast_written.specs.Written.{WrittenTemplate}
 use Rattle.fast_template.specs.Resolved.{Instructions, no_instructions, list_of}
 use Rattle.fast_load.specs.FlatLists.{AreFlatLists}
-use Rattle.fast_load.specs.Links.{place_in}
 
 -- the list at a place, and that of a name
 abbrev pub list_at : List FlatTemplate → ℕ → Instructions
 list_at flats place = option_map_or (λ t. list_of t.members.items) (slice_get flats place) no_instructions
 
-abbrev pub list_named : BTreeMap (List ℕ) ℕ → List FlatTemplate → List ℕ → Instructions
-list_named names flats name = option_map_or (list_at flats) (place_in names name) no_instructions
+-- the place of the first template of a name, or 0 where there is none
+abbrev pub first_named : List (List ℕ) → List ℕ → Option ℕ
+first_named [] name = None
+first_named (n ∷ ns) name = if pointwise nat_eq n name then Some 0 else option_map suc (first_named ns name)
+
+abbrev pub place_among : List FlatTemplate → List ℕ → ℕ
+place_among flats name = unwrap_or (first_named (map (λ t. t.name) flats) name) 0
+
+abbrev pub list_named : List FlatTemplate → List ℕ → Instructions
+list_named flats name = list_at flats (place_among flats name)
 
 -- what a template has beside its members
 pub record Heading : Type 0 where

@@ -1,12 +1,13 @@
 -- Instructions one after another, depth first, until one is judged to be at fault.
 -- Own: the numbers of instructions in faults.
-use Rattle.std.specs.Prelude.{ℕ, ◌+◌, List, [], ◌∷◌, Option, Some, None}
+use Rattle.std.specs.Prelude.{ℕ, ◌+◌, List, [], ◌∷◌, Option, Some, None, ⊤}
+use Rattle.std.specs.List.{flat_map}
 use Rattle.fast_written.specs.declared.fault.LoadCause.{LoadCause}
 use Rattle.fast_written.specs.declared.fault.LoadFault.{LoadFault}
 use Rattle.fast_written.specs.LoadFaults.{next_number}
 use Rattle.fast_load.specs.declared.walk.Walked.{Walked}
 use Rattle.fast_load.specs.declared.walk.Walked.TheVariants.{Next, Fault}
-use Rattle.fast_written.specs.Written.{WrittenInstruction, WrittenInstructions, written_field, written_parts, written_group, written_sequence, written_reference, no_written, then_written, WrittenTemplate}
+use Rattle.fast_written.specs.Written.{WrittenInstruction, WrittenInstructions, written_field, written_parts, written_group, written_sequence, written_reference, no_written, then_written, WrittenTemplate, listed}
 
 -- goes on with the next number, where there was no fault
 abbrev pub and_then : Walked → (ℕ → Walked) → Walked
@@ -44,3 +45,14 @@ abbrev pub first_at_fault : (WrittenTemplate → Option LoadCause) → (WrittenI
 first_at_fault of_template of_instruction [] t = None
 first_at_fault of_template of_instruction (w ∷ ws) t =
     after_template (of_template w) t (after_walk (walk of_instruction w.members 1) t (first_at_fault of_template of_instruction ws (t + 1)))
+
+-- ---- what is kept of instructions that are not at fault
+
+-- of those of a list and those inside them, depth first
+abbrev pub kept_of : {K : Type 0} → (WrittenInstruction → List K) → WrittenInstructions → List K
+kept_of keeps is = flat_map keeps (listed is)
+
+-- a fact of a walk that met no fault
+abbrev pub when_passed : Walked → Type 0 → Type 0
+when_passed (Next n) P = P
+when_passed (Fault cause n) P = ⊤

@@ -1,24 +1,23 @@
 //! Sets of resolved templates, from templates that passed the first checks of a load.
 
 ghost use Rattle.std.specs.Prelude.{◌≤◌, ◌<◌, ℕ, IfOk, MatchOption, MatchResult, length, map};
-ghost use Rattle.fast_load.specs.Duplicates.{NamesLead};
 ghost use Rattle.fast_load.specs.FlatLists.{AreResolved};
-ghost use Rattle.fast_load.specs.Links.{IsBuildOrder};
+ghost use Rattle.fast_load.specs.Initials.{AreInitials};
+ghost use Rattle.fast_load.specs.Links.{AreLinks, IsBuildOrder};
 ghost use Rattle.fast_load.specs.LoadChecks.{IsAccepted, IsFirstFault};
 ghost use Rattle.fast_load.specs.Phases.{IsFirstOf, Passes};
 ghost use Rattle.fast_template.specs.TemplateSets.{templates_in};
 ghost use Rattle.fast_written.specs.Written.{written_template_of};
 
+use crate::checks::Checked;
 use crate::extents::{extents_of, first_too_large};
 use crate::flat_lists::flat_templates;
 use crate::id_places::id_places;
 use crate::links::build_order;
 use crate::settle::settle;
 use fast_template::TemplateSet;
-use fast_value::Name;
 use fast_written::{LoadFault, Template};
 use std::alloc::{AllocError, Global};
-use std::collections::BTreeMap;
 
 /// Templates that pass the checks up to that of references, resolved; or the first fault.
 ///
@@ -28,9 +27,10 @@ use std::collections::BTreeMap;
 pub(crate) fn resolve(
     alloc: Global,
     templates: &[Template],
-    names: &BTreeMap<Name, u32>,
+    checked: &Checked,
 ) -> Result<Result<TemplateSet, LoadFault>, AllocError>
-    requires lead { NamesLead names.now (map written_template_of templates.now) }
+    requires linked { AreLinks templates.now checked.now.links.items }
+    requires initials { AreInitials templates.now checked.now.initials.items }
     requires passed { (phase : ℕ) → phase < 5 → Passes
         (map written_template_of templates.now) phase }
     ensures { IfOk result (λ answer. MatchResult answer
@@ -38,8 +38,8 @@ pub(crate) fn resolve(
         × AreResolved (map written_template_of templates.now) (templates_in set))
         (λ fault. IsFirstFault (map written_template_of templates.now) fault)) }
 {
-    match order_within_limits(alloc, templates, names)? {
-        Ok(order) => Ok(Ok(set_of(alloc, templates, names, &order)?)),
+    match order_within_limits(alloc, templates, checked)? {
+        Ok(order) => Ok(Ok(set_of(alloc, templates, checked, &order)?)),
         Err(fault) => Ok(Err(fault)),
     }
 }
@@ -49,9 +49,9 @@ pub(crate) fn resolve(
 fn order_within_limits(
     alloc: Global,
     templates: &[Template],
-    names: &BTreeMap<Name, u32>,
+    checked: &Checked,
 ) -> Result<Result<Vec<usize>, LoadFault>, AllocError>
-    requires lead { NamesLead names.now (map written_template_of templates.now) }
+    requires linked { AreLinks templates.now checked.now.links.items }
     requires passed { (phase : ℕ) → phase < 5 → Passes
         (map written_template_of templates.now) phase }
     ensures { IfOk result (λ answer. MatchResult answer
@@ -60,8 +60,8 @@ fn order_within_limits(
         × Passes (map written_template_of templates.now) 6)
         (λ fault. IsFirstFault (map written_template_of templates.now) fault)) }
 {
-    match build_order(alloc, templates, names)? {
-        Ok(order) => match limit_passed(alloc, templates, names, &order)? {
+    match build_order(alloc, templates, &checked.links)? {
+        Ok(order) => match limit_passed(alloc, templates, &checked.links, &order)? {
             Some(fault) => Ok(Err(fault)),
             None => Ok(Ok(order)),
         },
@@ -73,18 +73,19 @@ fn order_within_limits(
 fn limit_passed(
     alloc: Global,
     templates: &[Template],
-    names: &BTreeMap<Name, u32>,
+    links: &[Vec<usize>],
     order: &[usize],
 ) -> Result<Option<LoadFault>, AllocError>
     requires few { length templates.now ≤ 65535 }
-    requires lead { NamesLead names.now (map written_template_of templates.now) }
+    requires known { Passes (map written_template_of templates.now) 4 }
+    requires linked { AreLinks templates.now links.now }
     requires differ { Passes (map written_template_of templates.now) 2 }
     requires in_order { IsBuildOrder (map written_template_of templates.now) order.now }
     ensures { IfOk result (λ answer. MatchOption answer
         (Passes (map written_template_of templates.now) 6)
         (λ fault. IsFirstOf (map written_template_of templates.now) 6 fault)) }
 {
-    let extents = extents_of(alloc, templates, names, order)?;
+    let extents = extents_of(alloc, templates, links, order)?;
     Ok(first_too_large(&extents))
 }
 
@@ -92,11 +93,13 @@ fn limit_passed(
 fn set_of(
     alloc: Global,
     templates: &[Template],
-    names: &BTreeMap<Name, u32>,
+    checked: &Checked,
     order: &[usize],
 ) -> Result<TemplateSet, AllocError>
     requires few { length templates.now ≤ 65535 }
-    requires lead { NamesLead names.now (map written_template_of templates.now) }
+    requires known { Passes (map written_template_of templates.now) 4 }
+    requires linked { AreLinks templates.now checked.now.links.items }
+    requires initials { AreInitials templates.now checked.now.initials.items }
     requires differ { Passes (map written_template_of templates.now) 2 }
     requires operators { Passes (map written_template_of templates.now) 3 }
     requires limits { Passes (map written_template_of templates.now) 6 }
@@ -104,7 +107,7 @@ fn set_of(
     ensures { IfOk result (λ set. AreResolved (map written_template_of templates.now)
         (templates_in set)) }
 {
-    let mut flats = flat_templates(alloc, templates, names, order)?;
+    let mut flats = flat_templates(alloc, templates, checked, order)?;
     let slots = settle(&mut flats, alloc)?;
     let places = id_places(alloc, &flats)?;
     Ok(TemplateSet::of(flats, slots, places))

@@ -1,19 +1,21 @@
 //! How large flat lists are, before any is put together.
 
-ghost use Rattle.std.specs.Prelude.{◌≡◌, ◌≤◌, ◌+◌, ℕ, IfOk, List, Some, length, map, max, slice_get};
-ghost use Rattle.fast_load.specs.Duplicates.{NamesLead};
-ghost use Rattle.fast_load.specs.Extents.{IsExtentOf, depth_named, depth_with, extent_named, own_depth, own_size, size_named, size_with, stopped_depth, stopped_size, too_large};
+ghost use Rattle.std.specs.Prelude.{◌≡◌, ◌≤◌, ◌+◌, ℕ, IfOk, List, Some, drop, length, map, max, slice_get};
+ghost use Rattle.std.specs.Option.{option_map_or};
+ghost use Rattle.fast_load.specs.Duplicates.{place_or};
+ghost use Rattle.fast_load.specs.Extents.{IsExtentOf, depth_named, depth_with, own_depth, own_size, size_named, size_with, stopped_depth, stopped_size, too_large};
 ghost use Rattle.fast_load.specs.declared.extents.Extent as extent_type;
 ghost use Rattle.fast_load.specs.FlatLists.{AreFlatLists};
-ghost use Rattle.fast_load.specs.Links.{IsBuildOrder};
+ghost use Rattle.fast_load.specs.Initials.{Leads};
+ghost use Rattle.fast_load.specs.Phases.{Passes};
+ghost use Rattle.fast_load.specs.Links.{AreLinks, IsBuildOrder, references_in, referred_by};
 ghost use Rattle.fast_template.specs.Resolved.{Instructions};
 ghost use Rattle.fast_written.specs.Written.{WrittenTemplate, written_list, written_of, written_template_of};
 
 use crate::in_order::in_order;
-use fast_value::Name;
+use crate::links::Links;
 use fast_written::{Instruction, LoadCause, LoadFault, Template, fault_at};
 use std::alloc::{AllocError, Global};
-use std::collections::BTreeMap;
 
 /// The size and depth of a list of instructions.
 #[derive(Clone, Copy)]
@@ -64,10 +66,14 @@ impl Extent {
 pub(crate) fn extents_of(
     alloc: Global,
     templates: &[Template],
-    names: &BTreeMap<Name, u32>,
+    links: &[Vec<usize>],
     order: &[usize],
 ) -> Result<Vec<Extent>, AllocError>
-    requires lead { NamesLead names.now (map written_template_of templates.now) }
+    ghost place: { List ℕ → ℕ }
+    requires places { (name : List ℕ)
+        → place name ≡ place_or (map written_template_of templates.now) name }
+    requires known { Passes (map written_template_of templates.now) 4 }
+    requires linked { AreLinks templates.now links.now }
     requires in_order { IsBuildOrder (map written_template_of templates.now) order.now }
     ensures len { IfOk result (λ extents. length extents.items ≡ length templates.now) }
     ensures extents { IfOk result (λ extents. (stands : List ℕ → Instructions)
@@ -79,7 +85,10 @@ pub(crate) fn extents_of(
 {
     let mut extents = vec![in alloc; Extent::empty(); templates.len()]?;
     for place in order {
-        let extent = extent_of_all(&templates[*place].members, names, &extents, alloc)?;
+        let links = Links {
+            rest: &links[*place],
+        };
+        let extent = extent_of_all(&templates[*place].members, links, &extents, alloc)?;
         extents[*place] = extent;
     }
     Ok(extents)
@@ -109,62 +118,53 @@ pub(crate) fn first_too_large(extents: &[Extent]) -> Option<LoadFault>
 // The extent of instructions with those inside them.
 fn extent_of_all(
     members: &[Instruction],
-    names: &BTreeMap<Name, u32>,
+    links: Links<'_>,
     extents: &[Extent],
     alloc: Global,
 ) -> Result<Extent, AllocError>
+    ghost place: { List ℕ → ℕ }
+    requires { links.rest.now
+        ≡ map place (references_in (written_list (map written_of members.now))) }
     ensures size { IfOk result (λ e. e.size ≡ stopped_size (size_with
-        (size_named names.now extents.now) (written_list (map written_of members.now)))) }
+        (size_named place extents.now) (written_list (map written_of members.now)))) }
     ensures depth { IfOk result (λ e. e.depth ≡ stopped_depth (depth_with
-        (depth_named names.now extents.now) (written_list (map written_of members.now)))) }
+        (depth_named place extents.now) (written_list (map written_of members.now)))) }
 {
     let list = in_order(alloc, members)?;
+    let mut links = links;
     let mut extent = Extent::empty();
     for found in &list {
-        let own = own_extent(found.instruction, names, extents, alloc)?;
+        let own = own_extent(found.instruction, &mut links, extents);
         extent = extent.and(own.below(found.level));
     }
     Ok(extent)
 }
 
 // What an instruction itself adds, without its members.
-fn own_extent(
-    instruction: &Instruction,
-    names: &BTreeMap<Name, u32>,
-    extents: &[Extent],
-    alloc: Global,
-) -> Result<Extent, AllocError>
-    ensures size { IfOk result (λ e. e.size ≡ own_size (size_named names.now extents.now)
-        (written_of instruction.now)) }
-    ensures depth { IfOk result (λ e. e.depth ≡ own_depth (depth_named names.now extents.now)
-        (written_of instruction.now)) }
+fn own_extent(instruction: &Instruction, links: &mut Links<'_>, extents: &[Extent]) -> Extent
+    ghost place: { List ℕ → ℕ }
+    requires { Leads (map place (referred_by (written_of instruction.now))) links.old.rest.now }
+    ensures size { result.size ≡ own_size (size_named place extents.now)
+        (written_of instruction.now) }
+    ensures depth { result.depth ≡ own_depth (depth_named place extents.now)
+        (written_of instruction.now) }
+    ensures rest { links.new.rest.now
+        ≡ drop (length (referred_by (written_of instruction.now))) links.old.rest.now }
 {
     match instruction {
-        Instruction::Field { .. } | Instruction::Parts { .. } => Ok(Extent { size: 1, depth: 0 }),
-        Instruction::Group { .. } | Instruction::Sequence { .. } => Ok(Extent {
-            size: 1,
-            depth: 1,
-        }),
-        Instruction::Reference { name } => extent_of_name(name, names, extents, alloc),
+        Instruction::Field { .. } | Instruction::Parts { .. } => Extent { size: 1, depth: 0 },
+        Instruction::Group { .. } | Instruction::Sequence { .. } => Extent { size: 1, depth: 1 },
+        Instruction::Reference { .. } => extent_at(links.take_next(), extents),
     }
 }
 
-// The extent of the list that a name stands for.
-fn extent_of_name(
-    name: &str,
-    names: &BTreeMap<Name, u32>,
-    extents: &[Extent],
-    alloc: Global,
-) -> Result<Extent, AllocError>
-    ensures size { IfOk result (λ e. e.size ≡ size_named names.now extents.now name.now) }
-    ensures depth { IfOk result (λ e. e.depth ≡ depth_named names.now extents.now name.now) }
+// The extent of the list at a place.
+fn extent_at(place: usize, extents: &[Extent]) -> Extent
+    ensures size { result.size ≡ option_map_or (λ e. e.size) (slice_get extents.now place) 0 }
+    ensures depth { result.depth ≡ option_map_or (λ e. e.depth) (slice_get extents.now place) 0 }
 {
-    let name = Name::of(alloc, name)?;
-    match names.get(&name) {
-        Some(place) => match extents.get(*place as usize) {
-            Some(extent) => Ok(*extent),
-            None => Ok(Extent::empty()),
-        },
-        None => Ok(Extent::empty()),
+    match extents.get(place) {
+        Some(extent) => *extent,
+        None => Extent::empty(),
     }
 }

@@ -1,20 +1,25 @@
 //! Lists of instructions whose references are replaced.
 
-ghost use Rattle.std.specs.Prelude.{◌≡◌, ◌≤◌, IfOk, OnOk, OnErr, length, map, option_map, string_bytes};
-ghost use Rattle.fast_load.specs.Duplicates.{NamesLead};
+ghost use Rattle.std.specs.Prelude.{◌≡◌, ◌≤◌, ◌∷◌, [], IfOk, OnOk, OnErr, drop, length, map, option_map, string_bytes};
 ghost use Rattle.fast_load.specs.FlatLists.{exponent_part, field_part, flat_list, flat_one, length_key, length_part, mantissa_part};
-ghost use Rattle.fast_load.specs.Links.{IsBuildOrder};
-ghost use Rattle.fast_load.specs.NamedLists.{AreFlattened, heading, heading_of, list_at, list_named};
+ghost use Rattle.fast_load.specs.Initials.{AreInitials, Leads, initial_in, initials_in, initials_in_one};
+ghost use Rattle.fast_load.specs.Links.{AreLinks, IsBuildOrder, references_in, references_in_one};
+ghost use Rattle.fast_load.specs.NamedLists.{AreFlattened, heading, heading_of, list_at, list_named, place_among};
+ghost use Rattle.fast_load.specs.Phases.{Passes};
 ghost use Rattle.fast_template.specs.Resolved.{field_in_parts, group_of, instruction_of, joined, list_of, sequence_of, whole_field};
 ghost use Rattle.fast_load.specs.Surroundings.{context_in};
+ghost use Rattle.fast_value.specs.declared.kind.Kind.TheVariants.{Int32, Int64, UInt32};
+ghost use Rattle.fast_value.specs.declared.kind.Part.TheVariants.{Exponent, Length, Mantissa, Whole};
 ghost use Rattle.fast_written.specs.Written.{operation_of, written_list, written_of, written_template_of};
 
+use crate::checks::Checked;
+use crate::initials::{Initials, copied};
+use crate::links::Links;
 use crate::surroundings::{Around, directly_in, inside, key_of, part_of};
-use fast_template::{FieldPart, Flat, FlatTemplate};
+use fast_template::{FieldPart, Flat, FlatTemplate, Initial};
 use fast_value::{Key, Kind, Name, Part, Presence};
 use fast_written::{Instruction, Operation, Template};
 use std::alloc::{AllocError, Global};
-use std::collections::BTreeMap;
 
 /// The templates as written, each with its flat list: keys have no slot yet, and instructions no
 /// number.
@@ -25,11 +30,13 @@ use std::collections::BTreeMap;
 pub(crate) fn flat_templates(
     alloc: Global,
     templates: &[Template],
-    names: &BTreeMap<Name, u32>,
+    checked: &Checked,
     order: &[usize],
 ) -> Result<Vec<FlatTemplate>, AllocError>
     requires few { length templates.now ≤ 65535 }
-    requires lead { NamesLead names.now (map written_template_of templates.now) }
+    requires known { Passes (map written_template_of templates.now) 4 }
+    requires linked { AreLinks templates.now checked.now.links.items }
+    requires initials { AreInitials templates.now checked.now.initials.items }
     requires in_order { IsBuildOrder (map written_template_of templates.now) order.now }
     ensures { IfOk result (λ flats. AreFlattened
         (map written_template_of templates.now) flats.items) }
@@ -39,11 +46,18 @@ pub(crate) fn flat_templates(
         let template = &templates[*place];
         let mut members = Vec::new(alloc);
         let around = directly_in(template, *place as u32 + 1);
+        let mut links = Links {
+            rest: &checked.links[*place],
+        };
+        let mut initials = Initials {
+            rest: &checked.initials[*place],
+        };
         append_all(
             &template.members,
             around,
-            names,
             &flats,
+            &mut links,
+            &mut initials,
             alloc,
             &mut members,
         )?;
@@ -75,20 +89,30 @@ fn without_members(alloc: Global, templates: &[Template]) -> Result<Vec<FlatTemp
 ///
 /// Where memory is refused.
 #[cycle(appends)]
+#[tactic(auto, using(crate::proofs::KeptLaws::leads_member, crate::proofs::KeptLaws::linked_member))]
 pub(crate) fn append_all(
     members: &[Instruction],
     around: Around<'_>,
-    names: &BTreeMap<Name, u32>,
     lists: &[FlatTemplate],
+    links: &mut Links<'_>,
+    initials: &mut Initials<'_>,
     alloc: Global,
     flats: &mut Vec<Flat>,
 ) -> Result<(), AllocError>
-    ensures { OnOk result (list_of flats.new.items ≡ joined (list_of flats.old.items)
-        (flat_list (list_named names.now lists.now) (context_in around.entry) (written_list
+    requires linked { Leads (map (place_among lists.now) (references_in (written_list
+        (map written_of members.now)))) links.old.rest.now }
+    requires led { Leads (initials_in (written_list (map written_of members.now)))
+        initials.old.rest.now }
+    ensures appended { OnOk result (list_of flats.new.items ≡ joined (list_of flats.old.items)
+        (flat_list (list_named lists.now) (context_in around.entry) (written_list
         (map written_of members.now)))) }
+    ensures links { OnOk result (links.new.rest.now ≡ drop (length (references_in (written_list
+        (map written_of members.now)))) links.old.rest.now) }
+    ensures rest { OnOk result (initials.new.rest.now ≡ drop (length (initials_in (written_list
+        (map written_of members.now)))) initials.old.rest.now) }
 {
     for member in members {
-        append_one(member, around, names, lists, alloc, flats)?;
+        append_one(member, around, lists, links, initials, alloc, flats)?;
     }
     Ok(())
 }
@@ -98,14 +122,22 @@ pub(crate) fn append_all(
 fn append_one(
     member: &Instruction,
     around: Around<'_>,
-    names: &BTreeMap<Name, u32>,
     lists: &[FlatTemplate],
+    links: &mut Links<'_>,
+    initials: &mut Initials<'_>,
     alloc: Global,
     flats: &mut Vec<Flat>,
 ) -> Result<(), AllocError>
-    ensures { OnOk result (list_of flats.new.items ≡ joined (list_of flats.old.items)
-        (flat_one (list_named names.now lists.now) (context_in around.entry)
+    requires linked { Leads (map (place_among lists.now)
+        (references_in_one (written_of member.now))) links.old.rest.now }
+    requires led { Leads (initials_in_one (written_of member.now)) initials.old.rest.now }
+    ensures appended { OnOk result (list_of flats.new.items ≡ joined (list_of flats.old.items)
+        (flat_one (list_named lists.now) (context_in around.entry)
         (written_of member.now))) }
+    ensures links { OnOk result (links.new.rest.now
+        ≡ drop (length (references_in_one (written_of member.now))) links.old.rest.now) }
+    ensures rest { OnOk result (initials.new.rest.now
+        ≡ drop (length (initials_in_one (written_of member.now))) initials.old.rest.now) }
 {
     match member {
         Instruction::Field {
@@ -114,7 +146,8 @@ fn append_one(
             presence,
             operation,
         } => {
-            let field = field_flat(alloc, around, name, *kind, *presence, operation)?;
+            let initial = initials.take_next()?;
+            let field = field_flat(alloc, around, name, *kind, *presence, operation, initial)?;
             flats.push(field)?;
             Ok(())
         }
@@ -124,7 +157,7 @@ fn append_one(
             exponent,
             mantissa,
         } => {
-            let parts = parts_flat(alloc, around, name, *presence, exponent, mantissa)?;
+            let parts = parts_flat(alloc, around, name, *presence, exponent, mantissa, initials)?;
             flats.push(parts)?;
             Ok(())
         }
@@ -137,7 +170,7 @@ fn append_one(
         } => {
             let around = inside(around, dictionary, type_ref);
             let mut inner = Vec::new(alloc);
-            append_all(members, around, names, lists, alloc, &mut inner)?;
+            append_all(members, around, lists, links, initials, alloc, &mut inner)?;
             let group = group_flat(alloc, name, *presence, inner)?;
             flats.push(group)?;
             Ok(())
@@ -152,33 +185,15 @@ fn append_one(
             members,
         } => {
             let around = inside(around, dictionary, type_ref);
+            let initial = initials.take_next()?;
+            let length = length_of(alloc, around, name, *presence, length_name, length, initial)?;
             let mut inner = Vec::new(alloc);
-            append_all(members, around, names, lists, alloc, &mut inner)?;
-            let length = length_of(alloc, around, name, *presence, length_name, length)?;
+            append_all(members, around, lists, links, initials, alloc, &mut inner)?;
             let sequence = sequence_flat(alloc, name, *presence, length, inner)?;
             flats.push(sequence)?;
             Ok(())
         }
-        Instruction::Reference { name } => append_named(name, names, lists, alloc, flats),
-    }
-}
-
-// Appends the list that stands for a name.
-#[tactic(auto, using(crate::proofs::FlatLaws::joined_none))]
-fn append_named(
-    name: &str,
-    names: &BTreeMap<Name, u32>,
-    lists: &[FlatTemplate],
-    alloc: Global,
-    flats: &mut Vec<Flat>,
-) -> Result<(), AllocError>
-    ensures { OnOk result (list_of flats.new.items ≡ joined (list_of flats.old.items)
-        (list_named names.now lists.now name.now)) }
-{
-    let name = Name::of(alloc, name)?;
-    match names.get(&name) {
-        Some(place) => append_placed(*place as usize, lists, alloc, flats),
-        None => Ok(()),
+        Instruction::Reference { .. } => append_placed(links.take_next(), lists, alloc, flats),
     }
 }
 
@@ -216,7 +231,9 @@ fn field_flat(
     kind: Kind,
     presence: Presence,
     operation: &Operation,
+    initial: Option<Initial>,
 ) -> Result<Flat, AllocError>
+    requires { initial ≡ initial_in Whole kind (operation_of operation.now) }
     ensures { IfOk result (λ flat. instruction_of flat ≡ whole_field name.now 0 presence
         (field_part (context_in around.entry) name.now kind presence
         (operation_of operation.now))) }
@@ -226,7 +243,7 @@ fn field_flat(
         name: Name::of(alloc, name)?,
         number: 0,
         presence,
-        whole: part_of(alloc, Part::Whole, kind, presence, operation, key)?,
+        whole: part_of(Part::Whole, kind, presence, operation, key, initial),
     })
 }
 
@@ -237,33 +254,39 @@ fn parts_flat(
     presence: Presence,
     exponent: &Operation,
     mantissa: &Operation,
+    initials: &mut Initials<'_>,
 ) -> Result<Flat, AllocError>
-    ensures { IfOk result (λ flat. instruction_of flat ≡ field_in_parts name.now 0 presence
+    requires { Leads (initial_in Exponent Int32 (operation_of exponent.now)
+        ∷ initial_in Mantissa Int64 (operation_of mantissa.now) ∷ []) initials.old.rest.now }
+    ensures rest { OnOk result (initials.new.rest.now ≡ drop 2 initials.old.rest.now) }
+    ensures made { IfOk result (λ flat. instruction_of flat ≡ field_in_parts name.now 0 presence
         (exponent_part (context_in around.entry) name.now presence (operation_of exponent.now))
         (mantissa_part (context_in around.entry) name.now (operation_of mantissa.now))) }
 {
     let exponent_key = key_of(alloc, around, exponent, name, Part::Exponent)?;
+    let exponent_initial = initials.take_next()?;
     let mantissa_key = key_of(alloc, around, mantissa, name, Part::Mantissa)?;
+    let mantissa_initial = initials.take_next()?;
     Ok(Flat::Parts {
         name: Name::of(alloc, name)?,
         number: 0,
         presence,
         exponent: part_of(
-            alloc,
             Part::Exponent,
             Kind::Int32,
             presence,
             exponent,
             exponent_key,
-        )?,
+            exponent_initial,
+        ),
         mantissa: part_of(
-            alloc,
             Part::Mantissa,
             Kind::Int64,
             Presence::Mandatory,
             mantissa,
             mantissa_key,
-        )?,
+            mantissa_initial,
+        ),
     })
 }
 
@@ -311,13 +334,21 @@ fn length_of(
     presence: Presence,
     length_name: &Option<String>,
     operation: &Operation,
+    initial: Option<Initial>,
 ) -> Result<FieldPart, AllocError>
+    requires { initial ≡ initial_in Length UInt32 (operation_of operation.now) }
     ensures { IfOk result (λ made. made ≡ length_part (context_in around.entry) name.now presence
         (option_map string_bytes length_name.now) (operation_of operation.now)) }
 {
     let key = key_of_length(alloc, around, name, length_name, operation)?;
-    let made = part_of(alloc, Part::Length, Kind::UInt32, presence, operation, key)?;
-    Ok(made)
+    Ok(part_of(
+        Part::Length,
+        Kind::UInt32,
+        presence,
+        operation,
+        key,
+        initial,
+    ))
 }
 
 fn key_of_length(
@@ -340,10 +371,6 @@ fn key_of_length(
 fn copy_part(part: &FieldPart) -> Result<FieldPart, AllocError>
     ensures { IfOk result (λ other. other ≡ part.now) }
 {
-    let initial = match &part.initial {
-        Some(initial) => Some(initial.copy()?),
-        None => None,
-    };
     Ok(FieldPart {
         number: part.number,
         part: part.part,
@@ -351,7 +378,7 @@ fn copy_part(part: &FieldPart) -> Result<FieldPart, AllocError>
         presence: part.presence,
         operator: part.operator,
         key: part.key.copy()?,
-        initial,
+        initial: copied(&part.initial)?,
     })
 }
 

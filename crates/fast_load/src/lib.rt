@@ -12,6 +12,7 @@ mod extents;
 mod flat_lists;
 mod id_places;
 mod in_order;
+mod initials;
 mod links;
 mod load;
 mod names;

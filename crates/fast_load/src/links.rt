@@ -1,76 +1,35 @@
-//! Which templates each template refers to.
+//! The places that references lead to, and an order of templates by these.
 
-ghost use Rattle.std.specs.Prelude.{◌≡◌, ◌≤◌, ◌<◌, ◌+◌, ◌++◌, IfOk, MatchResult, OnOk, length, map};
+ghost use Rattle.std.specs.Prelude.{◌≡◌, ◌≤◌, ◌<◌, ◌+◌, IfOk, MatchResult, drop, get_or, length, map};
 ghost use Rattle.fast_written.specs.declared.fault.LoadCause.TheVariants.{Cycle};
-ghost use Rattle.fast_load.specs.Duplicates.{NamesLead};
 ghost use Rattle.fast_load.specs.Phases.{IsFirstOf, Passes};
-ghost use Rattle.fast_load.specs.Links.{IsBuildOrder, place_in, places_of, references_in, referred_by};
-ghost use Rattle.fast_written.specs.Written.{written_list, written_of, written_template_of};
+ghost use Rattle.fast_load.specs.Links.{AreLinks, IsBuildOrder};
+ghost use Rattle.fast_written.specs.Written.{written_template_of};
 
-use crate::in_order::in_order;
 use fast_order::order_of;
-use fast_value::Name;
-use fast_written::{Instruction, LoadCause, LoadFault, Template, fault_at};
+use fast_written::{LoadCause, LoadFault, Template, fault_at};
 use std::alloc::{AllocError, Global};
-use std::collections::BTreeMap;
 
-/// The places of the templates that each template refers to, depth first.
-///
-/// # Errors
-///
-/// Where memory is refused.
-pub(crate) fn links_of(
-    alloc: Global,
-    templates: &[Template],
-    names: &BTreeMap<Name, u32>,
-) -> Result<Vec<Vec<usize>>, AllocError>
-    ensures { IfOk result (λ rows. map (λ row. row.items) rows.items
-        ≡ map (λ t. places_of (place_in names.now) (references_in
-        (written_template_of t).members)) templates.now) }
-{
-    let mut rows = Vec::with_capacity(alloc, templates.len())?;
-    for template in templates {
-        let mut row = Vec::new(alloc);
-        link_all(&template.members, names, alloc, &mut row)?;
-        rows.push(row)?;
-    }
-    Ok(rows)
+/// Places that references lead to and that are still to be taken, in the order of the references.
+#[derive(Drop)]
+pub(crate) struct Links<'a> {
+    pub(crate) rest: &'a [usize],
 }
 
-// Appends the places that references lead to.
-fn link_all(
-    members: &[Instruction],
-    names: &BTreeMap<Name, u32>,
-    alloc: Global,
-    row: &mut Vec<usize>,
-) -> Result<(), AllocError>
-    ensures { OnOk result (row.new.items ≡ row.old.items ++ places_of (place_in names.now)
-        (references_in (written_list (map written_of members.now)))) }
-{
-    let list = in_order(alloc, members)?;
-    for found in &list {
-        link_one(found.instruction, names, alloc, row)?;
-    }
-    Ok(())
-}
-
-// Appends the place that an instruction itself leads to, if it is a reference.
-fn link_one(
-    instruction: &Instruction,
-    names: &BTreeMap<Name, u32>,
-    alloc: Global,
-    row: &mut Vec<usize>,
-) -> Result<(), AllocError>
-    ensures { OnOk result (row.new.items ≡ row.old.items ++ places_of (place_in names.now)
-        (referred_by (written_of instruction.now))) }
-{
-    if let Instruction::Reference { name } = instruction {
-        let name = Name::of(alloc, name)?;
-        if let Some(place) = names.get(&name) {
-            row.push(*place as usize)?;
+impl Links<'_> {
+    /// The next one, or 0 past the last.
+    pub(crate) fn take_next(&mut self) -> usize
+        ensures place { result ≡ get_or self.old.rest.now 0 0 }
+        ensures rest { self.new.rest.now ≡ drop 1 self.old.rest.now }
+    {
+        match self.rest.split_first() {
+            Some((first, rest)) => {
+                self.rest = rest;
+                *first
+            }
+            None => 0,
         }
     }
-    Ok(())
 }
 
 /// The places of templates in an order in which each stands behind those that it refers to, or the
@@ -82,10 +41,10 @@ fn link_one(
 pub(crate) fn build_order(
     alloc: Global,
     templates: &[Template],
-    names: &BTreeMap<Name, u32>,
+    links: &[Vec<usize>],
 ) -> Result<Result<Vec<usize>, LoadFault>, AllocError>
     requires few { length templates.now ≤ 65535 }
-    requires lead { NamesLead names.now (map written_template_of templates.now) }
+    requires linked { AreLinks templates.now links.now }
     requires differ { Passes (map written_template_of templates.now) 2 }
     requires known { Passes (map written_template_of templates.now) 4 }
     ensures { IfOk result (λ answer. MatchResult answer
@@ -93,8 +52,7 @@ pub(crate) fn build_order(
         × Passes (map written_template_of templates.now) 5)
         (λ fault. IsFirstOf (map written_template_of templates.now) 5 fault)) }
 {
-    let links = links_of(alloc, templates, names)?;
-    match order_of(alloc, &links)? {
+    match order_of(alloc, links)? {
         Ok(order) => Ok(Ok(order)),
         Err(first) => Ok(Err(cycle_at(first))),
     }

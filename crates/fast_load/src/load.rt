@@ -40,8 +40,8 @@ fn set_of(alloc: Global, templates: &[Template]) -> Result<TemplateSet, LoadFaul
         (λ fault. IsFirstFault (map written_template_of templates.now) fault ⊎ (fault
         ≡ want_of_memory_of)) }
 {
-    let names = check_written(alloc, templates)?;
-    match resolve(alloc, templates, &names) {
+    let checked = check_written(alloc, templates)?;
+    match resolve(alloc, templates, &checked) {
         Ok(Ok(set)) => Ok(set),
         Ok(Err(fault)) => Err(fault),
         Err(AllocError) => Err(want_of_memory()),

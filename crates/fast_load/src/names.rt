@@ -1,6 +1,6 @@
 //! Whether the names of templates are names.
 
-ghost use Rattle.std.specs.Prelude.{◌≡◌, ◌≤◌, ◌⊎◌, ◌&&◌, MatchResult, length, map, nat_le, Some, None, if◌then◌else◌, option_map, option_to_list, string_bytes};
+ghost use Rattle.std.specs.Prelude.{[], ◌≡◌, ◌≤◌, ◌⊎◌, ◌&&◌, MatchResult, length, map, nat_le, Some, None, if◌then◌else◌, option_map, option_to_list, string_bytes};
 ghost use Rattle.std.specs.List.{list_all};
 ghost use Rattle.fast_written.specs.declared.fault.LoadCause.TheVariants.{S1};
 ghost use Rattle.fast_load.specs.LoadChecks.{names_beside, names_in, names_of};
@@ -9,7 +9,7 @@ ghost use Rattle.fast_written.specs.Names.{is_name as is_name_of};
 ghost use Rattle.fast_load.specs.Phases.{IsFirstOf, Passes};
 ghost use Rattle.fast_written.specs.Written.{operation_of, written_of, written_template_of};
 
-use crate::walk::{Judge, first_at_fault};
+use crate::walk::{Judge, judge_all};
 use fast_written::{
     Instruction, LoadCause, LoadFault, Operation, Template, is_name, want_of_memory,
 };
@@ -19,9 +19,13 @@ use std::alloc::{AllocError, Global};
 pub(crate) struct Names;
 
 impl Judge for Names {
+    type Kept = ();
+
     ghost judges_template = { λ s w. if list_all is_name_of (names_of w) then None else Some S1 };
 
     ghost judges = { λ s i. if list_all is_name_of (names_in i) then None else Some S1 };
+
+    ghost keeps = { λ s i. [] };
 
     fn judge_template(&self, template: &Template) -> Option<LoadCause> {
         if template_is_named(template) {
@@ -31,7 +35,11 @@ impl Judge for Names {
         }
     }
 
-    fn judge(&self, instruction: &Instruction) -> Result<Option<LoadCause>, AllocError> {
+    fn judge(
+        &self,
+        instruction: &Instruction,
+        _kept: &mut Vec<()>,
+    ) -> Result<Option<LoadCause>, AllocError> {
         if is_named(instruction) {
             Ok(None)
         } else {
@@ -51,9 +59,9 @@ pub(crate) fn check_names(alloc: Global, templates: &[Template]) -> Result<(), L
         (λ fault. IsFirstOf (map written_template_of templates.now) 1 fault
         ⊎ (fault ≡ want_of_memory)) }
 {
-    match first_at_fault(alloc, templates, &Names) {
-        Ok(None) => Ok(()),
-        Ok(Some(fault)) => Err(fault),
+    match judge_all(alloc, templates, &Names) {
+        Ok(Ok(_)) => Ok(()),
+        Ok(Err(fault)) => Err(fault),
         Err(AllocError) => Err(want_of_memory()),
     }
 }

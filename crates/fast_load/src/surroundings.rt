@@ -1,16 +1,14 @@
 //! Where an instruction was written, and the keys that follow from it.
 
-ghost use Rattle.std.specs.Prelude.{◌≡◌, IfOk, option_and_then, option_map, string_bytes};
+ghost use Rattle.std.specs.Prelude.{◌≡◌, IfOk, option_map, string_bytes};
 ghost use Rattle.std.specs.Option.{option_or};
-ghost use Rattle.fast_value.specs.InitialValues.{value_of_text as value_of};
-ghost use Rattle.fast_value.specs.declared.kind.Kind.TheVariants.{Int32};
-ghost use Rattle.fast_value.specs.declared.kind.Part.TheVariants.{Exponent};
 ghost use Rattle.fast_load.specs.FlatLists.{Context, context_of, inside as inside_of, key_of as key_of_operation, part_of as part_of_operation, scope_named as scope_of_name, scope_of as scope_of_operation};
+ghost use Rattle.fast_load.specs.Initials.{initial_in};
 ghost use Rattle.fast_load.specs.Surroundings.{context_in};
 ghost use Rattle.fast_written.specs.Written.{operation_of, written_template_of};
 
 use fast_template::{FieldPart, Initial};
-use fast_value::{Key, Kind, Name, Part, Presence, Scope, value_of_text};
+use fast_value::{Key, Kind, Name, Part, Presence, Scope};
 use fast_written::{Operation, Template};
 use std::alloc::{AllocError, Global};
 
@@ -135,49 +133,25 @@ pub(crate) fn key_of(
 }
 
 /// One part of an instruction, its number still to be given.
-///
-/// # Errors
-///
-/// Where memory is refused.
 pub(crate) fn part_of(
-    alloc: Global,
     part: Part,
     kind: Kind,
     presence: Presence,
     operation: &Operation,
     key: Key,
-) -> Result<FieldPart, AllocError>
-    requires { part ≡ Exponent → kind ≡ Int32 }
-    ensures { IfOk result (λ made. (c : Context)
-        → made ≡ part_of_operation c part kind presence (operation_of operation.now) key) }
+    initial: Option<Initial>,
+) -> FieldPart
+    requires { initial ≡ initial_in part kind (operation_of operation.now) }
+    ensures { (c : Context) → result
+        ≡ part_of_operation c part kind presence (operation_of operation.now) key }
 {
-    Ok(FieldPart {
+    FieldPart {
         number: 0,
         part,
         kind,
         presence,
         operator: operation.operator,
         key,
-        initial: initial_of(alloc, part, kind, operation)?,
-    })
-}
-
-// The initial value of a part, where there is one.
-fn initial_of(
-    alloc: Global,
-    part: Part,
-    kind: Kind,
-    operation: &Operation,
-) -> Result<Option<Initial>, AllocError>
-    requires { part ≡ Exponent → kind ≡ Int32 }
-    ensures { IfOk result (λ initial. initial
-        ≡ option_and_then (value_of part kind) (operation_of operation.now).initial) }
-{
-    let Some(text) = &operation.initial else {
-        return Ok(None);
-    };
-    match value_of_text(alloc, part, kind, text)? {
-        Some(value) => Ok(Some(Initial::of(alloc, value)?)),
-        None => Ok(None),
+        initial,
     }
 }

@@ -34,10 +34,10 @@ pub returns-in-Err-check_references : goal.returns-in-Err-check_references
 returns-in-Err-check_references c =
     let ts : List WrittenTemplate = map written_template_of c.args.templates.now in
     let few : length ts ≤ 65535 = subst (λ n. n ≤ 65535) (sym (length-map c.args.templates.now written_template_of)) c.if-templates-gt65535.false in
-    either ts 4 c.in-Err-check_references.fault want_of_memory (and_this ts 3 (and_this ts 2 (and_this ts 1 (and_this ts 0 (none_before_first ts) (templates_pass ts few)) c.in-Ok.ensures) c.in-Ok-check_duplicates.ensures.0) c.in-Ok-check_operators.ensures) c.in-Err-check_references.ensures
+    either ts 4 c.in-Err-check_references.fault want_of_memory (and_this ts 3 (and_this ts 2 (and_this ts 1 (and_this ts 0 (none_before_first ts) (templates_pass ts few)) c.in-Ok.ensures) c.in-Ok-check_duplicates.ensures.0) c.in-Ok-check_operators.ensures.0) c.in-Err-check_references.ensures
 
 pub returns : goal.returns
 returns c =
     let ts : List WrittenTemplate = map written_template_of c.args.templates.now in
     let few : length ts ≤ 65535 = subst (λ n. n ≤ 65535) (sym (length-map c.args.templates.now written_template_of)) c.if-templates-gt65535.false in
-    (all_pass ts few c.in-Ok.ensures c.in-Ok-check_duplicates.ensures.0 c.in-Ok-check_operators.ensures c.in-Ok-check_references.ensures, c.in-Ok-check_duplicates.ensures.1)
+    (all_pass ts few c.in-Ok.ensures c.in-Ok-check_duplicates.ensures.0 c.in-Ok-check_operators.ensures.0 c.in-Ok-check_references.ensures.0, c.in-Ok-check_references.ensures.1, c.in-Ok-check_operators.ensures.1)

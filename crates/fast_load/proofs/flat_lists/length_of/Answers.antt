@@ -7,4 +7,4 @@ use Rattle.fast_written.specs.Written.{operation_of}
 use Rattle.fast_load.proofs.flat_lists.length_of.Goals as goal
 
 pub returns : goal.returns
-returns c = c.in_ok-made.ensures (context_in c.args.around) ∙ ap (part_of (context_in c.args.around) Length UInt32 c.args.presence (operation_of c.args.operation.now)) c.in_ok-key.ensures
+returns c = c.part_of.ensures (context_in c.args.around) ∙ ap (part_of (context_in c.args.around) Length UInt32 c.args.presence (operation_of c.args.operation.now)) c.in_ok-key.ensures

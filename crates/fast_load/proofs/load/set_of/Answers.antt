@@ -7,8 +7,5 @@ returns-in-Ok-Ok c = search rules
 pub returns-in-Ok-Err : goal.returns-in-Ok-Err
 returns-in-Ok-Err c = search rules
 
-pub resolve-requires-clause-lead : goal.resolve-requires-clause-lead
-resolve-requires-clause-lead c = search rules depth 2
-
 pub resolve-requires-clause-passed : goal.resolve-requires-clause-passed
 resolve-requires-clause-passed c = search rules depth 2
