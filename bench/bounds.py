@@ -1,5 +1,6 @@
 #!/usr/bin/env python3
-"""Measures how much memory the program takes of input that was made to cost much.
+"""Measures how much the program takes of input that was made to cost much: memory, and of strings that come in few
+bytes at a time, processor time.
 
 usage: bench/bounds.py [PROGRAM]
 
@@ -38,6 +39,20 @@ AGAIN = b"\x80"
 # (command, messages, the memory in MB that is enough)
 RUNS = [("show", 1, 24), ("show", 100, 24), ("show", 4089, 24), ("check", 4089, 24)]
 
+# A string, a byte vector and a Unicode string of 65,535 bytes.
+STRINGS = {
+    "templates": [
+        {"name": "Text", "id": 1, "instructions": [{"kind": "string", "name": "S"}]},
+        {"name": "Bytes", "id": 2, "instructions": [{"kind": "byteVector", "name": "B"}]},
+        {"name": "Unicode", "id": 3, "instructions": [{"kind": "string", "charset": "unicode", "name": "S"}]},
+    ]
+}
+LONGEST = [
+    ("string", b"\xc0\x81" + b"A" * 65534 + b"\xc1"),
+    ("byte vector", b"\xc0\x82\x03\x7f\xff" + b"A" * 65535),
+    ("Unicode string", b"\xc0\x83\x03\x7f\xff" + b"A" * 65535),
+]
+
 
 def counted(command, program, templates, stream):
     """Runs a command, and answers its status, how many bytes it wrote, its processor time and its greatest memory in MB."""
@@ -48,6 +63,19 @@ def counted(command, program, templates, stream):
             written += len(chunk)
         _, status, used = os.wait4(run.pid, 0)
     return os.waitstatus_to_exitcode(status), written, used.ru_utime + used.ru_stime, used.ru_maxrss / 1024
+
+
+def trickled(program, templates, stream, step):
+    """Checks a stream of which a read gives so many bytes at a time, and answers the status and the processor time."""
+    # such a pipe gives at each read what one write has put into it
+    read, write = os.pipe2(os.O_DIRECT | os.O_CLOEXEC)
+    run = subprocess.Popen([program, "check", "--templates", templates], stdin=read, stdout=subprocess.DEVNULL)
+    os.close(read)
+    for at in range(0, len(stream), step):
+        os.write(write, stream[at : at + step])
+    os.close(write)
+    _, status, used = os.wait4(run.pid, 0)
+    return os.waitstatus_to_exitcode(status), used.ru_utime + used.ru_stime
 
 
 def main():
@@ -65,6 +93,16 @@ def main():
             status, written, seconds, memory = counted(command, program, templates, stream)
             print(f"| `{command}` | {os.path.getsize(stream):,} | {written:,} | {seconds:.1f} | {memory:.0f} |")
             failed = failed or status != 0 or memory > enough
+        print()
+        print("| 65,535 bytes of a | Bytes a read | Seconds |")
+        print("|---|---|---|")
+        with open(templates, "w", encoding="utf-8") as file:
+            json.dump(STRINGS, file)
+        for name, stream in LONGEST:
+            for step in (4096, 1):
+                status, seconds = trickled(program, templates, stream, step)
+                print(f"| {name} | {step:,} | {seconds:.2f} |")
+                failed = failed or status != 0
     return int(failed)
 
 
