@@ -4,6 +4,6 @@ mod blocks;
 mod cuts;
 mod long;
 mod messages;
-pub(crate) mod steps;
-pub(crate) mod streams;
+mod steps;
+mod streams;
 mod strict;

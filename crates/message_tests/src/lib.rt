@@ -1,22 +1,12 @@
-//! The tests of fast_decoder, fast_encoder, fast_canon and fast_command.
+//! The tests of fast_decoder, fast_encoder and fast_writer.
 #![tactic(auto)]
 
-#[cfg(test)]
-mod canonicalising;
-#[cfg(test)]
-mod commands;
-#[cfg(test)]
-mod cuts;
 #[cfg(test)]
 mod decoding;
 #[cfg(test)]
 mod encoding;
 #[cfg(test)]
 mod granted;
-#[cfg(test)]
-mod long;
-#[cfg(test)]
-mod modes;
 #[cfg(test)]
 mod same;
 #[cfg(test)]

@@ -291,8 +291,16 @@ fn an_exponent_is_judged_before_its_mantissa(rt: HostRuntime) -> Result<(), Allo
             wanted: Wanted::Fault(LoadCause::S3, 1, 1),
         },
         Row {
+            templates: &[("A", None, &[Made::Decimal("63")])],
+            wanted: Wanted::Fault(LoadCause::S2, 1, 1),
+        },
+        Row {
             templates: &[("A", None, &[Made::Decimal("-63")])],
             wanted: Wanted::Fault(LoadCause::S2, 1, 1),
+        },
+        Row {
+            templates: &[("A", None, &[Made::Decimal("-64")])],
+            wanted: Wanted::Fault(LoadCause::S3, 1, 1),
         },
     ];
     all_judged(&rt, rt.alloc(), ROWS)

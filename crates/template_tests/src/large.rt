@@ -50,6 +50,40 @@ fn each_of_65535_templates_is_found(rt: HostRuntime) -> Result<(), AllocError> {
     Ok(())
 }
 
+// A number that may be given by bit 0, with a name of its own.
+fn copied(alloc: Global, number: u32) -> Result<Instruction, AllocError> {
+    Ok(Instruction::Field {
+        name: format!(in alloc; "F{number}")?,
+        kind: Kind::UInt32,
+        presence: Presence::Mandatory,
+        operation: Operation {
+            operator: Operator::Copy,
+            initial: None,
+            dictionary: None,
+            key: None,
+        },
+    })
+}
+
+// So many templates with such a number each.
+fn with_keys(alloc: Global, count: u32) -> Result<Vec<Template>, AllocError> {
+    let mut templates = Vec::new(alloc);
+    for number in 0..count {
+        let members = vec![in alloc; copied(alloc, number)?]?;
+        templates.push(numbered(alloc, number, members)?)?;
+    }
+    Ok(templates)
+}
+
+// One for the identifier, and one for the key of each template.
+#[test]
+fn there_are_65536_slots(rt: HostRuntime) -> Result<(), AllocError> {
+    let alloc = rt.alloc();
+    let set = loaded(&rt, TemplateSet::build(alloc, with_keys(alloc, 65_535)?))?;
+    same(&rt, set.slots(), 65_536);
+    Ok(())
+}
+
 // Characters that are all the same.
 fn repeated(alloc: Global, character: char, count: u32) -> Result<String, AllocError> {
     let mut text = String::new(alloc);

@@ -83,3 +83,7 @@ pub const KINDS: &str = r#"{"templates":[
  {"kind":"uInt32","name":"G","operator":"copy"}]},
 {"name":"Signed","id":13,"instructions":[
  {"kind":"int32","name":"I","presence":"optional"}]}]}"#;
+
+/// A number, and a sequence whose elements have no members.
+pub const BARE: &str = r#"{"templates":[{"name":"Bare","id":1,"instructions":[
+    {"kind":"uInt32","name":"A"},{"kind":"sequence","name":"L","instructions":[]}]}]}"#;

@@ -1,17 +1,19 @@
 //! Streams in blocks: their sizes, where they end, and that each worked stream is the same in them.
 
-use crate::decoding::steps::{End, Step, follow};
-use crate::decoding::streams::{BOTH, ONE, Row, agrees, all_read_in};
+use crate::decoding::steps::{Step, follow};
+use crate::decoding::streams::{Row, agrees, all_read_in};
 use crate::granted::granted;
-use crate::modes::{BLOCKS, PLAIN, STRICT_BLOCKS};
 use crate::same::same;
-use crate::worked::{QUOTE, worked};
+use crate::worked::worked;
 use fast_decoder::Decoder;
 use fast_dictionary::MapEntries;
 use fast_stream::{Cause, Fault, Message};
 use fast_template::TemplateSet;
 use std::alloc::{AllocError, Global};
 use std::process::Abort;
+use stream_rows::ends::End;
+use stream_rows::modes::{BLOCKS, PLAIN, STRICT_BLOCKS};
+use stream_rows::quotes::{BOTH, ONE, QUOTE};
 
 #[test]
 fn streams_in_blocks(rt: HostRuntime) -> Result<(), AllocError> {

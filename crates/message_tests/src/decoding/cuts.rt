@@ -1,14 +1,15 @@
 //! Streams that are cut behind each of their bytes, over both kinds of entries.
 
-use crate::cuts::{CUTS, Cut};
-use crate::decoding::steps::{End, Step, count_in};
-use crate::modes::{InMode, in_each_mode};
+use crate::decoding::steps::{Step, count_in};
 use crate::same::same;
 use crate::worked::worked;
 use fast_stream::Fault;
 use fast_template::TemplateSet;
 use std::alloc::{AllocError, Global};
 use std::process::Abort;
+use stream_rows::cuts::{CUTS, Cut};
+use stream_rows::ends::End;
+use stream_rows::modes::{InMode, in_each_mode};
 
 // A stream has so many messages, and then ends so.
 fn ends_so(

@@ -1,14 +1,17 @@
 //! Long streams, over both kinds of entries.
 
-use crate::decoding::streams::{both_decode, both_read, messages};
-use crate::long::{BARE, LONG, LONG_BARE, LONG_SEQUENCES, Long, MANY, stream_of};
-use crate::modes::{InMode, PLAIN, in_each_mode};
+use crate::decoding::streams::{both_decode, both_read};
 use crate::same::same;
-use crate::worked::{loaded, quote, worked};
+use crate::worked::{loaded, worked};
 use fast_stream::{Fault, Message, Node};
 use fast_template::{Scalar, TemplateSet};
 use std::alloc::{AllocError, Global};
 use std::process::Abort;
+use stream_rows::long::{LONG, LONG_BARE, LONG_SEQUENCES, Long, MANY, stream_of};
+use stream_rows::modes::{InMode, in_each_mode};
+use stream_rows::quotes::quote;
+use stream_rows::sent::messages;
+use template_tests::texts::BARE;
 
 // A stream has these messages and ends so, in reads of 4,096 bytes and whole.
 fn is_read_so(
@@ -62,7 +65,25 @@ fn all_read(
     Ok(())
 }
 
-// Streams of many nodes, whole: what the commands make of them is tested in each mode, and in reads.
+// A stream has these messages and ends so, in each mode, whole.
+fn are_decoded(
+    rt: &impl Abort,
+    alloc: Global,
+    set: &TemplateSet,
+    plain: &[u8],
+    want: &[Message],
+    fault: Option<Fault>,
+) -> Result<(), AllocError> {
+    for given in &in_each_mode(alloc, plain, fault.is_some())? {
+        let InMode { mode, stream, .. } = given;
+        let fault = given.moved(fault);
+        let decoded = both_decode(alloc, set, *mode, stream, b"", want, fault)?;
+        same(rt, decoded, true);
+    }
+    Ok(())
+}
+
+// Streams of many nodes: what canonicalise and check make of them is tested in reads.
 fn all_decoded(
     rt: &impl Abort,
     alloc: Global,
@@ -70,14 +91,9 @@ fn all_decoded(
     rows: &[Long],
 ) -> Result<(), AllocError> {
     for row in rows {
-        let stream = stream_of(alloc, row.pieces)?;
+        let plain = stream_of(alloc, row.pieces)?;
         let want = messages(alloc, row.want)?;
-        let fault = row.end.fault();
-        same(
-            rt,
-            both_decode(alloc, set, PLAIN, &stream, b"", &want, fault)?,
-            true,
-        );
+        are_decoded(rt, alloc, set, &plain, &want, row.end.fault())?;
     }
     Ok(())
 }

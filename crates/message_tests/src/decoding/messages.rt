@@ -1,15 +1,18 @@
 //! Messages, and the calls that read one.
 
-use crate::decoding::steps::{End, Step, count, follow};
-use crate::modes::PLAIN;
+use crate::decoding::steps::{Step, count, follow};
 use crate::same::same;
 use crate::slots::slots_of;
-use crate::worked::{QUOTE, quote, text, worked};
+use crate::worked::worked;
 use fast_dictionary::MapEntries;
 use fast_stream::{Cause, Message, Node};
 use fast_template::{Scalar, TemplateSet};
 use std::alloc::{AllocError, Global};
 use std::process::Abort;
+use stream_rows::ends::End;
+use stream_rows::modes::PLAIN;
+use stream_rows::quotes::{QUOTE, quote};
+use stream_rows::sent::text;
 
 // This text and nothing, in a vector with at least this much room.
 fn texts(alloc: Global, characters: &[u8], room: usize) -> Result<Vec<Node>, AllocError> {

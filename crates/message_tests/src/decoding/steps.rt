@@ -3,53 +3,17 @@
 ghost use Rattle.fast_walk.specs.Traversals.{ServesAll};
 
 use crate::granted::granted;
-use crate::modes::PLAIN;
 use crate::same::same;
 use crate::slots::slots_of;
 use crate::worked::worked;
 use fast_decoder::{Decoder, Mode};
 use fast_dictionary::{Entries, MapEntries};
-use fast_stream::{Cause, Fault, Message, Place};
+use fast_stream::Message;
 use fast_template::TemplateSet;
 use std::alloc::{AllocError, Global};
 use std::process::Abort;
-
-// What stands at the end of a stream: nothing, or a fault in this message, at this offset, template and instruction.
-#[derive(Clone, Copy)]
-pub(crate) enum End {
-    Whole,
-    Fault(Cause, u64, u64, u32, u32),
-}
-
-impl End {
-    pub(crate) fn of(fault: Option<Fault>) -> End {
-        match fault {
-            None => End::Whole,
-            Some(Fault { cause, place }) => End::Fault(
-                cause,
-                place.message,
-                place.offset,
-                place.template,
-                place.instruction,
-            ),
-        }
-    }
-
-    pub(crate) fn fault(self) -> Option<Fault> {
-        match self {
-            End::Whole => None,
-            End::Fault(cause, message, offset, template, instruction) => Some(Fault {
-                cause,
-                place: Place {
-                    message,
-                    offset,
-                    template,
-                    instruction,
-                },
-            }),
-        }
-    }
-}
+use stream_rows::ends::End;
+use stream_rows::modes::PLAIN;
 
 // A call, and what it answers.
 #[derive(Clone, Copy)]

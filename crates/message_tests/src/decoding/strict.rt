@@ -1,13 +1,14 @@
 //! Streams at the strict level: what is overlong, what is just not, and which fault comes first.
 
-use crate::decoding::steps::End;
-use crate::decoding::streams::{Row, Sent, Shown, all_read_in, each_read, is_read, long};
-use crate::modes::{PLAIN, STRICT};
+use crate::decoding::streams::{Row, all_read_in, each_read, is_read, long};
 use crate::worked::{loaded, worked};
 use fast_stream::Cause;
 use fast_template::TemplateSet;
 use std::alloc::{AllocError, Global};
 use std::process::Abort;
+use stream_rows::ends::End;
+use stream_rows::modes::{PLAIN, STRICT};
+use stream_rows::sent::{Sent, Shown};
 use template_tests::texts::KINDS;
 
 // The set of templates with fields of each kind.

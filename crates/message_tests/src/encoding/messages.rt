@@ -3,10 +3,9 @@
 ghost use Rattle.fast_walk.specs.Traversals.{ServesAll};
 
 use crate::granted::granted;
-use crate::modes::PLAIN;
 use crate::same::same;
 use crate::slots::slots_of;
-use crate::worked::{quote, text, worked};
+use crate::worked::worked;
 use fast_build::{Load, LoadCause};
 use fast_decoder::Decoder;
 use fast_dictionary::{Entries, MapEntries};
@@ -16,6 +15,9 @@ use fast_stream::{Message, Node};
 use fast_template::{Scalar, TemplateSet, UnicodeText};
 use std::alloc::{AllocError, Global};
 use std::process::Abort;
+use stream_rows::modes::PLAIN;
+use stream_rows::quotes::quote;
+use stream_rows::sent::text;
 
 // The messages of a stream.
 fn decoded(alloc: Global, set: &TemplateSet, stream: &[u8]) -> Result<Vec<Message>, AllocError> {

@@ -3,7 +3,6 @@
 ghost use Rattle.std.specs.Prelude.{◌≡◌};
 
 use crate::granted::granted;
-use crate::modes::PLAIN;
 use crate::same::same;
 use crate::slots::slots_of;
 use crate::worked::worked;
@@ -14,6 +13,7 @@ use fast_walk::Output;
 use fast_writer::Writer;
 use std::alloc::{AllocError, Global};
 use std::process::Abort;
+use stream_rows::modes::PLAIN;
 
 // More than the bytes of any stream here; a machine asks how many it is fed.
 const LONGEST: usize = 4096;

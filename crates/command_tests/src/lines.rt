@@ -1,6 +1,5 @@
 //! Lines of messages of the worked templates, and messages that have none.
 
-use crate::modes::PLAIN;
 use crate::same::same;
 use crate::worked::worked;
 use fast_command::{Form, ShowFault, show_line};
@@ -11,6 +10,7 @@ use fast_template::{ByteString, Scalar, TemplateSet};
 use std::alloc::{AllocError, Global};
 use std::process::Abort;
 use std::test::Fail;
+use stream_rows::modes::PLAIN;
 
 /// A stream, and the lines of its messages.
 struct Row {

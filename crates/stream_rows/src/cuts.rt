@@ -1,17 +1,17 @@
 //! Streams that are cut behind each of their bytes.
 
-use crate::decoding::steps::End;
+use crate::ends::End;
 use fast_stream::{Cause, Fault};
 
-// A stream that is canonical itself, the lines of its messages, and behind each of its bytes the offset, the template
-// and the instruction of what is missing; none where a message ends.
-pub(crate) struct Cut {
-    pub(crate) stream: &'static [u8],
-    pub(crate) lines: &'static str,
-    pub(crate) missing: &'static [Option<(u64, u32, u32)>],
+/// A stream that is canonical itself, the lines of its messages, and behind each of its bytes the offset, the template
+/// and the instruction of what is missing; none where a message ends.
+pub struct Cut {
+    pub stream: &'static [u8],
+    pub lines: &'static str,
+    pub missing: &'static [Option<(u64, u32, u32)>],
 }
 
-pub(crate) const CUTS: &[Cut] = &[
+pub const CUTS: &[Cut] = &[
     Cut {
         stream: b"\xF0\x81\x81\x41\xC2\xFE\x00\xE4",
         lines: "1 Quote Seq=1 Sym=\"AB\" Px=100e-2 Qty=-\n",
@@ -114,13 +114,13 @@ pub(crate) const CUTS: &[Cut] = &[
     },
 ];
 
-// What stands in front of a cut: the messages, their bytes and the bytes of their lines; and what is missing, if they do
-// not end there.
+/// What stands in front of a cut: the messages, their bytes and the bytes of their lines; and what is missing, if they do
+/// not end there.
 #[derive(Clone, Copy)]
-pub(crate) struct Front {
-    pub(crate) messages: u64,
-    pub(crate) bytes: usize,
-    pub(crate) line_bytes: usize,
+pub struct Front {
+    pub messages: u64,
+    pub bytes: usize,
+    pub line_bytes: usize,
     missing: Option<(u64, u32, u32)>,
 }
 
@@ -141,8 +141,8 @@ fn line_bytes(lines: &str, count: u64) -> usize {
 }
 
 impl Cut {
-    // What stands in front of a cut behind so many bytes.
-    pub(crate) fn front(&self, count: usize) -> Front {
+    /// What stands in front of a cut behind so many bytes.
+    pub fn front(&self, count: usize) -> Front {
         let mut messages = 0u64;
         let mut bytes = 0usize;
         let mut behind = 0usize;
@@ -168,15 +168,15 @@ impl Cut {
 }
 
 impl Front {
-    // Why the stream ends too early there, if it does.
-    pub(crate) fn truncated(self) -> Option<Fault> {
+    /// Why the stream ends too early there, if it does.
+    pub fn truncated(self) -> Option<Fault> {
         let (offset, template, instruction) = self.missing?;
         let message = self.messages.saturating_add(1);
         End::Fault(Cause::Truncated, message, offset, template, instruction).fault()
     }
 
-    // Why the stream is refused where the read that is to give the next byte fails.
-    pub(crate) fn unread(self) -> Option<Fault> {
+    /// Why the stream is refused where the read that is to give the next byte fails.
+    pub fn unread(self) -> Option<Fault> {
         let (offset, template, instruction) = self.missing.unwrap_or((self.bytes as u64, 0, 0));
         let message = self.messages.saturating_add(1);
         End::Fault(Cause::Read, message, offset, template, instruction).fault()

@@ -2,15 +2,16 @@
 
 ghost use Rattle.std.specs.Prelude.{◌≤◌};
 
-use crate::commands::streams::{
+use crate::streams::{
     At, Made, QUOTE_LINE, REFUSALS, ROWS, Refusal, Row, counted, ends, makes, stops,
 };
-use crate::modes::{PLAIN, STRICT};
-use crate::worked::{QUOTE, loaded, worked};
+use crate::worked::{loaded, worked};
 use fast_stream::Cause;
 use fast_template::TemplateSet;
 use std::alloc::{AllocError, Global};
 use std::process::Abort;
+use stream_rows::modes::{PLAIN, STRICT};
+use stream_rows::quotes::QUOTE;
 use template_tests::texts::KINDS;
 
 /// A stream that is longer than it must be, what each command makes of it at the usual level, and why its first

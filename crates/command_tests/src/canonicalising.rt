@@ -1,10 +1,7 @@
 //! Streams that are canonicalised and checked.
 
-use crate::cuts::{CUTS, Cut};
 use crate::granted::answers;
-use crate::long::{LONG, MANY, stream_of};
-use crate::modes::{InMode, PLAIN, in_each_mode};
-use crate::worked::{TWO, TWO_SHORT, worked};
+use crate::worked::{loaded, worked};
 use fast_canon::{CanonFault, Summary, canonicalise, check};
 use fast_decoder::Mode;
 use fast_io::{Counted, ScriptInput, ScriptOutput};
@@ -12,6 +9,11 @@ use fast_stream::{Cause, Fault, Place};
 use fast_template::TemplateSet;
 use std::alloc::{AllocError, Global};
 use std::process::Abort;
+use stream_rows::cuts::{CUTS, Cut};
+use stream_rows::long::{LONG, LONG_BARE, LONG_SEQUENCES, Long, MANY, stream_of};
+use stream_rows::modes::{InMode, PLAIN, in_each_mode};
+use stream_rows::quotes::{TWO, TWO_SHORT};
+use template_tests::texts::BARE;
 
 // A stream in a mode, how much of it one read gives, and which of its reads fails.
 #[derive(Clone, Copy)]
@@ -274,15 +276,33 @@ fn stays(
     Ok(())
 }
 
-#[test]
-fn long_streams(rt: HostRuntime) -> Result<(), AllocError> {
-    let set = worked(&rt, rt.alloc())?;
-    for row in LONG {
-        let plain = stream_of(rt.alloc(), row.pieces)?;
+fn all_stay(
+    rt: &impl Abort,
+    alloc: Global,
+    set: &TemplateSet,
+    rows: &[Long],
+) -> Result<(), AllocError> {
+    for row in rows {
+        let plain = stream_of(alloc, row.pieces)?;
         let messages = row.want.len() as u64;
-        stays(&rt, rt.alloc(), &set, &plain, messages, row.end.fault())?;
+        stays(rt, alloc, set, &plain, messages, row.end.fault())?;
     }
     Ok(())
+}
+
+#[test]
+fn long_streams(rt: HostRuntime) -> Result<(), AllocError> {
+    all_stay(&rt, rt.alloc(), &worked(&rt, rt.alloc())?, LONG)
+}
+
+#[test]
+fn long_streams_of_elements(rt: HostRuntime) -> Result<(), AllocError> {
+    all_stay(&rt, rt.alloc(), &worked(&rt, rt.alloc())?, LONG_SEQUENCES)
+}
+
+#[test]
+fn long_streams_of_empty_elements(rt: HostRuntime) -> Result<(), AllocError> {
+    all_stay(&rt, rt.alloc(), &loaded(&rt, rt.alloc(), BARE)?, LONG_BARE)
 }
 
 #[test]

@@ -2,11 +2,9 @@
 
 ghost use Rattle.std.specs.Prelude.{◌≤◌, ◌^◌};
 
-use crate::commands::strict::told;
-use crate::cuts::{CUTS, Cut, Front};
 use crate::granted::answers;
-use crate::modes::{BLOCKS, InMode, PLAIN, in_each_mode};
-use crate::worked::{QUOTE, TWO, TWO_SHORT, worked};
+use crate::strict::told;
+use crate::worked::worked;
 use fast_canon::{CanonFault, Summary};
 use fast_command::{Command, Form, run};
 use fast_decoder::Mode;
@@ -15,6 +13,9 @@ use fast_stream::{Cause, Fault, Place};
 use fast_template::TemplateSet;
 use std::alloc::{AllocError, Global};
 use std::process::Abort;
+use stream_rows::cuts::{CUTS, Cut, Front};
+use stream_rows::modes::{BLOCKS, InMode, PLAIN, in_each_mode};
+use stream_rows::quotes::{QUOTE, TWO, TWO_SHORT};
 
 /// A stream, how many messages it has, and what each command writes of it.
 #[derive(Clone, Copy)]
@@ -190,7 +191,7 @@ pub(crate) const ROWS: [Row; 19] = [
     },
 ];
 
-pub(crate) const REFUSALS: [Refusal; 12] = [
+pub(crate) const REFUSALS: [Refusal; 13] = [
     Refusal {
         stream: b"\x80",
         messages: 0,
@@ -265,6 +266,14 @@ pub(crate) const REFUSALS: [Refusal; 12] = [
     },
     Refusal {
         stream: b"\xf0\x81\x81\x41\xc2\x00\xc0",
+        messages: 0,
+        lines: "",
+        canonical: b"",
+        cause: Cause::R1,
+        at: At(5, 1, 3),
+    },
+    Refusal {
+        stream: b"\xf0\x81\x81\x41\xc2\xc0",
         messages: 0,
         lines: "",
         canonical: b"",

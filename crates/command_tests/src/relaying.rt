@@ -1,8 +1,6 @@
 //! When what is made of messages is handed on: behind each read, and where 65,536 bytes wait between two messages.
 
 use crate::granted::may_be_refused;
-use crate::long::stream_of;
-use crate::modes::PLAIN;
 use crate::same::same;
 use crate::worked::loaded;
 use fast_canon::{CanonFault, Summary};
@@ -12,6 +10,8 @@ use fast_template::TemplateSet;
 use std::alloc::{AllocError, Global};
 use std::io::{self, Write};
 use std::process::Abort;
+use stream_rows::long::stream_of;
+use stream_rows::modes::PLAIN;
 
 // How many bytes each write had, of which all are taken.
 #[derive(Drop)]

@@ -1,16 +1,16 @@
 //! Streams at the limits of maps, strings, sequences and messages.
 
-use crate::decoding::steps::End;
-use crate::decoding::streams::{Sent, Shown};
-use crate::worked::QUOTE;
+use crate::ends::End;
+use crate::quotes::QUOTE;
+use crate::sent::{Sent, Shown};
 use fast_stream::Cause;
 use std::alloc::{AllocError, Global};
 
-// A stream of pieces, each so many times, its messages, and its end. One that ends whole is canonical itself.
-pub(crate) struct Long {
-    pub(crate) pieces: &'static [(&'static [u8], usize)],
-    pub(crate) want: &'static [Sent],
-    pub(crate) end: End,
+/// A stream of pieces, each so many times, its messages, and its end. One that ends whole is canonical itself.
+pub struct Long {
+    pub pieces: &'static [(&'static [u8], usize)],
+    pub want: &'static [Sent],
+    pub end: End,
 }
 
 const LETTERS: &[Sent] = &[Sent {
@@ -33,8 +33,8 @@ const MOST_LETTERS: &[Sent] = &[Sent {
     ],
 }];
 
-// Streams of maps and strings of the worked templates.
-pub(crate) const LONG: &[Long] = &[
+/// Streams of maps and strings of the worked templates.
+pub const LONG: &[Long] = &[
     // maps
     Long {
         pieces: &[(b"\x00", 255)],
@@ -86,8 +86,8 @@ pub(crate) const LONG: &[Long] = &[
     },
 ];
 
-// Streams of sequences of the worked templates.
-pub(crate) const LONG_SEQUENCES: &[Long] = &[
+/// Streams of sequences of the worked templates.
+pub const LONG_SEQUENCES: &[Long] = &[
     // nodes: 65,535 of them, and an element that is number 65,537
     Long {
         pieces: &[(b"\xC0\x84\x02\x00\x80", 1), (b"\x85", 32_767)],
@@ -113,12 +113,8 @@ pub(crate) const LONG_SEQUENCES: &[Long] = &[
     },
 ];
 
-// A number, and a sequence whose elements have no members.
-pub(crate) const BARE: &str = r#"{"templates":[{"name":"Bare","id":1,"instructions":[
-    {"kind":"uInt32","name":"A"},{"kind":"sequence","name":"L","instructions":[]}]}]}"#;
-
-// Streams of it: as many nodes as there may be, and one more.
-pub(crate) const LONG_BARE: &[Long] = &[
+/// Streams of a number and a sequence whose elements have no members: as many nodes as there may be, and one more.
+pub const LONG_BARE: &[Long] = &[
     Long {
         pieces: &[(b"\xC0\x81\x80\x03\x7F\xFE", 1)],
         want: &[Sent {
@@ -134,8 +130,8 @@ pub(crate) const LONG_BARE: &[Long] = &[
     },
 ];
 
-// A stream of pieces, each so many times.
-pub(crate) fn stream_of(alloc: Global, pieces: &[(&[u8], usize)]) -> Result<Vec<u8>, AllocError> {
+/// A stream of pieces, each so many times.
+pub fn stream_of(alloc: Global, pieces: &[(&[u8], usize)]) -> Result<Vec<u8>, AllocError> {
     let mut stream = Vec::new(alloc);
     for (piece, count) in pieces {
         for _ in 0..*count {
@@ -145,5 +141,5 @@ pub(crate) fn stream_of(alloc: Global, pieces: &[(&[u8], usize)]) -> Result<Vec<
     Ok(stream)
 }
 
-// The first quote, and 10,000 that bit 0 and two deltas give.
-pub(crate) const MANY: &[(&[u8], usize)] = &[(QUOTE, 1), (b"\x80\x80\x81", 10_000)];
+/// The first quote, and 10,000 that bit 0 and two deltas give.
+pub const MANY: &[(&[u8], usize)] = &[(QUOTE, 1), (b"\x80\x80\x81", 10_000)];

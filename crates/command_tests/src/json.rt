@@ -2,9 +2,8 @@
 
 ghost use Rattle.std.specs.Prelude.{◌≤◌};
 
-use crate::commands::lines::granted;
 use crate::granted::may_be_refused;
-use crate::modes::PLAIN;
+use crate::lines::granted;
 use crate::same::same;
 use crate::worked::{loaded, worked};
 use fast_command::{Command, Form, ShowFault, run, show_line};
@@ -17,6 +16,7 @@ use serde_json::Value;
 use std::alloc::{AllocError, Global};
 use std::process::Abort;
 use std::test::Fail;
+use stream_rows::modes::PLAIN;
 
 /// A stream of one message, its line, and another spelling of what that stands for.
 struct Row {

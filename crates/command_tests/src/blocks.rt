@@ -2,13 +2,12 @@
 
 ghost use Rattle.std.specs.Prelude.{◌≤◌};
 
-use crate::commands::streams::{
+use crate::streams::{
     At, Made, QUOTE_LINE, REFUSALS, ROWS, Refusal, Row, TWO_LINES, counted, ends, gives,
     made_before, makes, refused, stops,
 };
-use crate::commands::strict::told;
-use crate::modes::{BLOCKS, STRICT_BLOCKS};
-use crate::worked::{QUOTE, TWO_SHORT, worked};
+use crate::strict::told;
+use crate::worked::worked;
 use fast_command::Command;
 use fast_decoder::Mode;
 use fast_io::ScriptInput;
@@ -16,6 +15,8 @@ use fast_stream::Cause;
 use fast_template::TemplateSet;
 use std::alloc::{AllocError, Global};
 use std::process::Abort;
+use stream_rows::modes::{BLOCKS, STRICT_BLOCKS};
+use stream_rows::quotes::{QUOTE, TWO_SHORT};
 
 #[test]
 fn blocks_of_messages(rt: HostRuntime) -> Result<(), AllocError> {

@@ -1,44 +1,44 @@
 //! How streams are read.
 
-use fast_decoder::{Framing, Level, Mode};
-use fast_stream::Fault;
+use fast_stream::{Fault, Framing, Mode};
+use fast_wire::Level;
 use std::alloc::{AllocError, Global};
 
-// Plain messages, at the usual level.
-pub(crate) const PLAIN: Mode = Mode {
+/// Plain messages, at the usual level.
+pub const PLAIN: Mode = Mode {
     level: Level::Usual,
     framing: Framing::Plain,
 };
 
-// Plain messages, at the strict level.
-pub(crate) const STRICT: Mode = Mode {
+/// Plain messages, at the strict level.
+pub const STRICT: Mode = Mode {
     level: Level::Strict,
     framing: Framing::Plain,
 };
 
-// Blocks, at the usual level.
-pub(crate) const BLOCKS: Mode = Mode {
+/// Blocks, at the usual level.
+pub const BLOCKS: Mode = Mode {
     level: Level::Usual,
     framing: Framing::Blocks,
 };
 
-// Blocks, at the strict level.
-pub(crate) const STRICT_BLOCKS: Mode = Mode {
+/// Blocks, at the strict level.
+pub const STRICT_BLOCKS: Mode = Mode {
     level: Level::Strict,
     framing: Framing::Blocks,
 };
 
-// A stream as a mode has it: with so many bytes in front of the plain one.
+/// A stream as a mode has it: with so many bytes in front of the plain one.
 #[derive(Drop)]
-pub(crate) struct InMode {
-    pub(crate) mode: Mode,
-    pub(crate) stream: Vec<u8>,
-    pub(crate) front: usize,
+pub struct InMode {
+    pub mode: Mode,
+    pub stream: Vec<u8>,
+    pub front: usize,
 }
 
 impl InMode {
-    // The fault of the plain stream, where this one has it.
-    pub(crate) fn moved(&self, fault: Option<Fault>) -> Option<Fault> {
+    /// The fault of the plain stream, where this one has it.
+    pub fn moved(&self, fault: Option<Fault>) -> Option<Fault> {
         let mut fault = fault?;
         fault.place.offset = fault.place.offset.saturating_add(self.front as u64);
         Some(fault)
@@ -75,9 +75,9 @@ fn in_block(alloc: Global, plain: &[u8], more: usize) -> Result<InMode, AllocErr
     })
 }
 
-// A stream in plain framing at both levels, and in one block. A stream that is refused has a block with room for one
-// byte more, so that it does not end too early.
-pub(crate) fn in_each_mode(
+/// A stream in plain framing at both levels, and in one block. A stream that is refused has a block with room for one
+/// byte more, so that it does not end too early.
+pub fn in_each_mode(
     alloc: Global,
     plain: &[u8],
     is_refused: bool,

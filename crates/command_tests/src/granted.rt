@@ -1,0 +1,34 @@
+//! Answers where memory is refused: such an answer ends a test, so that one whose allocations fail in turn ends with want
+//! of memory or with its rows.
+
+use crate::same::same;
+use fast_canon::{CanonFault, Summary};
+use fast_stream::Cause;
+use std::alloc::AllocError;
+use std::process::Abort;
+
+/// Whether a command may answer so where memory is refused, to it or to the writer of a test.
+pub(crate) fn may_be_refused(answer: Result<Summary, CanonFault>) -> bool {
+    match answer {
+        Ok(_) => false,
+        Err(CanonFault::Memory | CanonFault::Write) => true,
+        Err(CanonFault::Stream(fault)) => fault.cause == Cause::Memory,
+    }
+}
+
+/// A command answered this and wrote this. Where memory was refused, what it wrote is a front of it, and the test ends.
+pub(crate) fn answers(
+    rt: &impl Abort,
+    given: Result<Summary, CanonFault>,
+    wanted: Result<Summary, CanonFault>,
+    out: &[u8],
+    written: &[u8],
+) -> Result<(), AllocError> {
+    if may_be_refused(given) && (given != wanted || out != written) {
+        same(rt, written.starts_with(out), true);
+        return Err(AllocError);
+    }
+    same(rt, given, wanted);
+    same(rt, out, written);
+    Ok(())
+}
