@@ -11,6 +11,7 @@ use Rattle.fast_stream.specs.Reading.{message_at}
 use Rattle.fast_walk.specs.OpenSegments.{Reading}
 use Rattle.fast_walk.specs.Lacks.{Lacks}
 use Rattle.fast_walk.specs.Traversals.{stop_of}
+use Rattle.fast_walk.specs.declared.halt.HaltedBy.TheVariants as halted
 use Rattle.fast_walk.specs.declared.halt.Halt.{Halt}
 use Rattle.fast_walk.specs.declared.lack.Lack.{Lack}
 use Rattle.fast_walk.specs.declared.traversal.Stage.TheVariants as stage
@@ -26,7 +27,7 @@ module _ {R : Type 0} (has : Having R) (stands keeps : Standing R) (t : Traversa
   Goes = ReadsOn has stands keeps t r d before
 
   abbrev halt : Halt
-  halt = record { cause = Truncated; number = l.number }
+  halt = record { cause = Truncated; number = l.number; by = halted.Walk }
 
   inside : t.stage ≡ stage.Body → t.stage ≡ stage.Map → ⊥
   inside body map = let same : stage.Body ≡ stage.Map = sym body ∙ map in absurd cc

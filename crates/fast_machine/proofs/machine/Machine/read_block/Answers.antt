@@ -145,7 +145,7 @@ returns-in-Err-hold-clause-fails g c = (
       let stops = block_waits G t u room n unread window fed messages e.0 b is p.ensures.place p.ensures.level sets halt short_is (ended.1 (not_memory halt.cause truncated)) in
       let follows = c.in-Err-hold.ensures.follows (before ++ e.0) fed all (omega (arith, short)) counts
       (rw (c.requires.framing) (subst (λ (xs : List ℕ). Stands Blocks (room - n) H u xs fed all) rest goes))
-      (rw (c.requires.framing) (inr (subst (λ (xs : List ℕ). StopsBehind (framed_as Blocks u) (templates_in u.set.now) fed all (stop_of u.template (record { cause = Truncated; number = halt.number }) xs)) rest (rw (truncated) at stops)))) in
+      (rw (c.requires.framing) (inr (subst (λ (xs : List ℕ). StopsBehind (framed_as Blocks u) (templates_in u.set.now) fed all (stop_of u.template (record { cause = Truncated; number = halt.number; by = halt.by }) xs)) rest (rw (truncated) at stops)))) in
       (e.0, follows),
 )
 
@@ -184,7 +184,7 @@ returns-in-Ok-hold-clause-waits g c = (
       let stops = block_waits G t u room n unread window fed messages e.0 b is p.ensures.place p.ensures.level sets halt short_is (ended.1 (not_memory halt.cause truncated)) in
       let follows = c.in-Ok-hold.ensures.follows (before ++ e.0) fed all (omega (arith, short)) counts
       (rw (c.requires.framing) (subst (λ (xs : List ℕ). Stands Blocks (room - n) H u xs fed all) rest goes))
-      (rw (c.requires.framing) (inr (subst (λ (xs : List ℕ). StopsBehind (framed_as Blocks u) (templates_in u.set.now) fed all (stop_of u.template (record { cause = Truncated; number = halt.number }) xs)) rest (rw (truncated) at stops)))) in
+      (rw (c.requires.framing) (inr (subst (λ (xs : List ℕ). StopsBehind (framed_as Blocks u) (templates_in u.set.now) fed all (stop_of u.template (record { cause = Truncated; number = halt.number; by = halt.by }) xs)) rest (rw (truncated) at stops)))) in
       (e.0, follows),
 )
 

@@ -67,7 +67,7 @@ returns-in-Err-clause-fails g c = (
         e.0,
         c.in-Err.ensures.follows (before ++ e.0) fed all (omega (arith, short)) counts
             (rw (c.requires.framing) (subst (λ (xs : List ℕ). Stands Plain old.left H u xs fed all) rest goes))
-            (rw (c.requires.framing) (inr (subst (λ (xs : List ℕ). StopsBehind (framed_as Plain u) (templates_in u.set.now) fed all (stop_of u.template (record { cause = Truncated; number = halt.number }) xs)) rest (rw (truncated) at stops)))),
+            (rw (c.requires.framing) (inr (subst (λ (xs : List ℕ). StopsBehind (framed_as Plain u) (templates_in u.set.now) fed all (stop_of u.template (record { cause = Truncated; number = halt.number; by = halt.by }) xs)) rest (rw (truncated) at stops)))),
       ),
 )
 
@@ -100,7 +100,7 @@ returns-in-Ok-clause-waits g c = (
         e.0,
         c.in-Ok.ensures.follows (before ++ e.0) fed all (omega (arith, short)) counts
             (rw (c.requires.framing) (subst (λ (xs : List ℕ). Stands Plain old.left H u xs fed all) rest goes))
-            (rw (c.requires.framing) (inr (subst (λ (xs : List ℕ). StopsBehind (framed_as Plain u) (templates_in u.set.now) fed all (stop_of u.template (record { cause = Truncated; number = halt.number }) xs)) rest (rw (truncated) at stops)))),
+            (rw (c.requires.framing) (inr (subst (λ (xs : List ℕ). StopsBehind (framed_as Plain u) (templates_in u.set.now) fed all (stop_of u.template (record { cause = Truncated; number = halt.number; by = halt.by }) xs)) rest (rw (truncated) at stops)))),
       ),
 )
 
