@@ -4,6 +4,7 @@ mod blocks;
 mod cuts;
 mod long;
 mod messages;
+mod pieces;
 mod steps;
 mod streams;
 mod strict;

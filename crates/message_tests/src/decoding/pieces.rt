@@ -1,0 +1,232 @@
+//! Pieces of many bytes that come in few at a time, over both kinds of entries.
+
+use crate::decoding::streams::{Row, agrees, both_read};
+use crate::same::same;
+use crate::worked::{loaded, worked};
+use fast_stream::{Cause, Message};
+use fast_template::TemplateSet;
+use std::alloc::{AllocError, Global};
+use std::process::Abort;
+use stream_rows::ends::End;
+use stream_rows::long::{LONG, Long, stream_of};
+use stream_rows::modes::{BLOCKS, InMode, STRICT_BLOCKS, in_each_mode};
+use stream_rows::sent::{Sent, Shown, messages};
+
+// A string or a vector of each form, and a number behind it.
+const STRINGS: &str = r#"{"templates":[
+{"name":"Text","id":1,"instructions":[
+ {"kind":"string","name":"S"},{"kind":"uInt32","name":"N"}]},
+{"name":"MaybeText","id":2,"instructions":[
+ {"kind":"string","name":"S","presence":"optional"},{"kind":"uInt32","name":"N"}]},
+{"name":"Copied","id":3,"instructions":[
+ {"kind":"string","name":"S","operator":"copy"},{"kind":"uInt32","name":"N"}]},
+{"name":"Ended","id":4,"instructions":[
+ {"kind":"string","name":"S","operator":"tail"},{"kind":"uInt32","name":"N"}]},
+{"name":"Bytes","id":5,"instructions":[
+ {"kind":"byteVector","name":"B"},{"kind":"uInt32","name":"N"}]},
+{"name":"MaybeBytes","id":6,"instructions":[
+ {"kind":"byteVector","name":"B","presence":"optional","operator":"default"},
+ {"kind":"uInt32","name":"N"}]},
+{"name":"Unicode","id":7,"instructions":[
+ {"kind":"string","charset":"unicode","name":"S"},{"kind":"uInt32","name":"N"}]},
+{"name":"Changed","id":8,"instructions":[
+ {"kind":"string","name":"S","operator":"delta"},{"kind":"uInt32","name":"N"}]}]}"#;
+
+const LETTERS: &[Shown] = &[Shown::Letters(40), Shown::Number(5)];
+
+// Bytes that would each be a stop bit in a text.
+const RAW: &[u8] =
+    b"\xC1\xC1\xC1\xC1\xC1\xC1\xC1\xC1\xC1\xC1\xC1\xC1\xC1\xC1\xC1\xC1\xC1\xC1\xC1\xC1";
+
+const VECTOR: &[Shown] = &[Shown::Bytes(RAW), Shown::Number(5)];
+
+const UNICODE: &[Shown] = &[Shown::Unicode("ééééé ééééé ééééé!"), Shown::Number(5)];
+
+// Streams of one message each.
+const WHOLE: &[Long] = &[
+    Long {
+        pieces: &[(b"\xC0\x81", 1), (b"\x41", 39), (b"\xC1\x85", 1)],
+        want: &[Sent {
+            template: 1,
+            fields: LETTERS,
+        }],
+        end: End::Whole,
+    },
+    Long {
+        pieces: &[(b"\xC0\x82", 1), (b"\x41", 39), (b"\xC1\x85", 1)],
+        want: &[Sent {
+            template: 2,
+            fields: LETTERS,
+        }],
+        end: End::Whole,
+    },
+    Long {
+        pieces: &[(b"\xE0\x83", 1), (b"\x41", 39), (b"\xC1\x85", 1)],
+        want: &[Sent {
+            template: 3,
+            fields: LETTERS,
+        }],
+        end: End::Whole,
+    },
+    Long {
+        pieces: &[(b"\xE0\x84", 1), (b"\x41", 39), (b"\xC1\x85", 1)],
+        want: &[Sent {
+            template: 4,
+            fields: LETTERS,
+        }],
+        end: End::Whole,
+    },
+    Long {
+        pieces: &[(b"\xC0\x85\x94", 1), (b"\xC1", 20), (b"\x85", 1)],
+        want: &[Sent {
+            template: 5,
+            fields: VECTOR,
+        }],
+        end: End::Whole,
+    },
+    Long {
+        pieces: &[(b"\xE0\x86\x95", 1), (b"\xC1", 20), (b"\x85", 1)],
+        want: &[Sent {
+            template: 6,
+            fields: VECTOR,
+        }],
+        end: End::Whole,
+    },
+    Long {
+        pieces: &[
+            (b"\xC0\x87\xA1", 1),
+            (b"\xC3\xA9", 5),
+            (b" ", 1),
+            (b"\xC3\xA9", 5),
+            (b" ", 1),
+            (b"\xC3\xA9", 5),
+            (b"!\x85", 1),
+        ],
+        want: &[Sent {
+            template: 7,
+            fields: UNICODE,
+        }],
+        end: End::Whole,
+    },
+    Long {
+        pieces: &[(b"\xC0\x88\x80", 1), (b"\x41", 39), (b"\xC1\x85", 1)],
+        want: &[Sent {
+            template: 8,
+            fields: LETTERS,
+        }],
+        end: End::Whole,
+    },
+];
+
+// Streams that end one byte early.
+const EARLY: &[Long] = &[
+    Long {
+        pieces: &[(b"\xC0\x81", 1), (b"\x41", 39)],
+        want: &[],
+        end: End::Fault(Cause::Truncated, 1, 2, 1, 1),
+    },
+    Long {
+        pieces: &[(b"\xE0\x84", 1), (b"\x41", 39)],
+        want: &[],
+        end: End::Fault(Cause::Truncated, 1, 2, 4, 1),
+    },
+    Long {
+        pieces: &[(b"\xC0\x85\x94", 1), (b"\xC1", 19)],
+        want: &[],
+        end: End::Fault(Cause::Truncated, 1, 2, 5, 1),
+    },
+    Long {
+        pieces: &[(b"\xE0\x86\x95", 1), (b"\xC1", 19)],
+        want: &[],
+        end: End::Fault(Cause::Truncated, 1, 2, 6, 1),
+    },
+    Long {
+        pieces: &[(b"\xC0\x87\xA1", 1), (b"\xC3\xA9", 16)],
+        want: &[],
+        end: End::Fault(Cause::Truncated, 1, 2, 7, 1),
+    },
+];
+
+// A row however its bytes come, in each mode.
+fn comes(rt: &impl Abort, alloc: Global, set: &TemplateSet, row: &Long) -> Result<(), AllocError> {
+    let plain = stream_of(alloc, row.pieces)?;
+    let want = messages(alloc, row.want)?;
+    let fault = row.end.fault();
+    for given in &in_each_mode(alloc, &plain, fault.is_some())? {
+        let fault = given.moved(fault);
+        let agree = agrees(alloc, set, given.mode, &given.stream, &want, fault)?;
+        same(rt, agree, true);
+    }
+    Ok(())
+}
+
+#[test]
+fn long_pieces_in_few_bytes(rt: HostRuntime) -> Result<(), AllocError> {
+    let set = loaded(&rt, rt.alloc(), STRINGS)?;
+    for row in WHOLE {
+        comes(&rt, rt.alloc(), &set, row)?;
+    }
+    for row in EARLY {
+        comes(&rt, rt.alloc(), &set, row)?;
+    }
+    Ok(())
+}
+
+// Blocks that end inside a text and inside a vector: no byte more is waited for.
+const CUT_OFF: &[Row] = &[
+    Row {
+        stream: b"\x8C\xC0\x81AAAAAAAAAA",
+        want: &[],
+        end: End::Fault(Cause::BlockEnd, 1, 3, 1, 1),
+    },
+    Row {
+        stream: b"\x8C\xC0\x85\x94AAAAAAAAA",
+        want: &[],
+        end: End::Fault(Cause::BlockEnd, 1, 3, 5, 1),
+    },
+];
+
+#[test]
+fn long_pieces_in_short_blocks(rt: HostRuntime) -> Result<(), AllocError> {
+    let set = loaded(&rt, rt.alloc(), STRINGS)?;
+    for row in CUT_OFF {
+        let fault = row.end.fault();
+        for mode in [BLOCKS, STRICT_BLOCKS] {
+            let agree = agrees(rt.alloc(), &set, mode, row.stream, &[], fault)?;
+            same(&rt, agree, true);
+        }
+    }
+    Ok(())
+}
+
+// A stream of 65,535 characters and more, byte by byte.
+fn trickles(
+    rt: &impl Abort,
+    alloc: Global,
+    set: &TemplateSet,
+    given: &InMode,
+    want: &[Message],
+    end: End,
+) -> Result<(), AllocError> {
+    let InMode { mode, stream, .. } = given;
+    let fault = given.moved(end.fault());
+    same(
+        rt,
+        both_read(alloc, set, *mode, stream, 1, want, fault)?,
+        true,
+    );
+    Ok(())
+}
+
+#[test]
+fn longest_pieces_byte_by_byte(rt: HostRuntime) -> Result<(), AllocError> {
+    let set = worked(&rt, rt.alloc())?;
+    for row in LONG {
+        let plain = stream_of(rt.alloc(), row.pieces)?;
+        let want = messages(rt.alloc(), row.want)?;
+        for given in &in_each_mode(rt.alloc(), &plain, row.end.fault().is_some())? {
+            trickles(&rt, rt.alloc(), &set, given, &want, row.end)?;
+        }
+    }
+    Ok(())
+}
