@@ -1,6 +1,6 @@
 //! Builds the nodes of messages.
 
-ghost use Rattle.std.specs.Prelude.{◌≡◌, map, Option, Some, None};
+ghost use Rattle.std.specs.Prelude.{◌≡◌, map, Option, Some, None, true};
 ghost use Rattle.fast_stream.specs.Nodes.{item_of, single};
 
 use fast_dictionary::Entries;
