@@ -106,8 +106,8 @@ fn entity_lack(number: u32, limit: usize, bytes: &[u8]) -> Option<Lack>
     })
 }
 
-#[tactic(auto, using(crate::proofs::Lacking::length_judged))]
 // Whether a vector's length is not longer than the level allows, where it is whole.
+#[tactic(auto, using(crate::proofs::Lacking::length_judged))]
 fn is_fit_length(level: Level, bytes: &[u8]) -> bool
     ensures { result ≡ true → (more : List ℕ) → judge level 10 overlong_unsigned_of field_fault FieldFault.R6 (bytes.now ++ more) ≡ Ok tt }
 {
@@ -152,7 +152,7 @@ fn vector_lack(number: u32, count: u128, have: usize) -> Option<Lack>
     })
 }
 
-// What a vector lacks, whose length may have come.
+// What a vector lacks whose length may have come.
 fn units_lack(level: Level, part: &FieldPart, bytes: &[u8]) -> Option<Lack>
     ensures lacks { IfSome result (λ l. IsVectorKind part.now.kind × ((more : List ℕ) → IsLacking l more
         → units_at level part.now.kind part.now.presence (bytes.now ++ more) ≡ Err FieldFault.NeedMore)) }
