@@ -1,14 +1,14 @@
 -- What is too short to be read stays so until what it lacks has come.
 use Rattle.std.proofs.Common.{◌≡◌, ℕ, zero, suc, ◌+◌, ◌<◌, ◌≤◌, Bool, true, false, List, [], ◌∷◌, ◌++◌, length, Option, Some, None, Result, Ok, Err, refl, sym, ap, subst, ◌∙◌, arith, length-append, ◌⊎◌, inl, inr, ◌-◌, append-nil}
 use Rattle.std.specs.Prelude.{nat_le, IfSome}
-use Rattle.fast_template.specs.Resolved.{Resolved, Instructions, no_instructions, then_instruction, whole_field, field_in_parts, group_of, sequence_of, list_of, part_needs_bit}
+use Rattle.fast_template.specs.Resolved.{Instruction, Resolved, Instructions, no_instructions, then_instruction, whole_field, field_in_parts, group_of, sequence_of, list_of, part_needs_bit}
 use Rattle.fast_dictionary.specs.Dictionary.{entry_at}
 use Rattle.fast_stream.specs.Bits.{bit_for}
 use Rattle.fast_stream.specs.Nodes.{Content, Items}
 use Rattle.fast_stream.specs.Faults.{Stop}
 use Rattle.fast_stream.specs.declared.fault.Cause.{Cause}
 use Rattle.fast_dictionary.specs.Dictionary.{Dictionary}
-use Rattle.fast_stream.specs.Reading.{Reads, piece_at, stopped}
+use Rattle.fast_stream.specs.Reading.{Cursor, Reads, field_part_at, node_at, piece_at, stopped}
 use Rattle.fast_stream.specs.declared.fault.Cause.TheVariants.{Truncated}
 use Rattle.fast_walk.specs.OpenSegments.{Reading, cursor, message_of}
 use Rattle.fast_walk.specs.Received.{Received}
@@ -279,27 +279,29 @@ field_waits level i e bit bytes s v h = rw (vector_row level i.operator i e bit 
 
 -- ---- walks
 
--- where the field that is next waits, all that is left to be read does
-pub walk_lacks : (level : Level) (w : Walk) (name : List ℕ) (number : ℕ) (presence : Presence) (whole : FieldPart) (others : Instructions) (bytes : List ℕ) (l : Lack)
-    → 0 < w.spare → w.next ≡ next.Instruction → list_of w.rest.now ≡ then_instruction (whole_field name number presence whole) others
-    → ((e : Entry) (more : List ℕ) → IsLacking l more → field_at level whole e (bit_for (part_needs_bit whole) w.bits) (bytes ++ more) ≡ Err fault.NeedMore) → l.number ≡ whole.number
+-- where the part that is next waits, all that is left to be read does
+instruction_lacks : (level : Level) (w : Walk) (i : Instruction) (number : ℕ) (part : FieldPart) (others : Instructions) (bytes : List ℕ) (l : Lack) → 0 < w.spare → w.next ≡ next.Instruction → list_of w.rest.now ≡ then_instruction i others
+    → ((c k : Cursor) (s : Stop) → node_at number c ≡ Ok k → field_part_at level part k ≡ Err s → piece_at level i c ≡ Err s)
+    → ((e : Entry) (more : List ℕ) → IsLacking l more → field_at level part e (bit_for (part_needs_bit part) w.bits) (bytes ++ more) ≡ Err fault.NeedMore) → l.number ≡ part.number
     → WalkLacks level w bytes l
-walk_lacks level w name number presence whole others bytes l some is first h same = λ d o more lacking at.
+instruction_lacks level w i number part others bytes l some is first begins h same = λ d o more lacking at.
     let xs = bytes ++ more in
-    let part = part_stops level whole d w.bits (w.spare - 1) xs fault.NeedMore (h (entry_at d whole.key) more lacking) in
-    let piece : piece_at level (whole_field name number presence whole) (cursor d w.bits w.spare xs) ≡ stopped whole.number xs Truncated = rw (count_goes number w.spare d w.bits xs some, part) refl in
-    let stops = piece_stops_on level o.around o.next o.body (whole_field name number presence whole) others (cursor d w.bits w.spare xs) _ (is_instruction o.next (at.next ∙ ap next_of is)) (at.rest ∙ first) piece in
+    let waits = part_stops level part d w.bits (w.spare - 1) xs fault.NeedMore (h (entry_at d part.key) more lacking) in
+    let piece : piece_at level i (cursor d w.bits w.spare xs) ≡ stopped part.number xs Truncated = begins (cursor d w.bits w.spare xs) (cursor d w.bits (w.spare - 1) xs) _ (count_goes number w.spare d w.bits xs some) waits in
+    let stops = piece_stops_on level o.around o.next o.body i others (cursor d w.bits w.spare xs) _ (is_instruction o.next (at.next ∙ ap next_of is)) (at.rest ∙ first) piece in
     subst (λ (r : Reads Items). StopsShort l.number (length xs) r) (sym stops) (refl, (sym same, refl))
 
-first_lacks : (level : Level) (w : Walk) (whole : FieldPart) (is : Instructions) (bytes : List ℕ) (l : Lack) → 0 < w.spare → w.next ≡ next.Instruction → list_of w.rest.now ≡ is → IsFirst whole is
-    → ((e : Entry) (more : List ℕ) → IsLacking l more → field_at level whole e (bit_for (part_needs_bit whole) w.bits) (bytes ++ more) ≡ Err fault.NeedMore) → l.number ≡ whole.number
+first_lacks : (level : Level) (w : Walk) (part : FieldPart) (is : Instructions) (bytes : List ℕ) (l : Lack) → 0 < w.spare → w.next ≡ next.Instruction → list_of w.rest.now ≡ is → IsFirst part is
+    → ((e : Entry) (more : List ℕ) → IsLacking l more → field_at level part e (bit_for (part_needs_bit part) w.bits) (bytes ++ more) ≡ Err fault.NeedMore) → l.number ≡ part.number
     → WalkLacks level w bytes l
-first_lacks level w whole (then_instruction (whole_field name number presence part) others) bytes l some is rest first h same =
-    walk_lacks level w name number presence whole others bytes l some is (rest ∙ ap (λ (p : FieldPart). then_instruction (whole_field name number presence p) others) first) h same
-first_lacks level w whole (then_instruction (field_in_parts name number presence exponent mantissa) others) bytes l some is rest first h same = absurd first
-first_lacks level w whole (then_instruction (group_of name number presence members) others) bytes l some is rest first h same = absurd first
-first_lacks level w whole (then_instruction (sequence_of name number presence part members) others) bytes l some is rest first h same = absurd first
-first_lacks level w whole no_instructions bytes l some is rest first h same = absurd first
+first_lacks level w part (then_instruction (whole_field name number presence whole) others) bytes l some is rest first h same =
+    instruction_lacks level w (whole_field name number presence part) number part others bytes l some is (rest ∙ ap (λ (p : FieldPart). then_instruction (whole_field name number presence p) others) first) (λ c k s n m. rw (n, m) refl) h same
+first_lacks level w part (then_instruction (field_in_parts name number presence exponent mantissa) others) bytes l some is rest first h same =
+    instruction_lacks level w (field_in_parts name number presence part mantissa) number part others bytes l some is (rest ∙ ap (λ (p : FieldPart). then_instruction (field_in_parts name number presence p mantissa) others) first) (λ c k s n m. rw (n, m) refl) h same
+first_lacks level w part (then_instruction (sequence_of name number presence count members) others) bytes l some is rest first h same =
+    instruction_lacks level w (sequence_of name number presence part members) number part others bytes l some is (rest ∙ ap (λ (p : FieldPart). then_instruction (sequence_of name number presence p members) others) first) (λ c k s n m. rw (n, m) refl) h same
+first_lacks level w part (then_instruction (group_of name number presence members) others) bytes l some is rest first h same = absurd first
+first_lacks level w part no_instructions bytes l some is rest first h same = absurd first
 
 pub if_first_lacks : (level : Level) (w : Walk) (whole : FieldPart) (bytes : List ℕ) (o : Option Lack) → 0 < w.spare → w.next ≡ next.Instruction → IsFirst whole (list_of w.rest.now)
     → IfSome o (λ l. (e : Entry) (more : List ℕ) → IsLacking l more → field_at level whole e (bit_for (part_needs_bit whole) w.bits) (bytes ++ more) ≡ Err fault.NeedMore) → IfSome o (λ l. l.number ≡ whole.number)

@@ -12,7 +12,7 @@ use Rattle.fast_value.specs.declared.kind.Operator.TheVariants as operator
 use Rattle.fast_value.specs.declared.kind.Presence.{Presence}
 use Rattle.fast_value.specs.declared.kind.Presence.TheVariants.{Mandatory, Optional}
 use Rattle.fast_template.specs.declared.resolved.FieldPart.{FieldPart}
-use Rattle.fast_template.specs.Resolved.{Instructions, then_instruction, whole_field}
+use Rattle.fast_template.specs.Resolved.{Instructions, then_instruction, whole_field, field_in_parts, sequence_of}
 use Rattle.fast_dictionary.specs.Dictionary.{Dictionary}
 use Rattle.fast_stream.specs.declared.fault.Cause.TheVariants.{Truncated}
 use Rattle.fast_stream.specs.Reading.{Reads}
@@ -75,9 +75,11 @@ abbrev pub StopsShort : {A : Type 0} → ℕ → ℕ → Reads A → Type 0
 StopsShort number left (Ok x) = ⊥
 StopsShort number left (Err s) = (s.cause ≡ Truncated) × ((s.instruction ≡ number) × (s.left ≡ left))
 
--- a field of this part comes first
+-- an instruction that begins with this part comes first
 abbrev pub IsFirst : FieldPart → Instructions → Type 0
 IsFirst p (then_instruction (whole_field name number presence whole) is) = whole ≡ p
+IsFirst p (then_instruction (field_in_parts name number presence exponent mantissa) is) = exponent ≡ p
+IsFirst p (then_instruction (sequence_of name number presence length members) is) = length ≡ p
 IsFirst p is = ⊥
 
 -- of the piece that a walk comes to next, some bytes have come, and this is lacking

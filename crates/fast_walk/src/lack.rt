@@ -1,8 +1,8 @@
 //! How many bytes more a piece lacks at least that has begun, so that whoever holds its bytes need not read it again
 //! before they have come.
 //!
-//! Asked of fields: of the entity that one begins with, and of a vector behind its length. What else there is, is read
-//! again.
+//! Asked of instructions: of the entity that one begins with, and of a vector behind its length. What else there is, is
+//! read again.
 
 ghost use Rattle.std.specs.Prelude.{◌≡◌, ◌≤◌, ◌<◌, ◌+◌, ◌++◌, ℕ, true, false, List, IfSome, Err, Ok, length, drop};
 ghost use Rattle.fast_wire.specs.Level.{judge, overlong_unsigned as overlong_unsigned_of};
@@ -106,8 +106,8 @@ fn entity_lack(number: u32, limit: usize, bytes: &[u8]) -> Option<Lack>
     })
 }
 
-#[tactic(auto, using(crate::proofs::Lacking::length_judged))]
 // Whether a vector's length is not longer than the level allows, where it is whole.
+#[tactic(auto, using(crate::proofs::Lacking::length_judged))]
 fn is_fit_length(level: Level, bytes: &[u8]) -> bool
     ensures { result ≡ true → (more : List ℕ) → judge level 10 overlong_unsigned_of field_fault FieldFault.R6 (bytes.now ++ more) ≡ Ok tt }
 {
@@ -152,7 +152,7 @@ fn vector_lack(number: u32, count: u128, have: usize) -> Option<Lack>
     })
 }
 
-// What a vector lacks, whose length may have come.
+// What a vector lacks whose length may have come.
 fn units_lack(level: Level, part: &FieldPart, bytes: &[u8]) -> Option<Lack>
     ensures lacks { IfSome result (λ l. IsVectorKind part.now.kind × ((more : List ℕ) → IsLacking l more
         → units_at level part.now.kind part.now.presence (bytes.now ++ more) ≡ Err FieldFault.NeedMore)) }
@@ -209,15 +209,15 @@ pub(crate) fn field_lack(level: Level, part: &FieldPart, bit: bool, bytes: &[u8]
 }
 
 impl<'a> Walk<'a> {
-    // What the field lacks that is next.
-    fn first_lack(&self, level: Level, whole: &FieldPart, bytes: &[u8]) -> Option<Lack>
+    // What the part lacks that is next.
+    fn first_lack(&self, level: Level, part: &FieldPart, bytes: &[u8]) -> Option<Lack>
         requires spare { 0 < self.now.spare }
         requires next { self.now.next ≡ Next.Instruction }
-        requires first { IsFirst whole.now (list_of self.now.rest.now) }
+        requires first { IsFirst part.now (list_of self.now.rest.now) }
         ensures { IfSome result (WalkLacks level self.now bytes.now) }
     {
-        let bit = first_for(&self.bits, part_needs_bit(whole));
-        field_lack(level, whole, bit, bytes)
+        let bit = first_for(&self.bits, part_needs_bit(part));
+        field_lack(level, part, bit, bytes)
     }
 
     // What the piece that is next lacks, of which these bytes have come.
@@ -230,8 +230,10 @@ impl<'a> Walk<'a> {
         match self.next {
             Next::Instruction => match self.rest.split_first() {
                 Some((flat, _)) => match flat {
-                    Flat::Field { whole, .. } => self.first_lack(level, whole, bytes),
-                    _ => None,
+                    Flat::Field { whole: part, .. }
+                    | Flat::Parts { exponent: part, .. }
+                    | Flat::Sequence { length: part, .. } => self.first_lack(level, part, bytes),
+                    Flat::Group { .. } => None,
                 },
                 None => None,
             },
