@@ -5,7 +5,7 @@ use crate::serving::devices::{After, Feed, Full, Shelf, TEMPLATES};
 use crate::serving::programs::{Answer, ENOUGH, served_into, whole};
 use std::alloc::{AllocError, Global};
 use std::process::Abort;
-use template_tests::texts::WORKED;
+use template_tests::texts::{BARE, WORKED};
 
 /// The line of each command in a mode.
 #[derive(Clone, Copy)]
@@ -750,6 +750,69 @@ fn long_texts_and_streams(rt: HostRuntime) -> Result<(), AllocError> {
         let stream = stream_of(rt.alloc(), row.pieces)?;
         long_is_served(&rt, rt.alloc(), &PLAIN, row, &stream)?;
         long_is_served(&rt, rt.alloc(), &STRICT, row, &stream)?;
+    }
+    Ok(())
+}
+
+/// A line over templates whose elements have no members, a stream, and what is answered.
+struct Bare {
+    words: &'static [&'static str],
+    input: &'static [u8],
+    want: Answer<'static>,
+}
+
+// As many nodes as there may be, and one more.
+#[test]
+fn sequences_without_members(rt: HostRuntime) -> Result<(), AllocError> {
+    const MOST: &[u8] = b"\xc0\x81\x80\x03\x7f\xfe";
+    const MORE: &[u8] = b"\xc0\x81\x80\x03\x7f\xff";
+    const REFUSED: Answer = Answer {
+        status: 1,
+        out: b"",
+        err: "refused Limit message=1 offset=6 template=1 instruction=2\n",
+    };
+    const ROWS: &[Bare] = &[
+        Bare {
+            words: CHECK,
+            input: MOST,
+            want: Answer {
+                status: 0,
+                out: b"ok messages=1 bytes=6 canonical=6\n",
+                err: "",
+            },
+        },
+        Bare {
+            words: CANON,
+            input: MOST,
+            want: Answer {
+                status: 0,
+                out: MOST,
+                err: "",
+            },
+        },
+        Bare {
+            words: SHOW,
+            input: MORE,
+            want: REFUSED,
+        },
+        Bare {
+            words: CHECK,
+            input: MORE,
+            want: REFUSED,
+        },
+        Bare {
+            words: CANON,
+            input: MORE,
+            want: REFUSED,
+        },
+    ];
+    for Bare { words, input, want } in ROWS {
+        let mut shelf = Shelf {
+            templates: whole(BARE.as_bytes()),
+            stream: whole(b""),
+            standard: whole(input),
+        };
+        served_into(&rt, rt.alloc(), words, &mut shelf, 1 << 20, ENOUGH, *want)?;
     }
     Ok(())
 }
