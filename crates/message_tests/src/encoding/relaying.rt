@@ -73,6 +73,60 @@ fn all_relayed(rt: &impl Abort, alloc: Global, rows: &[Row]) -> Result<(), Alloc
     Ok(())
 }
 
+// A stream all of whose growths are the reading's own, or all the writer's and the entries'.
+struct Growing {
+    stream: &'static [u8],
+    of_receiver: bool,
+}
+
+// Where memory is refused, the machine knows whose growth it was.
+fn is_told_apart(
+    rt: &impl Abort,
+    alloc: Global,
+    set: &TemplateSet,
+    row: &Growing,
+) -> Result<(), AllocError> {
+    let entries = slots_of(alloc, set)?;
+    let mut machine = Machine::new(alloc, set, PLAIN, Writer::new(alloc), entries);
+    match is_refused(&mut machine, row.stream) {
+        Err(AllocError) => {
+            same(rt, machine.receiver_refused(), row.of_receiver);
+            Err(AllocError)
+        }
+        Ok(_) => {
+            same(rt, machine.receiver_refused(), false);
+            Ok(())
+        }
+    }
+}
+
+// (`bench/refused.py` refuses each growth)
+#[test]
+fn growths_are_told_apart(rt: HostRuntime) -> Result<(), AllocError> {
+    const ROWS: &[Growing] = &[
+        // the bytes of an identifier that is not whole
+        Growing {
+            stream: b"\xc0\x01",
+            of_receiver: false,
+        },
+        // the bits of a map of ten bytes too
+        Growing {
+            stream: b"\x40\x00\x00\x00\x00\x00\x00\x00\x00\x80\x01",
+            of_receiver: false,
+        },
+        // numbers and texts, and their entries
+        Growing {
+            stream: b"\xf0\x81\x81\x41\xc2\xfe\x00\xe4",
+            of_receiver: true,
+        },
+    ];
+    let set = worked(&rt, rt.alloc())?;
+    for row in ROWS {
+        is_told_apart(&rt, rt.alloc(), &set, row)?;
+    }
+    Ok(())
+}
+
 #[test]
 fn streams_that_are_relayed(rt: HostRuntime) -> Result<(), AllocError> {
     const ROWS: &[Row] = &[
