@@ -24,9 +24,10 @@ use std::alloc::Global;
 ///
 /// # Errors
 ///
-/// Stream: the bytes read are refused, the reader failed, the reads are used up, or memory was refused while a message
-/// was read; the canonical bytes of the messages before are written. Write: the writer failed. Memory: the entries were
-/// refused their memory. After these two a front is written of the canonical bytes of messages that were read.
+/// Stream: the bytes read are refused, the reader failed, the reads are used up, or memory was refused that reading
+/// asked for; the canonical bytes of the messages before are written. Write: the writer failed. Memory: the entries or
+/// the canonical bytes were refused memory. After these two a front is written of the canonical bytes of messages that
+/// were read.
 pub fn canonicalise<R: ByteInput, W: ByteOutput>(
     alloc: Global,
     set: &TemplateSet,

@@ -35,8 +35,8 @@ pub enum Command {
 ///
 /// # Errors
 ///
-/// Stream: the bytes read are refused, the reader failed, the reads are used up, or memory was refused while a message
-/// was read; what the command makes of the messages before is written. Write: the writer failed. Memory: another
+/// Stream: the bytes read are refused, the reader failed, the reads are used up, or memory was refused that reading
+/// asked for; what the command makes of the messages before is written. Write: the writer failed. Memory: another
 /// allocation was refused. After these two a front is written of what the command makes of messages that were read.
 pub fn run<R: ByteInput, W: ByteOutput>(
     alloc: Global,
