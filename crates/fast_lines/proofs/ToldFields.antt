@@ -1,11 +1,10 @@
 -- What was read of a field of a set is told: a value of its type, or that it is left out where it may be.
-use Rattle.std.proofs.Common.{◌≡◌, ◌<◌, ℕ, Bool, true, ◌&&◌, List, [], ◌∷◌, Option, Some, None, refl, sym, ap, ◌∙◌, drop, get_or, arith}
-use Rattle.std.specs.Prelude.{IsTrue, nat_lt}
+use Rattle.std.proofs.Common.{◌≡◌, ◌<◌, ℕ, Bool, true, List, [], ◌∷◌, Option, Some, None, refl, ap, ◌∙◌, drop, get_or, arith}
+use Rattle.std.specs.Prelude.{nat_lt}
 use Rattle.std.specs.List.{AllByRecursion}
 use Rattle.std.proofs.lemmas.Bool.Decides.{nat_tests}
 use Rattle.fast_wire.specs.declared.level.Level.{Level}
-use Rattle.fast_value.specs.Scalar.{IsScalar, is_of}
-use Rattle.fast_value.specs.declared.kind.Kind.{Kind}
+use Rattle.fast_value.specs.Scalar.{IsScalar}
 use Rattle.fast_value.specs.declared.kind.Presence.{Presence}
 use Rattle.fast_value.specs.declared.kind.Presence.TheVariants.{Mandatory, Optional}
 use Rattle.fast_value.specs.declared.scalar.Scalar.{Scalar}
@@ -21,7 +20,7 @@ use Rattle.fast_stream.specs.Nodes.{single}
 use Rattle.fast_walk.specs.Received.{TookFrom}
 use Rattle.fast_walk.proofs.Telling.{form_taken}
 use Rattle.fast_lines.specs.declared.form.Form.{Form}
-use Rattle.fast_lines.specs.Lines.{absent_text, field_text, scalar_text}
+use Rattle.fast_lines.specs.Lines.{field_text}
 
 characters : (s : List ℕ) → AllByRecursion (λ c. c < 128) s → are_characters s ≡ true
 characters [] all = refl

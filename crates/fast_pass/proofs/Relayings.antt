@@ -1,5 +1,5 @@
 -- Lemmas on a stream on its way through an output.
-use Rattle.std.proofs.Common.{◌≡◌, ◌≢◌, ◌≤◌, ℕ, ◌+◌, min, List, ◌∷◌, ◌++◌, length, length-append, append_assoc, arith, Option, refl, ap, sym, subst, ◌∙◌, ◌⊎◌, inl, inr}
+use Rattle.std.proofs.Common.{◌≡◌, ◌≢◌, ℕ, ◌+◌, min, List, ◌∷◌, ◌++◌, length, length-append, append_assoc, arith, Option, refl, ap, sym, subst, ◌∙◌, ◌⊎◌, inl, inr}
 use Rattle.fast_template.specs.Resolved.{Resolved}
 use Rattle.fast_template.specs.TemplateSets.{TemplateList, templates_in}
 use Rattle.fast_dictionary.specs.declared.entries.Entries.{Ghosts}
