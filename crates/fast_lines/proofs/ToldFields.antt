@@ -1,5 +1,5 @@
 -- What was read of a field of a set is told: a value of its type, or that it is left out where it may be.
-use Rattle.std.proofs.Common.{◌≡◌, ◌<◌, ℕ, Bool, true, List, [], ◌∷◌, Option, Some, None, refl, ap, ◌∙◌, drop, get_or, arith}
+use Rattle.std.proofs.Common.{◌≡◌, ◌<◌, ℕ, Bool, true, List, [], ◌∷◌, Option, Some, None, refl, sym, ap, subst, ◌∙◌, drop, get_or, arith}
 use Rattle.std.specs.Prelude.{nat_lt}
 use Rattle.std.specs.List.{AllByRecursion}
 use Rattle.std.proofs.lemmas.Bool.Decides.{nat_tests}
@@ -21,6 +21,7 @@ use Rattle.fast_walk.specs.Received.{TookFrom}
 use Rattle.fast_walk.proofs.Telling.{form_taken}
 use Rattle.fast_lines.specs.declared.form.Form.{Form}
 use Rattle.fast_lines.specs.Lines.{field_text}
+use Rattle.fast_lines.specs.Told.{Line, Said, said_text}
 
 characters : (s : List ℕ) → AllByRecursion (λ c. c < 128) s → are_characters s ≡ true
 characters [] all = refl
@@ -36,17 +37,18 @@ of_characters (Ascii s) h = characters s h.1
 of_characters (Unicode s) h = refl
 of_characters (Bytes s) h = refl
 
-told : (form : Form) (p : FieldPart) (v : Option Scalar) → IsOfField p v → field_text form p.kind p.presence (single v) ≡ None → ⊥
-told form p None of_field none = absurd (let text = rw (of_field) at none in cc)
-told form p (Some v) of_field none = absurd (let text = rw (of_field.0, of_characters v of_field.1) at none in cc)
+told : (form : Form) (p : FieldPart) (v : Option Scalar) → IsOfField p v → field_text form p.kind p.presence (single v) ≡ Some (said_text form v)
+told form p None of_field = rw (of_field) refl
+told form p (Some v) of_field = rw (of_field.0, of_characters v of_field.1) refl
 
 -- of a part of a set whose entry is within its type
 pub tells : (form : Form) (level : Level) (p : FieldPart) (presence : Presence) (bit : Bool) (old new : Entry) (v : Option Scalar) (bytes : List ℕ) (at next : ℕ) → ((k : ℕ) → get_or bytes k 0 < 256)
     → IsFieldPart p → p.presence ≡ presence → IsBitOf p bit → HoldsScalar old → TookFrom level p bit old new v (drop at bytes) (drop next bytes)
-    → field_text form p.kind presence (single v) ≡ None → ⊥
-tells form level p presence bit old new v bytes at next fits is same asked holds took none =
+    → (name : List ℕ) (l k : Line) → Said form name (Some (said_text form v)) l k → Said form name (field_text form p.kind presence (single v)) l k
+tells form level p presence bit old new v bytes at next fits is same asked holds took name l k said =
     let f = form_taken level p bit old new v (drop at bytes) (drop next bytes) (bytes_from bytes at fits) is asked took in
-    told form p v (values_within p old bit f.bytes v is holds f.form).of_field (ap (λ (q : Presence). field_text form p.kind q (single v)) same ∙ none)
+    let text = told form p v (values_within p old bit f.bytes v is holds f.form).of_field in
+    subst (λ (t : Option (List ℕ)). Said form name t l k) (sym text ∙ ap (λ (q : Presence). field_text form p.kind q (single v)) same) said
 
 -- a part that has no value may be left out
 pub may_be_absent : (p : FieldPart) (presence : Presence) → p.presence ≡ presence → (p.presence ≡ Mandatory → ⊥) → presence ≡ Optional

@@ -1,13 +1,14 @@
 -- What is told of a message that is open, in the line that is written as its fields are read (our own).
 use Rattle.std.specs.Prelude.{◌≡◌, ℕ, ℤ, Bool, true, List, [], ◌∷◌, ◌++◌, codes, Option, Some, None, option_map, find}
 use Rattle.fast_value.specs.declared.scalar.Scalar.TheVariants.{Decimal}
+use Rattle.fast_value.specs.declared.scalar.Scalar.{Scalar}
 use Rattle.fast_template.specs.Resolved.{Instructions, Resolved}
 use Rattle.fast_template.specs.TemplateSets.{TemplateList, has_id, templates_in}
 use Rattle.fast_stream.specs.Nodes.{single, group_items, sequence_elements, Items, then_item, Elements, Content}
 use Rattle.fast_walk.specs.OpenSegments.{items_before, elements_before, Body, Sequel, Inside, in_group, in_sequence, Waiting, Next, at_instruction, at_mantissa, at_element, with_item, with_element}
 use Rattle.fast_walk.specs.Received.{Received, bytes_in}
-use Rattle.fast_lines.specs.Lines.{decimal_text, elements_text, joined, line_by, members_text}
-use Rattle.fast_lines.specs.Signs.{between, head_text, is_led, label_text, lead}
+use Rattle.fast_lines.specs.Lines.{decimal_text, elements_text, joined, line_by, members_text, scalar_text}
+use Rattle.fast_lines.specs.Signs.{absent_sign, between, head_text, is_led, label_text, lead}
 use Rattle.fast_lines.specs.declared.form.Form.{Form}
 use Rattle.fast_lines.specs.declared.line.Line.{Line as LineNow}
 
@@ -127,6 +128,11 @@ abbrev pub HasTold : Form → List ℕ → TemplateList → ℤ → Line → Rec
 HasTold form out own exponent l o = HasLines form out own o.set o.before × IsOpened form exponent l o
 
 -- ---- what is appended
+
+-- what is told of a field's value, or of one that is absent
+abbrev pub said_text : Form → Option Scalar → List ℕ
+said_text form (Some v) = scalar_text form v
+said_text form None = absent_sign form
 
 -- the label and the value behind what was there; `value` is the text of the value
 pub record Said (form : Form) (name : List ℕ) (value : Option (List ℕ)) (l k : Line) : Type 0 where

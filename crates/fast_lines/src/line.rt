@@ -1,16 +1,16 @@
 //! The line of a message that is open.
 
-ghost use Rattle.std.specs.Prelude.{◌≡◌, ◌≢◌, None, ◌++◌, ◌∷◌, [], true, false, codes, OnOk, OnErr};
+ghost use Rattle.std.specs.Prelude.{◌≡◌, Some, ◌++◌, ◌∷◌, [], true, false, codes, OnOk, OnErr};
 ghost use Rattle.std.specs.Option.{option_copied};
-ghost use Rattle.fast_stream.specs.Nodes.{single};
-ghost use Rattle.fast_lines.specs.Lines.{absent_text, field_text};
+ghost use Rattle.fast_lines.specs.Lines.{absent_text};
 ghost use Rattle.fast_lines.specs.Signs.{ending, head_text, is_led, label_text, lead};
-ghost use Rattle.fast_lines.specs.Told.{Said, line_now};
+ghost use Rattle.fast_lines.specs.Told.{Said, line_now, said_text};
+ghost use Rattle.fast_value.specs.declared.kind.Presence.TheVariants.{Optional};
 
 use crate::bytes::{push_byte, push_sign};
-use crate::lines::{ShowFault, show_item};
+use crate::lines::push_scalar;
 use crate::signs::Signs;
-use fast_template::{Kind, Name, Presence, Scalar};
+use fast_template::{Name, Scalar};
 use std::alloc::{AllocError, Global};
 
 /// What is written of the line of a message.
@@ -75,33 +75,28 @@ impl Line {
         Ok(())
     }
 
-    /// Appends the label and the value of a field, which has one of its type, or may be left out.
+    /// Appends the label of a field and its value, or what stands for one that is absent.
     #[inline(never)]
     pub(crate) fn tell<S: Signs>(
         &mut self,
         signs: S,
         name: &Name,
-        kind: Kind,
-        presence: Presence,
         value: Option<&Scalar>,
     ) -> Result<(), AllocError>
-        requires { field_text S.form kind presence (single (option_copied value)) ≢ None }
-        ensures { OnOk result (Said S.form name.now
-            (field_text S.form kind presence (single (option_copied value.entry)))
+        ensures { OnOk result (Said S.form name.now (Some (said_text S.form (option_copied value.entry)))
             (line_now self.old) (line_now self.new)) }
     {
         self.label(signs, name)?;
-        match show_item(signs, kind, presence, value, &mut self.text) {
-            Err(ShowFault::Memory) => Err(AllocError),
-            Err(ShowFault::Mismatch) => unreachable!(),
-            Ok(()) => Ok(()),
+        match value {
+            Some(value) => push_scalar(signs, value, &mut self.text),
+            None => push_sign(signs.absent(), &mut self.text),
         }
     }
 
     /// Appends the label of what is left out, which may be, and what stands for it.
     #[inline(always)]
     pub(crate) fn tell_absent<S: Signs>(&mut self, signs: S, name: &Name) -> Result<(), AllocError>
-        ensures { OnOk result (Said S.form name.now (absent_text S.form Presence.Optional)
+        ensures { OnOk result (Said S.form name.now (absent_text S.form Optional)
             (line_now self.old) (line_now self.new)) }
     {
         self.label(signs, name)?;

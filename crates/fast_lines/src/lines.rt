@@ -47,7 +47,12 @@ fn all_characters(text: &[u8]) -> bool
     text.is_ascii()
 }
 
-fn push_scalar<S: Signs>(signs: S, value: &Scalar, out: &mut Vec<u8>) -> Result<(), AllocError>
+/// Appends a value of any type.
+pub(crate) fn push_scalar<S: Signs>(
+    signs: S,
+    value: &Scalar,
+    out: &mut Vec<u8>,
+) -> Result<(), AllocError>
     ensures { Writes (scalar_text S.form value.now) result out.old.items out.new.items }
 {
     match value {

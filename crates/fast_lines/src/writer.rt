@@ -61,13 +61,7 @@ fn take_generally<S: Signs>(
     match read_in_place(alloc, part, entry, bit, level, bytes, at) {
         Err(fault) => Err(fault),
         Ok((found, next)) => {
-            match line.tell(
-                signs,
-                name,
-                part.kind,
-                presence,
-                found.value(part, entry.view()),
-            ) {
+            match line.tell(signs, name, found.value(part, entry.view())) {
                 Err(_) => Err(FieldFault::Memory),
                 Ok(()) => Ok(next),
             }
@@ -106,13 +100,7 @@ fn take<S: Signs>(
 {
     match take_given(part, entry, bit) {
         Some(found) => {
-            match line.tell(
-                signs,
-                name,
-                part.kind,
-                presence,
-                found.value(part, entry.view()),
-            ) {
+            match line.tell(signs, name, found.value(part, entry.view())) {
                 Err(_) => Err(FieldFault::Memory),
                 Ok(()) => Ok(at),
             }
@@ -121,7 +109,7 @@ fn take<S: Signs>(
             None => take_generally(
                 signs, alloc, name, presence, part, entry, bit, level, bytes, at, line,
             ),
-            Some((value, next)) => match line.tell(signs, name, part.kind, presence, Some(&value)) {
+            Some((value, next)) => match line.tell(signs, name, Some(&value)) {
                 Err(_) => Err(FieldFault::Memory),
                 Ok(()) => Ok(next),
             },

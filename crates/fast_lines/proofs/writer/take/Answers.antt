@@ -1,32 +1,31 @@
-use Rattle.std.proofs.Common.{Option, Some, drop, sym, ap, ◌∙◌, arith}
+use Rattle.std.proofs.Common.{Option, Some, drop, ap, subst, ◌∙◌, arith}
 use Rattle.fast_value.specs.declared.scalar.Scalar.{Scalar}
 use Rattle.fast_dictionary.specs.declared.entry.Entry.{Entry}
 use Rattle.fast_field.specs.Found.{value_found}
-use Rattle.fast_stream.specs.Nodes.{single}
-use Rattle.fast_lines.specs.Lines.{field_text}
+use Rattle.fast_lines.specs.Told.{Said, line_now, said_text}
 use Rattle.fast_lines.proofs.ToldFields.{tells}
 use Rattle.fast_lines.proofs.writer.take.Goals as goal
 
 pub returns-in-Some-clause-told : goal.returns-in-Some-clause-told
 returns-in-Some-clause-told g c =
     let i = c.args.part.now in
-    let value = c.value.ensures ∙ ap (λ (e : Entry). value_found i e c.in-Some.found) c.view.ensures in (
-      value_found i c.take_given.new.entry c.in-Some.found,
-      c.in-Some.ensures.taken c.args.level (drop c.args.at c.args.bytes.now),
-      rw (value) at c.in-Ok.ensures,
-    )
-
-pub tell-requires : goal.tell-requires
-tell-requires g c = λ none.
-    let i = c.args.part.now in
     let form = g.S.Escape.form in
     let v = value_found i c.take_given.new.entry c.in-Some.found in
     let value = c.value.ensures ∙ ap (λ (e : Entry). value_found i e c.in-Some.found) c.view.ensures in
-    tells form c.args.level i c.args.presence c.args.bit c.args.entry.now c.take_given.new.entry v c.args.bytes.now c.args.at c.args.at
-    (λ k. omega (arith, c.type_inv.bytes k)) c.requires.part c.requires.presence c.requires.bit c.requires.entry (c.in-Some.ensures.taken c.args.level (drop c.args.at c.args.bytes.now))
-    (ap (λ (o : Option Scalar). field_text form i.kind c.args.presence (single o)) (sym value) ∙ none)
+    let took = c.in-Some.ensures.taken c.args.level (drop c.args.at c.args.bytes.now) in (
+      v,
+      took,
+      tells form c.args.level i c.args.presence c.args.bit c.args.entry.now c.take_given.new.entry v c.args.bytes.now c.args.at c.args.at
+          (λ k. omega (arith, c.type_inv.bytes k)) c.requires.part c.requires.presence c.requires.bit c.requires.entry took c.args.name.now (line_now c.args.line.now) (line_now c.tell.new.self)
+          (subst (λ (o : Option Scalar). Said form c.args.name.now (Some (said_text form o)) (line_now c.args.line.now) (line_now c.tell.new.self)) value c.in-Ok.ensures),
+    )
 
-pub tell-requires-in-Some-take_quickly : goal.tell-requires-in-Some-take_quickly
-tell-requires-in-Some-take_quickly g c =
-    tells g.S.Escape.form c.args.level c.args.part.now c.args.presence c.args.bit c.take_given.new.entry c.take_quickly.new.entry (Some c.in-Some-take_quickly.value) c.args.bytes.now c.args.at c.in-Some-take_quickly.next
-    (λ k. omega (arith, c.type_inv.bytes k)) c.requires.part c.requires.presence c.requires.bit (rw (c.in-None.ensures.entry) c.requires.entry) (c.in-Some-take_quickly.ensures.taken)
+pub returns-clause-told : goal.returns-clause-told
+returns-clause-told g c =
+    let took = c.in-Some-take_quickly.ensures.taken in (
+      Some c.in-Some-take_quickly.value,
+      rw (← c.in-None.ensures.entry) took,
+      tells g.S.Escape.form c.args.level c.args.part.now c.args.presence c.args.bit c.take_given.new.entry c.take_quickly.new.entry (Some c.in-Some-take_quickly.value) c.args.bytes.now c.args.at c.in-Some-take_quickly.next
+          (λ k. omega (arith, c.type_inv.bytes k)) c.requires.part c.requires.presence c.requires.bit (rw (c.in-None.ensures.entry) c.requires.entry) took c.args.name.now (line_now c.args.line.now) (line_now c.tell-in-Some-take_quickly.new.self)
+          c.in-Ok-tell.ensures,
+    )
