@@ -6,3 +6,4 @@ mod Telling
 mod Writing
 mod ToldFields
 mod LineRows
+mod Taking

@@ -2,3 +2,4 @@ pub mod Lines
 pub mod Signs
 pub mod Told
 pub mod Written
+pub mod Taking

@@ -3,6 +3,7 @@
 #![tactic(auto)]
 
 mod bytes;
+mod fields;
 mod form;
 mod line;
 mod lines;

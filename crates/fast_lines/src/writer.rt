@@ -17,6 +17,7 @@ ghost use Rattle.fast_lines.specs.Signs.{is_led};
 ghost use Rattle.fast_lines.specs.Told.{Said, head_in, line_now};
 
 use crate::bytes::push_decimal;
+use crate::fields::tell_fields;
 use crate::line::Line;
 use crate::signs::Signs;
 use fast_dictionary::{Entries, Entry};
@@ -24,9 +25,9 @@ use fast_field::{FieldFault, read_in_place};
 use fast_part::{
     take_exponent, take_given, take_identifier, take_length, take_mantissa, take_quickly,
 };
-use fast_template::{FieldPart, Name, Presence, TemplateSet};
-use fast_walk::{Output, Receiver};
-use fast_wire::Level;
+use fast_template::{FieldPart, Flat, Name, Presence, TemplateSet};
+use fast_walk::{Fields, Output, Receiver};
+use fast_wire::{Bits, Level};
 use std::alloc::{AllocError, Global};
 
 // Takes a field's value in the general way, and tells it from where it lies: it is not copied.
@@ -119,7 +120,7 @@ fn take<S: Signs>(
 
 // Takes a field's value from the bytes, makes its entry the one afterwards, and tells the value.
 #[inline(always)]
-fn tell<S: Signs, E: Entries>(
+pub(crate) fn tell<S: Signs, E: Entries>(
     signs: S,
     alloc: Global,
     name: &Name,
@@ -285,6 +286,35 @@ impl<S: Signs> Receiver for LineWriter<'_, S> {
         ) {
             Err(fault) => Err(fault),
             Ok(next) => Ok(next),
+        }
+    }
+
+    #[inline(always)]
+    fn fields<'a, E: Entries>(
+        &mut self,
+        alloc: Global,
+        entries: &mut E,
+        rest: &'a [Flat],
+        bits: &mut Bits,
+        spare: u32,
+        level: Level,
+        bytes: &[u8],
+        at: usize,
+    ) -> Result<Fields<'a>, AllocError> {
+        match tell_fields(
+            self.signs,
+            alloc,
+            entries,
+            rest,
+            bits,
+            spare,
+            level,
+            bytes,
+            at,
+            &mut self.line,
+        ) {
+            Err(error) => Err(error),
+            Ok(fields) => Ok(fields),
         }
     }
 
