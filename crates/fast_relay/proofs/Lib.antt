@@ -5,5 +5,6 @@ mod DecimalRelaying
 mod NullRelaying
 mod VectorTexts
 mod Taking
+mod TextTaking
 pub mod Giving
 mod Standing

@@ -20,7 +20,7 @@ use Rattle.fast_relay.specs.Numbers.{SpellsWhole, Spelt}
 use Rattle.fast_relay.specs.Relayed.{Takes}
 use Rattle.fast_relay.proofs.Relaying.{whole_row, whole_read, row_read, base_is, delta_as, delta_read, delta_row}
 
-takes : (i : FieldPart) (old new : Entry) (v : Scalar) (bytes rest : List ℕ) → IsTrue (within_part i.part v) → row_at Usual i.operator i old true bytes ≡ Ok (Some v, rest) → new ≡ next i old (Some v) → Takes i old new v bytes rest
+pub takes : (i : FieldPart) (old new : Entry) (v : Scalar) (bytes rest : List ℕ) → IsTrue (within_part i.part v) → row_at Usual i.operator i old true bytes ≡ Ok (Some v, rest) → new ≡ next i old (Some v) → Takes i old new v bytes rest
 takes i old new v bytes rest within row entry = record {
   read = λ more. field_goes Usual i old true bytes (Some v) rest more (row_read i old bytes rest (Some v) row within);
   entry = entry;

@@ -85,7 +85,7 @@ text_units k v h = value_fits k v (text_of_type k v h)
 pub cut_fits : (k : Kind) (v : Scalar) (removal : ℤ) (base new_part : List ℕ) → IsText k v → units_of v ≡ put_together removal base new_part → CanBeUnits k new_part
 cut_fits k v removal base new_part h made = units_fit k new_part (part_is_string k removal base new_part (units_of v) (units_of_string k v h.of_units (text_of_type k v h)) made)
 
-delta_as : (k : Kind) (i : FieldPart) (e : Entry) (bytes : List ℕ) → IsUnitKind k → delta_at Usual k i e bytes ≡ unit_delta_at Usual i e bytes
+pub delta_as : (k : Kind) (i : FieldPart) (e : Entry) (bytes : List ℕ) → IsUnitKind k → delta_at Usual k i e bytes ≡ unit_delta_at Usual i e bytes
 unfolding delta_at
 delta_as kind.Ascii i e bytes h = refl
 delta_as kind.Unicode i e bytes h = refl

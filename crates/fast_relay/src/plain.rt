@@ -29,7 +29,7 @@ use std::mem;
 
 /// Puts the characters of an entity behind so many characters of a text, in place of the others; answers false, and
 /// leaves the text as it was, where memory is refused.
-fn put_characters(alloc: Global, text: &mut ByteString, kept: usize, form: &[u8]) -> bool
+pub(crate) fn put_characters(alloc: Global, text: &mut ByteString, kept: usize, form: &[u8]) -> bool
     requires kept { kept ≤ length text.now }
     requires entity { IsEntity form.now }
     ensures put { result ≡ true → text.new ≡ take kept text.old ++ groups form.now }
@@ -118,7 +118,7 @@ fn make_string(alloc: Global, form: &[u8]) -> Option<ByteString>
 /// Makes an entry the one that the string leaves which bytes spell whole; answers false, and leaves it as it was,
 /// where it is neither empty nor has a string to put it in the place of, or memory is refused.
 #[inline(always)]
-fn keep_plain(alloc: Global, operator: Operator, entry: &mut Entry, form: &[u8]) -> bool
+pub(crate) fn keep_plain(alloc: Global, operator: Operator, entry: &mut Entry, form: &[u8]) -> bool
     requires operator { SpellsWhole operator }
     requires entity { IsEntity form.now }
     ensures kept { result ≡ true → entry.new

@@ -1,0 +1,143 @@
+//! ASCII strings that are read at once into the entry that keeps them, where they are not written again. What is not
+//! served here goes the general way of `read_in_place`.
+
+ghost use Rattle.std.specs.Prelude.{◌≡◌, ◌≤◌, length, drop, IfNone, IfSome};
+ghost use Rattle.fast_value.specs.declared.kind.Kind.TheVariants as kind_type;
+ghost use Rattle.fast_value.specs.declared.kind.Operator.TheVariants as operator_type;
+ghost use Rattle.fast_value.specs.declared.kind.Part.TheVariants as part_type;
+ghost use Rattle.fast_value.specs.declared.scalar.Scalar.{Scalar as ScalarOf};
+ghost use Rattle.fast_value.specs.declared.scalar.Scalar.TheVariants.{Ascii};
+ghost use Rattle.fast_dictionary.specs.declared.entry.Entry.TheVariants as entry_type;
+ghost use Rattle.fast_relay.specs.Relayed.{Takes};
+
+use crate::characters::find_plain;
+use crate::cut::{find_tail, read_cut};
+use crate::plain::{keep_plain, put_characters};
+use fast_dictionary::Entry;
+use fast_template::{ByteString, FieldPart, Kind, Operator, Part, Scalar};
+use fast_value::UNIT_LIMIT;
+use std::alloc::Global;
+
+/// Takes a string that is spelled whole.
+#[inline(always)]
+fn take_whole(
+    alloc: Global,
+    instr: &FieldPart,
+    entry: &mut Entry,
+    bytes: &[u8],
+    at: usize,
+) -> Option<usize>
+    requires at { at ≤ length bytes.now }
+    requires part { instr.now.part ≡ part_type.Whole }
+    requires kind { instr.now.kind ≡ kind_type.Ascii }
+    requires operator { instr.now.operator ≡ operator_type.Copy }
+    ensures place { IfSome result (λ next. (at ≤ next) × (next ≤ length bytes.now)) }
+    ensures taken { IfSome result (λ next. (v : ScalarOf) × (entry.new ≡ entry_type.Assigned v)
+        × Takes instr.now entry.old entry.new v (drop at bytes.now) (drop next bytes.now)) }
+    ensures entry { IfNone result (entry.new ≡ entry.old) }
+{
+    let Some((first, next)) = find_plain(bytes, at) else {
+        return None;
+    };
+    if keep_plain(alloc, Operator::Copy, entry, &bytes[first..next]) {
+        Some(next)
+    } else {
+        None
+    }
+}
+
+/// Takes a removal of few characters at the end of the text that the entry has, and a new part.
+#[inline(always)]
+fn take_cut(
+    alloc: Global,
+    instr: &FieldPart,
+    text: &mut ByteString,
+    bytes: &[u8],
+    at: usize,
+) -> Option<usize>
+    requires at { at ≤ length bytes.now }
+    requires part { instr.now.part ≡ part_type.Whole }
+    requires kind { instr.now.kind ≡ kind_type.Ascii }
+    requires operator { instr.now.operator ≡ operator_type.Delta }
+    ensures place { IfSome result (λ next. (at ≤ next) × (next ≤ length bytes.now)) }
+    ensures taken { IfSome result (λ next. Takes instr.now (entry_type.Assigned (Ascii text.old))
+        (entry_type.Assigned (Ascii text.new)) (Ascii text.new) (drop at bytes.now)
+        (drop next bytes.now)) }
+    ensures text { IfNone result (text.new ≡ text.old) }
+{
+    let base = text.as_slice();
+    let Some(cut) = read_cut(instr, base, bytes, at) else {
+        return None;
+    };
+    let kept = base.len() - cut.removed;
+    if put_characters(alloc, text, kept, &bytes[cut.first..cut.next]) {
+        Some(cut.next)
+    } else {
+        None
+    }
+}
+
+/// Takes a new end of the text that the entry has.
+#[inline(always)]
+fn take_tail(
+    alloc: Global,
+    instr: &FieldPart,
+    text: &mut ByteString,
+    bytes: &[u8],
+    at: usize,
+) -> Option<usize>
+    requires at { at ≤ length bytes.now }
+    requires part { instr.now.part ≡ part_type.Whole }
+    requires kind { instr.now.kind ≡ kind_type.Ascii }
+    requires operator { instr.now.operator ≡ operator_type.Tail }
+    ensures place { IfSome result (λ next. (at ≤ next) × (next ≤ length bytes.now)) }
+    ensures taken { IfSome result (λ next. Takes instr.now (entry_type.Assigned (Ascii text.old))
+        (entry_type.Assigned (Ascii text.new)) (Ascii text.new) (drop at bytes.now)
+        (drop next bytes.now)) }
+    ensures text { IfNone result (text.new ≡ text.old) }
+{
+    let base = text.as_slice();
+    if base.len() > UNIT_LIMIT {
+        return None;
+    }
+    let Some((first, next)) = find_tail(instr, base, bytes, at) else {
+        return None;
+    };
+    let form = &bytes[first..next];
+    let kept = base.len() - form.len();
+    if put_characters(alloc, text, kept, form) {
+        Some(next)
+    } else {
+        None
+    }
+}
+
+/// Reads an ASCII string under bit 1 into the entry, which has it then, and answers the place after it. None: nothing has
+/// changed, and the general way tells.
+#[inline(never)]
+pub fn take_text(
+    alloc: Global,
+    instr: &FieldPart,
+    entry: &mut Entry,
+    bytes: &[u8],
+    at: usize,
+) -> Option<usize>
+    requires { at ≤ length bytes.now }
+    ensures place { IfSome result (λ next. (at ≤ next) × (next ≤ length bytes.now)) }
+    ensures taken { IfSome result (λ next. (v : ScalarOf) × (entry.new ≡ entry_type.Assigned v)
+        × Takes instr.now entry.old entry.new v (drop at bytes.now) (drop next bytes.now)) }
+    ensures entry { IfNone result (entry.new ≡ entry.old) }
+{
+    match (instr.kind, instr.part, instr.operator) {
+        (Kind::Ascii, Part::Whole, Operator::Copy) => take_whole(alloc, instr, entry, bytes, at),
+        (Kind::Ascii, Part::Whole, Operator::Delta) => match entry {
+            Entry::Assigned(Scalar::Ascii(text)) => take_cut(alloc, instr, text, bytes, at),
+            _ => None,
+        },
+        (Kind::Ascii, Part::Whole, Operator::Tail) => match entry {
+            Entry::Assigned(Scalar::Ascii(text)) => take_tail(alloc, instr, text, bytes, at),
+            _ => None,
+        },
+        _ => None,
+    }
+}
