@@ -7,3 +7,4 @@ mod Writing
 mod ToldFields
 mod LineRows
 mod Taking
+mod Pieces

@@ -11,11 +11,13 @@ use Rattle.fast_value.specs.declared.scalar.Scalar.{Scalar}
 use Rattle.fast_value.specs.declared.scalar.Scalar.TheVariants.{U32, I32, U64, I64, Decimal, Ascii, Unicode, Bytes}
 use Rattle.fast_template.specs.declared.resolved.FieldPart.{FieldPart}
 use Rattle.fast_dictionary.specs.declared.entry.Entry.{Entry}
+use Rattle.fast_field.specs.AsUsual.{ReadsAsUsual}
 use Rattle.fast_field.specs.Parts.{IsBitOf, IsFieldPart}
 use Rattle.fast_field.specs.Refusals.{are_characters, has_characters}
 use Rattle.fast_field.specs.Within.{HoldsScalar, IsOfField}
 use Rattle.fast_field.proofs.FieldsWithin.{values_within}
 use Rattle.fast_field.proofs.ReadFields.{bytes_from}
+use Rattle.fast_relay.specs.Relayed.{Takes}
 use Rattle.fast_stream.specs.Nodes.{single}
 use Rattle.fast_walk.specs.Received.{TookFrom}
 use Rattle.fast_walk.proofs.Telling.{form_taken}
@@ -49,6 +51,10 @@ tells form level p presence bit old new v bytes at next fits is same asked holds
     let f = form_taken level p bit old new v (drop at bytes) (drop next bytes) (bytes_from bytes at fits) is asked took in
     let text = told form p v (values_within p old bit f.bytes v is holds f.form).of_field in
     subst (λ (t : Option (List ℕ)). Said form name t l k) (sym text ∙ ap (λ (q : Presence). field_text form p.kind q (single v)) same) said
+
+-- what is taken at once where it is read as at the usual level
+pub took_as_usual : (level : Level) (p : FieldPart) (old new : Entry) (v : Scalar) (bytes rest : List ℕ) → ReadsAsUsual level p bytes → Takes p old new v bytes rest → TookFrom level p true old new (Some v) bytes rest
+took_as_usual level p old new v bytes rest usual h = record { value = λ more. usual old more ∙ h.read more; entry = h.entry }
 
 -- a part that has no value may be left out
 pub may_be_absent : (p : FieldPart) (presence : Presence) → p.presence ≡ presence → (p.presence ≡ Mandatory → ⊥) → presence ≡ Optional

@@ -3,3 +3,4 @@ pub mod Signs
 pub mod Told
 pub mod Written
 pub mod Taking
+pub mod Pieces

@@ -117,7 +117,7 @@ IsOpened form exponent l o = Within form (message_opening form o.set o.template 
 -- ---- a writer of lines
 
 abbrev pub line_now : LineNow → Line
-line_now l = record { text = l.text.items; led = l.led }
+line_now l = record { text = l.text; led = l.led }
 
 -- of these bytes that wait, the lines of the messages of a set that are finished
 abbrev pub HasLines : Form → List ℕ → TemplateList → List Resolved → List Content → Type 0

@@ -1,11 +1,12 @@
 //! Bytes and numbers put behind an output.
 
-ghost use Rattle.std.specs.Prelude.{◌++◌, ◌∷◌, [], decimal};
+ghost use Rattle.std.specs.Prelude.{◌≡◌, ◌++◌, ◌∷◌, [], decimal};
 ghost use Rattle.std.specs.Fmt.{signed_decimal};
 ghost use Rattle.hex.specs.Hex.{encode_lower};
 ghost use Rattle.fast_lines.specs.Lines.{decimal_text};
 ghost use Rattle.fast_lines.specs.Written.{Writes};
 
+use crate::piece::Piece;
 use itoa::Buffer;
 use std::alloc::AllocError;
 
@@ -38,15 +39,22 @@ pub(crate) fn push_sign(sign: &[u8], out: &mut Vec<u8>) -> Result<(), AllocError
     }
 }
 
+/// The two hex digits of a byte.
+#[inline(always)]
+pub(crate) fn hex_pair(byte: u8) -> [u8; 2]
+    ensures { result ≡ encode_lower (byte ∷ []) }
+{
+    [
+        DIGITS[usize::from(byte / 16)],
+        DIGITS[usize::from(byte % 16)],
+    ]
+}
+
 /// Appends two hex digits.
 pub(crate) fn push_hex_pair(byte: u8, out: &mut Vec<u8>) -> Result<(), AllocError>
     ensures { Writes (encode_lower (byte ∷ [])) result out.old.items out.new.items }
 {
-    let pair = [
-        DIGITS[usize::from(byte / 16)],
-        DIGITS[usize::from(byte % 16)],
-    ];
-    push(&pair, out)
+    push(&hex_pair(byte), out)
 }
 
 /// Appends two hex digits of each byte.
@@ -88,7 +96,7 @@ pub(crate) fn push_decimal(
 ) -> Result<(), AllocError>
     ensures { Writes (decimal_text mantissa exponent) result out.old.items out.new.items }
 {
-    push_signed(mantissa, out)?;
-    push_byte(b'e', out)?;
-    push_signed(i64::from(exponent), out)
+    let mut piece = Piece::new();
+    let start = piece.lay_decimal(mantissa, exponent);
+    piece.append_to(start, out)
 }

@@ -1,10 +1,13 @@
 //! The forms of a line.
 
+ghost use Rattle.std.specs.Prelude.{◌≡◌, ◌++◌, ◌∷◌, [], codes};
+ghost use Rattle.hex.specs.Hex.{encode_lower};
 ghost use Rattle.fast_lines.specs.declared.form.Form.TheVariants.{Text, Json};
 
-use crate::bytes::{push, push_byte, push_hex, push_hex_pair, push_unsigned};
+use crate::bytes::{hex_pair, push, push_byte, push_hex, push_hex_pair, push_unsigned};
+use crate::piece::Piece;
 use crate::signs::{Escape, Signs};
-use crate::strings::{push_quoted, stands};
+use crate::strings::{lay_quoted, push_quoted, stands};
 use std::alloc::AllocError;
 
 /// How a message is written as a line.
@@ -24,6 +27,15 @@ pub struct TextSigns;
 #[derive(Clone, Copy)]
 pub struct JsonSigns;
 
+/// A byte as `\x` and two hex digits.
+#[inline(always)]
+fn escaped(byte: u8) -> [u8; 4]
+    ensures { result ≡ codes "\\x" ++ encode_lower (byte ∷ []) }
+{
+    let [high, low] = hex_pair(byte);
+    [b'\\', b'x', high, low]
+}
+
 impl Escape for TextSigns {
     ghost form = { Text };
 
@@ -31,8 +43,7 @@ impl Escape for TextSigns {
         if stands(byte) {
             return push_byte(byte, out);
         }
-        push(b"\\x", out)?;
-        push_hex_pair(byte, out)
+        push(&escaped(byte), out)
     }
 }
 
@@ -66,6 +77,11 @@ impl Signs for TextSigns {
     fn push_label(self, name: &str, out: &mut Vec<u8>) -> Result<(), AllocError> {
         push(name.as_bytes(), out)?;
         push_byte(b'=', out)
+    }
+
+    #[inline(always)]
+    fn lay_label(self, name: &str, piece: &mut Piece, start: usize) -> Option<usize> {
+        piece.lay_before(start, name.as_bytes(), b'=')
     }
 
     #[inline(always)]
@@ -122,6 +138,15 @@ impl Signs for JsonSigns {
     fn push_label(self, name: &str, out: &mut Vec<u8>) -> Result<(), AllocError> {
         push_quoted(self, name.as_bytes(), out)?;
         push_byte(b':', out)
+    }
+
+    #[inline(always)]
+    fn lay_label(self, name: &str, piece: &mut Piece, start: usize) -> Option<usize> {
+        if start == 0 {
+            return None;
+        }
+        let start = piece.lay_byte(start, b':');
+        lay_quoted(self, name.as_bytes(), piece, start)
     }
 
     #[inline(always)]

@@ -7,6 +7,8 @@ mod fields;
 mod form;
 mod line;
 mod lines;
+mod page;
+mod piece;
 mod signs;
 mod strings;
 mod writer;

@@ -1,6 +1,7 @@
 //! Messages of any template set as lines, and what a check says.
 
-ghost use Rattle.std.specs.Prelude.{◌≡◌, ◌++◌, ◌&&◌, [], Some, None, OnOk, codes, map};
+ghost use Rattle.std.specs.Prelude.{◌≡◌, ◌++◌, ◌&&◌, ◌≤◌, [], Some, None, IfSome, OnOk, codes, map};
+ghost use Rattle.fast_lines.specs.Pieces.{laid};
 ghost use Rattle.std.specs.Option.{option_copied};
 ghost use Rattle.fast_template.specs.Resolved.{instruction_of, list_of, resolved_of};
 ghost use Rattle.fast_value.specs.Scalar.{is_of};
@@ -9,13 +10,15 @@ ghost use Rattle.fast_stream.specs.Nodes.{single, item_of, items_in, elements_of
 ghost use Rattle.fast_lines.specs.declared.form.Form.{Form as FormOf};
 ghost use Rattle.fast_lines.specs.Lines.{absent_text, braced, elements_text, field_text, group_text, sequence_text, label, line_by, line_in, member_text, members_text, scalar_text, value_text, ok_text};
 ghost use Rattle.fast_lines.specs.Signs.{label_text};
+ghost use Rattle.fast_lines.specs.Told.{said_text};
 ghost use Rattle.fast_lines.specs.Written.{Writes, Shows};
 ghost use Rattle.fast_lines.specs.declared.lines.ShowFault.TheVariants as fault;
 
 use crate::bytes::{push, push_byte, push_decimal, push_sign, push_signed, push_unsigned};
 use crate::form::{Form, JsonSigns, TextSigns};
+use crate::piece::{END, Piece};
 use crate::signs::Signs;
-use crate::strings::push_quoted;
+use crate::strings::{lay_quoted, push_quoted};
 use fast_stream::{Message, Node};
 use fast_template::{Flat, FlatTemplate, Kind, Presence, Scalar, TemplateSet};
 use std::alloc::AllocError;
@@ -67,6 +70,33 @@ pub(crate) fn push_scalar<S: Signs>(
     }
 }
 
+/// Lays a value of any type, or what stands for none, at the end of a piece, and answers where that begins then; none where
+/// the value is not short.
+#[inline(always)]
+pub(crate) fn lay_scalar<S: Signs>(
+    signs: S,
+    value: Option<&Scalar>,
+    piece: &mut Piece,
+) -> Option<usize>
+    ensures room { IfSome result (λ start. start ≤ 64) }
+    ensures laid { IfSome result (λ start. laid piece.new.bytes start
+        ≡ said_text S.form (option_copied value.entry)) }
+{
+    match value {
+        None => Some(piece.lay(END, signs.absent())),
+        Some(Scalar::U32(number)) => Some(piece.lay_unsigned(END, u64::from(*number))),
+        Some(Scalar::I32(number)) => Some(piece.lay_signed(END, i64::from(*number))),
+        Some(Scalar::U64(number)) => Some(piece.lay_unsigned(END, *number)),
+        Some(Scalar::I64(number)) => Some(piece.lay_signed(END, *number)),
+        Some(Scalar::Decimal { exponent, mantissa }) => {
+            Some(piece.lay_decimal(*mantissa, *exponent))
+        }
+        Some(Scalar::Ascii(text)) => lay_quoted(signs, text.as_slice(), piece, END),
+        Some(Scalar::Unicode(text)) => lay_quoted(signs, text.as_bytes(), piece, END),
+        Some(Scalar::Bytes(_)) => None,
+    }
+}
+
 /// Whether a value is of a type, and of ASCII has characters up to 127.
 fn fits(kind: Kind, value: &Scalar) -> bool
     ensures { result ≡ (is_of kind value.now && has_characters value.now) }
@@ -100,11 +130,7 @@ fn show_value<S: Signs>(
 }
 
 /// Appends what stands for an absent field, group or sequence.
-pub(crate) fn show_absent<S: Signs>(
-    signs: S,
-    presence: Presence,
-    out: &mut Vec<u8>,
-) -> Result<(), ShowFault>
+fn show_absent<S: Signs>(signs: S, presence: Presence, out: &mut Vec<u8>) -> Result<(), ShowFault>
     ensures { Shows (absent_text S.form presence) result out.old.items out.new.items }
 {
     match presence {
@@ -113,24 +139,6 @@ pub(crate) fn show_absent<S: Signs>(
             push_sign(signs.absent(), out)?;
             Ok(())
         }
-    }
-}
-
-/// Appends the value of a field of a type, or what stands for its absence.
-#[inline(always)]
-pub(crate) fn show_item<S: Signs>(
-    signs: S,
-    kind: Kind,
-    presence: Presence,
-    value: Option<&Scalar>,
-    out: &mut Vec<u8>,
-) -> Result<(), ShowFault>
-    ensures { Shows (field_text S.form kind presence (single (option_copied value.entry))) result
-        out.old.items out.new.items }
-{
-    match value {
-        Some(value) => show_value(signs, kind, value, out),
-        None => show_absent(signs, presence, out),
     }
 }
 

@@ -1,10 +1,12 @@
 //! The signs of a form of line.
 
-ghost use Rattle.std.specs.Prelude.{◌≡◌};
+ghost use Rattle.std.specs.Prelude.{◌≡◌, ◌<◌, ◌≤◌, ◌++◌, IfSome};
+ghost use Rattle.fast_lines.specs.Pieces.{laid};
 ghost use Rattle.fast_lines.specs.declared.form.Form.{Form as FormOf};
 ghost use Rattle.fast_lines.specs.Signs.{absent_sign, between, ending, head_text, is_led, label_text, unit_text, vector_text};
 ghost use Rattle.fast_lines.specs.Written.{Writes};
 
+use crate::piece::Piece;
 use std::alloc::AllocError;
 
 /// How the bytes of a string stand in a form of line.
@@ -54,6 +56,14 @@ pub trait Signs: Escape {
     /// An allocation was refused.
     fn push_label(self, name: &str, out: &mut Vec<u8>) -> Result<(), AllocError>
         ensures { Writes (label_text Self.form name.now) result out.old.items out.new.items };
+
+    /// Lays what stands in front of the value of a field of a name in front of a piece that begins here, and answers where
+    /// it begins then; none where the name is not short.
+    fn lay_label(self, name: &str, piece: &mut Piece, start: usize) -> Option<usize>
+        requires { start ≤ 64 }
+        ensures room { IfSome result (λ next. (0 < next) × (next ≤ 64)) }
+        ensures laid { IfSome result (λ next. laid piece.new.bytes next
+            ≡ label_text Self.form name.now ++ laid piece.old.bytes start) };
 
     /// Appends what stands in front of the fields of a message of a template.
     ///

@@ -1,11 +1,13 @@
 //! Strings put behind an output, their bytes as they are or escaped.
 
-ghost use Rattle.std.specs.Prelude.{◌≡◌, ◌<◌, ◌≤◌, ◌+◌, ℕ, true, length, slice_index};
+ghost use Rattle.std.specs.Prelude.{◌≡◌, ◌<◌, ◌≤◌, ◌+◌, ◌++◌, ℕ, true, length, slice_index, IfSome};
+ghost use Rattle.fast_lines.specs.Pieces.{laid};
 ghost use Rattle.std.specs.List.{flat_map, list_all};
 ghost use Rattle.fast_lines.specs.Signs.{is_plain, quoted, unit_text};
 ghost use Rattle.fast_lines.specs.Written.{Writes};
 
 use crate::bytes::{push, push_byte};
+use crate::piece::Piece;
 use crate::signs::Escape;
 use std::alloc::AllocError;
 use std::simd::prelude::*;
@@ -155,4 +157,27 @@ pub(crate) fn push_quoted<S: Escape>(
     push_byte(b'"', out)?;
     push_text(escape, text, out)?;
     push_byte(b'"', out)
+}
+
+/// Lays a string in its quotes in front of a piece that begins here, and answers where it begins then; none where it is
+/// not short, or does not stand as it is.
+#[inline(always)]
+pub(crate) fn lay_quoted<S: Escape>(
+    _escape: S,
+    text: &[u8],
+    piece: &mut Piece,
+    start: usize,
+) -> Option<usize>
+    requires { start ≤ 64 }
+    ensures room { IfSome result (λ next. (0 < next) × (next ≤ 64)) }
+    ensures laid { IfSome result (λ next. laid piece.new.bytes next
+        ≡ quoted S.form text.now ++ laid piece.old.bytes start) }
+{
+    if !all_stand(text) {
+        return None;
+    }
+    match piece.lay_before(start, text, b'"') {
+        Some(start) => Some(piece.lay_byte(start, b'"')),
+        None => None,
+    }
 }

@@ -1,6 +1,7 @@
 //! Writes lines of messages as their fields are read.
 
 ghost use Rattle.std.specs.Prelude.{◌≡◌, ◌≢◌, ◌≤◌, true, false, Option, Err, IfOk, IfErr, OnOk, IsTrue, length, drop};
+ghost use Rattle.fast_field.specs.AsUsual.{ReadsAsUsual};
 ghost use Rattle.fast_value.specs.declared.scalar.Scalar.{Scalar as ScalarOf};
 ghost use Rattle.fast_dictionary.specs.Dictionary.{entry_at};
 ghost use Rattle.fast_field.specs.FieldReading.{field_at};
@@ -16,16 +17,14 @@ ghost use Rattle.fast_template.specs.TemplateSets.{templates_in};
 ghost use Rattle.fast_lines.specs.Signs.{is_led};
 ghost use Rattle.fast_lines.specs.Told.{Said, head_in, line_now};
 
-use crate::bytes::push_decimal;
 use crate::fields::tell_fields;
 use crate::line::Line;
 use crate::signs::Signs;
 use fast_dictionary::{Entries, Entry};
-use fast_field::{FieldFault, read_in_place};
-use fast_part::{
-    take_exponent, take_given, take_identifier, take_length, take_mantissa, take_quickly,
-};
-use fast_template::{FieldPart, Flat, Name, Presence, TemplateSet};
+use fast_field::{FieldFault, Found, read_in_place, reads_as_usual};
+use fast_part::{take_exponent, take_given, take_identifier, take_length, take_mantissa};
+use fast_relay::{take_number, take_text};
+use fast_template::{FieldPart, Flat, Kind, Name, Presence, TemplateSet};
 use fast_walk::{Fields, Output, Receiver};
 use fast_wire::{Bits, Level};
 use std::alloc::{AllocError, Global};
@@ -70,7 +69,130 @@ fn take_generally<S: Signs>(
     }
 }
 
-// Takes a field's value, one that no byte gives and an integer at once, and tells it from where it lies.
+// Takes an integer under bit 1 and tells it, where it is read as at the usual level.
+#[inline(always)]
+fn take_integer<S: Signs>(
+    signs: S,
+    alloc: Global,
+    name: &Name,
+    presence: Presence,
+    part: &FieldPart,
+    entry: &mut Entry,
+    level: Level,
+    bytes: &[u8],
+    at: usize,
+    line: &mut Line,
+) -> Result<usize, FieldFault>
+    requires place { at ≤ length bytes.now }
+    requires part { IsFieldPart part.now }
+    requires presence { part.now.presence ≡ presence }
+    requires usual { ReadsAsUsual level part.now (drop at bytes.now) }
+    requires entry { HoldsScalar entry.old }
+    ensures place { IfOk result (λ n. (at ≤ n) × (n ≤ length bytes.now)) }
+    ensures told { IfOk result (λ n. (v : Option ScalarOf)
+        × TookFrom level part.now true entry.old entry.new v (drop at bytes.now) (drop n bytes.now)
+        × Said S.form name.now (field_text S.form part.now.kind presence (single v)) (line_now line.old)
+        (line_now line.new)) }
+    ensures stops { IfErr result (λ f. f ≢ FieldFault.Memory
+        → (field_at level part.now entry.old true (drop at bytes.now) ≡ Err f)
+        × (entry.new ≡ entry.old) × (line.new ≡ line.old)) }
+{
+    match take_number(part, entry, bytes, at) {
+        Some((value, next)) => match line.tell(signs, name, Some(&value)) {
+            Err(_) => Err(FieldFault::Memory),
+            Ok(()) => Ok(next),
+        },
+        None => take_generally(
+            signs, alloc, name, presence, part, entry, true, level, bytes, at, line,
+        ),
+    }
+}
+
+// The same of a string that the entry keeps, which is told from there.
+#[inline(always)]
+fn take_string<S: Signs>(
+    signs: S,
+    alloc: Global,
+    name: &Name,
+    presence: Presence,
+    part: &FieldPart,
+    entry: &mut Entry,
+    level: Level,
+    bytes: &[u8],
+    at: usize,
+    line: &mut Line,
+) -> Result<usize, FieldFault>
+    requires place { at ≤ length bytes.now }
+    requires part { IsFieldPart part.now }
+    requires presence { part.now.presence ≡ presence }
+    requires usual { ReadsAsUsual level part.now (drop at bytes.now) }
+    requires entry { HoldsScalar entry.old }
+    ensures place { IfOk result (λ n. (at ≤ n) × (n ≤ length bytes.now)) }
+    ensures told { IfOk result (λ n. (v : Option ScalarOf)
+        × TookFrom level part.now true entry.old entry.new v (drop at bytes.now) (drop n bytes.now)
+        × Said S.form name.now (field_text S.form part.now.kind presence (single v)) (line_now line.old)
+        (line_now line.new)) }
+    ensures stops { IfErr result (λ f. f ≢ FieldFault.Memory
+        → (field_at level part.now entry.old true (drop at bytes.now) ≡ Err f)
+        × (entry.new ≡ entry.old) × (line.new ≡ line.old)) }
+{
+    match take_text(alloc, part, entry, bytes, at) {
+        Some(next) => match line.tell(signs, name, Found::Kept.value(part, entry.view())) {
+            Err(_) => Err(FieldFault::Memory),
+            Ok(()) => Ok(next),
+        },
+        None => take_generally(
+            signs, alloc, name, presence, part, entry, true, level, bytes, at, line,
+        ),
+    }
+}
+
+// The same of any field, of which integers and strings are taken at once.
+#[inline(always)]
+fn take_sent<S: Signs>(
+    signs: S,
+    alloc: Global,
+    name: &Name,
+    presence: Presence,
+    part: &FieldPart,
+    entry: &mut Entry,
+    level: Level,
+    bytes: &[u8],
+    at: usize,
+    line: &mut Line,
+) -> Result<usize, FieldFault>
+    requires place { at ≤ length bytes.now }
+    requires part { IsFieldPart part.now }
+    requires presence { part.now.presence ≡ presence }
+    requires usual { ReadsAsUsual level part.now (drop at bytes.now) }
+    requires entry { HoldsScalar entry.old }
+    ensures place { IfOk result (λ n. (at ≤ n) × (n ≤ length bytes.now)) }
+    ensures told { IfOk result (λ n. (v : Option ScalarOf)
+        × TookFrom level part.now true entry.old entry.new v (drop at bytes.now) (drop n bytes.now)
+        × Said S.form name.now (field_text S.form part.now.kind presence (single v)) (line_now line.old)
+        (line_now line.new)) }
+    ensures stops { IfErr result (λ f. f ≢ FieldFault.Memory
+        → (field_at level part.now entry.old true (drop at bytes.now) ≡ Err f)
+        × (entry.new ≡ entry.old) × (line.new ≡ line.old)) }
+{
+    match part.kind {
+        Kind::UInt32 | Kind::Int32 | Kind::UInt64 | Kind::Int64 => {
+            take_integer(
+                signs, alloc, name, presence, part, entry, level, bytes, at, line,
+            )
+        }
+        Kind::Ascii => {
+            take_string(
+                signs, alloc, name, presence, part, entry, level, bytes, at, line,
+            )
+        }
+        Kind::Decimal | Kind::Unicode | Kind::Bytes => take_generally(
+            signs, alloc, name, presence, part, entry, true, level, bytes, at, line,
+        ),
+    }
+}
+
+// Takes a field's value, one that no byte gives at once, and tells it from where it lies.
 #[inline(always)]
 fn take<S: Signs>(
     signs: S,
@@ -106,15 +228,17 @@ fn take<S: Signs>(
                 Ok(()) => Ok(at),
             }
         }
-        None => match take_quickly(part, entry, bit, level, bytes, at) {
-            None => take_generally(
-                signs, alloc, name, presence, part, entry, bit, level, bytes, at, line,
-            ),
-            Some((value, next)) => match line.tell(signs, name, Some(&value)) {
-                Err(_) => Err(FieldFault::Memory),
-                Ok(()) => Ok(next),
-            },
-        },
+        None => {
+            if bit && reads_as_usual(level, part, bytes, at) {
+                take_sent(
+                    signs, alloc, name, presence, part, entry, level, bytes, at, line,
+                )
+            } else {
+                take_generally(
+                    signs, alloc, name, presence, part, entry, bit, level, bytes, at, line,
+                )
+            }
+        }
     }
 }
 
@@ -301,20 +425,29 @@ impl<S: Signs> Receiver for LineWriter<'_, S> {
         bytes: &[u8],
         at: usize,
     ) -> Result<Fields<'a>, AllocError> {
-        match tell_fields(
-            self.signs,
-            alloc,
-            entries,
-            rest,
-            bits,
-            spare,
-            level,
-            bytes,
-            at,
-            &mut self.line,
-        ) {
-            Err(error) => Err(error),
-            Ok(fields) => Ok(fields),
+        // decimals in parts, groups and sequences begin no call of the loop
+        match rest.first() {
+            Some(Flat::Field { .. }) => match tell_fields(
+                self.signs,
+                alloc,
+                entries,
+                rest,
+                bits,
+                spare,
+                level,
+                bytes,
+                at,
+                &mut self.line,
+            ) {
+                Err(error) => Err(error),
+                Ok(fields) => Ok(fields),
+            },
+            _ => Ok(Fields {
+                mantissa: None,
+                rest,
+                spare,
+                place: at,
+            }),
         }
     }
 
@@ -333,7 +466,7 @@ impl<S: Signs> Receiver for LineWriter<'_, S> {
     ) -> Result<(bool, usize), FieldFault> {
         match take_exponent(alloc, entries, part, bit, level, bytes, at) {
             Err(fault) => Err(fault),
-            Ok((None, next)) => match self.line.tell_absent(self.signs, name) {
+            Ok((None, next)) => match self.line.tell(self.signs, name, None) {
                 Err(_) => Err(FieldFault::Memory),
                 Ok(()) => Ok((false, next)),
             },
@@ -361,7 +494,7 @@ impl<S: Signs> Receiver for LineWriter<'_, S> {
         match take_mantissa(alloc, entries, part, bit, level, bytes, at) {
             Err(fault) => Err(fault),
             Ok((mantissa, next)) => {
-                match push_decimal(mantissa, self.exponent, &mut self.line.text) {
+                match self.line.push_decimal(mantissa, self.exponent) {
                     Err(_) => Err(FieldFault::Memory),
                     Ok(()) => Ok(next),
                 }
@@ -384,7 +517,7 @@ impl<S: Signs> Receiver for LineWriter<'_, S> {
     ) -> Result<(Option<u32>, usize), FieldFault> {
         match take_length(alloc, entries, part, bit, level, bytes, at) {
             Err(fault) => Err(fault),
-            Ok((None, next)) => match self.line.tell_absent(self.signs, name) {
+            Ok((None, next)) => match self.line.tell(self.signs, name, None) {
                 Err(_) => Err(FieldFault::Memory),
                 Ok(()) => Ok((None, next)),
             },
@@ -397,7 +530,7 @@ impl<S: Signs> Receiver for LineWriter<'_, S> {
 
     #[inline(always)]
     fn left_out(&mut self, name: &Name) -> Result<(), AllocError> {
-        self.line.tell_absent(self.signs, name)?;
+        self.line.tell(self.signs, name, None)?;
         Ok(())
     }
 

@@ -19,13 +19,3 @@ returns-in-Some-clause-told g c =
           (λ k. omega (arith, c.type_inv.bytes k)) c.requires.part c.requires.presence c.requires.bit c.requires.entry took c.args.name.now (line_now c.args.line.now) (line_now c.tell.new.self)
           (subst (λ (o : Option Scalar). Said form c.args.name.now (Some (said_text form o)) (line_now c.args.line.now) (line_now c.tell.new.self)) value c.in-Ok.ensures),
     )
-
-pub returns-clause-told : goal.returns-clause-told
-returns-clause-told g c =
-    let took = c.in-Some-take_quickly.ensures.taken in (
-      Some c.in-Some-take_quickly.value,
-      rw (← c.in-None.ensures.entry) took,
-      tells g.S.Escape.form c.args.level c.args.part.now c.args.presence c.args.bit c.take_given.new.entry c.take_quickly.new.entry (Some c.in-Some-take_quickly.value) c.args.bytes.now c.args.at c.in-Some-take_quickly.next
-          (λ k. omega (arith, c.type_inv.bytes k)) c.requires.part c.requires.presence c.requires.bit (rw (c.in-None.ensures.entry) c.requires.entry) took c.args.name.now (line_now c.args.line.now) (line_now c.tell-in-Some-take_quickly.new.self)
-          c.in-Ok-tell.ensures,
-    )

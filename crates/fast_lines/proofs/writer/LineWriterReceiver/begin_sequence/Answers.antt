@@ -20,7 +20,7 @@ returns-in-Ok-clause-goes g c =
       rw (c.in-Ok-None-default.field-0-0-is) at c.in-Ok-None-default.ensures.took,
       λ number members is o next first has. (
         has.0,
-        has_no_length g.S.Escape.form old.exponent (line_now old.line) (line_now c.tell_absent.new.self) o c.args.name.now number c.args.presence c.args.part.now members is next first (subst (λ (p : Presence). Said g.S.Escape.form c.args.name.now (absent_text g.S.Escape.form p) (line_now old.line) (line_now c.tell_absent.new.self)) (sym optional) c.in-Ok.ensures) has.1,
+        has_no_length g.S.Escape.form old.exponent (line_now old.line) (line_now c.tell.new.self) o c.args.name.now number c.args.presence c.args.part.now members is next first (subst (λ (p : Presence). Said g.S.Escape.form c.args.name.now (absent_text g.S.Escape.form p) (line_now old.line) (line_now c.tell.new.self)) (sym optional) c.in-Ok.ensures) has.1,
       ),
     )
 

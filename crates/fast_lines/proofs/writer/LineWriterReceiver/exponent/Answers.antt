@@ -24,7 +24,7 @@ returns-in-Ok-clause-goes g c =
       refl,
       λ number mantissa is o next first has. (
         has.0,
-        has_no_decimal g.S.Escape.form old.exponent (line_now old.line) (line_now c.tell_absent.new.self) o c.args.name.now number c.args.presence c.args.part.now mantissa is next first (subst (λ (p : Presence). Said g.S.Escape.form c.args.name.now (absent_text g.S.Escape.form p) (line_now old.line) (line_now c.tell_absent.new.self)) (sym optional) c.in-Ok.ensures) has.1,
+        has_no_decimal g.S.Escape.form old.exponent (line_now old.line) (line_now c.tell.new.self) o c.args.name.now number c.args.presence c.args.part.now mantissa is next first (subst (λ (p : Presence). Said g.S.Escape.form c.args.name.now (absent_text g.S.Escape.form p) (line_now old.line) (line_now c.tell.new.self)) (sym optional) c.in-Ok.ensures) has.1,
       ),
     )
 

@@ -1,4 +1,4 @@
-use Rattle.std.proofs.Common.{◌≡◌, ◌++◌, refl, rules}
+use Rattle.std.proofs.Common.{◌≡◌, ◌++◌, rules}
 use Rattle.fast_lines.specs.Lines.{decimal_text}
 use Rattle.fast_lines.specs.Told.{line_now}
 use Rattle.fast_lines.proofs.Writing.{has_mantissa}
@@ -8,11 +8,11 @@ pub returns-in-Ok-push_decimal-clause-goes : goal.returns-in-Ok-push_decimal-cla
 returns-in-Ok-push_decimal-clause-goes g c =
     let old = c.args.self.now in
     let m = c.in-Ok.mantissa in
-    let told : c.push_decimal.new.out.items ≡ old.line.text.items ++ decimal_text m old.exponent = search rules in (
+    let told : c.push_decimal.new.self.text ≡ old.line.text ++ decimal_text m old.exponent = search rules in (
       m,
       c.in-Ok.ensures.took,
       λ e o next has. (
         has.0,
-        has_mantissa g.S.Escape.form old.exponent e m (line_now old.line) (record { text = c.push_decimal.new.out.items; led = old.line.led }) o c.args.part.now next told refl has.1,
+        has_mantissa g.S.Escape.form old.exponent e m (line_now old.line) (line_now c.push_decimal.new.self) o c.args.part.now next told c.push_decimal.ensures.led has.1,
       ),
     )
