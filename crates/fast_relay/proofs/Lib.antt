@@ -6,5 +6,6 @@ mod NullRelaying
 mod VectorTexts
 mod Taking
 mod TextTaking
+mod KeptTaking
 pub mod Giving
 mod Standing

@@ -1,3 +1,4 @@
 pub mod Numbers
 pub mod Relayed
 pub mod Texts
+pub mod Kept

@@ -5,8 +5,8 @@
 //! the one afterwards, and appends the best form of its value, or nothing where that is bit 0, since bit 0 gives the value
 //! too; it answers what became of the field ([`Relayed`]). [`relay_unsigned`] answers the number too. What bit 0 gives is
 //! `pass_left_out` of `fast_field`. Where nothing has changed the field goes the general way of `fast_field`: `find_field`
-//! and `write_found`. [`take_number`] reads an integer in the same way and writes nothing, and [`take_text`] an ASCII string that the entry
-//! keeps; they are for those who make messages or tell them.
+//! and `write_found`. [`take_number`] reads an integer in the same way and writes nothing, [`take_kept`] one that its
+//! entry keeps, and [`take_text`] an ASCII string that it keeps; they are for those who make messages or tell them.
 //! What a field's forms are is defined there; `specs/Relayed` says what it is to have relayed one.
 #![tactic(auto)]
 
@@ -29,6 +29,6 @@ pub use decimal::relay_decimal;
 pub use null::relay_null;
 pub use number::{relay_number, relay_unsigned};
 pub use relayed::Relayed;
-pub use taken::take_number;
+pub use taken::{take_kept, take_number};
 pub use taken_text::take_text;
 pub use text::relay_text;

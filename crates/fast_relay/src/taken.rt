@@ -6,6 +6,9 @@ ghost use Rattle.fast_value.specs.Scalar.{is_integer, of_integer};
 ghost use Rattle.fast_value.specs.declared.kind.Operator.TheVariants as operator_type;
 ghost use Rattle.fast_field.specs.Numbers.{IsNumber};
 ghost use Rattle.fast_relay.specs.Numbers.{SpellsWhole};
+ghost use Rattle.fast_value.specs.declared.scalar.Scalar.{Scalar as ScalarOf};
+ghost use Rattle.fast_dictionary.specs.declared.entry.Entry.TheVariants as entry_type;
+ghost use Rattle.fast_relay.specs.Kept as kept;
 ghost use Rattle.fast_relay.specs.Relayed.{Takes};
 
 use crate::integers::{is_unsigned, read_short};
@@ -115,10 +118,9 @@ fn take(
     }
 }
 
-/// Reads an integer under bit 1, makes the entry the one afterwards, and answers the number as a value and the place
-/// after it. It takes no memory. None: nothing has changed, and the general way tells.
-#[inline(never)]
-pub fn take_number(
+/// Takes an integer of any type.
+#[inline(always)]
+fn take_any(
     instr: &FieldPart,
     entry: &mut Entry,
     bytes: &[u8],
@@ -136,5 +138,52 @@ pub fn take_number(
         Kind::UInt64 => take(Kind::UInt64, instr, entry, bytes, at),
         Kind::Int64 => take(Kind::Int64, instr, entry, bytes, at),
         Kind::Decimal | Kind::Ascii | Kind::Unicode | Kind::Bytes => None,
+    }
+}
+
+/// Reads an integer under bit 1, makes the entry the one afterwards, and answers the number as a value and the place
+/// after it. It takes no memory. None: nothing has changed, and the general way tells.
+#[inline(never)]
+pub fn take_number(
+    instr: &FieldPart,
+    entry: &mut Entry,
+    bytes: &[u8],
+    at: usize,
+) -> Option<(Scalar, usize)>
+    requires { at ≤ length bytes.now }
+    ensures place { IfSome result (λ x. (at ≤ x.1) × (x.1 ≤ length bytes.now)) }
+    ensures taken { IfSome result (λ x. Takes instr.now entry.old entry.new x.0
+        (drop at bytes.now) (drop x.1 bytes.now)) }
+    ensures entry { IfNone result (entry.new ≡ entry.old) }
+{
+    take_any(instr, entry, bytes, at)
+}
+
+/// Whether a number that was read is in its entry afterwards.
+#[inline(always)]
+fn keeps_number(operator: Operator) -> bool
+    ensures { result ≡ kept.keeps_number operator }
+{
+    match operator {
+        Operator::Copy | Operator::Increment | Operator::Delta => true,
+        _ => false,
+    }
+}
+
+/// As `take_number`, of a number that is in its entry afterwards: answers the place after it alone.
+#[inline(never)]
+pub fn take_kept(instr: &FieldPart, entry: &mut Entry, bytes: &[u8], at: usize) -> Option<usize>
+    requires { at ≤ length bytes.now }
+    ensures place { IfSome result (λ next. (at ≤ next) × (next ≤ length bytes.now)) }
+    ensures taken { IfSome result (λ next. (v : ScalarOf) × (entry.new ≡ entry_type.Assigned v)
+        × Takes instr.now entry.old entry.new v (drop at bytes.now) (drop next bytes.now)) }
+    ensures entry { IfNone result (entry.new ≡ entry.old) }
+{
+    if !keeps_number(instr.operator) {
+        return None;
+    }
+    match take_any(instr, entry, bytes, at) {
+        Some((_value, next)) => Some(next),
+        None => None,
     }
 }

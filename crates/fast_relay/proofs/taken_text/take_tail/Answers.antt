@@ -1,5 +1,4 @@
-use Rattle.std.proofs.Common.{◌≡◌, ◌-◌, length, drop, slice_range, arith}
-use Rattle.fast_relay.proofs.PlainTexts.{slice_length}
+use Rattle.std.proofs.Common.{drop, slice_range}
 use Rattle.fast_relay.proofs.TextTaking.{end_takes}
 use Rattle.fast_relay.proofs.taken_text.take_tail.Goals as goal
 
