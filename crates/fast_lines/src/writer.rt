@@ -1,9 +1,11 @@
 //! Writes lines of messages as their fields are read.
 
-ghost use Rattle.std.specs.Prelude.{◌≡◌, ◌≢◌, ◌≤◌, true, false, Option, Err, IfOk, IfErr, OnOk, IsTrue, length, drop};
+ghost use Rattle.std.specs.Prelude.{◌≡◌, ◌≢◌, ◌≤◌, true, false, Option, Err, IfOk, IfErr, IfNone, IfSome, OnOk, IsTrue, length, drop};
 ghost use Rattle.fast_field.specs.AsUsual.{ReadsAsUsual};
 ghost use Rattle.fast_value.specs.declared.scalar.Scalar.{Scalar as ScalarOf};
 ghost use Rattle.fast_dictionary.specs.Dictionary.{entry_at};
+ghost use Rattle.fast_dictionary.specs.declared.entry.Entry.TheVariants.{Assigned};
+ghost use Rattle.fast_relay.specs.Relayed.{Takes};
 ghost use Rattle.fast_field.specs.FieldReading.{field_at};
 ghost use Rattle.fast_stream.specs.Nodes.{single};
 ghost use Rattle.fast_walk.specs.Received.{Took, TookFrom};
@@ -23,8 +25,8 @@ use crate::signs::Signs;
 use fast_dictionary::{Entries, Entry};
 use fast_field::{FieldFault, Found, read_in_place, reads_as_usual};
 use fast_part::{take_exponent, take_given, take_identifier, take_length, take_mantissa};
-use fast_relay::{take_number, take_text};
-use fast_template::{FieldPart, Flat, Kind, Name, Presence, TemplateSet};
+use fast_relay::{take_kept, take_number, take_text};
+use fast_template::{FieldPart, Flat, Kind, Name, Operator, Presence, TemplateSet};
 use fast_walk::{Fields, Output, Receiver};
 use fast_wire::{Bits, Level};
 use std::alloc::{AllocError, Global};
@@ -108,9 +110,30 @@ fn take_integer<S: Signs>(
     }
 }
 
-// The same of a string that the entry keeps, which is told from there.
+// Takes an integer or a string under bit 1 into the entry, where it is read as at the usual level and kept there.
 #[inline(always)]
-fn take_string<S: Signs>(
+fn take_into(
+    alloc: Global,
+    part: &FieldPart,
+    entry: &mut Entry,
+    bytes: &[u8],
+    at: usize,
+) -> Option<usize>
+    requires { at ≤ length bytes.now }
+    ensures place { IfSome result (λ next. (at ≤ next) × (next ≤ length bytes.now)) }
+    ensures taken { IfSome result (λ next. (v : ScalarOf) × (entry.new ≡ Assigned v)
+        × Takes part.now entry.old entry.new v (drop at bytes.now) (drop next bytes.now)) }
+    ensures entry { IfNone result (entry.new ≡ entry.old) }
+{
+    match part.kind {
+        Kind::Ascii => take_text(alloc, part, entry, bytes, at),
+        _ => take_kept(part, entry, bytes, at),
+    }
+}
+
+// The same of an integer or a string that the entry keeps: it is told from there.
+#[inline(always)]
+fn take_held<S: Signs>(
     signs: S,
     alloc: Global,
     name: &Name,
@@ -136,7 +159,7 @@ fn take_string<S: Signs>(
         → (field_at level part.now entry.old true (drop at bytes.now) ≡ Err f)
         × (entry.new ≡ entry.old) × (line.new ≡ line.old)) }
 {
-    match take_text(alloc, part, entry, bytes, at) {
+    match take_into(alloc, part, entry, bytes, at) {
         Some(next) => match line.tell(signs, name, Found::Kept.value(part, entry.view())) {
             Err(_) => Err(FieldFault::Memory),
             Ok(()) => Ok(next),
@@ -176,13 +199,18 @@ fn take_sent<S: Signs>(
         × (entry.new ≡ entry.old) × (line.new ≡ line.old)) }
 {
     match part.kind {
-        Kind::UInt32 | Kind::Int32 | Kind::UInt64 | Kind::Int64 => {
-            take_integer(
+        Kind::UInt32 | Kind::Int32 | Kind::UInt64 | Kind::Int64 => match part.operator {
+            Operator::Copy | Operator::Increment | Operator::Delta => {
+                take_held(
+                    signs, alloc, name, presence, part, entry, level, bytes, at, line,
+                )
+            }
+            _ => take_integer(
                 signs, alloc, name, presence, part, entry, level, bytes, at, line,
-            )
-        }
+            ),
+        },
         Kind::Ascii => {
-            take_string(
+            take_held(
                 signs, alloc, name, presence, part, entry, level, bytes, at, line,
             )
         }

@@ -4,7 +4,7 @@ use Rattle.fast_dictionary.specs.declared.entry.Entry.{Entry}
 use Rattle.fast_field.specs.Found.{assigned_of}
 use Rattle.fast_lines.specs.Told.{Said, line_now, said_text}
 use Rattle.fast_lines.proofs.ToldFields.{tells, took_as_usual}
-use Rattle.fast_lines.proofs.writer.take_string.Goals as goal
+use Rattle.fast_lines.proofs.writer.take_held.Goals as goal
 
 pub returns-in-Ok-clause-told : goal.returns-in-Ok-clause-told
 returns-in-Ok-clause-told g c =
@@ -12,7 +12,7 @@ returns-in-Ok-clause-told g c =
     let form = g.S.Escape.form in
     let taken = c.in-Some.ensures.taken in
     let v = taken.0 in
-    let new = c.take_text.new.entry in
+    let new = c.take_into.new.entry in
     let took = took_as_usual c.args.level part c.args.entry.now new v (drop c.args.at c.args.bytes.now) (drop c.in-Some.next c.args.bytes.now) c.requires.usual taken.2 in
     let value = c.value.ensures ∙ ap (λ (e : Entry). assigned_of e) (c.view.ensures ∙ taken.1) in (
       Some v,
