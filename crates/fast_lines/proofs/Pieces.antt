@@ -12,10 +12,6 @@ laid_more old new front start next is at h =
     let size : 64 - next ≡ length front + (64 - start) = omega (arith, at, h) in
     ap (take (64 - next)) is ∙ ap (λ n. take n (front ++ drop start old)) size ∙ take-append-add front (drop start old) (64 - start)
 
--- what is appended, of a copy that has more behind it
-pub laid_cut : (bytes : List ℕ) (start size : ℕ) → 64 - start ≤ size → take (64 - start) (take (start + size - start) (drop start bytes)) ≡ laid bytes start
-laid_cut bytes start size h = take-take (64 - start) (start + size - start) (drop start bytes) (omega (arith, h))
-
 -- behind a front of this length
 behind : (xs ys : List ℕ) (n : ℕ) → n ≤ length xs → drop n (take n xs ++ ys) ≡ ys
 behind xs ys n h = let long = length-take-le n xs h in subst (λ m. drop m (take n xs ++ ys) ≡ ys) long (drop-append_seam (take n xs) ys)

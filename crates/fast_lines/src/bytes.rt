@@ -6,7 +6,6 @@ ghost use Rattle.hex.specs.Hex.{encode_lower};
 ghost use Rattle.fast_lines.specs.Lines.{decimal_text};
 ghost use Rattle.fast_lines.specs.Written.{Writes};
 
-use crate::piece::Piece;
 use itoa::Buffer;
 use std::alloc::AllocError;
 
@@ -51,6 +50,7 @@ pub(crate) fn hex_pair(byte: u8) -> [u8; 2]
 }
 
 /// Appends two hex digits.
+#[inline(always)]
 pub(crate) fn push_hex_pair(byte: u8, out: &mut Vec<u8>) -> Result<(), AllocError>
     ensures { Writes (encode_lower (byte ∷ [])) result out.old.items out.new.items }
 {
@@ -96,7 +96,7 @@ pub(crate) fn push_decimal(
 ) -> Result<(), AllocError>
     ensures { Writes (decimal_text mantissa exponent) result out.old.items out.new.items }
 {
-    let mut piece = Piece::new();
-    let start = piece.lay_decimal(mantissa, exponent);
-    piece.append_to(start, out)
+    push_signed(mantissa, out)?;
+    push_byte(b'e', out)?;
+    push_signed(i64::from(exponent), out)
 }

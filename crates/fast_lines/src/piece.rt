@@ -5,10 +5,8 @@ ghost use Rattle.std.specs.Simd.Lanes.{chunk, put_chunk};
 ghost use Rattle.std.specs.Fmt.{signed_decimal};
 ghost use Rattle.fast_lines.specs.Lines.{decimal_text};
 ghost use Rattle.fast_lines.specs.Pieces.{laid};
-ghost use Rattle.fast_lines.specs.Written.{Writes};
 
 use itoa::write_digits;
-use std::alloc::AllocError;
 use std::simd::Simd;
 
 /// Where a piece ends, and how many bytes it has at most.
@@ -18,7 +16,7 @@ pub(crate) const END: usize = 64;
 const HALF: usize = 32;
 
 /// Names and texts are laid out that have no more bytes.
-const LONGEST: usize = 28;
+pub(crate) const LONGEST: usize = 28;
 
 /// Bytes of which those up to `END` are laid out, each in front of the last. Where they begin is told by the calls, and
 /// not kept here, so that it stays in a register. Behind `END` there is room, so that as many bytes are copied whatever
@@ -35,18 +33,6 @@ fn put_word<const N: usize>(bytes: &mut [u8], at: usize, text: &[u8])
     ensures { bytes.new ≡ put_chunk at bytes.old (chunk 0 N text.now) }
 {
     Simd::<u8, N>::from_slice(text).copy_to_slice(&mut bytes[at..]);
-}
-
-/// Appends so many of these bytes, of which a fixed number is copied.
-#[inline(always)]
-fn append_front(bytes: &[u8], count: usize, out: &mut Vec<u8>) -> Result<(), AllocError>
-    requires { count ≤ length bytes.now }
-    ensures { Writes (take count bytes.now) result out.old.items out.new.items }
-{
-    let end = out.len() + count;
-    out.extend_from_slice(bytes)?;
-    out.truncate(end);
-    Ok(())
 }
 
 impl Piece {
@@ -176,19 +162,6 @@ impl Piece {
             put_word::<32>(bytes, at, &self.bytes[start..]);
         } else {
             put_word::<64>(bytes, at, &self.bytes[start..]);
-        }
-    }
-
-    /// Appends what is laid out from a place on.
-    #[inline(always)]
-    pub(crate) fn append_to(&self, start: usize, out: &mut Vec<u8>) -> Result<(), AllocError>
-        requires { start ≤ 64 }
-        ensures { Writes (laid self.now.bytes start) result out.old.items out.new.items }
-    {
-        if start >= HALF {
-            append_front(&self.bytes[start..start + HALF], END - start, out)
-        } else {
-            append_front(&self.bytes[start..start + END], END - start, out)
         }
     }
 }
