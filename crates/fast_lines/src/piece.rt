@@ -16,7 +16,7 @@ pub(crate) const END: usize = 64;
 const HALF: usize = 32;
 
 /// Names and texts are laid out that have no more bytes.
-pub(crate) const LONGEST: usize = 28;
+const LONGEST: usize = 28;
 
 /// Bytes of which those up to `END` are laid out, each in front of the last. Where they begin is told by the calls, and
 /// not kept here, so that it stays in a register. Behind `END` there is room, so that as many bytes are copied whatever

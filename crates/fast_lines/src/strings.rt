@@ -7,7 +7,7 @@ ghost use Rattle.fast_lines.specs.Signs.{is_plain, quoted, unit_text};
 ghost use Rattle.fast_lines.specs.Written.{Writes};
 
 use crate::bytes::{push, push_byte};
-use crate::piece::{LONGEST, Piece};
+use crate::piece::Piece;
 use crate::signs::Escape;
 use std::alloc::AllocError;
 use std::simd::prelude::*;
@@ -173,7 +173,7 @@ pub(crate) fn lay_quoted<S: Escape>(
     ensures laid { IfSome result (λ next. laid piece.new.bytes next
         ≡ quoted S.form text.now ++ laid piece.old.bytes start) }
 {
-    if text.len() > LONGEST || !all_stand(text) {
+    if !all_stand(text) {
         return None;
     }
     match piece.lay_before(start, text, b'"') {
