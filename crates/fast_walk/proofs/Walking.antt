@@ -1,5 +1,5 @@
 -- How reading goes on, whatever was received.
-use Rattle.std.proofs.Common.{◌≡◌, ◌<◌, ℕ, ℤ, Bool, true, false, List, [], ◌∷◌, ◌++◌, map, Option, Some, None, Result, Ok, Err, refl, sym, ap, ◌∙◌, arith}
+use Rattle.std.proofs.Common.{◌≡◌, ◌<◌, ◌-◌, ℕ, zero, suc, ℤ, Bool, true, false, List, [], ◌∷◌, ◌++◌, length, map, slice_index_or, slice_set, Option, Some, None, Result, Ok, Err, refl, sym, ap, ◌∙◌, arith}
 use Rattle.std.proofs.lemmas.List.{map_push}
 use Rattle.std.specs.Prelude.{option_to_list}
 use Rattle.fast_value.specs.declared.key.Key.{Key}
@@ -17,8 +17,9 @@ use Rattle.fast_stream.specs.Bits.{bit_for, after_bit}
 use Rattle.fast_stream.specs.Faults.{Stop}
 use Rattle.fast_stream.specs.Streams.{members_of}
 use Rattle.fast_stream.specs.Reading.{Cursor, Reads, node_at, field_part_at, own_map_at, behind_bit, piece_at, stopped}
-use Rattle.fast_walk.specs.OpenSegments.{Body, Sequel, Waiting, Inside, in_group, in_sequence, Next, at_instruction, at_mantissa, at_element, with_item, fewer, under_bits, body_on, mantissa_on, elements_on, top_on, behind_inside, all_around}
-use Rattle.fast_walk.specs.Received.{Received, Same, Goes, IsExponent, ended_in}
+use Rattle.fast_walk.specs.OpenSegments.{Body, Sequel, Waiting, Inside, in_group, in_sequence, Next, at_instruction, at_mantissa, at_element, with_item, with_element, fewer, under_bits, body_on, mantissa_on, elements_on, top_on, behind_inside, all_around}
+use Rattle.fast_walk.specs.Received.{Received, Same, Goes, IsExponent, ended_in, in_next}
+use Rattle.fast_walk.specs.Room.{left_around}
 use Rattle.fast_walk.specs.Walks.{bare_inside, bare, bare_next, bare_sequel, frame_of, AreAllServed, IsWaitingServed}
 use Rattle.fast_walk.specs.declared.walk.Frame.{Frame as FrameNow}
 use Rattle.fast_walk.proofs.Steps.{field_goes, no_group_goes, group_goes, piece_stops, end_goes, whole_goes, exponent_goes, no_exponent_goes, length_goes, no_length_goes, mantissa_goes, mantissa_stops, element_goes, no_map_stops, no_node_stops, no_more_goes, end_stops, set_stops}
@@ -169,6 +170,34 @@ ended_same o ws b (in_sequence s) = record { set = refl; before = refl; template
 pub popped : (old new : List FrameNow) (r : Option FrameNow) (f : FrameNow) → old ≡ new ++ option_to_list r → r ≡ Some f → map frame_of old ≡ map frame_of new ++ frame_of f ∷ []
 popped old new r f h k = ap (map frame_of) (h ∙ ap (λ (o : Option FrameNow). new ++ option_to_list o) k) ∙ map_push frame_of new f
 
+-- ---- the last frame in another's place
+
+nothing_ends : (ws : List Waiting) (w : Waiting) → ◌≡◌ {A = List Waiting} [] (ws ++ w ∷ []) → ⊥
+nothing_ends [] w h = absurd cc
+nothing_ends (v ∷ ws) w h = absurd cc
+
+last_at : (fs : List FrameNow) (i : ℕ) (f d : FrameNow) (ws : List Waiting) (w : Waiting) → length fs ≡ suc i → map frame_of fs ≡ ws ++ w ∷ []
+    → (frame_of (slice_index_or fs i d) ≡ w) × (map frame_of (slice_set fs i f) ≡ ws ++ frame_of f ∷ [])
+unfolding head_or tail_of
+last_at [] i f d ws w long h = absurd (nothing_ends ws w h)
+last_at (g ∷ []) zero f d [] w long h = (ap (head_or w) h, refl)
+last_at (g ∷ []) zero f d (v ∷ ws) w long h = absurd (nothing_ends ws w (ap tail_of h))
+last_at (g ∷ []) (suc i) f d ws w long h = absurd (omega (arith, long))
+last_at (g ∷ e ∷ fs) zero f d ws w long h = absurd (omega (arith, long))
+last_at (g ∷ e ∷ fs) (suc i) f d [] w long h = absurd (no_more (ap tail_of h))
+  where
+    no_more : map frame_of (e ∷ fs) ≡ [] → ⊥
+    no_more h = absurd cc
+last_at (g ∷ e ∷ fs) (suc i) f d (v ∷ ws) w long h =
+    let r = last_at (e ∷ fs) i f d ws w (omega (arith, long)) (ap tail_of h) in
+    (r.0, rw (ap (head_or w) h, r.1) refl)
+
+pub last_frame : (fs : List FrameNow) (n : ℕ) (f d : FrameNow) (ws : List Waiting) (w : Waiting) → length fs ≡ n → map frame_of fs ≡ ws ++ w ∷ []
+    → (frame_of (slice_index_or fs (n - 1) d) ≡ w) × (map frame_of (slice_set fs (n - 1) f) ≡ ws ++ frame_of f ∷ [])
+last_frame [] n f d ws w long h = absurd (nothing_ends ws w h)
+last_frame (g ∷ fs) zero f d ws w long h = absurd (omega (arith, long))
+last_frame (g ∷ fs) (suc i) f d ws w long h = let e : suc i - 1 ≡ i = omega arith in rw e (last_at (g ∷ fs) i f d ws w long h)
+
 -- ---- keys
 
 pub served_push : (serves : Key → Bool) (ws : List Waiting) (w : Waiting) → AreAllServed serves ws → IsWaitingServed serves w → AreAllServed serves (ws ++ w ∷ [])
@@ -217,7 +246,7 @@ pub record HasLast (us : List Waiting) : Type 0 where
   pub last : Waiting
   pub is : us ≡ before ++ last ∷ []
 
-has_last : (us : List Waiting) → (us ≡ [] → ⊥) → HasLast us
+pub has_last : (us : List Waiting) → (us ≡ [] → ⊥) → HasLast us
 has_last [] some = absurd (some refl)
 has_last (u ∷ []) some = record { before = []; last = u; is = refl }
 has_last (u ∷ v ∷ us) some =
@@ -227,6 +256,26 @@ has_last (u ∷ v ∷ us) some =
 pub no_frame : (fs : List FrameNow) → map frame_of fs ≡ [] → fs ≡ []
 no_frame [] h = refl
 no_frame (f ∷ fs) h = absurd cc
+
+-- the frame of the element that is open, where another one of its sequence is to come
+pub record HasNext (us fs : List Waiting) (t : Sequel) : Type 0 where
+  pub fore : List Waiting
+  pub frame : Waiting
+  pub frames : fs ≡ fore ++ frame ∷ []
+  pub last : Last us fore frame
+  pub sequel : Sequel
+  pub is : last.last.inside ≡ in_sequence sequel
+  pub same : bare_sequel sequel ≡ t
+
+pub has_next : (us fs : List Waiting) (t : Sequel) → map bare us ≡ fs → (fs ≡ [] → ⊥) → ((ws : List Waiting) (w : Waiting) → fs ≡ ws ++ w ∷ [] → (w.inside ≡ in_sequence t) × (w.number ≡ t.number)) → HasNext us fs t
+has_next us fs t h some told =
+    let n = has_last fs some in
+    let l = last_of us n.before n.last (h ∙ n.is) in
+    let e = is_element_of l.last.inside t (inside_of_last us n.before n.last l ∙ (told n.before n.last n.is).0) in
+    record { fore = n.before; frame = n.last; frames = n.is; last = l; sequel = e.sequel; is = e.is; same = e.same }
+
+pub left_last : (fs fore : List Waiting) (f : Waiting) → fs ≡ fore ++ f ∷ [] → left_around fs ≡ left_around fore ++ f.bits ∷ []
+left_last fs fore f h = ap left_around h ∙ map_push (λ (w : Waiting). w.bits) fore f
 
 module _ (level : Level) where
   -- ---- one piece
@@ -345,6 +394,37 @@ module _ (level : Level) where
       let numbered = named (map bare l.before) (bare l.last) (sym same ∙ ap (map bare) l.is ∙ map_push bare l.before l.last) in
       ap (all_around level o.around) (top_is o.next o.body no_instructions c next rest ∙ whole_goes level o.body.done c)
       ∙ end_stops level o.around l.before l.last number _ _ l.is numbered (set_stops level number (items_of o.body.done) c strict left)
+
+  -- ---- the next element of a sequence
+
+  -- behind the element that is open the sequence goes on
+  sequel_on : (o : Received) (fs : List Waiting) (t : Sequel) (n : HasNext o.around fs t) (c : Cursor) → IsLeftClear level c.bits → o.next ≡ at_instruction → o.body.rest ≡ no_instructions
+      → all_around level o.around (top_on level o.next o.body c)
+      ≡ all_around level n.last.before (top_on level (at_element (with_element n.sequel (items_of o.body.done))) n.last.last.body (under_bits n.frame.bits c))
+  sequel_on o fs t n c clear next rest =
+      end_on o n.fore n.fore n.frame n.last c clear next rest
+      ∙ ap (λ (i : Inside). all_around level (ended_in o n.last.before n.last.last.body i).around
+      (top_on level (ended_in o n.last.before n.last.last.body i).next (ended_in o n.last.before n.last.last.body i).body (under_bits n.frame.bits c))) n.is
+
+  pub next_on : (o : Received) (fs : List Waiting) (t : Sequel) (n : HasNext o.around fs t) (c d e : Cursor) → IsLeftClear level c.bits → o.next ≡ at_instruction → o.body.rest ≡ no_instructions → 0 < t.left
+      → node_at t.number (under_bits n.frame.bits c) ≡ Ok d → own_map_at level t.number t.own_map d ≡ Ok e
+      → all_around level o.around (top_on level o.next o.body c)
+      ≡ all_around level (in_next o d.bits n.last.before n.last.last.body n.sequel).around (body_on level (record { rest = n.sequel.members; done = [] }) e)
+  next_on o fs t n c d e clear next rest some h k =
+      sequel_on o fs t n c clear next rest
+      ∙ element_on n.last.before (at_element (with_element n.sequel (items_of o.body.done))) n.last.last.body (with_element n.sequel (items_of o.body.done)) t (under_bits n.frame.bits c) d e refl n.same some h k
+
+  pub no_next_node_on : (o : Received) (fs : List Waiting) (t : Sequel) (n : HasNext o.around fs t) (c : Cursor) (f : Stop) → IsLeftClear level c.bits → o.next ≡ at_instruction → o.body.rest ≡ no_instructions → 0 < t.left
+      → node_at t.number (under_bits n.frame.bits c) ≡ Err f → all_around level o.around (top_on level o.next o.body c) ≡ Err f
+  no_next_node_on o fs t n c f clear next rest some h =
+      sequel_on o fs t n c clear next rest
+      ∙ no_node_on n.last.before (at_element (with_element n.sequel (items_of o.body.done))) n.last.last.body (with_element n.sequel (items_of o.body.done)) t (under_bits n.frame.bits c) f refl n.same some h
+
+  pub no_next_map_on : (o : Received) (fs : List Waiting) (t : Sequel) (n : HasNext o.around fs t) (c d : Cursor) (f : Stop) → IsLeftClear level c.bits → o.next ≡ at_instruction → o.body.rest ≡ no_instructions → 0 < t.left
+      → node_at t.number (under_bits n.frame.bits c) ≡ Ok d → own_map_at level t.number t.own_map d ≡ Err f → all_around level o.around (top_on level o.next o.body c) ≡ Err f
+  no_next_map_on o fs t n c d f clear next rest some h k =
+      sequel_on o fs t n c clear next rest
+      ∙ no_map_on n.last.before (at_element (with_element n.sequel (items_of o.body.done))) n.last.last.body (with_element n.sequel (items_of o.body.done)) t (under_bits n.frame.bits c) d f refl n.same some h k
 
   -- the end of the message's own body
   pub all_read : (us : List Waiting) (n : Next) (b : Body) (c : Cursor) → us ≡ [] → n ≡ at_instruction → b.rest ≡ no_instructions → all_around level us (top_on level n b c) ≡ Ok (items_of b.done, c)

@@ -71,6 +71,10 @@ abbrev pub ended_in : Received → List Waiting → Body → Inside → Received
 ended_in o ws b in_group = moved o at_instruction (with_item b (group_items (items_of o.body.done))) ws
 ended_in o ws b (in_sequence s) = moved o (at_element (with_element s (items_of o.body.done))) b ws
 
+-- behind an element that has ended, in the next one of its sequence
+abbrev pub in_next : Received → List Bool → List Waiting → Body → Sequel → Received
+in_next o bits ws b s = in_element (ended_in o ws b (in_sequence s)) bits (with_element s (items_of o.body.done))
+
 -- the message that has been received, once its own body has ended
 abbrev pub content_received : Received → Content
 content_received o = record { template = o.template; items = items_of o.body.done }

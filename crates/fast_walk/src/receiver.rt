@@ -14,7 +14,7 @@ ghost use Rattle.fast_field.specs.FieldReading.{field_at};
 ghost use Rattle.fast_stream.specs.Nodes.{single, items_of, nodes_in, node_limit, Content};
 ghost use Rattle.fast_stream.specs.Streams.{identifier as identifier_part, members_of};
 ghost use Rattle.fast_walk.specs.OpenSegments.{Sequel, Waiting, at_instruction, at_mantissa, at_element, in_group, in_sequence};
-ghost use Rattle.fast_walk.specs.Received.{Received, Took, IsExponent, after_exponent, after_length, after_sequence, content_received, ended_in, entered, in_element, length_of, opened, passed};
+ghost use Rattle.fast_walk.specs.Received.{Received, Took, IsExponent, after_exponent, after_length, after_sequence, content_received, ended_in, entered, in_element, in_next, length_of, opened, passed};
 ghost use Rattle.fast_walk.specs.Walks.{AreServed, IsNextServed};
 ghost use Rattle.fast_walk.specs.Told.{IsTold, KeepScalars};
 ghost use Rattle.fast_stream.specs.Bits.{after_bit, bit_for};
@@ -393,6 +393,27 @@ pub trait Receiver: Drop {
             → IsTrue (room self.old (around ++ b ∷ []) bits) → IsTrue (room self.new around b)) }
         ensures keeps { (set : List Resolved) (ms : List Content) (d : Dictionary)
             → keeps self.old set ms d → keeps self.new set ms d };
+
+    /// The end of an element and the beginning of the next one of its sequence, whether that has a map of its own, and how
+    /// many instructions it has.
+    fn next_element(&mut self, alloc: Global, own_map: bool, size: usize) -> Result<(), AllocError>
+        requires room { (around : List (List Bool)) × (b : List Bool) × (bits : List Bool)
+            × IsTrue (room self.now (around ++ b ∷ []) bits) }
+        ensures has { OnOk result ((o : Received) (d : Dictionary) (ws : List Waiting) (w :
+            Waiting) (s : Sequel) (bits : List Bool)
+            → o.next ≡ at_instruction → o.body.rest ≡ no_instructions → o.around ≡ ws ++ w ∷ []
+            → w.inside ≡ in_sequence s → own_map ≡ s.own_map → 0 < s.left → has self.old o d
+            → has self.new (in_next o bits ws w.body s) d) }
+        ensures room { OnOk result ((around : List (List Bool)) (b bits later : List Bool)
+            → CanBeMap later → IsTrue (room self.old (around ++ b ∷ []) bits)
+            → IsTrue (room self.new (around ++ b ∷ []) later)) }
+        ensures keeps { (set : List Resolved) (ms : List Content) (d : Dictionary)
+            → keeps self.old set ms d → keeps self.new set ms d }
+    {
+        self.leave_element(alloc)?;
+        self.enter_element(alloc, own_map, size)?;
+        Ok(())
+    }
 
     /// The end of a sequence, behind its last element.
     fn end_sequence(&mut self, alloc: Global) -> Result<(), AllocError>

@@ -1,6 +1,6 @@
 //! A walk through the open segments of a message, without its items.
 
-ghost use Rattle.std.specs.Prelude.{◌≡◌, ◌≢◌, ◌≤◌, ◌<◌, ◌++◌, ◌∷◌, ◌-◌, ◌+◌, [], ℕ, Bool, true, false, List, Option, IsSome, ◌⊎◌, IfOk, IfErr, OnOk, IsTrue, length, drop, map};
+ghost use Rattle.std.specs.Prelude.{◌≡◌, ◌≢◌, ◌≤◌, ◌<◌, ◌++◌, ◌∷◌, ◌-◌, ◌+◌, [], ℕ, Bool, true, false, List, Option, IsSome, ◌⊎◌, IfOk, IfErr, IfSome, OnOk, IsTrue, length, drop, map};
 ghost use Rattle.fast_value.specs.declared.key.Key as key_type;
 ghost use Rattle.fast_template.specs.Resolved.{Resolved, list_of, then_instruction, no_instructions, whole_field, field_in_parts, group_of, sequence_of, is_optional as is_optional_of};
 ghost use Rattle.fast_dictionary.specs.Dictionary.{Dictionary};
@@ -673,6 +673,110 @@ impl<'a> Walk<'a> {
         }
     }
 
+    // The sequence whose element is open, where another one is to come.
+    #[inline(always)]
+    fn next_sequel(&self) -> Option<Sequel<'a>>
+        ensures left { IfSome result (λ s. 0 < s.left) }
+        ensures inside { IfSome result (λ s. self.now.around.items ≢ []) }
+        ensures last { IfSome result (λ s. (ws : List Waiting) (w : Waiting)
+            → map frame_of self.now.around.items ≡ ws ++ w ∷ []
+            → (w.inside ≡ in_sequence (sequel_of s)) × (w.number ≡ s.number)) }
+    {
+        match self.around.last() {
+            None => None,
+            Some(frame) => match frame.inside {
+                Inside::Element(sequel) if sequel.left > 0 => Some(sequel),
+                Inside::Element(_) | Inside::Group(_) => None,
+            },
+        }
+    }
+
+    // Ends the element that is open, and enters the next one of its sequence, in the frame that waits for both.
+    #[inline(always)]
+    fn next_element<L: Leveled, R: Receiver>(
+        &mut self,
+        level: L,
+        alloc: Global,
+        receiver: &mut R,
+        sequel: Sequel<'a>,
+        bytes: &[u8],
+        at: usize,
+    ) -> Result<usize, Halt>
+        requires place { at ≤ length bytes.now }
+        requires next { self.now.next ≡ Next.Instruction }
+        requires rest { self.now.rest.now ≡ [] }
+        requires inside { self.now.around.items ≢ [] }
+        requires last { (ws : List Waiting) (w : Waiting)
+            → map frame_of self.now.around.items ≡ ws ++ w ∷ []
+            → (w.inside ≡ in_sequence (sequel_of sequel)) × (w.number ≡ sequel.number) }
+        requires left { 0 < sequel.left }
+        requires room { HasRoom (R.room receiver.now) self.now }
+        ensures place { IfOk result (λ n. (at ≤ n) × (n ≤ length bytes.now)) }
+        ensures goes { IfOk result (λ n. (d : Dictionary) → Moves L.at R.has self.old receiver.old d
+            self.new receiver.new d (drop at bytes.now) (drop n bytes.now)) }
+        ensures stops { IfErr result (λ h. h.cause ≢ Cause.Memory
+            → (d : Dictionary) → HaltsAs L.at self.old d (drop at bytes.now) h) }
+        ensures waits { IfErr result (λ h. h.cause ≢ Cause.Memory
+            → (self.new ≡ self.old) × (receiver.new ≡ receiver.old)) }
+        ensures ready { OnOk result ((serves : key_type.Key → Bool) → IsReady serves self.old
+            → IsReady serves self.new) }
+        ensures room { OnOk result (HasRoom (R.room receiver.new) self.new) }
+        ensures keeps { (set : List Resolved) (ms : List Content) (d : Dictionary)
+            → R.keeps receiver.old set ms d → R.keeps receiver.new set ms d }
+        ensures rank { OnOk result (rank_of self.new < rank_of self.old) }
+    {
+        let own_map = sequel.own_map;
+        let strictness = level.level();
+        match self.judge_end(strictness) {
+            Err(halt) => Err(halt),
+            Ok(()) => match self.count(sequel.number) {
+                Err(halt) => Err(halt),
+                Ok(()) => match read_own_map(alloc, sequel.number, own_map, strictness, bytes, at) {
+                    Err(halt) => Err(halt),
+                    Ok((bits, next)) => {
+                        receiver.next_element(alloc, sequel.own_map, sequel.members.len())?;
+                        self.go_on(sequel, bits);
+                        Ok(next)
+                    }
+                },
+            },
+        }
+    }
+
+    // Goes on in the next element of a sequence, in place of the one that is open.
+    #[inline(always)]
+    fn go_on(&mut self, sequel: Sequel<'a>, fresh: Bits)
+        requires spare { 0 < self.now.spare }
+        requires left { 0 < sequel.left }
+        ensures bits { self.new.bits ≡ fresh }
+        ensures spare { self.new.spare ≡ self.old.spare - 1 }
+        ensures next { self.new.next ≡ self.old.next }
+        ensures rest { self.new.rest.now ≡ sequel.entry.members.now }
+        ensures around { (ws : List Waiting) (w : Waiting)
+            → map frame_of self.old.around.items ≡ ws ++ w ∷ []
+            → map frame_of self.new.around.items ≡ ws ++ record {
+              bits = w.bits;
+              number = sequel.entry.number;
+              body = record { rest = w.body.rest; done = [] };
+              inside = in_sequence (fewer (sequel_of sequel.entry));
+            } ∷ [] }
+        ensures depth { length self.new.around.items ≡ length self.old.around.items }
+    {
+        let others = Sequel {
+            number: sequel.number,
+            own_map: sequel.own_map,
+            members: sequel.members,
+            left: sequel.left - 1,
+        };
+        self.bits = fresh;
+        self.spare -= 1;
+        self.rest = sequel.members;
+        match self.around.last_mut() {
+            None => {}
+            Some(frame) => frame.inside = Inside::Element(others),
+        }
+    }
+
     // Ends the segment that is open, and goes on in the one around it.
     #[inline(always)]
     fn end<L: Leveled, R: Receiver>(
@@ -811,9 +915,17 @@ impl<'a> Walk<'a> {
                 Ok(next) => Ok(next),
             },
             Next::Instruction => match self.rest.split_first() {
-                None => match self.end(level, alloc, receiver) {
-                    Err(halt) => Err(halt),
-                    Ok(()) => Ok(at),
+                None => match self.next_sequel() {
+                    Some(sequel) => match self.next_element(
+                        level, alloc, receiver, sequel, bytes, at,
+                    ) {
+                        Err(halt) => Err(halt),
+                        Ok(next) => Ok(next),
+                    },
+                    None => match self.end(level, alloc, receiver) {
+                        Err(halt) => Err(halt),
+                        Ok(()) => Ok(at),
+                    },
                 },
                 Some((flat, others)) => match flat {
                     Flat::Field {

@@ -9,3 +9,6 @@ returns-in-Ok-end-clause-goes g c = c.in-Ok-end.ensures.goes (g.E.Entries.conten
 
 pub returns-in-Ok-group-clause-goes : goal.returns-in-Ok-group-clause-goes
 returns-in-Ok-group-clause-goes g c = c.in-Ok-group.ensures.goes (g.E.Entries.contents c.args.entries.now)
+
+pub returns-in-Ok-next_element-clause-goes : goal.returns-in-Ok-next_element-clause-goes
+returns-in-Ok-next_element-clause-goes g c = c.in-Ok-next_element.ensures.goes (g.E.Entries.contents c.args.entries.now)

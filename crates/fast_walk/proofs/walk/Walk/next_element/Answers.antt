@@ -1,0 +1,100 @@
+use Rattle.std.proofs.Common.{◌<◌, ◌++◌, ◌-◌, Bool, List, drop, map, refl, sym, ap, subst, ◌∙◌, arith}
+use Rattle.std.specs.Prelude.{IsTrue}
+use Rattle.fast_template.specs.Resolved.{list_of}
+use Rattle.fast_walk.specs.OpenSegments.{Sequel, cursor, with_element}
+use Rattle.fast_walk.specs.Received.{in_next}
+use Rattle.fast_stream.specs.Nodes.{items_of}
+use Rattle.fast_walk.specs.Room.{left_around}
+use Rattle.fast_walk.specs.Walks.{frame_of, next_of, sequel_of}
+use Rattle.fast_walk.proofs.Walking.{around_element, end_on_stops, has_last, has_next, is_instruction, left_last, next_on, no_frame, no_next_map_on, no_next_node_on, rest_of_last, served_pop, served_push}
+use Rattle.fast_walk.proofs.walk.Walk.next_element.Goals as goal
+
+pub next_element-requires : goal.next_element-requires
+next_element-requires g c =
+    let old = c.args.self.now in
+    let fs = map frame_of old.around.items in
+    let l = has_last fs (λ none. c.requires.inside (no_frame old.around.items none)) in
+    record { room = (left_around l.before, l.last.bits, old.bits, subst (λ (ls : List (List Bool)). IsTrue (g.R.Receiver.room c.args.receiver.now ls old.bits)) (left_last fs l.before l.last l.is) c.requires.room) }
+
+pub returns-in-Err-clause-stops : goal.returns-in-Err-clause-stops
+returns-in-Err-clause-stops g c = λ other d o at.
+    let old = c.args.self.now in
+    let h = c.in-Err.ensures in
+    let next = is_instruction o.next (at.next ∙ ap next_of c.requires.next) in
+    let rest = at.rest ∙ ap list_of c.requires.rest in
+    rw (h.refused.1)
+    (end_on_stops g.L.Leveled.at o (map frame_of old.around.items) c.in-Err.halt.number (cursor d old.bits old.spare (drop c.args.at c.args.bytes.now)) at.around
+    (λ none. c.requires.inside (no_frame old.around.items none))
+    h.inside next rest (rw (c.level-strictness.ensures) at h.refused.0) h.refused.2)
+
+pub returns-in-Err-count-clause-stops : goal.returns-in-Err-count-clause-stops
+returns-in-Err-count-clause-stops g c = λ other d o at.
+    let old = c.args.self.now in
+    let bytes = drop c.args.at c.args.bytes.now in
+    let t = sequel_of c.args.sequel in
+    let fs = map frame_of old.around.items in
+    let next = is_instruction o.next (at.next ∙ ap next_of c.requires.next) in
+    let rest = at.rest ∙ ap list_of c.requires.rest in
+    let n = has_next o.around fs t at.around (λ none. c.requires.inside (no_frame old.around.items none)) c.requires.last in
+    no_next_node_on g.L.Leveled.at o fs t n (cursor d old.bits old.spare bytes) _ (rw (c.level-strictness.ensures) at c.in-Ok.ensures.clear) next rest c.requires.left
+    (c.in-Err-count.ensures.stops d n.frame.bits bytes)
+
+pub returns-in-Err-read_own_map-clause-stops : goal.returns-in-Err-read_own_map-clause-stops
+returns-in-Err-read_own_map-clause-stops g c = λ other d o at.
+    let old = c.args.self.now in
+    let bytes = drop c.args.at c.args.bytes.now in
+    let t = sequel_of c.args.sequel in
+    let fs = map frame_of old.around.items in
+    let next = is_instruction o.next (at.next ∙ ap next_of c.requires.next) in
+    let rest = at.rest ∙ ap list_of c.requires.rest in
+    let n = has_next o.around fs t at.around (λ none. c.requires.inside (no_frame old.around.items none)) c.requires.last in
+    no_next_map_on g.L.Leveled.at o fs t n (cursor d old.bits old.spare bytes) (cursor d n.frame.bits (old.spare - 1) bytes) _ (rw (c.level-strictness.ensures) at c.in-Ok.ensures.clear) next rest c.requires.left
+    (c.in-Ok-count.ensures.goes d n.frame.bits bytes) (rw (c.level-strictness.ensures) at c.in-Err-read_own_map.ensures.stops other d n.frame.bits (old.spare - 1))
+
+pub returns-in_ok-next_element-in-Ok-read_own_map-clause-goes : goal.returns-in_ok-next_element-in-Ok-read_own_map-clause-goes
+returns-in_ok-next_element-in-Ok-read_own_map-clause-goes g c = λ d o at.
+    let old = c.args.self.now in
+    let t = sequel_of c.args.sequel in
+    let fs = map frame_of old.around.items in
+    let next = is_instruction o.next (at.0.next ∙ ap next_of c.requires.next) in
+    let rest = at.0.rest ∙ ap list_of c.requires.rest in
+    let n = has_next o.around fs t at.0.around (λ none. c.requires.inside (no_frame old.around.items none)) c.requires.last in
+    let left = ap (λ (s : Sequel). s.left) n.same in
+    let some : 0 < n.sequel.left = omega (arith, left, c.requires.left) in
+    let end = c.go_on.ensures in (
+      in_next o n.frame.bits n.last.before n.last.last.body n.sequel,
+      (
+        record {
+          next = ap next_of (sym (end.next ∙ c.requires.next));
+          rest = ap (λ (s : Sequel). s.members) n.same ∙ ap list_of (sym end.rest);
+          around = around_element n.last.before n.fore n.frame.bits n.last.last.body n.frame.body.rest (with_element n.sequel (items_of o.body.done)) t n.last.rests (rest_of_last o.around n.fore n.frame n.last) n.same
+              ∙ sym (end.around n.fore n.frame n.frames);
+        },
+        c.in_ok-next_element-in-Ok-read_own_map.ensures.has o d n.last.before n.last.last n.sequel n.frame.bits next rest n.last.is n.is (sym (ap (λ (s : Sequel). s.own_map) n.same)) some at.1,
+      ),
+      record { set = refl; before = refl; template = refl; members = refl; start = refl },
+      λ more.
+          let bytes = drop c.args.at c.args.bytes.now ++ more in
+          rw (end.bits, end.spare)
+          (next_on g.L.Leveled.at o fs t n (cursor d old.bits old.spare bytes) (cursor d n.frame.bits (old.spare - 1) bytes) _ (rw (c.level-strictness.ensures) at c.in-Ok.ensures.clear) next rest c.requires.left
+          (c.in-Ok-count.ensures.goes d n.frame.bits bytes) (rw (c.level-strictness.ensures) at c.in-Ok-read_own_map.ensures.goes d n.frame.bits (old.spare - 1) more)),
+    )
+
+pub returns-in_ok-next_element-in-Ok-read_own_map-clause-ready : goal.returns-in_ok-next_element-in-Ok-read_own_map-clause-ready
+returns-in_ok-next_element-in-Ok-read_own_map-clause-ready g c = λ serves ready.
+    let old = c.args.self.now in
+    let end = c.go_on.ensures in
+    let l = has_last (map frame_of old.around.items) (λ none. c.requires.inside (no_frame old.around.items none)) in
+    let p = served_pop serves l.before l.last (rw (l.is) at ready.around) in
+    let members = rw ((c.requires.last l.before l.last l.is).0) at p.1.1 in
+    record { next = rw (end.next, c.requires.next) tt; rest = rw (end.rest) members; around = rw (end.around l.before l.last l.is) (served_push serves _ _ p.0 (p.1.0, members)) }
+
+pub returns-in_ok-next_element-in-Ok-read_own_map-clause-room : goal.returns-in_ok-next_element-in-Ok-read_own_map-clause-room
+returns-in_ok-next_element-in-Ok-read_own_map-clause-room g c =
+    let old = c.args.self.now in
+    let end = c.go_on.ensures in
+    let fs = map frame_of old.around.items in
+    let l = has_last fs (λ none. c.requires.inside (no_frame old.around.items none)) in
+    rw (end.bits, left_last _ l.before _ (end.around l.before l.last l.is))
+    (c.in_ok-next_element-in-Ok-read_own_map.ensures.room (left_around l.before) l.last.bits old.bits c.in-Ok-read_own_map.bits c.in-Ok-read_own_map.ensures.room
+    (subst (λ (ls : List (List Bool)). IsTrue (g.R.Receiver.room c.args.receiver.now ls old.bits)) (left_last fs l.before l.last l.is) c.requires.room))
