@@ -8,5 +8,6 @@ pub mod Relays
 pub mod Writers
 mod Rooms
 mod MapRoom
+mod LastSegment
 pub mod Takings
 mod SpeltParts

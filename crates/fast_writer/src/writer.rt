@@ -34,7 +34,7 @@ impl Writer {
     ghost use Rattle.fast_walk.specs.Received.{handed_on};
     ghost use Rattle.fast_writer.specs.Levels.{level_of};
     ghost use Rattle.fast_writer.specs.Room.{writer_room};
-    ghost use Rattle.fast_writer.specs.Written.{Closes};
+    ghost use Rattle.fast_writer.specs.Written.{Closes, ClosesIn};
 
     /// With no message, and nothing handed on. Takes no memory.
     #[inline(always)]
@@ -105,6 +105,28 @@ impl Writer {
                 let inner = mem::replace(&mut self.inner, around);
                 inner.end(&mut self.inner.bytes)?;
                 self.spare.push(inner)?;
+                Ok(())
+            }
+        }
+    }
+
+    // Ends the segment that is open, in the one around it, and begins another in the same memory.
+    #[inline(always)]
+    fn close_and_open(&mut self, own: bool) -> Result<(), AllocError>
+        requires room { (around : List (List Bool)) × (left : List Bool) × (bits : List Bool)
+            × IsTrue (writer_room self.now (around ++ left ∷ []) bits) }
+        ensures closed { OnOk result (ClosesIn (map level_of self.old.outer.items)
+            (level_of self.old.inner) (map level_of self.new.outer.items)) }
+        ensures bits { OnOk result (self.new.inner.bits ≡ []) }
+        ensures own { OnOk result (self.new.inner.own ≡ own) }
+        ensures bytes { OnOk result (self.new.inner.bytes.items ≡ []) }
+        ensures out { self.new.out ≡ self.old.out }
+    {
+        match self.outer.last_mut() {
+            None => unreachable!(),
+            Some(around) => {
+                self.inner.end(&mut around.bytes)?;
+                self.inner.begin(own);
                 Ok(())
             }
         }
@@ -305,6 +327,17 @@ impl Receiver for Writer {
     #[inline(always)]
     fn leave_element(&mut self, _alloc: Global) -> Result<(), AllocError> {
         self.close()?;
+        Ok(())
+    }
+
+    #[inline(always)]
+    fn next_element(
+        &mut self,
+        _alloc: Global,
+        own_map: bool,
+        _size: usize,
+    ) -> Result<(), AllocError> {
+        self.close_and_open(own_map)?;
         Ok(())
     }
 
