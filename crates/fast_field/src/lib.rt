@@ -42,7 +42,7 @@ pub use found::Found;
 pub use integers::{is_field_number, kept_number, number_after, number_of, set_number};
 pub use left_out::is_left_out;
 pub use levels::reads_as_usual;
-pub use passed::{Passed, fits, pass_found, pass_left_out};
+pub use passed::{Passed, fits, pass_found, pass_left_out, pass_part};
 pub use plan::{Plan, plan_field};
 pub use read::{find_field, read_field, read_in_place};
 pub use tail::{best_tail, read_tail};

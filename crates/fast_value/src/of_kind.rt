@@ -11,14 +11,16 @@ use crate::scalar::Scalar;
 pub fn is_of_kind(kind: Kind, value: &Scalar) -> bool
     ensures { result ≡ is_of kind value.now }
 {
-    match value {
-        Scalar::U32(_) => kind == Kind::UInt32,
-        Scalar::I32(_) => kind == Kind::Int32,
-        Scalar::U64(_) => kind == Kind::UInt64,
-        Scalar::I64(_) => kind == Kind::Int64,
-        Scalar::Decimal { .. } => kind == Kind::Decimal,
-        Scalar::Ascii(_) => kind == Kind::Ascii,
-        Scalar::Unicode(_) => kind == Kind::Unicode,
-        Scalar::Bytes(_) => kind == Kind::Bytes,
-    }
+    // types and values have one order, so that this is one comparison
+    let own = match value {
+        Scalar::I32(_) => Kind::Int32,
+        Scalar::U32(_) => Kind::UInt32,
+        Scalar::I64(_) => Kind::Int64,
+        Scalar::U64(_) => Kind::UInt64,
+        Scalar::Decimal { .. } => Kind::Decimal,
+        Scalar::Ascii(_) => Kind::Ascii,
+        Scalar::Unicode(_) => Kind::Unicode,
+        Scalar::Bytes(_) => Kind::Bytes,
+    };
+    kind == own
 }

@@ -75,10 +75,10 @@ impl Eq for ByteString {
 /// A value of a field.
 #[derive(Debug, PartialEq, Eq, Drop)]
 pub enum Scalar {
-    U32(u32),
     I32(i32),
-    U64(u64),
+    U32(u32),
     I64(i64),
+    U64(u64),
     /// The mantissa times ten to the exponent.
     Decimal { exponent: i32, mantissa: i64 },
     Ascii(ByteString),
