@@ -1,6 +1,6 @@
 -- What is too short to be read stays so until what it lacks has come.
 use Rattle.std.proofs.Common.{◌≡◌, ℕ, zero, suc, ◌+◌, ◌<◌, ◌≤◌, Bool, true, false, List, [], ◌∷◌, ◌++◌, length, Option, Some, None, Result, Ok, Err, refl, sym, ap, subst, ◌∙◌, arith, length-append, ◌⊎◌, inl, inr, ◌-◌, append-nil}
-use Rattle.std.specs.Prelude.{nat_le, IfSome}
+use Rattle.std.specs.Prelude.{nat_le, IfSome, pos}
 use Rattle.fast_template.specs.Resolved.{Instruction, Resolved, Instructions, no_instructions, then_instruction, whole_field, field_in_parts, group_of, sequence_of, list_of, part_needs_bit}
 use Rattle.fast_dictionary.specs.Dictionary.{entry_at}
 use Rattle.fast_stream.specs.Bits.{bit_for}
@@ -10,7 +10,7 @@ use Rattle.fast_stream.specs.declared.fault.Cause.{Cause}
 use Rattle.fast_dictionary.specs.Dictionary.{Dictionary}
 use Rattle.fast_stream.specs.Reading.{Cursor, Reads, field_part_at, node_at, piece_at, stopped}
 use Rattle.fast_stream.specs.declared.fault.Cause.TheVariants.{Truncated}
-use Rattle.fast_walk.specs.OpenSegments.{Reading, cursor, message_of}
+use Rattle.fast_walk.specs.OpenSegments.{Reading, at_mantissa, cursor, message_of}
 use Rattle.fast_walk.specs.Received.{Received}
 use Rattle.fast_walk.specs.Traversals.{Continues, ContinuesAt, IsOpen, stop_of}
 use Rattle.fast_walk.specs.declared.halt.HaltedBy.TheVariants as halted
@@ -21,7 +21,7 @@ use Rattle.fast_walk.specs.Walks.{next_of, reads_on}
 use Rattle.fast_walk.specs.declared.walk.Next.TheVariants as next
 use Rattle.fast_walk.specs.declared.walk.Walk.{Walk}
 use Rattle.fast_walk.proofs.Steps.{count_goes, part_stops}
-use Rattle.fast_walk.proofs.Walking.{is_instruction, piece_stops_on}
+use Rattle.fast_walk.proofs.Walking.{is_instruction, is_mantissa, mantissa_on_stops, piece_stops_on}
 use Rattle.fast_wire.specs.Entity.{HasNoStop}
 use Rattle.fast_wire.specs.Level.{judge, overlong_unsigned}
 use Rattle.fast_wire.specs.Reading.{◌>>=◌, entity_at, unsigned_at, signed_at, unsigned_nullable_at, signed_nullable_at, ascii_at, ascii_nullable_at, bytes_at, vector_at, behind_length, vector_nullable_at}
@@ -46,7 +46,7 @@ use Rattle.fast_field.specs.declared.fault.FieldFault.TheVariants as fault
 use Rattle.fast_field.specs.Faults.{field_fault}
 use Rattle.fast_field.specs.FieldReading.{part_at, units_at, units_usually_at, integer_at, integer_spelled_at, decimal_spelled_at, units_spelled_at, spelled_at, integer_delta_at, decimal_delta_at, unit_delta_at, delta_at, tail_at, whole_at, row_at, field_at}
 use Rattle.fast_walk.specs.declared.lack.Lack.{Lack}
-use Rattle.fast_walk.specs.Lacks.{AreUnstopped, IsFirst, IsLacking, IsVectorKind, Lacks, StopsShort, WalkLacks, count_at, first_limit, sends, sends_units, whole_limit}
+use Rattle.fast_walk.specs.Lacks.{AreUnstopped, IsFirst, IsLacking, IsVectorKind, Lacks, StopsShort, WalkLacks, WantsByte, count_at, first_limit, sends, sends_units, whole_limit}
 use Rattle.fast_field.specs.Values.{is_unsigned}
 use Rattle.fast_value.specs.declared.kind.Part.{Part}
 
@@ -309,10 +309,55 @@ pub if_first_lacks : (level : Level) (w : Walk) (whole : FieldPart) (bytes : Lis
 if_first_lacks level w whole bytes None some is first h same = tt
 if_first_lacks level w whole bytes (Some l) some is first h same = first_lacks level w whole (list_of w.rest.now) bytes l some is refl first h same
 
--- ---- messages
+-- ---- walks that have no byte left
 
 stop_same : (c d : Cause) (i j m n : ℕ) → c ≡ d → i ≡ j → m ≡ n → ◌≡◌ {A = Stop} (record { cause = c; instruction = i; left = m }) (record { cause = d; instruction = j; left = n })
 stop_same c d i j m n is number left = rw (is, number, left) refl
+
+whole_some : (k : Kind) → 0 < whole_limit k
+whole_some kind.Ascii = omega arith
+whole_some kind.Unicode = omega arith
+whole_some kind.Bytes = omega arith
+whole_some kind.Decimal = omega arith
+whole_some kind.Int32 = omega arith
+whole_some kind.UInt32 = omega arith
+whole_some kind.Int64 = omega arith
+whole_some kind.UInt64 = omega arith
+
+limit_some : (o : Operator) (k : Kind) → 0 < first_limit o k
+limit_some operator.Delta k = omega arith
+limit_some operator.Plain k = whole_some k
+limit_some operator.Constant k = whole_some k
+limit_some operator.Default k = whole_some k
+limit_some operator.Copy k = whole_some k
+limit_some operator.Increment k = whole_some k
+limit_some operator.Tail k = whole_some k
+
+field_wants : (level : Level) (i : FieldPart) (e : Entry) (bit : Bool) → sends i.operator bit ≡ true → field_at level i e bit [] ≡ Err fault.NeedMore
+field_wants level i e bit s = field_begins level i e bit [] s (entity_waits (first_limit i.operator i.kind) [] tt (limit_some i.operator i.kind))
+
+-- so few more are none
+field_wants_on : (level : Level) (i : FieldPart) (e : Entry) (bit : Bool) (more : List ℕ) → sends i.operator bit ≡ true → length more ≤ 0 → field_at level i e bit more ≡ Err fault.NeedMore
+field_wants_on level i e bit [] s few = field_wants level i e bit s
+field_wants_on level i e bit (b ∷ bs) s few = absurd (omega (arith, few))
+
+short_stops : (number : ℕ) (r : Reads Items) → StopsShort number 0 r → r ≡ stopped number [] Truncated
+short_stops number (Ok x) h = absurd h
+short_stops number (Err s) h = ap Err (stop_same s.cause Truncated s.instruction number s.left 0 h.0 h.1.0 h.1.1)
+
+pub first_wants : (w : Walk) (part : FieldPart) (bit : Bool) → 0 < w.spare → w.next ≡ next.Instruction → IsFirst part (list_of w.rest.now) → bit ≡ bit_for (part_needs_bit part) w.bits → sends part.operator bit ≡ true → WantsByte w part.number
+first_wants w part bit some is first at s = λ level d o here.
+    let none : Lack = record { number = part.number; most = 0; until_stop = true } in
+    let lacks = first_lacks level w part (list_of w.rest.now) [] none some is refl first (λ e more lacking. field_wants_on level part e (bit_for (part_needs_bit part) w.bits) more (subst (λ (b : Bool). sends part.operator b ≡ true) at s) lacking.few) refl in
+    short_stops part.number (reads_on level w d o []) (lacks d o [] (record { few = omega arith; unstopped = λ _. tt }) here)
+
+pub mantissa_wants : (w : Walk) (mantissa : FieldPart) (bit : Bool) → next_of w.next ≡ at_mantissa (pos 0) mantissa → bit ≡ bit_for (part_needs_bit mantissa) w.bits → sends mantissa.operator bit ≡ true → WantsByte w mantissa.number
+mantissa_wants w mantissa bit is at s = λ level d o here.
+    let next = is_mantissa o.next _ mantissa (here.next ∙ is) in
+    mantissa_on_stops level o.around o.next next.exponent mantissa o.body (cursor d w.bits w.spare []) _ next.is
+    (part_stops level mantissa d w.bits w.spare [] fault.NeedMore (field_wants level mantissa (entry_at d mantissa.key) (bit_for (part_needs_bit mantissa) w.bits) (subst (λ (b : Bool). sends mantissa.operator b ≡ true) at s)))
+
+-- ---- messages
 
 message_stops : (level : Level) (template number left : ℕ) (r : Reads Items) → StopsShort number left r → message_of level template r ≡ Err (record { template = template; stop = record { cause = Truncated; instruction = number; left = left } })
 message_stops level template number left (Ok x) h = absurd h

@@ -1,5 +1,5 @@
 -- How many bytes more a piece lacks at least that has begun.
-use Rattle.std.specs.Prelude.{◌≡◌, ◌≤◌, ◌<◌, ℕ, Bool, true, false, List, ◌++◌, length, Result, Ok, Err}
+use Rattle.std.specs.Prelude.{◌≡◌, ◌≤◌, ◌<◌, ℕ, Bool, true, false, List, [], ◌++◌, length, Result, Ok, Err}
 use Rattle.std.specs.List.{AllByRecursion}
 use Rattle.fast_wire.specs.Reading.{◌>>=◌, unsigned_at, unsigned_nullable_at}
 use Rattle.fast_wire.specs.declared.fault.WireFault.{WireFault}
@@ -15,7 +15,7 @@ use Rattle.fast_template.specs.declared.resolved.FieldPart.{FieldPart}
 use Rattle.fast_template.specs.Resolved.{Instructions, then_instruction, whole_field, field_in_parts, sequence_of}
 use Rattle.fast_dictionary.specs.Dictionary.{Dictionary}
 use Rattle.fast_stream.specs.declared.fault.Cause.TheVariants.{Truncated}
-use Rattle.fast_stream.specs.Reading.{Reads}
+use Rattle.fast_stream.specs.Reading.{Reads, stopped}
 use Rattle.fast_wire.specs.declared.level.Level.{Level}
 use Rattle.fast_walk.specs.Received.{Received}
 use Rattle.fast_walk.specs.Walks.{IsAt, reads_on}
@@ -89,3 +89,7 @@ WalkLacks level w bytes l = (d : Dictionary) (o : Received) (more : List ℕ) �
 -- the same of the body that is open
 abbrev pub Lacks : Traversal → List ℕ → Lack → Type 0
 Lacks t bytes l = (t.stage ≡ stage.Body) × WalkLacks t.level t.walk bytes l
+
+-- a walk that comes to the end of the bytes stops there, for want of the first byte of the instruction with this number
+abbrev pub WantsByte : Walk → ℕ → Type 0
+WantsByte w number = (level : Level) (d : Dictionary) (o : Received) → IsAt w o → reads_on level w d o [] ≡ stopped number [] Truncated

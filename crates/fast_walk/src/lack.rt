@@ -11,7 +11,7 @@ ghost use Rattle.fast_template.specs.Resolved.{list_of};
 ghost use Rattle.fast_dictionary.specs.declared.entry.Entry.{Entry};
 ghost use Rattle.fast_field.specs.Faults.{field_fault};
 ghost use Rattle.fast_field.specs.FieldReading.{field_at, units_at};
-ghost use Rattle.fast_walk.specs.Lacks.{AreUnstopped, IsFirst, IsLacking, IsVectorKind, Lacks, WalkLacks, count_at, first_limit as first_limit_of, sends, sends_units as sends_units_of};
+ghost use Rattle.fast_walk.specs.Lacks.{AreUnstopped, IsFirst, IsLacking, IsVectorKind, Lacks, WalkLacks, WantsByte, count_at, first_limit as first_limit_of, sends, sends_units as sends_units_of};
 
 use crate::bits::first_for;
 use crate::traversal::{Stage, Traversal};
@@ -238,6 +238,57 @@ impl<'a> Walk<'a> {
                 None => None,
             },
             Next::Mantissa(_) | Next::Element(_) => None,
+        }
+    }
+
+    // The number of the part that is next, where something of it stands in the stream.
+    #[inline(always)]
+    fn first_sent(&self, part: &FieldPart) -> Option<u32>
+        requires spare { 0 < self.now.spare }
+        requires next { self.now.next ≡ Next.Instruction }
+        requires first { IsFirst part.now (list_of self.now.rest.now) }
+        ensures { IfSome result (WantsByte self.now) }
+    {
+        let bit = first_for(&self.bits, part_needs_bit(part));
+        if is_sent(part.operator, bit) {
+            Some(part.number)
+        } else {
+            None
+        }
+    }
+
+    // The same of the mantissa that is next.
+    #[inline(always)]
+    fn mantissa_sent(&self, mantissa: &'a FieldPart) -> Option<u32>
+        requires next { self.now.next ≡ Next.Mantissa mantissa }
+        ensures { IfSome result (WantsByte self.now) }
+    {
+        let bit = first_for(&self.bits, part_needs_bit(mantissa));
+        if is_sent(mantissa.operator, bit) {
+            Some(mantissa.number)
+        } else {
+            None
+        }
+    }
+
+    /// The number of the piece that is next, where it is a field that begins with a byte, so that without one nothing
+    /// of it need be tried.
+    #[inline(always)]
+    pub(crate) fn wants_byte(&self) -> Option<u32>
+        ensures { IfSome result (WantsByte self.now) }
+    {
+        match self.next {
+            Next::Instruction if self.spare > 0 => match self.rest.split_first() {
+                Some((flat, _)) => match flat {
+                    Flat::Field { whole: part, .. }
+                    | Flat::Parts { exponent: part, .. }
+                    | Flat::Sequence { length: part, .. } => self.first_sent(part),
+                    Flat::Group { .. } => None,
+                },
+                None => None,
+            },
+            Next::Mantissa(mantissa) => self.mantissa_sent(mantissa),
+            Next::Instruction | Next::Element(_) => None,
         }
     }
 }

@@ -1107,6 +1107,12 @@ impl<'a> Walk<'a> {
             Ok(next) => next,
         };
         'pieces: while !self.is_whole() {
+            // (where no byte is left, a field that wants one is not tried)
+            if place == bytes.len()
+                && let Some(number) = self.wants_byte()
+            {
+                return Err((place, Halt::new(Cause::Truncated, number)));
+            }
             match self.turn(level, alloc, receiver, entries, bytes, place) {
                 Ok(next) => place = next,
                 Err(halt) => return Err((place, halt)),
