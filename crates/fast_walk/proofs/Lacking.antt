@@ -71,7 +71,7 @@ entity_waits (suc limit) (b ∷ bs) h short =
     let t : nat_le 128 b ≡ false = grind arith in
     rw (t, entity_waits limit bs h.1 (omega (arith, short))) refl
 
-ascii_waits : (bytes : List ℕ) → entity_at 65540 bytes ≡ Err wire.NeedMore → ascii_at bytes ≡ Err wire.NeedMore
+pub ascii_waits : (bytes : List ℕ) → entity_at 65540 bytes ≡ Err wire.NeedMore → ascii_at bytes ≡ Err wire.NeedMore
 unfolding ascii_at
 ascii_waits bytes h = rw h refl
 
@@ -280,34 +280,45 @@ field_waits level i e bit bytes s v h = rw (vector_row level i.operator i e bit 
 -- ---- walks
 
 -- where the part that is next waits, all that is left to be read does
-instruction_lacks : (level : Level) (w : Walk) (i : Instruction) (number : ℕ) (part : FieldPart) (others : Instructions) (bytes : List ℕ) (l : Lack) → 0 < w.spare → w.next ≡ next.Instruction → list_of w.rest.now ≡ then_instruction i others
+instruction_lacks : (level : Level) (w : Walk) (d : Dictionary) (i : Instruction) (number : ℕ) (part : FieldPart) (others : Instructions) (bytes : List ℕ) (l : Lack) → 0 < w.spare → w.next ≡ next.Instruction → list_of w.rest.now ≡ then_instruction i others
     → ((c k : Cursor) (s : Stop) → node_at number c ≡ Ok k → field_part_at level part k ≡ Err s → piece_at level i c ≡ Err s)
-    → ((e : Entry) (more : List ℕ) → IsLacking l more → field_at level part e (bit_for (part_needs_bit part) w.bits) (bytes ++ more) ≡ Err fault.NeedMore) → l.number ≡ part.number
-    → WalkLacks level w bytes l
-instruction_lacks level w i number part others bytes l some is first begins h same = λ d o more lacking at.
+    → ((more : List ℕ) → IsLacking l more → field_at level part (entry_at d part.key) (bit_for (part_needs_bit part) w.bits) (bytes ++ more) ≡ Err fault.NeedMore) → l.number ≡ part.number
+    → WalkLacks level w d bytes l
+instruction_lacks level w d i number part others bytes l some is first begins h same = λ o more lacking at.
     let xs = bytes ++ more in
-    let waits = part_stops level part d w.bits (w.spare - 1) xs fault.NeedMore (h (entry_at d part.key) more lacking) in
+    let waits = part_stops level part d w.bits (w.spare - 1) xs fault.NeedMore (h more lacking) in
     let piece : piece_at level i (cursor d w.bits w.spare xs) ≡ stopped part.number xs Truncated = begins (cursor d w.bits w.spare xs) (cursor d w.bits (w.spare - 1) xs) _ (count_goes number w.spare d w.bits xs some) waits in
     let stops = piece_stops_on level o.around o.next o.body i others (cursor d w.bits w.spare xs) _ (is_instruction o.next (at.next ∙ ap next_of is)) (at.rest ∙ first) piece in
     subst (λ (r : Reads Items). StopsShort l.number (length xs) r) (sym stops) (refl, (sym same, refl))
 
-first_lacks : (level : Level) (w : Walk) (part : FieldPart) (is : Instructions) (bytes : List ℕ) (l : Lack) → 0 < w.spare → w.next ≡ next.Instruction → list_of w.rest.now ≡ is → IsFirst part is
-    → ((e : Entry) (more : List ℕ) → IsLacking l more → field_at level part e (bit_for (part_needs_bit part) w.bits) (bytes ++ more) ≡ Err fault.NeedMore) → l.number ≡ part.number
-    → WalkLacks level w bytes l
-first_lacks level w part (then_instruction (whole_field name number presence whole) others) bytes l some is rest first h same =
-    instruction_lacks level w (whole_field name number presence part) number part others bytes l some is (rest ∙ ap (λ (p : FieldPart). then_instruction (whole_field name number presence p) others) first) (λ c k s n m. rw (n, m) refl) h same
-first_lacks level w part (then_instruction (field_in_parts name number presence exponent mantissa) others) bytes l some is rest first h same =
-    instruction_lacks level w (field_in_parts name number presence part mantissa) number part others bytes l some is (rest ∙ ap (λ (p : FieldPart). then_instruction (field_in_parts name number presence p mantissa) others) first) (λ c k s n m. rw (n, m) refl) h same
-first_lacks level w part (then_instruction (sequence_of name number presence count members) others) bytes l some is rest first h same =
-    instruction_lacks level w (sequence_of name number presence part members) number part others bytes l some is (rest ∙ ap (λ (p : FieldPart). then_instruction (sequence_of name number presence p members) others) first) (λ c k s n m. rw (n, m) refl) h same
-first_lacks level w part (then_instruction (group_of name number presence members) others) bytes l some is rest first h same = absurd first
-first_lacks level w part no_instructions bytes l some is rest first h same = absurd first
+first_lacks : (level : Level) (w : Walk) (d : Dictionary) (part : FieldPart) (is : Instructions) (bytes : List ℕ) (l : Lack) → 0 < w.spare → w.next ≡ next.Instruction → list_of w.rest.now ≡ is → IsFirst part is
+    → ((more : List ℕ) → IsLacking l more → field_at level part (entry_at d part.key) (bit_for (part_needs_bit part) w.bits) (bytes ++ more) ≡ Err fault.NeedMore) → l.number ≡ part.number
+    → WalkLacks level w d bytes l
+first_lacks level w d part (then_instruction (whole_field name number presence whole) others) bytes l some is rest first h same =
+    instruction_lacks level w d (whole_field name number presence part) number part others bytes l some is (rest ∙ ap (λ (p : FieldPart). then_instruction (whole_field name number presence p) others) first) (λ c k s n m. rw (n, m) refl) h same
+first_lacks level w d part (then_instruction (field_in_parts name number presence exponent mantissa) others) bytes l some is rest first h same =
+    instruction_lacks level w d (field_in_parts name number presence part mantissa) number part others bytes l some is (rest ∙ ap (λ (p : FieldPart). then_instruction (field_in_parts name number presence p mantissa) others) first) (λ c k s n m. rw (n, m) refl) h same
+first_lacks level w d part (then_instruction (sequence_of name number presence count members) others) bytes l some is rest first h same =
+    instruction_lacks level w d (sequence_of name number presence part members) number part others bytes l some is (rest ∙ ap (λ (p : FieldPart). then_instruction (sequence_of name number presence p members) others) first) (λ c k s n m. rw (n, m) refl) h same
+first_lacks level w d part (then_instruction (group_of name number presence members) others) bytes l some is rest first h same = absurd first
+first_lacks level w d part no_instructions bytes l some is rest first h same = absurd first
 
-pub if_first_lacks : (level : Level) (w : Walk) (whole : FieldPart) (bytes : List ℕ) (o : Option Lack) → 0 < w.spare → w.next ≡ next.Instruction → IsFirst whole (list_of w.rest.now)
-    → IfSome o (λ l. (e : Entry) (more : List ℕ) → IsLacking l more → field_at level whole e (bit_for (part_needs_bit whole) w.bits) (bytes ++ more) ≡ Err fault.NeedMore) → IfSome o (λ l. l.number ≡ whole.number)
-    → IfSome o (WalkLacks level w bytes)
-if_first_lacks level w whole bytes None some is first h same = tt
-if_first_lacks level w whole bytes (Some l) some is first h same = first_lacks level w whole (list_of w.rest.now) bytes l some is refl first h same
+pub if_first_lacks : (level : Level) (w : Walk) (d : Dictionary) (whole : FieldPart) (bytes : List ℕ) (o : Option Lack) → 0 < w.spare → w.next ≡ next.Instruction → IsFirst whole (list_of w.rest.now)
+    → IfSome o (λ l. (more : List ℕ) → IsLacking l more → field_at level whole (entry_at d whole.key) (bit_for (part_needs_bit whole) w.bits) (bytes ++ more) ≡ Err fault.NeedMore) → IfSome o (λ l. l.number ≡ whole.number)
+    → IfSome o (WalkLacks level w d bytes)
+if_first_lacks level w d whole bytes None some is first h same = tt
+if_first_lacks level w d whole bytes (Some l) some is first h same = first_lacks level w d whole (list_of w.rest.now) bytes l some is refl first h same
+
+-- where the mantissa that is next waits, all that is left to be read does
+pub mantissa_lacks : (level : Level) (w : Walk) (mantissa : FieldPart) (bytes : List ℕ) (o : Option Lack) → next_of w.next ≡ at_mantissa (pos 0) mantissa
+    → IfSome o (λ l. (e : Entry) (more : List ℕ) → IsLacking l more → field_at level mantissa e (bit_for (part_needs_bit mantissa) w.bits) (bytes ++ more) ≡ Err fault.NeedMore) → IfSome o (λ l. l.number ≡ mantissa.number)
+    → IfSome o (λ l. (d : Dictionary) → WalkLacks level w d bytes l)
+mantissa_lacks level w mantissa bytes None is h same = tt
+mantissa_lacks level w mantissa bytes (Some l) is h same = λ d o more lacking here.
+    let xs = bytes ++ more in
+    let next = is_mantissa o.next _ mantissa (here.next ∙ is) in
+    let stops = mantissa_on_stops level o.around o.next next.exponent mantissa o.body (cursor d w.bits w.spare xs) _ next.is (part_stops level mantissa d w.bits w.spare xs fault.NeedMore (h (entry_at d mantissa.key) more lacking)) in
+    subst (λ (r : Reads Items). StopsShort l.number (length xs) r) (sym stops) (refl, (sym same, refl))
 
 -- ---- walks that have no byte left
 
@@ -348,8 +359,8 @@ short_stops number (Err s) h = ap Err (stop_same s.cause Truncated s.instruction
 pub first_wants : (w : Walk) (part : FieldPart) (bit : Bool) → 0 < w.spare → w.next ≡ next.Instruction → IsFirst part (list_of w.rest.now) → bit ≡ bit_for (part_needs_bit part) w.bits → sends part.operator bit ≡ true → WantsByte w part.number
 first_wants w part bit some is first at s = λ level d o here.
     let none : Lack = record { number = part.number; most = 0; until_stop = true } in
-    let lacks = first_lacks level w part (list_of w.rest.now) [] none some is refl first (λ e more lacking. field_wants_on level part e (bit_for (part_needs_bit part) w.bits) more (subst (λ (b : Bool). sends part.operator b ≡ true) at s) lacking.few) refl in
-    short_stops part.number (reads_on level w d o []) (lacks d o [] (record { few = omega arith; unstopped = λ _. tt }) here)
+    let lacks = first_lacks level w d part (list_of w.rest.now) [] none some is refl first (λ more lacking. field_wants_on level part (entry_at d part.key) (bit_for (part_needs_bit part) w.bits) more (subst (λ (b : Bool). sends part.operator b ≡ true) at s) lacking.few) refl in
+    short_stops part.number (reads_on level w d o []) (lacks o [] (record { few = omega arith; unstopped = λ _. tt }) here)
 
 pub mantissa_wants : (w : Walk) (mantissa : FieldPart) (bit : Bool) → next_of w.next ≡ at_mantissa (pos 0) mantissa → bit ≡ bit_for (part_needs_bit mantissa) w.bits → sends mantissa.operator bit ≡ true → WantsByte w mantissa.number
 mantissa_wants w mantissa bit is at s = λ level d o here.
@@ -366,7 +377,7 @@ message_stops level template number left (Err s) h =
 
 -- whatever is still read of the message stops there
 pub lacking_stops : {R : Type 0} (has : R → Received → Dictionary → Type 0) (stands keeps : R → List Resolved → List Content → Dictionary → Type 0) (t : Traversal) (r : R) (set : List Resolved) (d start : Dictionary) (before : List Content) (read : List ℕ → Reading) (bytes : List ℕ) (l : Lack)
-    → Continues has stands keeps t r set d before start read → Lacks t bytes l
+    → Continues has stands keeps t r set d before start read → Lacks t d bytes l
     → read bytes ≡ Err (stop_of t.template (record { cause = Truncated; number = l.number; by = halted.Walk }) bytes)
 lacking_stops {R} has stands keeps t r set d start before read bytes l goes lacks =
     opened.reads bytes ∙ message_stops t.level t.template l.number (length bytes) (reads_on t.level t.walk d opened.received bytes) stops
@@ -378,4 +389,4 @@ lacking_stops {R} has stands keeps t r set d start before read bytes l goes lack
     none = record { few = omega arith; unstopped = λ _. tt }
 
     stops : StopsShort l.number (length bytes) (reads_on t.level t.walk d opened.received bytes)
-    stops = subst (λ (xs : List ℕ). StopsShort l.number (length xs) (reads_on t.level t.walk d opened.received xs)) (append-nil bytes) (lacks.1 d opened.received [] none opened.at)
+    stops = subst (λ (xs : List ℕ). StopsShort l.number (length xs) (reads_on t.level t.walk d opened.received xs)) (append-nil bytes) (lacks.1 opened.received [] none opened.at)

@@ -9,3 +9,4 @@ pub mod Heads
 pub mod Opening
 pub mod Telling
 pub mod Lacking
+pub mod NewParts

@@ -49,6 +49,12 @@ sends_units operator.Delta bit = false
 sends_units operator.Increment bit = false
 sends_units o bit = sends o bit
 
+-- whether a decimal in one piece stands there, with a number behind its first
+abbrev pub sends_two : Operator → Bool → Bool
+sends_two operator.Increment bit = false
+sends_two operator.Tail bit = false
+sends_two o bit = sends o bit
+
 -- the most bytes of the entity that what stands whole begins with
 abbrev pub whole_limit : Kind → ℕ
 whole_limit kind.Ascii = 65540
@@ -64,6 +70,11 @@ abbrev pub IsVectorKind : Kind → Type 0
 IsVectorKind kind.Unicode = Unit {0}
 IsVectorKind kind.Bytes = Unit {0}
 IsVectorKind k = ⊥
+
+-- a kind of characters or bytes
+abbrev pub IsUnitKind : Kind → Type 0
+IsUnitKind kind.Ascii = Unit {0}
+IsUnitKind k = IsVectorKind k
 
 -- the length of a vector
 abbrev pub count_at : Presence → List ℕ → Result (Nullable ℕ × List ℕ) WireFault
@@ -82,13 +93,14 @@ IsFirst p (then_instruction (field_in_parts name number presence exponent mantis
 IsFirst p (then_instruction (sequence_of name number presence length members) is) = length ≡ p
 IsFirst p is = ⊥
 
--- of the piece that a walk comes to next, some bytes have come, and this is lacking
-abbrev pub WalkLacks : Level → Walk → List ℕ → Lack → Type 0
-WalkLacks level w bytes l = (d : Dictionary) (o : Received) (more : List ℕ) → IsLacking l more → IsAt w o → StopsShort l.number (length (bytes ++ more)) (reads_on level w d o (bytes ++ more))
+-- Of the piece that a walk comes to next, some bytes have come, and this is lacking: also of a piece whose base an entry
+-- has, in this dictionary.
+abbrev pub WalkLacks : Level → Walk → Dictionary → List ℕ → Lack → Type 0
+WalkLacks level w d bytes l = (o : Received) (more : List ℕ) → IsLacking l more → IsAt w o → StopsShort l.number (length (bytes ++ more)) (reads_on level w d o (bytes ++ more))
 
 -- the same of the body that is open
-abbrev pub Lacks : Traversal → List ℕ → Lack → Type 0
-Lacks t bytes l = (t.stage ≡ stage.Body) × WalkLacks t.level t.walk bytes l
+abbrev pub Lacks : Traversal → Dictionary → List ℕ → Lack → Type 0
+Lacks t d bytes l = (t.stage ≡ stage.Body) × WalkLacks t.level t.walk d bytes l
 
 -- a walk that comes to the end of the bytes stops there, for want of the first byte of the instruction with this number
 abbrev pub WantsByte : Walk → ℕ → Type 0

@@ -84,14 +84,14 @@ short-prop number left (Err s) =
     let rest : IsProp (s.left ≡ left) = hlevel props in
     ×_prop cause (×_prop instruction rest)
 
-walk-prop : (level : Level) (w : Walk) (bytes : List ℕ) (l : Lack) → IsProp (WalkLacks level w bytes l)
-walk-prop level w bytes l = Π_prop (λ d. Π_prop (λ o. Π_prop (λ more. →_prop (→_prop (short-prop l.number (length (bytes ++ more)) (reads_on level w d o (bytes ++ more)))))))
+walk-prop : (level : Level) (w : Walk) (d : Dictionary) (bytes : List ℕ) (l : Lack) → IsProp (WalkLacks level w d bytes l)
+walk-prop level w d bytes l = Π_prop (λ o. Π_prop (λ more. →_prop (→_prop (short-prop l.number (length (bytes ++ more)) (reads_on level w d o (bytes ++ more))))))
 
-lacks-prop : (t : Traversal) (bytes : List ℕ) (l : Lack) → IsProp (Lacks t bytes l)
-lacks-prop t bytes l =
+lacks-prop : (t : Traversal) (d : Dictionary) (bytes : List ℕ) (l : Lack) → IsProp (Lacks t d bytes l)
+lacks-prop t d bytes l =
     let at : IsProp (t.stage ≡ stage.Body) = hlevel props in
-    ×_prop at (walk-prop t.level t.walk bytes l)
+    ×_prop at (walk-prop t.level t.walk d bytes l)
 
-pub if-lacks-prop : (t : Traversal) (bytes : List ℕ) (o : Option Lack) → IsProp (IfSome o (Lacks t bytes))
-if-lacks-prop t bytes None = Unit-prop
-if-lacks-prop t bytes (Some l) = lacks-prop t bytes l
+pub if-lacks-prop : (t : Traversal) (d : Dictionary) (bytes : List ℕ) (o : Option Lack) → IsProp (IfSome o (Lacks t d bytes))
+if-lacks-prop t d bytes None = Unit-prop
+if-lacks-prop t d bytes (Some l) = lacks-prop t d bytes l

@@ -4,24 +4,28 @@
 //! Asked of instructions: of the entity that one begins with, and of a vector behind its length. What else there is, is
 //! read again.
 
-ghost use Rattle.std.specs.Prelude.{◌≡◌, ◌≤◌, ◌<◌, ◌+◌, ◌++◌, ℕ, true, false, List, IfSome, Err, Ok, length, drop};
+ghost use Rattle.std.specs.Prelude.{◌≡◌, ◌≤◌, ◌<◌, ◌+◌, ◌++◌, ℕ, true, false, List, IfSome, IsTrue, Err, Ok, length, drop};
 ghost use Rattle.fast_wire.specs.Level.{judge, overlong_unsigned as overlong_unsigned_of};
 ghost use Rattle.fast_wire.specs.declared.nullable.Nullable.TheVariants.{Value};
 ghost use Rattle.fast_template.specs.Resolved.{list_of};
 ghost use Rattle.fast_dictionary.specs.declared.entry.Entry.{Entry};
+ghost use Rattle.fast_dictionary.specs.Dictionary.{Dictionary, entry_of};
+ghost use Rattle.fast_wire.specs.Reading.{entity_at};
 ghost use Rattle.fast_field.specs.Faults.{field_fault};
-ghost use Rattle.fast_field.specs.FieldReading.{field_at, units_at};
-ghost use Rattle.fast_walk.specs.Lacks.{AreUnstopped, IsFirst, IsLacking, IsVectorKind, Lacks, WalkLacks, WantsByte, count_at, first_limit as first_limit_of, sends, sends_units as sends_units_of};
+ghost use Rattle.fast_field.specs.FieldReading.{field_at, part_at, units_at};
+ghost use Rattle.fast_walk.specs.Lacks.{AreUnstopped, IsFirst, IsLacking, IsUnitKind, IsVectorKind, Lacks, WalkLacks, WantsByte, count_at, first_limit as first_limit_of, sends, sends_two as sends_two_of, sends_units as sends_units_of};
 
 use crate::bits::first_for;
 use crate::traversal::{Stage, Traversal};
 use crate::walk::{Next, Walk};
-use fast_field::FieldFault;
+use fast_dictionary::{Entries, EntryRef};
+use fast_field::{FieldFault, find_field};
 use fast_template::{FieldPart, Flat, Kind, Operator, Presence, part_needs_bit};
 use fast_wire::{
-    Level, Nullable, entity_end, find_stop, overlong_unsigned, read_unsigned,
+    Level, Nullable, WireFault, entity_end, find_stop, overlong_unsigned, read_unsigned,
     read_unsigned_nullable,
 };
+use std::alloc::Global;
 
 /// The most bytes of an ASCII string.
 const TEXT_LIMIT: usize = 65_540;
@@ -153,16 +157,22 @@ fn vector_lack(number: u32, count: u128, have: usize) -> Option<Lack>
 }
 
 // What a vector lacks whose length may have come.
-fn units_lack(level: Level, part: &FieldPart, bytes: &[u8]) -> Option<Lack>
-    ensures lacks { IfSome result (λ l. IsVectorKind part.now.kind × ((more : List ℕ) → IsLacking l more
-        → units_at level part.now.kind part.now.presence (bytes.now ++ more) ≡ Err FieldFault.NeedMore)) }
-    ensures number { IfSome result (λ l. l.number ≡ part.now.number) }
+fn units_lack(
+    level: Level,
+    number: u32,
+    kind: Kind,
+    presence: Presence,
+    bytes: &[u8],
+) -> Option<Lack>
+    ensures lacks { IfSome result (λ l. IsVectorKind kind × ((more : List ℕ) → IsLacking l more
+        → units_at level kind presence (bytes.now ++ more) ≡ Err FieldFault.NeedMore)) }
+    ensures number { IfSome result (λ l. l.number ≡ number) }
 {
-    match part.kind {
+    match kind {
         Kind::Unicode | Kind::Bytes if is_fit_length(level, bytes) => {
-            match length_of(part.presence, bytes) {
+            match length_of(presence, bytes) {
                 None => None,
-                Some((count, next)) => vector_lack(part.number, count, bytes.len() - next),
+                Some((count, next)) => vector_lack(number, count, bytes.len() - next),
             }
         }
         _ => None,
@@ -187,9 +197,134 @@ fn rest_lack(level: Level, part: &FieldPart, bit: bool, bytes: &[u8]) -> Option<
     ensures number { IfSome result (λ l. l.number ≡ part.now.number) }
 {
     if sends_units(part.operator, bit) {
-        units_lack(level, part, bytes)
+        units_lack(level, part.number, part.kind, part.presence, bytes)
     } else {
         None
+    }
+}
+
+// What characters lack that stand behind a removal.
+fn new_text_lack(number: u32, bytes: &[u8]) -> Option<Lack>
+    ensures lacks { IfSome result (λ l. (entity rest : List ℕ) × (entity_at 10 bytes.now ≡ Ok (entity, rest))
+        × ((more : List ℕ) → IsLacking l more → entity_at 65540 (rest ++ more) ≡ Err WireFault.NeedMore)) }
+    ensures number { IfSome result (λ l. l.number ≡ number) }
+{
+    match entity_end(bytes, 0, NUMBER_LIMIT) {
+        Err(_) => None,
+        Ok(next) => entity_lack(number, TEXT_LIMIT, &bytes[next..]),
+    }
+}
+
+// What a vector lacks that stands behind a removal.
+fn new_vector_lack(level: Level, number: u32, kind: Kind, bytes: &[u8]) -> Option<Lack>
+    ensures lacks { IfSome result (λ l. (entity rest : List ℕ) × (entity_at 10 bytes.now ≡ Ok (entity, rest))
+        × ((more : List ℕ) → IsLacking l more → part_at level kind (rest ++ more) ≡ Err FieldFault.NeedMore)) }
+    ensures number { IfSome result (λ l. l.number ≡ number) }
+{
+    match entity_end(bytes, 0, NUMBER_LIMIT) {
+        Err(_) => None,
+        Ok(next) => units_lack(level, number, kind, Presence::Mandatory, &bytes[next..]),
+    }
+}
+
+// What the new part of a string or a vector lacks of which the removal has come.
+fn new_part_lack(level: Level, part: &FieldPart, bytes: &[u8]) -> Option<Lack>
+    ensures delta { IfSome result (λ l. (part.now.operator ≡ Operator.Delta) × IsUnitKind part.now.kind) }
+    ensures lacks { IfSome result (λ l. (entity rest : List ℕ) × (entity_at 10 bytes.now ≡ Ok (entity, rest))
+        × ((more : List ℕ) → IsLacking l more → part_at level part.now.kind (rest ++ more) ≡ Err FieldFault.NeedMore)) }
+    ensures number { IfSome result (λ l. l.number ≡ part.now.number) }
+{
+    match part.operator {
+        Operator::Delta => match part.kind {
+            Kind::Ascii => new_text_lack(part.number, bytes),
+            Kind::Unicode => new_vector_lack(level, part.number, Kind::Unicode, bytes),
+            Kind::Bytes => new_vector_lack(level, part.number, Kind::Bytes, bytes),
+            _ => None,
+        },
+        _ => None,
+    }
+}
+
+// Whether a decimal in one piece would stand in the stream under this bit, with a number behind its first.
+fn sends_two(operator: Operator, bit: bool) -> bool
+    ensures { result ≡ sends_two_of operator bit }
+{
+    match operator {
+        Operator::Increment | Operator::Tail => false,
+        _ => is_sent(operator, bit),
+    }
+}
+
+// What the mantissa of a decimal in one piece lacks, of which the exponent has come, or their differences.
+fn mantissa_lack(part: &FieldPart, bit: bool, bytes: &[u8]) -> Option<Lack>
+    ensures decimal { IfSome result (λ l. (sends_two_of part.now.operator bit ≡ true) × (part.now.kind ≡ Kind.Decimal)) }
+    ensures lacks { IfSome result (λ l. (entity rest : List ℕ) × (entity_at 10 bytes.now ≡ Ok (entity, rest))
+        × ((more : List ℕ) → IsLacking l more → entity_at 10 (rest ++ more) ≡ Err WireFault.NeedMore)) }
+    ensures number { IfSome result (λ l. l.number ≡ part.now.number) }
+{
+    match part.kind {
+        Kind::Decimal if sends_two(part.operator, bit) => {
+            match entity_end(bytes, 0, NUMBER_LIMIT) {
+                Err(_) => None,
+                Ok(next) => entity_lack(part.number, NUMBER_LIMIT, &bytes[next..]),
+            }
+        }
+        _ => None,
+    }
+}
+
+// Whether these bytes are too few for a field of this entry.
+fn is_waiting(
+    alloc: Global,
+    level: Level,
+    part: &FieldPart,
+    kept: EntryRef,
+    bit: bool,
+    bytes: &[u8],
+) -> bool
+    ensures { result ≡ true → field_at level part.now (entry_of kept.entry) bit bytes.now ≡ Err FieldFault.NeedMore }
+{
+    match find_field(alloc, part, kept, bit, level, bytes, 0) {
+        Ok(_) => false,
+        Err(fault) => match fault {
+            FieldFault::NeedMore => true,
+            _ => false,
+        },
+    }
+}
+
+// What the rest of a delta or of a decimal lacks, where the field waits, and not at a fault in front of it: of the entry,
+// or of the first number.
+fn delta_lack(
+    alloc: Global,
+    level: Level,
+    part: &FieldPart,
+    kept: EntryRef,
+    bit: bool,
+    bytes: &[u8],
+) -> Option<Lack>
+    ensures lacks { IfSome result (λ l. (more : List ℕ) → IsLacking l more
+        → field_at level part.now (entry_of kept.entry) bit (bytes.now ++ more) ≡ Err FieldFault.NeedMore) }
+    ensures number { IfSome result (λ l. l.number ≡ part.now.number) }
+{
+    match new_part_lack(level, part, bytes) {
+        Some(lack) => {
+            if is_waiting(alloc, level, part, kept, bit, bytes) {
+                Some(lack)
+            } else {
+                None
+            }
+        }
+        None => match mantissa_lack(part, bit, bytes) {
+            None => None,
+            Some(lack) => {
+                if is_waiting(alloc, level, part, kept, bit, bytes) {
+                    Some(lack)
+                } else {
+                    None
+                }
+            }
+        },
     }
 }
 
@@ -209,35 +344,69 @@ pub(crate) fn field_lack(level: Level, part: &FieldPart, bit: bool, bytes: &[u8]
 }
 
 impl<'a> Walk<'a> {
+    ghost use Rattle.fast_walk.specs.Walks.{IsReady};
+
     // What the part lacks that is next.
-    fn first_lack(&self, level: Level, part: &FieldPart, bytes: &[u8]) -> Option<Lack>
+    fn first_lack<E: Entries>(
+        &self,
+        alloc: Global,
+        level: Level,
+        entries: &E,
+        part: &FieldPart,
+        bytes: &[u8],
+    ) -> Option<Lack>
         requires spare { 0 < self.now.spare }
         requires next { self.now.next ≡ Next.Instruction }
         requires first { IsFirst part.now (list_of self.now.rest.now) }
-        ensures { IfSome result (WalkLacks level self.now bytes.now) }
+        requires served { IsTrue (E.serves entries.now part.now.key) }
+        ensures { IfSome result (WalkLacks level self.now (E.contents entries.now) bytes.now) }
     {
         let bit = first_for(&self.bits, part_needs_bit(part));
-        field_lack(level, part, bit, bytes)
+        match field_lack(level, part, bit, bytes) {
+            Some(lack) => Some(lack),
+            None => delta_lack(alloc, level, part, entries.get(&part.key), bit, bytes),
+        }
+    }
+
+    // What the mantissa lacks that is next.
+    fn mantissa_next_lack(
+        &self,
+        level: Level,
+        mantissa: &'a FieldPart,
+        bytes: &[u8],
+    ) -> Option<Lack>
+        requires next { self.now.next ≡ Next.Mantissa mantissa }
+        ensures { IfSome result (λ l. (d : Dictionary) → WalkLacks level self.now d bytes.now l) }
+    {
+        let bit = first_for(&self.bits, part_needs_bit(mantissa));
+        field_lack(level, mantissa, bit, bytes)
     }
 
     // What the piece that is next lacks, of which these bytes have come.
-    fn lack(&self, level: Level, bytes: &[u8]) -> Option<Lack>
-        ensures { IfSome result (WalkLacks level self.now bytes.now) }
+    fn lack<E: Entries>(
+        &self,
+        alloc: Global,
+        level: Level,
+        entries: &E,
+        bytes: &[u8],
+    ) -> Option<Lack>
+        requires ready { IsReady (E.serves entries.now) self.now }
+        ensures { IfSome result (WalkLacks level self.now (E.contents entries.now) bytes.now) }
     {
-        if self.spare == 0 {
-            return None;
-        }
         match self.next {
-            Next::Instruction => match self.rest.split_first() {
+            Next::Instruction if self.spare > 0 => match self.rest.split_first() {
                 Some((flat, _)) => match flat {
                     Flat::Field { whole: part, .. }
                     | Flat::Parts { exponent: part, .. }
-                    | Flat::Sequence { length: part, .. } => self.first_lack(level, part, bytes),
+                    | Flat::Sequence { length: part, .. } => {
+                        self.first_lack(alloc, level, entries, part, bytes)
+                    }
                     Flat::Group { .. } => None,
                 },
                 None => None,
             },
-            Next::Mantissa(_) | Next::Element(_) => None,
+            Next::Mantissa(mantissa) => self.mantissa_next_lack(level, mantissa, bytes),
+            Next::Instruction | Next::Element(_) => None,
         }
     }
 
@@ -294,14 +463,17 @@ impl<'a> Walk<'a> {
 }
 
 impl<'a> Traversal<'a> {
+    ghost use Rattle.fast_walk.specs.Traversals.{CanGoOn};
+
     /// What the piece lacks at which the traversal has stopped, of which these bytes have come; none where that is not
     /// known.
-    pub fn lack(&self, bytes: &[u8]) -> Option<Lack>
-        ensures { IfSome result (Lacks self.now bytes.now) }
+    pub fn lack<E: Entries>(&self, entries: &E, bytes: &[u8]) -> Option<Lack>
+        requires ready { CanGoOn (E.serves entries.now) self.now }
+        ensures { IfSome result (Lacks self.now (E.contents entries.now) bytes.now) }
     {
         match self.stage {
             Stage::Map | Stage::Identifier => None,
-            Stage::Body => self.walk.lack(self.level, bytes),
+            Stage::Body => self.walk.lack(self.alloc, self.level, entries, bytes),
         }
     }
 }

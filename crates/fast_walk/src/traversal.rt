@@ -43,7 +43,7 @@ pub enum Stage {
 /// has.
 #[derive(Drop)]
 pub struct Traversal<'a> {
-    alloc: Global,
+    pub(crate) alloc: Global,
     set: &'a TemplateSet,
     pub(crate) level: Level,
     identifier: FieldPart,
