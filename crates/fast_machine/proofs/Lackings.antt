@@ -32,7 +32,7 @@ module _ {R : Type 0} (has : Having R) (stands keeps : Standing R) (t : Traversa
   inside : t.stage ≡ stage.Body → t.stage ≡ stage.Map → ⊥
   inside body map = let same : stage.Body ≡ stage.Map = sym body ∙ map in absurd cc
 
-  message_stops : (unread : List ℕ) (start : Dictionary) (rest : List ℕ) → Lacks t unread l → Unfinished Goes t unread start rest → RunStops t.level (templates_in t.set.now) start rest [] (stop_of t.template halt unread)
+  message_stops : (unread : List ℕ) (start : Dictionary) (rest : List ℕ) → Lacks t d unread l → Unfinished Goes t unread start rest → RunStops t.level (templates_in t.set.now) start rest [] (stop_of t.template halt unread)
   message_stops unread start rest lacks u = record {
     front = [];
     rest = rest;
@@ -47,7 +47,7 @@ module _ {R : Type 0} (has : Having R) (stands keeps : Standing R) (t : Traversa
     );
   }
 
-  pub still_waits : (framing : Framing) (left : ℕ) (unread fed : List ℕ) (messages : List Content) → Lacks t unread l → (framing ≡ Blocks → length unread < left) → Stands framing left Goes t unread fed messages
+  pub still_waits : (framing : Framing) (left : ℕ) (unread fed : List ℕ) (messages : List Content) → Lacks t d unread l → (framing ≡ Blocks → length unread < left) → Stands framing left Goes t unread fed messages
       → StopsBehind (framed_as framing t) (templates_in t.set.now) fed messages (stop_of t.template halt unread)
   still_waits Plain left unread fed messages lacks room s =
       subst (λ (ms : List Content). StopsBehind (framed_as Plain t) (templates_in t.set.now) fed ms (stop_of t.template halt unread)) (append-nil messages)
@@ -57,6 +57,6 @@ module _ {R : Type 0} (has : Having R) (stands keeps : Standing R) (t : Traversa
       let some : 0 < left = omega (arith, short) in
       let b = open_stands Goes t t.level left left 0 unread fed messages refl (λ k. (refl, refl)) (λ none. absurd (omega (arith, none, some))) some s in
       let all : take left unread ≡ unread = take_all left unread (omega (arith, short)) in
-      let run = message_stops (take left unread) b.start.dictionary b.ends.within (subst (λ (xs : List ℕ). Lacks t xs l) (sym all) lacks) b.ends.next in
+      let run = message_stops (take left unread) b.start.dictionary b.ends.within (subst (λ (xs : List ℕ). Lacks t d xs l) (sym all) lacks) b.ends.next in
       subst (λ (ms : List Content). StopsBehind (framed_as Blocks t) (templates_in t.set.now) fed ms (stop_of t.template halt unread)) (append-nil messages)
       (block_waits Goes t t left 0 unread (take left unread) fed messages [] b refl (omega arith) refl refl halt (omega (arith, short)) run)

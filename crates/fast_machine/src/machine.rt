@@ -47,7 +47,7 @@ pub struct Machine<'a, R: Receiver, E: Entries> {
     ghost bounded: { length held.items ≤ 65554 },
     ghost cleared: { IfSome fault (λ f. held.items ≡ []) } by { Prim.hlevel props },
     ghost ready: { fault ≡ None → CanGoOn (E.serves entries) traversal } by { →_prop (CanGoOn-prop (E.serves entries) traversal) },
-    ghost lacks: { IfSome lack (Lacks traversal held.items) } by { if-lacks-prop traversal held.items lack },
+    ghost lacks: { IfSome lack (Lacks traversal (E.contents entries) held.items) } by { if-lacks-prop traversal (E.contents entries) held.items lack },
     ghost kept: { fault ≡ None → KeepScalars (E.contents entries) } by { →_prop (KeepScalars-prop (E.contents entries)) },
     ghost room: { fault ≡ None → HasRoomAt (R.room receiver) traversal.stage traversal.walk } by { →_prop (HasRoomAt-prop (R.room receiver) traversal.stage traversal.walk) },
 }

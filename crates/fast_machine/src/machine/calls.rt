@@ -1,6 +1,6 @@
 //! The calls of a machine.
 
-ghost use Rattle.std.specs.Prelude.{◌≡◌, ◌≢◌, ◌≤◌, ◌<◌, ◌+◌, ◌*◌, ◌-◌, ◌^◌, ◌++◌, ◌⊎◌, [], ℕ, true, List, None, Some, Err, OnOk, IfOk, IfErr, IfSome, IfNone, length, take, drop, map};
+ghost use Rattle.std.specs.Prelude.{◌≡◌, ◌≢◌, ◌≤◌, ◌<◌, ◌+◌, ◌*◌, ◌-◌, ◌^◌, ◌++◌, ◌⊎◌, [], ℕ, true, List, None, Some, Err, OnOk, OnErr, IfOk, IfErr, IfSome, IfNone, length, take, drop, map};
 ghost use Rattle.std.specs.FinMap as finite;
 ghost use Rattle.fast_template.specs.Resolved.{Resolved};
 ghost use Rattle.fast_template.specs.TemplateSets.{IsSound, templates_in};
@@ -23,7 +23,7 @@ use fast_dictionary::Entries;
 use fast_stream::{Cause, Fault, Framing, Mode, Place};
 use fast_template::TemplateSet;
 use fast_walk::{Halt, HaltedBy, Lack, Receiver, Traversal};
-use std::alloc::Global;
+use std::alloc::{AllocError, Global};
 use std::mem;
 
 /// The most bytes that are held.
@@ -74,6 +74,22 @@ fn fault_of(halt: Halt, messages: u64, fed: u64, left: usize, template: u32) -> 
     match halt.cause {
         Cause::Memory => fault_at(Cause::Memory, messages, 0, 0, 0, 0),
         cause => fault_at(cause, messages, fed, left, template, halt.number),
+    }
+}
+
+// Puts these bytes behind others. (Where few come at a time, they are often one or none.)
+#[inline(always)]
+fn append(bytes: &mut Vec<u8>, chunk: &[u8]) -> Result<(), AllocError>
+    ensures items { OnOk result (bytes.new.items ≡ bytes.old.items ++ chunk.now) }
+    ensures same { OnErr result (bytes.new.items ≡ bytes.old.items) }
+{
+    match chunk.split_first() {
+        None => Ok(()),
+        Some((byte, rest)) if rest.is_empty() => {
+            bytes.push(*byte)?;
+            Ok(())
+        }
+        Some(_) => bytes.extend_from_slice(chunk),
     }
 }
 
@@ -245,19 +261,20 @@ impl<'a, R: Receiver, E: Entries> Machine<'a, R, E> {
         ensures fed { self.new.fed ≡ self.old.fed }
         ensures framing { self.new.framing ≡ self.old.framing }
     {
-        match self.held.extend_from_slice(rest) {
+        match append(&mut self.held, rest) {
             Err(_) => Err(self.refuse()),
             Ok(()) => {
                 self.waiting = number;
-                self.lack = self.traversal.lack(&self.held);
+                self.lack = self.traversal.lack(&self.entries, &self.held);
                 Ok(())
             }
         }
     }
 
-    // What the piece that is not whole still lacks behind these bytes, in the same block; none where that is not known.
-    fn still_lacking(&self, chunk: &[u8]) -> Option<Lack>
-        ensures lacks { IfSome result (Lacks self.now.traversal (self.now.held.items ++ chunk.now)) }
+    /// What the piece that is not whole still lacks behind these bytes, in the same block; none where that is not known.
+    #[inline(always)]
+    pub fn still_lacking(&self, chunk: &[u8]) -> Option<Lack>
+        ensures lacks { IfSome result (Lacks self.now.traversal (E.contents self.now.entries) (self.now.held.items ++ chunk.now)) }
         ensures few { IfSome result (λ l. length (self.now.held.items ++ chunk.now) ≤ 65554) }
         ensures room { IfSome result (λ l. self.now.framing ≡ Framing.Blocks
             → length (self.now.held.items ++ chunk.now) < self.now.left) }
@@ -278,7 +295,7 @@ impl<'a, R: Receiver, E: Entries> Machine<'a, R, E> {
     // Holds these bytes too, behind which the piece that is not whole still lacks some.
     fn hold_more(&mut self, lack: Lack, chunk: &[u8]) -> Result<(), Fault>
         requires fault { self.now.fault ≡ None }
-        requires lacks { Lacks self.now.traversal (self.now.held.items ++ chunk.now) lack }
+        requires lacks { Lacks self.now.traversal (E.contents self.now.entries) (self.now.held.items ++ chunk.now) lack }
         requires few { length (self.now.held.items ++ chunk.now) ≤ 65554 }
         requires room { self.now.framing ≡ Framing.Blocks
             → length (self.now.held.items ++ chunk.now) < self.now.left }
@@ -295,13 +312,43 @@ impl<'a, R: Receiver, E: Entries> Machine<'a, R, E> {
         ensures framing { self.new.framing ≡ self.old.framing }
     {
         self.lack = None;
-        match self.held.extend_from_slice(chunk) {
+        match append(&mut self.held, chunk) {
             Err(_) => Err(self.refuse()),
             Ok(()) => {
                 self.waiting = lack.number;
                 self.lack = Some(lack);
                 Ok(())
             }
+        }
+    }
+
+    /// Takes the next bytes of the stream, behind which the piece that is not whole still lacks some, as `still_lacking`
+    /// answers: they are held, and nothing is read.
+    ///
+    /// # Errors
+    ///
+    /// As `feed`: memory for them was refused.
+    #[inline(always)]
+    pub fn feed_lacking(&mut self, lack: Lack, chunk: &[u8]) -> Result<(), Fault>
+        requires fault { self.now.fault ≡ None }
+        requires size { self.now.fed + length chunk.now ≤ 2 ^ 60 }
+        requires lacks { Lacks self.now.traversal (E.contents self.now.entries) (self.now.held.items ++ chunk.now) lack }
+        requires few { length (self.now.held.items ++ chunk.now) ≤ 65554 }
+        requires room { self.now.framing ≡ Framing.Blocks
+            → length (self.now.held.items ++ chunk.now) < self.now.left }
+        ensures follows { (before : List Content) (fed : List ℕ) (messages : List Content)
+            → Follows self.old before fed messages → Follows self.new before (fed ++ chunk.now) messages }
+        ensures answer { Answers result self.new.fault }
+        ensures cause { IfErr result (λ f. f.cause ≡ Cause.Memory) }
+        ensures traversal { self.new.traversal ≡ self.old.traversal }
+        ensures entries { self.new.entries ≡ self.old.entries }
+        ensures framing { self.new.framing ≡ self.old.framing }
+        ensures fed { self.new.fed ≡ self.old.fed + length chunk.now }
+    {
+        self.fed += chunk.len() as u64;
+        match self.hold_more(lack, chunk) {
+            Err(fault) => Err(fault),
+            Ok(()) => Ok(()),
         }
     }
 
