@@ -89,6 +89,12 @@ impl<'a, E: Entries> Decoder<'a, E> {
         if let Some(fault) = self.machine.fault() {
             return Err(fault);
         }
+        if let Some(lack) = self.machine.still_lacking(chunk) {
+            return match self.machine.feed_lacking(lack, chunk) {
+                Err(fault) => Err(fault),
+                Ok(()) => Ok(()),
+            };
+        }
         // the builder pushes behind the messages that are there
         let machine = &mut self.machine;
         machine.receiver.exchange(out);

@@ -1,4 +1,4 @@
-use Rattle.std.proofs.Common.{[], ◌++◌, List, map, sym, ◌∙◌, ap, subst}
+use Rattle.std.proofs.Common.{[], ◌++◌, List, map, sym, ◌∙◌, ap, subst, append-nil}
 use Rattle.fast_stream.specs.Nodes.{Content, content_of}
 use Rattle.fast_machine.specs.Following.{FollowsAt}
 use Rattle.fast_messages.specs.Built.{with_whole}
@@ -24,3 +24,9 @@ returns-clause-follows g c = λ none fed messages follows.
         counts = after.1.counts;
       },
     )
+
+pub returns-in-Err-clause-follows : goal.returns-in-Err-clause-follows
+returns-in-Err-clause-follows g c = λ none fed messages follows. ([], sym (append-nil (map content_of c.args.out.now.items)), rw (append-nil messages) (c.feed_lacking.ensures.follows [] fed messages follows))
+
+pub returns-in-Ok-clause-follows : goal.returns-in-Ok-clause-follows
+returns-in-Ok-clause-follows g c = λ none fed messages follows. ([], sym (append-nil (map content_of c.args.out.now.items)), rw (append-nil messages) (c.feed_lacking.ensures.follows [] fed messages follows))
