@@ -30,7 +30,18 @@ const STRINGS: &str = r#"{"templates":[
 {"name":"Unicode","id":7,"instructions":[
  {"kind":"string","charset":"unicode","name":"S"},{"kind":"uInt32","name":"N"}]},
 {"name":"Changed","id":8,"instructions":[
- {"kind":"string","name":"S","operator":"delta"},{"kind":"uInt32","name":"N"}]}]}"#;
+ {"kind":"string","name":"S","operator":"delta"},{"kind":"uInt32","name":"N"}]},
+{"name":"ChangedUnicode","id":9,"instructions":[
+ {"kind":"string","charset":"unicode","name":"S","operator":"delta"},
+ {"kind":"uInt32","name":"N"}]},
+{"name":"ChangedBytes","id":10,"instructions":[
+ {"kind":"byteVector","name":"B","presence":"optional","operator":"delta"},
+ {"kind":"uInt32","name":"N"}]},
+{"name":"Price","id":11,"instructions":[
+ {"kind":"decimal","name":"P"},
+ {"kind":"decimal","name":"D","operator":"delta"},
+ {"kind":"decimal","name":"E","exponent":{"operator":"copy"},"mantissa":{"operator":"delta"}},
+ {"kind":"uInt32","name":"N"}]}]}"#;
 
 const LETTERS: &[Shown] = &[Shown::Letters(40), Shown::Number(5)];
 
@@ -39,6 +50,13 @@ const RAW: &[u8] =
     b"\xC1\xC1\xC1\xC1\xC1\xC1\xC1\xC1\xC1\xC1\xC1\xC1\xC1\xC1\xC1\xC1\xC1\xC1\xC1\xC1";
 
 const VECTOR: &[Shown] = &[Shown::Bytes(RAW), Shown::Number(5)];
+
+const PRICES: &[Shown] = &[
+    Shown::Decimal(-2, 1_048_576),
+    Shown::Decimal(-2, 1_048_576),
+    Shown::Decimal(-2, 1_048_576),
+    Shown::Number(5),
+];
 
 const UNICODE: &[Shown] = &[Shown::Unicode("ééééé ééééé ééééé!"), Shown::Number(5)];
 
@@ -116,6 +134,39 @@ const WHOLE: &[Long] = &[
         }],
         end: End::Whole,
     },
+    Long {
+        pieces: &[
+            (b"\xC0\x89\x80\xA1", 1),
+            (b"\xC3\xA9", 5),
+            (b" ", 1),
+            (b"\xC3\xA9", 5),
+            (b" ", 1),
+            (b"\xC3\xA9", 5),
+            (b"!\x85", 1),
+        ],
+        want: &[Sent {
+            template: 9,
+            fields: UNICODE,
+        }],
+        end: End::Whole,
+    },
+    Long {
+        pieces: &[(b"\xC0\x8A\x81\x94", 1), (b"\xC1", 20), (b"\x85", 1)],
+        want: &[Sent {
+            template: 10,
+            fields: VECTOR,
+        }],
+        end: End::Whole,
+    },
+    // (the mantissa of each decimal is 2 ^ 20)
+    Long {
+        pieces: &[(b"\xE0\x8B", 1), (b"\xFE\x00\x40\x00\x80", 3), (b"\x85", 1)],
+        want: &[Sent {
+            template: 11,
+            fields: PRICES,
+        }],
+        end: End::Whole,
+    },
 ];
 
 // Streams that end one byte early.
@@ -144,6 +195,37 @@ const EARLY: &[Long] = &[
         pieces: &[(b"\xC0\x87\xA1", 1), (b"\xC3\xA9", 16)],
         want: &[],
         end: End::Fault(Cause::Truncated, 1, 2, 7, 1),
+    },
+    Long {
+        pieces: &[(b"\xC0\x88\x80", 1), (b"\x41", 39)],
+        want: &[],
+        end: End::Fault(Cause::Truncated, 1, 2, 8, 1),
+    },
+    Long {
+        pieces: &[(b"\xC0\x89\x80\xA1", 1), (b"\xC3\xA9", 16)],
+        want: &[],
+        end: End::Fault(Cause::Truncated, 1, 2, 9, 1),
+    },
+    Long {
+        pieces: &[(b"\xC0\x8A\x81\x94", 1), (b"\xC1", 19)],
+        want: &[],
+        end: End::Fault(Cause::Truncated, 1, 2, 10, 1),
+    },
+    Long {
+        pieces: &[(b"\xE0\x8B\xFE\x00\x40\x00", 1)],
+        want: &[],
+        end: End::Fault(Cause::Truncated, 1, 2, 11, 1),
+    },
+    // a removal from a base that has nothing is refused before its new part has come
+    Long {
+        pieces: &[(b"\xC0\x88\x81", 1), (b"\x41", 39)],
+        want: &[],
+        end: End::Fault(Cause::D7, 1, 2, 8, 1),
+    },
+    Long {
+        pieces: &[(b"\xC0\x89\x81\xA1", 1), (b"\xC3\xA9", 16)],
+        want: &[],
+        end: End::Fault(Cause::D7, 1, 2, 9, 1),
     },
 ];
 
