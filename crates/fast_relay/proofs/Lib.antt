@@ -1,4 +1,3 @@
-pub mod Runs
 pub mod Relaying
 mod TextRelaying
 mod PlainTexts

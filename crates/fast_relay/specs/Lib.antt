@@ -1,5 +1,4 @@
 pub mod Numbers
 pub mod Relayed
-pub mod Runs
 pub mod Texts
 pub mod Kept

@@ -13,7 +13,6 @@ ghost use Rattle.fast_field.specs.Passed.{Passes};
 ghost use Rattle.fast_walk.specs.Received.{Took, length_of};
 ghost use Rattle.fast_walk.specs.Told.{KeepScalars};
 ghost use Rattle.fast_stream.specs.Bits.{after_bit, bit_for};
-ghost use Rattle.fast_relay.specs.Runs.{IsRun, Stays, written};
 ghost use Rattle.fast_writer.specs.Levels.{level_of};
 ghost use Rattle.fast_writer.specs.Room.{has_room};
 ghost use Rattle.fast_writer.specs.Quick.{Relayed};
@@ -23,7 +22,7 @@ use crate::relay::relay_entry;
 use crate::segment::Segment;
 use fast_dictionary::{Entries, Entry};
 use fast_field::{FieldFault, Passed, pass_left_out, reads_as_usual};
-use fast_relay::{Relayed as Answer, Run, relay_null, relay_unsigned};
+use fast_relay::{Relayed as Answer, relay_null, relay_unsigned};
 use fast_template::{FieldPart, Kind, Operator, Scalar, part_needs_bit};
 use fast_wire::Level;
 use std::alloc::Global;
@@ -59,18 +58,17 @@ fn count_quickly(
     level: Level,
     bytes: &[u8],
     at: usize,
-    out: &mut Run,
+    out: &mut Vec<u8>,
 ) -> Option<(Option<u32>, bool, usize)>
-    requires run { IsRun bytes.now at out.now }
+    requires place { at ≤ length bytes.now }
     requires bit { part_needs_bit_of part.now ≡ false → bit ≡ true }
     ensures place { IfSome result (λ x. (at ≤ x.2) × (x.2 ≤ length bytes.now)) }
-    ensures run { IfSome result (λ x. IsRun bytes.now x.2 out.new) }
     ensures relayed { IfSome result (λ x.
         Relayed level part.now entry.old entry.new bit x.1 (length_of x.0) (drop at bytes.now)
-        (drop x.2 bytes.now) (written bytes.now out.old) (written bytes.now out.new)) }
+        (drop x.2 bytes.now) out.old.items out.new.items) }
     ensures lower { IfSome result (λ x. bit ≡ false → x.1 ≡ false) }
     ensures entry { IfNone result (entry.new ≡ entry.old) }
-    ensures out { IfNone result (Stays bytes.now at out.old out.new) }
+    ensures out { IfNone result (out.new.items ≡ out.old.items) }
 {
     if bit {
         if reads_as_usual(level, part, bytes, at) {
@@ -151,37 +149,28 @@ fn count_either(
     level: Level,
     bytes: &[u8],
     at: usize,
-    out: &mut Run,
+    out: &mut Vec<u8>,
 ) -> Result<(Option<u32>, bool, usize), FieldFault>
-    requires run { IsRun bytes.now at out.now }
+    requires place { at ≤ length bytes.now }
     requires bit { part_needs_bit_of part.now ≡ false → bit ≡ true }
     requires part { IsFieldPart part.now }
     requires entry { HoldsScalar entry.old }
     requires kind { part.now.kind ≡ UInt32 }
     ensures place { IfOk result (λ x. (at ≤ x.2) × (x.2 ≤ length bytes.now)) }
-    ensures run { IfOk result (λ x. IsRun bytes.now x.2 out.new) }
     ensures relayed { IfOk result (λ x.
         Relayed level part.now entry.old entry.new bit x.1 (length_of x.0) (drop at bytes.now)
-        (drop x.2 bytes.now) (written bytes.now out.old) (written bytes.now out.new)) }
+        (drop x.2 bytes.now) out.old.items out.new.items) }
     ensures lower { IfOk result (λ x. bit ≡ false → x.1 ≡ false) }
     ensures stops { IfErr result (λ f. f ≢ FieldFault.Memory
         → (field_at level part.now entry.old bit (drop at bytes.now) ≡ Err f)
-        × (entry.new ≡ entry.old) × (out.new.out.items ≡ written bytes.now out.old)) }
+        × (entry.new ≡ entry.old) × (out.new.items ≡ out.old.items)) }
 {
     match count_quickly(part, entry, bit, level, bytes, at, out) {
         Some(x) => Ok(x),
-        None => {
-            if !out.flush(bytes) {
-                return Err(FieldFault::Memory);
-            }
-            match count_generally(alloc, part, entry, bit, level, bytes, at, &mut out.out) {
-                Err(fault) => Err(fault),
-                Ok((count, best, next)) => {
-                    out.begin(next);
-                    Ok((count, best, next))
-                }
-            }
-        }
+        None => match count_generally(alloc, part, entry, bit, level, bytes, at, out) {
+            Err(fault) => Err(fault),
+            Ok(x) => Ok(x),
+        },
     }
 }
 
@@ -225,7 +214,6 @@ pub(crate) fn relay_count<E: Entries>(
         × (level_of segment.new ≡ level_of segment.old)) }
     ensures same_keys { E.serves entries.new ≡ E.serves entries.old }
 {
-    segment.bytes.begin(at);
     match entries.entry_mut(&part.key) {
         Err(_) => Err(FieldFault::Memory),
         Ok(entry) => match count_either(
@@ -239,15 +227,10 @@ pub(crate) fn relay_count<E: Entries>(
             &mut segment.bytes,
         ) {
             Err(fault) => Err(fault),
-            Ok((count, best, next)) => {
-                if !segment.bytes.flush(bytes) {
-                    return Err(FieldFault::Memory);
-                }
-                match segment.ask(part_needs_bit(part), best) {
-                    Err(_) => Err(FieldFault::Memory),
-                    Ok(()) => Ok((count, next)),
-                }
-            }
+            Ok((count, best, next)) => match segment.ask(part_needs_bit(part), best) {
+                Err(_) => Err(FieldFault::Memory),
+                Ok(()) => Ok((count, next)),
+            },
         },
     }
 }

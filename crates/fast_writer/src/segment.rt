@@ -5,7 +5,6 @@ ghost use Rattle.fast_wire.specs.declared.fault.WireFault.TheVariants as fault;
 ghost use Rattle.fast_writer.specs.Written.{Asked, Ended, has_set};
 ghost use Rattle.fast_writer.specs.Levels.{level_of};
 
-use fast_relay::Run;
 use fast_wire::{MapBuilder, WireFault};
 use std::alloc::{AllocError, Global};
 
@@ -17,7 +16,7 @@ pub struct Segment {
     /// Whether they stand in a map of its own.
     pub own: bool,
     /// What stands behind the map.
-    pub bytes: Run,
+    pub bytes: Vec<u8>,
 }
 
 impl Segment {
@@ -28,12 +27,12 @@ impl Segment {
     pub fn new(alloc: Global, own: bool) -> Segment
         ensures bits { result.bits ≡ [] }
         ensures own { result.own ≡ own }
-        ensures bytes { result.bytes.out.items ≡ [] }
+        ensures bytes { result.bytes.items ≡ [] }
     {
         Segment {
             bits: MapBuilder::new(alloc),
             own,
-            bytes: Run::new(alloc),
+            bytes: Vec::new(alloc),
         }
     }
 
@@ -42,18 +41,17 @@ impl Segment {
     pub fn begin(&mut self, own: bool)
         ensures bits { self.new.bits ≡ [] }
         ensures own { self.new.own ≡ own }
-        ensures bytes { self.new.bytes.out.items ≡ [] }
+        ensures bytes { self.new.bytes.items ≡ [] }
     {
         self.bits.clear();
         self.own = own;
-        self.bytes.out.clear();
+        self.bytes.clear();
     }
 
     /// One bit more, where one is needed.
     #[inline(always)]
     pub fn ask(&mut self, needed: bool, bit: bool) -> Result<(), AllocError>
-        ensures asked { OnOk result (Asked needed bit (level_of self.old) (level_of self.new)) }
-        ensures run { OnOk result (self.new.bytes ≡ self.old.bytes) }
+        ensures { OnOk result (Asked needed bit (level_of self.old) (level_of self.new)) }
     {
         if needed {
             self.bits.push(bit)?;
@@ -101,7 +99,7 @@ impl Segment {
                 Ok(()) => {}
             }
         }
-        match out.extend_from_slice(&self.bytes.out) {
+        match out.extend_from_slice(&self.bytes) {
             Err(_) => {
                 out.truncate(start);
                 Err(WireFault::Memory)

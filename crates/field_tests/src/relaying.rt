@@ -1,12 +1,11 @@
 //! Rows on fields that are relayed at once.
 
 ghost use Rattle.std.specs.Prelude.{◌≤◌, length};
-ghost use Rattle.fast_relay.specs.Runs.{IsRun};
 
 use crate::fields::{Kept, Shape};
 use crate::same::same;
 use fast_dictionary::Entry;
-use fast_relay::{Relayed as Told, Run, relay_decimal, relay_null, relay_number, relay_text};
+use fast_relay::{Relayed as Told, relay_decimal, relay_null, relay_number, relay_text};
 use fast_template::FieldPart;
 use std::alloc::{AllocError, Global};
 use std::process::Abort;
@@ -52,7 +51,6 @@ pub(crate) enum Call {
     Text,
 }
 
-// What a call answers; what it noted ends within the bytes.
 fn told_by(
     alloc: Global,
     call: Call,
@@ -60,17 +58,15 @@ fn told_by(
     entry: &mut Entry,
     bytes: &[u8],
     at: usize,
-    run: &mut Run,
+    out: &mut Vec<u8>,
 ) -> Told
-    requires { IsRun bytes.now at run.now }
-    ensures from { run.new.from ≤ run.new.place }
-    ensures place { run.new.place ≤ length bytes.now }
+    requires { at ≤ length bytes.now }
 {
     match call {
-        Call::Number => relay_number(instr.part, instr, entry, bytes, at, run),
-        Call::Decimal => relay_decimal(instr, entry, bytes, at, run),
-        Call::Null => relay_null(instr, entry, bytes, at, run),
-        Call::Text => relay_text(alloc, instr, entry, bytes, at, run),
+        Call::Number => relay_number(instr, entry, bytes, at, out),
+        Call::Decimal => relay_decimal(instr, entry, bytes, at, out),
+        Call::Null => relay_null(instr, entry, bytes, at, out),
+        Call::Text => relay_text(alloc, instr, entry, bytes, at, out),
     }
 }
 
@@ -81,16 +77,10 @@ fn relay_with(
     before: Kept,
     bytes: &[u8],
 ) -> Result<Answer, AllocError> {
-    let mut run = Run::new(alloc);
-    run.out.push(0x2a)?;
+    let mut out = vec![in alloc; 0x2a]?;
     let mut entry = before.entry(alloc)?;
     let at = bytes.len().min(1);
-    run.begin(at);
-    let told = told_by(alloc, call, instr, &mut entry, bytes, at, &mut run);
-    if !run.flush(bytes) {
-        return Err(AllocError);
-    }
-    let out = run.out;
+    let told = told_by(alloc, call, instr, &mut entry, bytes, at, &mut out);
     Ok(Answer { told, entry, out })
 }
 
