@@ -29,6 +29,9 @@ use std::mem;
 /// The most bytes that are held.
 const HELD_LIMIT: usize = 65_554;
 
+/// The stop bit of a byte.
+const STOP: u8 = 0x80;
+
 // So many more; the count stops at the greatest number.
 fn counted(count: u64, more: u64) -> u64
     ensures { count + more < 2 ^ 62 → result ≡ count + more }
@@ -77,19 +80,40 @@ fn fault_of(halt: Halt, messages: u64, fed: u64, left: usize, template: u32) -> 
     }
 }
 
-// Puts these bytes behind others. (Where few come at a time, they are often one or none.)
+// Puts these bytes behind others, however many they are.
+#[inline(never)]
+fn append_many(bytes: &mut Vec<u8>, chunk: &[u8]) -> Result<(), AllocError>
+    ensures items { OnOk result (bytes.new.items ≡ bytes.old.items ++ chunk.now) }
+    ensures same { OnErr result (bytes.new.items ≡ bytes.old.items) }
+{
+    bytes.extend_from_slice(chunk)
+}
+
+// Puts these bytes behind others. (Where few come at a time, they are often one.)
 #[inline(always)]
 fn append(bytes: &mut Vec<u8>, chunk: &[u8]) -> Result<(), AllocError>
     ensures items { OnOk result (bytes.new.items ≡ bytes.old.items ++ chunk.now) }
     ensures same { OnErr result (bytes.new.items ≡ bytes.old.items) }
 {
-    match chunk.split_first() {
-        None => Ok(()),
-        Some((byte, rest)) if rest.is_empty() => {
+    match chunk {
+        [byte] => {
             bytes.push(*byte)?;
             Ok(())
         }
-        Some(_) => bytes.extend_from_slice(chunk),
+        _ => append_many(bytes, chunk),
+    }
+}
+
+// Where no bytes are held, keeps the memory of these, which were, for those of the next piece; not where they are more
+// than are ever held.
+#[inline(always)]
+fn hold_in(held: &mut Vec<u8>, bytes: Vec<u8>)
+    ensures { held.new.items ≡ held.old.items }
+{
+    let mut bytes = bytes;
+    if held.is_empty() && bytes.len() <= HELD_LIMIT {
+        bytes.clear();
+        *held = bytes;
     }
 }
 
@@ -261,17 +285,35 @@ impl<'a, R: Receiver, E: Entries> Machine<'a, R, E> {
         ensures fed { self.new.fed ≡ self.old.fed }
         ensures framing { self.new.framing ≡ self.old.framing }
     {
+        self.waiting = number;
+        if rest.is_empty() {
+            return Ok(());
+        }
         match append(&mut self.held, rest) {
             Err(_) => Err(self.refuse()),
             Ok(()) => {
-                self.waiting = number;
                 self.lack = self.traversal.lack(&self.entries, &self.held);
                 Ok(())
             }
         }
     }
 
-    /// What the piece that is not whole still lacks behind these bytes, in the same block; none where that is not known.
+    // What a piece still lacks that begins with these bytes. It is asked of a byte that comes alone without its stop bit,
+    // since with it most pieces are whole; more bytes are read first.
+    #[inline(always)]
+    fn first_lacking(&self, chunk: &[u8]) -> Option<Lack>
+        ensures { IfSome result (Lacks self.now.traversal (E.contents self.now.entries) (self.now.held.items ++ chunk.now)) }
+    {
+        match chunk {
+            [byte] if *byte < STOP && self.held.is_empty() && self.fault.is_none() => {
+                self.traversal.lack(&self.entries, chunk)
+            }
+            _ => None,
+        }
+    }
+
+    /// What the piece that is not whole, or that begins here, still lacks behind these bytes, in the same block; none where
+    /// that is not known.
     #[inline(always)]
     pub fn still_lacking(&self, chunk: &[u8]) -> Option<Lack>
         ensures lacks { IfSome result (Lacks self.now.traversal (E.contents self.now.entries) (self.now.held.items ++ chunk.now)) }
@@ -279,47 +321,47 @@ impl<'a, R: Receiver, E: Entries> Machine<'a, R, E> {
         ensures room { IfSome result (λ l. self.now.framing ≡ Framing.Blocks
             → length (self.now.held.items ++ chunk.now) < self.now.left) }
     {
+        let count = self.held.len() + chunk.len();
+        let fits = match self.framing {
+            Framing::Plain => count <= HELD_LIMIT,
+            Framing::Blocks => count <= HELD_LIMIT && (count as u128) < self.left,
+        };
+        if !fits {
+            return None;
+        }
         match self.lack {
-            None => None,
-            Some(lack) => {
-                let count = self.held.len() + chunk.len();
-                let fits = match self.framing {
-                    Framing::Plain => count <= HELD_LIMIT,
-                    Framing::Blocks => count <= HELD_LIMIT && (count as u128) < self.left,
-                };
-                if fits { lack.behind(chunk) } else { None }
-            }
+            None => self.first_lacking(chunk),
+            Some(lack) => lack.behind(chunk),
         }
     }
 
     // Holds these bytes too, behind which the piece that is not whole still lacks some.
-    fn hold_more(&mut self, lack: Lack, chunk: &[u8]) -> Result<(), Fault>
+    fn hold_more(&mut self, lack: Lack, chunk: &[u8]) -> Result<(), AllocError>
         requires fault { self.now.fault ≡ None }
         requires lacks { Lacks self.now.traversal (E.contents self.now.entries) (self.now.held.items ++ chunk.now) lack }
         requires few { length (self.now.held.items ++ chunk.now) ≤ 65554 }
         requires room { self.now.framing ≡ Framing.Blocks
             → length (self.now.held.items ++ chunk.now) < self.now.left }
-        ensures follows { (before : List Content) (fed : List ℕ) (messages : List Content)
+        ensures follows { OnOk result ((before : List Content) (fed : List ℕ) (messages : List Content)
             → length fed < 2 ^ 61 → Counts self.old.fed self.old.messages fed messages
             → Stands self.old.framing self.old.left (ReadsOn R.has R.stands R.keeps self.old.traversal self.old.receiver
             (E.contents self.old.entries) before) self.old.traversal (self.old.held.items ++ chunk.now) fed messages
-            → Follows self.new before fed messages }
-        ensures answer { Answers result self.new.fault }
-        ensures cause { IfErr result (λ f. f.cause ≡ Cause.Memory) }
+            → Follows self.new before fed messages) }
+        ensures held { OnErr result (self.new.held.items ≡ self.old.held.items) }
+        ensures fault { self.new.fault ≡ None }
         ensures traversal { self.new.traversal ≡ self.old.traversal }
+        ensures receiver { self.new.receiver ≡ self.old.receiver }
         ensures entries { self.new.entries ≡ self.old.entries }
         ensures fed { self.new.fed ≡ self.old.fed }
+        ensures messages { self.new.messages ≡ self.old.messages }
         ensures framing { self.new.framing ≡ self.old.framing }
+        ensures room { self.new.left ≡ self.old.left }
     {
         self.lack = None;
-        match append(&mut self.held, chunk) {
-            Err(_) => Err(self.refuse()),
-            Ok(()) => {
-                self.waiting = lack.number;
-                self.lack = Some(lack);
-                Ok(())
-            }
-        }
+        append(&mut self.held, chunk)?;
+        self.waiting = lack.number;
+        self.lack = Some(lack);
+        Ok(())
     }
 
     /// Takes the next bytes of the stream, behind which the piece that is not whole still lacks some, as `still_lacking`
@@ -347,7 +389,7 @@ impl<'a, R: Receiver, E: Entries> Machine<'a, R, E> {
     {
         self.fed += chunk.len() as u64;
         match self.hold_more(lack, chunk) {
-            Err(fault) => Err(fault),
+            Err(_) => Err(self.refuse()),
             Ok(()) => Ok(()),
         }
     }
@@ -649,7 +691,7 @@ impl<'a, R: Receiver, E: Entries> Machine<'a, R, E> {
     {
         if let Some(lack) = self.still_lacking(chunk) {
             return match self.hold_more(lack, chunk) {
-                Err(fault) => Err(fault),
+                Err(_) => Err(self.refuse()),
                 Ok(()) => Ok(None),
             };
         }
@@ -661,11 +703,14 @@ impl<'a, R: Receiver, E: Entries> Machine<'a, R, E> {
             };
         }
         let mut bytes = mem::replace(&mut self.held, Vec::new(self.alloc));
-        match bytes.extend_from_slice(chunk) {
+        match append(&mut bytes, chunk) {
             Err(_) => Err(self.refuse()),
             Ok(()) => match self.read(&bytes) {
                 Err(fault) => Err(fault),
-                Ok(next) => Ok(next),
+                Ok(next) => {
+                    hold_in(&mut self.held, bytes);
+                    Ok(next)
+                }
             },
         }
     }

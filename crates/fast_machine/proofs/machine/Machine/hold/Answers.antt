@@ -1,7 +1,8 @@
+use Rattle.std.proofs.Common.{◌≡◌, [], rules}
 use Rattle.fast_template.specs.TemplateSets.{templates_in}
 use Rattle.fast_machine.specs.Standing.{ReadsOn, framed_as}
 use Rattle.fast_machine.proofs.Standings.{carried_of}
-use Rattle.fast_machine.proofs.Followings.{left_behind, memory_refused}
+use Rattle.fast_machine.proofs.Followings.{left_behind, memory_refused, none_of}
 use Rattle.fast_machine.proofs.machine.Machine.hold.Goals as goal
 
 pub returns-in-Err-clause-follows : goal.returns-in-Err-clause-follows
@@ -19,6 +20,11 @@ returns-in-Err-clause-follows g c = λ before fed messages short counts stands w
       );
       counts = rw (r.fed, r.messages) counts;
     }
+
+pub returns-then-is_empty-clause-follows : goal.returns-then-is_empty-clause-follows
+returns-then-is_empty-clause-follows g c = λ before fed messages short counts stands waits.
+    let none : c.args.rest.now ≡ [] = none_of c.args.rest.now (search rules) in
+    record { at = rw (c.requires.fault, c.requires.held) (rw none at stands, rw none at waits); counts = counts }
 
 pub returns-in-Ok-clause-follows : goal.returns-in-Ok-clause-follows
 returns-in-Ok-clause-follows g c = λ before fed messages short counts stands waits.

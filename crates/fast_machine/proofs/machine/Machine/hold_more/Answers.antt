@@ -1,30 +1,10 @@
 use Rattle.std.proofs.Common.{◌++◌, inr}
-use Rattle.fast_template.specs.TemplateSets.{templates_in}
-use Rattle.fast_machine.specs.Standing.{ReadsOn, framed_as}
-use Rattle.fast_machine.proofs.Standings.{carried_of}
-use Rattle.fast_machine.proofs.Followings.{left_behind, memory_refused}
 use Rattle.fast_machine.proofs.Lackings.{still_waits}
 use Rattle.fast_machine.proofs.machine.Machine.hold_more.Goals as goal
 
-pub returns-in-Err-clause-follows : goal.returns-in-Err-clause-follows
-returns-in-Err-clause-follows g c = λ before fed messages short counts stands.
-    let r = c.refuse.ensures in
-    let old = c.args.self.now in
-    let R = g.R.Receiver in
-    let G = ReadsOn R.has R.stands R.keeps old.traversal old.receiver (g.E.Entries.contents old.entries) before in
-    record {
-      at = rw (r.kept, r.traversal, r.framing) (
-        memory_refused c.refuse.result (framed_as old.framing old.traversal) (templates_in old.traversal.set.now) fed messages old.fed old.messages counts short
-            (carried_of old.framing old.left G old.traversal (old.held.items ++ c.args.chunk.now) fed messages stands) r.cause r.message r.offset r.template r.instruction,
-        r.held,
-        left_behind R.has R.stands R.keeps old.framing old.left old.traversal old.receiver c.refuse.new.self.receiver (g.E.Entries.contents old.entries) before (old.held.items ++ c.args.chunk.now) fed messages r.left stands,
-      );
-      counts = rw (r.fed, r.messages) counts;
-    }
-
-pub returns-in-Ok-clause-follows : goal.returns-in-Ok-clause-follows
-returns-in-Ok-clause-follows g c = λ before fed messages short counts stands.
+pub returns-clause-follows : goal.returns-clause-follows
+returns-clause-follows g c = λ before fed messages short counts stands.
     let old = c.args.self.now in
     let R = g.R.Receiver in
     let waits = still_waits R.has R.stands R.keeps old.traversal old.receiver (g.E.Entries.contents old.entries) before c.args.lack old.framing old.left (old.held.items ++ c.args.chunk.now) fed messages c.requires.lacks c.requires.room stands in
-    record { at = rw (c.requires.fault, c.in-Ok.ensures.items) (stands, inr waits); counts = counts }
+    record { at = rw (c.requires.fault, c.in_ok-append.ensures.items) (stands, inr waits); counts = counts }
