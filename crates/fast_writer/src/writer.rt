@@ -353,6 +353,10 @@ impl Output for Writer {
 
     ghost waiting = { λ w. w.out.items };
 
+    ghost ready = { λ w. w.out.items };
+
+    ghost left = { λ w. 0 };
+
     ghost makes = { λ set ms out. IsCanonical set ms out };
 
     #[inline(always)]
@@ -361,8 +365,9 @@ impl Output for Writer {
     }
 
     #[inline(always)]
-    fn hand_on(&mut self) {
+    fn hand_on(&mut self, _alloc: Global) -> Result<bool, AllocError> {
         self.out.clear();
+        Ok(false)
     }
 
     ghost made = { λ w set handed ms d. elim [ inl h ↦ (d, h) | inr h ↦ (d, h) ] };
