@@ -38,11 +38,17 @@ fn is_refused(
     Ok(machine.finish().is_err())
 }
 
-// What waits in a machine, and nothing once it is handed on.
-fn waits(rt: &impl Abort, machine: &mut Machine<'_, Writer, SlotEntries<'_>>, canonical: &[u8]) {
+// What waits in a machine is ready as a whole, and nothing waits once it is handed on.
+fn waits(
+    rt: &impl Abort,
+    alloc: Global,
+    machine: &mut Machine<'_, Writer, SlotEntries<'_>>,
+    canonical: &[u8],
+) -> Result<(), AllocError> {
     same(rt, machine.receiver.finished(), canonical);
-    machine.receiver.hand_on();
+    same(rt, machine.receiver.hand_on(alloc)?, false);
     same(rt, machine.receiver.finished().len(), 0);
+    Ok(())
 }
 
 fn is_relayed(
@@ -61,8 +67,7 @@ fn is_relayed(
         true,
     );
     same(rt, refused?, row.refused);
-    waits(rt, &mut machine, row.canonical);
-    Ok(())
+    waits(rt, alloc, &mut machine, row.canonical)
 }
 
 fn all_relayed(rt: &impl Abort, alloc: Global, rows: &[Row]) -> Result<(), AllocError> {
