@@ -7,16 +7,20 @@ use Rattle.fast_decoder.specs.declared.input.Reached.{Reached}
 use Rattle.fast_decoder.specs.declared.input.Reached.TheVariants as reached
 use Rattle.fast_machine.specs.declared.machine.Machine.{Machine}
 use Rattle.fast_walk.specs.declared.receiver.Receiver.{Ghosts as Receiving}
-use Rattle.fast_decoder.specs.Inputs.{HasReached}
+use Rattle.fast_decoder.specs.Inputs.{HasReached, Reader}
 use Rattle.fast_stream.specs.declared.fault.Fault.{Fault}
 use Rattle.fast_stream.specs.declared.mode.Mode.{Mode}
 use Rattle.fast_stream.specs.Nodes.{Content}
 use Rattle.fast_machine.specs.Standing.{Carried, ReadsOn}
 use Rattle.fast_machine.specs.Following.{mode_of}
+use Rattle.std.specs.Io.KnownBytes.{Appends}
 use Rattle.fast_io.specs.Counts.{counted_by}
+use Rattle.fast_io.specs.Traffic.{Taken}
+use Rattle.fast_io.proofs.Outputs.{Appends-trans}
 use Rattle.fast_machine.proofs.Followings.{all_carried}
 use Rattle.fast_machine.proofs.Standings.{carried_of}
-use Rattle.fast_pass.specs.Relays.{Making, Relays}
+use Rattle.fast_pass.specs.Passed.{PassesFront}
+use Rattle.fast_pass.specs.Relays.{Broken, Making, Relays}
 use Rattle.fast_pass.specs.declared.summary.Summary.{Summary}
 use Rattle.fast_walk.specs.Received.{handed_on}
 
@@ -38,6 +42,19 @@ carried_more mode set bytes more messages c = record { front = c.front; rest = c
 pub carried_as : (mode above : Mode) (set other : TemplateList) (bytes : List ℕ) (messages : List Content) → above ≡ mode → other ≡ set → Carried above (templates_in other) bytes messages → Carried mode (templates_in set) bytes messages
 carried_as mode above set other bytes messages alike same c =
     subst (λ (s : TemplateList). Carried mode (templates_in s) bytes messages) same (subst (λ (x : Mode). Carried x (templates_in other) bytes messages) alike c)
+
+-- ---- which bytes were handed on
+
+-- a front of what waited was taken, and then a front of what was ready
+pub taken_on : (a b c : Option (List ℕ)) (waiting front now ready behind bytes rest : List ℕ) → waiting ≡ front ++ now → now ≡ ready ++ behind → bytes ≡ ready → Appends a b front → Taken b c bytes rest → (left : List ℕ) × Taken a c waiting left
+taken_on a b c waiting front now ready behind bytes rest whole parts same before t = (
+  rest ++ behind,
+  record {
+    front = front ++ t.front;
+    parts = whole ∙ ap (λ (xs : List ℕ). front ++ xs) (parts ∙ ap (λ (xs : List ℕ). xs ++ behind) (sym same ∙ t.parts) ∙ append_assoc t.front rest behind) ∙ sym (append_assoc front t.front (rest ++ behind));
+    appended = Appends-trans a b c front t.front before t.appended;
+  },
+)
 
 -- ---- how many bytes were handed on
 
@@ -86,3 +103,17 @@ summary_by m r w = record { messages = m; read = r; written = w }
 
 pub summary_is : (m n r s w x : ℕ) → m ≡ n → r ≡ s → w ≡ x → summary_by m r w ≡ summary_by n s x
 summary_is m n r s w x a b c = rw (a, b, c) refl
+
+-- ---- what is answered
+
+-- what was written before the relay was kept from going on
+pub front_written : {O E : Type 0} {receiver : Receiving O} {entries : Ghosts E} (makes : Making) (mode : Mode) (set : TemplateList) (m : Machine O E receiver entries) (turns : ℕ) (old new : Reader) (taken_old taken_new : Option (List ℕ))
+    → mode_of m ≡ mode → m.traversal.set.now ≡ set → (b : Broken makes m turns old new taken_old taken_new) → PassesFront makes mode (templates_in set) taken_old taken_new b.input
+front_written makes mode set m turns old new taken_old taken_new how same b = record {
+  messages = b.messages;
+  front = b.front;
+  rest = b.rest;
+  carried = carried_as mode (mode_of m) set m.traversal.set.now b.input b.messages how same b.carried;
+  made = subst (λ (s : TemplateList). makes (templates_in s) b.messages (b.front ++ b.rest)) same b.made;
+  written = b.moves.written;
+}

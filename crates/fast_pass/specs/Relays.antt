@@ -1,7 +1,7 @@
 -- How a stream on its way through an output stands to the bytes read and to the bytes handed on.
-use Rattle.std.specs.Prelude.{◌≡◌, ◌≢◌, ◌≤◌, ℕ, List, ◌∷◌, ◌++◌, length, Option, None}
+use Rattle.std.specs.Prelude.{◌≡◌, ◌≢◌, ◌≤◌, ℕ, List, ◌∷◌, ◌++◌, length, Option, None, Result, Ok, Err}
 use Rattle.std.specs.Io.KnownBytes.{Appends}
-use Rattle.fast_io.specs.Counts.{counted_by}
+use Rattle.fast_io.specs.Counts.{counted, counted_by}
 use Rattle.fast_template.specs.Resolved.{Resolved}
 use Rattle.fast_template.specs.TemplateSets.{templates_in}
 use Rattle.fast_dictionary.specs.declared.entries.Entries.{Ghosts}
@@ -15,6 +15,8 @@ use Rattle.fast_machine.specs.Following.{Counts, Follows, mode_of}
 use Rattle.fast_decoder.specs.Inputs.{HasReached, IsCaused, OnFault, Reader, Reads}
 use Rattle.fast_machine.specs.Standing.{Carried}
 use Rattle.fast_walk.specs.Received.{handed_on}
+use Rattle.fast_pass.specs.declared.stop.Stop.{Stop}
+use Rattle.fast_pass.specs.declared.stop.Stop.TheVariants as stop
 
 -- what an output makes of messages of a set
 abbrev pub Making : Type 1
@@ -51,7 +53,7 @@ pub record Relayed {O E : Type 0} {receiver : Receiving O} {entries : Ghosts E} 
   pub size_is : size ≡ counted_by 0 (length handed)
   pub caused : IsCaused at (count ≡ turns) old new
 
--- A write failed behind a front of what was made of messages that were read.
+-- A write failed or memory was refused behind a front of what was made of messages that were read.
 pub record Broken {O E : Type 0} {receiver : Receiving O} {entries : Ghosts E} (makes : Making) (m : Machine O E receiver entries) (turns : ℕ) (old new : Reader) (taken_old taken_new : Option (List ℕ)) : Type 0 where
   pub count : ℕ
   pub front : List ℕ
@@ -74,8 +76,19 @@ Steps waiting makes at old new left later taken_old taken_new size got Because =
 abbrev pub IsOfBytes : Reached → Type 0
 IsOfBytes at = (at ≢ reached.End) × OnFault at (λ c. (c ≢ Truncated) × (c ≢ Read) × (c ≢ Turns))
 
--- The same where a write failed: a front of what more was made is handed on.
+-- The same where a write failed or memory was refused: a front of what more was made is handed on.
 abbrev pub Fails : {O E : Type 0} {receiver : Receiving O} {entries : Ghosts E} → (O → List ℕ) → Making → Machine O E receiver entries → Machine O E receiver entries → Option (List ℕ) → Option (List ℕ) → Option (List ℕ) → List ℕ → Type 0
 Fails waiting makes old new left taken_old taken_new got = (turns : ℕ) (handed input : List ℕ) (messages : List Content) → Relays waiting makes reached.Open old turns left handed input messages
     → (more rest : List ℕ) × (ended : List Content) × Carried (mode_of new) (templates_in new.traversal.set.now) (input ++ got) (messages ++ ended)
     × makes (templates_in new.traversal.set.now) (messages ++ ended) ((handed ++ more) ++ rest) × Appends taken_old taken_new more
+
+-- ---- the calls of the writer
+
+-- a call of the writer failed where a failed write keeps the relay from going on, and only there
+abbrev pub errors_at : Stop → ℕ → ℕ
+errors_at stop.Write old = counted old
+errors_at stop.Memory old = old
+
+abbrev pub errors_behind : {T : Type 0} → Result T Stop → ℕ → ℕ
+errors_behind (Ok x) old = old
+errors_behind (Err s) old = errors_at s old

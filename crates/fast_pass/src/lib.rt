@@ -6,6 +6,7 @@
 
 mod fault;
 mod relay;
+mod stop;
 mod summary;
 
 pub use fault::CanonFault;

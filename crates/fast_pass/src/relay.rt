@@ -3,7 +3,8 @@
 ghost use Rattle.std.specs.Prelude.{◌≡◌, ◌≢◌, ◌≤◌, ◌<◌, ◌+◌, ◌++◌, ◌∷◌, ◌^◌, [], true, false, ℕ, List, Option, OnOk, OnErr, IfOk, None, length};
 ghost use Rattle.std.specs.FinMap as finite;
 ghost use Rattle.std.specs.Io.KnownBytes.{Appends};
-ghost use Rattle.fast_io.specs.Traffic.{CountsError, Taken};
+ghost use Rattle.fast_io.specs.Counts.{counted_by};
+ghost use Rattle.fast_io.specs.Traffic.{Taken};
 ghost use Rattle.fast_template.specs.TemplateSets.{IsSound, templates_in};
 ghost use Rattle.fast_stream.specs.Nodes.{Content};
 ghost use Rattle.fast_walk.specs.Received.{handed_on};
@@ -11,10 +12,11 @@ ghost use Rattle.fast_decoder.specs.Inputs.{IsCaused, Reads, reader_by};
 ghost use Rattle.fast_decoder.specs.declared.input.Reached.{Reached as ReachedNow};
 ghost use Rattle.fast_decoder.specs.declared.input.Reached.TheVariants as reached;
 ghost use Rattle.fast_pass.specs.Passed.{FlushesOnce, IsCausedBy, Passes, errors_after};
-ghost use Rattle.fast_pass.specs.Relays.{Broken, Fails, IsOfBytes, Relayed, Relays, Steps};
+ghost use Rattle.fast_pass.specs.Relays.{Broken, Fails, IsOfBytes, Relayed, Relays, Steps, errors_behind};
 ghost use Rattle.fast_machine.specs.Following.{mode_of};
 
 use crate::fault::CanonFault;
+use crate::stop::Stop;
 use crate::summary::Summary;
 use fast_decoder::Reached;
 use fast_dictionary::{Entries, SlotEntries};
@@ -28,15 +30,16 @@ use std::alloc::Global;
 /// The most bytes that one read takes.
 const CHUNK: usize = 4096;
 
-/// From so many bytes on, what waits in an output is handed on before the next message is read.
+/// From so many bytes on that are ready in an output, what waits is handed on before the next message is read.
 const MANY: usize = 65_536;
 
-/// Hands on the bytes that wait, and answers how many they are.
+/// Hands on the bytes that wait, front by front, and answers how many they are.
 fn hand_on<O: Output, W: ByteOutput, E: Entries>(
     machine: &mut Machine<'_, O, E>,
+    alloc: Global,
     writer: &mut W,
-) -> Result<usize, Failed>
-    ensures count { IfOk result (λ n. n ≡ length (O.waiting machine.old.receiver)) }
+) -> Result<u64, Stop>
+    ensures count { IfOk result (λ n. n ≡ counted_by 0 (length (O.waiting machine.old.receiver))) }
     ensures written { OnOk result (Appends (W.taken writer.old) (W.taken writer.new)
         (O.waiting machine.old.receiver)) }
     ensures relays { OnOk result ((at : ReachedNow) (turns : ℕ)
@@ -47,39 +50,44 @@ fn hand_on<O: Output, W: ByteOutput, E: Entries>(
     ensures empty { OnOk result (O.waiting machine.new.receiver ≡ []) }
     ensures part { OnErr result ((rest : List ℕ) × Taken (W.taken writer.old)
         (W.taken writer.new) (O.waiting machine.old.receiver) rest) }
-    ensures unchanged { OnErr result (machine.new ≡ machine.old) }
-    ensures failed { CountsError result (W.errors writer.old) (W.errors writer.new) }
+    ensures failed { W.errors writer.new ≡ errors_behind result (W.errors writer.old) }
     ensures flushes { W.flushes writer.new ≡ W.flushes writer.old }
     ensures fault { machine.new.fault ≡ machine.old.fault }
     ensures set { machine.new.traversal ≡ machine.old.traversal }
     ensures mode { mode_of machine.new ≡ mode_of machine.old }
     ensures fed { machine.new.fed ≡ machine.old.fed }
 {
-    let count = machine.receiver.finished().len();
-    match push_all(writer, machine.receiver.finished()) {
-        Err(failed) => Err(failed),
-        Ok(()) => {
-            machine.receiver.hand_on();
-            Ok(count)
+    let mut count = 0u64;
+    let mut more = true;
+    'fronts: while more {
+        let front = machine.receiver.finished();
+        match push_all(writer, front) {
+            Err(_) => return Err(Stop::Write),
+            Ok(()) => count = count.saturating_add(front.len() as u64),
+        }
+        match machine.receiver.hand_on(alloc) {
+            Err(_) => return Err(Stop::Memory),
+            Ok(waits) => more = waits,
         }
     }
+    Ok(count)
 }
 
-/// Hands on the bytes that wait where they are many, and answers how many were handed on.
+/// Hands on the bytes that wait where many are ready, and answers how many were handed on.
 #[inline(always)]
 fn hand_on_many<O: Output, W: ByteOutput, E: Entries>(
     machine: &mut Machine<'_, O, E>,
+    alloc: Global,
     writer: &mut W,
-) -> Result<usize, Failed>
+) -> Result<u64, Stop>
     ensures relays { IfOk result (λ n. (at : ReachedNow) (turns : ℕ)
         (left : Option (List ℕ)) (handed input : List ℕ) (messages : List Content)
         → Relays O.waiting O.makes at machine.old turns left handed input messages
-        → (more : List ℕ) × (n ≡ length more) × Appends (W.taken writer.old) (W.taken writer.new) more
+        → (more : List ℕ) × (n ≡ counted_by 0 (length more)) × Appends (W.taken writer.old) (W.taken writer.new) more
         × Relays O.waiting O.makes at machine.new turns left (handed ++ more) input messages) }
     ensures part { OnErr result ((rest : List ℕ) × Taken (W.taken writer.old)
         (W.taken writer.new) (O.waiting machine.old.receiver) rest) }
-    ensures unchanged { OnErr result (machine.new ≡ machine.old) }
-    ensures failed { CountsError result (W.errors writer.old) (W.errors writer.new) }
+    ensures failed { W.errors writer.new ≡ errors_behind result (W.errors writer.old) }
     ensures flushes { W.flushes writer.new ≡ W.flushes writer.old }
     ensures fault { machine.new.fault ≡ machine.old.fault }
     ensures set { machine.new.traversal ≡ machine.old.traversal }
@@ -89,8 +97,8 @@ fn hand_on_many<O: Output, W: ByteOutput, E: Entries>(
     if machine.receiver.finished().len() < MANY {
         return Ok(0);
     }
-    match hand_on(machine, writer) {
-        Err(failed) => Err(failed),
+    match hand_on(machine, alloc, writer) {
+        Err(stop) => Err(stop),
         Ok(count) => Ok(count),
     }
 }
@@ -99,9 +107,10 @@ fn hand_on_many<O: Output, W: ByteOutput, E: Entries>(
 /// answers how far the stream came, and how many bytes were handed on.
 fn take_in<O: Output, W: ByteOutput, E: Entries>(
     machine: &mut Machine<'_, O, E>,
+    alloc: Global,
     bytes: &[u8],
     writer: &mut W,
-) -> Result<(Reached, u64), Failed>
+) -> Result<(Reached, u64), Stop>
     requires fault { machine.now.fault ≡ None }
     requires room { machine.now.fed + length bytes.now ≤ 2 ^ 60 }
     ensures steps { IfOk result (λ x. (left : Option (List ℕ)) → Steps O.waiting O.makes x.0 machine.old machine.new left left
@@ -109,7 +118,7 @@ fn take_in<O: Output, W: ByteOutput, E: Entries>(
     ensures fails { OnErr result ((left : Option (List ℕ)) → Fails O.waiting O.makes machine.old machine.new left
         (W.taken writer.old) (W.taken writer.new) bytes.now) }
     ensures open { IfOk result (λ x. x.0 ≡ reached.Open → machine.new.fault ≡ None) }
-    ensures failed { CountsError result (W.errors writer.old) (W.errors writer.new) }
+    ensures failed { W.errors writer.new ≡ errors_behind result (W.errors writer.old) }
     ensures flushes { W.flushes writer.new ≡ W.flushes writer.old }
     ensures set { machine.new.traversal.set ≡ machine.old.traversal.set }
     ensures mode { mode_of machine.new ≡ mode_of machine.old }
@@ -122,9 +131,9 @@ fn take_in<O: Output, W: ByteOutput, E: Entries>(
             Err(fault) => return Ok((Reached::Fault(fault), written)),
             Ok(taken) => at += taken,
         }
-        match hand_on_many(machine, writer) {
-            Err(failed) => return Err(failed),
-            Ok(count) => written = written.saturating_add(count as u64),
+        match hand_on_many(machine, alloc, writer) {
+            Err(stop) => return Err(stop),
+            Ok(count) => written = written.saturating_add(count),
         }
     }
     Ok((Reached::Open, written))
@@ -133,10 +142,11 @@ fn take_in<O: Output, W: ByteOutput, E: Entries>(
 /// Makes one read, and takes what it gave; answers how far the stream came, and how many bytes were handed on.
 fn read_on<O: Output, R: ByteInput, W: ByteOutput, E: Entries>(
     machine: &mut Machine<'_, O, E>,
+    alloc: Global,
     reader: &mut R,
     writer: &mut W,
     chunk: &mut [u8; CHUNK],
-) -> Result<(Reached, u64), Failed>
+) -> Result<(Reached, u64), Stop>
     requires fault { machine.now.fault ≡ None }
     requires room { machine.now.fed + CHUNK ≤ 2 ^ 60 }
     ensures read { (got : List ℕ)
@@ -150,7 +160,7 @@ fn read_on<O: Output, R: ByteInput, W: ByteOutput, E: Entries>(
         × OnErr result (Fails O.waiting O.makes machine.old machine.new (R.left reader.old)
         (W.taken writer.old) (W.taken writer.new) got) }
     ensures open { IfOk result (λ x. x.0 ≡ reached.Open → machine.new.fault ≡ None) }
-    ensures failed { CountsError result (W.errors writer.old) (W.errors writer.new) }
+    ensures failed { W.errors writer.new ≡ errors_behind result (W.errors writer.old) }
     ensures flushes { W.flushes writer.new ≡ W.flushes writer.old }
     ensures set { machine.new.traversal.set ≡ machine.old.traversal.set }
     ensures mode { mode_of machine.new ≡ mode_of machine.old }
@@ -161,8 +171,8 @@ fn read_on<O: Output, R: ByteInput, W: ByteOutput, E: Entries>(
             Ok(()) => Ok((Reached::End, 0)),
             Err(fault) => Ok((Reached::Fault(fault), 0)),
         },
-        Ok(count) => match take_in(machine, &chunk[..count], writer) {
-            Err(failed) => Err(failed),
+        Ok(count) => match take_in(machine, alloc, &chunk[..count], writer) {
+            Err(stop) => Err(stop),
             Ok(came) => Ok(came),
         },
         Err(Failed) => Ok((Reached::Fault(machine.cut(Cause::Read)), 0)),
@@ -183,10 +193,11 @@ fn is_open(reached: Reached) -> bool
 /// of them it was, and how many bytes were handed on.
 fn relay<O: Output, R: ByteInput, W: ByteOutput, E: Entries>(
     machine: &mut Machine<'_, O, E>,
+    alloc: Global,
     reader: &mut R,
     writer: &mut W,
     turns: u64,
-) -> Result<(Reached, u64), Failed>
+) -> Result<(Reached, u64), Stop>
     requires turns { turns ≤ 2 ^ 40 }
     requires fed { machine.now.fed ≡ 0 }
     requires fault { machine.now.fault ≡ None }
@@ -201,7 +212,7 @@ fn relay<O: Output, R: ByteInput, W: ByteOutput, E: Entries>(
         → Broken O.makes machine.new turns (reader_by R.left R.calls R.errors R.ends reader.old)
         (reader_by R.left R.calls R.errors R.ends reader.new)
         (W.taken writer.old) (W.taken writer.new)) }
-    ensures failed { CountsError result (W.errors writer.old) (W.errors writer.new) }
+    ensures failed { W.errors writer.new ≡ errors_behind result (W.errors writer.old) }
     ensures flushes { W.flushes writer.new ≡ W.flushes writer.old }
     ensures set { machine.new.traversal.set ≡ machine.old.traversal.set }
     ensures mode { mode_of machine.new ≡ mode_of machine.old }
@@ -212,17 +223,17 @@ fn relay<O: Output, R: ByteInput, W: ByteOutput, E: Entries>(
     // (one for all reads, since to make one anew is to fill it)
     let mut chunk = [0u8; CHUNK];
     'reads: while is_open(reached) && reads < turns {
-        match read_on(machine, reader, writer, &mut chunk) {
-            Err(failed) => return Err(failed),
+        match read_on(machine, alloc, reader, writer, &mut chunk) {
+            Err(stop) => return Err(stop),
             Ok((came, count)) => {
                 reached = came;
                 written = written.saturating_add(count);
             }
         }
         reads += 1;
-        match hand_on(machine, writer) {
-            Err(failed) => return Err(failed),
-            Ok(count) => written = written.saturating_add(count as u64),
+        match hand_on(machine, alloc, writer) {
+            Err(stop) => return Err(stop),
+            Ok(count) => written = written.saturating_add(count),
         }
     }
     match reached {
@@ -273,8 +284,9 @@ pub fn pass_through<O: Output, R: ByteInput, W: ByteOutput>(
         Ok(entries) => entries,
     };
     let mut machine = Machine::new(alloc, set, mode, output, entries);
-    match relay(&mut machine, reader, writer, turns) {
-        Err(_) => Err(CanonFault::Write),
+    match relay(&mut machine, alloc, reader, writer, turns) {
+        Err(Stop::Write) => Err(CanonFault::Write),
+        Err(Stop::Memory) => Err(CanonFault::Memory),
         Ok((reached, written)) => match writer.flush() {
             Err(_) => Err(CanonFault::Write),
             Ok(()) => match reached {

@@ -10,7 +10,7 @@ use Rattle.fast_decoder.proofs.Inputs.{none_read}
 use Rattle.fast_walk.specs.Received.{handed_on}
 use Rattle.fast_pass.specs.Passed.{PassesBefore, PassesFront}
 use Rattle.fast_io.proofs.Outputs.{Appends-kept, Appends-nil}
-use Rattle.fast_pass.proofs.Relayings.{carried_reached, is_end, summary_is}
+use Rattle.fast_pass.proofs.Relayings.{carried_reached, front_written, is_end, summary_is}
 use Rattle.fast_pass.proofs.relay.pass_through.Goals as goal
 
 pub returns-in-Err-clause-answer : goal.returns-in-Err-clause-answer
@@ -31,26 +31,33 @@ returns-in-Err-clause-answer g c =
       tt,
     )
 
-pub returns-in-Err-relay-clause-answer : goal.returns-in-Err-relay-clause-answer
-returns-in-Err-relay-clause-answer g c =
+pub returns-in-Err-Write-clause-answer : goal.returns-in-Err-Write-clause-answer
+returns-in-Err-Write-clause-answer g c =
     let O = g.O.Output in
+    let m = c.relay.new.machine in
     let same = ap (λ x. x.now) c.relay.ensures.set ∙ c.new-machine.ensures.set in
     let how = c.relay.ensures.mode ∙ c.new-machine.ensures.mode in
     let nothing = g.met.O.Output.made c.args.output (templates_in c.args.set.now) [] [] finite.empty (inr c.requires.begins) in
-    let b = c.in-Err-relay.ensures.broken (record {
+    let b = c.in-Err-Write.ensures.broken (record {
       holds = record { unrefused = c.new-machine.ensures.fault; follows = c.new-machine.ensures.follows (handed_on [] ∷ []) c.requires.begins };
       made = rw (c.new-machine.ensures.set, c.new-machine.ensures.receiver) nothing;
       counts = λ e. absurd cc;
-    }) in (
-      b.count,
-      b.input,
-      b.moves.reads,
-      b.moves.bounded,
-      subst (λ (x : Mode). PassesFront O.makes x (templates_in c.args.set.now) (g.W.ByteOutput.taken c.args.writer.now) (g.W.ByteOutput.taken c.relay.new.writer) b.input) how
-          (subst (λ (s : TemplateList). PassesFront O.makes (mode_of c.relay.new.machine) (templates_in s) (g.W.ByteOutput.taken c.args.writer.now) (g.W.ByteOutput.taken c.relay.new.writer) b.input) same
-          (record { messages = b.messages; front = b.front; rest = b.rest; carried = b.carried; made = b.made; written = b.moves.written })),
-      tt,
-    )
+    }) in
+    (b.count, b.input, b.moves.reads, b.moves.bounded, front_written O.makes _ c.args.set.now m _ _ _ _ _ how same b, tt)
+
+pub returns-in-Err-Memory-clause-answer : goal.returns-in-Err-Memory-clause-answer
+returns-in-Err-Memory-clause-answer g c =
+    let O = g.O.Output in
+    let m = c.relay.new.machine in
+    let same = ap (λ x. x.now) c.relay.ensures.set ∙ c.new-machine.ensures.set in
+    let how = c.relay.ensures.mode ∙ c.new-machine.ensures.mode in
+    let nothing = g.met.O.Output.made c.args.output (templates_in c.args.set.now) [] [] finite.empty (inr c.requires.begins) in
+    let b = c.in-Err-Memory.ensures.broken (record {
+      holds = record { unrefused = c.new-machine.ensures.fault; follows = c.new-machine.ensures.follows (handed_on [] ∷ []) c.requires.begins };
+      made = rw (c.new-machine.ensures.set, c.new-machine.ensures.receiver) nothing;
+      counts = λ e. absurd cc;
+    }) in
+    (b.count, b.input, b.moves.reads, b.moves.bounded, front_written O.makes _ c.args.set.now m _ _ _ _ _ how same b, tt)
 
 pub returns-in-Err-flush-clause-answer : goal.returns-in-Err-flush-clause-answer
 returns-in-Err-flush-clause-answer g c =

@@ -1,5 +1,5 @@
 use Rattle.std.proofs.Common.{◌≡◌, ◌≤◌, ◌+◌, ◌++◌, ◌∷◌, ℕ, List, length-append, arith, append_assoc, append-nil, ap, sym, subst, ◌∙◌}
-use Rattle.fast_template.specs.TemplateSets.{templates_in}
+use Rattle.fast_template.specs.TemplateSets.{TemplateList, templates_in}
 use Rattle.fast_decoder.specs.declared.input.Reached.TheVariants as reached
 use Rattle.fast_decoder.specs.Inputs.{reader_by}
 use Rattle.fast_decoder.proofs.Inputs.{causes_end, causes_on, causes_weaker, more_read, refused_by_turns}
@@ -7,7 +7,7 @@ use Rattle.fast_walk.specs.Received.{handed_on}
 use Rattle.fast_machine.specs.Following.{mode_of}
 use Rattle.fast_pass.specs.Relays.{GoesOn}
 use Rattle.fast_io.proofs.Outputs.{Appends-trans}
-use Rattle.fast_pass.proofs.Relayings.{carried_by, closed_with, counts_apart, counts_more, shut}
+use Rattle.fast_pass.proofs.Relayings.{carried_as, carried_by, closed_with, counts_apart, shut}
 use Rattle.fast_pass.proofs.relay.relay.Goals.{then-reads-test+else-reads-turns, else-reads-test}
 use Rattle.fast_pass.proofs.relay.relay.Goals as goal
 
@@ -54,7 +54,7 @@ reads-preserved g c =
             all,
             h.relays came c.args.turns d.left handed input messages e.2,
             Appends-trans _ _ _ handed out (Appends-trans _ _ _ i.0 e.0 i.5 e.3) h.written,
-            counts_more c.saturating_add-written.result _ _ handed out (counts_apart l.written _ _ i.0 e.0 i.6 e.4 c.saturating_add-written.ensures) h.count c.saturating_add-written-in-Ok-hand_on.ensures,
+            counts_apart c.saturating_add-written.result _ _ handed out (counts_apart l.written _ _ i.0 e.0 i.6 e.4 c.saturating_add-written.ensures) h.count c.saturating_add-written-in-Ok-hand_on.ensures,
             (λ k. let some = ok.0 k in omega (arith, some, gave, size)),
             causes_on reached.Open l.reached came a b d opened i.8 e.5,
           );
@@ -98,6 +98,8 @@ returns-in-Err-hand_on-clause-broken g c = λ start.
     let h = c.in-Err-hand_on.ensures in
     let opened = c.is_open.ensures.yes c.reads-test.true in
     let next = c.read_on.new.machine in
+    let last = c.hand_on.new.machine in
+    let set : last.traversal.set.now ≡ next.traversal.set.now = ap (λ t. t.set.now) h.set in
     let a = reader_by g.R.ByteInput.left g.R.ByteInput.calls g.R.ByteInput.errors g.R.ByteInput.ends c.args.reader.now in
     let b = reader_by g.R.ByteInput.left g.R.ByteInput.calls g.R.ByteInput.errors g.R.ByteInput.ends l.reader in
     let d = reader_by g.R.ByteInput.left g.R.ByteInput.calls g.R.ByteInput.errors g.R.ByteInput.ends c.read_on.new.reader in
@@ -119,8 +121,9 @@ returns-in-Err-hand_on-clause-broken g c = λ start.
         bounded = omega arith;
         written = Appends-trans _ _ _ handed t.1.front (Appends-trans _ _ _ i.0 e.0 i.5 e.3) t.1.appended;
       };
-      carried = rw (h.unchanged) (carried_by O.waiting O.makes came next c.args.turns d.left handed input messages e.2);
-      made = rw (h.unchanged) (subst (λ (bytes : List ℕ). O.makes (templates_in next.traversal.set.now) messages bytes) (ap (λ (xs : List ℕ). handed ++ xs) t.1.parts ∙ sym (append_assoc handed t.1.front t.0)) e.2.made);
+      carried = carried_as (mode_of last) (mode_of next) last.traversal.set.now next.traversal.set.now input messages (sym h.mode) (sym set) (carried_by O.waiting O.makes came next c.args.turns d.left handed input messages e.2);
+      made = subst (λ (x : TemplateList). O.makes (templates_in x) messages ((handed ++ t.1.front) ++ t.0)) (sym set)
+          (subst (λ (bytes : List ℕ). O.makes (templates_in next.traversal.set.now) messages bytes) (ap (λ (xs : List ℕ). handed ++ xs) t.1.parts ∙ sym (append_assoc handed t.1.front t.0)) e.2.made);
     }
 
 pub returns-in-Open-clause-relayed : goal.returns-in-Open-clause-relayed

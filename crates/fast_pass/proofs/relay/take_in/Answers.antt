@@ -1,15 +1,16 @@
-use Rattle.std.proofs.Common.{◌≡◌, ◌++◌, ◌∷◌, ◌+◌, ◌-◌, ◌∙◌, [], ℕ, List, length, length-drop, take, drop, take-append-drop, refl, arith, ap, subst, append_assoc, append-nil}
-use Rattle.fast_template.specs.TemplateSets.{templates_in}
+use Rattle.std.proofs.Common.{◌≡◌, ◌++◌, ◌∷◌, ◌+◌, ◌-◌, ◌∙◌, [], ℕ, List, length, length-drop, take, drop, take-append-drop, refl, arith, ap, sym, subst, append_assoc, append-nil}
+use Rattle.fast_template.specs.TemplateSets.{TemplateList, templates_in}
 use Rattle.fast_stream.specs.Nodes.{Content}
 use Rattle.fast_decoder.specs.declared.input.Reached.TheVariants as reached
 use Rattle.fast_decoder.proofs.Inputs.{of_bytes, refused_by_bytes}
 use Rattle.fast_machine.specs.Following.{mode_of}
+use Rattle.fast_machine.specs.Standing.{Carried}
 use Rattle.fast_machine.proofs.Followings.{has_kept, slice_rest}
 use Rattle.fast_machine.proofs.MessageEnds.{none_before, take_again, take_whole}
 use Rattle.fast_walk.specs.Received.{handed_on}
 use Rattle.fast_io.proofs.Outputs.{Appends-nil, Appends-trans}
 use Rattle.fast_pass.specs.Relays.{Relays}
-use Rattle.fast_pass.proofs.Relayings.{carried_by, carried_more, counts_more}
+use Rattle.fast_pass.proofs.Relayings.{carried_as, carried_by, carried_more, counts_apart}
 use Rattle.fast_pass.proofs.relay.take_in.Goals as goal
 
 pub messages-init : goal.messages-init
@@ -96,7 +97,7 @@ messages-preserved g c =
                 (subst (λ (ms : List Content). Relays O.waiting O.makes reached.Open last turns left (before ++ on.0) (input ++ take (l.at + c.in-Ok.taken) bytes) ms) (append_assoc messages s.1 f.0)
                 (subst (λ (xs : List ℕ). Relays O.waiting O.makes reached.Open last turns left (before ++ on.0) xs (all ++ f.0)) read on.3)),
             Appends-trans _ _ _ s.0 on.0 s.3 on.2,
-            counts_more l.written _ _ s.0 on.0 s.4 on.1 c.saturating_add-written.ensures,
+            counts_apart l.written _ _ s.0 on.0 s.4 on.1 c.saturating_add-written.ensures,
             tt,
           );
     }
@@ -119,17 +120,22 @@ returns-in-Err-hand_on_many-clause-fails g c = λ left turns handed input messag
     let made = g.met.O.Output.made new.receiver (templates_in new.traversal.set.now) before (all ++ f.0) kept.0 kept.1 in
     let relays : Relays O.waiting O.makes reached.Open new turns left before (front ++ take c.in-Ok.taken slice) (all ++ f.0) = record { holds = record { unrefused = c.in-Ok.ensures.open; follows = f.1 }; made = made; counts = λ h. absurd cc } in
     let h = c.in-Err-hand_on_many.ensures in
+    let last = c.hand_on_many.new.machine in
+    let set : last.traversal.set.now ≡ new.traversal.set.now = ap (λ t. t.set.now) h.set in
     let t = h.part in
     let unread = drop c.in-Ok.taken slice in
     let whole : (front ++ take c.in-Ok.taken slice) ++ unread ≡ input ++ bytes =
     append_assoc front (take c.in-Ok.taken slice) unread ∙ ap (λ (xs : List ℕ). front ++ xs) (take-append-drop c.in-Ok.taken slice)
     ∙ append_assoc input (take l.at bytes) slice ∙ ap (λ (xs : List ℕ). input ++ (take l.at bytes ++ xs)) (slice_rest bytes l.at) ∙ ap (λ (xs : List ℕ). input ++ xs) (take-append-drop l.at bytes) in
-    let carried = carried_more (mode_of new) (templates_in new.traversal.set.now) (front ++ take c.in-Ok.taken slice) unread (all ++ f.0) (carried_by O.waiting O.makes reached.Open new turns left before (front ++ take c.in-Ok.taken slice) (all ++ f.0) relays) in (
+    let carried = carried_more (mode_of new) (templates_in new.traversal.set.now) (front ++ take c.in-Ok.taken slice) unread (all ++ f.0) (carried_by O.waiting O.makes reached.Open new turns left before (front ++ take c.in-Ok.taken slice) (all ++ f.0) relays) in
+    let all_carried : Carried (mode_of new) (templates_in new.traversal.set.now) (input ++ bytes) (messages ++ (s.1 ++ f.0)) = rw (← whole, ← append_assoc messages s.1 f.0) carried in
+    let all_made : O.makes (templates_in new.traversal.set.now) (messages ++ (s.1 ++ f.0)) ((handed ++ (s.0 ++ t.1.front)) ++ t.0) =
+    rw (← append_assoc messages s.1 f.0, ← append_assoc handed s.0 t.1.front, append_assoc before t.1.front t.0, ← t.1.parts) made in (
       s.0 ++ t.1.front,
       t.0,
       s.1 ++ f.0,
-      rw (h.unchanged, ← whole, ← append_assoc messages s.1 f.0) carried,
-      rw (h.unchanged, ← append_assoc messages s.1 f.0, ← append_assoc handed s.0 t.1.front, append_assoc before t.1.front t.0, ← t.1.parts) made,
+      carried_as (mode_of last) (mode_of new) last.traversal.set.now new.traversal.set.now (input ++ bytes) (messages ++ (s.1 ++ f.0)) (sym h.mode) (sym set) all_carried,
+      subst (λ (x : TemplateList). O.makes (templates_in x) (messages ++ (s.1 ++ f.0)) ((handed ++ (s.0 ++ t.1.front)) ++ t.0)) (sym set) all_made,
       Appends-trans _ _ _ s.0 t.1.front s.3 t.1.appended,
     )
 
