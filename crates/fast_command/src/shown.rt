@@ -7,7 +7,8 @@ ghost use Rattle.fast_command.specs.Run.{Shows};
 
 use fast_canon::{CanonFault, Summary, pass_through};
 use fast_io::{ByteInput, ByteOutput};
-use fast_lines::{Form, JsonSigns, LineWriter, Signs, TextSigns};
+use fast_lines::{Form, JsonSigns, Signs, TextSigns};
+use fast_show::LineWriter;
 use fast_stream::Mode;
 use fast_template::TemplateSet;
 use std::alloc::Global;

@@ -2,9 +2,11 @@ mod Lanes
 pub mod Written
 pub mod Nested
 pub mod SameLines
-mod Telling
-mod Writing
-mod ToldFields
+pub mod Telling
+pub mod ToldFields
 mod LineRows
-mod Taking
+pub mod Taking
+pub mod Writing
 mod Pieces
+pub mod Filled
+pub mod SlotTexts

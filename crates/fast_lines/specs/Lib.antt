@@ -4,3 +4,5 @@ pub mod Told
 pub mod Written
 pub mod Taking
 pub mod Pieces
+pub mod Gaps
+pub mod Filled

@@ -7,6 +7,7 @@ use Rattle.fast_template.specs.TemplateSets.{TemplateList, has_id, templates_in}
 use Rattle.fast_stream.specs.Nodes.{single, group_items, sequence_elements, Items, then_item, Elements, Content}
 use Rattle.fast_walk.specs.OpenSegments.{items_before, elements_before, Body, Sequel, Inside, in_group, in_sequence, Waiting, Next, at_instruction, at_mantissa, at_element, with_item, with_element}
 use Rattle.fast_walk.specs.Received.{Received, bytes_in}
+use Rattle.fast_lines.specs.Filled.{written_of}
 use Rattle.fast_lines.specs.Lines.{decimal_text, elements_text, joined, line_by, members_text, scalar_text}
 use Rattle.fast_lines.specs.Signs.{absent_sign, between, head_text, is_led, label_text, lead}
 use Rattle.fast_lines.specs.declared.form.Form.{Form}
@@ -116,8 +117,8 @@ IsOpened form exponent l o = Within form (message_opening form o.set o.template 
 
 -- ---- a writer of lines
 
-abbrev pub line_now : LineNow → Line
-line_now l = record { text = l.text; led = l.led }
+abbrev pub line_now : Form → LineNow → Line
+line_now form l = record { text = written_of form l; led = l.led }
 
 -- of these bytes that wait, the lines of the messages of a set that are finished
 abbrev pub HasLines : Form → List ℕ → TemplateList → List Resolved → List Content → Type 0

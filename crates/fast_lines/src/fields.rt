@@ -12,7 +12,7 @@ ghost use Rattle.fast_lines.specs.Told.{HasTold, line_now};
 
 use crate::line::Line;
 use crate::signs::Signs;
-use crate::writer::tell;
+use crate::told::tell;
 use fast_dictionary::Entries;
 use fast_field::FieldFault;
 use fast_template::{FieldPart, Flat, Name, Presence, part_needs_bit};
@@ -89,8 +89,8 @@ fn tell_field<'a, S: Signs, E: Entries>(
     ensures fewer { IfOk result (λ b. b ≡ true → fields.new.spare < fields.old.spare) }
     ensures served { OnOk result (AreServed (E.serves entries.old) (list_of fields.new.rest.now)) }
     ensures takes { OnOk result ((out : List ℕ) (own : TemplateList) (z : ℤ)
-        → TakesFields (λ l o d. HasTold S.form out own z l o) level bytes.now (line_now line.old)
-        (E.contents entries.old) bits.old fields.old (line_now line.new) (E.contents entries.new)
+        → TakesFields (λ l o d. HasTold S.form out own z l o) level bytes.now (line_now S.form line.old)
+        (E.contents entries.old) bits.old fields.old (line_now S.form line.new) (E.contents entries.new)
         bits.new fields.new) }
     ensures kept { OnOk result (KeepScalars (E.contents entries.new)) }
     ensures same_keys { E.serves entries.new ≡ E.serves entries.old }
@@ -131,7 +131,7 @@ fn tell_field<'a, S: Signs, E: Entries>(
 ///
 /// Memory was refused to the line or to the entries.
 #[inline(never)]
-pub(crate) fn tell_fields<'a, S: Signs, E: Entries>(
+pub fn tell_fields<'a, S: Signs, E: Entries>(
     signs: S,
     alloc: Global,
     entries: &mut E,
@@ -153,10 +153,10 @@ pub(crate) fn tell_fields<'a, S: Signs, E: Entries>(
         × IsNextServed (E.serves entries.old) (next_behind f.mantissa)) }
     ensures none { IfOk result (λ f. f.mantissa ≡ None) }
     ensures takes { IfOk result (λ f. (out : List ℕ) (own : TemplateList) (z : ℤ)
-        → TakesFields (λ l o d. HasTold S.form out own z l o) level bytes.now (line_now line.old)
+        → TakesFields (λ l o d. HasTold S.form out own z l o) level bytes.now (line_now S.form line.old)
         (E.contents entries.old) bits.old
         (record { mantissa = None; rest = rest.entry; spare = spare; place = at })
-        (line_now line.new) (E.contents entries.new) bits.new f) }
+        (line_now S.form line.new) (E.contents entries.new) bits.new f) }
     ensures kept { OnOk result (KeepScalars (E.contents entries.new)) }
     ensures same_keys { E.serves entries.new ≡ E.serves entries.old }
 {

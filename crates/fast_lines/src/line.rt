@@ -1,51 +1,77 @@
 //! The line of a message that is open.
 
-ghost use Rattle.std.specs.Prelude.{◌≡◌, ◌<◌, ◌≤◌, Some, ◌++◌, ◌∷◌, [], true, false, codes, OnOk, OnErr};
-ghost use Rattle.fast_lines.specs.Pieces.{laid};
-ghost use Rattle.std.specs.Option.{option_copied};
-ghost use Rattle.fast_lines.specs.Lines.{decimal_text};
-ghost use Rattle.fast_lines.specs.Signs.{ending, head_text, is_led, label_text, lead};
-ghost use Rattle.fast_lines.specs.Told.{Said, line_now, said_text};
+ghost use Rattle.std.specs.Prelude.{◌≤◌, length};
 
+use crate::gaps::Gaps;
 use crate::lines::{lay_scalar, push_scalar};
 use crate::page::Page;
 use crate::piece::{END, Piece};
 use crate::signs::Signs;
-use fast_template::{Name, Scalar};
+use fast_template::{FieldPart, Name, Scalar};
 use std::alloc::{AllocError, Global};
 
-/// What is written of the line of a message.
+/// A line of more bytes than this is long: labels and texts that are no short pieces are left out of it as gaps, and told
+/// when it is handed on.
+const LONG: usize = 1_048_576;
+
+/// What is written of the line of a message, and the gaps in it.
 #[derive(Drop)]
-pub(crate) struct Line {
-    text: Page,
-    // what is long, before it is appended to the text
-    long: Vec<u8>,
+pub struct Line {
+    pub(crate) text: Page,
+    // what is no short piece, before it is appended to the text
+    pub(crate) long: Vec<u8>,
     // whether what stands between two is due in front of what is next
     led: bool,
+    pub(crate) gaps: Gaps,
+    ghost within: { gaps.closed ≤ length text },
 }
 
 impl Line {
+    ghost use Rattle.std.specs.Prelude.{◌≡◌, ◌<◌, ◌≤◌, Some, None, ◌++◌, ◌∷◌, [], true, false, codes, length, IfOk, OnOk};
+    ghost use Rattle.std.specs.Option.{option_copied};
+    ghost use Rattle.fast_lines.specs.Filled.{written_of};
+    ghost use Rattle.fast_lines.specs.Lines.{decimal_text, scalar_text};
+    ghost use Rattle.fast_lines.specs.Pieces.{laid};
+    ghost use Rattle.fast_lines.specs.Signs.{ending, head_text, is_led, label_text, lead};
+    ghost use Rattle.fast_lines.specs.Told.{Said, line_now, said_text};
+    ghost use Rattle.fast_lines.specs.declared.form.Form.{Form};
+
     /// Of nothing. Takes no memory.
     #[inline(always)]
-    pub(crate) fn new(alloc: Global) -> Line {
+    pub fn new(alloc: Global) -> Line
+        ensures { (form : Form) → written_of form result ≡ [] }
+    {
         Line {
             text: Page::new(alloc),
             long: Vec::new(alloc),
             led: true,
+            gaps: Gaps::new(alloc),
         }
+    }
+
+    /// Whether it has gaps.
+    #[inline(always)]
+    pub fn has_gaps(&self) -> bool
+        ensures { result ≡ false → (form : Form) → written_of form self.now ≡ self.now.text }
+    {
+        !self.gaps.is_empty()
+    }
+
+    /// What is written; where it has no gaps, the line.
+    #[inline(always)]
+    pub fn as_slice(&self) -> &[u8]
+        ensures { result.now ≡ self.now.text }
+    {
+        self.text.as_slice()
     }
 
     /// Begins a line with what stands in front of the fields of a message of a template.
     #[inline(always)]
-    pub(crate) fn begin<S: Signs>(
-        &mut self,
-        signs: S,
-        id: u32,
-        name: &str,
-    ) -> Result<(), AllocError>
-        ensures { OnOk result (line_now self.new
+    pub fn begin<S: Signs>(&mut self, signs: S, id: u32, name: &str) -> Result<(), AllocError>
+        ensures { OnOk result (line_now S.form self.new
             ≡ record { text = head_text S.form id name.now; led = is_led S.form }) }
     {
+        self.gaps.clear();
         self.text.clear();
         self.long.clear();
         signs.push_head(id, name, &mut self.long)?;
@@ -53,15 +79,76 @@ impl Line {
         self.text.put(&self.long)
     }
 
+    // Appends a text.
+    #[inline(always)]
+    fn put(&mut self, text: &[u8]) -> Result<(), AllocError>
+        ensures text { OnOk result ((form : Form) → written_of form self.new ≡ written_of form self.old ++ text.now) }
+        ensures led { self.new.led ≡ self.old.led }
+    {
+        self.text.put(text)?;
+        Ok(())
+    }
+
+    // Appends what is no short piece.
+    fn put_long(&mut self) -> Result<(), AllocError>
+        ensures text { OnOk result ((form : Form) → written_of form self.new
+            ≡ written_of form self.old ++ self.old.long.items) }
+        ensures led { self.new.led ≡ self.old.led }
+    {
+        self.text.put(&self.long)?;
+        Ok(())
+    }
+
+    // Whether it is long.
+    fn is_long(&self) -> bool {
+        self.text.len() > LONG
+    }
+
+    // Leaves a gap for what stands in front of a value.
+    fn leave_label(&mut self, name: &Name) -> Result<(), AllocError>
+        ensures text { OnOk result ((form : Form) → written_of form self.new
+            ≡ written_of form self.old ++ label_text form name.now) }
+        ensures led { self.new.led ≡ self.old.led }
+    {
+        self.gaps.leave_label(self.text.len(), name)?;
+        Ok(())
+    }
+
+    // Leaves a gap for a text of more than a few units; answers whether it did.
+    fn leave_text(&mut self, part: &FieldPart, value: &Scalar) -> Result<bool, AllocError>
+        ensures left { IfOk result (λ b. b ≡ true → (form : Form) → written_of form self.new
+            ≡ written_of form self.old ++ scalar_text form value.now) }
+        ensures none { IfOk result (λ b. b ≡ false → (form : Form) → written_of form self.new
+            ≡ written_of form self.old) }
+        ensures led { self.new.led ≡ self.old.led }
+    {
+        if self.gaps.leave_text(self.text.len(), part, value)? {
+            return Ok(true);
+        }
+        Ok(false)
+    }
+
+    // Appends a piece that begins here.
+    #[inline(always)]
+    fn put_piece(&mut self, piece: &Piece, start: usize) -> Result<(), AllocError>
+        requires { start ≤ 64 }
+        ensures text { OnOk result ((form : Form) → written_of form self.new
+            ≡ written_of form self.old ++ laid piece.now.bytes start) }
+        ensures led { self.new.led ≡ self.old.led }
+    {
+        self.text.put_piece(piece, start)?;
+        Ok(())
+    }
+
     // Appends what stands between two where it is due.
     #[inline(always)]
     fn lead<S: Signs>(&mut self, signs: S) -> Result<(), AllocError>
-        ensures text { OnOk result (self.new.text ≡ self.old.text
+        ensures text { OnOk result (written_of S.form self.new ≡ written_of S.form self.old
             ++ lead S.form self.old.led) }
         ensures led { self.new.led ≡ self.old.led }
     {
         if self.led {
-            self.text.put(signs.between())
+            self.put(signs.between())
         } else {
             Ok(())
         }
@@ -69,8 +156,8 @@ impl Line {
 
     /// Appends what stands in front of a value, behind what stands between two where it is due.
     #[inline(always)]
-    pub(crate) fn label<S: Signs>(&mut self, signs: S, name: &Name) -> Result<(), AllocError>
-        ensures text { OnOk result (self.new.text ≡ self.old.text
+    pub fn label<S: Signs>(&mut self, signs: S, name: &Name) -> Result<(), AllocError>
+        ensures text { OnOk result (written_of S.form self.new ≡ written_of S.form self.old
             ++ (lead S.form self.old.led ++ label_text S.form name.now)) }
         ensures led { OnOk result (self.new.led ≡ true) }
     {
@@ -81,36 +168,40 @@ impl Line {
         }
     }
 
-    // The same of any length, one after the other.
+    // The same of any length, one after the other; in a line that is long it is left out.
     #[inline(never)]
     fn label_long<S: Signs>(&mut self, signs: S, name: &Name) -> Result<(), AllocError>
-        ensures text { OnOk result (self.new.text ≡ self.old.text
+        ensures text { OnOk result (written_of S.form self.new ≡ written_of S.form self.old
             ++ (lead S.form self.old.led ++ label_text S.form name.now)) }
         ensures led { OnOk result (self.new.led ≡ true) }
     {
         self.lead(signs)?;
+        self.led = true;
+        if self.is_long() {
+            return self.leave_label(name);
+        }
         self.long.clear();
         signs.push_label(name.as_str(), &mut self.long)?;
-        self.led = true;
-        self.text.put(&self.long)
+        self.put_long()
     }
 
     /// Appends the label of a field and its value, or what stands for one that is absent.
     #[inline(never)]
-    pub(crate) fn tell<S: Signs>(
+    pub fn tell<S: Signs>(
         &mut self,
         signs: S,
         name: &Name,
+        part: &FieldPart,
         value: Option<&Scalar>,
     ) -> Result<(), AllocError>
         ensures { OnOk result (Said S.form name.now (Some (said_text S.form (option_copied value.entry)))
-            (line_now self.old) (line_now self.new)) }
+            (line_now S.form self.old) (line_now S.form self.new)) }
     {
         let mut piece = Piece::new();
         match lay_scalar(signs, value, &mut piece) {
-            None => self.tell_long(signs, name, value),
+            None => self.tell_long(signs, name, part, value),
             Some(start) => match signs.lay_label(name.as_str(), &mut piece, start) {
-                None => self.tell_long(signs, name, value),
+                None => self.tell_long(signs, name, part, value),
                 Some(start) => self.append(signs, &mut piece, start),
             },
         }
@@ -122,20 +213,46 @@ impl Line {
         &mut self,
         signs: S,
         name: &Name,
+        part: &FieldPart,
         value: Option<&Scalar>,
     ) -> Result<(), AllocError>
         ensures { OnOk result (Said S.form name.now (Some (said_text S.form (option_copied value.entry)))
-            (line_now self.old) (line_now self.new)) }
+            (line_now S.form self.old) (line_now S.form self.new)) }
     {
         self.label(signs, name)?;
         match value {
-            Some(value) => {
-                self.long.clear();
-                push_scalar(signs, value, &mut self.long)?;
-                self.text.put(&self.long)
-            }
-            None => self.text.put(signs.absent()),
+            Some(value) => self.value_long(signs, part, value),
+            None => self.put(signs.absent()),
         }
+    }
+
+    // Appends a value; in a line that is long a text is left out.
+    fn value_long<S: Signs>(
+        &mut self,
+        signs: S,
+        part: &FieldPart,
+        value: &Scalar,
+    ) -> Result<(), AllocError>
+        ensures text { OnOk result (written_of S.form self.new
+            ≡ written_of S.form self.old ++ scalar_text S.form value.now) }
+        ensures led { self.new.led ≡ self.old.led }
+    {
+        if self.is_long() && self.leave_text(part, value)? {
+            return Ok(());
+        }
+        self.long.clear();
+        push_scalar(signs, value, &mut self.long)?;
+        self.put_long()
+    }
+
+    /// Appends the label of what is absent, and what stands for it.
+    #[inline(never)]
+    pub fn tell_absent<S: Signs>(&mut self, signs: S, name: &Name) -> Result<(), AllocError>
+        ensures { OnOk result (Said S.form name.now (Some (said_text S.form None))
+            (line_now S.form self.old) (line_now S.form self.new)) }
+    {
+        self.label(signs, name)?;
+        self.put(signs.absent())
     }
 
     // Appends a piece that begins here with a label, behind what stands between two where it is due.
@@ -147,42 +264,42 @@ impl Line {
         start: usize,
     ) -> Result<(), AllocError>
         requires { (0 < start) × (start ≤ 64) }
-        ensures text { OnOk result (self.new.text ≡ self.old.text
+        ensures text { OnOk result (written_of S.form self.new ≡ written_of S.form self.old
             ++ (lead S.form self.old.led ++ laid piece.old.bytes start)) }
         ensures led { OnOk result (self.new.led ≡ true) }
     {
         if !self.led {
             self.led = true;
-            return self.text.put_piece(piece, start);
+            return self.put_piece(piece, start);
         }
         match signs.between() {
             [byte] => {
                 let start = piece.lay_byte(start, *byte);
-                self.text.put_piece(piece, start)
+                self.put_piece(piece, start)
             }
             between => {
-                self.text.put(between)?;
-                self.text.put_piece(piece, start)
+                self.put(between)?;
+                self.put_piece(piece, start)
             }
         }
     }
 
     /// Appends a decimal, behind its label.
     #[inline(always)]
-    pub(crate) fn push_decimal(&mut self, mantissa: i64, exponent: i32) -> Result<(), AllocError>
-        ensures text { OnOk result (self.new.text
-            ≡ self.old.text ++ decimal_text mantissa exponent) }
+    pub fn push_decimal(&mut self, mantissa: i64, exponent: i32) -> Result<(), AllocError>
+        ensures text { OnOk result ((form : Form) → written_of form self.new
+            ≡ written_of form self.old ++ decimal_text mantissa exponent) }
         ensures led { self.new.led ≡ self.old.led }
     {
         let mut piece = Piece::new();
         let start = piece.lay_decimal(mantissa, exponent);
-        self.text.put_piece(&piece, start)
+        self.put_piece(&piece, start)
     }
 
     /// Appends a brace, behind what stands between two where it is due; behind the brace it is not.
     #[inline(always)]
-    pub(crate) fn open_brace<S: Signs>(&mut self, signs: S) -> Result<(), AllocError>
-        ensures text { OnOk result (self.new.text ≡ self.old.text
+    pub fn open_brace<S: Signs>(&mut self, signs: S) -> Result<(), AllocError>
+        ensures text { OnOk result (written_of S.form self.new ≡ written_of S.form self.old
             ++ (lead S.form self.old.led ++ codes "{")) }
         ensures led { OnOk result (self.new.led ≡ false) }
     {
@@ -192,13 +309,13 @@ impl Line {
 
     /// Appends a label and a bracket or a brace, behind which nothing is due.
     #[inline(always)]
-    pub(crate) fn open_under<S: Signs>(
+    pub fn open_under<S: Signs>(
         &mut self,
         signs: S,
         name: &Name,
         bracket: u8,
     ) -> Result<(), AllocError>
-        ensures text { OnOk result (self.new.text ≡ self.old.text
+        ensures text { OnOk result (written_of S.form self.new ≡ written_of S.form self.old
             ++ ((lead S.form self.old.led ++ label_text S.form name.now) ++ bracket ∷ [])) }
         ensures led { OnOk result (self.new.led ≡ false) }
     {
@@ -209,33 +326,30 @@ impl Line {
     // Appends a bracket or a brace, behind which nothing is due.
     #[inline(always)]
     fn open(&mut self, bracket: u8) -> Result<(), AllocError>
-        ensures text { OnOk result (self.new.text ≡ self.old.text ++ bracket ∷ []) }
+        ensures text { OnOk result ((form : Form) → written_of form self.new ≡ written_of form self.old ++ bracket ∷ []) }
         ensures led { OnOk result (self.new.led ≡ false) }
     {
-        self.text.put(&[bracket])?;
+        self.put(&[bracket])?;
         self.led = false;
         Ok(())
     }
 
     /// Appends the bracket or the brace at the end, behind which what stands between two is due.
     #[inline(always)]
-    pub(crate) fn close(&mut self, bracket: u8) -> Result<(), AllocError>
-        ensures text { OnOk result (self.new.text ≡ self.old.text ++ bracket ∷ []) }
+    pub fn close(&mut self, bracket: u8) -> Result<(), AllocError>
+        ensures text { OnOk result ((form : Form) → written_of form self.new ≡ written_of form self.old ++ bracket ∷ []) }
         ensures led { OnOk result (self.new.led ≡ true) }
     {
-        self.text.put(&[bracket])?;
+        self.put(&[bracket])?;
         self.led = true;
         Ok(())
     }
 
-    /// Ends the line, and appends it to an output, which a refused allocation leaves as it was.
+    /// Appends what ends the line.
     #[inline(always)]
-    pub(crate) fn end<S: Signs>(&mut self, signs: S, out: &mut Vec<u8>) -> Result<(), AllocError>
-        ensures ended { OnOk result (out.new.items ≡ out.old.items
-            ++ (self.old.text ++ ending S.form)) }
-        ensures unchanged { OnErr result (out.new.items ≡ out.old.items) }
+    pub fn end<S: Signs>(&mut self, signs: S) -> Result<(), AllocError>
+        ensures { OnOk result (written_of S.form self.new ≡ written_of S.form self.old ++ ending S.form) }
     {
-        self.text.put(signs.ending())?;
-        out.extend_from_slice(self.text.as_slice())
+        self.put(signs.ending())
     }
 }

@@ -83,6 +83,14 @@ impl Page {
         &self.bytes[..self.end]
     }
 
+    /// How many bytes are written.
+    #[inline(always)]
+    pub(crate) fn len(&self) -> usize
+        ensures { result ≡ length self.now }
+    {
+        self.end
+    }
+
     /// Appends a text.
     #[inline(always)]
     pub(crate) fn put(&mut self, text: &[u8]) -> Result<(), AllocError>

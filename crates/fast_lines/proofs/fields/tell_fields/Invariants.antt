@@ -15,8 +15,8 @@ invariant-fields g l = record {
   few : l.fields.spare ≤ l.fn.spare;
   served : AreServed (g.E.Entries.serves l.entries) (list_of l.fields.rest.now);
   kept : KeepScalars (g.E.Entries.contents l.entries);
-  takes : (out : List ℕ) (own : TemplateList) (z : ℤ) → TakesFields (λ line o d. HasTold g.S.Escape.form out own z line o) l.fn.level l.bytes (line_now l.fn.line) (g.E.Entries.contents l.fn.entries) l.fn.bits l.initial.fields
-      (line_now l.line) (g.E.Entries.contents l.entries) l.bits l.fields;
+  takes : (out : List ℕ) (own : TemplateList) (z : ℤ) → TakesFields (λ line o d. HasTold g.S.Escape.form out own z line o) l.fn.level l.bytes (line_now g.S.Escape.form l.fn.line) (g.E.Entries.contents l.fn.entries) l.fn.bits l.initial.fields
+      (line_now g.S.Escape.form l.line) (g.E.Entries.contents l.entries) l.bits l.fields;
   same_keys : g.E.Entries.serves l.entries ≡ g.E.Entries.serves l.fn.entries;
 }
 

@@ -1,8 +1,0 @@
-use Rattle.fast_lines.specs.Told.{line_now}
-use Rattle.fast_lines.proofs.Writing.{has_entered}
-use Rattle.fast_lines.proofs.writer.LineWriterReceiver.enter.Goals as goal
-
-pub returns-clause-has : goal.returns-clause-has
-returns-clause-has g c = λ number presence members is bits o d next first optional own has.
-    let old = c.args.self.now in
-    (has.0, has_entered g.S.Escape.form old.exponent (line_now old.line) (line_now c.open_under.new.self) o c.args.name.now number presence members is bits next first c.in_ok-open_under.ensures.text c.in_ok-open_under.ensures.led has.1)

@@ -1,8 +1,0 @@
-use Rattle.fast_lines.specs.Told.{line_now}
-use Rattle.fast_lines.proofs.Writing.{has_left_out}
-use Rattle.fast_lines.proofs.writer.LineWriterReceiver.left_out.Goals as goal
-
-pub returns-clause-has : goal.returns-clause-has
-returns-clause-has g c = λ number presence members is o d next first optional has.
-    let old = c.args.self.now in
-    (has.0, has_left_out g.S.Escape.form old.exponent (line_now old.line) (line_now c.tell.new.self) o c.args.name.now number presence members is next first optional c.in_ok-tell.ensures has.1)

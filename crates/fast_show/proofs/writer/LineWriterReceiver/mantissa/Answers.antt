@@ -1,0 +1,21 @@
+use Rattle.fast_lines.specs.Filled.{written_of}
+use Rattle.std.proofs.Common.{◌≡◌, ◌++◌, rules}
+use Rattle.fast_lines.specs.Lines.{decimal_text}
+use Rattle.fast_lines.specs.Told.{line_now}
+use Rattle.fast_lines.proofs.Writing.{has_mantissa}
+use Rattle.fast_show.proofs.writer.LineWriterReceiver.mantissa.Goals as goal
+
+pub returns-in-Ok-push_decimal-clause-goes : goal.returns-in-Ok-push_decimal-clause-goes
+returns-in-Ok-push_decimal-clause-goes g c =
+    let old = c.args.self.now in
+    let m = c.in-Ok.mantissa in
+    let form = g.S.Escape.form in
+    let here = c.in-Ok-push_decimal.ensures.text form in
+    let told : written_of form c.push_decimal.new.self ≡ written_of form old.line ++ decimal_text m old.exponent = search rules in (
+      m,
+      c.in-Ok.ensures.took,
+      λ e o next has. (
+        has.0,
+        has_mantissa g.S.Escape.form old.exponent e m (line_now g.S.Escape.form old.line) (line_now g.S.Escape.form c.push_decimal.new.self) o c.args.part.now next told c.push_decimal.ensures.led has.1,
+      ),
+    )

@@ -1,0 +1,390 @@
+//! Writes lines of messages as their fields are read.
+
+ghost use Rattle.std.specs.Prelude.{◌≡◌, ◌++◌, None, true, false, OnOk, OnErr};
+ghost use Rattle.fast_template.specs.TemplateSets.{templates_in};
+ghost use Rattle.fast_lines.specs.Signs.{is_led};
+ghost use Rattle.fast_lines.specs.Filled.{written_of};
+ghost use Rattle.fast_lines.specs.Told.{head_in, line_now};
+ghost use Rattle.fast_show.specs.Waiting.{waiting_of};
+
+use fast_dictionary::Entries;
+use fast_field::FieldFault;
+use fast_lines::{Line, Rest, Signs, tell, tell_fields};
+use fast_part::{take_exponent, take_identifier, take_length, take_mantissa};
+use fast_template::{FieldPart, Flat, Name, Presence, TemplateSet};
+use fast_walk::{Fields, Output, Receiver};
+use fast_wire::{Bits, Level};
+use std::alloc::{AllocError, Global};
+use std::mem;
+
+/// Writes a line for each message of a set that it receives, in the form of its signs, each field as it is read and with
+/// no message made.
+///
+/// The lines of the messages that are finished wait in it until they are handed on; what is written of the message
+/// that is open is no part of them. A line that is long has gaps, which are filled front by front as it is handed on.
+#[derive(Drop)]
+pub struct LineWriter<'a, S: Signs> {
+    signs: S,
+    set: &'a TemplateSet,
+    // of the message that is open
+    line: Line,
+    // of the decimal whose mantissa is next
+    exponent: i32,
+    // of the messages that are finished and not handed on
+    out: Vec<u8>,
+    // what is left of the last of them, behind the bytes that are ready
+    rest: Option<Rest>,
+}
+
+impl<'a, S: Signs> LineWriter<'a, S> {
+    ghost use Rattle.std.specs.Prelude.{[], ◌∷◌, ◌++◌, List, ℕ};
+    ghost use Rattle.std.specs.FinMap as finite;
+    ghost use Rattle.fast_template.specs.Resolved.{Resolved};
+    ghost use Rattle.fast_dictionary.specs.Dictionary.{Dictionary};
+    ghost use Rattle.fast_stream.specs.Nodes.{Content};
+    ghost use Rattle.fast_walk.specs.Received.{Received, behind, handed_on};
+
+    /// For messages of a set: with none, and nothing handed on. Takes no memory.
+    #[inline(always)]
+    pub fn new(alloc: Global, signs: S, set: &'a TemplateSet) -> LineWriter<'a, S>
+        ensures stands { ⟦<LineWriter<'a, S> as Receiver>⟧.stands result (templates_in set.now)
+            (handed_on [] ∷ []) finite.empty }
+        ensures empty { waiting_of S.form result.out.items result.rest ≡ [] }
+    {
+        LineWriter {
+            signs,
+            set,
+            line: Line::new(alloc),
+            exponent: 0,
+            out: Vec::new(alloc),
+            rest: None,
+        }
+    }
+
+    // Begins the line of a message of the template of an identifier; of one that the set has not, there is no name.
+    #[inline(always)]
+    fn open_line(&mut self, id: u32) -> Result<(), AllocError>
+        ensures line { OnOk result (line_now S.form self.new.line
+            ≡ record { text = head_in S.form (templates_in self.old.set.now) id; led = is_led S.form }) }
+        ensures out { self.new.out ≡ self.old.out }
+        ensures rest { self.new.rest ≡ self.old.rest }
+        ensures set { self.new.set ≡ self.old.set }
+    {
+        match self.set.name(id) {
+            Some(name) => self.line.begin(self.signs, id, name),
+            None => self.line.begin(self.signs, id, ""),
+        }
+    }
+
+    // Makes ready what is left of the line before.
+    #[inline(always)]
+    fn tell_rest(&mut self, alloc: Global) -> Result<(), AllocError>
+        ensures same { waiting_of S.form self.new.out.items self.new.rest
+            ≡ waiting_of S.form self.old.out.items self.old.rest }
+        ensures none { OnOk result (self.new.rest ≡ None) }
+        ensures line { self.new.line ≡ self.old.line }
+        ensures exponent { self.new.exponent ≡ self.old.exponent }
+        ensures set { self.new.set ≡ self.old.set }
+    {
+        match &mut self.rest {
+            None => Ok(()),
+            Some(rest) => {
+                rest.tell_all(self.signs, alloc, &mut self.out)?;
+                self.rest = None;
+                Ok(())
+            }
+        }
+    }
+
+    // Makes a line ready that has ended, with gaps up to the first and what fills that; the rest is left.
+    #[inline(always)]
+    fn append_line(&mut self, alloc: Global) -> Result<(), AllocError>
+        requires { self.now.rest ≡ None }
+        ensures appended { OnOk result (waiting_of S.form self.new.out.items self.new.rest
+            ≡ self.old.out.items ++ written_of S.form self.old.line) }
+        ensures refused { OnErr result (waiting_of S.form self.new.out.items self.new.rest ≡ self.old.out.items) }
+        ensures set { self.new.set ≡ self.old.set }
+    {
+        if !self.line.has_gaps() {
+            return self.out.extend_from_slice(self.line.as_slice());
+        }
+        let line = mem::replace(&mut self.line, Line::new(alloc));
+        let mut rest = Rest::of(line);
+        rest.tell_gap(self.signs, alloc, &mut self.out)?;
+        self.rest = Some(rest);
+        Ok(())
+    }
+}
+
+impl<S: Signs> Receiver for LineWriter<'_, S> {
+    ghost use Rattle.fast_lines.specs.Told.{HasLines, HasTold};
+
+    ghost has = { λ w o d. HasTold S.form (waiting_of S.form w.out.items w.rest) w.set.now w.exponent (line_now S.form w.line) o };
+
+    ghost stands = { λ w set ms d. HasLines S.form (waiting_of S.form w.out.items w.rest) w.set.now set ms };
+
+    ghost keeps = { λ w set ms d. HasLines S.form (waiting_of S.form w.out.items w.rest) w.set.now set ms };
+
+    ghost room = { λ w around left. true };
+
+    #[inline(always)]
+    fn begin<E: Entries>(
+        &mut self,
+        alloc: Global,
+        entries: &mut E,
+        identifier: &FieldPart,
+        bit: bool,
+        level: Level,
+        bytes: &[u8],
+        at: usize,
+    ) -> Result<(u32, usize), FieldFault> {
+        match take_identifier(alloc, entries, identifier, bit, level, bytes, at) {
+            Err(fault) => Err(fault),
+            Ok((id, next)) => match self.open_line(id) {
+                Err(_) => Err(FieldFault::Memory),
+                Ok(()) => Ok((id, next)),
+            },
+        }
+    }
+
+    #[inline(always)]
+    fn finish(&mut self, alloc: Global) -> Result<(), AllocError> {
+        self.tell_rest(alloc)?;
+        self.line.end(self.signs)?;
+        self.append_line(alloc)?;
+        Ok(())
+    }
+
+    #[inline(always)]
+    fn back(&mut self, _alloc: Global) {}
+
+    #[inline(always)]
+    fn field<E: Entries>(
+        &mut self,
+        alloc: Global,
+        name: &Name,
+        presence: Presence,
+        entries: &mut E,
+        part: &FieldPart,
+        bit: bool,
+        level: Level,
+        bytes: &[u8],
+        at: usize,
+    ) -> Result<usize, FieldFault> {
+        match tell(
+            self.signs,
+            alloc,
+            name,
+            presence,
+            entries,
+            part,
+            bit,
+            level,
+            bytes,
+            at,
+            &mut self.line,
+        ) {
+            Err(fault) => Err(fault),
+            Ok(next) => Ok(next),
+        }
+    }
+
+    #[inline(always)]
+    fn fields<'a, E: Entries>(
+        &mut self,
+        alloc: Global,
+        entries: &mut E,
+        rest: &'a [Flat],
+        bits: &mut Bits,
+        spare: u32,
+        level: Level,
+        bytes: &[u8],
+        at: usize,
+    ) -> Result<Fields<'a>, AllocError> {
+        // decimals in parts, groups and sequences begin no call of the loop
+        match rest.first() {
+            Some(Flat::Field { .. }) => match tell_fields(
+                self.signs,
+                alloc,
+                entries,
+                rest,
+                bits,
+                spare,
+                level,
+                bytes,
+                at,
+                &mut self.line,
+            ) {
+                Err(error) => Err(error),
+                Ok(fields) => Ok(fields),
+            },
+            _ => Ok(Fields {
+                mantissa: None,
+                rest,
+                spare,
+                place: at,
+            }),
+        }
+    }
+
+    #[inline(always)]
+    fn exponent<E: Entries>(
+        &mut self,
+        alloc: Global,
+        name: &Name,
+        presence: Presence,
+        entries: &mut E,
+        part: &FieldPart,
+        bit: bool,
+        level: Level,
+        bytes: &[u8],
+        at: usize,
+    ) -> Result<(bool, usize), FieldFault> {
+        match take_exponent(alloc, entries, part, bit, level, bytes, at) {
+            Err(fault) => Err(fault),
+            Ok((None, next)) => match self.line.tell_absent(self.signs, name) {
+                Err(_) => Err(FieldFault::Memory),
+                Ok(()) => Ok((false, next)),
+            },
+            Ok((Some(exponent), next)) => match self.line.label(self.signs, name) {
+                Err(_) => Err(FieldFault::Memory),
+                Ok(()) => {
+                    self.exponent = exponent;
+                    Ok((true, next))
+                }
+            },
+        }
+    }
+
+    #[inline(always)]
+    fn mantissa<E: Entries>(
+        &mut self,
+        alloc: Global,
+        entries: &mut E,
+        part: &FieldPart,
+        bit: bool,
+        level: Level,
+        bytes: &[u8],
+        at: usize,
+    ) -> Result<usize, FieldFault> {
+        match take_mantissa(alloc, entries, part, bit, level, bytes, at) {
+            Err(fault) => Err(fault),
+            Ok((mantissa, next)) => {
+                match self.line.push_decimal(mantissa, self.exponent) {
+                    Err(_) => Err(FieldFault::Memory),
+                    Ok(()) => Ok(next),
+                }
+            }
+        }
+    }
+
+    #[inline(always)]
+    fn begin_sequence<E: Entries>(
+        &mut self,
+        alloc: Global,
+        name: &Name,
+        presence: Presence,
+        entries: &mut E,
+        part: &FieldPart,
+        bit: bool,
+        level: Level,
+        bytes: &[u8],
+        at: usize,
+    ) -> Result<(Option<u32>, usize), FieldFault> {
+        match take_length(alloc, entries, part, bit, level, bytes, at) {
+            Err(fault) => Err(fault),
+            Ok((None, next)) => match self.line.tell_absent(self.signs, name) {
+                Err(_) => Err(FieldFault::Memory),
+                Ok(()) => Ok((None, next)),
+            },
+            Ok((Some(length), next)) => match self.line.open_under(self.signs, name, b'[') {
+                Err(_) => Err(FieldFault::Memory),
+                Ok(()) => Ok((Some(length), next)),
+            },
+        }
+    }
+
+    #[inline(always)]
+    fn left_out(&mut self, name: &Name) -> Result<(), AllocError> {
+        self.line.tell_absent(self.signs, name)?;
+        Ok(())
+    }
+
+    #[inline(always)]
+    fn enter(
+        &mut self,
+        _alloc: Global,
+        name: &Name,
+        _optional: bool,
+        _own_map: bool,
+        _size: usize,
+    ) -> Result<(), AllocError> {
+        self.line.open_under(self.signs, name, b'{')?;
+        Ok(())
+    }
+
+    #[inline(always)]
+    fn leave(&mut self, _alloc: Global) -> Result<(), AllocError> {
+        self.line.close(b'}')?;
+        Ok(())
+    }
+
+    #[inline(always)]
+    fn enter_element(
+        &mut self,
+        _alloc: Global,
+        _own_map: bool,
+        _size: usize,
+    ) -> Result<(), AllocError> {
+        self.line.open_brace(self.signs)?;
+        Ok(())
+    }
+
+    #[inline(always)]
+    fn leave_element(&mut self, _alloc: Global) -> Result<(), AllocError> {
+        self.line.close(b'}')?;
+        Ok(())
+    }
+
+    #[inline(always)]
+    fn end_sequence(&mut self, _alloc: Global) -> Result<(), AllocError> {
+        self.line.close(b']')?;
+        Ok(())
+    }
+}
+
+impl<S: Signs> Output for LineWriter<'_, S> {
+    ghost use Rattle.std.specs.Prelude.{Some};
+    ghost use Rattle.std.proofs.Common.{inl, inr};
+    ghost use Rattle.fast_lines.specs.Told.{lines_of_set};
+    ghost use Rattle.fast_show.specs.Waiting.{left_in};
+
+    ghost waiting = { λ w. waiting_of S.form w.out.items w.rest };
+
+    ghost ready = { λ w. w.out.items };
+
+    ghost left = { λ w. left_in w.rest };
+
+    ghost makes = { λ set ms out. lines_of_set S.form set ms ≡ Some out };
+
+    #[inline(always)]
+    fn finished(&self) -> &[u8] {
+        &self.out
+    }
+
+    #[inline(always)]
+    fn hand_on(&mut self, alloc: Global) -> Result<bool, AllocError> {
+        self.out.clear();
+        match &mut self.rest {
+            None => Ok(false),
+            Some(rest) => {
+                if !rest.tell_on(self.signs, alloc, &mut self.out)? {
+                    self.rest = None;
+                }
+                Ok(true)
+            }
+        }
+    }
+
+    ghost made = { λ w set handed ms d. elim [ inl h ↦ h.0 | inr h ↦ h.0 ] };
+}
