@@ -121,19 +121,6 @@ fn long_streams_are_handed_on(rt: HostRuntime) -> Result<(), AllocError> {
             ],
             sizes: &[65_536, 65_536, 65_536],
         },
-        // two lines of ten million bytes
-        Row {
-            command: Command::Show,
-            pieces: &[
-                (b"\xC0\x82\x01\x9A\xC0", 1),
-                (b"\x41", 64_927),
-                (b"\xC1", 1),
-                (b"\x80", 153),
-                (b"\x80\x01\x9A", 1),
-                (b"\x80", 154),
-            ],
-            sizes: &[10_000_000, 10_000_000],
-        },
         // Canonical bytes: a message of 65,535 and one of one byte, which end in the same read; one of 65,536, and two
         // in the next read; one of 65,537, and two in the same read.
         Row {

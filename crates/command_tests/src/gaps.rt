@@ -1,0 +1,436 @@
+//! Lines that are long: texts are left out of them as gaps, and filled as they are handed on.
+
+use crate::granted::may_be_refused;
+use crate::same::same;
+use crate::worked::loaded;
+use fast_canon::{CanonFault, Summary};
+use fast_command::{Command, Form, run, show_line};
+use fast_decoder::Decoder;
+use fast_dictionary::MapEntries;
+use fast_io::{Counted, ScriptInput};
+use fast_stream::Cause;
+use fast_template::TemplateSet;
+use std::alloc::{AllocError, Global};
+use std::io::{self, Write};
+use std::process::Abort;
+use std::test::Fail;
+use stream_rows::long::stream_of;
+use stream_rows::modes::PLAIN;
+
+// Elements of a copied string; and behind them a number; elements of texts of each operator; and of a long label.
+const GAPPED: &str = r#"{"templates":[
+    {"name":"Ten","id":2,"instructions":[{"kind":"sequence","name":"L","instructions":[
+     {"kind":"string","name":"S","operator":"copy"}]}]},
+    {"name":"All","id":3,"instructions":[{"kind":"sequence","name":"L","instructions":[
+     {"kind":"string","name":"A","operator":"delta"},
+     {"kind":"string","name":"T","operator":"tail"},
+     {"kind":"string","charset":"unicode","name":"U","operator":"copy"},
+     {"kind":"byteVector","name":"V","operator":"copy"},
+     {"kind":"string","name":"D","operator":"default","value":"=================="}]}]},
+    {"name":"End","id":4,"instructions":[{"kind":"sequence","name":"L","instructions":[
+     {"kind":"string","name":"S","operator":"copy"}]},{"kind":"uInt32","name":"N"}]},
+    {"name":"Label","id":5,"instructions":[{"kind":"sequence","name":"L","instructions":[
+     {"kind":"string","name":"S","operator":"copy"},
+     {"kind":"uInt32","name":"NameThatIsNoShortPieceSinceItAloneHasMoreThanSixtyFourUnitsInItAll","operator":"copy"},
+     {"kind":"string","name":"AnotherNameThatIsNoShortPieceSinceItHasMoreThanSixtyFourUnitsInItToo","operator":"copy"}
+     ]}]}]}"#;
+
+// What is written stands to a line: whether it is a front of it, how many bytes it has, and the most of one write.
+#[derive(Clone, Copy, Debug, PartialEq, Eq, Drop)]
+struct Came {
+    is_front: bool,
+    bytes: usize,
+    most: usize,
+}
+
+const NOTHING: Came = Came {
+    is_front: true,
+    bytes: 0,
+    most: 0,
+};
+
+// A writer that compares what it is handed with a line.
+#[derive(Drop)]
+struct Compared<'a> {
+    line: &'a [u8],
+    came: &'a mut Came,
+}
+
+impl Write for Compared<'_> {
+    fn write(&mut self, bytes: &[u8]) -> io::Result<usize> {
+        let rest = &self.line[self.came.bytes.min(self.line.len())..];
+        if !rest.starts_with(bytes) {
+            self.came.is_front = false;
+        }
+        self.came.bytes = self.came.bytes.saturating_add(bytes.len());
+        self.came.most = self.came.most.max(bytes.len());
+        Ok(bytes.len())
+    }
+
+    fn flush(&mut self) -> io::Result<()> {
+        Ok(())
+    }
+}
+
+// What `show` answers of a stream in reads of so many bytes, and what it writes beside this line.
+fn show_over(
+    alloc: Global,
+    set: &TemplateSet,
+    form: Form,
+    stream: &[u8],
+    read: usize,
+    line: &[u8],
+) -> (Result<Summary, CanonFault>, Came)
+    requires { 1 ≤ read }
+{
+    let mut came = NOTHING;
+    let mut reader = Counted::new(ScriptInput::new(stream, read, 0));
+    let mut writer = Counted::new(Compared {
+        line,
+        came: &mut came,
+    });
+    let answer = run(
+        alloc,
+        Command::Show,
+        set,
+        PLAIN,
+        form,
+        &mut reader,
+        &mut writer,
+        1_000_000,
+    );
+    (answer, came)
+}
+
+// The line of a stream is this one, in writes of at most so many bytes; where memory is refused, a front of it is written.
+fn is_shown(
+    rt: &impl Abort,
+    answer: Result<Summary, CanonFault>,
+    came: Came,
+    wanted: Came,
+) -> Result<(), AllocError> {
+    match answer {
+        Ok(_) => {
+            same(rt, came, wanted);
+            Ok(())
+        }
+        Err(fault) => {
+            same(rt, may_be_refused(Err(fault)), true);
+            same(rt, came.is_front, true);
+            Err(AllocError)
+        }
+    }
+}
+
+// Pieces that come so many times together.
+type Group = (&'static [(&'static [u8], usize)], usize);
+
+// A stream of pieces, its line of groups of pieces, and the most bytes of a write.
+struct Row {
+    stream: &'static [(&'static [u8], usize)],
+    line: &'static [Group],
+    most: usize,
+}
+
+fn line_of(alloc: Global, groups: &[Group]) -> Result<Vec<u8>, AllocError> {
+    let mut line = Vec::new(alloc);
+    for (pieces, count) in groups {
+        let part = stream_of(alloc, pieces)?;
+        for _ in 0..*count {
+            line.extend_from_slice(&part)?;
+        }
+    }
+    Ok(line)
+}
+
+fn is_shown_in(
+    rt: &impl Abort,
+    alloc: Global,
+    set: &TemplateSet,
+    row: &Row,
+    read: usize,
+) -> Result<(), AllocError>
+    requires { 1 ≤ read }
+{
+    let stream = stream_of(alloc, row.stream)?;
+    let line = line_of(alloc, row.line)?;
+    let (answer, came) = show_over(alloc, set, Form::Text, &stream, read, &line);
+    let wanted = Came {
+        is_front: true,
+        bytes: line.len(),
+        most: row.most,
+    };
+    is_shown(rt, answer, came, wanted)
+}
+
+// 16 elements of 65,000 units.
+const SIXTEEN: Group = (&[(b"{S=\"", 1), (b"A", 65_000), (b"\"} ", 1)], 16);
+
+const HEAD: Group = (&[(b"2 Ten L=[", 1)], 1);
+
+// Behind them one whose line has 1,048,575 bytes, 1,048,576 and 1,048,577. No text begins behind the limit, and each line
+// is one write.
+const AROUND: [Row; 3] = [
+    Row {
+        stream: &[
+            (b"\xC0\x82\x91\xC0", 1),
+            (b"\x41", 64_999),
+            (b"\xC1", 1),
+            (b"\x80", 15),
+            (b"\xC0", 1),
+            (b"\x44", 8_445),
+            (b"\xC4", 1),
+        ],
+        line: &[
+            HEAD,
+            SIXTEEN,
+            (&[(b"{S=\"", 1), (b"D", 8_446), (b"\"}]\n", 1)], 1),
+        ],
+        most: 1_048_575,
+    },
+    Row {
+        stream: &[
+            (b"\xC0\x82\x91\xC0", 1),
+            (b"\x41", 64_999),
+            (b"\xC1", 1),
+            (b"\x80", 15),
+            (b"\xC0", 1),
+            (b"\x44", 8_446),
+            (b"\xC4", 1),
+        ],
+        line: &[
+            HEAD,
+            SIXTEEN,
+            (&[(b"{S=\"", 1), (b"D", 8_447), (b"\"}]\n", 1)], 1),
+        ],
+        most: 1_048_576,
+    },
+    Row {
+        stream: &[
+            (b"\xC0\x82\x91\xC0", 1),
+            (b"\x41", 64_999),
+            (b"\xC1", 1),
+            (b"\x80", 15),
+            (b"\xC0", 1),
+            (b"\x44", 8_447),
+            (b"\xC4", 1),
+        ],
+        line: &[
+            HEAD,
+            SIXTEEN,
+            (&[(b"{S=\"", 1), (b"D", 8_448), (b"\"}]\n", 1)], 1),
+        ],
+        most: 1_048_577,
+    },
+];
+
+// Behind them one in front of whose successor's text 1,048,576 bytes are written, and one with a byte more: that text is a
+// gap, and what is behind it is a write of its own.
+const BORDER: [Row; 2] = [
+    Row {
+        stream: &[
+            (b"\xC0\x82\x92\xC0", 1),
+            (b"\x41", 64_999),
+            (b"\xC1", 1),
+            (b"\x80", 15),
+            (b"\xC0", 1),
+            (b"\x44", 8_444),
+            (b"\xC4\xC0", 1),
+            (b"\x42", 79),
+            (b"\xC2", 1),
+        ],
+        line: &[
+            HEAD,
+            SIXTEEN,
+            (&[(b"{S=\"", 1), (b"D", 8_445), (b"\"} {S=\"", 1)], 1),
+            (&[(b"B", 80), (b"\"}]\n", 1)], 1),
+        ],
+        most: 1_048_661,
+    },
+    Row {
+        stream: &[
+            (b"\xC0\x82\x92\xC0", 1),
+            (b"\x41", 64_999),
+            (b"\xC1", 1),
+            (b"\x80", 15),
+            (b"\xC0", 1),
+            (b"\x44", 8_445),
+            (b"\xC4\xC0", 1),
+            (b"\x42", 79),
+            (b"\xC2", 1),
+        ],
+        line: &[
+            HEAD,
+            SIXTEEN,
+            (&[(b"{S=\"", 1), (b"D", 8_446), (b"\"} {S=\"", 1)], 1),
+            (&[(b"B", 80), (b"\"}]\n", 1)], 1),
+        ],
+        most: 1_048_659,
+    },
+];
+
+#[test]
+fn lines_around_the_limit(rt: HostRuntime) -> Result<(), AllocError> {
+    let set = loaded(&rt, rt.alloc(), GAPPED)?;
+    for row in &AROUND {
+        is_shown_in(&rt, rt.alloc(), &set, row, 4096)?;
+    }
+    for row in &BORDER {
+        is_shown_in(&rt, rt.alloc(), &set, row, 4096)?;
+    }
+    Ok(())
+}
+
+#[test]
+fn long_streams_are_cut_around_the_limit(rt: HostRuntime) -> Result<(), AllocError> {
+    let set = loaded(&rt, rt.alloc(), GAPPED)?;
+    for row in &BORDER {
+        for read in 1..6 {
+            is_shown_in(&rt, rt.alloc(), &set, row, read)?;
+        }
+    }
+    Ok(())
+}
+
+// A hundred times the limit: 1,601 elements of 65,535 units, sent once.
+const HUNDRED: Row = Row {
+    stream: &[
+        (b"\xC0\x82\x0C\xC1\xC0", 1),
+        (b"\x41", 65_534),
+        (b"\xC1", 1),
+        (b"\x80", 1_600),
+    ],
+    line: &[
+        HEAD,
+        (&[(b"{S=\"", 1), (b"A", 65_535), (b"\"} ", 1)], 1_600),
+        (&[(b"{S=\"", 1), (b"A", 65_535), (b"\"}]\n", 1)], 1),
+    ],
+    most: 1_114_221,
+};
+
+// A line of ten million bytes.
+const TEN_MILLION: Row = Row {
+    stream: &[
+        (b"\xC0\x82\x01\x9A\xC0", 1),
+        (b"\x41", 64_927),
+        (b"\xC1", 1),
+        (b"\x80", 153),
+    ],
+    line: &[
+        HEAD,
+        (&[(b"{S=\"", 1), (b"A", 64_928), (b"\"} ", 1)], 153),
+        (&[(b"{S=\"", 1), (b"A", 64_928), (b"\"}]\n", 1)], 1),
+    ],
+    most: 1_168_837,
+};
+
+#[test]
+fn long_streams_of_a_hundred_times_the_limit(rt: HostRuntime) -> Result<(), AllocError> {
+    let set = loaded(&rt, rt.alloc(), GAPPED)?;
+    is_shown_in(&rt, rt.alloc(), &set, &TEN_MILLION, 4096)?;
+    is_shown_in(&rt, rt.alloc(), &set, &HUNDRED, 4096)
+}
+
+// Behind 18 elements of 65,535 units a number that is none of its type.
+const REFUSED: &[(&[u8], usize)] = &[
+    (b"\xC0\x84\x92\xC0", 1),
+    (b"\x41", 65_534),
+    (b"\xC1", 1),
+    (b"\x80", 17),
+    (b"\x10\x00\x00\x00\x80", 1),
+];
+
+#[test]
+fn nothing_of_a_refused_line_is_written(rt: HostRuntime) -> Result<(), AllocError> {
+    let set = loaded(&rt, rt.alloc(), GAPPED)?;
+    let stream = stream_of(rt.alloc(), REFUSED)?;
+    let (answer, came) = show_over(rt.alloc(), &set, Form::Text, &stream, 4096, b"");
+    same(&rt, came, NOTHING);
+    match answer {
+        Err(CanonFault::Stream(fault)) if fault.cause == Cause::D2 => {
+            same(&rt, fault.place.offset, 65_556);
+            Ok(())
+        }
+        other => {
+            same(&rt, may_be_refused(other), true);
+            Err(AllocError)
+        }
+    }
+}
+
+// Texts of each kind, as they stand whole, by bit 0, by deltas at both ends and by tails; and a label that is no short
+// piece.
+const EVERY: [&[(&[u8], usize)]; 2] = [
+    &[
+        (b"\xC0\x83\x8D\xF0\x80", 1),
+        (b"\x41", 65_000),
+        (b"\xC2", 1),
+        (b"\x54", 99),
+        (b"\xD4\x03\x54\xE0", 1),
+        (b"\xC3\xA9", 30_000),
+        (b"\x01\x1C\xA0", 1),
+        (b"\xAB", 20_000),
+        (b"\x80\x81\xC3", 4),
+        (b"\x80\xFE\xC4", 2),
+        (b"\xC0\x80\x80\x58\xD9", 1),
+        (b"\xA0\x80\x80\x94", 1),
+        (b"\xF0\x9F\x99\x82", 5),
+        (b"\x90\x80\x80\x91", 1),
+        (b"\x01", 17),
+        (b"\x88\x80\x80", 1),
+        (b"\x64", 17),
+        (b"\xE4", 1),
+        (b"\x80\x81\xC3", 2),
+    ],
+    &[
+        (b"\xC0\x85\x92\xF0", 1),
+        (b"\x41", 65_534),
+        (b"\xC1\x85", 1),
+        (b"\x42", 16),
+        (b"\xC2", 1),
+        (b"\x80", 17),
+    ],
+];
+
+// The line of a stream of one message, which is at hand.
+fn told(alloc: Global, set: &TemplateSet, form: Form, stream: &[u8]) -> Result<Vec<u8>, Fail> {
+    let mut decoder = Decoder::new(alloc, set, PLAIN, MapEntries::new(alloc));
+    let mut messages = Vec::new(alloc);
+    let stream = &stream[..stream.len().min(1_000_000)];
+    decoder.feed(stream, &mut messages)?;
+    let mut line = Vec::new(alloc);
+    for message in &messages {
+        show_line(form, set, message, &mut line)?;
+    }
+    Ok(line)
+}
+
+fn is_shown_as_told(
+    rt: &impl Abort,
+    alloc: Global,
+    set: &TemplateSet,
+    form: Form,
+    pieces: &[(&[u8], usize)],
+) -> Result<(), Fail> {
+    let stream = stream_of(alloc, pieces)?;
+    let line = told(alloc, set, form, &stream)?;
+    same(rt, line.len() > 1_048_576, true);
+    let (answer, came) = show_over(alloc, set, form, &stream, 4096, &line);
+    let wanted = Came {
+        is_front: true,
+        bytes: line.len(),
+        most: came.most,
+    };
+    is_shown(rt, answer, came, wanted)?;
+    Ok(())
+}
+
+#[test]
+fn long_texts_of_each_kind(rt: HostRuntime) -> Result<(), Fail> {
+    let set = loaded(&rt, rt.alloc(), GAPPED)?;
+    for pieces in EVERY {
+        is_shown_as_told(&rt, rt.alloc(), &set, Form::Text, pieces)?;
+        is_shown_as_told(&rt, rt.alloc(), &set, Form::Json, pieces)?;
+    }
+    Ok(())
+}
