@@ -37,7 +37,46 @@ FIRST = bytes.fromhex("e081017fff")
 AGAIN = b"\x80"
 
 # (command, messages, the memory in MB that is enough)
-RUNS = [("show", 1, 24), ("show", 100, 24), ("show", 4089, 24), ("check", 4089, 24)]
+RUNS = [("show", 1, 10), ("show", 100, 10), ("show", 4089, 10), ("check", 4089, 24)]
+
+# Lines of one message that are gigabytes: a string that is copied, and a constant each unit of which takes four bytes.
+COPIED = {
+    "templates": [
+        {
+            "name": "S",
+            "id": 1,
+            "instructions": [
+                {
+                    "kind": "sequence",
+                    "name": "Q",
+                    "instructions": [{"kind": "string", "name": "S", "operator": "copy"}],
+                }
+            ],
+        }
+    ]
+}
+CONSTANT = {
+    "templates": [
+        {
+            "name": "S",
+            "id": 1,
+            "instructions": [
+                {
+                    "kind": "sequence",
+                    "name": "Q",
+                    "instructions": [
+                        {"kind": "string", "name": "S", "operator": "constant", "value": "\x7f" * 65535}
+                    ],
+                }
+            ],
+        }
+    ]
+}
+# (what, templates, the stream, the memory in MB that is enough beside the bytes of the message)
+LINES = [
+    ("a copied string", COPIED, b"\xc0\x81\x01\x7f\xff\xc0" + b"A" * 65534 + b"\xc1" + b"\x80" * 32766, 10),
+    ("a constant", CONSTANT, b"\xc0\x81\x01\x7f\xff", 10),
+]
 
 # A string, a byte vector and a Unicode string of 65,535 bytes.
 STRINGS = {
@@ -54,15 +93,30 @@ LONGEST = [
 ]
 
 
+def memory_of(pid):
+    """The greatest memory in MB that a running process had since it began to be this program."""
+    with open(f"/proc/{pid}/status", encoding="utf-8") as status:
+        for line in status:
+            if line.startswith("VmHWM:"):
+                return int(line.split()[1]) / 1024
+    return 0
+
+
 def counted(command, program, templates, stream):
-    """Runs a command, and answers its status, how many bytes it wrote, its processor time and its greatest memory in MB."""
+    """Runs a command, and answers its status, how many bytes it wrote, its processor time and its greatest memory in MB.
+
+    That memory is looked at with each MB that is written; of a run that writes less it is its whole, of which this script's
+    own start takes 14 MB.
+    """
     with open(stream, "rb") as read:
         run = subprocess.Popen([program, command, "--templates", templates], stdin=read, stdout=subprocess.PIPE)
         written = 0
+        memory = 0
         while chunk := run.stdout.read(1 << 20):
             written += len(chunk)
+            memory = max(memory, memory_of(run.pid))
         _, status, used = os.wait4(run.pid, 0)
-    return os.waitstatus_to_exitcode(status), written, used.ru_utime + used.ru_stime, used.ru_maxrss / 1024
+    return os.waitstatus_to_exitcode(status), written, used.ru_utime + used.ru_stime, memory or used.ru_maxrss / 1024
 
 
 def trickled(program, templates, stream, step):
@@ -91,8 +145,19 @@ def main():
             with open(stream, "wb") as file:
                 file.write(FIRST + AGAIN * (messages - 1))
             status, written, seconds, memory = counted(command, program, templates, stream)
-            print(f"| `{command}` | {os.path.getsize(stream):,} | {written:,} | {seconds:.1f} | {memory:.0f} |")
+            print(f"| `{command}` | {os.path.getsize(stream):,} | {written:,} | {seconds:.1f} | {memory:.1f} |")
             failed = failed or status != 0 or memory > enough
+        print()
+        print("| A line of | Bytes read | Bytes written | Seconds | Memory, MB |")
+        print("|---|---|---|---|---|")
+        for name, written_templates, message, enough in LINES:
+            with open(templates, "w", encoding="utf-8") as file:
+                json.dump(written_templates, file)
+            with open(stream, "wb") as file:
+                file.write(message)
+            status, written, seconds, memory = counted("show", program, templates, stream)
+            print(f"| {name} | {len(message):,} | {written:,} | {seconds:.1f} | {memory:.1f} |")
+            failed = failed or status != 0 or memory > enough + len(message) / 1e6
         print()
         print("| 65,535 bytes of a | Bytes a read | Seconds |")
         print("|---|---|---|")
