@@ -31,8 +31,8 @@ const GAPPED: &str = r#"{"templates":[
      {"kind":"string","name":"S","operator":"copy"}]},{"kind":"uInt32","name":"N"}]},
     {"name":"Label","id":5,"instructions":[{"kind":"sequence","name":"L","instructions":[
      {"kind":"string","name":"S","operator":"copy"},
-     {"kind":"uInt32","name":"NameThatIsNoShortPieceSinceItAloneHasMoreThanSixtyFourUnitsInItAll","operator":"copy"},
-     {"kind":"string","name":"AnotherNameThatIsNoShortPieceSinceItHasMoreThanSixtyFourUnitsInItToo","operator":"copy"}
+     {"kind":"uInt32","name":"NameThatIsNoShortPieceAndIsLeftOutOfALongLineSinceItAloneHasMoreThanEightyUnitsInItAsHasThe","operator":"copy"},
+     {"kind":"string","name":"AnotherNameThatIsNoShortPieceAndIsLeftOutOfALongLineSinceItHasMoreThanEightyUnitsInItAsWell","operator":"copy"}
      ]}]}]}"#;
 
 // What is written stands to a line: whether it is a front of it, how many bytes it has, and the most of one write.

@@ -10,9 +10,11 @@ use crate::signs::Signs;
 use fast_template::{FieldPart, Name, Scalar};
 use std::alloc::{AllocError, Global};
 
-/// A line of more bytes than this is long: labels and texts that are no short pieces are left out of it as gaps, and told
-/// when it is handed on.
+/// A line of more bytes than this is long: long names and texts are left out of it as gaps, and told when it is handed on.
 const LONG: usize = 1_048_576;
+
+/// A name of no more bytes than these is written nevertheless: the gap would take as many.
+const SHORT_NAME: usize = 80;
 
 /// What is written of the line of a message, and the gaps in it.
 #[derive(Drop)]
@@ -168,7 +170,7 @@ impl Line {
         }
     }
 
-    // The same of any length, one after the other; in a line that is long it is left out.
+    // The same of any length, one after the other; in a line that is long a long name is left out.
     #[inline(never)]
     fn label_long<S: Signs>(&mut self, signs: S, name: &Name) -> Result<(), AllocError>
         ensures text { OnOk result (written_of S.form self.new ≡ written_of S.form self.old
@@ -177,7 +179,7 @@ impl Line {
     {
         self.lead(signs)?;
         self.led = true;
-        if self.is_long() {
+        if self.is_long() && name.as_str().len() > SHORT_NAME {
             return self.leave_label(name);
         }
         self.long.clear();
