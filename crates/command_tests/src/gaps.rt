@@ -1,5 +1,7 @@
 //! Lines that are long: texts are left out of them as gaps, and filled as they are handed on.
 
+ghost use Rattle.std.specs.Prelude.{◌≤◌};
+
 use crate::granted::may_be_refused;
 use crate::same::same;
 use crate::worked::loaded;
