@@ -310,15 +310,20 @@ const HUNDRED: Row = Row {
     most: 1_114_221,
 };
 
-// A line of ten million bytes.
+// Two lines of ten million bytes, the second one of the text that the first has left.
 const TEN_MILLION: Row = Row {
     stream: &[
         (b"\xC0\x82\x01\x9A\xC0", 1),
         (b"\x41", 64_927),
         (b"\xC1", 1),
         (b"\x80", 153),
+        (b"\x80\x01\x9A", 1),
+        (b"\x80", 154),
     ],
     line: &[
+        HEAD,
+        (&[(b"{S=\"", 1), (b"A", 64_928), (b"\"} ", 1)], 153),
+        (&[(b"{S=\"", 1), (b"A", 64_928), (b"\"}]\n", 1)], 1),
         HEAD,
         (&[(b"{S=\"", 1), (b"A", 64_928), (b"\"} ", 1)], 153),
         (&[(b"{S=\"", 1), (b"A", 64_928), (b"\"}]\n", 1)], 1),
