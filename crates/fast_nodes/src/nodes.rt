@@ -175,7 +175,7 @@ fn put_node<'a, E: Entries>(
             },
             Node::Group(nodes) => match level.ask(may_be_absent(*presence), true) {
                 Err(_) => Err(no_memory()),
-                Ok(()) => put_segment(members, nodes, alloc, journal, &mut level.bytes),
+                Ok(()) => put_segment(members, nodes, alloc, journal, &mut level.bytes.out),
             },
             Node::Value(_) | Node::Sequence(_) => Err(no_shape()),
         },
@@ -192,7 +192,7 @@ fn put_node<'a, E: Entries>(
                     Err(fault) => Err(fault),
                     Ok(()) => {
                         tell_elements(members, elements, journal);
-                        put_elements(members, elements, alloc, journal, &mut level.bytes)
+                        put_elements(members, elements, alloc, journal, &mut level.bytes.out)
                     }
                 }
             }

@@ -1,3 +1,4 @@
+pub mod Runs
 pub mod Relaying
 mod TextRelaying
 mod PlainTexts

@@ -61,14 +61,14 @@ text_plain bytes form rest h =
     let w = string_within kind.Ascii (groups form) (Ascii (groups form)) tt refl (part_within kind.Ascii form (groups form) h.shortest.form) in
     record { of_units = tt; of_kind = w.0; within = w.1 }
 
-pub plain_relays : (i : FieldPart) (old new : Entry) (bytes form rest before : List ℕ) → i.kind ≡ kind.Ascii → i.part ≡ part.Whole → SpellsWhole i.operator → IsPlain bytes form rest → new ≡ next i old (Some (Ascii (groups form)))
-    → left_out_of i.operator i old (Some (Ascii (groups form))) ≡ false → Relays i old new (Ascii (groups form)) bytes rest before (before ++ form)
-plain_relays i old new bytes form rest before k whole o h entry out =
-    whole_text_relays i old new (Ascii (groups form)) bytes rest before (before ++ form) whole o
+pub plain_relays : (i : FieldPart) (old new : Entry) (bytes form rest before after : List ℕ) → i.kind ≡ kind.Ascii → i.part ≡ part.Whole → SpellsWhole i.operator → IsPlain bytes form rest → new ≡ next i old (Some (Ascii (groups form)))
+    → left_out_of i.operator i old (Some (Ascii (groups form))) ≡ false → (after ≡ before ++ form) → Relays i old new (Ascii (groups form)) bytes rest before after
+plain_relays i old new bytes form rest before after k whole o h entry out appended =
+    whole_text_relays i old new (Ascii (groups form)) bytes rest before after whole o
     (subst (λ (k : Kind). IsText k (Ascii (groups form))) (sym k) (text_plain bytes form rest h))
     (subst (λ (k : Kind). units_spelled_at Usual k i.presence bytes ≡ Ok (Some (Ascii (groups form)), rest)) (sym k) (spelled_plain i.presence bytes form rest h))
     entry out
-    (form, refl, subst (λ (k : Kind). ShortestUnits k i.presence (groups form) form) (sym k) (shortest_plain i.presence bytes form rest h))
+    (form, appended, subst (λ (k : Kind). ShortestUnits k i.presence (groups form) form) (sym k) (shortest_plain i.presence bytes form rest h))
 
 -- ---- behind a zero group, which is a preamble
 
@@ -374,9 +374,9 @@ tail_less i base bytes b behind first next m le end same plain h =
       read = subst (λ (x : List ℕ). tail_at Usual i (Assigned (Ascii base)) b ≡ Ok (Some (Ascii x), drop next bytes)) value h.read;
     }
 
-pub plain_tail_relays : (i : FieldPart) (base : List ℕ) (n : ℕ) (bytes form rest before : List ℕ) → i.kind ≡ kind.Ascii → i.part ≡ part.Whole → i.operator ≡ operator.Tail → IsText kind.Ascii (Ascii base) → length base ≤ 65535 → n + length form ≡ length base
-    → GivesTail i base bytes form rest → IsLongestPrefix base (take n base ++ groups form) n → Relays i (Assigned (Ascii base)) (Assigned (Ascii (take n base ++ groups form))) (Ascii (take n base ++ groups form)) bytes rest before (before ++ form)
-plain_tail_relays i base n bytes form rest before k whole o text short is gives prefix =
+pub plain_tail_relays : (i : FieldPart) (base : List ℕ) (n : ℕ) (bytes form rest before after : List ℕ) → i.kind ≡ kind.Ascii → i.part ≡ part.Whole → i.operator ≡ operator.Tail → IsText kind.Ascii (Ascii base) → length base ≤ 65535 → n + length form ≡ length base
+    → GivesTail i base bytes form rest → IsLongestPrefix base (take n base ++ groups form) n → (after ≡ before ++ form) → Relays i (Assigned (Ascii base)) (Assigned (Ascii (take n base ++ groups form))) (Ascii (take n base ++ groups form)) bytes rest before after
+plain_tail_relays i base n bytes form rest before after k whole o text short is gives prefix appended =
     let v = take n base ++ groups form in
     let h = gives.plain in
     let same = length-map form (λ b. b % 128) in
@@ -385,10 +385,10 @@ plain_tail_relays i base n bytes form rest before k whole o text short is gives 
     let long : length v ≤ 65535 = omega (arith, short, is, same, length-append (take n base) (groups form), length-take-le n base (omega (arith, is))) in
     let t = text_together base form n text (text_plain gives.behind form rest h) long in
     let read = subst (λ m. tail_at Usual i (Assigned (Ascii base)) bytes ≡ Ok (Some (Ascii (take (length base - m) base ++ groups form)), rest)) (sym same) gives.read in
-    tail_relays i (Ascii base) (Ascii v) (groups form) bytes rest before (before ++ form) whole o
+    tail_relays i (Ascii base) (Ascii v) (groups form) bytes rest before after whole o
     (subst (λ (k : Kind). IsText k (Ascii base)) (sym k) text)
     (subst (λ (k : Kind). IsText k (Ascii v)) (sym k) t)
     (subst (λ m. tail_at Usual i (Assigned (Ascii base)) bytes ≡ Ok (Some (Ascii (take m base ++ groups form)), rest)) (sym kept) read)
     (other_end i base v k o (no_same_text base (groups form) n (omega (arith, is, some)) prefix))
     (subst (λ (k : Kind). IsBestTail k i.presence base v (groups form)) (sym k) (best_end i.presence base gives.behind form rest n (omega (arith, is, same)) h prefix))
-    (form, refl, subst (λ (k : Kind). ShortestUnits k i.presence (groups form) form) (sym k) (shortest_plain i.presence gives.behind form rest h))
+    (form, appended, subst (λ (k : Kind). ShortestUnits k i.presence (groups form) form) (sym k) (shortest_plain i.presence gives.behind form rest h))

@@ -1,5 +1,5 @@
 -- An entity with no needless group in front is the shortest form of its number, so a number that stands in it is copied.
-use Rattle.std.proofs.Common.{◌≡◌, ◌⊎◌, ℕ, ℤ, pos, negsuc, zero, suc, ◌+◌, ◌-◌, ◌*◌, ◌%◌, ◌^◌, ◌<◌, ◌≤◌, Bool, true, false, nat_eq, nat_lt, nat_le, List, [], ◌∷◌, length, drop, slice_range, get_or, refl, ap, ◌∙◌, arith, inl, inr}
+use Rattle.std.proofs.Common.{◌≡◌, ◌⊎◌, ℕ, ℤ, pos, negsuc, zero, suc, ◌+◌, ◌-◌, ◌*◌, ◌%◌, ◌^◌, ◌<◌, ◌≤◌, Bool, true, false, nat_eq, nat_lt, nat_le, List, [], ◌∷◌, length, drop, slice_range, get_or, refl, sym, ap, ◌∙◌, not, arith, inl, inr}
 use Rattle.std.specs.Prelude.{◌&&◌, ◌||◌, ◌-ℤ◌, IsTrue}
 use Rattle.std.proofs.Math.Nat.{pow-suc, pow-le-pow_right, mul-le-mul_right}
 use Rattle.std.proofs.lemmas.Bool.{cases_lt}
@@ -184,3 +184,7 @@ standing u p bytes at next z fits le within h = (found_here (integer_at Usual u 
 
 pub standing_entity : (u : Bool) (p : Presence) (bytes : List ℕ) (at next : ℕ) (z : ℤ) → IsBytes (drop at bytes) → at ≤ next → next ≤ length bytes → Spelt u p (drop at bytes) z (drop next bytes) → IsEntity (slice_range bytes at next)
 standing_entity u p bytes at next z fits le within h = entity_in u p z (slice_range bytes at next) (standing u p bytes at next z fits le within h)
+
+pub not_overlong : (b : Bool) → not b ≡ true → b ≡ false
+not_overlong true h = sym h
+not_overlong false h = refl

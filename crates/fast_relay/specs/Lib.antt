@@ -1,4 +1,5 @@
 pub mod Numbers
 pub mod Relayed
+pub mod Runs
 pub mod Texts
 pub mod Kept

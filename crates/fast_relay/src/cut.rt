@@ -1,13 +1,14 @@
 //! Deltas of ASCII strings that remove few characters at the end of the text that the entry has and put others there, and
 //! tails. What was sent may be longer than is needed: characters may be put back that were there.
 
-ghost use Rattle.std.specs.Prelude.{◌≡◌, ◌≤◌, ◌<◌, ◌-◌, ◌+◌, ◌%◌, ℕ, List, length, drop, slice_range, slice_index, pos, IfSome};
+ghost use Rattle.std.specs.Prelude.{◌≡◌, ◌≤◌, ◌<◌, ◌-◌, ◌+◌, ◌%◌, ℕ, true, List, length, drop, slice_range, slice_index, pos, IfSome};
 ghost use Rattle.fast_value.specs.declared.kind.Kind.TheVariants as kind_type;
 ghost use Rattle.fast_template.specs.declared.resolved.FieldPart.{FieldPart as PartOf};
+ghost use Rattle.fast_field.specs.Chosen.{ShortestSigned};
 ghost use Rattle.fast_relay.specs.Texts.{GivesCut, GivesTail};
 
 use crate::characters::find_plain;
-use crate::integers::read_short;
+use crate::integers::{read_short, stands_signed};
 use fast_template::FieldPart;
 use fast_value::UNIT_LIMIT;
 use fast_wire::plain_ascii_end;
@@ -21,6 +22,8 @@ pub(crate) struct Cut {
     pub(crate) removed: usize,
     pub(crate) first: usize,
     pub(crate) next: usize,
+    /// Whether the bytes from where the removal begins are its shortest form, and the new part right behind it.
+    pub(crate) stands: bool,
 }
 
 /// How many characters a subtraction length removes at the end, if they are few.
@@ -58,6 +61,8 @@ fn less_removed(base: &[u8], bytes: &[u8], cut: Cut) -> Cut
     ensures removed { result.removed ≤ length base.now }
     ensures first { result.first < result.next }
     ensures next { result.next ≡ cut.next }
+    ensures stands { result.stands ≡ true → (cut.stands ≡ true) × (result.removed ≡ cut.removed)
+        × (result.first ≡ cut.first) }
     ensures same { (i : PartOf) (b : List ℕ)
         → GivesCut i base.now b cut.removed (slice_range bytes.now cut.first cut.next)
         (drop cut.next bytes.now)
@@ -75,6 +80,7 @@ fn less_removed(base: &[u8], bytes: &[u8], cut: Cut) -> Cut
                     removed: cut.removed - more,
                     first,
                     next,
+                    stands: false,
                 }
             } else {
                 cut
@@ -93,6 +99,8 @@ pub(crate) fn read_cut(instr: &FieldPart, base: &[u8], bytes: &[u8], at: usize) 
         × (cut.next ≤ length bytes.now)) }
     ensures gives { IfSome result (λ cut. GivesCut instr.now base.now (drop at bytes.now) cut.removed
         (slice_range bytes.now cut.first cut.next) (drop cut.next bytes.now)) }
+    ensures stands { IfSome result (λ cut. cut.stands ≡ true → (at ≤ cut.first)
+        × ShortestSigned instr.now.presence (pos cut.removed) (slice_range bytes.now at cut.first)) }
 {
     let Some((removal, middle)) = read_short(false, instr.presence, bytes, at) else {
         return None;
@@ -110,10 +118,12 @@ pub(crate) fn read_cut(instr: &FieldPart, base: &[u8], bytes: &[u8], at: usize) 
     if kept > UNIT_LIMIT || next - first > UNIT_LIMIT - kept {
         return None;
     }
+    let stands = first == middle && stands_signed(instr.presence, removal, bytes, at, middle);
     let cut = Cut {
         removed,
         first,
         next,
+        stands,
     };
     if kept < base.len() && base[kept] == bytes[first] % 128 {
         Some(less_removed(base, bytes, cut))

@@ -1,6 +1,6 @@
 //! Decimals that are sent whole or as a difference, read and written at once.
 
-ghost use Rattle.std.specs.Prelude.{◌≡◌, ◌≤◌, ◌^◌, ◌+ℤ◌, ◌<ℤ◌, pos, negsuc, true, length, drop, IfNone, IfSome};
+ghost use Rattle.std.specs.Prelude.{◌≡◌, ◌≤◌, ◌^◌, ◌+ℤ◌, ◌<ℤ◌, pos, negsuc, true, false, length, drop, IfNone, IfSome};
 ghost use Rattle.fast_value.specs.Scalar.{exponent_in_range, in_range};
 ghost use Rattle.fast_value.specs.declared.kind.Kind.TheVariants as kind_type;
 ghost use Rattle.fast_value.specs.declared.kind.Operator.TheVariants as operator_type;
@@ -8,13 +8,17 @@ ghost use Rattle.fast_value.specs.declared.kind.Part.TheVariants as part_type;
 ghost use Rattle.fast_value.specs.declared.scalar.Scalar.{Scalar as ScalarOf};
 ghost use Rattle.fast_value.specs.declared.scalar.Scalar.TheVariants as scalar;
 ghost use Rattle.fast_dictionary.specs.declared.entry.Entry.TheVariants as entry_type;
-ghost use Rattle.fast_relay.specs.Numbers.{SpellsWhole};
+ghost use Rattle.fast_value.specs.declared.kind.Presence.TheVariants as presence_type;
+ghost use Rattle.fast_field.specs.Chosen.{IsSmall, ShortestPair};
+ghost use Rattle.fast_relay.specs.Numbers.{SpellsWhole, Spelt};
 ghost use Rattle.fast_relay.specs.Relayed.{IfElsewhere, IfRelayed, Relays, RelaysAs};
+ghost use Rattle.fast_relay.specs.Runs.{AppendsForm, IsRun, Stays, written};
 
 use crate::given::gives_decimal;
-use crate::integers::read_short;
+use crate::integers::{read_short, stands_signed};
 use crate::kept::keep_value;
 use crate::relayed::Relayed;
+use crate::run::Run;
 use fast_dictionary::Entry;
 use fast_field::{exponent_within, is_left_out, mantissa_within, write_pair};
 use fast_template::{FieldPart, Kind, Operator, Part, Presence, Scalar};
@@ -49,6 +53,78 @@ fn moved(kept: i128, delta: i128) -> i128
     kept + delta
 }
 
+/// Appends a pair of numbers behind what is noted, in the shortest form, and goes on behind what was read; or answers
+/// false, and nothing more is written, where memory is refused.
+#[inline(never)]
+fn respell_pair(
+    presence: Presence,
+    exponent: i128,
+    mantissa: i128,
+    bytes: &[u8],
+    at: usize,
+    next: usize,
+    out: &mut Run,
+) -> bool
+    requires exponent { IsSmall exponent }
+    requires mantissa { IsSmall mantissa }
+    requires run { IsRun bytes.now at out.now }
+    requires place { at ≤ next }
+    requires within { next ≤ length bytes.now }
+    ensures written { result ≡ true → AppendsForm (ShortestPair presence exponent mantissa)
+        (written bytes.now out.old) (written bytes.now out.new) }
+    ensures run { result ≡ true → IsRun bytes.now next out.new }
+    ensures unchanged { result ≡ false → Stays bytes.now at out.old out.new }
+{
+    if !out.flush(bytes) {
+        return false;
+    }
+    match write_pair(presence, exponent, mantissa, &mut out.out) {
+        Err(_) => false,
+        Ok(()) => {
+            out.begin(next);
+            true
+        }
+    }
+}
+
+/// Writes a pair of numbers that was read, in the shortest form: its bytes as they stand, where they are it. Answers false,
+/// and nothing more is written, where memory is refused.
+#[inline(always)]
+fn copy_pair(
+    presence: Presence,
+    exponent: i128,
+    mantissa: i128,
+    bytes: &[u8],
+    at: usize,
+    behind: usize,
+    next: usize,
+    out: &mut Run,
+) -> bool
+    requires exponent { IsSmall exponent }
+    requires mantissa { IsSmall mantissa }
+    requires run { IsRun bytes.now at out.now }
+    requires first { at ≤ behind }
+    requires second { behind ≤ next }
+    requires within { next ≤ length bytes.now }
+    requires exponent_spelt { Spelt false presence (drop at bytes.now) exponent
+        (drop behind bytes.now) }
+    requires mantissa_spelt { Spelt false presence_type.Mandatory (drop behind bytes.now) mantissa
+        (drop next bytes.now) }
+    ensures written { result ≡ true → AppendsForm (ShortestPair presence exponent mantissa)
+        (written bytes.now out.old) (written bytes.now out.new) }
+    ensures run { result ≡ true → IsRun bytes.now next out.new }
+    ensures unchanged { result ≡ false → Stays bytes.now at out.old out.new }
+{
+    if stands_signed(presence, exponent, bytes, at, behind)
+        && stands_signed(Presence::Mandatory, mantissa, bytes, behind, next)
+    {
+        out.keep(next);
+        true
+    } else {
+        respell_pair(presence, exponent, mantissa, bytes, at, next, out)
+    }
+}
+
 /// Relays what is added to the decimal that the entry has.
 #[inline(always)]
 fn relay_decimal_delta(
@@ -56,18 +132,19 @@ fn relay_decimal_delta(
     entry: &mut Entry,
     bytes: &[u8],
     at: usize,
-    out: &mut Vec<u8>,
+    out: &mut Run,
 ) -> Option<usize>
-    requires at { at ≤ length bytes.now }
+    requires run { IsRun bytes.now at out.now }
     requires kind { instr.now.kind ≡ kind_type.Decimal }
     requires operator { instr.now.operator ≡ operator_type.Delta }
     requires part { instr.now.part ≡ part_type.Whole }
     ensures place { IfSome result (λ next. (at ≤ next) × (next ≤ length bytes.now)) }
+    ensures run { IfSome result (λ next. IsRun bytes.now next out.new) }
     ensures relayed { IfSome result (λ next. (v : ScalarOf)
         × Relays instr.now entry.old entry.new v (drop at bytes.now) (drop next bytes.now)
-        out.old.items out.new.items) }
+        (written bytes.now out.old) (written bytes.now out.new)) }
     ensures entry { IfNone result (entry.new ≡ entry.old) }
-    ensures out { IfNone result (out.new.items ≡ out.old.items) }
+    ensures out { IfNone result (Stays bytes.now at out.old out.new) }
 {
     let Some((kept_exponent, kept_mantissa)) = kept_decimal(entry) else {
         return None;
@@ -84,12 +161,20 @@ fn relay_decimal_delta(
     let Some(mantissa) = mantissa_within(moved(kept_mantissa, mantissa_delta)) else {
         return None;
     };
-    match write_pair(instr.presence, exponent_delta, mantissa_delta, out) {
-        Ok(()) => {
-            *entry = Entry::Assigned(Scalar::Decimal { exponent, mantissa });
-            Some(next)
-        }
-        Err(_) => None,
+    if copy_pair(
+        instr.presence,
+        exponent_delta,
+        mantissa_delta,
+        bytes,
+        at,
+        behind,
+        next,
+        out,
+    ) {
+        *entry = Entry::Assigned(Scalar::Decimal { exponent, mantissa });
+        Some(next)
+    } else {
+        None
     }
 }
 
@@ -100,18 +185,19 @@ fn relay_decimal_whole(
     entry: &mut Entry,
     bytes: &[u8],
     at: usize,
-    out: &mut Vec<u8>,
+    out: &mut Run,
 ) -> Relayed
-    requires at { at ≤ length bytes.now }
+    requires run { IsRun bytes.now at out.now }
     requires kind { instr.now.kind ≡ kind_type.Decimal }
     requires operator { SpellsWhole instr.now.operator }
     requires part { instr.now.part ≡ part_type.Whole }
     ensures place { IfRelayed result (λ bit next. (at ≤ next) × (next ≤ length bytes.now)) }
+    ensures run { IfRelayed result (λ bit next. IsRun bytes.now next out.new) }
     ensures relayed { IfRelayed result (λ bit next. (v : ScalarOf)
         × RelaysAs bit instr.now entry.old entry.new v (drop at bytes.now) (drop next bytes.now)
-        out.old.items out.new.items) }
+        (written bytes.now out.old) (written bytes.now out.new)) }
     ensures entry { IfElsewhere result (entry.new ≡ entry.old) }
-    ensures out { IfElsewhere result (out.new.items ≡ out.old.items) }
+    ensures out { IfElsewhere result (Stays bytes.now at out.old out.new) }
 {
     let Some((exponent_sent, behind)) = read_short(false, instr.presence, bytes, at) else {
         return Relayed::Elsewhere;
@@ -127,17 +213,26 @@ fn relay_decimal_whole(
     };
     let value = Scalar::Decimal { exponent, mantissa };
     if is_left_out(instr, entry.view(), Some(&value)) {
-        if gives_decimal(instr, entry, &value) {
+        if gives_decimal(instr, entry, &value) && out.flush(bytes) {
+            out.begin(next);
             return Relayed::Given(next);
         }
         return Relayed::Elsewhere;
     }
-    match write_pair(instr.presence, exponent_sent, mantissa_sent, out) {
-        Ok(()) => {
-            keep_value(instr.operator, entry, value);
-            Relayed::Sent(next)
-        }
-        Err(_) => Relayed::Elsewhere,
+    if copy_pair(
+        instr.presence,
+        exponent_sent,
+        mantissa_sent,
+        bytes,
+        at,
+        behind,
+        next,
+        out,
+    ) {
+        keep_value(instr.operator, entry, value);
+        Relayed::Sent(next)
+    } else {
+        Relayed::Elsewhere
     }
 }
 
@@ -149,15 +244,16 @@ pub fn relay_decimal(
     entry: &mut Entry,
     bytes: &[u8],
     at: usize,
-    out: &mut Vec<u8>,
+    out: &mut Run,
 ) -> Relayed
-    requires { at ≤ length bytes.now }
+    requires { IsRun bytes.now at out.now }
     ensures place { IfRelayed result (λ bit next. (at ≤ next) × (next ≤ length bytes.now)) }
+    ensures run { IfRelayed result (λ bit next. IsRun bytes.now next out.new) }
     ensures relayed { IfRelayed result (λ bit next. (v : ScalarOf)
         × RelaysAs bit instr.now entry.old entry.new v (drop at bytes.now) (drop next bytes.now)
-        out.old.items out.new.items) }
+        (written bytes.now out.old) (written bytes.now out.new)) }
     ensures entry { IfElsewhere result (entry.new ≡ entry.old) }
-    ensures out { IfElsewhere result (out.new.items ≡ out.old.items) }
+    ensures out { IfElsewhere result (Stays bytes.now at out.old out.new) }
 {
     match (instr.kind, instr.operator, instr.part) {
         (Kind::Decimal, Operator::Delta, Part::Whole) => {

@@ -1,7 +1,7 @@
 //! Numbers as they are read and written where they are relayed. All is inline, since the type is mostly known where it is
 //! called.
 
-ghost use Rattle.std.specs.Prelude.{◌≡◌, ◌≤◌, ◌++◌, ◌^◌, ◌<ℤ◌, pos, negsuc, length, drop, false, slice_range, IfSome, IfErr, OnOk, OnErr};
+ghost use Rattle.std.specs.Prelude.{◌≡◌, ◌≤◌, ◌^◌, ◌<ℤ◌, pos, negsuc, length, drop, true, false, slice_range, IfSome};
 ghost use Rattle.fast_wire.specs.Entity.{IsEntity};
 ghost use Rattle.fast_value.specs.Scalar.{of_integer};
 ghost use Rattle.fast_field.specs.Chosen.{AppendsOne, IsSmall, ShortestSigned, ShortestWhole};
@@ -9,7 +9,9 @@ ghost use Rattle.fast_field.specs.Numbers.{IsNumber};
 ghost use Rattle.fast_field.specs.Spelled.{overlong_number};
 ghost use Rattle.fast_field.specs.Values as values;
 ghost use Rattle.fast_relay.specs.Numbers.{Spelt, SpeltNull};
+ghost use Rattle.fast_relay.specs.Runs.{AppendsForm, IsRun, Stays, written};
 
+use crate::run::Run;
 use fast_field::{write_signed, write_unsigned};
 use fast_template::{Kind, Presence};
 use fast_wire::{Nullable, WireFault, overlong_signed, overlong_unsigned};
@@ -122,27 +124,72 @@ fn is_overlong(unsigned: bool, bytes: &[u8], at: usize, next: usize) -> bool
     }
 }
 
-/// Appends the bytes of a form, or nothing. Most have one byte.
-#[inline(always)]
-fn append_form(form: &[u8], out: &mut Vec<u8>) -> Result<(), WireFault>
-    ensures appended { OnOk result (out.new.items ≡ out.old.items ++ form.now) }
-    ensures refused { IfErr result (λ e. e ≡ WireFault.Memory) }
-    ensures unchanged { OnErr result (out.new.items ≡ out.old.items) }
+/// Appends a number in the shortest form behind what is noted, and goes on behind what was read; answers false, and nothing
+/// more is written, where memory is refused.
+#[inline(never)]
+fn respell(
+    kind: Kind,
+    presence: Presence,
+    number: i128,
+    bytes: &[u8],
+    at: usize,
+    next: usize,
+    out: &mut Run,
+) -> bool
+    requires number { IsNumber kind number }
+    requires run { IsRun bytes.now at out.now }
+    requires place { at ≤ next }
+    requires within { next ≤ length bytes.now }
+    ensures written { result ≡ true → AppendsForm (ShortestWhole presence (of_integer kind number))
+        (written bytes.now out.old) (written bytes.now out.new) }
+    ensures run { result ≡ true → IsRun bytes.now next out.new }
+    ensures unchanged { result ≡ false → Stays bytes.now at out.old out.new }
 {
-    if form.len() == 1 {
-        match out.push(form[0]) {
-            Err(_) => Err(WireFault::Memory),
-            Ok(()) => Ok(()),
-        }
-    } else {
-        match out.extend_from_slice(form) {
-            Err(_) => Err(WireFault::Memory),
-            Ok(()) => Ok(()),
+    if !out.flush(bytes) {
+        return false;
+    }
+    match write_number(kind, presence, number, &mut out.out) {
+        Err(_) => false,
+        Ok(()) => {
+            out.begin(next);
+            true
         }
     }
 }
 
-/// Appends a number that was read, in the shortest form: its bytes as they stand, where they are it. Or nothing.
+/// The same of a number with a sign that is no value: what is added to one.
+#[inline(never)]
+fn respell_signed(
+    presence: Presence,
+    number: i128,
+    bytes: &[u8],
+    at: usize,
+    next: usize,
+    out: &mut Run,
+) -> bool
+    requires small { IsSmall number }
+    requires run { IsRun bytes.now at out.now }
+    requires place { at ≤ next }
+    requires within { next ≤ length bytes.now }
+    ensures written { result ≡ true → AppendsForm (ShortestSigned presence number)
+        (written bytes.now out.old) (written bytes.now out.new) }
+    ensures run { result ≡ true → IsRun bytes.now next out.new }
+    ensures unchanged { result ≡ false → Stays bytes.now at out.old out.new }
+{
+    if !out.flush(bytes) {
+        return false;
+    }
+    match write_signed(presence, number, &mut out.out) {
+        Err(_) => false,
+        Ok(()) => {
+            out.begin(next);
+            true
+        }
+    }
+}
+
+/// Writes a number that was read, in the shortest form: its bytes as they stand, where they are it. Answers false, and
+/// nothing more is written, where memory is refused.
 #[inline(always)]
 pub(crate) fn copy_number(
     kind: Kind,
@@ -151,24 +198,42 @@ pub(crate) fn copy_number(
     bytes: &[u8],
     at: usize,
     next: usize,
-    out: &mut Vec<u8>,
-) -> Result<(), WireFault>
+    out: &mut Run,
+) -> bool
     requires number { IsNumber kind number }
+    requires run { IsRun bytes.now at out.now }
     requires place { at ≤ next }
     requires within { next ≤ length bytes.now }
     requires spelt { Spelt (values.is_unsigned kind) presence (drop at bytes.now)
         number (drop next bytes.now) }
-    ensures { AppendsOne (ShortestWhole presence (of_integer kind number))
-        out.old.items out.new.items result }
+    ensures written { result ≡ true → AppendsForm (ShortestWhole presence (of_integer kind number))
+        (written bytes.now out.old) (written bytes.now out.new) }
+    ensures run { result ≡ true → IsRun bytes.now next out.new }
+    ensures unchanged { result ≡ false → Stays bytes.now at out.old out.new }
 {
     if is_overlong(is_unsigned(kind), bytes, at, next) {
-        write_number(kind, presence, number, out)
+        respell(kind, presence, number, bytes, at, next, out)
     } else {
-        match append_form(&bytes[at..next], out) {
-            Err(fault) => Err(fault),
-            Ok(()) => Ok(()),
-        }
+        out.keep(next);
+        true
     }
+}
+
+/// Whether the bytes of a number with a sign that was read are its shortest form.
+#[inline(always)]
+pub(crate) fn stands_signed(
+    presence: Presence,
+    number: i128,
+    bytes: &[u8],
+    at: usize,
+    next: usize,
+) -> bool
+    requires place { at ≤ next }
+    requires within { next ≤ length bytes.now }
+    requires spelt { Spelt false presence (drop at bytes.now) number (drop next bytes.now) }
+    ensures { result ≡ true → ShortestSigned presence number (slice_range bytes.now at next) }
+{
+    !is_overlong(false, bytes, at, next)
 }
 
 /// The same of a number with a sign that is no value: what is added to one.
@@ -179,20 +244,22 @@ pub(crate) fn copy_signed(
     bytes: &[u8],
     at: usize,
     next: usize,
-    out: &mut Vec<u8>,
-) -> Result<(), WireFault>
+    out: &mut Run,
+) -> bool
     requires small { IsSmall number }
+    requires run { IsRun bytes.now at out.now }
     requires place { at ≤ next }
     requires within { next ≤ length bytes.now }
     requires spelt { Spelt false presence (drop at bytes.now) number (drop next bytes.now) }
-    ensures { AppendsOne (ShortestSigned presence number) out.old.items out.new.items result }
+    ensures written { result ≡ true → AppendsForm (ShortestSigned presence number)
+        (written bytes.now out.old) (written bytes.now out.new) }
+    ensures run { result ≡ true → IsRun bytes.now next out.new }
+    ensures unchanged { result ≡ false → Stays bytes.now at out.old out.new }
 {
-    if is_overlong(false, bytes, at, next) {
-        write_signed(presence, number, out)
+    if stands_signed(presence, number, bytes, at, next) {
+        out.keep(next);
+        true
     } else {
-        match append_form(&bytes[at..next], out) {
-            Err(fault) => Err(fault),
-            Ok(()) => Ok(()),
-        }
+        respell_signed(presence, number, bytes, at, next, out)
     }
 }

@@ -6,11 +6,14 @@ ghost use Rattle.fast_value.specs.declared.kind.Presence.TheVariants as presence
 ghost use Rattle.fast_field.specs.Bases.{next_of};
 ghost use Rattle.fast_field.specs.Planning.{left_out_of};
 ghost use Rattle.fast_relay.specs.Numbers.{SpellsWhole};
+ghost use Rattle.fast_field.specs.Passed.{Passes};
 ghost use Rattle.fast_relay.specs.Relayed.{IfElsewhere, IfRelayed, RelaysNullAs};
+ghost use Rattle.fast_relay.specs.Runs.{IsRun, Stays, written};
 
 use crate::given::gives_absent;
 use crate::integers::{is_unsigned, read_null};
 use crate::relayed::Relayed;
+use crate::run::Run;
 use fast_dictionary::Entry;
 use fast_template::{FieldPart, Kind, Operator, Presence};
 
@@ -56,26 +59,98 @@ fn keep_absent(operator: Operator, entry: &mut Entry)
     }
 }
 
-/// Appends NULL, where that is the best form of an absent field, and makes the entry the one afterwards; or answers
-/// false, and changes nothing.
+/// Appends NULL behind what is noted, where that is the best form of an absent field, makes the entry the one afterwards,
+/// and goes on behind what was read; or answers false, and changes nothing.
 #[inline(never)]
-fn send_null(instr: &FieldPart, entry: &mut Entry, out: &mut Vec<u8>) -> bool
+fn respell_null(
+    instr: &FieldPart,
+    entry: &mut Entry,
+    bytes: &[u8],
+    at: usize,
+    next: usize,
+    out: &mut Run,
+) -> bool
+    requires run { IsRun bytes.now at out.now }
+    requires place { at ≤ next }
+    requires within { next ≤ length bytes.now }
     ensures best { result ≡ true
         → left_out_of instr.now.operator instr.now entry.old None ≡ false }
-    ensures sent { result ≡ true → out.new.items ≡ out.old.items ++ (128 ∷ []) }
+    ensures sent { result ≡ true
+        → written bytes.now out.new ≡ written bytes.now out.old ++ (128 ∷ []) }
+    ensures run { result ≡ true → IsRun bytes.now next out.new }
     ensures kept { result ≡ true → entry.new ≡ next_of instr.now.operator entry.old None }
     ensures entry { result ≡ false → entry.new ≡ entry.old }
-    ensures out { result ≡ false → out.new.items ≡ out.old.items }
+    ensures out { result ≡ false → Stays bytes.now at out.old out.new }
 {
     if may_be_left_out(instr, entry) {
         return false;
     }
-    match out.push(NULL) {
+    if !out.flush(bytes) {
+        return false;
+    }
+    match out.out.push(NULL) {
         Err(_) => false,
         Ok(()) => {
             keep_absent(instr.operator, entry);
+            out.begin(next);
             true
         }
+    }
+}
+
+/// Notes NULL that stands in its shortest form, where that is the best form of an absent field, and makes the entry the one
+/// afterwards; or answers false, and changes nothing.
+#[inline(always)]
+fn send_null(instr: &FieldPart, entry: &mut Entry, bytes: &[u8], at: usize, out: &mut Run) -> bool
+    requires run { IsRun bytes.now at out.now }
+    requires within { at < length bytes.now }
+    requires null { drop at bytes.now ≡ 128 ∷ drop (at + 1) bytes.now }
+    ensures best { result ≡ true
+        → left_out_of instr.now.operator instr.now entry.old None ≡ false }
+    ensures sent { result ≡ true
+        → written bytes.now out.new ≡ written bytes.now out.old ++ (128 ∷ []) }
+    ensures run { result ≡ true → IsRun bytes.now (at + 1) out.new }
+    ensures kept { result ≡ true → entry.new ≡ next_of instr.now.operator entry.old None }
+    ensures entry { result ≡ false → entry.new ≡ entry.old }
+    ensures out { result ≡ false → Stays bytes.now at out.old out.new }
+{
+    if may_be_left_out(instr, entry) {
+        return false;
+    }
+    keep_absent(instr.operator, entry);
+    out.keep(at + 1);
+    true
+}
+
+/// Drops NULL where bit 0 gives it too, which is its best form; answers false, and nothing more is written, where another
+/// way tells.
+#[inline(never)]
+fn give_null(
+    instr: &FieldPart,
+    entry: &Entry,
+    bytes: &[u8],
+    at: usize,
+    next: usize,
+    out: &mut Run,
+) -> bool
+    requires run { IsRun bytes.now at out.now }
+    requires place { at ≤ next }
+    requires within { next ≤ length bytes.now }
+    requires presence { instr.now.presence ≡ presence_type.Optional }
+    ensures operator { result ≡ true → SpellsWhole instr.now.operator }
+    ensures passed { result ≡ true → Passes instr.now entry.now entry.now None }
+    ensures written { result ≡ true → written bytes.now out.new ≡ written bytes.now out.old }
+    ensures run { result ≡ true → IsRun bytes.now next out.new }
+    ensures out { result ≡ false → Stays bytes.now at out.old out.new }
+{
+    if !out.flush(bytes) {
+        return false;
+    }
+    if gives_absent(instr, entry) {
+        out.begin(next);
+        true
+    } else {
+        false
     }
 }
 
@@ -87,25 +162,27 @@ fn relay_any_null(
     entry: &mut Entry,
     bytes: &[u8],
     at: usize,
-    out: &mut Vec<u8>,
+    out: &mut Run,
 ) -> Relayed
-    requires at { at ≤ length bytes.now }
+    requires run { IsRun bytes.now at out.now }
     requires kind { kind ≡ instr.now.kind }
     requires integer { IsTrue (is_integer kind) }
     requires operator { SpellsWhole instr.now.operator }
     requires presence { instr.now.presence ≡ presence_type.Optional }
     ensures place { IfRelayed result (λ bit next. (at ≤ next) × (next ≤ length bytes.now)) }
+    ensures run { IfRelayed result (λ bit next. IsRun bytes.now next out.new) }
     ensures relayed { IfRelayed result (λ bit next. RelaysNullAs bit instr.now entry.old entry.new
-        (drop at bytes.now) (drop next bytes.now) out.old.items out.new.items) }
+        (drop at bytes.now) (drop next bytes.now)
+        (written bytes.now out.old) (written bytes.now out.new)) }
     ensures entry { IfElsewhere result (entry.new ≡ entry.old) }
-    ensures out { IfElsewhere result (out.new.items ≡ out.old.items) }
+    ensures out { IfElsewhere result (Stays bytes.now at out.old out.new) }
 {
     let Some(next) = read_null(is_unsigned(kind), bytes, at) else {
         return Relayed::Elsewhere;
     };
-    if send_null(instr, entry, out) {
+    if respell_null(instr, entry, bytes, at, next, out) {
         Relayed::Sent(next)
-    } else if gives_absent(instr, entry) {
+    } else if give_null(instr, entry, bytes, at, next, out) {
         Relayed::Given(next)
     } else {
         Relayed::Elsewhere
@@ -119,15 +196,17 @@ fn relay_long_null(
     entry: &mut Entry,
     bytes: &[u8],
     at: usize,
-    out: &mut Vec<u8>,
+    out: &mut Run,
 ) -> Relayed
-    requires at { at ≤ length bytes.now }
+    requires run { IsRun bytes.now at out.now }
     requires presence { instr.now.presence ≡ presence_type.Optional }
     ensures place { IfRelayed result (λ bit next. (at ≤ next) × (next ≤ length bytes.now)) }
+    ensures run { IfRelayed result (λ bit next. IsRun bytes.now next out.new) }
     ensures relayed { IfRelayed result (λ bit next. RelaysNullAs bit instr.now entry.old entry.new
-        (drop at bytes.now) (drop next bytes.now) out.old.items out.new.items) }
+        (drop at bytes.now) (drop next bytes.now)
+        (written bytes.now out.old) (written bytes.now out.new)) }
     ensures entry { IfElsewhere result (entry.new ≡ entry.old) }
-    ensures out { IfElsewhere result (out.new.items ≡ out.old.items) }
+    ensures out { IfElsewhere result (Stays bytes.now at out.old out.new) }
 {
     match instr.operator {
         Operator::Plain | Operator::Default | Operator::Copy | Operator::Increment => {
@@ -151,14 +230,16 @@ pub fn relay_null(
     entry: &mut Entry,
     bytes: &[u8],
     at: usize,
-    out: &mut Vec<u8>,
+    out: &mut Run,
 ) -> Relayed
-    requires { at ≤ length bytes.now }
+    requires { IsRun bytes.now at out.now }
     ensures place { IfRelayed result (λ bit next. (at ≤ next) × (next ≤ length bytes.now)) }
+    ensures run { IfRelayed result (λ bit next. IsRun bytes.now next out.new) }
     ensures relayed { IfRelayed result (λ bit next. RelaysNullAs bit instr.now entry.old entry.new
-        (drop at bytes.now) (drop next bytes.now) out.old.items out.new.items) }
+        (drop at bytes.now) (drop next bytes.now)
+        (written bytes.now out.old) (written bytes.now out.new)) }
     ensures entry { IfElsewhere result (entry.new ≡ entry.old) }
-    ensures out { IfElsewhere result (out.new.items ≡ out.old.items) }
+    ensures out { IfElsewhere result (Stays bytes.now at out.old out.new) }
 {
     match instr.presence {
         Presence::Mandatory => Relayed::Elsewhere,
@@ -169,9 +250,9 @@ pub fn relay_null(
             if !begins_with_null(bytes, at) {
                 return Relayed::Elsewhere;
             }
-            if send_null(instr, entry, out) {
+            if send_null(instr, entry, bytes, at, out) {
                 Relayed::Sent(at + 1)
-            } else if gives_absent(instr, entry) {
+            } else if give_null(instr, entry, bytes, at, at + 1, out) {
                 Relayed::Given(at + 1)
             } else {
                 Relayed::Elsewhere

@@ -1,5 +1,5 @@
-//! ASCII strings that stand in their shortest form, as most do: they are copied from the bytes that were read, once to
-//! what is written and once into the entry, and no string is made. What is not served here is left to `text`.
+//! ASCII strings that stand in their shortest form, as most do: their bytes are noted, to be written as they stand, and
+//! their characters copied into the entry, and no string is made. What is not served here is left to `text`.
 
 ghost use Rattle.std.specs.Prelude.{◌≡◌, ◌≤◌, ◌<◌, ◌++◌, pos, true, false, length, drop, take, Some, IfNone, IfSome};
 ghost use Rattle.fast_value.specs.declared.kind.Kind.TheVariants as kind_type;
@@ -14,12 +14,14 @@ ghost use Rattle.fast_field.specs.CommonParts.{IsLongestPrefix, IsLongestSuffix}
 ghost use Rattle.fast_relay.specs.Numbers.{SpellsWhole};
 ghost use Rattle.fast_field.specs.Planning.{left_out_of};
 ghost use Rattle.fast_relay.specs.Relayed.{IfElsewhere, IfRelayed, Relays, RelaysAs};
+ghost use Rattle.fast_relay.specs.Runs.{IsRun, Stays, written};
 ghost use Rattle.fast_relay.specs.Texts.{SharesEnd};
 
 use crate::characters::{are_characters, find_plain};
 use crate::cut::{read_cut, read_tail};
 use crate::given::{drop_plain_tail, gives_text};
 use crate::relayed::Relayed;
+use crate::run::Run;
 use fast_dictionary::Entry;
 use fast_field::write_signed;
 use fast_template::{ByteString, FieldPart, Operator, Scalar};
@@ -49,30 +51,6 @@ pub(crate) fn put_characters(alloc: Global, text: &mut ByteString, kept: usize, 
             characters[last] %= 128;
             *text = ByteString::from_vec(characters);
             true
-        }
-    }
-}
-
-/// Appends bytes of an entity, and puts its characters behind so many of a text; or answers false, and does neither.
-#[inline(always)]
-fn send(alloc: Global, text: &mut ByteString, kept: usize, form: &[u8], out: &mut Vec<u8>) -> bool
-    requires kept { kept ≤ length text.now }
-    requires entity { IsEntity form.now }
-    ensures put { result ≡ true → text.new ≡ take kept text.old ++ groups form.now }
-    ensures sent { result ≡ true → out.new.items ≡ out.old.items ++ form.now }
-    ensures text { result ≡ false → text.new ≡ text.old }
-    ensures out { result ≡ false → out.new.items ≡ out.old.items }
-{
-    let start = out.len();
-    match out.extend_from_slice(form) {
-        Err(_) => false,
-        Ok(()) => {
-            if put_characters(alloc, text, kept, form) {
-                true
-            } else {
-                out.truncate(start);
-                false
-            }
         }
     }
 }
@@ -149,40 +127,39 @@ fn relay_plain_whole(
     entry: &mut Entry,
     bytes: &[u8],
     at: usize,
-    out: &mut Vec<u8>,
+    out: &mut Run,
 ) -> Relayed
-    requires at { at ≤ length bytes.now }
+    requires run { IsRun bytes.now at out.now }
     requires part { instr.now.part ≡ part_type.Whole }
     requires operator { SpellsWhole instr.now.operator }
     requires kind { instr.now.kind ≡ kind_type.Ascii }
     ensures place { IfRelayed result (λ bit next. (at ≤ next) × (next ≤ length bytes.now)) }
+    ensures run { IfRelayed result (λ bit next. IsRun bytes.now next out.new) }
     ensures relayed { IfRelayed result (λ bit next. (v : ScalarOf)
         × RelaysAs bit instr.now entry.old entry.new v (drop at bytes.now) (drop next bytes.now)
-        out.old.items out.new.items) }
+        (written bytes.now out.old) (written bytes.now out.new)) }
     ensures entry { IfElsewhere result (entry.new ≡ entry.old) }
-    ensures out { IfElsewhere result (out.new.items ≡ out.old.items) }
+    ensures out { IfElsewhere result (Stays bytes.now at out.old out.new) }
 {
     let Some((first, next)) = find_plain(bytes, at) else {
         return Relayed::Elsewhere;
     };
     let form = &bytes[first..next];
     if may_be_left_out(instr, entry, form) {
-        if gives_text(instr, entry, form) {
+        if gives_text(instr, entry, form) && out.flush(bytes) {
+            out.begin(next);
             return Relayed::Given(next);
         }
         return Relayed::Elsewhere;
     }
-    let start = out.len();
-    match out.extend_from_slice(form) {
-        Err(_) => Relayed::Elsewhere,
-        Ok(()) => {
-            if keep_plain(alloc, instr.operator, entry, form) {
-                Relayed::Sent(next)
-            } else {
-                out.truncate(start);
-                Relayed::Elsewhere
-            }
-        }
+    if !out.ready(bytes, first) {
+        return Relayed::Elsewhere;
+    }
+    if keep_plain(alloc, instr.operator, entry, form) {
+        out.note(first, next);
+        Relayed::Sent(next)
+    } else {
+        Relayed::Elsewhere
     }
 }
 
@@ -241,19 +218,20 @@ fn relay_plain_delta(
     text: &mut ByteString,
     bytes: &[u8],
     at: usize,
-    out: &mut Vec<u8>,
+    out: &mut Run,
 ) -> Option<usize>
-    requires at { at ≤ length bytes.now }
+    requires run { IsRun bytes.now at out.now }
     requires part { instr.now.part ≡ part_type.Whole }
     requires operator { instr.now.operator ≡ operator_type.Delta }
     requires kind { instr.now.kind ≡ kind_type.Ascii }
     ensures place { IfSome result (λ next. (at ≤ next) × (next ≤ length bytes.now)) }
+    ensures run { IfSome result (λ next. IsRun bytes.now next out.new) }
     ensures relayed { IfSome result (λ next. Relays instr.now
         (entry_type.Assigned (Ascii text.old)) (entry_type.Assigned (Ascii text.new))
         (Ascii text.new) (drop at bytes.now) (drop next bytes.now)
-        out.old.items out.new.items) }
+        (written bytes.now out.old) (written bytes.now out.new)) }
     ensures text { IfNone result (text.new ≡ text.old) }
-    ensures out { IfNone result (out.new.items ≡ out.old.items) }
+    ensures out { IfNone result (Stays bytes.now at out.old out.new) }
 {
     let base = text.as_slice();
     if !are_characters(base) {
@@ -267,14 +245,26 @@ fn relay_plain_delta(
     if !agrees_no_further(base, kept, form) || !is_cut_at_end(base, kept, form) {
         return None;
     }
-    let start = out.len();
-    match write_signed(instr.presence, cut.removed as i128, out) {
+    if cut.stands {
+        if !put_characters(alloc, text, kept, form) {
+            return None;
+        }
+        out.keep(cut.next);
+        return Some(cut.next);
+    }
+    if !out.flush(bytes) {
+        return None;
+    }
+    let start = out.out.len();
+    match write_signed(instr.presence, cut.removed as i128, &mut out.out) {
         Err(_) => None,
         Ok(()) => {
-            if send(alloc, text, kept, form, out) {
+            if put_characters(alloc, text, kept, form) {
+                out.begin(cut.first);
+                out.keep(cut.next);
                 Some(cut.next)
             } else {
-                out.truncate(start);
+                out.out.truncate(start);
                 None
             }
         }
@@ -289,19 +279,20 @@ fn relay_plain_tail(
     text: &mut ByteString,
     bytes: &[u8],
     at: usize,
-    out: &mut Vec<u8>,
+    out: &mut Run,
 ) -> Option<usize>
-    requires at { at ≤ length bytes.now }
+    requires run { IsRun bytes.now at out.now }
     requires part { instr.now.part ≡ part_type.Whole }
     requires operator { instr.now.operator ≡ operator_type.Tail }
     requires kind { instr.now.kind ≡ kind_type.Ascii }
     ensures place { IfSome result (λ next. (at ≤ next) × (next ≤ length bytes.now)) }
+    ensures run { IfSome result (λ next. IsRun bytes.now next out.new) }
     ensures relayed { IfSome result (λ next. Relays instr.now
         (entry_type.Assigned (Ascii text.old)) (entry_type.Assigned (Ascii text.new))
         (Ascii text.new) (drop at bytes.now) (drop next bytes.now)
-        out.old.items out.new.items) }
+        (written bytes.now out.old) (written bytes.now out.new)) }
     ensures text { IfNone result (text.new ≡ text.old) }
-    ensures out { IfNone result (out.new.items ≡ out.old.items) }
+    ensures out { IfNone result (Stays bytes.now at out.old out.new) }
 {
     let base = text.as_slice();
     if !are_characters(base) {
@@ -318,7 +309,11 @@ fn relay_plain_tail(
     if !agrees_no_further(base, kept, form) {
         return None;
     }
-    if send(alloc, text, kept, form, out) {
+    if !out.ready(bytes, first) {
+        return None;
+    }
+    if put_characters(alloc, text, kept, form) {
+        out.note(first, next);
         Some(next)
     } else {
         None
@@ -334,24 +329,28 @@ fn relay_either_tail(
     text: &mut ByteString,
     bytes: &[u8],
     at: usize,
-    out: &mut Vec<u8>,
+    out: &mut Run,
 ) -> Relayed
-    requires at { at ≤ length bytes.now }
+    requires run { IsRun bytes.now at out.now }
     requires part { instr.now.part ≡ part_type.Whole }
     requires operator { instr.now.operator ≡ operator_type.Tail }
     requires kind { instr.now.kind ≡ kind_type.Ascii }
     ensures place { IfRelayed result (λ bit next. (at ≤ next) × (next ≤ length bytes.now)) }
+    ensures run { IfRelayed result (λ bit next. IsRun bytes.now next out.new) }
     ensures relayed { IfRelayed result (λ bit next. (v : ScalarOf) × RelaysAs bit instr.now
         (entry_type.Assigned (Ascii text.old)) (entry_type.Assigned (Ascii text.new)) v
-        (drop at bytes.now) (drop next bytes.now) out.old.items out.new.items) }
+        (drop at bytes.now) (drop next bytes.now) (written bytes.now out.old) (written bytes.now out.new)) }
     ensures text { IfElsewhere result (text.new ≡ text.old) }
-    ensures out { IfElsewhere result (out.new.items ≡ out.old.items) }
+    ensures out { IfElsewhere result (Stays bytes.now at out.old out.new) }
 {
     match relay_plain_tail(alloc, instr, text, bytes, at, out) {
         Some(next) => Relayed::Sent(next),
         None => match drop_plain_tail(instr, text, bytes, at) {
-            Some(next) => Relayed::Given(next),
-            None => Relayed::Elsewhere,
+            Some(next) if out.flush(bytes) => {
+                out.begin(next);
+                Relayed::Given(next)
+            }
+            _ => Relayed::Elsewhere,
         },
     }
 }
@@ -365,17 +364,18 @@ pub(crate) fn relay_plain(
     entry: &mut Entry,
     bytes: &[u8],
     at: usize,
-    out: &mut Vec<u8>,
+    out: &mut Run,
 ) -> Relayed
-    requires at { at ≤ length bytes.now }
+    requires run { IsRun bytes.now at out.now }
     requires part { instr.now.part ≡ part_type.Whole }
     requires kind { instr.now.kind ≡ kind_type.Ascii }
     ensures place { IfRelayed result (λ bit next. (at ≤ next) × (next ≤ length bytes.now)) }
+    ensures run { IfRelayed result (λ bit next. IsRun bytes.now next out.new) }
     ensures relayed { IfRelayed result (λ bit next. (v : ScalarOf)
         × RelaysAs bit instr.now entry.old entry.new v (drop at bytes.now) (drop next bytes.now)
-        out.old.items out.new.items) }
+        (written bytes.now out.old) (written bytes.now out.new)) }
     ensures entry { IfElsewhere result (entry.new ≡ entry.old) }
-    ensures out { IfElsewhere result (out.new.items ≡ out.old.items) }
+    ensures out { IfElsewhere result (Stays bytes.now at out.old out.new) }
 {
     match instr.operator {
         Operator::Plain | Operator::Default | Operator::Copy => {

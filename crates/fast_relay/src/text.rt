@@ -8,11 +8,14 @@ ghost use Rattle.fast_value.specs.declared.scalar.Scalar.{Scalar as ScalarOf};
 ghost use Rattle.fast_dictionary.specs.declared.entry.Entry.TheVariants as entry_type;
 ghost use Rattle.fast_relay.specs.Numbers.{SpellsWhole};
 ghost use Rattle.fast_relay.specs.Relayed.{IfElsewhere, IfRelayed, Relays, RelaysAs};
+ghost use Rattle.fast_relay.specs.Runs.{IsRun, Stays, written};
+ghost use Rattle.fast_relay.specs.Texts.{IsVectorKind};
 
 use crate::characters::is_text;
 use crate::kept::keep_value;
 use crate::plain::relay_plain;
 use crate::relayed::Relayed;
+use crate::run::Run;
 use crate::vectors::relay_vector;
 use fast_dictionary::{Entry, EntryRef};
 use fast_field::{
@@ -244,20 +247,64 @@ fn relay_made(
     entry: &mut Entry,
     bytes: &[u8],
     at: usize,
-    out: &mut Vec<u8>,
+    out: &mut Run,
 ) -> Relayed
-    requires at { at ≤ length bytes.now }
+    requires run { IsRun bytes.now at out.now }
     requires part { instr.now.part ≡ part_type.Whole }
     ensures place { IfRelayed result (λ bit next. (at ≤ next) × (next ≤ length bytes.now)) }
+    ensures run { IfRelayed result (λ bit next. IsRun bytes.now next out.new) }
     ensures relayed { IfRelayed result (λ bit next. (v : ScalarOf)
         × RelaysAs bit instr.now entry.old entry.new v (drop at bytes.now) (drop next bytes.now)
-        out.old.items out.new.items) }
+        (written bytes.now out.old) (written bytes.now out.new)) }
     ensures entry { IfElsewhere result (entry.new ≡ entry.old) }
-    ensures out { IfElsewhere result (out.new.items ≡ out.old.items) }
+    ensures out { IfElsewhere result (Stays bytes.now at out.old out.new) }
 {
-    match relay_field_text(alloc, instr, entry, bytes, at, out) {
-        Some(next) => Relayed::Sent(next),
+    if !out.flush(bytes) {
+        return Relayed::Elsewhere;
+    }
+    match relay_field_text(alloc, instr, entry, bytes, at, &mut out.out) {
+        Some(next) => {
+            out.begin(next);
+            Relayed::Sent(next)
+        }
         None => Relayed::Elsewhere,
+    }
+}
+
+/// Relays a vector behind what is noted.
+#[inline(always)]
+fn relay_behind(
+    alloc: Global,
+    instr: &FieldPart,
+    entry: &mut Entry,
+    bytes: &[u8],
+    at: usize,
+    out: &mut Run,
+) -> Relayed
+    requires run { IsRun bytes.now at out.now }
+    requires part { instr.now.part ≡ part_type.Whole }
+    requires kind { IsVectorKind instr.now.kind }
+    ensures place { IfRelayed result (λ bit next. (at ≤ next) × (next ≤ length bytes.now)) }
+    ensures run { IfRelayed result (λ bit next. IsRun bytes.now next out.new) }
+    ensures relayed { IfRelayed result (λ bit next. (v : ScalarOf)
+        × RelaysAs bit instr.now entry.old entry.new v (drop at bytes.now) (drop next bytes.now)
+        (written bytes.now out.old) (written bytes.now out.new)) }
+    ensures entry { IfElsewhere result (entry.new ≡ entry.old) }
+    ensures out { IfElsewhere result (Stays bytes.now at out.old out.new) }
+{
+    if !out.flush(bytes) {
+        return Relayed::Elsewhere;
+    }
+    match relay_vector(alloc, instr, entry, bytes, at, &mut out.out) {
+        Relayed::Sent(next) => {
+            out.begin(next);
+            Relayed::Sent(next)
+        }
+        Relayed::Given(next) => {
+            out.begin(next);
+            Relayed::Given(next)
+        }
+        Relayed::Elsewhere => Relayed::Elsewhere,
     }
 }
 
@@ -270,15 +317,16 @@ pub fn relay_text(
     entry: &mut Entry,
     bytes: &[u8],
     at: usize,
-    out: &mut Vec<u8>,
+    out: &mut Run,
 ) -> Relayed
-    requires { at ≤ length bytes.now }
+    requires { IsRun bytes.now at out.now }
     ensures place { IfRelayed result (λ bit next. (at ≤ next) × (next ≤ length bytes.now)) }
+    ensures run { IfRelayed result (λ bit next. IsRun bytes.now next out.new) }
     ensures relayed { IfRelayed result (λ bit next. (v : ScalarOf)
         × RelaysAs bit instr.now entry.old entry.new v (drop at bytes.now) (drop next bytes.now)
-        out.old.items out.new.items) }
+        (written bytes.now out.old) (written bytes.now out.new)) }
     ensures entry { IfElsewhere result (entry.new ≡ entry.old) }
-    ensures out { IfElsewhere result (out.new.items ≡ out.old.items) }
+    ensures out { IfElsewhere result (Stays bytes.now at out.old out.new) }
 {
     match instr.part {
         Part::Whole => match instr.kind {
@@ -286,7 +334,7 @@ pub fn relay_text(
                 Relayed::Elsewhere => relay_made(alloc, instr, entry, bytes, at, out),
                 relayed => relayed,
             },
-            Kind::Unicode | Kind::Bytes => match relay_vector(alloc, instr, entry, bytes, at, out) {
+            Kind::Unicode | Kind::Bytes => match relay_behind(alloc, instr, entry, bytes, at, out) {
                 Relayed::Elsewhere => relay_made(alloc, instr, entry, bytes, at, out),
                 relayed => relayed,
             },

@@ -546,7 +546,6 @@ fn relay_vector_delta(
     }
 }
 
-/// Relays a string or vector whose bytes stand behind their length; None: nothing has changed. (A call of its own, as
 /// Relays a vector by its difference from the one that the entry has, or by a new end of it.
 #[inline(always)]
 fn relay_vector_on(
@@ -581,6 +580,7 @@ fn relay_vector_on(
     }
 }
 
+/// Relays a string or vector whose bytes stand behind their length. Elsewhere: nothing has changed. (A call of its own, as
 /// `relay_plain`.)
 #[inline(never)]
 pub(crate) fn relay_vector(

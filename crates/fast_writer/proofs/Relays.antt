@@ -1,5 +1,5 @@
 -- A part that was read and written at once.
-use Rattle.std.proofs.Common.{◌≡◌, ℕ, Bool, List, ◌++◌, Option, Ok, refl, ap, ◌∙◌}
+use Rattle.std.proofs.Common.{◌≡◌, ℕ, Bool, List, ◌++◌, Option, Ok, true, false, [], refl, sym, ap, ◌∙◌, append-nil}
 use Rattle.fast_template.specs.declared.resolved.FieldPart.{FieldPart}
 use Rattle.fast_value.specs.declared.scalar.Scalar.{Scalar}
 use Rattle.fast_template.specs.Resolved.{part_needs_bit}
@@ -8,9 +8,18 @@ use Rattle.fast_dictionary.specs.Dictionary.{Dictionary, entry_at, set_entry}
 use Rattle.fast_wire.specs.declared.level.Level.{Level}
 use Rattle.fast_field.specs.Bases.{next}
 use Rattle.fast_field.specs.FieldReading.{field_at}
+use Rattle.fast_relay.specs.Runs.{written}
+use Rattle.fast_relay.specs.declared.run.Run.{Run}
+use Rattle.fast_relay.proofs.Runs.{settled}
 use Rattle.fast_walk.specs.Received.{Took}
 use Rattle.fast_walk.proofs.Putting.{set_written}
+use Rattle.fast_writer.specs.Levels.{level_in, level_of}
+use Rattle.fast_stream.specs.Bits.{bit_for}
+use Rattle.fast_field.specs.Passed.{Passes as FieldPasses}
+use Rattle.fast_writer.specs.Quick.{Relayed}
+use Rattle.fast_writer.specs.Takings.{TookEntry}
 use Rattle.fast_writer.specs.Written.{Segment, AppendsForm, Asked, Spelt}
+use Rattle.fast_writer.specs.declared.segment.Segment.{Segment as LevelNow}
 
 pub took_of : (level : Level) (p : FieldPart) (bit : Bool) (d e : Dictionary) (old new : Entry) (v : Option Scalar) (bytes rest : List ℕ)
     → old ≡ entry_at d p.key → e ≡ set_entry d p.key new → new ≡ next p old v
@@ -18,6 +27,38 @@ pub took_of : (level : Level) (p : FieldPart) (bit : Bool) (d e : Dictionary) (o
 took_of level p bit d e old new v bytes rest is put after goes = record {
   value = λ more. rw (is) at (goes more);
   entry = put ∙ ap (set_entry d p.key) (after ∙ ap (λ (x : Entry). next p x v) is) ∙ set_written p d v;
+}
+
+pub spelt_entry : (p : FieldPart) (old : Entry) (v : Option Scalar) (bit needed : Bool) (l k : Segment) (bytes : List ℕ) → needed ≡ part_needs_bit p
+    → AppendsForm p old v bit l.bytes bytes → Asked needed bit (record { bits = l.bits; own = l.own; bytes = bytes }) k → Spelt p old v l k
+spelt_entry p old v bit needed l k bytes needs form asked = record {
+  bit = bit;
+  form = form.form;
+  bits = rw (needs) at asked.bits;
+  own = asked.own;
+  bytes = asked.bytes ∙ form.appended;
+  needs = form.needs;
+  best = form.best;
+}
+
+-- a part that was relayed and whose bit was asked for
+pub took_entry : (level : Level) (p : FieldPart) (old new : Entry) (bits : List Bool) (bit best needed : Bool) (v : Option Scalar) (bytes rest middle : List ℕ) (l k : Segment)
+    → bit_for (part_needs_bit p) bits ≡ bit → needed ≡ part_needs_bit p → (bit ≡ false → best ≡ false)
+    → Relayed level p old new bit best v bytes rest l.bytes middle → Asked needed best (record { bits = l.bits; own = l.own; bytes = middle }) k → TookEntry level p old new bits v bytes rest l k
+unfolding spelt_entry
+took_entry level p old new bits bit best needed v bytes rest middle l k is needs low r asked = record {
+  value = λ more. rw (is) (r.read more);
+  entry = r.entry;
+  spelt = spelt_entry p old v best needed l k middle needs r.form asked;
+  lower = λ zero. low (sym is ∙ zero);
+}
+
+-- what bit 0 gives is relayed by nothing
+pub passes_relayed : (level : Level) (i : FieldPart) (old new : Entry) (v : Option Scalar) (bytes before : List ℕ) → part_needs_bit i ≡ true → FieldPasses i old new v → Relayed level i old new false false v bytes bytes before before
+passes_relayed level i old new v bytes before needs p = record {
+  read = λ more. p.read level (bytes ++ more);
+  entry = p.entry;
+  form = record { form = []; appended = sym (append-nil before); best = p.best; needs = λ none. absurd (let both = sym needs ∙ none in cc) };
 }
 
 pub spelt_of : (p : FieldPart) (d : Dictionary) (old : Entry) (v : Option Scalar) (bit needed : Bool) (l k : Segment) (bytes : List ℕ)
@@ -35,3 +76,16 @@ spelt_of p d old v bit needed l k bytes is needs form asked = record {
 
 pub level_bytes : (l : Segment) (bytes : List ℕ) → bytes ≡ l.bytes → record { bits = l.bits; own = l.own; bytes = bytes } ≡ l
 level_bytes l bytes is = rw (is) refl
+
+-- what is noted of the bytes that are read stays noted
+pub asked_in : (bytes : List ℕ) (needed bit : Bool) (l k : LevelNow) → Asked needed bit (level_of l) (level_of k) → k.bytes ≡ l.bytes → Asked needed bit (level_in bytes l) (level_in bytes k)
+asked_in bytes needed bit l k asked same = record { bits = asked.bits; own = asked.own; bytes = ap (written bytes) same }
+
+-- where nothing is noted yet
+pub begun : (bytes : List ℕ) (r s : Run) (at : ℕ) → s.out.items ≡ r.out.items → s.from ≡ at → s.place ≡ at → written bytes s ≡ r.out.items
+begun bytes r s at out from place = rw (out, from, place) (settled bytes r.out.items at)
+
+-- what is behind what was read, as it is called otherwise
+pub took_behind : (level : Level) (p : FieldPart) (old new : Entry) (bits : List Bool) (v : Option Scalar) (bytes rest later : List ℕ) (l k : Segment) → later ≡ rest
+    → TookEntry level p old new bits v bytes rest l k → TookEntry level p old new bits v bytes later l k
+took_behind level p old new bits v bytes rest later l k same t = rw (same) t

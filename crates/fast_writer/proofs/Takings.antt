@@ -1,5 +1,5 @@
 -- Fields that are taken one after the other into the segment that is open.
-use Rattle.std.proofs.Common.{◌≡◌, ◌≤◌, ◌-◌, ◌+◌, ℕ, ℤ, pos, Bool, true, false, List, [], ◌++◌, Option, Some, None, drop, refl, sym, ap, ◌∙◌, arith}
+use Rattle.std.proofs.Common.{◌≡◌, ◌≤◌, ◌-◌, ◌+◌, ℕ, ℤ, pos, Bool, true, false, List, [], ◌++◌, Option, Some, None, drop, refl, sym, ap, ◌∙◌, subst, arith}
 use Rattle.std.specs.Option.{is_some}
 use Rattle.std.specs.Prelude.{IsSome}
 use Rattle.std.specs.Borrow.{Bor}
@@ -20,7 +20,9 @@ use Rattle.fast_walk.specs.Passing.{Passes, next_behind}
 use Rattle.fast_walk.proofs.Steps.{count_goes, part_goes}
 use Rattle.fast_walk.proofs.Walking.{field_on, exponent_on, no_exponent_on, mantissa_on_goes, is_instruction, is_mantissa}
 use Rattle.fast_writer.specs.Written.{Segment, IsOpened, Spelt}
-use Rattle.fast_writer.specs.Takings.{BeginsWith, Takes, behind, counted}
+use Rattle.fast_writer.specs.Takings.{BeginsWith, IfTaken, Takes, at_place, behind, counted}
+use Rattle.fast_writer.specs.declared.fields.Taken.{Taken}
+use Rattle.fast_writer.specs.declared.fields.Taken.TheVariants.{Part, Elsewhere, Refused}
 use Rattle.fast_relay.specs.Relayed.{IsThere}
 use Rattle.fast_writer.proofs.QuickWays.{exponent_there}
 use Rattle.fast_writer.proofs.Writers.{has_field, has_exponent, has_mantissa}
@@ -63,6 +65,12 @@ passes_with level Has Had o next left d e bits later spare fewer bytes rest f p 
   reads = p.reads;
 }
 
+-- what holds of a part that was taken, by what holds of it
+pub taken_on : (t : Taken) (P Q R S : Bool → Type 0) → ((b : Bool) → P b → Q b → R b → S b) → IfTaken t P → IfTaken t Q → IfTaken t R → IfTaken t S
+taken_on (Part b) P Q R S f p q r = f b p q r
+taken_on Elsewhere P Q R S f p q r = tt
+taken_on Refused P Q R S f p q r = tt
+
 module _ (level : Level) (bytes : List ℕ) where
   -- where nothing was taken
   pub takes_none : (l : Segment) (d : Dictionary) (bits : List Bool) (f : Fields) → Takes level bytes l d bits f l d bits f
@@ -78,6 +86,17 @@ module _ (level : Level) (bytes : List ℕ) where
 
   pub takes_same : (l k : Segment) (d e : Dictionary) (bits later : List Bool) (f : Fields) → e ≡ d → k ≡ l → later ≡ bits → Takes level bytes l d bits f k e later f
   takes_same l k d e bits later f entries segment map = rw (entries, segment, map) (takes_none l d bits f)
+
+  -- the same segments, as they are called otherwise
+  pub takes_between : (l m k j : Segment) (d e : Dictionary) (bits later : List Bool) (f g : Fields) → m ≡ l → j ≡ k → Takes level bytes m d bits f k e later g → Takes level bytes l d bits f j e later g
+  takes_between l m k j d e bits later f g one other t = subst (λ (x : Segment). Takes level bytes x d bits f j e later g) one (subst (λ (x : Segment). Takes level bytes m d bits f x e later g) (sym other) t)
+
+  -- and the same places
+  pub takes_at : (l m k j : Segment) (d e : Dictionary) (bits later : List Bool) (f g : Fields) (a x b y : ℕ) → m ≡ l → j ≡ k → a ≡ x → y ≡ b
+      → Takes level bytes m d bits (at_place f a) k e later (at_place g b) → Takes level bytes l d bits (at_place f x) j e later (at_place g y)
+  takes_at l m k j d e bits later f g a x b y one other begins ends t =
+      takes_between l m k j d e bits later (at_place f x) (at_place g y) one other
+      (subst (λ (n : ℕ). Takes level bytes m d bits (at_place f n) k e later (at_place g y)) begins (subst (λ (n : ℕ). Takes level bytes m d bits (at_place f a) k e later (at_place g n)) (sym ends) t))
 
   -- one behind the other
   pub takes_on : (l k j : Segment) (d e c : Dictionary) (bits later last : List Bool) (f g h : Fields) → Takes level bytes l d bits f k e later g → Takes level bytes k e later g j c last h → Takes level bytes l d bits f j c last h

@@ -1,18 +1,23 @@
 -- Fields that are taken one after the other into the segment that is open.
-use Rattle.std.specs.Prelude.{◌≡◌, ℕ, ◌+◌, Bool, true, false, List, Option, Some, None, drop}
+use Rattle.std.specs.Prelude.{◌≡◌, ℕ, ◌+◌, Bool, true, false, List, ◌++◌, Option, Some, None, Ok, drop}
 use Rattle.fast_value.specs.declared.kind.Kind.TheVariants as kind
 use Rattle.fast_value.specs.declared.kind.Part.TheVariants as part
 use Rattle.std.specs.Borrow.{Bor}
 use Rattle.fast_template.specs.declared.resolved.FieldPart.{FieldPart}
-use Rattle.fast_template.specs.Resolved.{Instruction, whole_field, field_in_parts, group_of, sequence_of, list_of}
+use Rattle.fast_template.specs.Resolved.{Instruction, whole_field, field_in_parts, group_of, sequence_of, list_of, part_needs_bit}
+use Rattle.fast_value.specs.declared.scalar.Scalar.{Scalar}
 use Rattle.fast_dictionary.specs.Dictionary.{Dictionary}
+use Rattle.fast_dictionary.specs.declared.entry.Entry.{Entry}
+use Rattle.fast_field.specs.Bases.{next}
+use Rattle.fast_field.specs.FieldReading.{field_at}
+use Rattle.fast_stream.specs.Bits.{bit_for}
 use Rattle.fast_wire.specs.declared.level.Level.{Level}
 use Rattle.fast_walk.specs.declared.receiver.Fields.{Fields}
 use Rattle.fast_walk.specs.Received.{Received}
 use Rattle.fast_walk.specs.Told.{IsTold}
 use Rattle.fast_walk.specs.Walks.{bare_next}
 use Rattle.fast_walk.specs.Passing.{Passes, next_behind}
-use Rattle.fast_writer.specs.Written.{Segment, IsOpened}
+use Rattle.fast_writer.specs.Written.{Segment, IsOpened, Spelt}
 use Rattle.fast_writer.specs.declared.fields.Taken.{Taken}
 use Rattle.fast_writer.specs.declared.fields.Taken.TheVariants.{Part, Elsewhere, Refused}
 
@@ -48,18 +53,31 @@ counted (Some mantissa) spare = spare + 1
 abbrev pub counted_of : Fields → ℕ
 counted_of f = counted f.mantissa f.spare
 
+-- the same fields, from a place on
+abbrev pub at_place : Fields → ℕ → Fields
+at_place f place = record { mantissa = f.mantissa; rest = f.rest; spare = f.spare; place = place }
+
 -- how many parts may still come
 abbrev pub pieces_of : Fields → ℕ
 pieces_of f = f.spare + counted_of f
 
--- what holds of a part that was taken: whether its value is there, and the place behind it
-abbrev pub IfTaken : Taken → (Bool → ℕ → Type 0) → Type 0
-IfTaken (Part there next) holds = holds there next
+-- what holds of a part that was taken: whether its value is there
+abbrev pub IfTaken : Taken → (Bool → Type 0) → Type 0
+IfTaken (Part there) holds = holds there
 IfTaken Elsewhere holds = Unit {0}
 IfTaken Refused holds = Unit {0}
 
 -- what holds where nothing was done
 abbrev pub IfElsewhere : Taken → Type 0 → Type 0
-IfElsewhere (Part there next) holds = Unit {0}
+IfElsewhere (Part there) holds = Unit {0}
 IfElsewhere Elsewhere holds = holds
 IfElsewhere Refused holds = Unit {0}
+
+-- The next bit, or 1, and the bytes before `rest` give the value of a part, its entry is the one afterwards, and its best
+-- form was put into a segment.
+pub record TookEntry (level : Level) (p : FieldPart) (old new : Entry) (bits : List Bool) (v : Option Scalar)
+    (bytes rest : List ℕ) (l k : Segment) : Type 0 where
+  pub value : (more : List ℕ) → field_at level p old (bit_for (part_needs_bit p) bits) (bytes ++ more) ≡ Ok (v, rest ++ more)
+  pub entry : new ≡ next p old v
+  pub spelt : Spelt p old v l k
+  pub lower : bit_for (part_needs_bit p) bits ≡ false → spelt.bit ≡ false

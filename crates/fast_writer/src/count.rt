@@ -13,6 +13,7 @@ ghost use Rattle.fast_field.specs.Passed.{Passes};
 ghost use Rattle.fast_walk.specs.Received.{Took, length_of};
 ghost use Rattle.fast_walk.specs.Told.{KeepScalars};
 ghost use Rattle.fast_stream.specs.Bits.{after_bit, bit_for};
+ghost use Rattle.fast_relay.specs.Runs.{IsRun, Stays, written};
 ghost use Rattle.fast_writer.specs.Levels.{level_of};
 ghost use Rattle.fast_writer.specs.Room.{has_room};
 ghost use Rattle.fast_writer.specs.Quick.{Relayed};
@@ -22,7 +23,7 @@ use crate::relay::relay_entry;
 use crate::segment::Segment;
 use fast_dictionary::{Entries, Entry};
 use fast_field::{FieldFault, Passed, pass_left_out, reads_as_usual};
-use fast_relay::{Relayed as Answer, relay_null, relay_unsigned};
+use fast_relay::{Relayed as Answer, Run, relay_null, relay_unsigned};
 use fast_template::{FieldPart, Kind, Operator, Scalar, part_needs_bit};
 use fast_wire::Level;
 use std::alloc::Global;
@@ -58,17 +59,18 @@ fn count_quickly(
     level: Level,
     bytes: &[u8],
     at: usize,
-    out: &mut Vec<u8>,
+    out: &mut Run,
 ) -> Option<(Option<u32>, bool, usize)>
-    requires place { at ≤ length bytes.now }
+    requires run { IsRun bytes.now at out.now }
     requires bit { part_needs_bit_of part.now ≡ false → bit ≡ true }
     ensures place { IfSome result (λ x. (at ≤ x.2) × (x.2 ≤ length bytes.now)) }
+    ensures run { IfSome result (λ x. IsRun bytes.now x.2 out.new) }
     ensures relayed { IfSome result (λ x.
         Relayed level part.now entry.old entry.new bit x.1 (length_of x.0) (drop at bytes.now)
-        (drop x.2 bytes.now) out.old.items out.new.items) }
+        (drop x.2 bytes.now) (written bytes.now out.old) (written bytes.now out.new)) }
     ensures lower { IfSome result (λ x. bit ≡ false → x.1 ≡ false) }
     ensures entry { IfNone result (entry.new ≡ entry.old) }
-    ensures out { IfNone result (out.new.items ≡ out.old.items) }
+    ensures out { IfNone result (Stays bytes.now at out.old out.new) }
 {
     if bit {
         if reads_as_usual(level, part, bytes, at) {
@@ -149,28 +151,37 @@ fn count_either(
     level: Level,
     bytes: &[u8],
     at: usize,
-    out: &mut Vec<u8>,
+    out: &mut Run,
 ) -> Result<(Option<u32>, bool, usize), FieldFault>
-    requires place { at ≤ length bytes.now }
+    requires run { IsRun bytes.now at out.now }
     requires bit { part_needs_bit_of part.now ≡ false → bit ≡ true }
     requires part { IsFieldPart part.now }
     requires entry { HoldsScalar entry.old }
     requires kind { part.now.kind ≡ UInt32 }
     ensures place { IfOk result (λ x. (at ≤ x.2) × (x.2 ≤ length bytes.now)) }
+    ensures run { IfOk result (λ x. IsRun bytes.now x.2 out.new) }
     ensures relayed { IfOk result (λ x.
         Relayed level part.now entry.old entry.new bit x.1 (length_of x.0) (drop at bytes.now)
-        (drop x.2 bytes.now) out.old.items out.new.items) }
+        (drop x.2 bytes.now) (written bytes.now out.old) (written bytes.now out.new)) }
     ensures lower { IfOk result (λ x. bit ≡ false → x.1 ≡ false) }
     ensures stops { IfErr result (λ f. f ≢ FieldFault.Memory
         → (field_at level part.now entry.old bit (drop at bytes.now) ≡ Err f)
-        × (entry.new ≡ entry.old) × (out.new.items ≡ out.old.items)) }
+        × (entry.new ≡ entry.old) × (out.new.out.items ≡ written bytes.now out.old)) }
 {
     match count_quickly(part, entry, bit, level, bytes, at, out) {
         Some(x) => Ok(x),
-        None => match count_generally(alloc, part, entry, bit, level, bytes, at, out) {
-            Err(fault) => Err(fault),
-            Ok(x) => Ok(x),
-        },
+        None => {
+            if !out.flush(bytes) {
+                return Err(FieldFault::Memory);
+            }
+            match count_generally(alloc, part, entry, bit, level, bytes, at, &mut out.out) {
+                Err(fault) => Err(fault),
+                Ok((count, best, next)) => {
+                    out.begin(next);
+                    Ok((count, best, next))
+                }
+            }
+        }
     }
 }
 
@@ -214,6 +225,7 @@ pub(crate) fn relay_count<E: Entries>(
         × (level_of segment.new ≡ level_of segment.old)) }
     ensures same_keys { E.serves entries.new ≡ E.serves entries.old }
 {
+    segment.bytes.begin(at);
     match entries.entry_mut(&part.key) {
         Err(_) => Err(FieldFault::Memory),
         Ok(entry) => match count_either(
@@ -227,10 +239,15 @@ pub(crate) fn relay_count<E: Entries>(
             &mut segment.bytes,
         ) {
             Err(fault) => Err(fault),
-            Ok((count, best, next)) => match segment.ask(part_needs_bit(part), best) {
-                Err(_) => Err(FieldFault::Memory),
-                Ok(()) => Ok((count, next)),
-            },
+            Ok((count, best, next)) => {
+                if !segment.bytes.flush(bytes) {
+                    return Err(FieldFault::Memory);
+                }
+                match segment.ask(part_needs_bit(part), best) {
+                    Err(_) => Err(FieldFault::Memory),
+                    Ok(()) => Ok((count, next)),
+                }
+            }
         },
     }
 }

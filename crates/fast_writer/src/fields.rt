@@ -11,38 +11,34 @@ ghost use Rattle.fast_walk.specs.Told.{IsTold, KeepScalars};
 ghost use Rattle.fast_walk.specs.Walks.{AreServed, IsMantissaServed, IsNextServed, IsServed};
 ghost use Rattle.fast_walk.specs.Passing.{next_behind};
 ghost use Rattle.fast_relay.specs.Relayed.{IsThere};
-ghost use Rattle.fast_writer.specs.Levels.{level_of};
+ghost use Rattle.fast_relay.specs.Runs.{IsRun};
+ghost use Rattle.fast_writer.specs.Levels.{level_in, level_of};
 ghost use Rattle.fast_writer.specs.Room.{has_room};
-ghost use Rattle.fast_writer.specs.Written.{Spelt};
-ghost use Rattle.fast_writer.specs.Takings.{BeginsWith, IfElsewhere, IsFirstTold, IfTaken, Takes, behind, counted_of, pieces_of};
+ghost use Rattle.fast_wire.specs.PresenceMap.{next_bit};
+ghost use Rattle.fast_writer.specs.Written.{Asked, Spelt};
+ghost use Rattle.fast_writer.specs.Takings.{BeginsWith, IfElsewhere, IsFirstTold, IfTaken, Takes, TookEntry, at_place, behind, counted_of, pieces_of};
 ghost use Rattle.fast_value.specs.declared.key.Key.{Key};
 ghost use Rattle.fast_value.specs.declared.kind.Kind.TheVariants.{Int32};
 ghost use Rattle.fast_value.specs.declared.kind.Part.TheVariants.{Exponent, Whole};
 
-use crate::quick::relay_quickly;
+use crate::quick::relay_other;
 use crate::segment::Segment;
-use fast_dictionary::Entries;
-use fast_template::{FieldPart, Flat, Kind, part_needs_bit};
+use fast_dictionary::{Entries, Entry};
+use fast_field::{Passed, pass_part, reads_as_usual};
+use fast_relay::{Relayed as Answer, relay_number};
+use fast_template::{FieldPart, Flat, Kind, Part, part_needs_bit};
 use fast_walk::Fields;
 use fast_wire::{Bits, Level};
 use std::alloc::{AllocError, Global};
 
 /// What became of a part.
 pub(crate) enum Taken {
-    /// It was taken: whether its value is there, and the place behind it.
-    Part(bool, usize),
+    /// It was taken: whether its value is there.
+    Part(bool),
     /// Nothing has changed: another way takes it.
     Elsewhere,
     /// Memory was refused.
     Refused,
-}
-
-// The bit of a part that needs one, or else 1; it stays the next.
-#[inline(always)]
-fn first_for(bits: &Bits, needed: bool) -> bool
-    ensures { result ≡ bit_for needed bits.now }
-{
-    if needed { bits.first() } else { true }
 }
 
 // Takes the bit of a part that needs one.
@@ -55,83 +51,169 @@ fn take_for(bits: &mut Bits, needed: bool)
     }
 }
 
+// Takes the bit of a part that was taken, and asks for the one of its best form.
+#[inline(always)]
+fn end_part(bits: &mut Bits, needs: bool, best: bool, segment: &mut Segment, there: bool) -> Taken
+    ensures part { IfTaken result (λ t. t ≡ there) }
+    ensures asked { IfTaken result (λ t. Asked needs best (level_of segment.old) (level_of segment.new)) }
+    ensures bits { IfTaken result (λ t. bits.new ≡ after_bit needs bits.old) }
+    ensures run { IfTaken result (λ t. segment.new.bytes ≡ segment.old.bytes) }
+    ensures done { IfElsewhere result ⊥ }
+{
+    take_for(bits, needs);
+    match segment.ask(needs, best) {
+        Err(_) => Taken::Refused,
+        Ok(()) => Taken::Part(there),
+    }
+}
+
+// Takes a part that bit 0 gives.
+#[inline(always)]
+fn take_given(
+    which: Part,
+    part: &FieldPart,
+    entry: &mut Entry,
+    bits: &mut Bits,
+    level: Level,
+    bytes: &[u8],
+    segment: &mut Segment,
+) -> Taken
+    requires run { IsRun bytes.now segment.now.bytes.place segment.now.bytes }
+    requires which { which ≡ part.now.part }
+    requires needs { IsTrue (part_needs_bit_of part.now) }
+    requires bit { next_bit bits.now ≡ false }
+    ensures place { IfTaken result (λ there. segment.old.bytes.place ≤ segment.new.bytes.place) }
+    ensures run { IfTaken result (λ there. IsRun bytes.now segment.new.bytes.place segment.new.bytes) }
+    ensures took { IfTaken result (λ there. (v : Option ScalarOf)
+        × IsThere part.now.kind there v × TookEntry level part.now entry.old entry.new bits.old v
+        (drop segment.old.bytes.place bytes.now) (drop segment.new.bytes.place bytes.now)
+        (level_in bytes.now segment.old) (level_in bytes.now segment.new)) }
+    ensures bits { IfTaken result (λ there.
+        bits.new ≡ after_bit (part_needs_bit_of part.now) bits.old) }
+    ensures nothing { IfElsewhere result ((entry.new ≡ entry.old)
+        × (level_in bytes.now segment.new ≡ level_in bytes.now segment.old) × (bits.new ≡ bits.old)
+        × IsRun bytes.now segment.old.bytes.place segment.new.bytes) }
+{
+    match pass_part(which, part, entry) {
+        Passed::Elsewhere => Taken::Elsewhere,
+        Passed::Absent => end_part(bits, true, false, segment, false),
+        Passed::Present => end_part(bits, true, false, segment, true),
+    }
+}
+
+// Takes a part that was sent, where it is read as at the usual level.
+#[inline(always)]
+fn take_sent(
+    which: Part,
+    alloc: Global,
+    part: &FieldPart,
+    entry: &mut Entry,
+    bits: &mut Bits,
+    level: Level,
+    bytes: &[u8],
+    segment: &mut Segment,
+) -> Taken
+    requires run { IsRun bytes.now segment.now.bytes.place segment.now.bytes }
+    requires which { which ≡ part.now.part }
+    requires bit { bit_for (part_needs_bit_of part.now) bits.now ≡ true }
+    ensures place { IfTaken result (λ there. segment.old.bytes.place ≤ segment.new.bytes.place) }
+    ensures run { IfTaken result (λ there. IsRun bytes.now segment.new.bytes.place segment.new.bytes) }
+    ensures took { IfTaken result (λ there. (v : Option ScalarOf)
+        × IsThere part.now.kind there v × TookEntry level part.now entry.old entry.new bits.old v
+        (drop segment.old.bytes.place bytes.now) (drop segment.new.bytes.place bytes.now)
+        (level_in bytes.now segment.old) (level_in bytes.now segment.new)) }
+    ensures bits { IfTaken result (λ there.
+        bits.new ≡ after_bit (part_needs_bit_of part.now) bits.old) }
+    ensures nothing { IfElsewhere result ((entry.new ≡ entry.old)
+        × (level_in bytes.now segment.new ≡ level_in bytes.now segment.old) × (bits.new ≡ bits.old)
+        × IsRun bytes.now segment.old.bytes.place segment.new.bytes) }
+{
+    let at = segment.bytes.place;
+    if !reads_as_usual(level, part, bytes, at) {
+        return Taken::Elsewhere;
+    }
+    let needs = part_needs_bit(part);
+    match relay_number(which, part, entry, bytes, at, &mut segment.bytes) {
+        Answer::Sent(_next) => end_part(bits, needs, true, segment, true),
+        Answer::Given(_next) => end_part(bits, needs, false, segment, true),
+        Answer::Elsewhere => {
+            match relay_other(alloc, part, entry, bytes, at, &mut segment.bytes) {
+                Some((there, best, _next)) => end_part(bits, needs, best, segment, there),
+                None => Taken::Elsewhere,
+            }
+        }
+    }
+}
+
 // Takes a part and its bit, where the quick way serves.
 #[inline(always)]
 fn take_part<E: Entries>(
+    which: Part,
     alloc: Global,
     entries: &mut E,
     part: &FieldPart,
     bits: &mut Bits,
     level: Level,
     bytes: &[u8],
-    at: usize,
     segment: &mut Segment,
 ) -> Taken
-    requires place { at ≤ length bytes.now }
+    requires run { IsRun bytes.now segment.now.bytes.place segment.now.bytes }
+    requires which { which ≡ part.now.part }
     requires served { IsTrue (E.serves entries.now part.now.key) }
     requires part { IsFieldPart part.now }
     requires kept { KeepScalars (E.contents entries.now) }
-    ensures place { IfTaken result (λ there next. (at ≤ next) × (next ≤ length bytes.now)) }
-    ensures took { IfTaken result (λ there next. (v : Option ScalarOf)
+    ensures place { IfTaken result (λ there. segment.old.bytes.place ≤ segment.new.bytes.place) }
+    ensures run { IfTaken result (λ there. IsRun bytes.now segment.new.bytes.place segment.new.bytes) }
+    ensures took { IfTaken result (λ there. (v : Option ScalarOf)
         × IsThere part.now.kind there v
         × Took level part.now (bit_for (part_needs_bit_of part.now) bits.old)
         (E.contents entries.old) (E.contents entries.new) v
-        (drop at bytes.now) (drop next bytes.now)
+        (drop segment.old.bytes.place bytes.now) (drop segment.new.bytes.place bytes.now)
         × Spelt part.now (entry_at (E.contents entries.old) part.now.key) v
-        (level_of segment.old) (level_of segment.new)) }
-    ensures bits { IfTaken result (λ there next.
+        (level_in bytes.now segment.old) (level_in bytes.now segment.new)) }
+    ensures bits { IfTaken result (λ there.
         bits.new ≡ after_bit (part_needs_bit_of part.now) bits.old) }
-    ensures room { IfTaken result (λ there next. IsTrue (has_room (level_of segment.old) bits.old)
-        → IsTrue (has_room (level_of segment.new) bits.new)) }
+    ensures room { IfTaken result (λ there.
+        IsTrue (has_room (level_in bytes.now segment.old) bits.old)
+        → IsTrue (has_room (level_in bytes.now segment.new) bits.new)) }
     ensures nothing { IfElsewhere result ((E.contents entries.new ≡ E.contents entries.old)
-        × (level_of segment.new ≡ level_of segment.old) × (bits.new ≡ bits.old)) }
-    ensures kept { IfTaken result (λ there next. KeepScalars (E.contents entries.new)) }
+        × (level_in bytes.now segment.new ≡ level_in bytes.now segment.old) × (bits.new ≡ bits.old)
+        × IsRun bytes.now segment.old.bytes.place segment.new.bytes) }
+    ensures kept { IfTaken result (λ there. KeepScalars (E.contents entries.new)) }
     ensures same_keys { E.serves entries.new ≡ E.serves entries.old }
 {
-    let needs = part_needs_bit(part);
-    let bit = first_for(bits, needs);
     match entries.entry_mut(&part.key) {
         Err(_) => Taken::Refused,
-        Ok(entry) => match relay_quickly(
-            alloc,
-            part,
-            entry,
-            bit,
-            level,
-            bytes,
-            at,
-            &mut segment.bytes,
-        ) {
-            None => Taken::Elsewhere,
-            Some((there, best, next)) => {
-                take_for(bits, needs);
-                match segment.ask(needs, best) {
-                    Err(_) => Taken::Refused,
-                    Ok(()) => Taken::Part(there, next),
+        Ok(entry) => {
+            // one way for each bit, so that nothing is asked twice of what they answer
+            if part_needs_bit(part) && !bits.first() {
+                match take_given(which, part, entry, bits, level, bytes, segment) {
+                    Taken::Part(there) => Taken::Part(there),
+                    Taken::Elsewhere => Taken::Elsewhere,
+                    Taken::Refused => Taken::Refused,
+                }
+            } else {
+                match take_sent(which, alloc, part, entry, bits, level, bytes, segment) {
+                    Taken::Part(there) => Taken::Part(there),
+                    Taken::Elsewhere => Taken::Elsewhere,
+                    Taken::Refused => Taken::Refused,
                 }
             }
-        },
+        }
     }
 }
 
 // Goes on behind the first part of an instruction, whose node is counted.
 #[inline(always)]
-fn pass<'a>(
-    fields: &mut Fields<'a>,
-    mantissa: Option<&'a FieldPart>,
-    others: &'a [Flat],
-    next: usize,
-)
+fn pass<'a>(fields: &mut Fields<'a>, mantissa: Option<&'a FieldPart>, others: &'a [Flat])
     requires { 0 < fields.now.spare }
     ensures mantissa { fields.new.mantissa ≡ mantissa.entry }
     ensures rest { fields.new.rest ≡ others.entry }
     ensures spare { fields.new.spare + 1 ≡ fields.old.spare }
-    ensures place { fields.new.place ≡ next }
 {
     fields.mantissa = mantissa;
     fields.rest = others;
     fields.spare -= 1;
-    fields.place = next;
 }
 
 // Takes the mantissa that is next. False: nothing has changed.
@@ -146,39 +228,40 @@ fn take_mantissa<'a, E: Entries>(
     bytes: &[u8],
     segment: &mut Segment,
 ) -> Result<bool, AllocError>
-    requires place { fields.now.place ≤ length bytes.now }
+    requires run { IsRun bytes.now segment.now.bytes.place segment.now.bytes }
     requires next { fields.now.mantissa ≡ Some mantissa }
     requires served { IsMantissaServed (E.serves entries.now) mantissa.now }
     requires kept { KeepScalars (E.contents entries.now) }
     requires all { AreServed (E.serves entries.now) (list_of fields.now.rest.now) }
-    ensures place { OnOk result ((fields.old.place ≤ fields.new.place)
-        × (fields.new.place ≤ length bytes.now)) }
-    ensures takes { OnOk result (Takes level bytes.now (level_of segment.old)
-        (E.contents entries.old) bits.old fields.old (level_of segment.new)
-        (E.contents entries.new) bits.new fields.new) }
+    ensures place { OnOk result (segment.old.bytes.place ≤ segment.new.bytes.place) }
+    ensures run { OnOk result (IsRun bytes.now segment.new.bytes.place segment.new.bytes) }
+    ensures takes { OnOk result (Takes level bytes.now (level_in bytes.now segment.old)
+        (E.contents entries.old) bits.old (at_place fields.old segment.old.bytes.place)
+        (level_in bytes.now segment.new)
+        (E.contents entries.new) bits.new (at_place fields.new segment.new.bytes.place)) }
     ensures next { OnOk result (IsNextServed (E.serves entries.old)
         (next_behind fields.new.mantissa)) }
     ensures served { OnOk result (AreServed (E.serves entries.old) (list_of fields.new.rest.now)) }
     ensures counted { OnOk result (counted_of fields.new ≤ counted_of fields.old) }
     ensures fewer { IfOk result (λ b. b ≡ true → pieces_of fields.new < pieces_of fields.old) }
-    ensures room { OnOk result (IsTrue (has_room (level_of segment.old) bits.old)
-        → IsTrue (has_room (level_of segment.new) bits.new)) }
+    ensures whole { IfOk result (λ b. b ≡ true → fields.new.mantissa ≡ None) }
+    ensures room { OnOk result (IsTrue (has_room (level_in bytes.now segment.old) bits.old)
+        → IsTrue (has_room (level_in bytes.now segment.new) bits.new)) }
     ensures kept { OnOk result (KeepScalars (E.contents entries.new)) }
     ensures same_keys { E.serves entries.new ≡ E.serves entries.old }
 {
     match take_part(
+        Part::Mantissa,
         alloc,
         entries,
         mantissa,
         bits,
         level,
         bytes,
-        fields.place,
         segment,
     ) {
-        Taken::Part(_there, next) => {
+        Taken::Part(_there) => {
             fields.mantissa = None;
-            fields.place = next;
             Ok(true)
         }
         Taken::Elsewhere => Ok(false),
@@ -222,7 +305,7 @@ fn take_whole<'a, E: Entries>(
     bytes: &[u8],
     segment: &mut Segment,
 ) -> Result<bool, AllocError>
-    requires place { fields.now.place ≤ length bytes.now }
+    requires run { IsRun bytes.now segment.now.bytes.place segment.now.bytes }
     requires next { fields.now.mantissa ≡ None }
     requires spare { 0 < fields.now.spare }
     requires first { list_of fields.now.rest.now
@@ -233,33 +316,35 @@ fn take_whole<'a, E: Entries>(
     requires told { IsTold Whole whole.now.kind whole.now }
     requires all { AreServed (E.serves entries.now) (list_of fields.now.rest.now) }
     requires others { AreServed (E.serves entries.now) (list_of others.now) }
-    ensures place { OnOk result ((fields.old.place ≤ fields.new.place)
-        × (fields.new.place ≤ length bytes.now)) }
-    ensures takes { OnOk result (Takes level bytes.now (level_of segment.old)
-        (E.contents entries.old) bits.old fields.old (level_of segment.new)
-        (E.contents entries.new) bits.new fields.new) }
+    ensures place { OnOk result (segment.old.bytes.place ≤ segment.new.bytes.place) }
+    ensures run { OnOk result (IsRun bytes.now segment.new.bytes.place segment.new.bytes) }
+    ensures takes { OnOk result (Takes level bytes.now (level_in bytes.now segment.old)
+        (E.contents entries.old) bits.old (at_place fields.old segment.old.bytes.place)
+        (level_in bytes.now segment.new)
+        (E.contents entries.new) bits.new (at_place fields.new segment.new.bytes.place)) }
     ensures next { OnOk result (IsNextServed (E.serves entries.old)
         (next_behind fields.new.mantissa)) }
     ensures served { OnOk result (AreServed (E.serves entries.old) (list_of fields.new.rest.now)) }
     ensures counted { OnOk result (counted_of fields.new ≤ counted_of fields.old) }
     ensures fewer { IfOk result (λ b. b ≡ true → pieces_of fields.new < pieces_of fields.old) }
-    ensures room { OnOk result (IsTrue (has_room (level_of segment.old) bits.old)
-        → IsTrue (has_room (level_of segment.new) bits.new)) }
+    ensures whole { IfOk result (λ b. b ≡ true → fields.new.mantissa ≡ None) }
+    ensures room { OnOk result (IsTrue (has_room (level_in bytes.now segment.old) bits.old)
+        → IsTrue (has_room (level_in bytes.now segment.new) bits.new)) }
     ensures kept { OnOk result (KeepScalars (E.contents entries.new)) }
     ensures same_keys { E.serves entries.new ≡ E.serves entries.old }
 {
     match take_part(
+        Part::Whole,
         alloc,
         entries,
         whole,
         bits,
         level,
         bytes,
-        fields.place,
         segment,
     ) {
-        Taken::Part(_there, next) => {
-            pass(fields, None, others, next);
+        Taken::Part(_there) => {
+            pass(fields, None, others);
             Ok(true)
         }
         Taken::Elsewhere => Ok(false),
@@ -267,9 +352,10 @@ fn take_whole<'a, E: Entries>(
     }
 }
 
-// Takes the exponent of a decimal in parts that is next. False: nothing has changed.
+// Takes a decimal in parts that is next: its exponent, and where that is there its mantissa. False: another way takes what
+// is next then.
 #[inline(always)]
-fn take_exponent<'a, E: Entries>(
+fn take_parts<'a, E: Entries>(
     fields: &mut Fields<'a>,
     flat: &Flat,
     exponent: &FieldPart,
@@ -282,7 +368,7 @@ fn take_exponent<'a, E: Entries>(
     bytes: &[u8],
     segment: &mut Segment,
 ) -> Result<bool, AllocError>
-    requires place { fields.now.place ≤ length bytes.now }
+    requires run { IsRun bytes.now segment.now.bytes.place segment.now.bytes }
     requires next { fields.now.mantissa ≡ None }
     requires spare { 0 < fields.now.spare }
     requires first { list_of fields.now.rest.now
@@ -294,41 +380,106 @@ fn take_exponent<'a, E: Entries>(
     requires all { AreServed (E.serves entries.now) (list_of fields.now.rest.now) }
     requires others { AreServed (E.serves entries.now) (list_of others.now) }
     requires mantissa { IsMantissaServed (E.serves entries.now) mantissa.now }
-    ensures place { OnOk result ((fields.old.place ≤ fields.new.place)
-        × (fields.new.place ≤ length bytes.now)) }
-    ensures takes { OnOk result (Takes level bytes.now (level_of segment.old)
-        (E.contents entries.old) bits.old fields.old (level_of segment.new)
-        (E.contents entries.new) bits.new fields.new) }
+    ensures place { OnOk result (segment.old.bytes.place ≤ segment.new.bytes.place) }
+    ensures run { OnOk result (IsRun bytes.now segment.new.bytes.place segment.new.bytes) }
+    ensures takes { OnOk result (Takes level bytes.now (level_in bytes.now segment.old)
+        (E.contents entries.old) bits.old (at_place fields.old segment.old.bytes.place)
+        (level_in bytes.now segment.new)
+        (E.contents entries.new) bits.new (at_place fields.new segment.new.bytes.place)) }
     ensures next { OnOk result (IsNextServed (E.serves entries.old)
         (next_behind fields.new.mantissa)) }
     ensures served { OnOk result (AreServed (E.serves entries.old) (list_of fields.new.rest.now)) }
     ensures counted { OnOk result (counted_of fields.new ≤ counted_of fields.old) }
     ensures fewer { IfOk result (λ b. b ≡ true → pieces_of fields.new < pieces_of fields.old) }
-    ensures room { OnOk result (IsTrue (has_room (level_of segment.old) bits.old)
-        → IsTrue (has_room (level_of segment.new) bits.new)) }
+    ensures whole { IfOk result (λ b. b ≡ true → fields.new.mantissa ≡ None) }
+    ensures room { OnOk result (IsTrue (has_room (level_in bytes.now segment.old) bits.old)
+        → IsTrue (has_room (level_in bytes.now segment.new) bits.new)) }
     ensures kept { OnOk result (KeepScalars (E.contents entries.new)) }
     ensures same_keys { E.serves entries.new ≡ E.serves entries.old }
 {
     match take_part(
+        Part::Exponent,
         alloc,
         entries,
         exponent,
         bits,
         level,
         bytes,
-        fields.place,
         segment,
     ) {
-        Taken::Part(true, next) => {
-            pass(fields, Some(mantissa), others, next);
-            Ok(true)
+        Taken::Part(true) => {
+            pass(fields, Some(mantissa), others);
+            match take_mantissa(
+                fields, mantissa, alloc, entries, bits, level, bytes, segment,
+            ) {
+                Err(error) => Err(error),
+                Ok(taken) => Ok(taken),
+            }
         }
-        Taken::Part(false, next) => {
-            pass(fields, None, others, next);
+        Taken::Part(false) => {
+            pass(fields, None, others);
             Ok(true)
         }
         Taken::Elsewhere => Ok(false),
         Taken::Refused => Err(AllocError),
+    }
+}
+
+// Takes fields from the front of those that are left, as many as the quick way serves one after the other.
+#[inline(always)]
+fn take_all<'a, E: Entries>(
+    fields: &mut Fields<'a>,
+    alloc: Global,
+    entries: &mut E,
+    bits: &mut Bits,
+    level: Level,
+    bytes: &[u8],
+    segment: &mut Segment,
+) -> Result<(), AllocError>
+    requires run { IsRun bytes.now segment.now.bytes.place segment.now.bytes }
+    requires next { fields.now.mantissa ≡ None }
+    requires served { AreServed (E.serves entries.now) (list_of fields.now.rest.now) }
+    requires kept { KeepScalars (E.contents entries.now) }
+    ensures place { OnOk result (segment.old.bytes.place ≤ segment.new.bytes.place) }
+    ensures run { OnOk result (IsRun bytes.now segment.new.bytes.place segment.new.bytes) }
+    ensures counted { OnOk result (counted_of fields.new ≤ counted_of fields.old) }
+    ensures served { OnOk result (AreServed (E.serves entries.old) (list_of fields.new.rest.now)
+        × IsNextServed (E.serves entries.old) (next_behind fields.new.mantissa)) }
+    ensures takes { OnOk result (Takes level bytes.now (level_in bytes.now segment.old)
+        (E.contents entries.old) bits.old (at_place fields.old segment.old.bytes.place)
+        (level_in bytes.now segment.new)
+        (E.contents entries.new) bits.new (at_place fields.new segment.new.bytes.place)) }
+    ensures room { OnOk result (IsTrue (has_room (level_in bytes.now segment.old) bits.old)
+        → IsTrue (has_room (level_in bytes.now segment.new) bits.new)) }
+    ensures kept { OnOk result (KeepScalars (E.contents entries.new)) }
+    ensures same_keys { E.serves entries.new ≡ E.serves entries.old }
+{
+    // no function of its own: what it changes stays in registers here
+    'pieces: loop {
+        if fields.spare == 0 {
+            return Ok(());
+        }
+        let Some((flat, others)) = fields.rest.split_first() else {
+            return Ok(());
+        };
+        match first_part(flat) {
+            Some((whole, None)) => match take_whole(
+                fields, flat, whole, others, alloc, entries, bits, level, bytes, segment,
+            ) {
+                Err(error) => return Err(error),
+                Ok(false) => return Ok(()),
+                Ok(true) => {}
+            },
+            Some((exponent, Some(mantissa))) => match take_parts(
+                fields, flat, exponent, mantissa, others, alloc, entries, bits, level, bytes,
+                segment,
+            ) {
+                Err(error) => return Err(error),
+                Ok(false) => return Ok(()),
+                Ok(true) => {}
+            },
+            None => return Ok(()),
+        }
     }
 }
 
@@ -368,67 +519,12 @@ pub(crate) fn take_fields<'a, E: Entries>(
         spare,
         place: at,
     };
-    // no function of its own: what it changes stays in registers here
-    'pieces: loop {
-        match fields.mantissa {
-            Some(mantissa) => match take_mantissa(
-                &mut fields,
-                mantissa,
-                alloc,
-                entries,
-                bits,
-                level,
-                bytes,
-                segment,
-            ) {
-                Err(error) => return Err(error),
-                Ok(false) => return Ok(fields),
-                Ok(true) => {}
-            },
-            None => {
-                if fields.spare == 0 {
-                    return Ok(fields);
-                }
-                let Some((flat, others)) = fields.rest.split_first() else {
-                    return Ok(fields);
-                };
-                match first_part(flat) {
-                    Some((whole, None)) => match take_whole(
-                        &mut fields,
-                        flat,
-                        whole,
-                        others,
-                        alloc,
-                        entries,
-                        bits,
-                        level,
-                        bytes,
-                        segment,
-                    ) {
-                        Err(error) => return Err(error),
-                        Ok(false) => return Ok(fields),
-                        Ok(true) => {}
-                    },
-                    Some((exponent, Some(mantissa))) => match take_exponent(
-                        &mut fields,
-                        flat,
-                        exponent,
-                        mantissa,
-                        others,
-                        alloc,
-                        entries,
-                        bits,
-                        level,
-                        bytes,
-                        segment,
-                    ) {
-                        Err(error) => return Err(error),
-                        Ok(false) => return Ok(fields),
-                        Ok(true) => {}
-                    },
-                    None => return Ok(fields),
-                }
-            }
-        }
+    segment.bytes.begin(at);
+    take_all(&mut fields, alloc, entries, bits, level, bytes, segment)?;
+    if segment.bytes.flush(bytes) {
+        fields.place = segment.bytes.place;
+        Ok(fields)
+    } else {
+        Err(AllocError)
     }
 }

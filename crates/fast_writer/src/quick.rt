@@ -14,46 +14,43 @@ ghost use Rattle.fast_stream.specs.Bits.{after_bit, bit_for};
 ghost use Rattle.fast_writer.specs.Levels.{level_of};
 ghost use Rattle.fast_writer.specs.Room.{has_room};
 ghost use Rattle.fast_relay.specs.Relayed.{IsThere};
+ghost use Rattle.fast_relay.specs.Runs.{IsRun, Stays, written};
 ghost use Rattle.fast_writer.specs.Quick.{Relayed};
 ghost use Rattle.fast_writer.specs.Written.{Spelt};
 
 use crate::relay::relay_entry;
 use crate::segment::Segment;
 use fast_dictionary::{Entries, Entry};
-use fast_field::{FieldFault, Passed, pass_left_out, reads_as_usual};
-use fast_relay::{Relayed as Answer, relay_decimal, relay_null, relay_number, relay_text};
+use fast_field::FieldFault;
+use fast_relay::{Relayed as Answer, Run, relay_decimal, relay_null, relay_text};
 use fast_template::{FieldPart, part_needs_bit};
 use fast_wire::Level;
 use std::alloc::Global;
 
-// Reads what was sent under bit 1 and appends its best form: an integer, a constant, NULL, a string, a vector or a
-// difference of decimals. Answers whether the value is there, the bit of its best form, and the place behind it. None:
-// nothing has changed, and the part goes another way.
+// Reads NULL, a string, a vector or a decimal that was sent under bit 1 and appends its best form. Answers whether the value
+// is there, the bit of its best form, and the place behind it. None: nothing has changed, and the part goes another way.
 #[inline(always)]
-fn relay_sent(
+pub(crate) fn relay_other(
     alloc: Global,
     part: &FieldPart,
     entry: &mut Entry,
     bytes: &[u8],
     at: usize,
-    out: &mut Vec<u8>,
+    out: &mut Run,
 ) -> Option<(bool, bool, usize)>
-    requires place { at ≤ length bytes.now }
+    requires run { IsRun bytes.now at out.now }
     ensures place { IfSome result (λ x. (at ≤ x.2) × (x.2 ≤ length bytes.now)) }
+    ensures run { IfSome result (λ x. IsRun bytes.now x.2 out.new) }
     ensures relayed { IfSome result (λ x. (v : Option ScalarOf) × IsThere part.now.kind x.0 v
         × Relayed Usual part.now entry.old entry.new true x.1 v (drop at bytes.now)
-        (drop x.2 bytes.now) out.old.items out.new.items) }
+        (drop x.2 bytes.now) (written bytes.now out.old) (written bytes.now out.new)) }
     ensures entry { IfNone result (entry.new ≡ entry.old) }
-    ensures out { IfNone result (out.new.items ≡ out.old.items) }
+    ensures out { IfNone result (Stays bytes.now at out.old out.new) }
 {
-    match relay_number(part, entry, bytes, at, out) {
-        Answer::Sent(next) => Some((true, true, next)),
-        Answer::Given(next) => Some((true, false, next)),
-        Answer::Elsewhere => match relay_null(part, entry, bytes, at, out) {
-            Answer::Sent(next) => Some((false, true, next)),
-            Answer::Given(next) => Some((false, false, next)),
-            Answer::Elsewhere => relay_long(alloc, part, entry, bytes, at, out),
-        },
+    match relay_null(part, entry, bytes, at, out) {
+        Answer::Sent(next) => Some((false, true, next)),
+        Answer::Given(next) => Some((false, false, next)),
+        Answer::Elsewhere => relay_long(alloc, part, entry, bytes, at, out),
     }
 }
 
@@ -65,15 +62,17 @@ fn relay_long(
     entry: &mut Entry,
     bytes: &[u8],
     at: usize,
-    out: &mut Vec<u8>,
+    out: &mut Run,
 ) -> Option<(bool, bool, usize)>
-    requires place { at ≤ length bytes.now }
+    requires run { IsRun bytes.now at out.now }
     ensures place { IfSome result (λ x. (at ≤ x.2) × (x.2 ≤ length bytes.now)) }
+    ensures run { IfSome result (λ x. IsRun bytes.now x.2 out.new) }
     ensures relayed { IfSome result (λ x. (v : Option ScalarOf) × IsThere part.now.kind x.0 v
         × Relayed Usual part.now entry.old entry.new true x.1 v (drop at bytes.now)
-        (drop x.2 bytes.now) out.old.items out.new.items) }
+        (drop x.2 bytes.now)
+        (written bytes.now out.old) (written bytes.now out.new)) }
     ensures entry { IfNone result (entry.new ≡ entry.old) }
-    ensures out { IfNone result (out.new.items ≡ out.old.items) }
+    ensures out { IfNone result (Stays bytes.now at out.old out.new) }
 {
     match relay_text(alloc, part, entry, bytes, at, out) {
         Answer::Sent(next) => Some((true, true, next)),
@@ -86,48 +85,7 @@ fn relay_long(
     }
 }
 
-// Takes what bit 0 gives, or what was sent where it is read as at the usual level; answers whether its value is there, the bit of its best
-// form, and the place behind it. None: nothing has changed, and the part goes another way.
-#[inline(always)]
-pub(crate) fn relay_quickly(
-    alloc: Global,
-    part: &FieldPart,
-    entry: &mut Entry,
-    bit: bool,
-    level: Level,
-    bytes: &[u8],
-    at: usize,
-    out: &mut Vec<u8>,
-) -> Option<(bool, bool, usize)>
-    requires place { at ≤ length bytes.now }
-    requires bit { part_needs_bit_of part.now ≡ false → bit ≡ true }
-    ensures place { IfSome result (λ x. (at ≤ x.2) × (x.2 ≤ length bytes.now)) }
-    ensures relayed { IfSome result (λ x. (v : Option ScalarOf) × IsThere part.now.kind x.0 v
-        × Relayed level part.now entry.old entry.new bit x.1 v (drop at bytes.now) (drop x.2 bytes.now)
-        out.old.items out.new.items) }
-    ensures lower { IfSome result (λ x. bit ≡ false → x.1 ≡ false) }
-    ensures entry { IfNone result (entry.new ≡ entry.old) }
-    ensures out { IfNone result (out.new.items ≡ out.old.items) }
-{
-    if bit {
-        if reads_as_usual(level, part, bytes, at) {
-            match relay_sent(alloc, part, entry, bytes, at, out) {
-                None => None,
-                Some(x) => Some(x),
-            }
-        } else {
-            None
-        }
-    } else {
-        match pass_left_out(part, entry) {
-            Passed::Elsewhere => None,
-            Passed::Absent => Some((false, false, at)),
-            Passed::Present => Some((true, false, at)),
-        }
-    }
-}
-
-// The same of any part, the general way. (A call of its own, so that the walk over a segment has room for one answer
+// Reads a part of any kind the general way and appends its best form. (A call of its own, so that the walk over a segment has room for one answer
 // only.)
 #[inline(never)]
 fn relay_generally(
@@ -211,7 +169,7 @@ pub(crate) fn relay_part<E: Entries>(
             level,
             bytes,
             at,
-            &mut segment.bytes,
+            &mut segment.bytes.out,
         ) {
             Err(fault) => Err(fault),
             Ok((there, best, next)) => match segment.ask(part_needs_bit(part), best) {

@@ -5,6 +5,7 @@ ghost use Rattle.fast_wire.specs.declared.fault.WireFault.TheVariants as fault;
 ghost use Rattle.fast_writer.specs.Written.{Asked, Ended, has_set};
 ghost use Rattle.fast_writer.specs.Levels.{level_of};
 
+use fast_relay::Run;
 use fast_wire::{MapBuilder, WireFault};
 use std::alloc::{AllocError, Global};
 
@@ -16,7 +17,7 @@ pub struct Segment {
     /// Whether they stand in a map of its own.
     pub own: bool,
     /// What stands behind the map.
-    pub bytes: Vec<u8>,
+    pub bytes: Run,
 }
 
 impl Segment {
@@ -27,12 +28,12 @@ impl Segment {
     pub fn new(alloc: Global, own: bool) -> Segment
         ensures bits { result.bits ≡ [] }
         ensures own { result.own ≡ own }
-        ensures bytes { result.bytes.items ≡ [] }
+        ensures bytes { result.bytes.out.items ≡ [] }
     {
         Segment {
             bits: MapBuilder::new(alloc),
             own,
-            bytes: Vec::new(alloc),
+            bytes: Run::new(alloc),
         }
     }
 
@@ -41,17 +42,18 @@ impl Segment {
     pub fn begin(&mut self, own: bool)
         ensures bits { self.new.bits ≡ [] }
         ensures own { self.new.own ≡ own }
-        ensures bytes { self.new.bytes.items ≡ [] }
+        ensures bytes { self.new.bytes.out.items ≡ [] }
     {
         self.bits.clear();
         self.own = own;
-        self.bytes.clear();
+        self.bytes.out.clear();
     }
 
     /// One bit more, where one is needed.
     #[inline(always)]
     pub fn ask(&mut self, needed: bool, bit: bool) -> Result<(), AllocError>
-        ensures { OnOk result (Asked needed bit (level_of self.old) (level_of self.new)) }
+        ensures asked { OnOk result (Asked needed bit (level_of self.old) (level_of self.new)) }
+        ensures run { OnOk result (self.new.bytes ≡ self.old.bytes) }
     {
         if needed {
             self.bits.push(bit)?;
@@ -99,7 +101,7 @@ impl Segment {
                 Ok(()) => {}
             }
         }
-        match out.extend_from_slice(&self.bytes) {
+        match out.extend_from_slice(&self.bytes.out) {
             Err(_) => {
                 out.truncate(start);
                 Err(WireFault::Memory)

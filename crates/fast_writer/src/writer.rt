@@ -56,7 +56,7 @@ impl Writer {
     fn fresh(&mut self, alloc: Global, own: bool) -> Segment
         ensures bits { result.bits ≡ [] }
         ensures own { result.own ≡ own }
-        ensures bytes { result.bytes.items ≡ [] }
+        ensures bytes { result.bytes.out.items ≡ [] }
         ensures inner { self.new.inner ≡ self.old.inner }
         ensures outer { self.new.outer ≡ self.old.outer }
         ensures out { self.new.out ≡ self.old.out }
@@ -77,7 +77,7 @@ impl Writer {
             ≡ map level_of self.old.outer.items ++ level_of self.old.inner ∷ []) }
         ensures bits { OnOk result (self.new.inner.bits ≡ []) }
         ensures own { OnOk result (self.new.inner.own ≡ own) }
-        ensures bytes { OnOk result (self.new.inner.bytes.items ≡ []) }
+        ensures bytes { OnOk result (self.new.inner.bytes.out.items ≡ []) }
         ensures out { self.new.out ≡ self.old.out }
     {
         let inner = self.fresh(alloc, own);
@@ -103,7 +103,7 @@ impl Writer {
             None => unreachable!(),
             Some(around) => {
                 let inner = mem::replace(&mut self.inner, around);
-                inner.end(&mut self.inner.bytes)?;
+                inner.end(&mut self.inner.bytes.out)?;
                 self.spare.push(inner)?;
                 Ok(())
             }
@@ -119,13 +119,13 @@ impl Writer {
             (level_of self.old.inner) (map level_of self.new.outer.items)) }
         ensures bits { OnOk result (self.new.inner.bits ≡ []) }
         ensures own { OnOk result (self.new.inner.own ≡ own) }
-        ensures bytes { OnOk result (self.new.inner.bytes.items ≡ []) }
+        ensures bytes { OnOk result (self.new.inner.bytes.out.items ≡ []) }
         ensures out { self.new.out ≡ self.old.out }
     {
         match self.outer.last_mut() {
             None => unreachable!(),
             Some(around) => {
-                self.inner.end(&mut around.bytes)?;
+                self.inner.end(&mut around.bytes.out)?;
                 self.inner.begin(own);
                 Ok(())
             }

@@ -6,7 +6,7 @@ use crate::relaying::{Call, NotRelayed, Relayed, all_relayed, none_relayed};
 use crate::same::same;
 use fast_dictionary::Entry;
 use fast_field::{Passed, pass_left_out};
-use fast_relay::relay_unsigned;
+use fast_relay::{Run, relay_unsigned};
 use fast_template::{FieldPart, Kind, Operator, Presence};
 use std::alloc::{AllocError, Global};
 use std::process::Abort;
@@ -57,10 +57,11 @@ fn counts_with(
     instr: &FieldPart,
     row: &Counted,
 ) -> Result<(), AllocError> {
-    let mut out = Vec::new(alloc);
+    let mut run = Run::new(alloc);
     let mut entry = Entry::Undefined;
     let start = row.bytes.len().min(1);
-    match relay_unsigned(instr, &mut entry, row.bytes, start, &mut out) {
+    run.begin(start);
+    match relay_unsigned(instr, &mut entry, row.bytes, start, &mut run) {
         Some((number, bit, next)) => {
             same(rt, (Some(number), bit), (row.number, true));
             same(rt, next, row.bytes.len());

@@ -1,11 +1,12 @@
 //! Rows on fields that are relayed at once.
 
 ghost use Rattle.std.specs.Prelude.{◌≤◌, length};
+ghost use Rattle.fast_relay.specs.Runs.{IsRun};
 
 use crate::fields::{Kept, Shape};
 use crate::same::same;
 use fast_dictionary::Entry;
-use fast_relay::{Relayed as Told, relay_decimal, relay_null, relay_number, relay_text};
+use fast_relay::{Relayed as Told, Run, relay_decimal, relay_null, relay_number, relay_text};
 use fast_template::FieldPart;
 use std::alloc::{AllocError, Global};
 use std::process::Abort;
@@ -51,6 +52,7 @@ pub(crate) enum Call {
     Text,
 }
 
+// What a call answers; what it noted ends within the bytes.
 fn told_by(
     alloc: Global,
     call: Call,
@@ -58,15 +60,17 @@ fn told_by(
     entry: &mut Entry,
     bytes: &[u8],
     at: usize,
-    out: &mut Vec<u8>,
+    run: &mut Run,
 ) -> Told
-    requires { at ≤ length bytes.now }
+    requires { IsRun bytes.now at run.now }
+    ensures from { run.new.from ≤ run.new.place }
+    ensures place { run.new.place ≤ length bytes.now }
 {
     match call {
-        Call::Number => relay_number(instr, entry, bytes, at, out),
-        Call::Decimal => relay_decimal(instr, entry, bytes, at, out),
-        Call::Null => relay_null(instr, entry, bytes, at, out),
-        Call::Text => relay_text(alloc, instr, entry, bytes, at, out),
+        Call::Number => relay_number(instr.part, instr, entry, bytes, at, run),
+        Call::Decimal => relay_decimal(instr, entry, bytes, at, run),
+        Call::Null => relay_null(instr, entry, bytes, at, run),
+        Call::Text => relay_text(alloc, instr, entry, bytes, at, run),
     }
 }
 
@@ -77,10 +81,16 @@ fn relay_with(
     before: Kept,
     bytes: &[u8],
 ) -> Result<Answer, AllocError> {
-    let mut out = vec![in alloc; 0x2a]?;
+    let mut run = Run::new(alloc);
+    run.out.push(0x2a)?;
     let mut entry = before.entry(alloc)?;
     let at = bytes.len().min(1);
-    let told = told_by(alloc, call, instr, &mut entry, bytes, at, &mut out);
+    run.begin(at);
+    let told = told_by(alloc, call, instr, &mut entry, bytes, at, &mut run);
+    if !run.flush(bytes) {
+        return Err(AllocError);
+    }
+    let out = run.out;
     Ok(Answer { told, entry, out })
 }
 

@@ -133,7 +133,7 @@ put_node-returns-in-Ok-clause-answer g t c =
     fold_out-Flat Instruction flat_step (Group s.name s.number s.presence s.members) ∙ rw (outs-Group s.name s.number s.presence s.members) refl in
     let optional : is_optional s.presence ≡ true = rw (s.is, c.in-Absent-node-2.is, item_of-absent, flat) at c.requires.ready.fits in
     rw (s.is, c.in-Absent-node-2.is, item_of-absent, flat)
-    (no_group_added s.name s.number s.presence (list_of s.members.items) (g.E.Entries.contents c.args.journal.now.entries) (level_of c.args.level.now) (level_of c.ask.new.self) optional (rw (c.may_be_absent.ensures) at c.in-Ok.ensures))
+    (no_group_added s.name s.number s.presence (list_of s.members.items) (g.E.Entries.contents c.args.journal.now.entries) (level_of c.args.level.now) (level_of c.ask.new.self) optional (rw (c.may_be_absent.ensures) at c.in-Ok.ensures.asked))
 
 pub put_node-returns-in-Ok-ask-clause-answer : goal.put_node-returns-in-Ok-ask-clause-answer
 put_node-returns-in-Ok-ask-clause-answer g t c =
@@ -143,7 +143,7 @@ put_node-returns-in-Ok-ask-clause-answer g t c =
     fold_out-Flat Instruction flat_step (Group s.name s.number s.presence s.members) ∙ rw (outs-Group s.name s.number s.presence s.members) refl in
     rw (s.is, c.in-Group-node-3.is, flat, item_of-group nodes)
     (group_answers s.name s.number s.presence (list_of s.members.items) (items_in nodes.items) (g.E.Entries.contents c.args.journal.now.entries) (g.E.Entries.contents c.put_segment.new.journal.entries)
-    (level_of c.args.level.now) (level_of c.ask-in-Group-node-3.new.self) c.put_segment.new.out.items c.put_segment.result (rw (c.may_be_absent-in-Group-node-3.ensures) at c.in-Ok-ask.ensures)
+    (level_of c.args.level.now) (level_of c.ask-in-Group-node-3.new.self) c.put_segment.new.out.items c.put_segment.result (rw (c.may_be_absent-in-Group-node-3.ensures) at c.in-Ok-ask.ensures.asked)
     (rw (c.deref.ensures.value, c.deref-in-Ok-ask.ensures.value) at c.put_segment.ensures.answer))
 
 -- ---- one sequence

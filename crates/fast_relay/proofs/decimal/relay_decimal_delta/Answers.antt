@@ -6,6 +6,7 @@ use Rattle.fast_value.specs.Scalar.{exponent_in_range, in_range}
 use Rattle.fast_value.specs.declared.kind.Kind.TheVariants as kind
 use Rattle.fast_value.specs.declared.scalar.Scalar.TheVariants.{Decimal}
 use Rattle.fast_dictionary.specs.declared.entry.Entry.TheVariants.{Assigned}
+use Rattle.fast_relay.specs.Runs.{written}
 use Rattle.fast_relay.proofs.DecimalRelaying.{decimal_relays, exponent_fits, fits_long, mantissa_fits, small, sum_fits}
 use Rattle.fast_relay.proofs.decimal.relay_decimal_delta.Goals as goal
 
@@ -41,26 +42,38 @@ pub moved-requires-2-clause-below : goal.moved-requires-2-clause-below
 moved-requires-2-clause-below c =
     rw (to_z-of_z w128 c.in-Some-read_short-2.mantissa_delta (fits_long c.in-Some-read_short-2.mantissa_delta c.in-Some-read_short-2.ensures.above c.in-Some-read_short-2.ensures.below)) c.in-Some-read_short-2.ensures.below
 
-pub returns-in-Ok-clause-place : goal.returns-in-Ok-clause-place
-returns-in-Ok-clause-place c =
+pub returns-then-copy_pair-clause-place : goal.returns-then-copy_pair-clause-place
+returns-then-copy_pair-clause-place c =
     (omega (arith, c.in-Some-read_short.ensures.place, c.in-Some-read_short-2.ensures.place), c.in-Some-read_short-2.ensures.place.1)
 
-pub write_pair-requires-clause-exponent : goal.write_pair-requires-clause-exponent
-write_pair-requires-clause-exponent c =
+pub copy_pair-requires-clause-exponent : goal.copy_pair-requires-clause-exponent
+copy_pair-requires-clause-exponent c =
     let d = c.in-Some-read_short.exponent_delta in
     let read = c.in-Some-read_short.ensures in
     let fits = fits_long d read.above read.below in
     rw (to_z-of_z w128 d fits) (small d read.above read.below)
 
-pub write_pair-requires-clause-mantissa : goal.write_pair-requires-clause-mantissa
-write_pair-requires-clause-mantissa c =
+pub copy_pair-requires-clause-mantissa : goal.copy_pair-requires-clause-mantissa
+copy_pair-requires-clause-mantissa c =
     let d = c.in-Some-read_short-2.mantissa_delta in
     let read = c.in-Some-read_short-2.ensures in
     let fits = fits_long d read.above read.below in
     rw (to_z-of_z w128 d fits) (small d read.above read.below)
 
-pub returns-in-Ok-clause-relayed : goal.returns-in-Ok-clause-relayed
-returns-in-Ok-clause-relayed c =
+pub copy_pair-requires-clause-exponent_spelt : goal.copy_pair-requires-clause-exponent_spelt
+copy_pair-requires-clause-exponent_spelt c =
+    let d = c.in-Some-read_short.exponent_delta in
+    let read = c.in-Some-read_short.ensures in
+    rw (to_z-of_z w128 d (fits_long d read.above read.below)) read.gives
+
+pub copy_pair-requires-clause-mantissa_spelt : goal.copy_pair-requires-clause-mantissa_spelt
+copy_pair-requires-clause-mantissa_spelt c =
+    let d = c.in-Some-read_short-2.mantissa_delta in
+    let read = c.in-Some-read_short-2.ensures in
+    rw (to_z-of_z w128 d (fits_long d read.above read.below)) read.gives
+
+pub returns-then-copy_pair-clause-relayed : goal.returns-then-copy_pair-clause-relayed
+returns-then-copy_pair-clause-relayed c =
     let x = c.in-Some.kept_exponent in
     let m = c.in-Some.kept_mantissa in
     let dx = c.in-Some-read_short.exponent_delta in
@@ -87,7 +100,7 @@ returns-in-Ok-clause-relayed c =
     let bytes = c.args.bytes.now in (
       Decimal (x +ℤ dx) (m +ℤ dm),
       rw (e_is, n_is) (decimal_relays c.args.instr.now c.args.entry.now (Assigned (Decimal (x +ℤ dx) (m +ℤ dm))) x m dx dm
-          (drop c.args.at bytes) (drop c.in-Some-read_short.behind bytes) (drop c.in-Some-read_short-2.next bytes) c.args.out.now.items c.write_pair.new.out.items
+          (drop c.args.at bytes) (drop c.in-Some-read_short.behind bytes) (drop c.in-Some-read_short-2.next bytes) (written bytes c.args.out.now) (written bytes c.copy_pair.new.out)
           kept.kept c.requires.kind c.requires.operator c.requires.part first.gives near.1 second.gives within.1 refl
-          (rw (dx_is, dm_is) at c.in-Ok.ensures)),
+          (rw (dx_is, dm_is) at (c.copy_pair.ensures.written c.if-copy_pair.true))),
     )

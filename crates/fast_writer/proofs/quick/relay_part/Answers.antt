@@ -31,7 +31,7 @@ returns-in-Ok-ask-clause-relays g c =
       took_of c.args.level i c.args.bit d (g.E.Entries.contents (c.entry_mut.follows.lender new)) old new v _ _ c.in-Ok.ensures.value
           (c.entry_mut.follows.holds new (ap is_ok c.in-Ok.is)).0 r.2.entry r.2.read,
       spelt_of i d old v c.in-Ok-relay_generally.best c.part_needs_bit.result (level_of c.args.segment.now) (level_of c.ask.new.self) c.relay_generally.new.out.items
-          c.in-Ok.ensures.value c.part_needs_bit.ensures r.2.form c.in-Ok-ask.ensures,
+          c.in-Ok.ensures.value c.part_needs_bit.ensures r.2.form c.in-Ok-ask.ensures.asked,
     )
 
 pub relay_generally-requires-clause-entry : goal.relay_generally-requires-clause-entry
@@ -39,5 +39,5 @@ relay_generally-requires-clause-entry g c = rw (c.in-Ok.ensures.value) (kept_hol
 
 pub returns-in-Ok-ask-clause-room : goal.returns-in-Ok-ask-clause-room
 returns-in-Ok-ask-clause-room g c = λ left is room.
-    let asked = rw (c.part_needs_bit.ensures) at c.in-Ok-ask.ensures in
+    let asked = rw (c.part_needs_bit.ensures) at c.in-Ok-ask.ensures.asked in
     asked_room (part_needs_bit c.args.part.now) c.args.bit c.in-Ok-relay_generally.best (level_of c.args.segment.now) (level_of c.ask.new.self) left is c.in-Ok-relay_generally.ensures.lower asked.bits asked.own room

@@ -28,7 +28,7 @@ returns-clause-closed c =
     let old = c.args.self.now in
     let around = c.in-Some.around.now in
     let e = c.in_ok-end-in-Some.ensures.ended in
-    let later : SegmentNow = record { bits = around.bits; own = around.own; bytes = c.end.new.out } in
+    let later : SegmentNow = record { bits = around.bits; own = around.own; bytes = record { out = c.end.new.out; from = around.bytes.from; place = around.bytes.place } } in
     let many : length old.outer.items ≡ vec_len old.outer = search rules in
     let l = last_is old.outer.items (vec_len old.outer) later around many (c.in-Some.ensures.variant.0 refl) in
     let fore = map level_of l.fore in

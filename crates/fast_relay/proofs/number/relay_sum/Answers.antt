@@ -4,7 +4,8 @@ use Rattle.std.specs.Prelude.{◌+ℤ◌, drop}
 use Rattle.std.proofs.Common.{arith}
 use Rattle.std.proofs.lemmas.Int.{ints, to_z-of_z}
 use Rattle.fast_relay.proofs.Relaying.{delta_relays}
-use Rattle.fast_relay.proofs.number.relay_delta.Goals as goal
+use Rattle.fast_relay.specs.Runs.{written}
+use Rattle.fast_relay.proofs.number.relay_sum.Goals as goal
 
 pub copy_signed-requires-clause-spelt : goal.copy_signed-requires-clause-spelt
 copy_signed-requires-clause-spelt c =
@@ -12,8 +13,8 @@ copy_signed-requires-clause-spelt c =
     let fits : FitsSigned w128 d = omega (arith, ints, c.in-Some-read_short.ensures.above, c.in-Some-read_short.ensures.below) in
     rw (to_z-of_z w128 d fits) c.in-Some-read_short.ensures.gives
 
-pub returns-in-Ok-clause-relayed : goal.returns-in-Ok-clause-relayed
-returns-in-Ok-clause-relayed c =
+pub returns-then-copy_signed-clause-relayed : goal.returns-then-copy_signed-clause-relayed
+returns-then-copy_signed-clause-relayed c =
     let k = c.args.kind in
     let z = c.in-Some.kept in
     let d = c.in-Some-read_short.delta in
@@ -23,9 +24,9 @@ returns-in-Ok-clause-relayed c =
     let kept = to_z-of_z w128 z kept_fits in
     let delta = to_z-of_z w128 d delta_fits in
     let sum = to_z-of_z w128 (z +ℤ d) sum_fits in
-    rw (kept, delta, sum) (delta_relays k c.args.instr.now c.args.entry.now c.set_number.new.entry z d (drop c.args.at c.args.bytes.now) (drop c.in-Some-read_short.next c.args.bytes.now) c.args.out.now.items c.copy_signed.new.out.items
+    rw (kept, delta, sum) (delta_relays k c.args.instr.now c.args.entry.now c.set_number.new.entry z d (drop c.args.at c.args.bytes.now) (drop c.in-Some-read_short.next c.args.bytes.now) (written c.args.bytes.now c.args.out.now) (written c.args.bytes.now c.copy_signed.new.out)
     c.requires.kind c.requires.operator c.in-Some.ensures.number
-    (rw (kept, delta, sum) at (c.is_field_number.ensures c.if-not-is_field_number.false))
+    (rw (kept, delta, sum, c.requires.part) at (c.is_field_number.ensures c.if-not-is_field_number.false))
     c.in-Some-read_short.ensures.gives
     (rw (kept, delta, sum) at c.set_number.ensures)
-    (rw delta at c.in-Ok.ensures))
+    (rw delta at (c.copy_signed.ensures.written c.if-copy_signed.true)))

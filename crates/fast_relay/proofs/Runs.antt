@@ -1,0 +1,46 @@
+-- What a run of noted bytes is.
+use Rattle.std.proofs.Common.{◌≡◌, ◌≤◌, ℕ, ◌+◌, ◌-◌, List, [], ◌++◌, take, drop, slice_range, sym, ap, subst, ◌∙◌, arith, append_assoc, append-nil, drop-drop, take-add, length}
+use Rattle.fast_relay.specs.Runs.{IsRun, Stays, written}
+use Rattle.fast_relay.specs.declared.run.Run.{Run}
+
+pub range_split : (bytes : List ℕ) (a b c : ℕ) → a ≤ b → b ≤ c → slice_range bytes a c ≡ slice_range bytes a b ++ slice_range bytes b c
+range_split bytes a b c le more =
+    let all : c - a ≡ (b - a) + (c - b) = omega arith in
+    let there : a + (b - a) ≡ b = omega arith in
+    ap (λ k. take k (drop a bytes)) all ∙ take-add (b - a) (c - b) (drop a bytes) ∙ ap (λ x. take (b - a) (drop a bytes) ++ take (c - b) x) (drop-drop (b - a) a bytes ∙ ap (λ k. drop k bytes) there)
+
+pub range_none : (bytes : List ℕ) (a : ℕ) → slice_range bytes a a ≡ []
+range_none bytes a = let none : a - a ≡ 0 = omega arith in ap (λ k. take k (drop a bytes)) none
+
+-- what is noted up to a place behind is written behind what was
+pub kept : (bytes : List ℕ) (at : ℕ) (r : Run) (next : ℕ) → IsRun bytes at r → r.place ≤ next → r.out.items ++ slice_range bytes r.from next ≡ written bytes r ++ slice_range bytes at next
+kept bytes at r next h le =
+    let s : slice_range bytes r.from next ≡ slice_range bytes r.from r.place ++ slice_range bytes at next = range_split bytes r.from r.place next h.from le ∙ ap (λ k. slice_range bytes r.from r.place ++ slice_range bytes k next) h.place in
+    ap (λ x. r.out.items ++ x) s ∙ sym (append_assoc r.out.items (slice_range bytes r.from r.place) (slice_range bytes at next))
+
+-- where nothing is noted, what was appended is all
+pub settled : (bytes : List ℕ) (items : List ℕ) (at : ℕ) → items ++ slice_range bytes at at ≡ items
+settled bytes items at = ap (λ x. items ++ x) (range_none bytes at) ∙ append-nil items
+
+pub none_noted : (bytes : List ℕ) (r : Run) → r.from ≡ r.place → written bytes r ≡ r.out.items
+none_noted bytes r none = ap (λ (k : ℕ). r.out.items ++ slice_range bytes k r.place) none ∙ settled bytes r.out.items r.place
+
+-- bytes are noted behind the end of what is noted
+pub noted : (bytes : List ℕ) (at : ℕ) (r : Run) (first next : ℕ) → IsRun bytes at r → first ≡ r.place → first ≤ next → r.out.items ++ slice_range bytes r.from next ≡ written bytes r ++ slice_range bytes first next
+noted bytes at r first next h there le =
+    subst (λ (k : ℕ). r.out.items ++ slice_range bytes r.from next ≡ written bytes r ++ slice_range bytes k next) (sym (there ∙ h.place)) (kept bytes at r next h (omega (arith, there, le)))
+
+-- or where nothing is
+pub noted_anew : (bytes : List ℕ) (r : Run) (first next : ℕ) → r.from ≡ r.place → r.out.items ++ slice_range bytes first next ≡ written bytes r ++ slice_range bytes first next
+noted_anew bytes r first next none = ap (λ (s : List ℕ). s ++ slice_range bytes first next) (sym (none_noted bytes r none))
+
+-- where it is begun to note
+pub begun : (bytes : List ℕ) (at : ℕ) (r : Run) → r.from ≡ at → r.place ≡ at → at ≤ length bytes → IsRun bytes at r
+begun bytes at r from place le = record { from = omega (arith, from, place); place = place; within = le }
+
+-- what was noted was appended, and no more
+pub flushed : (bytes : List ℕ) (at : ℕ) (old new : Run) → IsRun bytes at old → new.out.items ≡ written bytes old → new.from ≡ old.place → new.place ≡ old.place → Stays bytes at old new
+flushed bytes at old new h out from place = record {
+  written = none_noted bytes new (from ∙ sym place) ∙ out;
+  run = record { from = omega (arith, from, place); place = place ∙ h.place; within = h.within };
+}

@@ -1,0 +1,107 @@
+//! What is written while fields are read: bytes that stand in their best form are noted, and appended in one piece.
+
+ghost use Rattle.std.specs.Prelude.{◌≡◌, ◌≤◌, ◌++◌, ℕ, List, [], true, false, length, slice_range};
+ghost use Rattle.fast_relay.specs.Runs.{IsReady, IsRun, Stays, written};
+
+use std::alloc::Global;
+
+/// Bytes that were appended, and bytes of the input that are noted to be appended behind them.
+#[derive(Drop)]
+pub struct Run {
+    /// What was appended.
+    pub out: Vec<u8>,
+    /// Where the noted bytes begin.
+    pub from: usize,
+    /// Where they end: the place behind what was read.
+    pub place: usize,
+}
+
+impl Run {
+    /// Of nothing. Takes no memory.
+    #[inline(always)]
+    pub fn new(alloc: Global) -> Run
+        ensures { result.out.items ≡ [] }
+    {
+        Run {
+            out: Vec::new(alloc),
+            from: 0,
+            place: 0,
+        }
+    }
+
+    /// Begins to note at a place, behind what was appended.
+    #[inline(always)]
+    pub fn begin(&mut self, at: usize)
+        ensures out { self.new.out.items ≡ self.old.out.items }
+        ensures from { self.new.from ≡ at }
+        ensures place { self.new.place ≡ at }
+    {
+        self.from = at;
+        self.place = at;
+    }
+
+    /// Notes the bytes up to a place, which are written as they stand.
+    #[inline(always)]
+    pub fn keep(&mut self, next: usize)
+        requires place { self.now.place ≤ next }
+        ensures written { (bytes : List ℕ) (at : ℕ) → IsRun bytes at self.old
+            → written bytes self.new ≡ written bytes self.old ++ slice_range bytes at next }
+        ensures run { (bytes : List ℕ) (at : ℕ) → IsRun bytes at self.old
+            → next ≤ length bytes → IsRun bytes next self.new }
+    {
+        self.place = next;
+    }
+
+    /// Appends what is noted; answers false, and changes nothing, where memory is refused.
+    #[inline(never)]
+    pub fn flush(&mut self, bytes: &[u8]) -> bool
+        requires from { self.now.from ≤ self.now.place }
+        requires place { self.now.place ≤ length bytes.now }
+        ensures out { result ≡ true → self.new.out.items ≡ written bytes.now self.old }
+        ensures from { result ≡ true → self.new.from ≡ self.old.place }
+        ensures place { self.new.place ≡ self.old.place }
+        ensures unchanged { result ≡ false → (self.new.out.items ≡ self.old.out.items)
+            × (self.new.from ≡ self.old.from) }
+    {
+        match self.out.extend_from_slice(&bytes[self.from..self.place]) {
+            Err(_) => false,
+            Ok(()) => {
+                self.from = self.place;
+                true
+            }
+        }
+    }
+
+    /// Makes ready to note bytes from a place on that is not before what was read: what is noted is appended where bytes
+    /// between are not written. Answers false where memory is refused; no more is written.
+    #[inline(always)]
+    pub fn ready(&mut self, bytes: &[u8], first: usize) -> bool
+        requires from { self.now.from ≤ self.now.place }
+        requires place { self.now.place ≤ length bytes.now }
+        ensures ready { result ≡ true → IsReady first self.new }
+        ensures stays { (at : ℕ) → IsRun bytes.now at self.old
+            → Stays bytes.now at self.old self.new }
+    {
+        if first == self.place {
+            true
+        } else {
+            self.flush(bytes)
+        }
+    }
+
+    /// Notes the bytes from a place to another, which are written as they stand.
+    #[inline(always)]
+    pub fn note(&mut self, first: usize, next: usize)
+        requires ready { IsReady first self.now }
+        requires place { first ≤ next }
+        ensures written { (bytes : List ℕ) (at : ℕ) → IsRun bytes at self.old
+            → written bytes self.new ≡ written bytes self.old ++ slice_range bytes first next }
+        ensures run { (bytes : List ℕ) (at : ℕ) → IsRun bytes at self.old
+            → next ≤ length bytes → IsRun bytes next self.new }
+    {
+        if first != self.place {
+            self.from = first;
+        }
+        self.place = next;
+    }
+}
