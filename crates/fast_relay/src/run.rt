@@ -72,6 +72,22 @@ impl Run {
         }
     }
 
+    /// Leaves out the bytes up to a place: what is noted is appended, and what is noted later begins there. Answers false
+    /// where memory is refused.
+    #[inline(never)]
+    pub fn leave_out(&mut self, bytes: &[u8], next: usize) -> bool
+        requires from { self.now.from ≤ self.now.place }
+        requires place { self.now.place ≤ length bytes.now }
+        ensures written { result ≡ true → written bytes.now self.new ≡ written bytes.now self.old }
+        ensures run { result ≡ true → next ≤ length bytes.now → IsRun bytes.now next self.new }
+    {
+        if !self.flush(bytes) {
+            return false;
+        }
+        self.begin(next);
+        true
+    }
+
     /// Makes ready to note bytes from a place on that is not before what was read: what is noted is appended where bytes
     /// between are not written. Answers false where memory is refused; no more is written.
     #[inline(always)]

@@ -1,5 +1,5 @@
 -- A part that was read and written at once.
-use Rattle.std.proofs.Common.{◌≡◌, ℕ, Bool, List, ◌++◌, Option, Ok, true, false, [], refl, sym, ap, ◌∙◌, append-nil}
+use Rattle.std.proofs.Common.{◌≡◌, ℕ, Bool, List, ◌++◌, Option, Some, Ok, true, false, [], refl, sym, ap, ◌∙◌, append-nil}
 use Rattle.fast_template.specs.declared.resolved.FieldPart.{FieldPart}
 use Rattle.fast_value.specs.declared.scalar.Scalar.{Scalar}
 use Rattle.fast_template.specs.Resolved.{part_needs_bit}
@@ -8,6 +8,8 @@ use Rattle.fast_dictionary.specs.Dictionary.{Dictionary, entry_at, set_entry}
 use Rattle.fast_wire.specs.declared.level.Level.{Level}
 use Rattle.fast_field.specs.Bases.{next}
 use Rattle.fast_field.specs.FieldReading.{field_at}
+use Rattle.fast_field.specs.AsUsual.{ReadsAsUsual}
+use Rattle.fast_relay.specs.Relayed.{Relays}
 use Rattle.fast_relay.specs.Runs.{written}
 use Rattle.fast_relay.specs.declared.run.Run.{Run}
 use Rattle.fast_relay.proofs.Runs.{settled}
@@ -51,6 +53,15 @@ took_entry level p old new bits bit best needed v bytes rest middle l k is needs
   entry = r.entry;
   spelt = spelt_entry p old v best needed l k middle needs r.form asked;
   lower = λ zero. low (sym is ∙ zero);
+}
+
+-- what stands in its best form is relayed by its bytes
+pub stands_relayed : (level : Level) (i : FieldPart) (old new : Entry) (v : Scalar) (bytes rest before after all : List ℕ) → ReadsAsUsual level i bytes → Relays i old new v bytes rest before after → all ≡ after
+    → Relayed level i old new true true (Some v) bytes rest before all
+stands_relayed level i old new v bytes rest before after all usual r same = record {
+  read = λ more. usual old more ∙ r.read more;
+  entry = r.entry;
+  form = record { form = r.best.bytes; appended = same ∙ r.best.appended; best = r.best.best; needs = λ none. refl };
 }
 
 -- what bit 0 gives is relayed by nothing

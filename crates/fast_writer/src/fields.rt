@@ -21,11 +21,11 @@ ghost use Rattle.fast_value.specs.declared.key.Key.{Key};
 ghost use Rattle.fast_value.specs.declared.kind.Kind.TheVariants.{Int32};
 ghost use Rattle.fast_value.specs.declared.kind.Part.TheVariants.{Exponent, Whole};
 
-use crate::quick::relay_other;
+use crate::quick::{judge, relay_other};
 use crate::segment::Segment;
 use fast_dictionary::{Entries, Entry};
 use fast_field::{Passed, pass_part, reads_as_usual};
-use fast_relay::{Relayed as Answer, relay_number};
+use fast_relay::Judged;
 use fast_template::{FieldPart, Flat, Kind, Part, part_needs_bit};
 use fast_walk::Fields;
 use fast_wire::{Bits, Level};
@@ -133,15 +133,22 @@ fn take_sent(
         return Taken::Elsewhere;
     }
     let needs = part_needs_bit(part);
-    match relay_number(which, part, entry, bytes, at, &mut segment.bytes) {
-        Answer::Sent(_next) => end_part(bits, needs, true, segment, true),
-        Answer::Given(_next) => end_part(bits, needs, false, segment, true),
-        Answer::Elsewhere => {
-            match relay_other(alloc, part, entry, bytes, at, &mut segment.bytes) {
-                Some((there, best, _next)) => end_part(bits, needs, best, segment, there),
-                None => Taken::Elsewhere,
+    match judge(which, part, entry, bytes, at) {
+        Judged::Stands(next) => {
+            segment.bytes.keep(next);
+            end_part(bits, needs, true, segment, true)
+        }
+        Judged::Given(next) => {
+            if segment.bytes.leave_out(bytes, next) {
+                end_part(bits, needs, false, segment, true)
+            } else {
+                Taken::Refused
             }
         }
+        Judged::Elsewhere => match relay_other(alloc, part, entry, bytes, at, &mut segment.bytes) {
+            Some((there, best)) => end_part(bits, needs, best, segment, there),
+            None => Taken::Elsewhere,
+        },
     }
 }
 

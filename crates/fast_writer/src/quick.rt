@@ -13,7 +13,8 @@ ghost use Rattle.fast_walk.specs.Told.{KeepScalars};
 ghost use Rattle.fast_stream.specs.Bits.{after_bit, bit_for};
 ghost use Rattle.fast_writer.specs.Levels.{level_of};
 ghost use Rattle.fast_writer.specs.Room.{has_room};
-ghost use Rattle.fast_relay.specs.Relayed.{IsThere};
+ghost use Rattle.fast_relay.specs.Judged.{IfJudged, IfNotJudged, Judges};
+ghost use Rattle.fast_relay.specs.Relayed.{IfElsewhere, IfRelayed, IsThere, RelaysAs};
 ghost use Rattle.fast_relay.specs.Runs.{IsRun, Stays, written};
 ghost use Rattle.fast_writer.specs.Quick.{Relayed};
 ghost use Rattle.fast_writer.specs.Written.{Spelt};
@@ -22,14 +23,70 @@ use crate::relay::relay_entry;
 use crate::segment::Segment;
 use fast_dictionary::{Entries, Entry};
 use fast_field::FieldFault;
-use fast_relay::{Relayed as Answer, Run, relay_decimal, relay_null, relay_text};
-use fast_template::{FieldPart, part_needs_bit};
+use fast_relay::{
+    Judged, Relayed as Answer, Run, judge_exponent, judge_mantissa, judge_whole, relay_decimal,
+    relay_null, relay_number, relay_text,
+};
+use fast_template::{FieldPart, Kind, Part, part_needs_bit};
 use fast_wire::Level;
 use std::alloc::Global;
 
-// Reads NULL, a string, a vector or a decimal that was sent under bit 1 and appends its best form. Answers whether the value
-// is there, the bit of its best form, and the place behind it. None: nothing has changed, and the part goes another way.
+// Judges an integer or a constant that was sent, where the caller knows what part it is.
 #[inline(always)]
+pub(crate) fn judge(
+    which: Part,
+    part: &FieldPart,
+    entry: &mut Entry,
+    bytes: &[u8],
+    at: usize,
+) -> Judged
+    requires place { at ≤ length bytes.now }
+    requires which { which ≡ part.now.part }
+    ensures place { IfJudged result (λ bit next. (at ≤ next) × (next ≤ length bytes.now)) }
+    ensures judged { IfJudged result (λ bit next. (v : ScalarOf)
+        × Judges bit part.now entry.old entry.new v bytes.now at next) }
+    ensures entry { IfNotJudged result (entry.new ≡ entry.old) }
+{
+    match which {
+        Part::Whole => judge_whole(part, entry, bytes, at),
+        Part::Exponent => judge_exponent(part, entry, bytes, at),
+        Part::Mantissa => judge_mantissa(part, entry, bytes, at),
+        Part::Length => Judged::Elsewhere,
+    }
+}
+
+// Reads what was sent under bit 1 by its type and appends its best form.
+#[inline(always)]
+fn relay_value(
+    alloc: Global,
+    part: &FieldPart,
+    entry: &mut Entry,
+    bytes: &[u8],
+    at: usize,
+    out: &mut Run,
+) -> Answer
+    requires run { IsRun bytes.now at out.now }
+    ensures place { IfRelayed result (λ bit next. (at ≤ next) × (next ≤ length bytes.now)) }
+    ensures run { IfRelayed result (λ bit next. IsRun bytes.now next out.new) }
+    ensures relayed { IfRelayed result (λ bit next. (v : ScalarOf)
+        × RelaysAs bit part.now entry.old entry.new v (drop at bytes.now) (drop next bytes.now)
+        (written bytes.now out.old) (written bytes.now out.new)) }
+    ensures entry { IfElsewhere result (entry.new ≡ entry.old) }
+    ensures out { IfElsewhere result (Stays bytes.now at out.old out.new) }
+{
+    match part.kind {
+        Kind::UInt32 | Kind::Int32 | Kind::UInt64 | Kind::Int64 => {
+            relay_number(part.part, part, entry, bytes, at, out)
+        }
+        Kind::Decimal => relay_decimal(part, entry, bytes, at, out),
+        Kind::Ascii | Kind::Unicode | Kind::Bytes => relay_text(alloc, part, entry, bytes, at, out),
+    }
+}
+
+// Reads what was sent under bit 1 and is not judged as it stands, or NULL, and appends its best form. Answers whether the value
+// is there, and the bit of its best form. None: nothing has changed, and the part goes another way. (A call of its own, so that the
+// loop over fields stays small.)
+#[inline(never)]
 pub(crate) fn relay_other(
     alloc: Global,
     part: &FieldPart,
@@ -37,49 +94,22 @@ pub(crate) fn relay_other(
     bytes: &[u8],
     at: usize,
     out: &mut Run,
-) -> Option<(bool, bool, usize)>
+) -> Option<(bool, bool)>
     requires run { IsRun bytes.now at out.now }
-    ensures place { IfSome result (λ x. (at ≤ x.2) × (x.2 ≤ length bytes.now)) }
-    ensures run { IfSome result (λ x. IsRun bytes.now x.2 out.new) }
+    ensures place { IfSome result (λ x. at ≤ out.new.place) }
+    ensures run { IfSome result (λ x. IsRun bytes.now out.new.place out.new) }
     ensures relayed { IfSome result (λ x. (v : Option ScalarOf) × IsThere part.now.kind x.0 v
         × Relayed Usual part.now entry.old entry.new true x.1 v (drop at bytes.now)
-        (drop x.2 bytes.now) (written bytes.now out.old) (written bytes.now out.new)) }
+        (drop out.new.place bytes.now) (written bytes.now out.old) (written bytes.now out.new)) }
     ensures entry { IfNone result (entry.new ≡ entry.old) }
     ensures out { IfNone result (Stays bytes.now at out.old out.new) }
 {
-    match relay_null(part, entry, bytes, at, out) {
-        Answer::Sent(next) => Some((false, true, next)),
-        Answer::Given(next) => Some((false, false, next)),
-        Answer::Elsewhere => relay_long(alloc, part, entry, bytes, at, out),
-    }
-}
-
-// The same of a string, a vector or a decimal.
-#[inline(always)]
-fn relay_long(
-    alloc: Global,
-    part: &FieldPart,
-    entry: &mut Entry,
-    bytes: &[u8],
-    at: usize,
-    out: &mut Run,
-) -> Option<(bool, bool, usize)>
-    requires run { IsRun bytes.now at out.now }
-    ensures place { IfSome result (λ x. (at ≤ x.2) × (x.2 ≤ length bytes.now)) }
-    ensures run { IfSome result (λ x. IsRun bytes.now x.2 out.new) }
-    ensures relayed { IfSome result (λ x. (v : Option ScalarOf) × IsThere part.now.kind x.0 v
-        × Relayed Usual part.now entry.old entry.new true x.1 v (drop at bytes.now)
-        (drop x.2 bytes.now)
-        (written bytes.now out.old) (written bytes.now out.new)) }
-    ensures entry { IfNone result (entry.new ≡ entry.old) }
-    ensures out { IfNone result (Stays bytes.now at out.old out.new) }
-{
-    match relay_text(alloc, part, entry, bytes, at, out) {
-        Answer::Sent(next) => Some((true, true, next)),
-        Answer::Given(next) => Some((true, false, next)),
-        Answer::Elsewhere => match relay_decimal(part, entry, bytes, at, out) {
-            Answer::Sent(next) => Some((true, true, next)),
-            Answer::Given(next) => Some((true, false, next)),
+    match relay_value(alloc, part, entry, bytes, at, out) {
+        Answer::Sent(_next) => Some((true, true)),
+        Answer::Given(_next) => Some((true, false)),
+        Answer::Elsewhere => match relay_null(part, entry, bytes, at, out) {
+            Answer::Sent(_next) => Some((false, true)),
+            Answer::Given(_next) => Some((false, false)),
             Answer::Elsewhere => None,
         },
     }
