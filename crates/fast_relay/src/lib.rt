@@ -14,7 +14,9 @@ mod characters;
 mod cut;
 mod decimal;
 mod given;
+mod integer_type;
 mod integers;
+mod judged;
 mod kept;
 mod null;
 mod number;
@@ -27,6 +29,7 @@ mod text;
 mod vectors;
 
 pub use decimal::relay_decimal;
+pub use judged::{Judged, judge_exponent, judge_mantissa, judge_whole};
 pub use null::relay_null;
 pub use number::{relay_number, relay_unsigned};
 pub use relayed::Relayed;
