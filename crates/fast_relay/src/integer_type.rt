@@ -1,6 +1,6 @@
 //! Integer types that are known where the program is made, so that what is done with a number asks nothing of its type.
 
-ghost use Rattle.std.specs.Prelude.{◌≡◌, IfSome, IsTrue};
+ghost use Rattle.std.specs.Prelude.{◌≡◌, refl, IfSome, IsTrue};
 ghost use Rattle.fast_value.specs.Scalar.{in_range, is_integer, of_integer};
 ghost use Rattle.fast_value.specs.declared.kind.Kind.{Kind as KindOf};
 ghost use Rattle.fast_dictionary.specs.declared.entry.Entry.TheVariants as entry_type;
@@ -57,7 +57,7 @@ impl IntegerType for UInt32 {
 
     ghost kind = { kind_type.UInt32 };
 
-    ghost integer = { tt };
+    ghost integer = { refl };
 
     #[inline(always)]
     fn is_unsigned(self) -> bool {
@@ -95,7 +95,7 @@ impl IntegerType for Int32 {
 
     ghost kind = { kind_type.Int32 };
 
-    ghost integer = { tt };
+    ghost integer = { refl };
 
     #[inline(always)]
     fn is_unsigned(self) -> bool {
@@ -133,7 +133,7 @@ impl IntegerType for UInt64 {
 
     ghost kind = { kind_type.UInt64 };
 
-    ghost integer = { tt };
+    ghost integer = { refl };
 
     #[inline(always)]
     fn is_unsigned(self) -> bool {
@@ -174,7 +174,7 @@ impl IntegerType for Int64 {
 
     ghost kind = { kind_type.Int64 };
 
-    ghost integer = { tt };
+    ghost integer = { refl };
 
     #[inline(always)]
     fn is_unsigned(self) -> bool {

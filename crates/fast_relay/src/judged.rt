@@ -1,7 +1,7 @@
 //! Integers and constants that are judged as they stand: whether their bytes are the best form of the value, or bit 0 is.
 //! The entry goes on, and nothing is written. What is not served here goes by `relay_number`.
 
-ghost use Rattle.std.specs.Prelude.{◌≡◌, ◌≤◌, ℕ, true, length, drop, slice_range, IfNone, IfSome};
+ghost use Rattle.std.specs.Prelude.{◌≡◌, ◌≤◌, ℕ, true, false, length, drop, slice_range, IfNone, IfSome};
 ghost use Rattle.fast_value.specs.Scalar.{of_integer};
 ghost use Rattle.fast_value.specs.declared.kind.Operator.TheVariants as operator_type;
 ghost use Rattle.fast_value.specs.declared.kind.Part.TheVariants as part_type;
@@ -153,7 +153,12 @@ fn kept_number<T: IntegerType>(of: T, entry: &Entry) -> Option<i64>
 
 /// The bit of the best form of a number, by the initial value.
 #[inline(always)]
-fn judge_default<T: IntegerType>(of: T, instr: &FieldPart, entry: &Entry, number: i64) -> Option<bool>
+fn judge_default<T: IntegerType>(
+    of: T,
+    instr: &FieldPart,
+    entry: &Entry,
+    number: i64,
+) -> Option<bool>
     requires kind { T.kind ≡ instr.now.kind }
     requires operator { instr.now.operator ≡ operator_type.Default }
     requires number { IsNumber T.kind number }
@@ -170,7 +175,12 @@ fn judge_default<T: IntegerType>(of: T, instr: &FieldPart, entry: &Entry, number
 
 /// The bit of the best form of a number, by the one that the entry has; it then has this one.
 #[inline(always)]
-fn judge_copy<T: IntegerType>(of: T, instr: &FieldPart, entry: &mut Entry, number: i64) -> Option<bool>
+fn judge_copy<T: IntegerType>(
+    of: T,
+    instr: &FieldPart,
+    entry: &mut Entry,
+    number: i64,
+) -> Option<bool>
     requires kind { T.kind ≡ instr.now.kind }
     requires operator { instr.now.operator ≡ operator_type.Copy }
     requires number { IsNumber T.kind number }
@@ -180,17 +190,21 @@ fn judge_copy<T: IntegerType>(of: T, instr: &FieldPart, entry: &mut Entry, numbe
     let Some(kept) = kept_number(of, entry) else {
         return None;
     };
-    if kept != number {
-        of.set(entry, number);
-        Some(true)
-    } else {
-        Some(false)
+    if kept == number {
+        return Some(false);
     }
+    of.set(entry, number);
+    Some(true)
 }
 
 /// The bit of the best form of a number, by the one that follows the entry's; it then has this one.
 #[inline(always)]
-fn judge_increment<T: IntegerType>(of: T, instr: &FieldPart, entry: &mut Entry, number: i64) -> Option<bool>
+fn judge_increment<T: IntegerType>(
+    of: T,
+    instr: &FieldPart,
+    entry: &mut Entry,
+    number: i64,
+) -> Option<bool>
     requires kind { T.kind ≡ instr.now.kind }
     requires operator { instr.now.operator ≡ operator_type.Increment }
     requires number { IsNumber T.kind number }
@@ -213,7 +227,12 @@ fn judge_increment<T: IntegerType>(of: T, instr: &FieldPart, entry: &mut Entry, 
 
 /// The bit of the best form of a number that was spelled whole; the entry goes on.
 #[inline(always)]
-fn judge_read<T: IntegerType>(of: T, instr: &FieldPart, entry: &mut Entry, number: i64) -> Option<bool>
+fn judge_read<T: IntegerType>(
+    of: T,
+    instr: &FieldPart,
+    entry: &mut Entry,
+    number: i64,
+) -> Option<bool>
     requires kind { T.kind ≡ instr.now.kind }
     requires whole { SpellsWhole instr.now.operator }
     requires number { IsNumber T.kind number }
