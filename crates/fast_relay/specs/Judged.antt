@@ -1,5 +1,5 @@
 -- A field whose bytes are judged as they stand: they are the best form of their value, or bit 0 is. (Own.)
-use Rattle.std.specs.Prelude.{◌≡◌, ℕ, ℤ, Bool, true, false, not, List, ◌++◌, drop, slice_range, Option, Some, IsTrue, ⊤}
+use Rattle.std.specs.Prelude.{◌≡◌, ℕ, ℤ, Bool, true, false, not, List, ◌++◌, drop, slice_range, Some, IsTrue, ⊤}
 use Rattle.fast_wire.specs.declared.nullable.Nullable.TheVariants.{Value}
 use Rattle.fast_value.specs.Scalar.{is_of}
 use Rattle.fast_value.specs.declared.kind.Presence.{Presence}

@@ -1,6 +1,6 @@
 //! Integer types that are known where the program is made, so that what is done with a number asks nothing of its type.
 
-ghost use Rattle.std.specs.Prelude.{◌≡◌, refl, IfSome, IsTrue};
+ghost use Rattle.std.specs.Prelude.{◌≡◌, ◌^◌, ◌≤ℤ◌, ℤ, pos, refl, IfNone, IfSome, IsTrue};
 ghost use Rattle.fast_value.specs.Scalar.{in_range, is_integer, of_integer};
 ghost use Rattle.fast_value.specs.declared.kind.Kind.{Kind as KindOf};
 ghost use Rattle.fast_dictionary.specs.declared.entry.Entry.TheVariants as entry_type;
@@ -19,9 +19,10 @@ pub(crate) trait IntegerType: Copy {
     fn is_unsigned(self) -> bool
         ensures { result ≡ values.is_unsigned kind };
 
-    /// The number of a value of this type.
+    /// The number of a value of this type; none where it has more bits, and of other values.
     fn number_of(self, value: &Scalar) -> Option<i64>
-        ensures { IfSome result (IsNumberOf kind value.now) };
+        ensures some { IfSome result (IsNumberOf kind value.now) }
+        ensures none { IfNone result ((z : ℤ) → IsNumberOf kind value.now z → pos (2 ^ 63) ≤ℤ z) };
 
     /// Whether a number is in the range of this type.
     fn has(self, number: i64) -> bool

@@ -225,7 +225,8 @@ fn judge_increment<T: IntegerType>(
     Some(following != number)
 }
 
-/// The bit of the best form of a number that was spelled whole; the entry goes on.
+/// The bit of the best form of a number that was spelled whole; the entry goes on. None: nothing has changed, and another
+/// way tells.
 #[inline(always)]
 fn judge_read<T: IntegerType>(
     of: T,
