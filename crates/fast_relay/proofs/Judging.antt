@@ -1,5 +1,5 @@
 -- What numbers rest on that are judged as they stand.
-use Rattle.std.proofs.Common.{◌≡◌, ◌++◌, ◌≤◌, ℕ, Bool, true, false, List, [], ◌∷◌, length, drop, slice_range, refl, sym, subst, arith}
+use Rattle.std.proofs.Common.{◌≡◌, ◌++◌, ◌≤◌, ℕ, Bool, true, false, List, length, drop, slice_range, refl, sym, subst}
 use Rattle.std.specs.Prelude.{ℤ, ◌+ℤ◌, Some, IsTrue}
 use Rattle.fast_wire.specs.Reader.{IsBytes}
 use Rattle.fast_value.specs.Scalar.{is_of, of_integer}
@@ -23,13 +23,6 @@ use Rattle.fast_relay.proofs.Relaying.{delta_relays, whole_relays}
 use Rattle.fast_relay.proofs.Runs.{settled}
 use Rattle.fast_relay.proofs.Standing.{shortest_signed, shortest_whole, standing}
 use Rattle.fast_relay.proofs.Taking.{whole_takes}
-
--- one byte is never too long
-pub one_is_short : (u : Bool) (b : List ℕ) → length b ≡ 1 → overlong_number u b ≡ false
-one_is_short true (x ∷ []) h = refl
-one_is_short false (x ∷ []) h = refl
-one_is_short u [] h = absurd (omega (arith, h))
-one_is_short u (x ∷ y ∷ b) h = absurd (omega (arith, h))
 
 pub stands_at : (u : Bool) (p : Presence) (bytes : List ℕ) (at next : ℕ) (z : ℤ) → IsBytes (drop at bytes) → at ≤ next → next ≤ length bytes → Spelt u p (drop at bytes) z (drop next bytes) → overlong_number u (slice_range bytes at next) ≡ false → StandsAt u p bytes at next z
 stands_at u p bytes at next z fits le within h short = record { spelt = h; form = standing u p bytes at next z fits le within h; short = short }

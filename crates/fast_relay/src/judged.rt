@@ -80,7 +80,7 @@ fn read_signed(presence: Presence, bytes: &[u8], at: usize) -> Option<(i64, usiz
 
 /// Whether the entity that stands from one place to the next has no needless group in front.
 #[inline(always)]
-fn is_short(unsigned: bool, bytes: &[u8], at: usize, next: usize) -> bool
+fn is_shortest(unsigned: bool, bytes: &[u8], at: usize, next: usize) -> bool
     requires place { at ≤ next }
     requires within { next ≤ length bytes.now }
     requires entity { IsEntity (slice_range bytes.now at next) }
@@ -100,7 +100,12 @@ fn is_short(unsigned: bool, bytes: &[u8], at: usize, next: usize) -> bool
 
 /// A number that is spelled in its shortest form, and the place behind it.
 #[inline(always)]
-fn read_short(unsigned: bool, presence: Presence, bytes: &[u8], at: usize) -> Option<(i64, usize)>
+fn read_shortest(
+    unsigned: bool,
+    presence: Presence,
+    bytes: &[u8],
+    at: usize,
+) -> Option<(i64, usize)>
     requires { at ≤ length bytes.now }
     ensures place { IfSome result (λ x. (at ≤ x.1) × (x.1 ≤ length bytes.now)) }
     ensures stands { IfSome result (λ x. StandsAt unsigned presence bytes.now at x.1 x.0) }
@@ -113,7 +118,7 @@ fn read_short(unsigned: bool, presence: Presence, bytes: &[u8], at: usize) -> Op
     let Some((number, next)) = read else {
         return None;
     };
-    if is_short(unsigned, bytes, at, next) {
+    if is_shortest(unsigned, bytes, at, next) {
         Some((number, next))
     } else {
         None
@@ -268,7 +273,7 @@ fn judge_spelled<T: IntegerType>(
         × Judges bit instr.now entry.old entry.new v bytes.now at next) }
     ensures entry { IfNotJudged result (entry.new ≡ entry.old) }
 {
-    let Some((number, next)) = read_short(of.is_unsigned(), instr.presence, bytes, at) else {
+    let Some((number, next)) = read_shortest(of.is_unsigned(), instr.presence, bytes, at) else {
         return Judged::Elsewhere;
     };
     if !is_field_number(of, which, number) {
@@ -303,7 +308,7 @@ fn judge_delta<T: IntegerType>(
     let Some(kept) = kept_number(of, entry) else {
         return Judged::Elsewhere;
     };
-    let Some((delta, next)) = read_short(false, instr.presence, bytes, at) else {
+    let Some((delta, next)) = read_shortest(false, instr.presence, bytes, at) else {
         return Judged::Elsewhere;
     };
     let Some(number) = kept.checked_add(delta) else {

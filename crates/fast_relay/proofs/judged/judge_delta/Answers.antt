@@ -13,7 +13,7 @@ pub returns-clause-judged : goal.returns-clause-judged
 returns-clause-judged g c =
     let k = g.T.IntegerType.kind in
     let y = c.in-Some.kept in
-    let d = c.in-Some-read_short.delta in
+    let d = c.in-Some-read_shortest.delta in
     let z = c.in-Some-checked_add.number in
     let kept_fits : FitsSigned w64 y = search rules in
     let delta_fits : FitsSigned w64 d = search rules in
@@ -21,9 +21,9 @@ returns-clause-judged g c =
     let same = to_z-of_z w64 z fits in
     let sum : z ≡ y +ℤ d = search rules in (
       of_integer k (y +ℤ d),
-      delta_stands k c.args.instr.now c.args.entry.now c.set.new.entry y d c.args.bytes.now c.args.at c.in-Some-read_short.next
+      delta_stands k c.args.instr.now c.args.entry.now c.set.new.entry y d c.args.bytes.now c.args.at c.in-Some-read_shortest.next
           c.requires.kind c.requires.operator c.in-Some.ensures
           (subst (λ (x : ℤ). IsFieldNumber k c.args.instr.now.part x) sum (rw (same, c.requires.part) at (c.is_field_number.ensures c.if-not-is_field_number.false)))
-          c.in-Some-read_short.ensures.stands
+          c.in-Some-read_shortest.ensures.stands
           (subst (λ (x : ℤ). c.set.new.entry ≡ Assigned (of_integer k x)) sum (rw same at c.set.ensures)),
     )

@@ -7,10 +7,10 @@ use Rattle.fast_field.proofs.ReadFields.{bytes_from}
 use Rattle.fast_relay.specs.Numbers.{Spelt}
 use Rattle.fast_relay.proofs.Judging.{stands_at}
 use Rattle.fast_relay.proofs.Standing.{standing_entity}
-use Rattle.fast_relay.proofs.judged.read_short.Goals as goal
+use Rattle.fast_relay.proofs.judged.read_shortest.Goals as goal
 
-pub is_short-requires-clause-entity : goal.is_short-requires-clause-entity
-is_short-requires-clause-entity c =
+pub is_shortest-requires-clause-entity : goal.is_shortest-requires-clause-entity
+is_shortest-requires-clause-entity c =
     let u = c.args.unsigned in
     let bytes = c.args.bytes.now in
     let at = c.args.at in
@@ -21,8 +21,8 @@ is_short-requires-clause-entity c =
     let spelt : Spelt u c.args.presence (drop at bytes) z (drop next bytes) = search rules in
     standing_entity u c.args.presence bytes at next z (bytes_from bytes at (λ k. omega (arith, c.type_inv.bytes k))) before within spelt
 
-pub returns-then-is_short-clause-stands : goal.returns-then-is_short-clause-stands
-returns-then-is_short-clause-stands c =
+pub returns-then-is_shortest-clause-stands : goal.returns-then-is_shortest-clause-stands
+returns-then-is_shortest-clause-stands c =
     let u = c.args.unsigned in
     let bytes = c.args.bytes.now in
     let at = c.args.at in
@@ -32,4 +32,4 @@ returns-then-is_short-clause-stands c =
     let within : next ≤ length bytes = search rules in
     let spelt : Spelt u c.args.presence (drop at bytes) z (drop next bytes) = search rules in
     let fits : FitsSigned w64 z = search rules in
-    rw (to_z-of_z w64 z fits) (stands_at u c.args.presence bytes at next z (bytes_from bytes at (λ k. omega (arith, c.type_inv.bytes k))) before within spelt (c.is_short.ensures c.if-is_short.true))
+    rw (to_z-of_z w64 z fits) (stands_at u c.args.presence bytes at next z (bytes_from bytes at (λ k. omega (arith, c.type_inv.bytes k))) before within spelt (c.is_shortest.ensures c.if-is_shortest.true))
