@@ -10,3 +10,4 @@ mod TextTaking
 mod KeptTaking
 pub mod Giving
 mod Standing
+mod Judging

@@ -1,3 +1,4 @@
+pub mod Judged
 pub mod Numbers
 pub mod Relayed
 pub mod Runs

@@ -7,14 +7,19 @@
 //! `pass_left_out` of `fast_field`. Where nothing has changed the field goes the general way of `fast_field`: `find_field`
 //! and `write_found`. [`take_number`] reads an integer in the same way and writes nothing, [`take_kept`] one that its
 //! entry keeps, and [`take_text`] an ASCII string that it keeps; they are for those who make messages or tell them.
-//! What a field's forms are is defined there; `specs/Relayed` says what it is to have relayed one.
+//! [`judge_whole`], [`judge_exponent`] and [`judge_mantissa`] write nothing either: they say whether the bytes of an
+//! integer are its best form as they stand, or bit 0 is ([`Judged`]).
+//! What a field's forms are is defined there; `specs/Relayed` says what it is to have relayed one, `specs/Judged` to have
+//! judged one.
 #![tactic(auto)]
 
 mod characters;
 mod cut;
 mod decimal;
 mod given;
+mod integer_type;
 mod integers;
+mod judged;
 mod kept;
 mod null;
 mod number;
@@ -27,6 +32,7 @@ mod text;
 mod vectors;
 
 pub use decimal::relay_decimal;
+pub use judged::{Judged, judge_exponent, judge_mantissa, judge_whole};
 pub use null::relay_null;
 pub use number::{relay_number, relay_unsigned};
 pub use relayed::Relayed;

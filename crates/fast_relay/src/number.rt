@@ -323,7 +323,7 @@ fn relay_delta(
 
 /// Whether bit 1 gives a constant, which has no bytes.
 #[inline(always)]
-fn gives_constant(instr: &FieldPart, entry: &Entry) -> bool
+pub(crate) fn gives_constant(instr: &FieldPart, entry: &Entry) -> bool
     requires { instr.now.operator ≡ operator_type.Constant }
     ensures { result ≡ true → (v : ScalarOf) × ((bytes out : List ℕ)
         → Relays instr.now entry.now entry.now v bytes bytes out out) }

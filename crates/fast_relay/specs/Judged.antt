@@ -1,0 +1,48 @@
+-- A field whose bytes are judged as they stand: they are the best form of their value, or bit 0 is. (Own.)
+use Rattle.std.specs.Prelude.{◌≡◌, ℕ, ℤ, Bool, true, false, not, List, ◌++◌, drop, slice_range, Some, IsTrue, ⊤}
+use Rattle.fast_wire.specs.declared.nullable.Nullable.TheVariants.{Value}
+use Rattle.fast_value.specs.Scalar.{is_of}
+use Rattle.fast_value.specs.declared.kind.Presence.{Presence}
+use Rattle.fast_value.specs.declared.scalar.Scalar.{Scalar}
+use Rattle.fast_template.specs.declared.resolved.FieldPart.{FieldPart}
+use Rattle.fast_dictionary.specs.declared.entry.Entry.{Entry}
+use Rattle.fast_field.specs.Bases.{next}
+use Rattle.fast_field.specs.Planning.{left_out_of}
+use Rattle.fast_field.specs.Spelled.{SpellsIntegerUsually, overlong_number}
+use Rattle.fast_relay.specs.Numbers.{Spelt}
+use Rattle.fast_relay.specs.Relayed.{Drops, Relays}
+use Rattle.fast_relay.specs.declared.judged.Judged.{Judged}
+use Rattle.fast_relay.specs.declared.judged.Judged.TheVariants.{Stands, Given, Elsewhere}
+
+-- the bytes from one place to another give the value under bit 1, and the entry is the one afterwards: as they stand they
+-- are the value's best form, or its best form is bit 0 and no byte
+abbrev pub Judges : Bool → FieldPart → Entry → Entry → Scalar → List ℕ → ℕ → ℕ → Type 0
+Judges true i old new v bytes at next =
+    (out : List ℕ) → Relays i old new v (drop at bytes) (drop next bytes) out (out ++ slice_range bytes at next)
+Judges false i old new v bytes at next =
+    IsTrue (is_of i.kind v) × Drops i old new (Some v) (drop at bytes) (drop next bytes)
+
+-- what holds of the bit of the best form and of the place behind what was read, where a field was judged
+abbrev pub IfJudged : Judged → (Bool → ℕ → Type 0) → Type 0
+IfJudged (Stands next) holds = holds true next
+IfJudged (Given next) holds = holds false next
+IfJudged Elsewhere holds = ⊤
+
+-- what holds where it was not
+abbrev pub IfNotJudged : Judged → Type 0 → Type 0
+IfNotJudged (Stands next) holds = ⊤
+IfNotJudged (Given next) holds = ⊤
+IfNotJudged Elsewhere holds = holds
+
+-- ---- No public clause names these.
+
+-- the bytes from one place to another are the shortest form of a number
+pub record StandsAt (unsigned : Bool) (p : Presence) (bytes : List ℕ) (at next : ℕ) (z : ℤ) : Type 0 where
+  pub spelt : Spelt unsigned p (drop at bytes) z (drop next bytes)
+  pub form : SpellsIntegerUsually unsigned p (slice_range bytes at next) (Value z)
+  pub short : overlong_number unsigned (slice_range bytes at next) ≡ false
+
+-- the entry is the one after the value, and bit 0 gives the value exactly if it is the bit of the best form
+pub record Leaves (bit : Bool) (i : FieldPart) (old new : Entry) (v : Scalar) : Type 0 where
+  pub entry : new ≡ next i old (Some v)
+  pub left_out : left_out_of i.operator i old (Some v) ≡ not bit
