@@ -1,20 +1,20 @@
 //! Integers and constants that are judged as they stand: whether their bytes are the best form of the value, or bit 0 is.
 //! The entry goes on, and nothing is written. What is not served here goes by `relay_number`.
 
-ghost use Rattle.std.specs.Prelude.{◌≡◌, ◌≤◌, ℕ, true, false, length, drop, slice_range, IfNone, IfSome};
-ghost use Rattle.fast_value.specs.Scalar.{of_integer};
+ghost use Rattle.std.specs.Prelude.{◌≡◌, ◌≤◌, ℕ, true, false, length, drop, slice_range, IfNone, IfSome, IsTrue};
+ghost use Rattle.fast_value.specs.Scalar.{is_integer, of_integer};
 ghost use Rattle.fast_value.specs.declared.kind.Operator.TheVariants as operator_type;
-ghost use Rattle.fast_value.specs.declared.kind.Part.TheVariants as part_type;
 ghost use Rattle.fast_value.specs.declared.scalar.Scalar.{Scalar as ScalarOf};
 ghost use Rattle.fast_wire.specs.Entity.{IsEntity};
-ghost use Rattle.fast_field.specs.Numbers.{HasNumber, IsFieldNumber, IsNumber, number_within};
+ghost use Rattle.fast_field.specs.Numbers.{IsNumber};
 ghost use Rattle.fast_field.specs.Spelled.{overlong_number};
 ghost use Rattle.fast_field.specs.Values as values;
 ghost use Rattle.fast_relay.specs.Judged.{IfJudged, IfNotJudged, Judges, Leaves, StandsAt};
 ghost use Rattle.fast_relay.specs.Numbers.{SpellsWhole, Spelt};
 
-use crate::integer_type::{Int32, Int64, IntegerType, UInt32, UInt64};
+use crate::integers::is_unsigned;
 use crate::number::gives_constant;
+use crate::short_number::{is_field_number, kept_number, number_of, replace_number};
 use fast_dictionary::Entry;
 use fast_template::{FieldPart, Kind, Operator, Part, Presence};
 use fast_wire::{Nullable, overlong_signed, overlong_unsigned};
@@ -125,53 +125,23 @@ fn read_shortest(
     }
 }
 
-/// Whether a number is within the limit of a part.
-#[inline(always)]
-fn is_within(which: Part, number: i64) -> bool
-    ensures { result ≡ number_within which number }
-{
-    match which {
-        Part::Whole | Part::Mantissa => true,
-        Part::Exponent => -63 <= number && number <= 63,
-        Part::Length => number <= 65535,
-    }
-}
-
-/// Whether a field can have a number: in the range of its type and within the limit of its part.
-#[inline(always)]
-fn is_field_number<T: IntegerType>(of: T, which: Part, number: i64) -> bool
-    ensures { result ≡ true → IsFieldNumber T.kind which number }
-{
-    of.has(number) && is_within(which, number)
-}
-
-/// The number that an entry has of a type.
-#[inline(always)]
-fn kept_number<T: IntegerType>(of: T, entry: &Entry) -> Option<i64>
-    ensures { IfSome result (HasNumber T.kind entry.now) }
-{
-    match entry {
-        Entry::Assigned(value) => of.number_of(value),
-        Entry::Undefined | Entry::Empty => None,
-    }
-}
-
 /// The bit of the best form of a number, by the initial value.
 #[inline(always)]
-fn judge_default<T: IntegerType>(
-    of: T,
+fn judge_default(
+    kind: Kind,
     instr: &FieldPart,
     entry: &Entry,
     number: i64,
 ) -> Option<bool>
-    requires kind { T.kind ≡ instr.now.kind }
+    requires kind { kind ≡ instr.now.kind }
+    requires integer { IsTrue (is_integer kind) }
     requires operator { instr.now.operator ≡ operator_type.Default }
-    requires number { IsNumber T.kind number }
-    ensures { IfSome result (λ bit. Leaves bit instr.now entry.now entry.now (of_integer T.kind number)) }
+    requires number { IsNumber kind number }
+    ensures { IfSome result (λ bit. Leaves bit instr.now entry.now entry.now (of_integer kind number)) }
 {
     match &instr.initial {
         None => Some(true),
-        Some(initial) => match of.number_of(initial.value()) {
+        Some(initial) => match number_of(kind, initial.value()) {
             Some(given) => Some(given != number),
             None => None,
         },
@@ -180,84 +150,87 @@ fn judge_default<T: IntegerType>(
 
 /// The bit of the best form of a number, by the one that the entry has; it then has this one.
 #[inline(always)]
-fn judge_copy<T: IntegerType>(
-    of: T,
+fn judge_copy(
+    kind: Kind,
     instr: &FieldPart,
     entry: &mut Entry,
     number: i64,
 ) -> Option<bool>
-    requires kind { T.kind ≡ instr.now.kind }
+    requires kind { kind ≡ instr.now.kind }
+    requires integer { IsTrue (is_integer kind) }
     requires operator { instr.now.operator ≡ operator_type.Copy }
-    requires number { IsNumber T.kind number }
-    ensures leaves { IfSome result (λ bit. Leaves bit instr.now entry.old entry.new (of_integer T.kind number)) }
+    requires number { IsNumber kind number }
+    ensures leaves { IfSome result (λ bit. Leaves bit instr.now entry.old entry.new (of_integer kind number)) }
     ensures entry { IfNone result (entry.new ≡ entry.old) }
 {
-    let Some(kept) = kept_number(of, entry) else {
+    let Some(kept) = kept_number(kind, entry) else {
         return None;
     };
     if kept == number {
         return Some(false);
     }
-    of.set(entry, number);
+    replace_number(kind, entry, kept, number);
     Some(true)
 }
 
 /// The bit of the best form of a number, by the one that follows the entry's; it then has this one.
 #[inline(always)]
-fn judge_increment<T: IntegerType>(
-    of: T,
+fn judge_increment(
+    kind: Kind,
     instr: &FieldPart,
     entry: &mut Entry,
     number: i64,
 ) -> Option<bool>
-    requires kind { T.kind ≡ instr.now.kind }
+    requires kind { kind ≡ instr.now.kind }
+    requires integer { IsTrue (is_integer kind) }
     requires operator { instr.now.operator ≡ operator_type.Increment }
-    requires number { IsNumber T.kind number }
-    ensures leaves { IfSome result (λ bit. Leaves bit instr.now entry.old entry.new (of_integer T.kind number)) }
+    requires number { IsNumber kind number }
+    ensures leaves { IfSome result (λ bit. Leaves bit instr.now entry.old entry.new (of_integer kind number)) }
     ensures entry { IfNone result (entry.new ≡ entry.old) }
 {
-    let Some(kept) = kept_number(of, entry) else {
+    let Some(kept) = kept_number(kind, entry) else {
         return None;
     };
     let Some(following) = kept.checked_add(1) else {
         return None;
     };
     // the least number follows the greatest
-    if !of.has(following) {
+    if !is_field_number(kind, Part::Whole, following) {
         return None;
     }
-    of.set(entry, number);
+    replace_number(kind, entry, kept, number);
     Some(following != number)
 }
 
 /// The bit of the best form of a number that was spelled whole; the entry goes on. None: nothing has changed, and another
 /// way tells.
 #[inline(always)]
-fn judge_read<T: IntegerType>(
-    of: T,
+fn judge_read(
+    kind: Kind,
     instr: &FieldPart,
     entry: &mut Entry,
     number: i64,
 ) -> Option<bool>
-    requires kind { T.kind ≡ instr.now.kind }
+    requires kind { kind ≡ instr.now.kind }
+    requires integer { IsTrue (is_integer kind) }
     requires whole { SpellsWhole instr.now.operator }
-    requires number { IsNumber T.kind number }
-    ensures leaves { IfSome result (λ bit. Leaves bit instr.now entry.old entry.new (of_integer T.kind number)) }
+    requires number { IsNumber kind number }
+    ensures leaves { IfSome result (λ bit. Leaves bit instr.now entry.old entry.new (of_integer kind number)) }
     ensures entry { IfNone result (entry.new ≡ entry.old) }
 {
     match instr.operator {
         Operator::Plain => Some(true),
-        Operator::Default => judge_default(of, instr, entry, number),
-        Operator::Copy => judge_copy(of, instr, entry, number),
-        Operator::Increment => judge_increment(of, instr, entry, number),
+        Operator::Default => judge_default(kind, instr, entry, number),
+        Operator::Copy => judge_copy(kind, instr, entry, number),
+        Operator::Increment => judge_increment(kind, instr, entry, number),
         Operator::Constant | Operator::Delta | Operator::Tail => None,
     }
 }
 
 /// Judges a number that is spelled whole.
 #[inline(always)]
-fn judge_spelled<T: IntegerType>(
-    of: T,
+fn judge_spelled(
+    kind: Kind,
     which: Part,
     instr: &FieldPart,
     entry: &mut Entry,
@@ -266,20 +239,21 @@ fn judge_spelled<T: IntegerType>(
 ) -> Judged
     requires place { at ≤ length bytes.now }
     requires part { which ≡ instr.now.part }
-    requires kind { T.kind ≡ instr.now.kind }
+    requires kind { kind ≡ instr.now.kind }
+    requires integer { IsTrue (is_integer kind) }
     requires whole { SpellsWhole instr.now.operator }
     ensures place { IfJudged result (λ bit next. (at ≤ next) × (next ≤ length bytes.now)) }
     ensures judged { IfJudged result (λ bit next. (v : ScalarOf)
         × Judges bit instr.now entry.old entry.new v bytes.now at next) }
     ensures entry { IfNotJudged result (entry.new ≡ entry.old) }
 {
-    let Some((number, next)) = read_shortest(of.is_unsigned(), instr.presence, bytes, at) else {
+    let Some((number, next)) = read_shortest(is_unsigned(kind), instr.presence, bytes, at) else {
         return Judged::Elsewhere;
     };
-    if !is_field_number(of, which, number) {
+    if !is_field_number(kind, which, number) {
         return Judged::Elsewhere;
     }
-    match judge_read(of, instr, entry, number) {
+    match judge_read(kind, instr, entry, number) {
         Some(true) => Judged::Stands(next),
         Some(false) => Judged::Given(next),
         None => Judged::Elsewhere,
@@ -288,8 +262,8 @@ fn judge_spelled<T: IntegerType>(
 
 /// Judges what is added to the number that the entry has.
 #[inline(always)]
-fn judge_delta<T: IntegerType>(
-    of: T,
+fn judge_delta(
+    kind: Kind,
     which: Part,
     instr: &FieldPart,
     entry: &mut Entry,
@@ -298,14 +272,15 @@ fn judge_delta<T: IntegerType>(
 ) -> Judged
     requires place { at ≤ length bytes.now }
     requires part { which ≡ instr.now.part }
-    requires kind { T.kind ≡ instr.now.kind }
+    requires kind { kind ≡ instr.now.kind }
+    requires integer { IsTrue (is_integer kind) }
     requires operator { instr.now.operator ≡ operator_type.Delta }
     ensures place { IfJudged result (λ bit next. (at ≤ next) × (next ≤ length bytes.now)) }
     ensures judged { IfJudged result (λ bit next. (v : ScalarOf)
         × Judges bit instr.now entry.old entry.new v bytes.now at next) }
     ensures entry { IfNotJudged result (entry.new ≡ entry.old) }
 {
-    let Some(kept) = kept_number(of, entry) else {
+    let Some(kept) = kept_number(kind, entry) else {
         return Judged::Elsewhere;
     };
     let Some((delta, next)) = read_shortest(false, instr.presence, bytes, at) else {
@@ -314,10 +289,10 @@ fn judge_delta<T: IntegerType>(
     let Some(number) = kept.checked_add(delta) else {
         return Judged::Elsewhere;
     };
-    if !is_field_number(of, which, number) {
+    if !is_field_number(kind, which, number) {
         return Judged::Elsewhere;
     }
-    of.set(entry, number);
+    replace_number(kind, entry, kept, number);
     Judged::Stands(next)
 }
 
@@ -337,10 +312,10 @@ fn judge_constant(instr: &FieldPart, entry: &Entry, bytes: &[u8], at: usize) -> 
     }
 }
 
-/// Judges a number of a type that is known here.
+/// Judges an integer, or a constant of any type, that is read under bit 1, and makes the entry the one afterwards. It takes
+/// no memory. Elsewhere: nothing has changed, and another way tells.
 #[inline(always)]
-fn judge<T: IntegerType>(
-    of: T,
+pub fn judge_number(
     which: Part,
     instr: &FieldPart,
     entry: &mut Entry,
@@ -349,73 +324,51 @@ fn judge<T: IntegerType>(
 ) -> Judged
     requires place { at ≤ length bytes.now }
     requires part { which ≡ instr.now.part }
-    requires kind { T.kind ≡ instr.now.kind }
     ensures place { IfJudged result (λ bit next. (at ≤ next) × (next ≤ length bytes.now)) }
     ensures judged { IfJudged result (λ bit next. (v : ScalarOf)
         × Judges bit instr.now entry.old entry.new v bytes.now at next) }
     ensures entry { IfNotJudged result (entry.new ≡ entry.old) }
 {
     match instr.operator {
-        Operator::Plain | Operator::Default | Operator::Copy | Operator::Increment => {
-            judge_spelled(of, which, instr, entry, bytes, at)
-        }
-        Operator::Delta => judge_delta(of, which, instr, entry, bytes, at),
         Operator::Constant => judge_constant(instr, entry, bytes, at),
         Operator::Tail => Judged::Elsewhere,
-    }
-}
-
-/// Judges an integer, or a constant of any type, that is read under bit 1, and makes the entry the one afterwards. It takes
-/// no memory. Elsewhere: nothing has changed, and another way tells.
-#[inline(always)]
-pub fn judge_whole(instr: &FieldPart, entry: &mut Entry, bytes: &[u8], at: usize) -> Judged
-    requires place { at ≤ length bytes.now }
-    requires part { instr.now.part ≡ part_type.Whole }
-    ensures place { IfJudged result (λ bit next. (at ≤ next) × (next ≤ length bytes.now)) }
-    ensures judged { IfJudged result (λ bit next. (v : ScalarOf)
-        × Judges bit instr.now entry.old entry.new v bytes.now at next) }
-    ensures entry { IfNotJudged result (entry.new ≡ entry.old) }
-{
-    match instr.kind {
-        Kind::UInt32 => judge(UInt32, Part::Whole, instr, entry, bytes, at),
-        Kind::Int32 => judge(Int32, Part::Whole, instr, entry, bytes, at),
-        Kind::UInt64 => judge(UInt64, Part::Whole, instr, entry, bytes, at),
-        Kind::Int64 => judge(Int64, Part::Whole, instr, entry, bytes, at),
-        Kind::Decimal | Kind::Ascii | Kind::Unicode | Kind::Bytes => match instr.operator {
-            Operator::Constant => judge_constant(instr, entry, bytes, at),
-            _ => Judged::Elsewhere,
+        Operator::Plain
+        | Operator::Default
+        | Operator::Copy
+        | Operator::Increment
+        | Operator::Delta => match instr.kind {
+            Kind::UInt32 | Kind::Int32 | Kind::UInt64 | Kind::Int64 => {
+                judge_integer(which, instr.kind, instr, entry, bytes, at)
+            }
+            Kind::Decimal | Kind::Ascii | Kind::Unicode | Kind::Bytes => Judged::Elsewhere,
         },
     }
 }
 
-/// The same of the exponent of a decimal that has its own operator.
+/// Judges an integer.
 #[inline(always)]
-pub fn judge_exponent(instr: &FieldPart, entry: &mut Entry, bytes: &[u8], at: usize) -> Judged
+fn judge_integer(
+    which: Part,
+    kind: Kind,
+    instr: &FieldPart,
+    entry: &mut Entry,
+    bytes: &[u8],
+    at: usize,
+) -> Judged
     requires place { at ≤ length bytes.now }
-    requires part { instr.now.part ≡ part_type.Exponent }
+    requires part { which ≡ instr.now.part }
+    requires kind { kind ≡ instr.now.kind }
+    requires integer { IsTrue (is_integer kind) }
     ensures place { IfJudged result (λ bit next. (at ≤ next) × (next ≤ length bytes.now)) }
     ensures judged { IfJudged result (λ bit next. (v : ScalarOf)
         × Judges bit instr.now entry.old entry.new v bytes.now at next) }
     ensures entry { IfNotJudged result (entry.new ≡ entry.old) }
 {
-    match instr.kind {
-        Kind::Int32 => judge(Int32, Part::Exponent, instr, entry, bytes, at),
-        _ => Judged::Elsewhere,
-    }
-}
-
-/// The same of the mantissa of such a decimal.
-#[inline(always)]
-pub fn judge_mantissa(instr: &FieldPart, entry: &mut Entry, bytes: &[u8], at: usize) -> Judged
-    requires place { at ≤ length bytes.now }
-    requires part { instr.now.part ≡ part_type.Mantissa }
-    ensures place { IfJudged result (λ bit next. (at ≤ next) × (next ≤ length bytes.now)) }
-    ensures judged { IfJudged result (λ bit next. (v : ScalarOf)
-        × Judges bit instr.now entry.old entry.new v bytes.now at next) }
-    ensures entry { IfNotJudged result (entry.new ≡ entry.old) }
-{
-    match instr.kind {
-        Kind::Int64 => judge(Int64, Part::Mantissa, instr, entry, bytes, at),
-        _ => Judged::Elsewhere,
+    match instr.operator {
+        Operator::Delta => judge_delta(kind, which, instr, entry, bytes, at),
+        Operator::Plain | Operator::Default | Operator::Copy | Operator::Increment => {
+            judge_spelled(kind, which, instr, entry, bytes, at)
+        }
+        Operator::Constant | Operator::Tail => Judged::Elsewhere,
     }
 }

@@ -21,11 +21,11 @@ ghost use Rattle.fast_value.specs.declared.key.Key.{Key};
 ghost use Rattle.fast_value.specs.declared.kind.Kind.TheVariants.{Int32};
 ghost use Rattle.fast_value.specs.declared.kind.Part.TheVariants.{Exponent, Whole};
 
-use crate::quick::{judge, relay_other};
+use crate::quick::relay_other;
 use crate::segment::Segment;
 use fast_dictionary::{Entries, Entry};
 use fast_field::{Passed, pass_part, reads_as_usual};
-use fast_relay::Judged;
+use fast_relay::{Judged, judge_number};
 use fast_template::{FieldPart, Flat, Kind, Part, part_needs_bit};
 use fast_walk::Fields;
 use fast_wire::{Bits, Level};
@@ -133,7 +133,7 @@ fn take_sent(
         return Taken::Elsewhere;
     }
     let needs = part_needs_bit(part);
-    match judge(which, part, entry, bytes, at) {
+    match judge_number(which, part, entry, bytes, at) {
         Judged::Stands(next) => {
             segment.bytes.keep(next);
             end_part(bits, needs, true, segment, true)

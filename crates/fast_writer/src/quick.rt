@@ -13,7 +13,6 @@ ghost use Rattle.fast_walk.specs.Told.{KeepScalars};
 ghost use Rattle.fast_stream.specs.Bits.{after_bit, bit_for};
 ghost use Rattle.fast_writer.specs.Levels.{level_of};
 ghost use Rattle.fast_writer.specs.Room.{has_room};
-ghost use Rattle.fast_relay.specs.Judged.{IfJudged, IfNotJudged, Judges};
 ghost use Rattle.fast_relay.specs.Relayed.{IfElsewhere, IfRelayed, IsThere, RelaysAs};
 ghost use Rattle.fast_relay.specs.Runs.{IsRun, Stays, written};
 ghost use Rattle.fast_writer.specs.Quick.{Relayed};
@@ -24,36 +23,11 @@ use crate::segment::Segment;
 use fast_dictionary::{Entries, Entry};
 use fast_field::FieldFault;
 use fast_relay::{
-    Judged, Relayed as Answer, Run, judge_exponent, judge_mantissa, judge_whole, relay_decimal,
-    relay_null, relay_number, relay_text,
+    Relayed as Answer, Run, relay_decimal, relay_null, relay_number, relay_text,
 };
-use fast_template::{FieldPart, Kind, Part, part_needs_bit};
+use fast_template::{FieldPart, Kind, part_needs_bit};
 use fast_wire::Level;
 use std::alloc::Global;
-
-// Judges an integer or a constant that was sent, where the caller knows what part it is.
-#[inline(always)]
-pub(crate) fn judge(
-    which: Part,
-    part: &FieldPart,
-    entry: &mut Entry,
-    bytes: &[u8],
-    at: usize,
-) -> Judged
-    requires place { at ≤ length bytes.now }
-    requires which { which ≡ part.now.part }
-    ensures place { IfJudged result (λ bit next. (at ≤ next) × (next ≤ length bytes.now)) }
-    ensures judged { IfJudged result (λ bit next. (v : ScalarOf)
-        × Judges bit part.now entry.old entry.new v bytes.now at next) }
-    ensures entry { IfNotJudged result (entry.new ≡ entry.old) }
-{
-    match which {
-        Part::Whole => judge_whole(part, entry, bytes, at),
-        Part::Exponent => judge_exponent(part, entry, bytes, at),
-        Part::Mantissa => judge_mantissa(part, entry, bytes, at),
-        Part::Length => Judged::Elsewhere,
-    }
-}
 
 // Reads what was sent under bit 1 by its type and appends its best form.
 #[inline(always)]

@@ -7,8 +7,8 @@ use Rattle.fast_relay.proofs.Judging.{whole_given, whole_stands}
 use Rattle.fast_relay.proofs.judged.judge_spelled.Goals as goal
 
 pub returns-in-Some-true-clause-judged : goal.returns-in-Some-true-clause-judged
-returns-in-Some-true-clause-judged g c =
-    let k = g.T.IntegerType.kind in
+returns-in-Some-true-clause-judged c =
+    let k = c.args.kind in
     let z = c.in-Some.number in
     let fits : FitsSigned w64 z = search rules in
     let same = to_z-of_z w64 z fits in (
@@ -21,8 +21,8 @@ returns-in-Some-true-clause-judged g c =
     )
 
 pub returns-in-Some-false-clause-judged : goal.returns-in-Some-false-clause-judged
-returns-in-Some-false-clause-judged g c =
-    let k = g.T.IntegerType.kind in
+returns-in-Some-false-clause-judged c =
+    let k = c.args.kind in
     let z = c.in-Some.number in
     let fits : FitsSigned w64 z = search rules in
     let same = to_z-of_z w64 z fits in (
