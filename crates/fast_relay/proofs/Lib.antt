@@ -12,3 +12,4 @@ pub mod Giving
 mod Standing
 mod Judging
 mod DecimalJudging
+mod VectorJudging

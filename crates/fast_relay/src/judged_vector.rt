@@ -1,44 +1,57 @@
 //! Unicode strings and byte vectors that are judged as they stand: whether their bytes are the best form of the value, or
 //! bit 0 is. The entry goes on, and nothing is written. What is not served here goes by `relay_text`.
 
-ghost use Rattle.std.specs.Prelude.{◌≡◌, ◌≤◌, true, false, length, drop, slice_range, IfNone, IfSome};
-ghost use Rattle.fast_value.specs.declared.kind.Kind.{Kind as KindOf};
+ghost use Rattle.std.specs.Prelude.{◌≡◌, ◌≤◌, Ok, true, length, drop, slice_range, IfNone, IfSome};
+ghost use Rattle.fast_wire.specs.declared.level.Level.TheVariants.{Usual};
+ghost use Rattle.fast_wire.specs.declared.nullable.Nullable.TheVariants.{Value};
 ghost use Rattle.fast_value.specs.declared.kind.Operator.TheVariants as operator_type;
 ghost use Rattle.fast_value.specs.declared.kind.Part.TheVariants as part_type;
 ghost use Rattle.fast_value.specs.declared.scalar.Scalar.{Scalar as ScalarOf};
 ghost use Rattle.fast_dictionary.specs.declared.entry.Entry.TheVariants as entry_type;
-ghost use Rattle.fast_field.specs.Chosen.{Both, ShortestPart, ShortestSigned, ShortestUnits};
+ghost use Rattle.fast_field.specs.Chosen.{ShortestUnits};
+ghost use Rattle.fast_field.specs.FieldReading.{units_at};
 ghost use Rattle.fast_field.specs.Values.{of_units};
 ghost use Rattle.fast_relay.specs.Judged.{IfJudged, IfNotJudged, Judges};
-ghost use Rattle.fast_relay.specs.Numbers.{SpellsWhole, Spelt};
+ghost use Rattle.fast_relay.specs.Numbers.{SpellsWhole};
 ghost use Rattle.fast_relay.specs.Texts.{IsText, IsVectorKind};
 
 use crate::characters::is_text;
 use crate::cut::few_removed;
 use crate::given::gives_units;
-use crate::integers::{read_short, stands_signed};
-use crate::judged::Judged;
+use crate::judged::{Judged, read_shortest};
 use crate::vectors::{
-    are_text, find_bytes, goes_on_otherwise, is_cut_at_end, is_length, keep_bytes, make_units,
-    may_be_left_out, may_end, put_units,
+    are_text, few_bytes, goes_on_otherwise, is_cut_at_end, keep_bytes, make_units, may_be_left_out,
+    may_end, put_units,
 };
 use fast_dictionary::Entry;
 use fast_field::units;
-use fast_template::{FieldPart, Operator, Presence, Scalar};
+use fast_template::{FieldPart, Kind, Operator, Presence, Scalar};
 use fast_value::UNIT_LIMIT;
 use std::alloc::Global;
 
-/// Whether a length of one byte stands in front of a string or vector that was read, in its shortest form.
+/// Where the bytes of a string or vector begin and end whose length is spelled in its shortest form: with it in front they
+/// are the shortest form of the string or vector.
 #[inline(always)]
-fn units_stand(presence: Presence, bytes: &[u8], at: usize, start: usize, next: usize) -> bool
-    requires at { at ≤ start }
-    requires start { start ≤ next }
-    requires end { next ≤ length bytes.now }
-    ensures { result ≡ true → (k : KindOf) → IsVectorKind k
-        → IsText k (of_units k (slice_range bytes.now start next))
-        → ShortestUnits k presence (slice_range bytes.now start next) (slice_range bytes.now at next) }
+fn find_shortest(kind: Kind, presence: Presence, bytes: &[u8], at: usize) -> Option<(usize, usize)>
+    requires at { at ≤ length bytes.now }
+    requires kind { IsVectorKind kind }
+    ensures start { IfSome result (λ x. (at ≤ x.0) × (x.0 ≤ x.1)) }
+    ensures end { IfSome result (λ x. x.1 ≤ length bytes.now) }
+    ensures gives { IfSome result (λ x. units_at Usual kind presence (drop at bytes.now)
+        ≡ Ok (Value (slice_range bytes.now x.0 x.1), drop x.1 bytes.now)) }
+    ensures shortest { IfSome result (λ x. IsText kind (of_units kind (slice_range bytes.now x.0 x.1))
+        → ShortestUnits kind presence (slice_range bytes.now x.0 x.1) (slice_range bytes.now at x.1)) }
 {
-    start - at == 1 && is_length(presence, bytes[at], next - start)
+    let Some((length, start)) = read_shortest(true, presence, bytes, at) else {
+        return None;
+    };
+    let Some(count) = few_bytes(i128::from(length)) else {
+        return None;
+    };
+    if bytes.len() - start < count {
+        return None;
+    }
+    Some((start, start + count))
 }
 
 /// Judges a string or vector that is spelled whole.
@@ -59,7 +72,7 @@ fn judge_vector_whole(
         × Judges bit instr.now entry.old entry.new v bytes.now at next) }
     ensures entry { IfNotJudged result (entry.new ≡ entry.old) }
 {
-    let Some((start, next)) = find_bytes(instr.kind, instr.presence, bytes, at) else {
+    let Some((start, next)) = find_shortest(instr.kind, instr.presence, bytes, at) else {
         return Judged::Elsewhere;
     };
     let part = &bytes[start..next];
@@ -70,9 +83,6 @@ fn judge_vector_whole(
         if gives_units(instr, entry, part) {
             return Judged::Given(next);
         }
-        return Judged::Elsewhere;
-    }
-    if !units_stand(instr.presence, bytes, at, start, next) {
         return Judged::Elsewhere;
     }
     if keep_bytes(alloc, instr.kind, instr.operator, entry, part) {
@@ -102,10 +112,10 @@ fn judge_vector_tail(
         bytes.now at next) }
     ensures value { IfNone result (value.new ≡ value.old) }
 {
-    let Some((start, next)) = find_bytes(instr.kind, instr.presence, bytes, at) else {
+    let Some((start, next)) = find_shortest(instr.kind, instr.presence, bytes, at) else {
         return None;
     };
-    if !units_stand(instr.presence, bytes, at, start, next) || !is_text(instr.kind, value) {
+    if !is_text(instr.kind, value) {
         return None;
     }
     let part = &bytes[start..next];
@@ -149,14 +159,11 @@ fn judge_vector_first(
     let None = &instr.initial else {
         return None;
     };
-    let Some((start, next)) = find_bytes(instr.kind, instr.presence, bytes, at) else {
+    let Some((start, next)) = find_shortest(instr.kind, instr.presence, bytes, at) else {
         return None;
     };
     let part = &bytes[start..next];
-    if part.is_empty() || !units_stand(instr.presence, bytes, at, start, next) {
-        return None;
-    }
-    if !are_text(instr.kind, part) {
+    if part.is_empty() || !are_text(instr.kind, part) {
         return None;
     }
     let Some(value) = make_units(alloc, instr.kind, part) else {
@@ -164,31 +171,6 @@ fn judge_vector_first(
     };
     *entry = Entry::Assigned(value);
     Some(next)
-}
-
-/// Whether the bytes of a subtraction length and a new part that were read are their shortest forms.
-#[inline(always)]
-fn removal_stands(
-    presence: Presence,
-    removal: i128,
-    bytes: &[u8],
-    at: usize,
-    middle: usize,
-    start: usize,
-    next: usize,
-) -> bool
-    requires middle { at ≤ middle }
-    requires within { middle ≤ start }
-    requires start { start ≤ next }
-    requires end { next ≤ length bytes.now }
-    requires spelt { Spelt false presence (drop at bytes.now) removal (drop middle bytes.now) }
-    ensures { result ≡ true → (k : KindOf) → IsVectorKind k
-        → IsText k (of_units k (slice_range bytes.now start next))
-        → Both (ShortestSigned presence removal) (ShortestPart k (slice_range bytes.now start next))
-        (slice_range bytes.now at next) }
-{
-    stands_signed(presence, removal, bytes, at, middle)
-        && units_stand(Presence::Mandatory, bytes, middle, start, next)
 }
 
 /// Judges a removal of few bytes at the end of the string or vector that the entry has, and a new part.
@@ -210,18 +192,15 @@ fn judge_vector_delta(
         bytes.now at next) }
     ensures value { IfNone result (value.new ≡ value.old) }
 {
-    let Some((removal, middle)) = read_short(false, instr.presence, bytes, at) else {
+    let Some((removal, middle)) = read_shortest(false, instr.presence, bytes, at) else {
         return None;
     };
-    let Some(removed) = few_removed(removal) else {
+    let Some(removed) = few_removed(i128::from(removal)) else {
         return None;
     };
-    let Some((start, next)) = find_bytes(instr.kind, Presence::Mandatory, bytes, middle) else {
+    let Some((start, next)) = find_shortest(instr.kind, Presence::Mandatory, bytes, middle) else {
         return None;
     };
-    if !removal_stands(instr.presence, removal, bytes, at, middle, start, next) {
-        return None;
-    }
     if !is_text(instr.kind, value) {
         return None;
     }

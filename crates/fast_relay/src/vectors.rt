@@ -37,7 +37,7 @@ use std::mem;
 
 /// How many bytes a length says, if they are not too many.
 #[inline(always)]
-fn few_bytes(length: i128) -> Option<usize>
+pub(crate) fn few_bytes(length: i128) -> Option<usize>
     ensures { IfSome result (λ n. (length ≡ pos n) × (n ≤ 65535)) }
 {
     match usize::try_from(length) {
@@ -87,7 +87,7 @@ pub(crate) fn are_text(kind: Kind, units: &[u8]) -> bool
 
 /// Whether a byte is the shortest form of a length, in the form of a presence.
 #[inline(always)]
-pub(crate) fn is_length(presence: Presence, byte: u8, length: usize) -> bool
+fn is_length(presence: Presence, byte: u8, length: usize) -> bool
     ensures mandatory { result ≡ true → presence ≡ Mandatory → byte ≡ 128 + length }
     ensures optional { result ≡ true → presence ≡ Optional → byte ≡ 129 + length }
     ensures byte { byte < 256 }

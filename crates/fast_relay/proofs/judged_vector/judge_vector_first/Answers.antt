@@ -15,5 +15,5 @@ returns-clause-judged c =
       λ out. rw (c.requires.entry, c.in-Some-make_units.ensures)
           (vector_first_relays i s (drop c.args.at bytes) (drop c.in-Some.next bytes) out (out ++ form)
           c.requires.kind c.requires.part c.requires.operator c.in-None.is text some c.in-Some.ensures.gives
-          (form, refl, c.units_stand.ensures c.if-not-units_stand.false i.kind c.requires.kind text)),
+          (form, refl, c.in-Some.ensures.shortest text)),
     )

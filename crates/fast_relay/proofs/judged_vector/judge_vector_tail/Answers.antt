@@ -36,5 +36,5 @@ returns-then-put_units-clause-judged c =
           c.requires.kind c.requires.part c.requires.operator text (omega (arith, le))
           (c.goes_on_otherwise.ensures.some c.if-not-goes_on_otherwise.false)
           (rw c.units-base.ensures at (c.goes_on_otherwise.ensures.prefix c.if-not-goes_on_otherwise.false))
-          t c.in-Some.ensures.gives (form, refl, c.units_stand.ensures c.if-not-units_stand.false i.kind c.requires.kind part)),
+          t c.in-Some.ensures.gives (form, refl, c.in-Some.ensures.shortest part)),
     )

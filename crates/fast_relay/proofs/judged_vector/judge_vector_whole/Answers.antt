@@ -15,7 +15,7 @@ returns-then-keep_bytes-clause-judged c =
       λ out. vector_relays i c.args.entry.now c.keep_bytes.new.entry s (drop c.args.at bytes) (drop c.in-Some.next bytes) out (out ++ form)
           c.requires.kind c.requires.part c.requires.operator text c.in-Some.ensures.gives
           (c.keep_bytes.ensures.kept c.if-keep_bytes.true) (c.may_be_left_out.ensures c.if-may_be_left_out.false)
-          (form, refl, c.units_stand.ensures c.if-not-units_stand.false i.kind c.requires.kind text),
+          (form, refl, c.in-Some.ensures.shortest text),
     )
 
 pub returns-then-gives_units-clause-judged : goal.returns-then-gives_units-clause-judged
