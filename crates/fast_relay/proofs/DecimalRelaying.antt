@@ -139,7 +139,7 @@ spelled_read : (p : Presence) (x m : ℤ) (bytes mid rest : List ℕ) → Spelt 
 unfolding decimal_spelled_at mantissa_behind decimal_value
 spelled_read p x m bytes mid rest exponent near mantissa fits = rw (exponent, near, signed_read mid rest m mantissa, fits) refl
 
-whole_read : (i : FieldPart) (x m : ℤ) (bytes mid rest : List ℕ) → i.kind ≡ kind.Decimal → Spelt false i.presence bytes x mid → exponent_in_range x ≡ true → Spelt false Mandatory mid m rest → in_range kind.Int64 m ≡ true → whole_at Usual i bytes ≡ Ok (Some (Decimal x m), rest)
+pub whole_read : (i : FieldPart) (x m : ℤ) (bytes mid rest : List ℕ) → i.kind ≡ kind.Decimal → Spelt false i.presence bytes x mid → exponent_in_range x ≡ true → Spelt false Mandatory mid m rest → in_range kind.Int64 m ≡ true → whole_at Usual i bytes ≡ Ok (Some (Decimal x m), rest)
 unfolding whole_at
 whole_read i x m bytes mid rest k exponent near mantissa fits = spelled_as i.part i.kind i.presence bytes k ∙ spelled_read i.presence x m bytes mid rest exponent near mantissa fits
 

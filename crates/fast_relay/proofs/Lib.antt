@@ -11,3 +11,5 @@ mod KeptTaking
 pub mod Giving
 mod Standing
 mod Judging
+mod DecimalJudging
+mod VectorJudging

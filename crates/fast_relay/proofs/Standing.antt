@@ -151,7 +151,7 @@ signed_least (x ∷ c ∷ bs) v f short other o = elim (cases_lt (length other) 
 
 -- ---- a number that stands in the bytes
 
-shortest_unsigned : (p : Presence) (n : ℕ) (b : List ℕ) → SpellsIntegerUsually true p b (Value (pos n)) → overlong_unsigned b ≡ false → ShortestUnsigned p n b
+pub shortest_unsigned : (p : Presence) (n : ℕ) (b : List ℕ) → SpellsIntegerUsually true p b (Value (pos n)) → overlong_unsigned b ≡ false → ShortestUnsigned p n b
 shortest_unsigned Mandatory n b f short = record { form = f; least = λ other o. unsigned_least b n f short other o }
 shortest_unsigned Optional n b f short = record { form = f; least = λ other o. unsigned_least b (n + 1) f short other o }
 

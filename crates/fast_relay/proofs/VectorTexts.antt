@@ -282,7 +282,7 @@ counted IsLength b s form fit few some = record {
   least = λ other h. omega (arith, some h.front h.length_form, ap length h.parts, length-append h.front s);
 }
 
-fits : (k : Kind) (s : List ℕ) → IsVectorKind k → IsText k (of_units k s) → IsBytes s × (length s ≤ 65535)
+pub fits : (k : Kind) (s : List ℕ) → IsVectorKind k → IsText k (of_units k s) → IsBytes s × (length s ≤ 65535)
 fits kind.Unicode s is t = (t.within.1, t.within.0)
 fits kind.Bytes s is t = (t.within.1, t.within.0)
 fits k s is t = absurd is

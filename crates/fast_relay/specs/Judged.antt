@@ -1,8 +1,9 @@
 -- A field whose bytes are judged as they stand: they are the best form of their value, or bit 0 is. (Own.)
-use Rattle.std.specs.Prelude.{◌≡◌, ℕ, ℤ, Bool, true, false, not, List, ◌++◌, drop, slice_range, Some, IsTrue, ⊤}
+use Rattle.std.specs.Prelude.{◌≡◌, ◌≤◌, ℕ, ℤ, Bool, true, false, not, List, ◌++◌, drop, slice_range, Some, IsTrue, ⊤}
 use Rattle.fast_wire.specs.declared.nullable.Nullable.TheVariants.{Value}
 use Rattle.fast_value.specs.Scalar.{is_of}
 use Rattle.fast_value.specs.declared.kind.Presence.{Presence}
+use Rattle.fast_value.specs.declared.kind.Presence.TheVariants.{Mandatory}
 use Rattle.fast_value.specs.declared.scalar.Scalar.{Scalar}
 use Rattle.fast_template.specs.declared.resolved.FieldPart.{FieldPart}
 use Rattle.fast_dictionary.specs.declared.entry.Entry.{Entry}
@@ -41,6 +42,14 @@ pub record StandsAt (unsigned : Bool) (p : Presence) (bytes : List ℕ) (at next
   pub spelt : Spelt unsigned p (drop at bytes) z (drop next bytes)
   pub form : SpellsIntegerUsually unsigned p (slice_range bytes at next) (Value z)
   pub short : overlong_number unsigned (slice_range bytes at next) ≡ false
+
+-- they are the shortest forms of an exponent and, behind it, a mantissa
+pub record PairStandsAt (p : Presence) (bytes : List ℕ) (at next : ℕ) (e m : ℤ) : Type 0 where
+  pub middle : ℕ
+  pub before : at ≤ middle
+  pub behind : middle ≤ next
+  pub exponent : StandsAt false p bytes at middle e
+  pub mantissa : StandsAt false Mandatory bytes middle next m
 
 -- the entry is the one after the value, and bit 0 gives the value exactly if it is the bit of the best form
 pub record Leaves (bit : Bool) (i : FieldPart) (old new : Entry) (v : Scalar) : Type 0 where

@@ -37,7 +37,7 @@ use std::mem;
 
 /// How many bytes a length says, if they are not too many.
 #[inline(always)]
-fn few_bytes(length: i128) -> Option<usize>
+pub(crate) fn few_bytes(length: i128) -> Option<usize>
     ensures { IfSome result (λ n. (length ≡ pos n) × (n ≤ 65535)) }
 {
     match usize::try_from(length) {
@@ -174,7 +174,13 @@ fn put_text(alloc: Global, text: &mut UnicodeText, kept: usize, part: &[u8]) -> 
 
 /// The same of a value of such a type; of another one nothing is done.
 #[inline(always)]
-fn put_units(alloc: Global, kind: Kind, value: &mut Scalar, kept: usize, part: &[u8]) -> bool
+pub(crate) fn put_units(
+    alloc: Global,
+    kind: Kind,
+    value: &mut Scalar,
+    kept: usize,
+    part: &[u8],
+) -> bool
     requires kept { kept ≤ length (units_of value.now) }
     requires text { IsText kind (of_units kind (take kept (units_of value.now) ++ part.now)) }
     ensures put { result ≡ true
@@ -190,7 +196,7 @@ fn put_units(alloc: Global, kind: Kind, value: &mut Scalar, kept: usize, part: &
 
 /// Whether bit 0 may give the string or vector that these bytes are; where false is answered, it does not.
 #[inline(always)]
-fn may_be_left_out(instr: &FieldPart, entry: &Entry, part: &[u8]) -> bool
+pub(crate) fn may_be_left_out(instr: &FieldPart, entry: &Entry, part: &[u8]) -> bool
     requires operator { SpellsWhole instr.now.operator }
     requires kind { IsVectorKind instr.now.kind }
     ensures { result ≡ false → left_out_of instr.now.operator instr.now entry.now
@@ -213,7 +219,7 @@ fn may_be_left_out(instr: &FieldPart, entry: &Entry, part: &[u8]) -> bool
 
 /// The string or vector that bytes are; none where memory is refused.
 #[inline(always)]
-fn make_units(alloc: Global, kind: Kind, part: &[u8]) -> Option<Scalar>
+pub(crate) fn make_units(alloc: Global, kind: Kind, part: &[u8]) -> Option<Scalar>
     requires { IsText kind (of_units kind part.now) }
     ensures { IfSome result (λ value. value ≡ of_units kind part.now) }
 {
@@ -227,7 +233,13 @@ fn make_units(alloc: Global, kind: Kind, part: &[u8]) -> Option<Scalar>
 /// Makes an entry the one that bytes leave which are spelled whole; answers false, and leaves it as it was, where it
 /// is neither empty nor has a value of the type to put them in the place of, or memory is refused.
 #[inline(always)]
-fn keep_bytes(alloc: Global, kind: Kind, operator: Operator, entry: &mut Entry, part: &[u8]) -> bool
+pub(crate) fn keep_bytes(
+    alloc: Global,
+    kind: Kind,
+    operator: Operator,
+    entry: &mut Entry,
+    part: &[u8],
+) -> bool
     requires operator { SpellsWhole operator }
     requires text { IsText kind (of_units kind part.now) }
     ensures kept { result ≡ true
@@ -298,7 +310,7 @@ fn relay_vector_whole(
 
 /// Whether bytes put behind so many units of a base have some, and the base does not go on as they do.
 #[inline(always)]
-fn goes_on_otherwise(base: &[u8], kept: usize, part: &[u8]) -> bool
+pub(crate) fn goes_on_otherwise(base: &[u8], kept: usize, part: &[u8]) -> bool
     requires { kept ≤ length base.now }
     ensures some { result ≡ true → 0 < length part.now }
     ensures prefix { result ≡ true
@@ -331,7 +343,7 @@ fn ends_otherwise(base: &[u8], kept: usize, part: &[u8]) -> bool
 
 /// Whether a removal at the end, to so many bytes, takes no more bytes than one in front.
 #[inline(always)]
-fn is_cut_at_end(base: &[u8], kept: usize, part: &[u8]) -> bool
+pub(crate) fn is_cut_at_end(base: &[u8], kept: usize, part: &[u8]) -> bool
     requires kept { kept ≤ length base.now }
     requires some { 0 < length part.now }
     requires prefix { IsLongestPrefix base.now (take kept base.now ++ part.now) kept }
@@ -346,7 +358,7 @@ fn is_cut_at_end(base: &[u8], kept: usize, part: &[u8]) -> bool
 
 /// Whether a string or vector of a type may end at a place, in UTF-8 no character stands across it.
 #[inline(always)]
-fn may_end(kind: Kind, base: &[u8], kept: usize) -> bool
+pub(crate) fn may_end(kind: Kind, base: &[u8], kept: usize) -> bool
     requires { kept ≤ length base.now }
     ensures { result ≡ true → kind ≡ kind_type.Unicode → IsCharBoundary base.now kept }
 {

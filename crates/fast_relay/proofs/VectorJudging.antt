@@ -1,0 +1,45 @@
+-- What strings and vectors rest on that are judged as they stand: a length in its shortest form, and the bytes behind it, are
+-- their shortest form.
+use Rattle.std.proofs.Common.{◌≡◌, ◌≤◌, ◌+◌, ◌-◌, ◌++◌, ℕ, true, List, length, drop, slice_range, refl, ap, subst, arith, length-append, length-drop}
+use Rattle.std.specs.Prelude.{pos}
+use Rattle.std.proofs.lemmas.List.{length-take-le}
+use Rattle.fast_wire.specs.Integer.{IsUnsigned}
+use Rattle.fast_wire.specs.Reader.{IsBytes}
+use Rattle.fast_wire.specs.Vector.{IsCounted, IsLengthNullable}
+use Rattle.fast_wire.specs.Writing.{IsShortest}
+use Rattle.fast_wire.specs.declared.nullable.Nullable.TheVariants.{Value}
+use Rattle.fast_value.specs.declared.kind.Kind.{Kind}
+use Rattle.fast_value.specs.declared.kind.Kind.TheVariants as kind
+use Rattle.fast_value.specs.declared.kind.Presence.{Presence}
+use Rattle.fast_value.specs.declared.kind.Presence.TheVariants.{Mandatory, Optional}
+use Rattle.fast_field.specs.Chosen.{ShortestUnits, ShortestUnsigned}
+use Rattle.fast_field.specs.Spelled.{SpellsIntegerUsually}
+use Rattle.fast_field.specs.Values.{of_units}
+use Rattle.fast_relay.specs.Judged.{StandsAt}
+use Rattle.fast_relay.specs.Texts.{IsText, IsVectorKind}
+use Rattle.fast_relay.proofs.Runs.{range_split}
+use Rattle.fast_relay.proofs.Standing.{shortest_unsigned}
+use Rattle.fast_relay.proofs.VectorTexts.{fits}
+
+counted : (IsLength : List ℕ → ℕ → Type 0) (front s : List ℕ) → IsLength front (length s) → ((other : List ℕ) → IsLength other (length s) → length front ≤ length other) → IsBytes s × (length s ≤ 65535) → IsShortest (IsCounted IsLength) (front ++ s) s
+counted IsLength front s form least fit = record {
+  form = record { front = front; parts = refl; length_form = form; bytes_fit = fit.0; limit = fit.1 };
+  least = λ other h. omega (arith, least h.front h.length_form, ap length h.parts, length-append h.front s, length-append front s);
+}
+
+behind_length : (k : Kind) (p : Presence) (front s : List ℕ) → IsVectorKind k → IsText k (of_units k s) → ShortestUnsigned p (length s) front → ShortestUnits k p s (front ++ s)
+behind_length kind.Unicode Mandatory front s is t h = counted IsUnsigned front s h.form h.least (fits kind.Unicode s is t)
+behind_length kind.Bytes Mandatory front s is t h = counted IsUnsigned front s h.form h.least (fits kind.Bytes s is t)
+behind_length kind.Unicode Optional front s is t h = let c = counted IsLengthNullable front s h.form h.least (fits kind.Unicode s is t) in record { form = c.form; least = c.least }
+behind_length kind.Bytes Optional front s is t h = let c = counted IsLengthNullable front s h.form h.least (fits kind.Bytes s is t) in record { form = c.form; least = c.least }
+behind_length k p front s is t h = absurd is
+
+pub vector_stands : (k : Kind) (p : Presence) (bytes : List ℕ) (at start n : ℕ) → IsVectorKind k → at ≤ start → start ≤ length bytes → n ≤ length bytes - start → StandsAt true p bytes at start (pos n) → IsText k (of_units k (slice_range bytes start (start + n)))
+    → ShortestUnits k p (slice_range bytes start (start + n)) (slice_range bytes at (start + n))
+vector_stands k p bytes at start n is before within there h t =
+    let s = slice_range bytes start (start + n) in
+    let front = slice_range bytes at start in
+    let on : start + n - start ≡ n = omega arith in
+    let long : n ≡ length s = omega (arith, on, length-take-le (start + n - start) (drop start bytes) (omega (arith, on, there, length-drop start bytes))) in
+    rw (range_split bytes at start (start + n) before (omega arith))
+    (behind_length k p front s is t (shortest_unsigned p (length s) front (subst (λ (m : ℕ). SpellsIntegerUsually true p front (Value (pos m))) long h.form) h.short))

@@ -1,0 +1,30 @@
+use Rattle.std.proofs.Common.{drop, slice_range, ◌++◌, refl}
+use Rattle.fast_field.specs.Values.{of_units}
+use Rattle.fast_relay.proofs.Giving.{units_drop}
+use Rattle.fast_relay.proofs.VectorTexts.{spelled, vector_relays}
+use Rattle.fast_relay.proofs.judged_vector.judge_vector_whole.Goals as goal
+
+pub returns-then-keep_bytes-clause-judged : goal.returns-then-keep_bytes-clause-judged
+returns-then-keep_bytes-clause-judged c =
+    let i = c.args.instr.now in
+    let bytes = c.args.bytes.now in
+    let s = slice_range bytes c.in-Some.start c.in-Some.next in
+    let form = slice_range bytes c.args.at c.in-Some.next in
+    let text = c.are_text.ensures c.if-not-are_text.false in (
+      of_units i.kind s,
+      λ out. vector_relays i c.args.entry.now c.keep_bytes.new.entry s (drop c.args.at bytes) (drop c.in-Some.next bytes) out (out ++ form)
+          c.requires.kind c.requires.part c.requires.operator text c.in-Some.ensures.gives
+          (c.keep_bytes.ensures.kept c.if-keep_bytes.true) (c.may_be_left_out.ensures c.if-may_be_left_out.false)
+          (form, refl, c.in-Some.ensures.shortest text),
+    )
+
+pub returns-then-gives_units-clause-judged : goal.returns-then-gives_units-clause-judged
+returns-then-gives_units-clause-judged c =
+    let i = c.args.instr.now in
+    let bytes = c.args.bytes.now in
+    let s = slice_range bytes c.in-Some.start c.in-Some.next in
+    let text = c.are_text.ensures c.if-not-are_text.false in
+    let read = spelled i.kind i.presence (drop c.args.at bytes) s (drop c.in-Some.next bytes) c.requires.kind text c.in-Some.ensures.gives in (
+      of_units i.kind s,
+      units_drop i c.args.entry.now (drop c.args.at bytes) (drop c.in-Some.next bytes) (of_units i.kind s) c.requires.part c.requires.operator text read (c.gives_units.ensures c.if-gives_units.true),
+    )

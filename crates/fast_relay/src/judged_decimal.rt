@@ -1,0 +1,225 @@
+//! Decimals that are judged as they stand: whether their bytes are the best form of the value, or bit 0 is. The entry goes
+//! on, and nothing is written. What is not served here goes by `relay_decimal`.
+
+ghost use Rattle.std.specs.Prelude.{◌≡◌, ◌≤◌, true, length, IfNone, IfSome};
+ghost use Rattle.fast_value.specs.Scalar.{exponent_in_range, in_range};
+ghost use Rattle.fast_value.specs.declared.kind.Kind.TheVariants as kind_type;
+ghost use Rattle.fast_value.specs.declared.kind.Operator.TheVariants as operator_type;
+ghost use Rattle.fast_value.specs.declared.kind.Part.TheVariants as part_type;
+ghost use Rattle.fast_value.specs.declared.scalar.Scalar.{Scalar as ScalarOf};
+ghost use Rattle.fast_value.specs.declared.scalar.Scalar.TheVariants as scalar;
+ghost use Rattle.fast_dictionary.specs.declared.entry.Entry.TheVariants as entry_type;
+ghost use Rattle.fast_relay.specs.Judged.{IfJudged, IfNotJudged, Judges, Leaves, PairStandsAt};
+ghost use Rattle.fast_relay.specs.Numbers.{SpellsWhole};
+
+use crate::judged::{Judged, read_shortest};
+use fast_dictionary::Entry;
+use fast_template::{FieldPart, Operator, Presence, Scalar};
+
+/// The numbers of a decimal.
+#[derive(Clone, Copy, Debug, PartialEq, Eq, Drop)]
+struct Parts {
+    exponent: i32,
+    mantissa: i64,
+}
+
+/// The decimal that a value is.
+#[inline(always)]
+fn parts_of(value: &Scalar) -> Option<Parts>
+    ensures { IfSome result (λ d. value.now ≡ scalar.Decimal d.exponent d.mantissa) }
+{
+    match value {
+        Scalar::Decimal { exponent, mantissa } => Some(Parts {
+            exponent: *exponent,
+            mantissa: *mantissa,
+        }),
+        _ => None,
+    }
+}
+
+/// The decimal that an entry has.
+#[inline(always)]
+fn kept_parts(entry: &Entry) -> Option<Parts>
+    ensures { IfSome result (λ d. entry.now
+        ≡ entry_type.Assigned (scalar.Decimal d.exponent d.mantissa)) }
+{
+    match entry {
+        Entry::Assigned(value) => parts_of(value),
+        Entry::Undefined | Entry::Empty => None,
+    }
+}
+
+/// Makes an entry this decimal.
+#[inline(always)]
+fn set_decimal(entry: &mut Entry, parts: Parts)
+    ensures { entry.new ≡ entry_type.Assigned (scalar.Decimal parts.exponent parts.mantissa) }
+{
+    *entry = Entry::Assigned(Scalar::Decimal {
+        exponent: parts.exponent,
+        mantissa: parts.mantissa,
+    });
+}
+
+/// Two numbers that are spelled in their shortest form, and the place behind them.
+#[inline(always)]
+fn read_pair(presence: Presence, bytes: &[u8], at: usize) -> Option<(i64, i64, usize)>
+    requires { at ≤ length bytes.now }
+    ensures place { IfSome result (λ x. (at ≤ x.2) × (x.2 ≤ length bytes.now)) }
+    ensures stands { IfSome result (λ x. PairStandsAt presence bytes.now at x.2 x.0 x.1) }
+{
+    let Some((exponent, middle)) = read_shortest(false, presence, bytes, at) else {
+        return None;
+    };
+    let Some((mantissa, next)) = read_shortest(false, Presence::Mandatory, bytes, middle) else {
+        return None;
+    };
+    Some((exponent, mantissa, next))
+}
+
+/// The decimal of an exponent and a mantissa, where the exponent is within its limit.
+#[inline(always)]
+fn parts_within(exponent: i64, mantissa: i64) -> Option<Parts>
+    ensures exponent { IfSome result (λ d. d.exponent ≡ exponent) }
+    ensures mantissa { IfSome result (λ d. d.mantissa ≡ mantissa) }
+    ensures near { IfSome result (λ d. exponent_in_range d.exponent ≡ true) }
+    ensures fits { IfSome result (λ d. in_range kind_type.Int64 d.mantissa ≡ true) }
+{
+    if -63 <= exponent && exponent <= 63 {
+        Some(Parts {
+            exponent: exponent as i32,
+            mantissa,
+        })
+    } else {
+        None
+    }
+}
+
+/// The bit of the best form of a decimal, by the initial value.
+#[inline(always)]
+fn judge_default(instr: &FieldPart, entry: &Entry, parts: Parts) -> Option<bool>
+    requires { instr.now.operator ≡ operator_type.Default }
+    ensures { IfSome result (λ bit. Leaves bit instr.now entry.now entry.now
+        (scalar.Decimal parts.exponent parts.mantissa)) }
+{
+    match &instr.initial {
+        None => Some(true),
+        Some(initial) => match parts_of(initial.value()) {
+            Some(given) => Some(given != parts),
+            None => None,
+        },
+    }
+}
+
+/// The bit of the best form of a decimal, by the one that the entry has; it then has this one.
+#[inline(always)]
+fn judge_copy(instr: &FieldPart, entry: &mut Entry, parts: Parts) -> Option<bool>
+    requires kind { instr.now.kind ≡ kind_type.Decimal }
+    requires operator { instr.now.operator ≡ operator_type.Copy }
+    ensures leaves { IfSome result (λ bit. Leaves bit instr.now entry.old entry.new
+        (scalar.Decimal parts.exponent parts.mantissa)) }
+    ensures entry { IfNone result (entry.new ≡ entry.old) }
+{
+    let Some(kept) = kept_parts(entry) else {
+        return None;
+    };
+    if kept == parts {
+        return Some(false);
+    }
+    set_decimal(entry, parts);
+    Some(true)
+}
+
+/// The bit of the best form of a decimal that was spelled whole; the entry goes on. None: nothing has changed, and another
+/// way tells.
+#[inline(always)]
+fn judge_read(instr: &FieldPart, entry: &mut Entry, parts: Parts) -> Option<bool>
+    requires kind { instr.now.kind ≡ kind_type.Decimal }
+    requires operator { SpellsWhole instr.now.operator }
+    ensures leaves { IfSome result (λ bit. Leaves bit instr.now entry.old entry.new
+        (scalar.Decimal parts.exponent parts.mantissa)) }
+    ensures entry { IfNone result (entry.new ≡ entry.old) }
+{
+    match instr.operator {
+        Operator::Plain => Some(true),
+        Operator::Default => judge_default(instr, entry, parts),
+        Operator::Copy => judge_copy(instr, entry, parts),
+        Operator::Increment | Operator::Constant | Operator::Delta | Operator::Tail => None,
+    }
+}
+
+/// Judges a decimal that is spelled whole.
+#[inline(always)]
+fn judge_decimal_whole(instr: &FieldPart, entry: &mut Entry, bytes: &[u8], at: usize) -> Judged
+    requires at { at ≤ length bytes.now }
+    requires part { instr.now.part ≡ part_type.Whole }
+    requires operator { SpellsWhole instr.now.operator }
+    requires kind { instr.now.kind ≡ kind_type.Decimal }
+    ensures place { IfJudged result (λ bit next. (at ≤ next) × (next ≤ length bytes.now)) }
+    ensures judged { IfJudged result (λ bit next. (v : ScalarOf)
+        × Judges bit instr.now entry.old entry.new v bytes.now at next) }
+    ensures entry { IfNotJudged result (entry.new ≡ entry.old) }
+{
+    let Some((exponent, mantissa, next)) = read_pair(instr.presence, bytes, at) else {
+        return Judged::Elsewhere;
+    };
+    let Some(parts) = parts_within(exponent, mantissa) else {
+        return Judged::Elsewhere;
+    };
+    match judge_read(instr, entry, parts) {
+        Some(true) => Judged::Stands(next),
+        Some(false) => Judged::Given(next),
+        None => Judged::Elsewhere,
+    }
+}
+
+/// Judges what is added to the decimal that the entry has.
+#[inline(always)]
+fn judge_decimal_delta(instr: &FieldPart, entry: &mut Entry, bytes: &[u8], at: usize) -> Judged
+    requires at { at ≤ length bytes.now }
+    requires part { instr.now.part ≡ part_type.Whole }
+    requires operator { instr.now.operator ≡ operator_type.Delta }
+    requires kind { instr.now.kind ≡ kind_type.Decimal }
+    ensures place { IfJudged result (λ bit next. (at ≤ next) × (next ≤ length bytes.now)) }
+    ensures judged { IfJudged result (λ bit next. (v : ScalarOf)
+        × Judges bit instr.now entry.old entry.new v bytes.now at next) }
+    ensures entry { IfNotJudged result (entry.new ≡ entry.old) }
+{
+    let Some(kept) = kept_parts(entry) else {
+        return Judged::Elsewhere;
+    };
+    let Some((exponent_delta, mantissa_delta, next)) = read_pair(instr.presence, bytes, at) else {
+        return Judged::Elsewhere;
+    };
+    let Some(exponent) = i64::from(kept.exponent).checked_add(exponent_delta) else {
+        return Judged::Elsewhere;
+    };
+    let Some(mantissa) = kept.mantissa.checked_add(mantissa_delta) else {
+        return Judged::Elsewhere;
+    };
+    let Some(parts) = parts_within(exponent, mantissa) else {
+        return Judged::Elsewhere;
+    };
+    set_decimal(entry, parts);
+    Judged::Stands(next)
+}
+
+/// Judges a decimal in one piece that is read under bit 1, and makes the entry the one afterwards. It takes no memory.
+/// Elsewhere: nothing has changed, and another way tells.
+#[inline(never)]
+pub fn judge_decimal(instr: &FieldPart, entry: &mut Entry, bytes: &[u8], at: usize) -> Judged
+    requires place { at ≤ length bytes.now }
+    requires part { instr.now.part ≡ part_type.Whole }
+    requires kind { instr.now.kind ≡ kind_type.Decimal }
+    ensures place { IfJudged result (λ bit next. (at ≤ next) × (next ≤ length bytes.now)) }
+    ensures judged { IfJudged result (λ bit next. (v : ScalarOf)
+        × Judges bit instr.now entry.old entry.new v bytes.now at next) }
+    ensures entry { IfNotJudged result (entry.new ≡ entry.old) }
+{
+    match instr.operator {
+        Operator::Plain | Operator::Default | Operator::Copy => {
+            judge_decimal_whole(instr, entry, bytes, at)
+        }
+        Operator::Delta => judge_decimal_delta(instr, entry, bytes, at),
+        Operator::Constant | Operator::Increment | Operator::Tail => Judged::Elsewhere,
+    }
+}
