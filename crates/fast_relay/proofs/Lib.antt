@@ -11,3 +11,4 @@ mod KeptTaking
 pub mod Giving
 mod Standing
 mod Judging
+mod StringJudging

@@ -100,7 +100,7 @@ fn is_shortest(unsigned: bool, bytes: &[u8], at: usize, next: usize) -> bool
 
 /// A number that is spelled in its shortest form, and the place behind it.
 #[inline(always)]
-fn read_shortest(
+pub(crate) fn read_shortest(
     unsigned: bool,
     presence: Presence,
     bytes: &[u8],

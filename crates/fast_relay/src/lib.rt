@@ -8,7 +8,7 @@
 //! and `write_found`. [`take_number`] reads an integer in the same way and writes nothing, [`take_kept`] one that its
 //! entry keeps, and [`take_text`] an ASCII string that it keeps; they are for those who make messages or tell them.
 //! [`judge_whole`], [`judge_exponent`] and [`judge_mantissa`] write nothing either: they say whether the bytes of an
-//! integer are its best form as they stand, or bit 0 is ([`Judged`]).
+//! integer are its best form as they stand, or bit 0 is ([`Judged`]); [`judge_string`] says it of an ASCII string.
 //! What a field's forms are is defined there; `specs/Relayed` says what it is to have relayed one, `specs/Judged` to have
 //! judged one.
 #![tactic(auto)]
@@ -20,6 +20,7 @@ mod given;
 mod integer_type;
 mod integers;
 mod judged;
+mod judged_string;
 mod kept;
 mod null;
 mod number;
@@ -33,6 +34,7 @@ mod vectors;
 
 pub use decimal::relay_decimal;
 pub use judged::{Judged, judge_exponent, judge_mantissa, judge_whole};
+pub use judged_string::judge_string;
 pub use null::relay_null;
 pub use number::{relay_number, relay_unsigned};
 pub use relayed::Relayed;
