@@ -101,14 +101,15 @@ fn judge_string_delta(
     };
     let form = &bytes[first..next];
     let base = text.as_slice();
-    if removed > base.len() || !are_characters(base) {
+    if removed > base.len() {
         return Judged::Elsewhere;
     }
     let kept = base.len() - removed;
-    if form.len() > UNIT_LIMIT - kept {
+    if !agrees_no_further(base, kept, form) || !is_cut_at_end(base, kept, form) {
         return Judged::Elsewhere;
     }
-    if !agrees_no_further(base, kept, form) || !is_cut_at_end(base, kept, form) {
+    // last, since it looks at each character
+    if !are_characters(base) || form.len() > UNIT_LIMIT - kept {
         return Judged::Elsewhere;
     }
     if put_characters(alloc, text, kept, form) {
