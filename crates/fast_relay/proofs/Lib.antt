@@ -13,3 +13,4 @@ mod Standing
 mod Judging
 mod DecimalJudging
 mod VectorJudging
+mod StringJudging

@@ -227,29 +227,40 @@ fn judge_read(
     }
 }
 
-/// Judges a number that is spelled whole.
+/// Whether what is sent of an integer has no sign: a difference has one.
+#[inline(always)]
+fn is_sent_unsigned(kind: Kind, operator: Operator) -> bool
+    ensures delta { operator ≡ operator_type.Delta → result ≡ false }
+    ensures whole { SpellsWhole operator → result ≡ values.is_unsigned kind }
+{
+    match operator {
+        Operator::Delta => false,
+        _ => is_unsigned(kind),
+    }
+}
+
+/// Judges a number that is spelled whole and was read.
 #[inline(always)]
 fn judge_spelled(
     kind: Kind,
     which: Part,
     instr: &FieldPart,
     entry: &mut Entry,
+    number: i64,
     bytes: &[u8],
     at: usize,
+    next: usize,
 ) -> Judged
-    requires place { at ≤ length bytes.now }
     requires part { which ≡ instr.now.part }
     requires kind { kind ≡ instr.now.kind }
     requires integer { IsTrue (is_integer kind) }
     requires whole { SpellsWhole instr.now.operator }
-    ensures place { IfJudged result (λ bit next. (at ≤ next) × (next ≤ length bytes.now)) }
-    ensures judged { IfJudged result (λ bit next. (v : ScalarOf)
+    requires stands { StandsAt (values.is_unsigned kind) instr.now.presence bytes.now at next number }
+    ensures place { IfJudged result (λ bit n. n ≡ next) }
+    ensures judged { IfJudged result (λ bit n. (v : ScalarOf)
         × Judges bit instr.now entry.old entry.new v bytes.now at next) }
     ensures entry { IfNotJudged result (entry.new ≡ entry.old) }
 {
-    let Some((number, next)) = read_shortest(is_unsigned(kind), instr.presence, bytes, at) else {
-        return Judged::Elsewhere;
-    };
     if !is_field_number(kind, which, number) {
         return Judged::Elsewhere;
     }
@@ -260,30 +271,29 @@ fn judge_spelled(
     }
 }
 
-/// Judges what is added to the number that the entry has.
+/// Judges what is added to the number that the entry has, and was read.
 #[inline(always)]
 fn judge_delta(
     kind: Kind,
     which: Part,
     instr: &FieldPart,
     entry: &mut Entry,
+    delta: i64,
     bytes: &[u8],
     at: usize,
+    next: usize,
 ) -> Judged
-    requires place { at ≤ length bytes.now }
     requires part { which ≡ instr.now.part }
     requires kind { kind ≡ instr.now.kind }
     requires integer { IsTrue (is_integer kind) }
     requires operator { instr.now.operator ≡ operator_type.Delta }
-    ensures place { IfJudged result (λ bit next. (at ≤ next) × (next ≤ length bytes.now)) }
-    ensures judged { IfJudged result (λ bit next. (v : ScalarOf)
+    requires stands { StandsAt false instr.now.presence bytes.now at next delta }
+    ensures place { IfJudged result (λ bit n. n ≡ next) }
+    ensures judged { IfJudged result (λ bit n. (v : ScalarOf)
         × Judges bit instr.now entry.old entry.new v bytes.now at next) }
     ensures entry { IfNotJudged result (entry.new ≡ entry.old) }
 {
     let Some(kept) = kept_number(kind, entry) else {
-        return Judged::Elsewhere;
-    };
-    let Some((delta, next)) = read_shortest(false, instr.presence, bytes, at) else {
         return Judged::Elsewhere;
     };
     let Some(number) = kept.checked_add(delta) else {
@@ -364,10 +374,15 @@ fn judge_integer(
         × Judges bit instr.now entry.old entry.new v bytes.now at next) }
     ensures entry { IfNotJudged result (entry.new ≡ entry.old) }
 {
+    // read once for all operators, so that the whole is small enough to be inlined
+    let unsigned = is_sent_unsigned(kind, instr.operator);
+    let Some((number, next)) = read_shortest(unsigned, instr.presence, bytes, at) else {
+        return Judged::Elsewhere;
+    };
     match instr.operator {
-        Operator::Delta => judge_delta(kind, which, instr, entry, bytes, at),
+        Operator::Delta => judge_delta(kind, which, instr, entry, number, bytes, at, next),
         Operator::Plain | Operator::Default | Operator::Copy | Operator::Increment => {
-            judge_spelled(kind, which, instr, entry, bytes, at)
+            judge_spelled(kind, which, instr, entry, number, bytes, at, next)
         }
         Operator::Constant | Operator::Tail => Judged::Elsewhere,
     }

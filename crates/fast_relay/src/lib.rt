@@ -8,8 +8,8 @@
 //! and `write_found`. [`take_number`] reads an integer in the same way and writes nothing, [`take_kept`] one that its
 //! entry keeps, and [`take_text`] an ASCII string that it keeps; they are for those who make messages or tell them.
 //! [`judge_number`] writes nothing either: it says whether the bytes of an integer are its best form as they stand, or bit 0
-//! is ([`Judged`]), and so do [`judge_vector`] of Unicode strings and byte vectors and [`judge_decimal`] of decimals in one
-//! piece.
+//! is ([`Judged`]), and so do [`judge_string`] of ASCII strings, [`judge_vector`] of Unicode strings and byte vectors, and
+//! [`judge_decimal`] of decimals in one piece.
 //! What a field's forms are is defined there; `specs/Relayed` says what it is to have relayed one, `specs/Judged` to have
 //! judged one.
 #![tactic(auto)]
@@ -21,10 +21,12 @@ mod given;
 mod integers;
 mod judged;
 mod judged_decimal;
+mod judged_string;
 mod judged_vector;
 mod kept;
 mod null;
 mod number;
+mod passed;
 mod plain;
 mod relayed;
 mod run;
@@ -37,9 +39,11 @@ mod vectors;
 pub use decimal::relay_decimal;
 pub use judged::{Judged, judge_number};
 pub use judged_decimal::judge_decimal;
+pub use judged_string::judge_string;
 pub use judged_vector::judge_vector;
 pub use null::relay_null;
 pub use number::{relay_number, relay_unsigned};
+pub use passed::pass_quickly;
 pub use relayed::Relayed;
 pub use run::Run;
 pub use taken::{take_kept, take_number};

@@ -57,7 +57,7 @@ pub(crate) fn put_characters(alloc: Global, text: &mut ByteString, kept: usize, 
 
 /// Whether bit 0 may give the string that bytes spell; where false is answered, it does not.
 #[inline(always)]
-fn may_be_left_out(instr: &FieldPart, entry: &Entry, form: &[u8]) -> bool
+pub(crate) fn may_be_left_out(instr: &FieldPart, entry: &Entry, form: &[u8]) -> bool
     requires operator { SpellsWhole instr.now.operator }
     requires kind { instr.now.kind ≡ kind_type.Ascii }
     ensures { result ≡ false → left_out_of instr.now.operator instr.now entry.now
@@ -165,7 +165,7 @@ fn relay_plain_whole(
 
 /// Whether a text has no more in common with its first units and others behind them than these first units.
 #[inline(always)]
-fn agrees_no_further(base: &[u8], kept: usize, form: &[u8]) -> bool
+pub(crate) fn agrees_no_further(base: &[u8], kept: usize, form: &[u8]) -> bool
     requires kept { kept ≤ length base.now }
     requires entity { IsEntity form.now }
     ensures { result ≡ true
@@ -196,7 +196,7 @@ fn ends_otherwise(base: &[u8], kept: usize, form: &[u8]) -> bool
 /// Whether a removal at the end, to so many units, takes no more bytes than one in front: no fewer are kept than a text
 /// has in common with what it becomes at its end. This is so where as many are put there as are removed, and no more.
 #[inline(always)]
-fn is_cut_at_end(base: &[u8], kept: usize, form: &[u8]) -> bool
+pub(crate) fn is_cut_at_end(base: &[u8], kept: usize, form: &[u8]) -> bool
     requires kept { kept ≤ length base.now }
     requires entity { IsEntity form.now }
     requires prefix { IsLongestPrefix base.now (take kept base.now ++ groups form.now) kept }

@@ -13,7 +13,7 @@ pub returns-clause-judged : goal.returns-clause-judged
 returns-clause-judged c =
     let k = c.args.kind in
     let y = c.in-Some.kept in
-    let d = c.in-Some-read_shortest.delta in
+    let d = c.args.delta in
     let z = c.in-Some-checked_add.number in
     let kept_fits : FitsSigned w64 y = search rules in
     let delta_fits : FitsSigned w64 d = search rules in
@@ -21,9 +21,9 @@ returns-clause-judged c =
     let same = to_z-of_z w64 z fits in
     let sum : z ≡ y +ℤ d = search rules in (
       of_integer k (y +ℤ d),
-      delta_stands k c.args.instr.now c.args.entry.now c.replace_number.new.entry y d c.args.bytes.now c.args.at c.in-Some-read_shortest.next
+      delta_stands k c.args.instr.now c.args.entry.now c.replace_number.new.entry y d c.args.bytes.now c.args.at c.args.next
           c.requires.kind c.requires.operator c.in-Some.ensures
           (subst (λ (x : ℤ). IsFieldNumber k c.args.instr.now.part x) sum (rw (same, c.requires.part) at (c.is_field_number.ensures c.if-not-is_field_number.false)))
-          c.in-Some-read_shortest.ensures.stands
+          c.requires.stands
           (subst (λ (x : ℤ). c.replace_number.new.entry ≡ Assigned (of_integer k x)) sum (rw same at c.replace_number.ensures)),
     )

@@ -1,0 +1,35 @@
+use Rattle.std.proofs.Common.{◌-◌, ◌++◌, ◌≡◌, length, take, drop, slice_range, arith, length-drop}
+use Rattle.std.proofs.lemmas.List.{take_all}
+use Rattle.fast_wire.specs.Entity.{groups}
+use Rattle.fast_value.specs.declared.scalar.Scalar.TheVariants.{Ascii}
+use Rattle.fast_relay.proofs.StringJudging.{end_given, end_stands}
+use Rattle.fast_relay.proofs.judged_string.judge_string_tail.Goals as goal
+
+pub returns-then-put_characters-clause-judged : goal.returns-then-put_characters-clause-judged
+returns-then-put_characters-clause-judged c =
+    let base = c.as_slice-base.result.now in
+    let bytes = c.args.bytes.now in
+    let form = slice_range bytes c.args.at c.in-Some.next in
+    let kept = length base - length form in
+    rw (c.put_characters.ensures.put c.if-put_characters.true, ← c.as_slice-base.ensures) (
+      Ascii (take kept base ++ groups form),
+      end_stands c.args.instr.now base bytes kept c.args.at c.in-Some.next
+          c.requires.kind c.requires.part c.requires.operator
+          (c.are_characters.ensures c.if-not-are_characters.false) (omega (arith, c.if-form-base.false))
+          c.in-Some.ensures.plain (c.agrees_no_further.ensures c.if-agrees_no_further.true),
+    )
+
+pub returns-then-is_text_of-clause-judged : goal.returns-then-is_text_of-clause-judged
+returns-then-is_text_of-clause-judged c =
+    let base = c.as_slice-base.result.now in
+    let bytes = c.args.bytes.now in
+    let form = slice_range bytes c.args.at c.in-Some.next in
+    let kept = length base - length form in
+    let whole : take (length base - kept) (drop kept base) ≡ drop kept base = take_all (length base - kept) (drop kept base) (omega (arith, length-drop kept base)) in
+    let characters = c.are_characters.ensures c.if-not-are_characters.false in
+    rw (← c.as_slice-base.ensures) (
+      Ascii base,
+      end_given c.args.instr.now base bytes c.args.at c.in-Some.next
+          c.requires.kind c.requires.part c.requires.operator characters.0 (omega (arith, c.if-form-base.false))
+          c.in-Some.ensures.plain (rw whole at (c.is_text_of.ensures.0 c.if-is_text_of.true)),
+    )

@@ -1,0 +1,110 @@
+//! What bit 0 gives of an entry, with the integer types as one case, so that a loop over fields has room for it. What is not
+//! served here is `pass_left_out` of `fast_field`.
+
+ghost use Rattle.std.specs.Prelude.{◌≡◌};
+ghost use Rattle.fast_value.specs.declared.kind.Operator.TheVariants as operator_type;
+ghost use Rattle.fast_field.specs.Numbers.{Predicts, Repeats};
+ghost use Rattle.fast_field.specs.Passed.{IsPassed};
+
+use crate::short_number::{is_field_number, kept_number, replace_number};
+use fast_dictionary::Entry;
+use fast_field::{Passed, fits};
+use fast_template::{FieldPart, Kind, Operator, Part, Presence};
+
+/// No value, where the field may be absent.
+#[inline(always)]
+fn pass_empty(instr: &FieldPart, entry: &Entry) -> Passed
+    requires { Predicts instr.now.operator }
+    ensures { IsPassed instr.now entry.now entry.now result }
+{
+    match (entry, instr.presence) {
+        (Entry::Empty, Presence::Optional) => Passed::Absent,
+        (_, _) => Passed::Elsewhere,
+    }
+}
+
+/// The value that the entry has.
+#[inline(always)]
+fn pass_kept(instr: &FieldPart, entry: &Entry) -> Passed
+    requires { Repeats instr.now.operator }
+    ensures { IsPassed instr.now entry.now entry.now result }
+{
+    match entry {
+        Entry::Assigned(value) => {
+            if fits(instr, value) {
+                Passed::Present
+            } else {
+                Passed::Elsewhere
+            }
+        }
+        Entry::Undefined | Entry::Empty => pass_empty(instr, entry),
+    }
+}
+
+/// One more than the number that the entry has, where that is not the greatest of its type.
+#[inline(always)]
+fn pass_next(which: Part, instr: &FieldPart, entry: &mut Entry) -> Passed
+    requires operator { instr.now.operator ≡ operator_type.Increment }
+    requires part { which ≡ instr.now.part }
+    ensures { IsPassed instr.now entry.old entry.new result }
+{
+    let kind = instr.kind;
+    match kind {
+        Kind::UInt32 | Kind::Int32 | Kind::UInt64 | Kind::Int64 => {
+            let Some(kept) = kept_number(kind, entry) else {
+                return pass_empty(instr, entry);
+            };
+            let Some(following) = kept.checked_add(1) else {
+                return Passed::Elsewhere;
+            };
+            if !is_field_number(kind, which, following) {
+                return Passed::Elsewhere;
+            }
+            replace_number(kind, entry, kept, following);
+            Passed::Present
+        }
+        Kind::Decimal | Kind::Ascii | Kind::Unicode | Kind::Bytes => Passed::Elsewhere,
+    }
+}
+
+/// The initial value, or none where there is none.
+#[inline(always)]
+fn pass_initial(instr: &FieldPart, entry: &Entry) -> Passed
+    requires { instr.now.operator ≡ operator_type.Default }
+    ensures { IsPassed instr.now entry.now entry.now result }
+{
+    match (&instr.initial, instr.presence) {
+        (Some(initial), _) if fits(instr, initial.value()) => Passed::Present,
+        (None, Presence::Optional) => Passed::Absent,
+        (_, _) => Passed::Elsewhere,
+    }
+}
+
+/// No value of a constant.
+#[inline(always)]
+fn pass_constant(instr: &FieldPart, entry: &Entry) -> Passed
+    requires { instr.now.operator ≡ operator_type.Constant }
+    ensures { IsPassed instr.now entry.now entry.now result }
+{
+    match instr.presence {
+        Presence::Optional => Passed::Absent,
+        Presence::Mandatory => Passed::Elsewhere,
+    }
+}
+
+/// Takes what bit 0 gives of an entry or of an initial value, and makes the entry the one afterwards, where the caller knows
+/// what part it is. No bytes are read, and none is written: bit 0 is the best form. It takes no memory. Elsewhere: nothing
+/// has changed, and another way tells.
+#[inline(always)]
+pub fn pass_quickly(which: Part, instr: &FieldPart, entry: &mut Entry) -> Passed
+    requires { which ≡ instr.now.part }
+    ensures { IsPassed instr.now entry.old entry.new result }
+{
+    match instr.operator {
+        Operator::Copy | Operator::Tail => pass_kept(instr, entry),
+        Operator::Increment => pass_next(which, instr, entry),
+        Operator::Default => pass_initial(instr, entry),
+        Operator::Constant => pass_constant(instr, entry),
+        Operator::Plain | Operator::Delta => Passed::Elsewhere,
+    }
+}
