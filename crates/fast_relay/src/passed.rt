@@ -1,12 +1,13 @@
 //! What bit 0 gives of an entry, with the integer types as one case, so that a loop over fields has room for it. What is not
 //! served here is `pass_left_out` of `fast_field`.
 
-ghost use Rattle.std.specs.Prelude.{◌≡◌};
+ghost use Rattle.std.specs.Prelude.{◌≡◌, IsTrue};
+ghost use Rattle.fast_value.specs.Scalar.{is_integer};
 ghost use Rattle.fast_value.specs.declared.kind.Operator.TheVariants as operator_type;
 ghost use Rattle.fast_field.specs.Numbers.{Predicts, Repeats};
 ghost use Rattle.fast_field.specs.Passed.{IsPassed};
 
-use crate::short_number::{is_field_number, kept_number, replace_number};
+use crate::short_number::{is_within, kept_number, number_after, replace_number};
 use fast_dictionary::Entry;
 use fast_field::{Passed, fits};
 use fast_template::{FieldPart, Kind, Operator, Part, Presence};
@@ -17,9 +18,12 @@ fn pass_empty(instr: &FieldPart, entry: &Entry) -> Passed
     requires { Predicts instr.now.operator }
     ensures { IsPassed instr.now entry.now entry.now result }
 {
-    match (entry, instr.presence) {
-        (Entry::Empty, Presence::Optional) => Passed::Absent,
-        (_, _) => Passed::Elsewhere,
+    match entry {
+        Entry::Empty => match instr.presence {
+            Presence::Optional => Passed::Absent,
+            Presence::Mandatory => Passed::Elsewhere,
+        },
+        Entry::Undefined | Entry::Assigned(_) => Passed::Elsewhere,
     }
 }
 
@@ -43,25 +47,36 @@ fn pass_kept(instr: &FieldPart, entry: &Entry) -> Passed
 
 /// One more than the number that the entry has, where that is not the greatest of its type.
 #[inline(always)]
-fn pass_next(which: Part, instr: &FieldPart, entry: &mut Entry) -> Passed
+fn pass_next(which: Part, kind: Kind, instr: &FieldPart, entry: &mut Entry) -> Passed
+    requires kind { kind ≡ instr.now.kind }
+    requires integer { IsTrue (is_integer kind) }
     requires operator { instr.now.operator ≡ operator_type.Increment }
     requires part { which ≡ instr.now.part }
     ensures { IsPassed instr.now entry.old entry.new result }
 {
-    let kind = instr.kind;
-    match kind {
+    let Some(kept) = kept_number(kind, entry) else {
+        return pass_empty(instr, entry);
+    };
+    let Some(number) = number_after(kind, kept) else {
+        return Passed::Elsewhere;
+    };
+    if !is_within(which, number) {
+        return Passed::Elsewhere;
+    }
+    replace_number(kind, entry, kept, number);
+    Passed::Present
+}
+
+/// The same of an integer, and of another type nothing.
+#[inline(always)]
+fn pass_increment(which: Part, instr: &FieldPart, entry: &mut Entry) -> Passed
+    requires operator { instr.now.operator ≡ operator_type.Increment }
+    requires part { which ≡ instr.now.part }
+    ensures { IsPassed instr.now entry.old entry.new result }
+{
+    match instr.kind {
         Kind::UInt32 | Kind::Int32 | Kind::UInt64 | Kind::Int64 => {
-            let Some(kept) = kept_number(kind, entry) else {
-                return pass_empty(instr, entry);
-            };
-            let Some(following) = kept.checked_add(1) else {
-                return Passed::Elsewhere;
-            };
-            if !is_field_number(kind, which, following) {
-                return Passed::Elsewhere;
-            }
-            replace_number(kind, entry, kept, following);
-            Passed::Present
+            pass_next(which, instr.kind, instr, entry)
         }
         Kind::Decimal | Kind::Ascii | Kind::Unicode | Kind::Bytes => Passed::Elsewhere,
     }
@@ -73,10 +88,18 @@ fn pass_initial(instr: &FieldPart, entry: &Entry) -> Passed
     requires { instr.now.operator ≡ operator_type.Default }
     ensures { IsPassed instr.now entry.now entry.now result }
 {
-    match (&instr.initial, instr.presence) {
-        (Some(initial), _) if fits(instr, initial.value()) => Passed::Present,
-        (None, Presence::Optional) => Passed::Absent,
-        (_, _) => Passed::Elsewhere,
+    match &instr.initial {
+        Some(initial) => {
+            if fits(instr, initial.value()) {
+                Passed::Present
+            } else {
+                Passed::Elsewhere
+            }
+        }
+        None => match instr.presence {
+            Presence::Optional => Passed::Absent,
+            Presence::Mandatory => Passed::Elsewhere,
+        },
     }
 }
 
@@ -102,7 +125,7 @@ pub fn pass_quickly(which: Part, instr: &FieldPart, entry: &mut Entry) -> Passed
 {
     match instr.operator {
         Operator::Copy | Operator::Tail => pass_kept(instr, entry),
-        Operator::Increment => pass_next(which, instr, entry),
+        Operator::Increment => pass_increment(which, instr, entry),
         Operator::Default => pass_initial(instr, entry),
         Operator::Constant => pass_constant(instr, entry),
         Operator::Plain | Operator::Delta => Passed::Elsewhere,

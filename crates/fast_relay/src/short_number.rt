@@ -1,9 +1,9 @@
 //! Numbers of 64 bits with a sign, whatever integer type they are of. Those that have more are left to the general way.
 
 ghost use Rattle.std.specs.Prelude.{◌≡◌, ◌^◌, ◌≤ℤ◌, ℤ, pos, IfNone, IfSome, IsTrue, true};
-ghost use Rattle.fast_value.specs.Scalar.{in_range, is_integer, of_integer};
+ghost use Rattle.fast_value.specs.Scalar.{greatest_of, in_range, is_integer, of_integer};
 ghost use Rattle.fast_dictionary.specs.declared.entry.Entry.TheVariants as entry_type;
-ghost use Rattle.fast_field.specs.Numbers.{HasNumber, IsFieldNumber, IsNumber, IsNumberOf, number_within};
+ghost use Rattle.fast_field.specs.Numbers.{HasNumber, IsFieldNumber, IsNumber, IsNumberOf, next_number, number_within};
 
 use fast_dictionary::Entry;
 use fast_template::{Kind, Part, Scalar};
@@ -90,9 +90,37 @@ fn is_in_range(kind: Kind, number: i64) -> bool
     }
 }
 
+/// The greatest number of an integer type that has 64 bits with a sign.
+#[inline(always)]
+fn greatest(kind: Kind) -> i64
+    requires { IsTrue (is_integer kind) }
+    ensures { result ≤ℤ greatest_of kind }
+{
+    match kind {
+        Kind::UInt32 => i64::from(u32::MAX),
+        Kind::Int32 => i64::from(i32::MAX),
+        Kind::UInt64 | Kind::Int64 => i64::MAX,
+        Kind::Decimal | Kind::Ascii | Kind::Unicode | Kind::Bytes => unreachable!(),
+    }
+}
+
+/// One more; none behind the greatest.
+#[inline(always)]
+pub(crate) fn number_after(kind: Kind, number: i64) -> Option<i64>
+    requires { IsNumber kind number }
+    ensures value { IfSome result (λ n. n ≡ next_number kind number) }
+    ensures number { IfSome result (IsNumber kind) }
+{
+    if number < greatest(kind) {
+        Some(number + 1)
+    } else {
+        None
+    }
+}
+
 /// Whether a number is within the limit of a part.
 #[inline(always)]
-fn is_within(which: Part, number: i64) -> bool
+pub(crate) fn is_within(which: Part, number: i64) -> bool
     ensures { result ≡ number_within which number }
 {
     match which {
