@@ -13,11 +13,15 @@ ghost use Rattle.fast_relay.specs.Judged.{IfJudged, IfNotJudged, Judges, Leaves,
 ghost use Rattle.fast_relay.specs.Numbers.{SpellsWhole, Spelt};
 
 use crate::integers::is_unsigned;
+use crate::judged_decimal::judge_decimal;
+use crate::judged_string::judge_string;
+use crate::judged_vector::judge_vector;
 use crate::number::gives_constant;
 use crate::short_number::{is_field_number, kept_number, number_of, replace_number};
 use fast_dictionary::Entry;
 use fast_template::{FieldPart, Kind, Operator, Part, Presence};
 use fast_wire::{Nullable, overlong_signed, overlong_unsigned};
+use std::alloc::Global;
 
 /// What the best form is of a field that was read under bit 1, and the place behind what was read.
 #[derive(Clone, Copy, Debug, PartialEq, Eq, Drop)]
@@ -322,39 +326,6 @@ fn judge_constant(instr: &FieldPart, entry: &Entry, bytes: &[u8], at: usize) -> 
     }
 }
 
-/// Judges an integer, or a constant of any type, that is read under bit 1, and makes the entry the one afterwards. It takes
-/// no memory. Elsewhere: nothing has changed, and another way tells.
-#[inline(always)]
-pub fn judge_number(
-    which: Part,
-    instr: &FieldPart,
-    entry: &mut Entry,
-    bytes: &[u8],
-    at: usize,
-) -> Judged
-    requires place { at ≤ length bytes.now }
-    requires part { which ≡ instr.now.part }
-    ensures place { IfJudged result (λ bit next. (at ≤ next) × (next ≤ length bytes.now)) }
-    ensures judged { IfJudged result (λ bit next. (v : ScalarOf)
-        × Judges bit instr.now entry.old entry.new v bytes.now at next) }
-    ensures entry { IfNotJudged result (entry.new ≡ entry.old) }
-{
-    match instr.operator {
-        Operator::Constant => judge_constant(instr, entry, bytes, at),
-        Operator::Tail => Judged::Elsewhere,
-        Operator::Plain
-        | Operator::Default
-        | Operator::Copy
-        | Operator::Increment
-        | Operator::Delta => match instr.kind {
-            Kind::UInt32 | Kind::Int32 | Kind::UInt64 | Kind::Int64 => {
-                judge_integer(which, instr.kind, instr, entry, bytes, at)
-            }
-            Kind::Decimal | Kind::Ascii | Kind::Unicode | Kind::Bytes => Judged::Elsewhere,
-        },
-    }
-}
-
 /// Judges an integer.
 #[inline(always)]
 fn judge_integer(
@@ -385,5 +356,69 @@ fn judge_integer(
             judge_spelled(kind, which, instr, entry, number, bytes, at, next)
         }
         Operator::Constant | Operator::Tail => Judged::Elsewhere,
+    }
+}
+
+/// Judges a string, a vector or a decimal, which is no part of another field.
+#[inline(always)]
+fn judge_long(
+    which: Part,
+    alloc: Global,
+    instr: &FieldPart,
+    entry: &mut Entry,
+    bytes: &[u8],
+    at: usize,
+) -> Judged
+    requires place { at ≤ length bytes.now }
+    requires part { which ≡ instr.now.part }
+    ensures place { IfJudged result (λ bit next. (at ≤ next) × (next ≤ length bytes.now)) }
+    ensures judged { IfJudged result (λ bit next. (v : ScalarOf)
+        × Judges bit instr.now entry.old entry.new v bytes.now at next) }
+    ensures entry { IfNotJudged result (entry.new ≡ entry.old) }
+{
+    match which {
+        Part::Whole => match instr.kind {
+            Kind::Ascii => judge_string(alloc, instr, entry, bytes, at),
+            Kind::Unicode | Kind::Bytes => judge_vector(alloc, instr, entry, bytes, at),
+            Kind::Decimal => judge_decimal(instr, entry, bytes, at),
+            Kind::UInt32 | Kind::Int32 | Kind::UInt64 | Kind::Int64 => Judged::Elsewhere,
+        },
+        Part::Exponent | Part::Mantissa | Part::Length => Judged::Elsewhere,
+    }
+}
+
+/// Judges what is read under bit 1, where the caller knows what part it is, and makes the entry the one afterwards.
+/// Elsewhere: nothing has changed, and another way tells.
+#[inline(always)]
+pub fn judge_field(
+    which: Part,
+    alloc: Global,
+    instr: &FieldPart,
+    entry: &mut Entry,
+    bytes: &[u8],
+    at: usize,
+) -> Judged
+    requires place { at ≤ length bytes.now }
+    requires part { which ≡ instr.now.part }
+    ensures place { IfJudged result (λ bit next. (at ≤ next) × (next ≤ length bytes.now)) }
+    ensures judged { IfJudged result (λ bit next. (v : ScalarOf)
+        × Judges bit instr.now entry.old entry.new v bytes.now at next) }
+    ensures entry { IfNotJudged result (entry.new ≡ entry.old) }
+{
+    match instr.operator {
+        Operator::Constant => judge_constant(instr, entry, bytes, at),
+        Operator::Plain
+        | Operator::Default
+        | Operator::Copy
+        | Operator::Increment
+        | Operator::Delta
+        | Operator::Tail => match instr.kind {
+            Kind::UInt32 | Kind::Int32 | Kind::UInt64 | Kind::Int64 => {
+                judge_integer(which, instr.kind, instr, entry, bytes, at)
+            }
+            Kind::Decimal | Kind::Ascii | Kind::Unicode | Kind::Bytes => {
+                judge_long(which, alloc, instr, entry, bytes, at)
+            }
+        },
     }
 }

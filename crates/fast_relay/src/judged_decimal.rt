@@ -206,7 +206,7 @@ fn judge_decimal_delta(instr: &FieldPart, entry: &mut Entry, bytes: &[u8], at: u
 /// Judges a decimal in one piece that is read under bit 1, and makes the entry the one afterwards. It takes no memory.
 /// Elsewhere: nothing has changed, and another way tells.
 #[inline(never)]
-pub fn judge_decimal(instr: &FieldPart, entry: &mut Entry, bytes: &[u8], at: usize) -> Judged
+pub(crate) fn judge_decimal(instr: &FieldPart, entry: &mut Entry, bytes: &[u8], at: usize) -> Judged
     requires place { at ≤ length bytes.now }
     requires part { instr.now.part ≡ part_type.Whole }
     requires kind { instr.now.kind ≡ kind_type.Decimal }

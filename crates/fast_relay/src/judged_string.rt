@@ -163,7 +163,7 @@ fn judge_string_tail(
 /// Judges an ASCII string that is read under bit 1, and makes the entry the one afterwards. Elsewhere: nothing has changed,
 /// and another way tells. (A call of its own, as `relay_plain` is, so that the walk over a segment stays short.)
 #[inline(never)]
-pub fn judge_string(
+pub(crate) fn judge_string(
     alloc: Global,
     instr: &FieldPart,
     entry: &mut Entry,

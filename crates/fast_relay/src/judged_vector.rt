@@ -260,7 +260,7 @@ fn judge_vector_on(
 /// Judges a Unicode string or byte vector that is read under bit 1, and makes the entry the one afterwards. It takes no
 /// memory but what the entry needs. Elsewhere: nothing has changed, and another way tells.
 #[inline(never)]
-pub fn judge_vector(
+pub(crate) fn judge_vector(
     alloc: Global,
     instr: &FieldPart,
     entry: &mut Entry,

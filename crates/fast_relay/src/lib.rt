@@ -7,9 +7,8 @@
 //! `pass_left_out` of `fast_field`. Where nothing has changed the field goes the general way of `fast_field`: `find_field`
 //! and `write_found`. [`take_number`] reads an integer in the same way and writes nothing, [`take_kept`] one that its
 //! entry keeps, and [`take_text`] an ASCII string that it keeps; they are for those who make messages or tell them.
-//! [`judge_number`] writes nothing either: it says whether the bytes of an integer are its best form as they stand, or bit 0
-//! is ([`Judged`]), and so do [`judge_string`] of ASCII strings, [`judge_vector`] of Unicode strings and byte vectors, and
-//! [`judge_decimal`] of decimals in one piece.
+//! [`judge_field`] writes nothing either: it says whether the bytes of a field are its best form as they stand, or bit 0
+//! is ([`Judged`]).
 //! What a field's forms are is defined there; `specs/Relayed` says what it is to have relayed one, `specs/Judged` to have
 //! judged one.
 #![tactic(auto)]
@@ -37,10 +36,7 @@ mod text;
 mod vectors;
 
 pub use decimal::relay_decimal;
-pub use judged::{Judged, judge_number};
-pub use judged_decimal::judge_decimal;
-pub use judged_string::judge_string;
-pub use judged_vector::judge_vector;
+pub use judged::{Judged, judge_field};
 pub use null::relay_null;
 pub use number::{relay_number, relay_unsigned};
 pub use passed::pass_quickly;

@@ -7,6 +7,8 @@ ghost use Rattle.fast_dictionary.specs.Dictionary.{entry_at};
 ghost use Rattle.fast_stream.specs.Bits.{after_bit, bit_for};
 ghost use Rattle.fast_walk.specs.Received.{Took};
 ghost use Rattle.fast_field.specs.Parts.{IsFieldPart};
+ghost use Rattle.fast_field.specs.AsUsual.{ReadsAsUsual};
+ghost use Rattle.fast_wire.specs.declared.level.Level.TheVariants.{Strict};
 ghost use Rattle.fast_walk.specs.Told.{IsTold, KeepScalars};
 ghost use Rattle.fast_walk.specs.Walks.{AreServed, IsMantissaServed, IsNextServed, IsServed};
 ghost use Rattle.fast_walk.specs.Passing.{next_behind};
@@ -24,8 +26,8 @@ ghost use Rattle.fast_value.specs.declared.kind.Part.TheVariants.{Exponent, Whol
 use crate::quick::relay_other;
 use crate::segment::Segment;
 use fast_dictionary::{Entries, Entry};
-use fast_field::{Passed, pass_part, reads_as_usual};
-use fast_relay::{Judged, judge_number};
+use fast_field::{Passed, reads_as_usual};
+use fast_relay::{Judged, judge_field, pass_quickly};
 use fast_template::{FieldPart, Flat, Kind, Part, part_needs_bit};
 use fast_walk::Fields;
 use fast_wire::{Bits, Level};
@@ -67,6 +69,39 @@ fn end_part(bits: &mut Bits, needs: bool, best: bool, segment: &mut Segment, the
     }
 }
 
+// The same in a call of its own, so that the loop over fields stays small.
+#[inline(never)]
+fn end_rarely(bits: &mut Bits, needs: bool, best: bool, segment: &mut Segment, there: bool) -> Taken
+    ensures part { IfTaken result (λ t. t ≡ there) }
+    ensures asked { IfTaken result (λ t. Asked needs best (level_of segment.old) (level_of segment.new)) }
+    ensures bits { IfTaken result (λ t. bits.new ≡ after_bit needs bits.old) }
+    ensures run { IfTaken result (λ t. segment.new.bytes ≡ segment.old.bytes) }
+    ensures done { IfElsewhere result ⊥ }
+{
+    end_part(bits, needs, best, segment, there)
+}
+
+// Whether a field that was sent is read at a level as at the usual one.
+#[inline(always)]
+fn is_read_as_usual(level: Level, part: &FieldPart, bytes: &[u8], at: usize) -> bool
+    requires { at ≤ length bytes.now }
+    ensures { result ≡ true → ReadsAsUsual level part.now (drop at bytes.now) }
+{
+    match level {
+        Level::Usual => true,
+        Level::Strict => is_read_so_strictly(part, bytes, at),
+    }
+}
+
+// The same at the strict level, in a call of its own.
+#[inline(never)]
+fn is_read_so_strictly(part: &FieldPart, bytes: &[u8], at: usize) -> bool
+    requires { at ≤ length bytes.now }
+    ensures { result ≡ true → ReadsAsUsual Strict part.now (drop at bytes.now) }
+{
+    reads_as_usual(Level::Strict, part, bytes, at)
+}
+
 // Takes a part that bit 0 gives.
 #[inline(always)]
 fn take_given(
@@ -94,7 +129,7 @@ fn take_given(
         × (level_in bytes.now segment.new ≡ level_in bytes.now segment.old) × (bits.new ≡ bits.old)
         × IsRun bytes.now segment.old.bytes.place segment.new.bytes) }
 {
-    match pass_part(which, part, entry) {
+    match pass_quickly(which, part, entry) {
         Passed::Elsewhere => Taken::Elsewhere,
         Passed::Absent => end_part(bits, true, false, segment, false),
         Passed::Present => end_part(bits, true, false, segment, true),
@@ -129,24 +164,24 @@ fn take_sent(
         × IsRun bytes.now segment.old.bytes.place segment.new.bytes) }
 {
     let at = segment.bytes.place;
-    if !reads_as_usual(level, part, bytes, at) {
+    if !is_read_as_usual(level, part, bytes, at) {
         return Taken::Elsewhere;
     }
     let needs = part_needs_bit(part);
-    match judge_number(which, part, entry, bytes, at) {
+    match judge_field(which, alloc, part, entry, bytes, at) {
         Judged::Stands(next) => {
             segment.bytes.keep(next);
             end_part(bits, needs, true, segment, true)
         }
         Judged::Given(next) => {
             if segment.bytes.leave_out(bytes, next) {
-                end_part(bits, needs, false, segment, true)
+                end_rarely(bits, needs, false, segment, true)
             } else {
                 Taken::Refused
             }
         }
         Judged::Elsewhere => match relay_other(alloc, part, entry, bytes, at, &mut segment.bytes) {
-            Some((there, best)) => end_part(bits, needs, best, segment, there),
+            Some((there, best)) => end_rarely(bits, needs, best, segment, there),
             None => Taken::Elsewhere,
         },
     }

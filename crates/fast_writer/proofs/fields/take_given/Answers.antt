@@ -22,9 +22,9 @@ returns-in-Absent-clause-took c =
     rw (is) (
       None,
       refl,
-      took_behind c.args.level i c.args.entry.now c.pass_part.new.entry c.args.bits.now (None) (drop at bytes) (drop at bytes) (drop now.bytes.place bytes) (level_in bytes old) (level_in bytes now) (ap (λ (r : Run). drop r.place bytes) run)
-          (took_entry c.args.level i c.args.entry.now c.pass_part.new.entry c.args.bits.now false false true (None) (drop at bytes) (drop at bytes) (written bytes old.bytes) (level_in bytes old) (level_in bytes now)
-          zero (sym c.requires.needs) (λ none. none) (passes_relayed c.args.level i c.args.entry.now c.pass_part.new.entry (None) (drop at bytes) (written bytes old.bytes) c.requires.needs p)
+      took_behind c.args.level i c.args.entry.now c.pass_quickly.new.entry c.args.bits.now (None) (drop at bytes) (drop at bytes) (drop now.bytes.place bytes) (level_in bytes old) (level_in bytes now) (ap (λ (r : Run). drop r.place bytes) run)
+          (took_entry c.args.level i c.args.entry.now c.pass_quickly.new.entry c.args.bits.now false false true (None) (drop at bytes) (drop at bytes) (written bytes old.bytes) (level_in bytes old) (level_in bytes now)
+          zero (sym c.requires.needs) (λ none. none) (passes_relayed c.args.level i c.args.entry.now c.pass_quickly.new.entry (None) (drop at bytes) (written bytes old.bytes) c.requires.needs p)
           (asked_in bytes true false old now asked run)),
     ))
     c.end_part.ensures.part c.end_part.ensures.asked c.end_part.ensures.run
@@ -43,9 +43,9 @@ returns-in-Present-clause-took c =
     rw (is) (
       Some c.in-Present.ensures.0,
       (c.in-Present.ensures.0, refl, c.in-Present.ensures.1),
-      took_behind c.args.level i c.args.entry.now c.pass_part.new.entry c.args.bits.now (Some c.in-Present.ensures.0) (drop at bytes) (drop at bytes) (drop now.bytes.place bytes) (level_in bytes old) (level_in bytes now) (ap (λ (r : Run). drop r.place bytes) run)
-          (took_entry c.args.level i c.args.entry.now c.pass_part.new.entry c.args.bits.now false false true (Some c.in-Present.ensures.0) (drop at bytes) (drop at bytes) (written bytes old.bytes) (level_in bytes old) (level_in bytes now)
-          zero (sym c.requires.needs) (λ none. none) (passes_relayed c.args.level i c.args.entry.now c.pass_part.new.entry (Some c.in-Present.ensures.0) (drop at bytes) (written bytes old.bytes) c.requires.needs p)
+      took_behind c.args.level i c.args.entry.now c.pass_quickly.new.entry c.args.bits.now (Some c.in-Present.ensures.0) (drop at bytes) (drop at bytes) (drop now.bytes.place bytes) (level_in bytes old) (level_in bytes now) (ap (λ (r : Run). drop r.place bytes) run)
+          (took_entry c.args.level i c.args.entry.now c.pass_quickly.new.entry c.args.bits.now false false true (Some c.in-Present.ensures.0) (drop at bytes) (drop at bytes) (written bytes old.bytes) (level_in bytes old) (level_in bytes now)
+          zero (sym c.requires.needs) (λ none. none) (passes_relayed c.args.level i c.args.entry.now c.pass_quickly.new.entry (Some c.in-Present.ensures.0) (drop at bytes) (written bytes old.bytes) c.requires.needs p)
           (asked_in bytes true false old now asked run)),
     ))
     c.end_part-in-Present.ensures.part c.end_part-in-Present.ensures.asked c.end_part-in-Present.ensures.run

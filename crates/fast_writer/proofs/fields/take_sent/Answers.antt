@@ -23,10 +23,10 @@ returns-in-Stands-clause-took c =
     rw (is) (
       Some v,
       (v, refl, r.of_kind),
-      took_behind c.args.level i c.args.entry.now c.judge_number.new.entry c.args.bits.now (Some v) (drop at bytes) (drop next bytes) (drop now.bytes.place bytes) (level_in bytes old) (level_in bytes now) (ap (λ n. drop n bytes) (ap (λ (r : Run). r.place) same ∙ run.place))
-          (took_entry c.args.level i c.args.entry.now c.judge_number.new.entry c.args.bits.now true true c.part_needs_bit-needs.result (Some v) (drop at bytes) (drop next bytes) (written bytes kept) (level_in bytes old) (level_in bytes now)
+      took_behind c.args.level i c.args.entry.now c.judge_field.new.entry c.args.bits.now (Some v) (drop at bytes) (drop next bytes) (drop now.bytes.place bytes) (level_in bytes old) (level_in bytes now) (ap (λ n. drop n bytes) (ap (λ (r : Run). r.place) same ∙ run.place))
+          (took_entry c.args.level i c.args.entry.now c.judge_field.new.entry c.args.bits.now true true c.part_needs_bit-needs.result (Some v) (drop at bytes) (drop next bytes) (written bytes kept) (level_in bytes old) (level_in bytes now)
           c.requires.bit c.part_needs_bit-needs.ensures (λ low. low)
-          (stands_relayed c.args.level i c.args.entry.now c.judge_number.new.entry v (drop at bytes) (drop next bytes) (written bytes old.bytes) _ (written bytes kept) (c.reads_as_usual.ensures c.if-not-reads_as_usual.false) r (c.keep.ensures.written bytes at c.requires.run))
+          (stands_relayed c.args.level i c.args.entry.now c.judge_field.new.entry v (drop at bytes) (drop next bytes) (written bytes old.bytes) _ (written bytes kept) (c.is_read_as_usual.ensures c.if-not-is_read_as_usual.false) r (c.keep.ensures.written bytes at c.requires.run))
           (asked_in bytes c.part_needs_bit-needs.result true _ now asked same)),
     ))
     c.end_part.ensures.part c.end_part.ensures.asked c.end_part.ensures.run
