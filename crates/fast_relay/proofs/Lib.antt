@@ -10,3 +10,5 @@ mod TextTaking
 mod KeptTaking
 pub mod Giving
 mod Standing
+mod AsciiWords
+mod Utf8Steps

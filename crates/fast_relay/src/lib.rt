@@ -24,6 +24,7 @@ mod run;
 mod taken;
 mod taken_text;
 mod text;
+mod utf8;
 mod vectors;
 
 pub use decimal::relay_decimal;
