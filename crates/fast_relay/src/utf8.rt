@@ -1,9 +1,10 @@
 //! Whether bytes are UTF-8, as those of a Unicode string are. The texts of a feed are mostly short, of ASCII with some
-//! letters of two bytes: to step over these takes a fraction of the call which finds out about all others.
+//! letters of two bytes: to step over these costs less than the call, which is made for what stands behind them.
 
 ghost use Rattle.std.specs.Prelude.{◌≡◌, ◌+◌, ◌<◌, ◌≤◌, ◌↔◌, length, drop, take, slice_index, IsTrue, IsUtf8};
 ghost use Rattle.std.specs.Int.{IsInRange};
 ghost use Rattle.std.specs.Str.{IsAscii};
+ghost use Rattle.fast_relay.specs.Skips.{Skips};
 
 use fast_wire::check_text;
 
@@ -21,7 +22,7 @@ fn are_ascii(word: [u8; 8]) -> bool
     u64::from_le_bytes(word) & HIGH_BITS == 0
 }
 
-/// Whether eight bytes of ASCII begin at a place.
+/// Whether a word of ASCII begins at a place.
 #[inline(always)]
 fn is_ascii_word(units: &[u8], at: usize) -> bool
     requires { at ≤ length units.now }
@@ -37,7 +38,7 @@ fn is_ascii_word(units: &[u8], at: usize) -> bool
 /// Whether a letter of two bytes begins at a place.
 #[inline(always)]
 fn is_pair(units: &[u8], at: usize) -> bool
-    requires { at < length units.now }
+    requires { at ≤ length units.now }
     ensures { IsTrue result ↔ ((at + 1 < length units.now)
         × IsInRange 0xc2 0xdf (slice_index units.now at)
         × IsInRange 0x80 0xbf (slice_index units.now (at + 1))) }
@@ -47,23 +48,52 @@ fn is_pair(units: &[u8], at: usize) -> bool
         && (0x80..=0xbf).contains(&units[at + 1])
 }
 
-/// How many bytes there are to step over at a place: a word of ASCII, a byte of it, or a letter of two bytes. 0: what
-/// stands there is neither.
+/// The place behind the words of ASCII that begin at a place.
 #[inline(always)]
-fn short_step(units: &[u8], at: usize) -> usize
-    requires { at < length units.now }
-    ensures within { at + result ≤ length units.now }
-    ensures utf8 { IsUtf8 (take result (drop at units.now)) }
+fn skip_words(units: &[u8], at: usize) -> usize
+    requires { at ≤ length units.now }
+    ensures { Skips units.now at result }
 {
-    if is_ascii_word(units, at) {
-        WORD
-    } else if units[at] < 128 {
-        1
-    } else if is_pair(units, at) {
-        2
-    } else {
-        0
+    let mut next = at;
+    while is_ascii_word(units, next) {
+        next += WORD;
     }
+    next
+}
+
+/// The place behind the bytes of ASCII that begin at a place, one byte at a time.
+#[inline(always)]
+fn skip_ascii(units: &[u8], at: usize) -> usize
+    requires { at ≤ length units.now }
+    ensures { Skips units.now at result }
+{
+    let mut next = at;
+    while next < units.len() && units[next] < 128 {
+        next += 1;
+    }
+    next
+}
+
+/// The place behind the letters of two bytes that begin at a place.
+#[inline(always)]
+fn skip_pairs(units: &[u8], at: usize) -> usize
+    requires { at ≤ length units.now }
+    ensures { Skips units.now at result }
+{
+    let mut next = at;
+    while is_pair(units, next) {
+        next += 2;
+    }
+    next
+}
+
+/// A place behind ASCII and letters of two bytes that begin at a place; the place itself where none do.
+#[inline(always)]
+fn skip_short(units: &[u8], at: usize) -> usize
+    requires { at ≤ length units.now }
+    ensures { Skips units.now at result }
+{
+    skip_pairs(units, skip_ascii(units, skip_words(units, at)))
 }
 
 /// Whether bytes are UTF-8, found out by a call.
@@ -80,11 +110,11 @@ pub(crate) fn is_utf8(units: &[u8]) -> bool
 {
     let mut at = 0;
     while at < units.len() {
-        let step = short_step(units, at);
-        if step == 0 {
+        let next = skip_short(units, at);
+        if next == at {
             return is_utf8_by_call(&units[at..]);
         }
-        at += step;
+        at = next;
     }
     true
 }
