@@ -14,3 +14,5 @@ mod Judging
 mod DecimalJudging
 mod VectorJudging
 mod StringJudging
+mod AsciiWords
+mod Utf8Steps

@@ -4,3 +4,4 @@ pub mod Relayed
 pub mod Runs
 pub mod Texts
 pub mod Kept
+pub mod Skips

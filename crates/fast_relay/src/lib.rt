@@ -33,6 +33,7 @@ mod short_number;
 mod taken;
 mod taken_text;
 mod text;
+mod utf8;
 mod vectors;
 
 pub use decimal::relay_decimal;

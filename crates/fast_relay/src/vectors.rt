@@ -27,11 +27,11 @@ use crate::cut::few_removed;
 use crate::given::gives_units;
 use crate::integers::read_short;
 use crate::relayed::Relayed;
+use crate::utf8::is_utf8;
 use fast_dictionary::Entry;
 use fast_field::{units, write_signed, write_units};
 use fast_template::{ByteString, FieldPart, Kind, Operator, Presence, Scalar, UnicodeText};
 use fast_value::UNIT_LIMIT;
-use fast_wire::check_text;
 use std::alloc::Global;
 use std::mem;
 
@@ -80,7 +80,7 @@ pub(crate) fn are_text(kind: Kind, units: &[u8]) -> bool
     ensures { result ≡ true → IsText kind (of_units kind units.now) }
 {
     match kind {
-        Kind::Unicode => are_few(units) && check_text(units).is_ok(),
+        Kind::Unicode => are_few(units) && is_utf8(units),
         _ => are_few(units),
     }
 }
