@@ -131,12 +131,7 @@ pub(crate) fn read_shortest(
 
 /// The bit of the best form of a number, by the initial value.
 #[inline(always)]
-fn judge_default(
-    kind: Kind,
-    instr: &FieldPart,
-    entry: &Entry,
-    number: i64,
-) -> Option<bool>
+fn judge_default(kind: Kind, instr: &FieldPart, entry: &Entry, number: i64) -> Option<bool>
     requires kind { kind ≡ instr.now.kind }
     requires integer { IsTrue (is_integer kind) }
     requires operator { instr.now.operator ≡ operator_type.Default }
@@ -154,12 +149,7 @@ fn judge_default(
 
 /// The bit of the best form of a number, by the one that the entry has; it then has this one.
 #[inline(always)]
-fn judge_copy(
-    kind: Kind,
-    instr: &FieldPart,
-    entry: &mut Entry,
-    number: i64,
-) -> Option<bool>
+fn judge_copy(kind: Kind, instr: &FieldPart, entry: &mut Entry, number: i64) -> Option<bool>
     requires kind { kind ≡ instr.now.kind }
     requires integer { IsTrue (is_integer kind) }
     requires operator { instr.now.operator ≡ operator_type.Copy }
@@ -179,12 +169,7 @@ fn judge_copy(
 
 /// The bit of the best form of a number, by the one that follows the entry's; it then has this one.
 #[inline(always)]
-fn judge_increment(
-    kind: Kind,
-    instr: &FieldPart,
-    entry: &mut Entry,
-    number: i64,
-) -> Option<bool>
+fn judge_increment(kind: Kind, instr: &FieldPart, entry: &mut Entry, number: i64) -> Option<bool>
     requires kind { kind ≡ instr.now.kind }
     requires integer { IsTrue (is_integer kind) }
     requires operator { instr.now.operator ≡ operator_type.Increment }
@@ -209,12 +194,7 @@ fn judge_increment(
 /// The bit of the best form of a number that was spelled whole; the entry goes on. None: nothing has changed, and another
 /// way tells.
 #[inline(always)]
-fn judge_read(
-    kind: Kind,
-    instr: &FieldPart,
-    entry: &mut Entry,
-    number: i64,
-) -> Option<bool>
+fn judge_read(kind: Kind, instr: &FieldPart, entry: &mut Entry, number: i64) -> Option<bool>
     requires kind { kind ≡ instr.now.kind }
     requires integer { IsTrue (is_integer kind) }
     requires whole { SpellsWhole instr.now.operator }

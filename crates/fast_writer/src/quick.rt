@@ -22,9 +22,7 @@ use crate::relay::relay_entry;
 use crate::segment::Segment;
 use fast_dictionary::{Entries, Entry};
 use fast_field::FieldFault;
-use fast_relay::{
-    Relayed as Answer, Run, relay_decimal, relay_null, relay_number, relay_text,
-};
+use fast_relay::{Relayed as Answer, Run, relay_decimal, relay_null, relay_number, relay_text};
 use fast_template::{FieldPart, Kind, part_needs_bit};
 use fast_wire::Level;
 use std::alloc::Global;

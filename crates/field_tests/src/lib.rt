@@ -10,6 +10,8 @@ mod fields;
 #[cfg(test)]
 mod given;
 #[cfg(test)]
+mod judged;
+#[cfg(test)]
 mod nulls;
 #[cfg(test)]
 mod numbers;

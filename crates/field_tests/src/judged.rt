@@ -1,0 +1,495 @@
+//! Rows on fields that are judged as they stand.
+
+use crate::fields::{Kept, Value, part_of};
+use crate::same::same;
+use fast_relay::{Judged, judge_field};
+use fast_template::{Kind, Operator, Part, Presence};
+use std::alloc::{AllocError, Global};
+use std::process::Abort;
+
+// What the bytes behind the first are judged to be, and the entry afterwards.
+struct Row {
+    part: Part,
+    kind: Kind,
+    presence: Presence,
+    operator: Operator,
+    before: Kept,
+    bytes: &'static [u8],
+    judged: Judged,
+    after: Kept,
+}
+
+// Want of memory leaves the entry as it was, and ends the test.
+fn is_judged(rt: &impl Abort, alloc: Global, row: &Row) -> Result<(), AllocError> {
+    let instr = part_of(alloc, row.part, row.kind, row.presence, row.operator, None)?;
+    let mut entry = row.before.entry(alloc)?;
+    let at = row.bytes.len().min(1);
+    let judged = judge_field(row.part, alloc, &instr, &mut entry, row.bytes, at);
+    if judged == Judged::Elsewhere && row.judged != Judged::Elsewhere {
+        same(rt, entry, row.before.entry(alloc)?);
+        return Err(AllocError);
+    }
+    same(rt, judged, row.judged);
+    same(rt, entry, row.after.entry(alloc)?);
+    Ok(())
+}
+
+fn all_judged(rt: &impl Abort, alloc: Global, rows: &[Row]) -> Result<(), AllocError> {
+    for row in rows {
+        is_judged(rt, alloc, row)?;
+    }
+    Ok(())
+}
+
+#[test]
+fn strings_that_are_judged(rt: HostRuntime) -> Result<(), AllocError> {
+    const JUDGED: &[Row] = &[
+        // copies stand where they differ, and bit 0 gives those that do not
+        Row {
+            part: Part::Whole,
+            kind: Kind::Ascii,
+            presence: Presence::Mandatory,
+            operator: Operator::Copy,
+            before: Kept::Assigned(Value::Ascii(b"AB")),
+            bytes: &[0, 0x43, 0xc4],
+            judged: Judged::Stands(3),
+            after: Kept::Assigned(Value::Ascii(b"CD")),
+        },
+        Row {
+            part: Part::Whole,
+            kind: Kind::Ascii,
+            presence: Presence::Optional,
+            operator: Operator::Copy,
+            before: Kept::Empty,
+            bytes: &[0, 0x43, 0xc4],
+            judged: Judged::Stands(3),
+            after: Kept::Assigned(Value::Ascii(b"CD")),
+        },
+        Row {
+            part: Part::Whole,
+            kind: Kind::Ascii,
+            presence: Presence::Mandatory,
+            operator: Operator::Copy,
+            before: Kept::Assigned(Value::Ascii(b"AB")),
+            bytes: &[0, 0x41, 0xc2],
+            judged: Judged::Given(3),
+            after: Kept::Assigned(Value::Ascii(b"AB")),
+        },
+        // a string with no operator, and a default, leave their entries
+        Row {
+            part: Part::Whole,
+            kind: Kind::Ascii,
+            presence: Presence::Mandatory,
+            operator: Operator::Plain,
+            before: Kept::Undefined,
+            bytes: &[0, 0x43, 0xc4],
+            judged: Judged::Stands(3),
+            after: Kept::Undefined,
+        },
+        Row {
+            part: Part::Whole,
+            kind: Kind::Ascii,
+            presence: Presence::Optional,
+            operator: Operator::Default,
+            before: Kept::Assigned(Value::Ascii(b"AB")),
+            bytes: &[0, 0x43, 0xc4],
+            judged: Judged::Stands(3),
+            after: Kept::Assigned(Value::Ascii(b"AB")),
+        },
+        // deltas stand where no shorter one gives the same
+        Row {
+            part: Part::Whole,
+            kind: Kind::Ascii,
+            presence: Presence::Mandatory,
+            operator: Operator::Delta,
+            before: Kept::Assigned(Value::Ascii(b"ESM6")),
+            bytes: &[0, 0x81, 0xb7],
+            judged: Judged::Stands(3),
+            after: Kept::Assigned(Value::Ascii(b"ESM7")),
+        },
+        Row {
+            part: Part::Whole,
+            kind: Kind::Ascii,
+            presence: Presence::Mandatory,
+            operator: Operator::Delta,
+            before: Kept::Assigned(Value::Ascii(b"0012")),
+            bytes: &[0, 0x82, 0x32, 0xb2],
+            judged: Judged::Stands(4),
+            after: Kept::Assigned(Value::Ascii(b"0022")),
+        },
+        // so do tails, and bit 0 gives an end that is there already
+        Row {
+            part: Part::Whole,
+            kind: Kind::Ascii,
+            presence: Presence::Mandatory,
+            operator: Operator::Tail,
+            before: Kept::Assigned(Value::Ascii(b"xab")),
+            bytes: &[0, 0xe3],
+            judged: Judged::Stands(2),
+            after: Kept::Assigned(Value::Ascii(b"xac")),
+        },
+        Row {
+            part: Part::Whole,
+            kind: Kind::Ascii,
+            presence: Presence::Mandatory,
+            operator: Operator::Tail,
+            before: Kept::Assigned(Value::Ascii(b"xab")),
+            bytes: &[0, 0x61, 0xe2],
+            judged: Judged::Given(3),
+            after: Kept::Assigned(Value::Ascii(b"xab")),
+        },
+    ];
+    all_judged(&rt, rt.alloc(), JUDGED)
+}
+
+#[test]
+fn strings_that_are_not_judged(rt: HostRuntime) -> Result<(), AllocError> {
+    const OTHERS: &[Row] = &[
+        // a preamble
+        Row {
+            part: Part::Whole,
+            kind: Kind::Ascii,
+            presence: Presence::Mandatory,
+            operator: Operator::Copy,
+            before: Kept::Assigned(Value::Ascii(b"AB")),
+            bytes: &[0, 0x00, 0x43, 0xc4],
+            judged: Judged::Elsewhere,
+            after: Kept::Assigned(Value::Ascii(b"AB")),
+        },
+        // NULL
+        Row {
+            part: Part::Whole,
+            kind: Kind::Ascii,
+            presence: Presence::Optional,
+            operator: Operator::Copy,
+            before: Kept::Assigned(Value::Ascii(b"AB")),
+            bytes: &[0, 0x80],
+            judged: Judged::Elsewhere,
+            after: Kept::Assigned(Value::Ascii(b"AB")),
+        },
+        // an undefined entry
+        Row {
+            part: Part::Whole,
+            kind: Kind::Ascii,
+            presence: Presence::Mandatory,
+            operator: Operator::Copy,
+            before: Kept::Undefined,
+            bytes: &[0, 0x43, 0xc4],
+            judged: Judged::Elsewhere,
+            after: Kept::Undefined,
+        },
+        // one character is removed and put back, and one removal in front is shorter
+        Row {
+            part: Part::Whole,
+            kind: Kind::Ascii,
+            presence: Presence::Mandatory,
+            operator: Operator::Delta,
+            before: Kept::Assigned(Value::Ascii(b"ESM6")),
+            bytes: &[0, 0x82, 0x4d, 0xb7],
+            judged: Judged::Elsewhere,
+            after: Kept::Assigned(Value::Ascii(b"ESM6")),
+        },
+        Row {
+            part: Part::Whole,
+            kind: Kind::Ascii,
+            presence: Presence::Mandatory,
+            operator: Operator::Delta,
+            before: Kept::Assigned(Value::Ascii(b"0012")),
+            bytes: &[0, 0x84, 0x31, 0x30, 0x31, 0xb2],
+            judged: Judged::Elsewhere,
+            after: Kept::Assigned(Value::Ascii(b"0012")),
+        },
+        // an overlong removal
+        Row {
+            part: Part::Whole,
+            kind: Kind::Ascii,
+            presence: Presence::Mandatory,
+            operator: Operator::Delta,
+            before: Kept::Assigned(Value::Ascii(b"ESM6")),
+            bytes: &[0, 0x00, 0x81, 0xb7],
+            judged: Judged::Elsewhere,
+            after: Kept::Assigned(Value::Ascii(b"ESM6")),
+        },
+        // a tail of which the first character is there already
+        Row {
+            part: Part::Whole,
+            kind: Kind::Ascii,
+            presence: Presence::Mandatory,
+            operator: Operator::Tail,
+            before: Kept::Assigned(Value::Ascii(b"xab")),
+            bytes: &[0, 0x61, 0xe3],
+            judged: Judged::Elsewhere,
+            after: Kept::Assigned(Value::Ascii(b"xab")),
+        },
+    ];
+    all_judged(&rt, rt.alloc(), OTHERS)
+}
+
+#[test]
+fn integers_that_are_judged(rt: HostRuntime) -> Result<(), AllocError> {
+    const JUDGED: &[Row] = &[
+        // a number stands where bit 0 gives another, and bit 0 gives the kept one
+        Row {
+            part: Part::Whole,
+            kind: Kind::UInt32,
+            presence: Presence::Mandatory,
+            operator: Operator::Copy,
+            before: Kept::Assigned(Value::U32(5)),
+            bytes: &[0, 0x87],
+            judged: Judged::Stands(2),
+            after: Kept::Assigned(Value::U32(7)),
+        },
+        Row {
+            part: Part::Whole,
+            kind: Kind::UInt32,
+            presence: Presence::Mandatory,
+            operator: Operator::Copy,
+            before: Kept::Assigned(Value::U32(5)),
+            bytes: &[0, 0x85],
+            judged: Judged::Given(2),
+            after: Kept::Assigned(Value::U32(5)),
+        },
+        Row {
+            part: Part::Whole,
+            kind: Kind::UInt32,
+            presence: Presence::Optional,
+            operator: Operator::Copy,
+            before: Kept::Assigned(Value::U32(5)),
+            bytes: &[0, 0x88],
+            judged: Judged::Stands(2),
+            after: Kept::Assigned(Value::U32(7)),
+        },
+        // the one behind it where it is increased
+        Row {
+            part: Part::Whole,
+            kind: Kind::UInt64,
+            presence: Presence::Mandatory,
+            operator: Operator::Increment,
+            before: Kept::Assigned(Value::U64(5)),
+            bytes: &[0, 0x86],
+            judged: Judged::Given(2),
+            after: Kept::Assigned(Value::U64(6)),
+        },
+        Row {
+            part: Part::Whole,
+            kind: Kind::UInt64,
+            presence: Presence::Mandatory,
+            operator: Operator::Increment,
+            before: Kept::Assigned(Value::U64(5)),
+            bytes: &[0, 0x85],
+            judged: Judged::Stands(2),
+            after: Kept::Assigned(Value::U64(5)),
+        },
+        // two groups, the first not needless
+        Row {
+            part: Part::Whole,
+            kind: Kind::Int32,
+            presence: Presence::Mandatory,
+            operator: Operator::Plain,
+            before: Kept::Undefined,
+            bytes: &[0, 0x00, 0xc0],
+            judged: Judged::Stands(3),
+            after: Kept::Undefined,
+        },
+        Row {
+            part: Part::Whole,
+            kind: Kind::Int64,
+            presence: Presence::Mandatory,
+            operator: Operator::Delta,
+            before: Kept::Assigned(Value::I64(-1)),
+            bytes: &[0, 0xff],
+            judged: Judged::Stands(2),
+            after: Kept::Assigned(Value::I64(-2)),
+        },
+        // the limits of an exponent, and a mantissa
+        Row {
+            part: Part::Exponent,
+            kind: Kind::Int32,
+            presence: Presence::Mandatory,
+            operator: Operator::Copy,
+            before: Kept::Assigned(Value::I32(0)),
+            bytes: &[0, 0xbf],
+            judged: Judged::Stands(2),
+            after: Kept::Assigned(Value::I32(63)),
+        },
+        Row {
+            part: Part::Mantissa,
+            kind: Kind::Int64,
+            presence: Presence::Mandatory,
+            operator: Operator::Delta,
+            before: Kept::Assigned(Value::I64(10)),
+            bytes: &[0, 0x81],
+            judged: Judged::Stands(2),
+            after: Kept::Assigned(Value::I64(11)),
+        },
+    ];
+    all_judged(&rt, rt.alloc(), JUDGED)
+}
+
+#[test]
+fn integers_that_are_not_judged(rt: HostRuntime) -> Result<(), AllocError> {
+    const OTHERS: &[Row] = &[
+        // a needless group
+        Row {
+            part: Part::Whole,
+            kind: Kind::UInt32,
+            presence: Presence::Mandatory,
+            operator: Operator::Copy,
+            before: Kept::Assigned(Value::U32(5)),
+            bytes: &[0, 0x00, 0x87],
+            judged: Judged::Elsewhere,
+            after: Kept::Assigned(Value::U32(5)),
+        },
+        Row {
+            part: Part::Whole,
+            kind: Kind::Int32,
+            presence: Presence::Mandatory,
+            operator: Operator::Copy,
+            before: Kept::Assigned(Value::I32(5)),
+            bytes: &[0, 0x00, 0xbf],
+            judged: Judged::Elsewhere,
+            after: Kept::Assigned(Value::I32(5)),
+        },
+        Row {
+            part: Part::Whole,
+            kind: Kind::Int32,
+            presence: Presence::Mandatory,
+            operator: Operator::Copy,
+            before: Kept::Assigned(Value::I32(5)),
+            bytes: &[0, 0x7f, 0xff],
+            judged: Judged::Elsewhere,
+            after: Kept::Assigned(Value::I32(5)),
+        },
+        // NULL
+        Row {
+            part: Part::Whole,
+            kind: Kind::UInt32,
+            presence: Presence::Optional,
+            operator: Operator::Copy,
+            before: Kept::Assigned(Value::U32(5)),
+            bytes: &[0, 0x80],
+            judged: Judged::Elsewhere,
+            after: Kept::Assigned(Value::U32(5)),
+        },
+        // out of the range of its type, and of an exponent
+        Row {
+            part: Part::Whole,
+            kind: Kind::UInt32,
+            presence: Presence::Mandatory,
+            operator: Operator::Copy,
+            before: Kept::Assigned(Value::U32(5)),
+            bytes: &[0, 0x10, 0x00, 0x00, 0x00, 0x80],
+            judged: Judged::Elsewhere,
+            after: Kept::Assigned(Value::U32(5)),
+        },
+        Row {
+            part: Part::Whole,
+            kind: Kind::UInt32,
+            presence: Presence::Mandatory,
+            operator: Operator::Delta,
+            before: Kept::Assigned(Value::U32(0)),
+            bytes: &[0, 0xff],
+            judged: Judged::Elsewhere,
+            after: Kept::Assigned(Value::U32(0)),
+        },
+        Row {
+            part: Part::Exponent,
+            kind: Kind::Int32,
+            presence: Presence::Mandatory,
+            operator: Operator::Copy,
+            before: Kept::Assigned(Value::I32(0)),
+            bytes: &[0, 0x00, 0xc0],
+            judged: Judged::Elsewhere,
+            after: Kept::Assigned(Value::I32(0)),
+        },
+        // the number behind the greatest
+        Row {
+            part: Part::Whole,
+            kind: Kind::UInt32,
+            presence: Presence::Mandatory,
+            operator: Operator::Increment,
+            before: Kept::Assigned(Value::U32(4294967295)),
+            bytes: &[0, 0x80],
+            judged: Judged::Elsewhere,
+            after: Kept::Assigned(Value::U32(4294967295)),
+        },
+        // no stop bit
+        Row {
+            part: Part::Whole,
+            kind: Kind::UInt32,
+            presence: Presence::Mandatory,
+            operator: Operator::Plain,
+            before: Kept::Undefined,
+            bytes: &[0, 0x07],
+            judged: Judged::Elsewhere,
+            after: Kept::Undefined,
+        },
+    ];
+    all_judged(&rt, rt.alloc(), OTHERS)
+}
+
+#[test]
+fn vectors_that_are_judged(rt: HostRuntime) -> Result<(), AllocError> {
+    const JUDGED: &[Row] = &[
+        // a vector and a Unicode string, whose lengths are the shortest
+        Row {
+            part: Part::Whole,
+            kind: Kind::Bytes,
+            presence: Presence::Mandatory,
+            operator: Operator::Copy,
+            before: Kept::Assigned(Value::Bytes(b"AB")),
+            bytes: &[0, 0x81, 0x43],
+            judged: Judged::Stands(3),
+            after: Kept::Assigned(Value::Bytes(b"C")),
+        },
+        Row {
+            part: Part::Whole,
+            kind: Kind::Bytes,
+            presence: Presence::Mandatory,
+            operator: Operator::Copy,
+            before: Kept::Assigned(Value::Bytes(b"AB")),
+            bytes: &[0, 0x82, 0x41, 0x42],
+            judged: Judged::Given(4),
+            after: Kept::Assigned(Value::Bytes(b"AB")),
+        },
+        Row {
+            part: Part::Whole,
+            kind: Kind::Unicode,
+            presence: Presence::Mandatory,
+            operator: Operator::Copy,
+            before: Kept::Assigned(Value::Unicode("AB")),
+            bytes: &[0, 0x82, 0xc3, 0xbc],
+            judged: Judged::Stands(4),
+            after: Kept::Assigned(Value::Unicode("ü")),
+        },
+    ];
+    all_judged(&rt, rt.alloc(), JUDGED)
+}
+
+#[test]
+fn vectors_that_are_not_judged(rt: HostRuntime) -> Result<(), AllocError> {
+    const OTHERS: &[Row] = &[
+        // an overlong length, and no UTF-8
+        Row {
+            part: Part::Whole,
+            kind: Kind::Bytes,
+            presence: Presence::Mandatory,
+            operator: Operator::Copy,
+            before: Kept::Assigned(Value::Bytes(b"AB")),
+            bytes: &[0, 0x00, 0x81, 0x43],
+            judged: Judged::Elsewhere,
+            after: Kept::Assigned(Value::Bytes(b"AB")),
+        },
+        Row {
+            part: Part::Whole,
+            kind: Kind::Unicode,
+            presence: Presence::Mandatory,
+            operator: Operator::Copy,
+            before: Kept::Assigned(Value::Unicode("AB")),
+            bytes: &[0, 0x81, 0xc3],
+            judged: Judged::Elsewhere,
+            after: Kept::Assigned(Value::Unicode("AB")),
+        },
+    ];
+    all_judged(&rt, rt.alloc(), OTHERS)
+}
