@@ -4,19 +4,24 @@ use Rattle.std.specs.Prelude.{ℤ, ◌+ℤ◌, Some, IsTrue}
 use Rattle.fast_wire.specs.Reader.{IsBytes}
 use Rattle.fast_value.specs.Scalar.{is_of, of_integer}
 use Rattle.fast_value.specs.declared.kind.Kind.{Kind}
+use Rattle.fast_value.specs.declared.kind.Operator.{Operator}
 use Rattle.fast_value.specs.declared.kind.Operator.TheVariants as operator
 use Rattle.fast_value.specs.declared.kind.Presence.{Presence}
+use Rattle.fast_value.specs.declared.kind.Presence.TheVariants.{Mandatory, Optional}
 use Rattle.fast_template.specs.declared.resolved.FieldPart.{FieldPart}
 use Rattle.fast_value.specs.declared.scalar.Scalar.{Scalar}
 use Rattle.fast_dictionary.specs.declared.entry.Entry.{Entry}
-use Rattle.fast_dictionary.specs.declared.entry.Entry.TheVariants.{Assigned}
-use Rattle.fast_field.specs.Numbers.{IsFieldNumber, HasNumber}
+use Rattle.fast_dictionary.specs.declared.entry.Entry.TheVariants.{Assigned, Empty}
+use Rattle.fast_field.specs.Numbers.{IsFieldNumber, HasNumber, Predicts}
+use Rattle.fast_field.specs.Bases.{next_of, absent_or}
+use Rattle.fast_field.specs.Planning.{gives_same, left_out_of}
+use Rattle.fast_field.specs.declared.fault.FieldFault.TheVariants as fault
 use Rattle.fast_field.specs.Spelled.{overlong_number}
 use Rattle.fast_field.specs.Values.{is_unsigned}
 use Rattle.fast_field.proofs.BestForms.{bit_zero_is_best}
 use Rattle.fast_field.proofs.BestValues.{left_out}
 use Rattle.fast_field.proofs.Passing.{of_kind, within_number}
-use Rattle.fast_relay.specs.Judged.{Judges, Leaves, StandsAt}
+use Rattle.fast_relay.specs.Judged.{Judges, JudgesFrom, Leaves, StandsAt, StandsFrom}
 use Rattle.fast_relay.specs.Numbers.{SpellsWhole, Spelt}
 use Rattle.fast_relay.specs.Relayed.{Relays}
 use Rattle.fast_relay.proofs.Relaying.{delta_relays, whole_relays}
@@ -29,16 +34,16 @@ stands_at u p bytes at next z fits le within h short = record { spelt = h; form 
 
 -- ---- what is judged
 
-pub whole_stands : (k : Kind) (i : FieldPart) (old new : Entry) (z : ℤ) (bytes : List ℕ) (at next : ℕ) → k ≡ i.kind → SpellsWhole i.operator → IsFieldNumber k i.part z → StandsAt (is_unsigned k) i.presence bytes at next z → Leaves true i old new (of_integer k z)
-    → Judges true i old new (of_integer k z) bytes at next
-whole_stands k i old new z bytes at next same o h s l = λ out.
-    let form = slice_range bytes at next in
+pub whole_stands : (k : Kind) (i : FieldPart) (old new : Entry) (z : ℤ) (bytes : List ℕ) (at first next : ℕ) → k ≡ i.kind → SpellsWhole i.operator → IsFieldNumber k i.part z → StandsFrom (is_unsigned k) i.presence bytes at first next z → Leaves true i old new (of_integer k z)
+    → JudgesFrom true i old new (of_integer k z) bytes at first next
+whole_stands k i old new z bytes at first next same o h s l = λ out.
+    let form = slice_range bytes first next in
     whole_relays k i old new z (drop at bytes) (drop next bytes) out (out ++ form) same o h s.spelt l.entry l.left_out
     (form, refl, shortest_whole k i.presence z form h.number.integer s.form s.short)
 
-pub whole_given : (k : Kind) (i : FieldPart) (old new : Entry) (z : ℤ) (bytes : List ℕ) (at next : ℕ) → k ≡ i.kind → SpellsWhole i.operator → IsFieldNumber k i.part z → StandsAt (is_unsigned k) i.presence bytes at next z → Leaves false i old new (of_integer k z)
-    → Judges false i old new (of_integer k z) bytes at next
-whole_given k i old new z bytes at next same o h s l =
+pub whole_given : (k : Kind) (i : FieldPart) (old new : Entry) (z : ℤ) (bytes : List ℕ) (at first next : ℕ) → k ≡ i.kind → SpellsWhole i.operator → IsFieldNumber k i.part z → StandsFrom (is_unsigned k) i.presence bytes at first next z → Leaves false i old new (of_integer k z)
+    → JudgesFrom false i old new (of_integer k z) bytes at first next
+whole_given k i old new z bytes at first next same o h s l =
     let v = of_integer k z in
     let t = whole_takes k i old new z (drop at bytes) (drop next bytes) same o h s.spelt l.entry in (
       subst (λ (x : Kind). IsTrue (is_of x v)) same (of_kind k z h.number),
@@ -49,10 +54,10 @@ whole_given k i old new z bytes at next same o h s l =
       },
     )
 
-pub delta_stands : (k : Kind) (i : FieldPart) (old new : Entry) (z d : ℤ) (bytes : List ℕ) (at next : ℕ) → k ≡ i.kind → i.operator ≡ operator.Delta → HasNumber k old z → IsFieldNumber k i.part (z +ℤ d) → StandsAt false i.presence bytes at next d
-    → new ≡ Assigned (of_integer k (z +ℤ d)) → Judges true i old new (of_integer k (z +ℤ d)) bytes at next
-delta_stands k i old new z d bytes at next same o has h s entry = λ out.
-    let form = slice_range bytes at next in
+pub delta_stands : (k : Kind) (i : FieldPart) (old new : Entry) (z d : ℤ) (bytes : List ℕ) (at first next : ℕ) → k ≡ i.kind → i.operator ≡ operator.Delta → HasNumber k old z → IsFieldNumber k i.part (z +ℤ d) → StandsFrom false i.presence bytes at first next d
+    → new ≡ Assigned (of_integer k (z +ℤ d)) → JudgesFrom true i old new (of_integer k (z +ℤ d)) bytes at first next
+delta_stands k i old new z d bytes at first next same o has h s entry = λ out.
+    let form = slice_range bytes first next in
     delta_relays k i old new z d (drop at bytes) (drop next bytes) out (out ++ form) same o has h s.spelt entry
     (form, refl, shortest_signed i.presence d form s.form s.short)
 
@@ -60,3 +65,18 @@ pub nothing_stands : (i : FieldPart) (e : Entry) (v : Scalar) (bytes : List ℕ)
 nothing_stands i e v bytes at h = λ out.
     let rest = drop at bytes in
     subst (λ (after : List ℕ). Relays i e e v rest rest out after) (sym (settled bytes out at)) (h rest out)
+
+-- ---- the first number of an empty entry
+
+none_given : (p : Presence) (v : Scalar) → gives_same (absent_or fault.D6 p) (Some v) ≡ false
+none_given Mandatory v = refl
+none_given Optional v = refl
+
+put_first : (o : Operator) (i : FieldPart) (v : Scalar) → Predicts o → SpellsWhole o → (Assigned v ≡ next_of o Empty (Some v)) × (left_out_of o i Empty (Some v) ≡ false)
+put_first operator.Copy i v p s = (refl, none_given i.presence v)
+put_first operator.Increment i v p s = (refl, none_given i.presence v)
+put_first operator.Tail i v p s = absurd s
+put_first o i v p s = absurd p
+
+pub first_leaves : (i : FieldPart) (v : Scalar) → Predicts i.operator → SpellsWhole i.operator → Leaves true i Empty (Assigned v) v
+first_leaves i v p s = let h = put_first i.operator i v p s in record { entry = h.0; left_out = h.1 }

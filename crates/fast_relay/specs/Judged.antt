@@ -13,35 +13,51 @@ use Rattle.fast_field.specs.Spelled.{SpellsIntegerUsually, overlong_number}
 use Rattle.fast_relay.specs.Numbers.{Spelt}
 use Rattle.fast_relay.specs.Relayed.{Drops, Relays}
 use Rattle.fast_relay.specs.declared.judged.Judged.{Judged}
-use Rattle.fast_relay.specs.declared.judged.Judged.TheVariants.{Stands, Given, Elsewhere}
+use Rattle.fast_relay.specs.declared.judged.Judged.TheVariants.{Stands, Behind, Given, Elsewhere}
 
--- the bytes from one place to another give the value under bit 1, and the entry is the one afterwards: as they stand they
--- are the value's best form, or its best form is bit 0 and no byte
-abbrev pub Judges : Bool → FieldPart → Entry → Entry → Scalar → List ℕ → ℕ → ℕ → Type 0
-Judges true i old new v bytes at next =
-    (out : List ℕ) → Relays i old new v (drop at bytes) (drop next bytes) out (out ++ slice_range bytes at next)
-Judges false i old new v bytes at next =
+-- the bytes from one place to another give the value under bit 1, and the entry is the one afterwards: those from `first`
+-- on are the value's best form, or its best form is bit 0 and no byte
+abbrev pub JudgesFrom : Bool → FieldPart → Entry → Entry → Scalar → List ℕ → ℕ → ℕ → ℕ → Type 0
+JudgesFrom true i old new v bytes at first next =
+    (out : List ℕ) → Relays i old new v (drop at bytes) (drop next bytes) out (out ++ slice_range bytes first next)
+JudgesFrom false i old new v bytes at first next =
     IsTrue (is_of i.kind v) × Drops i old new (Some v) (drop at bytes) (drop next bytes)
 
--- what holds of the bit of the best form and of the place behind what was read, where a field was judged
+-- the same, where the best form is all of them as they stand
+abbrev pub Judges : Bool → FieldPart → Entry → Entry → Scalar → List ℕ → ℕ → ℕ → Type 0
+Judges bit i old new v bytes at next = JudgesFrom bit i old new v bytes at at next
+
+-- what holds of the bit of the best form and of the place behind what was read, where a field was judged whose bytes are
+-- the best form as they stand, or bit 0 is
 abbrev pub IfJudged : Judged → (Bool → ℕ → Type 0) → Type 0
 IfJudged (Stands next) holds = holds true next
+IfJudged (Behind next) holds = ⊤
 IfJudged (Given next) holds = holds false next
 IfJudged Elsewhere holds = ⊤
+
+-- what holds of the place behind what was read, where the best form stands behind the first byte
+abbrev pub IfBehind : Judged → (ℕ → Type 0) → Type 0
+IfBehind (Behind next) holds = holds next
+IfBehind j holds = ⊤
 
 -- what holds where it was not
 abbrev pub IfNotJudged : Judged → Type 0 → Type 0
 IfNotJudged (Stands next) holds = ⊤
+IfNotJudged (Behind next) holds = ⊤
 IfNotJudged (Given next) holds = ⊤
 IfNotJudged Elsewhere holds = holds
 
 -- ---- No public clause names these.
 
--- the bytes from one place to another are the shortest form of a number
-pub record StandsAt (unsigned : Bool) (p : Presence) (bytes : List ℕ) (at next : ℕ) (z : ℤ) : Type 0 where
+-- the bytes from one place to another spell a number, and those from `first` on are its shortest form
+pub record StandsFrom (unsigned : Bool) (p : Presence) (bytes : List ℕ) (at first next : ℕ) (z : ℤ) : Type 0 where
   pub spelt : Spelt unsigned p (drop at bytes) z (drop next bytes)
-  pub form : SpellsIntegerUsually unsigned p (slice_range bytes at next) (Value z)
-  pub short : overlong_number unsigned (slice_range bytes at next) ≡ false
+  pub form : SpellsIntegerUsually unsigned p (slice_range bytes first next) (Value z)
+  pub short : overlong_number unsigned (slice_range bytes first next) ≡ false
+
+-- all of them are
+abbrev pub StandsAt : Bool → Presence → List ℕ → ℕ → ℕ → ℤ → Type 0
+StandsAt unsigned p bytes at next z = StandsFrom unsigned p bytes at at next z
 
 -- they are the shortest forms of an exponent and, behind it, a mantissa
 pub record PairStandsAt (p : Presence) (bytes : List ℕ) (at next : ℕ) (e m : ℤ) : Type 0 where

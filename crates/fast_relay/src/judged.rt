@@ -1,24 +1,27 @@
-//! Integers and constants that are judged as they stand: whether their bytes are the best form of the value, or bit 0 is.
-//! The entry goes on, and nothing is written. What is not served here goes by `relay_number`.
+//! Fields that are judged as they stand: whether their bytes are the best form of the value, or bit 0 is. The entry goes on,
+//! and nothing is written. Here are integers and constants, and the way to the others; what is not judged goes by the calls
+//! that write.
 
-ghost use Rattle.std.specs.Prelude.{◌≡◌, ◌≤◌, ℕ, true, false, length, drop, slice_range, IfNone, IfSome, IsTrue};
+ghost use Rattle.std.specs.Prelude.{◌≡◌, ◌≤◌, ◌+◌, ℕ, true, false, length, drop, slice_range, IfNone, IfSome, IsTrue};
 ghost use Rattle.fast_value.specs.Scalar.{is_integer, of_integer};
 ghost use Rattle.fast_value.specs.declared.kind.Operator.TheVariants as operator_type;
 ghost use Rattle.fast_value.specs.declared.scalar.Scalar.{Scalar as ScalarOf};
 ghost use Rattle.fast_wire.specs.Entity.{IsEntity};
-ghost use Rattle.fast_field.specs.Numbers.{IsNumber};
+ghost use Rattle.fast_field.specs.Numbers.{IsNumber, Predicts};
+ghost use Rattle.fast_field.specs.Parts.{IsFieldPart};
 ghost use Rattle.fast_field.specs.Spelled.{overlong_number};
 ghost use Rattle.fast_field.specs.Values as values;
-ghost use Rattle.fast_relay.specs.Judged.{IfJudged, IfNotJudged, Judges, Leaves, StandsAt};
+ghost use Rattle.fast_relay.specs.Judged.{IfBehind, IfJudged, IfNotJudged, Judges, JudgesFrom, Leaves, StandsAt, StandsFrom};
 ghost use Rattle.fast_relay.specs.Numbers.{SpellsWhole, Spelt};
 
 use crate::integers::is_unsigned;
 use crate::judged_decimal::judge_decimal;
 use crate::judged_string::judge_string;
 use crate::judged_vector::judge_vector;
-use crate::number::gives_constant;
+use crate::passed::can_begin;
 use crate::short_number::{is_field_number, kept_number, number_of, replace_number};
 use fast_dictionary::Entry;
+use fast_field::set_number;
 use fast_template::{FieldPart, Kind, Operator, Part, Presence};
 use fast_wire::{Nullable, overlong_signed, overlong_unsigned};
 use std::alloc::Global;
@@ -28,6 +31,8 @@ use std::alloc::Global;
 pub enum Judged {
     /// The bytes as they stand.
     Stands(usize),
+    /// The bytes behind the first, which is needless.
+    Behind(usize),
     /// Bit 0, which gives the value with no byte.
     Given(usize),
     /// Nothing has changed: another way tells.
@@ -102,6 +107,26 @@ fn is_shortest(unsigned: bool, bytes: &[u8], at: usize, next: usize) -> bool
     }
 }
 
+/// A number that has 64 bits with a sign, and the place behind it; none where it has more, is NULL or faulty.
+#[inline(always)]
+fn read_number(
+    unsigned: bool,
+    presence: Presence,
+    bytes: &[u8],
+    at: usize,
+) -> Option<(i64, usize)>
+    requires { at ≤ length bytes.now }
+    ensures place { IfSome result (λ x. (at ≤ x.1) × (x.1 ≤ length bytes.now)) }
+    ensures gives { IfSome result (λ x. Spelt unsigned presence (drop at bytes.now)
+        x.0 (drop x.1 bytes.now)) }
+{
+    if unsigned {
+        read_unsigned(presence, bytes, at)
+    } else {
+        read_signed(presence, bytes, at)
+    }
+}
+
 /// A number that is spelled in its shortest form, and the place behind it.
 #[inline(always)]
 pub(crate) fn read_shortest(
@@ -114,12 +139,7 @@ pub(crate) fn read_shortest(
     ensures place { IfSome result (λ x. (at ≤ x.1) × (x.1 ≤ length bytes.now)) }
     ensures stands { IfSome result (λ x. StandsAt unsigned presence bytes.now at x.1 x.0) }
 {
-    let read = if unsigned {
-        read_unsigned(presence, bytes, at)
-    } else {
-        read_signed(presence, bytes, at)
-    };
-    let Some((number, next)) = read else {
+    let Some((number, next)) = read_number(unsigned, presence, bytes, at) else {
         return None;
     };
     if is_shortest(unsigned, bytes, at, next) {
@@ -147,6 +167,26 @@ fn judge_default(kind: Kind, instr: &FieldPart, entry: &Entry, number: i64) -> O
     }
 }
 
+/// The bit of the best form of a number where the entry is empty; it then has this one. (A call of its own, since it is rare.)
+#[inline(never)]
+fn judge_first(kind: Kind, instr: &FieldPart, entry: &mut Entry, number: i64) -> Option<bool>
+    requires kind { kind ≡ instr.now.kind }
+    requires integer { IsTrue (is_integer kind) }
+    requires predicts { Predicts instr.now.operator }
+    requires whole { SpellsWhole instr.now.operator }
+    requires number { IsNumber kind number }
+    ensures leaves { IfSome result (λ bit. Leaves bit instr.now entry.old entry.new (of_integer kind number)) }
+    ensures entry { IfNone result (entry.new ≡ entry.old) }
+{
+    match entry {
+        Entry::Empty => {
+            set_number(kind, entry, i128::from(number));
+            Some(true)
+        }
+        Entry::Undefined | Entry::Assigned(_) => None,
+    }
+}
+
 /// The bit of the best form of a number, by the one that the entry has; it then has this one.
 #[inline(always)]
 fn judge_copy(kind: Kind, instr: &FieldPart, entry: &mut Entry, number: i64) -> Option<bool>
@@ -158,7 +198,7 @@ fn judge_copy(kind: Kind, instr: &FieldPart, entry: &mut Entry, number: i64) -> 
     ensures entry { IfNone result (entry.new ≡ entry.old) }
 {
     let Some(kept) = kept_number(kind, entry) else {
-        return None;
+        return judge_first(kind, instr, entry, number);
     };
     if kept == number {
         return Some(false);
@@ -178,7 +218,7 @@ fn judge_increment(kind: Kind, instr: &FieldPart, entry: &mut Entry, number: i64
     ensures entry { IfNone result (entry.new ≡ entry.old) }
 {
     let Some(kept) = kept_number(kind, entry) else {
-        return None;
+        return judge_first(kind, instr, entry, number);
     };
     let Some(following) = kept.checked_add(1) else {
         return None;
@@ -233,16 +273,18 @@ fn judge_spelled(
     number: i64,
     bytes: &[u8],
     at: usize,
+    first: usize,
     next: usize,
 ) -> Judged
     requires part { which ≡ instr.now.part }
     requires kind { kind ≡ instr.now.kind }
     requires integer { IsTrue (is_integer kind) }
     requires whole { SpellsWhole instr.now.operator }
-    requires stands { StandsAt (values.is_unsigned kind) instr.now.presence bytes.now at next number }
+    requires stands { StandsFrom (values.is_unsigned kind) instr.now.presence bytes.now at first next number }
     ensures place { IfJudged result (λ bit n. n ≡ next) }
     ensures judged { IfJudged result (λ bit n. (v : ScalarOf)
-        × Judges bit instr.now entry.old entry.new v bytes.now at next) }
+        × JudgesFrom bit instr.now entry.old entry.new v bytes.now at first next) }
+    ensures behind { IfBehind result (λ n. ⊥) }
     ensures entry { IfNotJudged result (entry.new ≡ entry.old) }
 {
     if !is_field_number(kind, which, number) {
@@ -265,16 +307,18 @@ fn judge_delta(
     delta: i64,
     bytes: &[u8],
     at: usize,
+    first: usize,
     next: usize,
 ) -> Judged
     requires part { which ≡ instr.now.part }
     requires kind { kind ≡ instr.now.kind }
     requires integer { IsTrue (is_integer kind) }
     requires operator { instr.now.operator ≡ operator_type.Delta }
-    requires stands { StandsAt false instr.now.presence bytes.now at next delta }
+    requires stands { StandsFrom false instr.now.presence bytes.now at first next delta }
     ensures place { IfJudged result (λ bit n. n ≡ next) }
     ensures judged { IfJudged result (λ bit n. (v : ScalarOf)
-        × Judges bit instr.now entry.old entry.new v bytes.now at next) }
+        × JudgesFrom bit instr.now entry.old entry.new v bytes.now at first next) }
+    ensures behind { IfBehind result (λ n. ⊥) }
     ensures entry { IfNotJudged result (entry.new ≡ entry.old) }
 {
     let Some(kept) = kept_number(kind, entry) else {
@@ -292,17 +336,131 @@ fn judge_delta(
 
 /// Judges a constant, which has no bytes.
 #[inline(always)]
-fn judge_constant(instr: &FieldPart, entry: &Entry, bytes: &[u8], at: usize) -> Judged
+fn judge_constant(
+    which: Part,
+    instr: &FieldPart,
+    entry: &Entry,
+    bytes: &[u8],
+    at: usize,
+) -> Judged
     requires place { at ≤ length bytes.now }
+    requires which { which ≡ instr.now.part }
+    requires part { IsFieldPart instr.now }
     requires operator { instr.now.operator ≡ operator_type.Constant }
     ensures place { IfJudged result (λ bit next. (at ≤ next) × (next ≤ length bytes.now)) }
     ensures judged { IfJudged result (λ bit next. (v : ScalarOf)
         × Judges bit instr.now entry.now entry.now v bytes.now at next) }
+    ensures behind { IfBehind result (λ next. ⊥) }
 {
-    if gives_constant(instr, entry) {
-        Judged::Stands(at)
-    } else {
-        Judged::Elsewhere
+    match &instr.initial {
+        Some(initial) if can_begin(which, instr, initial.value()) => Judged::Stands(at),
+        _ => Judged::Elsewhere,
+    }
+}
+
+/// Judges a number that was read, whose shortest form are the bytes from `first` on.
+#[inline(always)]
+fn judge_number(
+    unsigned: bool,
+    kind: Kind,
+    which: Part,
+    instr: &FieldPart,
+    entry: &mut Entry,
+    number: i64,
+    bytes: &[u8],
+    at: usize,
+    first: usize,
+    next: usize,
+) -> Judged
+    requires part { which ≡ instr.now.part }
+    requires kind { kind ≡ instr.now.kind }
+    requires integer { IsTrue (is_integer kind) }
+    requires delta { instr.now.operator ≡ operator_type.Delta → unsigned ≡ false }
+    requires whole { SpellsWhole instr.now.operator → unsigned ≡ values.is_unsigned kind }
+    requires stands { StandsFrom unsigned instr.now.presence bytes.now at first next number }
+    ensures place { IfJudged result (λ bit n. n ≡ next) }
+    ensures judged { IfJudged result (λ bit n. (v : ScalarOf)
+        × JudgesFrom bit instr.now entry.old entry.new v bytes.now at first next) }
+    ensures behind { IfBehind result (λ n. ⊥) }
+    ensures entry { IfNotJudged result (entry.new ≡ entry.old) }
+{
+    match instr.operator {
+        Operator::Delta => judge_delta(kind, which, instr, entry, number, bytes, at, first, next),
+        Operator::Plain | Operator::Default | Operator::Copy | Operator::Increment => {
+            judge_spelled(kind, which, instr, entry, number, bytes, at, first, next)
+        }
+        Operator::Constant | Operator::Tail => Judged::Elsewhere,
+    }
+}
+
+/// A number whose shortest form stands behind one needless group, and the place behind it.
+#[inline(always)]
+fn read_behind(
+    unsigned: bool,
+    presence: Presence,
+    bytes: &[u8],
+    at: usize,
+) -> Option<(i64, usize)>
+    requires { at ≤ length bytes.now }
+    ensures place { IfSome result (λ x. (at + 1 ≤ x.1) × (x.1 ≤ length bytes.now)) }
+    ensures stands { IfSome result (λ x. StandsFrom unsigned presence bytes.now at (at + 1) x.1 x.0) }
+{
+    // a group that is needless has nothing but the sign
+    if at == bytes.len() || (bytes[at] != 0 && bytes[at] != 127) {
+        return None;
+    }
+    let Some((number, next)) = read_number(unsigned, presence, bytes, at) else {
+        return None;
+    };
+    match read_shortest(unsigned, presence, bytes, at + 1) {
+        Some((again, end)) if again == number && end == next => Some((number, next)),
+        _ => None,
+    }
+}
+
+/// Judges an integer that does not stand in its shortest form: it may behind the first byte. (A call of its own, so that
+/// others do not pay for it.)
+#[inline(never)]
+fn judge_behind(
+    which: Part,
+    kind: Kind,
+    instr: &FieldPart,
+    entry: &mut Entry,
+    bytes: &[u8],
+    at: usize,
+) -> Judged
+    requires place { at ≤ length bytes.now }
+    requires part { which ≡ instr.now.part }
+    requires kind { kind ≡ instr.now.kind }
+    requires integer { IsTrue (is_integer kind) }
+    ensures place { IfJudged result (λ bit next. (at ≤ next) × (next ≤ length bytes.now)) }
+    ensures judged { IfJudged result (λ bit next. (v : ScalarOf)
+        × Judges bit instr.now entry.old entry.new v bytes.now at next) }
+    ensures behind_place { IfBehind result (λ next. (at + 1 ≤ next) × (next ≤ length bytes.now)) }
+    ensures behind { IfBehind result (λ next. (v : ScalarOf)
+        × JudgesFrom true instr.now entry.old entry.new v bytes.now at (at + 1) next) }
+    ensures entry { IfNotJudged result (entry.new ≡ entry.old) }
+{
+    let unsigned = is_sent_unsigned(kind, instr.operator);
+    let Some((number, next)) = read_behind(unsigned, instr.presence, bytes, at) else {
+        return Judged::Elsewhere;
+    };
+    match judge_number(
+        unsigned,
+        kind,
+        which,
+        instr,
+        entry,
+        number,
+        bytes,
+        at,
+        at + 1,
+        next,
+    ) {
+        Judged::Stands(_next) => Judged::Behind(next),
+        Judged::Given(_next) => Judged::Given(next),
+        Judged::Behind(_) => unreachable!(),
+        Judged::Elsewhere => Judged::Elsewhere,
     }
 }
 
@@ -323,20 +481,19 @@ fn judge_integer(
     ensures place { IfJudged result (λ bit next. (at ≤ next) × (next ≤ length bytes.now)) }
     ensures judged { IfJudged result (λ bit next. (v : ScalarOf)
         × Judges bit instr.now entry.old entry.new v bytes.now at next) }
+    ensures behind_place { IfBehind result (λ next. (at + 1 ≤ next) × (next ≤ length bytes.now)) }
+    ensures behind { IfBehind result (λ next. (v : ScalarOf)
+        × JudgesFrom true instr.now entry.old entry.new v bytes.now at (at + 1) next) }
     ensures entry { IfNotJudged result (entry.new ≡ entry.old) }
 {
     // read once for all operators, so that the whole is small enough to be inlined
     let unsigned = is_sent_unsigned(kind, instr.operator);
     let Some((number, next)) = read_shortest(unsigned, instr.presence, bytes, at) else {
-        return Judged::Elsewhere;
+        return judge_behind(which, kind, instr, entry, bytes, at);
     };
-    match instr.operator {
-        Operator::Delta => judge_delta(kind, which, instr, entry, number, bytes, at, next),
-        Operator::Plain | Operator::Default | Operator::Copy | Operator::Increment => {
-            judge_spelled(kind, which, instr, entry, number, bytes, at, next)
-        }
-        Operator::Constant | Operator::Tail => Judged::Elsewhere,
-    }
+    judge_number(
+        unsigned, kind, which, instr, entry, number, bytes, at, at, next,
+    )
 }
 
 /// Judges a string, a vector or a decimal, which is no part of another field.
@@ -354,6 +511,9 @@ fn judge_long(
     ensures place { IfJudged result (λ bit next. (at ≤ next) × (next ≤ length bytes.now)) }
     ensures judged { IfJudged result (λ bit next. (v : ScalarOf)
         × Judges bit instr.now entry.old entry.new v bytes.now at next) }
+    ensures behind_place { IfBehind result (λ next. (at + 1 ≤ next) × (next ≤ length bytes.now)) }
+    ensures behind { IfBehind result (λ next. (v : ScalarOf)
+        × JudgesFrom true instr.now entry.old entry.new v bytes.now at (at + 1) next) }
     ensures entry { IfNotJudged result (entry.new ≡ entry.old) }
 {
     match which {
@@ -379,14 +539,18 @@ pub fn judge_field(
     at: usize,
 ) -> Judged
     requires place { at ≤ length bytes.now }
-    requires part { which ≡ instr.now.part }
+    requires which { which ≡ instr.now.part }
+    requires part { IsFieldPart instr.now }
     ensures place { IfJudged result (λ bit next. (at ≤ next) × (next ≤ length bytes.now)) }
     ensures judged { IfJudged result (λ bit next. (v : ScalarOf)
         × Judges bit instr.now entry.old entry.new v bytes.now at next) }
+    ensures behind_place { IfBehind result (λ next. (at + 1 ≤ next) × (next ≤ length bytes.now)) }
+    ensures behind { IfBehind result (λ next. (v : ScalarOf)
+        × JudgesFrom true instr.now entry.old entry.new v bytes.now at (at + 1) next) }
     ensures entry { IfNotJudged result (entry.new ≡ entry.old) }
 {
     match instr.operator {
-        Operator::Constant => judge_constant(instr, entry, bytes, at),
+        Operator::Constant => judge_constant(which, instr, entry, bytes, at),
         Operator::Plain
         | Operator::Default
         | Operator::Copy

@@ -9,7 +9,7 @@ ghost use Rattle.fast_value.specs.declared.kind.Part.TheVariants as part_type;
 ghost use Rattle.fast_value.specs.declared.scalar.Scalar.{Scalar as ScalarOf};
 ghost use Rattle.fast_value.specs.declared.scalar.Scalar.TheVariants as scalar;
 ghost use Rattle.fast_dictionary.specs.declared.entry.Entry.TheVariants as entry_type;
-ghost use Rattle.fast_relay.specs.Judged.{IfJudged, IfNotJudged, Judges, Leaves, PairStandsAt};
+ghost use Rattle.fast_relay.specs.Judged.{IfBehind, IfJudged, IfNotJudged, Judges, Leaves, PairStandsAt};
 ghost use Rattle.fast_relay.specs.Numbers.{SpellsWhole};
 
 use crate::judged::{Judged, read_shortest};
@@ -154,6 +154,7 @@ fn judge_decimal_whole(instr: &FieldPart, entry: &mut Entry, bytes: &[u8], at: u
     requires part { instr.now.part ≡ part_type.Whole }
     requires operator { SpellsWhole instr.now.operator }
     requires kind { instr.now.kind ≡ kind_type.Decimal }
+    ensures behind { IfBehind result (λ next. ⊥) }
     ensures place { IfJudged result (λ bit next. (at ≤ next) × (next ≤ length bytes.now)) }
     ensures judged { IfJudged result (λ bit next. (v : ScalarOf)
         × Judges bit instr.now entry.old entry.new v bytes.now at next) }
@@ -179,6 +180,7 @@ fn judge_decimal_delta(instr: &FieldPart, entry: &mut Entry, bytes: &[u8], at: u
     requires part { instr.now.part ≡ part_type.Whole }
     requires operator { instr.now.operator ≡ operator_type.Delta }
     requires kind { instr.now.kind ≡ kind_type.Decimal }
+    ensures behind { IfBehind result (λ next. ⊥) }
     ensures place { IfJudged result (λ bit next. (at ≤ next) × (next ≤ length bytes.now)) }
     ensures judged { IfJudged result (λ bit next. (v : ScalarOf)
         × Judges bit instr.now entry.old entry.new v bytes.now at next) }
@@ -210,6 +212,7 @@ pub(crate) fn judge_decimal(instr: &FieldPart, entry: &mut Entry, bytes: &[u8], 
     requires place { at ≤ length bytes.now }
     requires part { instr.now.part ≡ part_type.Whole }
     requires kind { instr.now.kind ≡ kind_type.Decimal }
+    ensures behind { IfBehind result (λ next. ⊥) }
     ensures place { IfJudged result (λ bit next. (at ≤ next) × (next ≤ length bytes.now)) }
     ensures judged { IfJudged result (λ bit next. (v : ScalarOf)
         × Judges bit instr.now entry.old entry.new v bytes.now at next) }

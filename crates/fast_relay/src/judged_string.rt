@@ -8,7 +8,7 @@ ghost use Rattle.fast_value.specs.declared.kind.Part.TheVariants as part_type;
 ghost use Rattle.fast_value.specs.declared.scalar.Scalar.{Scalar as ScalarOf};
 ghost use Rattle.fast_value.specs.declared.scalar.Scalar.TheVariants.{Ascii};
 ghost use Rattle.fast_dictionary.specs.declared.entry.Entry.TheVariants as entry_type;
-ghost use Rattle.fast_relay.specs.Judged.{IfJudged, IfNotJudged, Judges, StandsAt};
+ghost use Rattle.fast_relay.specs.Judged.{IfBehind, IfJudged, IfNotJudged, Judges, StandsAt};
 ghost use Rattle.fast_relay.specs.Numbers.{SpellsWhole};
 
 use crate::characters::are_characters;
@@ -35,6 +35,7 @@ fn judge_string_whole(
     requires part { instr.now.part ≡ part_type.Whole }
     requires operator { SpellsWhole instr.now.operator }
     requires kind { instr.now.kind ≡ kind_type.Ascii }
+    ensures behind { IfBehind result (λ next. ⊥) }
     ensures place { IfJudged result (λ bit next. (at ≤ next) × (next ≤ length bytes.now)) }
     ensures judged { IfJudged result (λ bit next. (v : ScalarOf)
         × Judges bit instr.now entry.old entry.new v bytes.now at next) }
@@ -88,6 +89,7 @@ fn judge_string_delta(
     requires part { instr.now.part ≡ part_type.Whole }
     requires operator { instr.now.operator ≡ operator_type.Delta }
     requires kind { instr.now.kind ≡ kind_type.Ascii }
+    ensures behind { IfBehind result (λ next. ⊥) }
     ensures place { IfJudged result (λ bit next. (at ≤ next) × (next ≤ length bytes.now)) }
     ensures judged { IfJudged result (λ bit next. (v : ScalarOf) × Judges bit instr.now
         (entry_type.Assigned (Ascii text.old)) (entry_type.Assigned (Ascii text.new)) v bytes.now at next) }
@@ -133,6 +135,7 @@ fn judge_string_tail(
     requires part { instr.now.part ≡ part_type.Whole }
     requires operator { instr.now.operator ≡ operator_type.Tail }
     requires kind { instr.now.kind ≡ kind_type.Ascii }
+    ensures behind { IfBehind result (λ next. ⊥) }
     ensures place { IfJudged result (λ bit next. (at ≤ next) × (next ≤ length bytes.now)) }
     ensures judged { IfJudged result (λ bit next. (v : ScalarOf) × Judges bit instr.now
         (entry_type.Assigned (Ascii text.old)) (entry_type.Assigned (Ascii text.new)) v bytes.now at next) }
@@ -173,6 +176,7 @@ pub(crate) fn judge_string(
     requires place { at ≤ length bytes.now }
     requires part { instr.now.part ≡ part_type.Whole }
     requires kind { instr.now.kind ≡ kind_type.Ascii }
+    ensures behind { IfBehind result (λ next. ⊥) }
     ensures place { IfJudged result (λ bit next. (at ≤ next) × (next ≤ length bytes.now)) }
     ensures judged { IfJudged result (λ bit next. (v : ScalarOf)
         × Judges bit instr.now entry.old entry.new v bytes.now at next) }

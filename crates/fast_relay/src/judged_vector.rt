@@ -11,7 +11,7 @@ ghost use Rattle.fast_dictionary.specs.declared.entry.Entry.TheVariants as entry
 ghost use Rattle.fast_field.specs.Chosen.{ShortestUnits};
 ghost use Rattle.fast_field.specs.FieldReading.{units_at};
 ghost use Rattle.fast_field.specs.Values.{of_units};
-ghost use Rattle.fast_relay.specs.Judged.{IfJudged, IfNotJudged, Judges};
+ghost use Rattle.fast_relay.specs.Judged.{IfBehind, IfJudged, IfNotJudged, Judges};
 ghost use Rattle.fast_relay.specs.Numbers.{SpellsWhole};
 ghost use Rattle.fast_relay.specs.Texts.{IsText, IsVectorKind};
 
@@ -67,6 +67,7 @@ fn judge_vector_whole(
     requires part { instr.now.part ≡ part_type.Whole }
     requires operator { SpellsWhole instr.now.operator }
     requires kind { IsVectorKind instr.now.kind }
+    ensures behind { IfBehind result (λ next. ⊥) }
     ensures place { IfJudged result (λ bit next. (at ≤ next) × (next ≤ length bytes.now)) }
     ensures judged { IfJudged result (λ bit next. (v : ScalarOf)
         × Judges bit instr.now entry.old entry.new v bytes.now at next) }
@@ -270,6 +271,7 @@ pub(crate) fn judge_vector(
     requires place { at ≤ length bytes.now }
     requires part { instr.now.part ≡ part_type.Whole }
     requires kind { IsVectorKind instr.now.kind }
+    ensures behind { IfBehind result (λ next. ⊥) }
     ensures place { IfJudged result (λ bit next. (at ≤ next) × (next ≤ length bytes.now)) }
     ensures judged { IfJudged result (λ bit next. (v : ScalarOf)
         × Judges bit instr.now entry.old entry.new v bytes.now at next) }

@@ -1,16 +1,60 @@
 //! What bit 0 gives of an entry, with the integer types as one case, so that a loop over fields has room for it. What is not
 //! served here is `pass_left_out` of `fast_field`.
 
-ghost use Rattle.std.specs.Prelude.{◌≡◌, IsTrue};
-ghost use Rattle.fast_value.specs.Scalar.{is_integer};
+ghost use Rattle.std.specs.Prelude.{◌≡◌, Some, IsTrue, true};
+ghost use Rattle.fast_value.specs.Scalar.{is_integer, is_of};
 ghost use Rattle.fast_value.specs.declared.kind.Operator.TheVariants as operator_type;
+ghost use Rattle.fast_field.specs.Fields.{within_part};
 ghost use Rattle.fast_field.specs.Numbers.{Predicts, Repeats};
+ghost use Rattle.fast_field.specs.Parts.{IsFieldPart};
 ghost use Rattle.fast_field.specs.Passed.{IsPassed};
 
 use crate::short_number::{is_within, kept_number, number_after, replace_number};
 use fast_dictionary::Entry;
 use fast_field::{Passed, fits};
-use fast_template::{FieldPart, Kind, Operator, Part, Presence};
+use fast_template::{FieldPart, Kind, Operator, Part, Presence, Scalar};
+use fast_value::is_of_kind;
+
+/// Whether a number is within the limit of a part; of another value it is not told.
+#[inline(always)]
+fn is_near(which: Part, value: &Scalar) -> bool
+    ensures { result ≡ true → IsTrue (within_part which value.now) }
+{
+    match value {
+        Scalar::U32(number) => is_within(which, i64::from(*number)),
+        Scalar::I32(number) => is_within(which, i64::from(*number)),
+        _ => false,
+    }
+}
+
+/// Whether a value that was kept is one that a part can have. Only exponents and lengths have a limit within their type.
+#[inline(always)]
+fn can_repeat(which: Part, instr: &FieldPart, value: &Scalar) -> bool
+    requires { which ≡ instr.now.part }
+    ensures kind { result ≡ true → is_of instr.now.kind value.now ≡ true }
+    ensures within { result ≡ true → IsTrue (within_part instr.now.part value.now) }
+{
+    match which {
+        Part::Whole | Part::Mantissa => is_of_kind(instr.kind, value),
+        Part::Exponent | Part::Length => is_of_kind(instr.kind, value) && is_near(which, value),
+    }
+}
+
+/// Whether the initial value of a part is one that it can have. It is, as was seen when the templates were loaded; only of a
+/// length nobody has looked whether it is too great.
+#[inline(always)]
+pub(crate) fn can_begin(which: Part, instr: &FieldPart, value: &Scalar) -> bool
+    requires which { which ≡ instr.now.part }
+    requires part { IsFieldPart instr.now }
+    requires initial { instr.now.initial ≡ Some value.now }
+    ensures kind { result ≡ true → is_of instr.now.kind value.now ≡ true }
+    ensures within { result ≡ true → IsTrue (within_part instr.now.part value.now) }
+{
+    match which {
+        Part::Whole | Part::Exponent | Part::Mantissa => true,
+        Part::Length => fits(instr, value),
+    }
+}
 
 /// No value, where the field may be absent.
 #[inline(always)]
@@ -29,13 +73,14 @@ fn pass_empty(instr: &FieldPart, entry: &Entry) -> Passed
 
 /// The value that the entry has.
 #[inline(always)]
-fn pass_kept(instr: &FieldPart, entry: &Entry) -> Passed
-    requires { Repeats instr.now.operator }
+fn pass_kept(which: Part, instr: &FieldPart, entry: &Entry) -> Passed
+    requires operator { Repeats instr.now.operator }
+    requires part { which ≡ instr.now.part }
     ensures { IsPassed instr.now entry.now entry.now result }
 {
     match entry {
         Entry::Assigned(value) => {
-            if fits(instr, value) {
+            if can_repeat(which, instr, value) {
                 Passed::Present
             } else {
                 Passed::Elsewhere
@@ -84,13 +129,15 @@ fn pass_increment(which: Part, instr: &FieldPart, entry: &mut Entry) -> Passed
 
 /// The initial value, or none where there is none.
 #[inline(always)]
-fn pass_initial(instr: &FieldPart, entry: &Entry) -> Passed
-    requires { instr.now.operator ≡ operator_type.Default }
+fn pass_initial(which: Part, instr: &FieldPart, entry: &Entry) -> Passed
+    requires operator { instr.now.operator ≡ operator_type.Default }
+    requires which { which ≡ instr.now.part }
+    requires part { IsFieldPart instr.now }
     ensures { IsPassed instr.now entry.now entry.now result }
 {
     match &instr.initial {
         Some(initial) => {
-            if fits(instr, initial.value()) {
+            if can_begin(which, instr, initial.value()) {
                 Passed::Present
             } else {
                 Passed::Elsewhere
@@ -120,13 +167,14 @@ fn pass_constant(instr: &FieldPart, entry: &Entry) -> Passed
 /// has changed, and another way tells.
 #[inline(always)]
 pub fn pass_quickly(which: Part, instr: &FieldPart, entry: &mut Entry) -> Passed
-    requires { which ≡ instr.now.part }
+    requires which { which ≡ instr.now.part }
+    requires part { IsFieldPart instr.now }
     ensures { IsPassed instr.now entry.old entry.new result }
 {
     match instr.operator {
-        Operator::Copy | Operator::Tail => pass_kept(instr, entry),
+        Operator::Copy | Operator::Tail => pass_kept(which, instr, entry),
         Operator::Increment => pass_increment(which, instr, entry),
-        Operator::Default => pass_initial(instr, entry),
+        Operator::Default => pass_initial(which, instr, entry),
         Operator::Constant => pass_constant(instr, entry),
         Operator::Plain | Operator::Delta => Passed::Elsewhere,
     }

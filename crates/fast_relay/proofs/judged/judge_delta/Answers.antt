@@ -21,7 +21,7 @@ returns-clause-judged c =
     let same = to_z-of_z w64 z fits in
     let sum : z ≡ y +ℤ d = search rules in (
       of_integer k (y +ℤ d),
-      delta_stands k c.args.instr.now c.args.entry.now c.replace_number.new.entry y d c.args.bytes.now c.args.at c.args.next
+      delta_stands k c.args.instr.now c.args.entry.now c.replace_number.new.entry y d c.args.bytes.now c.args.at c.args.first c.args.next
           c.requires.kind c.requires.operator c.in-Some.ensures
           (subst (λ (x : ℤ). IsFieldNumber k c.args.instr.now.part x) sum (rw (same, c.requires.part) at (c.is_field_number.ensures c.if-not-is_field_number.false)))
           c.requires.stands

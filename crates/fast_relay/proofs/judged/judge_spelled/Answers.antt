@@ -13,7 +13,7 @@ returns-in-Some-true-clause-judged c =
     let fits : FitsSigned w64 z = search rules in
     let same = to_z-of_z w64 z fits in (
       of_integer k z,
-      whole_stands k c.args.instr.now c.args.entry.now c.judge_read.new.entry z c.args.bytes.now c.args.at c.args.next
+      whole_stands k c.args.instr.now c.args.entry.now c.judge_read.new.entry z c.args.bytes.now c.args.at c.args.first c.args.next
           c.requires.kind c.requires.whole
           (rw (same, c.requires.part) at (c.is_field_number.ensures c.if-not-is_field_number.false))
           c.requires.stands
@@ -27,7 +27,7 @@ returns-in-Some-false-clause-judged c =
     let fits : FitsSigned w64 z = search rules in
     let same = to_z-of_z w64 z fits in (
       of_integer k z,
-      whole_given k c.args.instr.now c.args.entry.now c.judge_read.new.entry z c.args.bytes.now c.args.at c.args.next
+      whole_given k c.args.instr.now c.args.entry.now c.judge_read.new.entry z c.args.bytes.now c.args.at c.args.first c.args.next
           c.requires.kind c.requires.whole
           (rw (same, c.requires.part) at (c.is_field_number.ensures c.if-not-is_field_number.false))
           c.requires.stands

@@ -1,5 +1,5 @@
 use Rattle.fast_field.proofs.Passing.{kept_passes}
 use Rattle.fast_relay.proofs.passed.pass_kept.Goals as goal
 
-pub returns-then-fits : goal.returns-then-fits
-returns-then-fits c = rw c.in-Assigned.is (kept_passes c.args.instr.now c.in-Assigned.value c.requires (c.fits.ensures.kind c.if-fits.true) (c.fits.ensures.within c.if-fits.true))
+pub returns-then-can_repeat : goal.returns-then-can_repeat
+returns-then-can_repeat c = rw c.in-Assigned.is (kept_passes c.args.instr.now c.in-Assigned.value c.requires.operator (c.can_repeat.ensures.kind c.if-can_repeat.true) (c.can_repeat.ensures.within c.if-can_repeat.true))
