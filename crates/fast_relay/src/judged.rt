@@ -9,6 +9,7 @@ ghost use Rattle.fast_wire.specs.Entity.{IsEntity};
 ghost use Rattle.fast_field.specs.Numbers.{IsNumber};
 ghost use Rattle.fast_field.specs.Spelled.{overlong_number};
 ghost use Rattle.fast_field.specs.Values as values;
+ghost use Rattle.fast_field.specs.Within.{HoldsScalar};
 ghost use Rattle.fast_relay.specs.Judged.{IfJudged, IfNotJudged, Judges, Leaves, StandsAt};
 ghost use Rattle.fast_relay.specs.Numbers.{SpellsWhole, Spelt};
 
@@ -351,6 +352,7 @@ fn judge_long(
 ) -> Judged
     requires place { at ≤ length bytes.now }
     requires part { which ≡ instr.now.part }
+    requires kept { HoldsScalar entry.now }
     ensures place { IfJudged result (λ bit next. (at ≤ next) × (next ≤ length bytes.now)) }
     ensures judged { IfJudged result (λ bit next. (v : ScalarOf)
         × Judges bit instr.now entry.old entry.new v bytes.now at next) }
@@ -380,6 +382,7 @@ pub fn judge_field(
 ) -> Judged
     requires place { at ≤ length bytes.now }
     requires part { which ≡ instr.now.part }
+    requires kept { HoldsScalar entry.now }
     ensures place { IfJudged result (λ bit next. (at ≤ next) × (next ≤ length bytes.now)) }
     ensures judged { IfJudged result (λ bit next. (v : ScalarOf)
         × Judges bit instr.now entry.old entry.new v bytes.now at next) }

@@ -1,25 +1,27 @@
 //! ASCII strings that are judged as they stand: whether their bytes are the best form of the value, or bit 0 is. The entry
 //! goes on, and nothing is written. What is not served here goes by `relay_text`.
 
-ghost use Rattle.std.specs.Prelude.{◌≡◌, ◌≤◌, ◌<◌, pos, false, length, IfSome};
+ghost use Rattle.std.specs.Prelude.{◌≡◌, ◌≤◌, length};
+ghost use Rattle.fast_value.specs.Scalar.{IsScalar};
 ghost use Rattle.fast_value.specs.declared.kind.Kind.TheVariants as kind_type;
 ghost use Rattle.fast_value.specs.declared.kind.Operator.TheVariants as operator_type;
 ghost use Rattle.fast_value.specs.declared.kind.Part.TheVariants as part_type;
 ghost use Rattle.fast_value.specs.declared.scalar.Scalar.{Scalar as ScalarOf};
 ghost use Rattle.fast_value.specs.declared.scalar.Scalar.TheVariants.{Ascii};
 ghost use Rattle.fast_dictionary.specs.declared.entry.Entry.TheVariants as entry_type;
-ghost use Rattle.fast_relay.specs.Judged.{IfJudged, IfNotJudged, Judges, StandsAt};
+ghost use Rattle.fast_field.specs.Within.{HoldsScalar};
+ghost use Rattle.fast_relay.specs.Judged.{IfJudged, IfNotJudged, Judges};
 ghost use Rattle.fast_relay.specs.Numbers.{SpellsWhole};
 
-use crate::characters::are_characters;
-use crate::cut::few_removed;
 use crate::given::gives_text;
-use crate::judged::{Judged, read_shortest};
+use crate::judged::Judged;
+use crate::one_byte::read_removal;
 use crate::plain::{agrees_no_further, is_cut_at_end, keep_plain, may_be_left_out, put_characters};
+use crate::words::plain_end;
 use fast_dictionary::Entry;
-use fast_template::{ByteString, FieldPart, Operator, Presence, Scalar};
+use fast_template::{ByteString, FieldPart, Operator, Scalar};
 use fast_value::UNIT_LIMIT;
-use fast_wire::{is_text_of, plain_ascii_end};
+use fast_wire::is_text_of;
 use std::alloc::Global;
 
 /// Judges a string that is spelled whole.
@@ -40,7 +42,7 @@ fn judge_string_whole(
         × Judges bit instr.now entry.old entry.new v bytes.now at next) }
     ensures entry { IfNotJudged result (entry.new ≡ entry.old) }
 {
-    let Some(next) = plain_ascii_end(bytes, at) else {
+    let Some(next) = plain_end(bytes, at) else {
         return Judged::Elsewhere;
     };
     let form = &bytes[at..next];
@@ -57,24 +59,6 @@ fn judge_string_whole(
     }
 }
 
-/// How many characters a subtraction length removes at the end, if they are few and it stands in its shortest form, and the
-/// place behind it.
-#[inline(always)]
-fn read_removal(presence: Presence, bytes: &[u8], at: usize) -> Option<(usize, usize)>
-    requires { at ≤ length bytes.now }
-    ensures place { IfSome result (λ x. (at ≤ x.1) × (x.1 ≤ length bytes.now)) }
-    ensures few { IfSome result (λ x. x.0 < 63) }
-    ensures stands { IfSome result (λ x. StandsAt false presence bytes.now at x.1 (pos x.0)) }
-{
-    let Some((removal, next)) = read_shortest(false, presence, bytes, at) else {
-        return None;
-    };
-    match few_removed(i128::from(removal)) {
-        Some(removed) => Some((removed, next)),
-        None => None,
-    }
-}
-
 /// Judges a removal of few characters at the end of the string that the entry has, and a new part.
 #[inline(always)]
 fn judge_string_delta(
@@ -88,15 +72,17 @@ fn judge_string_delta(
     requires part { instr.now.part ≡ part_type.Whole }
     requires operator { instr.now.operator ≡ operator_type.Delta }
     requires kind { instr.now.kind ≡ kind_type.Ascii }
+    requires kept { IsScalar (Ascii text.now) }
     ensures place { IfJudged result (λ bit next. (at ≤ next) × (next ≤ length bytes.now)) }
     ensures judged { IfJudged result (λ bit next. (v : ScalarOf) × Judges bit instr.now
         (entry_type.Assigned (Ascii text.old)) (entry_type.Assigned (Ascii text.new)) v bytes.now at next) }
     ensures text { IfNotJudged result (text.new ≡ text.old) }
 {
-    let Some((removed, first)) = read_removal(instr.presence, bytes, at) else {
+    let Some(removed) = read_removal(instr.presence, bytes, at) else {
         return Judged::Elsewhere;
     };
-    let Some(next) = plain_ascii_end(bytes, first) else {
+    let first = at + 1;
+    let Some(next) = plain_end(bytes, first) else {
         return Judged::Elsewhere;
     };
     let form = &bytes[first..next];
@@ -108,8 +94,7 @@ fn judge_string_delta(
     if !agrees_no_further(base, kept, form) || !is_cut_at_end(base, kept, form) {
         return Judged::Elsewhere;
     }
-    // last, since it looks at each character
-    if !are_characters(base) || form.len() > UNIT_LIMIT - kept {
+    if form.len() > UNIT_LIMIT - kept {
         return Judged::Elsewhere;
     }
     if put_characters(alloc, text, kept, form) {
@@ -133,17 +118,18 @@ fn judge_string_tail(
     requires part { instr.now.part ≡ part_type.Whole }
     requires operator { instr.now.operator ≡ operator_type.Tail }
     requires kind { instr.now.kind ≡ kind_type.Ascii }
+    requires kept { IsScalar (Ascii text.now) }
     ensures place { IfJudged result (λ bit next. (at ≤ next) × (next ≤ length bytes.now)) }
     ensures judged { IfJudged result (λ bit next. (v : ScalarOf) × Judges bit instr.now
         (entry_type.Assigned (Ascii text.old)) (entry_type.Assigned (Ascii text.new)) v bytes.now at next) }
     ensures text { IfNotJudged result (text.new ≡ text.old) }
 {
-    let Some(next) = plain_ascii_end(bytes, at) else {
+    let Some(next) = plain_end(bytes, at) else {
         return Judged::Elsewhere;
     };
     let form = &bytes[at..next];
     let base = text.as_slice();
-    if form.len() > base.len() || !are_characters(base) {
+    if form.len() > base.len() {
         return Judged::Elsewhere;
     }
     let kept = base.len() - form.len();
@@ -173,6 +159,7 @@ pub(crate) fn judge_string(
     requires place { at ≤ length bytes.now }
     requires part { instr.now.part ≡ part_type.Whole }
     requires kind { instr.now.kind ≡ kind_type.Ascii }
+    requires kept { HoldsScalar entry.now }
     ensures place { IfJudged result (λ bit next. (at ≤ next) × (next ≤ length bytes.now)) }
     ensures judged { IfJudged result (λ bit next. (v : ScalarOf)
         × Judges bit instr.now entry.old entry.new v bytes.now at next) }

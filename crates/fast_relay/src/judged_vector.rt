@@ -11,6 +11,7 @@ ghost use Rattle.fast_dictionary.specs.declared.entry.Entry.TheVariants as entry
 ghost use Rattle.fast_field.specs.Chosen.{ShortestUnits};
 ghost use Rattle.fast_field.specs.FieldReading.{units_at};
 ghost use Rattle.fast_field.specs.Values.{of_units};
+ghost use Rattle.fast_field.specs.Within.{HoldsScalar};
 ghost use Rattle.fast_relay.specs.Judged.{IfJudged, IfNotJudged, Judges};
 ghost use Rattle.fast_relay.specs.Numbers.{SpellsWhole};
 ghost use Rattle.fast_relay.specs.Texts.{IsText, IsVectorKind};
@@ -270,6 +271,7 @@ pub(crate) fn judge_vector(
     requires place { at ≤ length bytes.now }
     requires part { instr.now.part ≡ part_type.Whole }
     requires kind { IsVectorKind instr.now.kind }
+    requires kept { HoldsScalar entry.now }
     ensures place { IfJudged result (λ bit next. (at ≤ next) × (next ≤ length bytes.now)) }
     ensures judged { IfJudged result (λ bit next. (v : ScalarOf)
         × Judges bit instr.now entry.old entry.new v bytes.now at next) }
