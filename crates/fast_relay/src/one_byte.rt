@@ -1,8 +1,10 @@
-//! Removals in one byte, as most are, which is their shortest form.
+//! Lengths and removals in one byte, as most are, which is their shortest form.
 
-ghost use Rattle.std.specs.Prelude.{◌≡◌, ◌+◌, ◌<◌, ◌≤◌, pos, false, length, IfSome};
+ghost use Rattle.std.specs.Prelude.{◌≡◌, ◌+◌, ◌<◌, ◌≤◌, pos, true, false, length, IfSome};
 ghost use Rattle.fast_relay.specs.Judged.{StandsAt, zero_byte};
 
+use crate::judged::read_shortest;
+use crate::vectors::few_bytes;
 use fast_template::Presence;
 
 /// A removal below this takes one byte, with NULL and without.
@@ -33,4 +35,40 @@ pub(crate) fn read_removal(presence: Presence, bytes: &[u8], at: usize) -> Optio
     } else {
         None
     }
+}
+
+/// The same as `read_length`, of a length of more bytes.
+#[inline(never)]
+fn read_long_length(presence: Presence, bytes: &[u8], at: usize) -> Option<(usize, usize)>
+    requires { at ≤ length bytes.now }
+    ensures place { IfSome result (λ x. (at ≤ x.1) × (x.1 ≤ length bytes.now)) }
+    ensures few { IfSome result (λ x. x.0 ≤ 65535) }
+    ensures stands { IfSome result (λ x. StandsAt true presence bytes.now at x.1 (pos x.0)) }
+{
+    let Some((length, start)) = read_shortest(true, presence, bytes, at) else {
+        return None;
+    };
+    match few_bytes(i128::from(length)) {
+        Some(count) => Some((count, start)),
+        None => None,
+    }
+}
+
+/// A length that stands in its shortest form and is not too large, and the place behind it.
+#[inline(always)]
+pub(crate) fn read_length(presence: Presence, bytes: &[u8], at: usize) -> Option<(usize, usize)>
+    requires { at ≤ length bytes.now }
+    ensures place { IfSome result (λ x. (at ≤ x.1) × (x.1 ≤ length bytes.now)) }
+    ensures few { IfSome result (λ x. x.0 ≤ 65535) }
+    ensures stands { IfSome result (λ x. StandsAt true presence bytes.now at x.1 (pos x.0)) }
+{
+    let zero = zero_byte(presence);
+    if at < bytes.len() && bytes[at] >= zero {
+        return Some((usize::from(bytes[at] - zero), at + 1));
+    }
+    // NULL
+    if at < bytes.len() && bytes[at] >= 128 {
+        return None;
+    }
+    read_long_length(presence, bytes, at)
 }
