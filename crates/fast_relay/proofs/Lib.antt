@@ -13,6 +13,8 @@ mod Standing
 mod Judging
 mod DecimalJudging
 mod VectorJudging
+mod OneByte
+mod StringEnds
 mod StringJudging
 mod AsciiWords
 mod Utf8Steps

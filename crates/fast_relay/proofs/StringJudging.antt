@@ -14,7 +14,7 @@ use Rattle.fast_dictionary.specs.declared.entry.Entry.TheVariants.{Assigned}
 use Rattle.fast_field.specs.Bases.{next as next_entry}
 use Rattle.fast_field.specs.CommonParts.{IsLongestPrefix}
 use Rattle.fast_field.specs.Planning.{left_out_of}
-use Rattle.fast_relay.specs.Judged.{Judges, StandsAt}
+use Rattle.fast_relay.specs.Judged.{Judges, JudgesFrom, StandsAt}
 use Rattle.fast_relay.specs.Numbers.{SpellsWhole}
 use Rattle.fast_relay.specs.Texts.{SharesEnd}
 use Rattle.fast_relay.proofs.Giving.{tail_drops}
@@ -25,11 +25,11 @@ use Rattle.fast_relay.proofs.Standing.{shortest_signed}
 abbrev AreCharacters : List ℕ → Type 0
 AreCharacters s = (length s ≤ 65535) × AllByRecursion (λ c. c < 128) s
 
-pub text_stands : (i : FieldPart) (old new : Entry) (bytes : List ℕ) (at next : ℕ) → i.kind ≡ kind.Ascii → i.part ≡ part.Whole → SpellsWhole i.operator → IsPlain (drop at bytes) (slice_range bytes at next) (drop next bytes)
-    → new ≡ next_entry i old (Some (Ascii (groups (slice_range bytes at next)))) → left_out_of i.operator i old (Some (Ascii (groups (slice_range bytes at next)))) ≡ false
-    → Judges true i old new (Ascii (groups (slice_range bytes at next))) bytes at next
-text_stands i old new bytes at next k whole o h entry sent = λ out.
-    let form = slice_range bytes at next in
+pub text_stands : (i : FieldPart) (old new : Entry) (bytes : List ℕ) (at first next : ℕ) → i.kind ≡ kind.Ascii → i.part ≡ part.Whole → SpellsWhole i.operator → IsPlain (drop at bytes) (slice_range bytes first next) (drop next bytes)
+    → new ≡ next_entry i old (Some (Ascii (groups (slice_range bytes first next)))) → left_out_of i.operator i old (Some (Ascii (groups (slice_range bytes first next)))) ≡ false
+    → JudgesFrom true i old new (Ascii (groups (slice_range bytes first next))) bytes at first next
+text_stands i old new bytes at first next k whole o h entry sent = λ out.
+    let form = slice_range bytes first next in
     plain_relays i old new (drop at bytes) form (drop next bytes) out (out ++ form) k whole o h entry sent refl
 
 pub cut_stands : (i : FieldPart) (base bytes : List ℕ) (r at first next : ℕ) → i.kind ≡ kind.Ascii → i.part ≡ part.Whole → i.operator ≡ operator.Delta → AreCharacters base → r < 63 → r ≤ length base → at ≤ first → first ≤ next

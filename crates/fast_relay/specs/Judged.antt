@@ -3,7 +3,7 @@ use Rattle.std.specs.Prelude.{◌≡◌, ◌≤◌, ℕ, ℤ, Bool, true, false,
 use Rattle.fast_wire.specs.declared.nullable.Nullable.TheVariants.{Value}
 use Rattle.fast_value.specs.Scalar.{is_of}
 use Rattle.fast_value.specs.declared.kind.Presence.{Presence}
-use Rattle.fast_value.specs.declared.kind.Presence.TheVariants.{Mandatory}
+use Rattle.fast_value.specs.declared.kind.Presence.TheVariants.{Mandatory, Optional}
 use Rattle.fast_value.specs.declared.scalar.Scalar.{Scalar}
 use Rattle.fast_template.specs.declared.resolved.FieldPart.{FieldPart}
 use Rattle.fast_dictionary.specs.declared.entry.Entry.{Entry}
@@ -58,6 +58,11 @@ pub record StandsFrom (unsigned : Bool) (p : Presence) (bytes : List ℕ) (at fi
 -- all of them are
 abbrev pub StandsAt : Bool → Presence → List ℕ → ℕ → ℕ → ℤ → Type 0
 StandsAt unsigned p bytes at next z = StandsFrom unsigned p bytes at at next z
+
+-- the byte that spells 0, as a number with a sign and without
+abbrev pub zero_byte : Presence → ℕ
+zero_byte Mandatory = 128
+zero_byte Optional = 129
 
 -- they are the shortest forms of an exponent and, behind it, a mantissa
 pub record PairStandsAt (p : Presence) (bytes : List ℕ) (at next : ℕ) (e m : ℤ) : Type 0 where

@@ -1,6 +1,6 @@
 //! Whether bytes are the characters of an ASCII string, and whether they or a value are not too many.
 
-ghost use Rattle.std.specs.Prelude.{◌≡◌, ◌≤◌, ◌<◌, true, length, drop, slice_range, IfSome};
+ghost use Rattle.std.specs.Prelude.{◌≡◌, ◌≤◌, ◌<◌, ◌+◌, true, length, drop, slice_range, IfSome};
 ghost use Rattle.std.specs.List.{AllByRecursion};
 ghost use Rattle.fast_wire.specs.Plain.{IsPlain};
 ghost use Rattle.fast_relay.specs.Texts.{IsText};
@@ -29,8 +29,9 @@ pub(crate) fn are_few(bytes: &[u8]) -> bool
 
 /// Where a plain string begins and ends that stands behind one zero group, which is a preamble.
 #[inline(never)]
-fn find_behind_zero(bytes: &[u8], at: usize) -> Option<(usize, usize)>
+pub(crate) fn find_behind_zero(bytes: &[u8], at: usize) -> Option<(usize, usize)>
     requires { at ≤ length bytes.now }
+    ensures first { IfSome result (λ x. x.0 ≡ at + 1) }
     ensures place { IfSome result (λ x. (at ≤ x.0) × (x.0 < x.1) × (x.1 ≤ length bytes.now)) }
     ensures plain { IfSome result (λ x. IsPlain (drop at bytes.now)
         (slice_range bytes.now x.0 x.1) (drop x.1 bytes.now)) }

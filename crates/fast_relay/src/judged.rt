@@ -11,6 +11,7 @@ ghost use Rattle.fast_field.specs.Numbers.{IsNumber, Predicts};
 ghost use Rattle.fast_field.specs.Parts.{IsFieldPart};
 ghost use Rattle.fast_field.specs.Spelled.{overlong_number};
 ghost use Rattle.fast_field.specs.Values as values;
+ghost use Rattle.fast_field.specs.Within.{HoldsScalar};
 ghost use Rattle.fast_relay.specs.Judged.{IfBehind, IfJudged, IfNotJudged, Judges, JudgesFrom, Leaves, StandsAt, StandsFrom};
 ghost use Rattle.fast_relay.specs.Numbers.{SpellsWhole, Spelt};
 
@@ -508,6 +509,7 @@ fn judge_long(
 ) -> Judged
     requires place { at ≤ length bytes.now }
     requires part { which ≡ instr.now.part }
+    requires kept { HoldsScalar entry.now }
     ensures place { IfJudged result (λ bit next. (at ≤ next) × (next ≤ length bytes.now)) }
     ensures judged { IfJudged result (λ bit next. (v : ScalarOf)
         × Judges bit instr.now entry.old entry.new v bytes.now at next) }
@@ -541,6 +543,7 @@ pub fn judge_field(
     requires place { at ≤ length bytes.now }
     requires which { which ≡ instr.now.part }
     requires part { IsFieldPart instr.now }
+    requires kept { HoldsScalar entry.now }
     ensures place { IfJudged result (λ bit next. (at ≤ next) × (next ≤ length bytes.now)) }
     ensures judged { IfJudged result (λ bit next. (v : ScalarOf)
         × Judges bit instr.now entry.old entry.new v bytes.now at next) }

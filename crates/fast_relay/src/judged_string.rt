@@ -1,26 +1,100 @@
 //! ASCII strings that are judged as they stand: whether their bytes are the best form of the value, or bit 0 is. The entry
 //! goes on, and nothing is written. What is not served here goes by `relay_text`.
 
-ghost use Rattle.std.specs.Prelude.{◌≡◌, ◌≤◌, ◌<◌, pos, false, length, IfSome};
+ghost use Rattle.std.specs.Prelude.{◌≡◌, ◌≤◌, ◌+◌, true, length, drop, slice_range};
+ghost use Rattle.fast_value.specs.Scalar.{IsScalar};
 ghost use Rattle.fast_value.specs.declared.kind.Kind.TheVariants as kind_type;
 ghost use Rattle.fast_value.specs.declared.kind.Operator.TheVariants as operator_type;
 ghost use Rattle.fast_value.specs.declared.kind.Part.TheVariants as part_type;
 ghost use Rattle.fast_value.specs.declared.scalar.Scalar.{Scalar as ScalarOf};
 ghost use Rattle.fast_value.specs.declared.scalar.Scalar.TheVariants.{Ascii};
 ghost use Rattle.fast_dictionary.specs.declared.entry.Entry.TheVariants as entry_type;
-ghost use Rattle.fast_relay.specs.Judged.{IfBehind, IfJudged, IfNotJudged, Judges, StandsAt};
+ghost use Rattle.fast_wire.specs.Plain.{IsPlain};
+ghost use Rattle.fast_field.specs.Within.{HoldsScalar};
+ghost use Rattle.fast_relay.specs.Judged.{IfBehind, IfJudged, IfNotJudged, Judges, JudgesFrom};
 ghost use Rattle.fast_relay.specs.Numbers.{SpellsWhole};
 
-use crate::characters::are_characters;
-use crate::cut::few_removed;
+use crate::characters::find_behind_zero;
 use crate::given::gives_text;
-use crate::judged::{Judged, read_shortest};
+use crate::judged::Judged;
+use crate::one_byte::read_removal;
 use crate::plain::{agrees_no_further, is_cut_at_end, keep_plain, may_be_left_out, put_characters};
+use crate::words::plain_end;
 use fast_dictionary::Entry;
-use fast_template::{ByteString, FieldPart, Operator, Presence, Scalar};
+use fast_template::{ByteString, FieldPart, Operator, Scalar};
 use fast_value::UNIT_LIMIT;
-use fast_wire::{is_text_of, plain_ascii_end};
+use fast_wire::is_text_of;
 use std::alloc::Global;
+
+/// Judges a string that is spelled whole, and is the one that the bytes from `first` to `next` are the shortest form of.
+#[inline(always)]
+fn judge_plain(
+    alloc: Global,
+    instr: &FieldPart,
+    entry: &mut Entry,
+    bytes: &[u8],
+    at: usize,
+    first: usize,
+    next: usize,
+) -> Judged
+    requires first { first ≤ next }
+    requires within { next ≤ length bytes.now }
+    requires part { instr.now.part ≡ part_type.Whole }
+    requires operator { SpellsWhole instr.now.operator }
+    requires kind { instr.now.kind ≡ kind_type.Ascii }
+    requires plain { IsPlain (drop at bytes.now) (slice_range bytes.now first next) (drop next bytes.now) }
+    ensures place { IfJudged result (λ bit n. n ≡ next) }
+    ensures judged { IfJudged result (λ bit n. (v : ScalarOf)
+        × JudgesFrom bit instr.now entry.old entry.new v bytes.now at first next) }
+    ensures behind { IfBehind result (λ n. ⊥) }
+    ensures entry { IfNotJudged result (entry.new ≡ entry.old) }
+{
+    let form = &bytes[first..next];
+    if may_be_left_out(instr, entry, form) {
+        if gives_text(instr, entry, form) {
+            return Judged::Given(next);
+        }
+        return Judged::Elsewhere;
+    }
+    if keep_plain(alloc, instr.operator, entry, form) {
+        Judged::Stands(next)
+    } else {
+        Judged::Elsewhere
+    }
+}
+
+/// Judges a string that is spelled whole behind a zero group, which is a preamble. (A call of its own, so that others do not
+/// pay for it.)
+#[inline(never)]
+fn judge_string_behind(
+    alloc: Global,
+    instr: &FieldPart,
+    entry: &mut Entry,
+    bytes: &[u8],
+    at: usize,
+) -> Judged
+    requires place { at ≤ length bytes.now }
+    requires part { instr.now.part ≡ part_type.Whole }
+    requires operator { SpellsWhole instr.now.operator }
+    requires kind { instr.now.kind ≡ kind_type.Ascii }
+    ensures place { IfJudged result (λ bit next. (at ≤ next) × (next ≤ length bytes.now)) }
+    ensures judged { IfJudged result (λ bit next. (v : ScalarOf)
+        × Judges bit instr.now entry.old entry.new v bytes.now at next) }
+    ensures behind_place { IfBehind result (λ next. (at + 1 ≤ next) × (next ≤ length bytes.now)) }
+    ensures behind { IfBehind result (λ next. (v : ScalarOf)
+        × JudgesFrom true instr.now entry.old entry.new v bytes.now at (at + 1) next) }
+    ensures entry { IfNotJudged result (entry.new ≡ entry.old) }
+{
+    let Some((first, next)) = find_behind_zero(bytes, at) else {
+        return Judged::Elsewhere;
+    };
+    match judge_plain(alloc, instr, entry, bytes, at, first, next) {
+        Judged::Stands(_next) => Judged::Behind(next),
+        Judged::Given(_next) => Judged::Given(next),
+        Judged::Behind(_) => unreachable!(),
+        Judged::Elsewhere => Judged::Elsewhere,
+    }
+}
 
 /// Judges a string that is spelled whole.
 #[inline(always)]
@@ -35,44 +109,17 @@ fn judge_string_whole(
     requires part { instr.now.part ≡ part_type.Whole }
     requires operator { SpellsWhole instr.now.operator }
     requires kind { instr.now.kind ≡ kind_type.Ascii }
-    ensures behind { IfBehind result (λ next. ⊥) }
     ensures place { IfJudged result (λ bit next. (at ≤ next) × (next ≤ length bytes.now)) }
     ensures judged { IfJudged result (λ bit next. (v : ScalarOf)
         × Judges bit instr.now entry.old entry.new v bytes.now at next) }
+    ensures behind_place { IfBehind result (λ next. (at + 1 ≤ next) × (next ≤ length bytes.now)) }
+    ensures behind { IfBehind result (λ next. (v : ScalarOf)
+        × JudgesFrom true instr.now entry.old entry.new v bytes.now at (at + 1) next) }
     ensures entry { IfNotJudged result (entry.new ≡ entry.old) }
 {
-    let Some(next) = plain_ascii_end(bytes, at) else {
-        return Judged::Elsewhere;
-    };
-    let form = &bytes[at..next];
-    if may_be_left_out(instr, entry, form) {
-        if gives_text(instr, entry, form) {
-            return Judged::Given(next);
-        }
-        return Judged::Elsewhere;
-    }
-    if keep_plain(alloc, instr.operator, entry, form) {
-        Judged::Stands(next)
-    } else {
-        Judged::Elsewhere
-    }
-}
-
-/// How many characters a subtraction length removes at the end, if they are few and it stands in its shortest form, and the
-/// place behind it.
-#[inline(always)]
-fn read_removal(presence: Presence, bytes: &[u8], at: usize) -> Option<(usize, usize)>
-    requires { at ≤ length bytes.now }
-    ensures place { IfSome result (λ x. (at ≤ x.1) × (x.1 ≤ length bytes.now)) }
-    ensures few { IfSome result (λ x. x.0 < 63) }
-    ensures stands { IfSome result (λ x. StandsAt false presence bytes.now at x.1 (pos x.0)) }
-{
-    let Some((removal, next)) = read_shortest(false, presence, bytes, at) else {
-        return None;
-    };
-    match few_removed(i128::from(removal)) {
-        Some(removed) => Some((removed, next)),
-        None => None,
+    match plain_end(bytes, at) {
+        Some(next) => judge_plain(alloc, instr, entry, bytes, at, at, next),
+        None => judge_string_behind(alloc, instr, entry, bytes, at),
     }
 }
 
@@ -89,16 +136,18 @@ fn judge_string_delta(
     requires part { instr.now.part ≡ part_type.Whole }
     requires operator { instr.now.operator ≡ operator_type.Delta }
     requires kind { instr.now.kind ≡ kind_type.Ascii }
+    requires kept { IsScalar (Ascii text.now) }
     ensures behind { IfBehind result (λ next. ⊥) }
     ensures place { IfJudged result (λ bit next. (at ≤ next) × (next ≤ length bytes.now)) }
     ensures judged { IfJudged result (λ bit next. (v : ScalarOf) × Judges bit instr.now
         (entry_type.Assigned (Ascii text.old)) (entry_type.Assigned (Ascii text.new)) v bytes.now at next) }
     ensures text { IfNotJudged result (text.new ≡ text.old) }
 {
-    let Some((removed, first)) = read_removal(instr.presence, bytes, at) else {
+    let Some(removed) = read_removal(instr.presence, bytes, at) else {
         return Judged::Elsewhere;
     };
-    let Some(next) = plain_ascii_end(bytes, first) else {
+    let first = at + 1;
+    let Some(next) = plain_end(bytes, first) else {
         return Judged::Elsewhere;
     };
     let form = &bytes[first..next];
@@ -110,8 +159,7 @@ fn judge_string_delta(
     if !agrees_no_further(base, kept, form) || !is_cut_at_end(base, kept, form) {
         return Judged::Elsewhere;
     }
-    // last, since it looks at each character
-    if !are_characters(base) || form.len() > UNIT_LIMIT - kept {
+    if form.len() > UNIT_LIMIT - kept {
         return Judged::Elsewhere;
     }
     if put_characters(alloc, text, kept, form) {
@@ -135,18 +183,19 @@ fn judge_string_tail(
     requires part { instr.now.part ≡ part_type.Whole }
     requires operator { instr.now.operator ≡ operator_type.Tail }
     requires kind { instr.now.kind ≡ kind_type.Ascii }
+    requires kept { IsScalar (Ascii text.now) }
     ensures behind { IfBehind result (λ next. ⊥) }
     ensures place { IfJudged result (λ bit next. (at ≤ next) × (next ≤ length bytes.now)) }
     ensures judged { IfJudged result (λ bit next. (v : ScalarOf) × Judges bit instr.now
         (entry_type.Assigned (Ascii text.old)) (entry_type.Assigned (Ascii text.new)) v bytes.now at next) }
     ensures text { IfNotJudged result (text.new ≡ text.old) }
 {
-    let Some(next) = plain_ascii_end(bytes, at) else {
+    let Some(next) = plain_end(bytes, at) else {
         return Judged::Elsewhere;
     };
     let form = &bytes[at..next];
     let base = text.as_slice();
-    if form.len() > base.len() || !are_characters(base) {
+    if form.len() > base.len() {
         return Judged::Elsewhere;
     }
     let kept = base.len() - form.len();
@@ -176,10 +225,13 @@ pub(crate) fn judge_string(
     requires place { at ≤ length bytes.now }
     requires part { instr.now.part ≡ part_type.Whole }
     requires kind { instr.now.kind ≡ kind_type.Ascii }
-    ensures behind { IfBehind result (λ next. ⊥) }
+    requires kept { HoldsScalar entry.now }
     ensures place { IfJudged result (λ bit next. (at ≤ next) × (next ≤ length bytes.now)) }
     ensures judged { IfJudged result (λ bit next. (v : ScalarOf)
         × Judges bit instr.now entry.old entry.new v bytes.now at next) }
+    ensures behind_place { IfBehind result (λ next. (at + 1 ≤ next) × (next ≤ length bytes.now)) }
+    ensures behind { IfBehind result (λ next. (v : ScalarOf)
+        × JudgesFrom true instr.now entry.old entry.new v bytes.now at (at + 1) next) }
     ensures entry { IfNotJudged result (entry.new ≡ entry.old) }
 {
     match instr.operator {

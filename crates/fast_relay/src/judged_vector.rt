@@ -11,17 +11,18 @@ ghost use Rattle.fast_dictionary.specs.declared.entry.Entry.TheVariants as entry
 ghost use Rattle.fast_field.specs.Chosen.{ShortestUnits};
 ghost use Rattle.fast_field.specs.FieldReading.{units_at};
 ghost use Rattle.fast_field.specs.Values.{of_units};
+ghost use Rattle.fast_field.specs.Within.{HoldsScalar};
 ghost use Rattle.fast_relay.specs.Judged.{IfBehind, IfJudged, IfNotJudged, Judges};
 ghost use Rattle.fast_relay.specs.Numbers.{SpellsWhole};
 ghost use Rattle.fast_relay.specs.Texts.{IsText, IsVectorKind};
 
 use crate::characters::is_text;
-use crate::cut::few_removed;
+use crate::copied::put_part;
 use crate::given::gives_units;
-use crate::judged::{Judged, read_shortest};
+use crate::judged::Judged;
+use crate::one_byte::{read_length, read_removal};
 use crate::vectors::{
-    are_text, few_bytes, goes_on_otherwise, is_cut_at_end, keep_bytes, make_units, may_be_left_out,
-    may_end, put_units,
+    are_text, goes_on_otherwise, is_cut_at_end, keep_bytes, make_units, may_be_left_out, may_end,
 };
 use fast_dictionary::Entry;
 use fast_field::units;
@@ -42,10 +43,7 @@ fn find_shortest(kind: Kind, presence: Presence, bytes: &[u8], at: usize) -> Opt
     ensures shortest { IfSome result (λ x. IsText kind (of_units kind (slice_range bytes.now x.0 x.1))
         → ShortestUnits kind presence (slice_range bytes.now x.0 x.1) (slice_range bytes.now at x.1)) }
 {
-    let Some((length, start)) = read_shortest(true, presence, bytes, at) else {
-        return None;
-    };
-    let Some(count) = few_bytes(i128::from(length)) else {
+    let Some((count, start)) = read_length(presence, bytes, at) else {
         return None;
     };
     if bytes.len() - start < count {
@@ -131,7 +129,7 @@ fn judge_vector_tail(
     if !are_text(instr.kind, part) || !may_end(instr.kind, base, kept) {
         return None;
     }
-    if put_units(alloc, instr.kind, value, kept, part) {
+    if put_part(alloc, instr.kind, value, kept, part) {
         Some(next)
     } else {
         None
@@ -193,12 +191,10 @@ fn judge_vector_delta(
         bytes.now at next) }
     ensures value { IfNone result (value.new ≡ value.old) }
 {
-    let Some((removal, middle)) = read_shortest(false, instr.presence, bytes, at) else {
+    let Some(removed) = read_removal(instr.presence, bytes, at) else {
         return None;
     };
-    let Some(removed) = few_removed(i128::from(removal)) else {
-        return None;
-    };
+    let middle = at + 1;
     let Some((start, next)) = find_shortest(instr.kind, Presence::Mandatory, bytes, middle) else {
         return None;
     };
@@ -220,7 +216,7 @@ fn judge_vector_delta(
     if part.len() > UNIT_LIMIT - kept {
         return None;
     }
-    if put_units(alloc, instr.kind, value, kept, part) {
+    if put_part(alloc, instr.kind, value, kept, part) {
         Some(next)
     } else {
         None
@@ -271,6 +267,7 @@ pub(crate) fn judge_vector(
     requires place { at ≤ length bytes.now }
     requires part { instr.now.part ≡ part_type.Whole }
     requires kind { IsVectorKind instr.now.kind }
+    requires kept { HoldsScalar entry.now }
     ensures behind { IfBehind result (λ next. ⊥) }
     ensures place { IfJudged result (λ bit next. (at ≤ next) × (next ≤ length bytes.now)) }
     ensures judged { IfJudged result (λ bit next. (v : ScalarOf)

@@ -14,6 +14,7 @@
 #![tactic(auto)]
 
 mod characters;
+mod copied;
 mod cut;
 mod decimal;
 mod given;
@@ -25,6 +26,7 @@ mod judged_vector;
 mod kept;
 mod null;
 mod number;
+mod one_byte;
 mod passed;
 mod plain;
 mod relayed;
@@ -35,6 +37,7 @@ mod taken_text;
 mod text;
 mod utf8;
 mod vectors;
+mod words;
 
 pub use decimal::relay_decimal;
 pub use judged::{Judged, judge_field};

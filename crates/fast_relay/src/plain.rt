@@ -1,7 +1,7 @@
 //! ASCII strings that stand in their shortest form, as most do: their bytes are noted, to be written as they stand, and
 //! their characters copied into the entry, and no string is made. What is not served here is left to `text`.
 
-ghost use Rattle.std.specs.Prelude.{◌≡◌, ◌≤◌, ◌<◌, ◌++◌, pos, true, false, length, drop, take, Some, IfNone, IfSome};
+ghost use Rattle.std.specs.Prelude.{◌≡◌, ◌≤◌, ◌<◌, ◌+◌, ◌++◌, pos, true, false, length, drop, take, Some, IfNone, IfSome};
 ghost use Rattle.fast_value.specs.declared.kind.Kind.TheVariants as kind_type;
 ghost use Rattle.fast_value.specs.declared.kind.Operator.TheVariants as operator_type;
 ghost use Rattle.fast_value.specs.declared.kind.Part.TheVariants as part_type;
@@ -18,6 +18,7 @@ ghost use Rattle.fast_relay.specs.Runs.{IsRun, Stays, written};
 ghost use Rattle.fast_relay.specs.Texts.{SharesEnd};
 
 use crate::characters::{are_characters, find_plain};
+use crate::copied::copy_over;
 use crate::cut::{read_cut, read_tail};
 use crate::given::{drop_plain_tail, gives_text};
 use crate::relayed::Relayed;
@@ -29,9 +30,10 @@ use fast_wire::is_text_of;
 use std::alloc::Global;
 use std::mem;
 
-/// Puts the characters of an entity behind so many characters of a text, in place of the others; answers false, and
-/// leaves the text as it was, where memory is refused.
-pub(crate) fn put_characters(alloc: Global, text: &mut ByteString, kept: usize, form: &[u8]) -> bool
+/// Puts the characters of an entity behind so many characters of a text, in place of the others, where these are not as
+/// many. Answers as `put_characters`.
+#[inline(never)]
+fn put_anew(alloc: Global, text: &mut ByteString, kept: usize, form: &[u8]) -> bool
     requires kept { kept ≤ length text.now }
     requires entity { IsEntity form.now }
     ensures put { result ≡ true → text.new ≡ take kept text.old ++ groups form.now }
@@ -52,6 +54,39 @@ pub(crate) fn put_characters(alloc: Global, text: &mut ByteString, kept: usize, 
             *text = ByteString::from_vec(characters);
             true
         }
+    }
+}
+
+/// Puts the characters of an entity in the place of the last ones of a text, which are as many.
+#[inline(always)]
+fn put_over(alloc: Global, text: &mut ByteString, kept: usize, form: &[u8])
+    requires many { kept + length form.now ≡ length text.now }
+    requires entity { IsEntity form.now }
+    ensures { text.new ≡ take kept text.old ++ groups form.now }
+{
+    let empty = ByteString::from_vec(Vec::new(alloc));
+    let mut characters = mem::replace(text, empty).into_vec();
+    copy_over(&mut characters, kept, form);
+    let last = characters.len() - 1;
+    characters[last] %= 128;
+    *text = ByteString::from_vec(characters);
+}
+
+/// Puts the characters of an entity behind so many characters of a text, in place of the others; answers false, and
+/// leaves the text as it was, where memory is refused.
+#[inline(always)]
+pub(crate) fn put_characters(alloc: Global, text: &mut ByteString, kept: usize, form: &[u8]) -> bool
+    requires kept { kept ≤ length text.now }
+    requires entity { IsEntity form.now }
+    ensures put { result ≡ true → text.new ≡ take kept text.old ++ groups form.now }
+    ensures unchanged { result ≡ false → text.new ≡ text.old }
+{
+    // most often as many are put there, and no memory is asked for
+    if text.as_slice().len() - kept == form.len() {
+        put_over(alloc, text, kept, form);
+        true
+    } else {
+        put_anew(alloc, text, kept, form)
     }
 }
 

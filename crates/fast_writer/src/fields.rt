@@ -8,6 +8,7 @@ ghost use Rattle.fast_stream.specs.Bits.{after_bit, bit_for};
 ghost use Rattle.fast_walk.specs.Received.{Took};
 ghost use Rattle.fast_field.specs.Parts.{IsFieldPart};
 ghost use Rattle.fast_field.specs.AsUsual.{ReadsAsUsual};
+ghost use Rattle.fast_field.specs.Within.{HoldsScalar};
 ghost use Rattle.fast_wire.specs.declared.level.Level.TheVariants.{Strict};
 ghost use Rattle.fast_walk.specs.Told.{IsTold, KeepScalars};
 ghost use Rattle.fast_walk.specs.Walks.{AreServed, IsMantissaServed, IsNextServed, IsServed};
@@ -150,6 +151,7 @@ fn take_sent(
 ) -> Taken
     requires run { IsRun bytes.now segment.now.bytes.place segment.now.bytes }
     requires which { which ≡ part.now.part }
+    requires kept { HoldsScalar entry.now }
     requires bit { bit_for (part_needs_bit_of part.now) bits.now ≡ true }
     ensures place { IfTaken result (λ there. segment.old.bytes.place ≤ segment.new.bytes.place) }
     ensures run { IfTaken result (λ there. IsRun bytes.now segment.new.bytes.place segment.new.bytes) }

@@ -1,9 +1,16 @@
 //! Rows on fields that are judged as they stand.
 
+ghost use Rattle.std.specs.Prelude.{◌≡◌, ◌≤◌, ◌<◌, true, length};
+ghost use Rattle.std.specs.List.{AllByRecursion};
+ghost use Rattle.fast_value.specs.Scalar.{IsScalar};
+ghost use Rattle.fast_field.specs.Within.{HoldsScalar};
+
 use crate::fields::{Kept, Value, part_of};
 use crate::same::same;
+use fast_dictionary::Entry;
 use fast_relay::{Judged, judge_field};
-use fast_template::{Kind, Operator, Part, Presence};
+use fast_template::{Kind, Operator, Part, Presence, Scalar};
+use fast_value::UNIT_LIMIT;
 use std::alloc::{AllocError, Global};
 use std::process::Abort;
 
@@ -19,11 +26,52 @@ struct Row {
     after: Kept,
 }
 
+// Whether there are not too many bytes.
+fn are_few(bytes: &[u8]) -> bool
+    ensures { result ≡ true
+        → (length bytes.now ≤ 65535) × AllByRecursion (λ c. c < 256) bytes.now }
+{
+    bytes.len() <= UNIT_LIMIT
+}
+
+// Whether a value is within its type. (A number is looked at only so that its range is known.)
+fn is_scalar(value: &Scalar) -> bool
+    ensures { result ≡ true → IsScalar value.now }
+{
+    match value {
+        Scalar::U32(number) => *number <= u32::MAX,
+        Scalar::I32(number) => *number <= i32::MAX,
+        Scalar::U64(number) => *number <= u64::MAX,
+        Scalar::I64(number) => *number <= i64::MAX,
+        Scalar::Decimal { exponent, mantissa } => {
+            *exponent >= -63 && *exponent <= 63 && *mantissa <= i64::MAX
+        }
+        Scalar::Ascii(text) => { text.as_slice().len() <= UNIT_LIMIT && text.as_slice().is_ascii() }
+        Scalar::Unicode(text) => are_few(text.as_bytes()),
+        Scalar::Bytes(bytes) => are_few(bytes.as_slice()),
+    }
+}
+
+// Whether an entry's value is.
+fn holds_scalar(entry: &Entry) -> bool
+    ensures { result ≡ true → HoldsScalar entry.now }
+{
+    match entry {
+        Entry::Undefined | Entry::Empty => true,
+        Entry::Assigned(value) => is_scalar(value),
+    }
+}
+
 // Want of memory leaves the entry as it was, and ends the test.
 fn is_judged(rt: &impl Abort, alloc: Global, row: &Row) -> Result<(), AllocError> {
     let instr = part_of(alloc, row.part, row.kind, row.presence, row.operator, None)?;
     let mut entry = row.before.entry(alloc)?;
     let at = row.bytes.len().min(1);
+    // no other is judged
+    if !holds_scalar(&entry) {
+        same(rt, false, true);
+        return Ok(());
+    }
     let judged = judge_field(row.part, alloc, &instr, &mut entry, row.bytes, at);
     if judged == Judged::Elsewhere && row.judged != Judged::Elsewhere {
         same(rt, entry, row.before.entry(alloc)?);

@@ -1,4 +1,4 @@
-use Rattle.std.proofs.Common.{◌-◌, ◌++◌, length, take, slice_range, arith}
+use Rattle.std.proofs.Common.{◌+◌, ◌-◌, ◌++◌, length, take, slice_range, arith}
 use Rattle.fast_wire.specs.Entity.{groups}
 use Rattle.fast_value.specs.declared.scalar.Scalar.TheVariants.{Ascii}
 use Rattle.fast_relay.proofs.PlainTexts.{slice_length}
@@ -10,19 +10,19 @@ returns-then-put_characters-clause-judged c =
     let base = c.as_slice-base.result.now in
     let bytes = c.args.bytes.now in
     let removed = c.in-Some.removed in
-    let first = c.in-Some.first in
-    let next = c.in-Some-plain_ascii_end.next in
+    let first = c.args.at + 1 in
+    let next = c.in-Some-plain_end.next in
     let form = slice_range bytes first next in
-    let place = c.in-Some-plain_ascii_end.ensures.place in
+    let place = c.in-Some-plain_end.ensures.place in
     let long = slice_length bytes first next (omega (arith, place)) place.1 in
     let value = take (length base - removed) base ++ groups form in
     rw (c.put_characters.ensures.put c.if-put_characters.true, ← c.as_slice-base.ensures) (
       Ascii value,
       cut_stands c.args.instr.now base bytes removed c.args.at first next
           c.requires.kind c.requires.part c.requires.operator
-          (c.are_characters.ensures c.if-not-are_characters.false)
-          c.in-Some.ensures.few (omega (arith, c.if-removed-base.false)) c.in-Some.ensures.place.0 (omega (arith, place))
-          (omega (arith, long, c.if-form-kept.false)) c.in-Some.ensures.stands c.in-Some-plain_ascii_end.ensures.plain
+          (rw c.as_slice-base.ensures c.requires.kept)
+          c.in-Some.ensures.few (omega (arith, c.if-removed-base.false)) (omega arith) (omega (arith, place))
+          (omega (arith, long, c.if-form-kept.false)) c.in-Some.ensures.stands c.in-Some-plain_end.ensures.plain
           (c.agrees_no_further.ensures c.if-not-agrees_no_further.false)
           (c.is_cut_at_end.ensures c.if-not-is_cut_at_end.false),
     )

@@ -15,7 +15,7 @@ returns-then-put_characters-clause-judged c =
       Ascii (take kept base ++ groups form),
       end_stands c.args.instr.now base bytes kept c.args.at c.in-Some.next
           c.requires.kind c.requires.part c.requires.operator
-          (c.are_characters.ensures c.if-not-are_characters.false) (omega (arith, c.if-form-base.false))
+          (rw c.as_slice-base.ensures c.requires.kept) (omega (arith, c.if-form-base.false))
           c.in-Some.ensures.plain (c.agrees_no_further.ensures c.if-agrees_no_further.true),
     )
 
@@ -26,10 +26,9 @@ returns-then-is_text_of-clause-judged c =
     let form = slice_range bytes c.args.at c.in-Some.next in
     let kept = length base - length form in
     let whole : take (length base - kept) (drop kept base) ≡ drop kept base = take_all (length base - kept) (drop kept base) (omega (arith, length-drop kept base)) in
-    let characters = c.are_characters.ensures c.if-not-are_characters.false in
     rw (← c.as_slice-base.ensures) (
       Ascii base,
       end_given c.args.instr.now base bytes c.args.at c.in-Some.next
-          c.requires.kind c.requires.part c.requires.operator characters.0 (omega (arith, c.if-form-base.false))
+          c.requires.kind c.requires.part c.requires.operator (rw c.as_slice-base.ensures c.requires.kept.0) (omega (arith, c.if-form-base.false))
           c.in-Some.ensures.plain (rw whole at (c.is_text_of.ensures.0 c.if-is_text_of.true)),
     )

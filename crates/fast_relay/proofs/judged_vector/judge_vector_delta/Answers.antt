@@ -1,20 +1,19 @@
-use Rattle.std.proofs.Common.{arith, rules, drop, false, length, ◌-◌, ◌++◌, refl, slice_range, subst}
-use Rattle.std.specs.Prelude.{◌≡◌, ℤ, pos}
+use Rattle.std.proofs.Common.{◌+◌, arith, drop, length, ◌-◌, ◌++◌, refl, slice_range}
+use Rattle.std.specs.Prelude.{pos}
 use Rattle.fast_field.specs.Values.{units_of}
-use Rattle.fast_relay.specs.Judged.{StandsAt}
 use Rattle.fast_relay.proofs.Runs.{range_split}
 use Rattle.fast_relay.proofs.Standing.{shortest_signed}
 use Rattle.fast_relay.proofs.TextRelaying.{text_few}
 use Rattle.fast_relay.proofs.VectorTexts.{front_text, put_behind, vector_delta_relays}
 use Rattle.fast_relay.proofs.judged_vector.judge_vector_delta.Goals as goal
 
-pub put_units-requires-clause-text : goal.put_units-requires-clause-text
-put_units-requires-clause-text c =
+pub put_part-requires-clause-text : goal.put_part-requires-clause-text
+put_part-requires-clause-text c =
     let i = c.args.instr.now in
     let value = c.args.value.now in
     let b = units_of value in
     let s = slice_range c.args.bytes.now c.in-Some-find_shortest.start c.in-Some-find_shortest.next in
-    let n = length b - c.in-Some-few_removed.removed in
+    let n = length b - c.in-Some.removed in
     let text = c.is_text.ensures c.if-not-is_text.false in
     let few = text_few i.kind value text in
     let short = rw c.units-base.ensures at c.if-part-kept.false in
@@ -22,8 +21,8 @@ put_units-requires-clause-text c =
     (put_behind i.kind b s n c.requires.kind (omega arith) (omega (arith, few, short))
     (front_text i.kind value n c.requires.kind text (omega arith) (rw c.units-base.ensures at (c.may_end.ensures c.if-not-may_end.false))) (c.are_text.ensures c.if-not-are_text.false))
 
-pub returns-then-put_units-clause-judged : goal.returns-then-put_units-clause-judged
-returns-then-put_units-clause-judged c =
+pub returns-then-put_part-clause-judged : goal.returns-then-put_part-clause-judged
+returns-then-put_part-clause-judged c =
     let i = c.args.instr.now in
     let value = c.args.value.now in
     let b = units_of value in
@@ -32,13 +31,11 @@ returns-then-put_units-clause-judged c =
     let next = c.in-Some-find_shortest.next in
     let s = slice_range bytes start next in
     let form = slice_range bytes c.args.at next in
-    let r = c.in-Some-few_removed.removed in
+    let r = c.in-Some.removed in
     let n = length b - r in
-    let z = c.in-Some.removal in
-    let is : z ≡ pos r = search rules in
-    let sent : StandsAt false i.presence bytes c.args.at c.in-Some.middle (pos r) = subst (λ (x : ℤ). StandsAt false i.presence bytes c.args.at c.in-Some.middle x) is c.in-Some.ensures.stands in
-    let front = slice_range bytes c.args.at c.in-Some.middle in
-    let back = slice_range bytes c.in-Some.middle next in
+    let sent = c.in-Some.ensures.stands in
+    let front = slice_range bytes c.args.at (c.args.at + 1) in
+    let back = slice_range bytes (c.args.at + 1) next in
     let text = c.is_text.ensures c.if-not-is_text.false in
     let part = c.are_text.ensures c.if-not-are_text.false in
     let few = text_few i.kind value text in
@@ -46,10 +43,10 @@ returns-then-put_units-clause-judged c =
     let le = rw c.units-base.ensures at c.if-removed-base.false in
     let t = put_behind i.kind b s n c.requires.kind (omega arith) (omega (arith, few, short))
     (front_text i.kind value n c.requires.kind text (omega arith) (rw c.units-base.ensures at (c.may_end.ensures c.if-not-may_end.false))) part in (
-      c.put_units.new.value,
-      λ out. rw (c.put_units.ensures.put c.if-put_units.true, c.units-base.ensures)
-          (vector_delta_relays i value r n s (drop c.args.at bytes) (drop c.in-Some.middle bytes) (drop next bytes) out (out ++ form)
-          c.requires.kind c.requires.part c.requires.operator text c.in-Some-few_removed.ensures.1 (omega (arith, le)) refl
+      c.put_part.new.value,
+      λ out. rw (c.put_part.ensures.put c.if-put_part.true, c.units-base.ensures)
+          (vector_delta_relays i value r n s (drop c.args.at bytes) (drop (c.args.at + 1) bytes) (drop next bytes) out (out ++ form)
+          c.requires.kind c.requires.part c.requires.operator text c.in-Some.ensures.few (omega (arith, le)) refl
           (rw c.units-base.ensures at (c.goes_on_otherwise.ensures.prefix c.if-not-goes_on_otherwise.false))
           (rw c.units-base.ensures at (c.is_cut_at_end.ensures c.if-not-is_cut_at_end.false))
           t
@@ -60,7 +57,7 @@ returns-then-put_units-clause-judged c =
             record {
               front = front;
               back = back;
-              parts = range_split bytes c.args.at c.in-Some.middle next (omega (arith, c.in-Some.ensures.place)) (omega (arith, c.in-Some-find_shortest.ensures.start));
+              parts = range_split bytes c.args.at (c.args.at + 1) next (omega arith) (omega (arith, c.in-Some-find_shortest.ensures.start));
               first = shortest_signed i.presence (pos r) front sent.form sent.short;
               second = c.in-Some-find_shortest.ensures.shortest part;
             },

@@ -4,8 +4,8 @@ use Rattle.fast_relay.proofs.TextRelaying.{text_few}
 use Rattle.fast_relay.proofs.VectorTexts.{front_text, put_behind, vector_tail_relays}
 use Rattle.fast_relay.proofs.judged_vector.judge_vector_tail.Goals as goal
 
-pub put_units-requires-clause-text : goal.put_units-requires-clause-text
-put_units-requires-clause-text c =
+pub put_part-requires-clause-text : goal.put_part-requires-clause-text
+put_part-requires-clause-text c =
     let i = c.args.instr.now in
     let b = units_of c.args.value.now in
     let s = slice_range c.args.bytes.now c.in-Some.start c.in-Some.next in
@@ -16,8 +16,8 @@ put_units-requires-clause-text c =
     (put_behind i.kind b s (length b - length s) c.requires.kind (omega arith) (omega (arith, few, le))
     (front_text i.kind c.args.value.now (length b - length s) c.requires.kind text (omega arith) (rw c.units-base.ensures at (c.may_end.ensures c.if-not-may_end.false))) (c.are_text.ensures c.if-not-are_text.false))
 
-pub returns-then-put_units-clause-judged : goal.returns-then-put_units-clause-judged
-returns-then-put_units-clause-judged c =
+pub returns-then-put_part-clause-judged : goal.returns-then-put_part-clause-judged
+returns-then-put_part-clause-judged c =
     let i = c.args.instr.now in
     let value = c.args.value.now in
     let b = units_of value in
@@ -30,8 +30,8 @@ returns-then-put_units-clause-judged c =
     let le = rw c.units-base.ensures at c.if-part-base.false in
     let t = put_behind i.kind b s (length b - length s) c.requires.kind (omega arith) (omega (arith, few, le))
     (front_text i.kind value (length b - length s) c.requires.kind text (omega arith) (rw c.units-base.ensures at (c.may_end.ensures c.if-not-may_end.false))) part in (
-      c.put_units.new.value,
-      λ out. rw (c.put_units.ensures.put c.if-put_units.true, c.units-base.ensures)
+      c.put_part.new.value,
+      λ out. rw (c.put_part.ensures.put c.if-put_part.true, c.units-base.ensures)
           (vector_tail_relays i value (length b - length s) s (drop c.args.at bytes) (drop c.in-Some.next bytes) out (out ++ form)
           c.requires.kind c.requires.part c.requires.operator text (omega (arith, le))
           (c.goes_on_otherwise.ensures.some c.if-not-goes_on_otherwise.false)

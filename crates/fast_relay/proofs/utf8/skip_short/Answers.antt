@@ -4,4 +4,4 @@ use Rattle.fast_relay.proofs.utf8.skip_short.Goals as goal
 pub returns : goal.returns
 returns c =
     let bs = c.args.units.now in
-    both bs c.args.at _ _ (both bs c.args.at _ _ c.skip_words.ensures c.skip_ascii.ensures) c.skip_pairs.ensures
+    both bs c.args.at _ _ (both bs c.args.at _ _ (both bs c.args.at _ _ c.skip_words.ensures c.skip_ascii.ensures) c.skip_pairs.ensures) c.skip_triples.ensures

@@ -4,6 +4,7 @@ use Rattle.fast_template.specs.Resolved.{part_needs_bit}
 use Rattle.fast_dictionary.specs.Dictionary.{set_entry, set_entry-there}
 use Rattle.fast_dictionary.specs.declared.entry.Entry.{Entry}
 use Rattle.fast_stream.specs.Bits.{bit_for}
+use Rattle.fast_walk.proofs.Telling.{kept_hold}
 use Rattle.fast_writer.specs.Levels.{level_in}
 use Rattle.fast_writer.specs.Written.{Spelt}
 use Rattle.fast_writer.proofs.MapRoom.{asked_room}
@@ -80,3 +81,6 @@ returns-in-Elsewhere-take_sent-clause-nothing g c =
     let k = c.args.part.now.key in
     let s = c.in-Elsewhere-take_sent.ensures.nothing in
     ((c.entry_mut.follows.holds c.take_sent.new.entry (ap is_ok c.in-Ok.is)).0 ∙ ap (set_entry d k) (s.0 ∙ c.in-Ok.ensures.value) ∙ set_entry-there d k, s.1, s.2, s.3)
+
+pub take_sent-requires-clause-kept : goal.take_sent-requires-clause-kept
+take_sent-requires-clause-kept g c = rw (c.in-Ok.ensures.value) (kept_hold (g.E.Entries.contents c.args.entries.now) c.requires.kept c.args.part.now.key)

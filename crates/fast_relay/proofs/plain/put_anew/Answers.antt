@@ -1,7 +1,7 @@
 use Rattle.std.proofs.Common.{rules, ◌≡◌, ◌++◌, ◌∙◌, true, is_ok, refl, take, inr, ap}
 use Rattle.fast_wire.proofs.UnsignedForms.{entity_some}
 use Rattle.fast_field.proofs.PutTogether.{last_cleared}
-use Rattle.fast_relay.proofs.plain.put_characters.Goals as goal
+use Rattle.fast_relay.proofs.plain.put_anew.Goals as goal
 
 pub returns-in-Ok-clause-put : goal.returns-in-Ok-clause-put
 returns-in-Ok-clause-put c =

@@ -1,0 +1,49 @@
+-- Numbers in one byte, which is their shortest form.
+use Rattle.std.proofs.Common.{◌≡◌, ℕ, pos, suc, ◌+◌, ◌-◌, ◌%◌, ◌<◌, Bool, true, false, nat_le, List, ◌∷◌, [], length, drop, slice_range, get_or, refl, subst, arith, length-take, length-drop}
+use Rattle.std.proofs.lemmas.Bool.Decides.{nat_tests}
+use Rattle.fast_wire.proofs.ShortIntegers.{one_byte, short_given, short_nullable_given, short_signed_given, short_signed_nullable_given}
+use Rattle.fast_value.specs.declared.kind.Presence.{Presence}
+use Rattle.fast_value.specs.declared.kind.Presence.TheVariants.{Mandatory, Optional}
+use Rattle.fast_field.specs.FieldReading.{integer_at}
+use Rattle.fast_field.specs.Spelled.{overlong_number}
+use Rattle.fast_field.proofs.ReadFields.{bytes_from}
+use Rattle.fast_relay.specs.Judged.{StandsAt, zero_byte}
+use Rattle.fast_relay.specs.Numbers.{Spelt}
+use Rattle.fast_relay.proofs.Judging.{stands_at}
+use Rattle.fast_relay.proofs.Standing.{one_byte as alone}
+
+no_sign : (x : ℕ) → x < 64 → nat_le 64 x ≡ false
+no_sign x less = grind (arith, nat_tests)
+
+module _ (bytes : List ℕ) (at n : ℕ) (fits : (k : ℕ) → get_or bytes k 0 < 256) (there : at < length bytes) where
+  spelt_signed : (p : Presence) → n < 63 → get_or bytes at 0 ≡ zero_byte p + n → Spelt false p (drop at bytes) (pos n) (drop (at + 1) bytes)
+  unfolding integer_at
+  spelt_signed Mandatory few is =
+      let s = one_byte bytes at n fits there (omega arith) (omega arith) in
+      rw (short_signed_given bytes at n (at + 1) s, no_sign (get_or bytes at 0 % 128) (omega arith)) refl
+  spelt_signed Optional few is =
+      let s = one_byte bytes at (suc n) fits there (omega arith) (omega arith) in
+      rw (short_signed_nullable_given bytes at (suc n) (at + 1) s, no_sign (get_or bytes at 0 % 128) (omega arith)) refl
+
+  spelt_unsigned : (p : Presence) → get_or bytes at 0 ≡ zero_byte p + n → Spelt true p (drop at bytes) (pos n) (drop (at + 1) bytes)
+  unfolding integer_at
+  spelt_unsigned Mandatory is =
+      let byte = fits at in
+      rw (short_given bytes at n (at + 1) (one_byte bytes at n fits there (omega arith) (omega arith))) refl
+  spelt_unsigned Optional is =
+      let byte = fits at in
+      rw (short_nullable_given bytes at (suc n) (at + 1) (one_byte bytes at (suc n) fits there (omega arith) (omega arith))) refl
+
+  single : (u : Bool) → overlong_number u (slice_range bytes at (at + 1)) ≡ false
+  single u =
+      let long : length (slice_range bytes at (at + 1)) ≡ 1 = omega (arith, length-take (at + 1 - at) (drop at bytes), length-drop at bytes) in
+      let none : (x : ℕ) → overlong_number u (x ∷ []) ≡ false = λ x. elim u as (λ v. overlong_number v (x ∷ []) ≡ false) [ true ↦ refl | false ↦ refl ] in
+      subst (λ xs. overlong_number u xs ≡ false) (alone (slice_range bytes at (at + 1)) long) (none _)
+
+  pub signed_stands : (p : Presence) → n < 63 → get_or bytes at 0 ≡ zero_byte p + n → StandsAt false p bytes at (at + 1) (pos n)
+  signed_stands p few is =
+      stands_at false p bytes at (at + 1) (pos n) (bytes_from bytes at fits) (omega arith) (omega arith) (spelt_signed p few is) (single false)
+
+  pub unsigned_stands : (p : Presence) → get_or bytes at 0 ≡ zero_byte p + n → StandsAt true p bytes at (at + 1) (pos n)
+  unsigned_stands p is =
+      stands_at true p bytes at (at + 1) (pos n) (bytes_from bytes at fits) (omega arith) (omega arith) (spelt_unsigned p is) (single true)

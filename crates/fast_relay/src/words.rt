@@ -1,0 +1,63 @@
+//! The end of an ASCII string, looked for in sixteen bytes at once. Most strings have fewer: to look at these costs less than
+//! the call, which is made for what is longer or stands near the end of the bytes.
+
+ghost use Rattle.std.specs.Prelude.{◌<◌, ◌≤◌, ◌+◌, length, drop, slice_range, IfSome};
+ghost use Rattle.fast_wire.specs.Entity.{IsRun};
+ghost use Rattle.fast_wire.specs.Plain.{IsPlain};
+
+use fast_wire::plain_ascii_end;
+use std::simd::prelude::*;
+
+/// The bit that is set in the last byte of an entity, and in no other.
+const STOP_BIT: u8 = 0x80;
+
+/// How many bytes are looked at in one step.
+const LANES: usize = 16;
+
+/// How many of the 16 bytes from `at` on come before the first that has its stop bit set.
+#[inline(always)]
+fn stop_free_run(bytes: &[u8], at: usize) -> usize
+    requires { at + 16 ≤ length bytes.now }
+    ensures { IsRun bytes.now at result }
+{
+    let lanes = u8x16::from_slice(&bytes[at..]);
+    let stops = lanes.simd_ge(u8x16::splat(STOP_BIT)).to_bitmask();
+    if stops == 0 {
+        LANES
+    } else {
+        stops.trailing_zeros() as usize
+    }
+}
+
+/// The same as `plain_end`, found out by a call.
+#[inline(never)]
+fn plain_end_by_call(bytes: &[u8], at: usize) -> Option<usize>
+    requires { at ≤ length bytes.now }
+    ensures place { IfSome result (λ next. (at < next) × (next ≤ length bytes.now)) }
+    ensures plain { IfSome result (λ next. IsPlain (drop at bytes.now)
+        (slice_range bytes.now at next) (drop next bytes.now)) }
+{
+    plain_ascii_end(bytes, at)
+}
+
+/// Where the ASCII string that begins at a place ends, if its bytes are the shortest form of it, with NULL and without.
+#[inline(always)]
+pub(crate) fn plain_end(bytes: &[u8], at: usize) -> Option<usize>
+    requires { at ≤ length bytes.now }
+    ensures place { IfSome result (λ next. (at < next) × (next ≤ length bytes.now)) }
+    ensures plain { IfSome result (λ next. IsPlain (drop at bytes.now)
+        (slice_range bytes.now at next) (drop next bytes.now)) }
+{
+    if bytes.len() - at < LANES {
+        return plain_end_by_call(bytes, at);
+    }
+    let run = stop_free_run(bytes, at);
+    if run == LANES {
+        return plain_end_by_call(bytes, at);
+    }
+    if bytes[at] % 128 == 0 {
+        None
+    } else {
+        Some(at + run + 1)
+    }
+}
