@@ -116,6 +116,7 @@ fn take_given(
 ) -> Taken
     requires run { IsRun bytes.now segment.now.bytes.place segment.now.bytes }
     requires which { which ≡ part.now.part }
+    requires part { IsFieldPart part.now }
     requires needs { IsTrue (part_needs_bit_of part.now) }
     requires bit { next_bit bits.now ≡ false }
     ensures place { IfTaken result (λ there. segment.old.bytes.place ≤ segment.new.bytes.place) }
@@ -152,6 +153,7 @@ fn take_sent(
     requires run { IsRun bytes.now segment.now.bytes.place segment.now.bytes }
     requires which { which ≡ part.now.part }
     requires kept { HoldsScalar entry.now }
+    requires part { IsFieldPart part.now }
     requires bit { bit_for (part_needs_bit_of part.now) bits.now ≡ true }
     ensures place { IfTaken result (λ there. segment.old.bytes.place ≤ segment.new.bytes.place) }
     ensures run { IfTaken result (λ there. IsRun bytes.now segment.new.bytes.place segment.new.bytes) }
@@ -174,6 +176,14 @@ fn take_sent(
         Judged::Stands(next) => {
             segment.bytes.keep(next);
             end_part(bits, needs, true, segment, true)
+        }
+        Judged::Behind(next) => {
+            if segment.bytes.leave_out(bytes, at + 1) {
+                segment.bytes.keep(next);
+                end_rarely(bits, needs, true, segment, true)
+            } else {
+                Taken::Refused
+            }
         }
         Judged::Given(next) => {
             if segment.bytes.leave_out(bytes, next) {

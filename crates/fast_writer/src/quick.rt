@@ -27,6 +27,9 @@ use fast_template::{FieldPart, Kind, part_needs_bit};
 use fast_wire::Level;
 use std::alloc::Global;
 
+/// The byte that NULL is in its shortest form.
+const NULL: u8 = 128;
+
 // Reads what was sent under bit 1 by its type and appends its best form.
 #[inline(always)]
 fn relay_value(
@@ -76,6 +79,14 @@ pub(crate) fn relay_other(
     ensures entry { IfNone result (entry.new ≡ entry.old) }
     ensures out { IfNone result (Stays bytes.now at out.old out.new) }
 {
+    // NULL in its shortest form is told first: most that is not judged is this
+    if at < bytes.len() && bytes[at] == NULL {
+        match relay_null(part, entry, bytes, at, out) {
+            Answer::Sent(_next) => return Some((false, true)),
+            Answer::Given(_next) => return Some((false, false)),
+            Answer::Elsewhere => {}
+        }
+    }
     match relay_value(alloc, part, entry, bytes, at, out) {
         Answer::Sent(_next) => Some((true, true)),
         Answer::Given(_next) => Some((true, false)),

@@ -30,3 +30,6 @@ returns-in-Stands-clause-took c =
           (asked_in bytes c.part_needs_bit-needs.result true _ now asked same)),
     ))
     c.end_part.ensures.part c.end_part.ensures.asked c.end_part.ensures.run
+
+pub returns-in-Behind-then-leave_out-clause-took : goal.returns-in-Behind-then-leave_out-clause-took
+returns-in-Behind-then-leave_out-clause-took c = ?
