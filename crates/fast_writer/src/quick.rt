@@ -23,7 +23,7 @@ use crate::segment::Segment;
 use fast_dictionary::{Entries, Entry};
 use fast_field::FieldFault;
 use fast_relay::{Relayed as Answer, Run, relay_decimal, relay_null, relay_number, relay_text};
-use fast_template::{FieldPart, Kind, part_needs_bit};
+use fast_template::{FieldPart, Kind, Presence, part_needs_bit};
 use fast_wire::Level;
 use std::alloc::Global;
 
@@ -79,13 +79,13 @@ pub(crate) fn relay_other(
     ensures entry { IfNone result (entry.new ≡ entry.old) }
     ensures out { IfNone result (Stays bytes.now at out.old out.new) }
 {
-    // NULL in its shortest form is told first: most that is not judged is this
-    if at < bytes.len() && bytes[at] == NULL {
-        match relay_null(part, entry, bytes, at, out) {
-            Answer::Sent(_next) => return Some((false, true)),
-            Answer::Given(_next) => return Some((false, false)),
-            Answer::Elsewhere => {}
-        }
+    // most that is not judged is NULL
+    if part.presence == Presence::Optional && at < bytes.len() && bytes[at] == NULL {
+        return match relay_null(part, entry, bytes, at, out) {
+            Answer::Sent(_next) => Some((false, true)),
+            Answer::Given(_next) => Some((false, false)),
+            Answer::Elsewhere => None,
+        };
     }
     match relay_value(alloc, part, entry, bytes, at, out) {
         Answer::Sent(_next) => Some((true, true)),
