@@ -128,6 +128,24 @@ fn read_number(
     }
 }
 
+/// Whether a number that was read is spelled in its shortest form.
+#[inline(always)]
+fn stands_shortest(
+    unsigned: bool,
+    presence: Presence,
+    number: i64,
+    bytes: &[u8],
+    at: usize,
+    next: usize,
+) -> bool
+    requires place { at ≤ next }
+    requires within { next ≤ length bytes.now }
+    requires spelt { Spelt unsigned presence (drop at bytes.now) number (drop next bytes.now) }
+    ensures { result ≡ true → StandsAt unsigned presence bytes.now at next number }
+{
+    is_shortest(unsigned, bytes, at, next)
+}
+
 /// A number that is spelled in its shortest form, and the place behind it.
 #[inline(always)]
 pub(crate) fn read_shortest(
@@ -143,7 +161,7 @@ pub(crate) fn read_shortest(
     let Some((number, next)) = read_number(unsigned, presence, bytes, at) else {
         return None;
     };
-    if is_shortest(unsigned, bytes, at, next) {
+    if stands_shortest(unsigned, presence, number, bytes, at, next) {
         Some((number, next))
     } else {
         None
@@ -394,28 +412,28 @@ fn judge_number(
     }
 }
 
-/// A number whose shortest form stands behind one needless group, and the place behind it.
+/// Whether the shortest form of a number that was read stands behind the first byte.
 #[inline(always)]
-fn read_behind(
+fn stands_behind(
     unsigned: bool,
     presence: Presence,
+    number: i64,
     bytes: &[u8],
     at: usize,
-) -> Option<(i64, usize)>
-    requires { at ≤ length bytes.now }
-    ensures place { IfSome result (λ x. (at + 1 ≤ x.1) × (x.1 ≤ length bytes.now)) }
-    ensures stands { IfSome result (λ x. StandsFrom unsigned presence bytes.now at (at + 1) x.1 x.0) }
+    next: usize,
+) -> bool
+    requires place { at ≤ next }
+    requires within { next ≤ length bytes.now }
+    requires spelt { Spelt unsigned presence (drop at bytes.now) number (drop next bytes.now) }
+    ensures place { result ≡ true → at + 1 ≤ next }
+    ensures stands { result ≡ true → StandsFrom unsigned presence bytes.now at (at + 1) next number }
 {
-    // a group that is needless has nothing but the sign
-    if at == bytes.len() || (bytes[at] != 0 && bytes[at] != 127) {
-        return None;
+    if at == next {
+        return false;
     }
-    let Some((number, next)) = read_number(unsigned, presence, bytes, at) else {
-        return None;
-    };
     match read_shortest(unsigned, presence, bytes, at + 1) {
-        Some((again, end)) if again == number && end == next => Some((number, next)),
-        _ => None,
+        Some((again, end)) => again == number && end == next,
+        None => false,
     }
 }
 
@@ -423,17 +441,24 @@ fn read_behind(
 /// others do not pay for it.)
 #[inline(never)]
 fn judge_behind(
+    unsigned: bool,
     which: Part,
     kind: Kind,
     instr: &FieldPart,
     entry: &mut Entry,
+    number: i64,
     bytes: &[u8],
     at: usize,
+    next: usize,
 ) -> Judged
-    requires place { at ≤ length bytes.now }
+    requires place { at ≤ next }
+    requires within { next ≤ length bytes.now }
     requires part { which ≡ instr.now.part }
     requires kind { kind ≡ instr.now.kind }
     requires integer { IsTrue (is_integer kind) }
+    requires delta { instr.now.operator ≡ operator_type.Delta → unsigned ≡ false }
+    requires whole { SpellsWhole instr.now.operator → unsigned ≡ values.is_unsigned kind }
+    requires spelt { Spelt unsigned instr.now.presence (drop at bytes.now) number (drop next bytes.now) }
     ensures place { IfJudged result (λ bit next. (at ≤ next) × (next ≤ length bytes.now)) }
     ensures judged { IfJudged result (λ bit next. (v : ScalarOf)
         × Judges bit instr.now entry.old entry.new v bytes.now at next) }
@@ -442,10 +467,9 @@ fn judge_behind(
         × JudgesFrom true instr.now entry.old entry.new v bytes.now at (at + 1) next) }
     ensures entry { IfNotJudged result (entry.new ≡ entry.old) }
 {
-    let unsigned = is_sent_unsigned(kind, instr.operator);
-    let Some((number, next)) = read_behind(unsigned, instr.presence, bytes, at) else {
+    if !stands_behind(unsigned, instr.presence, number, bytes, at, next) {
         return Judged::Elsewhere;
-    };
+    }
     match judge_number(
         unsigned,
         kind,
@@ -489,12 +513,18 @@ fn judge_integer(
 {
     // read once for all operators, so that the whole is small enough to be inlined
     let unsigned = is_sent_unsigned(kind, instr.operator);
-    let Some((number, next)) = read_shortest(unsigned, instr.presence, bytes, at) else {
-        return judge_behind(which, kind, instr, entry, bytes, at);
+    let Some((number, next)) = read_number(unsigned, instr.presence, bytes, at) else {
+        return Judged::Elsewhere;
     };
-    judge_number(
-        unsigned, kind, which, instr, entry, number, bytes, at, at, next,
-    )
+    if stands_shortest(unsigned, instr.presence, number, bytes, at, next) {
+        judge_number(
+            unsigned, kind, which, instr, entry, number, bytes, at, at, next,
+        )
+    } else {
+        judge_behind(
+            unsigned, which, kind, instr, entry, number, bytes, at, next,
+        )
+    }
 }
 
 /// Judges a string, a vector or a decimal, which is no part of another field.

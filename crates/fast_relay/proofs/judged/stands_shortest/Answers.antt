@@ -1,0 +1,20 @@
+use Rattle.std.proofs.Common.{arith, rules}
+use Rattle.std.specs.Int.{w64}
+use Rattle.std.specs.Int.RustNames.{FitsSigned}
+use Rattle.std.proofs.lemmas.Int.{to_z-of_z}
+use Rattle.fast_field.proofs.ReadFields.{bytes_from}
+use Rattle.fast_relay.proofs.Judging.{stands_at}
+use Rattle.fast_relay.proofs.Standing.{standing_entity}
+use Rattle.fast_relay.proofs.judged.stands_shortest.Goals as goal
+
+pub is_shortest-requires-clause-entity : goal.is_shortest-requires-clause-entity
+is_shortest-requires-clause-entity c =
+    let bytes = c.args.bytes.now in
+    let at = c.args.at in
+    standing_entity c.args.unsigned c.args.presence bytes at c.args.next _ (bytes_from bytes at (λ k. omega (arith, c.type_inv.bytes k))) c.requires.place c.requires.within c.requires.spelt
+
+pub returns : goal.returns
+returns c = λ yes.
+    let bytes = c.args.bytes.now in
+    let at = c.args.at in
+    stands_at c.args.unsigned c.args.presence bytes at c.args.next _ (bytes_from bytes at (λ k. omega (arith, c.type_inv.bytes k))) c.requires.place c.requires.within c.requires.spelt (c.is_shortest.ensures yes)
