@@ -77,12 +77,13 @@ abbrev pub zero_byte : Presence → ℕ
 zero_byte Mandatory = 128
 zero_byte Optional = 129
 
--- they are the shortest forms of an exponent and, behind it, a mantissa
-pub record PairStandsAt (p : Presence) (bytes : List ℕ) (at next : ℕ) (e m : ℤ) : Type 0 where
+-- the bytes from one place to another spell an exponent and, behind it, a mantissa, and those from `first` on are their
+-- shortest forms
+pub record PairStandsFrom (p : Presence) (bytes : List ℕ) (at first next : ℕ) (e m : ℤ) : Type 0 where
   pub middle : ℕ
-  pub before : at ≤ middle
+  pub before : first ≤ middle
   pub behind : middle ≤ next
-  pub exponent : StandsAt false p bytes at middle e
+  pub exponent : StandsFrom false p bytes at first middle e
   pub mantissa : StandsAt false Mandatory bytes middle next m
 
 -- the entry is the one after the value, and bit 0 gives the value exactly if it is the bit of the best form
