@@ -14,7 +14,7 @@ use Rattle.fast_dictionary.specs.declared.entry.Entry.TheVariants.{Assigned}
 use Rattle.fast_field.specs.Chosen.{ShortestPair}
 use Rattle.fast_field.proofs.BestForms.{bit_zero_is_best}
 use Rattle.fast_field.proofs.BestValues.{left_out}
-use Rattle.fast_relay.specs.Judged.{Judges, Leaves, PairStandsAt}
+use Rattle.fast_relay.specs.Judged.{JudgesFrom, Leaves, PairStandsFrom}
 use Rattle.fast_relay.specs.Numbers.{SpellsWhole}
 use Rattle.fast_relay.proofs.DecimalRelaying.{decimal_of, decimal_relays, decimal_whole_relays, whole_read}
 use Rattle.fast_relay.proofs.Relaying.{whole_row}
@@ -23,28 +23,28 @@ use Rattle.fast_relay.proofs.Standing.{shortest_signed}
 use Rattle.fast_relay.proofs.Taking.{takes}
 use Rattle.fast_relay.proofs.TextRelaying.{whole_within}
 
-pair_shortest : (p : Presence) (bytes : List ℕ) (at next : ℕ) (x m : ℤ) → PairStandsAt p bytes at next x m → ShortestPair p x m (slice_range bytes at next)
-pair_shortest p bytes at next x m s =
-    let front = slice_range bytes at s.middle in
+pair_shortest : (p : Presence) (bytes : List ℕ) (at first next : ℕ) (x m : ℤ) → PairStandsFrom p bytes at first next x m → ShortestPair p x m (slice_range bytes first next)
+pair_shortest p bytes at first next x m s =
+    let front = slice_range bytes first s.middle in
     let back = slice_range bytes s.middle next in
     record {
       front = front;
       back = back;
-      parts = range_split bytes at s.middle next s.before s.behind;
+      parts = range_split bytes first s.middle next s.before s.behind;
       first = shortest_signed p x front s.exponent.form s.exponent.short;
       second = shortest_signed Mandatory m back s.mantissa.form s.mantissa.short;
     }
 
-pub decimal_stands : (i : FieldPart) (old new : Entry) (x m : ℤ) (bytes : List ℕ) (at next : ℕ) → i.kind ≡ kind.Decimal → i.part ≡ part.Whole → SpellsWhole i.operator → exponent_in_range x ≡ true → in_range kind.Int64 m ≡ true → PairStandsAt i.presence bytes at next x m → Leaves true i old new (Decimal x m)
-    → Judges true i old new (Decimal x m) bytes at next
-decimal_stands i old new x m bytes at next k p o near fits s l = λ out.
-    let form = slice_range bytes at next in
+pub decimal_stands : (i : FieldPart) (old new : Entry) (x m : ℤ) (bytes : List ℕ) (at first next : ℕ) → i.kind ≡ kind.Decimal → i.part ≡ part.Whole → SpellsWhole i.operator → exponent_in_range x ≡ true → in_range kind.Int64 m ≡ true → PairStandsFrom i.presence bytes at first next x m → Leaves true i old new (Decimal x m)
+    → JudgesFrom true i old new (Decimal x m) bytes at first next
+decimal_stands i old new x m bytes at first next k p o near fits s l = λ out.
+    let form = slice_range bytes first next in
     decimal_whole_relays i old new x m (drop at bytes) (drop s.middle bytes) (drop next bytes) out (out ++ form) k p o s.exponent.spelt near s.mantissa.spelt fits l.left_out l.entry
-    (form, refl, pair_shortest i.presence bytes at next x m s)
+    (form, refl, pair_shortest i.presence bytes at first next x m s)
 
-pub decimal_given : (i : FieldPart) (old new : Entry) (x m : ℤ) (bytes : List ℕ) (at next : ℕ) → i.kind ≡ kind.Decimal → i.part ≡ part.Whole → SpellsWhole i.operator → exponent_in_range x ≡ true → in_range kind.Int64 m ≡ true → PairStandsAt i.presence bytes at next x m → Leaves false i old new (Decimal x m)
-    → Judges false i old new (Decimal x m) bytes at next
-decimal_given i old new x m bytes at next k p o near fits s l =
+pub decimal_given : (i : FieldPart) (old new : Entry) (x m : ℤ) (bytes : List ℕ) (at first next : ℕ) → i.kind ≡ kind.Decimal → i.part ≡ part.Whole → SpellsWhole i.operator → exponent_in_range x ≡ true → in_range kind.Int64 m ≡ true → PairStandsFrom i.presence bytes at first next x m → Leaves false i old new (Decimal x m)
+    → JudgesFrom false i old new (Decimal x m) bytes at first next
+decimal_given i old new x m bytes at first next k p o near fits s l =
     let v = Decimal x m in
     let row = whole_row i.operator i old (drop at bytes) o ∙ whole_read i x m (drop at bytes) (drop s.middle bytes) (drop next bytes) k s.exponent.spelt near s.mantissa.spelt fits in
     let t = takes i old new v (drop at bytes) (drop next bytes) (whole_within i.part v p) row l.entry in (
@@ -56,9 +56,9 @@ decimal_given i old new x m bytes at next k p o near fits s l =
       },
     )
 
-pub decimal_delta_stands : (i : FieldPart) (old new : Entry) (x m dx dm : ℤ) (bytes : List ℕ) (at next : ℕ) → old ≡ Assigned (Decimal x m) → i.kind ≡ kind.Decimal → i.operator ≡ operator.Delta → i.part ≡ part.Whole → PairStandsAt i.presence bytes at next dx dm
-    → exponent_in_range (x +ℤ dx) ≡ true → in_range kind.Int64 (m +ℤ dm) ≡ true → new ≡ Assigned (Decimal (x +ℤ dx) (m +ℤ dm)) → Judges true i old new (Decimal (x +ℤ dx) (m +ℤ dm)) bytes at next
-decimal_delta_stands i old new x m dx dm bytes at next is k o p s near fits entry = λ out.
-    let form = slice_range bytes at next in
+pub decimal_delta_stands : (i : FieldPart) (old new : Entry) (x m dx dm : ℤ) (bytes : List ℕ) (at first next : ℕ) → old ≡ Assigned (Decimal x m) → i.kind ≡ kind.Decimal → i.operator ≡ operator.Delta → i.part ≡ part.Whole → PairStandsFrom i.presence bytes at first next dx dm
+    → exponent_in_range (x +ℤ dx) ≡ true → in_range kind.Int64 (m +ℤ dm) ≡ true → new ≡ Assigned (Decimal (x +ℤ dx) (m +ℤ dm)) → JudgesFrom true i old new (Decimal (x +ℤ dx) (m +ℤ dm)) bytes at first next
+decimal_delta_stands i old new x m dx dm bytes at first next is k o p s near fits entry = λ out.
+    let form = slice_range bytes first next in
     decimal_relays i old new x m dx dm (drop at bytes) (drop s.middle bytes) (drop next bytes) out (out ++ form) is k o p s.exponent.spelt near s.mantissa.spelt fits entry
-    (form, refl, pair_shortest i.presence bytes at next dx dm s)
+    (form, refl, pair_shortest i.presence bytes at first next dx dm s)

@@ -15,11 +15,11 @@ use Rattle.fast_value.specs.declared.kind.Presence.TheVariants.{Mandatory, Optio
 use Rattle.fast_field.specs.Chosen.{ShortestUnits, ShortestUnsigned}
 use Rattle.fast_field.specs.Spelled.{SpellsIntegerUsually}
 use Rattle.fast_field.specs.Values.{of_units}
-use Rattle.fast_relay.specs.Judged.{StandsAt}
+use Rattle.fast_relay.specs.Judged.{StandsFrom, UnitsStandFrom}
 use Rattle.fast_relay.specs.Texts.{IsText, IsVectorKind}
 use Rattle.fast_relay.proofs.Runs.{range_split}
 use Rattle.fast_relay.proofs.Standing.{shortest_unsigned}
-use Rattle.fast_relay.proofs.VectorTexts.{fits}
+use Rattle.fast_relay.proofs.VectorTexts.{bytes_found, fits}
 
 counted : (IsLength : List ℕ → ℕ → Type 0) (front s : List ℕ) → IsLength front (length s) → ((other : List ℕ) → IsLength other (length s) → length front ≤ length other) → IsBytes s × (length s ≤ 65535) → IsShortest (IsCounted IsLength) (front ++ s) s
 counted IsLength front s form least fit = record {
@@ -34,12 +34,15 @@ behind_length kind.Unicode Optional front s is t h = let c = counted IsLengthNul
 behind_length kind.Bytes Optional front s is t h = let c = counted IsLengthNullable front s h.form h.least (fits kind.Bytes s is t) in record { form = c.form; least = c.least }
 behind_length k p front s is t h = absurd is
 
-pub vector_stands : (k : Kind) (p : Presence) (bytes : List ℕ) (at start n : ℕ) → IsVectorKind k → at ≤ start → start ≤ length bytes → n ≤ length bytes - start → StandsAt true p bytes at start (pos n) → IsText k (of_units k (slice_range bytes start (start + n)))
-    → ShortestUnits k p (slice_range bytes start (start + n)) (slice_range bytes at (start + n))
-vector_stands k p bytes at start n is before within there h t =
+pub vector_stands : (k : Kind) (p : Presence) (bytes : List ℕ) (at first start n : ℕ) → IsVectorKind k → first ≤ start → start ≤ length bytes → n ≤ 65535 → n ≤ length bytes - start → StandsFrom true p bytes at first start (pos n)
+    → UnitsStandFrom k p bytes at first start (start + n)
+vector_stands k p bytes at first start n is before within few there h =
     let s = slice_range bytes start (start + n) in
-    let front = slice_range bytes at start in
+    let front = slice_range bytes first start in
     let on : start + n - start ≡ n = omega arith in
     let long : n ≡ length s = omega (arith, on, length-take-le (start + n - start) (drop start bytes) (omega (arith, on, there, length-drop start bytes))) in
-    rw (range_split bytes at start (start + n) before (omega arith))
-    (behind_length k p front s is t (shortest_unsigned p (length s) front (subst (λ (m : ℕ). SpellsIntegerUsually true p front (Value (pos m))) long h.form) h.short))
+    record {
+      spelt = bytes_found k p bytes at start n is h.spelt few there within;
+      shortest = λ t. rw (range_split bytes first start (start + n) before (omega arith))
+          (behind_length k p front s is t (shortest_unsigned p (length s) front (subst (λ (m : ℕ). SpellsIntegerUsually true p front (Value (pos m))) long h.form) h.short));
+    }

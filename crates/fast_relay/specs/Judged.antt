@@ -1,17 +1,23 @@
 -- A field whose bytes are judged as they stand: they are the best form of their value, or bit 0 is. (Own.)
-use Rattle.std.specs.Prelude.{◌≡◌, ◌≤◌, ℕ, ℤ, Bool, true, false, not, List, ◌++◌, drop, slice_range, Some, IsTrue, ⊤}
+use Rattle.std.specs.Prelude.{◌≡◌, ◌≤◌, ℕ, ℤ, Bool, true, false, not, List, ◌++◌, drop, slice_range, Some, Ok, IsTrue, ⊤}
+use Rattle.fast_wire.specs.declared.level.Level.TheVariants.{Usual}
 use Rattle.fast_wire.specs.declared.nullable.Nullable.TheVariants.{Value}
 use Rattle.fast_value.specs.Scalar.{is_of}
+use Rattle.fast_value.specs.declared.kind.Kind.{Kind}
 use Rattle.fast_value.specs.declared.kind.Presence.{Presence}
 use Rattle.fast_value.specs.declared.kind.Presence.TheVariants.{Mandatory, Optional}
 use Rattle.fast_value.specs.declared.scalar.Scalar.{Scalar}
 use Rattle.fast_template.specs.declared.resolved.FieldPart.{FieldPart}
 use Rattle.fast_dictionary.specs.declared.entry.Entry.{Entry}
 use Rattle.fast_field.specs.Bases.{next}
+use Rattle.fast_field.specs.Chosen.{ShortestUnits}
+use Rattle.fast_field.specs.FieldReading.{units_at}
 use Rattle.fast_field.specs.Planning.{left_out_of}
 use Rattle.fast_field.specs.Spelled.{SpellsIntegerUsually, overlong_number}
+use Rattle.fast_field.specs.Values.{of_units}
 use Rattle.fast_relay.specs.Numbers.{Spelt}
 use Rattle.fast_relay.specs.Relayed.{Drops, Relays}
+use Rattle.fast_relay.specs.Texts.{IsText}
 use Rattle.fast_relay.specs.declared.judged.Judged.{Judged}
 use Rattle.fast_relay.specs.declared.judged.Judged.TheVariants.{Stands, Behind, Given, Elsewhere}
 
@@ -59,17 +65,25 @@ pub record StandsFrom (unsigned : Bool) (p : Presence) (bytes : List ℕ) (at fi
 abbrev pub StandsAt : Bool → Presence → List ℕ → ℕ → ℕ → ℤ → Type 0
 StandsAt unsigned p bytes at next z = StandsFrom unsigned p bytes at at next z
 
+-- the bytes from one place to another spell a string or vector, whose own bytes are those from `start` on, and those from
+-- `first` on are its shortest form if it is within its type
+pub record UnitsStandFrom (k : Kind) (p : Presence) (bytes : List ℕ) (at first start next : ℕ) : Type 0 where
+  pub spelt : units_at Usual k p (drop at bytes) ≡ Ok (Value (slice_range bytes start next), drop next bytes)
+  pub shortest : IsText k (of_units k (slice_range bytes start next))
+      → ShortestUnits k p (slice_range bytes start next) (slice_range bytes first next)
+
 -- the byte that spells 0, as a number with a sign and without
 abbrev pub zero_byte : Presence → ℕ
 zero_byte Mandatory = 128
 zero_byte Optional = 129
 
--- they are the shortest forms of an exponent and, behind it, a mantissa
-pub record PairStandsAt (p : Presence) (bytes : List ℕ) (at next : ℕ) (e m : ℤ) : Type 0 where
+-- the bytes from one place to another spell an exponent and, behind it, a mantissa, and those from `first` on are their
+-- shortest forms
+pub record PairStandsFrom (p : Presence) (bytes : List ℕ) (at first next : ℕ) (e m : ℤ) : Type 0 where
   pub middle : ℕ
-  pub before : at ≤ middle
+  pub before : first ≤ middle
   pub behind : middle ≤ next
-  pub exponent : StandsAt false p bytes at middle e
+  pub exponent : StandsFrom false p bytes at first middle e
   pub mantissa : StandsAt false Mandatory bytes middle next m
 
 -- the entry is the one after the value, and bit 0 gives the value exactly if it is the bit of the best form

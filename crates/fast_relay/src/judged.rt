@@ -110,12 +110,7 @@ fn is_shortest(unsigned: bool, bytes: &[u8], at: usize, next: usize) -> bool
 
 /// A number that has 64 bits with a sign, and the place behind it; none where it has more, is NULL or faulty.
 #[inline(always)]
-fn read_number(
-    unsigned: bool,
-    presence: Presence,
-    bytes: &[u8],
-    at: usize,
-) -> Option<(i64, usize)>
+fn read_number(unsigned: bool, presence: Presence, bytes: &[u8], at: usize) -> Option<(i64, usize)>
     requires { at ≤ length bytes.now }
     ensures place { IfSome result (λ x. (at ≤ x.1) × (x.1 ≤ length bytes.now)) }
     ensures gives { IfSome result (λ x. Spelt unsigned presence (drop at bytes.now)
@@ -355,13 +350,7 @@ fn judge_delta(
 
 /// Judges a constant, which has no bytes.
 #[inline(always)]
-fn judge_constant(
-    which: Part,
-    instr: &FieldPart,
-    entry: &Entry,
-    bytes: &[u8],
-    at: usize,
-) -> Judged
+fn judge_constant(which: Part, instr: &FieldPart, entry: &Entry, bytes: &[u8], at: usize) -> Judged
     requires place { at ≤ length bytes.now }
     requires which { which ≡ instr.now.part }
     requires part { IsFieldPart instr.now }
@@ -434,6 +423,32 @@ fn stands_behind(
     match read_shortest(unsigned, presence, bytes, at + 1) {
         Some((again, end)) => again == number && end == next,
         None => false,
+    }
+}
+
+/// A number whose shortest form stands behind one needless group, and the place behind it.
+#[inline(always)]
+pub(crate) fn read_behind(
+    unsigned: bool,
+    presence: Presence,
+    bytes: &[u8],
+    at: usize,
+) -> Option<(i64, usize)>
+    requires { at ≤ length bytes.now }
+    ensures place { IfSome result (λ x. (at + 1 ≤ x.1) × (x.1 ≤ length bytes.now)) }
+    ensures stands { IfSome result (λ x. StandsFrom unsigned presence bytes.now at (at + 1) x.1 x.0) }
+{
+    // a group that is needless has nothing but the sign
+    if at == bytes.len() || (bytes[at] != 0 && bytes[at] != 127) {
+        return None;
+    }
+    let Some((number, next)) = read_number(unsigned, presence, bytes, at) else {
+        return None;
+    };
+    if stands_behind(unsigned, presence, number, bytes, at, next) {
+        Some((number, next))
+    } else {
+        None
     }
 }
 

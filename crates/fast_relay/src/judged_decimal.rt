@@ -1,7 +1,7 @@
 //! Decimals that are judged as they stand: whether their bytes are the best form of the value, or bit 0 is. The entry goes
 //! on, and nothing is written. What is not served here goes by `relay_decimal`.
 
-ghost use Rattle.std.specs.Prelude.{◌≡◌, ◌≤◌, true, length, IfNone, IfSome};
+ghost use Rattle.std.specs.Prelude.{◌≡◌, ◌≤◌, ◌+◌, true, length, IfNone, IfSome};
 ghost use Rattle.fast_value.specs.Scalar.{exponent_in_range, in_range};
 ghost use Rattle.fast_value.specs.declared.kind.Kind.TheVariants as kind_type;
 ghost use Rattle.fast_value.specs.declared.kind.Operator.TheVariants as operator_type;
@@ -9,10 +9,10 @@ ghost use Rattle.fast_value.specs.declared.kind.Part.TheVariants as part_type;
 ghost use Rattle.fast_value.specs.declared.scalar.Scalar.{Scalar as ScalarOf};
 ghost use Rattle.fast_value.specs.declared.scalar.Scalar.TheVariants as scalar;
 ghost use Rattle.fast_dictionary.specs.declared.entry.Entry.TheVariants as entry_type;
-ghost use Rattle.fast_relay.specs.Judged.{IfBehind, IfJudged, IfNotJudged, Judges, Leaves, PairStandsAt};
+ghost use Rattle.fast_relay.specs.Judged.{IfBehind, IfJudged, IfNotJudged, Judges, JudgesFrom, Leaves, PairStandsFrom};
 ghost use Rattle.fast_relay.specs.Numbers.{SpellsWhole};
 
-use crate::judged::{Judged, read_shortest};
+use crate::judged::{Judged, read_behind, read_shortest};
 use fast_dictionary::Entry;
 use fast_template::{FieldPart, Operator, Presence, Scalar};
 
@@ -65,9 +65,25 @@ fn set_decimal(entry: &mut Entry, parts: Parts)
 fn read_pair(presence: Presence, bytes: &[u8], at: usize) -> Option<(i64, i64, usize)>
     requires { at ≤ length bytes.now }
     ensures place { IfSome result (λ x. (at ≤ x.2) × (x.2 ≤ length bytes.now)) }
-    ensures stands { IfSome result (λ x. PairStandsAt presence bytes.now at x.2 x.0 x.1) }
+    ensures stands { IfSome result (λ x. PairStandsFrom presence bytes.now at at x.2 x.0 x.1) }
 {
     let Some((exponent, middle)) = read_shortest(false, presence, bytes, at) else {
+        return None;
+    };
+    let Some((mantissa, next)) = read_shortest(false, Presence::Mandatory, bytes, middle) else {
+        return None;
+    };
+    Some((exponent, mantissa, next))
+}
+
+/// The same where the exponent's shortest form stands behind one needless group: that is no part of the shortest forms.
+#[inline(always)]
+fn read_pair_behind(presence: Presence, bytes: &[u8], at: usize) -> Option<(i64, i64, usize)>
+    requires { at ≤ length bytes.now }
+    ensures place { IfSome result (λ x. (at + 1 ≤ x.2) × (x.2 ≤ length bytes.now)) }
+    ensures stands { IfSome result (λ x. PairStandsFrom presence bytes.now at (at + 1) x.2 x.0 x.1) }
+{
+    let Some((exponent, middle)) = read_behind(false, presence, bytes, at) else {
         return None;
     };
     let Some((mantissa, next)) = read_shortest(false, Presence::Mandatory, bytes, middle) else {
@@ -147,22 +163,28 @@ fn judge_read(instr: &FieldPart, entry: &mut Entry, parts: Parts) -> Option<bool
     }
 }
 
-/// Judges a decimal that is spelled whole.
+/// Judges a decimal that is spelled whole and was read, whose shortest form are the bytes from `first` on.
 #[inline(always)]
-fn judge_decimal_whole(instr: &FieldPart, entry: &mut Entry, bytes: &[u8], at: usize) -> Judged
-    requires at { at ≤ length bytes.now }
+fn judge_decimal_whole(
+    instr: &FieldPart,
+    entry: &mut Entry,
+    exponent: i64,
+    mantissa: i64,
+    bytes: &[u8],
+    at: usize,
+    first: usize,
+    next: usize,
+) -> Judged
     requires part { instr.now.part ≡ part_type.Whole }
     requires operator { SpellsWhole instr.now.operator }
     requires kind { instr.now.kind ≡ kind_type.Decimal }
-    ensures behind { IfBehind result (λ next. ⊥) }
-    ensures place { IfJudged result (λ bit next. (at ≤ next) × (next ≤ length bytes.now)) }
-    ensures judged { IfJudged result (λ bit next. (v : ScalarOf)
-        × Judges bit instr.now entry.old entry.new v bytes.now at next) }
+    requires stands { PairStandsFrom instr.now.presence bytes.now at first next exponent mantissa }
+    ensures place { IfJudged result (λ bit n. n ≡ next) }
+    ensures judged { IfJudged result (λ bit n. (v : ScalarOf)
+        × JudgesFrom bit instr.now entry.old entry.new v bytes.now at first next) }
+    ensures behind { IfBehind result (λ n. ⊥) }
     ensures entry { IfNotJudged result (entry.new ≡ entry.old) }
 {
-    let Some((exponent, mantissa, next)) = read_pair(instr.presence, bytes, at) else {
-        return Judged::Elsewhere;
-    };
     let Some(parts) = parts_within(exponent, mantissa) else {
         return Judged::Elsewhere;
     };
@@ -173,23 +195,29 @@ fn judge_decimal_whole(instr: &FieldPart, entry: &mut Entry, bytes: &[u8], at: u
     }
 }
 
-/// Judges what is added to the decimal that the entry has.
+/// Judges what is added to the decimal that the entry has, and was read.
 #[inline(always)]
-fn judge_decimal_delta(instr: &FieldPart, entry: &mut Entry, bytes: &[u8], at: usize) -> Judged
-    requires at { at ≤ length bytes.now }
+fn judge_decimal_delta(
+    instr: &FieldPart,
+    entry: &mut Entry,
+    exponent_delta: i64,
+    mantissa_delta: i64,
+    bytes: &[u8],
+    at: usize,
+    first: usize,
+    next: usize,
+) -> Judged
     requires part { instr.now.part ≡ part_type.Whole }
     requires operator { instr.now.operator ≡ operator_type.Delta }
     requires kind { instr.now.kind ≡ kind_type.Decimal }
-    ensures behind { IfBehind result (λ next. ⊥) }
-    ensures place { IfJudged result (λ bit next. (at ≤ next) × (next ≤ length bytes.now)) }
-    ensures judged { IfJudged result (λ bit next. (v : ScalarOf)
-        × Judges bit instr.now entry.old entry.new v bytes.now at next) }
+    requires stands { PairStandsFrom instr.now.presence bytes.now at first next exponent_delta mantissa_delta }
+    ensures place { IfJudged result (λ bit n. n ≡ next) }
+    ensures judged { IfJudged result (λ bit n. (v : ScalarOf)
+        × JudgesFrom bit instr.now entry.old entry.new v bytes.now at first next) }
+    ensures behind { IfBehind result (λ n. ⊥) }
     ensures entry { IfNotJudged result (entry.new ≡ entry.old) }
 {
     let Some(kept) = kept_parts(entry) else {
-        return Judged::Elsewhere;
-    };
-    let Some((exponent_delta, mantissa_delta, next)) = read_pair(instr.presence, bytes, at) else {
         return Judged::Elsewhere;
     };
     let Some(exponent) = i64::from(kept.exponent).checked_add(exponent_delta) else {
@@ -205,6 +233,65 @@ fn judge_decimal_delta(instr: &FieldPart, entry: &mut Entry, bytes: &[u8], at: u
     Judged::Stands(next)
 }
 
+/// Judges two numbers that were read, whose shortest forms are the bytes from `first` on: a decimal, or what is added to
+/// one.
+#[inline(always)]
+fn judge_pair(
+    instr: &FieldPart,
+    entry: &mut Entry,
+    exponent: i64,
+    mantissa: i64,
+    bytes: &[u8],
+    at: usize,
+    first: usize,
+    next: usize,
+) -> Judged
+    requires part { instr.now.part ≡ part_type.Whole }
+    requires kind { instr.now.kind ≡ kind_type.Decimal }
+    requires stands { PairStandsFrom instr.now.presence bytes.now at first next exponent mantissa }
+    ensures place { IfJudged result (λ bit n. n ≡ next) }
+    ensures judged { IfJudged result (λ bit n. (v : ScalarOf)
+        × JudgesFrom bit instr.now entry.old entry.new v bytes.now at first next) }
+    ensures behind { IfBehind result (λ n. ⊥) }
+    ensures entry { IfNotJudged result (entry.new ≡ entry.old) }
+{
+    match instr.operator {
+        Operator::Plain | Operator::Default | Operator::Copy => {
+            judge_decimal_whole(instr, entry, exponent, mantissa, bytes, at, first, next)
+        }
+        Operator::Delta => {
+            judge_decimal_delta(instr, entry, exponent, mantissa, bytes, at, first, next)
+        }
+        Operator::Constant | Operator::Increment | Operator::Tail => Judged::Elsewhere,
+    }
+}
+
+/// Judges a decimal that does not stand in its shortest form: it may behind the first byte. (A call of its own, so that
+/// others do not pay for it.)
+#[inline(never)]
+fn judge_decimal_behind(instr: &FieldPart, entry: &mut Entry, bytes: &[u8], at: usize) -> Judged
+    requires place { at ≤ length bytes.now }
+    requires part { instr.now.part ≡ part_type.Whole }
+    requires kind { instr.now.kind ≡ kind_type.Decimal }
+    ensures place { IfJudged result (λ bit next. (at ≤ next) × (next ≤ length bytes.now)) }
+    ensures judged { IfJudged result (λ bit next. (v : ScalarOf)
+        × Judges bit instr.now entry.old entry.new v bytes.now at next) }
+    ensures behind_place { IfBehind result (λ next. (at + 1 ≤ next) × (next ≤ length bytes.now)) }
+    ensures behind { IfBehind result (λ next. (v : ScalarOf)
+        × JudgesFrom true instr.now entry.old entry.new v bytes.now at (at + 1) next) }
+    ensures entry { IfNotJudged result (entry.new ≡ entry.old) }
+{
+    let Some((exponent, mantissa, next)) = read_pair_behind(instr.presence, bytes, at) else {
+        return Judged::Elsewhere;
+    };
+    match judge_pair(instr, entry, exponent, mantissa, bytes, at, at + 1, next) {
+        Judged::Stands(_next) => Judged::Behind(next),
+        Judged::Given(_next) => Judged::Given(next),
+        Judged::Behind(_) => unreachable!(),
+        Judged::Elsewhere => Judged::Elsewhere,
+    }
+}
+
 /// Judges a decimal in one piece that is read under bit 1, and makes the entry the one afterwards. It takes no memory.
 /// Elsewhere: nothing has changed, and another way tells.
 #[inline(never)]
@@ -212,17 +299,18 @@ pub(crate) fn judge_decimal(instr: &FieldPart, entry: &mut Entry, bytes: &[u8], 
     requires place { at ≤ length bytes.now }
     requires part { instr.now.part ≡ part_type.Whole }
     requires kind { instr.now.kind ≡ kind_type.Decimal }
-    ensures behind { IfBehind result (λ next. ⊥) }
     ensures place { IfJudged result (λ bit next. (at ≤ next) × (next ≤ length bytes.now)) }
     ensures judged { IfJudged result (λ bit next. (v : ScalarOf)
         × Judges bit instr.now entry.old entry.new v bytes.now at next) }
+    ensures behind_place { IfBehind result (λ next. (at + 1 ≤ next) × (next ≤ length bytes.now)) }
+    ensures behind { IfBehind result (λ next. (v : ScalarOf)
+        × JudgesFrom true instr.now entry.old entry.new v bytes.now at (at + 1) next) }
     ensures entry { IfNotJudged result (entry.new ≡ entry.old) }
 {
-    match instr.operator {
-        Operator::Plain | Operator::Default | Operator::Copy => {
-            judge_decimal_whole(instr, entry, bytes, at)
+    match read_pair(instr.presence, bytes, at) {
+        Some((exponent, mantissa, next)) => {
+            judge_pair(instr, entry, exponent, mantissa, bytes, at, at, next)
         }
-        Operator::Delta => judge_decimal_delta(instr, entry, bytes, at),
-        Operator::Constant | Operator::Increment | Operator::Tail => Judged::Elsewhere,
+        None => judge_decimal_behind(instr, entry, bytes, at),
     }
 }

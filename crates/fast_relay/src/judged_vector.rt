@@ -1,26 +1,21 @@
 //! Unicode strings and byte vectors that are judged as they stand: whether their bytes are the best form of the value, or
 //! bit 0 is. The entry goes on, and nothing is written. What is not served here goes by `relay_text`.
 
-ghost use Rattle.std.specs.Prelude.{◌≡◌, ◌≤◌, Ok, true, length, drop, slice_range, IfNone, IfSome};
-ghost use Rattle.fast_wire.specs.declared.level.Level.TheVariants.{Usual};
-ghost use Rattle.fast_wire.specs.declared.nullable.Nullable.TheVariants.{Value};
+ghost use Rattle.std.specs.Prelude.{◌≡◌, ◌≤◌, ◌+◌, ◌<◌, pos, true, false, length, IfNone, IfSome};
 ghost use Rattle.fast_value.specs.declared.kind.Operator.TheVariants as operator_type;
 ghost use Rattle.fast_value.specs.declared.kind.Part.TheVariants as part_type;
 ghost use Rattle.fast_value.specs.declared.scalar.Scalar.{Scalar as ScalarOf};
 ghost use Rattle.fast_dictionary.specs.declared.entry.Entry.TheVariants as entry_type;
-ghost use Rattle.fast_field.specs.Chosen.{ShortestUnits};
-ghost use Rattle.fast_field.specs.FieldReading.{units_at};
-ghost use Rattle.fast_field.specs.Values.{of_units};
 ghost use Rattle.fast_field.specs.Within.{HoldsScalar};
-ghost use Rattle.fast_relay.specs.Judged.{IfBehind, IfJudged, IfNotJudged, Judges};
+ghost use Rattle.fast_relay.specs.Judged.{IfBehind, IfJudged, IfNotJudged, Judges, JudgesFrom, StandsFrom, UnitsStandFrom};
 ghost use Rattle.fast_relay.specs.Numbers.{SpellsWhole};
-ghost use Rattle.fast_relay.specs.Texts.{IsText, IsVectorKind};
+ghost use Rattle.fast_relay.specs.Texts.{IsVectorKind};
 
 use crate::characters::is_text;
 use crate::copied::put_part;
 use crate::given::gives_units;
 use crate::judged::Judged;
-use crate::one_byte::{read_length, read_removal};
+use crate::one_byte::{read_length, read_length_behind, read_removal, read_removal_behind};
 use crate::vectors::{
     are_text, goes_on_otherwise, is_cut_at_end, keep_bytes, make_units, may_be_left_out, may_end,
 };
@@ -38,10 +33,7 @@ fn find_shortest(kind: Kind, presence: Presence, bytes: &[u8], at: usize) -> Opt
     requires kind { IsVectorKind kind }
     ensures start { IfSome result (λ x. (at ≤ x.0) × (x.0 ≤ x.1)) }
     ensures end { IfSome result (λ x. x.1 ≤ length bytes.now) }
-    ensures gives { IfSome result (λ x. units_at Usual kind presence (drop at bytes.now)
-        ≡ Ok (Value (slice_range bytes.now x.0 x.1), drop x.1 bytes.now)) }
-    ensures shortest { IfSome result (λ x. IsText kind (of_units kind (slice_range bytes.now x.0 x.1))
-        → ShortestUnits kind presence (slice_range bytes.now x.0 x.1) (slice_range bytes.now at x.1)) }
+    ensures stands { IfSome result (λ x. UnitsStandFrom kind presence bytes.now at at x.0 x.1) }
 {
     let Some((count, start)) = read_length(presence, bytes, at) else {
         return None;
@@ -52,7 +44,26 @@ fn find_shortest(kind: Kind, presence: Presence, bytes: &[u8], at: usize) -> Opt
     Some((start, start + count))
 }
 
-/// Judges a string or vector that is spelled whole.
+/// The same of a string or vector whose length is spelled in its shortest form behind one needless group: that is no part
+/// of the shortest form.
+#[inline(always)]
+fn find_behind(kind: Kind, presence: Presence, bytes: &[u8], at: usize) -> Option<(usize, usize)>
+    requires at { at ≤ length bytes.now }
+    requires kind { IsVectorKind kind }
+    ensures start { IfSome result (λ x. (at + 1 ≤ x.0) × (x.0 ≤ x.1)) }
+    ensures end { IfSome result (λ x. x.1 ≤ length bytes.now) }
+    ensures stands { IfSome result (λ x. UnitsStandFrom kind presence bytes.now at (at + 1) x.0 x.1) }
+{
+    let Some((count, start)) = read_length_behind(presence, bytes, at) else {
+        return None;
+    };
+    if bytes.len() - start < count {
+        return None;
+    }
+    Some((start, start + count))
+}
+
+/// Judges a string or vector that is spelled whole, and was found.
 #[inline(always)]
 fn judge_vector_whole(
     alloc: Global,
@@ -60,20 +71,22 @@ fn judge_vector_whole(
     entry: &mut Entry,
     bytes: &[u8],
     at: usize,
+    first: usize,
+    start: usize,
+    next: usize,
 ) -> Judged
-    requires at { at ≤ length bytes.now }
+    requires start { start ≤ next }
+    requires within { next ≤ length bytes.now }
     requires part { instr.now.part ≡ part_type.Whole }
     requires operator { SpellsWhole instr.now.operator }
     requires kind { IsVectorKind instr.now.kind }
-    ensures behind { IfBehind result (λ next. ⊥) }
-    ensures place { IfJudged result (λ bit next. (at ≤ next) × (next ≤ length bytes.now)) }
-    ensures judged { IfJudged result (λ bit next. (v : ScalarOf)
-        × Judges bit instr.now entry.old entry.new v bytes.now at next) }
+    requires stands { UnitsStandFrom instr.now.kind instr.now.presence bytes.now at first start next }
+    ensures place { IfJudged result (λ bit n. n ≡ next) }
+    ensures judged { IfJudged result (λ bit n. (v : ScalarOf)
+        × JudgesFrom bit instr.now entry.old entry.new v bytes.now at first next) }
+    ensures behind { IfBehind result (λ n. ⊥) }
     ensures entry { IfNotJudged result (entry.new ≡ entry.old) }
 {
-    let Some((start, next)) = find_shortest(instr.kind, instr.presence, bytes, at) else {
-        return Judged::Elsewhere;
-    };
     let part = &bytes[start..next];
     if !are_text(instr.kind, part) {
         return Judged::Elsewhere;
@@ -91,8 +104,7 @@ fn judge_vector_whole(
     }
 }
 
-/// Judges a new end of the string or vector that the entry has; answers the place behind what was read, where its bytes
-/// are the best form.
+/// Judges a new end of the string or vector that the entry has, which was found: whether it is the best form.
 #[inline(always)]
 fn judge_vector_tail(
     alloc: Global,
@@ -100,43 +112,39 @@ fn judge_vector_tail(
     value: &mut Scalar,
     bytes: &[u8],
     at: usize,
-) -> Option<usize>
-    requires at { at ≤ length bytes.now }
+    first: usize,
+    start: usize,
+    next: usize,
+) -> bool
+    requires start { start ≤ next }
+    requires within { next ≤ length bytes.now }
     requires part { instr.now.part ≡ part_type.Whole }
     requires operator { instr.now.operator ≡ operator_type.Tail }
     requires kind { IsVectorKind instr.now.kind }
-    ensures place { IfSome result (λ next. (at ≤ next) × (next ≤ length bytes.now)) }
-    ensures judged { IfSome result (λ next. (v : ScalarOf)
-        × Judges true instr.now (entry_type.Assigned value.old) (entry_type.Assigned value.new) v
-        bytes.now at next) }
-    ensures value { IfNone result (value.new ≡ value.old) }
+    requires stands { UnitsStandFrom instr.now.kind instr.now.presence bytes.now at first start next }
+    ensures judged { result ≡ true → (v : ScalarOf) × JudgesFrom true instr.now
+        (entry_type.Assigned value.old) (entry_type.Assigned value.new) v bytes.now at first next }
+    ensures value { result ≡ false → value.new ≡ value.old }
 {
-    let Some((start, next)) = find_shortest(instr.kind, instr.presence, bytes, at) else {
-        return None;
-    };
     if !is_text(instr.kind, value) {
-        return None;
+        return false;
     }
     let part = &bytes[start..next];
     let base = units(value);
     if part.len() > base.len() {
-        return None;
+        return false;
     }
     let kept = base.len() - part.len();
     if !goes_on_otherwise(base, kept, part) {
-        return None;
+        return false;
     }
     if !are_text(instr.kind, part) || !may_end(instr.kind, base, kept) {
-        return None;
+        return false;
     }
-    if put_part(alloc, instr.kind, value, kept, part) {
-        Some(next)
-    } else {
-        None
-    }
+    put_part(alloc, instr.kind, value, kept, part)
 }
 
-/// Judges a new end of an empty entry: it is the whole value.
+/// Judges a new end of an empty entry, which was found: it is the whole value.
 #[inline(always)]
 fn judge_vector_first(
     alloc: Global,
@@ -144,57 +152,163 @@ fn judge_vector_first(
     entry: &mut Entry,
     bytes: &[u8],
     at: usize,
-) -> Option<usize>
-    requires at { at ≤ length bytes.now }
+    first: usize,
+    start: usize,
+    next: usize,
+) -> bool
+    requires start { start ≤ next }
+    requires within { next ≤ length bytes.now }
     requires entry { entry.now ≡ entry_type.Empty }
     requires part { instr.now.part ≡ part_type.Whole }
     requires operator { instr.now.operator ≡ operator_type.Tail }
     requires kind { IsVectorKind instr.now.kind }
-    ensures place { IfSome result (λ next. (at ≤ next) × (next ≤ length bytes.now)) }
-    ensures judged { IfSome result (λ next. (v : ScalarOf)
-        × Judges true instr.now entry.old entry.new v bytes.now at next) }
-    ensures entry { IfNone result (entry.new ≡ entry.old) }
+    requires stands { UnitsStandFrom instr.now.kind instr.now.presence bytes.now at first start next }
+    ensures judged { result ≡ true → (v : ScalarOf)
+        × JudgesFrom true instr.now entry.old entry.new v bytes.now at first next }
+    ensures entry { result ≡ false → entry.new ≡ entry.old }
 {
     let None = &instr.initial else {
-        return None;
-    };
-    let Some((start, next)) = find_shortest(instr.kind, instr.presence, bytes, at) else {
-        return None;
+        return false;
     };
     let part = &bytes[start..next];
     if part.is_empty() || !are_text(instr.kind, part) {
-        return None;
+        return false;
     }
     let Some(value) = make_units(alloc, instr.kind, part) else {
-        return None;
+        return false;
     };
     *entry = Entry::Assigned(value);
-    Some(next)
+    true
 }
 
-/// Judges a removal of few bytes at the end of the string or vector that the entry has, and a new part.
+/// Judges a new end of what the entry has, which was found: whether it is the best form.
+#[inline(always)]
+fn judge_vector_end(
+    alloc: Global,
+    instr: &FieldPart,
+    entry: &mut Entry,
+    bytes: &[u8],
+    at: usize,
+    first: usize,
+    start: usize,
+    next: usize,
+) -> bool
+    requires start { start ≤ next }
+    requires within { next ≤ length bytes.now }
+    requires part { instr.now.part ≡ part_type.Whole }
+    requires operator { instr.now.operator ≡ operator_type.Tail }
+    requires kind { IsVectorKind instr.now.kind }
+    requires stands { UnitsStandFrom instr.now.kind instr.now.presence bytes.now at first start next }
+    ensures judged { result ≡ true → (v : ScalarOf)
+        × JudgesFrom true instr.now entry.old entry.new v bytes.now at first next }
+    ensures entry { result ≡ false → entry.new ≡ entry.old }
+{
+    match entry {
+        Entry::Assigned(value) => {
+            judge_vector_tail(alloc, instr, value, bytes, at, first, start, next)
+        }
+        Entry::Empty => judge_vector_first(alloc, instr, entry, bytes, at, first, start, next),
+        Entry::Undefined => false,
+    }
+}
+
+/// Judges a string or vector that was found, or a new end of one: its bytes are those from `start` to `next`, and its
+/// shortest form is what stands from `first` on.
+#[inline(always)]
+fn judge_found(
+    alloc: Global,
+    instr: &FieldPart,
+    entry: &mut Entry,
+    bytes: &[u8],
+    at: usize,
+    first: usize,
+    start: usize,
+    next: usize,
+) -> Judged
+    requires start { start ≤ next }
+    requires within { next ≤ length bytes.now }
+    requires part { instr.now.part ≡ part_type.Whole }
+    requires kind { IsVectorKind instr.now.kind }
+    requires stands { UnitsStandFrom instr.now.kind instr.now.presence bytes.now at first start next }
+    ensures place { IfJudged result (λ bit n. n ≡ next) }
+    ensures judged { IfJudged result (λ bit n. (v : ScalarOf)
+        × JudgesFrom bit instr.now entry.old entry.new v bytes.now at first next) }
+    ensures behind { IfBehind result (λ n. ⊥) }
+    ensures entry { IfNotJudged result (entry.new ≡ entry.old) }
+{
+    match instr.operator {
+        Operator::Plain | Operator::Default | Operator::Copy => {
+            judge_vector_whole(alloc, instr, entry, bytes, at, first, start, next)
+        }
+        Operator::Tail => {
+            if judge_vector_end(alloc, instr, entry, bytes, at, first, start, next) {
+                Judged::Stands(next)
+            } else {
+                Judged::Elsewhere
+            }
+        }
+        Operator::Constant | Operator::Increment | Operator::Delta => Judged::Elsewhere,
+    }
+}
+
+/// Judges a string or vector, or a new end of one, whose length does not stand in its shortest form: it may behind the first
+/// byte. (A call of its own, so that others do not pay for it.)
+#[inline(never)]
+fn judge_found_behind(
+    alloc: Global,
+    instr: &FieldPart,
+    entry: &mut Entry,
+    bytes: &[u8],
+    at: usize,
+) -> Judged
+    requires place { at ≤ length bytes.now }
+    requires part { instr.now.part ≡ part_type.Whole }
+    requires kind { IsVectorKind instr.now.kind }
+    ensures place { IfJudged result (λ bit next. (at ≤ next) × (next ≤ length bytes.now)) }
+    ensures judged { IfJudged result (λ bit next. (v : ScalarOf)
+        × Judges bit instr.now entry.old entry.new v bytes.now at next) }
+    ensures behind_place { IfBehind result (λ next. (at + 1 ≤ next) × (next ≤ length bytes.now)) }
+    ensures behind { IfBehind result (λ next. (v : ScalarOf)
+        × JudgesFrom true instr.now entry.old entry.new v bytes.now at (at + 1) next) }
+    ensures entry { IfNotJudged result (entry.new ≡ entry.old) }
+{
+    let Some((start, next)) = find_behind(instr.kind, instr.presence, bytes, at) else {
+        return Judged::Elsewhere;
+    };
+    match judge_found(alloc, instr, entry, bytes, at, at + 1, start, next) {
+        Judged::Stands(_next) => Judged::Behind(next),
+        Judged::Given(_next) => Judged::Given(next),
+        Judged::Behind(_) => unreachable!(),
+        Judged::Elsewhere => Judged::Elsewhere,
+    }
+}
+
+/// Judges a new part behind the removal of few bytes at the end of the string or vector that the entry has, which was read;
+/// answers the place behind it, where both are the best form.
 #[inline(always)]
 fn judge_vector_delta(
     alloc: Global,
     instr: &FieldPart,
     value: &mut Scalar,
+    removed: usize,
     bytes: &[u8],
     at: usize,
+    first: usize,
+    middle: usize,
 ) -> Option<usize>
-    requires at { at ≤ length bytes.now }
+    requires first { first ≤ middle }
+    requires within { middle ≤ length bytes.now }
+    requires few { removed < 63 }
     requires part { instr.now.part ≡ part_type.Whole }
     requires operator { instr.now.operator ≡ operator_type.Delta }
     requires kind { IsVectorKind instr.now.kind }
-    ensures place { IfSome result (λ next. (at ≤ next) × (next ≤ length bytes.now)) }
+    requires stands { StandsFrom false instr.now.presence bytes.now at first middle (pos removed) }
+    ensures place { IfSome result (λ next. (middle ≤ next) × (next ≤ length bytes.now)) }
     ensures judged { IfSome result (λ next. (v : ScalarOf)
-        × Judges true instr.now (entry_type.Assigned value.old) (entry_type.Assigned value.new) v
-        bytes.now at next) }
+        × JudgesFrom true instr.now (entry_type.Assigned value.old) (entry_type.Assigned value.new) v
+        bytes.now at first next) }
     ensures value { IfNone result (value.new ≡ value.old) }
 {
-    let Some(removed) = read_removal(instr.presence, bytes, at) else {
-        return None;
-    };
-    let middle = at + 1;
     let Some((start, next)) = find_shortest(instr.kind, Presence::Mandatory, bytes, middle) else {
         return None;
     };
@@ -223,34 +337,66 @@ fn judge_vector_delta(
     }
 }
 
-/// Judges a difference from the string or vector that the entry has, or a new end of it.
+/// Judges a difference from a string or vector, whose removal does not stand in its shortest form: it may behind the first
+/// byte; answers the place behind it, where all from there on is the best form. (A call of its own, so that others do not
+/// pay for it.)
+#[inline(never)]
+fn judge_delta_behind(
+    alloc: Global,
+    instr: &FieldPart,
+    value: &mut Scalar,
+    bytes: &[u8],
+    at: usize,
+) -> Option<usize>
+    requires place { at ≤ length bytes.now }
+    requires part { instr.now.part ≡ part_type.Whole }
+    requires operator { instr.now.operator ≡ operator_type.Delta }
+    requires kind { IsVectorKind instr.now.kind }
+    ensures place { IfSome result (λ next. (at + 1 ≤ next) × (next ≤ length bytes.now)) }
+    ensures behind { IfSome result (λ next. (v : ScalarOf)
+        × JudgesFrom true instr.now (entry_type.Assigned value.old) (entry_type.Assigned value.new) v
+        bytes.now at (at + 1) next) }
+    ensures value { IfNone result (value.new ≡ value.old) }
+{
+    let Some((removed, middle)) = read_removal_behind(instr.presence, bytes, at) else {
+        return None;
+    };
+    judge_vector_delta(alloc, instr, value, removed, bytes, at, at + 1, middle)
+}
+
+/// Judges a difference from the string or vector that the entry has.
 #[inline(always)]
 fn judge_vector_on(
     alloc: Global,
     instr: &FieldPart,
-    entry: &mut Entry,
+    value: &mut Scalar,
     bytes: &[u8],
     at: usize,
-) -> Option<usize>
+) -> Judged
     requires at { at ≤ length bytes.now }
     requires part { instr.now.part ≡ part_type.Whole }
+    requires operator { instr.now.operator ≡ operator_type.Delta }
     requires kind { IsVectorKind instr.now.kind }
-    ensures place { IfSome result (λ next. (at ≤ next) × (next ≤ length bytes.now)) }
-    ensures judged { IfSome result (λ next. (v : ScalarOf)
-        × Judges true instr.now entry.old entry.new v bytes.now at next) }
-    ensures entry { IfNone result (entry.new ≡ entry.old) }
+    ensures place { IfJudged result (λ bit next. (at ≤ next) × (next ≤ length bytes.now)) }
+    ensures judged { IfJudged result (λ bit next. (v : ScalarOf) × Judges bit instr.now
+        (entry_type.Assigned value.old) (entry_type.Assigned value.new) v bytes.now at next) }
+    ensures behind_place { IfBehind result (λ next. (at + 1 ≤ next) × (next ≤ length bytes.now)) }
+    ensures behind { IfBehind result (λ next. (v : ScalarOf)
+        × JudgesFrom true instr.now (entry_type.Assigned value.old) (entry_type.Assigned value.new) v
+        bytes.now at (at + 1) next) }
+    ensures value { IfNotJudged result (value.new ≡ value.old) }
 {
-    match instr.operator {
-        Operator::Delta => match entry {
-            Entry::Assigned(value) => judge_vector_delta(alloc, instr, value, bytes, at),
-            Entry::Undefined | Entry::Empty => None,
+    match read_removal(instr.presence, bytes, at) {
+        Some(removed) => {
+            match judge_vector_delta(alloc, instr, value, removed, bytes, at, at, at + 1) {
+                Some(next) => Judged::Stands(next),
+                None => Judged::Elsewhere,
+            }
+        }
+        None => match judge_delta_behind(alloc, instr, value, bytes, at) {
+            Some(next) => Judged::Behind(next),
+            None => Judged::Elsewhere,
         },
-        Operator::Tail => match entry {
-            Entry::Assigned(value) => judge_vector_tail(alloc, instr, value, bytes, at),
-            Entry::Empty => judge_vector_first(alloc, instr, entry, bytes, at),
-            Entry::Undefined => None,
-        },
-        _ => None,
     }
 }
 
@@ -268,19 +414,22 @@ pub(crate) fn judge_vector(
     requires part { instr.now.part ≡ part_type.Whole }
     requires kind { IsVectorKind instr.now.kind }
     requires kept { HoldsScalar entry.now }
-    ensures behind { IfBehind result (λ next. ⊥) }
     ensures place { IfJudged result (λ bit next. (at ≤ next) × (next ≤ length bytes.now)) }
     ensures judged { IfJudged result (λ bit next. (v : ScalarOf)
         × Judges bit instr.now entry.old entry.new v bytes.now at next) }
+    ensures behind_place { IfBehind result (λ next. (at + 1 ≤ next) × (next ≤ length bytes.now)) }
+    ensures behind { IfBehind result (λ next. (v : ScalarOf)
+        × JudgesFrom true instr.now entry.old entry.new v bytes.now at (at + 1) next) }
     ensures entry { IfNotJudged result (entry.new ≡ entry.old) }
 {
-    match instr.operator {
-        Operator::Plain | Operator::Default | Operator::Copy => {
-            judge_vector_whole(alloc, instr, entry, bytes, at)
-        }
-        _ => match judge_vector_on(alloc, instr, entry, bytes, at) {
-            Some(next) => Judged::Stands(next),
-            None => Judged::Elsewhere,
-        },
+    if instr.operator == Operator::Delta {
+        return match entry {
+            Entry::Assigned(value) => judge_vector_on(alloc, instr, value, bytes, at),
+            Entry::Undefined | Entry::Empty => Judged::Elsewhere,
+        };
+    }
+    match find_shortest(instr.kind, instr.presence, bytes, at) {
+        Some((start, next)) => judge_found(alloc, instr, entry, bytes, at, at, start, next),
+        None => judge_found_behind(alloc, instr, entry, bytes, at),
     }
 }

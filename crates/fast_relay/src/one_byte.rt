@@ -1,9 +1,9 @@
-//! Lengths and removals in one byte, as most are, which is their shortest form.
+//! Lengths and removals in one byte, as most are, which is their shortest form; and those behind one needless group.
 
 ghost use Rattle.std.specs.Prelude.{◌≡◌, ◌+◌, ◌<◌, ◌≤◌, pos, true, false, length, IfSome};
-ghost use Rattle.fast_relay.specs.Judged.{StandsAt, zero_byte};
+ghost use Rattle.fast_relay.specs.Judged.{StandsAt, StandsFrom, zero_byte};
 
-use crate::judged::read_shortest;
+use crate::judged::{read_behind, read_shortest};
 use crate::vectors::few_bytes;
 use fast_template::Presence;
 
@@ -34,6 +34,49 @@ pub(crate) fn read_removal(presence: Presence, bytes: &[u8], at: usize) -> Optio
         Some(usize::from(bytes[at] - zero))
     } else {
         None
+    }
+}
+
+/// How many units a subtraction length removes at the end, if they are few and its shortest form stands behind one needless
+/// group, and the place behind it.
+#[inline(always)]
+pub(crate) fn read_removal_behind(
+    presence: Presence,
+    bytes: &[u8],
+    at: usize,
+) -> Option<(usize, usize)>
+    requires { at ≤ length bytes.now }
+    ensures place { IfSome result (λ x. (at + 1 ≤ x.1) × (x.1 ≤ length bytes.now)) }
+    ensures few { IfSome result (λ x. x.0 < 63) }
+    ensures stands { IfSome result (λ x. StandsFrom false presence bytes.now at (at + 1) x.1 (pos x.0)) }
+{
+    let Some((removed, next)) = read_behind(false, presence, bytes, at) else {
+        return None;
+    };
+    match few_bytes(i128::from(removed)) {
+        Some(count) if count < usize::from(FEW) => Some((count, next)),
+        _ => None,
+    }
+}
+
+/// A length that is not too large and whose shortest form stands behind one needless group, and the place behind it.
+#[inline(always)]
+pub(crate) fn read_length_behind(
+    presence: Presence,
+    bytes: &[u8],
+    at: usize,
+) -> Option<(usize, usize)>
+    requires { at ≤ length bytes.now }
+    ensures place { IfSome result (λ x. (at + 1 ≤ x.1) × (x.1 ≤ length bytes.now)) }
+    ensures few { IfSome result (λ x. x.0 ≤ 65535) }
+    ensures stands { IfSome result (λ x. StandsFrom true presence bytes.now at (at + 1) x.1 (pos x.0)) }
+{
+    let Some((length, start)) = read_behind(true, presence, bytes, at) else {
+        return None;
+    };
+    match few_bytes(i128::from(length)) {
+        Some(count) => Some((count, start)),
+        None => None,
     }
 }
 

@@ -186,14 +186,7 @@ fn strings_that_are_judged(rt: HostRuntime) -> Result<(), AllocError> {
             judged: Judged::Given(3),
             after: Kept::Assigned(Value::Ascii(b"xab")),
         },
-    ];
-    all_judged(&rt, rt.alloc(), JUDGED)
-}
-
-#[test]
-fn strings_that_are_not_judged(rt: HostRuntime) -> Result<(), AllocError> {
-    const OTHERS: &[Row] = &[
-        // a preamble
+        // behind a preamble that is not needed
         Row {
             part: Part::Whole,
             kind: Kind::Ascii,
@@ -201,6 +194,34 @@ fn strings_that_are_not_judged(rt: HostRuntime) -> Result<(), AllocError> {
             operator: Operator::Copy,
             before: Kept::Assigned(Value::Ascii(b"AB")),
             bytes: &[0, 0x00, 0x43, 0xc4],
+            judged: Judged::Behind(4),
+            after: Kept::Assigned(Value::Ascii(b"CD")),
+        },
+        Row {
+            part: Part::Whole,
+            kind: Kind::Ascii,
+            presence: Presence::Mandatory,
+            operator: Operator::Copy,
+            before: Kept::Assigned(Value::Ascii(b"AB")),
+            bytes: &[0, 0x00, 0x41, 0xc2],
+            judged: Judged::Given(4),
+            after: Kept::Assigned(Value::Ascii(b"AB")),
+        },
+    ];
+    all_judged(&rt, rt.alloc(), JUDGED)
+}
+
+#[test]
+fn strings_that_are_not_judged(rt: HostRuntime) -> Result<(), AllocError> {
+    const OTHERS: &[Row] = &[
+        // two zero groups, of which one is NUL
+        Row {
+            part: Part::Whole,
+            kind: Kind::Ascii,
+            presence: Presence::Mandatory,
+            operator: Operator::Copy,
+            before: Kept::Assigned(Value::Ascii(b"AB")),
+            bytes: &[0, 0x00, 0x00, 0x43, 0xc4],
             judged: Judged::Elsewhere,
             after: Kept::Assigned(Value::Ascii(b"AB")),
         },
@@ -370,14 +391,7 @@ fn integers_that_are_judged(rt: HostRuntime) -> Result<(), AllocError> {
             judged: Judged::Stands(2),
             after: Kept::Assigned(Value::I64(11)),
         },
-    ];
-    all_judged(&rt, rt.alloc(), JUDGED)
-}
-
-#[test]
-fn integers_that_are_not_judged(rt: HostRuntime) -> Result<(), AllocError> {
-    const OTHERS: &[Row] = &[
-        // a needless group
+        // behind one needless group
         Row {
             part: Part::Whole,
             kind: Kind::UInt32,
@@ -385,7 +399,17 @@ fn integers_that_are_not_judged(rt: HostRuntime) -> Result<(), AllocError> {
             operator: Operator::Copy,
             before: Kept::Assigned(Value::U32(5)),
             bytes: &[0, 0x00, 0x87],
-            judged: Judged::Elsewhere,
+            judged: Judged::Behind(3),
+            after: Kept::Assigned(Value::U32(7)),
+        },
+        Row {
+            part: Part::Whole,
+            kind: Kind::UInt32,
+            presence: Presence::Mandatory,
+            operator: Operator::Copy,
+            before: Kept::Assigned(Value::U32(5)),
+            bytes: &[0, 0x00, 0x85],
+            judged: Judged::Given(3),
             after: Kept::Assigned(Value::U32(5)),
         },
         Row {
@@ -395,8 +419,8 @@ fn integers_that_are_not_judged(rt: HostRuntime) -> Result<(), AllocError> {
             operator: Operator::Copy,
             before: Kept::Assigned(Value::I32(5)),
             bytes: &[0, 0x00, 0xbf],
-            judged: Judged::Elsewhere,
-            after: Kept::Assigned(Value::I32(5)),
+            judged: Judged::Behind(3),
+            after: Kept::Assigned(Value::I32(63)),
         },
         Row {
             part: Part::Whole,
@@ -405,8 +429,26 @@ fn integers_that_are_not_judged(rt: HostRuntime) -> Result<(), AllocError> {
             operator: Operator::Copy,
             before: Kept::Assigned(Value::I32(5)),
             bytes: &[0, 0x7f, 0xff],
+            judged: Judged::Behind(3),
+            after: Kept::Assigned(Value::I32(-1)),
+        },
+    ];
+    all_judged(&rt, rt.alloc(), JUDGED)
+}
+
+#[test]
+fn integers_that_are_not_judged(rt: HostRuntime) -> Result<(), AllocError> {
+    const OTHERS: &[Row] = &[
+        // two needless groups
+        Row {
+            part: Part::Whole,
+            kind: Kind::UInt32,
+            presence: Presence::Mandatory,
+            operator: Operator::Copy,
+            before: Kept::Assigned(Value::U32(5)),
+            bytes: &[0, 0x00, 0x00, 0x87],
             judged: Judged::Elsewhere,
-            after: Kept::Assigned(Value::I32(5)),
+            after: Kept::Assigned(Value::U32(5)),
         },
         // NULL
         Row {
@@ -510,14 +552,7 @@ fn vectors_that_are_judged(rt: HostRuntime) -> Result<(), AllocError> {
             judged: Judged::Stands(4),
             after: Kept::Assigned(Value::Unicode("ü")),
         },
-    ];
-    all_judged(&rt, rt.alloc(), JUDGED)
-}
-
-#[test]
-fn vectors_that_are_not_judged(rt: HostRuntime) -> Result<(), AllocError> {
-    const OTHERS: &[Row] = &[
-        // an overlong length, and no UTF-8
+        // behind one needless group of their lengths
         Row {
             part: Part::Whole,
             kind: Kind::Bytes,
@@ -525,9 +560,120 @@ fn vectors_that_are_not_judged(rt: HostRuntime) -> Result<(), AllocError> {
             operator: Operator::Copy,
             before: Kept::Assigned(Value::Bytes(b"AB")),
             bytes: &[0, 0x00, 0x81, 0x43],
+            judged: Judged::Behind(4),
+            after: Kept::Assigned(Value::Bytes(b"C")),
+        },
+        Row {
+            part: Part::Whole,
+            kind: Kind::Bytes,
+            presence: Presence::Mandatory,
+            operator: Operator::Copy,
+            before: Kept::Assigned(Value::Bytes(b"AB")),
+            bytes: &[0, 0x00, 0x82, 0x41, 0x42],
+            judged: Judged::Given(5),
+            after: Kept::Assigned(Value::Bytes(b"AB")),
+        },
+        Row {
+            part: Part::Whole,
+            kind: Kind::Unicode,
+            presence: Presence::Optional,
+            operator: Operator::Copy,
+            before: Kept::Assigned(Value::Unicode("AB")),
+            bytes: &[0, 0x00, 0x83, 0xc3, 0xbc],
+            judged: Judged::Behind(5),
+            after: Kept::Assigned(Value::Unicode("ü")),
+        },
+        Row {
+            part: Part::Whole,
+            kind: Kind::Unicode,
+            presence: Presence::Mandatory,
+            operator: Operator::Plain,
+            before: Kept::Undefined,
+            bytes: &[0, 0x00, 0x80],
+            judged: Judged::Behind(3),
+            after: Kept::Undefined,
+        },
+        // so do ends, and differences whose removals have it
+        Row {
+            part: Part::Whole,
+            kind: Kind::Unicode,
+            presence: Presence::Mandatory,
+            operator: Operator::Tail,
+            before: Kept::Assigned(Value::Unicode("AB")),
+            bytes: &[0, 0x00, 0x81, 0x43],
+            judged: Judged::Behind(4),
+            after: Kept::Assigned(Value::Unicode("AC")),
+        },
+        Row {
+            part: Part::Whole,
+            kind: Kind::Bytes,
+            presence: Presence::Mandatory,
+            operator: Operator::Tail,
+            before: Kept::Empty,
+            bytes: &[0, 0x00, 0x81, 0x43],
+            judged: Judged::Behind(4),
+            after: Kept::Assigned(Value::Bytes(b"C")),
+        },
+        Row {
+            part: Part::Whole,
+            kind: Kind::Bytes,
+            presence: Presence::Mandatory,
+            operator: Operator::Delta,
+            before: Kept::Assigned(Value::Bytes(b"AB")),
+            bytes: &[0, 0x00, 0x81, 0x81, 0x43],
+            judged: Judged::Behind(5),
+            after: Kept::Assigned(Value::Bytes(b"AC")),
+        },
+        Row {
+            part: Part::Whole,
+            kind: Kind::Unicode,
+            presence: Presence::Optional,
+            operator: Operator::Delta,
+            before: Kept::Assigned(Value::Unicode("AB")),
+            bytes: &[0, 0x00, 0x81, 0x81, 0x43],
+            judged: Judged::Behind(5),
+            after: Kept::Assigned(Value::Unicode("ABC")),
+        },
+    ];
+    all_judged(&rt, rt.alloc(), JUDGED)
+}
+
+#[test]
+fn vectors_that_are_not_judged(rt: HostRuntime) -> Result<(), AllocError> {
+    const OTHERS: &[Row] = &[
+        // two needless groups in front of a length, or one in front of that of a new part
+        Row {
+            part: Part::Whole,
+            kind: Kind::Bytes,
+            presence: Presence::Mandatory,
+            operator: Operator::Copy,
+            before: Kept::Assigned(Value::Bytes(b"AB")),
+            bytes: &[0, 0x00, 0x00, 0x81, 0x43],
             judged: Judged::Elsewhere,
             after: Kept::Assigned(Value::Bytes(b"AB")),
         },
+        Row {
+            part: Part::Whole,
+            kind: Kind::Bytes,
+            presence: Presence::Mandatory,
+            operator: Operator::Delta,
+            before: Kept::Assigned(Value::Bytes(b"AB")),
+            bytes: &[0, 0x81, 0x00, 0x81, 0x43],
+            judged: Judged::Elsewhere,
+            after: Kept::Assigned(Value::Bytes(b"AB")),
+        },
+        // NULL behind a needless group
+        Row {
+            part: Part::Whole,
+            kind: Kind::Bytes,
+            presence: Presence::Optional,
+            operator: Operator::Copy,
+            before: Kept::Assigned(Value::Bytes(b"AB")),
+            bytes: &[0, 0x00, 0x80],
+            judged: Judged::Elsewhere,
+            after: Kept::Assigned(Value::Bytes(b"AB")),
+        },
+        // no UTF-8
         Row {
             part: Part::Whole,
             kind: Kind::Unicode,
@@ -537,6 +683,135 @@ fn vectors_that_are_not_judged(rt: HostRuntime) -> Result<(), AllocError> {
             bytes: &[0, 0x81, 0xc3],
             judged: Judged::Elsewhere,
             after: Kept::Assigned(Value::Unicode("AB")),
+        },
+    ];
+    all_judged(&rt, rt.alloc(), OTHERS)
+}
+
+#[test]
+fn decimals_that_are_judged(rt: HostRuntime) -> Result<(), AllocError> {
+    const JUDGED: &[Row] = &[
+        // an exponent and a mantissa in their shortest forms
+        Row {
+            part: Part::Whole,
+            kind: Kind::Decimal,
+            presence: Presence::Mandatory,
+            operator: Operator::Copy,
+            before: Kept::Assigned(Value::Decimal(1, 5)),
+            bytes: &[0, 0xfe, 0x85],
+            judged: Judged::Stands(3),
+            after: Kept::Assigned(Value::Decimal(-2, 5)),
+        },
+        Row {
+            part: Part::Whole,
+            kind: Kind::Decimal,
+            presence: Presence::Mandatory,
+            operator: Operator::Copy,
+            before: Kept::Assigned(Value::Decimal(1, 5)),
+            bytes: &[0, 0x81, 0x85],
+            judged: Judged::Given(3),
+            after: Kept::Assigned(Value::Decimal(1, 5)),
+        },
+        Row {
+            part: Part::Whole,
+            kind: Kind::Decimal,
+            presence: Presence::Mandatory,
+            operator: Operator::Delta,
+            before: Kept::Assigned(Value::Decimal(-2, 100)),
+            bytes: &[0, 0x80, 0x81],
+            judged: Judged::Stands(3),
+            after: Kept::Assigned(Value::Decimal(-2, 101)),
+        },
+        // behind one needless group of the exponent
+        Row {
+            part: Part::Whole,
+            kind: Kind::Decimal,
+            presence: Presence::Mandatory,
+            operator: Operator::Copy,
+            before: Kept::Assigned(Value::Decimal(1, 5)),
+            bytes: &[0, 0x7f, 0xfe, 0x85],
+            judged: Judged::Behind(4),
+            after: Kept::Assigned(Value::Decimal(-2, 5)),
+        },
+        Row {
+            part: Part::Whole,
+            kind: Kind::Decimal,
+            presence: Presence::Mandatory,
+            operator: Operator::Copy,
+            before: Kept::Assigned(Value::Decimal(1, 5)),
+            bytes: &[0, 0x00, 0x81, 0x85],
+            judged: Judged::Given(4),
+            after: Kept::Assigned(Value::Decimal(1, 5)),
+        },
+        Row {
+            part: Part::Whole,
+            kind: Kind::Decimal,
+            presence: Presence::Optional,
+            operator: Operator::Plain,
+            before: Kept::Undefined,
+            bytes: &[0, 0x00, 0x81, 0x85],
+            judged: Judged::Behind(4),
+            after: Kept::Undefined,
+        },
+        Row {
+            part: Part::Whole,
+            kind: Kind::Decimal,
+            presence: Presence::Mandatory,
+            operator: Operator::Delta,
+            before: Kept::Assigned(Value::Decimal(-2, 100)),
+            bytes: &[0, 0x00, 0x80, 0x81],
+            judged: Judged::Behind(4),
+            after: Kept::Assigned(Value::Decimal(-2, 101)),
+        },
+    ];
+    all_judged(&rt, rt.alloc(), JUDGED)
+}
+
+#[test]
+fn decimals_that_are_not_judged(rt: HostRuntime) -> Result<(), AllocError> {
+    const OTHERS: &[Row] = &[
+        // two needless groups, and one of the mantissa
+        Row {
+            part: Part::Whole,
+            kind: Kind::Decimal,
+            presence: Presence::Mandatory,
+            operator: Operator::Copy,
+            before: Kept::Assigned(Value::Decimal(1, 5)),
+            bytes: &[0, 0x00, 0x00, 0x82, 0x85],
+            judged: Judged::Elsewhere,
+            after: Kept::Assigned(Value::Decimal(1, 5)),
+        },
+        Row {
+            part: Part::Whole,
+            kind: Kind::Decimal,
+            presence: Presence::Mandatory,
+            operator: Operator::Copy,
+            before: Kept::Assigned(Value::Decimal(1, 5)),
+            bytes: &[0, 0x82, 0x00, 0x85],
+            judged: Judged::Elsewhere,
+            after: Kept::Assigned(Value::Decimal(1, 5)),
+        },
+        // NULL behind a needless group
+        Row {
+            part: Part::Whole,
+            kind: Kind::Decimal,
+            presence: Presence::Optional,
+            operator: Operator::Copy,
+            before: Kept::Assigned(Value::Decimal(1, 5)),
+            bytes: &[0, 0x00, 0x80],
+            judged: Judged::Elsewhere,
+            after: Kept::Assigned(Value::Decimal(1, 5)),
+        },
+        // an exponent of 64
+        Row {
+            part: Part::Whole,
+            kind: Kind::Decimal,
+            presence: Presence::Mandatory,
+            operator: Operator::Copy,
+            before: Kept::Assigned(Value::Decimal(1, 5)),
+            bytes: &[0, 0x00, 0xc0, 0x85],
+            judged: Judged::Elsewhere,
+            after: Kept::Assigned(Value::Decimal(1, 5)),
         },
     ];
     all_judged(&rt, rt.alloc(), OTHERS)

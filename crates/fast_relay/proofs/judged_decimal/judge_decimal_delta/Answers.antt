@@ -11,8 +11,8 @@ pub returns-clause-judged : goal.returns-clause-judged
 returns-clause-judged c =
     let x = c.in-Some.kept.exponent in
     let m = c.in-Some.kept.mantissa in
-    let dx = c.in-Some-read_pair.exponent_delta in
-    let dm = c.in-Some-read_pair.mantissa_delta in
+    let dx = c.args.exponent_delta in
+    let dm = c.args.mantissa_delta in
     let e = c.in-Some-checked_add.exponent in
     let n = c.in-Some-checked_add-2.mantissa in
     let parts = c.in-Some-parts_within.ensures in
@@ -23,7 +23,7 @@ returns-clause-judged c =
     let e_is : c.in-Some-parts_within.parts.exponent ≡ x +ℤ dx = parts.exponent ∙ to_z-of_z w64 e e_fits ∙ e_sum in
     let n_is : c.in-Some-parts_within.parts.mantissa ≡ m +ℤ dm = parts.mantissa ∙ to_z-of_z w64 n n_fits ∙ n_sum in (
       Decimal (x +ℤ dx) (m +ℤ dm),
-      decimal_delta_stands c.args.instr.now c.args.entry.now c.set_decimal.new.entry x m dx dm c.args.bytes.now c.args.at c.in-Some-read_pair.next
-          c.in-Some.ensures c.requires.kind c.requires.operator c.requires.part c.in-Some-read_pair.ensures.stands
+      decimal_delta_stands c.args.instr.now c.args.entry.now c.set_decimal.new.entry x m dx dm c.args.bytes.now c.args.at c.args.first c.args.next
+          c.in-Some.ensures c.requires.kind c.requires.operator c.requires.part c.requires.stands
           (rw e_is at parts.near) (rw n_is at parts.fits) (rw (e_is, n_is) at c.set_decimal.ensures),
     )

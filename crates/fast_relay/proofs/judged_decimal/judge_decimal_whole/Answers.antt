@@ -9,30 +9,30 @@ use Rattle.fast_relay.proofs.judged_decimal.judge_decimal_whole.Goals as goal
 
 pub returns-in-Some-true-clause-judged : goal.returns-in-Some-true-clause-judged
 returns-in-Some-true-clause-judged c =
-    let x = c.in-Some.exponent in
-    let m = c.in-Some.mantissa in
-    let parts = c.in-Some-parts_within.ensures in
+    let x = c.args.exponent in
+    let m = c.args.mantissa in
+    let parts = c.in-Some.ensures in
     let x_fits : FitsSigned w64 x = search rules in
     let m_fits : FitsSigned w64 m = search rules in
-    let x_is : c.in-Some-parts_within.parts.exponent ≡ x = parts.exponent ∙ to_z-of_z w64 x x_fits in
-    let m_is : c.in-Some-parts_within.parts.mantissa ≡ m = parts.mantissa ∙ to_z-of_z w64 m m_fits in (
+    let x_is : c.in-Some.parts.exponent ≡ x = parts.exponent ∙ to_z-of_z w64 x x_fits in
+    let m_is : c.in-Some.parts.mantissa ≡ m = parts.mantissa ∙ to_z-of_z w64 m m_fits in (
       Decimal x m,
-      decimal_stands c.args.instr.now c.args.entry.now c.judge_read.new.entry x m c.args.bytes.now c.args.at c.in-Some.next
-          c.requires.kind c.requires.part c.requires.operator (rw x_is at parts.near) (rw m_is at parts.fits) c.in-Some.ensures.stands
+      decimal_stands c.args.instr.now c.args.entry.now c.judge_read.new.entry x m c.args.bytes.now c.args.at c.args.first c.args.next
+          c.requires.kind c.requires.part c.requires.operator (rw x_is at parts.near) (rw m_is at parts.fits) c.requires.stands
           (rw (x_is, m_is, c.in-Some-true.field-0-test) at c.in-Some-true.ensures.leaves),
     )
 
 pub returns-in-Some-false-clause-judged : goal.returns-in-Some-false-clause-judged
 returns-in-Some-false-clause-judged c =
-    let x = c.in-Some.exponent in
-    let m = c.in-Some.mantissa in
-    let parts = c.in-Some-parts_within.ensures in
+    let x = c.args.exponent in
+    let m = c.args.mantissa in
+    let parts = c.in-Some.ensures in
     let x_fits : FitsSigned w64 x = search rules in
     let m_fits : FitsSigned w64 m = search rules in
-    let x_is : c.in-Some-parts_within.parts.exponent ≡ x = parts.exponent ∙ to_z-of_z w64 x x_fits in
-    let m_is : c.in-Some-parts_within.parts.mantissa ≡ m = parts.mantissa ∙ to_z-of_z w64 m m_fits in (
+    let x_is : c.in-Some.parts.exponent ≡ x = parts.exponent ∙ to_z-of_z w64 x x_fits in
+    let m_is : c.in-Some.parts.mantissa ≡ m = parts.mantissa ∙ to_z-of_z w64 m m_fits in (
       Decimal x m,
-      decimal_given c.args.instr.now c.args.entry.now c.judge_read.new.entry x m c.args.bytes.now c.args.at c.in-Some.next
-          c.requires.kind c.requires.part c.requires.operator (rw x_is at parts.near) (rw m_is at parts.fits) c.in-Some.ensures.stands
+      decimal_given c.args.instr.now c.args.entry.now c.judge_read.new.entry x m c.args.bytes.now c.args.at c.args.first c.args.next
+          c.requires.kind c.requires.part c.requires.operator (rw x_is at parts.near) (rw m_is at parts.fits) c.requires.stands
           (rw (x_is, m_is, c.in-Some-false.field-0-test) at c.in-Some-false.ensures.leaves),
     )

@@ -1,4 +1,4 @@
-use Rattle.std.proofs.Common.{◌+◌, arith, drop, length, ◌-◌, ◌++◌, refl, slice_range}
+use Rattle.std.proofs.Common.{arith, drop, length, ◌-◌, ◌++◌, refl, slice_range}
 use Rattle.std.specs.Prelude.{pos}
 use Rattle.fast_field.specs.Values.{units_of}
 use Rattle.fast_relay.proofs.Runs.{range_split}
@@ -12,8 +12,8 @@ put_part-requires-clause-text c =
     let i = c.args.instr.now in
     let value = c.args.value.now in
     let b = units_of value in
-    let s = slice_range c.args.bytes.now c.in-Some-find_shortest.start c.in-Some-find_shortest.next in
-    let n = length b - c.in-Some.removed in
+    let s = slice_range c.args.bytes.now c.in-Some.start c.in-Some.next in
+    let n = length b - c.args.removed in
     let text = c.is_text.ensures c.if-not-is_text.false in
     let few = text_few i.kind value text in
     let short = rw c.units-base.ensures at c.if-part-kept.false in
@@ -27,15 +27,15 @@ returns-then-put_part-clause-judged c =
     let value = c.args.value.now in
     let b = units_of value in
     let bytes = c.args.bytes.now in
-    let start = c.in-Some-find_shortest.start in
-    let next = c.in-Some-find_shortest.next in
+    let start = c.in-Some.start in
+    let next = c.in-Some.next in
     let s = slice_range bytes start next in
-    let form = slice_range bytes c.args.at next in
-    let r = c.in-Some.removed in
+    let form = slice_range bytes c.args.first next in
+    let r = c.args.removed in
     let n = length b - r in
-    let sent = c.in-Some.ensures.stands in
-    let front = slice_range bytes c.args.at (c.args.at + 1) in
-    let back = slice_range bytes (c.args.at + 1) next in
+    let sent = c.requires.stands in
+    let front = slice_range bytes c.args.first c.args.middle in
+    let back = slice_range bytes c.args.middle next in
     let text = c.is_text.ensures c.if-not-is_text.false in
     let part = c.are_text.ensures c.if-not-are_text.false in
     let few = text_few i.kind value text in
@@ -45,21 +45,21 @@ returns-then-put_part-clause-judged c =
     (front_text i.kind value n c.requires.kind text (omega arith) (rw c.units-base.ensures at (c.may_end.ensures c.if-not-may_end.false))) part in (
       c.put_part.new.value,
       λ out. rw (c.put_part.ensures.put c.if-put_part.true, c.units-base.ensures)
-          (vector_delta_relays i value r n s (drop c.args.at bytes) (drop (c.args.at + 1) bytes) (drop next bytes) out (out ++ form)
-          c.requires.kind c.requires.part c.requires.operator text c.in-Some.ensures.few (omega (arith, le)) refl
+          (vector_delta_relays i value r n s (drop c.args.at bytes) (drop c.args.middle bytes) (drop next bytes) out (out ++ form)
+          c.requires.kind c.requires.part c.requires.operator text c.requires.few (omega (arith, le)) refl
           (rw c.units-base.ensures at (c.goes_on_otherwise.ensures.prefix c.if-not-goes_on_otherwise.false))
           (rw c.units-base.ensures at (c.is_cut_at_end.ensures c.if-not-is_cut_at_end.false))
           t
           sent.spelt
-          c.in-Some-find_shortest.ensures.gives (
+          c.in-Some.ensures.stands.spelt (
             form,
             refl,
             record {
               front = front;
               back = back;
-              parts = range_split bytes c.args.at (c.args.at + 1) next (omega arith) (omega (arith, c.in-Some-find_shortest.ensures.start));
+              parts = range_split bytes c.args.first c.args.middle next c.requires.first (omega (arith, c.in-Some.ensures.start));
               first = shortest_signed i.presence (pos r) front sent.form sent.short;
-              second = c.in-Some-find_shortest.ensures.shortest part;
+              second = c.in-Some.ensures.stands.shortest part;
             },
           )),
     )
