@@ -98,7 +98,7 @@ impl<'a, E: Entries> Decoder<'a, E> {
         // the builder pushes behind the messages that are there
         let machine = &mut self.machine;
         machine.receiver.exchange(out);
-        let fed = machine.feed(chunk);
+        let fed = machine.feed_on(chunk);
         machine.receiver.exchange(out);
         fed
     }

@@ -5,3 +5,4 @@ pub mod PlainReads
 pub mod BlockReads
 pub mod MessageEnds
 pub mod Lackings
+pub mod Ends

@@ -2,3 +2,4 @@ pub mod Runs
 pub mod Standing
 pub mod Following
 pub mod OneProof
+pub mod Ends

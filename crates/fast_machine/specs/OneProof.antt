@@ -1,5 +1,5 @@
 -- What a machine keeps of its keys and parts has one proof at most.
-use Rattle.std.specs.Prelude.{Bool, List, [], ◌∷◌, map}
+use Rattle.std.specs.Prelude.{ℕ, zero, suc, ◌-◌, Bool, List, [], ◌∷◌, Some, length, map}
 use Rattle.std.specs.Coded.{×_prop, Π_prop, →_prop, Unit-prop, le_prop, Coded-set, coded_ℕ}
 use Rattle.fast_value.specs.declared.key.Key.{Key}
 use Rattle.fast_value.specs.declared.kind.Kind.{Kind}
@@ -16,9 +16,11 @@ use Rattle.fast_walk.specs.declared.traversal.Stage.TheVariants as stage
 use Rattle.fast_walk.specs.declared.traversal.Traversal.{Traversal}
 use Rattle.fast_walk.specs.declared.walk.Walk.{Walk}
 use Rattle.fast_walk.specs.OpenSegments.{Inside, in_group, in_sequence, Waiting, Next, at_instruction, at_mantissa, at_element}
-use Rattle.fast_walk.specs.OneProof.{true-prop, presence-prop, IsTold-prop}
+use Rattle.fast_walk.specs.OneProof.{true-prop, presence-prop, IsTold-prop, if-lacks-prop}
 use Rattle.fast_walk.specs.Walks.{IsServedAs, IsServedWith, IsMantissaServed, IsServed, AreServed, IsNextServed, IsInsideServed, AreAllServed, IsReady, next_of, frame_of}
+use Rattle.fast_dictionary.specs.Dictionary.{Dictionary}
 use Rattle.fast_walk.specs.Room.{HasRoomAt}
+use Rattle.fast_machine.specs.Ends.{IsLong, lack_of}
 use Rattle.fast_walk.specs.Traversals.{ServesAll, IsReadyAt, CanGoOn}
 
 pub ServesAll-prop : (serves : Key → Bool) (set : TemplateList) → IsProp (ServesAll serves set)
@@ -76,3 +78,7 @@ pub HasRoomAt-prop : (room : List (List Bool) → List Bool → Bool) (at : Stag
 HasRoomAt-prop room stage.Map w = Unit-prop
 HasRoomAt-prop room stage.Identifier w = le_prop
 HasRoomAt-prop room stage.Body w = true-prop _
+
+pub IsLong-prop : (end : ℕ) (t : Traversal) (d : Dictionary) (held : List ℕ) (until_stop : Bool) (number : ℕ) → IsProp (IsLong end t d held until_stop number)
+IsLong-prop zero t d held until_stop number = Unit-prop
+IsLong-prop (suc n) t d held until_stop number = ×_prop le_prop (if-lacks-prop t d held (Some (lack_of (n - length held) until_stop number)))

@@ -5,16 +5,16 @@ mod calls;
 ghost use Rattle.std.specs.Prelude.{◌≡◌, ◌≤◌, [], None, IfSome, length};
 ghost use Rattle.std.specs.Coded.{→_prop};
 ghost use Rattle.std.proofs.Props.{props};
-ghost use Rattle.fast_walk.specs.Lacks.{Lacks};
-ghost use Rattle.fast_walk.specs.OneProof.{KeepScalars-prop, if-lacks-prop};
+ghost use Rattle.fast_walk.specs.OneProof.{KeepScalars-prop};
 ghost use Rattle.fast_walk.specs.Room.{HasRoomAt};
 ghost use Rattle.fast_walk.specs.Told.{KeepScalars};
 ghost use Rattle.fast_walk.specs.Traversals.{CanGoOn, ServesAll};
-ghost use Rattle.fast_machine.specs.OneProof.{CanGoOn-prop, HasRoomAt-prop, ServesAll-prop};
+ghost use Rattle.fast_machine.specs.Ends.{IsLong};
+ghost use Rattle.fast_machine.specs.OneProof.{CanGoOn-prop, HasRoomAt-prop, IsLong-prop, ServesAll-prop};
 
 use fast_dictionary::Entries;
 use fast_stream::{Fault, Framing};
-use fast_walk::{HaltedBy, Lack, Receiver, Traversal};
+use fast_walk::{HaltedBy, Receiver, Traversal};
 use std::alloc::Global;
 
 /// Reads a stream that comes in chunks, stops anywhere, and hands what it reads to a receiver.
@@ -34,8 +34,12 @@ pub struct Machine<'a, R: Receiver, E: Entries> {
     held: Vec<u8>,
     // the number of the instruction of the piece that is not whole; 0 where nothing of one has come
     waiting: u32,
-    // what that piece lacks at least, where it is known
-    lack: Option<Lack>,
+    // that piece has at least so many bytes, where that is known; else 0
+    end: usize,
+    // only if none behind those held has its stop bit set
+    until_stop: bool,
+    // whether the piece may go on behind that stop bit
+    goes_on: bool,
     // how many bytes are left of the open block, those that are held among them; none between two blocks
     left: u128,
     fault: Option<Fault>,
@@ -47,7 +51,8 @@ pub struct Machine<'a, R: Receiver, E: Entries> {
     ghost bounded: { length held.items ≤ 65554 },
     ghost cleared: { IfSome fault (λ f. held.items ≡ []) } by { Prim.hlevel props },
     ghost ready: { fault ≡ None → CanGoOn (E.serves entries) traversal } by { →_prop (CanGoOn-prop (E.serves entries) traversal) },
-    ghost lacks: { IfSome lack (Lacks traversal (E.contents entries) held.items) } by { if-lacks-prop traversal (E.contents entries) held.items lack },
+    ghost lacks: { IsLong end traversal (E.contents entries) held.items until_stop waiting } by { IsLong-prop end traversal (E.contents entries) held.items until_stop waiting },
+    ghost within: { end ≤ 65554 },
     ghost kept: { fault ≡ None → KeepScalars (E.contents entries) } by { →_prop (KeepScalars-prop (E.contents entries)) },
     ghost room: { fault ≡ None → HasRoomAt (R.room receiver) traversal.stage traversal.walk } by { →_prop (HasRoomAt-prop (R.room receiver) traversal.stage traversal.walk) },
 }

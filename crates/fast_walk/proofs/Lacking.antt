@@ -15,6 +15,7 @@ use Rattle.fast_walk.specs.Received.{Received}
 use Rattle.fast_walk.specs.Traversals.{Continues, ContinuesAt, IsOpen, stop_of}
 use Rattle.fast_walk.specs.declared.halt.HaltedBy.TheVariants as halted
 use Rattle.fast_walk.specs.declared.traversal.Stage.{Stage}
+use Rattle.fast_walk.specs.declared.traversal.Stage.TheVariants as stage
 use Rattle.fast_walk.specs.declared.traversal.Traversal.{Traversal}
 use Rattle.fast_walk.proofs.Heads.{content_fails}
 use Rattle.fast_walk.specs.Walks.{next_of, reads_on}
@@ -46,7 +47,7 @@ use Rattle.fast_field.specs.declared.fault.FieldFault.TheVariants as fault
 use Rattle.fast_field.specs.Faults.{field_fault}
 use Rattle.fast_field.specs.FieldReading.{part_at, units_at, units_usually_at, integer_at, integer_spelled_at, decimal_spelled_at, units_spelled_at, spelled_at, integer_delta_at, decimal_delta_at, unit_delta_at, delta_at, tail_at, whole_at, row_at, field_at}
 use Rattle.fast_walk.specs.declared.lack.Lack.{Lack}
-use Rattle.fast_walk.specs.Lacks.{AreUnstopped, IsFirst, IsLacking, IsVectorKind, Lacks, StopsShort, WalkLacks, WantsByte, count_at, first_limit, sends, sends_units, whole_limit}
+use Rattle.fast_walk.specs.Lacks.{AreUnstopped, IsFirst, IsLacking, IsNextPart, IsVectorKind, Lacks, StopsShort, WalkLacks, WantsByte, count_at, first_limit, sends, sends_units, whole_limit}
 use Rattle.fast_field.specs.Values.{is_unsigned}
 use Rattle.fast_value.specs.declared.kind.Part.{Part}
 
@@ -320,6 +321,21 @@ mantissa_lacks level w mantissa bytes (Some l) is h same = λ d o more lacking h
     let stops = mantissa_on_stops level o.around o.next next.exponent mantissa o.body (cursor d w.bits w.spare xs) _ next.is (part_stops level mantissa d w.bits w.spare xs fault.NeedMore (h (entry_at d mantissa.key) more lacking)) in
     subst (λ (r : Reads Items). StopsShort l.number (length xs) r) (sym stops) (refl, (sym same, refl))
 
+-- a part that is sent lacks the stop bit of its first entity
+pub part_opens : (t : Traversal) (part : FieldPart) (bit : Bool) (l : Lack) → t.stage ≡ stage.Body → IsNextPart t.walk part → bit ≡ bit_for (part_needs_bit part) t.walk.bits → sends part.operator bit ≡ true
+    → l.most < first_limit part.operator part.kind → l.until_stop ≡ true → l.number ≡ part.number → (d : Dictionary) → Lacks t d [] l
+part_opens t part bit l body first at s few until same d = (body, of_part first)
+  where
+    sent : sends part.operator (bit_for (part_needs_bit part) t.walk.bits) ≡ true
+    sent = subst (λ (b : Bool). sends part.operator b ≡ true) at s
+
+    waits : (e : Entry) (more : List ℕ) → IsLacking l more → field_at t.level part e (bit_for (part_needs_bit part) t.walk.bits) more ≡ Err fault.NeedMore
+    waits e more lacking = entity_lacks t.level part e (bit_for (part_needs_bit part) t.walk.bits) [] more l sent (omega (arith, few)) (until, tt) lacking
+
+    of_part : IsNextPart t.walk part → WalkLacks t.level t.walk d [] l
+    of_part (inl h) = if_first_lacks t.level t.walk d part [] (Some l) h.0 h.1 h.2 (waits (entry_at d part.key)) same
+    of_part (inr h) = mantissa_lacks t.level t.walk part [] (Some l) h waits same d
+
 -- ---- walks that have no byte left
 
 stop_same : (c d : Cause) (i j m n : ℕ) → c ≡ d → i ≡ j → m ≡ n → ◌≡◌ {A = Stop} (record { cause = c; instruction = i; left = m }) (record { cause = d; instruction = j; left = n })
@@ -358,7 +374,7 @@ short_stops number (Err s) h = ap Err (stop_same s.cause Truncated s.instruction
 
 pub first_wants : (w : Walk) (part : FieldPart) (bit : Bool) → 0 < w.spare → w.next ≡ next.Instruction → IsFirst part (list_of w.rest.now) → bit ≡ bit_for (part_needs_bit part) w.bits → sends part.operator bit ≡ true → WantsByte w part.number
 first_wants w part bit some is first at s = λ level d o here.
-    let none : Lack = record { number = part.number; most = 0; until_stop = true } in
+    let none : Lack = record { number = part.number; most = 0; until_stop = true; goes_on = false } in
     let lacks = first_lacks level w d part (list_of w.rest.now) [] none some is refl first (λ more lacking. field_wants_on level part (entry_at d part.key) (bit_for (part_needs_bit part) w.bits) more (subst (λ (b : Bool). sends part.operator b ≡ true) at s) lacking.few) refl in
     short_stops part.number (reads_on level w d o []) (lacks o [] (record { few = omega arith; unstopped = λ _. tt }) here)
 

@@ -1,5 +1,5 @@
 -- How many bytes more a piece lacks at least that has begun.
-use Rattle.std.specs.Prelude.{◌≡◌, ◌≤◌, ◌<◌, ℕ, Bool, true, false, List, [], ◌++◌, length, Result, Ok, Err}
+use Rattle.std.specs.Prelude.{◌≡◌, ◌≤◌, ◌<◌, ℕ, Bool, true, false, List, [], ◌++◌, length, Result, Ok, Err, ◌⊎◌, pos}
 use Rattle.std.specs.List.{AllByRecursion}
 use Rattle.fast_wire.specs.Reading.{◌>>=◌, unsigned_at, unsigned_nullable_at}
 use Rattle.fast_wire.specs.declared.fault.WireFault.{WireFault}
@@ -12,16 +12,18 @@ use Rattle.fast_value.specs.declared.kind.Operator.TheVariants as operator
 use Rattle.fast_value.specs.declared.kind.Presence.{Presence}
 use Rattle.fast_value.specs.declared.kind.Presence.TheVariants.{Mandatory, Optional}
 use Rattle.fast_template.specs.declared.resolved.FieldPart.{FieldPart}
-use Rattle.fast_template.specs.Resolved.{Instructions, then_instruction, whole_field, field_in_parts, sequence_of}
+use Rattle.fast_template.specs.Resolved.{Instructions, list_of, then_instruction, whole_field, field_in_parts, sequence_of}
 use Rattle.fast_dictionary.specs.Dictionary.{Dictionary}
 use Rattle.fast_stream.specs.declared.fault.Cause.TheVariants.{Truncated}
 use Rattle.fast_stream.specs.Reading.{Reads, stopped}
 use Rattle.fast_wire.specs.declared.level.Level.{Level}
 use Rattle.fast_walk.specs.Received.{Received}
-use Rattle.fast_walk.specs.Walks.{IsAt, reads_on}
+use Rattle.fast_walk.specs.OpenSegments.{at_mantissa}
+use Rattle.fast_walk.specs.Walks.{IsAt, next_of, reads_on}
 use Rattle.fast_walk.specs.declared.lack.Lack.{Lack}
 use Rattle.fast_walk.specs.declared.traversal.Stage.TheVariants as stage
 use Rattle.fast_walk.specs.declared.traversal.Traversal.{Traversal}
+use Rattle.fast_walk.specs.declared.walk.Next.TheVariants as next
 use Rattle.fast_walk.specs.declared.walk.Walk.{Walk}
 
 -- no byte has its stop bit set
@@ -92,6 +94,10 @@ IsFirst p (then_instruction (whole_field name number presence whole) is) = whole
 IsFirst p (then_instruction (field_in_parts name number presence exponent mantissa) is) = exponent ≡ p
 IsFirst p (then_instruction (sequence_of name number presence length members) is) = length ≡ p
 IsFirst p is = ⊥
+
+-- a walk comes to this part next: an instruction that begins with it, or a mantissa
+abbrev pub IsNextPart : Walk → FieldPart → Type 0
+IsNextPart w p = ((0 < w.spare) × (w.next ≡ next.Instruction) × IsFirst p (list_of w.rest.now)) ⊎ (next_of w.next ≡ at_mantissa (pos 0) p)
 
 -- Of the piece that a walk comes to next, some bytes have come, and this is lacking: also of a piece whose base an entry
 -- has, in this dictionary.

@@ -4,7 +4,7 @@
 //! Asked of instructions: of the entity that one begins with, and of a vector behind its length. What else there is, is
 //! read again.
 
-ghost use Rattle.std.specs.Prelude.{◌≡◌, ◌≤◌, ◌<◌, ◌+◌, ◌++◌, ℕ, true, false, List, IfSome, IsTrue, Err, Ok, length, drop};
+ghost use Rattle.std.specs.Prelude.{◌≡◌, ◌≤◌, ◌<◌, ◌+◌, ◌++◌, [], ℕ, true, false, List, IfSome, IsTrue, Err, Ok, length, drop};
 ghost use Rattle.fast_wire.specs.Level.{judge, overlong_unsigned as overlong_unsigned_of};
 ghost use Rattle.fast_wire.specs.declared.nullable.Nullable.TheVariants.{Value};
 ghost use Rattle.fast_template.specs.Resolved.{list_of};
@@ -13,7 +13,7 @@ ghost use Rattle.fast_dictionary.specs.Dictionary.{Dictionary, entry_of};
 ghost use Rattle.fast_wire.specs.Reading.{entity_at};
 ghost use Rattle.fast_field.specs.Faults.{field_fault};
 ghost use Rattle.fast_field.specs.FieldReading.{field_at, part_at, units_at};
-ghost use Rattle.fast_walk.specs.Lacks.{AreUnstopped, IsFirst, IsLacking, IsUnitKind, IsVectorKind, Lacks, WalkLacks, WantsByte, count_at, first_limit as first_limit_of, sends, sends_two as sends_two_of, sends_units as sends_units_of};
+ghost use Rattle.fast_walk.specs.Lacks.{AreUnstopped, IsFirst, IsLacking, IsNextPart, IsUnitKind, IsVectorKind, Lacks, WalkLacks, WantsByte, count_at, first_limit as first_limit_of, sends, sends_two as sends_two_of, sends_units as sends_units_of};
 
 use crate::bits::first_for;
 use crate::traversal::{Stage, Traversal};
@@ -27,6 +27,9 @@ use fast_wire::{
 };
 use std::alloc::Global;
 
+/// The stop bit of a byte.
+const STOP: u8 = 0x80;
+
 /// The most bytes of an ASCII string.
 const TEXT_LIMIT: usize = 65_540;
 
@@ -39,34 +42,24 @@ const VECTOR_LIMIT: u128 = 65_535;
 /// Bytes that are too few for the piece that has begun.
 #[derive(Clone, Copy)]
 pub struct Lack {
-    /// Of which instruction the piece is.
-    pub number: u32,
     /// So many bytes more are too few.
     pub most: usize,
+    /// Of which instruction the piece is.
+    pub number: u32,
     /// Only if none of them has its stop bit set.
     pub until_stop: bool,
+    /// Whether the piece may go on behind that stop bit.
+    pub goes_on: bool,
 }
 
-// Whether a stop bit is set in these bytes.
-fn has_stop(bytes: &[u8]) -> bool
+/// Whether a stop bit is set in these bytes.
+#[inline(always)]
+pub fn has_stop(bytes: &[u8]) -> bool
     ensures { result ≡ false → AreUnstopped bytes.now }
 {
-    find_stop(bytes).is_some()
-}
-
-impl Lack {
-    /// What is still lacking behind these bytes more; none where they may be enough.
-    pub fn behind(self, chunk: &[u8]) -> Option<Lack>
-        ensures lacking { IfSome result (λ l. (more : List ℕ) → IsLacking l more → IsLacking self (chunk.now ++ more)) }
-        ensures number { IfSome result (λ l. l.number ≡ self.number) }
-    {
-        if chunk.len() > self.most || (self.until_stop && has_stop(chunk)) {
-            return None;
-        }
-        Some(Lack {
-            most: self.most - chunk.len(),
-            ..self
-        })
+    match bytes {
+        [byte] => *byte >= STOP,
+        _ => find_stop(bytes).is_some(),
     }
 }
 
@@ -83,7 +76,8 @@ fn is_sent(operator: Operator, bit: bool) -> bool
 
 // The most bytes of the entity that it begins with.
 fn first_limit(operator: Operator, kind: Kind) -> usize
-    ensures { result ≡ first_limit_of operator kind }
+    ensures limit { result ≡ first_limit_of operator kind }
+    ensures some { 0 < result }
 {
     match operator {
         Operator::Delta => NUMBER_LIMIT,
@@ -107,6 +101,7 @@ fn entity_lack(number: u32, limit: usize, bytes: &[u8]) -> Option<Lack>
         number,
         most: limit - 1 - bytes.len(),
         until_stop: true,
+        goes_on: false,
     })
 }
 
@@ -153,6 +148,7 @@ fn vector_lack(number: u32, count: u128, have: usize) -> Option<Lack>
         number,
         most: count as usize - have - 1,
         until_stop: false,
+        goes_on: false,
     })
 }
 
@@ -343,6 +339,17 @@ pub(crate) fn field_lack(level: Level, part: &FieldPart, bit: bool, bytes: &[u8]
     }
 }
 
+// Whether a field may go on behind the entity that it begins with. (No promise: where it says no, such a field is read
+// once too often.)
+#[inline(always)]
+fn is_of_two(operator: Operator, kind: Kind) -> bool {
+    match kind {
+        Kind::UInt32 | Kind::Int32 | Kind::UInt64 | Kind::Int64 => false,
+        Kind::Ascii => operator == Operator::Delta,
+        Kind::Decimal | Kind::Unicode | Kind::Bytes => true,
+    }
+}
+
 impl<'a> Walk<'a> {
     ghost use Rattle.fast_walk.specs.Walks.{IsReady};
 
@@ -410,6 +417,26 @@ impl<'a> Walk<'a> {
         }
     }
 
+    // The part that is next.
+    #[inline(always)]
+    fn next_part(&self) -> Option<&FieldPart>
+        ensures { IfSome result (λ p. IsNextPart self.now p.now) }
+    {
+        match self.next {
+            Next::Instruction if self.spare > 0 => match self.rest.split_first() {
+                Some((flat, _)) => match flat {
+                    Flat::Field { whole: part, .. }
+                    | Flat::Parts { exponent: part, .. }
+                    | Flat::Sequence { length: part, .. } => Some(part),
+                    Flat::Group { .. } => None,
+                },
+                None => None,
+            },
+            Next::Mantissa(mantissa) => Some(mantissa),
+            Next::Instruction | Next::Element(_) => None,
+        }
+    }
+
     // The number of the part that is next, where something of it stands in the stream.
     #[inline(always)]
     fn first_sent(&self, part: &FieldPart) -> Option<u32>
@@ -464,6 +491,30 @@ impl<'a> Walk<'a> {
 
 impl<'a> Traversal<'a> {
     ghost use Rattle.fast_walk.specs.Traversals.{CanGoOn};
+
+    /// What the piece lacks at which the traversal has stopped, of which nothing has come: the stop bit of its first
+    /// entity. None where that is not known.
+    #[inline(always)]
+    pub fn opening(&self) -> Option<Lack>
+        ensures { IfSome result (λ l. (d : Dictionary) → Lacks self.now d [] l) }
+    {
+        if self.stage != Stage::Body {
+            return None;
+        }
+        let Some(part) = self.walk.next_part() else {
+            return None;
+        };
+        let bit = first_for(&self.walk.bits, part_needs_bit(part));
+        if !is_sent(part.operator, bit) {
+            return None;
+        }
+        Some(Lack {
+            most: first_limit(part.operator, part.kind) - 1,
+            number: part.number,
+            until_stop: true,
+            goes_on: is_of_two(part.operator, part.kind),
+        })
+    }
 
     /// What the piece lacks at which the traversal has stopped, of which these bytes have come; none where that is not
     /// known.

@@ -17,7 +17,7 @@ mod traversal;
 mod walk;
 
 pub use halt::{Halt, HaltedBy, wire_cause};
-pub use lack::Lack;
+pub use lack::{Lack, has_stop};
 pub use output::Output;
 pub use receiver::{Fields, Receiver};
 pub use traversal::{Stage, Traversal};

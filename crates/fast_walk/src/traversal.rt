@@ -409,14 +409,10 @@ impl<'a> Traversal<'a> {
         }
     }
 
-    /// Reads the next message, or what is left of the open one, to its end, and answers the place behind it.
-    ///
-    /// # Errors
-    ///
-    /// Why a piece was not read, and where that begins. Truncated: the bytes end before it does. Then the traversal
-    /// has stopped there, and goes on with the bytes from there on and those that follow. Memory: a growth was
-    /// refused.
-    pub fn message<R: Receiver, E: Entries>(
+    // Reads the next message from its map on, or from its identifier on where that is next. (A function of its own: where
+    // a body is next, nothing of this is set up.)
+    #[inline(never)]
+    fn begin<R: Receiver, E: Entries>(
         &mut self,
         receiver: &mut R,
         entries: &mut E,
@@ -424,6 +420,7 @@ impl<'a> Traversal<'a> {
         at: usize,
     ) -> Result<usize, (usize, Halt)>
         requires place { at ≤ length bytes.now }
+        requires outside { self.now.stage ≢ Stage.Body }
         requires ready { CanGoOn (E.serves entries.now) self.now }
         requires served { ServesAll (E.serves entries.now) self.now.set.now }
         requires kept { KeepScalars (E.contents entries.now) }
@@ -496,7 +493,92 @@ impl<'a> Traversal<'a> {
                 Err(halt) => Err(halt),
                 Ok(next) => Ok(next),
             },
+            Stage::Body => unreachable!(),
+        }
+    }
+
+    /// Reads the next message, or what is left of the open one, to its end, and answers the place behind it.
+    ///
+    /// # Errors
+    ///
+    /// Why a piece was not read, and where that begins. Truncated: the bytes end before it does. Then the traversal
+    /// has stopped there, and goes on with the bytes from there on and those that follow. Memory: a growth was
+    /// refused.
+    #[inline(always)]
+    pub fn message<R: Receiver, E: Entries>(
+        &mut self,
+        receiver: &mut R,
+        entries: &mut E,
+        bytes: &[u8],
+        at: usize,
+    ) -> Result<usize, (usize, Halt)>
+        requires place { at ≤ length bytes.now }
+        requires ready { CanGoOn (E.serves entries.now) self.now }
+        requires served { ServesAll (E.serves entries.now) self.now.set.now }
+        requires kept { KeepScalars (E.contents entries.now) }
+        requires room { HasRoomAt (R.room receiver.now) self.now.stage self.now.walk }
+        ensures place { IfOk result (λ n. (at ≤ n) × (n ≤ length bytes.now)) }
+        ensures goes { IfOk result (λ n. (before : List Content) (start : Dictionary) (read : List
+            ℕ → Reading)
+            → Continues R.has R.stands R.keeps self.old receiver.old (templates_in self.old.set.now)
+            (E.contents entries.old) before start read
+            → (m : Content)
+            × ((more : List ℕ) → read (drop at bytes.now ++ more)
+            ≡ Ok (m, E.contents entries.new, drop n bytes.now ++ more))
+            × (nodes_in m.items ≤ node_limit → R.stands receiver.new (templates_in self.old.set.now)
+            (before ++ m ∷ []) (E.contents entries.new))) }
+        ensures between { OnOk result ((self.new.stage ≡ Stage.Map) × (self.new.template ≡ 0)) }
+        ensures held_place { IfErr result (λ x. (at ≤ x.0) × (x.0 ≤ length bytes.now)) }
+        ensures stops { IfErr result (λ x. (x.1).cause ≢ Cause.Memory
+            → (before : List Content) (start : Dictionary)
+            (read : List ℕ → Reading)
+            → Continues R.has R.stands R.keeps self.old receiver.old (templates_in self.old.set.now)
+            (E.contents entries.old) before start read
+            → read (drop at bytes.now) ≡ Err (stop_of self.new.template x.1 (drop x.0 bytes.now))) }
+        ensures held { IfErr result (λ x. (x.1).cause ≡ Cause.Truncated
+            → (before : List Content) (start : Dictionary)
+            (read : List ℕ → Reading)
+            → Continues R.has R.stands R.keeps self.old receiver.old (templates_in self.old.set.now)
+            (E.contents entries.old) before start read
+            → (later : List ℕ → Reading)
+            × Continues R.has R.stands R.keeps self.new receiver.new (templates_in self.old.set.now)
+            (E.contents entries.new) before start later
+            × ((more : List ℕ) → read (drop at bytes.now ++ more) ≡ later (drop x.0 bytes.now
+            ++ more))) }
+        // few bytes are left where more are wanted
+        ensures few { IfErr result (λ x. (x.1).cause ≡ Cause.Truncated
+            → length bytes.now ≤ x.0 + 65554) }
+        ensures ready { IfErr result (λ x. (x.1).cause ≡ Cause.Truncated
+            → CanGoOn (E.serves entries.new) self.new) }
+        ensures kept { OnOk result (KeepScalars (E.contents entries.new)) }
+        ensures kept_on { IfErr result (λ x. (x.1).cause ≡ Cause.Truncated
+            → KeepScalars (E.contents entries.new)) }
+        ensures room { IfErr result (λ x. (x.1).cause ≡ Cause.Truncated
+            → HasRoomAt (R.room receiver.new) self.new.stage self.new.walk) }
+        ensures keeps { OnErr result ((before : List Content) (start : Dictionary) (read : List ℕ
+            → Reading)
+            → Continues R.has R.stands R.keeps self.old receiver.old (templates_in self.old.set.now)
+            (E.contents entries.old) before start read
+            → R.keeps receiver.new (templates_in self.old.set.now) before start
+            ⊎ R.stands receiver.new (templates_in self.old.set.now) before start) }
+        ensures set { self.new.set ≡ self.old.set }
+        ensures level { self.new.level ≡ self.old.level }
+        ensures same_keys { E.serves entries.new ≡ E.serves entries.old }
+        // a message has a byte
+        ensures took { IfOk result (λ n. self.old.stage ≡ Stage.Map → at < n) }
+        ensures held_between { IfErr result (λ x. (x.1).cause ≡ Cause.Truncated → self.new.stage
+            ≡ Stage.Map
+            → (self.old.stage ≡ Stage.Map) × (x.0 ≡ at)) }
+        ensures begun { IfErr result (λ x. (x.1).cause ≡ Cause.Truncated → self.old.stage
+            ≡ Stage.Map
+            → self.new.stage ≢ Stage.Map → at < x.0) }
+    {
+        match self.stage {
             Stage::Body => match self.body(receiver, entries, bytes, at) {
+                Err(halt) => Err(halt),
+                Ok(next) => Ok(next),
+            },
+            Stage::Map | Stage::Identifier => match self.begin(receiver, entries, bytes, at) {
                 Err(halt) => Err(halt),
                 Ok(next) => Ok(next),
             },

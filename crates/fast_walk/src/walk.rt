@@ -102,16 +102,17 @@ fn begins_with_field(rest: &[Flat]) -> bool {
     }
 }
 
-// The piece that is next behind fields.
+// The piece that is next behind fields, in front of which an instruction was: it is written only where it is another one.
 #[inline(always)]
-fn next_piece<'a>(mantissa: Option<&'a FieldPart>) -> Next<'a>
-    ensures next { next_of result ≡ next_behind mantissa.entry }
-    ensures weight { weight_of result ≤ 2 }
-    ensures none { IsSome mantissa.entry ⊎ (weight_of result ≡ 1) }
+fn go_behind<'a>(next: &mut Next<'a>, mantissa: Option<&'a FieldPart>)
+    requires { next.now ≡ Next.Instruction }
+    ensures next { next_of next.new ≡ next_behind mantissa.entry }
+    ensures weight { weight_of next.new ≤ 2 }
+    ensures none { IsSome mantissa.entry ⊎ (weight_of next.new ≡ 1) }
 {
     match mantissa {
-        None => Next::Instruction,
-        Some(mantissa) => Next::Mantissa(mantissa),
+        None => {}
+        Some(mantissa) => *next = Next::Mantissa(mantissa),
     }
 }
 
@@ -1016,7 +1017,7 @@ impl<'a> Walk<'a> {
                     Ok(fields) => {
                         self.rest = fields.rest;
                         self.spare = fields.spare;
-                        self.next = next_piece(fields.mantissa);
+                        go_behind(&mut self.next, fields.mantissa);
                         Ok(fields.place)
                     }
                 }

@@ -22,15 +22,12 @@ use crate::messages::read_message;
 use fast_dictionary::Entries;
 use fast_stream::{Cause, Fault, Framing, Mode, Place};
 use fast_template::TemplateSet;
-use fast_walk::{Halt, HaltedBy, Lack, Receiver, Traversal};
+use fast_walk::{Halt, HaltedBy, Lack, Receiver, Traversal, has_stop};
 use std::alloc::{AllocError, Global};
 use std::mem;
 
 /// The most bytes that are held.
 const HELD_LIMIT: usize = 65_554;
-
-/// The stop bit of a byte.
-const STOP: u8 = 0x80;
 
 // So many more; the count stops at the greatest number.
 fn counted(count: u64, more: u64) -> u64
@@ -152,7 +149,9 @@ impl<'a, R: Receiver, E: Entries> Machine<'a, R, E> {
             entries,
             held: Vec::new(alloc),
             waiting: 0,
-            lack: None,
+            end: 0,
+            until_stop: false,
+            goes_on: false,
             left: 0,
             fault: None,
             halted_by: HaltedBy::Walk,
@@ -231,7 +230,7 @@ impl<'a, R: Receiver, E: Entries> Machine<'a, R, E> {
         let fault = fault_at(cause, self.messages, self.fed, left, template, number);
         self.fault = Some(fault);
         self.halted_by = HaltedBy::Walk;
-        self.lack = None;
+        self.end = 0;
         self.held.clear();
         self.receiver.back(self.alloc);
         fault
@@ -260,16 +259,73 @@ impl<'a, R: Receiver, E: Entries> Machine<'a, R, E> {
         let fault = fault_at(Cause::Memory, self.messages, 0, 0, 0, 0);
         self.fault = Some(fault);
         self.halted_by = HaltedBy::Walk;
-        self.lack = None;
+        self.end = 0;
         self.held.clear();
         self.receiver.back(self.alloc);
         fault
     }
 
+    // Knows what the piece lacks that is not whole, behind the bytes that are held.
+    #[tactic(auto, using(crate::proofs::Ends::long_of))]
+    #[inline(always)]
+    fn know(&mut self, lack: Lack)
+        requires unknown { self.now.end ≡ 0 }
+        requires lacks { Lacks self.now.traversal (E.contents self.now.entries) self.now.held.items lack }
+        ensures follows { (before : List Content) (fed : List ℕ) (messages : List Content)
+            → Follows self.old before fed messages → Follows self.new before fed messages }
+        ensures fault { self.new.fault ≡ self.old.fault }
+        ensures traversal { self.new.traversal ≡ self.old.traversal }
+        ensures receiver { self.new.receiver ≡ self.old.receiver }
+        ensures entries { self.new.entries ≡ self.old.entries }
+        ensures fed { self.new.fed ≡ self.old.fed }
+        ensures messages { self.new.messages ≡ self.old.messages }
+        ensures framing { self.new.framing ≡ self.old.framing }
+        ensures room { self.new.left ≡ self.old.left }
+    {
+        let held = self.held.len();
+        if lack.number == self.waiting && lack.most < HELD_LIMIT - held {
+            self.until_stop = lack.until_stop;
+            self.goes_on = lack.goes_on;
+            self.end = held + lack.most + 1;
+        }
+    }
+
+    // Keeps the bytes of the piece that is not whole, of the instruction whose number is kept.
+    #[inline(never)]
+    fn hold_some(&mut self, rest: &[u8]) -> Result<(), Fault>
+        requires fault { self.now.fault ≡ None }
+        requires unknown { self.now.end ≡ 0 }
+        requires held { self.now.held.items ≡ [] }
+        requires few { length rest.now ≤ 65554 }
+        ensures follows { (before : List Content) (fed : List ℕ) (messages : List Content)
+            → length fed < 2 ^ 61 → Counts self.old.fed self.old.messages fed messages
+            → Stands self.old.framing self.old.left (ReadsOn R.has R.stands R.keeps self.old.traversal self.old.receiver
+            (E.contents self.old.entries) before) self.old.traversal rest.now fed messages
+            → Waits self.old.framing self.old.left self.old.traversal rest.now self.old.waiting fed messages
+            → Follows self.new before fed messages }
+        ensures answer { Answers result self.new.fault }
+        ensures cause { IfErr result (λ f. f.cause ≡ Cause.Memory) }
+        ensures traversal { self.new.traversal ≡ self.old.traversal }
+        ensures entries { self.new.entries ≡ self.old.entries }
+        ensures fed { self.new.fed ≡ self.old.fed }
+        ensures framing { self.new.framing ≡ self.old.framing }
+    {
+        match append(&mut self.held, rest) {
+            Err(_) => Err(self.refuse()),
+            Ok(()) => {
+                if let Some(lack) = self.traversal.lack(&self.entries, &self.held) {
+                    self.know(lack);
+                }
+                Ok(())
+            }
+        }
+    }
+
     // Keeps the bytes of the piece that is not whole, of the instruction with this number.
+    #[inline(always)]
     fn hold(&mut self, number: u32, rest: &[u8]) -> Result<(), Fault>
         requires fault { self.now.fault ≡ None }
-        requires unknown { self.now.lack ≡ None }
+        requires unknown { self.now.end ≡ 0 }
         requires held { self.now.held.items ≡ [] }
         requires few { length rest.now ≤ 65554 }
         ensures follows { (before : List Content) (fed : List ℕ) (messages : List Content)
@@ -287,25 +343,25 @@ impl<'a, R: Receiver, E: Entries> Machine<'a, R, E> {
     {
         self.waiting = number;
         if rest.is_empty() {
+            if let Some(lack) = self.traversal.opening() {
+                self.know(lack);
+            }
             return Ok(());
         }
-        match append(&mut self.held, rest) {
-            Err(_) => Err(self.refuse()),
-            Ok(()) => {
-                self.lack = self.traversal.lack(&self.entries, &self.held);
-                Ok(())
-            }
+        match self.hold_some(rest) {
+            Err(fault) => Err(fault),
+            Ok(()) => Ok(()),
         }
     }
 
-    // What a piece still lacks that begins with these bytes. It is asked of a byte that comes alone without its stop bit,
-    // since with it most pieces are whole; more bytes are read first.
+    // What a piece still lacks whose first byte comes alone and ends a number, where it may go on behind that: a number
+    // that is whole is read at once.
     #[inline(always)]
     fn first_lacking(&self, chunk: &[u8]) -> Option<Lack>
         ensures { IfSome result (Lacks self.now.traversal (E.contents self.now.entries) (self.now.held.items ++ chunk.now)) }
     {
         match chunk {
-            [byte] if *byte < STOP && self.held.is_empty() && self.fault.is_none() => {
+            [_] if self.goes_on && self.held.is_empty() && self.fault.is_none() => {
                 self.traversal.lack(&self.entries, chunk)
             }
             _ => None,
@@ -314,6 +370,7 @@ impl<'a, R: Receiver, E: Entries> Machine<'a, R, E> {
 
     /// What the piece that is not whole, or that begins here, still lacks behind these bytes, in the same block; none where
     /// that is not known.
+    #[tactic(auto, using(crate::proofs::Ends::still_lacks))]
     #[inline(always)]
     pub fn still_lacking(&self, chunk: &[u8]) -> Option<Lack>
         ensures lacks { IfSome result (Lacks self.now.traversal (E.contents self.now.entries) (self.now.held.items ++ chunk.now)) }
@@ -323,19 +380,25 @@ impl<'a, R: Receiver, E: Entries> Machine<'a, R, E> {
     {
         let count = self.held.len() + chunk.len();
         let fits = match self.framing {
-            Framing::Plain => count <= HELD_LIMIT,
-            Framing::Blocks => count <= HELD_LIMIT && (count as u128) < self.left,
+            Framing::Plain => count < self.end,
+            Framing::Blocks => count < self.end && (count as u128) < self.left,
         };
         if !fits {
             return None;
         }
-        match self.lack {
-            None => self.first_lacking(chunk),
-            Some(lack) => lack.behind(chunk),
+        if self.until_stop && has_stop(chunk) {
+            return self.first_lacking(chunk);
         }
+        Some(Lack {
+            most: self.end - count - 1,
+            number: self.waiting,
+            until_stop: self.until_stop,
+            goes_on: self.goes_on,
+        })
     }
 
     // Holds these bytes too, behind which the piece that is not whole still lacks some.
+    #[inline(always)]
     fn hold_more(&mut self, lack: Lack, chunk: &[u8]) -> Result<(), AllocError>
         requires fault { self.now.fault ≡ None }
         requires lacks { Lacks self.now.traversal (E.contents self.now.entries) (self.now.held.items ++ chunk.now) lack }
@@ -357,10 +420,10 @@ impl<'a, R: Receiver, E: Entries> Machine<'a, R, E> {
         ensures framing { self.new.framing ≡ self.old.framing }
         ensures room { self.new.left ≡ self.old.left }
     {
-        self.lack = None;
+        self.end = 0;
         append(&mut self.held, chunk)?;
         self.waiting = lack.number;
-        self.lack = Some(lack);
+        self.know(lack);
         Ok(())
     }
 
@@ -399,7 +462,7 @@ impl<'a, R: Receiver, E: Entries> Machine<'a, R, E> {
     #[inline(always)]
     fn read_plain(&mut self, bytes: &[u8]) -> Result<Option<usize>, Fault>
         requires fault { self.now.fault ≡ None }
-        requires unknown { self.now.lack ≡ None }
+        requires unknown { self.now.end ≡ 0 }
         requires held { self.now.held.items ≡ [] }
         requires framing { self.now.framing ≡ Framing.Plain }
         requires some { (0 < length bytes.now) ⊎ (begun_of self.now.traversal ≡ 1) }
@@ -464,7 +527,7 @@ impl<'a, R: Receiver, E: Entries> Machine<'a, R, E> {
     // Stops at the size of a block, with which the bytes begin: holds it where it is not whole, or keeps its fault.
     fn stop_at_size(&mut self, cause: Cause, bytes: &[u8]) -> Result<(), Fault>
         requires fault { self.now.fault ≡ None }
-        requires unknown { self.now.lack ≡ None }
+        requires unknown { self.now.end ≡ 0 }
         requires held { self.now.held.items ≡ [] }
         requires framing { self.now.framing ≡ Framing.Blocks }
         requires few { cause ≡ Cause.Truncated → length bytes.now ≤ 9 }
@@ -497,7 +560,7 @@ impl<'a, R: Receiver, E: Entries> Machine<'a, R, E> {
     // the place behind it; none where they are all read or held.
     fn read_block(&mut self, bytes: &[u8]) -> Result<Option<usize>, Fault>
         requires fault { self.now.fault ≡ None }
-        requires unknown { self.now.lack ≡ None }
+        requires unknown { self.now.end ≡ 0 }
         requires held { self.now.held.items ≡ [] }
         requires framing { self.now.framing ≡ Framing.Blocks }
         requires some { (0 < length bytes.now) ⊎ (begun_of self.now.traversal ≡ 1) }
@@ -582,7 +645,7 @@ impl<'a, R: Receiver, E: Entries> Machine<'a, R, E> {
     #[inline(always)]
     fn read(&mut self, bytes: &[u8]) -> Result<Option<usize>, Fault>
         requires fault { self.now.fault ≡ None }
-        requires unknown { self.now.lack ≡ None }
+        requires unknown { self.now.end ≡ 0 }
         requires held { self.now.held.items ≡ [] }
         requires some { (0 < length bytes.now) ⊎ (begun_of self.now.traversal ≡ 1) }
         ensures goes { IfOk result (λ o. IfSome o (λ n. (before : List Content) (fed : List ℕ)
@@ -689,13 +752,7 @@ impl<'a, R: Receiver, E: Entries> Machine<'a, R, E> {
         ensures same_keys { E.serves self.new.entries ≡ E.serves self.old.entries }
         ensures fed { self.new.fed ≡ self.old.fed }
     {
-        if let Some(lack) = self.still_lacking(chunk) {
-            return match self.hold_more(lack, chunk) {
-                Err(_) => Err(self.refuse()),
-                Ok(()) => Ok(None),
-            };
-        }
-        self.lack = None;
+        self.end = 0;
         if self.held.is_empty() {
             return match self.read(chunk) {
                 Err(fault) => Err(fault),
@@ -712,6 +769,42 @@ impl<'a, R: Receiver, E: Entries> Machine<'a, R, E> {
                     Ok(next)
                 }
             },
+        }
+    }
+
+    // Takes the next bytes of the stream as `feed_message` does, and does not ask what is lacking behind them.
+    #[inline(always)]
+    fn take_message(&mut self, chunk: &[u8]) -> Result<usize, Fault>
+        requires room { self.now.fed + length chunk.now ≤ 2 ^ 60 }
+        requires fault { self.now.fault ≡ None }
+        requires some { 0 < length chunk.now }
+        ensures taken { IfOk result (λ n. (0 < n) × (n ≤ length chunk.now)) }
+        ensures follows { self.old.fault ≡ None → (before : List Content) (fed : List ℕ)
+            (messages : List Content) → Follows self.old before fed messages
+            → (ended : List Content)
+            × IfOk result (λ n. Follows self.new (before ++ ended) (fed ++ take n chunk.now) (messages ++ ended))
+            × IfErr result (λ f. Follows self.new (before ++ ended) (fed ++ chunk.now) (messages ++ ended)) }
+        ensures open { IfOk result (λ n. self.new.fault ≡ None) }
+        ensures refused { IfErr result (λ f. self.new.fault ≡ Some f) }
+        ensures cause { self.old.fault ≡ None → IfErr result (λ f. f.cause ≢ Cause.Truncated) }
+        ensures set { self.new.traversal.set ≡ self.old.traversal.set }
+        ensures mode { mode_of self.new ≡ mode_of self.old }
+        ensures same_keys { E.serves self.new.entries ≡ E.serves self.old.entries }
+        ensures fed { self.old.fault ≡ None → IfOk result (λ n. self.new.fed ≡ self.old.fed + n)
+            × IfErr result (λ f. self.new.fed ≡ self.old.fed + length chunk.now) }
+    {
+        self.traversal.set_is_sound();
+        self.fed += chunk.len() as u64;
+        let held = self.held.len();
+        match self.read_behind(chunk) {
+            Err(fault) => Err(fault),
+            Ok(None) => Ok(chunk.len()),
+            Ok(Some(next)) => {
+                // (a message ends behind the bytes that were held, since no piece was whole in these)
+                let taken = next.saturating_sub(held).max(1).min(chunk.len());
+                self.end_behind(chunk.len() - taken);
+                Ok(taken)
+            }
         }
     }
 
@@ -743,19 +836,47 @@ impl<'a, R: Receiver, E: Entries> Machine<'a, R, E> {
         if let Some(first) = self.fault {
             return Err(first);
         }
-        self.traversal.set_is_sound();
-        self.fed += chunk.len() as u64;
-        let held = self.held.len();
-        match self.read_behind(chunk) {
+        if let Some(lack) = self.still_lacking(chunk) {
+            return match self.feed_lacking(lack, chunk) {
+                Err(fault) => Err(fault),
+                Ok(()) => Ok(chunk.len()),
+            };
+        }
+        match self.take_message(chunk) {
             Err(fault) => Err(fault),
-            Ok(None) => Ok(chunk.len()),
-            Ok(Some(next)) => {
-                // (a message ends behind the bytes that were held, since no piece was whole in these)
-                let taken = next.saturating_sub(held).max(1).min(chunk.len());
-                self.end_behind(chunk.len() - taken);
-                Ok(taken)
+            Ok(taken) => Ok(taken),
+        }
+    }
+
+    /// Takes the next bytes of the stream as `feed` does, of which was asked what they lack (`still_lacking`): it is not
+    /// asked again.
+    ///
+    /// # Errors
+    ///
+    /// As `feed`.
+    #[inline(always)]
+    pub fn feed_on(&mut self, chunk: &[u8]) -> Result<(), Fault>
+        requires room { self.now.fed + length chunk.now ≤ 2 ^ 60 }
+        requires fault { self.now.fault ≡ None }
+        ensures follows { self.old.fault ≡ None → (before : List Content) (fed : List ℕ)
+            (messages : List Content) → Follows self.old before fed messages
+            → (ended : List Content)
+            × Follows self.new (before ++ ended) (fed ++ chunk.now) (messages ++ ended) }
+        ensures answer { Answers result self.new.fault }
+        ensures cause { self.old.fault ≡ None → IfErr result (λ f. f.cause ≢ Cause.Truncated) }
+        ensures set { self.new.traversal.set ≡ self.old.traversal.set }
+        ensures mode { mode_of self.new ≡ mode_of self.old }
+        ensures same_keys { E.serves self.new.entries ≡ E.serves self.old.entries }
+        ensures fed { self.old.fault ≡ None → self.new.fed ≡ self.old.fed + length chunk.now }
+    {
+        let mut at = 0;
+        'messages: while at < chunk.len() {
+            match self.take_message(&chunk[at..]) {
+                Err(fault) => return Err(fault),
+                Ok(taken) => at += taken,
             }
         }
+        Ok(())
     }
 
     /// Takes the next bytes of the stream. The receiver has each message that they end.
@@ -781,14 +902,16 @@ impl<'a, R: Receiver, E: Entries> Machine<'a, R, E> {
         if let Some(kept) = self.fault {
             return Err(kept);
         }
-        let mut at = 0;
-        'messages: while at < chunk.len() {
-            match self.feed_message(&chunk[at..]) {
-                Err(fault) => return Err(fault),
-                Ok(taken) => at += taken,
-            }
+        if let Some(lack) = self.still_lacking(chunk) {
+            return match self.feed_lacking(lack, chunk) {
+                Err(fault) => Err(fault),
+                Ok(()) => Ok(()),
+            };
         }
-        Ok(())
+        match self.feed_on(chunk) {
+            Err(fault) => Err(fault),
+            Ok(()) => Ok(()),
+        }
     }
 
     /// The end of the stream.
@@ -872,7 +995,7 @@ impl<'a, R: Receiver, E: Entries> Machine<'a, R, E> {
         self.traversal.reset();
         self.held.clear();
         self.waiting = 0;
-        self.lack = None;
+        self.end = 0;
         self.left = 0;
         self.fault = None;
         self.fed = 0;

@@ -11,8 +11,8 @@ returns-clause-follows g c = λ none fed messages follows.
     let E = g.E.Entries in
     let before = map content_of c.args.out.now.items in
     let none_whole = whole_of_follows old.fault old.framing old.left old.traversal old.receiver (E.contents old.entries) old.held.items old.waiting [] fed messages follows.at in
-    let after = c.feed-fed.ensures.follows none before fed messages (record { at = rw (c.exchange.ensures.builder) (follows_rebased old.fault old.framing old.left old.traversal old.receiver c.args.out.now (E.contents old.entries) old.held.items old.waiting [] fed messages follows.at); counts = follows.counts }) in
-    let new = c.feed-fed.new.self in
+    let after = c.feed_on-fed.ensures.follows none before fed messages (record { at = rw (c.exchange.ensures.builder) (follows_rebased old.fault old.framing old.left old.traversal old.receiver c.args.out.now (E.contents old.entries) old.held.items old.waiting [] fed messages follows.at); counts = follows.counts }) in
+    let new = c.feed_on-fed.new.self in
     let all = messages ++ after.0 in
     let whole = whole_of_follows new.fault new.framing new.left new.traversal new.receiver (E.contents new.entries) new.held.items new.waiting (before ++ after.0) (fed ++ c.args.chunk.now) all after.1.at in
     let ended = follows_rebased new.fault new.framing new.left new.traversal new.receiver old.receiver.whole (E.contents new.entries) new.held.items new.waiting (before ++ after.0) (fed ++ c.args.chunk.now) all after.1.at in (

@@ -7,4 +7,4 @@ returns-clause-follows g c = λ before fed messages short counts stands.
     let old = c.args.self.now in
     let R = g.R.Receiver in
     let waits = still_waits R.has R.stands R.keeps old.traversal old.receiver (g.E.Entries.contents old.entries) before c.args.lack old.framing old.left (old.held.items ++ c.args.chunk.now) fed messages c.requires.lacks c.requires.room stands in
-    record { at = rw (c.requires.fault, c.in_ok-append.ensures.items) (stands, inr waits); counts = counts }
+    c.know.ensures.follows before fed messages (record { at = rw (c.requires.fault, c.in_ok-append.ensures.items) (stands, inr waits); counts = counts })

@@ -7,29 +7,6 @@ use Rattle.fast_machine.proofs.machine.Machine.read_behind.Goals as goal
 
 pub returns-in-Err-append-clause-fails : goal.returns-in-Err-append-clause-fails
 returns-in-Err-append-clause-fails g c = (
-  c.refuse-in-Err-append.ensures.kept,
-  (λ e. not_memory c.refuse-in-Err-append.result.cause e c.refuse-in-Err-append.ensures.cause),
-  λ before fed messages short counts stands.
-      let old = c.args.self.now in
-      let chunk = c.args.chunk.now in
-      let R = g.R.Receiver in
-      let G = ReadsOn R.has R.stands R.keeps old.traversal old.receiver (g.E.Entries.contents old.entries) before in
-      let r = c.refuse-in-Err-append.ensures in
-      let carried = carried_of old.framing old.left G old.traversal (old.held.items ++ chunk) fed messages stands in (
-        [],
-        record {
-          at = rw (r.kept, r.traversal, r.framing, append-nil messages, append-nil before) (
-            memory_refused c.refuse-in-Err-append.result (framed_as old.framing old.traversal) (templates_in old.traversal.set.now) fed messages old.fed old.messages counts (omega (arith, short)) carried r.cause r.message r.offset r.template r.instruction,
-            r.held,
-            left_behind R.has R.stands R.keeps old.framing old.left old.traversal old.receiver c.refuse-in-Err-append.new.self.receiver (g.E.Entries.contents old.entries) before (old.held.items ++ chunk) fed messages r.left stands,
-          );
-          counts = rw (r.fed, r.messages, append-nil messages) counts;
-        },
-      ),
-)
-
-pub returns-in-Err-clause-fails : goal.returns-in-Err-clause-fails
-returns-in-Err-clause-fails g c = (
   c.refuse.ensures.kept,
   (λ e. not_memory c.refuse.result.cause e c.refuse.ensures.cause),
   λ before fed messages short counts stands.
@@ -38,39 +15,35 @@ returns-in-Err-clause-fails g c = (
       let R = g.R.Receiver in
       let G = ReadsOn R.has R.stands R.keeps old.traversal old.receiver (g.E.Entries.contents old.entries) before in
       let r = c.refuse.ensures in
-      let m = c.hold_more.ensures in
       let carried = carried_of old.framing old.left G old.traversal (old.held.items ++ chunk) fed messages stands in (
         [],
         record {
-          at = rw (r.kept, r.traversal, r.framing, m.traversal, m.framing, append-nil messages, append-nil before) (
-            memory_refused c.refuse.result (framed_as old.framing old.traversal) (templates_in old.traversal.set.now) fed messages old.fed old.messages counts (omega (arith, short)) carried r.cause (rw m.messages at r.message) r.offset r.template r.instruction,
+          at = rw (r.kept, r.traversal, r.framing, append-nil messages, append-nil before) (
+            memory_refused c.refuse.result (framed_as old.framing old.traversal) (templates_in old.traversal.set.now) fed messages old.fed old.messages counts (omega (arith, short)) carried r.cause r.message r.offset r.template r.instruction,
             r.held,
-            left_behind R.has R.stands R.keeps old.framing old.left old.traversal old.receiver c.refuse.new.self.receiver (g.E.Entries.contents old.entries) before (old.held.items ++ chunk) fed messages (rw m.receiver at r.left) stands,
+            left_behind R.has R.stands R.keeps old.framing old.left old.traversal old.receiver c.refuse.new.self.receiver (g.E.Entries.contents old.entries) before (old.held.items ++ chunk) fed messages r.left stands,
           );
-          counts = rw (r.fed, r.messages, m.fed, m.messages, append-nil messages) counts;
+          counts = rw (r.fed, r.messages, append-nil messages) counts;
         },
       ),
 )
 
-pub returns-in-Ok-clause-waits : goal.returns-in-Ok-clause-waits
-returns-in-Ok-clause-waits g c = (c.in-Ok.ensures.fault, λ before fed messages short counts stands. ([], rw (append-nil messages, append-nil before) (c.in-Ok.ensures.follows before fed messages (omega (arith, short)) counts stands)))
+pub returns-in-Ok-clause-goes : goal.returns-in-Ok-clause-goes
+returns-in-Ok-clause-goes g c =
+    let zero : length c.args.self.now.held.items ≡ 0 = search rules in
+    rw (none_of c.args.self.now.held.items zero) c.in-Ok.ensures.goes
 
 pub returns-in-Ok-read-clause-goes : goal.returns-in-Ok-read-clause-goes
-returns-in-Ok-read-clause-goes g c =
-    let zero : length c.args.self.now.held.items ≡ 0 = search rules in
-    rw (none_of c.args.self.now.held.items zero) c.in-Ok-read.ensures.goes
-
-pub returns-in-Ok-read-2-clause-goes : goal.returns-in-Ok-read-2-clause-goes
-returns-in-Ok-read-2-clause-goes g c = rw (c.deref.ensures.value, c.in-Ok-append.ensures.items, c.replace-bytes.ensures.value) at c.in-Ok-read-2.ensures.goes
+returns-in-Ok-read-clause-goes g c = rw (c.deref.ensures.value, c.in-Ok-append.ensures.items, c.replace-bytes.ensures.value) at c.in-Ok-read.ensures.goes
 
 then_none : {A B : Type 0} (place : Option ℕ) → (A → B) → IfNone place A → IfNone place B
 then_none None f a = f a
 then_none (Some n) f a = tt
 
-pub returns-in-Ok-read-2-clause-waits : goal.returns-in-Ok-read-2-clause-waits
-returns-in-Ok-read-2-clause-waits g c =
-    let waits = rw (c.deref.ensures.value, c.in-Ok-append.ensures.items, c.replace-bytes.ensures.value) at c.in-Ok-read-2.ensures.waits in
-    then_none c.in-Ok-read-2.next (λ w. (
+pub returns-in-Ok-read-clause-waits : goal.returns-in-Ok-read-clause-waits
+returns-in-Ok-read-clause-waits g c =
+    let waits = rw (c.deref.ensures.value, c.in-Ok-append.ensures.items, c.replace-bytes.ensures.value) at c.in-Ok-read.ensures.waits in
+    then_none c.in-Ok-read.next (λ w. (
       w.0,
       λ before fed messages short counts stands.
           let f = w.1 before fed messages short counts stands in

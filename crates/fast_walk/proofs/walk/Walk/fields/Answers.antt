@@ -11,7 +11,7 @@ returns-in-Ok-clause-goes g c = λ o at.
     let e = g.E.Entries.contents c.fields.new.entries in
     let p = c.in-Ok.ensures.goes o (is_instruction o.next (at.0.next ∙ ap next_of c.in-Instruction.is)) at.0.rest at.1 in (
       p.received,
-      (record { next = p.next_is ∙ sym c.next_piece-self.ensures.next; rest = p.left_is; around = ap (map bare) p.around ∙ at.0.around }, p.has),
+      (record { next = p.next_is ∙ sym c.go_behind.ensures.next; rest = p.left_is; around = ap (map bare) p.around ∙ at.0.around }, p.has),
       p.same,
       λ more.
           ap (all_around level o.around) (rw (c.level.ensures) at p.reads more)

@@ -1,7 +1,7 @@
 use Rattle.std.proofs.Common.{◌≡◌, ◌≤◌, ◌++◌, ◌-◌, ◌+◌, ℕ, List, None, length, take}
 use Rattle.fast_stream.specs.Nodes.{Content}
 use Rattle.fast_machine.specs.Following.{Follows, mode_of}
-use Rattle.fast_machine.proofs.machine.Machine.feed.Given as goal
+use Rattle.fast_machine.proofs.machine.Machine.feed_on.Given as goal
 
 abbrev pub invariant-messages : goal.invariant-messages
 invariant-messages g l = record {

@@ -4,7 +4,7 @@ use Rattle.fast_stream.specs.Reading.{message_at}
 use Rattle.fast_walk.specs.Traversals.{identifier_on}
 use Rattle.fast_walk.proofs.Steps.{with_none}
 use Rattle.fast_walk.proofs.ShortWalks.{behind_few, map_few_at, want_of_bytes}
-use Rattle.fast_walk.proofs.traversal.Traversal.message.Goals as goal
+use Rattle.fast_walk.proofs.traversal.Traversal.begin.Goals as goal
 
 pub returns-in-Err-clause-held : goal.returns-in-Err-clause-held
 returns-in-Err-clause-held g c = λ other before start read still.

@@ -1,0 +1,31 @@
+-- A piece has at least so many bytes: what is lacking behind those that have come, and behind some more that do not end it.
+use Rattle.std.proofs.Common.{◌≡◌, ◌≤◌, ◌<◌, ◌+◌, ◌-◌, ◌++◌, ℕ, zero, suc, Bool, true, List, length, sym, subst, arith, length-append, append_assoc}
+use Rattle.fast_dictionary.specs.Dictionary.{Dictionary}
+use Rattle.fast_walk.specs.Lacks.{AreUnstopped, Lacks, StopsShort}
+use Rattle.fast_walk.specs.Walks.{reads_on}
+use Rattle.fast_walk.specs.declared.lack.Lack.{Lack}
+use Rattle.fast_walk.specs.declared.traversal.Traversal.{Traversal}
+use Rattle.fast_walk.proofs.Lacking.{both_unstopped}
+use Rattle.fast_machine.specs.Ends.{IsLong, lack_of}
+
+less_lacks : (t : Traversal) (d : Dictionary) (bytes : List ℕ) (l : Lack) (most : ℕ) → most ≤ l.most → Lacks t d bytes l → Lacks t d bytes (lack_of most l.until_stop l.number)
+less_lacks t d bytes l most few lacks = (lacks.0, λ o more lacking at. let short = lacking.few in lacks.1 o more (record { few = omega (arith, few, short); unstopped = lacking.unstopped }) at)
+
+-- what is lacking is kept as an end
+pub long_of : (end : ℕ) (t : Traversal) (d : Dictionary) (held : List ℕ) (l : Lack) → Lacks t d held l → end ≡ length held + l.most + 1 → IsLong end t d held l.until_stop l.number
+long_of zero t d held l lacks is = tt
+long_of (suc n) t d held l lacks is = (omega (arith, is), less_lacks t d held l (n - length held) (omega (arith, is)) lacks)
+
+-- and told again behind some bytes more
+pub still_lacks : (end : ℕ) (t : Traversal) (d : Dictionary) (held chunk : List ℕ) (until_stop : Bool) (number : ℕ) (goes_on : Bool) → length (held ++ chunk) < end → (until_stop ≡ true → AreUnstopped chunk) → IsLong end t d held until_stop number
+    → Lacks t d (held ++ chunk) (record { most = end - length (held ++ chunk) - 1; number = number; until_stop = until_stop; goes_on = goes_on })
+still_lacks zero t d held chunk until_stop number goes_on short none long = absurd (omega (arith, short))
+still_lacks (suc n) t d held chunk until_stop number goes_on short none long = (
+  long.1.0,
+  λ o more lacking at.
+      let size = length-append held chunk in
+      let both = length-append chunk more in
+      let few = lacking.few in
+      subst (λ (xs : List ℕ). StopsShort number (length xs) (reads_on t.level t.walk d o xs)) (sym (append_assoc held chunk more))
+      (long.1.1 o (chunk ++ more) (record { few = omega (arith, size, both, few, short); unstopped = λ u. both_unstopped chunk more (none u) (lacking.unstopped u) }) at),
+)
