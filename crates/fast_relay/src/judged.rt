@@ -536,9 +536,7 @@ fn judge_integer(
             unsigned, kind, which, instr, entry, number, bytes, at, at, next,
         )
     } else {
-        judge_behind(
-            unsigned, which, kind, instr, entry, number, bytes, at, next,
-        )
+        judge_behind(unsigned, which, kind, instr, entry, number, bytes, at, next)
     }
 }
 
