@@ -1,5 +1,5 @@
 -- A string whose stop bit is found among sixteen bytes.
-use Rattle.std.proofs.Common.{◌≡◌, ℕ, suc, ◌+◌, ◌-◌, ◌%◌, ◌<◌, ◌≤◌, List, length, get_or, take, drop, slice_range, sym, ap, ◌∙◌, arith, length-take, length-drop, get_or-take, get_or-drop}
+use Rattle.std.proofs.Common.{◌≡◌, ℕ, ◌+◌, ◌-◌, ◌%◌, ◌<◌, ◌≤◌, List, length, get_or, take, drop, slice_range, sym, ap, ◌∙◌, arith, length-take, length-drop, get_or-take, get_or-drop}
 use Rattle.fast_wire.specs.Entity.{IsFirstStop, IsRun}
 use Rattle.fast_wire.specs.Plain.{IsPlain}
 use Rattle.fast_wire.proofs.Entities.{entity_from}

@@ -1,7 +1,4 @@
-use Rattle.std.proofs.Common.{arith, rules}
-use Rattle.std.specs.Int.{w64}
-use Rattle.std.specs.Int.RustNames.{FitsSigned}
-use Rattle.std.proofs.lemmas.Int.{to_z-of_z}
+use Rattle.std.proofs.Common.{arith}
 use Rattle.fast_field.proofs.ReadFields.{bytes_from}
 use Rattle.fast_relay.proofs.Judging.{stands_at}
 use Rattle.fast_relay.proofs.Standing.{standing_entity}
