@@ -1,15 +1,17 @@
 //! Rows on fields that are judged as they stand.
 
-ghost use Rattle.std.specs.Prelude.{◌≡◌, ◌≤◌, ◌<◌, true, length};
+ghost use Rattle.std.specs.Prelude.{◌≡◌, ◌≤◌, ◌<◌, None, IsTrue, true, length};
 ghost use Rattle.std.specs.List.{AllByRecursion};
 ghost use Rattle.fast_value.specs.Scalar.{IsScalar};
+ghost use Rattle.fast_template.specs.TemplateSets.{applies};
+ghost use Rattle.fast_field.specs.Parts.{IsFieldPart, IsKindOfPart};
 ghost use Rattle.fast_field.specs.Within.{HoldsScalar};
 
 use crate::fields::{Kept, Value, part_of};
 use crate::same::same;
 use fast_dictionary::Entry;
 use fast_relay::{Judged, judge_field};
-use fast_template::{Kind, Operator, Part, Presence, Scalar};
+use fast_template::{FieldPart, Kind, Operator, Part, Presence, Scalar};
 use fast_value::UNIT_LIMIT;
 use std::alloc::{AllocError, Global};
 use std::process::Abort;
@@ -62,13 +64,52 @@ fn holds_scalar(entry: &Entry) -> bool
     }
 }
 
+// Whether an operator applies to a type.
+fn applies_to(operator: Operator, kind: Kind) -> bool
+    ensures { result ≡ true → IsTrue (applies operator kind) }
+{
+    match (operator, kind) {
+        (Operator::Increment, Kind::UInt32 | Kind::Int32 | Kind::UInt64 | Kind::Int64) => true,
+        (Operator::Increment, _) => false,
+        (Operator::Tail, Kind::Ascii | Kind::Unicode | Kind::Bytes) => true,
+        (Operator::Tail, _) => false,
+        _ => true,
+    }
+}
+
+// Whether a part has this type.
+fn has_kind(part: Part, kind: Kind) -> bool
+    ensures { result ≡ true → IsKindOfPart part kind }
+{
+    match (part, kind) {
+        (Part::Whole, _) => true,
+        (Part::Exponent, Kind::Int32) => true,
+        (Part::Mantissa, Kind::Int64) => true,
+        (Part::Length, Kind::UInt32) => true,
+        _ => false,
+    }
+}
+
+// Whether a field with no initial value is one.
+fn is_field_part(instr: &FieldPart) -> bool
+    requires { instr.now.initial ≡ None }
+    ensures { result ≡ true → IsFieldPart instr.now }
+{
+    let needs_none = match (instr.operator, instr.presence) {
+        (Operator::Constant, _) => false,
+        (Operator::Default, Presence::Mandatory) => false,
+        _ => true,
+    };
+    needs_none && applies_to(instr.operator, instr.kind) && has_kind(instr.part, instr.kind)
+}
+
 // Want of memory leaves the entry as it was, and ends the test.
 fn is_judged(rt: &impl Abort, alloc: Global, row: &Row) -> Result<(), AllocError> {
     let instr = part_of(alloc, row.part, row.kind, row.presence, row.operator, None)?;
     let mut entry = row.before.entry(alloc)?;
     let at = row.bytes.len().min(1);
     // no other is judged
-    if !holds_scalar(&entry) {
+    if !is_field_part(&instr) || !holds_scalar(&entry) {
         same(rt, false, true);
         return Ok(());
     }
