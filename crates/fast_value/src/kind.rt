@@ -36,11 +36,11 @@ pub enum Presence {
 pub enum Operator {
     /// No operator: the value itself is sent.
     Plain,
+    Delta,
     Constant,
     Default,
     Copy,
     Increment,
-    Delta,
     Tail,
 }
 

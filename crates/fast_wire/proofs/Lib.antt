@@ -6,6 +6,7 @@ pub mod Readings
 pub mod FormReaders
 pub mod UnsignedForms
 pub mod MapBits
+pub mod Masks
 pub mod MapForms
 pub mod SameForms
 pub mod SameMaps

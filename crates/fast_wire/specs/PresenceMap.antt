@@ -1,6 +1,6 @@
 -- FAST 1.1, Transfer Encoding, Presence Map: the bits of an entity's groups, the most significant bit of a
 -- group first.
-use Rattle.std.specs.Prelude.{◌≡◌, ℕ, zero, suc, ◌^◌, ◌/◌, ◌%◌, Bool, true, false, nat_eq, List, [], ◌∷◌, slice_index_or}
+use Rattle.std.specs.Prelude.{◌≡◌, ◌<◌, ◌⊎◌, ℕ, zero, suc, ◌^◌, ◌/◌, ◌%◌, Bool, true, false, nat_eq, List, [], ◌∷◌, slice_index_or}
 use Rattle.std.specs.List.{flat_map}
 use Rattle.fast_wire.specs.Entity.{IsSpelled, groups}
 
@@ -44,3 +44,13 @@ HasSetBit bits = (i : ℕ) × (bit_at bits i ≡ true)
 abbrev pub word_bits : ℕ → ℕ → List Bool
 word_bits zero w = []
 word_bits (suc n) w = nat_eq (w / 2 ^ n % 2) 1 ∷ word_bits n w
+
+-- a mask is a power of two of a word, whose bits are counted from it down, or 0, which leaves none
+abbrev pub IsMask : ℕ → Type 0
+IsMask mask = (mask ≡ 0) ⊎ ((k : ℕ) × (k < 63) × (mask ≡ 2 ^ k))
+
+-- the bit of a word at a mask and those below it, n at most
+abbrev pub bits_under : ℕ → ℕ → ℕ → List Bool
+bits_under zero mask w = []
+bits_under (suc n) zero w = []
+bits_under (suc n) (suc m) w = nat_eq (w / suc m % 2) 1 ∷ bits_under n (suc m / 2) w

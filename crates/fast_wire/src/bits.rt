@@ -1,24 +1,25 @@
 //! The bits of a presence map, in one word or in a copy of its groups.
 
-ghost use Rattle.std.specs.Prelude.{◌≡◌, ◌≤◌, ◌<◌, ◌*◌, ◌↔◌, Bool, List, [], length, drop, IsTrue};
+ghost use Rattle.std.specs.Prelude.{◌≡◌, ◌≤◌, ◌<◌, ◌*◌, ◌++◌, ◌↔◌, Bool, List, [], length, drop, IsTrue};
 ghost use Rattle.fast_wire.specs.Entity.{groups};
-ghost use Rattle.fast_wire.specs.PresenceMap.{bits_of, bit_at, next_bit, later_bits, word_bits, HasSetBit};
+ghost use Rattle.fast_wire.specs.PresenceMap.{bits_of, bit_at, next_bit, later_bits, word_bits, bits_under, IsMask, HasSetBit};
 
 use std::marker::Model;
 
-/// The last bits of a word, the most significant first.
+/// The last bits of a word, the most significant first: that of the mask, a power of two, and those below it; none where the
+/// mask is 0. (A bit is then seen and taken by one instruction each.)
 #[derive(Drop)]
 pub(crate) struct ShortBits {
     word: u64,
-    left: usize,
+    mask: u64,
 }
 
 impl Model for ShortBits {
     ghost Value = { List Bool };
 
-    ghost view = { λ b. word_bits b.left b.word };
+    ghost view = { λ b. bits_under 64 b.mask b.word };
 
-    ghost invariant = { λ b. b.left ≤ 63 };
+    ghost invariant = { λ b. IsMask b.mask };
 }
 
 impl ShortBits {
@@ -28,7 +29,10 @@ impl ShortBits {
         requires { left ≤ 63 }
         ensures { result ≡ word_bits left word }
     {
-        ShortBits { word, left }
+        ShortBits {
+            word,
+            mask: (1 << left) >> 1,
+        }
     }
 
     /// Whether no bit is left.
@@ -36,7 +40,7 @@ impl ShortBits {
     pub(crate) fn is_empty(&self) -> bool
         ensures { IsTrue result ↔ (self.now ≡ []) }
     {
-        self.left < 1
+        self.mask == 0
     }
 
     /// The next bit, or false past the end.
@@ -44,10 +48,7 @@ impl ShortBits {
     pub(crate) fn first(&self) -> bool
         ensures { result ≡ next_bit self.now }
     {
-        if self.left == 0 {
-            return false;
-        }
-        (self.word >> (self.left - 1)) % 2 == 1
+        self.word & self.mask != 0
     }
 
     /// The next bit, or false past the end, which is taken.
@@ -57,9 +58,7 @@ impl ShortBits {
         ensures rest { self.new ≡ later_bits self.old }
     {
         let bit = self.first();
-        if self.left > 0 {
-            self.left -= 1;
-        }
+        self.mask >>= 1;
         bit
     }
 
@@ -68,7 +67,10 @@ impl ShortBits {
     pub(crate) fn left_set(&self) -> bool
         ensures { IsTrue result ↔ HasSetBit self.now }
     {
-        self.word % (1 << self.left) != 0
+        if self.is_empty() {
+            return false;
+        }
+        self.word % (2 * self.mask) != 0
     }
 }
 
@@ -107,6 +109,14 @@ impl LongBits {
         LongBits { bytes, place: 0 }
     }
 
+    /// Whether no bit is left.
+    #[inline(always)]
+    pub(crate) fn is_empty(&self) -> bool
+        ensures { IsTrue result ↔ (self.now ≡ []) }
+    {
+        self.place == 7 * self.bytes.len()
+    }
+
     /// The next bit, or false past the end; it stays the next.
     #[inline(always)]
     pub(crate) fn first(&self) -> bool
@@ -142,5 +152,17 @@ impl LongBits {
             }
         }
         false
+    }
+}
+
+/// Moves the next bit of groups into a word that has none. (A call of its own: few maps have more bits than a word.)
+#[inline(never)]
+pub(crate) fn refill(short: &mut ShortBits, long: &mut LongBits)
+    requires { short.now ≡ [] }
+    ensures bits { short.new ++ long.new ≡ long.old }
+    ensures some { short.new ≡ [] → long.new ≡ [] }
+{
+    if !long.is_empty() {
+        *short = ShortBits::new(u64::from(long.take()), 1);
     }
 }

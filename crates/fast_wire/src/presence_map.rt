@@ -8,7 +8,7 @@ ghost use Rattle.fast_wire.specs.Writing.{Writes, TooManyBits};
 ghost use Rattle.fast_wire.specs.PresenceMap.{bits_of, bit_at, next_bit, later_bits, IsMap, HasSetBit, IsWholeMap};
 ghost use Rattle.fast_wire.specs.Spellings.{bit_number, group_from, map_of, IsUsed, IsMapSize, Appends};
 
-use crate::bits::{LongBits, ShortBits};
+use crate::bits::{LongBits, ShortBits, refill};
 use crate::fault::WireFault;
 use crate::short_integer::{append_byte, short_entity};
 use crate::stop_bit::{STOP_BIT, entity_end};
@@ -22,7 +22,8 @@ const MAP_LIMIT: usize = 256;
 const GROUP_BITS: usize = 7;
 
 /// The bits of a presence map that are not yet taken, the most significant of a group first. Past their end
-/// every bit is 0. Those of a map of at most nine bytes stand in one word, those of a longer one in a copy.
+/// every bit is 0. Those of a map of at most nine bytes stand in one word, those of a longer one in a copy, and the next of
+/// them in the word.
 #[derive(Drop)]
 pub struct Bits {
     short: ShortBits,
@@ -33,6 +34,8 @@ impl Model for Bits {
     ghost Value = { List Bool };
 
     ghost view = { λ b. b.short ++ b.long };
+
+    ghost invariant = { λ b. b.short ≡ [] → b.long ≡ [] };
 }
 
 impl Bits {
@@ -50,11 +53,7 @@ impl Bits {
     pub fn first(&self) -> bool
         ensures { result ≡ next_bit self.now }
     {
-        if self.short.is_empty() {
-            self.long.first()
-        } else {
-            self.short.first()
-        }
+        self.short.first()
     }
 
     /// The next bit, or false past the end. It takes no memory.
@@ -63,11 +62,11 @@ impl Bits {
         ensures bit { result ≡ next_bit self.old }
         ensures rest { self.new ≡ later_bits self.old }
     {
-        if self.short.is_empty() {
-            self.long.take()
-        } else {
-            self.short.take()
+        let bit = self.short.take();
+        if self.short.is_empty() && !self.long.is_empty() {
+            refill(&mut self.short, &mut self.long);
         }
+        bit
     }
 
     /// Whether a bit that is not yet taken is 1. It takes no memory.
@@ -106,11 +105,10 @@ fn map_from(alloc: Global, bytes: &[u8], at: usize) -> Result<(Bits, usize), Wir
     }
     let next = entity_end(bytes, at, MAP_LIMIT)?;
     let groups = Vec::from_slice(alloc, &bytes[at..next])?;
-    let bits = Bits {
-        short: ShortBits::new(0, 0),
-        long: LongBits::new(groups),
-    };
-    Ok((bits, next))
+    let mut short = ShortBits::new(0, 0);
+    let mut long = LongBits::new(groups);
+    refill(&mut short, &mut long);
+    Ok((Bits { short, long }, next))
 }
 
 /// One more than the index of the last 1, or 0.

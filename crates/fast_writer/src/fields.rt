@@ -298,6 +298,8 @@ fn take_mantissa<'a, E: Entries>(
     ensures served { OnOk result (AreServed (E.serves entries.old) (list_of fields.new.rest.now)) }
     ensures counted { OnOk result (counted_of fields.new ≤ counted_of fields.old) }
     ensures fewer { IfOk result (λ b. b ≡ true → pieces_of fields.new < pieces_of fields.old) }
+    ensures rest { fields.new.rest ≡ fields.old.rest }
+    ensures spare { fields.new.spare ≡ fields.old.spare }
     ensures whole { IfOk result (λ b. b ≡ true → fields.new.mantissa ≡ None) }
     ensures room { OnOk result (IsTrue (has_room (level_in bytes.now segment.old) bits.old)
         → IsTrue (has_room (level_in bytes.now segment.new) bits.new)) }
@@ -361,7 +363,7 @@ fn take_whole<'a, E: Entries>(
 ) -> Result<bool, AllocError>
     requires run { IsRun bytes.now segment.now.bytes.place segment.now.bytes }
     requires next { fields.now.mantissa ≡ None }
-    requires spare { 0 < fields.now.spare }
+    requires few { length others.now < fields.now.spare }
     requires first { list_of fields.now.rest.now
         ≡ then_instruction (instruction_of flat.now) (list_of others.now) }
     requires begins { BeginsWith (instruction_of flat.now) whole.now None }
@@ -382,6 +384,7 @@ fn take_whole<'a, E: Entries>(
     ensures counted { OnOk result (counted_of fields.new ≤ counted_of fields.old) }
     ensures fewer { IfOk result (λ b. b ≡ true → pieces_of fields.new < pieces_of fields.old) }
     ensures whole { IfOk result (λ b. b ≡ true → fields.new.mantissa ≡ None) }
+    ensures few { IfOk result (λ b. b ≡ true → length fields.new.rest.now ≤ fields.new.spare) }
     ensures room { OnOk result (IsTrue (has_room (level_in bytes.now segment.old) bits.old)
         → IsTrue (has_room (level_in bytes.now segment.new) bits.new)) }
     ensures kept { OnOk result (KeepScalars (E.contents entries.new)) }
@@ -424,7 +427,7 @@ fn take_parts<'a, E: Entries>(
 ) -> Result<bool, AllocError>
     requires run { IsRun bytes.now segment.now.bytes.place segment.now.bytes }
     requires next { fields.now.mantissa ≡ None }
-    requires spare { 0 < fields.now.spare }
+    requires few { length others.now < fields.now.spare }
     requires first { list_of fields.now.rest.now
         ≡ then_instruction (instruction_of flat.now) (list_of others.now) }
     requires begins { BeginsWith (instruction_of flat.now) exponent.now (Some mantissa) }
@@ -446,6 +449,7 @@ fn take_parts<'a, E: Entries>(
     ensures counted { OnOk result (counted_of fields.new ≤ counted_of fields.old) }
     ensures fewer { IfOk result (λ b. b ≡ true → pieces_of fields.new < pieces_of fields.old) }
     ensures whole { IfOk result (λ b. b ≡ true → fields.new.mantissa ≡ None) }
+    ensures few { IfOk result (λ b. b ≡ true → length fields.new.rest.now ≤ fields.new.spare) }
     ensures room { OnOk result (IsTrue (has_room (level_in bytes.now segment.old) bits.old)
         → IsTrue (has_room (level_in bytes.now segment.new) bits.new)) }
     ensures kept { OnOk result (KeepScalars (E.contents entries.new)) }
@@ -492,6 +496,7 @@ fn take_all<'a, E: Entries>(
 ) -> Result<(), AllocError>
     requires run { IsRun bytes.now segment.now.bytes.place segment.now.bytes }
     requires next { fields.now.mantissa ≡ None }
+    requires few { length fields.now.rest.now ≤ fields.now.spare }
     requires served { AreServed (E.serves entries.now) (list_of fields.now.rest.now) }
     requires kept { KeepScalars (E.contents entries.now) }
     ensures place { OnOk result (segment.old.bytes.place ≤ segment.new.bytes.place) }
@@ -510,9 +515,6 @@ fn take_all<'a, E: Entries>(
 {
     // no function of its own: what it changes stays in registers here
     'pieces: loop {
-        if fields.spare == 0 {
-            return Ok(());
-        }
         let Some((flat, others)) = fields.rest.split_first() else {
             return Ok(());
         };
@@ -573,6 +575,10 @@ pub(crate) fn take_fields<'a, E: Entries>(
         spare,
         place: at,
     };
+    // (asked once for all of them: near the greatest number of nodes each field goes by itself)
+    if rest.len() > spare as usize {
+        return Ok(fields);
+    }
     segment.bytes.begin(at);
     take_all(&mut fields, alloc, entries, bits, level, bytes, segment)?;
     if segment.bytes.flush(bytes) {

@@ -19,7 +19,7 @@ returns-in_err-next-clause-gives c =
 
 pub returns-clause-gives : goal.returns-clause-gives
 unfolding map_at
-returns-clause-gives c = rw (c.in_ok-next.ensures.gives, c.new-2.ensures, c.new-3.ensures, c.in_ok-groups.ensures.items) refl
+returns-clause-gives c = rw (c.in_ok-next.ensures.gives, c.refill.ensures.bits, c.new-long.ensures, c.in_ok-groups.ensures.items) refl
 
 pub returns-in_err-groups-clause-gives : goal.returns-in_err-groups-clause-gives
 unfolding map_at

@@ -1,4 +1,4 @@
-use Rattle.std.proofs.Common.{◌≡◌, ◌≤◌, None}
+use Rattle.std.proofs.Common.{◌≡◌, ◌≤◌, None, length}
 use Rattle.std.specs.Prelude.{IsTrue}
 use Rattle.fast_template.specs.Resolved.{list_of}
 use Rattle.fast_walk.specs.Walks.{AreServed}
@@ -14,6 +14,7 @@ invariant-pieces g l = record {
   place : l.fn.segment.bytes.place ≤ l.segment.bytes.place;
   run : IsRun l.bytes l.segment.bytes.place l.segment.bytes;
   whole : l.fields.mantissa ≡ None;
+  few : length l.fields.rest.now ≤ l.fields.spare;
   served : AreServed (g.E.Entries.serves l.entries) (list_of l.fields.rest.now);
   kept : KeepScalars (g.E.Entries.contents l.entries);
   counted : counted_of l.fields ≤ counted_of l.fn.fields;

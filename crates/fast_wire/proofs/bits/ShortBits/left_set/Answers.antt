@@ -1,9 +1,13 @@
-use Rattle.std.proofs.Common.{arith}
-use Rattle.std.proofs.lemmas.Nat.{one_shl}
-use Rattle.fast_wire.proofs.WordBits.{left_bits}
+use Rattle.std.proofs.Common.{◌≡◌, ◌∙◌, sym, arith}
+use Rattle.std.proofs.lemmas.Bool.{false≢true}
+use Rattle.fast_wire.proofs.Masks.{none_under, set_under, twice_fits}
 use Rattle.fast_wire.proofs.bits.ShortBits.left_set.Goals as goal
+
+pub overflow_mul-result : goal.overflow_mul-result
+overflow_mul-result c = omega (arith, twice_fits c.self.inside.mask c.self.invariant)
 
 pub returns : goal.returns
 returns c =
-    let few = c.self.invariant in
-    rw (one_shl c.self.inside.left 64 (omega arith), ← c.self.view_is) (left_bits c.self.inside.left c.self.inside.word)
+    let w = c.self.inside.word in let mask = c.self.inside.mask in
+    let some : mask ≡ 0 → ⊥ = λ none. false≢true (sym c.if-is_empty.false ∙ c.is_empty.ensures.1 (sym c.self.view_is ∙ rw none (none_under 64 w))) in
+    rw (← c.self.view_is) (set_under w mask c.self.invariant some)
