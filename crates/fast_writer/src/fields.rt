@@ -70,16 +70,50 @@ fn end_part(bits: &mut Bits, needs: bool, best: bool, segment: &mut Segment, the
     }
 }
 
-// The same in a call of its own, so that the loop over fields stays small.
+// The same where only the bytes from `first` on are written. (A call of its own, so that the loop over fields stays small.)
 #[inline(never)]
-fn end_rarely(bits: &mut Bits, needs: bool, best: bool, segment: &mut Segment, there: bool) -> Taken
-    ensures part { IfTaken result (λ t. t ≡ there) }
-    ensures asked { IfTaken result (λ t. Asked needs best (level_of segment.old) (level_of segment.new)) }
-    ensures bits { IfTaken result (λ t. bits.new ≡ after_bit needs bits.old) }
-    ensures run { IfTaken result (λ t. segment.new.bytes ≡ segment.old.bytes) }
-    ensures done { IfElsewhere result ⊥ }
+fn end_from(
+    bits: &mut Bits,
+    needs: bool,
+    best: bool,
+    bytes: &[u8],
+    first: usize,
+    next: usize,
+    segment: &mut Segment,
+) -> Taken
 {
-    end_part(bits, needs, best, segment, there)
+    match end_part(bits, needs, best, segment, true) {
+        Taken::Part(there) => {
+            if segment.bytes.leave_out(bytes, first) {
+                segment.bytes.keep(next);
+                Taken::Part(there)
+            } else {
+                Taken::Refused
+            }
+        }
+        Taken::Elsewhere => Taken::Elsewhere,
+        Taken::Refused => Taken::Refused,
+    }
+}
+
+// Takes a part that was sent and is not judged as it stands, or NULL. (A call of its own, so that the loop over fields stays
+// small.)
+#[inline(never)]
+fn take_other(
+    alloc: Global,
+    part: &FieldPart,
+    entry: &mut Entry,
+    bits: &mut Bits,
+    needs: bool,
+    bytes: &[u8],
+    at: usize,
+    segment: &mut Segment,
+) -> Taken
+{
+    match relay_other(alloc, part, entry, bytes, at, &mut segment.bytes) {
+        Some((there, best)) => end_part(bits, needs, best, segment, there),
+        None => Taken::Elsewhere,
+    }
 }
 
 // Whether a field that was sent is read at a level as at the usual one.
@@ -177,25 +211,10 @@ fn take_sent(
             segment.bytes.keep(next);
             end_part(bits, needs, true, segment, true)
         }
-        Judged::Behind(next) => {
-            if segment.bytes.leave_out(bytes, at + 1) {
-                segment.bytes.keep(next);
-                end_rarely(bits, needs, true, segment, true)
-            } else {
-                Taken::Refused
-            }
-        }
-        Judged::Given(next) => {
-            if segment.bytes.leave_out(bytes, next) {
-                end_rarely(bits, needs, false, segment, true)
-            } else {
-                Taken::Refused
-            }
-        }
-        Judged::Elsewhere => match relay_other(alloc, part, entry, bytes, at, &mut segment.bytes) {
-            Some((there, best)) => end_rarely(bits, needs, best, segment, there),
-            None => Taken::Elsewhere,
-        },
+        Judged::Behind(next) => end_from(bits, needs, true, bytes, at + 1, next, segment),
+        Judged::BehindTwo(next) => end_from(bits, needs, true, bytes, at + 2, next, segment),
+        Judged::Given(next) => end_from(bits, needs, false, bytes, next, next, segment),
+        Judged::Elsewhere => take_other(alloc, part, entry, bits, needs, bytes, at, segment),
     }
 }
 

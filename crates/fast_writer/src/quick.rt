@@ -59,9 +59,8 @@ fn relay_value(
 }
 
 // Reads what was sent under bit 1 and is not judged as it stands, or NULL, and appends its best form. Answers whether the value
-// is there, and the bit of its best form. None: nothing has changed, and the part goes another way. (A call of its own, so that the
-// loop over fields stays small.)
-#[inline(never)]
+// is there, and the bit of its best form. None: nothing has changed, and the part goes another way. 
+#[inline(always)]
 pub(crate) fn relay_other(
     alloc: Global,
     part: &FieldPart,
