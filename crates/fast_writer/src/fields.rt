@@ -1,6 +1,6 @@
 //! Fields that are taken one after the other, with no call of the walk between them.
 
-ghost use Rattle.std.specs.Prelude.{◌≡◌, ◌≤◌, ◌<◌, ◌+◌, ◌*◌, Bool, true, false, Option, Some, None, IsSome, IfOk, IfSome, OnOk, IsTrue, length, drop};
+ghost use Rattle.std.specs.Prelude.{◌≡◌, ◌≤◌, ◌<◌, ◌+◌, ◌*◌, Bool, true, false, Option, Some, None, IsSome, IfOk, IfSome, OnOk, IsTrue, length, drop, slice_range};
 ghost use Rattle.fast_template.specs.Resolved.{instruction_of, list_of, part_needs_bit as part_needs_bit_of, then_instruction};
 ghost use Rattle.fast_value.specs.declared.scalar.Scalar.{Scalar as ScalarOf};
 ghost use Rattle.fast_dictionary.specs.Dictionary.{entry_at};
@@ -18,7 +18,7 @@ ghost use Rattle.fast_relay.specs.Runs.{IsRun};
 ghost use Rattle.fast_writer.specs.Levels.{level_in, level_of};
 ghost use Rattle.fast_writer.specs.Room.{has_room};
 ghost use Rattle.fast_wire.specs.PresenceMap.{next_bit};
-ghost use Rattle.fast_writer.specs.Written.{Asked, Spelt};
+ghost use Rattle.fast_writer.specs.Written.{Asked, Spelt, with_bytes};
 ghost use Rattle.fast_writer.specs.Takings.{BeginsWith, IfElsewhere, IsFirstTold, IfTaken, Takes, TookEntry, at_place, behind, counted_of, pieces_of};
 ghost use Rattle.fast_value.specs.declared.key.Key.{Key};
 ghost use Rattle.fast_value.specs.declared.kind.Kind.TheVariants.{Int32};
@@ -81,6 +81,16 @@ fn end_from(
     next: usize,
     segment: &mut Segment,
 ) -> Taken
+    requires run { IsRun bytes.now segment.now.bytes.place segment.now.bytes }
+    requires first { first ≤ next }
+    requires within { next ≤ length bytes.now }
+    ensures part { IfTaken result (λ t. t ≡ true) }
+    ensures asked { IfTaken result (λ t. Asked needs best
+        (with_bytes (level_in bytes.now segment.old) (slice_range bytes.now first next))
+        (level_in bytes.now segment.new)) }
+    ensures bits { IfTaken result (λ t. bits.new ≡ after_bit needs bits.old) }
+    ensures run { IfTaken result (λ t. IsRun bytes.now next segment.new.bytes) }
+    ensures done { IfElsewhere result ⊥ }
 {
     match end_part(bits, needs, best, segment, true) {
         Taken::Part(there) => {
@@ -105,10 +115,26 @@ fn take_other(
     entry: &mut Entry,
     bits: &mut Bits,
     needs: bool,
+    level: Level,
     bytes: &[u8],
     at: usize,
     segment: &mut Segment,
 ) -> Taken
+    requires run { IsRun bytes.now at segment.now.bytes }
+    requires kept { HoldsScalar entry.now }
+    requires needs { needs ≡ part_needs_bit_of part.now }
+    requires bit { bit_for (part_needs_bit_of part.now) bits.now ≡ true }
+    requires usual { ReadsAsUsual level part.now (drop at bytes.now) }
+    ensures place { IfTaken result (λ there. at ≤ segment.new.bytes.place) }
+    ensures run { IfTaken result (λ there. IsRun bytes.now segment.new.bytes.place segment.new.bytes) }
+    ensures took { IfTaken result (λ there. (v : Option ScalarOf)
+        × IsThere part.now.kind there v × TookEntry level part.now entry.old entry.new bits.old v
+        (drop at bytes.now) (drop segment.new.bytes.place bytes.now)
+        (level_in bytes.now segment.old) (level_in bytes.now segment.new)) }
+    ensures bits { IfTaken result (λ there. bits.new ≡ after_bit needs bits.old) }
+    ensures nothing { IfElsewhere result ((entry.new ≡ entry.old)
+        × (level_in bytes.now segment.new ≡ level_in bytes.now segment.old) × (bits.new ≡ bits.old)
+        × IsRun bytes.now at segment.new.bytes) }
 {
     match relay_other(alloc, part, entry, bytes, at, &mut segment.bytes) {
         Some((there, best)) => end_part(bits, needs, best, segment, there),
@@ -214,7 +240,7 @@ fn take_sent(
         Judged::Behind(next) => end_from(bits, needs, true, bytes, at + 1, next, segment),
         Judged::BehindTwo(next) => end_from(bits, needs, true, bytes, at + 2, next, segment),
         Judged::Given(next) => end_from(bits, needs, false, bytes, next, next, segment),
-        Judged::Elsewhere => take_other(alloc, part, entry, bits, needs, bytes, at, segment),
+        Judged::Elsewhere => take_other(alloc, part, entry, bits, needs, level, bytes, at, segment),
     }
 }
 
