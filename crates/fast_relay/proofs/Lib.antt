@@ -10,6 +10,7 @@ mod TextTaking
 mod KeptTaking
 pub mod Giving
 mod Standing
+mod Needless
 mod Judging
 mod DecimalJudging
 mod VectorJudging

@@ -1,16 +1,17 @@
 -- Numbers in one byte, which is their shortest form.
-use Rattle.std.proofs.Common.{◌≡◌, ℕ, pos, suc, ◌+◌, ◌-◌, ◌%◌, ◌<◌, Bool, true, false, nat_le, List, ◌∷◌, [], length, drop, slice_range, get_or, refl, subst, arith, length-take, length-drop}
+use Rattle.std.proofs.Common.{◌≡◌, ℕ, pos, zero, suc, ◌+◌, ◌-◌, ◌%◌, ◌<◌, Bool, true, false, nat_le, List, ◌∷◌, [], length, drop, slice_range, get_or, refl, subst, arith, length-take, length-drop}
 use Rattle.std.proofs.lemmas.Bool.Decides.{nat_tests}
 use Rattle.fast_wire.proofs.ShortIntegers.{one_byte, short_given, short_nullable_given, short_signed_given, short_signed_nullable_given}
 use Rattle.fast_value.specs.declared.kind.Presence.{Presence}
 use Rattle.fast_value.specs.declared.kind.Presence.TheVariants.{Mandatory, Optional}
+use Rattle.fast_field.specs.Chosen.{ShortestSigned}
 use Rattle.fast_field.specs.FieldReading.{integer_at}
 use Rattle.fast_field.specs.Spelled.{overlong_number}
 use Rattle.fast_field.proofs.ReadFields.{bytes_from}
 use Rattle.fast_relay.specs.Judged.{StandsAt, zero_byte}
 use Rattle.fast_relay.specs.Numbers.{Spelt}
 use Rattle.fast_relay.proofs.Judging.{stands_at}
-use Rattle.fast_relay.proofs.Standing.{one_byte as alone}
+use Rattle.fast_relay.proofs.Standing.{one_byte as alone, shortest_signed}
 
 no_sign : (x : ℕ) → x < 64 → nat_le 64 x ≡ false
 no_sign x less = grind (arith, nat_tests)
@@ -47,3 +48,13 @@ module _ (bytes : List ℕ) (at n : ℕ) (fits : (k : ℕ) → get_or bytes k 0 
   pub unsigned_stands : (p : Presence) → get_or bytes at 0 ≡ zero_byte p + n → StandsAt true p bytes at (at + 1) (pos n)
   unsigned_stands p is =
       stands_at true p bytes at (at + 1) (pos n) (bytes_from bytes at fits) (omega arith) (omega arith) (spelt_unsigned p is) (single true)
+
+few_byte : (p : Presence) (n : ℕ) → n < 63 → (k : ℕ) → get_or ((zero_byte p + n) ∷ []) k 0 < 256
+few_byte Mandatory n few zero = omega (arith, few)
+few_byte Optional n few zero = omega (arith, few)
+few_byte p n few (suc k) = omega arith
+
+pub removal_byte : (p : Presence) (n : ℕ) → n < 63 → ShortestSigned p (pos n) ((zero_byte p + n) ∷ [])
+removal_byte p n few =
+    let s = signed_stands ((zero_byte p + n) ∷ []) 0 n (few_byte p n few) (omega arith) p few refl in
+    shortest_signed p (pos n) ((zero_byte p + n) ∷ []) s.form s.short

@@ -172,7 +172,7 @@ shortest_whole kind.Int32 p z b i f short = shortest_signed p z b f short
 shortest_whole kind.Int64 p z b i f short = shortest_signed p z b f short
 shortest_whole k p z b i f short = absurd cc
 
-entity_in : (u : Bool) (p : Presence) (z : ℤ) (b : List ℕ) → SpellsIntegerUsually u p b (Value z) → IsEntity b
+pub entity_in : (u : Bool) (p : Presence) (z : ℤ) (b : List ℕ) → SpellsIntegerUsually u p b (Value z) → IsEntity b
 entity_in true Mandatory (pos n) b f = f.entity
 entity_in true Optional (pos n) b f = f.entity
 entity_in true p (negsuc n) b f = absurd (no_sign_below p n b f)

@@ -19,7 +19,7 @@ use Rattle.fast_relay.specs.Numbers.{Spelt}
 use Rattle.fast_relay.specs.Relayed.{Drops, Relays}
 use Rattle.fast_relay.specs.Texts.{IsText}
 use Rattle.fast_relay.specs.declared.judged.Judged.{Judged}
-use Rattle.fast_relay.specs.declared.judged.Judged.TheVariants.{Stands, Behind, Given, Elsewhere}
+use Rattle.fast_relay.specs.declared.judged.Judged.TheVariants.{Stands, Behind, BehindTwo, Given, Elsewhere}
 
 -- the bytes from one place to another give the value under bit 1, and the entry is the one afterwards: those from `first`
 -- on are the value's best form, or its best form is bit 0 and no byte
@@ -38,18 +38,22 @@ Judges bit i old new v bytes at next = JudgesFrom bit i old new v bytes at at ne
 abbrev pub IfJudged : Judged → (Bool → ℕ → Type 0) → Type 0
 IfJudged (Stands next) holds = holds true next
 IfJudged (Behind next) holds = ⊤
+IfJudged (BehindTwo next) holds = ⊤
 IfJudged (Given next) holds = holds false next
 IfJudged Elsewhere holds = ⊤
 
--- what holds of the place behind what was read, where the best form stands behind the first byte
-abbrev pub IfBehind : Judged → (ℕ → Type 0) → Type 0
-IfBehind (Behind next) holds = holds next
+-- what holds of how many bytes in front are needless, and of the place behind what was read, where the best form stands
+-- behind the first byte or two
+abbrev pub IfBehind : Judged → (ℕ → ℕ → Type 0) → Type 0
+IfBehind (Behind next) holds = holds 1 next
+IfBehind (BehindTwo next) holds = holds 2 next
 IfBehind j holds = ⊤
 
 -- what holds where it was not
 abbrev pub IfNotJudged : Judged → Type 0 → Type 0
 IfNotJudged (Stands next) holds = ⊤
 IfNotJudged (Behind next) holds = ⊤
+IfNotJudged (BehindTwo next) holds = ⊤
 IfNotJudged (Given next) holds = ⊤
 IfNotJudged Elsewhere holds = holds
 

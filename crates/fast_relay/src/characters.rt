@@ -5,6 +5,7 @@ ghost use Rattle.std.specs.List.{AllByRecursion};
 ghost use Rattle.fast_wire.specs.Plain.{IsPlain};
 ghost use Rattle.fast_relay.specs.Texts.{IsText};
 
+use crate::words::plain_end;
 use fast_template::{Kind, Scalar};
 use fast_value::UNIT_LIMIT;
 use fast_wire::plain_ascii_end;
@@ -55,7 +56,7 @@ pub(crate) fn find_plain(bytes: &[u8], at: usize) -> Option<(usize, usize)>
     ensures plain { IfSome result (λ x. IsPlain (drop at bytes.now)
         (slice_range bytes.now x.0 x.1) (drop x.1 bytes.now)) }
 {
-    match plain_ascii_end(bytes, at) {
+    match plain_end(bytes, at) {
         Some(next) => Some((at, next)),
         None => match find_behind_zero(bytes, at) {
             Some(x) => Some(x),

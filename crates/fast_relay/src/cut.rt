@@ -8,7 +8,7 @@ ghost use Rattle.fast_field.specs.Chosen.{ShortestSigned};
 ghost use Rattle.fast_relay.specs.Texts.{GivesCut, GivesTail};
 
 use crate::characters::find_plain;
-use crate::integers::{read_short, stands_signed};
+use crate::one_byte::read_any_removal;
 use fast_template::FieldPart;
 use fast_value::UNIT_LIMIT;
 use fast_wire::plain_ascii_end;
@@ -22,8 +22,6 @@ pub(crate) struct Cut {
     pub(crate) removed: usize,
     pub(crate) first: usize,
     pub(crate) next: usize,
-    /// Whether the bytes from where the removal begins are its shortest form, and the new part right behind it.
-    pub(crate) stands: bool,
 }
 
 /// How many characters a subtraction length removes at the end, if they are few.
@@ -61,8 +59,6 @@ fn less_removed(base: &[u8], bytes: &[u8], cut: Cut) -> Cut
     ensures removed { result.removed ≤ length base.now }
     ensures first { result.first < result.next }
     ensures next { result.next ≡ cut.next }
-    ensures stands { result.stands ≡ true → (cut.stands ≡ true) × (result.removed ≡ cut.removed)
-        × (result.first ≡ cut.first) }
     ensures same { (i : PartOf) (b : List ℕ)
         → GivesCut i base.now b cut.removed (slice_range bytes.now cut.first cut.next)
         (drop cut.next bytes.now)
@@ -80,7 +76,6 @@ fn less_removed(base: &[u8], bytes: &[u8], cut: Cut) -> Cut
                     removed: cut.removed - more,
                     first,
                     next,
-                    stands: false,
                 }
             } else {
                 cut
@@ -99,13 +94,8 @@ pub(crate) fn read_cut(instr: &FieldPart, base: &[u8], bytes: &[u8], at: usize) 
         × (cut.next ≤ length bytes.now)) }
     ensures gives { IfSome result (λ cut. GivesCut instr.now base.now (drop at bytes.now) cut.removed
         (slice_range bytes.now cut.first cut.next) (drop cut.next bytes.now)) }
-    ensures stands { IfSome result (λ cut. cut.stands ≡ true → (at ≤ cut.first)
-        × ShortestSigned instr.now.presence (pos cut.removed) (slice_range bytes.now at cut.first)) }
 {
-    let Some((removal, middle)) = read_short(false, instr.presence, bytes, at) else {
-        return None;
-    };
-    let Some(removed) = few_removed(removal) else {
+    let Some((removed, middle)) = read_any_removal(instr.presence, bytes, at) else {
         return None;
     };
     if removed > base.len() {
@@ -118,12 +108,10 @@ pub(crate) fn read_cut(instr: &FieldPart, base: &[u8], bytes: &[u8], at: usize) 
     if kept > UNIT_LIMIT || next - first > UNIT_LIMIT - kept {
         return None;
     }
-    let stands = first == middle && stands_signed(instr.presence, removal, bytes, at, middle);
     let cut = Cut {
         removed,
         first,
         next,
-        stands,
     };
     if kept < base.len() && base[kept] == bytes[first] % 128 {
         Some(less_removed(base, bytes, cut))

@@ -110,7 +110,7 @@ pub(crate) fn write_number(
 
 /// Whether the entity that stands from one place to the next has a needless group in front.
 #[inline(always)]
-fn is_overlong(unsigned: bool, bytes: &[u8], at: usize, next: usize) -> bool
+pub(crate) fn is_overlong(unsigned: bool, bytes: &[u8], at: usize, next: usize) -> bool
     requires place { at ≤ next }
     requires within { next ≤ length bytes.now }
     requires entity { IsEntity (slice_range bytes.now at next) }

@@ -15,7 +15,7 @@ ghost use Rattle.fast_field.specs.Within.{HoldsScalar};
 ghost use Rattle.fast_relay.specs.Judged.{IfBehind, IfJudged, IfNotJudged, Judges, JudgesFrom, Leaves, StandsAt, StandsFrom};
 ghost use Rattle.fast_relay.specs.Numbers.{SpellsWhole, Spelt};
 
-use crate::integers::is_unsigned;
+use crate::integers::{is_overlong, is_unsigned};
 use crate::judged_decimal::judge_decimal;
 use crate::judged_string::judge_string;
 use crate::judged_vector::judge_vector;
@@ -34,6 +34,8 @@ pub enum Judged {
     Stands(usize),
     /// The bytes behind the first, which is needless.
     Behind(usize),
+    /// The bytes behind the first two, which are needless.
+    BehindTwo(usize),
     /// Bit 0, which gives the value with no byte.
     Given(usize),
     /// Nothing has changed: another way tells.
@@ -94,7 +96,8 @@ fn is_shortest(unsigned: bool, bytes: &[u8], at: usize, next: usize) -> bool
     requires place { at ≤ next }
     requires within { next ≤ length bytes.now }
     requires entity { IsEntity (slice_range bytes.now at next) }
-    ensures { result ≡ true → overlong_number unsigned (slice_range bytes.now at next) ≡ false }
+    ensures short { result ≡ true → overlong_number unsigned (slice_range bytes.now at next) ≡ false }
+    ensures long { result ≡ false → overlong_number unsigned (slice_range bytes.now at next) ≡ true }
 {
     // most have one byte, which needs no call
     if next - at == 1 {
@@ -110,7 +113,12 @@ fn is_shortest(unsigned: bool, bytes: &[u8], at: usize, next: usize) -> bool
 
 /// A number that has 64 bits with a sign, and the place behind it; none where it has more, is NULL or faulty.
 #[inline(always)]
-fn read_number(unsigned: bool, presence: Presence, bytes: &[u8], at: usize) -> Option<(i64, usize)>
+pub(crate) fn read_number(
+    unsigned: bool,
+    presence: Presence,
+    bytes: &[u8],
+    at: usize,
+) -> Option<(i64, usize)>
     requires { at ≤ length bytes.now }
     ensures place { IfSome result (λ x. (at ≤ x.1) × (x.1 ≤ length bytes.now)) }
     ensures gives { IfSome result (λ x. Spelt unsigned presence (drop at bytes.now)
@@ -136,7 +144,8 @@ fn stands_shortest(
     requires place { at ≤ next }
     requires within { next ≤ length bytes.now }
     requires spelt { Spelt unsigned presence (drop at bytes.now) number (drop next bytes.now) }
-    ensures { result ≡ true → StandsAt unsigned presence bytes.now at next number }
+    ensures stands { result ≡ true → StandsAt unsigned presence bytes.now at next number }
+    ensures long { result ≡ false → overlong_number unsigned (slice_range bytes.now at next) ≡ true }
 {
     is_shortest(unsigned, bytes, at, next)
 }
@@ -298,7 +307,7 @@ fn judge_spelled(
     ensures place { IfJudged result (λ bit n. n ≡ next) }
     ensures judged { IfJudged result (λ bit n. (v : ScalarOf)
         × JudgesFrom bit instr.now entry.old entry.new v bytes.now at first next) }
-    ensures behind { IfBehind result (λ n. ⊥) }
+    ensures behind { IfBehind result (λ needless n. ⊥) }
     ensures entry { IfNotJudged result (entry.new ≡ entry.old) }
 {
     if !is_field_number(kind, which, number) {
@@ -332,7 +341,7 @@ fn judge_delta(
     ensures place { IfJudged result (λ bit n. n ≡ next) }
     ensures judged { IfJudged result (λ bit n. (v : ScalarOf)
         × JudgesFrom bit instr.now entry.old entry.new v bytes.now at first next) }
-    ensures behind { IfBehind result (λ n. ⊥) }
+    ensures behind { IfBehind result (λ needless n. ⊥) }
     ensures entry { IfNotJudged result (entry.new ≡ entry.old) }
 {
     let Some(kept) = kept_number(kind, entry) else {
@@ -358,7 +367,7 @@ fn judge_constant(which: Part, instr: &FieldPart, entry: &Entry, bytes: &[u8], a
     ensures place { IfJudged result (λ bit next. (at ≤ next) × (next ≤ length bytes.now)) }
     ensures judged { IfJudged result (λ bit next. (v : ScalarOf)
         × Judges bit instr.now entry.now entry.now v bytes.now at next) }
-    ensures behind { IfBehind result (λ next. ⊥) }
+    ensures behind { IfBehind result (λ needless next. ⊥) }
 {
     match &instr.initial {
         Some(initial) if can_begin(which, instr, initial.value()) => Judged::Stands(at),
@@ -389,7 +398,7 @@ fn judge_number(
     ensures place { IfJudged result (λ bit n. n ≡ next) }
     ensures judged { IfJudged result (λ bit n. (v : ScalarOf)
         × JudgesFrom bit instr.now entry.old entry.new v bytes.now at first next) }
-    ensures behind { IfBehind result (λ n. ⊥) }
+    ensures behind { IfBehind result (λ needless n. ⊥) }
     ensures entry { IfNotJudged result (entry.new ≡ entry.old) }
 {
     match instr.operator {
@@ -401,42 +410,44 @@ fn judge_number(
     }
 }
 
-/// Whether the shortest form of a number that was read stands behind the first byte.
+/// The place behind the needless group that a number has in front, or behind two, and whether its shortest form stands there.
 #[inline(always)]
-fn stands_behind(
+fn find_behind(
     unsigned: bool,
     presence: Presence,
     number: i64,
     bytes: &[u8],
     at: usize,
     next: usize,
-) -> bool
+) -> (usize, bool)
     requires place { at ≤ next }
     requires within { next ≤ length bytes.now }
     requires spelt { Spelt unsigned presence (drop at bytes.now) number (drop next bytes.now) }
-    ensures place { result ≡ true → at + 1 ≤ next }
-    ensures stands { result ≡ true → StandsFrom unsigned presence bytes.now at (at + 1) next number }
+    requires long { overlong_number unsigned (slice_range bytes.now at next) ≡ true }
+    ensures place { (at + 1 ≤ result.0) × (result.0 ≤ at + 2) × (result.0 ≤ next) }
+    ensures stands { result.1 ≡ true
+        → StandsFrom unsigned presence bytes.now at result.0 next number }
 {
-    if at == next {
-        return false;
-    }
-    match read_shortest(unsigned, presence, bytes, at + 1) {
-        Some((again, end)) => again == number && end == next,
-        None => false,
-    }
+    let first = if is_overlong(unsigned, bytes, at + 1, next) {
+        at + 2
+    } else {
+        at + 1
+    };
+    (first, !is_overlong(unsigned, bytes, first, next))
 }
 
-/// A number whose shortest form stands behind one needless group, and the place behind it.
+/// A number whose shortest form stands behind one needless group or two, the place where that begins, and the one behind it.
 #[inline(always)]
 pub(crate) fn read_behind(
     unsigned: bool,
     presence: Presence,
     bytes: &[u8],
     at: usize,
-) -> Option<(i64, usize)>
+) -> Option<(i64, usize, usize)>
     requires { at ≤ length bytes.now }
-    ensures place { IfSome result (λ x. (at + 1 ≤ x.1) × (x.1 ≤ length bytes.now)) }
-    ensures stands { IfSome result (λ x. StandsFrom unsigned presence bytes.now at (at + 1) x.1 x.0) }
+    ensures first { IfSome result (λ x. (at + 1 ≤ x.1) × (x.1 ≤ at + 2)) }
+    ensures place { IfSome result (λ x. (x.1 ≤ x.2) × (x.2 ≤ length bytes.now)) }
+    ensures stands { IfSome result (λ x. StandsFrom unsigned presence bytes.now at x.1 x.2 x.0) }
 {
     // a group that is needless has nothing but the sign
     if at == bytes.len() || (bytes[at] != 0 && bytes[at] != 127) {
@@ -445,14 +456,33 @@ pub(crate) fn read_behind(
     let Some((number, next)) = read_number(unsigned, presence, bytes, at) else {
         return None;
     };
-    if stands_behind(unsigned, presence, number, bytes, at, next) {
-        Some((number, next))
+    if stands_shortest(unsigned, presence, number, bytes, at, next) {
+        return None;
+    }
+    let (first, stands) = find_behind(unsigned, presence, number, bytes, at, next);
+    if stands {
+        Some((number, first, next))
     } else {
         None
     }
 }
 
-/// Judges an integer that does not stand in its shortest form: it may behind the first byte. (A call of its own, so that
+/// The best form of a field stands behind one needless byte or two: it begins at `first`.
+#[inline(always)]
+pub(crate) fn behind(at: usize, first: usize, next: usize) -> Judged
+    requires first { (at + 1 ≤ first) × (first ≤ at + 2) }
+    ensures judged { IfJudged result (λ bit n. ⊥) }
+    ensures place { IfBehind result (λ needless n. (at + needless ≡ first) × (n ≡ next)) }
+    ensures other { IfNotJudged result ⊥ }
+{
+    if first == at + 1 {
+        Judged::Behind(next)
+    } else {
+        Judged::BehindTwo(next)
+    }
+}
+
+/// Judges an integer that does not stand in its shortest form: it may behind the first byte or two. (A call of its own, so that
 /// others do not pay for it.)
 #[inline(never)]
 fn judge_behind(
@@ -474,32 +504,25 @@ fn judge_behind(
     requires delta { instr.now.operator ≡ operator_type.Delta → unsigned ≡ false }
     requires whole { SpellsWhole instr.now.operator → unsigned ≡ values.is_unsigned kind }
     requires spelt { Spelt unsigned instr.now.presence (drop at bytes.now) number (drop next bytes.now) }
+    requires long { overlong_number unsigned (slice_range bytes.now at next) ≡ true }
     ensures place { IfJudged result (λ bit next. (at ≤ next) × (next ≤ length bytes.now)) }
     ensures judged { IfJudged result (λ bit next. (v : ScalarOf)
         × Judges bit instr.now entry.old entry.new v bytes.now at next) }
-    ensures behind_place { IfBehind result (λ next. (at + 1 ≤ next) × (next ≤ length bytes.now)) }
-    ensures behind { IfBehind result (λ next. (v : ScalarOf)
-        × JudgesFrom true instr.now entry.old entry.new v bytes.now at (at + 1) next) }
+    ensures behind_place { IfBehind result (λ needless next. (at + needless ≤ next) × (next ≤ length bytes.now)) }
+    ensures behind { IfBehind result (λ needless next. (v : ScalarOf)
+        × JudgesFrom true instr.now entry.old entry.new v bytes.now at (at + needless) next) }
     ensures entry { IfNotJudged result (entry.new ≡ entry.old) }
 {
-    if !stands_behind(unsigned, instr.presence, number, bytes, at, next) {
+    let (first, stands) = find_behind(unsigned, instr.presence, number, bytes, at, next);
+    if !stands {
         return Judged::Elsewhere;
     }
     match judge_number(
-        unsigned,
-        kind,
-        which,
-        instr,
-        entry,
-        number,
-        bytes,
-        at,
-        at + 1,
-        next,
+        unsigned, kind, which, instr, entry, number, bytes, at, first, next,
     ) {
-        Judged::Stands(_next) => Judged::Behind(next),
+        Judged::Stands(_next) => behind(at, first, next),
         Judged::Given(_next) => Judged::Given(next),
-        Judged::Behind(_) => unreachable!(),
+        Judged::Behind(_) | Judged::BehindTwo(_) => unreachable!(),
         Judged::Elsewhere => Judged::Elsewhere,
     }
 }
@@ -521,9 +544,9 @@ fn judge_integer(
     ensures place { IfJudged result (λ bit next. (at ≤ next) × (next ≤ length bytes.now)) }
     ensures judged { IfJudged result (λ bit next. (v : ScalarOf)
         × Judges bit instr.now entry.old entry.new v bytes.now at next) }
-    ensures behind_place { IfBehind result (λ next. (at + 1 ≤ next) × (next ≤ length bytes.now)) }
-    ensures behind { IfBehind result (λ next. (v : ScalarOf)
-        × JudgesFrom true instr.now entry.old entry.new v bytes.now at (at + 1) next) }
+    ensures behind_place { IfBehind result (λ needless next. (at + needless ≤ next) × (next ≤ length bytes.now)) }
+    ensures behind { IfBehind result (λ needless next. (v : ScalarOf)
+        × JudgesFrom true instr.now entry.old entry.new v bytes.now at (at + needless) next) }
     ensures entry { IfNotJudged result (entry.new ≡ entry.old) }
 {
     // read once for all operators, so that the whole is small enough to be inlined
@@ -556,9 +579,9 @@ fn judge_long(
     ensures place { IfJudged result (λ bit next. (at ≤ next) × (next ≤ length bytes.now)) }
     ensures judged { IfJudged result (λ bit next. (v : ScalarOf)
         × Judges bit instr.now entry.old entry.new v bytes.now at next) }
-    ensures behind_place { IfBehind result (λ next. (at + 1 ≤ next) × (next ≤ length bytes.now)) }
-    ensures behind { IfBehind result (λ next. (v : ScalarOf)
-        × JudgesFrom true instr.now entry.old entry.new v bytes.now at (at + 1) next) }
+    ensures behind_place { IfBehind result (λ needless next. (at + needless ≤ next) × (next ≤ length bytes.now)) }
+    ensures behind { IfBehind result (λ needless next. (v : ScalarOf)
+        × JudgesFrom true instr.now entry.old entry.new v bytes.now at (at + needless) next) }
     ensures entry { IfNotJudged result (entry.new ≡ entry.old) }
 {
     match which {
@@ -590,9 +613,9 @@ pub fn judge_field(
     ensures place { IfJudged result (λ bit next. (at ≤ next) × (next ≤ length bytes.now)) }
     ensures judged { IfJudged result (λ bit next. (v : ScalarOf)
         × Judges bit instr.now entry.old entry.new v bytes.now at next) }
-    ensures behind_place { IfBehind result (λ next. (at + 1 ≤ next) × (next ≤ length bytes.now)) }
-    ensures behind { IfBehind result (λ next. (v : ScalarOf)
-        × JudgesFrom true instr.now entry.old entry.new v bytes.now at (at + 1) next) }
+    ensures behind_place { IfBehind result (λ needless next. (at + needless ≤ next) × (next ≤ length bytes.now)) }
+    ensures behind { IfBehind result (λ needless next. (v : ScalarOf)
+        × JudgesFrom true instr.now entry.old entry.new v bytes.now at (at + needless) next) }
     ensures entry { IfNotJudged result (entry.new ≡ entry.old) }
 {
     match instr.operator {

@@ -12,7 +12,7 @@ ghost use Rattle.fast_dictionary.specs.declared.entry.Entry.TheVariants as entry
 ghost use Rattle.fast_relay.specs.Judged.{IfBehind, IfJudged, IfNotJudged, Judges, JudgesFrom, Leaves, PairStandsFrom};
 ghost use Rattle.fast_relay.specs.Numbers.{SpellsWhole};
 
-use crate::judged::{Judged, read_behind, read_shortest};
+use crate::judged::{Judged, behind, read_behind, read_shortest};
 use fast_dictionary::Entry;
 use fast_template::{FieldPart, Operator, Presence, Scalar};
 
@@ -76,20 +76,22 @@ fn read_pair(presence: Presence, bytes: &[u8], at: usize) -> Option<(i64, i64, u
     Some((exponent, mantissa, next))
 }
 
-/// The same where the exponent's shortest form stands behind one needless group: that is no part of the shortest forms.
+/// The same where the exponent's shortest form stands behind one needless group or two: these are no part of the shortest
+/// forms; answers also where those begin.
 #[inline(always)]
-fn read_pair_behind(presence: Presence, bytes: &[u8], at: usize) -> Option<(i64, i64, usize)>
+fn read_pair_behind(presence: Presence, bytes: &[u8], at: usize) -> Option<(i64, i64, usize, usize)>
     requires { at ≤ length bytes.now }
-    ensures place { IfSome result (λ x. (at + 1 ≤ x.2) × (x.2 ≤ length bytes.now)) }
-    ensures stands { IfSome result (λ x. PairStandsFrom presence bytes.now at (at + 1) x.2 x.0 x.1) }
+    ensures first { IfSome result (λ x. (at + 1 ≤ x.2) × (x.2 ≤ at + 2)) }
+    ensures place { IfSome result (λ x. (x.2 ≤ x.3) × (x.3 ≤ length bytes.now)) }
+    ensures stands { IfSome result (λ x. PairStandsFrom presence bytes.now at x.2 x.3 x.0 x.1) }
 {
-    let Some((exponent, middle)) = read_behind(false, presence, bytes, at) else {
+    let Some((exponent, first, middle)) = read_behind(false, presence, bytes, at) else {
         return None;
     };
     let Some((mantissa, next)) = read_shortest(false, Presence::Mandatory, bytes, middle) else {
         return None;
     };
-    Some((exponent, mantissa, next))
+    Some((exponent, mantissa, first, next))
 }
 
 /// The decimal of an exponent and a mantissa, where the exponent is within its limit.
@@ -182,7 +184,7 @@ fn judge_decimal_whole(
     ensures place { IfJudged result (λ bit n. n ≡ next) }
     ensures judged { IfJudged result (λ bit n. (v : ScalarOf)
         × JudgesFrom bit instr.now entry.old entry.new v bytes.now at first next) }
-    ensures behind { IfBehind result (λ n. ⊥) }
+    ensures behind { IfBehind result (λ needless n. ⊥) }
     ensures entry { IfNotJudged result (entry.new ≡ entry.old) }
 {
     let Some(parts) = parts_within(exponent, mantissa) else {
@@ -214,7 +216,7 @@ fn judge_decimal_delta(
     ensures place { IfJudged result (λ bit n. n ≡ next) }
     ensures judged { IfJudged result (λ bit n. (v : ScalarOf)
         × JudgesFrom bit instr.now entry.old entry.new v bytes.now at first next) }
-    ensures behind { IfBehind result (λ n. ⊥) }
+    ensures behind { IfBehind result (λ needless n. ⊥) }
     ensures entry { IfNotJudged result (entry.new ≡ entry.old) }
 {
     let Some(kept) = kept_parts(entry) else {
@@ -252,7 +254,7 @@ fn judge_pair(
     ensures place { IfJudged result (λ bit n. n ≡ next) }
     ensures judged { IfJudged result (λ bit n. (v : ScalarOf)
         × JudgesFrom bit instr.now entry.old entry.new v bytes.now at first next) }
-    ensures behind { IfBehind result (λ n. ⊥) }
+    ensures behind { IfBehind result (λ needless n. ⊥) }
     ensures entry { IfNotJudged result (entry.new ≡ entry.old) }
 {
     match instr.operator {
@@ -266,7 +268,7 @@ fn judge_pair(
     }
 }
 
-/// Judges a decimal that does not stand in its shortest form: it may behind the first byte. (A call of its own, so that
+/// Judges a decimal that does not stand in its shortest form: it may behind the first byte or two. (A call of its own, so that
 /// others do not pay for it.)
 #[inline(never)]
 fn judge_decimal_behind(instr: &FieldPart, entry: &mut Entry, bytes: &[u8], at: usize) -> Judged
@@ -276,18 +278,18 @@ fn judge_decimal_behind(instr: &FieldPart, entry: &mut Entry, bytes: &[u8], at: 
     ensures place { IfJudged result (λ bit next. (at ≤ next) × (next ≤ length bytes.now)) }
     ensures judged { IfJudged result (λ bit next. (v : ScalarOf)
         × Judges bit instr.now entry.old entry.new v bytes.now at next) }
-    ensures behind_place { IfBehind result (λ next. (at + 1 ≤ next) × (next ≤ length bytes.now)) }
-    ensures behind { IfBehind result (λ next. (v : ScalarOf)
-        × JudgesFrom true instr.now entry.old entry.new v bytes.now at (at + 1) next) }
+    ensures behind_place { IfBehind result (λ needless next. (at + needless ≤ next) × (next ≤ length bytes.now)) }
+    ensures behind { IfBehind result (λ needless next. (v : ScalarOf)
+        × JudgesFrom true instr.now entry.old entry.new v bytes.now at (at + needless) next) }
     ensures entry { IfNotJudged result (entry.new ≡ entry.old) }
 {
-    let Some((exponent, mantissa, next)) = read_pair_behind(instr.presence, bytes, at) else {
+    let Some((exponent, mantissa, first, next)) = read_pair_behind(instr.presence, bytes, at) else {
         return Judged::Elsewhere;
     };
-    match judge_pair(instr, entry, exponent, mantissa, bytes, at, at + 1, next) {
-        Judged::Stands(_next) => Judged::Behind(next),
+    match judge_pair(instr, entry, exponent, mantissa, bytes, at, first, next) {
+        Judged::Stands(_next) => behind(at, first, next),
         Judged::Given(_next) => Judged::Given(next),
-        Judged::Behind(_) => unreachable!(),
+        Judged::Behind(_) | Judged::BehindTwo(_) => unreachable!(),
         Judged::Elsewhere => Judged::Elsewhere,
     }
 }
@@ -302,9 +304,9 @@ pub(crate) fn judge_decimal(instr: &FieldPart, entry: &mut Entry, bytes: &[u8], 
     ensures place { IfJudged result (λ bit next. (at ≤ next) × (next ≤ length bytes.now)) }
     ensures judged { IfJudged result (λ bit next. (v : ScalarOf)
         × Judges bit instr.now entry.old entry.new v bytes.now at next) }
-    ensures behind_place { IfBehind result (λ next. (at + 1 ≤ next) × (next ≤ length bytes.now)) }
-    ensures behind { IfBehind result (λ next. (v : ScalarOf)
-        × JudgesFrom true instr.now entry.old entry.new v bytes.now at (at + 1) next) }
+    ensures behind_place { IfBehind result (λ needless next. (at + needless ≤ next) × (next ≤ length bytes.now)) }
+    ensures behind { IfBehind result (λ needless next. (v : ScalarOf)
+        × JudgesFrom true instr.now entry.old entry.new v bytes.now at (at + needless) next) }
     ensures entry { IfNotJudged result (entry.new ≡ entry.old) }
 {
     match read_pair(instr.presence, bytes, at) {

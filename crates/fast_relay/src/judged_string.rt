@@ -46,7 +46,7 @@ fn judge_plain(
     ensures place { IfJudged result (λ bit n. n ≡ next) }
     ensures judged { IfJudged result (λ bit n. (v : ScalarOf)
         × JudgesFrom bit instr.now entry.old entry.new v bytes.now at first next) }
-    ensures behind { IfBehind result (λ n. ⊥) }
+    ensures behind { IfBehind result (λ needless n. ⊥) }
     ensures entry { IfNotJudged result (entry.new ≡ entry.old) }
 {
     let form = &bytes[first..next];
@@ -80,9 +80,9 @@ fn judge_string_behind(
     ensures place { IfJudged result (λ bit next. (at ≤ next) × (next ≤ length bytes.now)) }
     ensures judged { IfJudged result (λ bit next. (v : ScalarOf)
         × Judges bit instr.now entry.old entry.new v bytes.now at next) }
-    ensures behind_place { IfBehind result (λ next. (at + 1 ≤ next) × (next ≤ length bytes.now)) }
-    ensures behind { IfBehind result (λ next. (v : ScalarOf)
-        × JudgesFrom true instr.now entry.old entry.new v bytes.now at (at + 1) next) }
+    ensures behind_place { IfBehind result (λ needless next. (at + needless ≤ next) × (next ≤ length bytes.now)) }
+    ensures behind { IfBehind result (λ needless next. (v : ScalarOf)
+        × JudgesFrom true instr.now entry.old entry.new v bytes.now at (at + needless) next) }
     ensures entry { IfNotJudged result (entry.new ≡ entry.old) }
 {
     let Some((first, next)) = find_behind_zero(bytes, at) else {
@@ -91,7 +91,7 @@ fn judge_string_behind(
     match judge_plain(alloc, instr, entry, bytes, at, first, next) {
         Judged::Stands(_next) => Judged::Behind(next),
         Judged::Given(_next) => Judged::Given(next),
-        Judged::Behind(_) => unreachable!(),
+        Judged::Behind(_) | Judged::BehindTwo(_) => unreachable!(),
         Judged::Elsewhere => Judged::Elsewhere,
     }
 }
@@ -112,9 +112,9 @@ fn judge_string_whole(
     ensures place { IfJudged result (λ bit next. (at ≤ next) × (next ≤ length bytes.now)) }
     ensures judged { IfJudged result (λ bit next. (v : ScalarOf)
         × Judges bit instr.now entry.old entry.new v bytes.now at next) }
-    ensures behind_place { IfBehind result (λ next. (at + 1 ≤ next) × (next ≤ length bytes.now)) }
-    ensures behind { IfBehind result (λ next. (v : ScalarOf)
-        × JudgesFrom true instr.now entry.old entry.new v bytes.now at (at + 1) next) }
+    ensures behind_place { IfBehind result (λ needless next. (at + needless ≤ next) × (next ≤ length bytes.now)) }
+    ensures behind { IfBehind result (λ needless next. (v : ScalarOf)
+        × JudgesFrom true instr.now entry.old entry.new v bytes.now at (at + needless) next) }
     ensures entry { IfNotJudged result (entry.new ≡ entry.old) }
 {
     match plain_end(bytes, at) {
@@ -137,7 +137,7 @@ fn judge_string_delta(
     requires operator { instr.now.operator ≡ operator_type.Delta }
     requires kind { instr.now.kind ≡ kind_type.Ascii }
     requires kept { IsScalar (Ascii text.now) }
-    ensures behind { IfBehind result (λ next. ⊥) }
+    ensures behind { IfBehind result (λ needless next. ⊥) }
     ensures place { IfJudged result (λ bit next. (at ≤ next) × (next ≤ length bytes.now)) }
     ensures judged { IfJudged result (λ bit next. (v : ScalarOf) × Judges bit instr.now
         (entry_type.Assigned (Ascii text.old)) (entry_type.Assigned (Ascii text.new)) v bytes.now at next) }
@@ -184,7 +184,7 @@ fn judge_string_tail(
     requires operator { instr.now.operator ≡ operator_type.Tail }
     requires kind { instr.now.kind ≡ kind_type.Ascii }
     requires kept { IsScalar (Ascii text.now) }
-    ensures behind { IfBehind result (λ next. ⊥) }
+    ensures behind { IfBehind result (λ needless next. ⊥) }
     ensures place { IfJudged result (λ bit next. (at ≤ next) × (next ≤ length bytes.now)) }
     ensures judged { IfJudged result (λ bit next. (v : ScalarOf) × Judges bit instr.now
         (entry_type.Assigned (Ascii text.old)) (entry_type.Assigned (Ascii text.new)) v bytes.now at next) }
@@ -229,9 +229,9 @@ pub(crate) fn judge_string(
     ensures place { IfJudged result (λ bit next. (at ≤ next) × (next ≤ length bytes.now)) }
     ensures judged { IfJudged result (λ bit next. (v : ScalarOf)
         × Judges bit instr.now entry.old entry.new v bytes.now at next) }
-    ensures behind_place { IfBehind result (λ next. (at + 1 ≤ next) × (next ≤ length bytes.now)) }
-    ensures behind { IfBehind result (λ next. (v : ScalarOf)
-        × JudgesFrom true instr.now entry.old entry.new v bytes.now at (at + 1) next) }
+    ensures behind_place { IfBehind result (λ needless next. (at + needless ≤ next) × (next ≤ length bytes.now)) }
+    ensures behind { IfBehind result (λ needless next. (v : ScalarOf)
+        × JudgesFrom true instr.now entry.old entry.new v bytes.now at (at + needless) next) }
     ensures entry { IfNotJudged result (entry.new ≡ entry.old) }
 {
     match instr.operator {

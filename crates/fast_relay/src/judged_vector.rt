@@ -14,7 +14,7 @@ ghost use Rattle.fast_relay.specs.Texts.{IsVectorKind};
 use crate::characters::is_text;
 use crate::copied::put_part;
 use crate::given::gives_units;
-use crate::judged::Judged;
+use crate::judged::{Judged, behind};
 use crate::one_byte::{read_length, read_length_behind, read_removal, read_removal_behind};
 use crate::vectors::{
     are_text, goes_on_otherwise, is_cut_at_end, keep_bytes, make_units, may_be_left_out, may_end,
@@ -44,23 +44,29 @@ fn find_shortest(kind: Kind, presence: Presence, bytes: &[u8], at: usize) -> Opt
     Some((start, start + count))
 }
 
-/// The same of a string or vector whose length is spelled in its shortest form behind one needless group: that is no part
-/// of the shortest form.
+/// The same of a string or vector whose length is spelled in its shortest form behind one needless group or two, which are
+/// no part of the shortest form; answers first where that begins.
 #[inline(always)]
-fn find_behind(kind: Kind, presence: Presence, bytes: &[u8], at: usize) -> Option<(usize, usize)>
+fn find_behind(
+    kind: Kind,
+    presence: Presence,
+    bytes: &[u8],
+    at: usize,
+) -> Option<(usize, usize, usize)>
     requires at { at ≤ length bytes.now }
     requires kind { IsVectorKind kind }
-    ensures start { IfSome result (λ x. (at + 1 ≤ x.0) × (x.0 ≤ x.1)) }
-    ensures end { IfSome result (λ x. x.1 ≤ length bytes.now) }
-    ensures stands { IfSome result (λ x. UnitsStandFrom kind presence bytes.now at (at + 1) x.0 x.1) }
+    ensures first { IfSome result (λ x. (at + 1 ≤ x.0) × (x.0 ≤ at + 2)) }
+    ensures start { IfSome result (λ x. (x.0 ≤ x.1) × (x.1 ≤ x.2)) }
+    ensures end { IfSome result (λ x. x.2 ≤ length bytes.now) }
+    ensures stands { IfSome result (λ x. UnitsStandFrom kind presence bytes.now at x.0 x.1 x.2) }
 {
-    let Some((count, start)) = read_length_behind(presence, bytes, at) else {
+    let Some((count, first, start)) = read_length_behind(presence, bytes, at) else {
         return None;
     };
     if bytes.len() - start < count {
         return None;
     }
-    Some((start, start + count))
+    Some((first, start, start + count))
 }
 
 /// Judges a string or vector that is spelled whole, and was found.
@@ -84,7 +90,7 @@ fn judge_vector_whole(
     ensures place { IfJudged result (λ bit n. n ≡ next) }
     ensures judged { IfJudged result (λ bit n. (v : ScalarOf)
         × JudgesFrom bit instr.now entry.old entry.new v bytes.now at first next) }
-    ensures behind { IfBehind result (λ n. ⊥) }
+    ensures behind { IfBehind result (λ needless n. ⊥) }
     ensures entry { IfNotJudged result (entry.new ≡ entry.old) }
 {
     let part = &bytes[start..next];
@@ -233,7 +239,7 @@ fn judge_found(
     ensures place { IfJudged result (λ bit n. n ≡ next) }
     ensures judged { IfJudged result (λ bit n. (v : ScalarOf)
         × JudgesFrom bit instr.now entry.old entry.new v bytes.now at first next) }
-    ensures behind { IfBehind result (λ n. ⊥) }
+    ensures behind { IfBehind result (λ needless n. ⊥) }
     ensures entry { IfNotJudged result (entry.new ≡ entry.old) }
 {
     match instr.operator {
@@ -252,7 +258,7 @@ fn judge_found(
 }
 
 /// Judges a string or vector, or a new end of one, whose length does not stand in its shortest form: it may behind the first
-/// byte. (A call of its own, so that others do not pay for it.)
+/// byte or two. (A call of its own, so that others do not pay for it.)
 #[inline(never)]
 fn judge_found_behind(
     alloc: Global,
@@ -267,18 +273,18 @@ fn judge_found_behind(
     ensures place { IfJudged result (λ bit next. (at ≤ next) × (next ≤ length bytes.now)) }
     ensures judged { IfJudged result (λ bit next. (v : ScalarOf)
         × Judges bit instr.now entry.old entry.new v bytes.now at next) }
-    ensures behind_place { IfBehind result (λ next. (at + 1 ≤ next) × (next ≤ length bytes.now)) }
-    ensures behind { IfBehind result (λ next. (v : ScalarOf)
-        × JudgesFrom true instr.now entry.old entry.new v bytes.now at (at + 1) next) }
+    ensures behind_place { IfBehind result (λ needless next. (at + needless ≤ next) × (next ≤ length bytes.now)) }
+    ensures behind { IfBehind result (λ needless next. (v : ScalarOf)
+        × JudgesFrom true instr.now entry.old entry.new v bytes.now at (at + needless) next) }
     ensures entry { IfNotJudged result (entry.new ≡ entry.old) }
 {
-    let Some((start, next)) = find_behind(instr.kind, instr.presence, bytes, at) else {
+    let Some((first, start, next)) = find_behind(instr.kind, instr.presence, bytes, at) else {
         return Judged::Elsewhere;
     };
-    match judge_found(alloc, instr, entry, bytes, at, at + 1, start, next) {
-        Judged::Stands(_next) => Judged::Behind(next),
+    match judge_found(alloc, instr, entry, bytes, at, first, start, next) {
+        Judged::Stands(_next) => behind(at, first, next),
         Judged::Given(_next) => Judged::Given(next),
-        Judged::Behind(_) => unreachable!(),
+        Judged::Behind(_) | Judged::BehindTwo(_) => unreachable!(),
         Judged::Elsewhere => Judged::Elsewhere,
     }
 }
@@ -338,8 +344,7 @@ fn judge_vector_delta(
 }
 
 /// Judges a difference from a string or vector, whose removal does not stand in its shortest form: it may behind the first
-/// byte; answers the place behind it, where all from there on is the best form. (A call of its own, so that others do not
-/// pay for it.)
+/// byte or two. (A call of its own, so that others do not pay for it.)
 #[inline(never)]
 fn judge_delta_behind(
     alloc: Global,
@@ -347,21 +352,25 @@ fn judge_delta_behind(
     value: &mut Scalar,
     bytes: &[u8],
     at: usize,
-) -> Option<usize>
+) -> Judged
     requires place { at ≤ length bytes.now }
     requires part { instr.now.part ≡ part_type.Whole }
     requires operator { instr.now.operator ≡ operator_type.Delta }
     requires kind { IsVectorKind instr.now.kind }
-    ensures place { IfSome result (λ next. (at + 1 ≤ next) × (next ≤ length bytes.now)) }
-    ensures behind { IfSome result (λ next. (v : ScalarOf)
+    ensures judged { IfJudged result (λ bit next. ⊥) }
+    ensures behind_place { IfBehind result (λ needless next. (at + needless ≤ next) × (next ≤ length bytes.now)) }
+    ensures behind { IfBehind result (λ needless next. (v : ScalarOf)
         × JudgesFrom true instr.now (entry_type.Assigned value.old) (entry_type.Assigned value.new) v
-        bytes.now at (at + 1) next) }
-    ensures value { IfNone result (value.new ≡ value.old) }
+        bytes.now at (at + needless) next) }
+    ensures value { IfNotJudged result (value.new ≡ value.old) }
 {
-    let Some((removed, middle)) = read_removal_behind(instr.presence, bytes, at) else {
-        return None;
+    let Some((removed, first, middle)) = read_removal_behind(instr.presence, bytes, at) else {
+        return Judged::Elsewhere;
     };
-    judge_vector_delta(alloc, instr, value, removed, bytes, at, at + 1, middle)
+    match judge_vector_delta(alloc, instr, value, removed, bytes, at, first, middle) {
+        Some(next) => behind(at, first, next),
+        None => Judged::Elsewhere,
+    }
 }
 
 /// Judges a difference from the string or vector that the entry has.
@@ -380,10 +389,10 @@ fn judge_vector_on(
     ensures place { IfJudged result (λ bit next. (at ≤ next) × (next ≤ length bytes.now)) }
     ensures judged { IfJudged result (λ bit next. (v : ScalarOf) × Judges bit instr.now
         (entry_type.Assigned value.old) (entry_type.Assigned value.new) v bytes.now at next) }
-    ensures behind_place { IfBehind result (λ next. (at + 1 ≤ next) × (next ≤ length bytes.now)) }
-    ensures behind { IfBehind result (λ next. (v : ScalarOf)
+    ensures behind_place { IfBehind result (λ needless next. (at + needless ≤ next) × (next ≤ length bytes.now)) }
+    ensures behind { IfBehind result (λ needless next. (v : ScalarOf)
         × JudgesFrom true instr.now (entry_type.Assigned value.old) (entry_type.Assigned value.new) v
-        bytes.now at (at + 1) next) }
+        bytes.now at (at + needless) next) }
     ensures value { IfNotJudged result (value.new ≡ value.old) }
 {
     match read_removal(instr.presence, bytes, at) {
@@ -393,10 +402,7 @@ fn judge_vector_on(
                 None => Judged::Elsewhere,
             }
         }
-        None => match judge_delta_behind(alloc, instr, value, bytes, at) {
-            Some(next) => Judged::Behind(next),
-            None => Judged::Elsewhere,
-        },
+        None => judge_delta_behind(alloc, instr, value, bytes, at),
     }
 }
 
@@ -417,9 +423,9 @@ pub(crate) fn judge_vector(
     ensures place { IfJudged result (λ bit next. (at ≤ next) × (next ≤ length bytes.now)) }
     ensures judged { IfJudged result (λ bit next. (v : ScalarOf)
         × Judges bit instr.now entry.old entry.new v bytes.now at next) }
-    ensures behind_place { IfBehind result (λ next. (at + 1 ≤ next) × (next ≤ length bytes.now)) }
-    ensures behind { IfBehind result (λ next. (v : ScalarOf)
-        × JudgesFrom true instr.now entry.old entry.new v bytes.now at (at + 1) next) }
+    ensures behind_place { IfBehind result (λ needless next. (at + needless ≤ next) × (next ≤ length bytes.now)) }
+    ensures behind { IfBehind result (λ needless next. (v : ScalarOf)
+        × JudgesFrom true instr.now entry.old entry.new v bytes.now at (at + needless) next) }
     ensures entry { IfNotJudged result (entry.new ≡ entry.old) }
 {
     if instr.operator == Operator::Delta {

@@ -1,9 +1,12 @@
-//! Lengths and removals in one byte, as most are, which is their shortest form; and those behind one needless group.
+//! Lengths and removals in one byte, as most are, which is their shortest form; and those behind one needless group or two.
 
-ghost use Rattle.std.specs.Prelude.{◌≡◌, ◌+◌, ◌<◌, ◌≤◌, pos, true, false, length, IfSome};
+ghost use Rattle.std.specs.Prelude.{◌≡◌, ◌+◌, ◌<◌, ◌≤◌, pos, true, false, length, drop, IfSome};
+ghost use Rattle.fast_field.specs.Chosen.{ShortestSigned};
 ghost use Rattle.fast_relay.specs.Judged.{StandsAt, StandsFrom, zero_byte};
+ghost use Rattle.fast_relay.specs.Numbers.{Spelt};
+ghost use Rattle.fast_relay.specs.Runs.{AppendsForm};
 
-use crate::judged::{read_behind, read_shortest};
+use crate::judged::{read_behind, read_number, read_shortest};
 use crate::vectors::few_bytes;
 use fast_template::Presence;
 
@@ -37,45 +40,100 @@ pub(crate) fn read_removal(presence: Presence, bytes: &[u8], at: usize) -> Optio
     }
 }
 
+/// Appends a removal of few units at the end in its shortest form, which is one byte; answers false, and changes nothing,
+/// where memory is refused.
+#[inline(always)]
+pub(crate) fn push_removal(presence: Presence, removed: usize, out: &mut Vec<u8>) -> bool
+    requires { removed < 63 }
+    ensures written { result ≡ true → AppendsForm (ShortestSigned presence (pos removed))
+        out.old.items out.new.items }
+    ensures unchanged { result ≡ false → out.new.items ≡ out.old.items }
+{
+    match out.push(zero_byte(presence) + removed as u8) {
+        Err(_) => false,
+        Ok(()) => true,
+    }
+}
+
+/// The same as `read_any_removal`, of a removal of more bytes.
+#[inline(never)]
+fn read_long_removal(presence: Presence, bytes: &[u8], at: usize) -> Option<(usize, usize)>
+    requires { at ≤ length bytes.now }
+    ensures place { IfSome result (λ x. (at ≤ x.1) × (x.1 ≤ length bytes.now)) }
+    ensures few { IfSome result (λ x. x.0 < 63) }
+    ensures gives { IfSome result (λ x. Spelt false presence (drop at bytes.now)
+        (pos x.0) (drop x.1 bytes.now)) }
+{
+    let Some((removal, next)) = read_number(false, presence, bytes, at) else {
+        return None;
+    };
+    match few_bytes(i128::from(removal)) {
+        Some(removed) if removed < usize::from(FEW) => Some((removed, next)),
+        _ => None,
+    }
+}
+
+/// How many units a subtraction length removes at the end, if they are few, in any form, and the place behind it.
+#[inline(always)]
+pub(crate) fn read_any_removal(
+    presence: Presence,
+    bytes: &[u8],
+    at: usize,
+) -> Option<(usize, usize)>
+    requires { at ≤ length bytes.now }
+    ensures place { IfSome result (λ x. (at ≤ x.1) × (x.1 ≤ length bytes.now)) }
+    ensures few { IfSome result (λ x. x.0 < 63) }
+    ensures gives { IfSome result (λ x. Spelt false presence (drop at bytes.now)
+        (pos x.0) (drop x.1 bytes.now)) }
+{
+    match read_removal(presence, bytes, at) {
+        Some(removed) => Some((removed, at + 1)),
+        None => read_long_removal(presence, bytes, at),
+    }
+}
+
 /// How many units a subtraction length removes at the end, if they are few and its shortest form stands behind one needless
-/// group, and the place behind it.
+/// group or two, the place where that begins, and the one behind it.
 #[inline(always)]
 pub(crate) fn read_removal_behind(
     presence: Presence,
     bytes: &[u8],
     at: usize,
-) -> Option<(usize, usize)>
+) -> Option<(usize, usize, usize)>
     requires { at ≤ length bytes.now }
-    ensures place { IfSome result (λ x. (at + 1 ≤ x.1) × (x.1 ≤ length bytes.now)) }
+    ensures first { IfSome result (λ x. (at + 1 ≤ x.1) × (x.1 ≤ at + 2)) }
+    ensures place { IfSome result (λ x. (x.1 ≤ x.2) × (x.2 ≤ length bytes.now)) }
     ensures few { IfSome result (λ x. x.0 < 63) }
-    ensures stands { IfSome result (λ x. StandsFrom false presence bytes.now at (at + 1) x.1 (pos x.0)) }
+    ensures stands { IfSome result (λ x. StandsFrom false presence bytes.now at x.1 x.2 (pos x.0)) }
 {
-    let Some((removed, next)) = read_behind(false, presence, bytes, at) else {
+    let Some((removed, first, next)) = read_behind(false, presence, bytes, at) else {
         return None;
     };
     match few_bytes(i128::from(removed)) {
-        Some(count) if count < usize::from(FEW) => Some((count, next)),
+        Some(count) if count < usize::from(FEW) => Some((count, first, next)),
         _ => None,
     }
 }
 
-/// A length that is not too large and whose shortest form stands behind one needless group, and the place behind it.
+/// A length that is not too large and whose shortest form stands behind one needless group or two, the place where that begins, and
+/// the one behind it.
 #[inline(always)]
 pub(crate) fn read_length_behind(
     presence: Presence,
     bytes: &[u8],
     at: usize,
-) -> Option<(usize, usize)>
+) -> Option<(usize, usize, usize)>
     requires { at ≤ length bytes.now }
-    ensures place { IfSome result (λ x. (at + 1 ≤ x.1) × (x.1 ≤ length bytes.now)) }
+    ensures first { IfSome result (λ x. (at + 1 ≤ x.1) × (x.1 ≤ at + 2)) }
+    ensures place { IfSome result (λ x. (x.1 ≤ x.2) × (x.2 ≤ length bytes.now)) }
     ensures few { IfSome result (λ x. x.0 ≤ 65535) }
-    ensures stands { IfSome result (λ x. StandsFrom true presence bytes.now at (at + 1) x.1 (pos x.0)) }
+    ensures stands { IfSome result (λ x. StandsFrom true presence bytes.now at x.1 x.2 (pos x.0)) }
 {
-    let Some((length, start)) = read_behind(true, presence, bytes, at) else {
+    let Some((length, first, start)) = read_behind(true, presence, bytes, at) else {
         return None;
     };
     match few_bytes(i128::from(length)) {
-        Some(count) => Some((count, start)),
+        Some(count) => Some((count, first, start)),
         None => None,
     }
 }

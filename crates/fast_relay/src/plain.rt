@@ -16,15 +16,17 @@ ghost use Rattle.fast_field.specs.Planning.{left_out_of};
 ghost use Rattle.fast_relay.specs.Relayed.{IfElsewhere, IfRelayed, Relays, RelaysAs};
 ghost use Rattle.fast_relay.specs.Runs.{IsRun, Stays, written};
 ghost use Rattle.fast_relay.specs.Texts.{SharesEnd};
+ghost use Rattle.fast_value.specs.Scalar.{IsScalar};
+ghost use Rattle.fast_field.specs.Within.{HoldsScalar};
 
-use crate::characters::{are_characters, find_plain};
+use crate::characters::find_plain;
 use crate::copied::copy_over;
 use crate::cut::{read_cut, read_tail};
 use crate::given::{drop_plain_tail, gives_text};
+use crate::one_byte::push_removal;
 use crate::relayed::Relayed;
 use crate::run::Run;
 use fast_dictionary::Entry;
-use fast_field::write_signed;
 use fast_template::{ByteString, FieldPart, Operator, Scalar};
 use fast_wire::is_text_of;
 use std::alloc::Global;
@@ -259,6 +261,7 @@ fn relay_plain_delta(
     requires part { instr.now.part ≡ part_type.Whole }
     requires operator { instr.now.operator ≡ operator_type.Delta }
     requires kind { instr.now.kind ≡ kind_type.Ascii }
+    requires kept { IsScalar (Ascii text.now) }
     ensures place { IfSome result (λ next. (at ≤ next) × (next ≤ length bytes.now)) }
     ensures run { IfSome result (λ next. IsRun bytes.now next out.new) }
     ensures relayed { IfSome result (λ next. Relays instr.now
@@ -269,9 +272,6 @@ fn relay_plain_delta(
     ensures out { IfNone result (Stays bytes.now at out.old out.new) }
 {
     let base = text.as_slice();
-    if !are_characters(base) {
-        return None;
-    }
     let Some(cut) = read_cut(instr, base, bytes, at) else {
         return None;
     };
@@ -280,29 +280,20 @@ fn relay_plain_delta(
     if !agrees_no_further(base, kept, form) || !is_cut_at_end(base, kept, form) {
         return None;
     }
-    if cut.stands {
-        if !put_characters(alloc, text, kept, form) {
-            return None;
-        }
-        out.keep(cut.next);
-        return Some(cut.next);
-    }
     if !out.flush(bytes) {
         return None;
     }
     let start = out.out.len();
-    match write_signed(instr.presence, cut.removed as i128, &mut out.out) {
-        Err(_) => None,
-        Ok(()) => {
-            if put_characters(alloc, text, kept, form) {
-                out.begin(cut.first);
-                out.keep(cut.next);
-                Some(cut.next)
-            } else {
-                out.out.truncate(start);
-                None
-            }
-        }
+    if !push_removal(instr.presence, cut.removed, &mut out.out) {
+        return None;
+    }
+    if put_characters(alloc, text, kept, form) {
+        out.begin(cut.first);
+        out.keep(cut.next);
+        Some(cut.next)
+    } else {
+        out.out.truncate(start);
+        None
     }
 }
 
@@ -320,6 +311,7 @@ fn relay_plain_tail(
     requires part { instr.now.part ≡ part_type.Whole }
     requires operator { instr.now.operator ≡ operator_type.Tail }
     requires kind { instr.now.kind ≡ kind_type.Ascii }
+    requires kept { IsScalar (Ascii text.now) }
     ensures place { IfSome result (λ next. (at ≤ next) × (next ≤ length bytes.now)) }
     ensures run { IfSome result (λ next. IsRun bytes.now next out.new) }
     ensures relayed { IfSome result (λ next. Relays instr.now
@@ -330,9 +322,6 @@ fn relay_plain_tail(
     ensures out { IfNone result (Stays bytes.now at out.old out.new) }
 {
     let base = text.as_slice();
-    if !are_characters(base) {
-        return None;
-    }
     let Some((first, next)) = read_tail(instr, base, bytes, at) else {
         return None;
     };
@@ -370,6 +359,7 @@ fn relay_either_tail(
     requires part { instr.now.part ≡ part_type.Whole }
     requires operator { instr.now.operator ≡ operator_type.Tail }
     requires kind { instr.now.kind ≡ kind_type.Ascii }
+    requires kept { IsScalar (Ascii text.now) }
     ensures place { IfRelayed result (λ bit next. (at ≤ next) × (next ≤ length bytes.now)) }
     ensures run { IfRelayed result (λ bit next. IsRun bytes.now next out.new) }
     ensures relayed { IfRelayed result (λ bit next. (v : ScalarOf) × RelaysAs bit instr.now
@@ -404,6 +394,7 @@ pub(crate) fn relay_plain(
     requires run { IsRun bytes.now at out.now }
     requires part { instr.now.part ≡ part_type.Whole }
     requires kind { instr.now.kind ≡ kind_type.Ascii }
+    requires kept { HoldsScalar entry.now }
     ensures place { IfRelayed result (λ bit next. (at ≤ next) × (next ≤ length bytes.now)) }
     ensures run { IfRelayed result (λ bit next. IsRun bytes.now next out.new) }
     ensures relayed { IfRelayed result (λ bit next. (v : ScalarOf)

@@ -101,7 +101,7 @@ impl Run {
 
     /// Leaves out the bytes up to a place: what is noted is appended, and what is noted later begins there. Answers false
     /// where memory is refused.
-    #[inline(never)]
+    #[inline(always)]
     pub fn leave_out(&mut self, bytes: &[u8], next: usize) -> bool
         requires from { self.now.from ≤ self.now.place }
         requires place { self.now.place ≤ length bytes.now }

@@ -10,6 +10,7 @@ ghost use Rattle.fast_relay.specs.Numbers.{SpellsWhole};
 ghost use Rattle.fast_relay.specs.Relayed.{IfElsewhere, IfRelayed, Relays, RelaysAs};
 ghost use Rattle.fast_relay.specs.Runs.{IsRun, Stays, written};
 ghost use Rattle.fast_relay.specs.Texts.{IsVectorKind};
+ghost use Rattle.fast_field.specs.Within.{HoldsScalar};
 
 use crate::characters::is_text;
 use crate::kept::keep_value;
@@ -319,7 +320,8 @@ pub fn relay_text(
     at: usize,
     out: &mut Run,
 ) -> Relayed
-    requires { IsRun bytes.now at out.now }
+    requires run { IsRun bytes.now at out.now }
+    requires kept { HoldsScalar entry.now }
     ensures place { IfRelayed result (λ bit next. (at ≤ next) × (next ≤ length bytes.now)) }
     ensures run { IfRelayed result (λ bit next. IsRun bytes.now next out.new) }
     ensures relayed { IfRelayed result (λ bit next. (v : ScalarOf)

@@ -1,6 +1,6 @@
 //! Fields that are taken one after the other, with no call of the walk between them.
 
-ghost use Rattle.std.specs.Prelude.{◌≡◌, ◌≤◌, ◌<◌, ◌+◌, ◌*◌, Bool, true, false, Option, Some, None, IsSome, IfOk, IfSome, OnOk, IsTrue, length, drop};
+ghost use Rattle.std.specs.Prelude.{◌≡◌, ◌≤◌, ◌<◌, ◌+◌, ◌*◌, Bool, true, false, Option, Some, None, IsSome, IfOk, IfSome, OnOk, IsTrue, length, drop, slice_range};
 ghost use Rattle.fast_template.specs.Resolved.{instruction_of, list_of, part_needs_bit as part_needs_bit_of, then_instruction};
 ghost use Rattle.fast_value.specs.declared.scalar.Scalar.{Scalar as ScalarOf};
 ghost use Rattle.fast_dictionary.specs.Dictionary.{entry_at};
@@ -18,7 +18,7 @@ ghost use Rattle.fast_relay.specs.Runs.{IsRun};
 ghost use Rattle.fast_writer.specs.Levels.{level_in, level_of};
 ghost use Rattle.fast_writer.specs.Room.{has_room};
 ghost use Rattle.fast_wire.specs.PresenceMap.{next_bit};
-ghost use Rattle.fast_writer.specs.Written.{Asked, Spelt};
+ghost use Rattle.fast_writer.specs.Written.{Asked, Spelt, with_bytes};
 ghost use Rattle.fast_writer.specs.Takings.{BeginsWith, IfElsewhere, IsFirstTold, IfTaken, Takes, TookEntry, at_place, behind, counted_of, pieces_of};
 ghost use Rattle.fast_value.specs.declared.key.Key.{Key};
 ghost use Rattle.fast_value.specs.declared.kind.Kind.TheVariants.{Int32};
@@ -70,16 +70,76 @@ fn end_part(bits: &mut Bits, needs: bool, best: bool, segment: &mut Segment, the
     }
 }
 
-// The same in a call of its own, so that the loop over fields stays small.
+// The same where only the bytes from `first` on are written. (A call of its own, so that the loop over fields stays small.)
 #[inline(never)]
-fn end_rarely(bits: &mut Bits, needs: bool, best: bool, segment: &mut Segment, there: bool) -> Taken
-    ensures part { IfTaken result (λ t. t ≡ there) }
-    ensures asked { IfTaken result (λ t. Asked needs best (level_of segment.old) (level_of segment.new)) }
+fn end_from(
+    bits: &mut Bits,
+    needs: bool,
+    best: bool,
+    bytes: &[u8],
+    first: usize,
+    next: usize,
+    segment: &mut Segment,
+) -> Taken
+    requires run { IsRun bytes.now segment.now.bytes.place segment.now.bytes }
+    requires first { first ≤ next }
+    requires within { next ≤ length bytes.now }
+    ensures part { IfTaken result (λ t. t ≡ true) }
+    ensures asked { IfTaken result (λ t. Asked needs best
+        (with_bytes (level_in bytes.now segment.old) (slice_range bytes.now first next))
+        (level_in bytes.now segment.new)) }
     ensures bits { IfTaken result (λ t. bits.new ≡ after_bit needs bits.old) }
-    ensures run { IfTaken result (λ t. segment.new.bytes ≡ segment.old.bytes) }
+    ensures run { IfTaken result (λ t. IsRun bytes.now next segment.new.bytes) }
     ensures done { IfElsewhere result ⊥ }
 {
-    end_part(bits, needs, best, segment, there)
+    match end_part(bits, needs, best, segment, true) {
+        Taken::Part(there) => {
+            if segment.bytes.leave_out(bytes, first) {
+                segment.bytes.keep(next);
+                Taken::Part(there)
+            } else {
+                Taken::Refused
+            }
+        }
+        Taken::Elsewhere => Taken::Elsewhere,
+        Taken::Refused => Taken::Refused,
+    }
+}
+
+// Takes a part that was sent and is not judged as it stands, or NULL. (A call of its own, so that the loop over fields stays
+// small.)
+#[inline(never)]
+fn take_other(
+    alloc: Global,
+    part: &FieldPart,
+    entry: &mut Entry,
+    bits: &mut Bits,
+    needs: bool,
+    level: Level,
+    bytes: &[u8],
+    at: usize,
+    segment: &mut Segment,
+) -> Taken
+    requires run { IsRun bytes.now at segment.now.bytes }
+    requires kept { HoldsScalar entry.now }
+    requires needs { needs ≡ part_needs_bit_of part.now }
+    requires bit { bit_for (part_needs_bit_of part.now) bits.now ≡ true }
+    requires usual { ReadsAsUsual level part.now (drop at bytes.now) }
+    ensures place { IfTaken result (λ there. at ≤ segment.new.bytes.place) }
+    ensures run { IfTaken result (λ there. IsRun bytes.now segment.new.bytes.place segment.new.bytes) }
+    ensures took { IfTaken result (λ there. (v : Option ScalarOf)
+        × IsThere part.now.kind there v × TookEntry level part.now entry.old entry.new bits.old v
+        (drop at bytes.now) (drop segment.new.bytes.place bytes.now)
+        (level_in bytes.now segment.old) (level_in bytes.now segment.new)) }
+    ensures bits { IfTaken result (λ there. bits.new ≡ after_bit needs bits.old) }
+    ensures nothing { IfElsewhere result ((entry.new ≡ entry.old)
+        × (level_in bytes.now segment.new ≡ level_in bytes.now segment.old) × (bits.new ≡ bits.old)
+        × IsRun bytes.now at segment.new.bytes) }
+{
+    match relay_other(alloc, part, entry, bytes, at, &mut segment.bytes) {
+        Some((there, best)) => end_part(bits, needs, best, segment, there),
+        None => Taken::Elsewhere,
+    }
 }
 
 // Whether a field that was sent is read at a level as at the usual one.
@@ -177,25 +237,10 @@ fn take_sent(
             segment.bytes.keep(next);
             end_part(bits, needs, true, segment, true)
         }
-        Judged::Behind(next) => {
-            if segment.bytes.leave_out(bytes, at + 1) {
-                segment.bytes.keep(next);
-                end_rarely(bits, needs, true, segment, true)
-            } else {
-                Taken::Refused
-            }
-        }
-        Judged::Given(next) => {
-            if segment.bytes.leave_out(bytes, next) {
-                end_rarely(bits, needs, false, segment, true)
-            } else {
-                Taken::Refused
-            }
-        }
-        Judged::Elsewhere => match relay_other(alloc, part, entry, bytes, at, &mut segment.bytes) {
-            Some((there, best)) => end_rarely(bits, needs, best, segment, there),
-            None => Taken::Elsewhere,
-        },
+        Judged::Behind(next) => end_from(bits, needs, true, bytes, at + 1, next, segment),
+        Judged::BehindTwo(next) => end_from(bits, needs, true, bytes, at + 2, next, segment),
+        Judged::Given(next) => end_from(bits, needs, false, bytes, next, next, segment),
+        Judged::Elsewhere => take_other(alloc, part, entry, bits, needs, level, bytes, at, segment),
     }
 }
 

@@ -41,6 +41,7 @@ fn relay_value(
     out: &mut Run,
 ) -> Answer
     requires run { IsRun bytes.now at out.now }
+    requires kept { HoldsScalar entry.now }
     ensures place { IfRelayed result (λ bit next. (at ≤ next) × (next ≤ length bytes.now)) }
     ensures run { IfRelayed result (λ bit next. IsRun bytes.now next out.new) }
     ensures relayed { IfRelayed result (λ bit next. (v : ScalarOf)
@@ -59,9 +60,8 @@ fn relay_value(
 }
 
 // Reads what was sent under bit 1 and is not judged as it stands, or NULL, and appends its best form. Answers whether the value
-// is there, and the bit of its best form. None: nothing has changed, and the part goes another way. (A call of its own, so that the
-// loop over fields stays small.)
-#[inline(never)]
+// is there, and the bit of its best form. None: nothing has changed, and the part goes another way.
+#[inline(always)]
 pub(crate) fn relay_other(
     alloc: Global,
     part: &FieldPart,
@@ -71,6 +71,7 @@ pub(crate) fn relay_other(
     out: &mut Run,
 ) -> Option<(bool, bool)>
     requires run { IsRun bytes.now at out.now }
+    requires kept { HoldsScalar entry.now }
     ensures place { IfSome result (λ x. at ≤ out.new.place) }
     ensures run { IfSome result (λ x. IsRun bytes.now out.new.place out.new) }
     ensures relayed { IfSome result (λ x. (v : Option ScalarOf) × IsThere part.now.kind x.0 v

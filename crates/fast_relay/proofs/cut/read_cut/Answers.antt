@@ -1,6 +1,4 @@
-use Rattle.std.proofs.Common.{◌≡◌, drop, slice_range, arith, rules, subst, false}
-use Rattle.std.specs.Prelude.{ℤ, pos}
-use Rattle.fast_relay.specs.Numbers.{Spelt}
+use Rattle.std.proofs.Common.{drop, slice_range, arith}
 use Rattle.fast_relay.proofs.PlainTexts.{cut_read, slice_length}
 use Rattle.fast_relay.proofs.cut.read_cut.Goals as goal
 
@@ -9,15 +7,13 @@ returns-then-base-kept-clause-gives c =
     let i = c.args.instr.now in
     let base = c.args.base.now in
     let bytes = c.args.bytes.now in
-    let r = c.in-Some-few_removed.removed in
+    let r = c.in-Some.removed in
     let first = c.in-Some-find_plain.first in
     let next = c.in-Some-find_plain.next in
-    let few = c.in-Some-few_removed.ensures in
-    let few0 : c.in-Some.removal ≡ pos r = search rules in
+    let few = c.in-Some.ensures.few in
     let place = c.in-Some-find_plain.ensures.place in
     let long = slice_length bytes first next (omega (arith, place)) place.2 in
-    let spelt = subst (λ (z : ℤ). Spelt false i.presence (drop c.args.at bytes) z (drop c.in-Some.middle bytes)) few0 c.in-Some.ensures.gives in
-    let cut = cut_read i base r (drop c.args.at bytes) (drop c.in-Some.middle bytes) (slice_range bytes first next) (drop next bytes) c.requires.kind few.1 (omega (arith, c.if-removed-base.false)) spelt c.in-Some-find_plain.ensures.plain
+    let cut = cut_read i base r (drop c.args.at bytes) (drop c.in-Some.middle bytes) (slice_range bytes first next) (drop next bytes) c.requires.kind few (omega (arith, c.if-removed-base.false)) c.in-Some.ensures.gives c.in-Some-find_plain.ensures.plain
     (omega (arith, long, c.if-next-first.false, c.if-kept-gt-UNIT_LIMIT.false)) in
     rw c.less_removed.ensures.next (c.less_removed.ensures.same i (drop c.args.at bytes) cut)
 
@@ -26,13 +22,11 @@ returns-else-kept-base-clause-gives c =
     let i = c.args.instr.now in
     let base = c.args.base.now in
     let bytes = c.args.bytes.now in
-    let r = c.in-Some-few_removed.removed in
+    let r = c.in-Some.removed in
     let first = c.in-Some-find_plain.first in
     let next = c.in-Some-find_plain.next in
-    let few = c.in-Some-few_removed.ensures in
-    let few0 : c.in-Some.removal ≡ pos r = search rules in
+    let few = c.in-Some.ensures.few in
     let place = c.in-Some-find_plain.ensures.place in
     let long = slice_length bytes first next (omega (arith, place)) place.2 in
-    let spelt = subst (λ (z : ℤ). Spelt false i.presence (drop c.args.at bytes) z (drop c.in-Some.middle bytes)) few0 c.in-Some.ensures.gives in
-    cut_read i base r (drop c.args.at bytes) (drop c.in-Some.middle bytes) (slice_range bytes first next) (drop next bytes) c.requires.kind few.1 (omega (arith, c.if-removed-base.false)) spelt c.in-Some-find_plain.ensures.plain
+    cut_read i base r (drop c.args.at bytes) (drop c.in-Some.middle bytes) (slice_range bytes first next) (drop next bytes) c.requires.kind few (omega (arith, c.if-removed-base.false)) c.in-Some.ensures.gives c.in-Some-find_plain.ensures.plain
     (omega (arith, long, c.if-next-first.false, c.if-kept-gt-UNIT_LIMIT.false))

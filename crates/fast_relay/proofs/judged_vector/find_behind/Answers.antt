@@ -1,9 +1,9 @@
-use Rattle.std.proofs.Common.{◌+◌, arith}
+use Rattle.std.proofs.Common.{arith}
 use Rattle.fast_relay.proofs.VectorJudging.{vector_stands}
 use Rattle.fast_relay.proofs.judged_vector.find_behind.Goals as goal
 
 pub returns-clause-stands : goal.returns-clause-stands
 returns-clause-stands c =
     let read = c.in-Some.ensures in
-    vector_stands c.args.kind c.args.presence c.args.bytes.now c.args.at (c.args.at + 1) c.in-Some.start c.in-Some.count c.requires.kind
+    vector_stands c.args.kind c.args.presence c.args.bytes.now c.args.at c.in-Some.first c.in-Some.start c.in-Some.count c.requires.kind
     (omega (arith, read.place)) (omega (arith, read.place)) read.few (omega (arith, c.if-bytes-start.false)) read.stands

@@ -1,45 +1,16 @@
-use Rattle.std.specs.Int.{w128}
-use Rattle.std.specs.Prelude.{ℤ}
-use Rattle.std.proofs.Common.{◌≡◌, ◌≤◌, ℕ, List, ◌∙◌, ◌++◌, ◌-◌, length, slice_range, take, drop, ap, refl, sym, arith, subst, append_assoc, rules, vec_len}
+use Rattle.std.proofs.Common.{◌≡◌, ℕ, List, ◌∙◌, ◌++◌, ◌-◌, length, slice_range, take, drop, ap, refl, sym, arith, subst, rules, vec_len}
 use Rattle.std.proofs.Math.Seq.{take-append_seam}
-use Rattle.std.proofs.lemmas.Int.{to_z_pos}
-use Rattle.fast_field.specs.Chosen.{ShortestSigned}
 use Rattle.fast_relay.specs.Runs.{written}
 use Rattle.fast_relay.proofs.PlainTexts.{characters_text, plain_delta_relays}
-use Rattle.fast_relay.proofs.Runs.{begun, flushed, none_noted, range_split}
+use Rattle.fast_relay.proofs.Runs.{begun, flushed, none_noted}
 use Rattle.fast_relay.proofs.plain.relay_plain_delta.Goals as goal
-
-pub returns-then-cut-clause-run : goal.returns-then-cut-clause-run
-returns-then-cut-clause-run c = c.keep.ensures.run c.args.bytes.now c.args.at c.requires.run c.in-Some.ensures.place.2
-
-pub returns-then-cut-clause-relayed : goal.returns-then-cut-clause-relayed
-returns-then-cut-clause-relayed c =
-    let base = c.as_slice-base.result.now in
-    let bytes = c.args.bytes.now in
-    let cut = c.in-Some.cut in
-    let before = written bytes c.args.out.now in
-    let removal = slice_range bytes c.args.at cut.first in
-    let form = slice_range bytes cut.first cut.next in
-    let stands = c.in-Some.ensures.stands c.if-cut.true in
-    let behind : cut.first ≤ cut.next = omega (arith, c.in-Some.ensures.place) in
-    let after = c.keep.ensures.written bytes c.args.at c.requires.run
-    ∙ ap (λ (s : List ℕ). before ++ s) (range_split bytes c.args.at cut.first cut.next stands.0 behind)
-    ∙ sym (append_assoc before removal form) in
-    rw (c.put_characters.ensures.put c.if-not-put_characters.false, ← c.as_slice-base.ensures)
-    (plain_delta_relays c.args.instr.now base cut.removed (length base - cut.removed) (drop c.args.at bytes) form (drop cut.next bytes) before (written bytes c.keep.new.self)
-    c.requires.kind c.requires.part c.requires.operator
-    (characters_text base (c.are_characters.ensures c.if-not-are_characters.false)) refl
-    c.in-Some.ensures.gives
-    (c.agrees_no_further.ensures c.if-not-agrees_no_further.false)
-    (c.is_cut_at_end.ensures c.if-not-is_cut_at_end.false)
-    (removal, after, stands.1))
 
 pub returns-then-put_characters-clause-run : goal.returns-then-put_characters-clause-run
 returns-then-put_characters-clause-run c =
     let bytes = c.args.bytes.now in
     let cut = c.in-Some.cut in
     let run = begun bytes cut.first c.begin.new.self c.begin.ensures.from c.begin.ensures.place (omega (arith, c.in-Some.ensures.place)) in
-    c.keep-then-put_characters.ensures.run bytes cut.first run c.in-Some.ensures.place.2
+    c.keep.ensures.run bytes cut.first run c.in-Some.ensures.place.2
 
 pub returns-then-put_characters-clause-relayed : goal.returns-then-put_characters-clause-relayed
 returns-then-put_characters-clause-relayed c =
@@ -48,24 +19,24 @@ returns-then-put_characters-clause-relayed c =
     let cut = c.in-Some.cut in
     let before = written bytes c.args.out.now in
     let form = slice_range bytes cut.first cut.next in
-    let sent = c.in-Ok.ensures in
+    let sent = c.push_removal.ensures.written c.if-not-push_removal.false in
     let run = begun bytes cut.first c.begin.new.self c.begin.ensures.from c.begin.ensures.place (omega (arith, c.in-Some.ensures.place)) in
     let appended = none_noted bytes c.begin.new.self (c.begin.ensures.from ∙ sym c.begin.ensures.place) ∙ c.begin.ensures.out ∙ sent.1
     ∙ ap (λ (s : List ℕ). s ++ sent.0) (c.flush.ensures.out c.if-not-flush.false) in
-    let after = c.keep-then-put_characters.ensures.written bytes cut.first run ∙ ap (λ (s : List ℕ). s ++ form) appended in
-    rw (c.put_characters-in-Ok.ensures.put c.if-put_characters.true, ← c.as_slice-base.ensures)
-    (plain_delta_relays c.args.instr.now base cut.removed (length base - cut.removed) (drop c.args.at bytes) form (drop cut.next bytes) before (written bytes c.keep-then-put_characters.new.self)
+    let after = c.keep.ensures.written bytes cut.first run ∙ ap (λ (s : List ℕ). s ++ form) appended in
+    rw (c.put_characters.ensures.put c.if-put_characters.true, ← c.as_slice-base.ensures)
+    (plain_delta_relays c.args.instr.now base cut.removed (length base - cut.removed) (drop c.args.at bytes) form (drop cut.next bytes) before (written bytes c.keep.new.self)
     c.requires.kind c.requires.part c.requires.operator
-    (characters_text base (c.are_characters.ensures c.if-not-are_characters.false)) refl
+    (characters_text base (rw c.as_slice-base.ensures c.requires.kept)) refl
     c.in-Some.ensures.gives
     (c.agrees_no_further.ensures c.if-not-agrees_no_further.false)
     (c.is_cut_at_end.ensures c.if-not-is_cut_at_end.false)
-    (sent.0, after, subst (λ (z : ℤ). ShortestSigned c.args.instr.now.presence z sent.0) (to_z_pos w128 cut.removed (omega (arith, c.in-Some.ensures.gives.few))) sent.2))
+    (sent.0, after, sent.2))
 
 pub returns-else-put_characters-clause-out : goal.returns-else-put_characters-clause-out
 returns-else-put_characters-clause-out c =
     let bytes = c.args.bytes.now in
-    let sent = c.in-Ok.ensures in
+    let sent = c.push_removal.ensures.written c.if-not-push_removal.false in
     let old = c.flush.new.self.out.items in
     let long : vec_len c.flush.new.self.out ≡ length old = search rules in
     let back : c.truncate.new.self.items ≡ old = c.truncate.ensures.items ∙ ap (λ (s : List ℕ). take c.len-start.result s) sent.1

@@ -8,13 +8,12 @@ returns-then-put_characters-clause-relayed c =
     let base = c.as_slice-base.result.now in
     let bytes = c.args.bytes.now in
     let form = slice_range bytes c.in-Some.first c.in-Some.next in
-    let characters = c.are_characters.ensures c.if-not-are_characters.false in
     let stays = c.ready.ensures.stays c.args.at c.requires.run in
     let after = c.note.ensures.written bytes c.args.at stays.run ∙ ap (λ (s : List ℕ). s ++ form) stays.written in
     rw (c.put_characters.ensures.put c.if-put_characters.true, ← c.as_slice-base.ensures)
     (plain_tail_relays c.args.instr.now base (length base - length form) (drop c.args.at bytes) form (drop c.in-Some.next bytes) (written bytes c.args.out.now) (written bytes c.note.new.self)
     c.requires.kind c.requires.part c.requires.operator
-    (characters_text base characters) characters.0 (omega (arith, c.if-form-base.false))
+    (characters_text base (rw c.as_slice-base.ensures c.requires.kept)) (rw c.as_slice-base.ensures c.requires.kept.0) (omega (arith, c.if-form-base.false))
     c.in-Some.ensures.gives
     (c.agrees_no_further.ensures c.if-not-agrees_no_further.false)
     after)
