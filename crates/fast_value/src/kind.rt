@@ -31,7 +31,8 @@ pub enum Presence {
     Optional,
 }
 
-/// How a field's value follows from what was sent before.
+/// How a field's value follows from what was sent before. (Those that always ask for a bit of the presence map stand last, so
+/// that one comparison tells.)
 #[derive(Clone, Copy, Debug, PartialEq, Eq)]
 pub enum Operator {
     /// No operator: the value itself is sent.

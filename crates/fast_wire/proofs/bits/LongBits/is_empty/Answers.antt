@@ -8,8 +8,8 @@ pub returns : goal.returns
 returns c =
     let place = c.self.inside.place in let bytes = c.self.inside.bytes.items in (
       λ t.
-      let past : 7 * length bytes ≤ place = grind (arith, nat_tests, c.len.ensures, t) in sym c.self.view_is ∙ none_left bytes place past,
+          let past : 7 * length bytes ≤ place = grind (arith, nat_tests, c.len.ensures, t) in sym c.self.view_is ∙ none_left bytes place past,
       λ none.
-      let past : 7 * length bytes ≤ place = none_behind bytes place (c.self.view_is ∙ none) in
-      grind (arith, nat_tests, past, c.len.ensures, c.self.invariant.1),
+          let past : 7 * length bytes ≤ place = none_behind bytes place (c.self.view_is ∙ none) in
+          grind (arith, nat_tests, past, c.len.ensures, c.self.invariant.1),
     )
