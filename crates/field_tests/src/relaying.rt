@@ -1,9 +1,11 @@
 //! Rows on fields that are relayed at once.
 
 ghost use Rattle.std.specs.Prelude.{◌≤◌, length};
+ghost use Rattle.fast_field.specs.Within.{HoldsScalar};
 ghost use Rattle.fast_relay.specs.Runs.{IsRun};
 
 use crate::fields::{Kept, Shape};
+use crate::judged::holds_scalar;
 use crate::same::same;
 use fast_dictionary::Entry;
 use fast_relay::{Relayed as Told, Run, relay_decimal, relay_null, relay_number, relay_text};
@@ -62,7 +64,8 @@ fn told_by(
     at: usize,
     run: &mut Run,
 ) -> Told
-    requires { IsRun bytes.now at run.now }
+    requires run { IsRun bytes.now at run.now }
+    requires kept { HoldsScalar entry.now }
     ensures from { run.new.from ≤ run.new.place }
     ensures place { run.new.place ≤ length bytes.now }
 {
@@ -84,6 +87,10 @@ fn relay_with(
     let mut run = Run::new(alloc);
     run.out.push(0x2a)?;
     let mut entry = before.entry(alloc)?;
+    // no other is relayed
+    if !holds_scalar(&entry) {
+        return Err(AllocError);
+    }
     let at = bytes.len().min(1);
     run.begin(at);
     let told = told_by(alloc, call, instr, &mut entry, bytes, at, &mut run);
