@@ -8,7 +8,7 @@ use crate::fields::{Kept, Shape};
 use crate::judged::holds_scalar;
 use crate::same::same;
 use fast_dictionary::Entry;
-use fast_relay::{Relayed as Told, Run, relay_decimal, relay_null, relay_number, relay_text};
+use fast_relay::{Relayed as Told, Run, relay_decimal, relay_null, relay_text};
 use fast_template::FieldPart;
 use std::alloc::{AllocError, Global};
 use std::process::Abort;
@@ -48,7 +48,6 @@ struct Answer {
 // The call of a row.
 #[derive(Clone, Copy)]
 pub(crate) enum Call {
-    Number,
     Decimal,
     Null,
     Text,
@@ -70,7 +69,6 @@ fn told_by(
     ensures place { run.new.place ≤ length bytes.now }
 {
     match call {
-        Call::Number => relay_number(instr.part, instr, entry, bytes, at, run),
         Call::Decimal => relay_decimal(instr, entry, bytes, at, run),
         Call::Null => relay_null(instr, entry, bytes, at, run),
         Call::Text => relay_text(alloc, instr, entry, bytes, at, run),
