@@ -1,5 +1,5 @@
-//! Rows on fields that are passed at once, and on numbers that are answered. A test has a table of rows, since each value that is made at a
-//! call makes its proof longer.
+//! Rows on fields that are passed at once, and on numbers that are answered. A test has a table of rows, since each value
+//! that is made at a call makes its proof longer.
 
 use crate::fields::{Kept, Shape, Value};
 use crate::same::same;
