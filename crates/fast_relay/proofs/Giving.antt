@@ -1,11 +1,11 @@
 -- What values rest on that were sent although bit 0 gives them.
 use Rattle.std.proofs.Common.{◌≡◌, ◌++◌, ◌-◌, ℕ, true, List, length, take, drop, Ok, refl, sym, ap, subst, ◌∙◌, inl, inr}
-use Rattle.std.specs.Prelude.{ℤ, ◌⊎◌, Option, Some, None, IsTrue}
+use Rattle.std.specs.Prelude.{◌⊎◌, Option, Some, None, IsTrue}
 use Rattle.std.proofs.lemmas.List.{take-append-drop}
 use Rattle.fast_wire.specs.declared.level.Level.TheVariants.{Usual}
 use Rattle.fast_wire.specs.Entity.{groups}
 use Rattle.fast_wire.specs.Plain.{IsPlain}
-use Rattle.fast_value.specs.Scalar.{is_integer, of_integer}
+use Rattle.fast_value.specs.Scalar.{is_integer}
 use Rattle.fast_value.specs.declared.kind.Kind.{Kind}
 use Rattle.fast_value.specs.declared.kind.Kind.TheVariants as kind
 use Rattle.fast_value.specs.declared.kind.Operator.{Operator}
@@ -21,17 +21,17 @@ use Rattle.fast_dictionary.specs.declared.entry.Entry.{Entry}
 use Rattle.fast_dictionary.specs.declared.entry.Entry.TheVariants.{Assigned}
 use Rattle.fast_field.specs.FieldReading.{integer_spelled_at, row_at, spelled_at, tail_at, units_spelled_at, whole_at}
 use Rattle.fast_field.specs.Fields.{IsWithin}
-use Rattle.fast_field.specs.Numbers.{IsFieldNumber, IsNumberOf, Predicts}
+use Rattle.fast_field.specs.Numbers.{Predicts}
 use Rattle.fast_field.specs.Passed.{Passes}
 use Rattle.fast_field.specs.Values.{is_unsigned}
 use Rattle.fast_field.proofs.FieldsGoOn.{field_goes}
-use Rattle.fast_field.proofs.Passing.{initial_given, kept_given, of_kind, within_number}
+use Rattle.fast_field.proofs.Passing.{initial_given, kept_given}
 use Rattle.fast_value.specs.Scalar.{is_of}
-use Rattle.fast_relay.specs.Numbers.{SpellsWhole, Spelt, SpeltNull}
+use Rattle.fast_relay.specs.Numbers.{SpellsWhole, SpeltNull}
 use Rattle.fast_relay.specs.Relayed.{Drops}
 use Rattle.fast_relay.specs.Texts.{GivesTail, IsText}
 use Rattle.fast_relay.proofs.PlainTexts.{spelled_plain}
-use Rattle.fast_relay.proofs.Relaying.{row_read, whole_read, whole_row}
+use Rattle.fast_relay.proofs.Relaying.{row_read, whole_row}
 use Rattle.fast_relay.proofs.TextRelaying.{tail_row, text_read, whole_within}
 
 pub drops : (i : FieldPart) (old new : Entry) (v : Option Scalar) (bytes rest : List ℕ) → IsWithin i.part v → row_at Usual i.operator i old true bytes ≡ Ok (v, rest) → Passes i old new v → Drops i old new v bytes rest
@@ -40,38 +40,6 @@ drops i old new v bytes rest within row p = record {
   entry = p.entry;
   best = p.best;
 }
-
--- ---- numbers
-
-typed_drops : (i : FieldPart) (old new : Entry) (z : ℤ) (bytes rest : List ℕ) → SpellsWhole i.operator → IsFieldNumber i.kind i.part z → Spelt (is_unsigned i.kind) i.presence bytes z rest → Passes i old new (Some (of_integer i.kind z))
-    → IsTrue (is_of i.kind (of_integer i.kind z)) × Drops i old new (Some (of_integer i.kind z)) bytes rest
-typed_drops i old new z bytes rest o h read p = (
-  of_kind i.kind z h.number,
-  drops i old new (Some (of_integer i.kind z)) bytes rest (within_number i.kind i.part z h) (whole_row i.operator i old bytes o ∙ whole_read i bytes rest z h.number read) p,
-)
-
-pub number_drops : (k : Kind) (i : FieldPart) (old new : Entry) (z : ℤ) (bytes rest : List ℕ) → k ≡ i.kind → SpellsWhole i.operator → IsFieldNumber k i.part z → Spelt (is_unsigned k) i.presence bytes z rest → Passes i old new (Some (of_integer k z))
-    → IsTrue (is_of i.kind (of_integer k z)) × Drops i old new (Some (of_integer k z)) bytes rest
-number_drops k i old new z bytes rest same o =
-    subst (λ (k : Kind). IsFieldNumber k i.part z → Spelt (is_unsigned k) i.presence bytes z rest → Passes i old new (Some (of_integer k z)) → IsTrue (is_of i.kind (of_integer k z)) × Drops i old new (Some (of_integer k z)) bytes rest)
-    (sym same)
-    (typed_drops i old new z bytes rest o)
-
-typed_repeats : (i : FieldPart) (v : Scalar) (z : ℤ) → i.operator ≡ operator.Copy → IsNumberOf i.kind v z → IsFieldNumber i.kind i.part z → Passes i (Assigned v) (Assigned v) (Some (of_integer i.kind z))
-typed_repeats i v z o is h =
-    let w = of_integer i.kind z in
-    let p = kept_given i w (rw o tt) (of_kind i.kind z h.number) (within_number i.kind i.part z h) in
-    subst (λ (x : Scalar). Passes i (Assigned x) (Assigned x) (Some w)) (sym is.value) p
-
-pub number_repeats : (k : Kind) (i : FieldPart) (v : Scalar) (z : ℤ) → k ≡ i.kind → i.operator ≡ operator.Copy → IsNumberOf k v z → IsFieldNumber k i.part z → Passes i (Assigned v) (Assigned v) (Some (of_integer k z))
-number_repeats k i v z same o = subst (λ (k : Kind). IsNumberOf k v z → IsFieldNumber k i.part z → Passes i (Assigned v) (Assigned v) (Some (of_integer k z))) (sym same) (typed_repeats i v z o)
-
-typed_initial : (i : FieldPart) (e : Entry) (v : Scalar) (z : ℤ) → i.operator ≡ operator.Default → i.initial ≡ Some v → IsNumberOf i.kind v z → IsFieldNumber i.kind i.part z → Passes i e e (Some (of_integer i.kind z))
-typed_initial i e v z o initial is h =
-    initial_given i e (of_integer i.kind z) o (initial ∙ ap (λ (x : Scalar). Some x) is.value) (within_number i.kind i.part z h)
-
-pub number_initial : (k : Kind) (i : FieldPart) (e : Entry) (v : Scalar) (z : ℤ) → k ≡ i.kind → i.operator ≡ operator.Default → i.initial ≡ Some v → IsNumberOf k v z → IsFieldNumber k i.part z → Passes i e e (Some (of_integer k z))
-number_initial k i e v z same o initial = subst (λ (k : Kind). IsNumberOf k v z → IsFieldNumber k i.part z → Passes i e e (Some (of_integer k z))) (sym same) (typed_initial i e v z o initial)
 
 -- ---- NULL of an integer
 

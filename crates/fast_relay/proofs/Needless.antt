@@ -1,12 +1,12 @@
 -- Groups that are needless in front of a number: behind them its bytes spell the same.
-use Rattle.std.proofs.Common.{◌≡◌, ℕ, ℤ, pos, suc, zero, ◌+◌, ◌-◌, ◌*◌, ◌%◌, ◌^◌, ◌<◌, ◌≤◌, Bool, true, false, nat_eq, nat_lt, nat_le, List, [], ◌∷◌, length, take, drop, slice_range, refl, sym, ap, subst, ◌∙◌, arith, inl, inr, drop-drop, length-take, length-drop}
+use Rattle.std.proofs.Common.{◌≡◌, ℕ, ℤ, pos, ◌+◌, ◌-◌, ◌*◌, ◌%◌, ◌^◌, ◌<◌, ◌≤◌, Bool, true, false, nat_eq, nat_lt, nat_le, List, [], ◌∷◌, length, take, drop, slice_range, sym, ap, subst, ◌∙◌, arith, inl, inr, drop-drop, length-take}
 use Rattle.std.specs.Prelude.{◌&&◌, ◌||◌, ◌-ℤ◌}
 use Rattle.std.proofs.Math.Nat.{pow-suc}
 use Rattle.std.proofs.lemmas.Bool.{cases_lt}
 use Rattle.std.proofs.lemmas.Bool.Decides.{nat_tests}
 use Rattle.std.proofs.lemmas.Int.{ints}
 use Rattle.std.proofs.lemmas.List.{drop-take, length-map}
-use Rattle.fast_wire.specs.Entity.{IsEntity, groups, number_of}
+use Rattle.fast_wire.specs.Entity.{groups}
 use Rattle.fast_wire.specs.Integer.{IsUnsigned, IsSigned, signed_of, unsigned_of}
 use Rattle.fast_wire.specs.Level.{overlong_unsigned, overlong_signed}
 use Rattle.fast_wire.specs.Nullable.{sent_signed}

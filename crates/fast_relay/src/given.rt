@@ -1,5 +1,5 @@
-//! Whether a value that was sent is what bit 0 gives too; it then has bit 0 for its best form. Integers, ASCII strings in
-//! their shortest form, tails of them, vectors, decimals and NULL are compared here.
+//! Whether a value that was sent is what bit 0 gives too; it then has bit 0 for its best form. ASCII strings in their
+//! shortest form, tails of them, vectors, decimals and NULL are compared here.
 
 ghost use Rattle.std.specs.Prelude.{◌≡◌, ◌≤◌, true, false, length, drop, Option, Some, None, IfSome};
 ghost use Rattle.fast_value.specs.Scalar.{is_of, of_integer};
@@ -20,82 +20,8 @@ ghost use Rattle.fast_field.specs.Values.{of_units};
 use crate::characters::are_characters;
 use crate::cut::find_tail;
 use fast_dictionary::Entry;
-use fast_field::{kept_number, number_after, number_of, set_number};
 use fast_template::{ByteString, FieldPart, Kind, Operator, Scalar};
 use fast_wire::is_text_of;
-
-/// Whether an entry has this number, which bit 0 then repeats.
-#[inline(always)]
-fn repeats_number(kind: Kind, instr: &FieldPart, entry: &Entry, number: i128) -> bool
-    requires kind { kind ≡ instr.now.kind }
-    requires operator { instr.now.operator ≡ operator_type.Copy }
-    requires number { IsFieldNumber kind instr.now.part number }
-    ensures { result ≡ true
-        → Passes instr.now entry.now entry.now (Some (of_integer kind number)) }
-{
-    match entry {
-        Entry::Assigned(value) => match number_of(kind, value) {
-            Some(kept) => kept == number,
-            None => false,
-        },
-        Entry::Undefined | Entry::Empty => false,
-    }
-}
-
-/// Whether this number is one more than an entry's, as bit 0 then gives; the entry then becomes the one afterwards.
-#[inline(always)]
-fn goes_on_to(kind: Kind, instr: &FieldPart, entry: &mut Entry, number: i128) -> bool
-    requires kind { kind ≡ instr.now.kind }
-    requires operator { instr.now.operator ≡ operator_type.Increment }
-    requires number { IsFieldNumber kind instr.now.part number }
-    ensures passed { result ≡ true
-        → Passes instr.now entry.old entry.new (Some (of_integer kind number)) }
-    ensures entry { result ≡ false → entry.new ≡ entry.old }
-{
-    let Some(kept) = kept_number(kind, entry) else {
-        return false;
-    };
-    if number_after(kind, kept) != number {
-        return false;
-    }
-    set_number(kind, entry, number);
-    true
-}
-
-/// Whether this number is the initial one, which bit 0 then gives.
-#[inline(always)]
-fn is_initial(kind: Kind, instr: &FieldPart, entry: &Entry, number: i128) -> bool
-    requires kind { kind ≡ instr.now.kind }
-    requires operator { instr.now.operator ≡ operator_type.Default }
-    requires number { IsFieldNumber kind instr.now.part number }
-    ensures { result ≡ true
-        → Passes instr.now entry.now entry.now (Some (of_integer kind number)) }
-{
-    match &instr.initial {
-        Some(initial) => match number_of(kind, initial.value()) {
-            Some(initial) => initial == number,
-            None => false,
-        },
-        None => false,
-    }
-}
-
-/// Whether bit 0 gives this number; the entry then becomes the one afterwards.
-#[inline(always)]
-pub(crate) fn gives_number(kind: Kind, instr: &FieldPart, entry: &mut Entry, number: i128) -> bool
-    requires kind { kind ≡ instr.now.kind }
-    requires number { IsFieldNumber kind instr.now.part number }
-    ensures passed { result ≡ true
-        → Passes instr.now entry.old entry.new (Some (of_integer kind number)) }
-    ensures entry { result ≡ false → entry.new ≡ entry.old }
-{
-    match instr.operator {
-        Operator::Copy => repeats_number(kind, instr, entry, number),
-        Operator::Increment => goes_on_to(kind, instr, entry, number),
-        Operator::Default => is_initial(kind, instr, entry, number),
-        Operator::Plain | Operator::Constant | Operator::Delta | Operator::Tail => false,
-    }
-}
 
 /// Whether bit 0 gives that a field is absent, which leaves the entry as it is.
 #[inline(always)]

@@ -11,10 +11,8 @@ ghost use Rattle.fast_field.specs.Values as values;
 ghost use Rattle.fast_relay.specs.Numbers.{Spelt, SpeltNull};
 ghost use Rattle.fast_relay.specs.Runs.{AppendsForm, IsRun, Stays, written};
 
-use crate::run::Run;
-use fast_field::{write_signed, write_unsigned};
 use fast_template::{Kind, Presence};
-use fast_wire::{Nullable, WireFault, overlong_signed, overlong_unsigned};
+use fast_wire::{Nullable, overlong_signed, overlong_unsigned};
 
 /// Whether the integers of a type have no sign.
 #[inline(always)]
@@ -89,25 +87,6 @@ pub(crate) fn read_null(unsigned: bool, bytes: &[u8], at: usize) -> Option<usize
     }
 }
 
-/// Appends a number in the form of a presence, or nothing.
-#[inline(always)]
-pub(crate) fn write_number(
-    kind: Kind,
-    presence: Presence,
-    number: i128,
-    out: &mut Vec<u8>,
-) -> Result<(), WireFault>
-    requires { IsNumber kind number }
-    ensures { AppendsOne (ShortestWhole presence (of_integer kind number))
-        out.old.items out.new.items result }
-{
-    match kind {
-        Kind::UInt32 | Kind::UInt64 => write_unsigned(presence, number as u64, out),
-        Kind::Int32 | Kind::Int64 => write_signed(presence, number, out),
-        Kind::Decimal | Kind::Ascii | Kind::Unicode | Kind::Bytes => unreachable!(),
-    }
-}
-
 /// Whether the entity that stands from one place to the next has a needless group in front.
 #[inline(always)]
 pub(crate) fn is_overlong(unsigned: bool, bytes: &[u8], at: usize, next: usize) -> bool
@@ -121,101 +100,6 @@ pub(crate) fn is_overlong(unsigned: bool, bytes: &[u8], at: usize, next: usize) 
         overlong_unsigned(form)
     } else {
         overlong_signed(form)
-    }
-}
-
-/// Appends a number in the shortest form behind what is noted, and goes on behind what was read; answers false, and nothing
-/// more is written, where memory is refused.
-#[inline(never)]
-fn respell(
-    kind: Kind,
-    presence: Presence,
-    number: i128,
-    bytes: &[u8],
-    at: usize,
-    next: usize,
-    out: &mut Run,
-) -> bool
-    requires number { IsNumber kind number }
-    requires run { IsRun bytes.now at out.now }
-    requires place { at ≤ next }
-    requires within { next ≤ length bytes.now }
-    ensures written { result ≡ true → AppendsForm (ShortestWhole presence (of_integer kind number))
-        (written bytes.now out.old) (written bytes.now out.new) }
-    ensures run { result ≡ true → IsRun bytes.now next out.new }
-    ensures unchanged { result ≡ false → Stays bytes.now at out.old out.new }
-{
-    if !out.flush(bytes) {
-        return false;
-    }
-    match write_number(kind, presence, number, &mut out.out) {
-        Err(_) => false,
-        Ok(()) => {
-            out.begin(next);
-            true
-        }
-    }
-}
-
-/// The same of a number with a sign that is no value: what is added to one.
-#[inline(never)]
-fn respell_signed(
-    presence: Presence,
-    number: i128,
-    bytes: &[u8],
-    at: usize,
-    next: usize,
-    out: &mut Run,
-) -> bool
-    requires small { IsSmall number }
-    requires run { IsRun bytes.now at out.now }
-    requires place { at ≤ next }
-    requires within { next ≤ length bytes.now }
-    ensures written { result ≡ true → AppendsForm (ShortestSigned presence number)
-        (written bytes.now out.old) (written bytes.now out.new) }
-    ensures run { result ≡ true → IsRun bytes.now next out.new }
-    ensures unchanged { result ≡ false → Stays bytes.now at out.old out.new }
-{
-    if !out.flush(bytes) {
-        return false;
-    }
-    match write_signed(presence, number, &mut out.out) {
-        Err(_) => false,
-        Ok(()) => {
-            out.begin(next);
-            true
-        }
-    }
-}
-
-/// Writes a number that was read, in the shortest form: its bytes as they stand, where they are it. Answers false, and
-/// nothing more is written, where memory is refused.
-#[inline(always)]
-pub(crate) fn copy_number(
-    kind: Kind,
-    presence: Presence,
-    number: i128,
-    bytes: &[u8],
-    at: usize,
-    next: usize,
-    out: &mut Run,
-) -> bool
-    requires number { IsNumber kind number }
-    requires run { IsRun bytes.now at out.now }
-    requires place { at ≤ next }
-    requires within { next ≤ length bytes.now }
-    requires spelt { Spelt (values.is_unsigned kind) presence (drop at bytes.now)
-        number (drop next bytes.now) }
-    ensures written { result ≡ true → AppendsForm (ShortestWhole presence (of_integer kind number))
-        (written bytes.now out.old) (written bytes.now out.new) }
-    ensures run { result ≡ true → IsRun bytes.now next out.new }
-    ensures unchanged { result ≡ false → Stays bytes.now at out.old out.new }
-{
-    if is_overlong(is_unsigned(kind), bytes, at, next) {
-        respell(kind, presence, number, bytes, at, next, out)
-    } else {
-        out.keep(next);
-        true
     }
 }
 
@@ -234,32 +118,4 @@ pub(crate) fn stands_signed(
     ensures { result ≡ true → ShortestSigned presence number (slice_range bytes.now at next) }
 {
     !is_overlong(false, bytes, at, next)
-}
-
-/// The same of a number with a sign that is no value: what is added to one.
-#[inline(always)]
-pub(crate) fn copy_signed(
-    presence: Presence,
-    number: i128,
-    bytes: &[u8],
-    at: usize,
-    next: usize,
-    out: &mut Run,
-) -> bool
-    requires small { IsSmall number }
-    requires run { IsRun bytes.now at out.now }
-    requires place { at ≤ next }
-    requires within { next ≤ length bytes.now }
-    requires spelt { Spelt false presence (drop at bytes.now) number (drop next bytes.now) }
-    ensures written { result ≡ true → AppendsForm (ShortestSigned presence number)
-        (written bytes.now out.old) (written bytes.now out.new) }
-    ensures run { result ≡ true → IsRun bytes.now next out.new }
-    ensures unchanged { result ≡ false → Stays bytes.now at out.old out.new }
-{
-    if stands_signed(presence, number, bytes, at, next) {
-        out.keep(next);
-        true
-    } else {
-        respell_signed(presence, number, bytes, at, next, out)
-    }
 }

@@ -257,7 +257,12 @@ fn judge_increment(kind: Kind, instr: &FieldPart, entry: &mut Entry, number: i64
 /// The bit of the best form of a number that was spelled whole; the entry goes on. None: nothing has changed, and another
 /// way tells.
 #[inline(always)]
-fn judge_read(kind: Kind, instr: &FieldPart, entry: &mut Entry, number: i64) -> Option<bool>
+pub(crate) fn judge_read(
+    kind: Kind,
+    instr: &FieldPart,
+    entry: &mut Entry,
+    number: i64,
+) -> Option<bool>
     requires kind { kind ≡ instr.now.kind }
     requires integer { IsTrue (is_integer kind) }
     requires whole { SpellsWhole instr.now.operator }
@@ -434,6 +439,33 @@ fn find_behind(
         at + 1
     };
     (first, !is_overlong(unsigned, bytes, first, next))
+}
+
+/// A number, the place where its shortest form begins, as it stands or behind one needless group or two, and the one behind it.
+#[inline(always)]
+pub(crate) fn read_standing(
+    unsigned: bool,
+    presence: Presence,
+    bytes: &[u8],
+    at: usize,
+) -> Option<(i64, usize, usize)>
+    requires { at ≤ length bytes.now }
+    ensures first { IfSome result (λ x. at ≤ x.1) }
+    ensures place { IfSome result (λ x. (x.1 ≤ x.2) × (x.2 ≤ length bytes.now)) }
+    ensures stands { IfSome result (λ x. StandsFrom unsigned presence bytes.now at x.1 x.2 x.0) }
+{
+    let Some((number, next)) = read_number(unsigned, presence, bytes, at) else {
+        return None;
+    };
+    if stands_shortest(unsigned, presence, number, bytes, at, next) {
+        return Some((number, at, next));
+    }
+    let (first, stands) = find_behind(unsigned, presence, number, bytes, at, next);
+    if stands {
+        Some((number, first, next))
+    } else {
+        None
+    }
 }
 
 /// A number whose shortest form stands behind one needless group or two, the place where that begins, and the one behind it.

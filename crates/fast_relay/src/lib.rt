@@ -1,9 +1,10 @@
 //! Fields that are read from one stream and written to another at once, with no value in between.
 //!
-//! These are most fields of a feed. [`relay_number`] serves integers and constants, [`relay_text`] strings and vectors,
-//! [`relay_decimal`] decimals in one piece, [`relay_null`] NULL of any type: each reads a field under bit 1, makes the entry
+//! These are most fields of a feed. [`relay_text`] serves strings and vectors, [`relay_decimal`] decimals in one piece,
+//! [`relay_null`] NULL of any type: each reads a field under bit 1, makes the entry
 //! the one afterwards, and appends the best form of its value, or nothing where that is bit 0, since bit 0 gives the value
-//! too; it answers what became of the field ([`Relayed`]). [`relay_unsigned`] answers the number too. What bit 0 gives is
+//! too; it answers what became of the field ([`Relayed`]). [`relay_unsigned`] serves numbers that are wanted, and answers
+//! them. What bit 0 gives is
 //! `pass_left_out` of `fast_field`. Where nothing has changed the field goes the general way of `fast_field`: `find_field`
 //! and `write_found`. [`take_number`] reads an integer in the same way and writes nothing, [`take_kept`] one that its
 //! entry keeps, and [`take_text`] an ASCII string that it keeps; they are for those who make messages or tell them.
@@ -42,7 +43,7 @@ mod words;
 pub use decimal::relay_decimal;
 pub use judged::{Judged, judge_field};
 pub use null::relay_null;
-pub use number::{relay_number, relay_unsigned};
+pub use number::relay_unsigned;
 pub use passed::pass_quickly;
 pub use relayed::Relayed;
 pub use run::Run;

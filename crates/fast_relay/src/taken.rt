@@ -1,9 +1,10 @@
 //! Integers that are read at once, where they are not written again. What is not served here goes the general way of
 //! `read_in_place`.
 
-ghost use Rattle.std.specs.Prelude.{◌≡◌, ◌≤◌, length, drop, IfNone, IfSome, IsTrue};
+ghost use Rattle.std.specs.Prelude.{◌≡◌, ◌≤◌, Some, length, drop, IfNone, IfSome, IsTrue};
 ghost use Rattle.fast_value.specs.Scalar.{is_integer, of_integer};
 ghost use Rattle.fast_value.specs.declared.kind.Operator.TheVariants as operator_type;
+ghost use Rattle.fast_field.specs.Bases.{next_of};
 ghost use Rattle.fast_field.specs.Numbers.{IsNumber};
 ghost use Rattle.fast_relay.specs.Numbers.{SpellsWhole};
 ghost use Rattle.fast_value.specs.declared.scalar.Scalar.{Scalar as ScalarOf};
@@ -12,7 +13,6 @@ ghost use Rattle.fast_relay.specs.Kept as kept;
 ghost use Rattle.fast_relay.specs.Relayed.{Takes};
 
 use crate::integers::{is_unsigned, read_short};
-use crate::number::keep_whole;
 use fast_dictionary::Entry;
 use fast_field::{is_field_number, kept_number, set_number};
 use fast_template::{FieldPart, Kind, Operator, Scalar};
@@ -29,6 +29,20 @@ fn value_of(kind: Kind, number: i128) -> Scalar
         Kind::UInt64 => Scalar::U64(number as u64),
         Kind::Int64 => Scalar::I64(number as i64),
         Kind::Decimal | Kind::Ascii | Kind::Unicode | Kind::Bytes => unreachable!(),
+    }
+}
+
+/// Makes an entry the one that a number leaves which was spelled whole.
+#[inline(always)]
+fn keep_whole(kind: Kind, operator: Operator, entry: &mut Entry, number: i128)
+    requires operator { SpellsWhole operator }
+    requires number { IsNumber kind number }
+    ensures { entry.new ≡ next_of operator entry.old (Some (of_integer kind number)) }
+{
+    match operator {
+        Operator::Copy | Operator::Increment => set_number(kind, entry, number),
+        Operator::Plain | Operator::Default => {}
+        Operator::Constant | Operator::Delta | Operator::Tail => {}
     }
 }
 

@@ -22,7 +22,7 @@ use crate::relay::relay_entry;
 use crate::segment::Segment;
 use fast_dictionary::{Entries, Entry};
 use fast_field::FieldFault;
-use fast_relay::{Relayed as Answer, Run, relay_decimal, relay_null, relay_number, relay_text};
+use fast_relay::{Relayed as Answer, Run, relay_decimal, relay_null, relay_text};
 use fast_template::{FieldPart, Kind, Presence, part_needs_bit};
 use fast_wire::Level;
 use std::alloc::Global;
@@ -51,9 +51,8 @@ fn relay_value(
     ensures out { IfElsewhere result (Stays bytes.now at out.old out.new) }
 {
     match part.kind {
-        Kind::UInt32 | Kind::Int32 | Kind::UInt64 | Kind::Int64 => {
-            relay_number(part.part, part, entry, bytes, at, out)
-        }
+        // judged where it is not rare
+        Kind::UInt32 | Kind::Int32 | Kind::UInt64 | Kind::Int64 => Answer::Elsewhere,
         Kind::Decimal => relay_decimal(part, entry, bytes, at, out),
         Kind::Ascii | Kind::Unicode | Kind::Bytes => relay_text(alloc, part, entry, bytes, at, out),
     }

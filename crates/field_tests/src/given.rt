@@ -7,53 +7,6 @@ use std::alloc::AllocError;
 
 #[test]
 fn values_that_bit_0_gives(rt: HostRuntime) -> Result<(), AllocError> {
-    const GIVEN_NUMBER: &[Given] = &[
-        // numbers that bit 0 gives
-        Given {
-            of: Shape::Mandatory(Kind::UInt32, Operator::Copy),
-            before: Kept::Assigned(Value::U32(7)),
-            bytes: &[0xff, 0x87],
-            after: Kept::Assigned(Value::U32(7)),
-        },
-        // in an overlong form
-        Given {
-            of: Shape::Mandatory(Kind::UInt32, Operator::Copy),
-            before: Kept::Assigned(Value::U32(7)),
-            bytes: &[0xff, 0x00, 0x87],
-            after: Kept::Assigned(Value::U32(7)),
-        },
-        Given {
-            of: Shape::Mandatory(Kind::UInt32, Operator::Increment),
-            before: Kept::Assigned(Value::U32(7)),
-            bytes: &[0xff, 0x88],
-            after: Kept::Assigned(Value::U32(8)),
-        },
-        // behind the greatest number comes the least
-        Given {
-            of: Shape::Mandatory(Kind::UInt32, Operator::Increment),
-            before: Kept::Assigned(Value::U32(u32::MAX)),
-            bytes: &[0xff, 0x80],
-            after: Kept::Assigned(Value::U32(0)),
-        },
-        Given {
-            of: Shape::Initial(Presence::Mandatory, Operator::Default, 7),
-            before: Kept::Undefined,
-            bytes: &[0xff, 0x87],
-            after: Kept::Undefined,
-        },
-        Given {
-            of: Shape::Initial(Presence::Optional, Operator::Default, 5),
-            before: Kept::Undefined,
-            bytes: &[0xff, 0x86],
-            after: Kept::Undefined,
-        },
-        Given {
-            of: Shape::Exponent(Presence::Mandatory, Operator::Default, Some(-2)),
-            before: Kept::Undefined,
-            bytes: &[0xff, 0xfe],
-            after: Kept::Undefined,
-        },
-    ];
     const GIVEN_NULL: &[Given] = &[
         // nulls that bit 0 gives
         Given {
@@ -119,7 +72,6 @@ fn values_that_bit_0_gives(rt: HostRuntime) -> Result<(), AllocError> {
             after: Kept::Assigned(Value::Decimal(1, -2)),
         },
     ];
-    all_given(&rt, rt.alloc(), Call::Number, GIVEN_NUMBER)?;
     all_given(&rt, rt.alloc(), Call::Null, GIVEN_NULL)?;
     all_given(&rt, rt.alloc(), Call::Text, GIVEN_TEXT)?;
     all_given(&rt, rt.alloc(), Call::Decimal, GIVEN_DECIMAL)

@@ -55,7 +55,7 @@ fn is_scalar(value: &Scalar) -> bool
 }
 
 // Whether an entry's value is.
-fn holds_scalar(entry: &Entry) -> bool
+pub(crate) fn holds_scalar(entry: &Entry) -> bool
     ensures { result ≡ true → HoldsScalar entry.now }
 {
     match entry {
@@ -473,14 +473,18 @@ fn integers_that_are_judged(rt: HostRuntime) -> Result<(), AllocError> {
             judged: Judged::Behind(3),
             after: Kept::Assigned(Value::I32(-1)),
         },
-    ];
-    all_judged(&rt, rt.alloc(), JUDGED)
-}
-
-#[test]
-fn integers_that_are_not_judged(rt: HostRuntime) -> Result<(), AllocError> {
-    const OTHERS: &[Row] = &[
-        // two needless groups
+        // whose sign wants a group of its own
+        Row {
+            part: Part::Whole,
+            kind: Kind::Int32,
+            presence: Presence::Mandatory,
+            operator: Operator::Copy,
+            before: Kept::Assigned(Value::I32(5)),
+            bytes: &[0, 0x00, 0x00, 0xc0],
+            judged: Judged::Behind(4),
+            after: Kept::Assigned(Value::I32(64)),
+        },
+        // behind two
         Row {
             part: Part::Whole,
             kind: Kind::UInt32,
@@ -488,6 +492,44 @@ fn integers_that_are_not_judged(rt: HostRuntime) -> Result<(), AllocError> {
             operator: Operator::Copy,
             before: Kept::Assigned(Value::U32(5)),
             bytes: &[0, 0x00, 0x00, 0x87],
+            judged: Judged::BehindTwo(4),
+            after: Kept::Assigned(Value::U32(7)),
+        },
+        Row {
+            part: Part::Whole,
+            kind: Kind::UInt32,
+            presence: Presence::Mandatory,
+            operator: Operator::Copy,
+            before: Kept::Assigned(Value::U32(5)),
+            bytes: &[0, 0x00, 0x00, 0x85],
+            judged: Judged::Given(4),
+            after: Kept::Assigned(Value::U32(5)),
+        },
+        Row {
+            part: Part::Whole,
+            kind: Kind::Int64,
+            presence: Presence::Optional,
+            operator: Operator::Delta,
+            before: Kept::Assigned(Value::I64(10)),
+            bytes: &[0, 0x7f, 0x7f, 0xff],
+            judged: Judged::BehindTwo(4),
+            after: Kept::Assigned(Value::I64(9)),
+        },
+    ];
+    all_judged(&rt, rt.alloc(), JUDGED)
+}
+
+#[test]
+fn integers_that_are_not_judged(rt: HostRuntime) -> Result<(), AllocError> {
+    const OTHERS: &[Row] = &[
+        // three needless groups
+        Row {
+            part: Part::Whole,
+            kind: Kind::UInt32,
+            presence: Presence::Mandatory,
+            operator: Operator::Copy,
+            before: Kept::Assigned(Value::U32(5)),
+            bytes: &[0, 0x00, 0x00, 0x00, 0x87],
             judged: Judged::Elsewhere,
             after: Kept::Assigned(Value::U32(5)),
         },
@@ -675,14 +717,7 @@ fn vectors_that_are_judged(rt: HostRuntime) -> Result<(), AllocError> {
             judged: Judged::Behind(5),
             after: Kept::Assigned(Value::Unicode("ABC")),
         },
-    ];
-    all_judged(&rt, rt.alloc(), JUDGED)
-}
-
-#[test]
-fn vectors_that_are_not_judged(rt: HostRuntime) -> Result<(), AllocError> {
-    const OTHERS: &[Row] = &[
-        // two needless groups in front of a length, or one in front of that of a new part
+        // behind two
         Row {
             part: Part::Whole,
             kind: Kind::Bytes,
@@ -690,6 +725,34 @@ fn vectors_that_are_not_judged(rt: HostRuntime) -> Result<(), AllocError> {
             operator: Operator::Copy,
             before: Kept::Assigned(Value::Bytes(b"AB")),
             bytes: &[0, 0x00, 0x00, 0x81, 0x43],
+            judged: Judged::BehindTwo(5),
+            after: Kept::Assigned(Value::Bytes(b"C")),
+        },
+        Row {
+            part: Part::Whole,
+            kind: Kind::Unicode,
+            presence: Presence::Mandatory,
+            operator: Operator::Delta,
+            before: Kept::Assigned(Value::Unicode("AB")),
+            bytes: &[0, 0x00, 0x00, 0x81, 0x81, 0x43],
+            judged: Judged::BehindTwo(6),
+            after: Kept::Assigned(Value::Unicode("AC")),
+        },
+    ];
+    all_judged(&rt, rt.alloc(), JUDGED)
+}
+
+#[test]
+fn vectors_that_are_not_judged(rt: HostRuntime) -> Result<(), AllocError> {
+    const OTHERS: &[Row] = &[
+        // three needless groups in front of a length, or one in front of that of a new part
+        Row {
+            part: Part::Whole,
+            kind: Kind::Bytes,
+            presence: Presence::Mandatory,
+            operator: Operator::Copy,
+            before: Kept::Assigned(Value::Bytes(b"AB")),
+            bytes: &[0, 0x00, 0x00, 0x00, 0x81, 0x43],
             judged: Judged::Elsewhere,
             after: Kept::Assigned(Value::Bytes(b"AB")),
         },
@@ -804,14 +867,7 @@ fn decimals_that_are_judged(rt: HostRuntime) -> Result<(), AllocError> {
             judged: Judged::Behind(4),
             after: Kept::Assigned(Value::Decimal(-2, 101)),
         },
-    ];
-    all_judged(&rt, rt.alloc(), JUDGED)
-}
-
-#[test]
-fn decimals_that_are_not_judged(rt: HostRuntime) -> Result<(), AllocError> {
-    const OTHERS: &[Row] = &[
-        // two needless groups, and one of the mantissa
+        // behind two
         Row {
             part: Part::Whole,
             kind: Kind::Decimal,
@@ -819,6 +875,34 @@ fn decimals_that_are_not_judged(rt: HostRuntime) -> Result<(), AllocError> {
             operator: Operator::Copy,
             before: Kept::Assigned(Value::Decimal(1, 5)),
             bytes: &[0, 0x00, 0x00, 0x82, 0x85],
+            judged: Judged::BehindTwo(5),
+            after: Kept::Assigned(Value::Decimal(2, 5)),
+        },
+        Row {
+            part: Part::Whole,
+            kind: Kind::Decimal,
+            presence: Presence::Mandatory,
+            operator: Operator::Delta,
+            before: Kept::Assigned(Value::Decimal(-2, 100)),
+            bytes: &[0, 0x7f, 0x7f, 0xff, 0x81],
+            judged: Judged::BehindTwo(5),
+            after: Kept::Assigned(Value::Decimal(-3, 101)),
+        },
+    ];
+    all_judged(&rt, rt.alloc(), JUDGED)
+}
+
+#[test]
+fn decimals_that_are_not_judged(rt: HostRuntime) -> Result<(), AllocError> {
+    const OTHERS: &[Row] = &[
+        // three needless groups, and one of the mantissa
+        Row {
+            part: Part::Whole,
+            kind: Kind::Decimal,
+            presence: Presence::Mandatory,
+            operator: Operator::Copy,
+            before: Kept::Assigned(Value::Decimal(1, 5)),
+            bytes: &[0, 0x00, 0x00, 0x00, 0x82, 0x85],
             judged: Judged::Elsewhere,
             after: Kept::Assigned(Value::Decimal(1, 5)),
         },

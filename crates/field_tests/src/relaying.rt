@@ -1,12 +1,14 @@
 //! Rows on fields that are relayed at once.
 
 ghost use Rattle.std.specs.Prelude.{◌≤◌, length};
+ghost use Rattle.fast_field.specs.Within.{HoldsScalar};
 ghost use Rattle.fast_relay.specs.Runs.{IsRun};
 
 use crate::fields::{Kept, Shape};
+use crate::judged::holds_scalar;
 use crate::same::same;
 use fast_dictionary::Entry;
-use fast_relay::{Relayed as Told, Run, relay_decimal, relay_null, relay_number, relay_text};
+use fast_relay::{Relayed as Told, Run, relay_decimal, relay_null, relay_text};
 use fast_template::FieldPart;
 use std::alloc::{AllocError, Global};
 use std::process::Abort;
@@ -46,7 +48,6 @@ struct Answer {
 // The call of a row.
 #[derive(Clone, Copy)]
 pub(crate) enum Call {
-    Number,
     Decimal,
     Null,
     Text,
@@ -62,12 +63,12 @@ fn told_by(
     at: usize,
     run: &mut Run,
 ) -> Told
-    requires { IsRun bytes.now at run.now }
+    requires run { IsRun bytes.now at run.now }
+    requires kept { HoldsScalar entry.now }
     ensures from { run.new.from ≤ run.new.place }
     ensures place { run.new.place ≤ length bytes.now }
 {
     match call {
-        Call::Number => relay_number(instr.part, instr, entry, bytes, at, run),
         Call::Decimal => relay_decimal(instr, entry, bytes, at, run),
         Call::Null => relay_null(instr, entry, bytes, at, run),
         Call::Text => relay_text(alloc, instr, entry, bytes, at, run),
@@ -84,6 +85,10 @@ fn relay_with(
     let mut run = Run::new(alloc);
     run.out.push(0x2a)?;
     let mut entry = before.entry(alloc)?;
+    // no other is relayed
+    if !holds_scalar(&entry) {
+        return Err(AllocError);
+    }
     let at = bytes.len().min(1);
     run.begin(at);
     let told = told_by(alloc, call, instr, &mut entry, bytes, at, &mut run);

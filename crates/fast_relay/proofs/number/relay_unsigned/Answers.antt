@@ -1,5 +1,63 @@
-use Rattle.std.proofs.Common.{rules}
+use Rattle.std.specs.Int.{w64}
+use Rattle.std.specs.Int.RustNames.{FitsSigned}
+use Rattle.std.proofs.Common.{◌≡◌, ◌++◌, ◌∙◌, List, ℕ, ap, arith, rules, slice_range, sym}
+use Rattle.std.proofs.lemmas.Int.{to_z-of_z}
+use Rattle.fast_value.specs.declared.kind.Kind.TheVariants.{UInt32}
+use Rattle.fast_relay.specs.Runs.{written}
+use Rattle.fast_relay.proofs.Judging.{whole_given, whole_stands}
+use Rattle.fast_relay.proofs.Runs.{begun, none_noted}
 use Rattle.fast_relay.proofs.number.relay_unsigned.Goals as goal
 
-pub returns-in-Some-clause-relayed : goal.returns-in-Some-clause-relayed
-returns-in-Some-clause-relayed c = search rules
+pub returns-in-Some-true : goal.returns-in-Some-true
+returns-in-Some-true c =
+    let i = c.args.instr.now in
+    let bytes = c.args.bytes.now in
+    let kind : UInt32 ≡ i.kind = search rules in
+    let first = c.in-Some.first in
+    let next = c.in-Some.next in
+    let z = c.in-Some.number in
+    let fits : FitsSigned w64 z = search rules in
+    let same = to_z-of_z w64 z fits in
+    let place = c.in-Some.ensures.place in
+    let before = c.in-Some.ensures.first in
+    let run = begun bytes first c.begin.new.self c.begin.ensures.from c.begin.ensures.place (omega (arith, place)) in
+    let all = c.keep.ensures.written bytes first run
+    ∙ ap (λ (s : List ℕ). s ++ slice_range bytes first next) (none_noted bytes c.begin.new.self (c.begin.ensures.from ∙ sym c.begin.ensures.place) ∙ c.begin.ensures.out ∙ c.flush.ensures.out c.if-not-flush.false) in
+    record {
+      place = (omega (arith, place, before), place.1);
+      run = c.keep.ensures.run bytes first run place.1;
+      relayed = rw (same, all)
+          (whole_stands UInt32 i c.args.entry.now c.judge_read.new.entry z bytes c.args.at first next
+          kind (c.spells_whole.ensures c.if-not-spells_whole.false)
+          (rw same at (c.is_field_number.ensures c.if-not-is_field_number.false))
+          c.in-Some.ensures.stands
+          (rw (same, c.in-Some-true.field-0-test) at c.in-Some-true.ensures.leaves)
+          (written bytes c.args.out.now));
+      entry = tt;
+      out = tt;
+    }
+
+pub returns-in-Some-false : goal.returns-in-Some-false
+returns-in-Some-false c =
+    let i = c.args.instr.now in
+    let bytes = c.args.bytes.now in
+    let kind : UInt32 ≡ i.kind = search rules in
+    let next = c.in-Some.next in
+    let z = c.in-Some.number in
+    let fits : FitsSigned w64 z = search rules in
+    let same = to_z-of_z w64 z fits in
+    let place = c.in-Some.ensures.place in
+    let before = c.in-Some.ensures.first in
+    let begin = c.begin-in-Some-false in
+    let given = whole_given UInt32 i c.args.entry.now c.judge_read.new.entry z bytes c.args.at c.in-Some.first next
+    kind (c.spells_whole.ensures c.if-not-spells_whole.false)
+    (rw same at (c.is_field_number.ensures c.if-not-is_field_number.false))
+    c.in-Some.ensures.stands
+    (rw (same, c.in-Some-false.field-0-test) at c.in-Some-false.ensures.leaves) in
+    record {
+      place = (omega (arith, place, before), place.1);
+      run = begun bytes next begin.new.self begin.ensures.from begin.ensures.place place.1;
+      relayed = rw same (given.0, given.1, none_noted bytes begin.new.self (begin.ensures.from ∙ sym begin.ensures.place) ∙ begin.ensures.out ∙ c.flush.ensures.out c.if-not-flush.false);
+      entry = tt;
+      out = tt;
+    }
