@@ -8,6 +8,7 @@ mod VectorTexts
 mod Taking
 mod TextTaking
 mod KeptTaking
+mod DecimalTaking
 pub mod Giving
 mod Standing
 mod Judging
