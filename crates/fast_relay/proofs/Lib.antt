@@ -9,6 +9,7 @@ mod Taking
 mod TextTaking
 mod KeptTaking
 mod DecimalTaking
+mod VectorTaking
 pub mod Giving
 mod Standing
 mod Judging
