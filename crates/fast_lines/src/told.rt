@@ -22,13 +22,14 @@ use crate::signs::Signs;
 use fast_dictionary::{Entries, Entry};
 use fast_field::{FieldFault, Found, read_in_place, reads_as_usual};
 use fast_part::take_given;
-use fast_relay::{take_kept, take_number, take_text};
+use fast_relay::{take_decimal, take_kept, take_number, take_text, take_vector};
 use fast_template::{FieldPart, Kind, Name, Operator, Presence};
 use fast_wire::Level;
 use std::alloc::Global;
 
-// Takes a field's value in the general way, and tells it from where it lies: it is not copied.
-#[inline(always)]
+// Takes a field's value in the general way, and tells it from where it lies: it is not copied. It is a call, so that the
+// loop over the fields stays small.
+#[inline(never)]
 fn take_generally<S: Signs>(
     signs: S,
     alloc: Global,
@@ -106,7 +107,7 @@ fn take_integer<S: Signs>(
     }
 }
 
-// Takes an integer or a string under bit 1 into the entry, where it is read as at the usual level and kept there.
+// Takes a value under bit 1 into the entry, where it is read as at the usual level and kept there.
 #[inline(always)]
 fn take_into(
     alloc: Global,
@@ -123,11 +124,13 @@ fn take_into(
 {
     match part.kind {
         Kind::Ascii => take_text(alloc, part, entry, bytes, at),
+        Kind::Unicode | Kind::Bytes => take_vector(alloc, part, entry, bytes, at),
+        Kind::Decimal => take_decimal(part, entry, bytes, at),
         _ => take_kept(part, entry, bytes, at),
     }
 }
 
-// The same of an integer or a string that the entry keeps: it is told from there.
+// The same of what the entry keeps: it is told from there.
 #[inline(always)]
 fn take_held<S: Signs>(
     signs: S,
@@ -166,7 +169,7 @@ fn take_held<S: Signs>(
     }
 }
 
-// The same of any field, of which integers and strings are taken at once.
+// The same of any field: of integers also those that the entry does not keep.
 #[inline(always)]
 fn take_sent<S: Signs>(
     signs: S,
@@ -205,19 +208,14 @@ fn take_sent<S: Signs>(
                 signs, alloc, name, presence, part, entry, level, bytes, at, line,
             ),
         },
-        Kind::Ascii => {
-            take_held(
-                signs, alloc, name, presence, part, entry, level, bytes, at, line,
-            )
-        }
-        Kind::Decimal | Kind::Unicode | Kind::Bytes => take_generally(
-            signs, alloc, name, presence, part, entry, true, level, bytes, at, line,
+        Kind::Decimal | Kind::Ascii | Kind::Unicode | Kind::Bytes => take_held(
+            signs, alloc, name, presence, part, entry, level, bytes, at, line,
         ),
     }
 }
 
 // Takes a field's value, where bytes give it, and tells it from where it lies.
-#[inline(never)]
+#[inline(always)]
 fn take_read<S: Signs>(
     signs: S,
     alloc: Global,
