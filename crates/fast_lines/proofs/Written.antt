@@ -1,7 +1,7 @@
 -- What calls one after the other have put behind an output.
 use Rattle.std.proofs.Common.{◌≡◌, ◌<◌, ◌≤◌, ◌+◌, ◌-◌, drop, arith, ◌/◌, ◌%◌, ℕ, List, [], ◌∷◌, ◌++◌, Option, Some, None, Ok, Err, Result, length, take, get_or, option_map, true≢false, true, refl, sym, ap, ap₂, ◌∙◌}
 use Rattle.std.specs.Prelude.{slice_index, IsErr}
-use Rattle.std.proofs.lemmas.List.{append-nil, append_assoc, take_more, take-append-drop, length-drop, length-take-le}
+use Rattle.std.proofs.lemmas.List.{append-nil, append_assoc, drop_more, take_more, take-append-drop, length-drop, length-take-le}
 use Rattle.std.proofs.Math.Seq.{take-append-add, take-length}
 use Rattle.std.specs.declared.alloc.AllocError.{AllocError}
 use Rattle.std.specs.List.{flat_map, list_all}
@@ -67,6 +67,15 @@ encode-append t (b ∷ rest) ys = ap (λ l. slice_index t (b / 16) ∷ slice_ind
 pub encode_one : (xs : List ℕ) (i : ℕ) (d : ℕ) → i < length xs → encode_lower (take (i + 1) xs) ≡ encode_lower (take i xs) ++ encode_lower (get_or xs i d ∷ [])
 encode_one xs i d lt =
     ap encode_lower (take_more xs i d lt) ∙ encode-append lower_digits (take i xs) (get_or xs i d ∷ [])
+
+-- the digits of what is left of some bytes, from its first on
+pub encode_front : (xs : List ℕ) (i : ℕ) (d : ℕ) → i < length xs → encode_lower (drop i xs) ≡ encode_lower (get_or xs i d ∷ []) ++ encode_lower (drop (i + 1) xs)
+unfolding encode_with
+encode_front xs i d lt = ap encode_lower (drop_more xs i d lt)
+
+-- and what is made of the units that are left
+pub flat_map_front : (f : ℕ → List ℕ) (xs : List ℕ) (i : ℕ) (d : ℕ) → i < length xs → flat_map f (drop i xs) ≡ f (get_or xs i d) ++ flat_map f (drop (i + 1) xs)
+flat_map_front f xs i d lt = ap (flat_map f) (drop_more xs i d lt) ∙ flat_map-cons f (get_or xs i d) (drop (i + 1) xs)
 
 pub encode_none : encode_lower [] ≡ []
 unfolding encode_with

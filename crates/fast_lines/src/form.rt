@@ -45,6 +45,16 @@ impl Escape for TextSigns {
         }
         push(&escaped(byte), out)
     }
+
+    #[inline(always)]
+    fn lay_unit(self, byte: u8, piece: &mut Piece, start: usize) -> usize {
+        if stands(byte) {
+            return piece.lay_byte(start, byte);
+        }
+        let start = piece.lay_hex_pair(start, byte);
+        let start = piece.lay_byte(start, b'x');
+        piece.lay_byte(start, b'\\')
+    }
 }
 
 impl Signs for TextSigns {
@@ -74,6 +84,14 @@ impl Signs for TextSigns {
     }
 
     #[inline(always)]
+    fn lay_vector(self, bytes: &[u8], piece: &mut Piece, start: usize) -> Option<usize> {
+        match piece.lay_hex(start, bytes) {
+            Some(start) => Some(piece.lay_byte(start, b'x')),
+            None => None,
+        }
+    }
+
+    #[inline(always)]
     fn push_label(self, name: &str, out: &mut Vec<u8>) -> Result<(), AllocError> {
         push(name.as_bytes(), out)?;
         push_byte(b'=', out)
@@ -90,6 +108,17 @@ impl Signs for TextSigns {
         push_byte(b' ', out)?;
         push(name.as_bytes(), out)
     }
+
+    #[inline(always)]
+    fn lay_head(self, id: u32, name: &str, piece: &mut Piece) -> Option<usize> {
+        match piece.lay_last(name.as_bytes()) {
+            Some(start) => {
+                let start = piece.lay_byte(start, b' ');
+                Some(piece.lay_unsigned(start, u64::from(id)))
+            }
+            None => None,
+        }
+    }
 }
 
 impl Escape for JsonSigns {
@@ -104,6 +133,20 @@ impl Escape for JsonSigns {
             push_byte(b'\\', out)?;
         }
         push_byte(byte, out)
+    }
+
+    #[inline(always)]
+    fn lay_unit(self, byte: u8, piece: &mut Piece, start: usize) -> usize {
+        if byte < 0x20 || byte == 0x7F {
+            let start = piece.lay_hex_pair(start, byte);
+            return piece.lay(start, b"\\u00");
+        }
+        let start = piece.lay_byte(start, byte);
+        if byte == b'"' || byte == b'\\' {
+            piece.lay_byte(start, b'\\')
+        } else {
+            start
+        }
     }
 }
 
@@ -135,6 +178,18 @@ impl Signs for JsonSigns {
     }
 
     #[inline(always)]
+    fn lay_vector(self, bytes: &[u8], piece: &mut Piece, start: usize) -> Option<usize> {
+        if start == 0 {
+            return None;
+        }
+        let start = piece.lay_byte(start, b'"');
+        match piece.lay_hex(start, bytes) {
+            Some(start) => Some(piece.lay_byte(start, b'"')),
+            None => None,
+        }
+    }
+
+    #[inline(always)]
     fn push_label(self, name: &str, out: &mut Vec<u8>) -> Result<(), AllocError> {
         push_quoted(self, name.as_bytes(), out)?;
         push_byte(b':', out)
@@ -156,5 +211,10 @@ impl Signs for JsonSigns {
         push(b",\"id\":", out)?;
         push_unsigned(u64::from(id), out)?;
         push(b",\"fields\":{", out)
+    }
+
+    #[inline(always)]
+    fn lay_head(self, _id: u32, _name: &str, _piece: &mut Piece) -> Option<usize> {
+        None
     }
 }

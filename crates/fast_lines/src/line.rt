@@ -7,8 +7,10 @@ use crate::lines::{lay_scalar, push_scalar};
 use crate::page::Page;
 use crate::piece::{END, Piece};
 use crate::signs::Signs;
-use fast_template::{FieldPart, Name, Scalar};
+use crate::strings::{UNITS, all_stand, lay_units};
+use fast_template::{ByteString, FieldPart, Name, Scalar};
 use std::alloc::{AllocError, Global};
+use std::mem;
 
 /// A line of more bytes than this is long: long names and texts are left out of it as gaps, and told when it is handed on.
 const LONG: usize = 1_048_576;
@@ -22,6 +24,10 @@ pub struct Line {
     pub(crate) text: Page,
     // what is no short piece, before it is appended to the text
     pub(crate) long: Vec<u8>,
+    // a short piece, while it is laid out; it stays here, so that none is cleared for each
+    piece: Piece,
+    // a string that no entry keeps, while it is told
+    pub(crate) aside: Scalar,
     // whether what stands between two is due in front of what is next
     led: bool,
     pub(crate) gaps: Gaps,
@@ -34,7 +40,8 @@ impl Line {
     ghost use Rattle.fast_lines.specs.Filled.{written_of};
     ghost use Rattle.fast_lines.specs.Lines.{decimal_text, scalar_text};
     ghost use Rattle.fast_lines.specs.Pieces.{laid};
-    ghost use Rattle.fast_lines.specs.Signs.{ending, head_text, is_led, label_text, lead};
+    ghost use Rattle.std.specs.List.{flat_map};
+    ghost use Rattle.fast_lines.specs.Signs.{ending, head_text, is_led, label_text, lead, quoted, unit_text};
     ghost use Rattle.fast_lines.specs.Told.{Said, line_now, said_text};
     ghost use Rattle.fast_lines.specs.declared.form.Form.{Form};
 
@@ -46,6 +53,8 @@ impl Line {
         Line {
             text: Page::new(alloc),
             long: Vec::new(alloc),
+            piece: Piece::new(),
+            aside: Scalar::Ascii(ByteString::from_vec(Vec::new(alloc))),
             led: true,
             gaps: Gaps::new(alloc),
         }
@@ -75,10 +84,23 @@ impl Line {
     {
         self.gaps.clear();
         self.text.clear();
+        self.led = signs.is_led();
+        match signs.lay_head(id, name, &mut self.piece) {
+            Some(start) => self.text.put_piece(&self.piece, start),
+            None => self.put_head(signs, id, name),
+        }
+    }
+
+    // Appends what stands in front of the fields, where it is no short piece.
+    #[inline(never)]
+    fn put_head<S: Signs>(&mut self, signs: S, id: u32, name: &str) -> Result<(), AllocError>
+        ensures text { OnOk result ((form : Form) → written_of form self.new
+            ≡ written_of form self.old ++ head_text S.form id name.now) }
+        ensures led { self.new.led ≡ self.old.led }
+    {
         self.long.clear();
         signs.push_head(id, name, &mut self.long)?;
-        self.led = signs.is_led();
-        self.text.put(&self.long)
+        self.put_long()
     }
 
     // Appends a text.
@@ -130,15 +152,15 @@ impl Line {
         Ok(false)
     }
 
-    // Appends a piece that begins here.
+    // Appends the piece, which begins here.
     #[inline(always)]
-    fn put_piece(&mut self, piece: &Piece, start: usize) -> Result<(), AllocError>
+    fn put_piece(&mut self, start: usize) -> Result<(), AllocError>
         requires { start ≤ 64 }
         ensures text { OnOk result ((form : Form) → written_of form self.new
-            ≡ written_of form self.old ++ laid piece.now.bytes start) }
+            ≡ written_of form self.old ++ laid self.old.piece.bytes start) }
         ensures led { self.new.led ≡ self.old.led }
     {
-        self.text.put_piece(piece, start)?;
+        self.text.put_piece(&self.piece, start)?;
         Ok(())
     }
 
@@ -163,10 +185,9 @@ impl Line {
             ++ (lead S.form self.old.led ++ label_text S.form name.now)) }
         ensures led { OnOk result (self.new.led ≡ true) }
     {
-        let mut piece = Piece::new();
-        match signs.lay_label(name.as_str(), &mut piece, END) {
+        match signs.lay_label(name.as_str(), &mut self.piece, END) {
             None => self.label_long(signs, name),
-            Some(start) => self.append(signs, &mut piece, start),
+            Some(start) => self.append(signs, start),
         }
     }
 
@@ -199,14 +220,30 @@ impl Line {
         ensures { OnOk result (Said S.form name.now (Some (said_text S.form (option_copied value.entry)))
             (line_now S.form self.old) (line_now S.form self.new)) }
     {
-        let mut piece = Piece::new();
-        match lay_scalar(signs, value, &mut piece) {
+        match lay_scalar(signs, value, &mut self.piece) {
             None => self.tell_long(signs, name, part, value),
-            Some(start) => match signs.lay_label(name.as_str(), &mut piece, start) {
+            Some(start) => match signs.lay_label(name.as_str(), &mut self.piece, start) {
                 None => self.tell_long(signs, name, part, value),
-                Some(start) => self.append(signs, &mut piece, start),
+                Some(start) => self.append(signs, start),
             },
         }
+    }
+
+    /// The same of the string that stands aside.
+    #[inline(always)]
+    pub(crate) fn tell_aside<S: Signs>(
+        &mut self,
+        signs: S,
+        name: &Name,
+        part: &FieldPart,
+    ) -> Result<(), AllocError>
+        ensures { OnOk result (Said S.form name.now (Some (scalar_text S.form self.old.aside))
+            (line_now S.form self.old) (line_now S.form self.new)) }
+    {
+        let value = mem::replace(&mut self.aside, Scalar::U32(0));
+        let told = self.tell(signs, name, part, Some(&value));
+        self.aside = value;
+        told
     }
 
     // The same of any length, one after the other.
@@ -242,9 +279,58 @@ impl Line {
         if self.is_long() && self.leave_text(part, value)? {
             return Ok(());
         }
-        self.long.clear();
-        push_scalar(signs, value, &mut self.long)?;
-        self.put_long()
+        match value {
+            Scalar::Ascii(text) => self.put_quoted(signs, text.as_slice()),
+            Scalar::Unicode(text) => self.put_quoted(signs, text.as_bytes()),
+            _ => {
+                self.long.clear();
+                push_scalar(signs, value, &mut self.long)?;
+                self.put_long()
+            }
+        }
+    }
+
+    // Appends a string in its quotes.
+    fn put_quoted<S: Signs>(&mut self, signs: S, text: &[u8]) -> Result<(), AllocError>
+        ensures text { OnOk result (written_of S.form self.new
+            ≡ written_of S.form self.old ++ quoted S.form text.now) }
+        ensures led { self.new.led ≡ self.old.led }
+    {
+        self.put(b"\"")?;
+        self.put_text(signs, text)?;
+        self.put(b"\"")?;
+        Ok(())
+    }
+
+    // Appends a string without its quotes; where it stands as it is, at once.
+    #[inline(always)]
+    fn put_text<S: Signs>(&mut self, signs: S, text: &[u8]) -> Result<(), AllocError>
+        ensures text { OnOk result (written_of S.form self.new
+            ≡ written_of S.form self.old ++ flat_map (unit_text S.form) text.now) }
+        ensures led { self.new.led ≡ self.old.led }
+    {
+        if all_stand(text) {
+            self.put(text)?;
+            return Ok(());
+        }
+        self.put_units(signs, text)
+    }
+
+    // The same, piece by piece.
+    fn put_units<S: Signs>(&mut self, signs: S, text: &[u8]) -> Result<(), AllocError>
+        ensures text { OnOk result (written_of S.form self.new
+            ≡ written_of S.form self.old ++ flat_map (unit_text S.form) text.now) }
+        ensures led { self.new.led ≡ self.old.led }
+    {
+        let mut at = 0;
+        while text.len() - at >= UNITS {
+            let start = lay_units(signs, &text[at..at + UNITS], &mut self.piece);
+            self.put_piece(start)?;
+            at += UNITS;
+        }
+        let start = lay_units(signs, &text[at..], &mut self.piece);
+        self.put_piece(start)?;
+        Ok(())
     }
 
     /// Appends the label of what is absent, and what stands for it.
@@ -257,31 +343,26 @@ impl Line {
         self.put(signs.absent())
     }
 
-    // Appends a piece that begins here with a label, behind what stands between two where it is due.
+    // Appends the piece, which begins here with a label, behind what stands between two where it is due.
     #[inline(always)]
-    fn append<S: Signs>(
-        &mut self,
-        signs: S,
-        piece: &mut Piece,
-        start: usize,
-    ) -> Result<(), AllocError>
+    fn append<S: Signs>(&mut self, signs: S, start: usize) -> Result<(), AllocError>
         requires { (0 < start) × (start ≤ 64) }
         ensures text { OnOk result (written_of S.form self.new ≡ written_of S.form self.old
-            ++ (lead S.form self.old.led ++ laid piece.old.bytes start)) }
+            ++ (lead S.form self.old.led ++ laid self.old.piece.bytes start)) }
         ensures led { OnOk result (self.new.led ≡ true) }
     {
         if !self.led {
             self.led = true;
-            return self.put_piece(piece, start);
+            return self.put_piece(start);
         }
         match signs.between() {
             [byte] => {
-                let start = piece.lay_byte(start, *byte);
-                self.put_piece(piece, start)
+                let start = self.piece.lay_byte(start, *byte);
+                self.put_piece(start)
             }
             between => {
                 self.put(between)?;
-                self.put_piece(piece, start)
+                self.put_piece(start)
             }
         }
     }
@@ -293,9 +374,8 @@ impl Line {
             ≡ written_of form self.old ++ decimal_text mantissa exponent) }
         ensures led { self.new.led ≡ self.old.led }
     {
-        let mut piece = Piece::new();
-        let start = piece.lay_decimal(mantissa, exponent);
-        self.put_piece(&piece, start)
+        let start = self.piece.lay_decimal(mantissa, exponent);
+        self.put_piece(start)
     }
 
     /// Appends a brace, behind what stands between two where it is due; behind the brace it is not.

@@ -93,7 +93,7 @@ pub(crate) fn lay_scalar<S: Signs>(
         }
         Some(Scalar::Ascii(text)) => lay_quoted(signs, text.as_slice(), piece, END),
         Some(Scalar::Unicode(text)) => lay_quoted(signs, text.as_bytes(), piece, END),
-        Some(Scalar::Bytes(_)) => None,
+        Some(Scalar::Bytes(bytes)) => signs.lay_vector(bytes.as_slice(), piece, END),
     }
 }
 

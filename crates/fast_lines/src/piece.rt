@@ -1,11 +1,13 @@
 //! A short piece of a line, which is laid out from its end to its front and then appended at once.
 
-ghost use Rattle.std.specs.Prelude.{◌≡◌, ◌≤◌, ◌<◌, ◌+◌, ◌-◌, ◌++◌, ◌∷◌, length, take, decimal, IfSome};
+ghost use Rattle.std.specs.Prelude.{◌≡◌, ◌≤◌, ◌<◌, ◌+◌, ◌-◌, ◌++◌, ◌∷◌, [], length, take, decimal, IfSome};
 ghost use Rattle.std.specs.Simd.Lanes.{chunk, put_chunk};
 ghost use Rattle.std.specs.Fmt.{signed_decimal};
+ghost use Rattle.hex.specs.Hex.{encode_lower};
 ghost use Rattle.fast_lines.specs.Lines.{decimal_text};
 ghost use Rattle.fast_lines.specs.Pieces.{laid};
 
+use crate::bytes::hex_pair;
 use itoa::write_digits;
 use std::simd::Simd;
 
@@ -17,6 +19,9 @@ const HALF: usize = 32;
 
 /// Names and texts are laid out that have no more bytes.
 const LONGEST: usize = 28;
+
+/// Byte vectors are laid out that have no more bytes.
+const MOST_HEX: usize = 16;
 
 /// Bytes of which those up to `END` are laid out, each in front of the last. Where they begin is told by the calls, and
 /// not kept here, so that it stays in a register. Behind `END` there is room, so that as many bytes are copied whatever
@@ -106,6 +111,50 @@ impl Piece {
         }
         let start = self.lay_byte(start, byte);
         Some(self.lay(start, text))
+    }
+
+    /// Lays a name at the end; none where it is long.
+    #[inline(always)]
+    pub(crate) fn lay_last(&mut self, text: &[u8]) -> Option<usize>
+        ensures room { IfSome result (λ start. (36 ≤ start) × (start ≤ 64)) }
+        ensures laid { IfSome result (λ start. laid self.new.bytes start ≡ text.now) }
+    {
+        if text.len() > LONGEST {
+            return None;
+        }
+        Some(self.lay(END, text))
+    }
+
+    /// Lays two hex digits in front.
+    #[inline(always)]
+    pub(crate) fn lay_hex_pair(&mut self, start: usize, byte: u8) -> usize
+        requires { (2 ≤ start) × (start ≤ 64) }
+        ensures place { result + 2 ≡ start }
+        ensures laid { laid self.new.bytes result ≡ encode_lower (byte ∷ []) ++ laid self.old.bytes start }
+    {
+        let [high, low] = hex_pair(byte);
+        let next = self.lay_byte(start, low);
+        self.lay_byte(next, high)
+    }
+
+    /// Lays two hex digits of each byte in front; none where there are many, or too little room for them and a byte more.
+    #[inline(always)]
+    pub(crate) fn lay_hex(&mut self, start: usize, bytes: &[u8]) -> Option<usize>
+        requires { start ≤ 64 }
+        ensures room { IfSome result (λ next. (0 < next) × (next ≤ 64)) }
+        ensures laid { IfSome result (λ next. laid self.new.bytes next
+            ≡ encode_lower bytes.now ++ laid self.old.bytes start) }
+    {
+        if bytes.len() > MOST_HEX || bytes.len() * 2 >= start {
+            return None;
+        }
+        let mut next = start;
+        let mut left = bytes.len();
+        while left > 0 {
+            left -= 1;
+            next = self.lay_hex_pair(next, bytes[left]);
+        }
+        Some(next)
     }
 
     /// Lays a number in front in decimal digits; many have one.

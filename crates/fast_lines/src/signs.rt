@@ -1,6 +1,6 @@
 //! The signs of a form of line.
 
-ghost use Rattle.std.specs.Prelude.{◌≡◌, ◌<◌, ◌≤◌, ◌++◌, IfSome};
+ghost use Rattle.std.specs.Prelude.{◌≡◌, ◌<◌, ◌≤◌, ◌+◌, ◌++◌, IfSome};
 ghost use Rattle.fast_lines.specs.Pieces.{laid};
 ghost use Rattle.fast_lines.specs.declared.form.Form.{Form as FormOf};
 ghost use Rattle.fast_lines.specs.Signs.{absent_sign, between, ending, head_text, is_led, label_text, unit_text, vector_text};
@@ -21,6 +21,12 @@ pub trait Escape: Copy {
     /// An allocation was refused.
     fn push_unit(self, byte: u8, out: &mut Vec<u8>) -> Result<(), AllocError>
         ensures { Writes (unit_text form byte) result out.old.items out.new.items };
+
+    /// Lays the same in front of a piece that begins here, and answers where it begins then.
+    fn lay_unit(self, byte: u8, piece: &mut Piece, start: usize) -> usize
+        requires { (6 ≤ start) × (start ≤ 64) }
+        ensures place { (result ≤ start) × (start ≤ result + 6) }
+        ensures laid { laid piece.new.bytes result ≡ unit_text form byte ++ laid piece.old.bytes start };
 }
 
 /// The signs of a form of line, which is known where the program is made: a line of text asks nothing of the other form.
@@ -49,6 +55,14 @@ pub trait Signs: Escape {
     fn push_vector(self, bytes: &[u8], out: &mut Vec<u8>) -> Result<(), AllocError>
         ensures { Writes (vector_text Self.form bytes.now) result out.old.items out.new.items };
 
+    /// Lays a byte vector in hex digits in front of a piece that begins here, and answers where it begins then; none where
+    /// the vector is not short.
+    fn lay_vector(self, bytes: &[u8], piece: &mut Piece, start: usize) -> Option<usize>
+        requires { start ≤ 64 }
+        ensures room { IfSome result (λ next. next ≤ 64) }
+        ensures laid { IfSome result (λ next. laid piece.new.bytes next
+            ≡ vector_text Self.form bytes.now ++ laid piece.old.bytes start) };
+
     /// Appends what stands in front of the value of a field of a name.
     ///
     /// # Errors
@@ -72,4 +86,10 @@ pub trait Signs: Escape {
     /// An allocation was refused.
     fn push_head(self, id: u32, name: &str, out: &mut Vec<u8>) -> Result<(), AllocError>
         ensures { Writes (head_text Self.form id name.now) result out.old.items out.new.items };
+
+    /// Lays the same at the end of a piece, and answers where it begins then; none where it is not short.
+    fn lay_head(self, id: u32, name: &str, piece: &mut Piece) -> Option<usize>
+        ensures room { IfSome result (λ start. start ≤ 64) }
+        ensures laid { IfSome result (λ start. laid piece.new.bytes start
+            ≡ head_text Self.form id name.now) };
 }

@@ -1,13 +1,13 @@
 //! Strings put behind an output, their bytes as they are or escaped.
 
-ghost use Rattle.std.specs.Prelude.{◌≡◌, ◌<◌, ◌≤◌, ◌+◌, ◌++◌, ℕ, true, length, slice_index, IfSome};
+ghost use Rattle.std.specs.Prelude.{◌≡◌, ◌<◌, ◌≤◌, ◌+◌, ◌++◌, ◌∷◌, ℕ, true, length, slice_index, IfSome};
 ghost use Rattle.fast_lines.specs.Pieces.{laid};
 ghost use Rattle.std.specs.List.{flat_map, list_all};
 ghost use Rattle.fast_lines.specs.Signs.{is_plain, quoted, unit_text};
 ghost use Rattle.fast_lines.specs.Written.{Writes};
 
 use crate::bytes::{push, push_byte};
-use crate::piece::Piece;
+use crate::piece::{END, Piece};
 use crate::signs::Escape;
 use std::alloc::AllocError;
 use std::simd::prelude::*;
@@ -100,7 +100,7 @@ fn each_stands(text: &[u8]) -> bool
 
 /// Whether each byte of a string stands as it is.
 #[inline(always)]
-fn all_stand(text: &[u8]) -> bool
+pub(crate) fn all_stand(text: &[u8]) -> bool
     ensures { result ≡ true → list_all is_plain text.now ≡ true }
 {
     if text.len() >= 16 {
@@ -136,6 +136,25 @@ fn push_pieces<S: Escape>(escape: S, text: &[u8], out: &mut Vec<u8>) -> Result<(
     push_units(escape, &text[at..], out)
 }
 
+/// As many bytes of a string are laid out at once, each of which takes six bytes at most.
+pub(crate) const UNITS: usize = 10;
+
+/// Lays a string of few bytes without its quotes at the end of a piece, and answers where it begins then.
+#[inline(always)]
+pub(crate) fn lay_units<S: Escape>(escape: S, text: &[u8], piece: &mut Piece) -> usize
+    requires { length text.now ≤ 10 }
+    ensures place { result ≤ 64 }
+    ensures laid { laid piece.new.bytes result ≡ flat_map (unit_text S.form) text.now }
+{
+    let mut start = END;
+    let mut left = text.len();
+    while left > 0 {
+        left -= 1;
+        start = escape.lay_unit(text[left], piece, start);
+    }
+    start
+}
+
 /// Appends a string without its quotes; mostly it stands as it is, and goes there at once.
 fn push_text<S: Escape>(escape: S, text: &[u8], out: &mut Vec<u8>) -> Result<(), AllocError>
     ensures { Writes (flat_map (unit_text S.form) text.now) result out.old.items out.new.items }
@@ -159,6 +178,23 @@ pub(crate) fn push_quoted<S: Escape>(
     push_byte(b'"', out)
 }
 
+/// Lays a string of one byte in its quotes in front of a piece that begins here; none as below.
+#[inline(always)]
+fn lay_quoted_byte(byte: u8, piece: &mut Piece, start: usize) -> Option<usize>
+    requires { start ≤ 64 }
+    ensures room { IfSome result (λ next. (0 < next) × (next ≤ 64)) }
+    ensures stands { IfSome result (λ next. is_plain byte ≡ true) }
+    ensures laid { IfSome result (λ next. laid piece.new.bytes next
+        ≡ 34 ∷ (byte ∷ (34 ∷ laid piece.old.bytes start))) }
+{
+    if start < 4 || !stands(byte) {
+        return None;
+    }
+    let start = piece.lay_byte(start, b'"');
+    let start = piece.lay_byte(start, byte);
+    Some(piece.lay_byte(start, b'"'))
+}
+
 /// Lays a string in its quotes in front of a piece that begins here, and answers where it begins then; none where it is
 /// not short, or does not stand as it is.
 #[inline(always)]
@@ -173,6 +209,9 @@ pub(crate) fn lay_quoted<S: Escape>(
     ensures laid { IfSome result (λ next. laid piece.new.bytes next
         ≡ quoted S.form text.now ++ laid piece.old.bytes start) }
 {
+    if let [byte] = text {
+        return lay_quoted_byte(*byte, piece, start);
+    }
     if !all_stand(text) {
         return None;
     }

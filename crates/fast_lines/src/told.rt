@@ -22,13 +22,14 @@ use crate::signs::Signs;
 use fast_dictionary::{Entries, Entry};
 use fast_field::{FieldFault, Found, read_in_place, reads_as_usual};
 use fast_part::take_given;
-use fast_relay::{take_kept, take_number, take_text};
+use fast_relay::{take_aside, take_decimal, take_kept, take_number, take_text, take_vector};
 use fast_template::{FieldPart, Kind, Name, Operator, Presence};
 use fast_wire::Level;
 use std::alloc::Global;
 
-// Takes a field's value in the general way, and tells it from where it lies: it is not copied.
-#[inline(always)]
+// Takes a field's value in the general way, and tells it from where it lies: it is not copied. It is a call, so that the
+// loop over the fields stays small.
+#[inline(never)]
 fn take_generally<S: Signs>(
     signs: S,
     alloc: Global,
@@ -106,7 +107,7 @@ fn take_integer<S: Signs>(
     }
 }
 
-// Takes an integer or a string under bit 1 into the entry, where it is read as at the usual level and kept there.
+// Takes a value under bit 1 into the entry, where it is read as at the usual level and kept there.
 #[inline(always)]
 fn take_into(
     alloc: Global,
@@ -123,11 +124,13 @@ fn take_into(
 {
     match part.kind {
         Kind::Ascii => take_text(alloc, part, entry, bytes, at),
+        Kind::Unicode | Kind::Bytes => take_vector(alloc, part, entry, bytes, at),
+        Kind::Decimal => take_decimal(part, entry, bytes, at),
         _ => take_kept(part, entry, bytes, at),
     }
 }
 
-// The same of an integer or a string that the entry keeps: it is told from there.
+// The same of what the entry keeps: it is told from there.
 #[inline(always)]
 fn take_held<S: Signs>(
     signs: S,
@@ -166,7 +169,46 @@ fn take_held<S: Signs>(
     }
 }
 
-// The same of any field, of which integers and strings are taken at once.
+// The same of an ASCII string that the entry does not keep: it is told from a place that the line has for it.
+#[inline(always)]
+fn take_beside<S: Signs>(
+    signs: S,
+    alloc: Global,
+    name: &Name,
+    presence: Presence,
+    part: &FieldPart,
+    entry: &mut Entry,
+    level: Level,
+    bytes: &[u8],
+    at: usize,
+    line: &mut Line,
+) -> Result<usize, FieldFault>
+    requires place { at ≤ length bytes.now }
+    requires part { IsFieldPart part.now }
+    requires presence { part.now.presence ≡ presence }
+    requires usual { ReadsAsUsual level part.now (drop at bytes.now) }
+    requires entry { HoldsScalar entry.old }
+    ensures place { IfOk result (λ n. (at ≤ n) × (n ≤ length bytes.now)) }
+    ensures told { IfOk result (λ n. (v : Option ScalarOf)
+        × TookFrom level part.now true entry.old entry.new v (drop at bytes.now) (drop n bytes.now)
+        × Said S.form name.now (field_text S.form part.now.kind presence (single v)) (line_now S.form line.old)
+        (line_now S.form line.new)) }
+    ensures stops { IfErr result (λ f. f ≢ FieldFault.Memory
+        → (field_at level part.now entry.old true (drop at bytes.now) ≡ Err f)
+        × (entry.new ≡ entry.old) × (line.new ≡ line.old)) }
+{
+    match take_aside(alloc, part, &mut line.aside, bytes, at) {
+        Some(next) => match line.tell_aside(signs, name, part) {
+            Err(_) => Err(FieldFault::Memory),
+            Ok(()) => Ok(next),
+        },
+        None => take_generally(
+            signs, alloc, name, presence, part, entry, true, level, bytes, at, line,
+        ),
+    }
+}
+
+// The same of any field, of integers and ASCII strings also where the entry does not keep them.
 #[inline(always)]
 fn take_sent<S: Signs>(
     signs: S,
@@ -205,19 +247,22 @@ fn take_sent<S: Signs>(
                 signs, alloc, name, presence, part, entry, level, bytes, at, line,
             ),
         },
-        Kind::Ascii => {
-            take_held(
+        Kind::Ascii => match part.operator {
+            Operator::Plain | Operator::Default => take_beside(
                 signs, alloc, name, presence, part, entry, level, bytes, at, line,
-            )
-        }
-        Kind::Decimal | Kind::Unicode | Kind::Bytes => take_generally(
-            signs, alloc, name, presence, part, entry, true, level, bytes, at, line,
+            ),
+            _ => take_held(
+                signs, alloc, name, presence, part, entry, level, bytes, at, line,
+            ),
+        },
+        Kind::Decimal | Kind::Unicode | Kind::Bytes => take_held(
+            signs, alloc, name, presence, part, entry, level, bytes, at, line,
         ),
     }
 }
 
 // Takes a field's value, where bytes give it, and tells it from where it lies.
-#[inline(never)]
+#[inline(always)]
 fn take_read<S: Signs>(
     signs: S,
     alloc: Global,

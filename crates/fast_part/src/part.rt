@@ -1,6 +1,7 @@
 //! Taking the value of a part from the bytes.
 
 ghost use Rattle.std.specs.Prelude.{◌≡◌, ◌≢◌, ◌≤◌, ℕ, List, false, true, IfOk, IfErr, IfNone, IfSome, IsTrue, Err, None, Some, length, drop};
+ghost use Rattle.std.specs.Option.{option_copied};
 ghost use Rattle.fast_wire.specs.declared.level.Level as level_type;
 ghost use Rattle.fast_value.specs.Scalar.{is_of};
 ghost use Rattle.fast_value.specs.declared.kind.Kind.TheVariants.{Int32, Int64, UInt32};
@@ -20,7 +21,7 @@ use fast_field::{FieldFault, Found, pass_found, read_in_place, reads_as_usual};
 use fast_relay::take_number;
 use fast_template::{FieldPart, Kind, Operator, Part, Scalar};
 use fast_wire::Level;
-use std::alloc::Global;
+use std::alloc::{AllocError, Global};
 
 /// Takes what is given without a byte, by bit 0 or by a constant, and answers where the value lies; the entry is the one
 /// afterwards. None: nothing has changed, and the part goes another way.
@@ -71,6 +72,21 @@ pub fn take_quickly(
     }
 }
 
+/// A value of its own, none of none; a number takes no memory.
+#[inline(always)]
+fn copied(alloc: Global, value: Option<&Scalar>) -> Result<Option<Scalar>, AllocError>
+    ensures { IfOk result (λ copy. copy ≡ option_copied value.entry) }
+{
+    match value {
+        None => Ok(None),
+        Some(Scalar::U32(number)) => Ok(Some(Scalar::U32(*number))),
+        Some(Scalar::I32(number)) => Ok(Some(Scalar::I32(*number))),
+        Some(Scalar::U64(number)) => Ok(Some(Scalar::U64(*number))),
+        Some(Scalar::I64(number)) => Ok(Some(Scalar::I64(*number))),
+        Some(value) => Ok(Some(value.copy(alloc)?)),
+    }
+}
+
 /// Takes a part's value in the general way.
 #[inline(always)]
 fn take_generally(
@@ -99,9 +115,9 @@ fn take_generally(
     }
 }
 
-/// Takes a part's value from the bytes, and makes its entry the one afterwards.
+/// Takes a part's value from the bytes: an integer at once, and all else in the general way.
 #[inline(always)]
-fn take_value(
+fn take_sent(
     alloc: Global,
     part: &FieldPart,
     entry: &mut Entry,
@@ -121,6 +137,34 @@ fn take_value(
     match take_quickly(part, entry, bit, level, bytes, at) {
         Some((value, next)) => Ok((Some(value), next)),
         None => take_generally(alloc, part, entry, bit, level, bytes, at),
+    }
+}
+
+/// Takes a part's value, from the bytes where no bit gives it, and makes its entry the one afterwards.
+#[inline(always)]
+fn take_value(
+    alloc: Global,
+    part: &FieldPart,
+    entry: &mut Entry,
+    bit: bool,
+    level: Level,
+    bytes: &[u8],
+    at: usize,
+) -> Result<(Option<Scalar>, usize), FieldFault>
+    requires { at ≤ length bytes.now }
+    ensures place { IfOk result (λ x. (at ≤ x.1) × (x.1 ≤ length bytes.now)) }
+    ensures taken { IfOk result (λ x. TookFrom level part.now bit entry.old entry.new x.0
+        (drop at bytes.now) (drop x.1 bytes.now)) }
+    ensures stops { IfErr result (λ f. f ≢ FieldFault.Memory
+        → (field_at level part.now entry.old bit (drop at bytes.now) ≡ Err f)
+        × (entry.new ≡ entry.old)) }
+{
+    match take_given(part, entry, bit) {
+        Some(found) => match copied(alloc, found.value(part, entry.view())) {
+            Err(_) => Err(FieldFault::Memory),
+            Ok(value) => Ok((value, at)),
+        },
+        None => take_sent(alloc, part, entry, bit, level, bytes, at),
     }
 }
 

@@ -87,12 +87,12 @@ signed_read : (bytes rest : List ℕ) (z : ℤ) → Spelt false Mandatory bytes 
 unfolding integer_at not_null
 signed_read bytes rest z h = sym (stays (in_field (signed_at bytes))) ∙ ap not_null h
 
-delta_as : (k : Kind) (i : FieldPart) (e : Entry) (bytes : List ℕ) → k ≡ kind.Decimal → delta_at Usual k i e bytes ≡ decimal_delta_at Usual i e bytes
+pub delta_as : (k : Kind) (i : FieldPart) (e : Entry) (bytes : List ℕ) → k ≡ kind.Decimal → delta_at Usual k i e bytes ≡ decimal_delta_at Usual i e bytes
 unfolding delta_at
 delta_as kind.Decimal i e bytes h = refl
 delta_as k i e bytes h = absurd cc
 
-delta_read : (i : FieldPart) (x m dx dm : ℤ) (bytes mid rest : List ℕ) → i.kind ≡ kind.Decimal → Spelt false i.presence bytes dx mid → exponent_in_range (x +ℤ dx) ≡ true → Spelt false Mandatory mid dm rest → in_range kind.Int64 (m +ℤ dm) ≡ true
+pub delta_read : (i : FieldPart) (x m dx dm : ℤ) (bytes mid rest : List ℕ) → i.kind ≡ kind.Decimal → Spelt false i.presence bytes dx mid → exponent_in_range (x +ℤ dx) ≡ true → Spelt false Mandatory mid dm rest → in_range kind.Int64 (m +ℤ dm) ≡ true
     → decimal_delta_at Usual i (Assigned (Decimal x m)) bytes ≡ Ok (Some (Decimal (x +ℤ dx) (m +ℤ dm)), rest)
 unfolding decimal_delta_at mantissa_delta_behind decimal_value
 delta_read i x m dx dm bytes mid rest k exponent near mantissa fits =

@@ -6,8 +6,10 @@ use Rattle.fast_wire.specs.Entity.{groups}
 use Rattle.fast_wire.specs.Plain.{IsPlain}
 use Rattle.fast_value.specs.declared.kind.Kind.{Kind}
 use Rattle.fast_value.specs.declared.kind.Kind.TheVariants as kind
+use Rattle.fast_value.specs.declared.kind.Operator.{Operator}
 use Rattle.fast_value.specs.declared.kind.Operator.TheVariants as operator
 use Rattle.fast_value.specs.declared.kind.Part.TheVariants as part
+use Rattle.fast_value.specs.declared.scalar.Scalar.{Scalar}
 use Rattle.fast_value.specs.declared.scalar.Scalar.TheVariants.{Ascii}
 use Rattle.fast_template.specs.declared.resolved.FieldPart.{FieldPart}
 use Rattle.fast_dictionary.specs.declared.entry.Entry.{Entry}
@@ -15,6 +17,7 @@ use Rattle.fast_dictionary.specs.declared.entry.Entry.TheVariants.{Assigned}
 use Rattle.fast_field.specs.Bases.{next, next_of}
 use Rattle.fast_field.specs.FieldReading.{units_spelled_at}
 use Rattle.fast_field.specs.Values.{IsUnitKind}
+use Rattle.fast_relay.specs.Kept.{LeavesEntry}
 use Rattle.fast_relay.specs.Numbers.{SpellsWhole}
 use Rattle.fast_relay.specs.Relayed.{Takes}
 use Rattle.fast_relay.specs.Texts.{GivesCut, GivesTail}
@@ -32,6 +35,25 @@ text_takes i old new bytes form rest k whole o h entry =
     takes i old new (Ascii (groups form)) bytes rest (whole_within i.part (Ascii (groups form)) whole)
     (whole_row i.operator i old bytes spells ∙ text_read i (Ascii (groups form)) bytes rest units (subst (λ (k : Kind). units_spelled_at Usual k i.presence bytes ≡ Ok (Some (Ascii (groups form)), rest)) (sym k) (spelled_plain i.presence bytes form rest h)))
     (entry ∙ sym last)
+
+leaves : (o : Operator) (e : Entry) (v : Scalar) → LeavesEntry o → next_of o e (Some v) ≡ e
+leaves operator.Plain e v h = refl
+leaves operator.Default e v h = refl
+leaves o e v h = absurd h
+
+spells_whole : (o : Operator) → LeavesEntry o → SpellsWhole o
+spells_whole operator.Plain h = tt
+spells_whole operator.Default h = tt
+spells_whole o h = absurd h
+
+-- one that its entry does not keep
+pub aside_takes : (i : FieldPart) (e : Entry) (bytes form rest : List ℕ) → i.kind ≡ kind.Ascii → i.part ≡ part.Whole → LeavesEntry i.operator → IsPlain bytes form rest → Takes i e e (Ascii (groups form)) bytes rest
+aside_takes i e bytes form rest k whole o h =
+    let v = Ascii (groups form) in
+    let units : IsUnitKind i.kind = rw k tt in
+    takes i e e v bytes rest (whole_within i.part v whole)
+    (whole_row i.operator i e bytes (spells_whole i.operator o) ∙ text_read i v bytes rest units (subst (λ (k : Kind). units_spelled_at Usual k i.presence bytes ≡ Ok (Some v, rest)) (sym k) (spelled_plain i.presence bytes form rest h)))
+    (sym (leaves i.operator e v o))
 
 pub cut_takes : (i : FieldPart) (base bytes : List ℕ) (removed : ℕ) (form rest : List ℕ) → i.kind ≡ kind.Ascii → i.part ≡ part.Whole → i.operator ≡ operator.Delta → GivesCut i base bytes removed form rest
     → Takes i (Assigned (Ascii base)) (Assigned (Ascii (take (length base - removed) base ++ groups form))) (Ascii (take (length base - removed) base ++ groups form)) bytes rest

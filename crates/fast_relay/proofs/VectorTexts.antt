@@ -132,7 +132,7 @@ front_text kind.Unicode v n is t le cut = absurd (let e = t.of_kind in cc)
 front_text kind.Bytes v n is t le cut = absurd (let e = t.of_kind in cc)
 front_text k v n is t le cut = absurd is
 
-limited : (k : Kind) (s : List ℕ) → IsVectorKind k → IsText k (of_units k s) → limited_value k s ≡ Ok (of_units k s)
+pub limited : (k : Kind) (s : List ℕ) → IsVectorKind k → IsText k (of_units k s) → limited_value k s ≡ Ok (of_units k s)
 unfolding limited_value unit_value
 limited kind.Unicode s is t = rw (lt_false 65535 (length s) t.within.0, is_utf8-from_IsUtf8 s t.within.2) refl
 limited kind.Bytes s is t = rw (lt_false 65535 (length s) t.within.0) refl
@@ -140,7 +140,7 @@ limited k s is t = absurd is
 
 -- ---- tails
 
-tail_read : (i : FieldPart) (base v : Scalar) (s bytes rest : List ℕ) → is_of i.kind base ≡ true → units_at Usual i.kind i.presence bytes ≡ Ok (Value s, rest) → limited_value i.kind (ended_by (units_of base) s) ≡ Ok v → tail_at Usual i (Assigned base) bytes ≡ Ok (Some v, rest)
+pub tail_read : (i : FieldPart) (base v : Scalar) (s bytes rest : List ℕ) → is_of i.kind base ≡ true → units_at Usual i.kind i.presence bytes ≡ Ok (Value s, rest) → limited_value i.kind (ended_by (units_of base) s) ≡ Ok v → tail_at Usual i (Assigned base) bytes ≡ Ok (Some v, rest)
 unfolding tail_at ended_value
 tail_read i base v s bytes rest is read made = rw (read, is, made) refl
 
@@ -242,7 +242,7 @@ unfolding part_of
 part_sent (Ok (t, more)) s rest h = ap part_of h
 part_sent (Err f) s rest h = absurd cc
 
-part_read : (k : Kind) (bytes s rest : List ℕ) → units_at Usual k Mandatory bytes ≡ Ok (Value s, rest) → part_at Usual k bytes ≡ Ok (s, rest)
+pub part_read : (k : Kind) (bytes s rest : List ℕ) → units_at Usual k Mandatory bytes ≡ Ok (Value s, rest) → part_at Usual k bytes ≡ Ok (s, rest)
 unfolding units_at
 part_read k bytes s rest h = part_sent (part_at Usual k bytes) s rest h
 
@@ -250,7 +250,7 @@ new_part_read : (k : Kind) (base : List ℕ) (v : Scalar) (r : ℕ) (s middle re
 unfolding new_part_behind
 new_part_read k base v r s middle rest le read made = rw (le_true r (length base) le, read, made) refl
 
-delta_read : (i : FieldPart) (base v : Scalar) (r : ℕ) (s bytes middle rest : List ℕ) → is_of i.kind base ≡ true → r < 63 → r ≤ length (units_of base) → Spelt false i.presence bytes (pos r) middle → part_at Usual i.kind middle ≡ Ok (s, rest) → limited_value i.kind (take (length (units_of base) - r) (units_of base) ++ s) ≡ Ok v
+pub delta_read : (i : FieldPart) (base v : Scalar) (r : ℕ) (s bytes middle rest : List ℕ) → is_of i.kind base ≡ true → r < 63 → r ≤ length (units_of base) → Spelt false i.presence bytes (pos r) middle → part_at Usual i.kind middle ≡ Ok (s, rest) → limited_value i.kind (take (length (units_of base) - r) (units_of base) ++ s) ≡ Ok v
     → unit_delta_at Usual i (Assigned base) bytes ≡ Ok (Some v, rest)
 unfolding unit_delta_at
 delta_read i base v r s bytes middle rest is small le removal read made =

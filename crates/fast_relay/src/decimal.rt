@@ -25,7 +25,7 @@ use fast_template::{FieldPart, Kind, Operator, Part, Presence, Scalar};
 
 /// The exponent and the mantissa of an entry that is a decimal.
 #[inline(always)]
-fn kept_decimal(entry: &Entry) -> Option<(i128, i128)>
+pub(crate) fn kept_decimal(entry: &Entry) -> Option<(i128, i128)>
     ensures kept { IfSome result (λ d. entry.now
         ≡ entry_type.Assigned (scalar.Decimal d.0 d.1)) }
     ensures exponent_above { IfSome result (λ d. negsuc (2 ^ 64) <ℤ d.0) }
@@ -43,7 +43,7 @@ fn kept_decimal(entry: &Entry) -> Option<(i128, i128)>
 
 /// The sum of a part and its difference.
 #[inline(always)]
-fn moved(kept: i128, delta: i128) -> i128
+pub(crate) fn moved(kept: i128, delta: i128) -> i128
     requires kept_above { negsuc (2 ^ 64) <ℤ kept }
     requires kept_below { kept <ℤ pos (2 ^ 64) }
     requires above { negsuc (2 ^ 64) <ℤ delta }

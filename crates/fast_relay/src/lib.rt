@@ -7,7 +7,9 @@
 //! them. What bit 0 gives is
 //! `pass_left_out` of `fast_field`. Where nothing has changed the field goes the general way of `fast_field`: `find_field`
 //! and `write_found`. [`take_number`] reads an integer in the same way and writes nothing, [`take_kept`] one that its
-//! entry keeps, and [`take_text`] an ASCII string that it keeps; they are for those who make messages or tell them.
+//! entry keeps, [`take_decimal`] a decimal in one piece that it keeps, [`take_text`] an ASCII string and [`take_vector`]
+//! a Unicode string or a byte vector, and [`take_aside`] an ASCII string that it does not keep; they are for those who make
+//! messages or tell them.
 //! [`judge_field`] writes nothing either: it says whether the bytes of a field are its best form as they stand, or bit 0
 //! is ([`Judged`]).
 //! What a field's forms are is defined there; `specs/Relayed` says what it is to have relayed one, `specs/Judged` to have
@@ -34,7 +36,9 @@ mod relayed;
 mod run;
 mod short_number;
 mod taken;
+mod taken_decimal;
 mod taken_text;
+mod taken_vector;
 mod text;
 mod utf8;
 mod vectors;
@@ -48,5 +52,7 @@ pub use passed::pass_quickly;
 pub use relayed::Relayed;
 pub use run::Run;
 pub use taken::{take_kept, take_number};
-pub use taken_text::take_text;
+pub use taken_decimal::take_decimal;
+pub use taken_text::{take_aside, take_text};
+pub use taken_vector::take_vector;
 pub use text::relay_text;

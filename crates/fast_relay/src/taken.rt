@@ -54,13 +54,14 @@ fn take_whole(
     entry: &mut Entry,
     bytes: &[u8],
     at: usize,
-) -> Option<(Scalar, usize)>
+) -> Option<(i128, usize)>
     requires at { at ≤ length bytes.now }
     requires kind { kind ≡ instr.now.kind }
     requires integer { IsTrue (is_integer kind) }
     requires operator { SpellsWhole instr.now.operator }
     ensures place { IfSome result (λ x. (at ≤ x.1) × (x.1 ≤ length bytes.now)) }
-    ensures taken { IfSome result (λ x. Takes instr.now entry.old entry.new x.0
+    ensures number { IfSome result (λ x. IsNumber kind x.0) }
+    ensures taken { IfSome result (λ x. Takes instr.now entry.old entry.new (of_integer kind x.0)
         (drop at bytes.now) (drop x.1 bytes.now)) }
     ensures entry { IfNone result (entry.new ≡ entry.old) }
 {
@@ -71,7 +72,7 @@ fn take_whole(
         return None;
     }
     keep_whole(kind, instr.operator, entry, number);
-    Some((value_of(kind, number), next))
+    Some((number, next))
 }
 
 /// Takes what is added to the number that the entry has.
@@ -82,13 +83,14 @@ fn take_delta(
     entry: &mut Entry,
     bytes: &[u8],
     at: usize,
-) -> Option<(Scalar, usize)>
+) -> Option<(i128, usize)>
     requires at { at ≤ length bytes.now }
     requires kind { kind ≡ instr.now.kind }
     requires integer { IsTrue (is_integer kind) }
     requires operator { instr.now.operator ≡ operator_type.Delta }
     ensures place { IfSome result (λ x. (at ≤ x.1) × (x.1 ≤ length bytes.now)) }
-    ensures taken { IfSome result (λ x. Takes instr.now entry.old entry.new x.0
+    ensures number { IfSome result (λ x. IsNumber kind x.0) }
+    ensures taken { IfSome result (λ x. Takes instr.now entry.old entry.new (of_integer kind x.0)
         (drop at bytes.now) (drop x.1 bytes.now)) }
     ensures entry { IfNone result (entry.new ≡ entry.old) }
 {
@@ -103,12 +105,39 @@ fn take_delta(
         return None;
     }
     set_number(kind, entry, number);
-    Some((value_of(kind, number), next))
+    Some((number, next))
 }
 
 /// Takes a number of a type that is known here.
 #[inline(always)]
 fn take(
+    kind: Kind,
+    instr: &FieldPart,
+    entry: &mut Entry,
+    bytes: &[u8],
+    at: usize,
+) -> Option<(i128, usize)>
+    requires at { at ≤ length bytes.now }
+    requires kind { kind ≡ instr.now.kind }
+    requires integer { IsTrue (is_integer kind) }
+    ensures place { IfSome result (λ x. (at ≤ x.1) × (x.1 ≤ length bytes.now)) }
+    ensures number { IfSome result (λ x. IsNumber kind x.0) }
+    ensures taken { IfSome result (λ x. Takes instr.now entry.old entry.new (of_integer kind x.0)
+        (drop at bytes.now) (drop x.1 bytes.now)) }
+    ensures entry { IfNone result (entry.new ≡ entry.old) }
+{
+    match instr.operator {
+        Operator::Delta => take_delta(kind, instr, entry, bytes, at),
+        Operator::Plain | Operator::Default | Operator::Copy | Operator::Increment => {
+            take_whole(kind, instr, entry, bytes, at)
+        }
+        Operator::Constant | Operator::Tail => None,
+    }
+}
+
+/// The same, as a value.
+#[inline(always)]
+fn take_value(
     kind: Kind,
     instr: &FieldPart,
     entry: &mut Entry,
@@ -123,35 +152,33 @@ fn take(
         (drop at bytes.now) (drop x.1 bytes.now)) }
     ensures entry { IfNone result (entry.new ≡ entry.old) }
 {
-    match instr.operator {
-        Operator::Delta => take_delta(kind, instr, entry, bytes, at),
-        Operator::Plain | Operator::Default | Operator::Copy | Operator::Increment => {
-            take_whole(kind, instr, entry, bytes, at)
-        }
-        Operator::Constant | Operator::Tail => None,
+    match take(kind, instr, entry, bytes, at) {
+        Some((number, next)) => Some((value_of(kind, number), next)),
+        None => None,
     }
 }
 
-/// Takes an integer of any type.
+/// The same of a number that the entry keeps: the place after it alone.
 #[inline(always)]
-fn take_any(
+fn take_place(
+    kind: Kind,
     instr: &FieldPart,
     entry: &mut Entry,
     bytes: &[u8],
     at: usize,
-) -> Option<(Scalar, usize)>
-    requires { at ≤ length bytes.now }
-    ensures place { IfSome result (λ x. (at ≤ x.1) × (x.1 ≤ length bytes.now)) }
-    ensures taken { IfSome result (λ x. Takes instr.now entry.old entry.new x.0
-        (drop at bytes.now) (drop x.1 bytes.now)) }
+) -> Option<usize>
+    requires at { at ≤ length bytes.now }
+    requires kind { kind ≡ instr.now.kind }
+    requires integer { IsTrue (is_integer kind) }
+    requires operator { IsTrue (kept.keeps_number instr.now.operator) }
+    ensures place { IfSome result (λ next. (at ≤ next) × (next ≤ length bytes.now)) }
+    ensures taken { IfSome result (λ next. (v : ScalarOf) × (entry.new ≡ entry_type.Assigned v)
+        × Takes instr.now entry.old entry.new v (drop at bytes.now) (drop next bytes.now)) }
     ensures entry { IfNone result (entry.new ≡ entry.old) }
 {
-    match instr.kind {
-        Kind::UInt32 => take(Kind::UInt32, instr, entry, bytes, at),
-        Kind::Int32 => take(Kind::Int32, instr, entry, bytes, at),
-        Kind::UInt64 => take(Kind::UInt64, instr, entry, bytes, at),
-        Kind::Int64 => take(Kind::Int64, instr, entry, bytes, at),
-        Kind::Decimal | Kind::Ascii | Kind::Unicode | Kind::Bytes => None,
+    match take(kind, instr, entry, bytes, at) {
+        Some((_number, next)) => Some(next),
+        None => None,
     }
 }
 
@@ -170,7 +197,13 @@ pub fn take_number(
         (drop at bytes.now) (drop x.1 bytes.now)) }
     ensures entry { IfNone result (entry.new ≡ entry.old) }
 {
-    take_any(instr, entry, bytes, at)
+    match instr.kind {
+        Kind::UInt32 => take_value(Kind::UInt32, instr, entry, bytes, at),
+        Kind::Int32 => take_value(Kind::Int32, instr, entry, bytes, at),
+        Kind::UInt64 => take_value(Kind::UInt64, instr, entry, bytes, at),
+        Kind::Int64 => take_value(Kind::Int64, instr, entry, bytes, at),
+        Kind::Decimal | Kind::Ascii | Kind::Unicode | Kind::Bytes => None,
+    }
 }
 
 /// Whether a number that was read is in its entry afterwards.
@@ -196,8 +229,11 @@ pub fn take_kept(instr: &FieldPart, entry: &mut Entry, bytes: &[u8], at: usize) 
     if !keeps_number(instr.operator) {
         return None;
     }
-    match take_any(instr, entry, bytes, at) {
-        Some((_value, next)) => Some(next),
-        None => None,
+    match instr.kind {
+        Kind::UInt32 => take_place(Kind::UInt32, instr, entry, bytes, at),
+        Kind::Int32 => take_place(Kind::Int32, instr, entry, bytes, at),
+        Kind::UInt64 => take_place(Kind::UInt64, instr, entry, bytes, at),
+        Kind::Int64 => take_place(Kind::Int64, instr, entry, bytes, at),
+        Kind::Decimal | Kind::Ascii | Kind::Unicode | Kind::Bytes => None,
     }
 }

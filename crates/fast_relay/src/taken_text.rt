@@ -1,5 +1,5 @@
-//! ASCII strings that are read at once into the entry that keeps them, where they are not written again. What is not
-//! served here goes the general way of `read_in_place`.
+//! ASCII strings that are read at once into the entry that keeps them, or beside it, where they are not written again.
+//! What is not served here goes the general way of `read_in_place`.
 
 ghost use Rattle.std.specs.Prelude.{◌≡◌, ◌≤◌, length, drop, IfNone, IfSome};
 ghost use Rattle.fast_value.specs.declared.kind.Kind.TheVariants as kind_type;
@@ -7,7 +7,9 @@ ghost use Rattle.fast_value.specs.declared.kind.Operator.TheVariants as operator
 ghost use Rattle.fast_value.specs.declared.kind.Part.TheVariants as part_type;
 ghost use Rattle.fast_value.specs.declared.scalar.Scalar.{Scalar as ScalarOf};
 ghost use Rattle.fast_value.specs.declared.scalar.Scalar.TheVariants.{Ascii};
+ghost use Rattle.fast_dictionary.specs.declared.entry.Entry.{Entry as EntryOf};
 ghost use Rattle.fast_dictionary.specs.declared.entry.Entry.TheVariants as entry_type;
+ghost use Rattle.fast_relay.specs.Kept.{LeavesEntry};
 ghost use Rattle.fast_relay.specs.Relayed.{Takes};
 
 use crate::characters::find_plain;
@@ -136,6 +138,63 @@ pub fn take_text(
         },
         (Kind::Ascii, Part::Whole, Operator::Tail) => match entry {
             Entry::Assigned(Scalar::Ascii(text)) => take_tail(alloc, instr, text, bytes, at),
+            _ => None,
+        },
+        _ => None,
+    }
+}
+
+/// Puts a string that is spelled whole in the place of another.
+#[inline(always)]
+fn put_aside(
+    alloc: Global,
+    instr: &FieldPart,
+    text: &mut ByteString,
+    bytes: &[u8],
+    at: usize,
+) -> Option<usize>
+    requires at { at ≤ length bytes.now }
+    requires part { instr.now.part ≡ part_type.Whole }
+    requires kind { instr.now.kind ≡ kind_type.Ascii }
+    requires operator { LeavesEntry instr.now.operator }
+    ensures place { IfSome result (λ next. (at ≤ next) × (next ≤ length bytes.now)) }
+    ensures taken { IfSome result (λ next. (e : EntryOf) → Takes instr.now e e (Ascii text.new)
+        (drop at bytes.now) (drop next bytes.now)) }
+    ensures text { IfNone result (text.new ≡ text.old) }
+{
+    let Some((first, next)) = find_plain(bytes, at) else {
+        return None;
+    };
+    if put_characters(alloc, text, 0, &bytes[first..next]) {
+        Some(next)
+    } else {
+        None
+    }
+}
+
+/// Reads an ASCII string under bit 1 that its entry does not keep into another value, in whose place it is put, and answers
+/// the place after it; the entry stays as it is. None: nothing has changed, and the general way tells.
+#[inline(never)]
+pub fn take_aside(
+    alloc: Global,
+    instr: &FieldPart,
+    value: &mut Scalar,
+    bytes: &[u8],
+    at: usize,
+) -> Option<usize>
+    requires { at ≤ length bytes.now }
+    ensures place { IfSome result (λ next. (at ≤ next) × (next ≤ length bytes.now)) }
+    ensures taken { IfSome result (λ next. (e : EntryOf) → Takes instr.now e e value.new
+        (drop at bytes.now) (drop next bytes.now)) }
+    ensures value { IfNone result (value.new ≡ value.old) }
+{
+    match (instr.kind, instr.part, instr.operator) {
+        (Kind::Ascii, Part::Whole, Operator::Plain) => match value {
+            Scalar::Ascii(text) => put_aside(alloc, instr, text, bytes, at),
+            _ => None,
+        },
+        (Kind::Ascii, Part::Whole, Operator::Default) => match value {
+            Scalar::Ascii(text) => put_aside(alloc, instr, text, bytes, at),
             _ => None,
         },
         _ => None,

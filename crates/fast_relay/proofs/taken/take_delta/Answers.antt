@@ -17,7 +17,7 @@ returns-clause-taken c =
     let kept = to_z-of_z w128 z kept_fits in
     let delta = to_z-of_z w128 d delta_fits in
     let sum = to_z-of_z w128 (z +ℤ d) sum_fits in
-    rw (c.value_of.ensures, kept, delta, sum) (delta_takes k c.args.instr.now c.args.entry.now c.set_number.new.entry z d (drop c.args.at c.args.bytes.now) (drop c.in-Some-read_short.next c.args.bytes.now)
+    rw (kept, delta, sum) (delta_takes k c.args.instr.now c.args.entry.now c.set_number.new.entry z d (drop c.args.at c.args.bytes.now) (drop c.in-Some-read_short.next c.args.bytes.now)
     c.requires.kind c.requires.operator c.in-Some.ensures.number
     (rw (kept, delta, sum) at (c.is_field_number.ensures c.if-not-is_field_number.false))
     c.in-Some-read_short.ensures.gives

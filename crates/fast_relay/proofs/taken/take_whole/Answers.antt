@@ -12,7 +12,7 @@ returns-clause-taken c =
     let z = c.in-Some.number in
     let fits : FitsSigned w128 z = omega (arith, ints, c.in-Some.ensures.above, c.in-Some.ensures.below) in
     let same = to_z-of_z w128 z fits in
-    rw (c.value_of.ensures, same) (whole_takes k c.args.instr.now c.args.entry.now c.keep_whole.new.entry z (drop c.args.at c.args.bytes.now) (drop c.in-Some.next c.args.bytes.now)
+    rw (same) (whole_takes k c.args.instr.now c.args.entry.now c.keep_whole.new.entry z (drop c.args.at c.args.bytes.now) (drop c.in-Some.next c.args.bytes.now)
     c.requires.kind c.requires.operator
     (rw same at (c.is_field_number.ensures c.if-not-is_field_number.false))
     (rw c.is_unsigned.ensures at c.in-Some.ensures.gives)

@@ -1,7 +1,0 @@
-use Rattle.std.proofs.Common.{◌∙◌, sym, drop}
-use Rattle.fast_relay.proofs.KeptTaking.{kept_takes}
-use Rattle.fast_relay.proofs.taken.take_kept.Goals as goal
-
-pub returns-in-Some-clause-taken : goal.returns-in-Some-clause-taken
-returns-in-Some-clause-taken c =
-    kept_takes c.args.instr.now c.args.entry.now c.take_any.new.entry _ (drop c.args.at c.args.bytes.now) (drop c.in-Some.next c.args.bytes.now) (sym c.keeps_number.ensures ∙ c.if-not-keeps_number.false) c.in-Some.ensures.taken
