@@ -1,5 +1,5 @@
 -- Fields that are taken one after the other into the segment that is open.
-use Rattle.std.proofs.Common.{◌≡◌, ◌≤◌, ◌-◌, ◌+◌, ℕ, ℤ, pos, Bool, true, false, List, [], ◌++◌, Option, Some, None, drop, refl, sym, ap, ◌∙◌, subst, arith}
+use Rattle.std.proofs.Common.{◌≡◌, ◌≤◌, ◌<◌, ◌-◌, ◌+◌, ℕ, zero, suc, ℤ, pos, Bool, true, false, List, [], ◌∷◌, ◌++◌, length, get_or, Option, Some, None, drop, refl, sym, ap, ◌∙◌, subst, arith}
 use Rattle.std.specs.Option.{is_some}
 use Rattle.std.specs.Prelude.{IsSome}
 use Rattle.std.specs.Borrow.{Bor}
@@ -8,33 +8,30 @@ use Rattle.fast_value.specs.declared.scalar.Scalar.TheVariants.{I64, Decimal}
 use Rattle.fast_value.specs.declared.kind.Presence.{Presence}
 use Rattle.fast_template.specs.declared.resolved.FieldPart.{FieldPart}
 use Rattle.fast_template.specs.declared.resolved.Flat.{Flat}
-use Rattle.fast_template.specs.Resolved.{Instruction, Instructions, whole_field, field_in_parts, group_of, sequence_of, then_instruction, list_of, part_needs_bit}
+use Rattle.fast_template.specs.Resolved.{Instruction, Instructions, instruction_of, whole_field, field_in_parts, group_of, sequence_of, then_instruction, list_of, part_needs_bit}
 use Rattle.fast_dictionary.specs.Dictionary.{Dictionary, entry_at}
 use Rattle.fast_wire.specs.declared.level.Level.{Level}
 use Rattle.fast_stream.specs.Nodes.{single}
 use Rattle.fast_stream.specs.Bits.{bit_for, after_bit}
-use Rattle.fast_walk.specs.declared.receiver.Fields.{Fields}
 use Rattle.fast_walk.specs.OpenSegments.{Next, at_instruction, at_mantissa, cursor}
 use Rattle.fast_walk.specs.Received.{Received, Took, moved, passed, exponent_of}
 use Rattle.fast_walk.specs.Passing.{Passes, next_behind}
 use Rattle.fast_walk.proofs.Steps.{count_goes, part_goes}
 use Rattle.fast_walk.proofs.Walking.{field_on, exponent_on, no_exponent_on, mantissa_on_goes, is_instruction, is_mantissa}
 use Rattle.fast_writer.specs.Written.{Segment, IsOpened, Spelt}
-use Rattle.fast_writer.specs.Takings.{BeginsWith, IfTaken, Takes, at_place, behind, counted}
+use Rattle.fast_writer.specs.Takings.{BeginsWith, Front, IfTaken, Takes, at_place, behind, front_at}
 use Rattle.fast_writer.specs.declared.fields.Taken.{Taken}
 use Rattle.fast_writer.specs.declared.fields.Taken.TheVariants.{Part, Elsewhere, Refused}
 use Rattle.fast_relay.specs.Relayed.{IsThere}
 use Rattle.fast_writer.proofs.QuickWays.{exponent_there}
 use Rattle.fast_writer.proofs.Writers.{has_field, has_exponent, has_mantissa}
 
--- a mantissa that is next is counted
-pub some_counted : (m : Option (Bor FieldPart)) (spare : ℕ) → IsSome m → counted m spare ≡ spare + 1
-some_counted None spare h = absurd cc
-some_counted (Some m) spare h = refl
-
-pub at_least : (m : Option (Bor FieldPart)) (spare : ℕ) → spare ≤ counted m spare
-at_least None spare = omega arith
-at_least (Some m) spare = omega arith
+-- the instruction that is next in a body
+pub next_flat : (flats : List Flat) (i : ℕ) (f : Flat) → f ≡ get_or flats i f → i < length flats → list_of (drop i flats) ≡ then_instruction (instruction_of f) (list_of (drop (i + 1) flats))
+next_flat [] i f is within = absurd (omega arith)
+next_flat (g ∷ flats) zero f is within = ap (λ (x : Flat). then_instruction (instruction_of x) (list_of flats)) (sym is)
+next_flat (g ∷ flats) (suc i) f is within =
+    let later : suc i + 1 ≡ suc (i + 1) = omega arith in rw later (next_flat flats i f is (omega (arith, within)))
 
 -- what is next behind the exponent of a decimal in parts, whether it is there
 abbrev pub behind_exponent : Bool → FieldPart → Next
@@ -73,7 +70,7 @@ taken_on Refused P Q R S f p q r = tt
 
 module _ (level : Level) (bytes : List ℕ) where
   -- where nothing was taken
-  pub takes_none : (l : Segment) (d : Dictionary) (bits : List Bool) (f : Fields) → Takes level bytes l d bits f l d bits f
+  pub takes_none : (l : Segment) (d : Dictionary) (bits : List Bool) (f : Front) → Takes level bytes l d bits f l d bits f
   takes_none l d bits f outer o next first opened = record {
     received = o;
     has = opened;
@@ -84,22 +81,22 @@ module _ (level : Level) (bytes : List ℕ) where
     reads = λ more. refl;
   }
 
-  pub takes_same : (l k : Segment) (d e : Dictionary) (bits later : List Bool) (f : Fields) → e ≡ d → k ≡ l → later ≡ bits → Takes level bytes l d bits f k e later f
+  pub takes_same : (l k : Segment) (d e : Dictionary) (bits later : List Bool) (f : Front) → e ≡ d → k ≡ l → later ≡ bits → Takes level bytes l d bits f k e later f
   takes_same l k d e bits later f entries segment map = rw (entries, segment, map) (takes_none l d bits f)
 
   -- the same segments, as they are called otherwise
-  pub takes_between : (l m k j : Segment) (d e : Dictionary) (bits later : List Bool) (f g : Fields) → m ≡ l → j ≡ k → Takes level bytes m d bits f k e later g → Takes level bytes l d bits f j e later g
+  pub takes_between : (l m k j : Segment) (d e : Dictionary) (bits later : List Bool) (f g : Front) → m ≡ l → j ≡ k → Takes level bytes m d bits f k e later g → Takes level bytes l d bits f j e later g
   takes_between l m k j d e bits later f g one other t = subst (λ (x : Segment). Takes level bytes x d bits f j e later g) one (subst (λ (x : Segment). Takes level bytes m d bits f x e later g) (sym other) t)
 
   -- and the same places
-  pub takes_at : (l m k j : Segment) (d e : Dictionary) (bits later : List Bool) (f g : Fields) (a x b y : ℕ) → m ≡ l → j ≡ k → a ≡ x → y ≡ b
+  pub takes_at : (l m k j : Segment) (d e : Dictionary) (bits later : List Bool) (f g : Front) (a x b y : ℕ) → m ≡ l → j ≡ k → a ≡ x → y ≡ b
       → Takes level bytes m d bits (at_place f a) k e later (at_place g b) → Takes level bytes l d bits (at_place f x) j e later (at_place g y)
   takes_at l m k j d e bits later f g a x b y one other begins ends t =
       takes_between l m k j d e bits later (at_place f x) (at_place g y) one other
       (subst (λ (n : ℕ). Takes level bytes m d bits (at_place f n) k e later (at_place g y)) begins (subst (λ (n : ℕ). Takes level bytes m d bits (at_place f a) k e later (at_place g n)) (sym ends) t))
 
   -- one behind the other
-  pub takes_on : (l k j : Segment) (d e c : Dictionary) (bits later last : List Bool) (f g h : Fields) → Takes level bytes l d bits f k e later g → Takes level bytes k e later g j c last h → Takes level bytes l d bits f j c last h
+  pub takes_on : (l k j : Segment) (d e c : Dictionary) (bits later last : List Bool) (f g h : Front) → Takes level bytes l d bits f k e later g → Takes level bytes k e later g j c last h → Takes level bytes l d bits f j c last h
   takes_on l k j d e c bits later last f g h one two outer o next first opened =
       let p = one outer o next first opened in
       let q = two outer p.received p.next_is p.left_is p.has in
@@ -120,8 +117,8 @@ module _ (level : Level) (bytes : List ℕ) where
       }
 
   -- a field
-  pub takes_field : (l k : Segment) (d e : Dictionary) (bits later : List Bool) (f g : Fields) (name : List ℕ) (number : ℕ) (presence : Presence) (p : FieldPart) (is : Instructions) (v : Option Scalar) (next : ℕ)
-      → f.mantissa ≡ None → list_of f.rest.now ≡ then_instruction (whole_field name number presence p) is → g.mantissa ≡ None → list_of g.rest.now ≡ is → g.spare + 1 ≡ f.spare → g.place ≡ next
+  pub takes_field : (l k : Segment) (d e : Dictionary) (bits later : List Bool) (f g : Front) (name : List ℕ) (number : ℕ) (presence : Presence) (p : FieldPart) (is : Instructions) (v : Option Scalar) (next : ℕ)
+      → f.mantissa ≡ None → f.rest ≡ then_instruction (whole_field name number presence p) is → g.mantissa ≡ None → g.rest ≡ is → g.spare + 1 ≡ f.spare → g.place ≡ next
       → Took level p (bit_for (part_needs_bit p) bits) d e v (drop f.place bytes) (drop next bytes) → Spelt p (entry_at d p.key) v l k → later ≡ after_bit (part_needs_bit p) bits
       → Takes level bytes l d bits f k e later g
   takes_field l k d e bits later f g name number presence p is v next none first none_behind rest spare place took spelt map outer o at left opened =
@@ -143,11 +140,11 @@ module _ (level : Level) (bytes : List ℕ) where
       }
 
   -- the exponent of a decimal in parts
-  exponent_passes : (z : Option ℤ) (there : Bool) (l k : Segment) (d e : Dictionary) (bits later : List Bool) (f g : Fields) (name : List ℕ) (number : ℕ) (presence : Presence) (p q : FieldPart) (is : Instructions) (next : ℕ)
-      → is_some z ≡ there → list_of f.rest.now ≡ then_instruction (field_in_parts name number presence p q) is → next_behind g.mantissa ≡ behind_exponent there q → list_of g.rest.now ≡ is → g.spare + 1 ≡ f.spare → g.place ≡ next
+  exponent_passes : (z : Option ℤ) (there : Bool) (l k : Segment) (d e : Dictionary) (bits later : List Bool) (f g : Front) (name : List ℕ) (number : ℕ) (presence : Presence) (p q : FieldPart) (is : Instructions) (next : ℕ)
+      → is_some z ≡ there → f.rest ≡ then_instruction (field_in_parts name number presence p q) is → next_behind g.mantissa ≡ behind_exponent there q → g.rest ≡ is → g.spare + 1 ≡ f.spare → g.place ≡ next
       → Took level p (bit_for (part_needs_bit p) bits) d e (exponent_of z) (drop f.place bytes) (drop next bytes) → Spelt p (entry_at d p.key) (exponent_of z) l k → later ≡ after_bit (part_needs_bit p) bits
-      → (outer : List Segment) (o : Received) → o.next ≡ at_instruction → o.body.rest ≡ list_of f.rest.now → IsOpened outer l o d
-      → Passes level (λ r. IsOpened outer k r e) o (next_behind g.mantissa) (list_of g.rest.now) d bits f.spare (drop f.place bytes) e later g.spare (drop g.place bytes)
+      → (outer : List Segment) (o : Received) → o.next ≡ at_instruction → o.body.rest ≡ f.rest → IsOpened outer l o d
+      → Passes level (λ r. IsOpened outer k r e) o (next_behind g.mantissa) (g.rest) d bits f.spare (drop f.place bytes) e later g.spare (drop g.place bytes)
   exponent_passes None true l k d e bits later f g name number presence p q is next some first behind rest spare place took spelt map outer o here left opened = absurd cc
   exponent_passes (Some z) false l k d e bits later f g name number presence p q is next some first behind rest spare place took spelt map outer o here left opened = absurd cc
   exponent_passes None false l k d e bits later f g name number presence p q is next some first behind rest spare place took spelt map outer o here left opened =
@@ -183,15 +180,15 @@ module _ (level : Level) (bytes : List ℕ) where
             (part_goes level p d bits (f.spare - 1) (drop f.place bytes ++ more) (drop next bytes ++ more) (exponent_of (Some z)) (took.value more)));
       }
 
-  pub takes_exponent : (z : Option ℤ) (there : Bool) (l k : Segment) (d e : Dictionary) (bits later : List Bool) (f g : Fields) (name : List ℕ) (number : ℕ) (presence : Presence) (p q : FieldPart) (is : Instructions) (next : ℕ)
-      → is_some z ≡ there → f.mantissa ≡ None → list_of f.rest.now ≡ then_instruction (field_in_parts name number presence p q) is → next_behind g.mantissa ≡ behind_exponent there q → list_of g.rest.now ≡ is → g.spare + 1 ≡ f.spare → g.place ≡ next
+  pub takes_exponent : (z : Option ℤ) (there : Bool) (l k : Segment) (d e : Dictionary) (bits later : List Bool) (f g : Front) (name : List ℕ) (number : ℕ) (presence : Presence) (p q : FieldPart) (is : Instructions) (next : ℕ)
+      → is_some z ≡ there → f.mantissa ≡ None → f.rest ≡ then_instruction (field_in_parts name number presence p q) is → next_behind g.mantissa ≡ behind_exponent there q → g.rest ≡ is → g.spare + 1 ≡ f.spare → g.place ≡ next
       → Took level p (bit_for (part_needs_bit p) bits) d e (exponent_of z) (drop f.place bytes) (drop next bytes) → Spelt p (entry_at d p.key) (exponent_of z) l k → later ≡ after_bit (part_needs_bit p) bits
       → Takes level bytes l d bits f k e later g
   takes_exponent z there l k d e bits later f g name number presence p q is next some none first behind rest spare place took spelt map outer o at left opened =
       exponent_passes z there l k d e bits later f g name number presence p q is next some first behind rest spare place took spelt map outer o (is_instruction o.next (at ∙ ap next_behind none)) left opened
 
   -- the mantissa of a decimal whose exponent is there
-  pub takes_mantissa : (l k : Segment) (d e : Dictionary) (bits later : List Bool) (f g : Fields) (q : Bor FieldPart) (m : ℤ) (next : ℕ)
+  pub takes_mantissa : (l k : Segment) (d e : Dictionary) (bits later : List Bool) (f g : Front) (q : Bor FieldPart) (m : ℤ) (next : ℕ)
       → f.mantissa ≡ Some q → g.mantissa ≡ None → g.rest ≡ f.rest → g.spare ≡ f.spare → g.place ≡ next
       → Took level q.now (bit_for (part_needs_bit q.now) bits) d e (Some (I64 m)) (drop f.place bytes) (drop next bytes) → Spelt q.now (entry_at d q.now.key) (Some (I64 m)) l k → later ≡ after_bit (part_needs_bit q.now) bits
       → Takes level bytes l d bits f k e later g
@@ -203,7 +200,7 @@ module _ (level : Level) (bytes : List ℕ) where
         same = record { set = refl; before = refl; template = refl; members = refl; start = refl };
         around = refl;
         next_is = sym (ap next_behind none);
-        left_is = left ∙ sym (ap (λ (r : Bor (List Flat)). list_of r.now) rest);
+        left_is = left ∙ sym rest;
         reads = λ more.
             rw (map, took.entry, spare, place)
             (mantissa_on_goes level [] o.next here.exponent m q.now o.body (cursor d bits f.spare (drop f.place bytes ++ more)) _ here.is
@@ -211,8 +208,8 @@ module _ (level : Level) (bytes : List ℕ) where
       }
 
   -- an instruction that is a field, or begins with the exponent of a decimal in parts
-  pub takes_first : (i : Instruction) (there : Bool) (l k : Segment) (d e : Dictionary) (bits later : List Bool) (f g : Fields) (p : FieldPart) (m : Option (Bor FieldPart)) (is : Instructions) (v : Option Scalar) (next : ℕ)
-      → BeginsWith i p m → IsThere p.kind there v → f.mantissa ≡ None → list_of f.rest.now ≡ then_instruction i is → g.mantissa ≡ behind there m → list_of g.rest.now ≡ is → g.spare + 1 ≡ f.spare → g.place ≡ next
+  pub takes_first : (i : Instruction) (there : Bool) (l k : Segment) (d e : Dictionary) (bits later : List Bool) (f g : Front) (p : FieldPart) (m : Option (Bor FieldPart)) (is : Instructions) (v : Option Scalar) (next : ℕ)
+      → BeginsWith i p m → IsThere p.kind there v → f.mantissa ≡ None → f.rest ≡ then_instruction i is → g.mantissa ≡ behind there m → g.rest ≡ is → g.spare + 1 ≡ f.spare → g.place ≡ next
       → Took level p (bit_for (part_needs_bit p) bits) d e v (drop f.place bytes) (drop next bytes) → Spelt p (entry_at d p.key) v l k → later ≡ after_bit (part_needs_bit p) bits
       → Takes level bytes l d bits f k e later g
   takes_first (whole_field name number presence whole) there l k d e bits later f g p m is v next begins value none first after rest spare place took spelt map =
@@ -225,3 +222,35 @@ module _ (level : Level) (bytes : List ℕ) where
       (rw (begins.0, x.1) at took) (rw (begins.0, x.1) at spelt) (map ∙ ap (λ (p : FieldPart). after_bit (part_needs_bit p) bits) begins.0)
   takes_first (group_of name number presence members) there l k d e bits later f g p m is v next begins value none first after rest spare place took spelt map = absurd begins
   takes_first (sequence_of name number presence part members) there l k d e bits later f g p m is v next begins value none first after rest spare place took spelt map = absurd begins
+
+  -- the first part of the instruction behind so many of a body
+  pub takes_next : (l k j : Segment) (d e c : Dictionary) (bits later last : List Bool) (from : Front) (flats : List Flat) (spare i : ℕ) (f : Flat) (there : Bool) (p : FieldPart) (m n : Option (Bor FieldPart)) (v : Option Scalar) (place next : ℕ)
+      → length flats ≤ spare → f ≡ get_or flats i f → i < length flats → BeginsWith (instruction_of f) p m → IsThere p.kind there v → n ≡ behind there m
+      → Takes level bytes l d bits from k e later (front_at flats spare i None place)
+      → Took level p (bit_for (part_needs_bit p) later) e c v (drop place bytes) (drop next bytes) → Spelt p (entry_at e p.key) v k j → last ≡ after_bit (part_needs_bit p) later
+      → Takes level bytes l d bits from j c last (front_at flats spare (i + 1) n next)
+  takes_next l k j d e c bits later last from flats spare i f there p m n v place next few is within begins value after so_far took spelt map =
+      let less : spare - (i + 1) + 1 ≡ spare - i = omega (arith, few, within) in
+      takes_on l k j d e c bits later last from (front_at flats spare i None place) (front_at flats spare (i + 1) n next) so_far
+      (takes_first (instruction_of f) there k j e c later last (front_at flats spare i None place) (front_at flats spare (i + 1) n next) p m (list_of (drop (i + 1) flats)) v next
+      begins value refl (next_flat flats i f is within) after refl less refl took spelt map)
+
+  -- the mantissa of the decimal behind which so many instructions are passed
+  pub takes_behind : (l k j : Segment) (d e c : Dictionary) (bits later last : List Bool) (from : Front) (flats : List Flat) (spare i : ℕ) (q : Bor FieldPart) (m : ℤ) (place next : ℕ)
+      → Takes level bytes l d bits from k e later (front_at flats spare i (Some q) place)
+      → Took level q.now (bit_for (part_needs_bit q.now) later) e c (Some (I64 m)) (drop place bytes) (drop next bytes) → Spelt q.now (entry_at e q.now.key) (Some (I64 m)) k j → last ≡ after_bit (part_needs_bit q.now) later
+      → Takes level bytes l d bits from j c last (front_at flats spare i None next)
+  takes_behind l k j d e c bits later last from flats spare i q m place next so_far took spelt map =
+      takes_on l k j d e c bits later last from (front_at flats spare i (Some q) place) (front_at flats spare i None next) so_far
+      (takes_mantissa k j e c later last (front_at flats spare i (Some q) place) (front_at flats spare i None next) q m next refl refl refl refl refl took spelt map)
+
+  -- nothing more was taken
+  pub takes_stays : (l k j : Segment) (d e c : Dictionary) (bits later last : List Bool) (from : Front) (flats : List Flat) (spare i : ℕ) (n : Option (Bor FieldPart)) (place next : ℕ)
+      → c ≡ e → j ≡ k → last ≡ later → next ≡ place
+      → Takes level bytes l d bits from k e later (front_at flats spare i n place) → Takes level bytes l d bits from j c last (front_at flats spare i n next)
+  takes_stays l k j d e c bits later last from flats spare i n place next entries segment map at so_far = rw (entries, segment, map, at) so_far
+
+pub front_begins : (flats : List Flat) (spare place : ℕ) → front_at flats spare 0 None place ≡ record { mantissa = None; rest = list_of flats; spare = spare; place = place }
+front_begins flats spare place =
+    let whole : spare - 0 ≡ spare = omega arith in
+    ap (λ (n : ℕ). let f : Front = record { mantissa = None; rest = list_of flats; spare = n; place = place } in f) whole

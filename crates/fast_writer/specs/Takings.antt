@@ -1,10 +1,11 @@
 -- Fields that are taken one after the other into the segment that is open.
-use Rattle.std.specs.Prelude.{◌≡◌, ℕ, ◌+◌, Bool, true, false, List, ◌++◌, Option, Some, None, Ok, drop}
+use Rattle.std.specs.Prelude.{◌≡◌, ℕ, ◌+◌, ◌-◌, Bool, true, false, List, ◌++◌, Option, Some, None, Ok, drop}
 use Rattle.fast_value.specs.declared.kind.Kind.TheVariants as kind
 use Rattle.fast_value.specs.declared.kind.Part.TheVariants as part
 use Rattle.std.specs.Borrow.{Bor}
 use Rattle.fast_template.specs.declared.resolved.FieldPart.{FieldPart}
-use Rattle.fast_template.specs.Resolved.{Instruction, whole_field, field_in_parts, group_of, sequence_of, list_of, part_needs_bit}
+use Rattle.fast_template.specs.declared.resolved.Flat.{Flat}
+use Rattle.fast_template.specs.Resolved.{Instruction, Instructions, whole_field, field_in_parts, group_of, sequence_of, list_of, part_needs_bit}
 use Rattle.fast_value.specs.declared.scalar.Scalar.{Scalar}
 use Rattle.fast_dictionary.specs.Dictionary.{Dictionary}
 use Rattle.fast_dictionary.specs.declared.entry.Entry.{Entry}
@@ -21,11 +22,26 @@ use Rattle.fast_writer.specs.Written.{Segment, IsOpened, Spelt}
 use Rattle.fast_writer.specs.declared.fields.Taken.{Taken}
 use Rattle.fast_writer.specs.declared.fields.Taken.TheVariants.{Part, Elsewhere, Refused}
 
+-- Where fields are taken from the front of a body: the mantissa that is next, the instructions behind it, how many nodes may
+-- still come, and the place.
+pub record Front : Type 0 where
+  pub mantissa : Option (Bor FieldPart)
+  pub rest : Instructions
+  pub spare : ℕ
+  pub place : ℕ
+
+abbrev pub front_of : Fields → Front
+front_of f = record { mantissa = f.mantissa; rest = list_of f.rest.now; spare = f.spare; place = f.place }
+
+-- the same behind so many instructions of a body, each of which is a node
+abbrev pub front_at : List Flat → ℕ → ℕ → Option (Bor FieldPart) → ℕ → Front
+front_at flats spare count mantissa place = record { mantissa = mantissa; rest = list_of (drop count flats); spare = spare - count; place = place }
+
 -- From one segment, dictionary, map and place to others: whatever is open around it, fields were passed.
-abbrev pub Takes : Level → List ℕ → Segment → Dictionary → List Bool → Fields → Segment → Dictionary → List Bool → Fields → Type 0
+abbrev pub Takes : Level → List ℕ → Segment → Dictionary → List Bool → Front → Segment → Dictionary → List Bool → Front → Type 0
 Takes level bytes l d bits f k e later g =
-    (outer : List Segment) (o : Received) → bare_next o.next ≡ next_behind f.mantissa → o.body.rest ≡ list_of f.rest.now → IsOpened outer l o d
-    → Passes level (λ p. IsOpened outer k p e) o (next_behind g.mantissa) (list_of g.rest.now) d bits f.spare (drop f.place bytes) e later g.spare (drop g.place bytes)
+    (outer : List Segment) (o : Received) → bare_next o.next ≡ next_behind f.mantissa → o.body.rest ≡ f.rest → IsOpened outer l o d
+    → Passes level (λ p. IsOpened outer k p e) o (next_behind g.mantissa) g.rest d bits f.spare (drop f.place bytes) e later g.spare (drop g.place bytes)
 
 -- The part that a field begins with: its own, or the exponent of a decimal in parts, an integer, with its mantissa behind.
 abbrev pub BeginsWith : Instruction → FieldPart → Option (Bor FieldPart) → Type 0
@@ -45,21 +61,9 @@ abbrev pub behind : Bool → Option (Bor FieldPart) → Option (Bor FieldPart)
 behind true mantissa = mantissa
 behind false mantissa = None
 
--- how many nodes may still come, one more where the mantissa of a decimal is next that is counted
-abbrev pub counted : Option (Bor FieldPart) → ℕ → ℕ
-counted None spare = spare
-counted (Some mantissa) spare = spare + 1
-
-abbrev pub counted_of : Fields → ℕ
-counted_of f = counted f.mantissa f.spare
-
--- the same fields, from a place on
-abbrev pub at_place : Fields → ℕ → Fields
+-- the same, from a place on
+abbrev pub at_place : Front → ℕ → Front
 at_place f place = record { mantissa = f.mantissa; rest = f.rest; spare = f.spare; place = place }
-
--- how many parts may still come
-abbrev pub pieces_of : Fields → ℕ
-pieces_of f = f.spare + counted_of f
 
 -- what holds of a part that was taken: whether its value is there
 abbrev pub IfTaken : Taken → (Bool → Type 0) → Type 0

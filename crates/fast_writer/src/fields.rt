@@ -1,6 +1,6 @@
 //! Fields that are taken one after the other, with no call of the walk between them.
 
-ghost use Rattle.std.specs.Prelude.{◌≡◌, ◌≤◌, ◌<◌, ◌+◌, ◌*◌, Bool, true, false, Option, Some, None, IsSome, IfOk, IfSome, OnOk, IsTrue, length, drop, slice_range};
+ghost use Rattle.std.specs.Prelude.{◌≡◌, ◌≤◌, ◌<◌, ◌+◌, ◌*◌, ℕ, Bool, true, false, Option, Some, None, IsSome, IfOk, IfSome, OnOk, IsTrue, length, drop, slice_range};
 ghost use Rattle.fast_template.specs.Resolved.{instruction_of, list_of, part_needs_bit as part_needs_bit_of, then_instruction};
 ghost use Rattle.fast_value.specs.declared.scalar.Scalar.{Scalar as ScalarOf};
 ghost use Rattle.fast_dictionary.specs.Dictionary.{entry_at};
@@ -19,7 +19,7 @@ ghost use Rattle.fast_writer.specs.Levels.{level_in, level_of};
 ghost use Rattle.fast_writer.specs.Room.{has_room};
 ghost use Rattle.fast_wire.specs.PresenceMap.{next_bit};
 ghost use Rattle.fast_writer.specs.Written.{Asked, Spelt, with_bytes};
-ghost use Rattle.fast_writer.specs.Takings.{BeginsWith, IfElsewhere, IsFirstTold, IfTaken, Takes, TookEntry, at_place, behind, counted_of, pieces_of};
+ghost use Rattle.fast_writer.specs.Takings.{BeginsWith, IfElsewhere, IsFirstTold, IfTaken, Takes, TookEntry, behind, front_at, front_of};
 ghost use Rattle.fast_value.specs.declared.key.Key.{Key};
 ghost use Rattle.fast_value.specs.declared.kind.Kind.TheVariants.{Int32};
 ghost use Rattle.fast_value.specs.declared.kind.Part.TheVariants.{Exponent, Whole};
@@ -302,74 +302,6 @@ fn take_part<E: Entries>(
     }
 }
 
-// Goes on behind the first part of an instruction, whose node is counted.
-#[inline(always)]
-fn pass<'a>(fields: &mut Fields<'a>, mantissa: Option<&'a FieldPart>, others: &'a [Flat])
-    requires { 0 < fields.now.spare }
-    ensures mantissa { fields.new.mantissa ≡ mantissa.entry }
-    ensures rest { fields.new.rest ≡ others.entry }
-    ensures spare { fields.new.spare + 1 ≡ fields.old.spare }
-{
-    fields.mantissa = mantissa;
-    fields.rest = others;
-    fields.spare -= 1;
-}
-
-// Takes the mantissa that is next. False: nothing has changed.
-#[inline(always)]
-fn take_mantissa<'a, E: Entries>(
-    fields: &mut Fields<'a>,
-    mantissa: &FieldPart,
-    alloc: Global,
-    entries: &mut E,
-    bits: &mut Bits,
-    level: Level,
-    bytes: &[u8],
-    segment: &mut Segment,
-) -> Result<bool, AllocError>
-    requires run { IsRun bytes.now segment.now.bytes.place segment.now.bytes }
-    requires next { fields.now.mantissa ≡ Some mantissa }
-    requires served { IsMantissaServed (E.serves entries.now) mantissa.now }
-    requires kept { KeepScalars (E.contents entries.now) }
-    requires all { AreServed (E.serves entries.now) (list_of fields.now.rest.now) }
-    ensures place { OnOk result (segment.old.bytes.place ≤ segment.new.bytes.place) }
-    ensures run { OnOk result (IsRun bytes.now segment.new.bytes.place segment.new.bytes) }
-    ensures takes { OnOk result (Takes level bytes.now (level_in bytes.now segment.old)
-        (E.contents entries.old) bits.old (at_place fields.old segment.old.bytes.place)
-        (level_in bytes.now segment.new)
-        (E.contents entries.new) bits.new (at_place fields.new segment.new.bytes.place)) }
-    ensures next { OnOk result (IsNextServed (E.serves entries.old)
-        (next_behind fields.new.mantissa)) }
-    ensures served { OnOk result (AreServed (E.serves entries.old) (list_of fields.new.rest.now)) }
-    ensures counted { OnOk result (counted_of fields.new ≤ counted_of fields.old) }
-    ensures fewer { IfOk result (λ b. b ≡ true → pieces_of fields.new < pieces_of fields.old) }
-    ensures rest { fields.new.rest ≡ fields.old.rest }
-    ensures spare { fields.new.spare ≡ fields.old.spare }
-    ensures whole { IfOk result (λ b. b ≡ true → fields.new.mantissa ≡ None) }
-    ensures room { OnOk result (IsTrue (has_room (level_in bytes.now segment.old) bits.old)
-        → IsTrue (has_room (level_in bytes.now segment.new) bits.new)) }
-    ensures kept { OnOk result (KeepScalars (E.contents entries.new)) }
-    ensures same_keys { E.serves entries.new ≡ E.serves entries.old }
-{
-    match take_part(
-        Part::Mantissa,
-        alloc,
-        entries,
-        mantissa,
-        bits,
-        level,
-        bytes,
-        segment,
-    ) {
-        Taken::Part(_there) => {
-            fields.mantissa = None;
-            Ok(true)
-        }
-        Taken::Elsewhere => Ok(false),
-        Taken::Refused => Err(AllocError),
-    }
-}
-
 // The part that a field begins with, and the mantissa behind the exponent of a decimal in parts. None for a group or
 // a sequence.
 #[inline(always)]
@@ -392,196 +324,86 @@ fn first_part(flat: &Flat) -> Option<(&FieldPart, Option<&FieldPart>)>
     }
 }
 
-// Takes the field that is next. False: nothing has changed.
-#[inline(always)]
-fn take_whole<'a, E: Entries>(
-    fields: &mut Fields<'a>,
-    flat: &Flat,
-    whole: &FieldPart,
-    others: &'a [Flat],
-    alloc: Global,
-    entries: &mut E,
-    bits: &mut Bits,
-    level: Level,
-    bytes: &[u8],
-    segment: &mut Segment,
-) -> Result<bool, AllocError>
-    requires run { IsRun bytes.now segment.now.bytes.place segment.now.bytes }
-    requires next { fields.now.mantissa ≡ None }
-    requires few { length others.now < fields.now.spare }
-    requires first { list_of fields.now.rest.now
-        ≡ then_instruction (instruction_of flat.now) (list_of others.now) }
-    requires begins { BeginsWith (instruction_of flat.now) whole.now None }
-    requires served { IsTrue (E.serves entries.now whole.now.key) }
-    requires kept { KeepScalars (E.contents entries.now) }
-    requires told { IsTold Whole whole.now.kind whole.now }
-    requires all { AreServed (E.serves entries.now) (list_of fields.now.rest.now) }
-    requires others { AreServed (E.serves entries.now) (list_of others.now) }
-    ensures place { OnOk result (segment.old.bytes.place ≤ segment.new.bytes.place) }
-    ensures run { OnOk result (IsRun bytes.now segment.new.bytes.place segment.new.bytes) }
-    ensures takes { OnOk result (Takes level bytes.now (level_in bytes.now segment.old)
-        (E.contents entries.old) bits.old (at_place fields.old segment.old.bytes.place)
-        (level_in bytes.now segment.new)
-        (E.contents entries.new) bits.new (at_place fields.new segment.new.bytes.place)) }
-    ensures next { OnOk result (IsNextServed (E.serves entries.old)
-        (next_behind fields.new.mantissa)) }
-    ensures served { OnOk result (AreServed (E.serves entries.old) (list_of fields.new.rest.now)) }
-    ensures counted { OnOk result (counted_of fields.new ≤ counted_of fields.old) }
-    ensures fewer { IfOk result (λ b. b ≡ true → pieces_of fields.new < pieces_of fields.old) }
-    ensures whole { IfOk result (λ b. b ≡ true → fields.new.mantissa ≡ None) }
-    ensures few { IfOk result (λ b. b ≡ true → length fields.new.rest.now ≤ fields.new.spare) }
-    ensures room { OnOk result (IsTrue (has_room (level_in bytes.now segment.old) bits.old)
-        → IsTrue (has_room (level_in bytes.now segment.new) bits.new)) }
-    ensures kept { OnOk result (KeepScalars (E.contents entries.new)) }
-    ensures same_keys { E.serves entries.new ≡ E.serves entries.old }
-{
-    match take_part(
-        Part::Whole,
-        alloc,
-        entries,
-        whole,
-        bits,
-        level,
-        bytes,
-        segment,
-    ) {
-        Taken::Part(_there) => {
-            pass(fields, None, others);
-            Ok(true)
-        }
-        Taken::Elsewhere => Ok(false),
-        Taken::Refused => Err(AllocError),
-    }
-}
-
-// Takes a decimal in parts that is next: its exponent, and where that is there its mantissa. False: another way takes what
-// is next then.
-#[inline(always)]
-fn take_parts<'a, E: Entries>(
-    fields: &mut Fields<'a>,
-    flat: &Flat,
-    exponent: &FieldPart,
-    mantissa: &'a FieldPart,
-    others: &'a [Flat],
-    alloc: Global,
-    entries: &mut E,
-    bits: &mut Bits,
-    level: Level,
-    bytes: &[u8],
-    segment: &mut Segment,
-) -> Result<bool, AllocError>
-    requires run { IsRun bytes.now segment.now.bytes.place segment.now.bytes }
-    requires next { fields.now.mantissa ≡ None }
-    requires few { length others.now < fields.now.spare }
-    requires first { list_of fields.now.rest.now
-        ≡ then_instruction (instruction_of flat.now) (list_of others.now) }
-    requires begins { BeginsWith (instruction_of flat.now) exponent.now (Some mantissa) }
-    requires served { IsTrue (E.serves entries.now exponent.now.key) }
-    requires kept { KeepScalars (E.contents entries.now) }
-    requires told { IsTold Exponent Int32 exponent.now }
-    requires all { AreServed (E.serves entries.now) (list_of fields.now.rest.now) }
-    requires others { AreServed (E.serves entries.now) (list_of others.now) }
-    requires mantissa { IsMantissaServed (E.serves entries.now) mantissa.now }
-    ensures place { OnOk result (segment.old.bytes.place ≤ segment.new.bytes.place) }
-    ensures run { OnOk result (IsRun bytes.now segment.new.bytes.place segment.new.bytes) }
-    ensures takes { OnOk result (Takes level bytes.now (level_in bytes.now segment.old)
-        (E.contents entries.old) bits.old (at_place fields.old segment.old.bytes.place)
-        (level_in bytes.now segment.new)
-        (E.contents entries.new) bits.new (at_place fields.new segment.new.bytes.place)) }
-    ensures next { OnOk result (IsNextServed (E.serves entries.old)
-        (next_behind fields.new.mantissa)) }
-    ensures served { OnOk result (AreServed (E.serves entries.old) (list_of fields.new.rest.now)) }
-    ensures counted { OnOk result (counted_of fields.new ≤ counted_of fields.old) }
-    ensures fewer { IfOk result (λ b. b ≡ true → pieces_of fields.new < pieces_of fields.old) }
-    ensures whole { IfOk result (λ b. b ≡ true → fields.new.mantissa ≡ None) }
-    ensures few { IfOk result (λ b. b ≡ true → length fields.new.rest.now ≤ fields.new.spare) }
-    ensures room { OnOk result (IsTrue (has_room (level_in bytes.now segment.old) bits.old)
-        → IsTrue (has_room (level_in bytes.now segment.new) bits.new)) }
-    ensures kept { OnOk result (KeepScalars (E.contents entries.new)) }
-    ensures same_keys { E.serves entries.new ≡ E.serves entries.old }
-{
-    match take_part(
-        Part::Exponent,
-        alloc,
-        entries,
-        exponent,
-        bits,
-        level,
-        bytes,
-        segment,
-    ) {
-        Taken::Part(true) => {
-            pass(fields, Some(mantissa), others);
-            match take_mantissa(
-                fields, mantissa, alloc, entries, bits, level, bytes, segment,
-            ) {
-                Err(error) => Err(error),
-                Ok(taken) => Ok(taken),
-            }
-        }
-        Taken::Part(false) => {
-            pass(fields, None, others);
-            Ok(true)
-        }
-        Taken::Elsewhere => Ok(false),
-        Taken::Refused => Err(AllocError),
-    }
-}
-
-// Takes fields from the front of those that are left, as many as the quick way serves one after the other.
-#[inline(always)]
+// Takes fields from the front of a body, as many as the quick way serves one after the other. Answers how many instructions
+// were passed, and the mantissa that is next where only the exponent of the last one was taken.
 fn take_all<'a, E: Entries>(
-    fields: &mut Fields<'a>,
+    rest: &'a [Flat],
     alloc: Global,
     entries: &mut E,
     bits: &mut Bits,
     level: Level,
     bytes: &[u8],
     segment: &mut Segment,
-) -> Result<(), AllocError>
+) -> Result<(usize, Option<&'a FieldPart>), AllocError>
     requires run { IsRun bytes.now segment.now.bytes.place segment.now.bytes }
-    requires next { fields.now.mantissa ≡ None }
-    requires few { length fields.now.rest.now ≤ fields.now.spare }
-    requires served { AreServed (E.serves entries.now) (list_of fields.now.rest.now) }
+    requires served { AreServed (E.serves entries.now) (list_of rest.now) }
     requires kept { KeepScalars (E.contents entries.now) }
     ensures place { OnOk result (segment.old.bytes.place ≤ segment.new.bytes.place) }
     ensures run { OnOk result (IsRun bytes.now segment.new.bytes.place segment.new.bytes) }
-    ensures counted { OnOk result (counted_of fields.new ≤ counted_of fields.old) }
-    ensures served { OnOk result (AreServed (E.serves entries.old) (list_of fields.new.rest.now)
-        × IsNextServed (E.serves entries.old) (next_behind fields.new.mantissa)) }
-    ensures takes { OnOk result (Takes level bytes.now (level_in bytes.now segment.old)
-        (E.contents entries.old) bits.old (at_place fields.old segment.old.bytes.place)
-        (level_in bytes.now segment.new)
-        (E.contents entries.new) bits.new (at_place fields.new segment.new.bytes.place)) }
+    ensures count { IfOk result (λ x. x.0 ≤ length rest.now) }
+    ensures some { IfOk result (λ x. IsSome x.1 → 0 < x.0) }
+    ensures served { IfOk result (λ x. AreServed (E.serves entries.old) (list_of (drop x.0 rest.now))
+        × IsNextServed (E.serves entries.old) (next_behind x.1)) }
+    ensures takes { IfOk result (λ x. (spare : ℕ) → length rest.now ≤ spare
+        → Takes level bytes.now (level_in bytes.now segment.old) (E.contents entries.old) bits.old
+        (front_at rest.now spare 0 None segment.old.bytes.place)
+        (level_in bytes.now segment.new) (E.contents entries.new) bits.new
+        (front_at rest.now spare x.0 x.1 segment.new.bytes.place)) }
     ensures room { OnOk result (IsTrue (has_room (level_in bytes.now segment.old) bits.old)
         → IsTrue (has_room (level_in bytes.now segment.new) bits.new)) }
     ensures kept { OnOk result (KeepScalars (E.contents entries.new)) }
     ensures same_keys { E.serves entries.new ≡ E.serves entries.old }
 {
     // no function of its own: what it changes stays in registers here
-    'pieces: loop {
-        let Some((flat, others)) = fields.rest.split_first() else {
-            return Ok(());
-        };
-        match first_part(flat) {
-            Some((whole, None)) => match take_whole(
-                fields, flat, whole, others, alloc, entries, bits, level, bytes, segment,
-            ) {
-                Err(error) => return Err(error),
-                Ok(false) => return Ok(()),
-                Ok(true) => {}
-            },
-            Some((exponent, Some(mantissa))) => match take_parts(
-                fields, flat, exponent, mantissa, others, alloc, entries, bits, level, bytes,
+    let mut count = 0;
+    'pieces: while count < rest.len() {
+        match first_part(&rest[count]) {
+            None => return Ok((count, None)),
+            Some((whole, None)) => match take_part(
+                Part::Whole,
+                alloc,
+                entries,
+                whole,
+                bits,
+                level,
+                bytes,
                 segment,
             ) {
-                Err(error) => return Err(error),
-                Ok(false) => return Ok(()),
-                Ok(true) => {}
+                Taken::Part(_there) => count += 1,
+                Taken::Elsewhere => return Ok((count, None)),
+                Taken::Refused => return Err(AllocError),
             },
-            None => return Ok(()),
+            Some((exponent, Some(mantissa))) => match take_part(
+                Part::Exponent,
+                alloc,
+                entries,
+                exponent,
+                bits,
+                level,
+                bytes,
+                segment,
+            ) {
+                Taken::Part(true) => match take_part(
+                    Part::Mantissa,
+                    alloc,
+                    entries,
+                    mantissa,
+                    bits,
+                    level,
+                    bytes,
+                    segment,
+                ) {
+                    Taken::Part(_there) => count += 1,
+                    Taken::Elsewhere => return Ok((count + 1, Some(mantissa))),
+                    Taken::Refused => return Err(AllocError),
+                },
+                Taken::Part(false) => count += 1,
+                Taken::Elsewhere => return Ok((count, None)),
+                Taken::Refused => return Err(AllocError),
+            },
         }
     }
+    Ok((count, None))
 }
 
 /// Takes fields from the front of the open body, as many as the quick way serves one after the other.
@@ -607,28 +429,31 @@ pub(crate) fn take_fields<'a, E: Entries>(
         × IsNextServed (E.serves entries.old) (next_behind f.mantissa)) }
     ensures takes { IfOk result (λ f. Takes level bytes.now (level_of segment.old)
         (E.contents entries.old) bits.old
-        (record { mantissa = None; rest = rest.entry; spare = spare; place = at })
-        (level_of segment.new) (E.contents entries.new) bits.new f) }
+        (record { mantissa = None; rest = list_of rest.now; spare = spare; place = at })
+        (level_of segment.new) (E.contents entries.new) bits.new (front_of f)) }
     ensures room { OnOk result (IsTrue (has_room (level_of segment.old) bits.old)
         → IsTrue (has_room (level_of segment.new) bits.new)) }
     ensures kept { OnOk result (KeepScalars (E.contents entries.new)) }
     ensures same_keys { E.serves entries.new ≡ E.serves entries.old }
 {
-    let mut fields = Fields {
-        mantissa: None,
-        rest,
-        spare,
-        place: at,
-    };
     // (asked once for all of them: near the greatest number of nodes each field goes by itself)
     if rest.len() > spare as usize {
-        return Ok(fields);
+        return Ok(Fields {
+            mantissa: None,
+            rest,
+            spare,
+            place: at,
+        });
     }
     segment.bytes.begin(at);
-    take_all(&mut fields, alloc, entries, bits, level, bytes, segment)?;
+    let (count, mantissa) = take_all(rest, alloc, entries, bits, level, bytes, segment)?;
     if segment.bytes.flush(bytes) {
-        fields.place = segment.bytes.place;
-        Ok(fields)
+        Ok(Fields {
+            mantissa,
+            rest: &rest[count..],
+            spare: spare - count as u32,
+            place: segment.bytes.place,
+        })
     } else {
         Err(AllocError)
     }

@@ -1,77 +1,146 @@
-use Rattle.std.proofs.Common.{◌∙◌, arith, refl, rules}
+use Rattle.std.proofs.Common.{◌≡◌, ◌<◌, ◌+◌, None, Some, true, false, ap, arith, drop, length, refl, sym, subst, ◌∙◌}
+use Rattle.fast_template.specs.Resolved.{instruction_of, list_of, then_instruction}
+use Rattle.fast_value.specs.declared.kind.Part.TheVariants as part
+use Rattle.fast_dictionary.specs.Dictionary.{entry_at}
+use Rattle.fast_walk.specs.Walks.{AreServed, IsMantissaServed}
+use Rattle.fast_walk.proofs.Telling.{told_part}
 use Rattle.fast_writer.specs.Levels.{level_in}
-use Rattle.fast_writer.specs.Takings.{at_place}
-use Rattle.fast_writer.proofs.Takings.{takes_none, takes_on}
+use Rattle.fast_writer.specs.Takings.{Takes, front_at}
+use Rattle.fast_writer.proofs.SpeltParts.{mantissa_taken}
+use Rattle.fast_writer.proofs.Takings.{behind_whole, next_flat, takes_behind, takes_next, takes_none, takes_stays}
 use Rattle.fast_writer.proofs.fields.take_all.Goals as goal
 
-pub pieces-init : goal.pieces-init
-pieces-init g c = record {
-  place = omega arith;
-  run = c.requires.run;
-  whole = c.requires.next;
-  few = c.requires.few;
-  served = c.requires.served;
-  kept = c.requires.kept;
-  counted = omega arith;
-  room = λ room. room;
-  takes = takes_none c.args.level c.args.bytes.now (level_in c.args.bytes.now c.args.segment.now) (g.E.Entries.contents c.args.entries.now) c.args.bits.now (at_place c.args.fields.now c.args.segment.now.bytes.place);
-  same_keys = refl;
-}
+pub take_part-requires-clause-part : goal.take_part-requires-clause-part
+take_part-requires-clause-part g c =
+    let whole = c.in-Some-default-None.whole.now in
+    let rest = c.args.rest.now in
+    let serves = g.E.Entries.serves c.pieces.entries in
+    let here : AreServed serves (then_instruction (instruction_of c.index-rest-count.result) (list_of (drop (c.pieces.count + 1) rest))) =
+      subst (AreServed serves) (next_flat rest c.pieces.count c.index-rest-count.result c.index-rest-count.is (omega (arith, c.pieces-test.true))) c.pieces.invariant.served in
+    told_part part.Whole whole.kind whole tt (rw (c.in-Some-default-None.field-0-1-is) at (c.in-Some-default-None.ensures.served serves here.0).1)
 
-pub pieces-preserved-in-Ok-true : goal.pieces-preserved-in-Ok-true
-pieces-preserved-in-Ok-true g c =
-    let d = g.E.Entries.contents c.args.entries.now in
-    let e = g.E.Entries.contents c.pieces.entries in
-    let h = g.E.Entries.contents c.take_whole.new.entries in
-    let from = at_place c.args.fields.now c.args.segment.now.bytes.place in
+pub returns-in-Elsewhere-clause-takes : goal.returns-in-Elsewhere-clause-takes
+returns-in-Elsewhere-clause-takes g c = λ spare few.
+    let same = c.in-Elsewhere.ensures.nothing in
+    takes_stays c.args.level c.args.bytes.now (level_in c.args.bytes.now c.args.segment.now) (level_in c.args.bytes.now c.pieces.segment) (level_in c.args.bytes.now c.take_part.new.segment)
+    (g.E.Entries.contents c.args.entries.now) (g.E.Entries.contents c.pieces.entries) (g.E.Entries.contents c.take_part.new.entries) c.args.bits.now c.pieces.bits c.take_part.new.bits
+    (front_at c.args.rest.now spare 0 None c.args.segment.now.bytes.place) c.args.rest.now spare c.pieces.count None c.pieces.segment.bytes.place c.take_part.new.segment.bytes.place
+    same.0 same.1 same.2 same.3.place (c.pieces.invariant.takes spare few)
+
+pub returns-in-Elsewhere-take_part-clause-takes : goal.returns-in-Elsewhere-take_part-clause-takes
+returns-in-Elsewhere-take_part-clause-takes g c = λ spare few.
+    let same = c.in-Elsewhere-take_part.ensures.nothing in
+    let taken = c.take_part-in-Some-default-Some in
+    takes_stays c.args.level c.args.bytes.now (level_in c.args.bytes.now c.args.segment.now) (level_in c.args.bytes.now c.pieces.segment) (level_in c.args.bytes.now taken.new.segment)
+    (g.E.Entries.contents c.args.entries.now) (g.E.Entries.contents c.pieces.entries) (g.E.Entries.contents taken.new.entries) c.args.bits.now c.pieces.bits taken.new.bits
+    (front_at c.args.rest.now spare 0 None c.args.segment.now.bytes.place) c.args.rest.now spare c.pieces.count None c.pieces.segment.bytes.place taken.new.segment.bytes.place
+    same.0 same.1 same.2 same.3.place (c.pieces.invariant.takes spare few)
+
+pub returns-in-Elsewhere-take_part-2-clause-takes : goal.returns-in-Elsewhere-take_part-2-clause-takes
+returns-in-Elsewhere-take_part-2-clause-takes g c = λ spare few.
+    let bytes = c.args.bytes.now in
+    let same = c.in-Elsewhere-take_part-2.ensures.nothing in
+    let one = c.take_part-in-Some-default-Some in
+    let two = c.take_part-in-Part-true in
+    let r = c.in-Part-true.ensures.took in
+    let from = front_at c.args.rest.now spare 0 None c.args.segment.now.bytes.place in
+    takes_stays c.args.level bytes (level_in bytes c.args.segment.now) (level_in bytes one.new.segment) (level_in bytes two.new.segment)
+    (g.E.Entries.contents c.args.entries.now) (g.E.Entries.contents one.new.entries) (g.E.Entries.contents two.new.entries) c.args.bits.now one.new.bits two.new.bits
+    from c.args.rest.now spare (c.pieces.count + 1) (Some c.in-Some-default-Some.mantissa) one.new.segment.bytes.place two.new.segment.bytes.place
+    same.0 same.1 same.2 same.3.place
+    (takes_next c.args.level bytes (level_in bytes c.args.segment.now) (level_in bytes c.pieces.segment) (level_in bytes one.new.segment)
+    (g.E.Entries.contents c.args.entries.now) (g.E.Entries.contents c.pieces.entries) (g.E.Entries.contents one.new.entries) c.args.bits.now c.pieces.bits one.new.bits
+    from c.args.rest.now spare c.pieces.count c.index-rest-count.result true c.in-Some-default-Some.exponent.now (Some c.in-Some-default-Some.mantissa) (Some c.in-Some-default-Some.mantissa) r.0 c.pieces.segment.bytes.place one.new.segment.bytes.place
+    few c.index-rest-count.is (omega (arith, c.pieces-test.true)) (rw (c.in-Some-default-Some.field-0-1-is) at c.in-Some-default-Some.ensures.begins) (rw (c.in-Part-true.field-0-test) at r.1) refl (c.pieces.invariant.takes spare few) r.2 r.3 c.in-Part-true.ensures.bits)
+
+pub pieces-preserved-in-Part : goal.pieces-preserved-in-Part
+pieces-preserved-in-Part g c =
+    let bytes = c.args.bytes.now in
+    let rest = c.args.rest.now in
+    let at = c.args.segment.now in
+    let now = c.pieces in
+    let inv = c.pieces.invariant in
+    let flat = c.index-rest-count.result in
+    let within : now.count < length rest = omega (arith, c.pieces-test.true) in
+    let here : AreServed (g.E.Entries.serves now.entries) (then_instruction (instruction_of flat) (list_of (drop (now.count + 1) rest))) =
+      subst (AreServed (g.E.Entries.serves now.entries)) (next_flat rest now.count flat c.index-rest-count.is within) inv.served in
+    let begins = c.in-Some-default-None in
+    let one = c.take_part in
+    let taken = c.in-Part.ensures in
     record {
-      place = search rules;
-      run = search rules;
-      whole = search rules;
-      few = search rules;
-      served = rw (c.take_whole.ensures.same_keys) c.in-Ok-true.ensures.served;
-      kept = c.in-Ok-true.ensures.kept;
-      room = λ room. c.in-Ok-true.ensures.room (c.pieces.invariant.room room);
-      counted = search rules;
-      takes = takes_on c.args.level c.args.bytes.now (level_in c.args.bytes.now c.args.segment.now) (level_in c.args.bytes.now c.pieces.segment) (level_in c.args.bytes.now c.take_whole.new.segment) d e h
-          c.args.bits.now c.pieces.bits c.take_whole.new.bits from (at_place c.pieces.fields c.pieces.segment.bytes.place) (at_place c.take_whole.new.fields c.take_whole.new.segment.bytes.place) c.pieces.invariant.takes c.in-Ok-true.ensures.takes;
-      same_keys = c.take_whole.ensures.same_keys ∙ c.pieces.invariant.same_keys;
+      within = omega (arith, within);
+      place = omega (arith, inv.place, taken.place);
+      run = taken.run;
+      served = rw (one.ensures.same_keys) here.1;
+      kept = taken.kept;
+      room = λ room. taken.room (inv.room room);
+      takes = λ spare few.
+          takes_next c.args.level bytes (level_in bytes at) (level_in bytes now.segment) (level_in bytes one.new.segment) (g.E.Entries.contents c.args.entries.now) (g.E.Entries.contents now.entries) (g.E.Entries.contents one.new.entries) c.args.bits.now now.bits one.new.bits
+          (front_at rest spare 0 None at.bytes.place) rest spare now.count flat c.in-Part._there begins.whole.now None None taken.took.0 now.segment.bytes.place one.new.segment.bytes.place
+          few c.index-rest-count.is within (rw (begins.field-0-1-is) at begins.ensures.begins) taken.took.1 (sym (behind_whole c.in-Part._there None refl)) (inv.takes spare few) taken.took.2 taken.took.3 taken.bits;
+      same_keys = one.ensures.same_keys ∙ inv.same_keys;
     }
 
-pub returns-in-Ok-false-clause-takes : goal.returns-in-Ok-false-clause-takes
-returns-in-Ok-false-clause-takes g c =
-    let d = g.E.Entries.contents c.args.entries.now in
-    let e = g.E.Entries.contents c.pieces.entries in
-    let h = g.E.Entries.contents c.take_whole.new.entries in
-    let from = at_place c.args.fields.now c.args.segment.now.bytes.place in
-    takes_on c.args.level c.args.bytes.now (level_in c.args.bytes.now c.args.segment.now) (level_in c.args.bytes.now c.pieces.segment) (level_in c.args.bytes.now c.take_whole.new.segment) d e h
-    c.args.bits.now c.pieces.bits c.take_whole.new.bits from (at_place c.pieces.fields c.pieces.segment.bytes.place) (at_place c.take_whole.new.fields c.take_whole.new.segment.bytes.place) c.pieces.invariant.takes c.in-Ok-false.ensures.takes
+pub pieces-preserved-in-Part-take_part : goal.pieces-preserved-in-Part-take_part
+pieces-preserved-in-Part-take_part g c =
+    let bytes = c.args.bytes.now in
+    let rest = c.args.rest.now in
+    let at = c.args.segment.now in
+    let now = c.pieces in
+    let inv = c.pieces.invariant in
+    let flat = c.index-rest-count.result in
+    let within : now.count < length rest = omega (arith, c.pieces-test.true) in
+    let here : AreServed (g.E.Entries.serves now.entries) (then_instruction (instruction_of flat) (list_of (drop (now.count + 1) rest))) =
+      subst (AreServed (g.E.Entries.serves now.entries)) (next_flat rest now.count flat c.index-rest-count.is within) inv.served in
+    let parts = c.in-Some-default-Some in
+    let m = parts.mantissa in
+    let one = c.take_part-in-Some-default-Some in
+    let two = c.take_part-in-Part-true in
+    let first = c.in-Part-true.ensures in
+    let last = c.in-Part-take_part.ensures in
+    let told : IsMantissaServed (g.E.Entries.serves now.entries) m.now = rw (parts.field-0-1-is) at (parts.ensures.served (g.E.Entries.serves now.entries) here.0).2 in
+    let x = mantissa_taken m.now (entry_at (g.E.Entries.contents one.new.entries) m.now.key) c.in-Part-take_part._there last.took.0 (level_in bytes one.new.segment) (level_in bytes two.new.segment) told.0.1 told.1 last.took.1 last.took.3 in
+    record {
+      within = omega (arith, within);
+      place = omega (arith, inv.place, first.place, last.place);
+      run = last.run;
+      served = rw (two.ensures.same_keys, one.ensures.same_keys) here.1;
+      kept = last.kept;
+      room = λ room. last.room (first.room (inv.room room));
+      takes = λ spare few.
+          takes_behind c.args.level bytes (level_in bytes at) (level_in bytes one.new.segment) (level_in bytes two.new.segment) (g.E.Entries.contents c.args.entries.now) (g.E.Entries.contents one.new.entries) (g.E.Entries.contents two.new.entries) c.args.bits.now one.new.bits two.new.bits
+          (front_at rest spare 0 None at.bytes.place) rest spare (now.count + 1) m x.0 one.new.segment.bytes.place two.new.segment.bytes.place
+          (takes_next c.args.level bytes (level_in bytes at) (level_in bytes now.segment) (level_in bytes one.new.segment) (g.E.Entries.contents c.args.entries.now) (g.E.Entries.contents now.entries) (g.E.Entries.contents one.new.entries) c.args.bits.now now.bits one.new.bits
+          (front_at rest spare 0 None at.bytes.place) rest spare now.count flat true parts.exponent.now (Some m) (Some m) first.took.0 now.segment.bytes.place one.new.segment.bytes.place
+          few c.index-rest-count.is within (rw (parts.field-0-1-is) at parts.ensures.begins) (rw (c.in-Part-true.field-0-test) at first.took.1) refl (inv.takes spare few) first.took.2 first.took.3 first.bits)
+          (rw (x.1) at last.took.2) (rw (x.1) at last.took.3) last.bits;
+      same_keys = two.ensures.same_keys ∙ one.ensures.same_keys ∙ inv.same_keys;
+    }
 
 pub pieces-preserved : goal.pieces-preserved
 pieces-preserved g c =
-    let d = g.E.Entries.contents c.args.entries.now in
-    let e = g.E.Entries.contents c.pieces.entries in
-    let h = g.E.Entries.contents c.take_parts.new.entries in
-    let from = at_place c.args.fields.now c.args.segment.now.bytes.place in
+    let bytes = c.args.bytes.now in
+    let rest = c.args.rest.now in
+    let at = c.args.segment.now in
+    let now = c.pieces in
+    let inv = c.pieces.invariant in
+    let flat = c.index-rest-count.result in
+    let within : now.count < length rest = omega (arith, c.pieces-test.true) in
+    let here : AreServed (g.E.Entries.serves now.entries) (then_instruction (instruction_of flat) (list_of (drop (now.count + 1) rest))) =
+      subst (AreServed (g.E.Entries.serves now.entries)) (next_flat rest now.count flat c.index-rest-count.is within) inv.served in
+    let parts = c.in-Some-default-Some in
+    let one = c.take_part-in-Some-default-Some in
+    let first = c.in-Part-false.ensures in
     record {
-      place = search rules;
-      run = search rules;
-      whole = search rules;
-      few = search rules;
-      served = rw (c.take_parts.ensures.same_keys) c.in-Ok-true-take_parts.ensures.served;
-      kept = c.in-Ok-true-take_parts.ensures.kept;
-      room = λ room. c.in-Ok-true-take_parts.ensures.room (c.pieces.invariant.room room);
-      counted = search rules;
-      takes = takes_on c.args.level c.args.bytes.now (level_in c.args.bytes.now c.args.segment.now) (level_in c.args.bytes.now c.pieces.segment) (level_in c.args.bytes.now c.take_parts.new.segment) d e h
-          c.args.bits.now c.pieces.bits c.take_parts.new.bits from (at_place c.pieces.fields c.pieces.segment.bytes.place) (at_place c.take_parts.new.fields c.take_parts.new.segment.bytes.place) c.pieces.invariant.takes c.in-Ok-true-take_parts.ensures.takes;
-      same_keys = c.take_parts.ensures.same_keys ∙ c.pieces.invariant.same_keys;
+      within = omega (arith, within);
+      place = omega (arith, inv.place, first.place);
+      run = first.run;
+      served = rw (one.ensures.same_keys) here.1;
+      kept = first.kept;
+      room = λ room. first.room (inv.room room);
+      takes = λ spare few.
+          takes_next c.args.level bytes (level_in bytes at) (level_in bytes now.segment) (level_in bytes one.new.segment) (g.E.Entries.contents c.args.entries.now) (g.E.Entries.contents now.entries) (g.E.Entries.contents one.new.entries) c.args.bits.now now.bits one.new.bits
+          (front_at rest spare 0 None at.bytes.place) rest spare now.count flat false parts.exponent.now (Some parts.mantissa) None first.took.0 now.segment.bytes.place one.new.segment.bytes.place
+          few c.index-rest-count.is within (rw (parts.field-0-1-is) at parts.ensures.begins) (rw (c.in-Part-false.field-0-test) at first.took.1) refl (inv.takes spare few) first.took.2 first.took.3 first.bits;
+      same_keys = one.ensures.same_keys ∙ inv.same_keys;
     }
-
-pub returns-in-Ok-false-take_parts-clause-takes : goal.returns-in-Ok-false-take_parts-clause-takes
-returns-in-Ok-false-take_parts-clause-takes g c =
-    let d = g.E.Entries.contents c.args.entries.now in
-    let e = g.E.Entries.contents c.pieces.entries in
-    let h = g.E.Entries.contents c.take_parts.new.entries in
-    let from = at_place c.args.fields.now c.args.segment.now.bytes.place in
-    takes_on c.args.level c.args.bytes.now (level_in c.args.bytes.now c.args.segment.now) (level_in c.args.bytes.now c.pieces.segment) (level_in c.args.bytes.now c.take_parts.new.segment) d e h
-    c.args.bits.now c.pieces.bits c.take_parts.new.bits from (at_place c.pieces.fields c.pieces.segment.bytes.place) (at_place c.take_parts.new.fields c.take_parts.new.segment.bytes.place) c.pieces.invariant.takes c.in-Ok-false-take_parts.ensures.takes

@@ -1,4 +1,4 @@
-use Rattle.std.proofs.Common.{◌≡◌, ◌≤◌, None, length}
+use Rattle.std.proofs.Common.{◌≡◌, ◌≤◌, ◌-◌, ℕ, None, drop, length}
 use Rattle.std.specs.Prelude.{IsTrue}
 use Rattle.fast_template.specs.Resolved.{list_of}
 use Rattle.fast_walk.specs.Walks.{AreServed}
@@ -6,23 +6,22 @@ use Rattle.fast_walk.specs.Told.{KeepScalars}
 use Rattle.fast_relay.specs.Runs.{IsRun}
 use Rattle.fast_writer.specs.Levels.{level_in}
 use Rattle.fast_writer.specs.Room.{has_room}
-use Rattle.fast_writer.specs.Takings.{Takes, at_place, counted_of, pieces_of}
+use Rattle.fast_writer.specs.Takings.{Takes, front_at}
 use Rattle.fast_writer.proofs.fields.take_all.Given as goal
 
 abbrev pub invariant-pieces : goal.invariant-pieces
 invariant-pieces g l = record {
+  within : l.count ≤ length l.rest;
   place : l.fn.segment.bytes.place ≤ l.segment.bytes.place;
   run : IsRun l.bytes l.segment.bytes.place l.segment.bytes;
-  whole : l.fields.mantissa ≡ None;
-  few : length l.fields.rest.now ≤ l.fields.spare;
-  served : AreServed (g.E.Entries.serves l.entries) (list_of l.fields.rest.now);
+  served : AreServed (g.E.Entries.serves l.entries) (list_of (drop l.count l.rest));
   kept : KeepScalars (g.E.Entries.contents l.entries);
-  counted : counted_of l.fields ≤ counted_of l.fn.fields;
   room : IsTrue (has_room (level_in l.bytes l.fn.segment) l.fn.bits) → IsTrue (has_room (level_in l.bytes l.segment) l.bits);
-  takes : Takes l.fn.level l.bytes (level_in l.bytes l.fn.segment) (g.E.Entries.contents l.fn.entries) l.fn.bits (at_place l.fn.fields l.fn.segment.bytes.place)
-      (level_in l.bytes l.segment) (g.E.Entries.contents l.entries) l.bits (at_place l.fields l.segment.bytes.place);
+  takes : (spare : ℕ) → length l.rest ≤ spare
+      → Takes l.fn.level l.bytes (level_in l.bytes l.fn.segment) (g.E.Entries.contents l.fn.entries) l.fn.bits (front_at l.rest spare 0 None l.fn.segment.bytes.place)
+      (level_in l.bytes l.segment) (g.E.Entries.contents l.entries) l.bits (front_at l.rest spare l.count None l.segment.bytes.place);
   same_keys : g.E.Entries.serves l.entries ≡ g.E.Entries.serves l.fn.entries;
 }
 
 abbrev pub decreases-pieces : goal.decreases-pieces
-decreases-pieces g l = pieces_of l.fields
+decreases-pieces g l = length l.rest - l.count
