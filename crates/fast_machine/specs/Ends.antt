@@ -1,5 +1,5 @@
 -- How many bytes a piece has at least of which some have come.
-use Rattle.std.specs.Prelude.{◌≤◌, ◌-◌, ℕ, zero, suc, Bool, false, List, length}
+use Rattle.std.specs.Prelude.{◌≤◌, ◌-◌, ℕ, zero, suc, Bool, List, length}
 use Rattle.fast_dictionary.specs.Dictionary.{Dictionary}
 use Rattle.fast_walk.specs.Lacks.{Lacks}
 use Rattle.fast_walk.specs.declared.lack.Lack.{Lack}
