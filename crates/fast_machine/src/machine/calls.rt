@@ -454,6 +454,10 @@ impl<'a, R: Receiver, E: Entries> Machine<'a, R, E> {
         if !self.held.is_empty() {
             return None;
         }
+        // (between messages nothing is known)
+        if !self.traversal.has_begun() {
+            return None;
+        }
         let count = chunk.len();
         let fits = match self.framing {
             Framing::Plain => count <= HELD_LIMIT,
