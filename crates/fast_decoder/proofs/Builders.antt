@@ -1,5 +1,5 @@
 -- What holds of a builder whose finished messages are exchanged.
-use Rattle.std.proofs.Common.{◌≡◌, ℕ, List, map, Option, Some, None, inl, inr, refl}
+use Rattle.std.proofs.Common.{◌≡◌, ◌∷◌, [], ℕ, List, map, Option, Some, None, inl, inr, refl}
 use Rattle.std.specs.Global.{Vec}
 use Rattle.fast_template.specs.Resolved.{Resolved}
 use Rattle.fast_template.specs.TemplateSets.{templates_in}
@@ -59,3 +59,11 @@ pub whole_of_follows : (fault : Option Fault) (framing : Framing) (left : ℕ) (
     → FollowsAt BuilderHas BuilderStands BuilderStands fault framing left t b d held waiting before bytes messages → before ≡ map content_of b.whole.items
 whole_of_follows None framing left t b d held waiting before bytes messages f = whole_going t b d before framing left held f.0.start f.0.rest f.0.ends
 whole_of_follows (Some x) framing left t b d held waiting before bytes messages f = f.2.ends
+
+nothing_mapped : (xs : List Message) → [] ≡ map content_of xs → xs ≡ []
+nothing_mapped [] none = refl
+nothing_mapped (x ∷ xs) none = absurd cc
+
+-- no message is finished
+pub none_whole_of : (v : Vec Message) → [] ≡ map content_of v.items → v.items ≡ []
+none_whole_of v none = nothing_mapped v.items none

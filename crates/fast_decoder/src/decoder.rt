@@ -89,7 +89,13 @@ impl<'a, E: Entries> Decoder<'a, E> {
         if let Some(fault) = self.machine.fault() {
             return Err(fault);
         }
-        if let Some(lack) = self.machine.still_lacking(chunk) {
+        if self.machine.lacks_more(chunk) {
+            return match self.machine.hold_on(chunk) {
+                Err(fault) => Err(fault),
+                Ok(()) => Ok(()),
+            };
+        }
+        if let Some(lack) = self.machine.first_lacking(chunk) {
             return match self.machine.feed_lacking(lack, chunk) {
                 Err(fault) => Err(fault),
                 Ok(()) => Ok(()),
@@ -97,9 +103,9 @@ impl<'a, E: Entries> Decoder<'a, E> {
         }
         // the builder pushes behind the messages that are there
         let machine = &mut self.machine;
-        machine.receiver.exchange(out);
+        machine.receiver.lend(out);
         let fed = machine.feed_on(chunk);
-        machine.receiver.exchange(out);
+        machine.receiver.give_back(out);
         fed
     }
 

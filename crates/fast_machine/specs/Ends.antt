@@ -1,5 +1,5 @@
 -- How many bytes a piece has at least of which some have come.
-use Rattle.std.specs.Prelude.{◌≤◌, ◌-◌, ℕ, zero, suc, Bool, false, List, length}
+use Rattle.std.specs.Prelude.{◌≤◌, ◌-◌, ℕ, zero, suc, Bool, List, length}
 use Rattle.fast_dictionary.specs.Dictionary.{Dictionary}
 use Rattle.fast_walk.specs.Lacks.{Lacks}
 use Rattle.fast_walk.specs.declared.lack.Lack.{Lack}
@@ -7,7 +7,7 @@ use Rattle.fast_walk.specs.declared.traversal.Traversal.{Traversal}
 
 -- so many bytes more are too few, of an instruction
 abbrev pub lack_of : ℕ → Bool → ℕ → Lack
-lack_of most until_stop number = record { most = most; number = number; until_stop = until_stop; goes_on = false }
+lack_of most until_stop number = record { most = most; number = number; until_stop = until_stop }
 
 -- a piece of which these bytes have come has at least so many, if it is not ended by a stop bit behind them; of 0 nothing is said
 abbrev pub IsLong : ℕ → Traversal → Dictionary → List ℕ → Bool → ℕ → Type 0

@@ -38,8 +38,6 @@ pub struct Machine<'a, R: Receiver, E: Entries> {
     end: usize,
     // only if none behind those held has its stop bit set
     until_stop: bool,
-    // whether the piece may go on behind that stop bit
-    goes_on: bool,
     // how many bytes are left of the open block, those that are held among them; none between two blocks
     left: u128,
     fault: Option<Fault>,

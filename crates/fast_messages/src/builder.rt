@@ -69,12 +69,29 @@ impl Builder {
         }
     }
 
-    /// Exchanges the messages that are finished with others, behind which the next are pushed. Takes no memory.
-    pub fn exchange(&mut self, messages: &mut Vec<Message>)
-        ensures messages { messages.new ≡ self.old.whole }
-        ensures builder { self.new ≡ with_whole self.old messages.old }
+    /// Takes these messages, behind which the next are pushed, in exchange for none: those that are finished have been given
+    /// back. Takes no memory.
+    #[inline(always)]
+    pub fn lend(&mut self, messages: &mut Vec<Message>)
+        ensures messages { self.old.whole.items ≡ [] → messages.new.items ≡ [] }
+        ensures whole { self.old.whole.items ≡ [] → self.new.whole.items ≡ messages.old.items }
+        ensures builder { self.new ≡ with_whole self.old self.new.whole }
     {
-        mem::swap(&mut self.whole, messages);
+        if !messages.is_empty() {
+            mem::swap(&mut self.whole, messages);
+        }
+    }
+
+    /// Gives the messages that are finished, in exchange for none. Takes no memory.
+    #[inline(always)]
+    pub fn give_back(&mut self, messages: &mut Vec<Message>)
+        ensures messages { messages.old.items ≡ [] → messages.new.items ≡ self.old.whole.items }
+        ensures whole { messages.old.items ≡ [] → self.new.whole.items ≡ [] }
+        ensures builder { self.new ≡ with_whole self.old self.new.whole }
+    {
+        if !self.whole.is_empty() {
+            mem::swap(&mut self.whole, messages);
+        }
     }
 
     /// Forgets all messages. Takes no memory.

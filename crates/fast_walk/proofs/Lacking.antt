@@ -96,13 +96,13 @@ text_waits Usual Mandatory bytes h = rw (ascii_waits bytes h) refl
 text_waits Usual Optional bytes h = rw (ascii_nullable_waits bytes h) refl
 text_waits Strict p bytes h = rw h refl
 
-unicode_begins : (level : Level) (p : Presence) (bytes : List ℕ) → entity_at 10 bytes ≡ Err wire.NeedMore → units_at level kind.Unicode p bytes ≡ Err fault.NeedMore
+pub unicode_begins : (level : Level) (p : Presence) (bytes : List ℕ) → entity_at 10 bytes ≡ Err wire.NeedMore → units_at level kind.Unicode p bytes ≡ Err fault.NeedMore
 unfolding units_at part_at vector_at vector_nullable_at unsigned_at unsigned_nullable_at
 unicode_begins Usual Mandatory bytes h = rw h refl
 unicode_begins Usual Optional bytes h = rw h refl
 unicode_begins Strict p bytes h = rw h refl
 
-bytes_begin : (level : Level) (p : Presence) (bytes : List ℕ) → entity_at 10 bytes ≡ Err wire.NeedMore → units_at level kind.Bytes p bytes ≡ Err fault.NeedMore
+pub bytes_begin : (level : Level) (p : Presence) (bytes : List ℕ) → entity_at 10 bytes ≡ Err wire.NeedMore → units_at level kind.Bytes p bytes ≡ Err fault.NeedMore
 unfolding units_at part_at vector_at vector_nullable_at unsigned_at unsigned_nullable_at
 bytes_begin Usual Mandatory bytes h = rw h refl
 bytes_begin Usual Optional bytes h = rw h refl
@@ -374,7 +374,7 @@ short_stops number (Err s) h = ap Err (stop_same s.cause Truncated s.instruction
 
 pub first_wants : (w : Walk) (part : FieldPart) (bit : Bool) → 0 < w.spare → w.next ≡ next.Instruction → IsFirst part (list_of w.rest.now) → bit ≡ bit_for (part_needs_bit part) w.bits → sends part.operator bit ≡ true → WantsByte w part.number
 first_wants w part bit some is first at s = λ level d o here.
-    let none : Lack = record { number = part.number; most = 0; until_stop = true; goes_on = false } in
+    let none : Lack = record { number = part.number; most = 0; until_stop = true } in
     let lacks = first_lacks level w d part (list_of w.rest.now) [] none some is refl first (λ more lacking. field_wants_on level part (entry_at d part.key) (bit_for (part_needs_bit part) w.bits) more (subst (λ (b : Bool). sends part.operator b ≡ true) at s) lacking.few) refl in
     short_stops part.number (reads_on level w d o []) (lacks o [] (record { few = omega arith; unstopped = λ _. tt }) here)
 

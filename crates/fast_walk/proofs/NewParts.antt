@@ -35,7 +35,7 @@ use Rattle.fast_value.specs.declared.kind.Part.TheVariants as part
 use Rattle.fast_field.specs.FieldReading.{as_value, entity_limit, overlong_fault, part_usually_at, units_at, check, decimal_delta_at, decimal_spelled_at, decimal_value, delta_at, field_at, integer_at, limited_value, mantissa_behind, mantissa_delta_behind, mantissa_entity_at, new_part_behind, part_at, part_checked, row_at, spelled_at, unit_delta_at, unless_null, whole_at}
 use Rattle.fast_walk.specs.declared.lack.Lack.{Lack}
 use Rattle.fast_walk.specs.Lacks.{AreUnstopped, IsLacking, IsUnitKind, IsVectorKind, sends_two}
-use Rattle.fast_walk.proofs.Lacking.{ascii_waits, both_unstopped, entity_waits}
+use Rattle.fast_walk.proofs.Lacking.{ascii_waits, both_unstopped, bytes_begin, entity_waits, unicode_begins}
 
 abbrev as_units : List ℕ → List ℕ → Result (Nullable (List ℕ) × List ℕ) FieldFault
 as_units s rest = Ok (Value s, rest)
@@ -241,6 +241,22 @@ pub new_text_lacks : (level : Level) (i : FieldPart) (o : Option Lack) (bytes : 
     → IfSome o (λ l. (x : List ℕ) × (y : List ℕ) × (entity_at 10 bytes ≡ Ok (x, y)) × ((more : List ℕ) → IsLacking l more → part_at level i.kind (y ++ more) ≡ Err fault.NeedMore))
 new_text_lacks level i None bytes is h = tt
 new_text_lacks level i (Some l) bytes is h = (h.0, h.1, h.2, λ more lacking. rw is (new_text_waits level (h.1 ++ more) (h.3 more lacking)))
+
+new_vector_begins : (level : Level) (k : Kind) (bytes : List ℕ) → IsVectorKind k → entity_at 10 bytes ≡ Err wire.NeedMore → part_at level k bytes ≡ Err fault.NeedMore
+new_vector_begins level kind.Unicode bytes v h = new_vector_waits level kind.Unicode bytes (unicode_begins level Mandatory bytes h)
+new_vector_begins level kind.Bytes bytes v h = new_vector_waits level kind.Bytes bytes (bytes_begin level Mandatory bytes h)
+new_vector_begins level kind.Ascii bytes v h = absurd v
+new_vector_begins level kind.Decimal bytes v h = absurd v
+new_vector_begins level kind.Int32 bytes v h = absurd v
+new_vector_begins level kind.UInt32 bytes v h = absurd v
+new_vector_begins level kind.Int64 bytes v h = absurd v
+new_vector_begins level kind.UInt64 bytes v h = absurd v
+
+pub new_length_lacks : (level : Level) (k : Kind) (bytes entity : List ℕ) (n : ℕ) (l : Lack) → IsVectorKind k → entity_at 10 bytes ≡ Ok (entity, drop n bytes) → length (take (length bytes - n) (drop n bytes)) + l.most < 10
+    → (l.until_stop ≡ true) × AreUnstopped (take (length bytes - n) (drop n bytes)) → (x : List ℕ) × (y : List ℕ) × (entity_at 10 bytes ≡ Ok (x, y)) × ((more : List ℕ) → IsLacking l more → part_at level k (y ++ more) ≡ Err fault.NeedMore)
+new_length_lacks level k bytes entity n l v h few stop =
+    let s = new_part_lacks 10 bytes entity n (Some l) h few stop in
+    (s.0, s.1, s.2, λ more lacking. new_vector_begins level k (s.1 ++ more) v (s.3 more lacking))
 
 pub new_vector_lacks : (level : Level) (k : Kind) (bytes entity : List ℕ) (n : ℕ) (o : Option Lack) → entity_at 10 bytes ≡ Ok (entity, drop n bytes)
     → IfSome o (λ l. IsVectorKind k × ((more : List ℕ) → IsLacking l more → units_at level k Mandatory (take (length bytes - n) (drop n bytes) ++ more) ≡ Err fault.NeedMore))

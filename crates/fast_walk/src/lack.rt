@@ -7,7 +7,8 @@
 ghost use Rattle.std.specs.Prelude.{◌≡◌, ◌≤◌, ◌<◌, ◌+◌, ◌++◌, [], ℕ, true, false, List, IfSome, IsTrue, Err, Ok, length, drop};
 ghost use Rattle.fast_wire.specs.Level.{judge, overlong_unsigned as overlong_unsigned_of};
 ghost use Rattle.fast_wire.specs.declared.nullable.Nullable.TheVariants.{Value};
-ghost use Rattle.fast_template.specs.Resolved.{list_of};
+ghost use Rattle.fast_template.specs.Resolved.{list_of, part_needs_bit as part_needs_bit_of};
+ghost use Rattle.fast_stream.specs.Bits.{bit_for};
 ghost use Rattle.fast_dictionary.specs.declared.entry.Entry.{Entry};
 ghost use Rattle.fast_dictionary.specs.Dictionary.{Dictionary, entry_of};
 ghost use Rattle.fast_wire.specs.Reading.{entity_at};
@@ -22,7 +23,7 @@ use fast_dictionary::{Entries, EntryRef};
 use fast_field::{FieldFault, find_field};
 use fast_template::{FieldPart, Flat, Kind, Operator, Presence, part_needs_bit};
 use fast_wire::{
-    Level, Nullable, WireFault, entity_end, find_stop, overlong_unsigned, read_unsigned,
+    Bits, Level, Nullable, WireFault, entity_end, find_stop, overlong_unsigned, read_unsigned,
     read_unsigned_nullable,
 };
 use std::alloc::Global;
@@ -48,16 +49,16 @@ pub struct Lack {
     pub number: u32,
     /// Only if none of them has its stop bit set.
     pub until_stop: bool,
-    /// Whether the piece may go on behind that stop bit.
-    pub goes_on: bool,
 }
 
 /// Whether a stop bit is set in these bytes.
 #[inline(always)]
 pub fn has_stop(bytes: &[u8]) -> bool
-    ensures { result ≡ false → AreUnstopped bytes.now }
+    ensures unstopped { result ≡ false → AreUnstopped bytes.now }
+    ensures stopped { AreUnstopped bytes.now → result ≡ false }
 {
     match bytes {
+        [] => false,
         [byte] => *byte >= STOP,
         _ => find_stop(bytes).is_some(),
     }
@@ -71,6 +72,20 @@ fn is_sent(operator: Operator, bit: bool) -> bool
         Operator::Plain | Operator::Delta => true,
         Operator::Default | Operator::Copy | Operator::Increment | Operator::Tail => bit,
         Operator::Constant => false,
+    }
+}
+
+// The same under the bit that is next of these. (Where an operator always takes a bit, or never, it is not asked.)
+#[inline(always)]
+fn is_part_sent(bits: &Bits, part: &FieldPart) -> bool
+    ensures { result ≡ sends part.now.operator (bit_for (part_needs_bit_of part.now) bits.now) }
+{
+    match part.operator {
+        Operator::Plain | Operator::Delta => true,
+        Operator::Constant => false,
+        Operator::Default | Operator::Copy | Operator::Increment | Operator::Tail => {
+            first_for(bits, part_needs_bit(part))
+        }
     }
 }
 
@@ -89,6 +104,7 @@ fn first_limit(operator: Operator, kind: Kind) -> usize
 }
 
 // What an entity of at most so many bytes lacks: its stop bit.
+#[inline(always)]
 fn entity_lack(number: u32, limit: usize, bytes: &[u8]) -> Option<Lack>
     ensures few { IfSome result (λ l. length bytes.now + l.most < limit) }
     ensures unstopped { IfSome result (λ l. (l.until_stop ≡ true) × AreUnstopped bytes.now) }
@@ -101,7 +117,6 @@ fn entity_lack(number: u32, limit: usize, bytes: &[u8]) -> Option<Lack>
         number,
         most: limit - 1 - bytes.len(),
         until_stop: true,
-        goes_on: false,
     })
 }
 
@@ -148,7 +163,6 @@ fn vector_lack(number: u32, count: u128, have: usize) -> Option<Lack>
         number,
         most: count as usize - have - 1,
         until_stop: false,
-        goes_on: false,
     })
 }
 
@@ -200,6 +214,7 @@ fn rest_lack(level: Level, part: &FieldPart, bit: bool, bytes: &[u8]) -> Option<
 }
 
 // What characters lack that stand behind a removal.
+#[inline(always)]
 fn new_text_lack(number: u32, bytes: &[u8]) -> Option<Lack>
     ensures lacks { IfSome result (λ l. (entity rest : List ℕ) × (entity_at 10 bytes.now ≡ Ok (entity, rest))
         × ((more : List ℕ) → IsLacking l more → entity_at 65540 (rest ++ more) ≡ Err WireFault.NeedMore)) }
@@ -213,17 +228,22 @@ fn new_text_lack(number: u32, bytes: &[u8]) -> Option<Lack>
 
 // What a vector lacks that stands behind a removal.
 fn new_vector_lack(level: Level, number: u32, kind: Kind, bytes: &[u8]) -> Option<Lack>
+    requires vector { IsVectorKind kind }
     ensures lacks { IfSome result (λ l. (entity rest : List ℕ) × (entity_at 10 bytes.now ≡ Ok (entity, rest))
         × ((more : List ℕ) → IsLacking l more → part_at level kind (rest ++ more) ≡ Err FieldFault.NeedMore)) }
     ensures number { IfSome result (λ l. l.number ≡ number) }
 {
     match entity_end(bytes, 0, NUMBER_LIMIT) {
         Err(_) => None,
-        Ok(next) => units_lack(level, number, kind, Presence::Mandatory, &bytes[next..]),
+        Ok(next) => match entity_lack(number, NUMBER_LIMIT, &bytes[next..]) {
+            Some(lack) => Some(lack),
+            None => units_lack(level, number, kind, Presence::Mandatory, &bytes[next..]),
+        },
     }
 }
 
 // What the new part of a string or a vector lacks of which the removal has come.
+#[inline(always)]
 fn new_part_lack(level: Level, part: &FieldPart, bytes: &[u8]) -> Option<Lack>
     ensures delta { IfSome result (λ l. (part.now.operator ≡ Operator.Delta) × IsUnitKind part.now.kind) }
     ensures lacks { IfSome result (λ l. (entity rest : List ℕ) × (entity_at 10 bytes.now ≡ Ok (entity, rest))
@@ -252,6 +272,7 @@ fn sends_two(operator: Operator, bit: bool) -> bool
 }
 
 // What the mantissa of a decimal in one piece lacks, of which the exponent has come, or their differences.
+#[inline(always)]
 fn mantissa_lack(part: &FieldPart, bit: bool, bytes: &[u8]) -> Option<Lack>
     ensures decimal { IfSome result (λ l. (sends_two_of part.now.operator bit ≡ true) × (part.now.kind ≡ Kind.Decimal)) }
     ensures lacks { IfSome result (λ l. (entity rest : List ℕ) × (entity_at 10 bytes.now ≡ Ok (entity, rest))
@@ -270,6 +291,7 @@ fn mantissa_lack(part: &FieldPart, bit: bool, bytes: &[u8]) -> Option<Lack>
 }
 
 // Whether these bytes are too few for a field of this entry.
+#[inline(always)]
 fn is_waiting(
     alloc: Global,
     level: Level,
@@ -289,9 +311,37 @@ fn is_waiting(
     }
 }
 
-// What the rest of a delta or of a decimal lacks, where the field waits, and not at a fault in front of it: of the entry,
-// or of the first number.
-fn delta_lack(
+// What the mantissa of a decimal lacks whose exponent has come, or of a delta of one, where the field waits, and not at a
+// fault in front of it.
+#[inline(always)]
+fn decimal_lack(
+    alloc: Global,
+    level: Level,
+    part: &FieldPart,
+    kept: EntryRef,
+    bit: bool,
+    bytes: &[u8],
+) -> Option<Lack>
+    ensures lacks { IfSome result (λ l. (more : List ℕ) → IsLacking l more
+        → field_at level part.now (entry_of kept.entry) bit (bytes.now ++ more) ≡ Err FieldFault.NeedMore) }
+    ensures number { IfSome result (λ l. l.number ≡ part.now.number) }
+{
+    match mantissa_lack(part, bit, bytes) {
+        None => None,
+        Some(lack) => {
+            if is_waiting(alloc, level, part, kept, bit, bytes) {
+                Some(lack)
+            } else {
+                None
+            }
+        }
+    }
+}
+
+// What the new part of a string or a vector lacks of which the removal has come, where the field waits, and not at a fault
+// of the entry.
+#[inline(always)]
+fn unit_delta_lack(
     alloc: Global,
     level: Level,
     part: &FieldPart,
@@ -304,6 +354,7 @@ fn delta_lack(
     ensures number { IfSome result (λ l. l.number ≡ part.now.number) }
 {
     match new_part_lack(level, part, bytes) {
+        None => None,
         Some(lack) => {
             if is_waiting(alloc, level, part, kept, bit, bytes) {
                 Some(lack)
@@ -311,16 +362,50 @@ fn delta_lack(
                 None
             }
         }
-        None => match mantissa_lack(part, bit, bytes) {
-            None => None,
-            Some(lack) => {
-                if is_waiting(alloc, level, part, kept, bit, bytes) {
-                    Some(lack)
-                } else {
-                    None
-                }
-            }
+    }
+}
+
+// What the rest of a delta or of a decimal lacks, where the field waits.
+#[inline(never)]
+fn delta_lack(
+    alloc: Global,
+    level: Level,
+    part: &FieldPart,
+    kept: EntryRef,
+    bit: bool,
+    bytes: &[u8],
+) -> Option<Lack>
+    ensures lacks { IfSome result (λ l. (more : List ℕ) → IsLacking l more
+        → field_at level part.now (entry_of kept.entry) bit (bytes.now ++ more) ≡ Err FieldFault.NeedMore) }
+    ensures number { IfSome result (λ l. l.number ≡ part.now.number) }
+{
+    match part.kind {
+        Kind::Decimal => decimal_lack(alloc, level, part, kept, bit, bytes),
+        _ => unit_delta_lack(alloc, level, part, kept, bit, bytes),
+    }
+}
+
+// What characters lack behind their removal, or a decimal behind its exponent.
+fn second_lack(
+    alloc: Global,
+    level: Level,
+    part: &FieldPart,
+    kept: EntryRef,
+    bit: bool,
+    bytes: &[u8],
+) -> Option<Lack>
+    ensures lacks { IfSome result (λ l. (more : List ℕ) → IsLacking l more
+        → field_at level part.now (entry_of kept.entry) bit (bytes.now ++ more) ≡ Err FieldFault.NeedMore) }
+    ensures number { IfSome result (λ l. l.number ≡ part.now.number) }
+{
+    // (the operators that are met most often are looked at one by one)
+    match part.operator {
+        Operator::Delta => match part.kind {
+            Kind::Ascii => unit_delta_lack(alloc, level, part, kept, bit, bytes),
+            Kind::Decimal => decimal_lack(alloc, level, part, kept, bit, bytes),
+            _ => None,
         },
+        _ => delta_lack(alloc, level, part, kept, bit, bytes),
     }
 }
 
@@ -372,6 +457,56 @@ impl<'a> Walk<'a> {
         match field_lack(level, part, bit, bytes) {
             Some(lack) => Some(lack),
             None => delta_lack(alloc, level, part, entries.get(&part.key), bit, bytes),
+        }
+    }
+
+    // What the part lacks that is next, where its first entity has come.
+    fn lack_behind_first<E: Entries>(
+        &self,
+        alloc: Global,
+        level: Level,
+        entries: &E,
+        part: &FieldPart,
+        bytes: &[u8],
+    ) -> Option<Lack>
+        requires spare { 0 < self.now.spare }
+        requires next { self.now.next ≡ Next.Instruction }
+        requires first { IsFirst part.now (list_of self.now.rest.now) }
+        requires served { IsTrue (E.serves entries.now part.now.key) }
+        ensures { IfSome result (WalkLacks level self.now (E.contents entries.now) bytes.now) }
+    {
+        match part.kind {
+            Kind::Unicode | Kind::Bytes => self.first_lack(alloc, level, entries, part, bytes),
+            _ => {
+                let bit = first_for(&self.bits, part_needs_bit(part));
+                second_lack(alloc, level, part, entries.get(&part.key), bit, bytes)
+            }
+        }
+    }
+
+    // What the piece that is next lacks, where its first entity has come.
+    #[inline(always)]
+    fn lack_of_rest<E: Entries>(
+        &self,
+        alloc: Global,
+        level: Level,
+        entries: &E,
+        bytes: &[u8],
+    ) -> Option<Lack>
+        requires ready { IsReady (E.serves entries.now) self.now }
+        ensures { IfSome result (WalkLacks level self.now (E.contents entries.now) bytes.now) }
+    {
+        match self.next {
+            Next::Instruction if self.spare > 0 => match self.rest.split_first() {
+                Some((flat, _)) => match flat {
+                    Flat::Field { whole: part, .. } if is_of_two(part.operator, part.kind) => {
+                        self.lack_behind_first(alloc, level, entries, part, bytes)
+                    }
+                    _ => None,
+                },
+                None => None,
+            },
+            _ => None,
         }
     }
 
@@ -445,8 +580,7 @@ impl<'a> Walk<'a> {
         requires first { IsFirst part.now (list_of self.now.rest.now) }
         ensures { IfSome result (WantsByte self.now) }
     {
-        let bit = first_for(&self.bits, part_needs_bit(part));
-        if is_sent(part.operator, bit) {
+        if is_part_sent(&self.bits, part) {
             Some(part.number)
         } else {
             None
@@ -459,8 +593,7 @@ impl<'a> Walk<'a> {
         requires next { self.now.next ≡ Next.Mantissa mantissa }
         ensures { IfSome result (WantsByte self.now) }
     {
-        let bit = first_for(&self.bits, part_needs_bit(mantissa));
-        if is_sent(mantissa.operator, bit) {
+        if is_part_sent(&self.bits, mantissa) {
             Some(mantissa.number)
         } else {
             None
@@ -504,15 +637,13 @@ impl<'a> Traversal<'a> {
         let Some(part) = self.walk.next_part() else {
             return None;
         };
-        let bit = first_for(&self.walk.bits, part_needs_bit(part));
-        if !is_sent(part.operator, bit) {
+        if !is_part_sent(&self.walk.bits, part) {
             return None;
         }
         Some(Lack {
             most: first_limit(part.operator, part.kind) - 1,
             number: part.number,
             until_stop: true,
-            goes_on: is_of_two(part.operator, part.kind),
         })
     }
 
@@ -525,6 +656,21 @@ impl<'a> Traversal<'a> {
         match self.stage {
             Stage::Map | Stage::Identifier => None,
             Stage::Body => self.walk.lack(self.alloc, self.level, entries, bytes),
+        }
+    }
+
+    /// The same where the first entity of the piece is known to have come. (Where nothing can follow it, this is told at
+    /// once.)
+    #[inline(always)]
+    pub fn lack_of_rest<E: Entries>(&self, entries: &E, bytes: &[u8]) -> Option<Lack>
+        requires ready { CanGoOn (E.serves entries.now) self.now }
+        ensures { IfSome result (Lacks self.now (E.contents entries.now) bytes.now) }
+    {
+        match self.stage {
+            Stage::Map | Stage::Identifier => None,
+            Stage::Body => self
+                .walk
+                .lack_of_rest(self.alloc, self.level, entries, bytes),
         }
     }
 }

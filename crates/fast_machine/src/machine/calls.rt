@@ -13,12 +13,12 @@ ghost use Rattle.fast_walk.specs.declared.traversal.Stage.TheVariants as stage;
 ghost use Rattle.fast_walk.specs.declared.traversal.Traversal.{Traversal as TraversalNow};
 ghost use Rattle.fast_machine.specs.Following.{Counts, IsHeld, Refused, Waits};
 ghost use Rattle.fast_machine.specs.Standing.{Carried, ReadsOn, Stands, StopsBehind};
-ghost use Rattle.fast_walk.specs.Lacks.{Lacks};
+ghost use Rattle.fast_walk.specs.Lacks.{AreUnstopped, Lacks};
 ghost use Rattle.fast_walk.specs.Traversals.{CanGoOn, ServesAll, begun_of, stop_of};
 
 use crate::blocks::{open_block, within};
 use crate::machine::Machine;
-use crate::messages::read_message;
+use crate::messages::{read_if_any, read_message};
 use fast_dictionary::Entries;
 use fast_stream::{Cause, Fault, Framing, Mode, Place};
 use fast_template::TemplateSet;
@@ -151,7 +151,6 @@ impl<'a, R: Receiver, E: Entries> Machine<'a, R, E> {
             waiting: 0,
             end: 0,
             until_stop: false,
-            goes_on: false,
             left: 0,
             fault: None,
             halted_by: HaltedBy::Walk,
@@ -285,7 +284,6 @@ impl<'a, R: Receiver, E: Entries> Machine<'a, R, E> {
         let held = self.held.len();
         if lack.number == self.waiting && lack.most < HELD_LIMIT - held {
             self.until_stop = lack.until_stop;
-            self.goes_on = lack.goes_on;
             self.end = held + lack.most + 1;
         }
     }
@@ -343,9 +341,6 @@ impl<'a, R: Receiver, E: Entries> Machine<'a, R, E> {
     {
         self.waiting = number;
         if rest.is_empty() {
-            if let Some(lack) = self.traversal.opening() {
-                self.know(lack);
-            }
             return Ok(());
         }
         match self.hold_some(rest) {
@@ -354,47 +349,130 @@ impl<'a, R: Receiver, E: Entries> Machine<'a, R, E> {
         }
     }
 
-    // What a piece still lacks whose first byte comes alone and ends a number, where it may go on behind that: a number
-    // that is whole is read at once.
+    /// Whether the piece that is not whole, or that begins here, lacks more than these bytes, in the same block, so that they
+    /// need only be held.
     #[inline(always)]
-    fn first_lacking(&self, chunk: &[u8]) -> Option<Lack>
-        ensures { IfSome result (Lacks self.now.traversal (E.contents self.now.entries) (self.now.held.items ++ chunk.now)) }
-    {
-        match chunk {
-            [_] if self.goes_on && self.held.is_empty() && self.fault.is_none() => {
-                self.traversal.lack(&self.entries, chunk)
-            }
-            _ => None,
-        }
-    }
-
-    /// What the piece that is not whole, or that begins here, still lacks behind these bytes, in the same block; none where
-    /// that is not known.
-    #[tactic(auto, using(crate::proofs::Ends::still_lacks))]
-    #[inline(always)]
-    pub fn still_lacking(&self, chunk: &[u8]) -> Option<Lack>
-        ensures lacks { IfSome result (Lacks self.now.traversal (E.contents self.now.entries) (self.now.held.items ++ chunk.now)) }
-        ensures few { IfSome result (λ l. length (self.now.held.items ++ chunk.now) ≤ 65554) }
-        ensures room { IfSome result (λ l. self.now.framing ≡ Framing.Blocks
-            → length (self.now.held.items ++ chunk.now) < self.now.left) }
+    pub fn lacks_more(&self, chunk: &[u8]) -> bool
+        ensures few { result ≡ true → length (self.now.held.items ++ chunk.now) < self.now.end }
+        ensures unstopped { result ≡ true → self.now.until_stop ≡ true → AreUnstopped chunk.now }
+        ensures room { result ≡ true → self.now.framing ≡ Framing.Blocks
+            → length (self.now.held.items ++ chunk.now) < self.now.left }
     {
         let count = self.held.len() + chunk.len();
         let fits = match self.framing {
             Framing::Plain => count < self.end,
             Framing::Blocks => count < self.end && (count as u128) < self.left,
         };
+        fits && !(self.until_stop && has_stop(chunk))
+    }
+
+    // Holds these bytes too, of a piece that lacks more than these: its end stays where it is known to be.
+    #[tactic(auto, using(crate::proofs::Ends::long_behind))]
+    #[inline(always)]
+    fn hold_as_known(&mut self, chunk: &[u8]) -> Result<(), AllocError>
+        requires fault { self.now.fault ≡ None }
+        requires few { length (self.now.held.items ++ chunk.now) < self.now.end }
+        requires unstopped { self.now.until_stop ≡ true → AreUnstopped chunk.now }
+        requires room { self.now.framing ≡ Framing.Blocks
+            → length (self.now.held.items ++ chunk.now) < self.now.left }
+        ensures follows { OnOk result ((before : List Content) (fed : List ℕ) (messages : List Content)
+            → length fed < 2 ^ 61 → Counts self.old.fed self.old.messages fed messages
+            → Stands self.old.framing self.old.left (ReadsOn R.has R.stands R.keeps self.old.traversal self.old.receiver
+            (E.contents self.old.entries) before) self.old.traversal (self.old.held.items ++ chunk.now) fed messages
+            → Follows self.new before fed messages) }
+        ensures held { OnErr result (self.new.held.items ≡ self.old.held.items) }
+        ensures fault { self.new.fault ≡ None }
+        ensures traversal { self.new.traversal ≡ self.old.traversal }
+        ensures receiver { self.new.receiver ≡ self.old.receiver }
+        ensures entries { self.new.entries ≡ self.old.entries }
+        ensures fed { self.new.fed ≡ self.old.fed }
+        ensures messages { self.new.messages ≡ self.old.messages }
+        ensures framing { self.new.framing ≡ self.old.framing }
+        ensures room { self.new.left ≡ self.old.left }
+    {
+        append(&mut self.held, chunk)?;
+        Ok(())
+    }
+
+    /// Takes the next bytes of the stream, where the piece lacks more than these (`lacks_more`): they are held, and nothing
+    /// is read.
+    ///
+    /// # Errors
+    ///
+    /// As `feed`: memory for them was refused.
+    #[inline(always)]
+    pub fn hold_on(&mut self, chunk: &[u8]) -> Result<(), Fault>
+        requires fault { self.now.fault ≡ None }
+        requires size { self.now.fed + length chunk.now ≤ 2 ^ 60 }
+        requires few { length (self.now.held.items ++ chunk.now) < self.now.end }
+        requires unstopped { self.now.until_stop ≡ true → AreUnstopped chunk.now }
+        requires room { self.now.framing ≡ Framing.Blocks
+            → length (self.now.held.items ++ chunk.now) < self.now.left }
+        ensures follows { (before : List Content) (fed : List ℕ) (messages : List Content)
+            → Follows self.old before fed messages → Follows self.new before (fed ++ chunk.now) messages }
+        ensures answer { Answers result self.new.fault }
+        ensures cause { IfErr result (λ f. f.cause ≡ Cause.Memory) }
+        ensures traversal { self.new.traversal ≡ self.old.traversal }
+        ensures entries { self.new.entries ≡ self.old.entries }
+        ensures framing { self.new.framing ≡ self.old.framing }
+        ensures fed { self.new.fed ≡ self.old.fed + length chunk.now }
+    {
+        self.fed += chunk.len() as u64;
+        match self.hold_as_known(chunk) {
+            Err(_) => Err(self.refuse()),
+            Ok(()) => Ok(()),
+        }
+    }
+
+    // What the piece lacks that begins with these bytes, which do not end its first entity.
+    #[inline(always)]
+    fn opening_lacking(&self, chunk: &[u8]) -> Option<Lack>
+        requires held { self.now.held.items ≡ [] }
+        requires unstopped { AreUnstopped chunk.now }
+        ensures { IfSome result (Lacks self.now.traversal (E.contents self.now.entries) chunk.now) }
+    {
+        match self.traversal.opening() {
+            Some(lack) if chunk.len() <= lack.most => Some(Lack {
+                most: lack.most - chunk.len(),
+                number: lack.number,
+                until_stop: true,
+            }),
+            _ => None,
+        }
+    }
+
+    /// What a piece lacks behind these bytes, with which it begins, in the same block: the stop bit of its first entity, or
+    /// what goes on behind that where it comes alone. (A number that is whole is read at once.) None where that is not known.
+    #[inline(always)]
+    pub fn first_lacking(&self, chunk: &[u8]) -> Option<Lack>
+        requires fault { self.now.fault ≡ None }
+        ensures lacks { IfSome result (Lacks self.now.traversal (E.contents self.now.entries) (self.now.held.items ++ chunk.now)) }
+        ensures few { IfSome result (λ l. length (self.now.held.items ++ chunk.now) ≤ 65554) }
+        ensures room { IfSome result (λ l. self.now.framing ≡ Framing.Blocks
+            → length (self.now.held.items ++ chunk.now) < self.now.left) }
+    {
+        if !self.held.is_empty() {
+            return None;
+        }
+        // (between messages nothing is known)
+        if !self.traversal.has_begun() {
+            return None;
+        }
+        let count = chunk.len();
+        let fits = match self.framing {
+            Framing::Plain => count <= HELD_LIMIT,
+            Framing::Blocks => count <= HELD_LIMIT && (count as u128) < self.left,
+        };
         if !fits {
             return None;
         }
-        if self.until_stop && has_stop(chunk) {
-            return self.first_lacking(chunk);
+        if !has_stop(chunk) {
+            return self.opening_lacking(chunk);
         }
-        Some(Lack {
-            most: self.end - count - 1,
-            number: self.waiting,
-            until_stop: self.until_stop,
-            goes_on: self.goes_on,
-        })
+        match chunk {
+            [_] => self.traversal.lack_of_rest(&self.entries, chunk),
+            _ => None,
+        }
     }
 
     // Holds these bytes too, behind which the piece that is not whole still lacks some.
@@ -427,7 +505,7 @@ impl<'a, R: Receiver, E: Entries> Machine<'a, R, E> {
         Ok(())
     }
 
-    /// Takes the next bytes of the stream, behind which the piece that is not whole still lacks some, as `still_lacking`
+    /// Takes the next bytes of the stream, behind which the piece that is not whole still lacks some, as `first_lacking`
     /// answers: they are held, and nothing is read.
     ///
     /// # Errors
@@ -510,10 +588,17 @@ impl<'a, R: Receiver, E: Entries> Machine<'a, R, E> {
         match progress.halt {
             None => Ok(Some(progress.at)),
             Some(halt) => match halt.cause {
-                Cause::Truncated => match self.hold(halt.number, rest) {
-                    Err(fault) => Err(fault),
-                    Ok(()) => Ok(None),
-                },
+                Cause::Truncated => {
+                    // (nothing has come of the next piece, mostly)
+                    if rest.is_empty() {
+                        self.waiting = halt.number;
+                        return Ok(None);
+                    }
+                    match self.hold(halt.number, rest) {
+                        Err(fault) => Err(fault),
+                        Ok(()) => Ok(None),
+                    }
+                }
                 _ => {
                     let fault = fault_of(halt, self.messages, self.fed, rest.len(), template);
                     self.fault = Some(fault);
@@ -605,7 +690,7 @@ impl<'a, R: Receiver, E: Entries> Machine<'a, R, E> {
             }
         };
         let room = within(left, bytes.len() - at);
-        let progress = read_message(
+        let progress = read_if_any(
             self.alloc,
             &mut self.traversal,
             &mut self.receiver,
@@ -836,7 +921,13 @@ impl<'a, R: Receiver, E: Entries> Machine<'a, R, E> {
         if let Some(first) = self.fault {
             return Err(first);
         }
-        if let Some(lack) = self.still_lacking(chunk) {
+        if self.lacks_more(chunk) {
+            return match self.hold_on(chunk) {
+                Err(fault) => Err(fault),
+                Ok(()) => Ok(chunk.len()),
+            };
+        }
+        if let Some(lack) = self.first_lacking(chunk) {
             return match self.feed_lacking(lack, chunk) {
                 Err(fault) => Err(fault),
                 Ok(()) => Ok(chunk.len()),
@@ -848,8 +939,8 @@ impl<'a, R: Receiver, E: Entries> Machine<'a, R, E> {
         }
     }
 
-    /// Takes the next bytes of the stream as `feed` does, of which was asked what they lack (`still_lacking`): it is not
-    /// asked again.
+    /// Takes the next bytes of the stream as `feed` does, of which was asked what they lack (`lacks_more`, `first_lacking`):
+    /// it is not asked again.
     ///
     /// # Errors
     ///
@@ -902,7 +993,13 @@ impl<'a, R: Receiver, E: Entries> Machine<'a, R, E> {
         if let Some(kept) = self.fault {
             return Err(kept);
         }
-        if let Some(lack) = self.still_lacking(chunk) {
+        if self.lacks_more(chunk) {
+            return match self.hold_on(chunk) {
+                Err(fault) => Err(fault),
+                Ok(()) => Ok(()),
+            };
+        }
+        if let Some(lack) = self.first_lacking(chunk) {
             return match self.feed_lacking(lack, chunk) {
                 Err(fault) => Err(fault),
                 Ok(()) => Ok(()),

@@ -1,18 +1,10 @@
-use Rattle.std.proofs.Common.{◌≡◌, ◌<◌, ◌++◌, ◌∷◌, [], ℕ, length, drop, take, ◌-◌, refl, ap, arith, rules, append-nil}
+use Rattle.std.proofs.Common.{◌≡◌, ◌<◌, ◌++◌, ◌∷◌, [], ℕ, length, drop, take, ◌-◌, refl, ap, arith, append-nil, inl, inr}
 use Rattle.fast_walk.specs.declared.traversal.Stage.TheVariants as stage
 use Rattle.fast_walk.specs.Traversals.{stop_of}
 use Rattle.fast_machine.specs.Runs.{ReadsOn}
 use Rattle.fast_walk.proofs.Steps.{with_none}
 use Rattle.fast_machine.proofs.Runs.{run_carried, moves_on, has_all, none_begun, read_as, stands_between, stands_further, stops_of, whole_of}
-use Rattle.fast_machine.proofs.messages.read_message.Goals.{else-is_empty-via-then-is_empty+else-not-has_begun, else-is_empty-via-else-is_empty}
 use Rattle.fast_machine.proofs.messages.read_message.Goals as goal
-
-pub returns-then-not-has_begun-clause-ended : goal.returns-then-not-has_begun-clause-ended
-returns-then-not-has_begun-clause-ended g c = λ before origin run messages s. (
-  [],
-  refl,
-  (rw (append-nil before, append-nil messages) s, c.has_begun.ensures.no (λ t. absurd cc)),
-)
 
 pub returns-in-Err-clause-ended : goal.returns-in-Err-clause-ended
 returns-in-Err-clause-ended g c = λ before origin run messages s.
@@ -24,9 +16,9 @@ returns-in-Err-clause-ended g c = λ before origin run messages s.
     let later = drop c.in-Err.place bytes in
     let new = c.message.new.self in
     let G = ReadsOn R.has R.stands R.keeps t c.args.receiver.now d before in
-    let some : t.stage ≡ stage.Map → 0 < length bytes = λ at. elim c.else-is_empty.branch [
-      | else-is_empty-via-then-is_empty+else-not-has_begun w ↦ absurd (none_begun t.stage at (w.has_begun.ensures.yes cc))
-      | else-is_empty-via-else-is_empty w ↦ search rules
+    let some : t.stage ≡ stage.Map → 0 < length bytes = λ at. elim c.requires.some [
+      | inl h ↦ h
+      | inr h ↦ absurd (none_begun t.stage at h)
     ] in (
       [],
       refl,

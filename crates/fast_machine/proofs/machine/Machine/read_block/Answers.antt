@@ -28,7 +28,7 @@ pub returns-in-None-clause-goes : goal.returns-in-None-clause-goes
 returns-in-None-clause-goes g c = λ before fed messages short counts stands.
     let old = c.args.self.now in
     let t = old.traversal in
-    let p = c.read_message-progress in
+    let p = c.read_if_any-progress in
     let u = p.new.traversal in
     let R = g.R.Receiver in
     let bytes = c.args.bytes.now in
@@ -70,7 +70,7 @@ returns-then-self-rest-clause-fails g c = (
   λ before fed messages short counts stands.
       let old = c.args.self.now in
       let t = old.traversal in
-      let p = c.read_message-progress in
+      let p = c.read_if_any-progress in
       let u = p.new.traversal in
       let R = g.R.Receiver in
       let bytes = c.args.bytes.now in
@@ -116,7 +116,7 @@ returns-in-Err-hold-clause-fails g c = (
   λ before fed messages short counts stands.
       let old = c.args.self.now in
       let t = old.traversal in
-      let p = c.read_message-progress in
+      let p = c.read_if_any-progress in
       let u = p.new.traversal in
       let R = g.R.Receiver in
       let bytes = c.args.bytes.now in
@@ -155,7 +155,7 @@ returns-in-Ok-hold-clause-waits g c = (
   λ before fed messages short counts stands.
       let old = c.args.self.now in
       let t = old.traversal in
-      let p = c.read_message-progress in
+      let p = c.read_if_any-progress in
       let u = p.new.traversal in
       let R = g.R.Receiver in
       let bytes = c.args.bytes.now in
@@ -200,7 +200,7 @@ returns-in_default g c = record {
     λ before fed messages short counts stands.
         let old = c.args.self.now in
         let t = old.traversal in
-        let p = c.read_message-progress in
+        let p = c.read_if_any-progress in
         let u = p.new.traversal in
         let R = g.R.Receiver in
         let bytes = c.args.bytes.now in
@@ -228,8 +228,8 @@ returns-in_default g c = record {
         (λ known. block_faults G t u room n unread window fed messages e.0 b is p.ensures.place p.ensures.level sets halt other (ended.1 known)) in
         (e.0, record { at = rw (c.requires.framing) (refused, c.requires.held, block_has_all G t u room n unread window fed messages e.0 b is p.ensures.place p.ensures.level sets R.stands p.new.receiver (before ++ e.0) (ended.3 other)); counts = counts }),
   );
-  set = c.read_message-progress.ensures.set;
-  mode = rw (c.read_message-progress.ensures.level) refl;
-  same_keys = c.read_message-progress.ensures.same_keys;
+  set = c.read_if_any-progress.ensures.set;
+  mode = rw (c.read_if_any-progress.ensures.level) refl;
+  same_keys = c.read_if_any-progress.ensures.same_keys;
   fed = refl;
 }

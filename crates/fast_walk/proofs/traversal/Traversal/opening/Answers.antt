@@ -11,12 +11,11 @@ pub returns : goal.returns
 returns c =
     let t = c.args.self.now in
     let part = c.in-Some.part.now in
-    let bit = c.first_for-bit.result in
+    let bit = bit_for (part_needs_bit part) t.walk.bits in
     let limit = c.first_limit.ensures.limit in
     let some = c.first_limit.ensures.some in
     let body : t.stage ≡ stage.Body = search rules in
-    let at : bit ≡ bit_for (part_needs_bit part) t.walk.bits = search rules in
     let sent : sends part.operator bit ≡ true = search rules in
     let few : c.first_limit.result - 1 < first_limit part.operator part.kind = omega (arith, limit, some) in
-    let lack : Lack = record { most = c.first_limit.result - 1; number = part.number; until_stop = true; goes_on = c.is_of_two.result } in
-    part_opens t part bit lack body c.in-Some.ensures at sent few refl refl
+    let lack : Lack = record { most = c.first_limit.result - 1; number = part.number; until_stop = true } in
+    part_opens t part bit lack body c.in-Some.ensures refl sent few refl refl
