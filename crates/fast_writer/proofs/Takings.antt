@@ -1,7 +1,6 @@
 -- Fields that are taken one after the other into the segment that is open.
 use Rattle.std.proofs.Common.{◌≡◌, ◌≤◌, ◌<◌, ◌-◌, ◌+◌, ℕ, zero, suc, ℤ, pos, Bool, true, false, List, [], ◌∷◌, ◌++◌, length, get_or, Option, Some, None, drop, refl, sym, ap, ◌∙◌, subst, arith}
 use Rattle.std.specs.Option.{is_some}
-use Rattle.std.specs.Prelude.{IsSome}
 use Rattle.std.specs.Borrow.{Bor}
 use Rattle.fast_value.specs.declared.scalar.Scalar.{Scalar}
 use Rattle.fast_value.specs.declared.scalar.Scalar.TheVariants.{I64, Decimal}
@@ -67,6 +66,12 @@ pub taken_on : (t : Taken) (P Q R S : Bool → Type 0) → ((b : Bool) → P b �
 taken_on (Part b) P Q R S f p q r = f b p q r
 taken_on Elsewhere P Q R S f p q r = tt
 taken_on Refused P Q R S f p q r = tt
+
+-- at the beginning of a body
+front_begins : (flats : List Flat) (spare place : ℕ) → front_at flats spare 0 None place ≡ record { mantissa = None; rest = list_of flats; spare = spare; place = place }
+front_begins flats spare place =
+    let whole : spare - 0 ≡ spare = omega arith in
+    ap (λ (n : ℕ). let f : Front = record { mantissa = None; rest = list_of flats; spare = n; place = place } in f) whole
 
 module _ (level : Level) (bytes : List ℕ) where
   -- where nothing was taken
@@ -250,7 +255,9 @@ module _ (level : Level) (bytes : List ℕ) where
       → Takes level bytes l d bits from k e later (front_at flats spare i n place) → Takes level bytes l d bits from j c last (front_at flats spare i n next)
   takes_stays l k j d e c bits later last from flats spare i n place next entries segment map at so_far = rw (entries, segment, map, at) so_far
 
-pub front_begins : (flats : List Flat) (spare place : ℕ) → front_at flats spare 0 None place ≡ record { mantissa = None; rest = list_of flats; spare = spare; place = place }
-front_begins flats spare place =
-    let whole : spare - 0 ≡ spare = omega arith in
-    ap (λ (n : ℕ). let f : Front = record { mantissa = None; rest = list_of flats; spare = n; place = place } in f) whole
+  -- from the beginning of a body on, the segments and places as they are called otherwise
+  pub takes_from : (l m k j : Segment) (d e : Dictionary) (bits later : List Bool) (flats : List Flat) (spare : ℕ) (g : Front) (a x b y : ℕ) → m ≡ l → j ≡ k → a ≡ x → y ≡ b
+      → Takes level bytes m d bits (front_at flats spare 0 None a) k e later (at_place g b) → Takes level bytes l d bits (record { mantissa = None; rest = list_of flats; spare = spare; place = x }) j e later (at_place g y)
+  takes_from l m k j d e bits later flats spare g a x b y one other begins ends t =
+      takes_at l m k j d e bits later (record { mantissa = None; rest = list_of flats; spare = spare; place = x }) g a x b y one other begins ends
+      (subst (λ (f : Front). Takes level bytes m d bits f k e later (at_place g b)) (front_begins flats spare a) t)

@@ -1,13 +1,13 @@
-use Rattle.std.proofs.Common.{◌≡◌, ◌<◌, ◌+◌, None, Some, true, false, ap, arith, drop, length, refl, sym, subst, ◌∙◌}
+use Rattle.std.proofs.Common.{◌<◌, ◌+◌, None, Some, true, false, arith, drop, length, refl, sym, subst, ◌∙◌}
 use Rattle.fast_template.specs.Resolved.{instruction_of, list_of, then_instruction}
 use Rattle.fast_value.specs.declared.kind.Part.TheVariants as part
 use Rattle.fast_dictionary.specs.Dictionary.{entry_at}
 use Rattle.fast_walk.specs.Walks.{AreServed, IsMantissaServed}
 use Rattle.fast_walk.proofs.Telling.{told_part}
 use Rattle.fast_writer.specs.Levels.{level_in}
-use Rattle.fast_writer.specs.Takings.{Takes, front_at}
+use Rattle.fast_writer.specs.Takings.{front_at}
 use Rattle.fast_writer.proofs.SpeltParts.{mantissa_taken}
-use Rattle.fast_writer.proofs.Takings.{behind_whole, next_flat, takes_behind, takes_next, takes_none, takes_stays}
+use Rattle.fast_writer.proofs.Takings.{behind_whole, next_flat, takes_behind, takes_next, takes_stays}
 use Rattle.fast_writer.proofs.fields.take_all.Goals as goal
 
 pub take_part-requires-clause-part : goal.take_part-requires-clause-part
@@ -16,7 +16,7 @@ take_part-requires-clause-part g c =
     let rest = c.args.rest.now in
     let serves = g.E.Entries.serves c.pieces.entries in
     let here : AreServed serves (then_instruction (instruction_of c.index-rest-count.result) (list_of (drop (c.pieces.count + 1) rest))) =
-      subst (AreServed serves) (next_flat rest c.pieces.count c.index-rest-count.result c.index-rest-count.is (omega (arith, c.pieces-test.true))) c.pieces.invariant.served in
+    subst (AreServed serves) (next_flat rest c.pieces.count c.index-rest-count.result c.index-rest-count.is (omega (arith, c.pieces-test.true))) c.pieces.invariant.served in
     told_part part.Whole whole.kind whole tt (rw (c.in-Some-default-None.field-0-1-is) at (c.in-Some-default-None.ensures.served serves here.0).1)
 
 pub returns-in-Elsewhere-clause-takes : goal.returns-in-Elsewhere-clause-takes
@@ -63,7 +63,7 @@ pieces-preserved-in-Part g c =
     let flat = c.index-rest-count.result in
     let within : now.count < length rest = omega (arith, c.pieces-test.true) in
     let here : AreServed (g.E.Entries.serves now.entries) (then_instruction (instruction_of flat) (list_of (drop (now.count + 1) rest))) =
-      subst (AreServed (g.E.Entries.serves now.entries)) (next_flat rest now.count flat c.index-rest-count.is within) inv.served in
+    subst (AreServed (g.E.Entries.serves now.entries)) (next_flat rest now.count flat c.index-rest-count.is within) inv.served in
     let begins = c.in-Some-default-None in
     let one = c.take_part in
     let taken = c.in-Part.ensures in
@@ -91,7 +91,7 @@ pieces-preserved-in-Part-take_part g c =
     let flat = c.index-rest-count.result in
     let within : now.count < length rest = omega (arith, c.pieces-test.true) in
     let here : AreServed (g.E.Entries.serves now.entries) (then_instruction (instruction_of flat) (list_of (drop (now.count + 1) rest))) =
-      subst (AreServed (g.E.Entries.serves now.entries)) (next_flat rest now.count flat c.index-rest-count.is within) inv.served in
+    subst (AreServed (g.E.Entries.serves now.entries)) (next_flat rest now.count flat c.index-rest-count.is within) inv.served in
     let parts = c.in-Some-default-Some in
     let m = parts.mantissa in
     let one = c.take_part-in-Some-default-Some in
@@ -127,7 +127,7 @@ pieces-preserved g c =
     let flat = c.index-rest-count.result in
     let within : now.count < length rest = omega (arith, c.pieces-test.true) in
     let here : AreServed (g.E.Entries.serves now.entries) (then_instruction (instruction_of flat) (list_of (drop (now.count + 1) rest))) =
-      subst (AreServed (g.E.Entries.serves now.entries)) (next_flat rest now.count flat c.index-rest-count.is within) inv.served in
+    subst (AreServed (g.E.Entries.serves now.entries)) (next_flat rest now.count flat c.index-rest-count.is within) inv.served in
     let parts = c.in-Some-default-Some in
     let one = c.take_part-in-Some-default-Some in
     let first = c.in-Part-false.ensures in
