@@ -1,6 +1,6 @@
 -- What numbers rest on that are judged as they stand.
-use Rattle.std.proofs.Common.{◌≡◌, ◌++◌, ◌≤◌, ℕ, Bool, true, false, List, length, drop, slice_range, refl, sym, subst}
-use Rattle.std.specs.Prelude.{ℤ, ◌+ℤ◌, Some, IsTrue}
+use Rattle.std.proofs.Common.{◌≡◌, ◌++◌, ◌∙◌, ◌≤◌, ℕ, Bool, true, false, List, length, drop, slice_range, refl, sym, subst}
+use Rattle.std.specs.Prelude.{ℤ, ◌+ℤ◌, Option, None, Some, IsTrue, not}
 use Rattle.fast_wire.specs.Reader.{IsBytes}
 use Rattle.fast_value.specs.Scalar.{is_of, of_integer}
 use Rattle.fast_value.specs.declared.kind.Kind.{Kind}
@@ -11,10 +11,11 @@ use Rattle.fast_value.specs.declared.kind.Presence.TheVariants.{Mandatory, Optio
 use Rattle.fast_template.specs.declared.resolved.FieldPart.{FieldPart}
 use Rattle.fast_value.specs.declared.scalar.Scalar.{Scalar}
 use Rattle.fast_dictionary.specs.declared.entry.Entry.{Entry}
-use Rattle.fast_dictionary.specs.declared.entry.Entry.TheVariants.{Assigned, Empty}
+use Rattle.fast_dictionary.specs.declared.entry.Entry.TheVariants.{Assigned, Empty, Undefined}
 use Rattle.fast_field.specs.Numbers.{IsFieldNumber, HasNumber, Predicts}
-use Rattle.fast_field.specs.Bases.{next_of, absent_or}
-use Rattle.fast_field.specs.Planning.{gives_same, left_out_of}
+use Rattle.fast_field.specs.Bases.{next_of, absent_or, initial_or}
+use Rattle.fast_field.specs.Planning.{default_gives, gives_same, is_same, left_out_of}
+use Rattle.fast_field.specs.declared.fault.FieldFault.{FieldFault}
 use Rattle.fast_field.specs.declared.fault.FieldFault.TheVariants as fault
 use Rattle.fast_field.specs.Spelled.{overlong_number}
 use Rattle.fast_field.specs.Values.{is_unsigned}
@@ -68,15 +69,41 @@ nothing_stands i e v bytes at h = λ out.
 
 -- ---- the first number of an empty entry
 
-none_given : (p : Presence) (v : Scalar) → gives_same (absent_or fault.D6 p) (Some v) ≡ false
-none_given Mandatory v = refl
-none_given Optional v = refl
+none_given : (f : FieldFault) (p : Presence) (v : Scalar) → gives_same (absent_or f p) (Some v) ≡ false
+none_given f Mandatory v = refl
+none_given f Optional v = refl
 
 put_first : (o : Operator) (i : FieldPart) (v : Scalar) → Predicts o → SpellsWhole o → (Assigned v ≡ next_of o Empty (Some v)) × (left_out_of o i Empty (Some v) ≡ false)
-put_first operator.Copy i v p s = (refl, none_given i.presence v)
-put_first operator.Increment i v p s = (refl, none_given i.presence v)
+put_first operator.Copy i v p s = (refl, none_given fault.D6 i.presence v)
+put_first operator.Increment i v p s = (refl, none_given fault.D6 i.presence v)
 put_first operator.Tail i v p s = absurd s
 put_first o i v p s = absurd p
 
 pub first_leaves : (i : FieldPart) (v : Scalar) → Predicts i.operator → SpellsWhole i.operator → Leaves true i Empty (Assigned v) v
 first_leaves i v p s = let h = put_first i.operator i v p s in record { entry = h.0; left_out = h.1 }
+
+-- ---- the first number of an undefined entry, and a default: bit 0 gives the initial value
+
+initial_given : (i : FieldPart) (w : Option Scalar) (v : Scalar) → gives_same (initial_or fault.D5 i w) (Some v) ≡ is_same w (Some v)
+initial_given i None v = none_given fault.D5 i.presence v
+initial_given i (Some w) v = refl
+
+put_begun : (o : Operator) (i : FieldPart) (v : Scalar) → Predicts o → SpellsWhole o → (Assigned v ≡ next_of o Undefined (Some v)) × (left_out_of o i Undefined (Some v) ≡ is_same i.initial (Some v))
+put_begun operator.Copy i v p s = (refl, initial_given i i.initial v)
+put_begun operator.Increment i v p s = (refl, initial_given i i.initial v)
+put_begun operator.Tail i v p s = absurd s
+put_begun o i v p s = absurd p
+
+pub begun_leaves : (bit : Bool) (i : FieldPart) (v : Scalar) → Predicts i.operator → SpellsWhole i.operator → is_same i.initial (Some v) ≡ not bit → Leaves bit i Undefined (Assigned v) v
+begun_leaves bit i v p s same = let h = put_begun i.operator i v p s in record { entry = h.0; left_out = h.1 ∙ same }
+
+default_given : (p : Presence) (w : Option Scalar) (v : Scalar) → default_gives p w (Some v) ≡ is_same w (Some v)
+default_given p None v = refl
+default_given p (Some w) v = refl
+
+put_default : (o : Operator) (i : FieldPart) (e : Entry) (v : Scalar) → o ≡ operator.Default → (e ≡ next_of o e (Some v)) × (left_out_of o i e (Some v) ≡ is_same i.initial (Some v))
+put_default operator.Default i e v is = (refl, default_given i.presence i.initial v)
+put_default o' i e v is = absurd cc
+
+pub default_leaves : (bit : Bool) (i : FieldPart) (e : Entry) (v : Scalar) → i.operator ≡ operator.Default → is_same i.initial (Some v) ≡ not bit → Leaves bit i e e v
+default_leaves bit i e v o same = let h = put_default i.operator i e v o in record { entry = h.0; left_out = h.1 ∙ same }

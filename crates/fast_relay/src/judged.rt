@@ -2,13 +2,14 @@
 //! and nothing is written. Here are integers and constants, and the way to the others; what is not judged goes by the calls
 //! that write.
 
-ghost use Rattle.std.specs.Prelude.{◌≡◌, ◌≤◌, ◌+◌, ℕ, true, false, length, drop, slice_range, IfNone, IfSome, IsTrue};
+ghost use Rattle.std.specs.Prelude.{◌≡◌, ◌≤◌, ◌+◌, ℕ, Some, true, false, not, length, drop, slice_range, IfNone, IfSome, IsTrue};
 ghost use Rattle.fast_value.specs.Scalar.{is_integer, of_integer};
 ghost use Rattle.fast_value.specs.declared.kind.Operator.TheVariants as operator_type;
 ghost use Rattle.fast_value.specs.declared.scalar.Scalar.{Scalar as ScalarOf};
 ghost use Rattle.fast_wire.specs.Entity.{IsEntity};
 ghost use Rattle.fast_field.specs.Numbers.{IsNumber, Predicts};
 ghost use Rattle.fast_field.specs.Parts.{IsFieldPart};
+ghost use Rattle.fast_field.specs.Planning.{is_same};
 ghost use Rattle.fast_field.specs.Spelled.{overlong_number};
 ghost use Rattle.fast_field.specs.Values as values;
 ghost use Rattle.fast_field.specs.Within.{HoldsScalar};
@@ -172,14 +173,12 @@ pub(crate) fn read_shortest(
     }
 }
 
-/// The bit of the best form of a number, by the initial value.
+/// The bit of the best form of a number, where bit 0 gives the initial value.
 #[inline(always)]
-fn judge_default(kind: Kind, instr: &FieldPart, entry: &Entry, number: i64) -> Option<bool>
-    requires kind { kind ≡ instr.now.kind }
+fn judge_initial(kind: Kind, instr: &FieldPart, number: i64) -> Option<bool>
     requires integer { IsTrue (is_integer kind) }
-    requires operator { instr.now.operator ≡ operator_type.Default }
     requires number { IsNumber kind number }
-    ensures { IfSome result (λ bit. Leaves bit instr.now entry.now entry.now (of_integer kind number)) }
+    ensures { IfSome result (λ bit. is_same instr.now.initial (Some (of_integer kind number)) ≡ not bit) }
 {
     match &instr.initial {
         None => Some(true),
@@ -190,7 +189,7 @@ fn judge_default(kind: Kind, instr: &FieldPart, entry: &Entry, number: i64) -> O
     }
 }
 
-/// The bit of the best form of a number where the entry is empty; it then has this one. (A call of its own, since it is rare.)
+/// The bit of the best form of a number where the entry has none; it then has this one. (A call of its own, since it is rare.)
 #[inline(never)]
 fn judge_first(kind: Kind, instr: &FieldPart, entry: &mut Entry, number: i64) -> Option<bool>
     requires kind { kind ≡ instr.now.kind }
@@ -206,7 +205,15 @@ fn judge_first(kind: Kind, instr: &FieldPart, entry: &mut Entry, number: i64) ->
             set_number(kind, entry, i128::from(number));
             Some(true)
         }
-        Entry::Undefined | Entry::Assigned(_) => None,
+        // bit 0 gives the initial value, also by increment
+        Entry::Undefined => {
+            let Some(bit) = judge_initial(kind, instr, number) else {
+                return None;
+            };
+            set_number(kind, entry, i128::from(number));
+            Some(bit)
+        }
+        Entry::Assigned(_) => None,
     }
 }
 
@@ -272,7 +279,7 @@ pub(crate) fn judge_read(
 {
     match instr.operator {
         Operator::Plain => Some(true),
-        Operator::Default => judge_default(kind, instr, entry, number),
+        Operator::Default => judge_initial(kind, instr, number),
         Operator::Copy => judge_copy(kind, instr, entry, number),
         Operator::Increment => judge_increment(kind, instr, entry, number),
         Operator::Constant | Operator::Delta | Operator::Tail => None,
