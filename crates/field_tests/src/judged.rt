@@ -1,8 +1,10 @@
 //! Rows on fields that are judged as they stand.
 
-ghost use Rattle.std.specs.Prelude.{◌≡◌, ◌≤◌, ◌<◌, None, IsTrue, true, length};
+ghost use Rattle.std.specs.Prelude.{◌≡◌, ◌≤◌, ◌<◌, None, IfOk, IsTrue, true, length};
 ghost use Rattle.std.specs.List.{AllByRecursion};
 ghost use Rattle.fast_value.specs.Scalar.{IsScalar};
+ghost use Rattle.fast_value.specs.declared.kind.Kind.TheVariants as kind_type;
+ghost use Rattle.fast_value.specs.declared.kind.Part.TheVariants as part_type;
 ghost use Rattle.fast_template.specs.TemplateSets.{applies};
 ghost use Rattle.fast_field.specs.Parts.{IsFieldPart, IsKindOfPart};
 ghost use Rattle.fast_field.specs.Within.{HoldsScalar};
@@ -126,6 +128,48 @@ fn is_judged(rt: &impl Abort, alloc: Global, row: &Row) -> Result<(), AllocError
 fn all_judged(rt: &impl Abort, alloc: Global, rows: &[Row]) -> Result<(), AllocError> {
     for row in rows {
         is_judged(rt, alloc, row)?;
+    }
+    Ok(())
+}
+
+// The same of a uInt32 with an initial value, whose entry is undefined.
+struct First {
+    presence: Presence,
+    operator: Operator,
+    initial: u32,
+    bytes: &'static [u8],
+    judged: Judged,
+    after: Kept,
+}
+
+// A uInt32 with an initial value.
+fn beginning(
+    alloc: Global,
+    presence: Presence,
+    operator: Operator,
+    initial: u32,
+) -> Result<FieldPart, AllocError>
+    requires { IsTrue (applies operator kind_type.UInt32) }
+    ensures part { IfOk result (λ i. i.part ≡ part_type.Whole) }
+    ensures field { IfOk result IsFieldPart }
+{
+    let number = Some(Scalar::U32(initial));
+    part_of(alloc, Part::Whole, Kind::UInt32, presence, operator, number)
+}
+
+fn all_firsts_judged(rt: &impl Abort, alloc: Global, rows: &[First]) -> Result<(), AllocError> {
+    for row in rows {
+        // no other is judged
+        if !applies_to(row.operator, Kind::UInt32) {
+            same(rt, false, true);
+            return Ok(());
+        }
+        let instr = beginning(alloc, row.presence, row.operator, row.initial)?;
+        let mut entry = Entry::Undefined;
+        let at = row.bytes.len().min(1);
+        let judged = judge_field(Part::Whole, alloc, &instr, &mut entry, row.bytes, at);
+        same(rt, judged, row.judged);
+        same(rt, entry, row.after.entry(alloc)?);
     }
     Ok(())
 }
@@ -390,6 +434,27 @@ fn integers_that_are_judged(rt: HostRuntime) -> Result<(), AllocError> {
             judged: Judged::Stands(2),
             after: Kept::Assigned(Value::U64(5)),
         },
+        // the first number of an undefined entry, where bit 0 gives none
+        Row {
+            part: Part::Whole,
+            kind: Kind::UInt32,
+            presence: Presence::Mandatory,
+            operator: Operator::Copy,
+            before: Kept::Undefined,
+            bytes: &[0, 0x87],
+            judged: Judged::Stands(2),
+            after: Kept::Assigned(Value::U32(7)),
+        },
+        Row {
+            part: Part::Whole,
+            kind: Kind::Int64,
+            presence: Presence::Optional,
+            operator: Operator::Increment,
+            before: Kept::Undefined,
+            bytes: &[0, 0x88],
+            judged: Judged::Stands(2),
+            after: Kept::Assigned(Value::I64(7)),
+        },
         // two groups, the first not needless
         Row {
             part: Part::Whole,
@@ -517,6 +582,97 @@ fn integers_that_are_judged(rt: HostRuntime) -> Result<(), AllocError> {
         },
     ];
     all_judged(&rt, rt.alloc(), JUDGED)
+}
+
+#[test]
+fn first_numbers_that_are_judged(rt: HostRuntime) -> Result<(), AllocError> {
+    const FIRSTS: &[First] = &[
+        // bit 0 gives the initial value, and what differs stands
+        First {
+            presence: Presence::Mandatory,
+            operator: Operator::Copy,
+            initial: 5,
+            bytes: &[0, 0x85],
+            judged: Judged::Given(2),
+            after: Kept::Assigned(Value::U32(5)),
+        },
+        First {
+            presence: Presence::Mandatory,
+            operator: Operator::Copy,
+            initial: 5,
+            bytes: &[0, 0x87],
+            judged: Judged::Stands(2),
+            after: Kept::Assigned(Value::U32(7)),
+        },
+        First {
+            presence: Presence::Optional,
+            operator: Operator::Copy,
+            initial: 5,
+            bytes: &[0, 0x86],
+            judged: Judged::Given(2),
+            after: Kept::Assigned(Value::U32(5)),
+        },
+        First {
+            presence: Presence::Optional,
+            operator: Operator::Copy,
+            initial: 5,
+            bytes: &[0, 0x85],
+            judged: Judged::Stands(2),
+            after: Kept::Assigned(Value::U32(4)),
+        },
+        // it is not increased
+        First {
+            presence: Presence::Mandatory,
+            operator: Operator::Increment,
+            initial: 5,
+            bytes: &[0, 0x85],
+            judged: Judged::Given(2),
+            after: Kept::Assigned(Value::U32(5)),
+        },
+        First {
+            presence: Presence::Mandatory,
+            operator: Operator::Increment,
+            initial: 5,
+            bytes: &[0, 0x86],
+            judged: Judged::Stands(2),
+            after: Kept::Assigned(Value::U32(6)),
+        },
+        // behind a needless group
+        First {
+            presence: Presence::Mandatory,
+            operator: Operator::Copy,
+            initial: 5,
+            bytes: &[0, 0x00, 0x85],
+            judged: Judged::Given(3),
+            after: Kept::Assigned(Value::U32(5)),
+        },
+        First {
+            presence: Presence::Mandatory,
+            operator: Operator::Increment,
+            initial: 5,
+            bytes: &[0, 0x00, 0x87],
+            judged: Judged::Behind(3),
+            after: Kept::Assigned(Value::U32(7)),
+        },
+        // a default leaves the entry
+        First {
+            presence: Presence::Mandatory,
+            operator: Operator::Default,
+            initial: 5,
+            bytes: &[0, 0x85],
+            judged: Judged::Given(2),
+            after: Kept::Undefined,
+        },
+        First {
+            presence: Presence::Mandatory,
+            operator: Operator::Default,
+            initial: 5,
+            bytes: &[0, 0x87],
+            judged: Judged::Stands(2),
+            after: Kept::Undefined,
+        },
+    ];
+    all_firsts_judged(&rt, rt.alloc(), FIRSTS)
 }
 
 #[test]

@@ -319,15 +319,16 @@ fn numbers_are_answered(rt: HostRuntime) -> Result<(), AllocError> {
             bytes: &[0xff, 0x00, 0x00, 0x87],
             number: Some((7, true)),
         },
-        // another type, no value before, and NULL
-        Counted {
-            of: Shape::Mandatory(Kind::UInt64, Operator::Copy),
-            before: Kept::Undefined,
-            bytes: &[0xff, 0x87],
-            number: None,
-        },
+        // no value before
         Counted {
             of: Shape::Mandatory(Kind::UInt32, Operator::Copy),
+            before: Kept::Undefined,
+            bytes: &[0xff, 0x87],
+            number: Some((7, true)),
+        },
+        // another type, and NULL
+        Counted {
+            of: Shape::Mandatory(Kind::UInt64, Operator::Copy),
             before: Kept::Undefined,
             bytes: &[0xff, 0x87],
             number: None,

@@ -1,9 +1,9 @@
-//! Rows on integers that are taken at once, and written nowhere.
+//! Rows on fields that are taken at once, and written nowhere.
 
 use crate::fields::{Kept, Shape, Value};
 use crate::same::same;
 use fast_dictionary::Entry;
-use fast_relay::take_number;
+use fast_relay::{take_aside, take_decimal, take_number, take_vector};
 use fast_template::{Kind, Operator, Presence, Scalar};
 use std::alloc::{AllocError, Global};
 use std::process::Abort;
@@ -46,6 +46,92 @@ fn all_taken(rt: &impl Abort, alloc: Global, rows: &[Taken]) -> Result<(), Alloc
         let answer = wanted(alloc, row)?;
         same(rt, given.taken, answer.taken);
         same(rt, given.entry, answer.entry);
+    }
+    Ok(())
+}
+
+// The call of a row.
+#[derive(Clone, Copy)]
+enum Call {
+    Decimal,
+    Vector,
+}
+
+// The bytes behind the first are read to their end into the entry; or nothing has changed.
+struct Put {
+    of: Shape,
+    before: Kept,
+    bytes: &'static [u8],
+    taken: bool,
+    after: Kept,
+}
+
+fn take_into(
+    alloc: Global,
+    call: Call,
+    of: Shape,
+    entry: &mut Entry,
+    bytes: &[u8],
+) -> Result<Option<usize>, AllocError> {
+    let instr = of.instr(alloc)?;
+    let at = bytes.len().min(1);
+    Ok(match call {
+        Call::Decimal => take_decimal(&instr, entry, bytes, at),
+        Call::Vector => take_vector(alloc, &instr, entry, bytes, at),
+    })
+}
+
+// Want of memory leaves the entry as it was, and ends the test.
+fn all_put(rt: &impl Abort, alloc: Global, call: Call, rows: &[Put]) -> Result<(), AllocError> {
+    for row in rows {
+        let mut entry = row.before.entry(alloc)?;
+        let next = take_into(alloc, call, row.of, &mut entry, row.bytes)?;
+        if next.is_none() && row.taken {
+            same(rt, entry, row.before.entry(alloc)?);
+            return Err(AllocError);
+        }
+        same(
+            rt,
+            next,
+            if row.taken {
+                Some(row.bytes.len())
+            } else {
+                None
+            },
+        );
+        same(rt, entry, row.after.entry(alloc)?);
+    }
+    Ok(())
+}
+
+// The bytes behind the first are read to their end in the place of a value; or nothing has changed.
+struct Aside {
+    of: Shape,
+    before: Value,
+    bytes: &'static [u8],
+    taken: bool,
+    after: Value,
+}
+
+fn all_aside(rt: &impl Abort, alloc: Global, rows: &[Aside]) -> Result<(), AllocError> {
+    for row in rows {
+        let instr = row.of.instr(alloc)?;
+        let mut value = row.before.scalar(alloc)?;
+        let next = take_aside(alloc, &instr, &mut value, row.bytes, row.bytes.len().min(1));
+        if next.is_none() && row.taken {
+            same(rt, value, row.before.scalar(alloc)?);
+            return Err(AllocError);
+        }
+        same(
+            rt,
+            next,
+            if row.taken {
+                Some(row.bytes.len())
+            } else {
+                None
+            },
+        );
+        same(rt, value, row.after.scalar(alloc)?);
     }
     Ok(())
 }
@@ -153,4 +239,281 @@ fn numbers_that_are_taken(rt: HostRuntime) -> Result<(), AllocError> {
         },
     ];
     all_taken(&rt, rt.alloc(), ROWS)
+}
+
+#[test]
+fn decimals_that_are_taken(rt: HostRuntime) -> Result<(), AllocError> {
+    const ROWS: &[Put] = &[
+        // an exponent and a mantissa, whole
+        Put {
+            of: Shape::Mandatory(Kind::Decimal, Operator::Copy),
+            before: Kept::Undefined,
+            bytes: &[0xff, 0xfe, 0x39, 0x45, 0xa3],
+            taken: true,
+            after: Kept::Assigned(Value::Decimal(-2, 942_755)),
+        },
+        Put {
+            of: Shape::Optional(Kind::Decimal, Operator::Copy),
+            before: Kept::Assigned(Value::Decimal(1, 5)),
+            bytes: &[0xff, 0x83, 0x84],
+            taken: true,
+            after: Kept::Assigned(Value::Decimal(2, 4)),
+        },
+        // and what is added to both
+        Put {
+            of: Shape::Mandatory(Kind::Decimal, Operator::Delta),
+            before: Kept::Assigned(Value::Decimal(-2, 942_755)),
+            bytes: &[0xff, 0x80, 0x85],
+            taken: true,
+            after: Kept::Assigned(Value::Decimal(-2, 942_760)),
+        },
+        Put {
+            of: Shape::Optional(Kind::Decimal, Operator::Delta),
+            before: Kept::Assigned(Value::Decimal(-2, 942_755)),
+            bytes: &[0xff, 0xff, 0xfb],
+            taken: true,
+            after: Kept::Assigned(Value::Decimal(-3, 942_750)),
+        },
+        // what is not taken goes the general way
+        // NULL
+        Put {
+            of: Shape::Optional(Kind::Decimal, Operator::Copy),
+            before: Kept::Assigned(Value::Decimal(1, 5)),
+            bytes: &[0xff, 0x80],
+            taken: false,
+            after: Kept::Assigned(Value::Decimal(1, 5)),
+        },
+        // the bytes end
+        Put {
+            of: Shape::Mandatory(Kind::Decimal, Operator::Copy),
+            before: Kept::Assigned(Value::Decimal(1, 5)),
+            bytes: &[0xff, 0x82, 0x05],
+            taken: false,
+            after: Kept::Assigned(Value::Decimal(1, 5)),
+        },
+        // an exponent of 64, sent or as a sum
+        Put {
+            of: Shape::Mandatory(Kind::Decimal, Operator::Copy),
+            before: Kept::Assigned(Value::Decimal(1, 5)),
+            bytes: &[0xff, 0x00, 0xc0, 0x85],
+            taken: false,
+            after: Kept::Assigned(Value::Decimal(1, 5)),
+        },
+        Put {
+            of: Shape::Mandatory(Kind::Decimal, Operator::Delta),
+            before: Kept::Assigned(Value::Decimal(63, 5)),
+            bytes: &[0xff, 0x81, 0x80],
+            taken: false,
+            after: Kept::Assigned(Value::Decimal(63, 5)),
+        },
+        // nothing is kept that is added to
+        Put {
+            of: Shape::Mandatory(Kind::Decimal, Operator::Delta),
+            before: Kept::Undefined,
+            bytes: &[0xff, 0x80, 0x85],
+            taken: false,
+            after: Kept::Undefined,
+        },
+        // an operator that keeps nothing, and another type
+        Put {
+            of: Shape::Mandatory(Kind::Decimal, Operator::Plain),
+            before: Kept::Undefined,
+            bytes: &[0xff, 0x82, 0x85],
+            taken: false,
+            after: Kept::Undefined,
+        },
+        Put {
+            of: Shape::Mandatory(Kind::Int64, Operator::Copy),
+            before: Kept::Undefined,
+            bytes: &[0xff, 0x82, 0x85],
+            taken: false,
+            after: Kept::Undefined,
+        },
+    ];
+    all_put(&rt, rt.alloc(), Call::Decimal, ROWS)
+}
+
+#[test]
+fn vectors_that_are_taken(rt: HostRuntime) -> Result<(), AllocError> {
+    const ROWS: &[Put] = &[
+        // bytes and characters, whole
+        Put {
+            of: Shape::Mandatory(Kind::Bytes, Operator::Copy),
+            before: Kept::Empty,
+            bytes: &[0xff, 0x82, 0x41, 0x42],
+            taken: true,
+            after: Kept::Assigned(Value::Bytes(b"AB")),
+        },
+        Put {
+            of: Shape::Optional(Kind::Unicode, Operator::Copy),
+            before: Kept::Assigned(Value::Unicode("AB")),
+            bytes: &[0xff, 0x83, 0xc3, 0xbc],
+            taken: true,
+            after: Kept::Assigned(Value::Unicode("ü")),
+        },
+        // a new end
+        Put {
+            of: Shape::Mandatory(Kind::Unicode, Operator::Tail),
+            before: Kept::Assigned(Value::Unicode("AB")),
+            bytes: &[0xff, 0x81, 0x43],
+            taken: true,
+            after: Kept::Assigned(Value::Unicode("AC")),
+        },
+        // a removal at the end, and a new part
+        Put {
+            of: Shape::Mandatory(Kind::Bytes, Operator::Delta),
+            before: Kept::Assigned(Value::Bytes(b"AB")),
+            bytes: &[0xff, 0x81, 0x82, 0x43, 0x44],
+            taken: true,
+            after: Kept::Assigned(Value::Bytes(b"ACD")),
+        },
+        Put {
+            of: Shape::Optional(Kind::Unicode, Operator::Delta),
+            before: Kept::Assigned(Value::Unicode("AB")),
+            bytes: &[0xff, 0x81, 0x81, 0x43],
+            taken: true,
+            after: Kept::Assigned(Value::Unicode("ABC")),
+        },
+        // what is not taken goes the general way
+        // NULL
+        Put {
+            of: Shape::Optional(Kind::Bytes, Operator::Copy),
+            before: Kept::Assigned(Value::Bytes(b"AB")),
+            bytes: &[0xff, 0x80],
+            taken: false,
+            after: Kept::Assigned(Value::Bytes(b"AB")),
+        },
+        // the bytes end
+        Put {
+            of: Shape::Mandatory(Kind::Bytes, Operator::Copy),
+            before: Kept::Assigned(Value::Bytes(b"AB")),
+            bytes: &[0xff, 0x82, 0x43],
+            taken: false,
+            after: Kept::Assigned(Value::Bytes(b"AB")),
+        },
+        // no UTF-8
+        Put {
+            of: Shape::Mandatory(Kind::Unicode, Operator::Copy),
+            before: Kept::Assigned(Value::Unicode("AB")),
+            bytes: &[0xff, 0x81, 0xc3],
+            taken: false,
+            after: Kept::Assigned(Value::Unicode("AB")),
+        },
+        // an end that is longer than what is kept
+        Put {
+            of: Shape::Mandatory(Kind::Bytes, Operator::Tail),
+            before: Kept::Assigned(Value::Bytes(b"A")),
+            bytes: &[0xff, 0x82, 0x42, 0x43],
+            taken: false,
+            after: Kept::Assigned(Value::Bytes(b"A")),
+        },
+        // a removal in front, and one of more than is kept
+        Put {
+            of: Shape::Mandatory(Kind::Bytes, Operator::Delta),
+            before: Kept::Assigned(Value::Bytes(b"AB")),
+            bytes: &[0xff, 0xfe, 0x81, 0x43],
+            taken: false,
+            after: Kept::Assigned(Value::Bytes(b"AB")),
+        },
+        Put {
+            of: Shape::Mandatory(Kind::Bytes, Operator::Delta),
+            before: Kept::Assigned(Value::Bytes(b"AB")),
+            bytes: &[0xff, 0x83, 0x81, 0x43],
+            taken: false,
+            after: Kept::Assigned(Value::Bytes(b"AB")),
+        },
+        // nothing is kept that has an end
+        Put {
+            of: Shape::Mandatory(Kind::Bytes, Operator::Tail),
+            before: Kept::Undefined,
+            bytes: &[0xff, 0x81, 0x43],
+            taken: false,
+            after: Kept::Undefined,
+        },
+        // an operator that keeps nothing, and another type
+        Put {
+            of: Shape::Mandatory(Kind::Bytes, Operator::Plain),
+            before: Kept::Undefined,
+            bytes: &[0xff, 0x81, 0x43],
+            taken: false,
+            after: Kept::Undefined,
+        },
+        Put {
+            of: Shape::Mandatory(Kind::Ascii, Operator::Copy),
+            before: Kept::Undefined,
+            bytes: &[0xff, 0xc3],
+            taken: false,
+            after: Kept::Undefined,
+        },
+    ];
+    all_put(&rt, rt.alloc(), Call::Vector, ROWS)
+}
+
+#[test]
+fn strings_that_are_taken_aside(rt: HostRuntime) -> Result<(), AllocError> {
+    const ROWS: &[Aside] = &[
+        // characters in the place of others, as many or not
+        Aside {
+            of: Shape::Mandatory(Kind::Ascii, Operator::Plain),
+            before: Value::Ascii(b"XYZ"),
+            bytes: &[0xff, 0x41, 0xc2],
+            taken: true,
+            after: Value::Ascii(b"AB"),
+        },
+        Aside {
+            of: Shape::Optional(Kind::Ascii, Operator::Plain),
+            before: Value::Ascii(b"XY"),
+            bytes: &[0xff, 0x41, 0xc2],
+            taken: true,
+            after: Value::Ascii(b"AB"),
+        },
+        Aside {
+            of: Shape::Optional(Kind::Ascii, Operator::Default),
+            before: Value::Ascii(b""),
+            bytes: &[0xff, 0x41, 0x42, 0xc3],
+            taken: true,
+            after: Value::Ascii(b"ABC"),
+        },
+        // what is not taken goes the general way
+        // NULL
+        Aside {
+            of: Shape::Optional(Kind::Ascii, Operator::Plain),
+            before: Value::Ascii(b"XY"),
+            bytes: &[0xff, 0x80],
+            taken: false,
+            after: Value::Ascii(b"XY"),
+        },
+        // the bytes end
+        Aside {
+            of: Shape::Mandatory(Kind::Ascii, Operator::Plain),
+            before: Value::Ascii(b"XY"),
+            bytes: &[0xff, 0x41, 0x42],
+            taken: false,
+            after: Value::Ascii(b"XY"),
+        },
+        // an operator that keeps it
+        Aside {
+            of: Shape::Mandatory(Kind::Ascii, Operator::Copy),
+            before: Value::Ascii(b"XY"),
+            bytes: &[0xff, 0x41, 0xc2],
+            taken: false,
+            after: Value::Ascii(b"XY"),
+        },
+        // another value, and another type
+        Aside {
+            of: Shape::Mandatory(Kind::Ascii, Operator::Plain),
+            before: Value::U32(7),
+            bytes: &[0xff, 0x41, 0xc2],
+            taken: false,
+            after: Value::U32(7),
+        },
+        Aside {
+            of: Shape::Mandatory(Kind::Bytes, Operator::Plain),
+            before: Value::Ascii(b"XY"),
+            bytes: &[0xff, 0x81, 0x43],
+            taken: false,
+            after: Value::Ascii(b"XY"),
+        },
+    ];
+    all_aside(&rt, rt.alloc(), ROWS)
 }
