@@ -12,7 +12,7 @@ use Rattle.fast_template.specs.declared.resolved.FieldPart.{FieldPart}
 use Rattle.fast_value.specs.declared.scalar.Scalar.{Scalar}
 use Rattle.fast_dictionary.specs.declared.entry.Entry.{Entry}
 use Rattle.fast_dictionary.specs.declared.entry.Entry.TheVariants.{Assigned, Empty, Undefined}
-use Rattle.fast_field.specs.Numbers.{IsFieldNumber, HasNumber, Predicts}
+use Rattle.fast_field.specs.Numbers.{IsFieldNumber, Predicts}
 use Rattle.fast_field.specs.Bases.{next_of, absent_or, initial_or}
 use Rattle.fast_field.specs.Planning.{default_gives, gives_same, is_same, left_out_of}
 use Rattle.fast_field.specs.declared.fault.FieldFault.{FieldFault}
@@ -22,7 +22,7 @@ use Rattle.fast_field.specs.Values.{is_unsigned}
 use Rattle.fast_field.proofs.BestForms.{bit_zero_is_best}
 use Rattle.fast_field.proofs.BestValues.{left_out}
 use Rattle.fast_field.proofs.Passing.{of_kind, within_number}
-use Rattle.fast_relay.specs.Judged.{Judges, JudgesFrom, Leaves, StandsAt, StandsFrom}
+use Rattle.fast_relay.specs.Judged.{Adds, Judges, JudgesFrom, Leaves, StandsAt, StandsFrom}
 use Rattle.fast_relay.specs.Numbers.{SpellsWhole, Spelt}
 use Rattle.fast_relay.specs.Relayed.{Relays}
 use Rattle.fast_relay.proofs.Relaying.{delta_relays, whole_relays}
@@ -55,12 +55,15 @@ whole_given k i old new z bytes at first next same o h s l =
       },
     )
 
-pub delta_stands : (k : Kind) (i : FieldPart) (old new : Entry) (z d : ℤ) (bytes : List ℕ) (at first next : ℕ) → k ≡ i.kind → i.operator ≡ operator.Delta → HasNumber k old z → IsFieldNumber k i.part (z +ℤ d) → StandsFrom false i.presence bytes at first next d
-    → new ≡ Assigned (of_integer k (z +ℤ d)) → JudgesFrom true i old new (of_integer k (z +ℤ d)) bytes at first next
-delta_stands k i old new z d bytes at first next same o has h s entry = λ out.
-    let form = slice_range bytes first next in
-    delta_relays k i old new z d (drop at bytes) (drop next bytes) out (out ++ form) same o has h s.spelt entry
-    (form, refl, shortest_signed i.presence d form s.form s.short)
+pub delta_stands : (k : Kind) (i : FieldPart) (old new : Entry) (d : ℤ) (bytes : List ℕ) (at first next : ℕ) → k ≡ i.kind → i.operator ≡ operator.Delta → Adds k i.part d old new → StandsFrom false i.presence bytes at first next d
+    → (v : Scalar) × JudgesFrom true i old new v bytes at first next
+delta_stands k i old new d bytes at first next same o h s = (
+      of_integer k (h.number +ℤ d),
+      λ out.
+          let form = slice_range bytes first next in
+          delta_relays k i old new h.number d (drop at bytes) (drop next bytes) out (out ++ form) same o h.kept h.sum s.spelt h.entry
+          (form, refl, shortest_signed i.presence d form s.form s.short),
+    )
 
 pub nothing_stands : (i : FieldPart) (e : Entry) (v : Scalar) (bytes : List ℕ) (at : ℕ) → ((bytes out : List ℕ) → Relays i e e v bytes bytes out out) → Judges true i e e v bytes at at
 nothing_stands i e v bytes at h = λ out.

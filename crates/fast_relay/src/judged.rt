@@ -3,17 +3,17 @@
 //! that write.
 
 ghost use Rattle.std.specs.Prelude.{◌≡◌, ◌≤◌, ◌+◌, ℕ, Some, true, false, not, length, drop, slice_range, IfNone, IfSome, IsTrue};
-ghost use Rattle.fast_value.specs.Scalar.{is_integer, of_integer};
+ghost use Rattle.fast_value.specs.Scalar.{of_integer};
 ghost use Rattle.fast_value.specs.declared.kind.Operator.TheVariants as operator_type;
 ghost use Rattle.fast_value.specs.declared.scalar.Scalar.{Scalar as ScalarOf};
 ghost use Rattle.fast_wire.specs.Entity.{IsEntity};
-ghost use Rattle.fast_field.specs.Numbers.{IsNumber, Predicts};
+ghost use Rattle.fast_field.specs.Numbers.{IsFieldNumber, IsNumber, Predicts};
 ghost use Rattle.fast_field.specs.Parts.{IsFieldPart};
 ghost use Rattle.fast_field.specs.Planning.{is_same};
 ghost use Rattle.fast_field.specs.Spelled.{overlong_number};
 ghost use Rattle.fast_field.specs.Values as values;
 ghost use Rattle.fast_field.specs.Within.{HoldsScalar};
-ghost use Rattle.fast_relay.specs.Judged.{IfBehind, IfJudged, IfNotJudged, Judges, JudgesFrom, Leaves, StandsAt, StandsFrom};
+ghost use Rattle.fast_relay.specs.Judged.{Adds, IfBehind, IfJudged, IfNotJudged, IfNotTold, IfTold, Judges, JudgesFrom, Leaves, StandsAt, StandsFrom};
 ghost use Rattle.fast_relay.specs.Numbers.{SpellsWhole, Spelt};
 
 use crate::integers::{is_overlong, is_unsigned};
@@ -21,7 +21,7 @@ use crate::judged_decimal::judge_decimal;
 use crate::judged_string::judge_string;
 use crate::judged_vector::judge_vector;
 use crate::passed::can_begin;
-use crate::short_number::{is_field_number, kept_number, number_of, replace_number};
+use crate::short_number::{ShortInteger, number_after};
 use fast_dictionary::Entry;
 use fast_field::set_number;
 use fast_template::{FieldPart, Kind, Operator, Part, Presence};
@@ -39,6 +39,17 @@ pub enum Judged {
     BehindTwo(usize),
     /// Bit 0, which gives the value with no byte.
     Given(usize),
+    /// Nothing has changed: another way tells.
+    Elsewhere,
+}
+
+/// What the best form is of a number that was read under bit 1, wherever it stands.
+#[derive(Clone, Copy, Debug, PartialEq, Eq, Drop)]
+pub(crate) enum Verdict {
+    /// The number as it is spelled.
+    Stands,
+    /// Bit 0, which gives it.
+    Given,
     /// Nothing has changed: another way tells.
     Elsewhere,
 }
@@ -173,116 +184,194 @@ pub(crate) fn read_shortest(
     }
 }
 
-/// The bit of the best form of a number, where bit 0 gives the initial value.
+/// Judges a number where bit 0 gives the initial value.
 #[inline(always)]
-fn judge_initial(kind: Kind, instr: &FieldPart, number: i64) -> Option<bool>
-    requires integer { IsTrue (is_integer kind) }
-    requires number { IsNumber kind number }
-    ensures { IfSome result (λ bit. is_same instr.now.initial (Some (of_integer kind number)) ≡ not bit) }
+fn judge_initial<T: ShortInteger>(instr: &FieldPart, number: i64) -> Verdict
+    requires { IsNumber T.kind number }
+    ensures { IfTold result (λ bit. is_same instr.now.initial (Some (of_integer T.kind number)) ≡ not bit) }
 {
     match &instr.initial {
-        None => Some(true),
-        Some(initial) => match number_of(kind, initial.value()) {
-            Some(given) => Some(given != number),
-            None => None,
+        None => Verdict::Stands,
+        Some(initial) => match T::of(initial.value()) {
+            Some(given) if given == number => Verdict::Given,
+            Some(_) => Verdict::Stands,
+            None => Verdict::Elsewhere,
         },
     }
 }
 
-/// The bit of the best form of a number where the entry has none; it then has this one. (A call of its own, since it is rare.)
+/// Judges a number where the entry has none; it then has this one. (A call of its own, since it is rare.)
 #[inline(never)]
-fn judge_first(kind: Kind, instr: &FieldPart, entry: &mut Entry, number: i64) -> Option<bool>
-    requires kind { kind ≡ instr.now.kind }
-    requires integer { IsTrue (is_integer kind) }
+fn judge_first<T: ShortInteger>(instr: &FieldPart, entry: &mut Entry, number: i64) -> Verdict
+    requires kind { T.kind ≡ instr.now.kind }
     requires predicts { Predicts instr.now.operator }
     requires whole { SpellsWhole instr.now.operator }
-    requires number { IsNumber kind number }
-    ensures leaves { IfSome result (λ bit. Leaves bit instr.now entry.old entry.new (of_integer kind number)) }
-    ensures entry { IfNone result (entry.new ≡ entry.old) }
+    requires number { IsNumber T.kind number }
+    ensures leaves { IfTold result (λ bit. Leaves bit instr.now entry.old entry.new (of_integer T.kind number)) }
+    ensures entry { IfNotTold result (entry.new ≡ entry.old) }
 {
     match entry {
         Entry::Empty => {
-            set_number(kind, entry, i128::from(number));
-            Some(true)
+            set_number(instr.kind, entry, i128::from(number));
+            Verdict::Stands
         }
         // bit 0 gives the initial value, also by increment
-        Entry::Undefined => {
-            let Some(bit) = judge_initial(kind, instr, number) else {
-                return None;
-            };
-            set_number(kind, entry, i128::from(number));
-            Some(bit)
-        }
-        Entry::Assigned(_) => None,
+        Entry::Undefined => match judge_initial::<T>(instr, number) {
+            Verdict::Stands => {
+                set_number(instr.kind, entry, i128::from(number));
+                Verdict::Stands
+            }
+            Verdict::Given => {
+                set_number(instr.kind, entry, i128::from(number));
+                Verdict::Given
+            }
+            Verdict::Elsewhere => Verdict::Elsewhere,
+        },
+        Entry::Assigned(_) => Verdict::Elsewhere,
     }
 }
 
-/// The bit of the best form of a number, by the one that the entry has; it then has this one.
+/// Judges a number by the one that the entry has; it then has this one.
 #[inline(always)]
-fn judge_copy(kind: Kind, instr: &FieldPart, entry: &mut Entry, number: i64) -> Option<bool>
-    requires kind { kind ≡ instr.now.kind }
-    requires integer { IsTrue (is_integer kind) }
+fn judge_copy<T: ShortInteger>(instr: &FieldPart, entry: &mut Entry, number: i64) -> Verdict
+    requires kind { T.kind ≡ instr.now.kind }
     requires operator { instr.now.operator ≡ operator_type.Copy }
-    requires number { IsNumber kind number }
-    ensures leaves { IfSome result (λ bit. Leaves bit instr.now entry.old entry.new (of_integer kind number)) }
-    ensures entry { IfNone result (entry.new ≡ entry.old) }
+    requires number { IsNumber T.kind number }
+    ensures leaves { IfTold result (λ bit. Leaves bit instr.now entry.old entry.new (of_integer T.kind number)) }
+    ensures entry { IfNotTold result (entry.new ≡ entry.old) }
 {
-    let Some(kept) = kept_number(kind, entry) else {
-        return judge_first(kind, instr, entry, number);
+    let Some(kept) = T::kept(entry) else {
+        return judge_first::<T>(instr, entry, number);
     };
     if kept == number {
-        return Some(false);
+        return Verdict::Given;
     }
-    replace_number(kind, entry, kept, number);
-    Some(true)
+    T::replace(entry, kept, number);
+    Verdict::Stands
 }
 
-/// The bit of the best form of a number, by the one that follows the entry's; it then has this one.
+/// Judges a number by the one that follows the entry's; it then has this one.
 #[inline(always)]
-fn judge_increment(kind: Kind, instr: &FieldPart, entry: &mut Entry, number: i64) -> Option<bool>
-    requires kind { kind ≡ instr.now.kind }
-    requires integer { IsTrue (is_integer kind) }
+fn judge_increment<T: ShortInteger>(instr: &FieldPart, entry: &mut Entry, number: i64) -> Verdict
+    requires kind { T.kind ≡ instr.now.kind }
     requires operator { instr.now.operator ≡ operator_type.Increment }
-    requires number { IsNumber kind number }
-    ensures leaves { IfSome result (λ bit. Leaves bit instr.now entry.old entry.new (of_integer kind number)) }
-    ensures entry { IfNone result (entry.new ≡ entry.old) }
+    requires number { IsNumber T.kind number }
+    ensures leaves { IfTold result (λ bit. Leaves bit instr.now entry.old entry.new (of_integer T.kind number)) }
+    ensures entry { IfNotTold result (entry.new ≡ entry.old) }
 {
-    let Some(kept) = kept_number(kind, entry) else {
-        return judge_first(kind, instr, entry, number);
-    };
-    let Some(following) = kept.checked_add(1) else {
-        return None;
+    let Some(kept) = T::kept(entry) else {
+        return judge_first::<T>(instr, entry, number);
     };
     // the least number follows the greatest
-    if !is_field_number(kind, Part::Whole, following) {
-        return None;
+    let Some(following) = number_after::<T>(kept) else {
+        return Verdict::Elsewhere;
+    };
+    T::replace(entry, kept, number);
+    if following == number {
+        Verdict::Given
+    } else {
+        Verdict::Stands
     }
-    replace_number(kind, entry, kept, number);
-    Some(following != number)
 }
 
-/// The bit of the best form of a number that was spelled whole; the entry goes on. None: nothing has changed, and another
-/// way tells.
+/// Judges a number that was spelled whole; the entry goes on.
 #[inline(always)]
-pub(crate) fn judge_read(
-    kind: Kind,
+pub(crate) fn judge_read<T: ShortInteger>(
     instr: &FieldPart,
     entry: &mut Entry,
     number: i64,
-) -> Option<bool>
-    requires kind { kind ≡ instr.now.kind }
-    requires integer { IsTrue (is_integer kind) }
-    requires whole { SpellsWhole instr.now.operator }
-    requires number { IsNumber kind number }
-    ensures leaves { IfSome result (λ bit. Leaves bit instr.now entry.old entry.new (of_integer kind number)) }
-    ensures entry { IfNone result (entry.new ≡ entry.old) }
+) -> Verdict
+    requires kind { T.kind ≡ instr.now.kind }
+    requires number { IsNumber T.kind number }
+    ensures whole { IfTold result (λ bit. SpellsWhole instr.now.operator) }
+    ensures leaves { IfTold result (λ bit. Leaves bit instr.now entry.old entry.new (of_integer T.kind number)) }
+    ensures entry { IfNotTold result (entry.new ≡ entry.old) }
 {
     match instr.operator {
-        Operator::Plain => Some(true),
-        Operator::Default => judge_initial(kind, instr, number),
-        Operator::Copy => judge_copy(kind, instr, entry, number),
-        Operator::Increment => judge_increment(kind, instr, entry, number),
-        Operator::Constant | Operator::Delta | Operator::Tail => None,
+        Operator::Plain => Verdict::Stands,
+        Operator::Default => judge_initial::<T>(instr, number),
+        Operator::Copy => judge_copy::<T>(instr, entry, number),
+        Operator::Increment => judge_increment::<T>(instr, entry, number),
+        Operator::Constant | Operator::Delta | Operator::Tail => Verdict::Elsewhere,
+    }
+}
+
+/// The same, of a number that may be out of its field's range.
+#[inline(always)]
+fn judge_as<T: ShortInteger>(
+    which: Part,
+    instr: &FieldPart,
+    entry: &mut Entry,
+    number: i64,
+) -> Verdict
+    requires kind { T.kind ≡ instr.now.kind }
+    ensures whole { IfTold result (λ bit. SpellsWhole instr.now.operator) }
+    ensures number { IfTold result (λ bit. IsFieldNumber T.kind which number) }
+    ensures leaves { IfTold result (λ bit. Leaves bit instr.now entry.old entry.new (of_integer T.kind number)) }
+    ensures entry { IfNotTold result (entry.new ≡ entry.old) }
+{
+    if T::is_field_number(which, number) {
+        judge_read::<T>(instr, entry, number)
+    } else {
+        Verdict::Elsewhere
+    }
+}
+
+/// The same by the field's type. One way for each, so that nothing is asked of the type behind here.
+#[inline(always)]
+fn judge_whole(
+    kind: Kind,
+    which: Part,
+    instr: &FieldPart,
+    entry: &mut Entry,
+    number: i64,
+) -> Verdict
+    requires kind { kind ≡ instr.now.kind }
+    ensures whole { IfTold result (λ bit. SpellsWhole instr.now.operator) }
+    ensures number { IfTold result (λ bit. IsFieldNumber kind which number) }
+    ensures leaves { IfTold result (λ bit. Leaves bit instr.now entry.old entry.new (of_integer kind number)) }
+    ensures entry { IfNotTold result (entry.new ≡ entry.old) }
+{
+    match kind {
+        Kind::UInt32 => judge_as::<u32>(which, instr, entry, number),
+        Kind::Int32 => judge_as::<i32>(which, instr, entry, number),
+        Kind::UInt64 => judge_as::<u64>(which, instr, entry, number),
+        Kind::Int64 => judge_as::<i64>(which, instr, entry, number),
+        Kind::Decimal | Kind::Ascii | Kind::Unicode | Kind::Bytes => Verdict::Elsewhere,
+    }
+}
+
+/// Adds to the number that an entry has, where the sum is one that the field can have; else nothing has changed.
+#[inline(always)]
+fn add_as<T: ShortInteger>(which: Part, entry: &mut Entry, delta: i64) -> bool
+    ensures added { result ≡ true → Adds T.kind which delta entry.old entry.new }
+    ensures entry { result ≡ false → entry.new ≡ entry.old }
+{
+    let Some(kept) = T::kept(entry) else {
+        return false;
+    };
+    let Some(number) = kept.checked_add(delta) else {
+        return false;
+    };
+    if !T::is_field_number(which, number) {
+        return false;
+    }
+    T::replace(entry, kept, number);
+    true
+}
+
+/// The same by the field's type.
+#[inline(always)]
+fn add(kind: Kind, which: Part, entry: &mut Entry, delta: i64) -> bool
+    ensures added { result ≡ true → Adds kind which delta entry.old entry.new }
+    ensures entry { result ≡ false → entry.new ≡ entry.old }
+{
+    match kind {
+        Kind::UInt32 => add_as::<u32>(which, entry, delta),
+        Kind::Int32 => add_as::<i32>(which, entry, delta),
+        Kind::UInt64 => add_as::<u64>(which, entry, delta),
+        Kind::Int64 => add_as::<i64>(which, entry, delta),
+        Kind::Decimal | Kind::Ascii | Kind::Unicode | Kind::Bytes => false,
     }
 }
 
@@ -298,9 +387,10 @@ fn is_sent_unsigned(kind: Kind, operator: Operator) -> bool
     }
 }
 
-/// Judges a number that is spelled whole and was read.
+/// Judges a number that was read, where bit 1 spells it whole.
 #[inline(always)]
 fn judge_spelled(
+    unsigned: bool,
     kind: Kind,
     which: Part,
     instr: &FieldPart,
@@ -313,22 +403,18 @@ fn judge_spelled(
 ) -> Judged
     requires part { which ≡ instr.now.part }
     requires kind { kind ≡ instr.now.kind }
-    requires integer { IsTrue (is_integer kind) }
-    requires whole { SpellsWhole instr.now.operator }
-    requires stands { StandsFrom (values.is_unsigned kind) instr.now.presence bytes.now at first next number }
+    requires whole { SpellsWhole instr.now.operator → unsigned ≡ values.is_unsigned kind }
+    requires stands { StandsFrom unsigned instr.now.presence bytes.now at first next number }
     ensures place { IfJudged result (λ bit n. n ≡ next) }
     ensures judged { IfJudged result (λ bit n. (v : ScalarOf)
         × JudgesFrom bit instr.now entry.old entry.new v bytes.now at first next) }
     ensures behind { IfBehind result (λ needless n. ⊥) }
     ensures entry { IfNotJudged result (entry.new ≡ entry.old) }
 {
-    if !is_field_number(kind, which, number) {
-        return Judged::Elsewhere;
-    }
-    match judge_read(kind, instr, entry, number) {
-        Some(true) => Judged::Stands(next),
-        Some(false) => Judged::Given(next),
-        None => Judged::Elsewhere,
+    match judge_whole(kind, which, instr, entry, number) {
+        Verdict::Stands => Judged::Stands(next),
+        Verdict::Given => Judged::Given(next),
+        Verdict::Elsewhere => Judged::Elsewhere,
     }
 }
 
@@ -347,7 +433,6 @@ fn judge_delta(
 ) -> Judged
     requires part { which ≡ instr.now.part }
     requires kind { kind ≡ instr.now.kind }
-    requires integer { IsTrue (is_integer kind) }
     requires operator { instr.now.operator ≡ operator_type.Delta }
     requires stands { StandsFrom false instr.now.presence bytes.now at first next delta }
     ensures place { IfJudged result (λ bit n. n ≡ next) }
@@ -356,17 +441,11 @@ fn judge_delta(
     ensures behind { IfBehind result (λ needless n. ⊥) }
     ensures entry { IfNotJudged result (entry.new ≡ entry.old) }
 {
-    let Some(kept) = kept_number(kind, entry) else {
-        return Judged::Elsewhere;
-    };
-    let Some(number) = kept.checked_add(delta) else {
-        return Judged::Elsewhere;
-    };
-    if !is_field_number(kind, which, number) {
-        return Judged::Elsewhere;
+    if add(kind, which, entry, delta) {
+        Judged::Stands(next)
+    } else {
+        Judged::Elsewhere
     }
-    replace_number(kind, entry, kept, number);
-    Judged::Stands(next)
 }
 
 /// Judges a constant, which has no bytes.
@@ -403,7 +482,6 @@ fn judge_number(
 ) -> Judged
     requires part { which ≡ instr.now.part }
     requires kind { kind ≡ instr.now.kind }
-    requires integer { IsTrue (is_integer kind) }
     requires delta { instr.now.operator ≡ operator_type.Delta → unsigned ≡ false }
     requires whole { SpellsWhole instr.now.operator → unsigned ≡ values.is_unsigned kind }
     requires stands { StandsFrom unsigned instr.now.presence bytes.now at first next number }
@@ -415,10 +493,9 @@ fn judge_number(
 {
     match instr.operator {
         Operator::Delta => judge_delta(kind, which, instr, entry, number, bytes, at, first, next),
-        Operator::Plain | Operator::Default | Operator::Copy | Operator::Increment => {
-            judge_spelled(kind, which, instr, entry, number, bytes, at, first, next)
-        }
-        Operator::Constant | Operator::Tail => Judged::Elsewhere,
+        _ => judge_spelled(
+            unsigned, kind, which, instr, entry, number, bytes, at, first, next,
+        ),
     }
 }
 
@@ -539,7 +616,6 @@ fn judge_behind(
     requires within { next ≤ length bytes.now }
     requires part { which ≡ instr.now.part }
     requires kind { kind ≡ instr.now.kind }
-    requires integer { IsTrue (is_integer kind) }
     requires delta { instr.now.operator ≡ operator_type.Delta → unsigned ≡ false }
     requires whole { SpellsWhole instr.now.operator → unsigned ≡ values.is_unsigned kind }
     requires spelt { Spelt unsigned instr.now.presence (drop at bytes.now) number (drop next bytes.now) }
@@ -566,6 +642,17 @@ fn judge_behind(
     }
 }
 
+/// Whether a part is of a type. It is, as was seen when the templates were loaded; where it is asked here, nothing is asked
+/// of it behind.
+#[inline(always)]
+fn can_have(which: Part, kind: Kind) -> bool {
+    match which {
+        Part::Whole | Part::Length => true,
+        Part::Exponent => kind == Kind::Int32,
+        Part::Mantissa => kind == Kind::Int64,
+    }
+}
+
 /// Judges an integer.
 #[inline(always)]
 fn judge_integer(
@@ -579,7 +666,6 @@ fn judge_integer(
     requires place { at ≤ length bytes.now }
     requires part { which ≡ instr.now.part }
     requires kind { kind ≡ instr.now.kind }
-    requires integer { IsTrue (is_integer kind) }
     ensures place { IfJudged result (λ bit next. (at ≤ next) × (next ≤ length bytes.now)) }
     ensures judged { IfJudged result (λ bit next. (v : ScalarOf)
         × Judges bit instr.now entry.old entry.new v bytes.now at next) }
@@ -588,6 +674,9 @@ fn judge_integer(
         × JudgesFrom true instr.now entry.old entry.new v bytes.now at (at + needless) next) }
     ensures entry { IfNotJudged result (entry.new ≡ entry.old) }
 {
+    if !can_have(which, kind) {
+        return Judged::Elsewhere;
+    }
     // read once for all operators, so that the whole is small enough to be inlined
     let unsigned = is_sent_unsigned(kind, instr.operator);
     let Some((number, next)) = read_number(unsigned, instr.presence, bytes, at) else {

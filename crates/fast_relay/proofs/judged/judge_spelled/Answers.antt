@@ -6,30 +6,32 @@ use Rattle.fast_value.specs.Scalar.{of_integer}
 use Rattle.fast_relay.proofs.Judging.{whole_given, whole_stands}
 use Rattle.fast_relay.proofs.judged.judge_spelled.Goals as goal
 
-pub returns-in-Some-true-clause-judged : goal.returns-in-Some-true-clause-judged
-returns-in-Some-true-clause-judged c =
+pub returns-in-Stands-clause-judged : goal.returns-in-Stands-clause-judged
+returns-in-Stands-clause-judged c =
     let k = c.args.kind in
     let z = c.args.number in
     let fits : FitsSigned w64 z = search rules in
-    let same = to_z-of_z w64 z fits in (
+    let same = to_z-of_z w64 z fits in
+    let whole = c.in-Stands.ensures.whole in (
       of_integer k z,
-      whole_stands k c.args.instr.now c.args.entry.now c.judge_read.new.entry z c.args.bytes.now c.args.at c.args.first c.args.next
-          c.requires.kind c.requires.whole
-          (rw (same, c.requires.part) at (c.is_field_number.ensures c.if-not-is_field_number.false))
-          c.requires.stands
-          (rw (same, c.in-Some-true.field-0-test) at c.in-Some-true.ensures.leaves),
+      whole_stands k c.args.instr.now c.args.entry.now c.judge_whole.new.entry z c.args.bytes.now c.args.at c.args.first c.args.next
+          c.requires.kind whole
+          (rw (same, c.requires.part) at c.in-Stands.ensures.number)
+          (rw (c.requires.whole whole) at c.requires.stands)
+          (rw same at c.in-Stands.ensures.leaves),
     )
 
-pub returns-in-Some-false-clause-judged : goal.returns-in-Some-false-clause-judged
-returns-in-Some-false-clause-judged c =
+pub returns-in-Given-clause-judged : goal.returns-in-Given-clause-judged
+returns-in-Given-clause-judged c =
     let k = c.args.kind in
     let z = c.args.number in
     let fits : FitsSigned w64 z = search rules in
-    let same = to_z-of_z w64 z fits in (
+    let same = to_z-of_z w64 z fits in
+    let whole = c.in-Given.ensures.whole in (
       of_integer k z,
-      whole_given k c.args.instr.now c.args.entry.now c.judge_read.new.entry z c.args.bytes.now c.args.at c.args.first c.args.next
-          c.requires.kind c.requires.whole
-          (rw (same, c.requires.part) at (c.is_field_number.ensures c.if-not-is_field_number.false))
-          c.requires.stands
-          (rw (same, c.in-Some-false.field-0-test) at c.in-Some-false.ensures.leaves),
+      whole_given k c.args.instr.now c.args.entry.now c.judge_whole.new.entry z c.args.bytes.now c.args.at c.args.first c.args.next
+          c.requires.kind whole
+          (rw (same, c.requires.part) at c.in-Given.ensures.number)
+          (rw (c.requires.whole whole) at c.requires.stands)
+          (rw same at c.in-Given.ensures.leaves),
     )
