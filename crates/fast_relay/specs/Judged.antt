@@ -23,8 +23,6 @@ use Rattle.fast_relay.specs.Relayed.{Drops, Relays}
 use Rattle.fast_relay.specs.Texts.{IsText}
 use Rattle.fast_relay.specs.declared.judged.Judged.{Judged}
 use Rattle.fast_relay.specs.declared.judged.Judged.TheVariants.{Stands, Behind, BehindTwo, Given, Elsewhere}
-use Rattle.fast_relay.specs.declared.judged.Verdict.{Verdict}
-use Rattle.fast_relay.specs.declared.judged.Verdict.TheVariants as verdict
 
 -- the bytes from one place to another give the value under bit 1, and the entry is the one afterwards: those from `first`
 -- on are the value's best form, or its best form is bit 0 and no byte
@@ -63,17 +61,6 @@ IfNotJudged (Given next) holds = ⊤
 IfNotJudged Elsewhere holds = holds
 
 -- ---- No public clause names these.
-
--- what holds of the bit of the best form of a number, where it was told
-abbrev pub IfTold : Verdict → (Bool → Type 0) → Type 0
-IfTold verdict.Stands holds = holds true
-IfTold verdict.Given holds = holds false
-IfTold verdict.Elsewhere holds = ⊤
-
--- what holds where it was not
-abbrev pub IfNotTold : Verdict → Type 0 → Type 0
-IfNotTold verdict.Elsewhere holds = holds
-IfNotTold v holds = ⊤
 
 -- a difference is added to the number that the entry has, and the sum is one that the field can have
 pub record Adds (k : Kind) (p : Part) (d : ℤ) (old new : Entry) : Type 0 where

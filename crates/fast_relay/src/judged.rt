@@ -2,9 +2,10 @@
 //! and nothing is written. Here are integers and constants, and the way to the others; what is not judged goes by the calls
 //! that write.
 
-ghost use Rattle.std.specs.Prelude.{◌≡◌, ◌≤◌, ◌+◌, ℕ, Some, true, false, not, length, drop, slice_range, IfNone, IfSome, IsTrue};
+ghost use Rattle.std.specs.Prelude.{◌≡◌, ◌≤◌, ◌+◌, Some, true, false, not, length, drop, slice_range, IfSome};
 ghost use Rattle.fast_value.specs.Scalar.{of_integer};
 ghost use Rattle.fast_value.specs.declared.kind.Operator.TheVariants as operator_type;
+ghost use Rattle.fast_value.specs.declared.kind.Part.TheVariants as part_type;
 ghost use Rattle.fast_value.specs.declared.scalar.Scalar.{Scalar as ScalarOf};
 ghost use Rattle.fast_wire.specs.Entity.{IsEntity};
 ghost use Rattle.fast_field.specs.Numbers.{IsFieldNumber, IsNumber, Predicts};
@@ -13,7 +14,7 @@ ghost use Rattle.fast_field.specs.Planning.{is_same};
 ghost use Rattle.fast_field.specs.Spelled.{overlong_number};
 ghost use Rattle.fast_field.specs.Values as values;
 ghost use Rattle.fast_field.specs.Within.{HoldsScalar};
-ghost use Rattle.fast_relay.specs.Judged.{Adds, IfBehind, IfJudged, IfNotJudged, IfNotTold, IfTold, Judges, JudgesFrom, Leaves, StandsAt, StandsFrom};
+ghost use Rattle.fast_relay.specs.Judged.{Adds, IfBehind, IfJudged, IfNotJudged, Judges, JudgesFrom, Leaves, StandsAt, StandsFrom};
 ghost use Rattle.fast_relay.specs.Numbers.{SpellsWhole, Spelt};
 
 use crate::integers::{is_overlong, is_unsigned};
@@ -21,7 +22,7 @@ use crate::judged_decimal::judge_decimal;
 use crate::judged_string::judge_string;
 use crate::judged_vector::judge_vector;
 use crate::passed::can_begin;
-use crate::short_number::{ShortInteger, number_after};
+use crate::short_number::ShortInteger;
 use fast_dictionary::Entry;
 use fast_field::set_number;
 use fast_template::{FieldPart, Kind, Operator, Part, Presence};
@@ -39,17 +40,6 @@ pub enum Judged {
     BehindTwo(usize),
     /// Bit 0, which gives the value with no byte.
     Given(usize),
-    /// Nothing has changed: another way tells.
-    Elsewhere,
-}
-
-/// What the best form is of a number that was read under bit 1, wherever it stands.
-#[derive(Clone, Copy, Debug, PartialEq, Eq, Drop)]
-pub(crate) enum Verdict {
-    /// The number as it is spelled.
-    Stands,
-    /// Bit 0, which gives it.
-    Given,
     /// Nothing has changed: another way tells.
     Elsewhere,
 }
@@ -186,91 +176,115 @@ pub(crate) fn read_shortest(
 
 /// Judges a number where bit 0 gives the initial value.
 #[inline(always)]
-fn judge_initial<T: ShortInteger>(instr: &FieldPart, number: i64) -> Verdict
+fn judge_initial<T: ShortInteger>(instr: &FieldPart, number: i64, next: usize) -> Judged
     requires { IsNumber T.kind number }
-    ensures { IfTold result (λ bit. is_same instr.now.initial (Some (of_integer T.kind number)) ≡ not bit) }
+    ensures place { IfJudged result (λ bit n. n ≡ next) }
+    ensures same { IfJudged result (λ bit n. is_same instr.now.initial (Some (of_integer T.kind number)) ≡ not bit) }
+    ensures behind { IfBehind result (λ needless n. ⊥) }
 {
     match &instr.initial {
-        None => Verdict::Stands,
+        None => Judged::Stands(next),
         Some(initial) => match T::of(initial.value()) {
-            Some(given) if given == number => Verdict::Given,
-            Some(_) => Verdict::Stands,
-            None => Verdict::Elsewhere,
+            Some(given) if given == number => Judged::Given(next),
+            Some(_) => Judged::Stands(next),
+            None => Judged::Elsewhere,
         },
     }
 }
 
 /// Judges a number where the entry has none; it then has this one. (A call of its own, since it is rare.)
 #[inline(never)]
-fn judge_first<T: ShortInteger>(instr: &FieldPart, entry: &mut Entry, number: i64) -> Verdict
+fn judge_first<T: ShortInteger>(
+    instr: &FieldPart,
+    entry: &mut Entry,
+    number: i64,
+    next: usize,
+) -> Judged
     requires kind { T.kind ≡ instr.now.kind }
     requires predicts { Predicts instr.now.operator }
     requires whole { SpellsWhole instr.now.operator }
     requires number { IsNumber T.kind number }
-    ensures leaves { IfTold result (λ bit. Leaves bit instr.now entry.old entry.new (of_integer T.kind number)) }
-    ensures entry { IfNotTold result (entry.new ≡ entry.old) }
+    ensures place { IfJudged result (λ bit n. n ≡ next) }
+    ensures leaves { IfJudged result (λ bit n. Leaves bit instr.now entry.old entry.new (of_integer T.kind number)) }
+    ensures behind { IfBehind result (λ needless n. ⊥) }
+    ensures entry { IfNotJudged result (entry.new ≡ entry.old) }
 {
     match entry {
         Entry::Empty => {
             set_number(instr.kind, entry, i128::from(number));
-            Verdict::Stands
+            Judged::Stands(next)
         }
         // bit 0 gives the initial value, also by increment
-        Entry::Undefined => match judge_initial::<T>(instr, number) {
-            Verdict::Stands => {
+        Entry::Undefined => match judge_initial::<T>(instr, number, next) {
+            Judged::Stands(_next) => {
                 set_number(instr.kind, entry, i128::from(number));
-                Verdict::Stands
+                Judged::Stands(next)
             }
-            Verdict::Given => {
+            Judged::Given(_next) => {
                 set_number(instr.kind, entry, i128::from(number));
-                Verdict::Given
+                Judged::Given(next)
             }
-            Verdict::Elsewhere => Verdict::Elsewhere,
+            Judged::Behind(_) | Judged::BehindTwo(_) => unreachable!(),
+            Judged::Elsewhere => Judged::Elsewhere,
         },
-        Entry::Assigned(_) => Verdict::Elsewhere,
+        Entry::Assigned(_) => Judged::Elsewhere,
     }
 }
 
 /// Judges a number by the one that the entry has; it then has this one.
 #[inline(always)]
-fn judge_copy<T: ShortInteger>(instr: &FieldPart, entry: &mut Entry, number: i64) -> Verdict
+fn judge_copy<T: ShortInteger>(
+    instr: &FieldPart,
+    entry: &mut Entry,
+    number: i64,
+    next: usize,
+) -> Judged
     requires kind { T.kind ≡ instr.now.kind }
     requires operator { instr.now.operator ≡ operator_type.Copy }
     requires number { IsNumber T.kind number }
-    ensures leaves { IfTold result (λ bit. Leaves bit instr.now entry.old entry.new (of_integer T.kind number)) }
-    ensures entry { IfNotTold result (entry.new ≡ entry.old) }
+    ensures place { IfJudged result (λ bit n. n ≡ next) }
+    ensures leaves { IfJudged result (λ bit n. Leaves bit instr.now entry.old entry.new (of_integer T.kind number)) }
+    ensures behind { IfBehind result (λ needless n. ⊥) }
+    ensures entry { IfNotJudged result (entry.new ≡ entry.old) }
 {
     let Some(kept) = T::kept(entry) else {
-        return judge_first::<T>(instr, entry, number);
+        return judge_first::<T>(instr, entry, number, next);
     };
     if kept == number {
-        return Verdict::Given;
+        return Judged::Given(next);
     }
     T::replace(entry, kept, number);
-    Verdict::Stands
+    Judged::Stands(next)
 }
 
 /// Judges a number by the one that follows the entry's; it then has this one.
 #[inline(always)]
-fn judge_increment<T: ShortInteger>(instr: &FieldPart, entry: &mut Entry, number: i64) -> Verdict
+fn judge_increment<T: ShortInteger>(
+    instr: &FieldPart,
+    entry: &mut Entry,
+    number: i64,
+    next: usize,
+) -> Judged
     requires kind { T.kind ≡ instr.now.kind }
     requires operator { instr.now.operator ≡ operator_type.Increment }
     requires number { IsNumber T.kind number }
-    ensures leaves { IfTold result (λ bit. Leaves bit instr.now entry.old entry.new (of_integer T.kind number)) }
-    ensures entry { IfNotTold result (entry.new ≡ entry.old) }
+    ensures place { IfJudged result (λ bit n. n ≡ next) }
+    ensures leaves { IfJudged result (λ bit n. Leaves bit instr.now entry.old entry.new (of_integer T.kind number)) }
+    ensures behind { IfBehind result (λ needless n. ⊥) }
+    ensures entry { IfNotJudged result (entry.new ≡ entry.old) }
 {
     let Some(kept) = T::kept(entry) else {
-        return judge_first::<T>(instr, entry, number);
+        return judge_first::<T>(instr, entry, number, next);
     };
     // the least number follows the greatest
-    let Some(following) = number_after::<T>(kept) else {
-        return Verdict::Elsewhere;
-    };
+    if kept >= T::greatest() {
+        return Judged::Elsewhere;
+    }
     T::replace(entry, kept, number);
-    if following == number {
-        Verdict::Given
+    if kept + 1 == number {
+        Judged::Given(next)
     } else {
-        Verdict::Stands
+        Judged::Stands(next)
     }
 }
 
@@ -280,19 +294,22 @@ pub(crate) fn judge_read<T: ShortInteger>(
     instr: &FieldPart,
     entry: &mut Entry,
     number: i64,
-) -> Verdict
+    next: usize,
+) -> Judged
     requires kind { T.kind ≡ instr.now.kind }
     requires number { IsNumber T.kind number }
-    ensures whole { IfTold result (λ bit. SpellsWhole instr.now.operator) }
-    ensures leaves { IfTold result (λ bit. Leaves bit instr.now entry.old entry.new (of_integer T.kind number)) }
-    ensures entry { IfNotTold result (entry.new ≡ entry.old) }
+    ensures place { IfJudged result (λ bit n. n ≡ next) }
+    ensures whole { IfJudged result (λ bit n. SpellsWhole instr.now.operator) }
+    ensures leaves { IfJudged result (λ bit n. Leaves bit instr.now entry.old entry.new (of_integer T.kind number)) }
+    ensures behind { IfBehind result (λ needless n. ⊥) }
+    ensures entry { IfNotJudged result (entry.new ≡ entry.old) }
 {
     match instr.operator {
-        Operator::Plain => Verdict::Stands,
-        Operator::Default => judge_initial::<T>(instr, number),
-        Operator::Copy => judge_copy::<T>(instr, entry, number),
-        Operator::Increment => judge_increment::<T>(instr, entry, number),
-        Operator::Constant | Operator::Delta | Operator::Tail => Verdict::Elsewhere,
+        Operator::Plain => Judged::Stands(next),
+        Operator::Default => judge_initial::<T>(instr, number, next),
+        Operator::Copy => judge_copy::<T>(instr, entry, number, next),
+        Operator::Increment => judge_increment::<T>(instr, entry, number, next),
+        Operator::Constant | Operator::Delta | Operator::Tail => Judged::Elsewhere,
     }
 }
 
@@ -303,17 +320,20 @@ fn judge_as<T: ShortInteger>(
     instr: &FieldPart,
     entry: &mut Entry,
     number: i64,
-) -> Verdict
+    next: usize,
+) -> Judged
     requires kind { T.kind ≡ instr.now.kind }
-    ensures whole { IfTold result (λ bit. SpellsWhole instr.now.operator) }
-    ensures number { IfTold result (λ bit. IsFieldNumber T.kind which number) }
-    ensures leaves { IfTold result (λ bit. Leaves bit instr.now entry.old entry.new (of_integer T.kind number)) }
-    ensures entry { IfNotTold result (entry.new ≡ entry.old) }
+    ensures place { IfJudged result (λ bit n. n ≡ next) }
+    ensures whole { IfJudged result (λ bit n. SpellsWhole instr.now.operator) }
+    ensures number { IfJudged result (λ bit n. IsFieldNumber T.kind which number) }
+    ensures leaves { IfJudged result (λ bit n. Leaves bit instr.now entry.old entry.new (of_integer T.kind number)) }
+    ensures behind { IfBehind result (λ needless n. ⊥) }
+    ensures entry { IfNotJudged result (entry.new ≡ entry.old) }
 {
     if T::is_field_number(which, number) {
-        judge_read::<T>(instr, entry, number)
+        judge_read::<T>(instr, entry, number, next)
     } else {
-        Verdict::Elsewhere
+        Judged::Elsewhere
     }
 }
 
@@ -325,19 +345,22 @@ fn judge_whole(
     instr: &FieldPart,
     entry: &mut Entry,
     number: i64,
-) -> Verdict
+    next: usize,
+) -> Judged
     requires kind { kind ≡ instr.now.kind }
-    ensures whole { IfTold result (λ bit. SpellsWhole instr.now.operator) }
-    ensures number { IfTold result (λ bit. IsFieldNumber kind which number) }
-    ensures leaves { IfTold result (λ bit. Leaves bit instr.now entry.old entry.new (of_integer kind number)) }
-    ensures entry { IfNotTold result (entry.new ≡ entry.old) }
+    ensures place { IfJudged result (λ bit n. n ≡ next) }
+    ensures whole { IfJudged result (λ bit n. SpellsWhole instr.now.operator) }
+    ensures number { IfJudged result (λ bit n. IsFieldNumber kind which number) }
+    ensures leaves { IfJudged result (λ bit n. Leaves bit instr.now entry.old entry.new (of_integer kind number)) }
+    ensures behind { IfBehind result (λ needless n. ⊥) }
+    ensures entry { IfNotJudged result (entry.new ≡ entry.old) }
 {
     match kind {
-        Kind::UInt32 => judge_as::<u32>(which, instr, entry, number),
-        Kind::Int32 => judge_as::<i32>(which, instr, entry, number),
-        Kind::UInt64 => judge_as::<u64>(which, instr, entry, number),
-        Kind::Int64 => judge_as::<i64>(which, instr, entry, number),
-        Kind::Decimal | Kind::Ascii | Kind::Unicode | Kind::Bytes => Verdict::Elsewhere,
+        Kind::UInt32 => judge_as::<u32>(which, instr, entry, number, next),
+        Kind::Int32 => judge_as::<i32>(which, instr, entry, number, next),
+        Kind::UInt64 => judge_as::<u64>(which, instr, entry, number, next),
+        Kind::Int64 => judge_as::<i64>(which, instr, entry, number, next),
+        Kind::Decimal | Kind::Ascii | Kind::Unicode | Kind::Bytes => Judged::Elsewhere,
     }
 }
 
@@ -411,11 +434,7 @@ fn judge_spelled(
     ensures behind { IfBehind result (λ needless n. ⊥) }
     ensures entry { IfNotJudged result (entry.new ≡ entry.old) }
 {
-    match judge_whole(kind, which, instr, entry, number) {
-        Verdict::Stands => Judged::Stands(next),
-        Verdict::Given => Judged::Given(next),
-        Verdict::Elsewhere => Judged::Elsewhere,
-    }
+    judge_whole(kind, which, instr, entry, number, next)
 }
 
 /// Judges what is added to the number that the entry has, and was read.
@@ -642,10 +661,11 @@ fn judge_behind(
     }
 }
 
-/// Whether a part is of a type. It is, as was seen when the templates were loaded; where it is asked here, nothing is asked
-/// of it behind.
+/// Whether a part can be of a type. Those of a decimal are of one each, so that nothing is asked of it behind here.
 #[inline(always)]
-fn can_have(which: Part, kind: Kind) -> bool {
+fn can_have(which: Part, kind: Kind) -> bool
+    ensures { which ≡ part_type.Whole → result ≡ true }
+{
     match which {
         Part::Whole | Part::Length => true,
         Part::Exponent => kind == Kind::Int32,

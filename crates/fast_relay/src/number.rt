@@ -7,7 +7,7 @@ ghost use Rattle.fast_relay.specs.Numbers.{SpellsWhole};
 ghost use Rattle.fast_relay.specs.Relayed.{RelaysAs};
 ghost use Rattle.fast_relay.specs.Runs.{IsRun, Stays, written};
 
-use crate::judged::{Verdict, judge_read, read_standing};
+use crate::judged::{Judged, judge_read, read_standing};
 use crate::run::Run;
 use crate::short_number::ShortInteger;
 use fast_dictionary::Entry;
@@ -57,16 +57,17 @@ pub fn relay_unsigned(
     if !out.flush(bytes) {
         return None;
     }
-    match judge_read::<u32>(instr, entry, number) {
-        Verdict::Stands => {
+    match judge_read::<u32>(instr, entry, number, next) {
+        Judged::Stands(_next) => {
             out.begin(first);
             out.keep(next);
             Some((number as u32, true, next))
         }
-        Verdict::Given => {
+        Judged::Given(_next) => {
             out.begin(next);
             Some((number as u32, false, next))
         }
-        Verdict::Elsewhere => None,
+        Judged::Behind(_) | Judged::BehindTwo(_) => unreachable!(),
+        Judged::Elsewhere => None,
     }
 }

@@ -1,5 +1,5 @@
-//! What bit 0 gives of an entry, with the integer types as one case, so that a loop over fields has room for it. What is not
-//! served here is `pass_left_out` of `fast_field`.
+//! What bit 0 gives of an entry, with so little code that a loop over fields has room for it. What is not served here is
+//! `pass_left_out` of `fast_field`.
 
 ghost use Rattle.std.specs.Prelude.{◌≡◌, Some, IsTrue, true};
 ghost use Rattle.fast_value.specs.Scalar.{is_of};
@@ -10,7 +10,7 @@ ghost use Rattle.fast_field.specs.Numbers.{Predicts, Repeats};
 ghost use Rattle.fast_field.specs.Parts.{IsFieldPart};
 ghost use Rattle.fast_field.specs.Passed.{IsPassed};
 
-use crate::short_number::{ShortInteger, number_after};
+use crate::short_number::ShortInteger;
 use fast_dictionary::Entry;
 use fast_field::{Passed, fits};
 use fast_template::{FieldPart, Kind, Operator, Part, Presence, Scalar};
@@ -112,13 +112,10 @@ fn pass_next<T: ShortInteger>(which: Part, instr: &FieldPart, entry: &mut Entry)
     let Some(kept) = T::kept(entry) else {
         return pass_empty(instr, entry);
     };
-    let Some(number) = number_after::<T>(kept) else {
-        return Passed::Elsewhere;
-    };
-    if !T::is_field_number(which, number) {
+    if kept >= T::greatest() || !T::is_field_number(which, kept + 1) {
         return Passed::Elsewhere;
     }
-    T::replace(entry, kept, number);
+    T::replace(entry, kept, kept + 1);
     Passed::Present
 }
 

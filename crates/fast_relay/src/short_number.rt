@@ -5,7 +5,7 @@ ghost use Rattle.fast_value.specs.Scalar.{greatest_of, of_integer};
 ghost use Rattle.fast_value.specs.declared.kind.Kind.{Kind as KindOf};
 ghost use Rattle.fast_value.specs.declared.kind.Kind.TheVariants as kind_type;
 ghost use Rattle.fast_dictionary.specs.declared.entry.Entry.TheVariants as entry_type;
-ghost use Rattle.fast_field.specs.Numbers.{HasNumber, IsFieldNumber, IsNumber, IsNumberOf, next_number};
+ghost use Rattle.fast_field.specs.Numbers.{HasNumber, IsFieldNumber, IsNumber, IsNumberOf};
 
 use fast_dictionary::Entry;
 use fast_template::{Part, Scalar};
@@ -216,19 +216,5 @@ impl ShortInteger for i64 {
     #[inline(always)]
     fn greatest() -> i64 {
         i64::MAX
-    }
-}
-
-/// One more; none behind the greatest.
-#[inline(always)]
-pub(crate) fn number_after<T: ShortInteger>(number: i64) -> Option<i64>
-    requires { IsNumber T.kind number }
-    ensures value { IfSome result (λ n. n ≡ next_number T.kind number) }
-    ensures number { IfSome result (IsNumber T.kind) }
-{
-    if number < T::greatest() {
-        Some(number + 1)
-    } else {
-        None
     }
 }
