@@ -1,17 +1,20 @@
 -- A field whose bytes are judged as they stand: they are the best form of their value, or bit 0 is. (Own.)
-use Rattle.std.specs.Prelude.{◌≡◌, ◌≤◌, ℕ, ℤ, Bool, true, false, not, List, ◌++◌, drop, slice_range, Some, Ok, IsTrue, ⊤}
+use Rattle.std.specs.Prelude.{◌≡◌, ◌≤◌, ◌+ℤ◌, ℕ, ℤ, Bool, true, false, not, List, ◌++◌, drop, slice_range, Some, Ok, IsTrue, ⊤}
 use Rattle.fast_wire.specs.declared.level.Level.TheVariants.{Usual}
 use Rattle.fast_wire.specs.declared.nullable.Nullable.TheVariants.{Value}
-use Rattle.fast_value.specs.Scalar.{is_of}
+use Rattle.fast_value.specs.Scalar.{is_of, of_integer}
 use Rattle.fast_value.specs.declared.kind.Kind.{Kind}
+use Rattle.fast_value.specs.declared.kind.Part.{Part}
 use Rattle.fast_value.specs.declared.kind.Presence.{Presence}
 use Rattle.fast_value.specs.declared.kind.Presence.TheVariants.{Mandatory, Optional}
 use Rattle.fast_value.specs.declared.scalar.Scalar.{Scalar}
 use Rattle.fast_template.specs.declared.resolved.FieldPart.{FieldPart}
 use Rattle.fast_dictionary.specs.declared.entry.Entry.{Entry}
+use Rattle.fast_dictionary.specs.declared.entry.Entry.TheVariants.{Assigned}
 use Rattle.fast_field.specs.Bases.{next}
 use Rattle.fast_field.specs.Chosen.{ShortestUnits}
 use Rattle.fast_field.specs.FieldReading.{units_at}
+use Rattle.fast_field.specs.Numbers.{HasNumber, IsFieldNumber}
 use Rattle.fast_field.specs.Planning.{left_out_of}
 use Rattle.fast_field.specs.Spelled.{SpellsIntegerUsually, overlong_number}
 use Rattle.fast_field.specs.Values.{of_units}
@@ -58,6 +61,13 @@ IfNotJudged (Given next) holds = ⊤
 IfNotJudged Elsewhere holds = holds
 
 -- ---- No public clause names these.
+
+-- a difference is added to the number that the entry has, and the sum is one that the field can have
+pub record Adds (k : Kind) (p : Part) (d : ℤ) (old new : Entry) : Type 0 where
+  pub number : ℤ
+  pub kept : HasNumber k old number
+  pub sum : IsFieldNumber k p (number +ℤ d)
+  pub entry : new ≡ Assigned (of_integer k (number +ℤ d))
 
 -- the bytes from one place to another spell a number, and those from `first` on are its shortest form
 pub record StandsFrom (unsigned : Bool) (p : Presence) (bytes : List ℕ) (at first next : ℕ) (z : ℤ) : Type 0 where

@@ -2,18 +2,19 @@
 //! and nothing is written. Here are integers and constants, and the way to the others; what is not judged goes by the calls
 //! that write.
 
-ghost use Rattle.std.specs.Prelude.{◌≡◌, ◌≤◌, ◌+◌, ℕ, Some, true, false, not, length, drop, slice_range, IfNone, IfSome, IsTrue};
-ghost use Rattle.fast_value.specs.Scalar.{is_integer, of_integer};
+ghost use Rattle.std.specs.Prelude.{◌≡◌, ◌≤◌, ◌+◌, Some, true, false, not, length, drop, slice_range, IfSome};
+ghost use Rattle.fast_value.specs.Scalar.{of_integer};
 ghost use Rattle.fast_value.specs.declared.kind.Operator.TheVariants as operator_type;
+ghost use Rattle.fast_value.specs.declared.kind.Part.TheVariants as part_type;
 ghost use Rattle.fast_value.specs.declared.scalar.Scalar.{Scalar as ScalarOf};
 ghost use Rattle.fast_wire.specs.Entity.{IsEntity};
-ghost use Rattle.fast_field.specs.Numbers.{IsNumber, Predicts};
+ghost use Rattle.fast_field.specs.Numbers.{IsFieldNumber, IsNumber, Predicts};
 ghost use Rattle.fast_field.specs.Parts.{IsFieldPart};
 ghost use Rattle.fast_field.specs.Planning.{is_same};
 ghost use Rattle.fast_field.specs.Spelled.{overlong_number};
 ghost use Rattle.fast_field.specs.Values as values;
 ghost use Rattle.fast_field.specs.Within.{HoldsScalar};
-ghost use Rattle.fast_relay.specs.Judged.{IfBehind, IfJudged, IfNotJudged, Judges, JudgesFrom, Leaves, StandsAt, StandsFrom};
+ghost use Rattle.fast_relay.specs.Judged.{Adds, IfBehind, IfJudged, IfNotJudged, Judges, JudgesFrom, Leaves, StandsAt, StandsFrom};
 ghost use Rattle.fast_relay.specs.Numbers.{SpellsWhole, Spelt};
 
 use crate::integers::{is_overlong, is_unsigned};
@@ -21,7 +22,7 @@ use crate::judged_decimal::judge_decimal;
 use crate::judged_string::judge_string;
 use crate::judged_vector::judge_vector;
 use crate::passed::can_begin;
-use crate::short_number::{is_field_number, kept_number, number_of, replace_number};
+use crate::short_number::ShortInteger;
 use fast_dictionary::Entry;
 use fast_field::set_number;
 use fast_template::{FieldPart, Kind, Operator, Part, Presence};
@@ -173,116 +174,227 @@ pub(crate) fn read_shortest(
     }
 }
 
-/// The bit of the best form of a number, where bit 0 gives the initial value.
+/// Judges a number where bit 0 gives the initial value.
 #[inline(always)]
-fn judge_initial(kind: Kind, instr: &FieldPart, number: i64) -> Option<bool>
-    requires integer { IsTrue (is_integer kind) }
-    requires number { IsNumber kind number }
-    ensures { IfSome result (λ bit. is_same instr.now.initial (Some (of_integer kind number)) ≡ not bit) }
+fn judge_initial<T: ShortInteger>(instr: &FieldPart, number: i64, next: usize) -> Judged
+    requires { IsNumber T.kind number }
+    ensures place { IfJudged result (λ bit n. n ≡ next) }
+    ensures same { IfJudged result (λ bit n. is_same instr.now.initial (Some (of_integer T.kind number)) ≡ not bit) }
+    ensures behind { IfBehind result (λ needless n. ⊥) }
 {
     match &instr.initial {
-        None => Some(true),
-        Some(initial) => match number_of(kind, initial.value()) {
-            Some(given) => Some(given != number),
-            None => None,
+        None => Judged::Stands(next),
+        Some(initial) => match T::of(initial.value()) {
+            Some(given) if given == number => Judged::Given(next),
+            Some(_) => Judged::Stands(next),
+            None => Judged::Elsewhere,
         },
     }
 }
 
-/// The bit of the best form of a number where the entry has none; it then has this one. (A call of its own, since it is rare.)
+/// Judges a number where the entry has none; it then has this one. (A call of its own, since it is rare.)
 #[inline(never)]
-fn judge_first(kind: Kind, instr: &FieldPart, entry: &mut Entry, number: i64) -> Option<bool>
-    requires kind { kind ≡ instr.now.kind }
-    requires integer { IsTrue (is_integer kind) }
-    requires predicts { Predicts instr.now.operator }
-    requires whole { SpellsWhole instr.now.operator }
-    requires number { IsNumber kind number }
-    ensures leaves { IfSome result (λ bit. Leaves bit instr.now entry.old entry.new (of_integer kind number)) }
-    ensures entry { IfNone result (entry.new ≡ entry.old) }
-{
-    match entry {
-        Entry::Empty => {
-            set_number(kind, entry, i128::from(number));
-            Some(true)
-        }
-        // bit 0 gives the initial value, also by increment
-        Entry::Undefined => {
-            let Some(bit) = judge_initial(kind, instr, number) else {
-                return None;
-            };
-            set_number(kind, entry, i128::from(number));
-            Some(bit)
-        }
-        Entry::Assigned(_) => None,
-    }
-}
-
-/// The bit of the best form of a number, by the one that the entry has; it then has this one.
-#[inline(always)]
-fn judge_copy(kind: Kind, instr: &FieldPart, entry: &mut Entry, number: i64) -> Option<bool>
-    requires kind { kind ≡ instr.now.kind }
-    requires integer { IsTrue (is_integer kind) }
-    requires operator { instr.now.operator ≡ operator_type.Copy }
-    requires number { IsNumber kind number }
-    ensures leaves { IfSome result (λ bit. Leaves bit instr.now entry.old entry.new (of_integer kind number)) }
-    ensures entry { IfNone result (entry.new ≡ entry.old) }
-{
-    let Some(kept) = kept_number(kind, entry) else {
-        return judge_first(kind, instr, entry, number);
-    };
-    if kept == number {
-        return Some(false);
-    }
-    replace_number(kind, entry, kept, number);
-    Some(true)
-}
-
-/// The bit of the best form of a number, by the one that follows the entry's; it then has this one.
-#[inline(always)]
-fn judge_increment(kind: Kind, instr: &FieldPart, entry: &mut Entry, number: i64) -> Option<bool>
-    requires kind { kind ≡ instr.now.kind }
-    requires integer { IsTrue (is_integer kind) }
-    requires operator { instr.now.operator ≡ operator_type.Increment }
-    requires number { IsNumber kind number }
-    ensures leaves { IfSome result (λ bit. Leaves bit instr.now entry.old entry.new (of_integer kind number)) }
-    ensures entry { IfNone result (entry.new ≡ entry.old) }
-{
-    let Some(kept) = kept_number(kind, entry) else {
-        return judge_first(kind, instr, entry, number);
-    };
-    let Some(following) = kept.checked_add(1) else {
-        return None;
-    };
-    // the least number follows the greatest
-    if !is_field_number(kind, Part::Whole, following) {
-        return None;
-    }
-    replace_number(kind, entry, kept, number);
-    Some(following != number)
-}
-
-/// The bit of the best form of a number that was spelled whole; the entry goes on. None: nothing has changed, and another
-/// way tells.
-#[inline(always)]
-pub(crate) fn judge_read(
-    kind: Kind,
+fn judge_first<T: ShortInteger>(
     instr: &FieldPart,
     entry: &mut Entry,
     number: i64,
-) -> Option<bool>
-    requires kind { kind ≡ instr.now.kind }
-    requires integer { IsTrue (is_integer kind) }
+    next: usize,
+) -> Judged
+    requires kind { T.kind ≡ instr.now.kind }
+    requires predicts { Predicts instr.now.operator }
     requires whole { SpellsWhole instr.now.operator }
-    requires number { IsNumber kind number }
-    ensures leaves { IfSome result (λ bit. Leaves bit instr.now entry.old entry.new (of_integer kind number)) }
-    ensures entry { IfNone result (entry.new ≡ entry.old) }
+    requires number { IsNumber T.kind number }
+    ensures place { IfJudged result (λ bit n. n ≡ next) }
+    ensures leaves { IfJudged result (λ bit n. Leaves bit instr.now entry.old entry.new (of_integer T.kind number)) }
+    ensures behind { IfBehind result (λ needless n. ⊥) }
+    ensures entry { IfNotJudged result (entry.new ≡ entry.old) }
+{
+    match entry {
+        Entry::Empty => {
+            set_number(instr.kind, entry, i128::from(number));
+            Judged::Stands(next)
+        }
+        // bit 0 gives the initial value, also by increment
+        Entry::Undefined => match judge_initial::<T>(instr, number, next) {
+            Judged::Stands(_next) => {
+                set_number(instr.kind, entry, i128::from(number));
+                Judged::Stands(next)
+            }
+            Judged::Given(_next) => {
+                set_number(instr.kind, entry, i128::from(number));
+                Judged::Given(next)
+            }
+            Judged::Behind(_) | Judged::BehindTwo(_) => unreachable!(),
+            Judged::Elsewhere => Judged::Elsewhere,
+        },
+        Entry::Assigned(_) => Judged::Elsewhere,
+    }
+}
+
+/// Judges a number by the one that the entry has; it then has this one.
+#[inline(always)]
+fn judge_copy<T: ShortInteger>(
+    instr: &FieldPart,
+    entry: &mut Entry,
+    number: i64,
+    next: usize,
+) -> Judged
+    requires kind { T.kind ≡ instr.now.kind }
+    requires operator { instr.now.operator ≡ operator_type.Copy }
+    requires number { IsNumber T.kind number }
+    ensures place { IfJudged result (λ bit n. n ≡ next) }
+    ensures leaves { IfJudged result (λ bit n. Leaves bit instr.now entry.old entry.new (of_integer T.kind number)) }
+    ensures behind { IfBehind result (λ needless n. ⊥) }
+    ensures entry { IfNotJudged result (entry.new ≡ entry.old) }
+{
+    let Some(kept) = T::kept(entry) else {
+        return judge_first::<T>(instr, entry, number, next);
+    };
+    if kept == number {
+        return Judged::Given(next);
+    }
+    T::replace(entry, kept, number);
+    Judged::Stands(next)
+}
+
+/// Judges a number by the one that follows the entry's; it then has this one.
+#[inline(always)]
+fn judge_increment<T: ShortInteger>(
+    instr: &FieldPart,
+    entry: &mut Entry,
+    number: i64,
+    next: usize,
+) -> Judged
+    requires kind { T.kind ≡ instr.now.kind }
+    requires operator { instr.now.operator ≡ operator_type.Increment }
+    requires number { IsNumber T.kind number }
+    ensures place { IfJudged result (λ bit n. n ≡ next) }
+    ensures leaves { IfJudged result (λ bit n. Leaves bit instr.now entry.old entry.new (of_integer T.kind number)) }
+    ensures behind { IfBehind result (λ needless n. ⊥) }
+    ensures entry { IfNotJudged result (entry.new ≡ entry.old) }
+{
+    let Some(kept) = T::kept(entry) else {
+        return judge_first::<T>(instr, entry, number, next);
+    };
+    // the least number follows the greatest
+    if kept >= T::greatest() {
+        return Judged::Elsewhere;
+    }
+    T::replace(entry, kept, number);
+    if kept + 1 == number {
+        Judged::Given(next)
+    } else {
+        Judged::Stands(next)
+    }
+}
+
+/// Judges a number that was spelled whole; the entry goes on.
+#[inline(always)]
+pub(crate) fn judge_read<T: ShortInteger>(
+    instr: &FieldPart,
+    entry: &mut Entry,
+    number: i64,
+    next: usize,
+) -> Judged
+    requires kind { T.kind ≡ instr.now.kind }
+    requires number { IsNumber T.kind number }
+    ensures place { IfJudged result (λ bit n. n ≡ next) }
+    ensures whole { IfJudged result (λ bit n. SpellsWhole instr.now.operator) }
+    ensures leaves { IfJudged result (λ bit n. Leaves bit instr.now entry.old entry.new (of_integer T.kind number)) }
+    ensures behind { IfBehind result (λ needless n. ⊥) }
+    ensures entry { IfNotJudged result (entry.new ≡ entry.old) }
 {
     match instr.operator {
-        Operator::Plain => Some(true),
-        Operator::Default => judge_initial(kind, instr, number),
-        Operator::Copy => judge_copy(kind, instr, entry, number),
-        Operator::Increment => judge_increment(kind, instr, entry, number),
-        Operator::Constant | Operator::Delta | Operator::Tail => None,
+        Operator::Plain => Judged::Stands(next),
+        Operator::Default => judge_initial::<T>(instr, number, next),
+        Operator::Copy => judge_copy::<T>(instr, entry, number, next),
+        Operator::Increment => judge_increment::<T>(instr, entry, number, next),
+        Operator::Constant | Operator::Delta | Operator::Tail => Judged::Elsewhere,
+    }
+}
+
+/// The same, of a number that may be out of its field's range.
+#[inline(always)]
+fn judge_as<T: ShortInteger>(
+    which: Part,
+    instr: &FieldPart,
+    entry: &mut Entry,
+    number: i64,
+    next: usize,
+) -> Judged
+    requires kind { T.kind ≡ instr.now.kind }
+    ensures place { IfJudged result (λ bit n. n ≡ next) }
+    ensures whole { IfJudged result (λ bit n. SpellsWhole instr.now.operator) }
+    ensures number { IfJudged result (λ bit n. IsFieldNumber T.kind which number) }
+    ensures leaves { IfJudged result (λ bit n. Leaves bit instr.now entry.old entry.new (of_integer T.kind number)) }
+    ensures behind { IfBehind result (λ needless n. ⊥) }
+    ensures entry { IfNotJudged result (entry.new ≡ entry.old) }
+{
+    if T::is_field_number(which, number) {
+        judge_read::<T>(instr, entry, number, next)
+    } else {
+        Judged::Elsewhere
+    }
+}
+
+/// The same by the field's type. One way for each, so that nothing is asked of the type behind here.
+#[inline(always)]
+fn judge_whole(
+    kind: Kind,
+    which: Part,
+    instr: &FieldPart,
+    entry: &mut Entry,
+    number: i64,
+    next: usize,
+) -> Judged
+    requires kind { kind ≡ instr.now.kind }
+    ensures place { IfJudged result (λ bit n. n ≡ next) }
+    ensures whole { IfJudged result (λ bit n. SpellsWhole instr.now.operator) }
+    ensures number { IfJudged result (λ bit n. IsFieldNumber kind which number) }
+    ensures leaves { IfJudged result (λ bit n. Leaves bit instr.now entry.old entry.new (of_integer kind number)) }
+    ensures behind { IfBehind result (λ needless n. ⊥) }
+    ensures entry { IfNotJudged result (entry.new ≡ entry.old) }
+{
+    match kind {
+        Kind::UInt32 => judge_as::<u32>(which, instr, entry, number, next),
+        Kind::Int32 => judge_as::<i32>(which, instr, entry, number, next),
+        Kind::UInt64 => judge_as::<u64>(which, instr, entry, number, next),
+        Kind::Int64 => judge_as::<i64>(which, instr, entry, number, next),
+        Kind::Decimal | Kind::Ascii | Kind::Unicode | Kind::Bytes => Judged::Elsewhere,
+    }
+}
+
+/// Adds to the number that an entry has, where the sum is one that the field can have; else nothing has changed.
+#[inline(always)]
+fn add_as<T: ShortInteger>(which: Part, entry: &mut Entry, delta: i64) -> bool
+    ensures added { result ≡ true → Adds T.kind which delta entry.old entry.new }
+    ensures entry { result ≡ false → entry.new ≡ entry.old }
+{
+    let Some(kept) = T::kept(entry) else {
+        return false;
+    };
+    let Some(number) = kept.checked_add(delta) else {
+        return false;
+    };
+    if !T::is_field_number(which, number) {
+        return false;
+    }
+    T::replace(entry, kept, number);
+    true
+}
+
+/// The same by the field's type.
+#[inline(always)]
+fn add(kind: Kind, which: Part, entry: &mut Entry, delta: i64) -> bool
+    ensures added { result ≡ true → Adds kind which delta entry.old entry.new }
+    ensures entry { result ≡ false → entry.new ≡ entry.old }
+{
+    match kind {
+        Kind::UInt32 => add_as::<u32>(which, entry, delta),
+        Kind::Int32 => add_as::<i32>(which, entry, delta),
+        Kind::UInt64 => add_as::<u64>(which, entry, delta),
+        Kind::Int64 => add_as::<i64>(which, entry, delta),
+        Kind::Decimal | Kind::Ascii | Kind::Unicode | Kind::Bytes => false,
     }
 }
 
@@ -298,9 +410,10 @@ fn is_sent_unsigned(kind: Kind, operator: Operator) -> bool
     }
 }
 
-/// Judges a number that is spelled whole and was read.
+/// Judges a number that was read, where bit 1 spells it whole.
 #[inline(always)]
 fn judge_spelled(
+    unsigned: bool,
     kind: Kind,
     which: Part,
     instr: &FieldPart,
@@ -313,23 +426,15 @@ fn judge_spelled(
 ) -> Judged
     requires part { which ≡ instr.now.part }
     requires kind { kind ≡ instr.now.kind }
-    requires integer { IsTrue (is_integer kind) }
-    requires whole { SpellsWhole instr.now.operator }
-    requires stands { StandsFrom (values.is_unsigned kind) instr.now.presence bytes.now at first next number }
+    requires whole { SpellsWhole instr.now.operator → unsigned ≡ values.is_unsigned kind }
+    requires stands { StandsFrom unsigned instr.now.presence bytes.now at first next number }
     ensures place { IfJudged result (λ bit n. n ≡ next) }
     ensures judged { IfJudged result (λ bit n. (v : ScalarOf)
         × JudgesFrom bit instr.now entry.old entry.new v bytes.now at first next) }
     ensures behind { IfBehind result (λ needless n. ⊥) }
     ensures entry { IfNotJudged result (entry.new ≡ entry.old) }
 {
-    if !is_field_number(kind, which, number) {
-        return Judged::Elsewhere;
-    }
-    match judge_read(kind, instr, entry, number) {
-        Some(true) => Judged::Stands(next),
-        Some(false) => Judged::Given(next),
-        None => Judged::Elsewhere,
-    }
+    judge_whole(kind, which, instr, entry, number, next)
 }
 
 /// Judges what is added to the number that the entry has, and was read.
@@ -347,7 +452,6 @@ fn judge_delta(
 ) -> Judged
     requires part { which ≡ instr.now.part }
     requires kind { kind ≡ instr.now.kind }
-    requires integer { IsTrue (is_integer kind) }
     requires operator { instr.now.operator ≡ operator_type.Delta }
     requires stands { StandsFrom false instr.now.presence bytes.now at first next delta }
     ensures place { IfJudged result (λ bit n. n ≡ next) }
@@ -356,17 +460,11 @@ fn judge_delta(
     ensures behind { IfBehind result (λ needless n. ⊥) }
     ensures entry { IfNotJudged result (entry.new ≡ entry.old) }
 {
-    let Some(kept) = kept_number(kind, entry) else {
-        return Judged::Elsewhere;
-    };
-    let Some(number) = kept.checked_add(delta) else {
-        return Judged::Elsewhere;
-    };
-    if !is_field_number(kind, which, number) {
-        return Judged::Elsewhere;
+    if add(kind, which, entry, delta) {
+        Judged::Stands(next)
+    } else {
+        Judged::Elsewhere
     }
-    replace_number(kind, entry, kept, number);
-    Judged::Stands(next)
 }
 
 /// Judges a constant, which has no bytes.
@@ -403,7 +501,6 @@ fn judge_number(
 ) -> Judged
     requires part { which ≡ instr.now.part }
     requires kind { kind ≡ instr.now.kind }
-    requires integer { IsTrue (is_integer kind) }
     requires delta { instr.now.operator ≡ operator_type.Delta → unsigned ≡ false }
     requires whole { SpellsWhole instr.now.operator → unsigned ≡ values.is_unsigned kind }
     requires stands { StandsFrom unsigned instr.now.presence bytes.now at first next number }
@@ -415,10 +512,9 @@ fn judge_number(
 {
     match instr.operator {
         Operator::Delta => judge_delta(kind, which, instr, entry, number, bytes, at, first, next),
-        Operator::Plain | Operator::Default | Operator::Copy | Operator::Increment => {
-            judge_spelled(kind, which, instr, entry, number, bytes, at, first, next)
-        }
-        Operator::Constant | Operator::Tail => Judged::Elsewhere,
+        _ => judge_spelled(
+            unsigned, kind, which, instr, entry, number, bytes, at, first, next,
+        ),
     }
 }
 
@@ -539,7 +635,6 @@ fn judge_behind(
     requires within { next ≤ length bytes.now }
     requires part { which ≡ instr.now.part }
     requires kind { kind ≡ instr.now.kind }
-    requires integer { IsTrue (is_integer kind) }
     requires delta { instr.now.operator ≡ operator_type.Delta → unsigned ≡ false }
     requires whole { SpellsWhole instr.now.operator → unsigned ≡ values.is_unsigned kind }
     requires spelt { Spelt unsigned instr.now.presence (drop at bytes.now) number (drop next bytes.now) }
@@ -566,6 +661,18 @@ fn judge_behind(
     }
 }
 
+/// Whether a part can be of a type. Those of a decimal are of one each, so that nothing is asked of it behind here.
+#[inline(always)]
+fn can_have(which: Part, kind: Kind) -> bool
+    ensures { which ≡ part_type.Whole → result ≡ true }
+{
+    match which {
+        Part::Whole | Part::Length => true,
+        Part::Exponent => kind == Kind::Int32,
+        Part::Mantissa => kind == Kind::Int64,
+    }
+}
+
 /// Judges an integer.
 #[inline(always)]
 fn judge_integer(
@@ -579,7 +686,6 @@ fn judge_integer(
     requires place { at ≤ length bytes.now }
     requires part { which ≡ instr.now.part }
     requires kind { kind ≡ instr.now.kind }
-    requires integer { IsTrue (is_integer kind) }
     ensures place { IfJudged result (λ bit next. (at ≤ next) × (next ≤ length bytes.now)) }
     ensures judged { IfJudged result (λ bit next. (v : ScalarOf)
         × Judges bit instr.now entry.old entry.new v bytes.now at next) }
@@ -588,6 +694,9 @@ fn judge_integer(
         × JudgesFrom true instr.now entry.old entry.new v bytes.now at (at + needless) next) }
     ensures entry { IfNotJudged result (entry.new ≡ entry.old) }
 {
+    if !can_have(which, kind) {
+        return Judged::Elsewhere;
+    }
     // read once for all operators, so that the whole is small enough to be inlined
     let unsigned = is_sent_unsigned(kind, instr.operator);
     let Some((number, next)) = read_number(unsigned, instr.presence, bytes, at) else {

@@ -7,9 +7,9 @@ ghost use Rattle.fast_relay.specs.Numbers.{SpellsWhole};
 ghost use Rattle.fast_relay.specs.Relayed.{RelaysAs};
 ghost use Rattle.fast_relay.specs.Runs.{IsRun, Stays, written};
 
-use crate::judged::{judge_read, read_standing};
+use crate::judged::{Judged, judge_read, read_standing};
 use crate::run::Run;
-use crate::short_number::is_field_number;
+use crate::short_number::ShortInteger;
 use fast_dictionary::Entry;
 use fast_template::{FieldPart, Kind, Operator};
 
@@ -50,23 +50,24 @@ pub fn relay_unsigned(
     let Some((number, first, next)) = read_standing(true, instr.presence, bytes, at) else {
         return None;
     };
-    if !is_field_number(Kind::UInt32, instr.part, number) {
+    if !u32::is_field_number(instr.part, number) {
         return None;
     }
     // before the entry changes, since memory may be refused
     if !out.flush(bytes) {
         return None;
     }
-    match judge_read(Kind::UInt32, instr, entry, number) {
-        Some(true) => {
+    match judge_read::<u32>(instr, entry, number, next) {
+        Judged::Stands(_next) => {
             out.begin(first);
             out.keep(next);
             Some((number as u32, true, next))
         }
-        Some(false) => {
+        Judged::Given(_next) => {
             out.begin(next);
             Some((number as u32, false, next))
         }
-        None => None,
+        Judged::Behind(_) | Judged::BehindTwo(_) => unreachable!(),
+        Judged::Elsewhere => None,
     }
 }

@@ -1,30 +1,39 @@
-//! What bit 0 gives of an entry, with the integer types as one case, so that a loop over fields has room for it. What is not
-//! served here is `pass_left_out` of `fast_field`.
+//! What bit 0 gives of an entry, with so little code that a loop over fields has room for it. What is not served here is
+//! `pass_left_out` of `fast_field`.
 
 ghost use Rattle.std.specs.Prelude.{◌≡◌, Some, IsTrue, true};
-ghost use Rattle.fast_value.specs.Scalar.{is_integer, is_of};
+ghost use Rattle.fast_value.specs.Scalar.{is_of};
+ghost use Rattle.fast_value.specs.declared.kind.Part.TheVariants as part_type;
 ghost use Rattle.fast_value.specs.declared.kind.Operator.TheVariants as operator_type;
 ghost use Rattle.fast_field.specs.Fields.{within_part};
 ghost use Rattle.fast_field.specs.Numbers.{Predicts, Repeats};
 ghost use Rattle.fast_field.specs.Parts.{IsFieldPart};
 ghost use Rattle.fast_field.specs.Passed.{IsPassed};
 
-use crate::short_number::{is_within, kept_number, number_after, replace_number};
+use crate::short_number::ShortInteger;
 use fast_dictionary::Entry;
 use fast_field::{Passed, fits};
 use fast_template::{FieldPart, Kind, Operator, Part, Presence, Scalar};
 use fast_value::is_of_kind;
 
-/// Whether a number is within the limit of a part; of another value it is not told.
+/// Whether a number is one that an exponent can have; of another value it is not told.
 #[inline(always)]
-fn is_near(which: Part, value: &Scalar) -> bool
-    ensures { result ≡ true → IsTrue (within_part which value.now) }
+fn is_near(value: &Scalar) -> bool
+    ensures { result ≡ true → IsTrue (within_part part_type.Exponent value.now) }
 {
     match value {
-        Scalar::U32(number) => is_within(which, i64::from(*number)),
-        Scalar::I32(number) => is_within(which, i64::from(*number)),
+        Scalar::I32(number) => -63 <= *number && *number <= 63,
         _ => false,
     }
+}
+
+/// Whether a value is one that a length can have. (A call of its own, since others do not ask it.)
+#[inline(never)]
+fn fits_length(instr: &FieldPart, value: &Scalar) -> bool
+    ensures kind { result ≡ true → is_of instr.now.kind value.now ≡ true }
+    ensures within { result ≡ true → IsTrue (within_part instr.now.part value.now) }
+{
+    fits(instr, value)
 }
 
 /// Whether a value that was kept is one that a part can have. Only exponents and lengths have a limit within their type.
@@ -34,10 +43,12 @@ fn can_repeat(which: Part, instr: &FieldPart, value: &Scalar) -> bool
     ensures kind { result ≡ true → is_of instr.now.kind value.now ≡ true }
     ensures within { result ≡ true → IsTrue (within_part instr.now.part value.now) }
 {
-    match which {
-        Part::Whole | Part::Mantissa => is_of_kind(instr.kind, value),
-        Part::Exponent | Part::Length => is_of_kind(instr.kind, value) && is_near(which, value),
-    }
+    is_of_kind(instr.kind, value)
+        && match which {
+            Part::Whole | Part::Mantissa => true,
+            Part::Exponent => is_near(value),
+            Part::Length => fits_length(instr, value),
+        }
 }
 
 /// Whether the initial value of a part is one that it can have. It is, as was seen when the templates were loaded; only of a
@@ -52,7 +63,7 @@ pub(crate) fn can_begin(which: Part, instr: &FieldPart, value: &Scalar) -> bool
 {
     match which {
         Part::Whole | Part::Exponent | Part::Mantissa => true,
-        Part::Length => fits(instr, value),
+        Part::Length => fits_length(instr, value),
     }
 }
 
@@ -92,23 +103,19 @@ fn pass_kept(which: Part, instr: &FieldPart, entry: &Entry) -> Passed
 
 /// One more than the number that the entry has, where that is not the greatest of its type.
 #[inline(always)]
-fn pass_next(which: Part, kind: Kind, instr: &FieldPart, entry: &mut Entry) -> Passed
-    requires kind { kind ≡ instr.now.kind }
-    requires integer { IsTrue (is_integer kind) }
+fn pass_next<T: ShortInteger>(which: Part, instr: &FieldPart, entry: &mut Entry) -> Passed
+    requires kind { T.kind ≡ instr.now.kind }
     requires operator { instr.now.operator ≡ operator_type.Increment }
     requires part { which ≡ instr.now.part }
     ensures { IsPassed instr.now entry.old entry.new result }
 {
-    let Some(kept) = kept_number(kind, entry) else {
+    let Some(kept) = T::kept(entry) else {
         return pass_empty(instr, entry);
     };
-    let Some(number) = number_after(kind, kept) else {
-        return Passed::Elsewhere;
-    };
-    if !is_within(which, number) {
+    if kept >= T::greatest() || !T::is_field_number(which, kept + 1) {
         return Passed::Elsewhere;
     }
-    replace_number(kind, entry, kept, number);
+    T::replace(entry, kept, kept + 1);
     Passed::Present
 }
 
@@ -120,9 +127,10 @@ fn pass_increment(which: Part, instr: &FieldPart, entry: &mut Entry) -> Passed
     ensures { IsPassed instr.now entry.old entry.new result }
 {
     match instr.kind {
-        Kind::UInt32 | Kind::Int32 | Kind::UInt64 | Kind::Int64 => {
-            pass_next(which, instr.kind, instr, entry)
-        }
+        Kind::UInt32 => pass_next::<u32>(which, instr, entry),
+        Kind::Int32 => pass_next::<i32>(which, instr, entry),
+        Kind::UInt64 => pass_next::<u64>(which, instr, entry),
+        Kind::Int64 => pass_next::<i64>(which, instr, entry),
         Kind::Decimal | Kind::Ascii | Kind::Unicode | Kind::Bytes => Passed::Elsewhere,
     }
 }

@@ -1,29 +1,13 @@
 use Rattle.std.specs.Int.{w64}
 use Rattle.std.specs.Int.RustNames.{FitsSigned}
-use Rattle.std.specs.Prelude.{◌≡◌, ◌+ℤ◌, ℤ}
-use Rattle.std.proofs.Common.{rules, subst}
+use Rattle.std.proofs.Common.{rules}
 use Rattle.std.proofs.lemmas.Int.{to_z-of_z}
-use Rattle.fast_dictionary.specs.declared.entry.Entry.TheVariants.{Assigned}
-use Rattle.fast_value.specs.Scalar.{of_integer}
-use Rattle.fast_field.specs.Numbers.{IsFieldNumber}
 use Rattle.fast_relay.proofs.Judging.{delta_stands}
 use Rattle.fast_relay.proofs.judged.judge_delta.Goals as goal
 
-pub returns-clause-judged : goal.returns-clause-judged
-returns-clause-judged c =
-    let k = c.args.kind in
-    let y = c.in-Some.kept in
+pub returns-then-add-clause-judged : goal.returns-then-add-clause-judged
+returns-then-add-clause-judged c =
     let d = c.args.delta in
-    let z = c.in-Some-checked_add.number in
-    let kept_fits : FitsSigned w64 y = search rules in
-    let delta_fits : FitsSigned w64 d = search rules in
-    let fits : FitsSigned w64 z = search rules in
-    let same = to_z-of_z w64 z fits in
-    let sum : z ≡ y +ℤ d = search rules in (
-      of_integer k (y +ℤ d),
-      delta_stands k c.args.instr.now c.args.entry.now c.replace_number.new.entry y d c.args.bytes.now c.args.at c.args.first c.args.next
-          c.requires.kind c.requires.operator c.in-Some.ensures
-          (subst (λ (x : ℤ). IsFieldNumber k c.args.instr.now.part x) sum (rw (same, c.requires.part) at (c.is_field_number.ensures c.if-not-is_field_number.false)))
-          c.requires.stands
-          (subst (λ (x : ℤ). c.replace_number.new.entry ≡ Assigned (of_integer k x)) sum (rw same at c.replace_number.ensures)),
-    )
+    let fits : FitsSigned w64 d = search rules in
+    delta_stands c.args.kind c.args.instr.now c.args.entry.now c.add.new.entry d c.args.bytes.now c.args.at c.args.first c.args.next c.requires.kind c.requires.operator
+    (rw (to_z-of_z w64 d fits, c.requires.part) at (c.add.ensures.added c.if-add.true)) c.requires.stands

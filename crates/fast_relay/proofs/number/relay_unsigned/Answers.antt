@@ -8,8 +8,8 @@ use Rattle.fast_relay.proofs.Judging.{whole_given, whole_stands}
 use Rattle.fast_relay.proofs.Runs.{begun, none_noted}
 use Rattle.fast_relay.proofs.number.relay_unsigned.Goals as goal
 
-pub returns-in-Some-true : goal.returns-in-Some-true
-returns-in-Some-true c =
+pub returns-in-Stands : goal.returns-in-Stands
+returns-in-Stands c =
     let i = c.args.instr.now in
     let bytes = c.args.bytes.now in
     let kind : UInt32 ≡ i.kind = search rules in
@@ -31,14 +31,14 @@ returns-in-Some-true c =
           kind (c.spells_whole.ensures c.if-not-spells_whole.false)
           (rw same at (c.is_field_number.ensures c.if-not-is_field_number.false))
           c.in-Some.ensures.stands
-          (rw (same, c.in-Some-true.field-0-test) at c.in-Some-true.ensures.leaves)
+          (rw same at c.in-Stands.ensures.leaves)
           (written bytes c.args.out.now));
       entry = tt;
       out = tt;
     }
 
-pub returns-in-Some-false : goal.returns-in-Some-false
-returns-in-Some-false c =
+pub returns-in-Given : goal.returns-in-Given
+returns-in-Given c =
     let i = c.args.instr.now in
     let bytes = c.args.bytes.now in
     let kind : UInt32 ≡ i.kind = search rules in
@@ -48,12 +48,12 @@ returns-in-Some-false c =
     let same = to_z-of_z w64 z fits in
     let place = c.in-Some.ensures.place in
     let before = c.in-Some.ensures.first in
-    let begin = c.begin-in-Some-false in
+    let begin = c.begin-in-Given in
     let given = whole_given UInt32 i c.args.entry.now c.judge_read.new.entry z bytes c.args.at c.in-Some.first next
     kind (c.spells_whole.ensures c.if-not-spells_whole.false)
     (rw same at (c.is_field_number.ensures c.if-not-is_field_number.false))
     c.in-Some.ensures.stands
-    (rw (same, c.in-Some-false.field-0-test) at c.in-Some-false.ensures.leaves) in
+    (rw same at c.in-Given.ensures.leaves) in
     record {
       place = (omega (arith, place, before), place.1);
       run = begun bytes next begin.new.self begin.ensures.from begin.ensures.place place.1;

@@ -1,0 +1,27 @@
+use Rattle.std.specs.Int.{w64}
+use Rattle.std.specs.Int.RustNames.{FitsSigned}
+use Rattle.std.specs.Prelude.{◌≡◌, ◌+ℤ◌, ℤ}
+use Rattle.std.proofs.Common.{rules, subst}
+use Rattle.std.proofs.lemmas.Int.{to_z-of_z}
+use Rattle.fast_dictionary.specs.declared.entry.Entry.TheVariants.{Assigned}
+use Rattle.fast_value.specs.Scalar.{of_integer}
+use Rattle.fast_field.specs.Numbers.{IsFieldNumber}
+use Rattle.fast_relay.proofs.judged.add_as.Goals as goal
+
+pub returns-clause-added : goal.returns-clause-added
+returns-clause-added g c =
+    let k = g.T.ShortInteger.kind in
+    let y = c.in-Some.kept in
+    let d = c.args.delta in
+    let z = c.in-Some-checked_add.number in
+    let kept_fits : FitsSigned w64 y = search rules in
+    let delta_fits : FitsSigned w64 d = search rules in
+    let fits : FitsSigned w64 z = search rules in
+    let same = to_z-of_z w64 z fits in
+    let sum : z ≡ y +ℤ d = search rules in
+    λ yes. record {
+      number = y;
+      kept = c.in-Some.ensures;
+      sum = subst (λ (x : ℤ). IsFieldNumber k c.args.which x) sum (rw same at (c.is_field_number.ensures c.if-not-is_field_number.false));
+      entry = subst (λ (x : ℤ). c.replace.new.entry ≡ Assigned (of_integer k x)) sum (rw same at c.replace.ensures);
+    }
