@@ -11,3 +11,4 @@ mod MapRoom
 mod LastSegment
 pub mod Takings
 mod SpeltParts
+mod Beginnings

@@ -1,5 +1,6 @@
 -- What bit 0 gave is best written with bit 0.
-use Rattle.std.proofs.Common.{◌≡◌, ℕ, Bool, true, false, List, [], Option, Ok, refl, sym, ◌∙◌}
+use Rattle.std.proofs.Common.{◌≡◌, ℕ, Bool, true, false, List, [], Option, Result, Ok, Err, refl, sym, ◌∙◌}
+use Rattle.std.specs.Prelude.{IfOk}
 use Rattle.fast_wire.specs.Reader.{IsBytes}
 use Rattle.fast_value.specs.declared.kind.Operator.{Operator}
 use Rattle.fast_value.specs.declared.kind.Operator.TheVariants as operator
@@ -19,6 +20,11 @@ use Rattle.fast_field.specs.FieldReading.{field_at}
 use Rattle.fast_field.proofs.FieldForms.{field_forms}
 use Rattle.fast_field.proofs.LevelsAgree.{read_usually}
 use Rattle.fast_field.proofs.BestForms.{bit_zero_is_best, bit_zero_row}
+
+-- what holds of what was read, by its answer
+pub if_read : {X F : Type 0} (r : Result X F) (P : X → Type 0) → ((x : X) → r ≡ Ok x → P x) → IfOk r P
+if_read (Ok x) P f = f x refl
+if_read (Err e) P f = tt
 
 pub repeated_best : (level : Level) (i : FieldPart) (e : Entry) (bytes rest : List ℕ) (v : Option Scalar) → HasDefault i → IsBytes bytes → part_needs_bit i ≡ true
     → field_at level i e false bytes ≡ Ok (v, rest) → IsBest i e false [] v

@@ -18,7 +18,7 @@ use Rattle.fast_walk.specs.Passing.{Passes, next_behind}
 use Rattle.fast_walk.proofs.Steps.{count_goes, part_goes}
 use Rattle.fast_walk.proofs.Walking.{field_on, exponent_on, no_exponent_on, mantissa_on_goes, is_instruction, is_mantissa}
 use Rattle.fast_writer.specs.Written.{Segment, IsOpened, Spelt}
-use Rattle.fast_writer.specs.Takings.{BeginsWith, Front, IfTaken, Takes, at_place, behind, front_at}
+use Rattle.fast_writer.specs.Takings.{BeginsWith, Front, IfElsewhere, IfTaken, Takes, at_place, behind, front_at}
 use Rattle.fast_writer.specs.declared.fields.Taken.{Taken}
 use Rattle.fast_writer.specs.declared.fields.Taken.TheVariants.{Part, Elsewhere, Refused}
 use Rattle.fast_relay.specs.Relayed.{IsThere}
@@ -66,6 +66,17 @@ pub taken_on : (t : Taken) (P Q R S : Bool → Type 0) → ((b : Bool) → P b �
 taken_on (Part b) P Q R S f p q r = f b p q r
 taken_on Elsewhere P Q R S f p q r = tt
 taken_on Refused P Q R S f p q r = tt
+
+pub taken_so : (t : Taken) (P Q : Bool → Type 0) → ((b : Bool) → P b → Q b) → IfTaken t P → IfTaken t Q
+taken_so (Part b) P Q f p = f b p
+taken_so Elsewhere P Q f p = tt
+taken_so Refused P Q f p = tt
+
+-- and where nothing was done
+pub elsewhere_on : (t : Taken) (P Q : Type 0) → (P → Q) → IfElsewhere t P → IfElsewhere t Q
+elsewhere_on (Part b) P Q f p = tt
+elsewhere_on Elsewhere P Q f p = f p
+elsewhere_on Refused P Q f p = tt
 
 -- at the beginning of a body
 front_begins : (flats : List Flat) (spare place : ℕ) → front_at flats spare 0 None place ≡ record { mantissa = None; rest = list_of flats; spare = spare; place = place }

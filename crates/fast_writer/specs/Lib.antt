@@ -4,3 +4,4 @@ pub mod Quick
 pub mod Levels
 pub mod Room
 pub mod Takings
+pub mod Beginnings

@@ -132,13 +132,9 @@ fn count_generally(
         → (field_at level part.now entry.old bit (drop at bytes.now) ≡ Err f)
         × (entry.new ≡ entry.old) × (out.new.items ≡ out.old.items)) }
 {
-    match relay_entry(alloc, part, entry, bit, level, bytes, at, out) {
-        Err(fault) => Err(fault),
-        Ok((found, best, next)) => {
-            let number = number_in(found.value(part, entry.view()));
-            Ok((number, best, next))
-        }
-    }
+    let (found, best, next) = relay_entry(alloc, part, entry, bit, level, bytes, at, out)?;
+    let number = number_in(found.value(part, entry.view()));
+    Ok((number, best, next))
 }
 
 // The same by the quick way, and by the general one where that does not serve.
@@ -168,21 +164,15 @@ fn count_either(
         → (field_at level part.now entry.old bit (drop at bytes.now) ≡ Err f)
         × (entry.new ≡ entry.old) × (out.new.out.items ≡ written bytes.now out.old)) }
 {
-    match count_quickly(part, entry, bit, level, bytes, at, out) {
-        Some(x) => Ok(x),
-        None => {
-            if !out.flush(bytes) {
-                return Err(FieldFault::Memory);
-            }
-            match count_generally(alloc, part, entry, bit, level, bytes, at, &mut out.out) {
-                Err(fault) => Err(fault),
-                Ok((count, best, next)) => {
-                    out.begin(next);
-                    Ok((count, best, next))
-                }
-            }
-        }
+    if let Some(counted) = count_quickly(part, entry, bit, level, bytes, at, out) {
+        return Ok(counted);
     }
+    if !out.flush(bytes) {
+        return Err(FieldFault::Memory);
+    }
+    let counted = count_generally(alloc, part, entry, bit, level, bytes, at, &mut out.out)?;
+    out.begin(counted.2);
+    Ok(counted)
 }
 
 /// Reads a part that is a number without sign of 32 bits, and appends the best form of its value to a segment; answers
@@ -226,28 +216,12 @@ pub(crate) fn relay_count<E: Entries>(
     ensures same_keys { E.serves entries.new ≡ E.serves entries.old }
 {
     segment.bytes.begin(at);
-    match entries.entry_mut(&part.key) {
-        Err(_) => Err(FieldFault::Memory),
-        Ok(entry) => match count_either(
-            alloc,
-            part,
-            entry,
-            bit,
-            level,
-            bytes,
-            at,
-            &mut segment.bytes,
-        ) {
-            Err(fault) => Err(fault),
-            Ok((count, best, next)) => {
-                if !segment.bytes.flush(bytes) {
-                    return Err(FieldFault::Memory);
-                }
-                match segment.ask(part_needs_bit(part), best) {
-                    Err(_) => Err(FieldFault::Memory),
-                    Ok(()) => Ok((count, next)),
-                }
-            }
-        },
+    let entry = entries.entry_mut(&part.key)?;
+    let out = &mut segment.bytes;
+    let (count, best, next) = count_either(alloc, part, entry, bit, level, bytes, at, out)?;
+    if !segment.bytes.flush(bytes) {
+        return Err(FieldFault::Memory);
     }
+    segment.ask(part_needs_bit(part), best)?;
+    Ok((count, next))
 }

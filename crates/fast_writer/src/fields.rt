@@ -9,7 +9,6 @@ ghost use Rattle.fast_walk.specs.Received.{Took};
 ghost use Rattle.fast_field.specs.Parts.{IsFieldPart};
 ghost use Rattle.fast_field.specs.AsUsual.{ReadsAsUsual};
 ghost use Rattle.fast_field.specs.Within.{HoldsScalar};
-ghost use Rattle.fast_wire.specs.declared.level.Level.TheVariants.{Strict};
 ghost use Rattle.fast_walk.specs.Told.{IsTold, KeepScalars};
 ghost use Rattle.fast_walk.specs.Walks.{AreServed, IsMantissaServed, IsNextServed, IsServed};
 ghost use Rattle.fast_walk.specs.Passing.{next_behind};
@@ -26,8 +25,9 @@ ghost use Rattle.fast_value.specs.declared.kind.Part.TheVariants.{Exponent, Whol
 
 use crate::quick::relay_other;
 use crate::segment::Segment;
+use crate::strictly::is_read_as_usual;
 use fast_dictionary::{Entries, Entry};
-use fast_field::{Passed, reads_as_usual};
+use fast_field::Passed;
 use fast_relay::{Judged, judge_field, pass_quickly};
 use fast_template::{FieldPart, Flat, Kind, Part, part_needs_bit};
 use fast_walk::Fields;
@@ -94,15 +94,13 @@ fn end_from(
 {
     match end_part(bits, needs, best, segment, true) {
         Taken::Part(there) => {
-            if segment.bytes.leave_out(bytes, first) {
-                segment.bytes.keep(next);
-                Taken::Part(there)
-            } else {
-                Taken::Refused
+            if !segment.bytes.leave_out(bytes, first) {
+                return Taken::Refused;
             }
+            segment.bytes.keep(next);
+            Taken::Part(there)
         }
-        Taken::Elsewhere => Taken::Elsewhere,
-        Taken::Refused => Taken::Refused,
+        Taken::Elsewhere | Taken::Refused => Taken::Refused,
     }
 }
 
@@ -140,27 +138,6 @@ fn take_other(
         Some((there, best)) => end_part(bits, needs, best, segment, there),
         None => Taken::Elsewhere,
     }
-}
-
-// Whether a field that was sent is read at a level as at the usual one.
-#[inline(always)]
-fn is_read_as_usual(level: Level, part: &FieldPart, bytes: &[u8], at: usize) -> bool
-    requires { at ≤ length bytes.now }
-    ensures { result ≡ true → ReadsAsUsual level part.now (drop at bytes.now) }
-{
-    match level {
-        Level::Usual => true,
-        Level::Strict => is_read_so_strictly(part, bytes, at),
-    }
-}
-
-// The same at the strict level, in a call of its own.
-#[inline(never)]
-fn is_read_so_strictly(part: &FieldPart, bytes: &[u8], at: usize) -> bool
-    requires { at ≤ length bytes.now }
-    ensures { result ≡ true → ReadsAsUsual Strict part.now (drop at bytes.now) }
-{
-    reads_as_usual(Level::Strict, part, bytes, at)
 }
 
 // Takes a part that bit 0 gives.
@@ -286,17 +263,9 @@ fn take_part<E: Entries>(
         Ok(entry) => {
             // one way for each bit, so that nothing is asked twice of what they answer
             if part_needs_bit(part) && !bits.first() {
-                match take_given(which, part, entry, bits, level, bytes, segment) {
-                    Taken::Part(there) => Taken::Part(there),
-                    Taken::Elsewhere => Taken::Elsewhere,
-                    Taken::Refused => Taken::Refused,
-                }
+                take_given(which, part, entry, bits, level, bytes, segment)
             } else {
-                match take_sent(which, alloc, part, entry, bits, level, bytes, segment) {
-                    Taken::Part(there) => Taken::Part(there),
-                    Taken::Elsewhere => Taken::Elsewhere,
-                    Taken::Refused => Taken::Refused,
-                }
+                take_sent(which, alloc, part, entry, bits, level, bytes, segment)
             }
         }
     }

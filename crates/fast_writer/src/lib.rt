@@ -12,6 +12,7 @@ mod laws;
 mod quick;
 mod relay;
 mod segment;
+mod strictly;
 mod writer;
 
 pub use laws::canonical_bytes_carry;

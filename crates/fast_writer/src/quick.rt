@@ -124,13 +124,9 @@ fn relay_generally(
         → (field_at level part.now entry.old bit (drop at bytes.now) ≡ Err f)
         × (entry.new ≡ entry.old) × (out.new.items ≡ out.old.items)) }
 {
-    match relay_entry(alloc, part, entry, bit, level, bytes, at, out) {
-        Err(fault) => Err(fault),
-        Ok((found, best, next)) => {
-            let there = found.value(part, entry.view()).is_some();
-            Ok((there, best, next))
-        }
-    }
+    let (found, best, next) = relay_entry(alloc, part, entry, bit, level, bytes, at, out)?;
+    let there = found.value(part, entry.view()).is_some();
+    Ok((there, best, next))
 }
 
 /// Reads a part the general way, which the quick one has left, and appends the best form of its value to a segment;
@@ -172,23 +168,9 @@ pub(crate) fn relay_part<E: Entries>(
         × (level_of segment.new ≡ level_of segment.old)) }
     ensures same_keys { E.serves entries.new ≡ E.serves entries.old }
 {
-    match entries.entry_mut(&part.key) {
-        Err(_) => Err(FieldFault::Memory),
-        Ok(entry) => match relay_generally(
-            alloc,
-            part,
-            entry,
-            bit,
-            level,
-            bytes,
-            at,
-            &mut segment.bytes.out,
-        ) {
-            Err(fault) => Err(fault),
-            Ok((there, best, next)) => match segment.ask(part_needs_bit(part), best) {
-                Err(_) => Err(FieldFault::Memory),
-                Ok(()) => Ok((there, next)),
-            },
-        },
-    }
+    let entry = entries.entry_mut(&part.key)?;
+    let out = &mut segment.bytes.out;
+    let (there, best, next) = relay_generally(alloc, part, entry, bit, level, bytes, at, out)?;
+    segment.ask(part_needs_bit(part), best)?;
+    Ok((there, next))
 }

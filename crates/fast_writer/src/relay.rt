@@ -40,10 +40,7 @@ fn repeat(
         → field_at level part.now entry.old false (drop at bytes.now) ≡ Err f) }
     ensures unchanged { OnErr result (entry.new ≡ entry.old) }
 {
-    match read_in_place(alloc, part, entry, false, level, bytes, at) {
-        Err(fault) => Err(fault),
-        Ok((found, next)) => Ok((found, next)),
-    }
+    read_in_place(alloc, part, entry, false, level, bytes, at)
 }
 
 // The fault of a part whose form was refused: what was read has one, so no other refusal comes.
@@ -84,12 +81,10 @@ fn rewrite(
     ensures unchanged { OnErr result (entry.new ≡ entry.old) }
     ensures nothing { OnErr result (out.new.items ≡ out.old.items) }
 {
-    match find_field(alloc, part, entry.view(), true, level, bytes, at) {
-        Err(fault) => Err(fault),
-        Ok((found, next)) => match write_found(alloc, part, entry, found, out) {
-            Err(refusal) => Err(want_of_memory(refusal)),
-            Ok((found, bit)) => Ok((found, bit, next)),
-        },
+    let (found, next) = find_field(alloc, part, entry.view(), true, level, bytes, at)?;
+    match write_found(alloc, part, entry, found, out) {
+        Err(refusal) => Err(want_of_memory(refusal)),
+        Ok((found, bit)) => Ok((found, bit, next)),
     }
 }
 
@@ -129,14 +124,8 @@ pub(crate) fn relay_entry(
     ensures nothing { OnErr result (out.new.items ≡ out.old.items) }
 {
     if bit {
-        match rewrite(alloc, part, entry, level, bytes, at, out) {
-            Err(fault) => Err(fault),
-            Ok(x) => Ok(x),
-        }
-    } else {
-        match repeat(alloc, part, entry, level, bytes, at) {
-            Err(fault) => Err(fault),
-            Ok((found, next)) => Ok((found, false, next)),
-        }
+        return rewrite(alloc, part, entry, level, bytes, at, out);
     }
+    let (found, next) = repeat(alloc, part, entry, level, bytes, at)?;
+    Ok((found, false, next))
 }
