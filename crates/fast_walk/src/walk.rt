@@ -7,6 +7,7 @@ ghost use Rattle.fast_dictionary.specs.Dictionary.{Dictionary};
 ghost use Rattle.fast_stream.specs.Nodes.{Content};
 ghost use Rattle.fast_stream.specs.Bits.{after_bit};
 ghost use Rattle.fast_wire.specs.Level.{IsLeftClear, some_set};
+ghost use Rattle.fast_wire.specs.declared.level.Level.{Level as LevelOf};
 ghost use Rattle.fast_stream.specs.Faults.{cause_of_field};
 ghost use Rattle.fast_stream.specs.Reading.{node_at, stopped};
 ghost use Rattle.fast_walk.specs.OpenSegments.{Waiting, at_instruction, cursor, fewer, in_sequence};
@@ -183,7 +184,7 @@ impl<'a> Walk<'a> {
         self.next = next;
     }
 
-    // The same behind a field, where an instruction is next as before.
+    // The same where an instruction is next as before: behind a field, and behind what is left out or has no element.
     #[inline(always)]
     fn pass_field(&mut self, needs: bool, others: &'a [Flat])
         requires spare { 0 < self.now.spare }
@@ -210,7 +211,7 @@ impl<'a> Walk<'a> {
         requires spare { 0 < self.now.spare }
         ensures bits { OnOk result (self.new.bits ≡ bits) }
         ensures spare { OnOk result (self.new.spare ≡ self.old.spare - 1) }
-        ensures next { OnOk result (self.new.next ≡ Next.Instruction) }
+        ensures next { OnOk result (self.new.next ≡ self.old.next) }
         ensures rest { OnOk result (self.new.rest.now ≡ members.now) }
         ensures around { OnOk result (map frame_of self.new.around.items
             ≡ map frame_of self.old.around.items ++ record {
@@ -234,7 +235,6 @@ impl<'a> Walk<'a> {
             Ok(()) => {
                 self.spare -= 1;
                 self.rest = members;
-                self.next = Next::Instruction;
                 Ok(())
             }
         }
@@ -489,10 +489,15 @@ impl<'a> Walk<'a> {
                     Err(fault) => Err(part_halt(part, fault)),
                     Ok((length, next)) => match length {
                         None => {
-                            self.pass(needs, others, Next::Instruction);
+                            self.pass_field(needs, others);
                             Ok(next)
                         }
                         Some(left) => {
+                            if left == 0 {
+                                receiver.end_sequence(alloc)?;
+                                self.pass_field(needs, others);
+                                return Ok(next);
+                            }
                             let own_map = has_map(members);
                             let elements = Sequel {
                                 number,
@@ -561,7 +566,7 @@ impl<'a> Walk<'a> {
                     }
                 } else {
                     receiver.left_out(name)?;
-                    self.pass(optional, others, Next::Instruction);
+                    self.pass_field(optional, others);
                     Ok(at)
                 }
             }
@@ -640,6 +645,7 @@ impl<'a> Walk<'a> {
             members: sequel.members,
             left: sequel.left - 1,
         };
+        self.next = Next::Instruction;
         self.open(sequel.members, self.rest, bits, Inside::Element(others))
     }
 
@@ -778,9 +784,40 @@ impl<'a> Walk<'a> {
         }
     }
 
-    // Ends the segment that is open, and goes on in the one around it.
+    // Ends the segment that is open, and with its last element a sequence, and goes on in the body around it.
     #[inline(always)]
     fn end<L: Leveled, R: Receiver>(
+        &mut self,
+        level: L,
+        alloc: Global,
+        receiver: &mut R,
+    ) -> Result<(), Halt>
+        requires inside { IsInside self.now }
+        requires next { self.now.next ≡ Next.Instruction }
+        requires rest { self.now.rest.now ≡ [] }
+        requires room { HasRoom (R.room receiver.now) self.now }
+        ensures goes { OnOk result ((d : Dictionary) (bytes : List ℕ)
+            → Moves L.at R.has self.old receiver.old d
+            self.new receiver.new d bytes bytes) }
+        ensures stops { IfErr result (λ h. h.cause ≢ Cause.Memory
+            → (d : Dictionary) (bytes : List ℕ) → HaltsAs L.at self.old d bytes h) }
+        ensures waits { IfErr result (λ h. h.cause ≢ Cause.Memory
+            → (self.new ≡ self.old) × (receiver.new ≡ receiver.old)) }
+        ensures ready { OnOk result ((serves : key_type.Key → Bool) → IsReady serves self.old
+            → IsReady serves self.new) }
+        ensures room { OnOk result (HasRoom (R.room receiver.new) self.new) }
+        ensures keeps { (set : List Resolved) (ms : List Content) (d : Dictionary)
+            → R.keeps receiver.old set ms d → R.keeps receiver.new set ms d }
+        ensures rank { OnOk result (rank_of self.new < rank_of self.old) }
+    {
+        self.leave(level, alloc, receiver)?;
+        self.end_elements(alloc, receiver)?;
+        Ok(())
+    }
+
+    // Leaves the segment that is open, and takes up the body around it.
+    #[inline(always)]
+    fn leave<L: Leveled, R: Receiver>(
         &mut self,
         level: L,
         alloc: Global,
@@ -815,6 +852,36 @@ impl<'a> Walk<'a> {
                     Ok(())
                 }
             },
+        }
+    }
+
+    // Ends the sequence whose element is next, where none is left.
+    #[inline(always)]
+    fn end_elements<R: Receiver>(
+        &mut self,
+        alloc: Global,
+        receiver: &mut R,
+    ) -> Result<(), AllocError>
+        requires room { HasRoom (R.room receiver.now) self.now }
+        ensures goes { OnOk result ((level : LevelOf) (d : Dictionary) (bytes : List ℕ)
+            → Moves level R.has self.old receiver.old d self.new receiver.new d bytes bytes) }
+        ensures ready { OnOk result ((serves : key_type.Key → Bool) → IsReady serves self.old
+            → IsReady serves self.new) }
+        ensures room { OnOk result (HasRoom (R.room receiver.new) self.new) }
+        ensures keeps { (set : List Resolved) (ms : List Content) (d : Dictionary)
+            → R.keeps receiver.old set ms d → R.keeps receiver.new set ms d }
+        ensures rank { OnOk result (rank_of self.new ≤ rank_of self.old) }
+    {
+        match self.next {
+            Next::Element(sequel) => {
+                if sequel.left == 0 {
+                    receiver.end_sequence(alloc)?;
+                    self.next = Next::Instruction;
+                    return Ok(());
+                }
+                Ok(())
+            }
+            Next::Instruction | Next::Mantissa(_) => Ok(()),
         }
     }
 

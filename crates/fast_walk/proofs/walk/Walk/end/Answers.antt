@@ -1,45 +1,11 @@
-use Rattle.std.proofs.Common.{◌++◌, map, ap, ◌∙◌}
-use Rattle.fast_template.specs.Resolved.{list_of}
-use Rattle.fast_walk.specs.OpenSegments.{cursor}
-use Rattle.fast_walk.specs.Received.{ended_in}
-use Rattle.fast_walk.specs.Walks.{frame_of, next_of}
-use Rattle.fast_walk.proofs.Walking.{end_on, end_on_stops, no_frame, ended_rest, ended_bare, ended_same, inside_of_last, is_instruction, last_of, popped, rest_of_last, served_pop}
+use Rattle.fast_walk.specs.Walks.{At, reads_on}
+use Rattle.fast_walk.proofs.Walking.{goes_on}
 use Rattle.fast_walk.proofs.walk.Walk.end.Goals as goal
 
-pub returns-in-Err-clause-stops : goal.returns-in-Err-clause-stops
-returns-in-Err-clause-stops g c = λ other d bytes o at.
-    let old = c.args.self.now in
-    let h = c.in-Err.ensures in
-    let next = is_instruction o.next (at.next ∙ ap next_of c.requires.next) in
-    let rest = at.rest ∙ ap list_of c.requires.rest in
-    rw (h.refused.1)
-    (end_on_stops g.L.Leveled.at o (map frame_of old.around.items) c.in-Err.halt.number (cursor d old.bits old.spare bytes) at.around
-    (λ none. c.requires.inside c.requires.next (no_frame old.around.items none) c.requires.rest)
-    h.inside next rest (rw (c.level.ensures) at h.refused.0) h.refused.2)
-
-pub returns-in_ok-take_up-in-Some-clause-goes : goal.returns-in_ok-take_up-in-Some-clause-goes
-returns-in_ok-take_up-in-Some-clause-goes g c = λ d bytes o at.
-    let old = c.args.self.now in
-    let f = c.in-Some.field-0 in
-    let fs = map frame_of c.pop.new.self.items in
-    let l = last_of o.around fs (frame_of f) (at.0.around ∙ popped old.around.items c.pop.new.self.items c.pop.result f c.pop.ensures.items c.in-Some.is) in
-    let next = is_instruction o.next (at.0.next ∙ ap next_of c.requires.next) in
-    let rest = at.0.rest ∙ ap list_of c.requires.rest in
-    let end = c.in_ok-take_up-in-Some.ensures in
-    let b = l.last.body in
-    let i = l.last.inside in
-    let had = end.has o d l.before l.last next rest l.is (inside_of_last o.around fs (frame_of f) l) at.1 in (
-      ended_in o l.before b i,
-      (record { next = had.1; rest = rw (end.rest) (ended_rest o l.before b i ∙ rest_of_last o.around fs (frame_of f) l); around = rw (end.around) (ended_bare o l.before b i ∙ l.rests) }, had.0),
-      ended_same o l.before b i,
-      λ more. rw (end.bits, end.spare) (end_on g.L.Leveled.at o l.before fs (frame_of f) l (cursor d old.bits old.spare (bytes ++ more)) (rw (c.level.ensures) at c.in-Ok.ensures.clear) next rest),
-    )
-
-pub returns-in_ok-take_up-in-Some-clause-ready : goal.returns-in_ok-take_up-in-Some-clause-ready
-returns-in_ok-take_up-in-Some-clause-ready g c = λ serves ready.
-    let old = c.args.self.now in
-    let f = c.in-Some.field-0 in
-    let fs = map frame_of c.pop.new.self.items in
-    let end = c.in_ok-take_up-in-Some.ensures in
-    let p = served_pop serves fs (frame_of f) (rw (popped old.around.items c.pop.new.self.items c.pop.result f c.pop.ensures.items c.in-Some.is) at ready.around) in
-    record { next = end.served serves p.1.1; rest = rw (end.rest) p.1.0; around = rw (end.around) p.0 }
+pub returns-clause-goes : goal.returns-clause-goes
+returns-clause-goes g c = λ d bytes.
+    let has = g.R.Receiver.has in
+    let level = g.L.Leveled.at in
+    goes_on (At has c.args.self.now c.args.receiver.now d) (At has c.leave.new.self c.leave.new.receiver d) (At has c.end_elements.new.self c.end_elements.new.receiver d)
+    (reads_on level c.args.self.now d) (reads_on level c.leave.new.self d) (reads_on level c.end_elements.new.self d)
+    bytes bytes bytes (c.in_ok-leave.ensures.goes d bytes) (c.in_ok-end_elements.ensures.goes level d bytes)

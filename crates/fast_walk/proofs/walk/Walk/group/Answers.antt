@@ -36,10 +36,10 @@ returns-in_ok-left_out-in-Ok-clause-goes g c = λ d o at.
     let members = list_of c.args.members.now in
     let next = is_instruction o.next (at.0.next ∙ ap next_of c.requires.next) in
     let bit : bit_for (is_optional c.args.presence) old.bits ≡ false = rw (← c.is_optional-optional.ensures, ← c.first_for-present.ensures) c.if-present.false in
-    let end = c.pass.ensures in (
+    let end = c.pass_field.ensures in (
       passed o others (single None),
       (
-        record { next = ap next_of (sym end.next); rest = ap list_of (sym end.rest); around = rw end.around at.0.around },
+        record { next = ap next_of (sym (end.next ∙ c.requires.next)); rest = ap list_of (sym end.rest); around = rw end.around at.0.around },
         c.in_ok-left_out-in-Ok.ensures.has c.args.number c.args.presence members others o d next (at.0.rest ∙ c.requires.first) (needed (is_optional c.args.presence) old.bits bit) at.1,
       ),
       record { set = refl; before = refl; template = refl; members = refl; start = refl },
@@ -66,7 +66,7 @@ returns-in_ok-open-in-Ok-read_own_map-clause-goes g c = λ d o at.
       entered o c.args.number bits members others,
       (
         record {
-          next = ap next_of (sym end.next);
+          next = ap next_of (sym (end.next ∙ c.requires.next));
           rest = ap list_of (sym end.rest);
           around = rw (end.around, c.take_for.ensures, c.is_optional-optional.ensures) (map_push bare o.around (record { bits = bits; number = c.args.number; body = record { rest = others; done = o.body.done }; inside = in_group })
               ∙ ap (λ (ws : List Waiting). ws ++ record { bits = bits; number = c.args.number; body = record { rest = others; done = [] }; inside = in_group } ∷ []) at.0.around);
@@ -86,4 +86,4 @@ pub returns-in_ok-open-in-Ok-read_own_map-clause-ready : goal.returns-in_ok-open
 returns-in_ok-open-in-Ok-read_own_map-clause-ready g c = λ serves ready.
     let end = c.in_ok-open-in-Ok-read_own_map.ensures in
     let rest = rw (c.requires.first) at ready.rest in
-    record { next = rw (end.next) tt; rest = rw (end.rest) rest.0; around = rw (end.around) (served_push serves _ _ ready.around (rest.1, tt)) }
+    record { next = rw (end.next, c.requires.next) tt; rest = rw (end.rest) rest.0; around = rw (end.around) (served_push serves _ _ ready.around (rest.1, tt)) }
