@@ -1,6 +1,6 @@
 //! Writes the canonical bytes of messages as they are read.
 
-use crate::count::relay_count;
+use crate::count::{relay_count, relay_length};
 use crate::fields::take_fields;
 use crate::quick::relay_part;
 use crate::segment::Segment;
@@ -281,7 +281,7 @@ impl Receiver for Writer {
         bytes: &[u8],
         at: usize,
     ) -> Result<(Option<u32>, usize), FieldFault> {
-        match relay_count(alloc, entries, part, bit, level, bytes, at, &mut self.inner) {
+        match relay_length(alloc, entries, part, bit, level, bytes, at, &mut self.inner) {
             Err(fault) => Err(fault),
             Ok((length, next)) => Ok((length, next)),
         }
