@@ -8,6 +8,6 @@ pub mod Relays
 pub mod Writers
 mod Rooms
 mod MapRoom
-mod LastSegment
+mod Arounds
 pub mod Takings
 mod SpeltParts
