@@ -17,6 +17,7 @@ mod Judging
 mod DecimalJudging
 mod VectorJudging
 mod OneByte
+mod ShortLengths
 mod StringEnds
 mod StringJudging
 mod AsciiWords

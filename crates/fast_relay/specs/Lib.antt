@@ -1,6 +1,7 @@
 pub mod Judged
 pub mod Numbers
 pub mod Relayed
+pub mod OneByte
 pub mod Runs
 pub mod Texts
 pub mod Kept

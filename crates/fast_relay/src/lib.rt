@@ -4,7 +4,7 @@
 //! [`relay_null`] NULL of any type: each reads a field under bit 1, makes the entry
 //! the one afterwards, and appends the best form of its value, or nothing where that is bit 0, since bit 0 gives the value
 //! too; it answers what became of the field ([`Relayed`]). [`relay_unsigned`] serves numbers that are wanted, and answers
-//! them. What bit 0 gives is
+//! them; [`read_short_length`] reads those in one byte that no entry keeps. What bit 0 gives is
 //! `pass_left_out` of `fast_field`. Where nothing has changed the field goes the general way of `fast_field`: `find_field`
 //! and `write_found`. [`take_number`] reads an integer in the same way and writes nothing, [`take_kept`] one that its
 //! entry keeps, [`take_decimal`] a decimal in one piece that it keeps, [`take_text`] an ASCII string and [`take_vector`]
@@ -48,6 +48,7 @@ pub use decimal::relay_decimal;
 pub use judged::{Judged, judge_field};
 pub use null::relay_null;
 pub use number::relay_unsigned;
+pub use one_byte::read_short_length;
 pub use passed::pass_quickly;
 pub use relayed::Relayed;
 pub use run::Run;

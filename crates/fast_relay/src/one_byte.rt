@@ -4,11 +4,16 @@ ghost use Rattle.std.specs.Prelude.{◌≡◌, ◌+◌, ◌<◌, ◌≤◌, pos,
 ghost use Rattle.fast_field.specs.Chosen.{ShortestSigned};
 ghost use Rattle.fast_relay.specs.Judged.{StandsAt, StandsFrom, zero_byte};
 ghost use Rattle.fast_relay.specs.Numbers.{Spelt};
+ghost use Rattle.fast_relay.specs.OneByte.{RelaysByte};
 ghost use Rattle.fast_relay.specs.Runs.{AppendsForm};
+ghost use Rattle.fast_template.specs.Resolved.{part_needs_bit};
+ghost use Rattle.fast_value.specs.declared.kind.Kind.TheVariants.{UInt32};
+ghost use Rattle.fast_value.specs.declared.kind.Part.TheVariants.{Length};
 
 use crate::judged::{read_behind, read_number, read_shortest};
+use crate::null::begins_with_null;
 use crate::vectors::few_bytes;
-use fast_template::Presence;
+use fast_template::{FieldPart, Operator, Presence};
 
 /// A removal below this takes one byte, with NULL and without.
 const FEW: u8 = 63;
@@ -172,4 +177,29 @@ pub(crate) fn read_length(presence: Presence, bytes: &[u8], at: usize) -> Option
         return None;
     }
     read_long_length(presence, bytes, at)
+}
+
+/// Reads the length of a sequence, or NULL, that is always sent, kept nowhere, and stands in one byte, which is its best form.
+/// None: another way tells.
+#[inline(always)]
+pub fn read_short_length(instr: &FieldPart, bytes: &[u8], at: usize) -> Option<Option<u32>>
+    requires place { at ≤ length bytes.now }
+    requires kind { instr.now.kind ≡ UInt32 }
+    requires part { instr.now.part ≡ Length }
+    ensures place { IfSome result (λ number. at < length bytes.now) }
+    ensures bit { IfSome result (λ number. part_needs_bit instr.now ≡ false) }
+    ensures relays { IfSome result (λ number. RelaysByte instr.now number bytes.now at) }
+{
+    if instr.operator != Operator::Plain {
+        return None;
+    }
+    if instr.presence == Presence::Optional && begins_with_null(bytes, at) {
+        return Some(None);
+    }
+    let zero = zero_byte(instr.presence);
+    if at < bytes.len() && bytes[at] >= zero {
+        Some(Some(u32::from(bytes[at] - zero)))
+    } else {
+        None
+    }
 }

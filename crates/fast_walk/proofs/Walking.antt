@@ -20,7 +20,7 @@ use Rattle.fast_stream.specs.Reading.{Cursor, Reads, node_at, field_part_at, own
 use Rattle.fast_walk.specs.OpenSegments.{Body, Sequel, Waiting, Inside, in_group, in_sequence, Next, at_instruction, at_mantissa, at_element, with_item, with_element, fewer, under_bits, body_on, mantissa_on, elements_on, top_on, behind_inside, all_around}
 use Rattle.fast_walk.specs.Received.{Received, Same, Goes, IsExponent, ended_in, in_next}
 use Rattle.fast_walk.specs.Room.{left_around}
-use Rattle.fast_walk.specs.Walks.{bare_inside, bare, bare_next, bare_sequel, frame_of, AreAllServed, IsWaitingServed}
+use Rattle.fast_walk.specs.Walks.{bare_inside, bare, bare_next, bare_sequel, frame_of, inside_of, AreAllServed, IsWaitingServed}
 use Rattle.fast_walk.specs.declared.walk.Frame.{Frame as FrameNow}
 use Rattle.fast_walk.proofs.Steps.{field_goes, no_group_goes, group_goes, piece_stops, end_goes, whole_goes, exponent_goes, no_exponent_goes, length_goes, no_length_goes, mantissa_goes, mantissa_stops, element_goes, no_map_stops, no_node_stops, no_more_goes, end_stops, set_stops}
 
@@ -198,6 +198,13 @@ last_frame [] n f d ws w long h = absurd (nothing_ends ws w h)
 last_frame (g ∷ fs) zero f d ws w long h = absurd (omega (arith, long))
 last_frame (g ∷ fs) (suc i) f d ws w long h = let e : suc i - 1 ≡ i = omega arith in rw e (last_at (g ∷ fs) i f d ws w long h)
 
+pub same_sequel : (s t : Sequel) → in_sequence s ≡ in_sequence t → s ≡ t
+unfolding inside_sequel
+same_sequel s t h = ap (inside_sequel t) h
+
+pub no_sequel : (t : Sequel) → in_group ≡ in_sequence t → ⊥
+no_sequel t h = absurd cc
+
 -- ---- keys
 
 pub served_push : (serves : Key → Bool) (ws : List Waiting) (w : Waiting) → AreAllServed serves ws → IsWaitingServed serves w → AreAllServed serves (ws ++ w ∷ [])
@@ -252,6 +259,14 @@ has_last (u ∷ []) some = record { before = []; last = u; is = refl }
 has_last (u ∷ v ∷ us) some =
     let l = has_last (v ∷ us) (λ e. absurd cc) in
     record { before = u ∷ l.before; last = l.last; is = ap (λ (ws : List Waiting). u ∷ ws) l.is }
+
+-- what the last frame is to the body that waits in it
+pub inside_last : (fs : List FrameNow) (n : ℕ) (f : FrameNow) (t : Sequel) (number : ℕ) → length fs ≡ n → (map frame_of fs ≡ [] → ⊥)
+    → ((ws : List Waiting) (w : Waiting) → map frame_of fs ≡ ws ++ w ∷ [] → (w.inside ≡ in_sequence t) × (w.number ≡ number)) → f ≡ slice_index_or fs (n - 1) f → inside_of f.inside ≡ in_sequence t
+inside_last fs n f t number long some last is =
+    let l = has_last (map frame_of fs) some in
+    let at = last_frame fs n f f l.before l.last long l.is in
+    ap (λ (w : Waiting). w.inside) (ap frame_of is ∙ at.0) ∙ (last l.before l.last l.is).0
 
 pub no_frame : (fs : List FrameNow) → map frame_of fs ≡ [] → fs ≡ []
 no_frame [] h = refl

@@ -755,6 +755,10 @@ impl<'a> Walk<'a> {
     fn go_on(&mut self, sequel: Sequel<'a>, fresh: Bits)
         requires spare { 0 < self.now.spare }
         requires left { 0 < sequel.left }
+        requires inside { self.now.around.items ≢ [] }
+        requires last { (ws : List Waiting) (w : Waiting)
+            → map frame_of self.now.around.items ≡ ws ++ w ∷ []
+            → (w.inside ≡ in_sequence (sequel_of sequel)) × (w.number ≡ sequel.number) }
         ensures bits { self.new.bits ≡ fresh }
         ensures spare { self.new.spare ≡ self.old.spare - 1 }
         ensures next { self.new.next ≡ self.old.next }
@@ -769,18 +773,15 @@ impl<'a> Walk<'a> {
             } ∷ [] }
         ensures depth { length self.new.around.items ≡ length self.old.around.items }
     {
-        let others = Sequel {
-            number: sequel.number,
-            own_map: sequel.own_map,
-            members: sequel.members,
-            left: sequel.left - 1,
-        };
         self.bits = fresh;
         self.spare -= 1;
         self.rest = sequel.members;
         match self.around.last_mut() {
             None => {}
-            Some(frame) => frame.inside = Inside::Element(others),
+            Some(frame) => match &mut frame.inside {
+                Inside::Element(elements) => elements.left -= 1,
+                Inside::Group(_) => unreachable!(),
+            },
         }
     }
 

@@ -8,7 +8,7 @@ pub mod Relays
 pub mod Writers
 mod Rooms
 mod MapRoom
-mod LastSegment
+mod Arounds
 pub mod Takings
 mod SpeltParts
 mod Beginnings

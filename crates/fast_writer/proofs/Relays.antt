@@ -1,19 +1,21 @@
 -- A part that was read and written at once.
-use Rattle.std.proofs.Common.{◌≡◌, ℕ, Bool, List, ◌++◌, Option, Some, Ok, true, false, [], refl, sym, ap, ◌∙◌, append-nil}
+use Rattle.std.proofs.Common.{◌≡◌, ℕ, ◌+◌, Bool, List, ◌++◌, ◌∷◌, Option, Some, None, Ok, true, false, [], drop, refl, sym, ap, ◌∙◌, append-nil}
+use Rattle.std.specs.Prelude.{slice_index}
 use Rattle.fast_template.specs.declared.resolved.FieldPart.{FieldPart}
 use Rattle.fast_value.specs.declared.scalar.Scalar.{Scalar}
 use Rattle.fast_template.specs.Resolved.{part_needs_bit}
 use Rattle.fast_dictionary.specs.declared.entry.Entry.{Entry}
-use Rattle.fast_dictionary.specs.Dictionary.{Dictionary, entry_at, set_entry}
+use Rattle.fast_dictionary.specs.Dictionary.{Dictionary, entry_at, set_entry, set_entry-there}
 use Rattle.fast_wire.specs.declared.level.Level.{Level}
 use Rattle.fast_field.specs.Bases.{next}
 use Rattle.fast_field.specs.FieldReading.{field_at}
 use Rattle.fast_field.specs.AsUsual.{ReadsAsUsual}
 use Rattle.fast_relay.specs.Relayed.{Relays}
+use Rattle.fast_relay.specs.OneByte.{RelaysByte}
 use Rattle.fast_relay.specs.Runs.{written}
 use Rattle.fast_relay.specs.declared.run.Run.{Run}
 use Rattle.fast_relay.proofs.Runs.{settled}
-use Rattle.fast_walk.specs.Received.{Took}
+use Rattle.fast_walk.specs.Received.{Took, length_of}
 use Rattle.fast_walk.proofs.Putting.{set_written}
 use Rattle.fast_writer.specs.Levels.{level_in, level_of}
 use Rattle.fast_stream.specs.Bits.{bit_for}
@@ -100,3 +102,28 @@ begun bytes r s at out from place = rw (out, from, place) (settled bytes r.out.i
 pub took_behind : (level : Level) (p : FieldPart) (old new : Entry) (bits : List Bool) (v : Option Scalar) (bytes rest later : List ℕ) (l k : Segment) → later ≡ rest
     → TookEntry level p old new bits v bytes rest l k → TookEntry level p old new bits v bytes later l k
 took_behind level p old new bits v bytes rest later l k same t = rw (same) t
+
+-- a length in one byte, whose entry stays
+pub byte_relayed : (level : Level) (i : FieldPart) (count : Option ℕ) (bytes : List ℕ) (at : ℕ) → ReadsAsUsual level i (drop at bytes) → RelaysByte i count bytes at → (e : Entry) (out : List ℕ)
+    → Relayed level i e e true true (length_of count) (drop at bytes) (drop (at + 1) bytes) out (out ++ slice_index bytes at ∷ [])
+byte_relayed level i (Some n) bytes at usual relays e out =
+    let r = relays e out in
+    record { read = λ more. usual e more ∙ r.read more; entry = r.entry; form = record { form = r.best.bytes; appended = r.best.appended; best = r.best.best; needs = λ none. refl } }
+byte_relayed level i None bytes at usual relays e out =
+    let r = relays e out in
+    record { read = λ more. usual e more ∙ r.read more; entry = r.entry; form = record { form = r.best.bytes; appended = r.best.appended; best = r.best.best; needs = λ none. refl } }
+
+pub byte_took : (level : Level) (p : FieldPart) (bit : Bool) (d : Dictionary) (count : Option ℕ) (bytes : List ℕ) (at : ℕ) → bit ≡ true → ReadsAsUsual level p (drop at bytes) → RelaysByte p count bytes at
+    → Took level p bit d d (length_of count) (drop at bytes) (drop (at + 1) bytes)
+byte_took level p bit d count bytes at is usual relays =
+    let e = entry_at d p.key in
+    let r = byte_relayed level p count bytes at usual relays e [] in
+    took_of level p bit d d e e (length_of count) (drop at bytes) (drop (at + 1) bytes) refl (sym (set_entry-there d p.key)) r.entry (rw (is) r.read)
+
+-- where no bit is asked for
+pub byte_spelt : (level : Level) (p : FieldPart) (d : Dictionary) (count : Option ℕ) (bytes : List ℕ) (at : ℕ) (l k : Segment) → part_needs_bit p ≡ false → ReadsAsUsual level p (drop at bytes) → RelaysByte p count bytes at
+    → k.bits ≡ l.bits → k.own ≡ l.own → k.bytes ≡ l.bytes ++ slice_index bytes at ∷ [] → Spelt p (entry_at d p.key) (length_of count) l k
+byte_spelt level p d count bytes at l k none usual relays bits own pushed =
+    let e = entry_at d p.key in
+    let r = byte_relayed level p count bytes at usual relays e l.bytes in
+    spelt_of p d e (length_of count) true false l k (l.bytes ++ slice_index bytes at ∷ []) refl (sym none) r.form (record { bits = bits ∙ sym (append-nil l.bits); own = own; bytes = pushed })

@@ -16,4 +16,4 @@ have_room ls around = false
 
 -- each map that is open has room for what is left of the one that was read
 abbrev pub writer_room : Writer → List (List Bool) → List Bool → Bool
-writer_room w around left = has_room (level_of w.inner) left && have_room (map level_of w.outer.items) around
+writer_room w around left = has_room (level_of w.inner) left && have_room (map level_of w.outer) around

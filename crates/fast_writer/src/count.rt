@@ -11,7 +11,8 @@ ghost use Rattle.fast_field.specs.Parts.{IsFieldPart};
 ghost use Rattle.fast_field.specs.Within.{HoldsScalar};
 ghost use Rattle.fast_field.specs.Passed.{Passes};
 ghost use Rattle.fast_walk.specs.Received.{Took, length_of};
-ghost use Rattle.fast_walk.specs.Told.{KeepScalars};
+ghost use Rattle.fast_value.specs.declared.kind.Part.TheVariants.{Length};
+ghost use Rattle.fast_walk.specs.Told.{IsTold, KeepScalars};
 ghost use Rattle.fast_stream.specs.Bits.{after_bit, bit_for};
 ghost use Rattle.fast_relay.specs.Runs.{IsRun, Stays, written};
 ghost use Rattle.fast_writer.specs.Levels.{level_of};
@@ -23,7 +24,7 @@ use crate::relay::relay_entry;
 use crate::segment::Segment;
 use fast_dictionary::{Entries, Entry};
 use fast_field::{FieldFault, Passed, pass_left_out, reads_as_usual};
-use fast_relay::{Relayed as Answer, Run, relay_null, relay_unsigned};
+use fast_relay::{Relayed as Answer, Run, read_short_length, relay_null, relay_unsigned};
 use fast_template::{FieldPart, Kind, Operator, Scalar, part_needs_bit};
 use fast_wire::Level;
 use std::alloc::Global;
@@ -224,4 +225,52 @@ pub(crate) fn relay_count<E: Entries>(
     }
     segment.ask(part_needs_bit(part), best)?;
     Ok((count, next))
+}
+
+/// The same of the length of a sequence. Most stand in one byte and are kept nowhere, so that no entry is asked for.
+///
+/// # Errors
+///
+/// As `relay_count`.
+#[inline(always)]
+pub(crate) fn relay_length<E: Entries>(
+    alloc: Global,
+    entries: &mut E,
+    part: &FieldPart,
+    bit: bool,
+    level: Level,
+    bytes: &[u8],
+    at: usize,
+    segment: &mut Segment,
+) -> Result<(Option<u32>, usize), FieldFault>
+    requires place { at ≤ length bytes.now }
+    requires bit { part_needs_bit_of part.now ≡ false → bit ≡ true }
+    requires served { IsTrue (E.serves entries.now part.now.key) }
+    requires told { IsTold Length UInt32 part.now }
+    requires kept { KeepScalars (E.contents entries.now) }
+    ensures place { IfOk result (λ x. (at ≤ x.1) × (x.1 ≤ length bytes.now)) }
+    ensures took { IfOk result (λ x. Took level part.now bit (E.contents entries.old) (E.contents
+        entries.new) (length_of x.0) (drop at bytes.now) (drop x.1 bytes.now)) }
+    ensures spelt { IfOk result (λ x.
+        Spelt part.now (entry_at (E.contents entries.old) part.now.key) (length_of x.0)
+        (level_of segment.old) (level_of segment.new)) }
+    ensures room { OnOk result ((left : List Bool) → bit ≡ bit_for (part_needs_bit_of part.now) left
+        → IsTrue (has_room (level_of segment.old) left)
+        → IsTrue (has_room (level_of segment.new) (after_bit (part_needs_bit_of part.now) left))) }
+    ensures stops { IfErr result (λ f. f ≢ FieldFault.Memory
+        → (field_at level part.now (entry_at (E.contents entries.old) part.now.key) bit
+        (drop at bytes.now) ≡ Err f)
+        × (E.contents entries.new ≡ E.contents entries.old)
+        × (level_of segment.new ≡ level_of segment.old)) }
+    ensures same_keys { E.serves entries.new ≡ E.serves entries.old }
+{
+    if reads_as_usual(level, part, bytes, at)
+        && let Some(count) = read_short_length(part, bytes, at)
+    {
+        return match segment.bytes.out.push(bytes[at]) {
+            Err(_) => Err(FieldFault::Memory),
+            Ok(()) => Ok((count, at + 1)),
+        };
+    }
+    relay_count(alloc, entries, part, bit, level, bytes, at, segment)
 }

@@ -6,6 +6,7 @@
 //! [`Segment`] is one segment that is being written.
 #![tactic(auto)]
 
+mod around;
 mod count;
 mod fields;
 mod laws;

@@ -1,6 +1,7 @@
 //! Writes the canonical bytes of messages as they are read.
 
-use crate::count::relay_count;
+use crate::around::Around;
+use crate::count::{relay_count, relay_length};
 use crate::fields::take_fields;
 use crate::quick::relay_part;
 use crate::segment::Segment;
@@ -10,7 +11,6 @@ use fast_template::{FieldPart, Flat, Name, Presence};
 use fast_walk::{Fields, Output, Receiver};
 use fast_wire::{Bits, Level};
 use std::alloc::{AllocError, Global};
-use std::mem;
 
 /// Writes the canonical bytes of the messages that it receives, each field as it is read and on the same entries.
 ///
@@ -20,9 +20,7 @@ use std::mem;
 pub struct Writer {
     // the innermost open segment, and those around it
     inner: Segment,
-    outer: Vec<Segment>,
-    // segments that were open, kept for their memory
-    spare: Vec<Segment>,
+    outer: Around,
     // of the messages that are finished and not handed on
     out: Vec<u8>,
 }
@@ -45,44 +43,23 @@ impl Writer {
     {
         Writer {
             inner: Segment::new(alloc, true),
-            outer: Vec::new(alloc),
-            spare: Vec::new(alloc),
+            outer: Around::new(alloc),
             out: Vec::new(alloc),
-        }
-    }
-
-    // A segment of nothing, one that was used where there is one.
-    #[inline(always)]
-    fn fresh(&mut self, alloc: Global, own: bool) -> Segment
-        ensures bits { result.bits ≡ [] }
-        ensures own { result.own ≡ own }
-        ensures bytes { result.bytes.out.items ≡ [] }
-        ensures inner { self.new.inner ≡ self.old.inner }
-        ensures outer { self.new.outer ≡ self.old.outer }
-        ensures out { self.new.out ≡ self.old.out }
-    {
-        match self.spare.pop() {
-            None => Segment::new(alloc, own),
-            Some(mut segment) => {
-                segment.begin(own);
-                segment
-            }
         }
     }
 
     // Begins a segment inside the one that is open.
     #[inline(always)]
     fn open(&mut self, alloc: Global, own: bool) -> Result<(), AllocError>
-        ensures outer { OnOk result (map level_of self.new.outer.items
-            ≡ map level_of self.old.outer.items ++ level_of self.old.inner ∷ []) }
+        ensures outer { OnOk result (map level_of self.new.outer
+            ≡ map level_of self.old.outer ++ level_of self.old.inner ∷ []) }
         ensures bits { OnOk result (self.new.inner.bits ≡ []) }
         ensures own { OnOk result (self.new.inner.own ≡ own) }
         ensures bytes { OnOk result (self.new.inner.bytes.out.items ≡ []) }
         ensures out { self.new.out ≡ self.old.out }
     {
-        let inner = self.fresh(alloc, own);
-        let around = mem::replace(&mut self.inner, inner);
-        self.outer.push(around)?;
+        self.outer.push(alloc, &mut self.inner)?;
+        self.inner.begin(own);
         Ok(())
     }
 
@@ -91,23 +68,16 @@ impl Writer {
     fn close(&mut self) -> Result<(), AllocError>
         requires room { (around : List (List Bool)) × (left : List Bool) × (bits : List Bool)
             × IsTrue (writer_room self.now (around ++ left ∷ []) bits) }
-        ensures closed { OnOk result (Closes (map level_of self.old.outer.items)
-            (level_of self.old.inner) (map level_of self.new.outer.items)
+        ensures closed { OnOk result (Closes (map level_of self.old.outer)
+            (level_of self.old.inner) (map level_of self.new.outer)
             (level_of self.new.inner)) }
         ensures room { OnOk result ((around : List (List Bool)) (left bits : List Bool)
             → IsTrue (writer_room self.old (around ++ left ∷ []) bits)
             → IsTrue (writer_room self.new around left)) }
         ensures out { self.new.out ≡ self.old.out }
     {
-        match self.outer.pop() {
-            None => unreachable!(),
-            Some(around) => {
-                let inner = mem::replace(&mut self.inner, around);
-                inner.end(&mut self.inner.bytes.out)?;
-                self.spare.push(inner)?;
-                Ok(())
-            }
-        }
+        self.outer.close(&mut self.inner)?;
+        Ok(())
     }
 
     // Ends the segment that is open, in the one around it, and begins another in the same memory.
@@ -115,21 +85,16 @@ impl Writer {
     fn close_and_open(&mut self, own: bool) -> Result<(), AllocError>
         requires room { (around : List (List Bool)) × (left : List Bool) × (bits : List Bool)
             × IsTrue (writer_room self.now (around ++ left ∷ []) bits) }
-        ensures closed { OnOk result (ClosesIn (map level_of self.old.outer.items)
-            (level_of self.old.inner) (map level_of self.new.outer.items)) }
+        ensures closed { OnOk result (ClosesIn (map level_of self.old.outer)
+            (level_of self.old.inner) (map level_of self.new.outer)) }
         ensures bits { OnOk result (self.new.inner.bits ≡ []) }
         ensures own { OnOk result (self.new.inner.own ≡ own) }
         ensures bytes { OnOk result (self.new.inner.bytes.out.items ≡ []) }
         ensures out { self.new.out ≡ self.old.out }
     {
-        match self.outer.last_mut() {
-            None => unreachable!(),
-            Some(around) => {
-                self.inner.end(&mut around.bytes.out)?;
-                self.inner.begin(own);
-                Ok(())
-            }
-        }
+        self.outer.end(&self.inner)?;
+        self.inner.begin(own);
+        Ok(())
     }
 }
 
@@ -281,7 +246,7 @@ impl Receiver for Writer {
         bytes: &[u8],
         at: usize,
     ) -> Result<(Option<u32>, usize), FieldFault> {
-        match relay_count(alloc, entries, part, bit, level, bytes, at, &mut self.inner) {
+        match relay_length(alloc, entries, part, bit, level, bytes, at, &mut self.inner) {
             Err(fault) => Err(fault),
             Ok((length, next)) => Ok((length, next)),
         }

@@ -15,11 +15,11 @@ returns-in-Ok-Some-default-clause-goes g c =
       took,
       λ set ms members stands. (
         stands,
-        has_opened (map level_of c.clear.new.self.items) (level_of c.begin.new.self) (level_of c.relay_count.new.segment) set ms c.in-Ok-Some-default.id members d e
-            (ap (map level_of) c.clear.ensures.items) c.begin.ensures.bits c.begin.ensures.own c.begin.ensures.bytes (rw (named) at took.entry) (rw (named) at spelt),
+        has_opened (map level_of c.clear.new.self) (level_of c.begin.new.self) (level_of c.relay_count.new.segment) set ms c.in-Ok-Some-default.id members d e
+            (ap (map level_of) c.clear.ensures) c.begin.ensures.bits c.begin.ensures.own c.begin.ensures.bytes (rw (named) at took.entry) (rw (named) at spelt),
       ),
     )
 
 pub returns-in-Ok-Some-default-clause-room : goal.returns-in-Ok-Some-default-clause-room
 returns-in-Ok-Some-default-clause-room g c = λ left is few.
-    rw (c.in-Ok-Some-default.ensures.room left is (fresh_room (level_of c.begin.new.self) left c.begin.ensures.bits few), c.clear.ensures.items) refl
+    rw (c.in-Ok-Some-default.ensures.room left is (fresh_room (level_of c.begin.new.self) left c.begin.ensures.bits few), c.clear.ensures) refl

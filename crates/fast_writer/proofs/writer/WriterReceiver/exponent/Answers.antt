@@ -20,10 +20,10 @@ returns-in-Ok-clause-goes g c =
       is_exponent x.0 c.in-Ok.there x.2,
       λ number mantissa is o next first has. (
         exponent_finished x.0 old.out.items o is mantissa has.0,
-        has_exponent x.0 (map level_of old.outer.items) (level_of old.inner) (level_of c.relay_part.new.segment) o c.args._name.now number c.args._presence c.args.part.now mantissa is d e next first took.entry (rw (x.1) at r.3) has.1,
+        has_exponent x.0 (map level_of old.outer) (level_of old.inner) (level_of c.relay_part.new.segment) o c.args._name.now number c.args._presence c.args.part.now mantissa is d e next first took.entry (rw (x.1) at r.3) has.1,
       ),
     )
 
 pub returns-in-Ok-clause-room : goal.returns-in-Ok-clause-room
 returns-in-Ok-clause-room g c = λ around left is.
-    inner_room _ _ (have_room (map level_of c.args.self.now.outer.items) around) (c.in-Ok.ensures.room left is)
+    inner_room _ _ (have_room (map level_of c.args.self.now.outer) around) (c.in-Ok.ensures.room left is)

@@ -17,7 +17,7 @@ returns-in-Ok-clause-goes g c =
       r.2,
       λ number is o next first has. (
         has.0,
-        has_field (map level_of old.outer.items) (level_of old.inner) (level_of c.relay_part.new.segment) o c.args._name.now number c.args._presence c.args.part.now is d e r.0 next first r.2.entry r.3 has.1,
+        has_field (map level_of old.outer) (level_of old.inner) (level_of c.relay_part.new.segment) o c.args._name.now number c.args._presence c.args.part.now is d e r.0 next first r.2.entry r.3 has.1,
       ),
     )
 
@@ -26,4 +26,4 @@ relay_part-requires-clause-part g c = told_part part.Whole c.args.part.now.kind 
 
 pub returns-in-Ok-clause-room : goal.returns-in-Ok-clause-room
 returns-in-Ok-clause-room g c = λ around left is.
-    inner_room _ _ (have_room (map level_of c.args.self.now.outer.items) around) (c.in-Ok.ensures.room left is)
+    inner_room _ _ (have_room (map level_of c.args.self.now.outer) around) (c.in-Ok.ensures.room left is)

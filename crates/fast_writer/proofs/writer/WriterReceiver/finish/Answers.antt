@@ -8,7 +8,7 @@ use Rattle.fast_writer.proofs.writer.WriterReceiver.finish.Goals as goal
 pub returns-clause-stands : goal.returns-clause-stands
 returns-clause-stands c = λ o d next rest none known few has.
     let old = c.args.self.now in
-    has_finished (map level_of old.outer.items) (level_of old.inner) o d old.out.items c.end.new.out.items next rest none known few c.in_ok-end.ensures.ended has.0 has.1
+    has_finished (map level_of old.outer) (level_of old.inner) o d old.out.items c.end.new.out.items next rest none known few c.in_ok-end.ensures.ended has.0 has.1
 
 pub end-requires : goal.end-requires
 end-requires c =

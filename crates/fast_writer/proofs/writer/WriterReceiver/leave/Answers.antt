@@ -11,5 +11,5 @@ returns-clause-has c = λ o d ws w next rest is inside has.
     let old = c.args.self.now in
     let new = c.close.new.self in (
       subst (λ (v : Vec ℕ). IsFinished v.items o.set o.before o.start) (sym c.close.ensures.out) has.0,
-      has_ended in_group (map level_of old.outer.items) (map level_of new.outer.items) (level_of old.inner) (level_of new.inner) o ws w d next rest is inside c.in_ok-close.ensures.closed has.1,
+      has_ended in_group (map level_of old.outer) (map level_of new.outer) (level_of old.inner) (level_of new.inner) o ws w d next rest is inside c.in_ok-close.ensures.closed has.1,
     )

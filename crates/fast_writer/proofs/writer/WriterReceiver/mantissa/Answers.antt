@@ -19,10 +19,10 @@ returns-in-Ok-clause-goes g c =
       took,
       λ z o next has. (
         has.0,
-        has_mantissa (map level_of old.outer.items) (level_of old.inner) (level_of c.relay_part.new.segment) o z x.0 c.args.part.now d e next took.entry (rw (x.1) at r.3) has.1,
+        has_mantissa (map level_of old.outer) (level_of old.inner) (level_of c.relay_part.new.segment) o z x.0 c.args.part.now d e next took.entry (rw (x.1) at r.3) has.1,
       ),
     )
 
 pub returns-in-Ok-clause-room : goal.returns-in-Ok-clause-room
 returns-in-Ok-clause-room g c = λ around left is.
-    inner_room _ _ (have_room (map level_of c.args.self.now.outer.items) around) (c.in-Ok.ensures.room left is)
+    inner_room _ _ (have_room (map level_of c.args.self.now.outer) around) (c.in-Ok.ensures.room left is)
