@@ -1,5 +1,5 @@
 -- A part that was read and written at once.
-use Rattle.std.proofs.Common.{◌≡◌, ℕ, ◌+◌, Bool, List, ◌++◌, ◌∷◌, Option, Some, None, Ok, true, false, [], drop, refl, sym, ap, ◌∙◌, append-nil}
+use Rattle.std.proofs.Common.{IfSome, IfNone, ◌≡◌, ℕ, ◌+◌, Bool, List, ◌++◌, ◌∷◌, Option, Some, None, Ok, true, false, [], drop, refl, sym, ap, ◌∙◌, append-nil}
 use Rattle.std.specs.Prelude.{slice_index}
 use Rattle.fast_template.specs.declared.resolved.FieldPart.{FieldPart}
 use Rattle.fast_value.specs.declared.scalar.Scalar.{Scalar}
@@ -73,6 +73,17 @@ passes_relayed level i old new v bytes before needs p = record {
   entry = p.entry;
   form = record { form = []; appended = sym (append-nil before); best = p.best; needs = λ none. absurd (let both = sym needs ∙ none in cc) };
 }
+
+-- what bit 0 repeats under a key
+pub repeated_put : (p : FieldPart) (d e : Dictionary) (old new : Entry) (r : Option (Option ℕ)) → old ≡ entry_at d p.key → e ≡ set_entry d p.key new
+    → IfSome r (λ count. FieldPasses p old new (length_of count)) → IfSome r (λ count. (x : Entry) × FieldPasses p (entry_at d p.key) x (length_of count) × (e ≡ set_entry d p.key x))
+repeated_put p d e old new None is put passes = tt
+repeated_put p d e old new (Some count) is put passes = (new, rw (is) at passes, put)
+
+-- and where it was left as it is
+pub nothing_put : (p : FieldPart) (d e : Dictionary) (old new : Entry) (r : Option (Option ℕ)) → old ≡ entry_at d p.key → e ≡ set_entry d p.key new → IfNone r (new ≡ old) → IfNone r (e ≡ d)
+nothing_put p d e old new (Some count) is put same = tt
+nothing_put p d e old new None is put same = put ∙ ap (set_entry d p.key) (same ∙ is) ∙ set_entry-there d p.key
 
 pub spelt_of : (p : FieldPart) (d : Dictionary) (old : Entry) (v : Option Scalar) (bit needed : Bool) (l k : Segment) (bytes : List ℕ)
     → old ≡ entry_at d p.key → needed ≡ part_needs_bit p

@@ -32,6 +32,21 @@ next_flat (g ∷ flats) zero f is within = ap (λ (x : Flat). then_instruction (
 next_flat (g ∷ flats) (suc i) f is within =
     let later : suc i + 1 ≡ suc (i + 1) = omega arith in rw later (next_flat flats i f is (omega (arith, within)))
 
+-- an instruction that stands in front of what is left of a body, where that is what stands behind so many
+pub record InFront (flats : List Flat) (i : ℕ) (f : Flat) (later : List Flat) : Type 0 where
+  pub within : i < length flats
+  pub is : f ≡ get_or flats i f
+  pub later_is : later ≡ drop (i + 1) flats
+
+pub in_front : (flats : List Flat) (i : ℕ) (f : Flat) (later : List Flat) → drop i flats ≡ f ∷ later → InFront flats i f later
+in_front [] zero f later front = absurd cc
+in_front [] (suc i) f later front = absurd cc
+in_front (g ∷ flats) zero f later front = record { within = omega arith; is = cc; later_is = cc }
+in_front (g ∷ flats) (suc i) f later front =
+    let on = in_front flats i f later front in
+    let more : suc i + 1 ≡ suc (i + 1) = omega arith in
+    record { within = omega (arith, on.within); is = on.is; later_is = rw more on.later_is }
+
 -- what is next behind the exponent of a decimal in parts, whether it is there
 abbrev pub behind_exponent : Bool → FieldPart → Next
 behind_exponent true q = at_mantissa (pos 0) q

@@ -2,7 +2,8 @@
 
 ghost use Rattle.std.specs.Prelude.{◌≡◌, ◌≢◌, ◌≤◌, Err, IfNone, IfOk, IfErr, IfSome, OnOk, Bool, List, IsTrue, length, drop, false, true};
 ghost use Rattle.fast_template.specs.Resolved.{part_needs_bit as part_needs_bit_of};
-ghost use Rattle.fast_dictionary.specs.Dictionary.{entry_at};
+ghost use Rattle.fast_dictionary.specs.Dictionary.{entry_at, set_entry};
+ghost use Rattle.fast_dictionary.specs.declared.entry.Entry.{Entry as EntryOf};
 ghost use Rattle.std.specs.Option.{option_copied};
 ghost use Rattle.fast_value.specs.Scalar.{is_of};
 ghost use Rattle.fast_value.specs.declared.kind.Kind.TheVariants.{UInt32};
@@ -27,7 +28,7 @@ use fast_field::{FieldFault, Passed, pass_left_out, reads_as_usual};
 use fast_relay::{Relayed as Answer, Run, read_short_length, relay_null, relay_unsigned};
 use fast_template::{FieldPart, Kind, Operator, Scalar, part_needs_bit};
 use fast_wire::Level;
-use std::alloc::Global;
+use std::alloc::{AllocError, Global};
 
 // Takes the number of the entry that bit 0 repeats, or that there is none. None: nothing has changed, and the part goes
 // the general way.
@@ -225,6 +226,70 @@ pub(crate) fn relay_count<E: Entries>(
     }
     segment.ask(part_needs_bit(part), best)?;
     Ok((count, next))
+}
+
+// Takes the number that bit 0 repeats under a key, or that there is none. None: nothing has changed, and the part goes another
+// way.
+#[inline(always)]
+fn repeat_kept<E: Entries>(
+    entries: &mut E,
+    part: &FieldPart,
+) -> Result<Option<Option<u32>>, AllocError>
+    requires served { IsTrue (E.serves entries.now part.now.key) }
+    ensures passed { IfOk result (λ repeated. IfSome repeated (λ count. (new : EntryOf)
+        × Passes part.now (entry_at (E.contents entries.old) part.now.key) new (length_of count)
+        × (E.contents entries.new ≡ set_entry (E.contents entries.old) part.now.key new))) }
+    ensures nothing { IfOk result (λ repeated. IfNone repeated
+        (E.contents entries.new ≡ E.contents entries.old)) }
+    ensures same_keys { E.serves entries.new ≡ E.serves entries.old }
+{
+    let entry = entries.entry_mut(&part.key)?;
+    Ok(repeat_count(part, entry))
+}
+
+/// The same of the identifier of a template. Most are the one before, so that no byte is read.
+///
+/// # Errors
+///
+/// As `relay_count`.
+#[inline(always)]
+pub(crate) fn relay_identifier<E: Entries>(
+    alloc: Global,
+    entries: &mut E,
+    part: &FieldPart,
+    bit: bool,
+    level: Level,
+    bytes: &[u8],
+    at: usize,
+    segment: &mut Segment,
+) -> Result<(Option<u32>, usize), FieldFault>
+    requires place { at ≤ length bytes.now }
+    requires bit { part_needs_bit_of part.now ≡ false → bit ≡ true }
+    requires served { IsTrue (E.serves entries.now part.now.key) }
+    requires part { IsFieldPart part.now }
+    requires kept { KeepScalars (E.contents entries.now) }
+    requires kind { part.now.kind ≡ UInt32 }
+    ensures place { IfOk result (λ x. (at ≤ x.1) × (x.1 ≤ length bytes.now)) }
+    ensures took { IfOk result (λ x. Took level part.now bit (E.contents entries.old) (E.contents
+        entries.new) (length_of x.0) (drop at bytes.now) (drop x.1 bytes.now)) }
+    ensures spelt { IfOk result (λ x.
+        Spelt part.now (entry_at (E.contents entries.old) part.now.key) (length_of x.0)
+        (level_of segment.old) (level_of segment.new)) }
+    ensures room { OnOk result ((left : List Bool) → bit ≡ bit_for (part_needs_bit_of part.now) left
+        → IsTrue (has_room (level_of segment.old) left)
+        → IsTrue (has_room (level_of segment.new) (after_bit (part_needs_bit_of part.now) left))) }
+    ensures stops { IfErr result (λ f. f ≢ FieldFault.Memory
+        → (field_at level part.now (entry_at (E.contents entries.old) part.now.key) bit
+        (drop at bytes.now) ≡ Err f)
+        × (E.contents entries.new ≡ E.contents entries.old)
+        × (level_of segment.new ≡ level_of segment.old)) }
+    ensures same_keys { E.serves entries.new ≡ E.serves entries.old }
+{
+    if !bit && let Some(count) = repeat_kept(entries, part)? {
+        segment.ask(part_needs_bit(part), false)?;
+        return Ok((count, at));
+    }
+    relay_count(alloc, entries, part, bit, level, bytes, at, segment)
 }
 
 /// The same of the length of a sequence. Most stand in one byte and are kept nowhere, so that no entry is asked for.

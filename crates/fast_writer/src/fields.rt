@@ -1,12 +1,13 @@
 //! Fields that are taken one after the other, with no call of the walk between them.
 
-ghost use Rattle.std.specs.Prelude.{◌≡◌, ◌≤◌, ◌<◌, ◌+◌, ◌*◌, ℕ, Bool, true, false, Option, Some, None, IsSome, IfOk, IfSome, OnOk, IsTrue, length, drop, slice_range};
+ghost use Rattle.std.specs.Prelude.{◌≡◌, ◌≤◌, ◌<◌, ◌+◌, ◌*◌, ℕ, Bool, true, false, Option, Some, None, IsSome, IfNone, IfOk, IfSome, OnOk, IsTrue, length, drop, slice_range};
 ghost use Rattle.fast_template.specs.Resolved.{instruction_of, list_of, part_needs_bit as part_needs_bit_of, then_instruction};
 ghost use Rattle.fast_value.specs.declared.scalar.Scalar.{Scalar as ScalarOf};
 ghost use Rattle.fast_dictionary.specs.Dictionary.{entry_at};
 ghost use Rattle.fast_stream.specs.Bits.{after_bit, bit_for};
 ghost use Rattle.fast_walk.specs.Received.{Took};
 ghost use Rattle.fast_field.specs.Parts.{IsFieldPart};
+ghost use Rattle.fast_field.specs.Passed.{Passes};
 ghost use Rattle.fast_field.specs.AsUsual.{ReadsAsUsual};
 ghost use Rattle.fast_field.specs.Within.{HoldsScalar};
 ghost use Rattle.fast_walk.specs.Told.{IsTold, KeepScalars};
@@ -140,6 +141,23 @@ fn take_other(
     }
 }
 
+// Makes an entry the one behind what bit 0 gives, and answers whether that is a value. None: nothing has changed, and the part
+// goes another way. (One answer, so that its end is in the loop over fields once.)
+#[inline(always)]
+fn pass_given(which: Part, part: &FieldPart, entry: &mut Entry) -> Option<bool>
+    requires which { which ≡ part.now.part }
+    requires part { IsFieldPart part.now }
+    ensures passed { IfSome result (λ there. (v : Option ScalarOf)
+        × IsThere part.now.kind there v × Passes part.now entry.old entry.new v) }
+    ensures entry { IfNone result (entry.new ≡ entry.old) }
+{
+    match pass_quickly(which, part, entry) {
+        Passed::Present => Some(true),
+        Passed::Absent => Some(false),
+        Passed::Elsewhere => None,
+    }
+}
+
 // Takes a part that bit 0 gives.
 #[inline(always)]
 fn take_given(
@@ -168,11 +186,10 @@ fn take_given(
         × (level_in bytes.now segment.new ≡ level_in bytes.now segment.old) × (bits.new ≡ bits.old)
         × IsRun bytes.now segment.old.bytes.place segment.new.bytes) }
 {
-    match pass_quickly(which, part, entry) {
-        Passed::Elsewhere => Taken::Elsewhere,
-        Passed::Absent => end_part(bits, true, false, segment, false),
-        Passed::Present => end_part(bits, true, false, segment, true),
-    }
+    let Some(there) = pass_given(which, part, entry) else {
+        return Taken::Elsewhere;
+    };
+    end_part(bits, true, false, segment, there)
 }
 
 // Takes a part that was sent, where it is read as at the usual level.
@@ -323,10 +340,11 @@ fn take_all<'a, E: Entries>(
     ensures kept { OnOk result (KeepScalars (E.contents entries.new)) }
     ensures same_keys { E.serves entries.new ≡ E.serves entries.old }
 {
-    // no function of its own: what it changes stays in registers here
+    // no function of its own: what it changes stays in registers here (the instructions go by a slice, since an index would not)
     let mut count = 0;
-    'pieces: while count < rest.len() {
-        match first_part(&rest[count]) {
+    let mut others = rest;
+    'pieces: while let Some((flat, later)) = others.split_first() {
+        match first_part(flat) {
             None => return Ok((count, None)),
             Some((whole, None)) => match take_part(
                 Part::Whole,
@@ -338,7 +356,10 @@ fn take_all<'a, E: Entries>(
                 bytes,
                 segment,
             ) {
-                Taken::Part(_there) => count += 1,
+                Taken::Part(_there) => {
+                    count += 1;
+                    others = later;
+                }
                 Taken::Elsewhere => return Ok((count, None)),
                 Taken::Refused => return Err(AllocError),
             },
@@ -362,11 +383,17 @@ fn take_all<'a, E: Entries>(
                     bytes,
                     segment,
                 ) {
-                    Taken::Part(_there) => count += 1,
+                    Taken::Part(_there) => {
+                        count += 1;
+                        others = later;
+                    }
                     Taken::Elsewhere => return Ok((count + 1, Some(mantissa))),
                     Taken::Refused => return Err(AllocError),
                 },
-                Taken::Part(false) => count += 1,
+                Taken::Part(false) => {
+                    count += 1;
+                    others = later;
+                }
                 Taken::Elsewhere => return Ok((count, None)),
                 Taken::Refused => return Err(AllocError),
             },

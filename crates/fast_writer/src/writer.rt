@@ -1,7 +1,7 @@
 //! Writes the canonical bytes of messages as they are read.
 
 use crate::around::Around;
-use crate::count::{relay_count, relay_length};
+use crate::count::{relay_identifier, relay_length};
 use crate::fields::take_fields;
 use crate::quick::relay_part;
 use crate::segment::Segment;
@@ -123,7 +123,7 @@ impl Receiver for Writer {
     ) -> Result<(u32, usize), FieldFault> {
         self.outer.clear();
         self.inner.begin(true);
-        match relay_count(
+        match relay_identifier(
             alloc,
             entries,
             identifier,

@@ -7,16 +7,17 @@ use Rattle.fast_walk.proofs.Telling.{told_part}
 use Rattle.fast_writer.specs.Levels.{level_in}
 use Rattle.fast_writer.specs.Takings.{front_at}
 use Rattle.fast_writer.proofs.SpeltParts.{mantissa_taken}
-use Rattle.fast_writer.proofs.Takings.{behind_whole, next_flat, takes_behind, takes_next, takes_stays}
+use Rattle.fast_writer.proofs.Takings.{behind_whole, in_front, next_flat, takes_behind, takes_next, takes_stays}
 use Rattle.fast_writer.proofs.fields.take_all.Goals as goal
 
 pub take_part-requires-clause-part : goal.take_part-requires-clause-part
 take_part-requires-clause-part g c =
+    let front = in_front c.args.rest.now c.pieces.count c.in-Some.flat.now c.in-Some.later.now (sym c.pieces.invariant.others ∙ c.in-Some.ensures.cases.0) in
     let whole = c.in-Some-default-None.whole.now in
     let rest = c.args.rest.now in
     let serves = g.E.Entries.serves c.pieces.entries in
-    let here : AreServed serves (then_instruction (instruction_of c.index-rest-count.result) (list_of (drop (c.pieces.count + 1) rest))) =
-    subst (AreServed serves) (next_flat rest c.pieces.count c.index-rest-count.result c.index-rest-count.is (omega (arith, c.pieces-test.true))) c.pieces.invariant.served in
+    let here : AreServed serves (then_instruction (instruction_of c.in-Some.flat.now) (list_of (drop (c.pieces.count + 1) rest))) =
+    subst (AreServed serves) (next_flat rest c.pieces.count c.in-Some.flat.now front.is front.within) c.pieces.invariant.served in
     told_part part.Whole whole.kind whole tt (rw (c.in-Some-default-None.field-0-1-is) at (c.in-Some-default-None.ensures.served serves here.0).1)
 
 pub returns-in-Elsewhere-clause-takes : goal.returns-in-Elsewhere-clause-takes
@@ -38,6 +39,7 @@ returns-in-Elsewhere-take_part-clause-takes g c = λ spare few.
 
 pub returns-in-Elsewhere-take_part-2-clause-takes : goal.returns-in-Elsewhere-take_part-2-clause-takes
 returns-in-Elsewhere-take_part-2-clause-takes g c = λ spare few.
+    let front = in_front c.args.rest.now c.pieces.count c.in-Some.flat.now c.in-Some.later.now (sym c.pieces.invariant.others ∙ c.in-Some.ensures.cases.0) in
     let bytes = c.args.bytes.now in
     let same = c.in-Elsewhere-take_part-2.ensures.nothing in
     let one = c.take_part-in-Some-default-Some in
@@ -50,25 +52,39 @@ returns-in-Elsewhere-take_part-2-clause-takes g c = λ spare few.
     same.0 same.1 same.2 same.3.place
     (takes_next c.args.level bytes (level_in bytes c.args.segment.now) (level_in bytes c.pieces.segment) (level_in bytes one.new.segment)
     (g.E.Entries.contents c.args.entries.now) (g.E.Entries.contents c.pieces.entries) (g.E.Entries.contents one.new.entries) c.args.bits.now c.pieces.bits one.new.bits
-    from c.args.rest.now spare c.pieces.count c.index-rest-count.result true c.in-Some-default-Some.exponent.now (Some c.in-Some-default-Some.mantissa) (Some c.in-Some-default-Some.mantissa) r.0 c.pieces.segment.bytes.place one.new.segment.bytes.place
-    few c.index-rest-count.is (omega (arith, c.pieces-test.true)) (rw (c.in-Some-default-Some.field-0-1-is) at c.in-Some-default-Some.ensures.begins) (rw (c.in-Part-true.field-0-test) at r.1) refl (c.pieces.invariant.takes spare few) r.2 r.3 c.in-Part-true.ensures.bits)
+    from c.args.rest.now spare c.pieces.count c.in-Some.flat.now true c.in-Some-default-Some.exponent.now (Some c.in-Some-default-Some.mantissa) (Some c.in-Some-default-Some.mantissa) r.0 c.pieces.segment.bytes.place one.new.segment.bytes.place
+    few front.is front.within (rw (c.in-Some-default-Some.field-0-1-is) at c.in-Some-default-Some.ensures.begins) (rw (c.in-Part-true.field-0-test) at r.1) refl (c.pieces.invariant.takes spare few) r.2 r.3 c.in-Part-true.ensures.bits)
+
+pub returns-in-Elsewhere-take_part-2-clause-served : goal.returns-in-Elsewhere-take_part-2-clause-served
+returns-in-Elsewhere-take_part-2-clause-served g c =
+    let front = in_front c.args.rest.now c.pieces.count c.in-Some.flat.now c.in-Some.later.now (sym c.pieces.invariant.others ∙ c.in-Some.ensures.cases.0) in
+    let rest = c.args.rest.now in
+    let serves = g.E.Entries.serves c.args.entries.now in
+    let parts = c.in-Some-default-Some in
+    let here : AreServed serves (then_instruction (instruction_of c.in-Some.flat.now) (list_of (drop (c.pieces.count + 1) rest))) =
+    subst (AreServed serves) (next_flat rest c.pieces.count c.in-Some.flat.now front.is front.within) (rw (c.pieces.invariant.same_keys) at c.pieces.invariant.served) in (
+      here.1,
+      rw (parts.field-0-1-is) at (parts.ensures.served serves here.0).2,
+    )
 
 pub pieces-preserved-in-Part : goal.pieces-preserved-in-Part
 pieces-preserved-in-Part g c =
+    let front = in_front c.args.rest.now c.pieces.count c.in-Some.flat.now c.in-Some.later.now (sym c.pieces.invariant.others ∙ c.in-Some.ensures.cases.0) in
     let bytes = c.args.bytes.now in
     let rest = c.args.rest.now in
     let at = c.args.segment.now in
     let now = c.pieces in
     let inv = c.pieces.invariant in
-    let flat = c.index-rest-count.result in
-    let within : now.count < length rest = omega (arith, c.pieces-test.true) in
+    let flat = c.in-Some.flat.now in
+    let within : now.count < length rest = front.within in
     let here : AreServed (g.E.Entries.serves now.entries) (then_instruction (instruction_of flat) (list_of (drop (now.count + 1) rest))) =
-    subst (AreServed (g.E.Entries.serves now.entries)) (next_flat rest now.count flat c.index-rest-count.is within) inv.served in
+    subst (AreServed (g.E.Entries.serves now.entries)) (next_flat rest now.count flat front.is within) inv.served in
     let begins = c.in-Some-default-None in
     let one = c.take_part in
     let taken = c.in-Part.ensures in
     record {
       within = omega (arith, within);
+      others = front.later_is;
       place = omega (arith, inv.place, taken.place);
       run = taken.run;
       served = rw (one.ensures.same_keys) here.1;
@@ -77,21 +93,22 @@ pieces-preserved-in-Part g c =
       takes = λ spare few.
           takes_next c.args.level bytes (level_in bytes at) (level_in bytes now.segment) (level_in bytes one.new.segment) (g.E.Entries.contents c.args.entries.now) (g.E.Entries.contents now.entries) (g.E.Entries.contents one.new.entries) c.args.bits.now now.bits one.new.bits
           (front_at rest spare 0 None at.bytes.place) rest spare now.count flat c.in-Part._there begins.whole.now None None taken.took.0 now.segment.bytes.place one.new.segment.bytes.place
-          few c.index-rest-count.is within (rw (begins.field-0-1-is) at begins.ensures.begins) taken.took.1 (sym (behind_whole c.in-Part._there None refl)) (inv.takes spare few) taken.took.2 taken.took.3 taken.bits;
+          few front.is within (rw (begins.field-0-1-is) at begins.ensures.begins) taken.took.1 (sym (behind_whole c.in-Part._there None refl)) (inv.takes spare few) taken.took.2 taken.took.3 taken.bits;
       same_keys = one.ensures.same_keys ∙ inv.same_keys;
     }
 
 pub pieces-preserved-in-Part-take_part : goal.pieces-preserved-in-Part-take_part
 pieces-preserved-in-Part-take_part g c =
+    let front = in_front c.args.rest.now c.pieces.count c.in-Some.flat.now c.in-Some.later.now (sym c.pieces.invariant.others ∙ c.in-Some.ensures.cases.0) in
     let bytes = c.args.bytes.now in
     let rest = c.args.rest.now in
     let at = c.args.segment.now in
     let now = c.pieces in
     let inv = c.pieces.invariant in
-    let flat = c.index-rest-count.result in
-    let within : now.count < length rest = omega (arith, c.pieces-test.true) in
+    let flat = c.in-Some.flat.now in
+    let within : now.count < length rest = front.within in
     let here : AreServed (g.E.Entries.serves now.entries) (then_instruction (instruction_of flat) (list_of (drop (now.count + 1) rest))) =
-    subst (AreServed (g.E.Entries.serves now.entries)) (next_flat rest now.count flat c.index-rest-count.is within) inv.served in
+    subst (AreServed (g.E.Entries.serves now.entries)) (next_flat rest now.count flat front.is within) inv.served in
     let parts = c.in-Some-default-Some in
     let m = parts.mantissa in
     let one = c.take_part-in-Some-default-Some in
@@ -102,6 +119,7 @@ pieces-preserved-in-Part-take_part g c =
     let x = mantissa_taken m.now (entry_at (g.E.Entries.contents one.new.entries) m.now.key) c.in-Part-take_part._there last.took.0 (level_in bytes one.new.segment) (level_in bytes two.new.segment) told.0.1 told.1 last.took.1 last.took.3 in
     record {
       within = omega (arith, within);
+      others = front.later_is;
       place = omega (arith, inv.place, first.place, last.place);
       run = last.run;
       served = rw (two.ensures.same_keys, one.ensures.same_keys) here.1;
@@ -112,27 +130,29 @@ pieces-preserved-in-Part-take_part g c =
           (front_at rest spare 0 None at.bytes.place) rest spare (now.count + 1) m x.0 one.new.segment.bytes.place two.new.segment.bytes.place
           (takes_next c.args.level bytes (level_in bytes at) (level_in bytes now.segment) (level_in bytes one.new.segment) (g.E.Entries.contents c.args.entries.now) (g.E.Entries.contents now.entries) (g.E.Entries.contents one.new.entries) c.args.bits.now now.bits one.new.bits
           (front_at rest spare 0 None at.bytes.place) rest spare now.count flat true parts.exponent.now (Some m) (Some m) first.took.0 now.segment.bytes.place one.new.segment.bytes.place
-          few c.index-rest-count.is within (rw (parts.field-0-1-is) at parts.ensures.begins) (rw (c.in-Part-true.field-0-test) at first.took.1) refl (inv.takes spare few) first.took.2 first.took.3 first.bits)
+          few front.is within (rw (parts.field-0-1-is) at parts.ensures.begins) (rw (c.in-Part-true.field-0-test) at first.took.1) refl (inv.takes spare few) first.took.2 first.took.3 first.bits)
           (rw (x.1) at last.took.2) (rw (x.1) at last.took.3) last.bits;
       same_keys = two.ensures.same_keys ∙ one.ensures.same_keys ∙ inv.same_keys;
     }
 
 pub pieces-preserved : goal.pieces-preserved
 pieces-preserved g c =
+    let front = in_front c.args.rest.now c.pieces.count c.in-Some.flat.now c.in-Some.later.now (sym c.pieces.invariant.others ∙ c.in-Some.ensures.cases.0) in
     let bytes = c.args.bytes.now in
     let rest = c.args.rest.now in
     let at = c.args.segment.now in
     let now = c.pieces in
     let inv = c.pieces.invariant in
-    let flat = c.index-rest-count.result in
-    let within : now.count < length rest = omega (arith, c.pieces-test.true) in
+    let flat = c.in-Some.flat.now in
+    let within : now.count < length rest = front.within in
     let here : AreServed (g.E.Entries.serves now.entries) (then_instruction (instruction_of flat) (list_of (drop (now.count + 1) rest))) =
-    subst (AreServed (g.E.Entries.serves now.entries)) (next_flat rest now.count flat c.index-rest-count.is within) inv.served in
+    subst (AreServed (g.E.Entries.serves now.entries)) (next_flat rest now.count flat front.is within) inv.served in
     let parts = c.in-Some-default-Some in
     let one = c.take_part-in-Some-default-Some in
     let first = c.in-Part-false.ensures in
     record {
       within = omega (arith, within);
+      others = front.later_is;
       place = omega (arith, inv.place, first.place);
       run = first.run;
       served = rw (one.ensures.same_keys) here.1;
@@ -141,6 +161,6 @@ pieces-preserved g c =
       takes = λ spare few.
           takes_next c.args.level bytes (level_in bytes at) (level_in bytes now.segment) (level_in bytes one.new.segment) (g.E.Entries.contents c.args.entries.now) (g.E.Entries.contents now.entries) (g.E.Entries.contents one.new.entries) c.args.bits.now now.bits one.new.bits
           (front_at rest spare 0 None at.bytes.place) rest spare now.count flat false parts.exponent.now (Some parts.mantissa) None first.took.0 now.segment.bytes.place one.new.segment.bytes.place
-          few c.index-rest-count.is within (rw (parts.field-0-1-is) at parts.ensures.begins) (rw (c.in-Part-false.field-0-test) at first.took.1) refl (inv.takes spare few) first.took.2 first.took.3 first.bits;
+          few front.is within (rw (parts.field-0-1-is) at parts.ensures.begins) (rw (c.in-Part-false.field-0-test) at first.took.1) refl (inv.takes spare few) first.took.2 first.took.3 first.bits;
       same_keys = one.ensures.same_keys ∙ inv.same_keys;
     }

@@ -1,4 +1,4 @@
-use Rattle.std.proofs.Common.{◌≡◌, ◌≤◌, ◌-◌, ℕ, None, drop, length}
+use Rattle.std.proofs.Common.{◌≡◌, ◌≤◌, ℕ, None, drop, length}
 use Rattle.std.specs.Prelude.{IsTrue}
 use Rattle.fast_template.specs.Resolved.{list_of}
 use Rattle.fast_walk.specs.Walks.{AreServed}
@@ -12,6 +12,7 @@ use Rattle.fast_writer.proofs.fields.take_all.Given as goal
 abbrev pub invariant-pieces : goal.invariant-pieces
 invariant-pieces g l = record {
   within : l.count ≤ length l.rest;
+  others : l.others ≡ drop l.count l.rest;
   place : l.fn.segment.bytes.place ≤ l.segment.bytes.place;
   run : IsRun l.bytes l.segment.bytes.place l.segment.bytes;
   served : AreServed (g.E.Entries.serves l.entries) (list_of (drop l.count l.rest));
@@ -24,4 +25,4 @@ invariant-pieces g l = record {
 }
 
 abbrev pub decreases-pieces : goal.decreases-pieces
-decreases-pieces g l = length l.rest - l.count
+decreases-pieces g l = length l.others

@@ -8,14 +8,14 @@ use Rattle.fast_writer.proofs.writer.WriterReceiver.begin.Goals as goal
 pub returns-in-Ok-Some-default-clause-goes : goal.returns-in-Ok-Some-default-clause-goes
 returns-in-Ok-Some-default-clause-goes g c =
     let d = g.E.Entries.contents c.args.entries.now in
-    let e = g.E.Entries.contents c.relay_count.new.entries in
+    let e = g.E.Entries.contents c.relay_identifier.new.entries in
     let named : c.args.identifier.now ≡ identifier = search rules in
     let took = rw (c.in-Ok-Some-default.field-0-0-is) at c.in-Ok-Some-default.ensures.took in
     let spelt = rw (c.in-Ok-Some-default.field-0-0-is) at c.in-Ok-Some-default.ensures.spelt in (
       took,
       λ set ms members stands. (
         stands,
-        has_opened (map level_of c.clear.new.self) (level_of c.begin.new.self) (level_of c.relay_count.new.segment) set ms c.in-Ok-Some-default.id members d e
+        has_opened (map level_of c.clear.new.self) (level_of c.begin.new.self) (level_of c.relay_identifier.new.segment) set ms c.in-Ok-Some-default.id members d e
             (ap (map level_of) c.clear.ensures) c.begin.ensures.bits c.begin.ensures.own c.begin.ensures.bytes (rw (named) at took.entry) (rw (named) at spelt),
       ),
     )
