@@ -6,7 +6,7 @@ ghost use Rattle.fast_wire.specs.declared.level.Level.{Level as LevelOf};
 use fast_wire::Level;
 
 /// A level that is known where the program is made: a walk at the usual one asks nothing of it.
-pub(crate) trait Leveled: Copy {
+pub trait Leveled: Copy {
     // Which it is.
     ghost at: { LevelOf };
 
@@ -17,11 +17,11 @@ pub(crate) trait Leveled: Copy {
 
 /// The usual level.
 #[derive(Clone, Copy)]
-pub(crate) struct Usually;
+pub struct Usually;
 
 /// The strict level.
 #[derive(Clone, Copy)]
-pub(crate) struct Strictly;
+pub struct Strictly;
 
 impl Leveled for Usually {
     ghost use Rattle.fast_wire.specs.declared.level.Level.TheVariants.{Usual};

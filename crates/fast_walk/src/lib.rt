@@ -18,6 +18,7 @@ mod walk;
 
 pub use halt::{Halt, HaltedBy, wire_cause};
 pub use lack::{Lack, has_stop};
+pub use leveled::{Leveled, Strictly, Usually};
 pub use output::Output;
 pub use receiver::{Fields, Receiver};
 pub use traversal::{Stage, Traversal};

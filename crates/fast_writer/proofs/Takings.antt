@@ -1,6 +1,7 @@
 -- Fields that are taken one after the other into the segment that is open.
 use Rattle.std.proofs.Common.{◌≡◌, ◌≤◌, ◌<◌, ◌-◌, ◌+◌, ℕ, zero, suc, ℤ, pos, Bool, true, false, List, [], ◌∷◌, ◌++◌, length, get_or, Option, Some, None, drop, refl, sym, ap, ◌∙◌, subst, arith}
 use Rattle.std.specs.Option.{is_some}
+use Rattle.std.specs.List.{slice_get}
 use Rattle.std.specs.Borrow.{Bor}
 use Rattle.fast_value.specs.declared.scalar.Scalar.{Scalar}
 use Rattle.fast_value.specs.declared.scalar.Scalar.TheVariants.{I64, Decimal}
@@ -46,6 +47,36 @@ in_front (g ∷ flats) (suc i) f later front =
     let on = in_front flats i f later front in
     let more : suc i + 1 ≡ suc (i + 1) = omega arith in
     record { within = omega (arith, on.within); is = on.is; later_is = rw more on.later_is }
+
+-- the instruction in front of what is left of a body, told by how many are left, and what is left behind it
+pub record Ahead (flats others : List Flat) (f : Flat) : Type 0 where
+  pub within : length flats - length others < length flats
+  pub is : f ≡ get_or flats (length flats - length others) f
+  pub fewer : length (drop 1 others) ≤ length flats
+  pub next : length flats - length (drop 1 others) ≡ length flats - length others + 1
+  pub later_is : drop 1 others ≡ drop (length flats - length others + 1) flats
+
+first_of : (others : List Flat) (f : Flat) → Some f ≡ slice_get others 0 → others ≡ f ∷ drop 1 others
+first_of [] f is = absurd cc
+first_of (g ∷ others) f is = cc
+
+-- where nothing is in front, nothing is left
+pub none_ahead : (flats others : List Flat) → None ≡ slice_get others 0 → length flats - length others ≡ length flats
+none_ahead flats [] none = omega arith
+none_ahead flats (g ∷ others) none = absurd cc
+
+pub ahead : (flats others : List Flat) (f : Flat) → length others ≤ length flats → others ≡ drop (length flats - length others) flats → Some f ≡ slice_get others 0 → Ahead flats others f
+ahead flats others f few is first =
+    let whole = first_of others f first in
+    let front = in_front flats (length flats - length others) f (drop 1 others) (sym is ∙ whole) in
+    let one : length others ≡ suc (length (drop 1 others)) = ap length whole in
+    record {
+      within = front.within;
+      is = front.is;
+      fewer = omega (arith, one, few);
+      next = omega (arith, one, few);
+      later_is = front.later_is;
+    }
 
 -- what is next behind the exponent of a decimal in parts, whether it is there
 abbrev pub behind_exponent : Bool → FieldPart → Next

@@ -1,5 +1,5 @@
 -- Fields that are taken one after the other into the segment that is open.
-use Rattle.std.specs.Prelude.{◌≡◌, ℕ, ◌-◌, Bool, true, false, List, ◌++◌, Option, Some, None, Ok, drop}
+use Rattle.std.specs.Prelude.{◌≡◌, ℕ, ◌+◌, ◌-◌, Bool, true, false, List, ◌++◌, Option, Some, None, Ok, drop}
 use Rattle.fast_value.specs.declared.kind.Kind.TheVariants as kind
 use Rattle.fast_value.specs.declared.kind.Part.TheVariants as part
 use Rattle.std.specs.Borrow.{Bor}
@@ -19,6 +19,9 @@ use Rattle.fast_walk.specs.Told.{IsTold}
 use Rattle.fast_walk.specs.Walks.{bare_next}
 use Rattle.fast_walk.specs.Passing.{Passes, next_behind}
 use Rattle.fast_writer.specs.Written.{Segment, IsOpened, Spelt}
+use Rattle.fast_relay.specs.declared.judged.Judged.{Judged}
+use Rattle.fast_relay.specs.declared.judged.Judged.TheVariants.{Stands, Behind, BehindTwo, Given, Elsewhere as NotJudged}
+use Rattle.fast_relay.specs.Judged.{Judges, JudgesFrom}
 use Rattle.fast_writer.specs.declared.fields.Taken.{Taken}
 use Rattle.fast_writer.specs.declared.fields.Taken.TheVariants.{Part, Elsewhere, Refused}
 
@@ -85,3 +88,11 @@ pub record TookEntry (level : Level) (p : FieldPart) (old new : Entry) (bits : L
   pub entry : new ≡ next p old v
   pub spelt : Spelt p old v l k
   pub lower : bit_for (part_needs_bit p) bits ≡ false → spelt.bit ≡ false
+
+-- What was judged of a part that was sent: what its best form is, and that its entry went on; or that nothing has changed.
+abbrev pub WasJudged : Judged → FieldPart → Entry → Entry → List ℕ → ℕ → Type 0
+WasJudged (Stands next) p old new bytes at = (v : Scalar) × Judges true p old new v bytes at next
+WasJudged (Behind next) p old new bytes at = (v : Scalar) × JudgesFrom true p old new v bytes at (at + 1) next
+WasJudged (BehindTwo next) p old new bytes at = (v : Scalar) × JudgesFrom true p old new v bytes at (at + 2) next
+WasJudged (Given next) p old new bytes at = (v : Scalar) × Judges false p old new v bytes at next
+WasJudged NotJudged p old new bytes at = new ≡ old

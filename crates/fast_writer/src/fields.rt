@@ -4,6 +4,7 @@ ghost use Rattle.std.specs.Prelude.{◌≡◌, ◌≤◌, ◌<◌, ◌+◌, ◌*
 ghost use Rattle.fast_template.specs.Resolved.{instruction_of, list_of, part_needs_bit as part_needs_bit_of, then_instruction};
 ghost use Rattle.fast_value.specs.declared.scalar.Scalar.{Scalar as ScalarOf};
 ghost use Rattle.fast_dictionary.specs.Dictionary.{entry_at};
+ghost use Rattle.fast_dictionary.specs.declared.entry.Entry.{Entry as EntryOf};
 ghost use Rattle.fast_stream.specs.Bits.{after_bit, bit_for};
 ghost use Rattle.fast_walk.specs.Received.{Took};
 ghost use Rattle.fast_field.specs.Parts.{IsFieldPart};
@@ -14,12 +15,13 @@ ghost use Rattle.fast_walk.specs.Told.{IsTold, KeepScalars};
 ghost use Rattle.fast_walk.specs.Walks.{AreServed, IsMantissaServed, IsNextServed, IsServed};
 ghost use Rattle.fast_walk.specs.Passing.{next_behind};
 ghost use Rattle.fast_relay.specs.Relayed.{IsThere};
+ghost use Rattle.fast_relay.specs.Judged.{IfBehind, IfJudged, IfNotJudged};
 ghost use Rattle.fast_relay.specs.Runs.{IsRun};
 ghost use Rattle.fast_writer.specs.Levels.{level_in, level_of};
 ghost use Rattle.fast_writer.specs.Room.{has_room};
 ghost use Rattle.fast_wire.specs.PresenceMap.{next_bit};
 ghost use Rattle.fast_writer.specs.Written.{Asked, Spelt, with_bytes};
-ghost use Rattle.fast_writer.specs.Takings.{BeginsWith, IfElsewhere, IsFirstTold, IfTaken, Takes, TookEntry, behind, front_at, front_of};
+ghost use Rattle.fast_writer.specs.Takings.{BeginsWith, IfElsewhere, IsFirstTold, IfTaken, Takes, TookEntry, WasJudged, behind, front_at, front_of};
 ghost use Rattle.fast_value.specs.declared.key.Key.{Key};
 ghost use Rattle.fast_value.specs.declared.kind.Kind.TheVariants.{Int32};
 ghost use Rattle.fast_value.specs.declared.kind.Part.TheVariants.{Exponent, Whole};
@@ -31,7 +33,7 @@ use fast_dictionary::{Entries, Entry};
 use fast_field::Passed;
 use fast_relay::{Judged, judge_field, pass_quickly};
 use fast_template::{FieldPart, Flat, Kind, Part, part_needs_bit};
-use fast_walk::Fields;
+use fast_walk::{Fields, Leveled};
 use fast_wire::{Bits, Level};
 use std::alloc::{AllocError, Global};
 
@@ -71,8 +73,8 @@ fn end_part(bits: &mut Bits, needs: bool, best: bool, segment: &mut Segment, the
     }
 }
 
-// The same where only the bytes from `first` on are written. (A call of its own, so that the loop over fields stays small.)
-#[inline(never)]
+// The same where only the bytes from `first` on are written.
+#[inline(always)]
 fn end_from(
     bits: &mut Bits,
     needs: bool,
@@ -105,9 +107,8 @@ fn end_from(
     }
 }
 
-// Takes a part that was sent and is not judged as it stands, or NULL. (A call of its own, so that the loop over fields stays
-// small.)
-#[inline(never)]
+// Takes a part that was sent and is not judged as it stands, or NULL.
+#[inline(always)]
 fn take_other(
     alloc: Global,
     part: &FieldPart,
@@ -160,12 +161,12 @@ fn pass_given(which: Part, part: &FieldPart, entry: &mut Entry) -> Option<bool>
 
 // Takes a part that bit 0 gives.
 #[inline(always)]
-fn take_given(
+fn take_given<L: Leveled>(
     which: Part,
     part: &FieldPart,
     entry: &mut Entry,
     bits: &mut Bits,
-    level: Level,
+    level: L,
     bytes: &[u8],
     segment: &mut Segment,
 ) -> Taken
@@ -177,7 +178,7 @@ fn take_given(
     ensures place { IfTaken result (λ there. segment.old.bytes.place ≤ segment.new.bytes.place) }
     ensures run { IfTaken result (λ there. IsRun bytes.now segment.new.bytes.place segment.new.bytes) }
     ensures took { IfTaken result (λ there. (v : Option ScalarOf)
-        × IsThere part.now.kind there v × TookEntry level part.now entry.old entry.new bits.old v
+        × IsThere part.now.kind there v × TookEntry L.at part.now entry.old entry.new bits.old v
         (drop segment.old.bytes.place bytes.now) (drop segment.new.bytes.place bytes.now)
         (level_in bytes.now segment.old) (level_in bytes.now segment.new)) }
     ensures bits { IfTaken result (λ there.
@@ -192,41 +193,42 @@ fn take_given(
     end_part(bits, true, false, segment, there)
 }
 
-// Takes a part that was sent, where it is read as at the usual level.
-#[inline(always)]
-fn take_sent(
-    which: Part,
+// Takes a part that was judged: what is best of it is written, or it is taken another way. (A call of its own, so that the
+// loop over fields has one for all that does not stand.)
+#[inline(never)]
+fn take_judged(
+    judged: Judged,
     alloc: Global,
     part: &FieldPart,
     entry: &mut Entry,
     bits: &mut Bits,
+    needs: bool,
     level: Level,
     bytes: &[u8],
+    at: usize,
     segment: &mut Segment,
 ) -> Taken
-    requires run { IsRun bytes.now segment.now.bytes.place segment.now.bytes }
-    requires which { which ≡ part.now.part }
-    requires kept { HoldsScalar entry.now }
-    requires part { IsFieldPart part.now }
+    requires run { IsRun bytes.now at segment.now.bytes }
+    requires judged_place { IfJudged judged (λ best next. (at ≤ next) × (next ≤ length bytes.now)) }
+    requires behind_place { IfBehind judged (λ needless next. (at + needless ≤ next) × (next ≤ length bytes.now)) }
+    requires kept { IfNotJudged judged (HoldsScalar entry.now) }
+    requires needs { needs ≡ part_needs_bit_of part.now }
     requires bit { bit_for (part_needs_bit_of part.now) bits.now ≡ true }
-    ensures place { IfTaken result (λ there. segment.old.bytes.place ≤ segment.new.bytes.place) }
+    requires usual { ReadsAsUsual level part.now (drop at bytes.now) }
+    ensures place { IfTaken result (λ there. at ≤ segment.new.bytes.place) }
     ensures run { IfTaken result (λ there. IsRun bytes.now segment.new.bytes.place segment.new.bytes) }
-    ensures took { IfTaken result (λ there. (v : Option ScalarOf)
-        × IsThere part.now.kind there v × TookEntry level part.now entry.old entry.new bits.old v
-        (drop segment.old.bytes.place bytes.now) (drop segment.new.bytes.place bytes.now)
+    ensures took { (before : EntryOf) → WasJudged judged part.now before entry.old bytes.now at
+        → IfTaken result (λ there. (v : Option ScalarOf)
+        × IsThere part.now.kind there v × TookEntry level part.now before entry.new bits.old v
+        (drop at bytes.now) (drop segment.new.bytes.place bytes.now)
         (level_in bytes.now segment.old) (level_in bytes.now segment.new)) }
-    ensures bits { IfTaken result (λ there.
-        bits.new ≡ after_bit (part_needs_bit_of part.now) bits.old) }
-    ensures nothing { IfElsewhere result ((entry.new ≡ entry.old)
+    ensures bits { IfTaken result (λ there. bits.new ≡ after_bit needs bits.old) }
+    ensures nothing { (before : EntryOf) → WasJudged judged part.now before entry.old bytes.now at
+        → IfElsewhere result ((entry.new ≡ before)
         × (level_in bytes.now segment.new ≡ level_in bytes.now segment.old) × (bits.new ≡ bits.old)
-        × IsRun bytes.now segment.old.bytes.place segment.new.bytes) }
+        × IsRun bytes.now at segment.new.bytes) }
 {
-    let at = segment.bytes.place;
-    if !is_read_as_usual(level, part, bytes, at) {
-        return Taken::Elsewhere;
-    }
-    let needs = part_needs_bit(part);
-    match judge_field(which, alloc, part, entry, bytes, at) {
+    match judged {
         Judged::Stands(next) => {
             segment.bytes.keep(next);
             end_part(bits, needs, true, segment, true)
@@ -238,15 +240,68 @@ fn take_sent(
     }
 }
 
+// Takes a part that was sent, where it is read as at the usual level.
+#[inline(always)]
+fn take_sent<L: Leveled>(
+    which: Part,
+    alloc: Global,
+    part: &FieldPart,
+    entry: &mut Entry,
+    bits: &mut Bits,
+    level: L,
+    bytes: &[u8],
+    segment: &mut Segment,
+) -> Taken
+    requires run { IsRun bytes.now segment.now.bytes.place segment.now.bytes }
+    requires which { which ≡ part.now.part }
+    requires kept { HoldsScalar entry.now }
+    requires part { IsFieldPart part.now }
+    requires bit { bit_for (part_needs_bit_of part.now) bits.now ≡ true }
+    ensures place { IfTaken result (λ there. segment.old.bytes.place ≤ segment.new.bytes.place) }
+    ensures run { IfTaken result (λ there. IsRun bytes.now segment.new.bytes.place segment.new.bytes) }
+    ensures took { IfTaken result (λ there. (v : Option ScalarOf)
+        × IsThere part.now.kind there v × TookEntry L.at part.now entry.old entry.new bits.old v
+        (drop segment.old.bytes.place bytes.now) (drop segment.new.bytes.place bytes.now)
+        (level_in bytes.now segment.old) (level_in bytes.now segment.new)) }
+    ensures bits { IfTaken result (λ there.
+        bits.new ≡ after_bit (part_needs_bit_of part.now) bits.old) }
+    ensures nothing { IfElsewhere result ((entry.new ≡ entry.old)
+        × (level_in bytes.now segment.new ≡ level_in bytes.now segment.old) × (bits.new ≡ bits.old)
+        × IsRun bytes.now segment.old.bytes.place segment.new.bytes) }
+{
+    let at = segment.bytes.place;
+    if !is_read_as_usual(level.level(), part, bytes, at) {
+        return Taken::Elsewhere;
+    }
+    let needs = part_needs_bit(part);
+    let judged = judge_field(which, alloc, part, entry, bytes, at);
+    if let Judged::Stands(next) = judged {
+        segment.bytes.keep(next);
+        return end_part(bits, needs, true, segment, true);
+    }
+    take_judged(
+        judged,
+        alloc,
+        part,
+        entry,
+        bits,
+        needs,
+        level.level(),
+        bytes,
+        at,
+        segment,
+    )
+}
+
 // Takes a part and its bit, where the quick way serves.
 #[inline(always)]
-fn take_part<E: Entries>(
+fn take_part<L: Leveled, E: Entries>(
     which: Part,
     alloc: Global,
     entries: &mut E,
     part: &FieldPart,
     bits: &mut Bits,
-    level: Level,
+    level: L,
     bytes: &[u8],
     segment: &mut Segment,
 ) -> Taken
@@ -259,7 +314,7 @@ fn take_part<E: Entries>(
     ensures run { IfTaken result (λ there. IsRun bytes.now segment.new.bytes.place segment.new.bytes) }
     ensures took { IfTaken result (λ there. (v : Option ScalarOf)
         × IsThere part.now.kind there v
-        × Took level part.now (bit_for (part_needs_bit_of part.now) bits.old)
+        × Took L.at part.now (bit_for (part_needs_bit_of part.now) bits.old)
         (E.contents entries.old) (E.contents entries.new) v
         (drop segment.old.bytes.place bytes.now) (drop segment.new.bytes.place bytes.now)
         × Spelt part.now (entry_at (E.contents entries.old) part.now.key) v
@@ -312,12 +367,12 @@ fn first_part(flat: &Flat) -> Option<(&FieldPart, Option<&FieldPart>)>
 
 // Takes fields from the front of a body, as many as the quick way serves one after the other. Answers how many instructions
 // were passed, and the mantissa that is next where only the exponent of the last one was taken.
-fn take_all<'a, E: Entries>(
+fn take_all<'a, L: Leveled, E: Entries>(
     rest: &'a [Flat],
     alloc: Global,
     entries: &mut E,
     bits: &mut Bits,
-    level: Level,
+    level: L,
     bytes: &[u8],
     segment: &mut Segment,
 ) -> Result<(usize, Option<&'a FieldPart>), AllocError>
@@ -331,7 +386,7 @@ fn take_all<'a, E: Entries>(
     ensures served { IfOk result (λ x. AreServed (E.serves entries.old) (list_of (drop x.0 rest.now))
         × IsNextServed (E.serves entries.old) (next_behind x.1)) }
     ensures takes { IfOk result (λ x. (spare : ℕ) → length rest.now ≤ spare
-        → Takes level bytes.now (level_in bytes.now segment.old) (E.contents entries.old) bits.old
+        → Takes L.at bytes.now (level_in bytes.now segment.old) (E.contents entries.old) bits.old
         (front_at rest.now spare 0 None segment.old.bytes.place)
         (level_in bytes.now segment.new) (E.contents entries.new) bits.new
         (front_at rest.now spare x.0 x.1 segment.new.bytes.place)) }
@@ -341,11 +396,10 @@ fn take_all<'a, E: Entries>(
     ensures same_keys { E.serves entries.new ≡ E.serves entries.old }
 {
     // no function of its own: what it changes stays in registers here (the instructions go by a slice, since an index would not)
-    let mut count = 0;
     let mut others = rest;
-    'pieces: while let Some((flat, later)) = others.split_first() {
+    'pieces: while let Some(flat) = others.first() {
         match first_part(flat) {
-            None => return Ok((count, None)),
+            None => return Ok((rest.len() - others.len(), None)),
             Some((whole, None)) => match take_part(
                 Part::Whole,
                 alloc,
@@ -356,11 +410,8 @@ fn take_all<'a, E: Entries>(
                 bytes,
                 segment,
             ) {
-                Taken::Part(_there) => {
-                    count += 1;
-                    others = later;
-                }
-                Taken::Elsewhere => return Ok((count, None)),
+                Taken::Part(_there) => others = &others[1..],
+                Taken::Elsewhere => return Ok((rest.len() - others.len(), None)),
                 Taken::Refused => return Err(AllocError),
             },
             Some((exponent, Some(mantissa))) => match take_part(
@@ -383,34 +434,28 @@ fn take_all<'a, E: Entries>(
                     bytes,
                     segment,
                 ) {
-                    Taken::Part(_there) => {
-                        count += 1;
-                        others = later;
-                    }
-                    Taken::Elsewhere => return Ok((count + 1, Some(mantissa))),
+                    Taken::Part(_there) => others = &others[1..],
+                    Taken::Elsewhere => return Ok((rest.len() - others.len() + 1, Some(mantissa))),
                     Taken::Refused => return Err(AllocError),
                 },
-                Taken::Part(false) => {
-                    count += 1;
-                    others = later;
-                }
-                Taken::Elsewhere => return Ok((count, None)),
+                Taken::Part(false) => others = &others[1..],
+                Taken::Elsewhere => return Ok((rest.len() - others.len(), None)),
                 Taken::Refused => return Err(AllocError),
             },
         }
     }
-    Ok((count, None))
+    Ok((rest.len(), None))
 }
 
 /// Takes fields from the front of the open body, as many as the quick way serves one after the other.
 #[inline(never)]
-pub(crate) fn take_fields<'a, E: Entries>(
+pub(crate) fn take_fields<'a, L: Leveled, E: Entries>(
     alloc: Global,
     entries: &mut E,
     rest: &'a [Flat],
     bits: &mut Bits,
     spare: u32,
-    level: Level,
+    level: L,
     bytes: &[u8],
     at: usize,
     segment: &mut Segment,
@@ -423,7 +468,7 @@ pub(crate) fn take_fields<'a, E: Entries>(
     ensures fewer { IfOk result (λ f. IsSome f.mantissa → f.spare < spare) }
     ensures served { IfOk result (λ f. AreServed (E.serves entries.old) (list_of f.rest.now)
         × IsNextServed (E.serves entries.old) (next_behind f.mantissa)) }
-    ensures takes { IfOk result (λ f. Takes level bytes.now (level_of segment.old)
+    ensures takes { IfOk result (λ f. Takes L.at bytes.now (level_of segment.old)
         (E.contents entries.old) bits.old
         (record { mantissa = None; rest = list_of rest.now; spare = spare; place = at })
         (level_of segment.new) (E.contents entries.new) bits.new (front_of f)) }

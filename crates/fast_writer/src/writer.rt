@@ -8,7 +8,7 @@ use crate::segment::Segment;
 use fast_dictionary::Entries;
 use fast_field::FieldFault;
 use fast_template::{FieldPart, Flat, Name, Presence};
-use fast_walk::{Fields, Output, Receiver};
+use fast_walk::{Fields, Output, Receiver, Strictly, Usually};
 use fast_wire::{Bits, Level};
 use std::alloc::{AllocError, Global};
 
@@ -181,19 +181,14 @@ impl Receiver for Writer {
         bytes: &[u8],
         at: usize,
     ) -> Result<Fields<'a>, AllocError> {
-        match take_fields(
-            alloc,
-            entries,
-            rest,
-            bits,
-            spare,
-            level,
-            bytes,
-            at,
-            &mut self.inner,
-        ) {
-            Err(error) => Err(error),
-            Ok(fields) => Ok(fields),
+        let inner = &mut self.inner;
+        match level {
+            Level::Usual => take_fields(
+                alloc, entries, rest, bits, spare, Usually, bytes, at, inner,
+            ),
+            Level::Strict => take_fields(
+                alloc, entries, rest, bits, spare, Strictly, bytes, at, inner,
+            ),
         }
     }
 

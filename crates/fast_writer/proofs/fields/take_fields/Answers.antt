@@ -16,7 +16,7 @@ returns-then-flush-clause-takes g c =
     let count = c.in_ok-count.count in
     let whole : take (length rest - count) (drop count rest) ≡ drop count rest = take_all (length rest - count) (drop count rest) (omega (arith, length-drop count rest)) in
     rw whole
-    (takes_from c.args.level bytes _ _ _ _ d e c.args.bits.now c.take_all.new.bits rest c.args.spare (front_at rest c.args.spare c.in_ok-count.count c.in_ok-count.mantissa c.take_all.new.segment.bytes.place) c.begin.new.self.place c.args.at c.take_all.new.segment.bytes.place c.flush.new.self.place
+    (takes_from g.L.Leveled.at bytes _ _ _ _ d e c.args.bits.now c.take_all.new.bits rest c.args.spare (front_at rest c.args.spare c.in_ok-count.count c.in_ok-count.mantissa c.take_all.new.segment.bytes.place) c.begin.new.self.place c.args.at c.take_all.new.segment.bytes.place c.flush.new.self.place
     (level_bytes (level_of c.args.segment.now) (written bytes c.begin.new.self) (begun bytes c.args.segment.now.bytes c.begin.new.self c.args.at c.begin.ensures.out c.begin.ensures.from c.begin.ensures.place))
     (level_bytes (level_in bytes c.take_all.new.segment) c.flush.new.self.out.items (c.flush.ensures.out c.if-flush.true))
     c.begin.ensures.place c.flush.ensures.place (c.in_ok-count.ensures.takes c.args.spare (omega (arith, c.if-rest-spare.false))))

@@ -9,7 +9,7 @@ use Rattle.fast_writer.proofs.Takings.{taken_on}
 use Rattle.fast_writer.proofs.fields.take_given.Goals as goal
 
 pub returns-clause-took : goal.returns-clause-took
-returns-clause-took c =
+returns-clause-took g c =
     let i = c.args.part.now in
     let bytes = c.args.bytes.now in
     let old = c.args.segment.now in
@@ -22,9 +22,9 @@ returns-clause-took c =
     rw (is) (
       given.0,
       given.1,
-      took_behind c.args.level i c.args.entry.now c.pass_given.new.entry c.args.bits.now given.0 (drop at bytes) (drop at bytes) (drop now.bytes.place bytes) (level_in bytes old) (level_in bytes now) (ap (λ (r : Run). drop r.place bytes) run)
-          (took_entry c.args.level i c.args.entry.now c.pass_given.new.entry c.args.bits.now false false true given.0 (drop at bytes) (drop at bytes) (written bytes old.bytes) (level_in bytes old) (level_in bytes now)
-          zero (sym c.requires.needs) (λ none. none) (passes_relayed c.args.level i c.args.entry.now c.pass_given.new.entry given.0 (drop at bytes) (written bytes old.bytes) c.requires.needs given.2)
+      took_behind g.L.Leveled.at i c.args.entry.now c.pass_given.new.entry c.args.bits.now given.0 (drop at bytes) (drop at bytes) (drop now.bytes.place bytes) (level_in bytes old) (level_in bytes now) (ap (λ (r : Run). drop r.place bytes) run)
+          (took_entry g.L.Leveled.at i c.args.entry.now c.pass_given.new.entry c.args.bits.now false false true given.0 (drop at bytes) (drop at bytes) (written bytes old.bytes) (level_in bytes old) (level_in bytes now)
+          zero (sym c.requires.needs) (λ none. none) (passes_relayed g.L.Leveled.at i c.args.entry.now c.pass_given.new.entry given.0 (drop at bytes) (written bytes old.bytes) c.requires.needs given.2)
           (asked_in bytes true false old now asked run)),
     ))
     c.end_part.ensures.part c.end_part.ensures.asked c.end_part.ensures.run

@@ -23,7 +23,7 @@ returns-then-not-first-clause-took g c =
     (λ there r. (
       r.0,
       r.1,
-      took_of c.args.level i (bit_for (part_needs_bit i) c.args.bits.now) d (g.E.Entries.contents (c.entry_mut.follows.lender new)) c.in-Ok.entry.now new r.0 _ _ c.in-Ok.ensures.value
+      took_of g.L.Leveled.at i (bit_for (part_needs_bit i) c.args.bits.now) d (g.E.Entries.contents (c.entry_mut.follows.lender new)) c.in-Ok.entry.now new r.0 _ _ c.in-Ok.ensures.value
           (c.entry_mut.follows.holds new (ap is_ok c.in-Ok.is)).0 r.2.entry r.2.value,
       subst (λ (e : Entry). Spelt i e r.0 (level_in bytes c.args.segment.now) (level_in bytes c.take_given.new.segment)) c.in-Ok.ensures.value r.2.spelt,
     ))
@@ -66,7 +66,7 @@ returns-else-part_needs_bit-clause-took g c =
     (λ there r. (
       r.0,
       r.1,
-      took_of c.args.level i (bit_for (part_needs_bit i) c.args.bits.now) d (g.E.Entries.contents (c.entry_mut.follows.lender new)) c.in-Ok.entry.now new r.0 _ _ c.in-Ok.ensures.value
+      took_of g.L.Leveled.at i (bit_for (part_needs_bit i) c.args.bits.now) d (g.E.Entries.contents (c.entry_mut.follows.lender new)) c.in-Ok.entry.now new r.0 _ _ c.in-Ok.ensures.value
           (c.entry_mut.follows.holds new (ap is_ok c.in-Ok.is)).0 r.2.entry r.2.value,
       subst (λ (e : Entry). Spelt i e r.0 (level_in bytes c.args.segment.now) (level_in bytes c.take_sent.new.segment)) c.in-Ok.ensures.value r.2.spelt,
     ))
