@@ -10,7 +10,7 @@ ghost use Rattle.fast_wire.specs.Spellings.{bit_number, group_from, map_of, IsUs
 
 use crate::bits::{LongBits, ShortBits, refill};
 use crate::fault::WireFault;
-use crate::short_integer::{append_byte, short_entity};
+use crate::short_integer::{append_byte, short_unsigned};
 use crate::stop_bit::{STOP_BIT, entity_end};
 use std::alloc::Global;
 use std::marker::Model;
@@ -96,7 +96,7 @@ fn map_from(alloc: Global, bytes: &[u8], at: usize) -> Result<(Bits, usize), Wir
     ensures place { IfOk result (λ x. (at < x.1) × (x.1 ≤ length bytes.now)) }
     ensures gives { GivesAt OrMemory map_at (λ v. v) bytes.now at result }
 {
-    if let Some((word, next)) = short_entity(bytes, at) {
+    if let Some((word, next)) = short_unsigned(bytes, at) {
         let bits = Bits {
             short: ShortBits::new(word, 7 * (next - at)),
             long: LongBits::new(Vec::new(alloc)),
