@@ -1,20 +1,20 @@
 -- Entities of at most nine bytes, and what reading gives where one stands.
-use Rattle.std.proofs.Common.{◌≡◌, ℕ, ◌+◌, ◌-◌, ◌*◌, ◌%◌, ◌^◌, ◌<◌, ◌≤◌, List, length, suc, pos, negsuc, get_or, take, drop, slice_range, Ok, refl, sym, ap, ◌∙◌, subst, arith, length-take, length-drop, get_or-take, get_or-drop, min}
-use Rattle.std.proofs.Math.Nat.{pow-le-pow_right}
+use Rattle.std.proofs.Common.{◌≡◌, ℕ, ◌+◌, ◌-◌, ◌*◌, ◌%◌, ◌^◌, ◌<◌, ◌≤◌, List, Bool, true, false, length, pos, get_or, take, drop, slice_range, Ok, refl, sym, ap, ◌∙◌, subst, arith, length-take, length-drop, get_or-take, get_or-drop, ℤ}
+use Rattle.std.proofs.Math.Nat.{pow-le-pow_right, pow-suc}
+use Rattle.std.proofs.Math.Numerals.{add-one}
 use Rattle.std.specs.Int.{w64}
-use Rattle.std.specs.Prelude.{nat_le, ◌-ℤ◌, if◌then◌else◌}
+use Rattle.std.specs.Prelude.{nat_le, ◌+ℤ◌, ◌*ℤ◌}
 use mir.Val.{SFits, to_z, of_z}
-use Rattle.std.proofs.lemmas.Int.{ints, to_z-of_z, to_z_pos}
-use Rattle.std.proofs.lemmas.Nat.{one_shl}
+use Rattle.std.proofs.lemmas.Int.{ints, to_z-of_z}
 use Rattle.std.proofs.lemmas.List.{take-take}
-use Rattle.fast_wire.specs.Entity.{HasNoStop, IsFirstStop, groups}
+use Rattle.fast_wire.specs.Entity.{IsFirstStop, groups}
 use Rattle.fast_wire.specs.Integer.{is_negative, unsigned_of}
 use Rattle.fast_wire.specs.Nullable.{received_signed, received_unsigned}
 use Rattle.fast_wire.specs.Reading.{signed_at, signed_nullable_at, unsigned_at, unsigned_nullable_at}
-use Rattle.fast_wire.specs.Spellings.{IsShort}
+use Rattle.fast_wire.specs.Spellings.{IsShort, IsShortUnder, under_sign}
 use Rattle.fast_wire.proofs.Entities.{entity_from}
 use Rattle.fast_wire.proofs.FormReaders.{entity_given}
-use Rattle.fast_wire.proofs.Numbers.{number_bound, pow_bits, unsigned_more}
+use Rattle.fast_wire.proofs.Numbers.{number_bound, unsigned_more}
 use Rattle.fast_wire.proofs.SignedNumbers.{sign_is}
 use Rattle.fast_wire.proofs.AsciiForms.{first_byte}
 
@@ -64,62 +64,59 @@ pub short_nullable_given : (bytes : List ℕ) (at v next : ℕ) → IsShort byte
 unfolding unsigned_nullable_at
 short_nullable_given bytes at v next h = rw (short_given bytes at v next h) refl
 
--- no byte of a window that ends with the bytes, or after nine, stops
-pub window_none : (xs : List ℕ) (n i : ℕ) → n ≡ min 9 (length xs) → length (take n xs) ≤ i → ((k : ℕ) → k < i → get_or (take n xs) k 0 < 128) → HasNoStop (take 9 xs)
-window_none xs n i e all h k p =
-    let lt : k < 9 = omega (arith, length-take 9 xs) in
-    let inside : k < n = omega (arith, length-take 9 xs) in
-    let here : get_or (take n xs) k 0 < 128 = h k (omega (arith, length-take n xs, length-take 9 xs)) in
-    rw (get_or-take 9 xs k 0 lt) (rw (get_or-take n xs k 0 inside) at here)
-
 -- ---- signed numbers
 
-pub pow_nine : (n : ℕ) → n ≤ 9 → 128 ^ n ≤ 2 ^ 63
-pow_nine n h = pow-le-pow_right {n = 128} (omega arith) h
+-- a number of at most eight groups, times 128
+pub under_fits : (negative : Bool) (n u : ℕ) (z : ℤ) → n ≤ 8 → u < 128 ^ n → z ≡ under_sign negative n u → SFits w64 (z *ℤ pos 128)
+under_fits true n u z few low e = rw e (omega (arith, ints, pow_eight n few))
+under_fits false n u z few low e = rw e (omega (arith, ints, pow_eight n few))
 
--- what `1 << (7 * n)` gives at 64 bits
-pub span_short : (n : ℕ) → n ≤ 9 → 1 * 2 ^ (7 * n) % 2 ^ 64 ≡ 128 ^ n
-span_short n h = one_shl (7 * n) 64 (omega arith) ∙ sym (pow_bits n)
+-- and a group more
+pub more_fits : (negative : Bool) (n u g : ℕ) (z : ℤ) → n ≤ 8 → u < 128 ^ n → g < 128 → z ≡ under_sign negative n u → SFits w64 (z *ℤ pos 128 +ℤ pos g)
+more_fits true n u g z few low small e = rw e (omega (arith, ints, pow_eight n few))
+more_fits false n u g z few low small e = rw e (omega (arith, ints, pow_eight n few))
 
-pub short_fits : (u : ℕ) → u < 2 ^ 63 → SFits w64 (pos u)
-short_fits u h = record { sfits = omega arith }
+pub under_more : (negative : Bool) (n u g : ℕ) (z : ℤ) → z ≡ under_sign negative n u → z *ℤ pos 128 +ℤ pos g ≡ under_sign negative (n + 1) (u * 128 + g)
+under_more true n u g z e = rw (e, add-one, pow-suc 128 n) (omega (arith, ints))
+under_more false n u g z e = rw e (omega (arith, ints))
 
-below_fits : (d : ℕ) → d < 2 ^ 63 → SFits w64 (negsuc d)
-below_fits d h = record { sfits = omega arith }
+-- the same as it is computed
+pub step_is : (negative : Bool) (n u g : ℕ) (z b : ℤ) → n ≤ 8 → u < 128 ^ n → g < 128 → z ≡ under_sign negative n u → b ≡ pos g
+    → to_z w64 (of_z w64 (to_z w64 (of_z w64 (z *ℤ pos 128)) +ℤ to_z w64 (of_z w64 b))) ≡ under_sign negative (n + 1) (u * 128 + g)
+step_is negative n u g z b few low small e f =
+    let group : SFits w64 (pos g) = record { sfits = omega arith } in
+    rw (f, to_z-of_z w64 (z *ℤ pos 128) (under_fits negative n u z few low e), to_z-of_z w64 (pos g) group)
+    (to_z-of_z w64 (z *ℤ pos 128 +ℤ pos g) (more_fits negative n u g z few low small e) ∙ under_more negative n u g z e)
 
-less_one : (d : ℕ) → negsuc 0 -ℤ pos d ≡ negsuc d
-less_one d = omega (arith, ints)
+-- the numbers of the first groups, and the byte behind them
+pub front_bound : (n i : ℕ) (xs : List ℕ) → i ≤ length (take n xs) → unsigned_of (take i (take n xs)) < 128 ^ i
+front_bound n i xs h =
+    let long : length (take i (take n xs)) ≡ i = omega (arith, length-take i (take n xs)) in
+    subst (λ (k : ℕ). unsigned_of (take i (take n xs)) < 128 ^ k) long (number_bound (take i (take n xs)))
 
-minus_is : (u s a : ℕ) → u + suc a ≡ s → negsuc a ≡ pos u -ℤ pos s
-minus_is u s a e = omega (arith, ints)
+pub byte_behind : (bytes : List ℕ) (at n i : ℕ) → i < n → get_or (take n (drop at bytes)) i 0 ≡ get_or bytes (at + i) 0
+byte_behind bytes at n i h = get_or-take n (drop at bytes) i 0 h ∙ get_or-drop at bytes i 0
 
--- a number below 0 from its distance
-pub below_zero : (n v : ℕ) → n ≤ 9 → v < 128 ^ n → to_z w64 (of_z w64 (negsuc 0 -ℤ to_z w64 (128 ^ n - 1 - v))) ≡ pos v -ℤ pos (128 ^ n)
-below_zero n v few low =
-    let d = 128 ^ n - 1 - v in
-    let small : d < 2 ^ 63 = omega (arith, pow_nine n few) in
-    let sum : v + suc d ≡ 128 ^ n = omega arith in
-    rw (to_z_pos w64 d small, less_one d) (to_z-of_z w64 (negsuc d) (below_fits d small) ∙ minus_is v (128 ^ n) d sum)
+-- a first group
+pub first_under : (negative : Bool) (xs : List ℕ) (b : ℕ) → 0 < length xs → b < 128 → get_or xs 0 0 ≡ b → under_sign negative 1 b ≡ under_sign negative 1 (unsigned_of (take 1 xs))
+first_under negative xs b some low e =
+    let group : b ≡ get_or xs 0 0 % 128 = omega arith in
+    let sum : 0 * 128 + b ≡ b = omega arith in
+    ap (under_sign negative 1) (sym sum ∙ value_more xs 0 0 b some refl group)
 
 -- what reading gives where a signed one stands
-pub short_signed_given : (bytes : List ℕ) (at v next : ℕ) → IsShort bytes at v next
-    → signed_at (drop at bytes) ≡ Ok ((if nat_le 64 (get_or bytes at 0 % 128) then pos v -ℤ pos (128 ^ (next - at)) else pos v), drop next bytes)
+pub short_signed_given : (bytes : List ℕ) (at : ℕ) (number : ℤ) (next : ℕ) → IsShortUnder (nat_le 64 (get_or bytes at 0 % 128)) bytes at number next
+    → signed_at (drop at bytes) ≡ Ok (number, drop next bytes)
 unfolding signed_at
-short_signed_given bytes at v next h =
-    let a = h.after in let s = h.short in let w = h.within in
+short_signed_given bytes at number next h =
+    let a = h.short.after in let s = h.short.short in let w = h.short.within in
     let e = slice_range bytes at next in
     let long : length e ≡ next - at = omega (arith, length-take (next - at) (drop at bytes), length-drop at bytes) in
     let some : 0 < length e = omega arith in
     let sign : is_negative (groups e) ≡ nat_le 64 (get_or bytes at 0 % 128) = sign_is e some ∙ ap (λ b. nat_le 64 (b % 128)) (first_byte bytes at next a) in
-    rw (entity_given bytes at next 10 (omega arith) h.within (omega arith) h.entity, sign, long, h.value) refl
+    rw (entity_given bytes at next 10 (omega arith) w (omega arith) h.short.entity, sign, long, h.value, h.short.value) refl
 
-pub short_signed_nullable_given : (bytes : List ℕ) (at v next : ℕ) → IsShort bytes at v next
-    → signed_nullable_at (drop at bytes) ≡ Ok (received_signed (if nat_le 64 (get_or bytes at 0 % 128) then pos v -ℤ pos (128 ^ (next - at)) else pos v), drop next bytes)
+pub short_signed_nullable_given : (bytes : List ℕ) (at : ℕ) (number : ℤ) (next : ℕ) → IsShortUnder (nat_le 64 (get_or bytes at 0 % 128)) bytes at number next
+    → signed_nullable_at (drop at bytes) ≡ Ok (received_signed number, drop next bytes)
 unfolding signed_nullable_at
-short_signed_nullable_given bytes at v next h = rw (short_signed_given bytes at v next h) refl
-
-pub short_bound : (bytes : List ℕ) (at v next : ℕ) → IsShort bytes at v next → v < 128 ^ (next - at)
-short_bound bytes at v next h =
-    let a = h.after in let w = h.within in
-    let long : length (slice_range bytes at next) ≡ next - at = omega (arith, length-take (next - at) (drop at bytes), length-drop at bytes) in
-    rw h.value (subst (λ (k : ℕ). unsigned_of (slice_range bytes at next) < 128 ^ k) long (number_bound (slice_range bytes at next)))
+short_signed_nullable_given bytes at number next h = rw (short_signed_given bytes at number next h) refl

@@ -3,9 +3,9 @@ use Rattle.std.proofs.Common.{◌≡◌, ℕ, zero, suc, ◌+◌, ◌-◌, ◌*�
 use mir.Val.{bool_byte}
 use Rattle.std.specs.Int.{w64, trailing_zeros}
 use Rattle.std.proofs.lemmas.Bool.{cases_lt, true≢false}
-use Rattle.std.proofs.lemmas.Nat.{mod-pow-add, shl-shr, shr-shr, shr_split, shl_below, shl_whole}
+use Rattle.std.proofs.lemmas.Nat.{mod-pow-add, pow_pos, shl-shr, shr-shr, shr_split, shl_below, shl_whole}
 use Rattle.std.proofs.lemmas.Nat.Bits.{bit_at-trailing_zeros, bit_at-zero, bit_at_above, bit_at_cat_low}
-use Rattle.std.proofs.Math.Nat.{mod-eq_of_lt}
+use Rattle.std.proofs.Math.Nat.{mod-eq_of_lt, mul-pos, zero-mul}
 use Rattle.fast_wire.specs.Entity.{groups}
 use Rattle.fast_wire.specs.KeptBits.{kept_bits}
 use Rattle.fast_wire.specs.PresenceMap.{HasSetBit, IsMap, bit_at, bits_of, word_bits}
@@ -171,16 +171,21 @@ group_not_zero n some nine zeros =
     let same : n / 128 ^ (t / 7) / 2 ^ (t - 7 * (t / 7)) ≡ n / 2 ^ t = rw (pow_bits (t / 7), shr-shr n (7 * (t / 7)) (t - 7 * (t / 7)), e) refl in
     omega (arith, set.1, ap (λ x. x % 2) same, none)
 
--- ---- one group
+-- ---- nine groups, the first bit at their front
 
-pub one_group_below : (count w : ℕ) → count ≤ 7 → w < 2 ^ count → w * 2 ^ (7 - count) % 2 ^ 64 < 128
-one_group_below count w few low =
-    let e : count + (7 - count) ≡ 7 = omega arith in
-    let whole = shl_whole w count (7 - count) 64 low (omega arith) in
-    let below = rw e at (shl_below w count (7 - count) low) in
-    omega (arith, whole, below)
+pub nine_groups : (count w : ℕ) → count ≤ 63 → w < 2 ^ count → (w * 2 ^ (63 - count) % 2 ^ 64 ≡ w * 2 ^ (63 - count)) × (w * 2 ^ (63 - count) < 2 ^ 63)
+nine_groups count w few low =
+    let e : count + (63 - count) ≡ 63 = omega arith in
+    (shl_whole w count (63 - count) 64 low (omega arith), rw e at (shl_below w count (63 - count) low))
 
-pub one_group_bits : (count w : ℕ) → count ≤ 7 → w < 2 ^ count → (i : ℕ) → bit_at (word_bits (7 * 1) (w * 2 ^ (7 - count) % 2 ^ 64)) i ≡ bit_at (word_bits count w) i
-one_group_bits count w few low i =
-    let whole = shl_whole w count (7 - count) 64 low (omega arith) in
-    same_moved count 7 (7 - count) 0 w (w * 2 ^ (7 - count) % 2 ^ 64) (omega arith) (omega (arith, whole)) i
+pub some_kept : (w count : ℕ) → (w * 2 ^ (63 - count) % 2 ^ 64 % 2 ^ 56 ≡ 0 → ⊥) → 0 < w
+some_kept w count some = elim (cases_lt 0 w) [
+  | inl more ↦ more
+  | inr none ↦
+      let zero_word : w ≡ 0 = omega arith in
+      let product : w * 2 ^ (63 - count) ≡ 0 = rw zero_word (zero-mul (2 ^ (63 - count))) in
+      absurd (some (omega (arith, product)))
+]
+
+pub some_groups : (w m : ℕ) → 0 < w → 0 < w * 2 ^ m
+some_groups w m some = mul-pos some (pow_pos m)

@@ -1,5 +1,5 @@
 -- The shortest forms, made: what the writers append. No public clause names these.
-use Rattle.std.specs.Prelude.{◌≡◌, ◌⊎◌, ℕ, ℤ, pos, ◌+ℤ◌, ◌+◌, ◌-◌, ◌*◌, ◌/◌, ◌%◌, ◌^◌, ◌<◌, ◌≤◌, List, [], ◌∷◌, ◌++◌, length, replicate, slice_range, Bool, true, false, Result, OnOk, IfErr, Vec, vec_len, vec_capacity}
+use Rattle.std.specs.Prelude.{◌≡◌, ◌⊎◌, ℕ, ℤ, pos, ◌+ℤ◌, ◌-ℤ◌, ◌+◌, ◌-◌, ◌*◌, ◌/◌, ◌%◌, ◌^◌, ◌<◌, ◌≤◌, List, [], ◌∷◌, ◌++◌, length, replicate, slice_range, Bool, true, false, if◌then◌else◌, Result, OnOk, IfErr, Vec, vec_len, vec_capacity}
 use Rattle.std.specs.declared.alloc.Global.{Global}
 use Rattle.fast_wire.specs.Entity.{IsEntity}
 use Rattle.fast_wire.specs.Integer.{magnitude, unsigned_of}
@@ -89,6 +89,16 @@ pub record IsShort (bytes : List ℕ) (at v next : ℕ) : Type 0 where
   pub short : next ≤ at + 9
   pub entity : IsEntity (slice_range bytes at next)
   pub value : v ≡ unsigned_of (slice_range bytes at next)
+
+-- the number that n groups spell as v, in two's complement where it is below 0
+abbrev pub under_sign : Bool → ℕ → ℕ → ℤ
+under_sign negative n v = if negative then pos v -ℤ pos (128 ^ n) else pos v
+
+-- an entity of at most nine bytes stands there, and spells this number
+pub record IsShortUnder (negative : Bool) (bytes : List ℕ) (at : ℕ) (number : ℤ) (next : ℕ) : Type 0 where
+  pub spelled : ℕ
+  pub short : IsShort bytes at spelled next
+  pub value : number ≡ under_sign negative (next - at) spelled
 
 -- one group holds the signed number v, and it is g
 pub record IsOneGroup (v : ℤ) (g : ℕ) : Type 0 where

@@ -86,8 +86,23 @@ pub(crate) fn append_short_entity(
     requires few { size ≤ 10 }
     ensures { Appends (entity_of size value) out.old out.new result }
 {
+    // most are of two groups
+    if size == 2 {
+        return append_two_groups(value, out);
+    }
     out.reserve(size)?;
     push_short_entity(value, size, out);
+    Ok(())
+}
+
+/// The same of two groups.
+#[inline]
+fn append_two_groups(value: u64, out: &mut Vec<u8>) -> Result<(), WireFault>
+    ensures { Appends (entity_of 2 value) out.old out.new result }
+{
+    let first = (value / 128 % 128) as u8;
+    let last = (value % 128) as u8 + STOP_BIT;
+    out.extend_from_slice(&[first, last])?;
     Ok(())
 }
 

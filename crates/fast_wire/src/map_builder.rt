@@ -15,6 +15,9 @@ use std::marker::Model;
 /// The most bits that are kept in the word: eight whole groups.
 const WORD_BITS: usize = 56;
 
+/// What the first of nine groups stands for.
+const FIRST_GROUP: u64 = 1 << 56;
+
 /// The bits of a presence map that is being written, in their order. Up to 56 stand in one word, and the bits
 /// of a longer map in a list, all of them, since its form is made of a slice.
 #[derive(Drop)]
@@ -79,15 +82,15 @@ impl MapBuilder {
     pub fn write(&self, out: &mut Vec<u8>) -> Result<(), WireFault>
         ensures { Writes IsMap TooManyBits out.old out.new self.now result }
     {
-        // most maps are one group
-        if self.count <= 7 {
-            return append_byte((self.word << (7 - self.count)) as u8, out);
+        if !self.long.is_empty() {
+            return write_map(&self.long, out);
         }
-        if self.long.is_empty() {
-            append_word(self.word, self.count, out)
-        } else {
-            write_map(&self.long, out)
+        // nine groups, the first bit at their front; in most maps only the first has a 1
+        let groups = self.word << (63 - self.count);
+        if groups % FIRST_GROUP == 0 {
+            return append_byte((groups / FIRST_GROUP) as u8, out);
         }
+        append_word(self.word, self.count, out)
     }
 }
 
@@ -121,17 +124,15 @@ fn zero_groups(groups: u64) -> usize
     groups.trailing_zeros() as usize / 7
 }
 
-/// Appends the shortest map with the last bits of a word, or answers and appends nothing.
+/// Appends the shortest map with the last bits of a word, one of which is 1, or answers and appends nothing.
 fn append_word(word: u64, count: usize, out: &mut Vec<u8>) -> Result<(), WireFault>
     requires few { count ≤ 56 }
     requires fits { word < 2 ^ count }
+    requires some { 0 < word }
     ensures { Writes IsMap TooManyBits out.old out.new (word_bits count word) result }
 {
     // nine groups, the first bit at their front
     let groups = word << (63 - count);
-    if groups == 0 {
-        return append_byte(0, out);
-    }
     let zeros = zero_groups(groups);
     append_short_entity(groups >> (7 * zeros), 9 - zeros, out)
 }

@@ -2,6 +2,7 @@
 
 ghost use Rattle.std.specs.Prelude.{◌≡◌, ◌≢◌, ◌≤◌, ◌<◌, ◌+◌, ◌*◌, ◌/◌, ◌%◌, ◌↔◌, ◌⊎◌, ◌-◌, ◌++◌, ℕ, Bool, true, false, List, [], length, drop, slice_range, slice_get, IsTrue, IfOk, MatchResult, IfErr, OnOk, OnErr, IsErrOf};
 ghost use Rattle.fast_wire.specs.Sizes.{CanBeMap};
+ghost use Rattle.fast_wire.specs.KeptBits.{bits_behind};
 ghost use Rattle.fast_wire.specs.Entity.{groups};
 ghost use Rattle.fast_wire.specs.Reading.{EntityFault, GivesAt, OrMemory, Reads, map_at, IsReadAt};
 ghost use Rattle.fast_wire.specs.Writing.{Writes, TooManyBits};
@@ -10,7 +11,7 @@ ghost use Rattle.fast_wire.specs.Spellings.{bit_number, group_from, map_of, IsUs
 
 use crate::bits::{LongBits, ShortBits, refill};
 use crate::fault::WireFault;
-use crate::short_integer::{append_byte, short_entity};
+use crate::short_integer::{append_byte, short_unsigned};
 use crate::stop_bit::{STOP_BIT, entity_end};
 use std::alloc::Global;
 use std::marker::Model;
@@ -27,15 +28,15 @@ const GROUP_BITS: usize = 7;
 #[derive(Drop)]
 pub struct Bits {
     short: ShortBits,
-    long: LongBits,
+    long: Option<Box<LongBits>>,
 }
 
 impl Model for Bits {
     ghost Value = { List Bool };
 
-    ghost view = { λ b. b.short ++ b.long };
+    ghost view = { λ b. b.short ++ bits_behind b.long };
 
-    ghost invariant = { λ b. b.short ≡ [] → b.long ≡ [] };
+    ghost invariant = { λ b. b.short ≡ [] → bits_behind b.long ≡ [] };
 }
 
 impl Bits {
@@ -43,9 +44,10 @@ impl Bits {
     pub fn none(alloc: Global) -> Bits
         ensures { result ≡ [] }
     {
-        let short = ShortBits::new(0, 0);
-        let long = LongBits::new(Vec::new(alloc));
-        Bits { short, long }
+        Bits {
+            short: ShortBits::new(0, 0),
+            long: None,
+        }
     }
 
     /// The next bit, or false past the end; it stays the next. It takes no memory.
@@ -63,8 +65,10 @@ impl Bits {
         ensures rest { self.new ≡ later_bits self.old }
     {
         let bit = self.short.take();
-        if self.short.is_empty() && !self.long.is_empty() {
-            refill(&mut self.short, &mut self.long);
+        if self.short.is_empty() {
+            if let Some(long) = &mut self.long {
+                refill(&mut self.short, long);
+            }
         }
         bit
     }
@@ -73,7 +77,17 @@ impl Bits {
     pub fn left_set(&self) -> bool
         ensures { IsTrue result ↔ HasSetBit self.now }
     {
-        self.short.left_set() || self.long.left_set()
+        self.short.left_set() || behind_set(&self.long)
+    }
+}
+
+/// Whether a bit behind those of a word is 1.
+fn behind_set(long: &Option<Box<LongBits>>) -> bool
+    ensures { IsTrue result ↔ HasSetBit (bits_behind long.now) }
+{
+    match long {
+        Some(long) => long.left_set(),
+        None => false,
     }
 }
 
@@ -96,19 +110,27 @@ fn map_from(alloc: Global, bytes: &[u8], at: usize) -> Result<(Bits, usize), Wir
     ensures place { IfOk result (λ x. (at < x.1) × (x.1 ≤ length bytes.now)) }
     ensures gives { GivesAt OrMemory map_at (λ v. v) bytes.now at result }
 {
-    if let Some((word, next)) = short_entity(bytes, at) {
+    if let Some((word, next)) = short_unsigned(bytes, at) {
         let bits = Bits {
             short: ShortBits::new(word, 7 * (next - at)),
-            long: LongBits::new(Vec::new(alloc)),
+            long: None,
         };
         return Ok((bits, next));
     }
     let next = entity_end(bytes, at, MAP_LIMIT)?;
     let groups = Vec::from_slice(alloc, &bytes[at..next])?;
     let mut short = ShortBits::new(0, 0);
-    let mut long = LongBits::new(groups);
+    let Ok(mut long) = Box::new(alloc, LongBits::new(groups)) else {
+        return Err(WireFault::Memory);
+    };
     refill(&mut short, &mut long);
-    Ok((Bits { short, long }, next))
+    Ok((
+        Bits {
+            short,
+            long: Some(long),
+        },
+        next,
+    ))
 }
 
 /// One more than the index of the last 1, or 0.

@@ -1,12 +1,12 @@
 //! Integers in 64 bits: an entity of one byte is read and written inline, one of at most nine is read in one
 //! register, and the rest is done by `integer` and `nullable`.
 
-ghost use Rattle.std.specs.Prelude.{◌≡◌, ℕ, pos, ◌-ℤ◌, ◌+◌, ◌^◌, ◌<◌, ◌≤◌, length, drop, take, IfOk, IfSome, MatchOption, if◌then◌else◌};
+ghost use Rattle.std.specs.Prelude.{◌≡◌, ◌+◌, ◌%◌, ◌<◌, ◌≤◌, nat_le, length, slice_index, drop, take, IfOk, IfSome, MatchOption};
 ghost use Rattle.fast_wire.specs.Entity.{HasNoStop};
 ghost use Rattle.fast_wire.specs.Nullable.{IsNullOr, IsSignedNullable, IsUnsignedNullable, received_unsigned, sent_signed};
 ghost use Rattle.fast_wire.specs.Nullable as nullable;
 ghost use Rattle.fast_wire.specs.Reading.{FitsI64, FitsU64, GivesAt, OrOutside, signed_at, signed_nullable_at, unsigned_at, unsigned_nullable_at};
-ghost use Rattle.fast_wire.specs.Spellings.{Appends, IsOneGroup, IsShort, entity_of};
+ghost use Rattle.fast_wire.specs.Spellings.{Appends, IsOneGroup, IsShort, IsShortUnder, entity_of, under_sign};
 ghost use Rattle.fast_wire.specs.Integer.{IsSigned, IsUnsigned, magnitude};
 ghost use Rattle.fast_wire.specs.Writing.{NeverRefused, Writes};
 
@@ -21,23 +21,56 @@ use crate::stop_bit::STOP_BIT;
 /// The most bytes of an entity whose number is put together in 64 bits.
 const SHORT_LIMIT: usize = 9;
 
-/// The entity of at most nine bytes that begins at `at`: its number and the place after it. None: there is no
-/// such entity.
-pub(crate) fn short_entity(bytes: &[u8], at: usize) -> Option<(u64, usize)>
+/// The number of one group, in two's complement where it is below 0.
+#[inline]
+fn group_number(group: u8, negative: bool) -> i64
+    requires { group < 128 }
+    ensures { result ≡ under_sign negative 1 group }
+{
+    if negative {
+        i64::from(group) - 128
+    } else {
+        i64::from(group)
+    }
+}
+
+/// The entity of two to nine bytes that begins at `at`: its number, in two's complement where it is below 0, and the
+/// place after it. None: there is no such entity.
+#[inline]
+fn longer_entity(bytes: &[u8], at: usize, negative: bool) -> Option<(i64, usize)>
+    requires within { at < length bytes.now }
+    requires longer { slice_index bytes.now at < 128 }
+    ensures { MatchOption result (HasNoStop (take 9 (drop at bytes.now)))
+        (λ x. IsShortUnder negative bytes.now at x.0 x.1) }
+{
+    let end = bytes.len().min(at + SHORT_LIMIT);
+    let mut number = group_number(bytes[at], negative);
+    for i in at + 1..end {
+        let byte = bytes[i];
+        if byte >= STOP_BIT {
+            return Some((number * 128 + i64::from(byte - STOP_BIT), i + 1));
+        }
+        number = number * 128 + i64::from(byte);
+    }
+    None
+}
+
+/// The unsigned number of at most nine bytes that begins at `at`, and the place after it. None: there is no such
+/// entity.
+#[inline]
+pub(crate) fn short_unsigned(bytes: &[u8], at: usize) -> Option<(u64, usize)>
     requires { at ≤ length bytes.now }
     ensures { MatchOption result (HasNoStop (take 9 (drop at bytes.now)))
         (λ x. IsShort bytes.now at x.0 x.1) }
 {
-    let rest = &bytes[at..];
-    let window = &rest[..SHORT_LIMIT.min(rest.len())];
-    let mut value: u64 = 0;
-    for (i, byte) in window.iter().enumerate() {
-        value = value * 128 + u64::from(*byte % 128);
-        if *byte >= STOP_BIT {
-            return Some((value, at + i + 1));
-        }
+    if at == bytes.len() {
+        return None;
     }
-    None
+    if bytes[at] >= STOP_BIT {
+        return Some((u64::from(bytes[at] - STOP_BIT), at + 1));
+    }
+    let (number, next) = longer_entity(bytes, at, false)?;
+    Some((number as u64, next))
 }
 
 /// Reads an unsigned integer as `read_unsigned` does, in 64 bits. Range: the number has more. It takes no
@@ -48,10 +81,7 @@ pub fn read_u64(bytes: &[u8], at: usize) -> Result<(u64, usize), WireFault>
     ensures place { IfOk result (λ x. (at < x.1) × (x.1 ≤ length bytes.now)) }
     ensures gives { GivesAt (OrOutside FitsU64) unsigned_at (λ v. v) bytes.now at result }
 {
-    if at < bytes.len() && bytes[at] >= STOP_BIT {
-        return Ok((u64::from(bytes[at] % 128), at + 1));
-    }
-    match short_entity(bytes, at) {
+    match short_unsigned(bytes, at) {
         Some(found) => Ok(found),
         None => read_long(bytes, at),
     }
@@ -92,10 +122,7 @@ pub fn read_u64_nullable(bytes: &[u8], at: usize) -> Result<(Nullable<u64>, usiz
     ensures gives { GivesAt (OrOutside (IsNullOr FitsU64)) unsigned_nullable_at (λ v. v)
         bytes.now at result }
 {
-    if at < bytes.len() && bytes[at] >= STOP_BIT {
-        return Ok((received(u64::from(bytes[at] % 128)), at + 1));
-    }
-    match short_entity(bytes, at) {
+    match short_unsigned(bytes, at) {
         Some((sent, next)) => Ok((received(sent), next)),
         None => read_long_nullable(bytes, at),
     }
@@ -119,20 +146,22 @@ fn read_long_nullable(bytes: &[u8], at: usize) -> Result<(Nullable<u64>, usize),
     }
 }
 
-/// The signed number of an entity: its groups spell `value`, and the first says whether it is below 0.
+/// The signed number of at most nine bytes that begins at `at`, and the place after it. None: there is no such
+/// entity.
 #[inline]
-fn with_sign(value: u64, size: usize, negative: bool) -> i64
-    requires some { 0 < size }
-    requires few { size ≤ 9 }
-    requires spelled { value < 128 ^ size }
-    ensures { result ≡ (if negative then pos value -ℤ pos (128 ^ size) else pos value) }
+fn short_signed(bytes: &[u8], at: usize) -> Option<(i64, usize)>
+    requires { at ≤ length bytes.now }
+    ensures { MatchOption result (HasNoStop (take 9 (drop at bytes.now)))
+        (λ x. IsShortUnder (nat_le 64 (slice_index bytes.now at % 128)) bytes.now at x.0 x.1) }
 {
-    if negative {
-        let distance = (1u64 << (7 * size)) - 1 - value;
-        -1 - distance as i64
-    } else {
-        value as i64
+    if at == bytes.len() {
+        return None;
     }
+    let group = bytes[at] % 128;
+    if bytes[at] >= STOP_BIT {
+        return Some((group_number(group, group >= 64), at + 1));
+    }
+    longer_entity(bytes, at, group >= 64)
 }
 
 /// Reads a signed integer as `read_signed` does, in 64 bits. Range: the number has more. It takes no memory.
@@ -142,12 +171,8 @@ pub fn read_i64(bytes: &[u8], at: usize) -> Result<(i64, usize), WireFault>
     ensures place { IfOk result (λ x. (at < x.1) × (x.1 ≤ length bytes.now)) }
     ensures gives { GivesAt (OrOutside FitsI64) signed_at (λ v. v) bytes.now at result }
 {
-    if at < bytes.len() && bytes[at] >= STOP_BIT {
-        let group = bytes[at] % 128;
-        return Ok((with_sign(u64::from(group), 1, group >= 64), at + 1));
-    }
-    match short_entity(bytes, at) {
-        Some((value, next)) => Ok((with_sign(value, next - at, bytes[at] % 128 >= 64), next)),
+    match short_signed(bytes, at) {
+        Some(found) => Ok(found),
         None => read_long_signed(bytes, at),
     }
 }
@@ -189,18 +214,8 @@ pub fn read_i64_nullable(bytes: &[u8], at: usize) -> Result<(Nullable<i64>, usiz
     ensures gives { GivesAt (OrOutside (IsNullOr FitsI64)) signed_nullable_at (λ v. v)
         bytes.now at result }
 {
-    if at < bytes.len() && bytes[at] >= STOP_BIT {
-        let group = bytes[at] % 128;
-        return Ok((
-            received_signed(with_sign(u64::from(group), 1, group >= 64)),
-            at + 1,
-        ));
-    }
-    match short_entity(bytes, at) {
-        Some((value, next)) => {
-            let sent = with_sign(value, next - at, bytes[at] % 128 >= 64);
-            Ok((received_signed(sent), next))
-        }
+    match short_signed(bytes, at) {
+        Some((sent, next)) => Ok((received_signed(sent), next)),
         None => read_long_signed_nullable(bytes, at),
     }
 }

@@ -2,16 +2,13 @@ use Rattle.std.proofs.Common.{◌≡◌, ◌-◌, ◌+◌, ◌*◌, ◌/◌, ◌
 use Rattle.std.proofs.lemmas.Nat.{shl_whole, shl_below, shr_below}
 use Rattle.fast_wire.specs.PresenceMap.{word_bits}
 use Rattle.fast_wire.proofs.Numbers.{pow_bits}
-use Rattle.fast_wire.proofs.WordForms.{front_bits, word_appended, word_length}
+use Rattle.fast_wire.proofs.WordForms.{front_bits, some_groups, word_appended, word_length}
 use Rattle.fast_wire.proofs.map_builder.append_word.Goals as goal
 
-pub returns-then-groups-eq0 : goal.returns-then-groups-eq0
-returns-then-groups-eq0 c =
-    let w = c.args.word in let k = c.args.count in
-    let whole = shl_whole w k (63 - k) 64 c.requires.fits (omega (arith, c.requires.few)) in
-    let bits = front_bits k w 8 0 (omega (arith, c.requires.few)) (omega arith) (omega (arith, whole, c.if-groups-eq0.true)) (omega arith) in
-    word_appended c.args.out.now c.append_byte.new.out (word_bits k w) 0 1 c.append_byte.result (omega (arith, word_length k w, c.requires.few)) (omega arith) (omega arith) (omega arith)
-    (λ more. absurd (omega arith)) bits c.append_byte.ensures
+pub zero_groups-zeros-requires-clause-some : goal.zero_groups-zeros-requires-clause-some
+zero_groups-zeros-requires-clause-some c =
+    let whole = shl_whole c.args.word c.args.count (63 - c.args.count) 64 c.requires.fits (let few = c.requires.few in omega arith) in
+    rw whole (some_groups c.args.word (63 - c.args.count) c.requires.some)
 
 pub zero_groups-zeros-requires-clause-nine : goal.zero_groups-zeros-requires-clause-nine
 zero_groups-zeros-requires-clause-nine c =

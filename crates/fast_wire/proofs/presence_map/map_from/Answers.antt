@@ -9,7 +9,7 @@ use Rattle.fast_wire.proofs.presence_map.map_from.Goals as goal
 
 pub returns-in-Some-clause-gives : goal.returns-in-Some-clause-gives
 returns-in-Some-clause-gives c =
-    rw (c.new.ensures, c.new-in-Some-2.ensures, c.new-in-Some.ensures.items, append-nil) (short_map c.args.bytes.now c.args.at c.in-Some.word c.in-Some.next c.in-Some.ensures)
+    rw (c.new.ensures, append-nil) (short_map c.args.bytes.now c.args.at c.in-Some.word c.in-Some.next c.in-Some.ensures)
 
 pub returns-in_err-next-clause-gives : goal.returns-in_err-next-clause-gives
 unfolding map_at
@@ -19,7 +19,11 @@ returns-in_err-next-clause-gives c =
 
 pub returns-clause-gives : goal.returns-clause-gives
 unfolding map_at
-returns-clause-gives c = rw (c.in_ok-next.ensures.gives, c.refill.ensures.bits, c.new-long.ensures, c.in_ok-groups.ensures.items) refl
+returns-clause-gives c = rw (c.in_ok-next.ensures.gives, c.refill.ensures.bits, c.deref_mut.ensures.value, c.in-Ok.ensures.ok, c.new-2.ensures, c.in_ok-groups.ensures.items) refl
+
+pub returns-in_default-new-clause-gives : goal.returns-in_default-new-clause-gives
+unfolding map_at
+returns-in_default-new-clause-gives c = inr (refl, rw c.in_ok-next.ensures.gives refl)
 
 pub returns-in_err-groups-clause-gives : goal.returns-in_err-groups-clause-gives
 unfolding map_at
