@@ -23,6 +23,9 @@ impl Model for ByteString {
 }
 
 impl ByteString {
+    ghost use Rattle.std.specs.Borrow.{sem};
+    ghost use Rattle.fast_value.specs.Overwritten.{LendsBytes};
+
     /// The bytes of a vector. Takes no memory.
     pub fn from_vec(bytes: Vec<u8>) -> ByteString
         ensures { result ≡ bytes.items }
@@ -43,6 +46,14 @@ impl ByteString {
         ensures { result.now ≡ self.now }
     {
         self.bytes.as_slice()
+    }
+
+    /// The bytes, in order, for writing: as many stay. Takes no memory.
+    pub fn as_mut_slice(&mut self) -> &mut [u8]
+        ensures* writes_back { sem 𝓛 (LendsBytes self.entry result) }
+        ensures value { result.now ≡ self.old }
+    {
+        self.bytes.as_mut_slice()
     }
 
     /// The same bytes once more.

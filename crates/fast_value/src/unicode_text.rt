@@ -1,6 +1,6 @@
 //! Texts.
 
-ghost use Rattle.std.specs.Prelude.{◌≡◌, IfOk, nat_eq, string_bytes};
+ghost use Rattle.std.specs.Prelude.{◌≡◌, ◌+◌, ◌++◌, IfOk, length, nat_eq, string_bytes, take};
 ghost use Rattle.std.specs.Cmp.{partial_equiv_from_equiv};
 ghost use Rattle.std.specs.Cmp.Lexicographic.{nat_list_eq_equiv, pointwise};
 
@@ -51,6 +51,15 @@ impl UnicodeText {
     {
         let UnicodeText { bytes } = self;
         bytes
+    }
+
+    /// Puts bytes in the place of the last ones, which are as many; the text stays UTF-8. Takes no memory.
+    pub fn put_over(&mut self, kept: usize, part: &[u8])
+        requires many { kept + length part.now ≡ length self.now }
+        requires utf8 { IsUtf8 (take kept self.now ++ part.now) }
+        ensures { self.new ≡ take kept self.old ++ part.now }
+    {
+        self.bytes[kept..].copy_from_slice(part);
     }
 
     /// The string of this text. Takes no memory.
