@@ -123,7 +123,7 @@ impl Receiver for Writer {
     ) -> Result<(u32, usize), FieldFault> {
         self.outer.clear();
         self.inner.begin(true);
-        match relay_identifier(
+        let (id, next) = relay_identifier(
             alloc,
             entries,
             identifier,
@@ -132,10 +132,10 @@ impl Receiver for Writer {
             bytes,
             at,
             &mut self.inner,
-        ) {
-            Err(fault) => Err(fault),
-            Ok((Some(id), next)) => Ok((id, next)),
-            Ok((None, _)) => unreachable!(),
+        )?;
+        match id {
+            Some(id) => Ok((id, next)),
+            None => unreachable!(),
         }
     }
 
@@ -163,10 +163,17 @@ impl Receiver for Writer {
         bytes: &[u8],
         at: usize,
     ) -> Result<usize, FieldFault> {
-        match relay_part(alloc, entries, part, bit, level, bytes, at, &mut self.inner) {
-            Err(fault) => Err(fault),
-            Ok((_there, next)) => Ok(next),
-        }
+        let (_there, next) = relay_part(
+            alloc,
+            entries,
+            part,
+            bit,
+            level,
+            bytes,
+            at,
+            &mut self.inner,
+        )?;
+        Ok(next)
     }
 
     #[inline(always)]
@@ -181,7 +188,7 @@ impl Receiver for Writer {
         bytes: &[u8],
         at: usize,
     ) -> Result<Fields<'a>, AllocError> {
-        match take_fields(
+        take_fields(
             alloc,
             entries,
             rest,
@@ -191,10 +198,7 @@ impl Receiver for Writer {
             bytes,
             at,
             &mut self.inner,
-        ) {
-            Err(error) => Err(error),
-            Ok(fields) => Ok(fields),
-        }
+        )
     }
 
     #[inline(always)]
@@ -210,10 +214,7 @@ impl Receiver for Writer {
         bytes: &[u8],
         at: usize,
     ) -> Result<(bool, usize), FieldFault> {
-        match relay_part(alloc, entries, part, bit, level, bytes, at, &mut self.inner) {
-            Err(fault) => Err(fault),
-            Ok((there, next)) => Ok((there, next)),
-        }
+        relay_part(alloc, entries, part, bit, level, bytes, at, &mut self.inner)
     }
 
     #[inline(always)]
@@ -227,10 +228,17 @@ impl Receiver for Writer {
         bytes: &[u8],
         at: usize,
     ) -> Result<usize, FieldFault> {
-        match relay_part(alloc, entries, part, bit, level, bytes, at, &mut self.inner) {
-            Err(fault) => Err(fault),
-            Ok((_there, next)) => Ok(next),
-        }
+        let (_there, next) = relay_part(
+            alloc,
+            entries,
+            part,
+            bit,
+            level,
+            bytes,
+            at,
+            &mut self.inner,
+        )?;
+        Ok(next)
     }
 
     #[inline(always)]
@@ -246,10 +254,7 @@ impl Receiver for Writer {
         bytes: &[u8],
         at: usize,
     ) -> Result<(Option<u32>, usize), FieldFault> {
-        match relay_length(alloc, entries, part, bit, level, bytes, at, &mut self.inner) {
-            Err(fault) => Err(fault),
-            Ok((length, next)) => Ok((length, next)),
-        }
+        relay_length(alloc, entries, part, bit, level, bytes, at, &mut self.inner)
     }
 
     #[inline(always)]
