@@ -1,4 +1,5 @@
 mod SetBits
+pub mod Results
 pub mod ShortWalks
 pub mod Steps
 pub mod Walking

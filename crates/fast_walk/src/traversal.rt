@@ -152,16 +152,12 @@ impl<'a> Traversal<'a> {
         ensures set { self.new.set ≡ self.old.set }
         ensures level { self.new.level ≡ self.old.level }
     {
-        match read_own_map(self.alloc, 0, true, self.level, bytes, at) {
-            Err(halt) => Err(halt),
-            Ok((bits, next)) => {
-                // the rest of the walk begins with the body, in the memory of the last one
-                self.walk.bits = bits;
-                self.walk.spare = NODE_LIMIT;
-                self.stage = Stage::Identifier;
-                Ok(next)
-            }
-        }
+        let (bits, next) = read_own_map(self.alloc, 0, true, self.level, bytes, at)?;
+        // the rest of the walk begins with the body, in the memory of the last one
+        self.walk.bits = bits;
+        self.walk.spare = NODE_LIMIT;
+        self.stage = Stage::Identifier;
+        Ok(next)
     }
 
     // Reads a message's identifier, and opens the body of the template that it names.
@@ -250,17 +246,11 @@ impl<'a> Traversal<'a> {
         ensures level { self.new.level ≡ self.old.level }
     {
         let level = self.level();
-        match self.walk.judge_end(level) {
-            Err(halt) => Err(halt),
-            Ok(()) => match receiver.finish(self.alloc) {
-                Err(error) => Err(Halt::from(error)),
-                Ok(()) => {
-                    self.stage = Stage::Map;
-                    self.template = 0;
-                    Ok(())
-                }
-            },
-        }
+        self.walk.judge_end(level)?;
+        receiver.finish(self.alloc)?;
+        self.stage = Stage::Map;
+        self.template = 0;
+        Ok(())
     }
 
     // Reads what is left of a message's body.
@@ -323,15 +313,12 @@ impl<'a> Traversal<'a> {
         ensures level { self.new.level ≡ self.old.level }
         ensures same_keys { E.serves entries.new ≡ E.serves entries.old }
     {
-        match self
+        let next = self
             .walk
-            .run(self.level, self.alloc, receiver, entries, bytes, at)
-        {
-            Err(halt) => Err(halt),
-            Ok(next) => match self.end(receiver) {
-                Err(halt) => Err((next, halt)),
-                Ok(()) => Ok(next),
-            },
+            .run(self.level, self.alloc, receiver, entries, bytes, at)?;
+        match self.end(receiver) {
+            Err(halt) => Err((next, halt)),
+            Ok(()) => Ok(next),
         }
     }
 
@@ -402,10 +389,7 @@ impl<'a> Traversal<'a> {
     {
         match self.identifier(receiver, entries, bytes, at) {
             Err(halt) => Err((at, halt)),
-            Ok(next) => match self.body(receiver, entries, bytes, next) {
-                Err(halt) => Err(halt),
-                Ok(next) => Ok(next),
-            },
+            Ok(next) => self.body(receiver, entries, bytes, next),
         }
     }
 
@@ -484,15 +468,9 @@ impl<'a> Traversal<'a> {
         match self.stage {
             Stage::Map => match self.map(bytes, at) {
                 Err(halt) => Err((at, halt)),
-                Ok(next) => match self.behind_map(receiver, entries, bytes, next) {
-                    Err(halt) => Err(halt),
-                    Ok(next) => Ok(next),
-                },
+                Ok(next) => self.behind_map(receiver, entries, bytes, next),
             },
-            Stage::Identifier => match self.behind_map(receiver, entries, bytes, at) {
-                Err(halt) => Err(halt),
-                Ok(next) => Ok(next),
-            },
+            Stage::Identifier => self.behind_map(receiver, entries, bytes, at),
             Stage::Body => unreachable!(),
         }
     }
@@ -574,14 +552,8 @@ impl<'a> Traversal<'a> {
             → self.new.stage ≢ Stage.Map → at < x.0) }
     {
         match self.stage {
-            Stage::Body => match self.body(receiver, entries, bytes, at) {
-                Err(halt) => Err(halt),
-                Ok(next) => Ok(next),
-            },
-            Stage::Map | Stage::Identifier => match self.begin(receiver, entries, bytes, at) {
-                Err(halt) => Err(halt),
-                Ok(next) => Ok(next),
-            },
+            Stage::Body => self.body(receiver, entries, bytes, at),
+            Stage::Map | Stage::Identifier => self.begin(receiver, entries, bytes, at),
         }
     }
 }

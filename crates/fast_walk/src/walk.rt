@@ -281,28 +281,24 @@ impl<'a> Walk<'a> {
         ensures same_keys { E.serves entries.new ≡ E.serves entries.old }
         ensures rank { OnOk result (rank_of self.new < rank_of self.old) }
     {
-        match self.count(number) {
-            Err(halt) => Err(halt),
-            Ok(()) => {
-                let needs = part_needs_bit(whole);
-                let bit = first_for(&self.bits, needs);
-                match receiver.field(
-                    alloc,
-                    name,
-                    presence,
-                    entries,
-                    whole,
-                    bit,
-                    level.level(),
-                    bytes,
-                    at,
-                ) {
-                    Err(fault) => Err(part_halt(whole, fault)),
-                    Ok(next) => {
-                        self.pass_field(needs, others);
-                        Ok(next)
-                    }
-                }
+        self.count(number)?;
+        let needs = part_needs_bit(whole);
+        let bit = first_for(&self.bits, needs);
+        match receiver.field(
+            alloc,
+            name,
+            presence,
+            entries,
+            whole,
+            bit,
+            level.level(),
+            bytes,
+            at,
+        ) {
+            Err(fault) => Err(part_halt(whole, fault)),
+            Ok(next) => {
+                self.pass_field(needs, others);
+                Ok(next)
             }
         }
     }
@@ -350,32 +346,28 @@ impl<'a> Walk<'a> {
         ensures same_keys { E.serves entries.new ≡ E.serves entries.old }
         ensures rank { OnOk result (rank_of self.new < rank_of self.old) }
     {
-        match self.count(number) {
-            Err(halt) => Err(halt),
-            Ok(()) => {
-                let needs = part_needs_bit(exponent);
-                let bit = first_for(&self.bits, needs);
-                match receiver.exponent(
-                    alloc,
-                    name,
-                    presence,
-                    entries,
-                    exponent,
-                    bit,
-                    level.level(),
-                    bytes,
-                    at,
-                ) {
-                    Err(fault) => Err(part_halt(exponent, fault)),
-                    Ok((present, next)) => {
-                        if present {
-                            self.pass(needs, others, Next::Mantissa(mantissa));
-                            Ok(next)
-                        } else {
-                            self.pass(needs, others, Next::Instruction);
-                            Ok(next)
-                        }
-                    }
+        self.count(number)?;
+        let needs = part_needs_bit(exponent);
+        let bit = first_for(&self.bits, needs);
+        match receiver.exponent(
+            alloc,
+            name,
+            presence,
+            entries,
+            exponent,
+            bit,
+            level.level(),
+            bytes,
+            at,
+        ) {
+            Err(fault) => Err(part_halt(exponent, fault)),
+            Ok((present, next)) => {
+                if present {
+                    self.pass(needs, others, Next::Mantissa(mantissa));
+                    Ok(next)
+                } else {
+                    self.pass(needs, others, Next::Instruction);
+                    Ok(next)
                 }
             }
         }
@@ -470,47 +462,43 @@ impl<'a> Walk<'a> {
         ensures same_keys { E.serves entries.new ≡ E.serves entries.old }
         ensures rank { OnOk result (rank_of self.new < rank_of self.old) }
     {
-        match self.count(number) {
-            Err(halt) => Err(halt),
-            Ok(()) => {
-                let needs = part_needs_bit(part);
-                let bit = first_for(&self.bits, needs);
-                match receiver.begin_sequence(
-                    alloc,
-                    name,
-                    presence,
-                    entries,
-                    part,
-                    bit,
-                    level.level(),
-                    bytes,
-                    at,
-                ) {
-                    Err(fault) => Err(part_halt(part, fault)),
-                    Ok((length, next)) => match length {
-                        None => {
-                            self.pass_field(needs, others);
-                            Ok(next)
-                        }
-                        Some(left) => {
-                            if left == 0 {
-                                receiver.end_sequence(alloc)?;
-                                self.pass_field(needs, others);
-                                return Ok(next);
-                            }
-                            let own_map = has_map(members);
-                            let elements = Sequel {
-                                number,
-                                own_map,
-                                members,
-                                left,
-                            };
-                            self.pass(needs, others, Next::Element(elements));
-                            Ok(next)
-                        }
-                    },
+        self.count(number)?;
+        let needs = part_needs_bit(part);
+        let bit = first_for(&self.bits, needs);
+        match receiver.begin_sequence(
+            alloc,
+            name,
+            presence,
+            entries,
+            part,
+            bit,
+            level.level(),
+            bytes,
+            at,
+        ) {
+            Err(fault) => Err(part_halt(part, fault)),
+            Ok((length, next)) => match length {
+                None => {
+                    self.pass_field(needs, others);
+                    Ok(next)
                 }
-            }
+                Some(left) => {
+                    if left == 0 {
+                        receiver.end_sequence(alloc)?;
+                        self.pass_field(needs, others);
+                        return Ok(next);
+                    }
+                    let own_map = has_map(members);
+                    let elements = Sequel {
+                        number,
+                        own_map,
+                        members,
+                        left,
+                    };
+                    self.pass(needs, others, Next::Element(elements));
+                    Ok(next)
+                }
+            },
         }
     }
 
@@ -548,28 +536,20 @@ impl<'a> Walk<'a> {
             → R.keeps receiver.old set ms d → R.keeps receiver.new set ms d }
         ensures rank { OnOk result (rank_of self.new < rank_of self.old) }
     {
-        match self.count(number) {
-            Err(halt) => Err(halt),
-            Ok(()) => {
-                let optional = is_optional(presence);
-                let present = first_for(&self.bits, optional);
-                if present {
-                    let own_map = has_map(members);
-                    match read_own_map(alloc, number, own_map, level.level(), bytes, at) {
-                        Err(halt) => Err(halt),
-                        Ok((bits, next)) => {
-                            receiver.enter(alloc, name, optional, own_map, members.len())?;
-                            take_for(&mut self.bits, optional);
-                            self.open(members, others, bits, Inside::Group(number))?;
-                            Ok(next)
-                        }
-                    }
-                } else {
-                    receiver.left_out(name)?;
-                    self.pass_field(optional, others);
-                    Ok(at)
-                }
-            }
+        self.count(number)?;
+        let optional = is_optional(presence);
+        let present = first_for(&self.bits, optional);
+        if present {
+            let own_map = has_map(members);
+            let (bits, next) = read_own_map(alloc, number, own_map, level.level(), bytes, at)?;
+            receiver.enter(alloc, name, optional, own_map, members.len())?;
+            take_for(&mut self.bits, optional);
+            self.open(members, others, bits, Inside::Group(number))?;
+            Ok(next)
+        } else {
+            receiver.left_out(name)?;
+            self.pass_field(optional, others);
+            Ok(at)
         }
     }
 
@@ -606,17 +586,11 @@ impl<'a> Walk<'a> {
             return Ok(at);
         }
         let own_map = sequel.own_map;
-        match self.count(sequel.number) {
-            Err(halt) => Err(halt),
-            Ok(()) => match read_own_map(alloc, sequel.number, own_map, level.level(), bytes, at) {
-                Err(halt) => Err(halt),
-                Ok((bits, next)) => {
-                    receiver.enter_element(alloc, sequel.own_map, sequel.members.len())?;
-                    self.one_more(sequel, bits)?;
-                    Ok(next)
-                }
-            },
-        }
+        self.count(sequel.number)?;
+        let (bits, next) = read_own_map(alloc, sequel.number, own_map, level.level(), bytes, at)?;
+        receiver.enter_element(alloc, sequel.own_map, sequel.members.len())?;
+        self.one_more(sequel, bits)?;
+        Ok(next)
     }
 
     // Opens the next element of a sequence.
@@ -734,20 +708,12 @@ impl<'a> Walk<'a> {
     {
         let own_map = sequel.own_map;
         let strictness = level.level();
-        match self.judge_end(strictness) {
-            Err(halt) => Err(halt),
-            Ok(()) => match self.count(sequel.number) {
-                Err(halt) => Err(halt),
-                Ok(()) => match read_own_map(alloc, sequel.number, own_map, strictness, bytes, at) {
-                    Err(halt) => Err(halt),
-                    Ok((bits, next)) => {
-                        receiver.next_element(alloc, sequel.own_map, sequel.members.len())?;
-                        self.go_on(sequel, bits);
-                        Ok(next)
-                    }
-                },
-            },
-        }
+        self.judge_end(strictness)?;
+        self.count(sequel.number)?;
+        let (bits, next) = read_own_map(alloc, sequel.number, own_map, strictness, bytes, at)?;
+        receiver.next_element(alloc, sequel.own_map, sequel.members.len())?;
+        self.go_on(sequel, bits);
+        Ok(next)
     }
 
     // Goes on in the next element of a sequence, in place of the one that is open.
@@ -842,17 +808,15 @@ impl<'a> Walk<'a> {
             → R.keeps receiver.old set ms d → R.keeps receiver.new set ms d }
         ensures rank { OnOk result (rank_of self.new < rank_of self.old) }
     {
-        match self.judge_end(level.level()) {
-            Err(halt) => Err(halt),
-            Ok(()) => match self.around.pop() {
-                None => unreachable!(),
-                Some(Frame { bits, rest, inside }) => {
-                    self.bits = bits;
-                    self.rest = rest;
-                    self.take_up(alloc, receiver, inside)?;
-                    Ok(())
-                }
-            },
+        self.judge_end(level.level())?;
+        match self.around.pop() {
+            None => unreachable!(),
+            Some(Frame { bits, rest, inside }) => {
+                self.bits = bits;
+                self.rest = rest;
+                self.take_up(alloc, receiver, inside)?;
+                Ok(())
+            }
         }
     }
 
@@ -979,22 +943,14 @@ impl<'a> Walk<'a> {
             Next::Mantissa(mantissa) => self.mantissa(
                 level, alloc, receiver, entries, mantissa, bytes, at,
             ),
-            Next::Element(sequel) => match self.element(level, alloc, receiver, sequel, bytes, at) {
-                Err(halt) => Err(halt),
-                Ok(next) => Ok(next),
-            },
+            Next::Element(sequel) => self.element(level, alloc, receiver, sequel, bytes, at),
             Next::Instruction => match self.rest.split_first() {
                 None => match self.next_sequel() {
-                    Some(sequel) => match self.next_element(
-                        level, alloc, receiver, sequel, bytes, at,
-                    ) {
-                        Err(halt) => Err(halt),
-                        Ok(next) => Ok(next),
-                    },
-                    None => match self.end(level, alloc, receiver) {
-                        Err(halt) => Err(halt),
-                        Ok(()) => Ok(at),
-                    },
+                    Some(sequel) => self.next_element(level, alloc, receiver, sequel, bytes, at),
+                    None => {
+                        self.end(level, alloc, receiver)?;
+                        Ok(at)
+                    }
                 },
                 Some((flat, others)) => match flat {
                     Flat::Field {
@@ -1021,13 +977,10 @@ impl<'a> Walk<'a> {
                         number,
                         presence,
                         members,
-                    } => match self.group(
+                    } => self.group(
                         level, alloc, receiver, name, *number, *presence, members, others, bytes,
                         at,
-                    ) {
-                        Err(halt) => Err(halt),
-                        Ok(next) => Ok(next),
-                    },
+                    ),
                     Flat::Sequence {
                         name,
                         number,
@@ -1071,7 +1024,7 @@ impl<'a> Walk<'a> {
     {
         match self.next {
             Next::Instruction if begins_with_field(self.rest) => {
-                match receiver.fields(
+                let fields = receiver.fields(
                     alloc,
                     entries,
                     self.rest,
@@ -1080,15 +1033,11 @@ impl<'a> Walk<'a> {
                     level.level(),
                     bytes,
                     at,
-                ) {
-                    Err(error) => Err(error),
-                    Ok(fields) => {
-                        self.rest = fields.rest;
-                        self.spare = fields.spare;
-                        go_behind(&mut self.next, fields.mantissa);
-                        Ok(fields.place)
-                    }
-                }
+                )?;
+                self.rest = fields.rest;
+                self.spare = fields.spare;
+                go_behind(&mut self.next, fields.mantissa);
+                Ok(fields.place)
             }
             Next::Instruction | Next::Mantissa(_) | Next::Element(_) => Ok(at),
         }
@@ -1128,13 +1077,9 @@ impl<'a> Walk<'a> {
         ensures same_keys { E.serves entries.new ≡ E.serves entries.old }
         ensures rank { OnOk result (rank_of self.new < rank_of self.old) }
     {
-        match self.step(level, alloc, receiver, entries, bytes, at) {
-            Err(halt) => Err(halt),
-            Ok(next) => match self.fields(level, alloc, receiver, entries, bytes, next) {
-                Err(error) => Err(Halt::from(error)),
-                Ok(place) => Ok(place),
-            },
-        }
+        let next = self.step(level, alloc, receiver, entries, bytes, at)?;
+        let place = self.fields(level, alloc, receiver, entries, bytes, next)?;
+        Ok(place)
     }
 
     // Takes what is left of the message at a level that is known where the program is made.

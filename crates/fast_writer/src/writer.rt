@@ -123,7 +123,7 @@ impl Receiver for Writer {
     ) -> Result<(u32, usize), FieldFault> {
         self.outer.clear();
         self.inner.begin(true);
-        match relay_identifier(
+        let (id, next) = relay_identifier(
             alloc,
             entries,
             identifier,
@@ -132,10 +132,10 @@ impl Receiver for Writer {
             bytes,
             at,
             &mut self.inner,
-        ) {
-            Err(fault) => Err(fault),
-            Ok((Some(id), next)) => Ok((id, next)),
-            Ok((None, _)) => unreachable!(),
+        )?;
+        match id {
+            Some(id) => Ok((id, next)),
+            None => unreachable!(),
         }
     }
 
@@ -163,10 +163,17 @@ impl Receiver for Writer {
         bytes: &[u8],
         at: usize,
     ) -> Result<usize, FieldFault> {
-        match relay_part(alloc, entries, part, bit, level, bytes, at, &mut self.inner) {
-            Err(fault) => Err(fault),
-            Ok((_there, next)) => Ok(next),
-        }
+        let (_there, next) = relay_part(
+            alloc,
+            entries,
+            part,
+            bit,
+            level,
+            bytes,
+            at,
+            &mut self.inner,
+        )?;
+        Ok(next)
     }
 
     #[inline(always)]
@@ -205,10 +212,7 @@ impl Receiver for Writer {
         bytes: &[u8],
         at: usize,
     ) -> Result<(bool, usize), FieldFault> {
-        match relay_part(alloc, entries, part, bit, level, bytes, at, &mut self.inner) {
-            Err(fault) => Err(fault),
-            Ok((there, next)) => Ok((there, next)),
-        }
+        relay_part(alloc, entries, part, bit, level, bytes, at, &mut self.inner)
     }
 
     #[inline(always)]
@@ -222,10 +226,17 @@ impl Receiver for Writer {
         bytes: &[u8],
         at: usize,
     ) -> Result<usize, FieldFault> {
-        match relay_part(alloc, entries, part, bit, level, bytes, at, &mut self.inner) {
-            Err(fault) => Err(fault),
-            Ok((_there, next)) => Ok(next),
-        }
+        let (_there, next) = relay_part(
+            alloc,
+            entries,
+            part,
+            bit,
+            level,
+            bytes,
+            at,
+            &mut self.inner,
+        )?;
+        Ok(next)
     }
 
     #[inline(always)]
@@ -241,10 +252,7 @@ impl Receiver for Writer {
         bytes: &[u8],
         at: usize,
     ) -> Result<(Option<u32>, usize), FieldFault> {
-        match relay_length(alloc, entries, part, bit, level, bytes, at, &mut self.inner) {
-            Err(fault) => Err(fault),
-            Ok((length, next)) => Ok((length, next)),
-        }
+        relay_length(alloc, entries, part, bit, level, bytes, at, &mut self.inner)
     }
 
     #[inline(always)]

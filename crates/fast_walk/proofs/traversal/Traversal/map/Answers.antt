@@ -1,14 +1,17 @@
 use Rattle.std.proofs.Common.{◌++◌, [], drop}
+use Rattle.std.proofs.lemmas.Result.{err_from_is_err_and}
 use Rattle.fast_template.specs.TemplateSets.{templates_in}
 use Rattle.fast_stream.specs.Nodes.{node_limit}
 use Rattle.fast_walk.specs.OpenSegments.{cursor}
 use Rattle.fast_walk.proofs.Heads.{map_read, map_stops}
 use Rattle.fast_walk.proofs.traversal.Traversal.map.Goals as goal
 
-pub returns-in-Err-clause-stops : goal.returns-in-Err-clause-stops
-returns-in-Err-clause-stops c = λ other d.
-    map_stops c.args.self.now.level (templates_in c.args.self.now.set.now) d (drop c.args.at c.args.bytes.now) _ (c.in-Err.ensures.stops other d [] node_limit)
+pub returns-in_err-bits-clause-stops : goal.returns-in_err-bits-clause-stops
+returns-in_err-bits-clause-stops c =
+    let p = err_from_is_err_and c.from_residual.result c.from_residual.ensures.1 in
+    rw (p.1, p.2) (λ other d.
+    map_stops c.args.self.now.level (templates_in c.args.self.now.set.now) d (drop c.args.at c.args.bytes.now) _ (c.in_err-bits.ensures.stops other d [] node_limit))
 
-pub returns-in-Ok-clause-goes : goal.returns-in-Ok-clause-goes
-returns-in-Ok-clause-goes c = λ d more.
-    map_read c.args.self.now.level (templates_in c.args.self.now.set.now) d (drop c.args.at c.args.bytes.now ++ more) (cursor d c.in-Ok.bits node_limit (drop c.in-Ok.next c.args.bytes.now ++ more)) (c.in-Ok.ensures.goes d [] node_limit more)
+pub returns-clause-goes : goal.returns-clause-goes
+returns-clause-goes c = λ d more.
+    map_read c.args.self.now.level (templates_in c.args.self.now.set.now) d (drop c.args.at c.args.bytes.now ++ more) (cursor d c.in_ok-bits.bits node_limit (drop c.in_ok-bits.next c.args.bytes.now ++ more)) (c.in_ok-bits.ensures.goes d [] node_limit more)

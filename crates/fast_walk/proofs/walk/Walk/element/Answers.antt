@@ -1,4 +1,5 @@
 use Rattle.std.proofs.Common.{◌≡◌, ◌<◌, ◌++◌, ◌-◌, drop, map, refl, sym, ap, ◌∙◌, arith}
+use Rattle.std.proofs.lemmas.Result.{err_from_is_err_and}
 use Rattle.fast_template.specs.Resolved.{list_of}
 use Rattle.fast_walk.specs.OpenSegments.{Sequel, cursor}
 use Rattle.fast_walk.specs.Received.{after_sequence, in_element}
@@ -18,28 +19,32 @@ returns-then-sequel-eq0-clause-goes g c = λ d o at.
       λ more. no_more_on g.L.Leveled.at o.around o.next o.body q.sequel (cursor d old.bits old.spare (drop c.args.at c.args.bytes.now ++ more)) q.is none,
     )
 
-pub returns-in-Err-clause-stops : goal.returns-in-Err-clause-stops
-returns-in-Err-clause-stops g c = λ other d o at.
+pub returns-in_err-count-clause-stops : goal.returns-in_err-count-clause-stops
+returns-in_err-count-clause-stops g c =
+    let p = err_from_is_err_and c.from_residual-in_err-count.result c.from_residual-in_err-count.ensures.1 in
+    rw (p.1, p.2) (λ other d o at.
     let old = c.args.self.now in
     let bytes = drop c.args.at c.args.bytes.now in
     let q = is_sequel o.next (sequel_of c.args.sequel) (at.next ∙ ap next_of c.requires.next) in
-    no_node_on g.L.Leveled.at o.around o.next o.body q.sequel (sequel_of c.args.sequel) (cursor d old.bits old.spare bytes) _ q.is q.same (omega (arith, c.if-sequel-eq0.false)) (c.in-Err.ensures.stops d old.bits bytes)
+    no_node_on g.L.Leveled.at o.around o.next o.body q.sequel (sequel_of c.args.sequel) (cursor d old.bits old.spare bytes) _ q.is q.same (omega (arith, c.if-sequel-eq0.false)) (c.in_err-count.ensures.stops d old.bits bytes))
 
-pub returns-in-Err-read_own_map-clause-stops : goal.returns-in-Err-read_own_map-clause-stops
-returns-in-Err-read_own_map-clause-stops g c = λ other d o at.
+pub returns-in_err-bits-clause-stops : goal.returns-in_err-bits-clause-stops
+returns-in_err-bits-clause-stops g c =
+    let p = err_from_is_err_and c.from_residual-in_err-bits.result c.from_residual-in_err-bits.ensures.1 in
+    rw (p.1, p.2) (λ other d o at.
     let old = c.args.self.now in
     let bytes = drop c.args.at c.args.bytes.now in
     let q = is_sequel o.next (sequel_of c.args.sequel) (at.next ∙ ap next_of c.requires.next) in
     no_map_on g.L.Leveled.at o.around o.next o.body q.sequel (sequel_of c.args.sequel) (cursor d old.bits old.spare bytes) (cursor d old.bits (old.spare - 1) bytes) _ q.is q.same (omega (arith, c.if-sequel-eq0.false))
-    (c.in-Ok.ensures.goes d old.bits bytes) (rw (c.level.ensures) at c.in-Err-read_own_map.ensures.stops other d old.bits (old.spare - 1))
+    (c.in_ok-count.ensures.goes d old.bits bytes) (rw (c.level.ensures) at c.in_err-bits.ensures.stops other d old.bits (old.spare - 1)))
 
-pub returns-in_ok-one_more-in-Ok-read_own_map-clause-goes : goal.returns-in_ok-one_more-in-Ok-read_own_map-clause-goes
-returns-in_ok-one_more-in-Ok-read_own_map-clause-goes g c = λ d o at.
+pub returns-clause-goes : goal.returns-clause-goes
+returns-clause-goes g c = λ d o at.
     let old = c.args.self.now in
     let q = is_sequel o.next (sequel_of c.args.sequel) (at.0.next ∙ ap next_of c.requires.next) in
     let left = ap (λ (s : Sequel). s.left) q.same in
     let some : 0 < q.sequel.left = omega (arith, left, c.if-sequel-eq0.false) in
-    let end = c.in_ok-one_more-in-Ok-read_own_map.ensures in (
+    let end = c.in_ok-one_more.ensures in (
       in_element o old.bits q.sequel,
       (
         record {
@@ -47,18 +52,18 @@ returns-in_ok-one_more-in-Ok-read_own_map-clause-goes g c = λ d o at.
           rest = ap (λ (s : Sequel). s.members) q.same ∙ ap list_of (sym end.rest);
           around = rw (end.around) (around_element o.around (map frame_of old.around.items) old.bits o.body (list_of old.rest.now) q.sequel (sequel_of c.args.sequel) at.0.around at.0.rest q.same);
         },
-        c.in_ok-enter_element-in-Ok-read_own_map.ensures.has q.sequel old.bits o d q.is (sym (ap (λ (s : Sequel). s.own_map) q.same)) some at.1,
+        c.in_ok-enter_element.ensures.has q.sequel old.bits o d q.is (sym (ap (λ (s : Sequel). s.own_map) q.same)) some at.1,
       ),
       record { set = refl; before = refl; template = refl; members = refl; start = refl },
       λ more.
           let bytes = drop c.args.at c.args.bytes.now ++ more in
           rw (end.bits, end.spare)
           (element_on g.L.Leveled.at o.around o.next o.body q.sequel (sequel_of c.args.sequel) (cursor d old.bits old.spare bytes) (cursor d old.bits (old.spare - 1) bytes) _ q.is q.same (omega (arith, c.if-sequel-eq0.false))
-          (c.in-Ok.ensures.goes d old.bits bytes) (rw (c.level.ensures) at c.in-Ok-read_own_map.ensures.goes d old.bits (old.spare - 1) more)),
+          (c.in_ok-count.ensures.goes d old.bits bytes) (rw (c.level.ensures) at c.in_ok-bits.ensures.goes d old.bits (old.spare - 1) more)),
     )
 
-pub returns-in_ok-one_more-in-Ok-read_own_map-clause-ready : goal.returns-in_ok-one_more-in-Ok-read_own_map-clause-ready
-returns-in_ok-one_more-in-Ok-read_own_map-clause-ready g c = λ serves ready.
-    let end = c.in_ok-one_more-in-Ok-read_own_map.ensures in
+pub returns-clause-ready : goal.returns-clause-ready
+returns-clause-ready g c = λ serves ready.
+    let end = c.in_ok-one_more.ensures in
     let members = rw (c.requires.next) at ready.next in
     record { next = rw (end.next) tt; rest = rw (end.rest) members; around = rw (end.around) (served_push serves _ _ ready.around (ready.rest, members)) }

@@ -1,4 +1,5 @@
 use Rattle.std.proofs.Common.{◌++◌, ◌-◌, Option, None, drop, refl, sym, ap, subst, ◌∙◌, arith}
+use Rattle.std.proofs.lemmas.Result.{err_from_is_err_and}
 use Rattle.fast_value.specs.declared.scalar.Scalar.{Scalar}
 use Rattle.fast_template.specs.Resolved.{list_of, field_in_parts}
 use Rattle.fast_stream.specs.Nodes.{single}
@@ -13,40 +14,42 @@ use Rattle.fast_value.specs.declared.kind.Part.TheVariants as part
 use Rattle.fast_walk.proofs.Telling.{asked_for, told_keeps}
 use Rattle.fast_walk.proofs.walk.Walk.exponent.Goals as goal
 
-pub returns-in-Err-clause-stops : goal.returns-in-Err-clause-stops
-returns-in-Err-clause-stops g c = λ other o at.
+pub returns-in_err-count-clause-stops : goal.returns-in_err-count-clause-stops
+returns-in_err-count-clause-stops g c =
+    let p = err_from_is_err_and c.from_residual.result c.from_residual.ensures.1 in
+    rw (p.1, p.2) (λ other o at.
     let old = c.args.self.now in
     let d = g.E.Entries.contents c.args.entries.now in
     piece_stops_on g.L.Leveled.at o.around o.next o.body (field_in_parts c.args.name.now c.args.number c.args.presence c.args.exponent.now c.args.mantissa.now) (list_of c.args.others.now) (cursor d old.bits old.spare (drop c.args.at c.args.bytes.now)) _
     (is_instruction o.next (at.next ∙ ap next_of c.requires.next)) (at.rest ∙ c.requires.first)
-    (rw (c.in-Err.ensures.stops d old.bits (drop c.args.at c.args.bytes.now)) refl)
+    (rw (c.in_err-count.ensures.stops d old.bits (drop c.args.at c.args.bytes.now)) refl))
 
-pub returns-in-Err-exponent-clause-stops : goal.returns-in-Err-exponent-clause-stops
-returns-in-Err-exponent-clause-stops g c = λ other o at.
+pub returns-in-Err-clause-stops : goal.returns-in-Err-clause-stops
+returns-in-Err-clause-stops g c = λ other o at.
     let old = c.args.self.now in
     let d = g.E.Entries.contents c.args.entries.now in
     let bytes = drop c.args.at c.args.bytes.now in
-    let stops = (c.in-Err-exponent.ensures.stops (λ e. other (c.part_halt.ensures.cause ∙ ap cause_of_field e))).0 in
-    let part = part_stops g.L.Leveled.at c.args.exponent.now d old.bits (old.spare - 1) bytes c.in-Err-exponent.fault (rw (c.level.ensures, c.first_for-bit.ensures, c.part_needs_bit-needs.ensures) at stops) in
+    let stops = (c.in-Err.ensures.stops (λ e. other (c.part_halt.ensures.cause ∙ ap cause_of_field e))).0 in
+    let part = part_stops g.L.Leveled.at c.args.exponent.now d old.bits (old.spare - 1) bytes c.in-Err.fault (rw (c.level.ensures, c.first_for-bit.ensures, c.part_needs_bit-needs.ensures) at stops) in
     rw (c.part_halt.ensures.cause, c.part_halt.ensures.number)
     (piece_stops_on g.L.Leveled.at o.around o.next o.body (field_in_parts c.args.name.now c.args.number c.args.presence c.args.exponent.now c.args.mantissa.now) (list_of c.args.others.now) (cursor d old.bits old.spare bytes) _
     (is_instruction o.next (at.next ∙ ap next_of c.requires.next)) (at.rest ∙ c.requires.first)
-    (rw (c.in-Ok.ensures.goes d old.bits bytes, part) refl))
+    (rw (c.in_ok-count.ensures.goes d old.bits bytes, part) refl))
 
-pub returns-in-Err-exponent-clause-waits : goal.returns-in-Err-exponent-clause-waits
-returns-in-Err-exponent-clause-waits g c = λ other.
-    let stops = c.in-Err-exponent.ensures.stops (λ e. other (c.part_halt.ensures.cause ∙ ap cause_of_field e)) in
+pub returns-in-Err-clause-waits : goal.returns-in-Err-clause-waits
+returns-in-Err-clause-waits g c = λ other.
+    let stops = c.in-Err.ensures.stops (λ e. other (c.part_halt.ensures.cause ∙ ap cause_of_field e)) in
     (refl, stops.1, stops.2)
 
 pub returns-then-present-clause-goes : goal.returns-then-present-clause-goes
 returns-then-present-clause-goes g c = λ o at.
     let old = c.args.self.now in
     let d = g.E.Entries.contents c.args.entries.now in
-    let took = c.in-Ok-exponent.ensures.goes in
+    let took = c.in-Ok.ensures.goes in
     let others = list_of c.args.others.now in
     let next = is_instruction o.next (at.0.next ∙ ap next_of c.requires.next) in
     let mantissa = c.args.mantissa.now in
-    let there = is_there c.in-Ok-exponent.present took.0 c.if-present.true took.2 in
+    let there = is_there c.in-Ok.present took.0 c.if-present.true took.2 in
     let e = there.exponent in
     let end = c.pass.ensures in
     let had = took.3 c.args.number mantissa others o next (at.0.rest ∙ c.requires.first) at.1 in (
@@ -60,8 +63,8 @@ returns-then-present-clause-goes g c = λ o at.
           let bytes = drop c.args.at c.args.bytes.now ++ more in
           rw (end.bits, end.spare, c.part_needs_bit-needs.ensures, took.1.entry)
           (exponent_on g.L.Leveled.at o.around o.next o.body c.args.name.now c.args.number c.args.presence c.args.exponent.now mantissa others (cursor d old.bits old.spare bytes) (cursor d old.bits (old.spare - 1) bytes) _ took.0 e next (at.0.rest ∙ c.requires.first) there.is
-          (c.in-Ok.ensures.goes d old.bits bytes)
-          (part_goes g.L.Leveled.at c.args.exponent.now d old.bits (old.spare - 1) bytes (drop c.in-Ok-exponent.next c.args.bytes.now ++ more) took.0
+          (c.in_ok-count.ensures.goes d old.bits bytes)
+          (part_goes g.L.Leveled.at c.args.exponent.now d old.bits (old.spare - 1) bytes (drop c.in-Ok.next c.args.bytes.now ++ more) took.0
           (rw (c.level.ensures, c.first_for-bit.ensures, c.part_needs_bit-needs.ensures) at took.1.value more))),
     )
 
@@ -69,11 +72,11 @@ pub returns-else-present-clause-goes : goal.returns-else-present-clause-goes
 returns-else-present-clause-goes g c = λ o at.
     let old = c.args.self.now in
     let d = g.E.Entries.contents c.args.entries.now in
-    let took = c.in-Ok-exponent.ensures.goes in
+    let took = c.in-Ok.ensures.goes in
     let others = list_of c.args.others.now in
     let next = is_instruction o.next (at.0.next ∙ ap next_of c.requires.next) in
     let mantissa = c.args.mantissa.now in
-    let none = not_there c.in-Ok-exponent.present took.0 c.if-present.false took.2 in
+    let none = not_there c.in-Ok.present took.0 c.if-present.false took.2 in
     let end = c.pass-else-present.ensures in
     let had = took.3 c.args.number mantissa others o next (at.0.rest ∙ c.requires.first) at.1 in (
       passed o others (single None),
@@ -86,21 +89,21 @@ returns-else-present-clause-goes g c = λ o at.
           let bytes = drop c.args.at c.args.bytes.now ++ more in
           rw (end.bits, end.spare, c.part_needs_bit-needs.ensures, took.1.entry)
           (no_exponent_on g.L.Leveled.at o.around o.next o.body c.args.name.now c.args.number c.args.presence c.args.exponent.now mantissa others (cursor d old.bits old.spare bytes) (cursor d old.bits (old.spare - 1) bytes) _ took.0 next (at.0.rest ∙ c.requires.first) none
-          (c.in-Ok.ensures.goes d old.bits bytes)
-          (part_goes g.L.Leveled.at c.args.exponent.now d old.bits (old.spare - 1) bytes (drop c.in-Ok-exponent.next c.args.bytes.now ++ more) took.0
+          (c.in_ok-count.ensures.goes d old.bits bytes)
+          (part_goes g.L.Leveled.at c.args.exponent.now d old.bits (old.spare - 1) bytes (drop c.in-Ok.next c.args.bytes.now ++ more) took.0
           (rw (c.level.ensures, c.first_for-bit.ensures, c.part_needs_bit-needs.ensures) at took.1.value more))),
     )
 
 pub returns-then-present-clause-kept : goal.returns-then-present-clause-kept
 returns-then-present-clause-kept g c =
     let old = c.args.self.now in
-    told_keeps c.level.result c.args.exponent.now c.first_for-bit.result (g.E.Entries.contents c.args.entries.now) (g.E.Entries.contents c.exponent.new.entries) c.args.bytes.now c.args.at c.in-Ok-exponent.next
+    told_keeps c.level.result c.args.exponent.now c.first_for-bit.result (g.E.Entries.contents c.args.entries.now) (g.E.Entries.contents c.exponent.new.entries) c.args.bytes.now c.args.at c.in-Ok.next
     (λ k. omega (arith, c.type_inv.bytes k)) (asked_for c.args.exponent.now c.part_needs_bit-needs.result c.first_for-bit.result old.bits c.part_needs_bit-needs.ensures c.first_for-bit.ensures)
-    part.Exponent kind.Int32 c.in-Ok-exponent.ensures.goes.0 refl (rw (c.requires.first) at c.requires.ready.rest).0.0.0.1 c.in-Ok-exponent.ensures.goes.1 c.requires.kept
+    part.Exponent kind.Int32 c.in-Ok.ensures.goes.0 refl (rw (c.requires.first) at c.requires.ready.rest).0.0.0.1 c.in-Ok.ensures.goes.1 c.requires.kept
 
 pub returns-else-present-clause-kept : goal.returns-else-present-clause-kept
 returns-else-present-clause-kept g c =
     let old = c.args.self.now in
-    told_keeps c.level.result c.args.exponent.now c.first_for-bit.result (g.E.Entries.contents c.args.entries.now) (g.E.Entries.contents c.exponent.new.entries) c.args.bytes.now c.args.at c.in-Ok-exponent.next
+    told_keeps c.level.result c.args.exponent.now c.first_for-bit.result (g.E.Entries.contents c.args.entries.now) (g.E.Entries.contents c.exponent.new.entries) c.args.bytes.now c.args.at c.in-Ok.next
     (λ k. omega (arith, c.type_inv.bytes k)) (asked_for c.args.exponent.now c.part_needs_bit-needs.result c.first_for-bit.result old.bits c.part_needs_bit-needs.ensures c.first_for-bit.ensures)
-    part.Exponent kind.Int32 c.in-Ok-exponent.ensures.goes.0 refl (rw (c.requires.first) at c.requires.ready.rest).0.0.0.1 c.in-Ok-exponent.ensures.goes.1 c.requires.kept
+    part.Exponent kind.Int32 c.in-Ok.ensures.goes.0 refl (rw (c.requires.first) at c.requires.ready.rest).0.0.0.1 c.in-Ok.ensures.goes.1 c.requires.kept

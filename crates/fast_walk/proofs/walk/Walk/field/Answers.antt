@@ -1,4 +1,5 @@
 use Rattle.std.proofs.Common.{◌++◌, ◌-◌, drop, refl, sym, ap, ◌∙◌, arith}
+use Rattle.std.proofs.lemmas.Result.{err_from_is_err_and}
 use Rattle.fast_template.specs.Resolved.{list_of, whole_field}
 use Rattle.fast_stream.specs.Nodes.{single}
 use Rattle.fast_stream.specs.Faults.{cause_of_field}
@@ -11,36 +12,38 @@ use Rattle.fast_value.specs.declared.kind.Part.TheVariants as part
 use Rattle.fast_walk.proofs.Telling.{asked_for, told_keeps}
 use Rattle.fast_walk.proofs.walk.Walk.field.Goals as goal
 
-pub returns-in-Err-clause-stops : goal.returns-in-Err-clause-stops
-returns-in-Err-clause-stops g c = λ other o at.
+pub returns-in_err-count-clause-stops : goal.returns-in_err-count-clause-stops
+returns-in_err-count-clause-stops g c =
+    let p = err_from_is_err_and c.from_residual.result c.from_residual.ensures.1 in
+    rw (p.1, p.2) (λ other o at.
     let old = c.args.self.now in
     let d = g.E.Entries.contents c.args.entries.now in
     piece_stops_on g.L.Leveled.at o.around o.next o.body (whole_field c.args.name.now c.args.number c.args.presence c.args.whole.now) (list_of c.args.others.now) (cursor d old.bits old.spare (drop c.args.at c.args.bytes.now)) _
     (is_instruction o.next (at.next ∙ ap next_of c.requires.next)) (at.rest ∙ c.requires.first)
-    (rw (c.in-Err.ensures.stops d old.bits (drop c.args.at c.args.bytes.now)) refl)
+    (rw (c.in_err-count.ensures.stops d old.bits (drop c.args.at c.args.bytes.now)) refl))
 
-pub returns-in-Err-field-clause-stops : goal.returns-in-Err-field-clause-stops
-returns-in-Err-field-clause-stops g c = λ other o at.
+pub returns-in-Err-clause-stops : goal.returns-in-Err-clause-stops
+returns-in-Err-clause-stops g c = λ other o at.
     let old = c.args.self.now in
     let d = g.E.Entries.contents c.args.entries.now in
     let bytes = drop c.args.at c.args.bytes.now in
-    let stops = (c.in-Err-field.ensures.stops (λ e. other (c.part_halt.ensures.cause ∙ ap cause_of_field e))).0 in
-    let part = part_stops g.L.Leveled.at c.args.whole.now d old.bits (old.spare - 1) bytes c.in-Err-field.fault (rw (c.level.ensures, c.first_for-bit.ensures, c.part_needs_bit-needs.ensures) at stops) in
+    let stops = (c.in-Err.ensures.stops (λ e. other (c.part_halt.ensures.cause ∙ ap cause_of_field e))).0 in
+    let part = part_stops g.L.Leveled.at c.args.whole.now d old.bits (old.spare - 1) bytes c.in-Err.fault (rw (c.level.ensures, c.first_for-bit.ensures, c.part_needs_bit-needs.ensures) at stops) in
     rw (c.part_halt.ensures.cause, c.part_halt.ensures.number)
     (piece_stops_on g.L.Leveled.at o.around o.next o.body (whole_field c.args.name.now c.args.number c.args.presence c.args.whole.now) (list_of c.args.others.now) (cursor d old.bits old.spare bytes) _
     (is_instruction o.next (at.next ∙ ap next_of c.requires.next)) (at.rest ∙ c.requires.first)
-    (rw (c.in-Ok.ensures.goes d old.bits bytes, part) refl))
+    (rw (c.in_ok-count.ensures.goes d old.bits bytes, part) refl))
 
-pub returns-in-Err-field-clause-waits : goal.returns-in-Err-field-clause-waits
-returns-in-Err-field-clause-waits g c = λ other.
-    let stops = c.in-Err-field.ensures.stops (λ e. other (c.part_halt.ensures.cause ∙ ap cause_of_field e)) in
+pub returns-in-Err-clause-waits : goal.returns-in-Err-clause-waits
+returns-in-Err-clause-waits g c = λ other.
+    let stops = c.in-Err.ensures.stops (λ e. other (c.part_halt.ensures.cause ∙ ap cause_of_field e)) in
     (refl, stops.1, stops.2)
 
-pub returns-in-Ok-field-clause-goes : goal.returns-in-Ok-field-clause-goes
-returns-in-Ok-field-clause-goes g c = λ o at.
+pub returns-in-Ok-clause-goes : goal.returns-in-Ok-clause-goes
+returns-in-Ok-clause-goes g c = λ o at.
     let old = c.args.self.now in
     let d = g.E.Entries.contents c.args.entries.now in
-    let took = c.in-Ok-field.ensures.goes in
+    let took = c.in-Ok.ensures.goes in
     let others = list_of c.args.others.now in
     let next = is_instruction o.next (at.0.next ∙ ap next_of c.requires.next) in
     let end = c.pass_field.ensures in (
@@ -54,14 +57,14 @@ returns-in-Ok-field-clause-goes g c = λ o at.
           let bytes = drop c.args.at c.args.bytes.now ++ more in
           rw (end.bits, end.spare, c.part_needs_bit-needs.ensures, took.1.entry)
           (field_on g.L.Leveled.at o.around o.next o.body c.args.name.now c.args.number c.args.presence c.args.whole.now others (cursor d old.bits old.spare bytes) (cursor d old.bits (old.spare - 1) bytes) _ took.0 next (at.0.rest ∙ c.requires.first)
-          (c.in-Ok.ensures.goes d old.bits bytes)
-          (part_goes g.L.Leveled.at c.args.whole.now d old.bits (old.spare - 1) bytes (drop c.in-Ok-field.next c.args.bytes.now ++ more) took.0
+          (c.in_ok-count.ensures.goes d old.bits bytes)
+          (part_goes g.L.Leveled.at c.args.whole.now d old.bits (old.spare - 1) bytes (drop c.in-Ok.next c.args.bytes.now ++ more) took.0
           (rw (c.level.ensures, c.first_for-bit.ensures, c.part_needs_bit-needs.ensures) at took.1.value more))),
     )
 
-pub returns-in-Ok-field-clause-kept : goal.returns-in-Ok-field-clause-kept
-returns-in-Ok-field-clause-kept g c =
+pub returns-in-Ok-clause-kept : goal.returns-in-Ok-clause-kept
+returns-in-Ok-clause-kept g c =
     let old = c.args.self.now in
-    told_keeps c.level.result c.args.whole.now c.first_for-bit.result (g.E.Entries.contents c.args.entries.now) (g.E.Entries.contents c.field.new.entries) c.args.bytes.now c.args.at c.in-Ok-field.next
+    told_keeps c.level.result c.args.whole.now c.first_for-bit.result (g.E.Entries.contents c.args.entries.now) (g.E.Entries.contents c.field.new.entries) c.args.bytes.now c.args.at c.in-Ok.next
     (λ k. omega (arith, c.type_inv.bytes k)) (asked_for c.args.whole.now c.part_needs_bit-needs.result c.first_for-bit.result old.bits c.part_needs_bit-needs.ensures c.first_for-bit.ensures)
-    part.Whole c.args.whole.now.kind c.in-Ok-field.ensures.goes.0 tt (rw (c.requires.first) at c.requires.ready.rest).0.0.1 c.in-Ok-field.ensures.goes.1 c.requires.kept
+    part.Whole c.args.whole.now.kind c.in-Ok.ensures.goes.0 tt (rw (c.requires.first) at c.requires.ready.rest).0.0.1 c.in-Ok.ensures.goes.1 c.requires.kept

@@ -1,4 +1,5 @@
 use Rattle.std.proofs.Common.{◌++◌, map, ap, ◌∙◌}
+use Rattle.std.proofs.lemmas.Result.{err_from_is_err_and}
 use Rattle.fast_template.specs.Resolved.{list_of}
 use Rattle.fast_walk.specs.OpenSegments.{cursor}
 use Rattle.fast_walk.specs.Received.{ended_in}
@@ -6,19 +7,21 @@ use Rattle.fast_walk.specs.Walks.{frame_of, next_of}
 use Rattle.fast_walk.proofs.Walking.{end_on, end_on_stops, no_frame, ended_rest, ended_bare, ended_same, inside_of_last, is_instruction, last_of, popped, rest_of_last, served_pop}
 use Rattle.fast_walk.proofs.walk.Walk.leave.Goals as goal
 
-pub returns-in-Err-clause-stops : goal.returns-in-Err-clause-stops
-returns-in-Err-clause-stops g c = λ other d bytes o at.
+pub returns-in_err-judge_end-clause-stops : goal.returns-in_err-judge_end-clause-stops
+returns-in_err-judge_end-clause-stops g c =
+    let p = err_from_is_err_and c.from_residual.result c.from_residual.ensures.1 in
+    rw (p.1, p.2) (λ other d bytes o at.
     let old = c.args.self.now in
-    let h = c.in-Err.ensures in
+    let h = c.in_err-judge_end.ensures in
     let next = is_instruction o.next (at.next ∙ ap next_of c.requires.next) in
     let rest = at.rest ∙ ap list_of c.requires.rest in
     rw (h.refused.1)
-    (end_on_stops g.L.Leveled.at o (map frame_of old.around.items) c.in-Err.halt.number (cursor d old.bits old.spare bytes) at.around
+    (end_on_stops g.L.Leveled.at o (map frame_of old.around.items) c.in_err-judge_end.field-0.0.number (cursor d old.bits old.spare bytes) at.around
     (λ none. c.requires.inside c.requires.next (no_frame old.around.items none) c.requires.rest)
-    h.inside next rest (rw (c.level.ensures) at h.refused.0) h.refused.2)
+    h.inside next rest (rw (c.level.ensures) at h.refused.0) h.refused.2))
 
-pub returns-in_ok-take_up-in-Some-clause-goes : goal.returns-in_ok-take_up-in-Some-clause-goes
-returns-in_ok-take_up-in-Some-clause-goes g c = λ d bytes o at.
+pub returns-clause-goes : goal.returns-clause-goes
+returns-clause-goes g c = λ d bytes o at.
     let old = c.args.self.now in
     let f = c.in-Some.field-0 in
     let fs = map frame_of c.pop.new.self.items in
@@ -32,11 +35,11 @@ returns-in_ok-take_up-in-Some-clause-goes g c = λ d bytes o at.
       ended_in o l.before b i,
       (record { next = had.1; rest = rw (end.rest) (ended_rest o l.before b i ∙ rest_of_last o.around fs (frame_of f) l); around = rw (end.around) (ended_bare o l.before b i ∙ l.rests) }, had.0),
       ended_same o l.before b i,
-      λ more. rw (end.bits, end.spare) (end_on g.L.Leveled.at o l.before fs (frame_of f) l (cursor d old.bits old.spare (bytes ++ more)) (rw (c.level.ensures) at c.in-Ok.ensures.clear) next rest),
+      λ more. rw (end.bits, end.spare) (end_on g.L.Leveled.at o l.before fs (frame_of f) l (cursor d old.bits old.spare (bytes ++ more)) (rw (c.level.ensures) at c.in_ok-judge_end.ensures.clear) next rest),
     )
 
-pub returns-in_ok-take_up-in-Some-clause-ready : goal.returns-in_ok-take_up-in-Some-clause-ready
-returns-in_ok-take_up-in-Some-clause-ready g c = λ serves ready.
+pub returns-clause-ready : goal.returns-clause-ready
+returns-clause-ready g c = λ serves ready.
     let old = c.args.self.now in
     let f = c.in-Some.field-0 in
     let fs = map frame_of c.pop.new.self.items in

@@ -1,5 +1,6 @@
 use Rattle.std.proofs.Common.{◌<◌, ◌++◌, ◌-◌, Bool, List, drop, map, refl, sym, ap, subst, ◌∙◌, arith}
 use Rattle.std.specs.Prelude.{IsTrue}
+use Rattle.std.proofs.lemmas.Result.{err_from_is_err_and}
 use Rattle.fast_template.specs.Resolved.{list_of}
 use Rattle.fast_walk.specs.OpenSegments.{Sequel, cursor, with_element}
 use Rattle.fast_walk.specs.Received.{in_next}
@@ -16,19 +17,23 @@ next_element-requires g c =
     let l = has_last fs (λ none. c.requires.inside (no_frame old.around.items none)) in
     record { room = (left_around l.before, l.last.bits, old.bits, subst (λ (ls : List (List Bool)). IsTrue (g.R.Receiver.room c.args.receiver.now ls old.bits)) (left_last fs l.before l.last l.is) c.requires.room) }
 
-pub returns-in-Err-clause-stops : goal.returns-in-Err-clause-stops
-returns-in-Err-clause-stops g c = λ other d o at.
+pub returns-in_err-judge_end-clause-stops : goal.returns-in_err-judge_end-clause-stops
+returns-in_err-judge_end-clause-stops g c =
+    let p = err_from_is_err_and c.from_residual.result c.from_residual.ensures.1 in
+    rw (p.1, p.2) (λ other d o at.
     let old = c.args.self.now in
-    let h = c.in-Err.ensures in
+    let h = c.in_err-judge_end.ensures in
     let next = is_instruction o.next (at.next ∙ ap next_of c.requires.next) in
     let rest = at.rest ∙ ap list_of c.requires.rest in
     rw (h.refused.1)
-    (end_on_stops g.L.Leveled.at o (map frame_of old.around.items) c.in-Err.halt.number (cursor d old.bits old.spare (drop c.args.at c.args.bytes.now)) at.around
+    (end_on_stops g.L.Leveled.at o (map frame_of old.around.items) c.in_err-judge_end.field-0.0.number (cursor d old.bits old.spare (drop c.args.at c.args.bytes.now)) at.around
     (λ none. c.requires.inside (no_frame old.around.items none))
-    h.inside next rest (rw (c.level-strictness.ensures) at h.refused.0) h.refused.2)
+    h.inside next rest (rw (c.level-strictness.ensures) at h.refused.0) h.refused.2))
 
-pub returns-in-Err-count-clause-stops : goal.returns-in-Err-count-clause-stops
-returns-in-Err-count-clause-stops g c = λ other d o at.
+pub returns-in_err-count-clause-stops : goal.returns-in_err-count-clause-stops
+returns-in_err-count-clause-stops g c =
+    let p = err_from_is_err_and c.from_residual-in_err-count.result c.from_residual-in_err-count.ensures.1 in
+    rw (p.1, p.2) (λ other d o at.
     let old = c.args.self.now in
     let bytes = drop c.args.at c.args.bytes.now in
     let t = sequel_of c.args.sequel in
@@ -36,11 +41,13 @@ returns-in-Err-count-clause-stops g c = λ other d o at.
     let next = is_instruction o.next (at.next ∙ ap next_of c.requires.next) in
     let rest = at.rest ∙ ap list_of c.requires.rest in
     let n = has_next o.around fs t at.around (λ none. c.requires.inside (no_frame old.around.items none)) c.requires.last in
-    no_next_node_on g.L.Leveled.at o fs t n (cursor d old.bits old.spare bytes) _ (rw (c.level-strictness.ensures) at c.in-Ok.ensures.clear) next rest c.requires.left
-    (c.in-Err-count.ensures.stops d n.frame.bits bytes)
+    no_next_node_on g.L.Leveled.at o fs t n (cursor d old.bits old.spare bytes) _ (rw (c.level-strictness.ensures) at c.in_ok-judge_end.ensures.clear) next rest c.requires.left
+    (c.in_err-count.ensures.stops d n.frame.bits bytes))
 
-pub returns-in-Err-read_own_map-clause-stops : goal.returns-in-Err-read_own_map-clause-stops
-returns-in-Err-read_own_map-clause-stops g c = λ other d o at.
+pub returns-in_err-bits-clause-stops : goal.returns-in_err-bits-clause-stops
+returns-in_err-bits-clause-stops g c =
+    let p = err_from_is_err_and c.from_residual-in_err-bits.result c.from_residual-in_err-bits.ensures.1 in
+    rw (p.1, p.2) (λ other d o at.
     let old = c.args.self.now in
     let bytes = drop c.args.at c.args.bytes.now in
     let t = sequel_of c.args.sequel in
@@ -48,11 +55,11 @@ returns-in-Err-read_own_map-clause-stops g c = λ other d o at.
     let next = is_instruction o.next (at.next ∙ ap next_of c.requires.next) in
     let rest = at.rest ∙ ap list_of c.requires.rest in
     let n = has_next o.around fs t at.around (λ none. c.requires.inside (no_frame old.around.items none)) c.requires.last in
-    no_next_map_on g.L.Leveled.at o fs t n (cursor d old.bits old.spare bytes) (cursor d n.frame.bits (old.spare - 1) bytes) _ (rw (c.level-strictness.ensures) at c.in-Ok.ensures.clear) next rest c.requires.left
-    (c.in-Ok-count.ensures.goes d n.frame.bits bytes) (rw (c.level-strictness.ensures) at c.in-Err-read_own_map.ensures.stops other d n.frame.bits (old.spare - 1))
+    no_next_map_on g.L.Leveled.at o fs t n (cursor d old.bits old.spare bytes) (cursor d n.frame.bits (old.spare - 1) bytes) _ (rw (c.level-strictness.ensures) at c.in_ok-judge_end.ensures.clear) next rest c.requires.left
+    (c.in_ok-count.ensures.goes d n.frame.bits bytes) (rw (c.level-strictness.ensures) at c.in_err-bits.ensures.stops other d n.frame.bits (old.spare - 1)))
 
-pub returns-in_ok-next_element-in-Ok-read_own_map-clause-goes : goal.returns-in_ok-next_element-in-Ok-read_own_map-clause-goes
-returns-in_ok-next_element-in-Ok-read_own_map-clause-goes g c = λ d o at.
+pub returns-clause-goes : goal.returns-clause-goes
+returns-clause-goes g c = λ d o at.
     let old = c.args.self.now in
     let t = sequel_of c.args.sequel in
     let fs = map frame_of old.around.items in
@@ -70,18 +77,18 @@ returns-in_ok-next_element-in-Ok-read_own_map-clause-goes g c = λ d o at.
           around = around_element n.last.before n.fore n.frame.bits n.last.last.body n.frame.body.rest (with_element n.sequel (items_of o.body.done)) t n.last.rests (rest_of_last o.around n.fore n.frame n.last) n.same
               ∙ sym (end.around n.fore n.frame n.frames);
         },
-        c.in_ok-next_element-in-Ok-read_own_map.ensures.has o d n.last.before n.last.last n.sequel n.frame.bits next rest n.last.is n.is (sym (ap (λ (s : Sequel). s.own_map) n.same)) some at.1,
+        c.in_ok-next_element.ensures.has o d n.last.before n.last.last n.sequel n.frame.bits next rest n.last.is n.is (sym (ap (λ (s : Sequel). s.own_map) n.same)) some at.1,
       ),
       record { set = refl; before = refl; template = refl; members = refl; start = refl },
       λ more.
           let bytes = drop c.args.at c.args.bytes.now ++ more in
           rw (end.bits, end.spare)
-          (next_on g.L.Leveled.at o fs t n (cursor d old.bits old.spare bytes) (cursor d n.frame.bits (old.spare - 1) bytes) _ (rw (c.level-strictness.ensures) at c.in-Ok.ensures.clear) next rest c.requires.left
-          (c.in-Ok-count.ensures.goes d n.frame.bits bytes) (rw (c.level-strictness.ensures) at c.in-Ok-read_own_map.ensures.goes d n.frame.bits (old.spare - 1) more)),
+          (next_on g.L.Leveled.at o fs t n (cursor d old.bits old.spare bytes) (cursor d n.frame.bits (old.spare - 1) bytes) _ (rw (c.level-strictness.ensures) at c.in_ok-judge_end.ensures.clear) next rest c.requires.left
+          (c.in_ok-count.ensures.goes d n.frame.bits bytes) (rw (c.level-strictness.ensures) at c.in_ok-bits.ensures.goes d n.frame.bits (old.spare - 1) more)),
     )
 
-pub returns-in_ok-next_element-in-Ok-read_own_map-clause-ready : goal.returns-in_ok-next_element-in-Ok-read_own_map-clause-ready
-returns-in_ok-next_element-in-Ok-read_own_map-clause-ready g c = λ serves ready.
+pub returns-clause-ready : goal.returns-clause-ready
+returns-clause-ready g c = λ serves ready.
     let old = c.args.self.now in
     let end = c.go_on.ensures in
     let l = has_last (map frame_of old.around.items) (λ none. c.requires.inside (no_frame old.around.items none)) in
@@ -89,12 +96,12 @@ returns-in_ok-next_element-in-Ok-read_own_map-clause-ready g c = λ serves ready
     let members = rw ((c.requires.last l.before l.last l.is).0) at p.1.1 in
     record { next = rw (end.next, c.requires.next) tt; rest = rw (end.rest) members; around = rw (end.around l.before l.last l.is) (served_push serves _ _ p.0 (p.1.0, members)) }
 
-pub returns-in_ok-next_element-in-Ok-read_own_map-clause-room : goal.returns-in_ok-next_element-in-Ok-read_own_map-clause-room
-returns-in_ok-next_element-in-Ok-read_own_map-clause-room g c =
+pub returns-clause-room : goal.returns-clause-room
+returns-clause-room g c =
     let old = c.args.self.now in
     let end = c.go_on.ensures in
     let fs = map frame_of old.around.items in
     let l = has_last fs (λ none. c.requires.inside (no_frame old.around.items none)) in
     rw (end.bits, left_last _ l.before _ (end.around l.before l.last l.is))
-    (c.in_ok-next_element-in-Ok-read_own_map.ensures.room (left_around l.before) l.last.bits old.bits c.in-Ok-read_own_map.bits c.in-Ok-read_own_map.ensures.room
+    (c.in_ok-next_element.ensures.room (left_around l.before) l.last.bits old.bits c.in_ok-bits.bits c.in_ok-bits.ensures.room
     (subst (λ (ls : List (List Bool)). IsTrue (g.R.Receiver.room c.args.receiver.now ls old.bits)) (left_last fs l.before l.last l.is) c.requires.room))

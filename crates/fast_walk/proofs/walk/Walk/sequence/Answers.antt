@@ -1,4 +1,5 @@
 use Rattle.std.proofs.Common.{◌++◌, ◌-◌, [], Some, None, drop, refl, sym, ap, ◌∙◌, arith}
+use Rattle.std.proofs.lemmas.Result.{err_from_is_err_and}
 use Rattle.fast_value.specs.declared.scalar.Scalar.TheVariants.{U32}
 use Rattle.fast_template.specs.Resolved.{list_of, sequence_of, has_map}
 use Rattle.fast_stream.specs.Nodes.{single}
@@ -13,36 +14,38 @@ use Rattle.fast_value.specs.declared.kind.Part.TheVariants as part
 use Rattle.fast_walk.proofs.Telling.{asked_for, told_keeps}
 use Rattle.fast_walk.proofs.walk.Walk.sequence.Goals as goal
 
-pub returns-in-Err-clause-stops : goal.returns-in-Err-clause-stops
-returns-in-Err-clause-stops g c = λ other o at.
+pub returns-in_err-count-clause-stops : goal.returns-in_err-count-clause-stops
+returns-in_err-count-clause-stops g c =
+    let p = err_from_is_err_and c.from_residual.result c.from_residual.ensures.1 in
+    rw (p.1, p.2) (λ other o at.
     let old = c.args.self.now in
     let d = g.E.Entries.contents c.args.entries.now in
     piece_stops_on g.L.Leveled.at o.around o.next o.body (sequence_of c.args.name.now c.args.number c.args.presence c.args.part.now (list_of c.args.members.now)) (list_of c.args.others.now) (cursor d old.bits old.spare (drop c.args.at c.args.bytes.now)) _
     (is_instruction o.next (at.next ∙ ap next_of c.requires.next)) (at.rest ∙ c.requires.first)
-    (rw (c.in-Err.ensures.stops d old.bits (drop c.args.at c.args.bytes.now)) refl)
+    (rw (c.in_err-count.ensures.stops d old.bits (drop c.args.at c.args.bytes.now)) refl))
 
-pub returns-in-Err-begin_sequence-clause-stops : goal.returns-in-Err-begin_sequence-clause-stops
-returns-in-Err-begin_sequence-clause-stops g c = λ other o at.
+pub returns-in-Err-clause-stops : goal.returns-in-Err-clause-stops
+returns-in-Err-clause-stops g c = λ other o at.
     let old = c.args.self.now in
     let d = g.E.Entries.contents c.args.entries.now in
     let bytes = drop c.args.at c.args.bytes.now in
-    let stops = (c.in-Err-begin_sequence.ensures.stops (λ e. other (c.part_halt.ensures.cause ∙ ap cause_of_field e))).0 in
-    let part = part_stops g.L.Leveled.at c.args.part.now d old.bits (old.spare - 1) bytes c.in-Err-begin_sequence.fault (rw (c.level.ensures, c.first_for-bit.ensures, c.part_needs_bit-needs.ensures) at stops) in
+    let stops = (c.in-Err.ensures.stops (λ e. other (c.part_halt.ensures.cause ∙ ap cause_of_field e))).0 in
+    let part = part_stops g.L.Leveled.at c.args.part.now d old.bits (old.spare - 1) bytes c.in-Err.fault (rw (c.level.ensures, c.first_for-bit.ensures, c.part_needs_bit-needs.ensures) at stops) in
     rw (c.part_halt.ensures.cause, c.part_halt.ensures.number)
     (piece_stops_on g.L.Leveled.at o.around o.next o.body (sequence_of c.args.name.now c.args.number c.args.presence c.args.part.now (list_of c.args.members.now)) (list_of c.args.others.now) (cursor d old.bits old.spare bytes) _
     (is_instruction o.next (at.next ∙ ap next_of c.requires.next)) (at.rest ∙ c.requires.first)
-    (rw (c.in-Ok.ensures.goes d old.bits bytes, part) refl))
+    (rw (c.in_ok-count.ensures.goes d old.bits bytes, part) refl))
 
-pub returns-in-Err-begin_sequence-clause-waits : goal.returns-in-Err-begin_sequence-clause-waits
-returns-in-Err-begin_sequence-clause-waits g c = λ other.
-    let stops = c.in-Err-begin_sequence.ensures.stops (λ e. other (c.part_halt.ensures.cause ∙ ap cause_of_field e)) in
+pub returns-in-Err-clause-waits : goal.returns-in-Err-clause-waits
+returns-in-Err-clause-waits g c = λ other.
+    let stops = c.in-Err.ensures.stops (λ e. other (c.part_halt.ensures.cause ∙ ap cause_of_field e)) in
     (refl, stops.1, stops.2)
 
 pub returns-in-None-clause-goes : goal.returns-in-None-clause-goes
 returns-in-None-clause-goes g c = λ o at.
     let old = c.args.self.now in
     let d = g.E.Entries.contents c.args.entries.now in
-    let took = rw (c.in-None.is) at c.in-Ok-begin_sequence.ensures.goes in
+    let took = rw (c.in-None.is) at c.in-Ok.ensures.goes in
     let others = list_of c.args.others.now in
     let members = list_of c.args.members.now in
     let next = is_instruction o.next (at.0.next ∙ ap next_of c.requires.next) in
@@ -57,8 +60,8 @@ returns-in-None-clause-goes g c = λ o at.
           let bytes = drop c.args.at c.args.bytes.now ++ more in
           rw (end.bits, end.spare, c.part_needs_bit-needs.ensures, took.0.entry)
           (no_length_on g.L.Leveled.at o.around o.next o.body c.args.name.now c.args.number c.args.presence c.args.part.now members others (cursor d old.bits old.spare bytes) (cursor d old.bits (old.spare - 1) bytes) _ next (at.0.rest ∙ c.requires.first)
-          (c.in-Ok.ensures.goes d old.bits bytes)
-          (part_goes g.L.Leveled.at c.args.part.now d old.bits (old.spare - 1) bytes (drop c.in-Ok-begin_sequence.next c.args.bytes.now ++ more) None
+          (c.in_ok-count.ensures.goes d old.bits bytes)
+          (part_goes g.L.Leveled.at c.args.part.now d old.bits (old.spare - 1) bytes (drop c.in-Ok.next c.args.bytes.now ++ more) None
           (rw (c.level.ensures, c.first_for-bit.ensures, c.part_needs_bit-needs.ensures) at took.0.value more))),
     )
 
@@ -66,7 +69,7 @@ pub returns-then-left-eq0-clause-goes : goal.returns-then-left-eq0-clause-goes
 returns-then-left-eq0-clause-goes g c = λ o at.
     let old = c.args.self.now in
     let d = g.E.Entries.contents c.args.entries.now in
-    let took = rw (c.in-Some.is) at c.in-Ok-begin_sequence.ensures.goes in
+    let took = rw (c.in-Some.is) at c.in-Ok.ensures.goes in
     let others = list_of c.args.others.now in
     let members = list_of c.args.members.now in
     let many = c.in-Some.left in
@@ -85,8 +88,8 @@ returns-then-left-eq0-clause-goes g c = λ o at.
           let bytes = drop c.args.at c.args.bytes.now ++ more in
           rw (end.bits, end.spare, c.part_needs_bit-needs.ensures, took.0.entry)
           (length_on g.L.Leveled.at o.around o.next o.body c.args.name.now c.args.number c.args.presence c.args.part.now members others (cursor d old.bits old.spare bytes) (cursor d old.bits (old.spare - 1) bytes) _ many next (at.0.rest ∙ c.requires.first)
-          (c.in-Ok.ensures.goes d old.bits bytes)
-          (part_goes g.L.Leveled.at c.args.part.now d old.bits (old.spare - 1) bytes (drop c.in-Ok-begin_sequence.next c.args.bytes.now ++ more) (Some (U32 many))
+          (c.in_ok-count.ensures.goes d old.bits bytes)
+          (part_goes g.L.Leveled.at c.args.part.now d old.bits (old.spare - 1) bytes (drop c.in-Ok.next c.args.bytes.now ++ more) (Some (U32 many))
           (rw (c.level.ensures, c.first_for-bit.ensures, c.part_needs_bit-needs.ensures) at took.0.value more))
           ∙ no_more_on g.L.Leveled.at o.around (at_element elements) body elements _ refl c.if-left-eq0.true),
     )
@@ -95,7 +98,7 @@ pub returns-else-left-eq0-clause-goes : goal.returns-else-left-eq0-clause-goes
 returns-else-left-eq0-clause-goes g c = λ o at.
     let old = c.args.self.now in
     let d = g.E.Entries.contents c.args.entries.now in
-    let took = rw (c.in-Some.is) at c.in-Ok-begin_sequence.ensures.goes in
+    let took = rw (c.in-Some.is) at c.in-Ok.ensures.goes in
     let others = list_of c.args.others.now in
     let members = list_of c.args.members.now in
     let many = c.in-Some.left in
@@ -111,28 +114,28 @@ returns-else-left-eq0-clause-goes g c = λ o at.
           let bytes = drop c.args.at c.args.bytes.now ++ more in
           rw (end.bits, end.spare, c.part_needs_bit-needs.ensures, took.0.entry)
           (length_on g.L.Leveled.at o.around o.next o.body c.args.name.now c.args.number c.args.presence c.args.part.now members others (cursor d old.bits old.spare bytes) (cursor d old.bits (old.spare - 1) bytes) _ many next (at.0.rest ∙ c.requires.first)
-          (c.in-Ok.ensures.goes d old.bits bytes)
-          (part_goes g.L.Leveled.at c.args.part.now d old.bits (old.spare - 1) bytes (drop c.in-Ok-begin_sequence.next c.args.bytes.now ++ more) (Some (U32 many))
+          (c.in_ok-count.ensures.goes d old.bits bytes)
+          (part_goes g.L.Leveled.at c.args.part.now d old.bits (old.spare - 1) bytes (drop c.in-Ok.next c.args.bytes.now ++ more) (Some (U32 many))
           (rw (c.level.ensures, c.first_for-bit.ensures, c.part_needs_bit-needs.ensures) at took.0.value more))),
     )
 
 pub returns-in-None-clause-kept : goal.returns-in-None-clause-kept
 returns-in-None-clause-kept g c =
     let old = c.args.self.now in
-    told_keeps c.level.result c.args.part.now c.first_for-bit.result (g.E.Entries.contents c.args.entries.now) (g.E.Entries.contents c.begin_sequence.new.entries) c.args.bytes.now c.args.at c.in-Ok-begin_sequence.next
+    told_keeps c.level.result c.args.part.now c.first_for-bit.result (g.E.Entries.contents c.args.entries.now) (g.E.Entries.contents c.begin_sequence.new.entries) c.args.bytes.now c.args.at c.in-Ok.next
     (λ k. omega (arith, c.type_inv.bytes k)) (asked_for c.args.part.now c.part_needs_bit-needs.result c.first_for-bit.result old.bits c.part_needs_bit-needs.ensures c.first_for-bit.ensures)
-    part.Length kind.UInt32 (length_of c.in-Ok-begin_sequence.length) refl (rw (c.requires.first) at c.requires.ready.rest).0.0.0.1 c.in-Ok-begin_sequence.ensures.goes.0 c.requires.kept
+    part.Length kind.UInt32 (length_of c.in-Ok.length) refl (rw (c.requires.first) at c.requires.ready.rest).0.0.0.1 c.in-Ok.ensures.goes.0 c.requires.kept
 
 pub returns-else-left-eq0-clause-kept : goal.returns-else-left-eq0-clause-kept
 returns-else-left-eq0-clause-kept g c =
     let old = c.args.self.now in
-    told_keeps c.level.result c.args.part.now c.first_for-bit.result (g.E.Entries.contents c.args.entries.now) (g.E.Entries.contents c.begin_sequence.new.entries) c.args.bytes.now c.args.at c.in-Ok-begin_sequence.next
+    told_keeps c.level.result c.args.part.now c.first_for-bit.result (g.E.Entries.contents c.args.entries.now) (g.E.Entries.contents c.begin_sequence.new.entries) c.args.bytes.now c.args.at c.in-Ok.next
     (λ k. omega (arith, c.type_inv.bytes k)) (asked_for c.args.part.now c.part_needs_bit-needs.result c.first_for-bit.result old.bits c.part_needs_bit-needs.ensures c.first_for-bit.ensures)
-    part.Length kind.UInt32 (length_of c.in-Ok-begin_sequence.length) refl (rw (c.requires.first) at c.requires.ready.rest).0.0.0.1 c.in-Ok-begin_sequence.ensures.goes.0 c.requires.kept
+    part.Length kind.UInt32 (length_of c.in-Ok.length) refl (rw (c.requires.first) at c.requires.ready.rest).0.0.0.1 c.in-Ok.ensures.goes.0 c.requires.kept
 
 pub returns-then-left-eq0-clause-kept : goal.returns-then-left-eq0-clause-kept
 returns-then-left-eq0-clause-kept g c =
     let old = c.args.self.now in
-    told_keeps c.level.result c.args.part.now c.first_for-bit.result (g.E.Entries.contents c.args.entries.now) (g.E.Entries.contents c.begin_sequence.new.entries) c.args.bytes.now c.args.at c.in-Ok-begin_sequence.next
+    told_keeps c.level.result c.args.part.now c.first_for-bit.result (g.E.Entries.contents c.args.entries.now) (g.E.Entries.contents c.begin_sequence.new.entries) c.args.bytes.now c.args.at c.in-Ok.next
     (λ k. omega (arith, c.type_inv.bytes k)) (asked_for c.args.part.now c.part_needs_bit-needs.result c.first_for-bit.result old.bits c.part_needs_bit-needs.ensures c.first_for-bit.ensures)
-    part.Length kind.UInt32 (length_of c.in-Ok-begin_sequence.length) refl (rw (c.requires.first) at c.requires.ready.rest).0.0.0.1 c.in-Ok-begin_sequence.ensures.goes.0 c.requires.kept
+    part.Length kind.UInt32 (length_of c.in-Ok.length) refl (rw (c.requires.first) at c.requires.ready.rest).0.0.0.1 c.in-Ok.ensures.goes.0 c.requires.kept

@@ -5,21 +5,21 @@ use Rattle.fast_writer.proofs.Writers.{has_opened}
 use Rattle.fast_writer.proofs.MapRoom.{fresh_room}
 use Rattle.fast_writer.proofs.writer.WriterReceiver.begin.Goals as goal
 
-pub returns-in-Ok-Some-default-clause-goes : goal.returns-in-Ok-Some-default-clause-goes
-returns-in-Ok-Some-default-clause-goes g c =
+pub returns-clause-goes : goal.returns-clause-goes
+returns-clause-goes g c =
     let d = g.E.Entries.contents c.args.entries.now in
     let e = g.E.Entries.contents c.relay_identifier.new.entries in
     let named : c.args.identifier.now ≡ identifier = search rules in
-    let took = rw (c.in-Ok-Some-default.field-0-0-is) at c.in-Ok-Some-default.ensures.took in
-    let spelt = rw (c.in-Ok-Some-default.field-0-0-is) at c.in-Ok-Some-default.ensures.spelt in (
+    let took = rw (c.in-Some.is) at c.in_ok-id.ensures.took in
+    let spelt = rw (c.in-Some.is) at c.in_ok-id.ensures.spelt in (
       took,
       λ set ms members stands. (
         stands,
-        has_opened (map level_of c.clear.new.self) (level_of c.begin.new.self) (level_of c.relay_identifier.new.segment) set ms c.in-Ok-Some-default.id members d e
+        has_opened (map level_of c.clear.new.self) (level_of c.begin.new.self) (level_of c.relay_identifier.new.segment) set ms c.in-Some.id members d e
             (ap (map level_of) c.clear.ensures) c.begin.ensures.bits c.begin.ensures.own c.begin.ensures.bytes (rw (named) at took.entry) (rw (named) at spelt),
       ),
     )
 
-pub returns-in-Ok-Some-default-clause-room : goal.returns-in-Ok-Some-default-clause-room
-returns-in-Ok-Some-default-clause-room g c = λ left is few.
-    rw (c.in-Ok-Some-default.ensures.room left is (fresh_room (level_of c.begin.new.self) left c.begin.ensures.bits few), c.clear.ensures) refl
+pub returns-clause-room : goal.returns-clause-room
+returns-clause-room g c = λ left is few.
+    rw (c.in_ok-id.ensures.room left is (fresh_room (level_of c.begin.new.self) left c.begin.ensures.bits few), c.clear.ensures) refl

@@ -7,12 +7,12 @@ use Rattle.fast_writer.specs.Room.{have_room}
 use Rattle.fast_writer.proofs.MapRoom.{inner_room}
 use Rattle.fast_writer.proofs.writer.WriterReceiver.field.Goals as goal
 
-pub returns-in-Ok-clause-goes : goal.returns-in-Ok-clause-goes
-returns-in-Ok-clause-goes g c =
+pub returns-clause-goes : goal.returns-clause-goes
+returns-clause-goes g c =
     let old = c.args.self.now in
     let d = g.E.Entries.contents c.args.entries.now in
     let e = g.E.Entries.contents c.relay_part.new.entries in
-    let r = c.in-Ok.ensures.relays in (
+    let r = c.in_ok-_there.ensures.relays in (
       r.0,
       r.2,
       λ number is o next first has. (
@@ -24,6 +24,6 @@ returns-in-Ok-clause-goes g c =
 pub relay_part-requires-clause-part : goal.relay_part-requires-clause-part
 relay_part-requires-clause-part g c = told_part part.Whole c.args.part.now.kind c.args.part.now tt c.requires.told
 
-pub returns-in-Ok-clause-room : goal.returns-in-Ok-clause-room
-returns-in-Ok-clause-room g c = λ around left is.
-    inner_room _ _ (have_room (map level_of c.args.self.now.outer) around) (c.in-Ok.ensures.room left is)
+pub returns-clause-room : goal.returns-clause-room
+returns-clause-room g c = λ around left is.
+    inner_room _ _ (have_room (map level_of c.args.self.now.outer) around) (c.in_ok-_there.ensures.room left is)

@@ -7,13 +7,13 @@ use Rattle.fast_writer.specs.Room.{have_room}
 use Rattle.fast_writer.proofs.MapRoom.{inner_room}
 use Rattle.fast_writer.proofs.writer.WriterReceiver.mantissa.Goals as goal
 
-pub returns-in-Ok-clause-goes : goal.returns-in-Ok-clause-goes
-returns-in-Ok-clause-goes g c =
+pub returns-clause-goes : goal.returns-clause-goes
+returns-clause-goes g c =
     let old = c.args.self.now in
     let d = g.E.Entries.contents c.args.entries.now in
     let e = g.E.Entries.contents c.relay_part.new.entries in
-    let r = c.in-Ok.ensures.relays in
-    let x = mantissa_taken c.args.part.now (entry_at d c.args.part.now.key) c.in-Ok._there r.0 (level_of old.inner) (level_of c.relay_part.new.segment) c.requires.told c.requires.mandatory r.1 r.3 in
+    let r = c.in_ok-_there.ensures.relays in
+    let x = mantissa_taken c.args.part.now (entry_at d c.args.part.now.key) c.in_ok-_there._there r.0 (level_of old.inner) (level_of c.relay_part.new.segment) c.requires.told c.requires.mandatory r.1 r.3 in
     let took = rw (x.1) at r.2 in (
       x.0,
       took,
@@ -23,6 +23,6 @@ returns-in-Ok-clause-goes g c =
       ),
     )
 
-pub returns-in-Ok-clause-room : goal.returns-in-Ok-clause-room
-returns-in-Ok-clause-room g c = λ around left is.
-    inner_room _ _ (have_room (map level_of c.args.self.now.outer) around) (c.in-Ok.ensures.room left is)
+pub returns-clause-room : goal.returns-clause-room
+returns-clause-room g c = λ around left is.
+    inner_room _ _ (have_room (map level_of c.args.self.now.outer) around) (c.in_ok-_there.ensures.room left is)
