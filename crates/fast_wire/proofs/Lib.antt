@@ -25,6 +25,7 @@ pub mod Written
 pub mod ShortIntegers
 pub mod WordBits
 pub mod WordForms
+pub mod MarkedWords
 pub mod Rows
 pub mod Levels
 pub mod NotOverlong

@@ -1,13 +1,11 @@
 -- The map of the bits of a word.
 use Rattle.std.proofs.Common.{◌≡◌, ℕ, zero, suc, ◌+◌, ◌-◌, ◌*◌, ◌/◌, ◌%◌, ◌^◌, ◌<◌, ◌≤◌, Bool, true, false, nat_eq, List, [], ◌∷◌, ◌++◌, length, Result, Vec, Global, refl, sym, ap, ap₂, ◌∙◌, arith, inl, inr, append_assoc}
-use mir.Val.{bool_byte}
 use Rattle.std.specs.Int.{w64, trailing_zeros}
 use Rattle.std.proofs.lemmas.Bool.{cases_lt, true≢false}
 use Rattle.std.proofs.lemmas.Nat.{mod-pow-add, pow_pos, shl-shr, shr-shr, shr_split, shl_below, shl_whole}
 use Rattle.std.proofs.lemmas.Nat.Bits.{bit_at-trailing_zeros, bit_at-zero, bit_at_above, bit_at_cat_low}
 use Rattle.std.proofs.Math.Nat.{mod-eq_of_lt, mul-pos, zero-mul}
 use Rattle.fast_wire.specs.Entity.{groups}
-use Rattle.fast_wire.specs.KeptBits.{kept_bits}
 use Rattle.fast_wire.specs.PresenceMap.{HasSetBit, IsMap, bit_at, bits_of, word_bits}
 use Rattle.fast_wire.specs.Integer.{unsigned_of}
 use Rattle.fast_wire.specs.Spellings.{Appends, entity_of}
@@ -40,19 +38,6 @@ bits_push (suc n) w b small =
     let half : (2 * w + b) / 2 ^ 1 ≡ w = omega arith in
     let high : (2 * w + b) / 2 ^ (n + 1) ≡ w / 2 ^ n = rw (f, ← shr-shr (2 * w + b) 1 n, half) refl in
     rw (e, high) (ap (λ l. nat_eq (w / 2 ^ n % 2) 1 ∷ l) (bits_push n w b small))
-
--- ---- the bits that are kept
-
-pub kept_word : (long : List Bool) (count w : ℕ) → long ≡ [] → kept_bits long count w ≡ word_bits count w
-kept_word long count w none = rw none refl
-
-pub kept_push : (long : List Bool) (count w b : ℕ) (bit : Bool) → long ≡ [] → b ≡ bool_byte bit → kept_bits long (count + 1) (2 * w + b) ≡ kept_bits long count w ++ bit ∷ []
-kept_push long count w b true none is = rw (none, is) (bits_push count w 1 (omega arith))
-kept_push long count w b false none is = rw (none, is) (bits_push count w 0 (omega arith))
-
-pub kept_long : (long : List Bool) (count w : ℕ) → (long ≡ [] → ⊥) → kept_bits long count w ≡ long
-kept_long [] count w some = absurd (some refl)
-kept_long (bit ∷ bits) count w some = refl
 
 -- ---- zeros at the end
 

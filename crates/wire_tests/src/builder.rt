@@ -92,15 +92,17 @@ fn last_is_set(
     gives(rt, alloc, &map, &bytes[..size])
 }
 
-/// About the end of the eight groups that stand in a word, and far behind it.
+/// About the end of the nine groups that stand in a word, and far behind it.
 #[test]
 fn many_bits(rt: HostRuntime) -> Result<(), WireFault> {
     const ROWS: &[(usize, usize, u8)] = &[
         (55, 8, 0x82),
         (56, 8, 0x81),
         (57, 9, 0xc0),
+        (62, 9, 0x82),
         (63, 9, 0x81),
         (64, 10, 0xc0),
+        (65, 10, 0xa0),
         (120, 18, 0xc0),
     ];
     for (bits, size, last) in ROWS {
@@ -109,25 +111,25 @@ fn many_bits(rt: HostRuntime) -> Result<(), WireFault> {
     Ok(())
 }
 
-/// Eight groups of 1, 0, 1, 0, 1, 0, 1, and then 1, 1, 0.
+/// Nine groups of 1, 0, 1, 0, 1, 0, 1, and then 1, 1, 0.
 #[test]
 fn order_of_many_bits(rt: HostRuntime) -> Result<(), WireFault> {
     let mut map = MapBuilder::new(rt.alloc());
-    for _ in 0..8 {
+    for _ in 0..9 {
         push_all(&mut map, &[true, false, true, false, true, false, true])?;
     }
     gives(
         &rt,
         rt.alloc(),
         &map,
-        &[0x55, 0x55, 0x55, 0x55, 0x55, 0x55, 0x55, 0xd5],
+        &[0x55, 0x55, 0x55, 0x55, 0x55, 0x55, 0x55, 0x55, 0xd5],
     )?;
     push_all(&mut map, &[true, true, false])?;
     gives(
         &rt,
         rt.alloc(),
         &map,
-        &[0x55, 0x55, 0x55, 0x55, 0x55, 0x55, 0x55, 0x55, 0xe0],
+        &[0x55, 0x55, 0x55, 0x55, 0x55, 0x55, 0x55, 0x55, 0x55, 0xe0],
     )
 }
 

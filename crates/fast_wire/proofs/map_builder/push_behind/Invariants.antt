@@ -1,6 +1,6 @@
 use Rattle.std.proofs.Common.{◌≡◌, ◌+◌, ◌++◌, ◌≤◌, length}
 use Rattle.fast_wire.specs.PresenceMap.{word_bits}
-use Rattle.fast_wire.proofs.map_builder.push_long.Given as goal
+use Rattle.fast_wire.proofs.map_builder.push_behind.Given as goal
 
 abbrev pub invariant-loop-left : goal.invariant-loop-left
 invariant-loop-left l =

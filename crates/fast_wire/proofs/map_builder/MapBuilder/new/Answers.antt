@@ -1,0 +1,5 @@
+use Rattle.fast_wire.proofs.MarkedWords.{kept_none}
+use Rattle.fast_wire.proofs.map_builder.MapBuilder.new.Goals as goal
+
+pub returns : goal.returns
+returns c = kept_none _ c.new.ensures.items
