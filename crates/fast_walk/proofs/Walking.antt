@@ -18,7 +18,7 @@ use Rattle.fast_stream.specs.Faults.{Stop}
 use Rattle.fast_stream.specs.Streams.{members_of}
 use Rattle.fast_stream.specs.Reading.{Cursor, Reads, node_at, field_part_at, own_map_at, behind_bit, piece_at, stopped}
 use Rattle.fast_walk.specs.OpenSegments.{Body, Sequel, Waiting, Inside, in_group, in_sequence, Next, at_instruction, at_mantissa, at_element, with_item, with_element, fewer, under_bits, body_on, mantissa_on, elements_on, top_on, behind_inside, all_around}
-use Rattle.fast_walk.specs.Received.{Received, Same, Goes, IsExponent, ended_in, in_next}
+use Rattle.fast_walk.specs.Received.{Received, Same, Goes, IsExponent, after_sequence, behind_last, closed_in, ended_in, in_next}
 use Rattle.fast_walk.specs.Room.{left_around}
 use Rattle.fast_walk.specs.Walks.{bare_inside, bare, bare_next, bare_sequel, frame_of, inside_of, AreAllServed, IsWaitingServed}
 use Rattle.fast_walk.specs.declared.walk.Frame.{Frame as FrameNow}
@@ -156,16 +156,37 @@ ended_around : (o : Received) (ws : List Waiting) (b : Body) (i : Inside) → (e
 ended_around o ws b in_group = refl
 ended_around o ws b (in_sequence s) = refl
 
-pub ended_rest : (o : Received) (ws : List Waiting) (b : Body) (i : Inside) → (ended_in o ws b i).body.rest ≡ b.rest
-ended_rest o ws b in_group = refl
-ended_rest o ws b (in_sequence s) = refl
+-- and where its sequence has ended with it
 
-pub ended_bare : (o : Received) (ws : List Waiting) (b : Body) (i : Inside) → map bare (ended_in o ws b i).around ≡ map bare ws
-ended_bare o ws b i = ap (map bare) (ended_around o ws b i)
+last_around : (k : ℕ) (o : Received) (s : Sequel) → (behind_last k o s).around ≡ o.around
+last_around zero o s = refl
+last_around (suc n) o s = refl
 
-pub ended_same : (o : Received) (ws : List Waiting) (b : Body) (i : Inside) → Same o (ended_in o ws b i)
-ended_same o ws b in_group = record { set = refl; before = refl; template = refl; members = refl; start = refl }
-ended_same o ws b (in_sequence s) = record { set = refl; before = refl; template = refl; members = refl; start = refl }
+last_rest : (k : ℕ) (o : Received) (s : Sequel) → (behind_last k o s).body.rest ≡ o.body.rest
+last_rest zero o s = refl
+last_rest (suc n) o s = refl
+
+last_same : (k : ℕ) (o : Received) (s : Sequel) → Same o (behind_last k o s)
+last_same zero o s = record { set = refl; before = refl; template = refl; members = refl; start = refl }
+last_same (suc n) o s = record { set = refl; before = refl; template = refl; members = refl; start = refl }
+
+pub closed_bare : (o : Received) (ws : List Waiting) (b : Body) (i : Inside) → map bare (closed_in o ws b i).around ≡ map bare ws
+closed_bare o ws b in_group = refl
+closed_bare o ws b (in_sequence s) = ap (map bare) (last_around s.left (ended_in o ws b (in_sequence s)) (with_element s (items_of o.body.done)))
+
+pub closed_rest : (o : Received) (ws : List Waiting) (b : Body) (i : Inside) → (closed_in o ws b i).body.rest ≡ b.rest
+closed_rest o ws b in_group = refl
+closed_rest o ws b (in_sequence s) = last_rest s.left (ended_in o ws b (in_sequence s)) (with_element s (items_of o.body.done))
+
+pub closed_same : (o : Received) (ws : List Waiting) (b : Body) (i : Inside) → Same o (closed_in o ws b i)
+closed_same o ws b in_group = record { set = refl; before = refl; template = refl; members = refl; start = refl }
+closed_same o ws b (in_sequence s) =
+    let p = last_same s.left (ended_in o ws b (in_sequence s)) (with_element s (items_of o.body.done)) in
+    record { set = p.set; before = p.before; template = p.template; members = p.members; start = p.start }
+
+-- what it is where none is left
+pub closed_none : (o : Received) (ws : List Waiting) (b : Body) (i : Inside) (s : Sequel) → i ≡ in_sequence s → s.left ≡ 0 → closed_in o ws b i ≡ after_sequence (ended_in o ws b (in_sequence s)) (with_element s (items_of o.body.done))
+closed_none o ws b i s h none = ap (closed_in o ws b) h ∙ ap (λ (n : ℕ). behind_last n (ended_in o ws b (in_sequence s)) (with_element s (items_of o.body.done))) none
 
 pub popped : (old new : List FrameNow) (r : Option FrameNow) (f : FrameNow) → old ≡ new ++ option_to_list r → r ≡ Some f → map frame_of old ≡ map frame_of new ++ frame_of f ∷ []
 popped old new r f h k = ap (map frame_of) (h ∙ ap (λ (o : Option FrameNow). new ++ option_to_list o) k) ∙ map_push frame_of new f
@@ -399,6 +420,24 @@ module _ (level : Level) where
       ∙ ap (λ (r : Reads Items). all_around level l.before r) (ended_top o l.before l.last.body l.last.inside (items_of o.body.done) (under_bits f.bits c) refl)
       ∙ ap (λ (ws : List Waiting). all_around level ws (top_on level (ended_in o l.before l.last.body l.last.inside).next (ended_in o l.before l.last.body l.last.inside).body (under_bits f.bits c)))
       (sym (ended_around o l.before l.last.body l.last.inside))
+
+  last_reads : (k : ℕ) (o : Received) (s : Sequel) (c : Cursor) → o.next ≡ at_element s → s.left ≡ k
+      → all_around level o.around (top_on level o.next o.body c)
+      ≡ all_around level (behind_last k o s).around (top_on level (behind_last k o s).next (behind_last k o s).body c)
+  last_reads zero o s c next none = no_more_on o.around o.next o.body s c next none
+  last_reads (suc n) o s c next some = refl
+
+  closed_reads : (o : Received) (ws : List Waiting) (b : Body) (i : Inside) (c : Cursor)
+      → all_around level (ended_in o ws b i).around (top_on level (ended_in o ws b i).next (ended_in o ws b i).body c)
+      ≡ all_around level (closed_in o ws b i).around (top_on level (closed_in o ws b i).next (closed_in o ws b i).body c)
+  closed_reads o ws b in_group c = refl
+  closed_reads o ws b (in_sequence s) c = last_reads s.left (ended_in o ws b (in_sequence s)) (with_element s (items_of o.body.done)) c refl refl
+
+  pub closed_on : (o : Received) (ws fs : List Waiting) (f : Waiting) (l : Last o.around fs f) (c : Cursor) → IsLeftClear level c.bits → o.next ≡ at_instruction → o.body.rest ≡ no_instructions
+      → all_around level o.around (top_on level o.next o.body c)
+      ≡ all_around level (closed_in o l.before l.last.body l.last.inside).around
+      (top_on level (closed_in o l.before l.last.body l.last.inside).next (closed_in o l.before l.last.body l.last.inside).body (under_bits f.bits c))
+  closed_on o ws fs f l c clear next rest = end_on o ws fs f l c clear next rest ∙ closed_reads o l.before l.last.body l.last.inside (under_bits f.bits c)
 
   -- the end of a segment that leaves a bit that is 1
   pub end_on_stops : (o : Received) (fs : List Waiting) (number : ℕ) (c : Cursor) → map bare o.around ≡ fs → (fs ≡ [] → ⊥) → ((ws : List Waiting) (w : Waiting) → fs ≡ ws ++ w ∷ [] → number ≡ w.number)

@@ -1,5 +1,5 @@
 -- What a receiver has been handed of a message that has begun.
-use Rattle.std.specs.Prelude.{◌≡◌, ℕ, ℤ, Bool, true, false, List, [], ◌∷◌, ◌++◌, Option, Some, None, Ok}
+use Rattle.std.specs.Prelude.{◌≡◌, ℕ, zero, suc, ℤ, Bool, true, false, List, [], ◌∷◌, ◌++◌, Option, Some, None, Ok}
 use Rattle.fast_value.specs.declared.scalar.Scalar.{Scalar}
 use Rattle.fast_value.specs.declared.scalar.Scalar.TheVariants.{U32, I32, Bytes}
 use Rattle.fast_template.specs.declared.resolved.FieldPart.{FieldPart}
@@ -70,6 +70,16 @@ after_sequence o s = moved o at_instruction (with_item o.body (sequence_elements
 abbrev pub ended_in : Received → List Waiting → Body → Inside → Received
 ended_in o ws b in_group = moved o at_instruction (with_item b (group_items (items_of o.body.done))) ws
 ended_in o ws b (in_sequence s) = moved o (at_element (with_element s (items_of o.body.done))) b ws
+
+-- behind the sequence whose element is next, where so many are left: none
+abbrev pub behind_last : ℕ → Received → Sequel → Received
+behind_last zero o s = after_sequence o s
+behind_last (suc n) o s = o
+
+-- behind a group or an element that has ended, and with the last element behind its sequence
+abbrev pub closed_in : Received → List Waiting → Body → Inside → Received
+closed_in o ws b in_group = ended_in o ws b in_group
+closed_in o ws b (in_sequence s) = behind_last s.left (ended_in o ws b (in_sequence s)) (with_element s (items_of o.body.done))
 
 -- behind an element that has ended, in the next one of its sequence
 abbrev pub in_next : Received → List Bool → List Waiting → Body → Sequel → Received

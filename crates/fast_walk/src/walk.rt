@@ -11,7 +11,7 @@ ghost use Rattle.fast_wire.specs.declared.level.Level.{Level as LevelOf};
 ghost use Rattle.fast_stream.specs.Faults.{cause_of_field};
 ghost use Rattle.fast_stream.specs.Reading.{node_at, stopped};
 ghost use Rattle.fast_walk.specs.OpenSegments.{Waiting, at_instruction, cursor, fewer, in_sequence};
-ghost use Rattle.fast_walk.specs.Received.{Received, ended_in};
+ghost use Rattle.fast_walk.specs.Received.{Received, closed_in};
 ghost use Rattle.fast_walk.specs.Passing.{next_behind};
 ghost use Rattle.fast_walk.specs.Walks.{next_of, weight_of};
 ghost use Rattle.fast_walk.specs.Told.{KeepScalars};
@@ -777,37 +777,6 @@ impl<'a> Walk<'a> {
             → R.keeps receiver.old set ms d → R.keeps receiver.new set ms d }
         ensures rank { OnOk result (rank_of self.new < rank_of self.old) }
     {
-        self.leave(level, alloc, receiver)?;
-        self.end_elements(alloc, receiver)?;
-        Ok(())
-    }
-
-    // Leaves the segment that is open, and takes up the body around it.
-    #[inline(always)]
-    fn leave<L: Leveled, R: Receiver>(
-        &mut self,
-        level: L,
-        alloc: Global,
-        receiver: &mut R,
-    ) -> Result<(), Halt>
-        requires inside { IsInside self.now }
-        requires next { self.now.next ≡ Next.Instruction }
-        requires rest { self.now.rest.now ≡ [] }
-        requires room { HasRoom (R.room receiver.now) self.now }
-        ensures goes { OnOk result ((d : Dictionary) (bytes : List ℕ)
-            → Moves L.at R.has self.old receiver.old d
-            self.new receiver.new d bytes bytes) }
-        ensures stops { IfErr result (λ h. h.cause ≢ Cause.Memory
-            → (d : Dictionary) (bytes : List ℕ) → HaltsAs L.at self.old d bytes h) }
-        ensures waits { IfErr result (λ h. h.cause ≢ Cause.Memory
-            → (self.new ≡ self.old) × (receiver.new ≡ receiver.old)) }
-        ensures ready { OnOk result ((serves : key_type.Key → Bool) → IsReady serves self.old
-            → IsReady serves self.new) }
-        ensures room { OnOk result (HasRoom (R.room receiver.new) self.new) }
-        ensures keeps { (set : List Resolved) (ms : List Content) (d : Dictionary)
-            → R.keeps receiver.old set ms d → R.keeps receiver.new set ms d }
-        ensures rank { OnOk result (rank_of self.new < rank_of self.old) }
-    {
         self.judge_end(level.level())?;
         match self.around.pop() {
             None => unreachable!(),
@@ -820,37 +789,7 @@ impl<'a> Walk<'a> {
         }
     }
 
-    // Ends the sequence whose element is next, where none is left.
-    #[inline(always)]
-    fn end_elements<R: Receiver>(
-        &mut self,
-        alloc: Global,
-        receiver: &mut R,
-    ) -> Result<(), AllocError>
-        requires room { HasRoom (R.room receiver.now) self.now }
-        ensures goes { OnOk result ((level : LevelOf) (d : Dictionary) (bytes : List ℕ)
-            → Moves level R.has self.old receiver.old d self.new receiver.new d bytes bytes) }
-        ensures ready { OnOk result ((serves : key_type.Key → Bool) → IsReady serves self.old
-            → IsReady serves self.new) }
-        ensures room { OnOk result (HasRoom (R.room receiver.new) self.new) }
-        ensures keeps { (set : List Resolved) (ms : List Content) (d : Dictionary)
-            → R.keeps receiver.old set ms d → R.keeps receiver.new set ms d }
-        ensures rank { OnOk result (rank_of self.new ≤ rank_of self.old) }
-    {
-        match self.next {
-            Next::Element(sequel) => {
-                if sequel.left == 0 {
-                    receiver.end_sequence(alloc)?;
-                    self.next = Next::Instruction;
-                    return Ok(());
-                }
-                Ok(())
-            }
-            Next::Instruction | Next::Mantissa(_) => Ok(()),
-        }
-    }
-
-    // Takes up what the segment that ends was to the body around it.
+    // Takes up what the segment that ends was to the body around it: behind a last element the sequence ends.
     #[inline(always)]
     fn take_up<R: Receiver>(
         &mut self,
@@ -864,8 +803,8 @@ impl<'a> Walk<'a> {
         ensures has { OnOk result ((o : Received) (d : Dictionary) (ws : List Waiting) (w : Waiting)
             → o.next ≡ at_instruction → o.body.rest ≡ no_instructions → o.around ≡ ws ++ w ∷ []
             → bare_inside w.inside ≡ inside_of inside.entry → R.has receiver.old o d
-            → R.has receiver.new (ended_in o ws w.body w.inside) d
-            × (bare_next (ended_in o ws w.body w.inside).next ≡ next_of self.new.next)) }
+            → R.has receiver.new (closed_in o ws w.body w.inside) d
+            × (bare_next (closed_in o ws w.body w.inside).next ≡ next_of self.new.next)) }
         ensures bits { self.new.bits ≡ self.old.bits }
         ensures spare { self.new.spare ≡ self.old.spare }
         ensures rest { self.new.rest ≡ self.old.rest }
@@ -887,7 +826,11 @@ impl<'a> Walk<'a> {
             }
             Inside::Element(sequel) => {
                 receiver.leave_element(alloc)?;
-                self.next = Next::Element(sequel);
+                if sequel.left == 0 {
+                    receiver.end_sequence(alloc)?;
+                } else {
+                    self.next = Next::Element(sequel);
+                }
                 Ok(())
             }
         }

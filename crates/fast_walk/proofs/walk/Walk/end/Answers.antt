@@ -1,11 +1,48 @@
-use Rattle.fast_walk.specs.Walks.{At, reads_on}
-use Rattle.fast_walk.proofs.Walking.{goes_on}
+use Rattle.std.proofs.Common.{◌++◌, map, ap, ◌∙◌}
+use Rattle.std.proofs.lemmas.Result.{err_from_is_err_and}
+use Rattle.fast_template.specs.Resolved.{list_of}
+use Rattle.fast_walk.specs.OpenSegments.{cursor}
+use Rattle.fast_walk.specs.Received.{closed_in}
+use Rattle.fast_walk.specs.Walks.{frame_of, next_of}
+use Rattle.fast_walk.proofs.Walking.{closed_bare, closed_on, closed_rest, closed_same, end_on_stops, no_frame, inside_of_last, is_instruction, last_of, popped, rest_of_last, served_pop}
 use Rattle.fast_walk.proofs.walk.Walk.end.Goals as goal
 
+pub returns-in_err-judge_end-clause-stops : goal.returns-in_err-judge_end-clause-stops
+returns-in_err-judge_end-clause-stops g c =
+    let p = err_from_is_err_and c.from_residual.result c.from_residual.ensures.1 in
+    rw (p.1, p.2) (λ other d bytes o at.
+    let old = c.args.self.now in
+    let h = c.in_err-judge_end.ensures in
+    let next = is_instruction o.next (at.next ∙ ap next_of c.requires.next) in
+    let rest = at.rest ∙ ap list_of c.requires.rest in
+    rw (h.refused.1)
+    (end_on_stops g.L.Leveled.at o (map frame_of old.around.items) c.in_err-judge_end.field-0.0.number (cursor d old.bits old.spare bytes) at.around
+    (λ none. c.requires.inside c.requires.next (no_frame old.around.items none) c.requires.rest)
+    h.inside next rest (rw (c.level.ensures) at h.refused.0) h.refused.2))
+
 pub returns-clause-goes : goal.returns-clause-goes
-returns-clause-goes g c = λ d bytes.
-    let has = g.R.Receiver.has in
-    let level = g.L.Leveled.at in
-    goes_on (At has c.args.self.now c.args.receiver.now d) (At has c.leave.new.self c.leave.new.receiver d) (At has c.end_elements.new.self c.end_elements.new.receiver d)
-    (reads_on level c.args.self.now d) (reads_on level c.leave.new.self d) (reads_on level c.end_elements.new.self d)
-    bytes bytes bytes (c.in_ok-leave.ensures.goes d bytes) (c.in_ok-end_elements.ensures.goes level d bytes)
+returns-clause-goes g c = λ d bytes o at.
+    let old = c.args.self.now in
+    let f = c.in-Some.field-0 in
+    let fs = map frame_of c.pop.new.self.items in
+    let l = last_of o.around fs (frame_of f) (at.0.around ∙ popped old.around.items c.pop.new.self.items c.pop.result f c.pop.ensures.items c.in-Some.is) in
+    let next = is_instruction o.next (at.0.next ∙ ap next_of c.requires.next) in
+    let rest = at.0.rest ∙ ap list_of c.requires.rest in
+    let end = c.in_ok-take_up-in-Some.ensures in
+    let b = l.last.body in
+    let i = l.last.inside in
+    let had = end.has o d l.before l.last next rest l.is (inside_of_last o.around fs (frame_of f) l) at.1 in (
+      closed_in o l.before b i,
+      (record { next = had.1; rest = rw (end.rest) (closed_rest o l.before b i ∙ rest_of_last o.around fs (frame_of f) l); around = rw (end.around) (closed_bare o l.before b i ∙ l.rests) }, had.0),
+      closed_same o l.before b i,
+      λ more. rw (end.bits, end.spare) (closed_on g.L.Leveled.at o l.before fs (frame_of f) l (cursor d old.bits old.spare (bytes ++ more)) (rw (c.level.ensures) at c.in_ok-judge_end.ensures.clear) next rest),
+    )
+
+pub returns-clause-ready : goal.returns-clause-ready
+returns-clause-ready g c = λ serves ready.
+    let old = c.args.self.now in
+    let f = c.in-Some.field-0 in
+    let fs = map frame_of c.pop.new.self.items in
+    let end = c.in_ok-take_up-in-Some.ensures in
+    let p = served_pop serves fs (frame_of f) (rw (popped old.around.items c.pop.new.self.items c.pop.result f c.pop.ensures.items c.in-Some.is) at ready.around) in
+    record { next = end.served serves p.1.1; rest = rw (end.rest) p.1.0; around = rw (end.around) p.0 }
