@@ -22,3 +22,4 @@ mod StringEnds
 mod StringJudging
 mod AsciiWords
 mod Utf8Steps
+mod WrittenOver

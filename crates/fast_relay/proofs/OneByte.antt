@@ -1,5 +1,5 @@
 -- Numbers in one byte, which is their shortest form.
-use Rattle.std.proofs.Common.{◌≡◌, ℕ, pos, zero, suc, ◌+◌, ◌-◌, ◌%◌, ◌<◌, Bool, true, false, nat_le, List, ◌∷◌, [], length, drop, slice_range, get_or, refl, subst, arith, length-take, length-drop}
+use Rattle.std.proofs.Common.{◌≡◌, ℕ, pos, zero, suc, ◌+◌, ◌-◌, ◌%◌, ◌<◌, ◌≤◌, Bool, true, false, nat_le, List, ◌∷◌, [], length, drop, slice_range, get_or, refl, subst, arith, length-take, length-drop}
 use Rattle.std.proofs.lemmas.Bool.Decides.{nat_tests}
 use Rattle.fast_wire.proofs.ShortIntegers.{one_byte, short_given, short_nullable_given, short_signed_given, short_signed_nullable_given}
 use Rattle.fast_value.specs.declared.kind.Presence.{Presence}
@@ -58,3 +58,8 @@ pub removal_byte : (p : Presence) (n : ℕ) → n < 63 → ShortestSigned p (pos
 removal_byte p n few =
     let s = signed_stands ((zero_byte p + n) ∷ []) 0 n (few_byte p n few) (omega arith) p few refl in
     shortest_signed p (pos n) ((zero_byte p + n) ∷ []) s.form s.short
+
+-- the byte of 0 has room above it
+pub zero_low : (p : Presence) → zero_byte p ≤ 129
+zero_low Mandatory = omega arith
+zero_low Optional = omega arith

@@ -1,21 +1,23 @@
 -- What ASCII strings rest on that are judged as they stand.
 use Rattle.std.proofs.Common.{◌≡◌, ◌≤◌, ◌<◌, ℕ, ◌+◌, ◌-◌, false, List, ◌++◌, length, take, drop, slice_range, refl, sym, ap, ◌∙◌, arith, append_assoc}
-use Rattle.std.specs.Prelude.{pos, Some, true}
+use Rattle.std.specs.Prelude.{pos, Option, Some, true}
 use Rattle.std.specs.List.{AllByRecursion}
 use Rattle.fast_wire.specs.Entity.{groups}
 use Rattle.fast_wire.specs.Plain.{IsPlain}
 use Rattle.fast_value.specs.declared.kind.Kind.TheVariants as kind
+use Rattle.fast_value.specs.declared.kind.Operator.{Operator}
 use Rattle.fast_value.specs.declared.kind.Operator.TheVariants as operator
 use Rattle.fast_value.specs.declared.kind.Part.TheVariants as part
 use Rattle.fast_template.specs.declared.resolved.FieldPart.{FieldPart}
+use Rattle.fast_value.specs.declared.scalar.Scalar.{Scalar}
 use Rattle.fast_value.specs.declared.scalar.Scalar.TheVariants.{Ascii}
 use Rattle.fast_dictionary.specs.declared.entry.Entry.{Entry}
 use Rattle.fast_dictionary.specs.declared.entry.Entry.TheVariants.{Assigned}
-use Rattle.fast_field.specs.Bases.{next as next_entry}
+use Rattle.fast_field.specs.Bases.{next as next_entry, next_of}
 use Rattle.fast_field.specs.CommonParts.{IsLongestPrefix}
 use Rattle.fast_field.specs.Planning.{left_out_of}
 use Rattle.fast_relay.specs.Judged.{Judges, JudgesFrom, StandsAt}
-use Rattle.fast_relay.specs.Numbers.{SpellsWhole}
+use Rattle.fast_relay.specs.Numbers.{KeepsNothing, SpellsWhole}
 use Rattle.fast_relay.specs.Texts.{SharesEnd}
 use Rattle.fast_relay.proofs.Giving.{tail_drops}
 use Rattle.fast_relay.proofs.PlainTexts.{characters_text, cut_read, plain_delta_relays, plain_relays, plain_tail_relays, tail_read}
@@ -24,6 +26,11 @@ use Rattle.fast_relay.proofs.Standing.{shortest_signed}
 
 abbrev AreCharacters : List ℕ → Type 0
 AreCharacters s = (length s ≤ 65535) × AllByRecursion (λ c. c < 128) s
+
+pub kept_nowhere : (o : Operator) (e : Entry) (v : Option Scalar) → KeepsNothing o → e ≡ next_of o e v
+kept_nowhere operator.Plain e v nothing = refl
+kept_nowhere operator.Default e v nothing = refl
+kept_nowhere o e v nothing = absurd nothing
 
 pub text_stands : (i : FieldPart) (old new : Entry) (bytes : List ℕ) (at first next : ℕ) → i.kind ≡ kind.Ascii → i.part ≡ part.Whole → SpellsWhole i.operator → IsPlain (drop at bytes) (slice_range bytes first next) (drop next bytes)
     → new ≡ next_entry i old (Some (Ascii (groups (slice_range bytes first next)))) → left_out_of i.operator i old (Some (Ascii (groups (slice_range bytes first next)))) ≡ false

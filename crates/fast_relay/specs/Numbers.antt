@@ -16,6 +16,12 @@ SpellsWhole operator.Copy = Unit {0}
 SpellsWhole operator.Increment = Unit {0}
 SpellsWhole o = ⊥
 
+-- the entry keeps no value that was sent
+abbrev pub KeepsNothing : Operator → Type 0
+KeepsNothing operator.Plain = Unit {0}
+KeepsNothing operator.Default = Unit {0}
+KeepsNothing o = ⊥
+
 -- the bytes spell a number and not NULL
 abbrev pub Spelt : Bool → Presence → List ℕ → ℤ → List ℕ → Type 0
 Spelt unsigned p bytes z rest = integer_at Usual unsigned p bytes ≡ Ok (Value z, rest)

@@ -7,42 +7,67 @@ ghost use Rattle.fast_relay.specs.Texts.{IsText};
 
 use crate::vectors::put_units;
 use fast_field::units;
-use fast_template::{ByteString, Kind, Scalar, UnicodeText};
+use fast_template::{ByteString, Kind, Scalar};
 use std::alloc::Global;
-use std::mem;
 
-/// Puts bytes in the place of the last units of a vector, which are as many.
+/// The most bytes that are copied one by one.
+pub(crate) const FEW: usize = 8;
+
+/// Copies the byte at a place over the one there, if there is one, behind those that were copied.
 #[inline(always)]
-pub(crate) fn copy_over(units: &mut Vec<u8>, kept: usize, part: &[u8])
-    requires { kept + length part.now ≡ length units.now.items }
-    ensures { units.new.items ≡ take kept units.old.items ++ part.now }
+fn copy_at(units: &mut [u8], part: &[u8], at: usize)
+    requires many { length part.now ≡ length units.now }
+    requires copied { take at units.now ≡ take at part.now }
+    ensures { take (at + 1) units.new ≡ take (at + 1) part.now }
+{
+    if at < part.len() {
+        units[at] = part[at];
+    }
+}
+
+/// Copies bytes over as many others, which are few: a call to copy them would cost more, and so would a loop.
+#[inline(always)]
+fn copy_few(units: &mut [u8], part: &[u8])
+    requires many { length part.now ≡ length units.now }
+    requires few { length part.now ≤ 8 }
+    ensures { units.new ≡ part.now }
+{
+    copy_at(units, part, 0);
+    copy_at(units, part, 1);
+    copy_at(units, part, 2);
+    copy_at(units, part, 3);
+    copy_at(units, part, 4);
+    copy_at(units, part, 5);
+    copy_at(units, part, 6);
+    copy_at(units, part, 7);
+}
+
+/// Puts bytes in the place of the last units, which are as many.
+#[inline(always)]
+pub(crate) fn copy_over(units: &mut [u8], kept: usize, part: &[u8])
+    requires { kept + length part.now ≡ length units.now }
+    ensures { units.new ≡ take kept units.old ++ part.now }
 {
     units[kept..].copy_from_slice(part);
 }
 
-/// The same of a byte vector.
+/// The same of few bytes.
 #[inline(always)]
-fn put_over_bytes(alloc: Global, bytes: &mut ByteString, kept: usize, part: &[u8])
+pub(crate) fn copy_few_over(units: &mut [u8], kept: usize, part: &[u8])
+    requires many { kept + length part.now ≡ length units.now }
+    requires few { length part.now ≤ 8 }
+    ensures { units.new ≡ take kept units.old ++ part.now }
+{
+    copy_few(&mut units[kept..], part);
+}
+
+/// Puts bytes in the place of the last ones of a byte vector, which are as many.
+#[inline(always)]
+fn put_over_bytes(bytes: &mut ByteString, kept: usize, part: &[u8])
     requires { kept + length part.now ≡ length bytes.now }
     ensures { bytes.new ≡ take kept bytes.old ++ part.now }
 {
-    let empty = ByteString::from_vec(Vec::new(alloc));
-    let mut units = mem::replace(bytes, empty).into_vec();
-    copy_over(&mut units, kept, part);
-    *bytes = ByteString::from_vec(units);
-}
-
-/// The same of a Unicode string, which stays one.
-#[inline(always)]
-fn put_over_text(alloc: Global, text: &mut UnicodeText, kept: usize, part: &[u8])
-    requires many { kept + length part.now ≡ length text.now }
-    requires utf8 { IsUtf8 (take kept text.now ++ part.now) }
-    ensures { text.new ≡ take kept text.old ++ part.now }
-{
-    let empty = UnicodeText::from_utf8(Vec::new(alloc));
-    let mut units = mem::replace(text, empty).into_bytes();
-    copy_over(&mut units, kept, part);
-    *text = UnicodeText::from_utf8(units);
+    copy_over(bytes.as_mut_slice(), kept, part);
 }
 
 /// Puts bytes behind so many units of a string or vector, in place of the others, as `put_units` does.
@@ -63,11 +88,11 @@ pub(crate) fn put_part(
     if units(value).len() - kept == part.len() {
         match (kind, value) {
             (Kind::Unicode, Scalar::Unicode(text)) => {
-                put_over_text(alloc, text, kept, part);
+                text.put_over(kept, part);
                 true
             }
             (Kind::Bytes, Scalar::Bytes(bytes)) => {
-                put_over_bytes(alloc, bytes, kept, part);
+                put_over_bytes(bytes, kept, part);
                 true
             }
             _ => false,

@@ -1,7 +1,7 @@
 //! Decimals that are judged as they stand: whether their bytes are the best form of the value, or bit 0 is. The entry goes
 //! on, and nothing is written. What is not served here goes by `relay_decimal`.
 
-ghost use Rattle.std.specs.Prelude.{◌≡◌, ◌≤◌, ◌+◌, true, length, IfNone, IfSome};
+ghost use Rattle.std.specs.Prelude.{◌≡◌, ◌≤◌, ◌+◌, true, false, length, IfNone, IfSome};
 ghost use Rattle.fast_value.specs.Scalar.{exponent_in_range, in_range};
 ghost use Rattle.fast_value.specs.declared.kind.Kind.TheVariants as kind_type;
 ghost use Rattle.fast_value.specs.declared.kind.Operator.TheVariants as operator_type;
@@ -9,10 +9,11 @@ ghost use Rattle.fast_value.specs.declared.kind.Part.TheVariants as part_type;
 ghost use Rattle.fast_value.specs.declared.scalar.Scalar.{Scalar as ScalarOf};
 ghost use Rattle.fast_value.specs.declared.scalar.Scalar.TheVariants as scalar;
 ghost use Rattle.fast_dictionary.specs.declared.entry.Entry.TheVariants as entry_type;
-ghost use Rattle.fast_relay.specs.Judged.{IfBehind, IfJudged, IfNotJudged, Judges, JudgesFrom, Leaves, PairStandsFrom};
+ghost use Rattle.fast_relay.specs.Judged.{IfBehind, IfJudged, IfNotJudged, Judges, JudgesFrom, Leaves, PairStandsFrom, StandsAt};
 ghost use Rattle.fast_relay.specs.Numbers.{SpellsWhole};
 
 use crate::judged::{Judged, behind, read_behind, read_shortest};
+use crate::one_byte::read_removal;
 use fast_dictionary::Entry;
 use fast_template::{FieldPart, Operator, Presence, Scalar};
 
@@ -60,6 +61,19 @@ fn set_decimal(entry: &mut Entry, parts: Parts)
     });
 }
 
+/// An exponent, or what is added to one, that is spelled in its shortest form, and the place behind it. Most have one byte.
+#[inline(always)]
+fn read_exponent(presence: Presence, bytes: &[u8], at: usize) -> Option<(i64, usize)>
+    requires { at ≤ length bytes.now }
+    ensures place { IfSome result (λ x. (at ≤ x.1) × (x.1 ≤ length bytes.now)) }
+    ensures stands { IfSome result (λ x. StandsAt false presence bytes.now at x.1 x.0) }
+{
+    match read_removal(presence, bytes, at) {
+        Some(few) => Some((few as i64, at + 1)),
+        None => read_shortest(false, presence, bytes, at),
+    }
+}
+
 /// Two numbers that are spelled in their shortest form, and the place behind them.
 #[inline(always)]
 fn read_pair(presence: Presence, bytes: &[u8], at: usize) -> Option<(i64, i64, usize)>
@@ -67,7 +81,7 @@ fn read_pair(presence: Presence, bytes: &[u8], at: usize) -> Option<(i64, i64, u
     ensures place { IfSome result (λ x. (at ≤ x.2) × (x.2 ≤ length bytes.now)) }
     ensures stands { IfSome result (λ x. PairStandsFrom presence bytes.now at at x.2 x.0 x.1) }
 {
-    let Some((exponent, middle)) = read_shortest(false, presence, bytes, at) else {
+    let Some((exponent, middle)) = read_exponent(presence, bytes, at) else {
         return None;
     };
     let Some((mantissa, next)) = read_shortest(false, Presence::Mandatory, bytes, middle) else {

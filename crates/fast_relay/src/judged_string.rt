@@ -12,14 +12,17 @@ ghost use Rattle.fast_dictionary.specs.declared.entry.Entry.TheVariants as entry
 ghost use Rattle.fast_wire.specs.Plain.{IsPlain};
 ghost use Rattle.fast_field.specs.Within.{HoldsScalar};
 ghost use Rattle.fast_relay.specs.Judged.{IfBehind, IfJudged, IfNotJudged, Judges, JudgesFrom};
-ghost use Rattle.fast_relay.specs.Numbers.{SpellsWhole};
+ghost use Rattle.fast_relay.specs.Numbers.{KeepsNothing, SpellsWhole};
 
 use crate::characters::find_behind_zero;
 use crate::given::gives_text;
 use crate::judged::Judged;
 use crate::one_byte::read_removal;
-use crate::plain::{agrees_no_further, is_cut_at_end, keep_plain, may_be_left_out, put_characters};
-use crate::words::plain_end;
+use crate::plain::{
+    agrees_no_further, is_cut_at_end, keep_plain, may_be_left_out, put_characters, replace_end,
+    replace_string,
+};
+use crate::words::{plain_end, short_plain_end};
 use fast_dictionary::Entry;
 use fast_template::{ByteString, FieldPart, Operator, Scalar};
 use fast_value::UNIT_LIMIT;
@@ -96,8 +99,8 @@ fn judge_string_behind(
     }
 }
 
-/// Judges a string that is spelled whole.
-#[inline(always)]
+/// Judges a string that is spelled whole. (A call of its own, behind the next two, which judge most.)
+#[inline(never)]
 fn judge_string_whole(
     alloc: Global,
     instr: &FieldPart,
@@ -117,15 +120,79 @@ fn judge_string_whole(
         × JudgesFrom true instr.now entry.old entry.new v bytes.now at (at + needless) next) }
     ensures entry { IfNotJudged result (entry.new ≡ entry.old) }
 {
+    if at < bytes.len() && bytes[at] == 0 {
+        return judge_string_behind(alloc, instr, entry, bytes, at);
+    }
     match plain_end(bytes, at) {
         Some(next) => judge_plain(alloc, instr, entry, bytes, at, at, next),
-        None => judge_string_behind(alloc, instr, entry, bytes, at),
+        None => Judged::Elsewhere,
     }
 }
 
-/// Judges a removal of few characters at the end of the string that the entry has, and a new part.
+/// Judges a string that is spelled whole and kept nowhere.
 #[inline(always)]
-fn judge_string_delta(
+fn judge_string_once(
+    alloc: Global,
+    instr: &FieldPart,
+    entry: &mut Entry,
+    bytes: &[u8],
+    at: usize,
+) -> Judged
+    requires place { at ≤ length bytes.now }
+    requires part { instr.now.part ≡ part_type.Whole }
+    requires operator { SpellsWhole instr.now.operator }
+    requires nowhere { KeepsNothing instr.now.operator }
+    requires kind { instr.now.kind ≡ kind_type.Ascii }
+    ensures place { IfJudged result (λ bit next. (at ≤ next) × (next ≤ length bytes.now)) }
+    ensures judged { IfJudged result (λ bit next. (v : ScalarOf)
+        × Judges bit instr.now entry.old entry.new v bytes.now at next) }
+    ensures behind_place { IfBehind result (λ needless next. (at + needless ≤ next) × (next ≤ length bytes.now)) }
+    ensures behind { IfBehind result (λ needless next. (v : ScalarOf)
+        × JudgesFrom true instr.now entry.old entry.new v bytes.now at (at + needless) next) }
+    ensures entry { IfNotJudged result (entry.new ≡ entry.old) }
+{
+    if let Some(next) = short_plain_end(bytes, at) {
+        let form = &bytes[at..next];
+        if !may_be_left_out(instr, entry, form) {
+            return Judged::Stands(next);
+        }
+    }
+    judge_string_whole(alloc, instr, entry, bytes, at)
+}
+
+/// Judges a string by the one that the entry has; it then has this one.
+#[inline(always)]
+fn judge_string_copy(
+    alloc: Global,
+    instr: &FieldPart,
+    entry: &mut Entry,
+    bytes: &[u8],
+    at: usize,
+) -> Judged
+    requires place { at ≤ length bytes.now }
+    requires part { instr.now.part ≡ part_type.Whole }
+    requires operator { instr.now.operator ≡ operator_type.Copy }
+    requires kind { instr.now.kind ≡ kind_type.Ascii }
+    ensures place { IfJudged result (λ bit next. (at ≤ next) × (next ≤ length bytes.now)) }
+    ensures judged { IfJudged result (λ bit next. (v : ScalarOf)
+        × Judges bit instr.now entry.old entry.new v bytes.now at next) }
+    ensures behind_place { IfBehind result (λ needless next. (at + needless ≤ next) × (next ≤ length bytes.now)) }
+    ensures behind { IfBehind result (λ needless next. (v : ScalarOf)
+        × JudgesFrom true instr.now entry.old entry.new v bytes.now at (at + needless) next) }
+    ensures entry { IfNotJudged result (entry.new ≡ entry.old) }
+{
+    if let Some(next) = short_plain_end(bytes, at) {
+        if replace_string(instr, entry, &bytes[at..next]) {
+            return Judged::Stands(next);
+        }
+    }
+    judge_string_whole(alloc, instr, entry, bytes, at)
+}
+
+/// Judges a removal of few characters at the end of the string that the entry has, and a new part. (A call of its own,
+/// behind the next one, which judges most.)
+#[inline(never)]
+fn judge_string_cut(
     alloc: Global,
     instr: &FieldPart,
     text: &mut ByteString,
@@ -167,6 +234,38 @@ fn judge_string_delta(
     } else {
         Judged::Elsewhere
     }
+}
+
+/// The same, at once where the new part is short, and as long as what is removed.
+#[inline(always)]
+fn judge_string_delta(
+    alloc: Global,
+    instr: &FieldPart,
+    text: &mut ByteString,
+    bytes: &[u8],
+    at: usize,
+) -> Judged
+    requires place { at ≤ length bytes.now }
+    requires part { instr.now.part ≡ part_type.Whole }
+    requires operator { instr.now.operator ≡ operator_type.Delta }
+    requires kind { instr.now.kind ≡ kind_type.Ascii }
+    requires kept { IsScalar (Ascii text.now) }
+    ensures behind { IfBehind result (λ needless next. ⊥) }
+    ensures place { IfJudged result (λ bit next. (at ≤ next) × (next ≤ length bytes.now)) }
+    ensures judged { IfJudged result (λ bit next. (v : ScalarOf) × Judges bit instr.now
+        (entry_type.Assigned (Ascii text.old)) (entry_type.Assigned (Ascii text.new)) v bytes.now at next) }
+    ensures text { IfNotJudged result (text.new ≡ text.old) }
+{
+    let Some(removed) = read_removal(instr.presence, bytes, at) else {
+        return Judged::Elsewhere;
+    };
+    let first = at + 1;
+    if let Some(next) = short_plain_end(bytes, first) {
+        if replace_end(text, removed, &bytes[first..next]) {
+            return Judged::Stands(next);
+        }
+    }
+    judge_string_cut(alloc, instr, text, bytes, at)
 }
 
 /// Judges a new end of the string that the entry has; bit 0 is the best form of one that it has already. (A call of its
@@ -235,9 +334,8 @@ pub(crate) fn judge_string(
     ensures entry { IfNotJudged result (entry.new ≡ entry.old) }
 {
     match instr.operator {
-        Operator::Plain | Operator::Default | Operator::Copy => {
-            judge_string_whole(alloc, instr, entry, bytes, at)
-        }
+        Operator::Plain | Operator::Default => judge_string_once(alloc, instr, entry, bytes, at),
+        Operator::Copy => judge_string_copy(alloc, instr, entry, bytes, at),
         Operator::Delta => match entry {
             Entry::Assigned(Scalar::Ascii(text)) => {
                 judge_string_delta(alloc, instr, text, bytes, at)

@@ -38,8 +38,13 @@ pub(crate) fn read_removal(presence: Presence, bytes: &[u8], at: usize) -> Optio
     ensures stands { IfSome result (λ removed. StandsAt false presence bytes.now at (at + 1) (pos removed)) }
 {
     let zero = zero_byte(presence);
-    if at < bytes.len() && bytes[at] >= zero && bytes[at] - zero < FEW {
-        Some(usize::from(bytes[at] - zero))
+    if at >= bytes.len() {
+        return None;
+    }
+    // a byte below that of 0 wraps around, and leaves more than few
+    let removed = bytes[at].wrapping_sub(zero);
+    if removed < FEW {
+        Some(usize::from(removed))
     } else {
         None
     }

@@ -1,7 +1,7 @@
 //! ASCII strings that stand in their shortest form, as most do: their bytes are noted, to be written as they stand, and
 //! their characters copied into the entry, and no string is made. What is not served here is left to `text`.
 
-ghost use Rattle.std.specs.Prelude.{◌≡◌, ◌≤◌, ◌<◌, ◌+◌, ◌++◌, pos, true, false, length, drop, take, Some, IfNone, IfSome};
+ghost use Rattle.std.specs.Prelude.{◌≡◌, ◌≤◌, ◌<◌, ◌+◌, ◌-◌, ◌++◌, pos, true, false, length, drop, take, Some, IfNone, IfSome};
 ghost use Rattle.fast_value.specs.declared.kind.Kind.TheVariants as kind_type;
 ghost use Rattle.fast_value.specs.declared.kind.Operator.TheVariants as operator_type;
 ghost use Rattle.fast_value.specs.declared.kind.Part.TheVariants as part_type;
@@ -20,7 +20,7 @@ ghost use Rattle.fast_value.specs.Scalar.{IsScalar};
 ghost use Rattle.fast_field.specs.Within.{HoldsScalar};
 
 use crate::characters::find_plain;
-use crate::copied::copy_over;
+use crate::copied::{FEW, copy_few_over, copy_over};
 use crate::cut::{read_cut, read_tail};
 use crate::given::{drop_plain_tail, gives_text};
 use crate::one_byte::push_removal;
@@ -61,17 +61,29 @@ fn put_anew(alloc: Global, text: &mut ByteString, kept: usize, form: &[u8]) -> b
 
 /// Puts the characters of an entity in the place of the last ones of a text, which are as many.
 #[inline(always)]
-fn put_over(alloc: Global, text: &mut ByteString, kept: usize, form: &[u8])
+fn put_over(text: &mut ByteString, kept: usize, form: &[u8])
     requires many { kept + length form.now ≡ length text.now }
     requires entity { IsEntity form.now }
     ensures { text.new ≡ take kept text.old ++ groups form.now }
 {
-    let empty = ByteString::from_vec(Vec::new(alloc));
-    let mut characters = mem::replace(text, empty).into_vec();
-    copy_over(&mut characters, kept, form);
+    let characters = text.as_mut_slice();
+    copy_over(characters, kept, form);
     let last = characters.len() - 1;
     characters[last] %= 128;
-    *text = ByteString::from_vec(characters);
+}
+
+/// The same of few characters.
+#[inline(always)]
+fn put_few_over(text: &mut ByteString, kept: usize, form: &[u8])
+    requires many { kept + length form.now ≡ length text.now }
+    requires few { length form.now ≤ 8 }
+    requires entity { IsEntity form.now }
+    ensures { text.new ≡ take kept text.old ++ groups form.now }
+{
+    let characters = text.as_mut_slice();
+    copy_few_over(characters, kept, form);
+    let last = characters.len() - 1;
+    characters[last] %= 128;
 }
 
 /// Puts the characters of an entity behind so many characters of a text, in place of the others; answers false, and
@@ -85,7 +97,7 @@ pub(crate) fn put_characters(alloc: Global, text: &mut ByteString, kept: usize, 
 {
     // most often as many are put there, and no memory is asked for
     if text.as_slice().len() - kept == form.len() {
-        put_over(alloc, text, kept, form);
+        put_over(text, kept, form);
         true
     } else {
         put_anew(alloc, text, kept, form)
@@ -200,6 +212,17 @@ fn relay_plain_whole(
     }
 }
 
+/// Whether the first of the characters that are put behind so many of a text is not the one that is there.
+#[inline(always)]
+fn begins_otherwise(base: &[u8], kept: usize, form: &[u8]) -> bool
+    requires kept { kept < length base.now }
+    requires entity { IsEntity form.now }
+    ensures { result ≡ true
+        → IsLongestPrefix base.now (take kept base.now ++ groups form.now) kept }
+{
+    base[kept] != form[0] % 128
+}
+
 /// Whether a text has no more in common with its first units and others behind them than these first units.
 #[inline(always)]
 pub(crate) fn agrees_no_further(base: &[u8], kept: usize, form: &[u8]) -> bool
@@ -209,7 +232,7 @@ pub(crate) fn agrees_no_further(base: &[u8], kept: usize, form: &[u8]) -> bool
         → IsLongestPrefix base.now (take kept base.now ++ groups form.now) kept }
 {
     if kept < base.len() {
-        base[kept] != form[0] % 128
+        begins_otherwise(base, kept, form)
     } else {
         true
     }
@@ -244,6 +267,55 @@ pub(crate) fn is_cut_at_end(base: &[u8], kept: usize, form: &[u8]) -> bool
         true
     } else {
         ends_otherwise(base, kept, form)
+    }
+}
+
+/// Puts the characters of an entity in the place of as many at the end of a text, where to remove these is the best cut: the
+/// first is another one, and no fewer are kept. Answers false, and changes nothing, where they are not as many, or it may
+/// not be.
+#[inline(always)]
+pub(crate) fn replace_end(text: &mut ByteString, removed: usize, form: &[u8]) -> bool
+    requires entity { IsEntity form.now }
+    ensures many { result ≡ true → (removed ≤ length text.old) × (length form.now ≡ removed) }
+    ensures put { result ≡ true → text.new ≡ take (length text.old - removed) text.old ++ groups form.now }
+    ensures prefix { result ≡ true → IsLongestPrefix text.old text.new (length text.old - removed) }
+    ensures end { result ≡ true → SharesEnd text.old text.new (length text.old - removed) }
+    ensures unchanged { result ≡ false → text.new ≡ text.old }
+{
+    let base = text.as_slice();
+    if removed > FEW || form.len() != removed || removed > base.len() {
+        return false;
+    }
+    let kept = base.len() - removed;
+    if removed > kept || !begins_otherwise(base, kept, form) {
+        return false;
+    }
+    put_few_over(text, kept, form);
+    true
+}
+
+/// Makes an entry the string that bytes spell, in the place of another one that has as many characters; answers false, and
+/// leaves it as it was, where it has none such.
+#[inline(always)]
+pub(crate) fn replace_string(instr: &FieldPart, entry: &mut Entry, form: &[u8]) -> bool
+    requires operator { instr.now.operator ≡ operator_type.Copy }
+    requires entity { IsEntity form.now }
+    ensures sent { result ≡ true → left_out_of instr.now.operator instr.now entry.old
+        (Some (Ascii (groups form.now))) ≡ false }
+    ensures kept { result ≡ true → entry.new
+        ≡ next_of instr.now.operator entry.old (Some (Ascii (groups form.now))) }
+    ensures unchanged { result ≡ false → entry.new ≡ entry.old }
+{
+    match entry {
+        Entry::Assigned(Scalar::Ascii(text)) => {
+            let base = text.as_slice();
+            if form.len() > FEW || base.len() != form.len() || is_text_of(base, form) {
+                return false;
+            }
+            put_few_over(text, 0, form);
+            true
+        }
+        _ => false,
     }
 }
 

@@ -61,3 +61,25 @@ pub(crate) fn plain_end(bytes: &[u8], at: usize) -> Option<usize>
         Some(at + run + 1)
     }
 }
+
+/// The same of a string that ends within sixteen bytes which are there; none of another one.
+#[inline(always)]
+pub(crate) fn short_plain_end(bytes: &[u8], at: usize) -> Option<usize>
+    requires { at ≤ length bytes.now }
+    ensures place { IfSome result (λ next. (at < next) × (next ≤ length bytes.now)) }
+    ensures plain { IfSome result (λ next. IsPlain (drop at bytes.now)
+        (slice_range bytes.now at next) (drop next bytes.now)) }
+{
+    if bytes.len() - at < LANES {
+        return None;
+    }
+    let run = stop_free_run(bytes, at);
+    if run == LANES {
+        return None;
+    }
+    if bytes[at] % 128 == 0 {
+        None
+    } else {
+        Some(at + run + 1)
+    }
+}

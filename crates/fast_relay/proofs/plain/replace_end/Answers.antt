@@ -1,0 +1,17 @@
+use Rattle.std.proofs.Common.{◌-◌, arith, length}
+use Rattle.std.proofs.lemmas.List.{length-map}
+use Rattle.std.specs.Prelude.{◌%◌}
+use Rattle.fast_wire.specs.Entity.{groups}
+use Rattle.fast_wire.proofs.UnsignedForms.{entity_some}
+use Rattle.fast_relay.proofs.PlainTexts.{few_shared}
+use Rattle.fast_relay.proofs.plain.replace_end.Goals as goal
+
+pub returns-clause-end : goal.returns-clause-end
+returns-clause-end c = λ _.
+    let base = c.as_slice-base.result.now in
+    let form = c.args.form.now in
+    let same = length-map form (λ b. b % 128) in
+    let some = entity_some form c.requires.entity in
+    rw (c.put_few_over.ensures, ← c.as_slice-base.ensures) (
+    few_shared base (groups form) (length base - c.args.removed) (omega (arith, some, c.if-form-removed.false, c.if-removed-base.false)) (omega (arith, same, c.if-form-removed.false, c.if-removed-base.false)) (omega (arith, same, c.if-form-removed.false, c.if-removed-kept.false))
+    (c.begins_otherwise.ensures c.if-not-begins_otherwise.false))
