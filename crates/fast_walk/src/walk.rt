@@ -7,7 +7,6 @@ ghost use Rattle.fast_dictionary.specs.Dictionary.{Dictionary};
 ghost use Rattle.fast_stream.specs.Nodes.{Content};
 ghost use Rattle.fast_stream.specs.Bits.{after_bit};
 ghost use Rattle.fast_wire.specs.Level.{IsLeftClear, some_set};
-ghost use Rattle.fast_wire.specs.declared.level.Level.{Level as LevelOf};
 ghost use Rattle.fast_stream.specs.Faults.{cause_of_field};
 ghost use Rattle.fast_stream.specs.Reading.{node_at, stopped};
 ghost use Rattle.fast_walk.specs.OpenSegments.{Waiting, at_instruction, cursor, fewer, in_sequence};
