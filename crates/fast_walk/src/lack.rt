@@ -235,10 +235,13 @@ fn new_vector_lack(level: Level, number: u32, kind: Kind, bytes: &[u8]) -> Optio
 {
     match entity_end(bytes, 0, NUMBER_LIMIT) {
         Err(_) => None,
-        Ok(next) => match entity_lack(number, NUMBER_LIMIT, &bytes[next..]) {
-            Some(lack) => Some(lack),
-            None => units_lack(level, number, kind, Presence::Mandatory, &bytes[next..]),
-        },
+        Ok(next) => {
+            let behind = &bytes[next..];
+            if let Some(lack) = entity_lack(number, NUMBER_LIMIT, behind) {
+                return Some(lack);
+            }
+            units_lack(level, number, kind, Presence::Mandatory, behind)
+        }
     }
 }
 
@@ -418,10 +421,10 @@ pub(crate) fn field_lack(level: Level, part: &FieldPart, bit: bool, bytes: &[u8]
     if !is_sent(part.operator, bit) {
         return None;
     }
-    match entity_lack(part.number, first_limit(part.operator, part.kind), bytes) {
-        Some(lack) => Some(lack),
-        None => rest_lack(level, part, bit, bytes),
+    if let Some(lack) = entity_lack(part.number, first_limit(part.operator, part.kind), bytes) {
+        return Some(lack);
     }
+    rest_lack(level, part, bit, bytes)
 }
 
 // Whether a field may go on behind the entity that it begins with. (No promise: where it says no, such a field is read
@@ -454,10 +457,10 @@ impl<'a> Walk<'a> {
         ensures { IfSome result (WalkLacks level self.now (E.contents entries.now) bytes.now) }
     {
         let bit = first_for(&self.bits, part_needs_bit(part));
-        match field_lack(level, part, bit, bytes) {
-            Some(lack) => Some(lack),
-            None => delta_lack(alloc, level, part, entries.get(&part.key), bit, bytes),
+        if let Some(lack) = field_lack(level, part, bit, bytes) {
+            return Some(lack);
         }
+        delta_lack(alloc, level, part, entries.get(&part.key), bit, bytes)
     }
 
     // What the part lacks that is next, where its first entity has come.
