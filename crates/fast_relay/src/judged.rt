@@ -373,7 +373,7 @@ fn add_as<T: ShortInteger>(which: Part, entry: &mut Entry, delta: i64) -> bool
     let Some(kept) = T::kept(entry) else {
         return false;
     };
-    let Some(number) = kept.checked_add(delta) else {
+    let Some(number) = T::sum(kept, delta) else {
         return false;
     };
     if !T::is_field_number(which, number) {

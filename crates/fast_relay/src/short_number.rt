@@ -1,6 +1,6 @@
 //! Numbers of 64 bits with a sign, by the integer type that they are of. Those that have more are left to the general way.
 
-ghost use Rattle.std.specs.Prelude.{◌≡◌, ◌^◌, ◌≤ℤ◌, ℤ, pos, IfNone, IfSome, true};
+ghost use Rattle.std.specs.Prelude.{◌≡◌, ◌^◌, ◌≤ℤ◌, ◌+ℤ◌, ℤ, pos, IfNone, IfSome, true};
 ghost use Rattle.fast_value.specs.Scalar.{greatest_of, of_integer};
 ghost use Rattle.fast_value.specs.declared.kind.Kind.{Kind as KindOf};
 ghost use Rattle.fast_value.specs.declared.kind.Kind.TheVariants as kind_type;
@@ -33,6 +33,11 @@ pub(crate) trait ShortInteger {
     /// Whether a field can have a number: in the range of the type and within the limit of its part, which can be of the type.
     fn is_field_number(which: Part, number: i64) -> bool
         ensures { result ≡ true → IsFieldNumber kind which number };
+
+    /// The sum of a number of the type and a difference, where it is of the type too; else another number that is not, or none.
+    fn sum(kept: i64, delta: i64) -> Option<i64>
+        requires { IsNumber kind kept }
+        ensures { IfSome result (λ sum. IsNumber kind sum → sum ≡ kept +ℤ delta) };
 
     /// The greatest number of the type that has 64 bits with a sign.
     fn greatest() -> i64
@@ -77,6 +82,12 @@ impl ShortInteger for u32 {
         }
     }
 
+    #[inline]
+    fn sum(kept: i64, delta: i64) -> Option<i64> {
+        // what wraps around is not of the type
+        Some(kept.wrapping_add(delta))
+    }
+
     #[inline(always)]
     fn greatest() -> i64 {
         i64::from(u32::MAX)
@@ -119,6 +130,12 @@ impl ShortInteger for i32 {
             Part::Exponent => -63 <= number && number <= 63,
             Part::Mantissa | Part::Length => false,
         }
+    }
+
+    #[inline]
+    fn sum(kept: i64, delta: i64) -> Option<i64> {
+        // what wraps around is not of the type
+        Some(kept.wrapping_add(delta))
     }
 
     #[inline(always)]
@@ -170,6 +187,12 @@ impl ShortInteger for u64 {
         }
     }
 
+    #[inline]
+    fn sum(kept: i64, delta: i64) -> Option<i64> {
+        // what wraps around is not of the type
+        Some(kept.wrapping_add(delta))
+    }
+
     #[inline(always)]
     fn greatest() -> i64 {
         i64::MAX
@@ -211,6 +234,11 @@ impl ShortInteger for i64 {
             Part::Whole | Part::Mantissa => true,
             Part::Exponent | Part::Length => false,
         }
+    }
+
+    #[inline]
+    fn sum(kept: i64, delta: i64) -> Option<i64> {
+        kept.checked_add(delta)
     }
 
     #[inline(always)]
