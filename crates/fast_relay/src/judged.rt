@@ -101,11 +101,11 @@ fn is_shortest(unsigned: bool, bytes: &[u8], at: usize, next: usize) -> bool
     ensures short { result ≡ true → overlong_number unsigned (slice_range bytes.now at next) ≡ false }
     ensures long { result ≡ false → overlong_number unsigned (slice_range bytes.now at next) ≡ true }
 {
-    // most have one byte, which needs no call
-    if next - at == 1 {
+    let form = &bytes[at..next];
+    // a needless group has nothing but the sign, and no stop bit
+    if form[0] != 0 && (unsigned || form[0] != 127) {
         return true;
     }
-    let form = &bytes[at..next];
     if unsigned {
         !overlong_unsigned(form)
     } else {
