@@ -20,11 +20,11 @@ module _ (bytes : List ℕ) (at n : ℕ) (fits : (k : ℕ) → get_or bytes k 0 
   spelt_signed : (p : Presence) → n < 63 → get_or bytes at 0 ≡ zero_byte p + n → Spelt false p (drop at bytes) (pos n) (drop (at + 1) bytes)
   unfolding integer_at
   spelt_signed Mandatory few is =
-      let s = one_byte bytes at n fits there (omega arith) (omega arith) in
-      rw (short_signed_given bytes at n (at + 1) s, no_sign (get_or bytes at 0 % 128) (omega arith)) refl
+      let plus : nat_le 64 (get_or bytes at 0 % 128) ≡ false = no_sign (get_or bytes at 0 % 128) (omega arith) in
+      rw (short_signed_given bytes at (pos n) (at + 1) (record { spelled = n; short = one_byte bytes at n fits there (omega arith) (omega arith); value = rw (plus) refl })) refl
   spelt_signed Optional few is =
-      let s = one_byte bytes at (suc n) fits there (omega arith) (omega arith) in
-      rw (short_signed_nullable_given bytes at (suc n) (at + 1) s, no_sign (get_or bytes at 0 % 128) (omega arith)) refl
+      let plus : nat_le 64 (get_or bytes at 0 % 128) ≡ false = no_sign (get_or bytes at 0 % 128) (omega arith) in
+      rw (short_signed_nullable_given bytes at (pos (suc n)) (at + 1) (record { spelled = suc n; short = one_byte bytes at (suc n) fits there (omega arith) (omega arith); value = rw (plus) refl })) refl
 
   spelt_unsigned : (p : Presence) → get_or bytes at 0 ≡ zero_byte p + n → Spelt true p (drop at bytes) (pos n) (drop (at + 1) bytes)
   unfolding integer_at

@@ -93,9 +93,15 @@ pub(crate) fn read_own_map(
         → own_map_at level number own_map (cursor d bits spare (drop at bytes.now))
         ≡ stopped h.number (drop at bytes.now) h.cause) }
 {
-    if !own_map {
-        return Ok((Bits::none(alloc), at));
+    if own_map {
+        match judge_map(level, bytes, at) {
+            Err(cause) => Err(Halt::new(cause, number)),
+            Ok(()) => match read_map(alloc, bytes, at) {
+                Ok(x) => Ok(x),
+                Err(fault) => Err(Halt::new(wire_cause(fault), number)),
+            },
+        }
+    } else {
+        Ok((Bits::none(alloc), at))
     }
-    judge_map(level, bytes, at).map_err(|cause| Halt::new(cause, number))?;
-    read_map(alloc, bytes, at).map_err(|fault| Halt::new(wire_cause(fault), number))
 }

@@ -1,4 +1,4 @@
-use Rattle.std.proofs.Common.{◌≡◌, ◌<◌, ◌+◌, ◌-◌, take, length-drop, None, Some, true, false, arith, drop, length, refl, sym, subst, ◌∙◌}
+use Rattle.std.proofs.Common.{◌≡◌, ◌+◌, ◌-◌, take, length-drop, None, Some, true, false, arith, drop, length, refl, sym, subst, ◌∙◌}
 use Rattle.std.proofs.lemmas.List.{take_all}
 use Rattle.fast_template.specs.Resolved.{instruction_of, list_of, then_instruction}
 use Rattle.fast_value.specs.declared.kind.Part.TheVariants as part

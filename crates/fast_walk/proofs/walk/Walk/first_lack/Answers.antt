@@ -10,6 +10,6 @@ returns-in-Some g c =
     if_first_lacks c.args.level c.args.self.now d c.args.part.now c.args.bytes.now (Some c.in-Some.lack) c.requires.spare c.requires.next c.requires.first
     (λ more lacking. lacks (entry_at d c.args.part.now.key) more lacking) c.in-Some.ensures.number
 
-pub returns-in-None : goal.returns-in-None
-returns-in-None g c = if_first_lacks c.args.level c.args.self.now (g.E.Entries.contents c.args.entries.now) c.args.part.now c.args.bytes.now c.delta_lack.result c.requires.spare c.requires.next c.requires.first
+pub returns : goal.returns
+returns g c = if_first_lacks c.args.level c.args.self.now (g.E.Entries.contents c.args.entries.now) c.args.part.now c.args.bytes.now c.delta_lack.result c.requires.spare c.requires.next c.requires.first
     (rw (c.first_for-bit.ensures, c.part_needs_bit.ensures, c.get.ensures) at c.delta_lack.ensures.lacks) c.delta_lack.ensures.number
