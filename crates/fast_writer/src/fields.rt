@@ -447,8 +447,48 @@ fn take_all<'a, L: Leveled, E: Entries>(
     Ok((rest.len(), None))
 }
 
-/// Takes fields from the front of the open body, as many as the quick way serves one after the other.
+// Takes fields from the front of a body, and appends what is noted of them. Answers how many instructions were passed, and puts
+// the mantissa that is next where one is. (A call of its own, whose answer comes back in registers.)
 #[inline(never)]
+fn take_run<'a, L: Leveled, E: Entries>(
+    rest: &'a [Flat],
+    alloc: Global,
+    entries: &mut E,
+    bits: &mut Bits,
+    level: L,
+    bytes: &[u8],
+    segment: &mut Segment,
+    mantissa: &mut Option<&'a FieldPart>,
+) -> Result<usize, AllocError>
+    requires run { IsRun bytes.now segment.now.bytes.place segment.now.bytes }
+    requires served { AreServed (E.serves entries.now) (list_of rest.now) }
+    requires kept { KeepScalars (E.contents entries.now) }
+    ensures place { OnOk result (segment.old.bytes.place ≤ segment.new.bytes.place) }
+    ensures within { OnOk result (segment.new.bytes.place ≤ length bytes.now) }
+    ensures count { IfOk result (λ n. n ≤ length rest.now) }
+    ensures some { IfOk result (λ n. IsSome mantissa.new → 0 < n) }
+    ensures served { IfOk result (λ n. AreServed (E.serves entries.old) (list_of (drop n rest.now))
+        × IsNextServed (E.serves entries.old) (next_behind mantissa.new)) }
+    ensures takes { IfOk result (λ n. (spare : ℕ) → length rest.now ≤ spare
+        → Takes L.at bytes.now (level_in bytes.now segment.old) (E.contents entries.old) bits.old
+        (front_at rest.now spare 0 None segment.old.bytes.place)
+        (level_of segment.new) (E.contents entries.new) bits.new
+        (front_at rest.now spare n mantissa.new segment.new.bytes.place)) }
+    ensures room { OnOk result (IsTrue (has_room (level_in bytes.now segment.old) bits.old)
+        → IsTrue (has_room (level_of segment.new) bits.new)) }
+    ensures kept { OnOk result (KeepScalars (E.contents entries.new)) }
+    ensures same_keys { E.serves entries.new ≡ E.serves entries.old }
+{
+    let (count, next) = take_all(rest, alloc, entries, bits, level, bytes, segment)?;
+    if !segment.bytes.flush(bytes) {
+        return Err(AllocError);
+    }
+    *mantissa = next;
+    Ok(count)
+}
+
+/// Takes fields from the front of the open body, as many as the quick way serves one after the other.
+#[inline(always)]
 pub(crate) fn take_fields<'a, L: Leveled, E: Entries>(
     alloc: Global,
     entries: &mut E,
@@ -487,15 +527,21 @@ pub(crate) fn take_fields<'a, L: Leveled, E: Entries>(
         });
     }
     segment.bytes.begin(at);
-    let (count, mantissa) = take_all(rest, alloc, entries, bits, level, bytes, segment)?;
-    if segment.bytes.flush(bytes) {
-        Ok(Fields {
-            mantissa,
-            rest: &rest[count..],
-            spare: spare - count as u32,
-            place: segment.bytes.place,
-        })
-    } else {
-        Err(AllocError)
-    }
+    let mut mantissa = None;
+    let count = take_run(
+        rest,
+        alloc,
+        entries,
+        bits,
+        level,
+        bytes,
+        segment,
+        &mut mantissa,
+    )?;
+    Ok(Fields {
+        mantissa,
+        rest: &rest[count..],
+        spare: spare - count as u32,
+        place: segment.bytes.place,
+    })
 }
