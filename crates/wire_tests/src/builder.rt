@@ -111,24 +111,43 @@ fn many_bits(rt: HostRuntime) -> Result<(), WireFault> {
     Ok(())
 }
 
-/// Nine groups of 1, 0, 1, 0, 1, 0, 1, and then 1, 1, 0.
-#[test]
-fn order_of_many_bits(rt: HostRuntime) -> Result<(), WireFault> {
-    let mut map = MapBuilder::new(rt.alloc());
-    for _ in 0..9 {
+// So many groups of 1, 0, 1, 0, 1, 0, 1 have a form, and with 1, 1, 0 behind them another one.
+fn groups_in_order(
+    rt: &impl Abort,
+    alloc: Global,
+    groups: usize,
+    form: &[u8],
+    longer: &[u8],
+) -> Result<(), WireFault> {
+    let mut map = MapBuilder::new(alloc);
+    for _ in 0..groups {
         push_all(&mut map, &[true, false, true, false, true, false, true])?;
     }
-    gives(
-        &rt,
-        rt.alloc(),
-        &map,
-        &[0x55, 0x55, 0x55, 0x55, 0x55, 0x55, 0x55, 0x55, 0xd5],
-    )?;
+    gives(rt, alloc, &map, form)?;
     push_all(&mut map, &[true, true, false])?;
-    gives(
+    gives(rt, alloc, &map, longer)
+}
+
+/// All of them stand in one word.
+#[test]
+fn order_of_eight_groups(rt: HostRuntime) -> Result<(), WireFault> {
+    groups_in_order(
         &rt,
         rt.alloc(),
-        &map,
+        8,
+        &[0x55, 0x55, 0x55, 0x55, 0x55, 0x55, 0x55, 0xd5],
+        &[0x55, 0x55, 0x55, 0x55, 0x55, 0x55, 0x55, 0x55, 0xe0],
+    )
+}
+
+/// The last bits stand behind a word that is full.
+#[test]
+fn order_of_nine_groups(rt: HostRuntime) -> Result<(), WireFault> {
+    groups_in_order(
+        &rt,
+        rt.alloc(),
+        9,
+        &[0x55, 0x55, 0x55, 0x55, 0x55, 0x55, 0x55, 0x55, 0xd5],
         &[0x55, 0x55, 0x55, 0x55, 0x55, 0x55, 0x55, 0x55, 0x55, 0xe0],
     )
 }
