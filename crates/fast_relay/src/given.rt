@@ -1,26 +1,19 @@
 //! Whether a value that was sent is what bit 0 gives too; it then has bit 0 for its best form. ASCII strings in their
-//! shortest form, tails of them, vectors, decimals and NULL are compared here.
+//! shortest form, vectors and NULL are compared here.
 
-ghost use Rattle.std.specs.Prelude.{◌≡◌, ◌≤◌, true, false, length, drop, Option, Some, None, IfSome};
-ghost use Rattle.fast_value.specs.Scalar.{is_of, of_integer};
+ghost use Rattle.std.specs.Prelude.{◌≡◌, true, Some, None};
 ghost use Rattle.fast_value.specs.declared.kind.Kind.TheVariants as kind_type;
-ghost use Rattle.fast_value.specs.declared.kind.Operator.TheVariants as operator_type;
 ghost use Rattle.fast_value.specs.declared.kind.Part.TheVariants as part_type;
 ghost use Rattle.fast_value.specs.declared.kind.Presence.TheVariants as presence_type;
 ghost use Rattle.fast_value.specs.declared.scalar.Scalar.TheVariants.{Ascii};
 ghost use Rattle.fast_wire.specs.Entity.{groups};
-ghost use Rattle.fast_dictionary.specs.declared.entry.Entry.TheVariants as entry_type;
-ghost use Rattle.fast_field.specs.Numbers.{IsFieldNumber};
 ghost use Rattle.fast_field.specs.Passed.{Passes};
 ghost use Rattle.fast_relay.specs.Numbers.{SpellsWhole};
-ghost use Rattle.fast_relay.specs.Relayed.{Drops};
 ghost use Rattle.fast_relay.specs.Texts.{IsText};
 ghost use Rattle.fast_field.specs.Values.{of_units};
 
-use crate::characters::are_characters;
-use crate::cut::find_tail;
 use fast_dictionary::Entry;
-use fast_template::{ByteString, FieldPart, Kind, Operator, Scalar};
+use fast_template::{FieldPart, Kind, Operator, Scalar};
 use fast_wire::is_text_of;
 
 /// Whether bit 0 gives that a field is absent, which leaves the entry as it is.
@@ -70,79 +63,6 @@ pub(crate) fn gives_units(instr: &FieldPart, entry: &Entry, part: &[u8]) -> bool
         },
         Operator::Default => match &instr.initial {
             Some(initial) => is_made_of(instr.kind, initial.value(), part),
-            None => false,
-        },
-        Operator::Plain
-        | Operator::Constant
-        | Operator::Increment
-        | Operator::Delta
-        | Operator::Tail => false,
-    }
-}
-
-/// Drops a tail of the string that the entry has, which ends so already.
-#[inline(always)]
-pub(crate) fn drop_plain_tail(
-    instr: &FieldPart,
-    text: &ByteString,
-    bytes: &[u8],
-    at: usize,
-) -> Option<usize>
-    requires at { at ≤ length bytes.now }
-    requires kind { instr.now.kind ≡ kind_type.Ascii }
-    requires whole { instr.now.part ≡ part_type.Whole }
-    requires operator { instr.now.operator ≡ operator_type.Tail }
-    ensures place { IfSome result (λ next. (at ≤ next) × (next ≤ length bytes.now)) }
-    ensures dropped { IfSome result (λ next. Drops instr.now (entry_type.Assigned (Ascii text.now))
-        (entry_type.Assigned (Ascii text.now)) (Some (Ascii text.now))
-        (drop at bytes.now) (drop next bytes.now)) }
-{
-    let base = text.as_slice();
-    if !are_characters(base) {
-        return None;
-    }
-    let Some((first, next)) = find_tail(instr, base, bytes, at) else {
-        return None;
-    };
-    let form = &bytes[first..next];
-    if is_text_of(&base[base.len() - form.len()..], form) {
-        Some(next)
-    } else {
-        None
-    }
-}
-
-/// Whether both values are one decimal.
-#[inline(always)]
-fn is_same_decimal(kept: &Scalar, value: &Scalar) -> bool
-    ensures { result ≡ true → kept.now ≡ value.now }
-{
-    match (kept, value) {
-        (
-            Scalar::Decimal {
-                exponent: kept_exponent,
-                mantissa: kept_mantissa,
-            },
-            Scalar::Decimal { exponent, mantissa },
-        ) => *kept_exponent == *exponent && *kept_mantissa == *mantissa,
-        _ => false,
-    }
-}
-
-/// Whether bit 0 gives a decimal, which leaves the entry as it is.
-#[inline(always)]
-pub(crate) fn gives_decimal(instr: &FieldPart, entry: &Entry, value: &Scalar) -> bool
-    requires of_kind { is_of instr.now.kind value.now ≡ true }
-    requires whole { instr.now.part ≡ part_type.Whole }
-    ensures { result ≡ true → Passes instr.now entry.now entry.now (Some value.now) }
-{
-    match instr.operator {
-        Operator::Copy => match entry {
-            Entry::Assigned(kept) => is_same_decimal(kept, value),
-            Entry::Undefined | Entry::Empty => false,
-        },
-        Operator::Default => match &instr.initial {
-            Some(initial) => is_same_decimal(initial.value(), value),
             None => false,
         },
         Operator::Plain

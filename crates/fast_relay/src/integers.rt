@@ -102,20 +102,3 @@ pub(crate) fn is_overlong(unsigned: bool, bytes: &[u8], at: usize, next: usize) 
         overlong_signed(form)
     }
 }
-
-/// Whether the bytes of a number with a sign that was read are its shortest form.
-#[inline(always)]
-pub(crate) fn stands_signed(
-    presence: Presence,
-    number: i128,
-    bytes: &[u8],
-    at: usize,
-    next: usize,
-) -> bool
-    requires place { at ≤ next }
-    requires within { next ≤ length bytes.now }
-    requires spelt { Spelt false presence (drop at bytes.now) number (drop next bytes.now) }
-    ensures { result ≡ true → ShortestSigned presence number (slice_range bytes.now at next) }
-{
-    !is_overlong(false, bytes, at, next)
-}

@@ -1,31 +1,18 @@
-//! ASCII strings that stand in their shortest form, as most do: their bytes are noted, to be written as they stand, and
-//! their characters copied into the entry, and no string is made. What is not served here is left to `text`.
+//! Characters of ASCII strings that are put into the entry from the entity that spells them, and what is asked of both. No
+//! string is made.
 
-ghost use Rattle.std.specs.Prelude.{◌≡◌, ◌≤◌, ◌<◌, ◌+◌, ◌-◌, ◌++◌, pos, true, false, length, drop, take, Some, IfNone, IfSome};
+ghost use Rattle.std.specs.Prelude.{◌≡◌, ◌≤◌, ◌<◌, ◌+◌, ◌-◌, ◌++◌, true, false, length, take, Some, IfSome};
 ghost use Rattle.fast_value.specs.declared.kind.Kind.TheVariants as kind_type;
 ghost use Rattle.fast_value.specs.declared.kind.Operator.TheVariants as operator_type;
-ghost use Rattle.fast_value.specs.declared.kind.Part.TheVariants as part_type;
-ghost use Rattle.fast_value.specs.declared.scalar.Scalar.{Scalar as ScalarOf};
 ghost use Rattle.fast_value.specs.declared.scalar.Scalar.TheVariants.{Ascii};
-ghost use Rattle.fast_dictionary.specs.declared.entry.Entry.TheVariants as entry_type;
 ghost use Rattle.fast_wire.specs.Entity.{IsEntity, groups};
 ghost use Rattle.fast_field.specs.Bases.{next_of};
 ghost use Rattle.fast_field.specs.CommonParts.{IsLongestPrefix, IsLongestSuffix};
 ghost use Rattle.fast_relay.specs.Numbers.{SpellsWhole};
 ghost use Rattle.fast_field.specs.Planning.{left_out_of};
-ghost use Rattle.fast_relay.specs.Relayed.{IfElsewhere, IfRelayed, Relays, RelaysAs};
-ghost use Rattle.fast_relay.specs.Runs.{IsRun, Stays, written};
 ghost use Rattle.fast_relay.specs.Texts.{SharesEnd};
-ghost use Rattle.fast_value.specs.Scalar.{IsScalar};
-ghost use Rattle.fast_field.specs.Within.{HoldsScalar};
 
-use crate::characters::find_plain;
 use crate::copied::{FEW, copy_few_over, copy_over};
-use crate::cut::{read_cut, read_tail};
-use crate::given::{drop_plain_tail, gives_text};
-use crate::one_byte::push_removal;
-use crate::relayed::Relayed;
-use crate::run::Run;
 use fast_dictionary::Entry;
 use fast_template::{ByteString, FieldPart, Operator, Scalar};
 use fast_wire::is_text_of;
@@ -168,50 +155,6 @@ pub(crate) fn keep_plain(alloc: Global, operator: Operator, entry: &mut Entry, f
     }
 }
 
-/// Relays a string that is spelled whole.
-#[inline(always)]
-fn relay_plain_whole(
-    alloc: Global,
-    instr: &FieldPart,
-    entry: &mut Entry,
-    bytes: &[u8],
-    at: usize,
-    out: &mut Run,
-) -> Relayed
-    requires run { IsRun bytes.now at out.now }
-    requires part { instr.now.part ≡ part_type.Whole }
-    requires operator { SpellsWhole instr.now.operator }
-    requires kind { instr.now.kind ≡ kind_type.Ascii }
-    ensures place { IfRelayed result (λ bit next. (at ≤ next) × (next ≤ length bytes.now)) }
-    ensures run { IfRelayed result (λ bit next. IsRun bytes.now next out.new) }
-    ensures relayed { IfRelayed result (λ bit next. (v : ScalarOf)
-        × RelaysAs bit instr.now entry.old entry.new v (drop at bytes.now) (drop next bytes.now)
-        (written bytes.now out.old) (written bytes.now out.new)) }
-    ensures entry { IfElsewhere result (entry.new ≡ entry.old) }
-    ensures out { IfElsewhere result (Stays bytes.now at out.old out.new) }
-{
-    let Some((first, next)) = find_plain(bytes, at) else {
-        return Relayed::Elsewhere;
-    };
-    let form = &bytes[first..next];
-    if may_be_left_out(instr, entry, form) {
-        if gives_text(instr, entry, form) && out.flush(bytes) {
-            out.begin(next);
-            return Relayed::Given(next);
-        }
-        return Relayed::Elsewhere;
-    }
-    if !out.ready(bytes, first) {
-        return Relayed::Elsewhere;
-    }
-    if keep_plain(alloc, instr.operator, entry, form) {
-        out.note(first, next);
-        Relayed::Sent(next)
-    } else {
-        Relayed::Elsewhere
-    }
-}
-
 /// Whether the first of the characters that are put behind so many of a text is not the one that is there.
 #[inline(always)]
 fn begins_otherwise(base: &[u8], kept: usize, form: &[u8]) -> bool
@@ -316,184 +259,5 @@ pub(crate) fn replace_string(instr: &FieldPart, entry: &mut Entry, form: &[u8]) 
             true
         }
         _ => false,
-    }
-}
-
-/// Relays a string by a removal of few characters at the end of the one that the entry has, and a new part.
-#[inline(always)]
-fn relay_plain_delta(
-    alloc: Global,
-    instr: &FieldPart,
-    text: &mut ByteString,
-    bytes: &[u8],
-    at: usize,
-    out: &mut Run,
-) -> Option<usize>
-    requires run { IsRun bytes.now at out.now }
-    requires part { instr.now.part ≡ part_type.Whole }
-    requires operator { instr.now.operator ≡ operator_type.Delta }
-    requires kind { instr.now.kind ≡ kind_type.Ascii }
-    requires kept { IsScalar (Ascii text.now) }
-    ensures place { IfSome result (λ next. (at ≤ next) × (next ≤ length bytes.now)) }
-    ensures run { IfSome result (λ next. IsRun bytes.now next out.new) }
-    ensures relayed { IfSome result (λ next. Relays instr.now
-        (entry_type.Assigned (Ascii text.old)) (entry_type.Assigned (Ascii text.new))
-        (Ascii text.new) (drop at bytes.now) (drop next bytes.now)
-        (written bytes.now out.old) (written bytes.now out.new)) }
-    ensures text { IfNone result (text.new ≡ text.old) }
-    ensures out { IfNone result (Stays bytes.now at out.old out.new) }
-{
-    let base = text.as_slice();
-    let Some(cut) = read_cut(instr, base, bytes, at) else {
-        return None;
-    };
-    let form = &bytes[cut.first..cut.next];
-    let kept = base.len() - cut.removed;
-    if !agrees_no_further(base, kept, form) || !is_cut_at_end(base, kept, form) {
-        return None;
-    }
-    if !out.flush(bytes) {
-        return None;
-    }
-    let start = out.out.len();
-    if !push_removal(instr.presence, cut.removed, &mut out.out) {
-        return None;
-    }
-    if put_characters(alloc, text, kept, form) {
-        out.begin(cut.first);
-        out.keep(cut.next);
-        Some(cut.next)
-    } else {
-        out.out.truncate(start);
-        None
-    }
-}
-
-/// Relays a string by a new end of the one that the entry has.
-#[inline(always)]
-fn relay_plain_tail(
-    alloc: Global,
-    instr: &FieldPart,
-    text: &mut ByteString,
-    bytes: &[u8],
-    at: usize,
-    out: &mut Run,
-) -> Option<usize>
-    requires run { IsRun bytes.now at out.now }
-    requires part { instr.now.part ≡ part_type.Whole }
-    requires operator { instr.now.operator ≡ operator_type.Tail }
-    requires kind { instr.now.kind ≡ kind_type.Ascii }
-    requires kept { IsScalar (Ascii text.now) }
-    ensures place { IfSome result (λ next. (at ≤ next) × (next ≤ length bytes.now)) }
-    ensures run { IfSome result (λ next. IsRun bytes.now next out.new) }
-    ensures relayed { IfSome result (λ next. Relays instr.now
-        (entry_type.Assigned (Ascii text.old)) (entry_type.Assigned (Ascii text.new))
-        (Ascii text.new) (drop at bytes.now) (drop next bytes.now)
-        (written bytes.now out.old) (written bytes.now out.new)) }
-    ensures text { IfNone result (text.new ≡ text.old) }
-    ensures out { IfNone result (Stays bytes.now at out.old out.new) }
-{
-    let base = text.as_slice();
-    let Some((first, next)) = read_tail(instr, base, bytes, at) else {
-        return None;
-    };
-    let form = &bytes[first..next];
-    if form.len() > base.len() {
-        return None;
-    }
-    let kept = base.len() - form.len();
-    if !agrees_no_further(base, kept, form) {
-        return None;
-    }
-    if !out.ready(bytes, first) {
-        return None;
-    }
-    if put_characters(alloc, text, kept, form) {
-        out.note(first, next);
-        Some(next)
-    } else {
-        None
-    }
-}
-
-/// Relays a string by a new end of the one that the entry has, or leaves out one that it has already. (A call of its own:
-/// inlined, it makes strings that stand whole and deltas pay for it.)
-#[inline(never)]
-fn relay_either_tail(
-    alloc: Global,
-    instr: &FieldPart,
-    text: &mut ByteString,
-    bytes: &[u8],
-    at: usize,
-    out: &mut Run,
-) -> Relayed
-    requires run { IsRun bytes.now at out.now }
-    requires part { instr.now.part ≡ part_type.Whole }
-    requires operator { instr.now.operator ≡ operator_type.Tail }
-    requires kind { instr.now.kind ≡ kind_type.Ascii }
-    requires kept { IsScalar (Ascii text.now) }
-    ensures place { IfRelayed result (λ bit next. (at ≤ next) × (next ≤ length bytes.now)) }
-    ensures run { IfRelayed result (λ bit next. IsRun bytes.now next out.new) }
-    ensures relayed { IfRelayed result (λ bit next. (v : ScalarOf) × RelaysAs bit instr.now
-        (entry_type.Assigned (Ascii text.old)) (entry_type.Assigned (Ascii text.new)) v
-        (drop at bytes.now) (drop next bytes.now) (written bytes.now out.old) (written bytes.now out.new)) }
-    ensures text { IfElsewhere result (text.new ≡ text.old) }
-    ensures out { IfElsewhere result (Stays bytes.now at out.old out.new) }
-{
-    match relay_plain_tail(alloc, instr, text, bytes, at, out) {
-        Some(next) => Relayed::Sent(next),
-        None => match drop_plain_tail(instr, text, bytes, at) {
-            Some(next) if out.flush(bytes) => {
-                out.begin(next);
-                Relayed::Given(next)
-            }
-            _ => Relayed::Elsewhere,
-        },
-    }
-}
-
-/// Relays a string that stands in its shortest form. (A call of its own: inlined, it makes the
-/// walk over a segment so long that the compiler no longer inlines the rest.)
-#[inline(never)]
-pub(crate) fn relay_plain(
-    alloc: Global,
-    instr: &FieldPart,
-    entry: &mut Entry,
-    bytes: &[u8],
-    at: usize,
-    out: &mut Run,
-) -> Relayed
-    requires run { IsRun bytes.now at out.now }
-    requires part { instr.now.part ≡ part_type.Whole }
-    requires kind { instr.now.kind ≡ kind_type.Ascii }
-    requires kept { HoldsScalar entry.now }
-    ensures place { IfRelayed result (λ bit next. (at ≤ next) × (next ≤ length bytes.now)) }
-    ensures run { IfRelayed result (λ bit next. IsRun bytes.now next out.new) }
-    ensures relayed { IfRelayed result (λ bit next. (v : ScalarOf)
-        × RelaysAs bit instr.now entry.old entry.new v (drop at bytes.now) (drop next bytes.now)
-        (written bytes.now out.old) (written bytes.now out.new)) }
-    ensures entry { IfElsewhere result (entry.new ≡ entry.old) }
-    ensures out { IfElsewhere result (Stays bytes.now at out.old out.new) }
-{
-    match instr.operator {
-        Operator::Plain | Operator::Default | Operator::Copy => {
-            relay_plain_whole(alloc, instr, entry, bytes, at, out)
-        }
-        Operator::Delta => match entry {
-            Entry::Assigned(Scalar::Ascii(text)) => {
-                match relay_plain_delta(alloc, instr, text, bytes, at, out) {
-                    Some(next) => Relayed::Sent(next),
-                    None => Relayed::Elsewhere,
-                }
-            }
-            _ => Relayed::Elsewhere,
-        },
-        Operator::Tail => match entry {
-            Entry::Assigned(Scalar::Ascii(text)) => {
-                relay_either_tail(alloc, instr, text, bytes, at, out)
-            }
-            _ => Relayed::Elsewhere,
-        },
-        Operator::Constant | Operator::Increment => Relayed::Elsewhere,
     }
 }

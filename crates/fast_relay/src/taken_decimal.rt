@@ -1,19 +1,49 @@
 //! Decimals that are read at once into the entry that keeps them, where they are not written again. What is not served
 //! here goes the general way of `read_in_place`.
 
-ghost use Rattle.std.specs.Prelude.{◌≡◌, ◌≤◌, length, drop, IfNone, IfSome};
+ghost use Rattle.std.specs.Prelude.{◌≡◌, ◌≤◌, ◌^◌, ◌+ℤ◌, ◌<ℤ◌, pos, negsuc, length, drop, IfNone, IfSome};
 ghost use Rattle.fast_value.specs.declared.kind.Kind.TheVariants as kind_type;
 ghost use Rattle.fast_value.specs.declared.kind.Operator.TheVariants as operator_type;
 ghost use Rattle.fast_value.specs.declared.kind.Part.TheVariants as part_type;
 ghost use Rattle.fast_value.specs.declared.scalar.Scalar.{Scalar as ScalarOf};
+ghost use Rattle.fast_value.specs.declared.scalar.Scalar.TheVariants as scalar;
 ghost use Rattle.fast_dictionary.specs.declared.entry.Entry.TheVariants as entry_type;
 ghost use Rattle.fast_relay.specs.Relayed.{Takes};
 
-use crate::decimal::{kept_decimal, moved};
 use crate::integers::read_short;
 use fast_dictionary::Entry;
 use fast_field::{exponent_within, mantissa_within};
 use fast_template::{FieldPart, Kind, Operator, Part, Presence, Scalar};
+
+/// The exponent and the mantissa of an entry that is a decimal.
+#[inline(always)]
+fn kept_decimal(entry: &Entry) -> Option<(i128, i128)>
+    ensures kept { IfSome result (λ d. entry.now
+        ≡ entry_type.Assigned (scalar.Decimal d.0 d.1)) }
+    ensures exponent_above { IfSome result (λ d. negsuc (2 ^ 64) <ℤ d.0) }
+    ensures exponent_below { IfSome result (λ d. d.0 <ℤ pos (2 ^ 64)) }
+    ensures mantissa_above { IfSome result (λ d. negsuc (2 ^ 64) <ℤ d.1) }
+    ensures mantissa_below { IfSome result (λ d. d.1 <ℤ pos (2 ^ 64)) }
+{
+    match entry {
+        Entry::Assigned(Scalar::Decimal { exponent, mantissa }) => {
+            Some((i128::from(*exponent), i128::from(*mantissa)))
+        }
+        Entry::Assigned(_) | Entry::Undefined | Entry::Empty => None,
+    }
+}
+
+/// The sum of a part and its difference.
+#[inline(always)]
+fn moved(kept: i128, delta: i128) -> i128
+    requires kept_above { negsuc (2 ^ 64) <ℤ kept }
+    requires kept_below { kept <ℤ pos (2 ^ 64) }
+    requires above { negsuc (2 ^ 64) <ℤ delta }
+    requires below { delta <ℤ pos (2 ^ 64) }
+    ensures { result ≡ kept +ℤ delta }
+{
+    kept + delta
+}
 
 /// Takes a decimal that is spelled whole.
 #[inline(always)]

@@ -1,35 +1,24 @@
-//! Unicode strings and byte vectors, whose bytes stand behind their length: they are copied from the bytes that were
-//! read, once to what is written and once into the entry, and no value is made. What is not served here is left to `text`.
+//! Unicode strings and byte vectors, whose bytes stand behind their length: they are copied from the bytes that were read
+//! into the entry, and what is asked of both.
 
 ghost use Rattle.std.specs.Prelude.{◌≡◌, ◌≤◌, ◌<◌, ◌+◌, ◌++◌, ℕ, List, Ok, pos, true, false, length, drop, slice_range, take, Some, IfNone, IfSome, IsTrue, IsUtf8, IsCharBoundary};
-ghost use Rattle.std.specs.List.{AllByRecursion};
 ghost use Rattle.fast_wire.specs.declared.level.Level.TheVariants.{Usual};
 ghost use Rattle.fast_wire.specs.declared.nullable.Nullable.TheVariants.{Value};
-ghost use Rattle.fast_value.specs.Scalar.{is_of};
 ghost use Rattle.fast_value.specs.declared.kind.Kind.TheVariants as kind_type;
 ghost use Rattle.fast_value.specs.declared.kind.Operator.TheVariants as operator_type;
-ghost use Rattle.fast_value.specs.declared.kind.Part.TheVariants as part_type;
-ghost use Rattle.fast_value.specs.declared.kind.Presence.TheVariants.{Mandatory, Optional};
-ghost use Rattle.fast_value.specs.declared.scalar.Scalar.{Scalar as ScalarOf};
-ghost use Rattle.fast_dictionary.specs.declared.entry.Entry.TheVariants as entry_type;
 ghost use Rattle.fast_field.specs.Bases.{next_of};
-ghost use Rattle.fast_field.specs.Chosen.{Both, IsSmall, ShortestPart, ShortestSigned, ShortestUnits};
 ghost use Rattle.fast_field.specs.CommonParts.{IsLongestPrefix, IsLongestSuffix};
 ghost use Rattle.fast_field.specs.FieldReading.{units_at};
 ghost use Rattle.fast_field.specs.Planning.{left_out_of};
 ghost use Rattle.fast_field.specs.Values.{of_units, units_of};
 ghost use Rattle.fast_relay.specs.Numbers.{SpellsWhole};
-ghost use Rattle.fast_relay.specs.Relayed.{IfElsewhere, IfRelayed, Relays, RelaysAs};
 ghost use Rattle.fast_relay.specs.Texts.{IsText, IsVectorKind, SharesEnd};
 
-use crate::characters::{are_few, is_text};
-use crate::cut::few_removed;
-use crate::given::gives_units;
+use crate::characters::are_few;
 use crate::integers::read_short;
-use crate::relayed::Relayed;
 use crate::utf8::is_utf8;
 use fast_dictionary::Entry;
-use fast_field::{units, write_signed, write_units};
+use fast_field::units;
 use fast_template::{ByteString, FieldPart, Kind, Operator, Presence, Scalar, UnicodeText};
 use fast_value::UNIT_LIMIT;
 use std::alloc::Global;
@@ -82,46 +71,6 @@ pub(crate) fn are_text(kind: Kind, units: &[u8]) -> bool
     match kind {
         Kind::Unicode => are_few(units) && is_utf8(units),
         _ => are_few(units),
-    }
-}
-
-/// Whether a byte is the shortest form of a length, in the form of a presence.
-#[inline(always)]
-fn is_length(presence: Presence, byte: u8, length: usize) -> bool
-    ensures mandatory { result ≡ true → presence ≡ Mandatory → byte ≡ 128 + length }
-    ensures optional { result ≡ true → presence ≡ Optional → byte ≡ 129 + length }
-    ensures byte { byte < 256 }
-{
-    match presence {
-        Presence::Mandatory => usize::from(byte) >= 128 && usize::from(byte) - 128 == length,
-        Presence::Optional => usize::from(byte) >= 129 && usize::from(byte) - 129 == length,
-    }
-}
-
-/// Appends the shortest form of a string or vector that was read: its bytes as they stand, where their length has one
-/// byte, as it mostly has. Answers false, and appends nothing, where memory is refused.
-#[inline(always)]
-fn copy_units(
-    kind: Kind,
-    presence: Presence,
-    bytes: &[u8],
-    at: usize,
-    start: usize,
-    next: usize,
-    out: &mut Vec<u8>,
-) -> bool
-    requires start { start ≤ next }
-    requires end { next ≤ length bytes.now }
-    requires kind { IsVectorKind kind }
-    requires text { IsText kind (of_units kind (slice_range bytes.now start next)) }
-    ensures copied { result ≡ true → (b : List ℕ) × (out.new.items ≡ out.old.items ++ b)
-        × ShortestUnits kind presence (slice_range bytes.now start next) b }
-    ensures unchanged { result ≡ false → out.new.items ≡ out.old.items }
-{
-    if at < start && start - at == 1 && is_length(presence, bytes[at], next - start) {
-        out.extend_from_slice(&bytes[at..next]).is_ok()
-    } else {
-        write_units(kind, presence, &bytes[start..next], out).is_ok()
     }
 }
 
@@ -262,52 +211,6 @@ pub(crate) fn keep_bytes(
     }
 }
 
-/// Relays a string or vector that is spelled whole.
-#[inline(always)]
-fn relay_vector_whole(
-    alloc: Global,
-    instr: &FieldPart,
-    entry: &mut Entry,
-    bytes: &[u8],
-    at: usize,
-    out: &mut Vec<u8>,
-) -> Relayed
-    requires at { at ≤ length bytes.now }
-    requires part { instr.now.part ≡ part_type.Whole }
-    requires operator { SpellsWhole instr.now.operator }
-    requires kind { IsVectorKind instr.now.kind }
-    ensures place { IfRelayed result (λ bit next. (at ≤ next) × (next ≤ length bytes.now)) }
-    ensures relayed { IfRelayed result (λ bit next. (v : ScalarOf)
-        × RelaysAs bit instr.now entry.old entry.new v (drop at bytes.now) (drop next bytes.now)
-        out.old.items out.new.items) }
-    ensures entry { IfElsewhere result (entry.new ≡ entry.old) }
-    ensures out { IfElsewhere result (out.new.items ≡ out.old.items) }
-{
-    let Some((start, next)) = find_bytes(instr.kind, instr.presence, bytes, at) else {
-        return Relayed::Elsewhere;
-    };
-    let part = &bytes[start..next];
-    if !are_text(instr.kind, part) {
-        return Relayed::Elsewhere;
-    }
-    if may_be_left_out(instr, entry, part) {
-        if gives_units(instr, entry, part) {
-            return Relayed::Given(next);
-        }
-        return Relayed::Elsewhere;
-    }
-    let begin = out.len();
-    if !copy_units(instr.kind, instr.presence, bytes, at, start, next, out) {
-        return Relayed::Elsewhere;
-    }
-    if keep_bytes(alloc, instr.kind, instr.operator, entry, part) {
-        Relayed::Sent(next)
-    } else {
-        out.truncate(begin);
-        Relayed::Elsewhere
-    }
-}
-
 /// Whether bytes put behind so many units of a base have some, and the base does not go on as they do.
 #[inline(always)]
 pub(crate) fn goes_on_otherwise(base: &[u8], kept: usize, part: &[u8]) -> bool
@@ -365,261 +268,5 @@ pub(crate) fn may_end(kind: Kind, base: &[u8], kept: usize) -> bool
     match kind {
         Kind::Unicode => kept == base.len() || base[kept] < 128 || base[kept] >= 192,
         _ => true,
-    }
-}
-
-/// Relays a string or vector by a new end of the one that the entry has.
-#[inline(always)]
-fn relay_vector_tail(
-    alloc: Global,
-    instr: &FieldPart,
-    value: &mut Scalar,
-    bytes: &[u8],
-    at: usize,
-    out: &mut Vec<u8>,
-) -> Option<usize>
-    requires at { at ≤ length bytes.now }
-    requires part { instr.now.part ≡ part_type.Whole }
-    requires operator { instr.now.operator ≡ operator_type.Tail }
-    requires kind { IsVectorKind instr.now.kind }
-    ensures place { IfSome result (λ next. (at ≤ next) × (next ≤ length bytes.now)) }
-    ensures relayed { IfSome result (λ next. Relays instr.now (entry_type.Assigned value.old)
-        (entry_type.Assigned value.new) value.new (drop at bytes.now) (drop next bytes.now)
-        out.old.items out.new.items) }
-    ensures value { IfNone result (value.new ≡ value.old) }
-    ensures out { IfNone result (out.new.items ≡ out.old.items) }
-{
-    let Some((start, next)) = find_bytes(instr.kind, instr.presence, bytes, at) else {
-        return None;
-    };
-    if !is_text(instr.kind, value) {
-        return None;
-    }
-    let part = &bytes[start..next];
-    let base = units(value);
-    if part.len() > base.len() {
-        return None;
-    }
-    let kept = base.len() - part.len();
-    if !goes_on_otherwise(base, kept, part) {
-        return None;
-    }
-    if !are_text(instr.kind, part) || !may_end(instr.kind, base, kept) {
-        return None;
-    }
-    let begin = out.len();
-    if !copy_units(instr.kind, instr.presence, bytes, at, start, next, out) {
-        return None;
-    }
-    if put_units(alloc, instr.kind, value, kept, part) {
-        Some(next)
-    } else {
-        out.truncate(begin);
-        None
-    }
-}
-
-/// Relays a string or vector by a new end of an empty entry: it is the whole value.
-#[inline(always)]
-fn relay_vector_first(
-    alloc: Global,
-    instr: &FieldPart,
-    entry: &mut Entry,
-    bytes: &[u8],
-    at: usize,
-    out: &mut Vec<u8>,
-) -> Option<usize>
-    requires at { at ≤ length bytes.now }
-    requires entry { entry.now ≡ entry_type.Empty }
-    requires part { instr.now.part ≡ part_type.Whole }
-    requires operator { instr.now.operator ≡ operator_type.Tail }
-    requires kind { IsVectorKind instr.now.kind }
-    ensures place { IfSome result (λ next. (at ≤ next) × (next ≤ length bytes.now)) }
-    ensures relayed { IfSome result (λ next. (v : ScalarOf)
-        × Relays instr.now entry.old entry.new v (drop at bytes.now) (drop next bytes.now)
-        out.old.items out.new.items) }
-    ensures entry { IfNone result (entry.new ≡ entry.old) }
-    ensures out { IfNone result (out.new.items ≡ out.old.items) }
-{
-    let None = &instr.initial else {
-        return None;
-    };
-    let Some((start, next)) = find_bytes(instr.kind, instr.presence, bytes, at) else {
-        return None;
-    };
-    let part = &bytes[start..next];
-    if part.is_empty() || !are_text(instr.kind, part) {
-        return None;
-    }
-    let Some(value) = make_units(alloc, instr.kind, part) else {
-        return None;
-    };
-    if copy_units(instr.kind, instr.presence, bytes, at, start, next, out) {
-        *entry = Entry::Assigned(value);
-        Some(next)
-    } else {
-        None
-    }
-}
-
-/// Appends a subtraction length and a new part that was read; or answers false, and appends nothing.
-#[inline(always)]
-fn write_removal(
-    instr: &FieldPart,
-    removal: i128,
-    bytes: &[u8],
-    at: usize,
-    start: usize,
-    next: usize,
-    out: &mut Vec<u8>,
-) -> bool
-    requires small { IsSmall removal }
-    requires start { start ≤ next }
-    requires end { next ≤ length bytes.now }
-    requires kind { IsVectorKind instr.now.kind }
-    requires text { IsText instr.now.kind
-        (of_units instr.now.kind (slice_range bytes.now start next)) }
-    ensures written { result ≡ true → (b : List ℕ) × (out.new.items ≡ out.old.items ++ b)
-        × Both (ShortestSigned instr.now.presence removal)
-        (ShortestPart instr.now.kind (slice_range bytes.now start next)) b }
-    ensures unchanged { result ≡ false → out.new.items ≡ out.old.items }
-{
-    let begin = out.len();
-    match write_signed(instr.presence, removal, out) {
-        Err(_) => false,
-        Ok(()) => {
-            if copy_units(instr.kind, Presence::Mandatory, bytes, at, start, next, out) {
-                true
-            } else {
-                out.truncate(begin);
-                false
-            }
-        }
-    }
-}
-
-/// Relays a string or vector by a removal of few bytes at the end of the one that the entry has, and a new part.
-#[inline(always)]
-fn relay_vector_delta(
-    alloc: Global,
-    instr: &FieldPart,
-    value: &mut Scalar,
-    bytes: &[u8],
-    at: usize,
-    out: &mut Vec<u8>,
-) -> Option<usize>
-    requires at { at ≤ length bytes.now }
-    requires part { instr.now.part ≡ part_type.Whole }
-    requires operator { instr.now.operator ≡ operator_type.Delta }
-    requires kind { IsVectorKind instr.now.kind }
-    ensures place { IfSome result (λ next. (at ≤ next) × (next ≤ length bytes.now)) }
-    ensures relayed { IfSome result (λ next. Relays instr.now (entry_type.Assigned value.old)
-        (entry_type.Assigned value.new) value.new (drop at bytes.now) (drop next bytes.now)
-        out.old.items out.new.items) }
-    ensures value { IfNone result (value.new ≡ value.old) }
-    ensures out { IfNone result (out.new.items ≡ out.old.items) }
-{
-    let Some((removal, middle)) = read_short(false, instr.presence, bytes, at) else {
-        return None;
-    };
-    let Some(removed) = few_removed(removal) else {
-        return None;
-    };
-    let Some((start, next)) = find_bytes(instr.kind, Presence::Mandatory, bytes, middle) else {
-        return None;
-    };
-    if !is_text(instr.kind, value) {
-        return None;
-    }
-    let part = &bytes[start..next];
-    let base = units(value);
-    if removed > base.len() {
-        return None;
-    }
-    let kept = base.len() - removed;
-    if !goes_on_otherwise(base, kept, part) || !is_cut_at_end(base, kept, part) {
-        return None;
-    }
-    if !are_text(instr.kind, part) || !may_end(instr.kind, base, kept) {
-        return None;
-    }
-    if part.len() > UNIT_LIMIT - kept {
-        return None;
-    }
-    let begin = out.len();
-    if !write_removal(instr, removal, bytes, middle, start, next, out) {
-        return None;
-    }
-    if put_units(alloc, instr.kind, value, kept, part) {
-        Some(next)
-    } else {
-        out.truncate(begin);
-        None
-    }
-}
-
-/// Relays a vector by its difference from the one that the entry has, or by a new end of it.
-#[inline(always)]
-fn relay_vector_on(
-    alloc: Global,
-    instr: &FieldPart,
-    entry: &mut Entry,
-    bytes: &[u8],
-    at: usize,
-    out: &mut Vec<u8>,
-) -> Option<usize>
-    requires at { at ≤ length bytes.now }
-    requires part { instr.now.part ≡ part_type.Whole }
-    requires kind { IsVectorKind instr.now.kind }
-    ensures place { IfSome result (λ next. (at ≤ next) × (next ≤ length bytes.now)) }
-    ensures relayed { IfSome result (λ next. (v : ScalarOf)
-        × Relays instr.now entry.old entry.new v (drop at bytes.now) (drop next bytes.now)
-        out.old.items out.new.items) }
-    ensures entry { IfNone result (entry.new ≡ entry.old) }
-    ensures out { IfNone result (out.new.items ≡ out.old.items) }
-{
-    match instr.operator {
-        Operator::Delta => match entry {
-            Entry::Assigned(value) => relay_vector_delta(alloc, instr, value, bytes, at, out),
-            _ => None,
-        },
-        Operator::Tail => match entry {
-            Entry::Assigned(value) => relay_vector_tail(alloc, instr, value, bytes, at, out),
-            Entry::Empty => relay_vector_first(alloc, instr, entry, bytes, at, out),
-            Entry::Undefined => None,
-        },
-        _ => None,
-    }
-}
-
-/// Relays a string or vector whose bytes stand behind their length. Elsewhere: nothing has changed. (A call of its own, as
-/// `relay_plain`.)
-#[inline(never)]
-pub(crate) fn relay_vector(
-    alloc: Global,
-    instr: &FieldPart,
-    entry: &mut Entry,
-    bytes: &[u8],
-    at: usize,
-    out: &mut Vec<u8>,
-) -> Relayed
-    requires at { at ≤ length bytes.now }
-    requires part { instr.now.part ≡ part_type.Whole }
-    requires kind { IsVectorKind instr.now.kind }
-    ensures place { IfRelayed result (λ bit next. (at ≤ next) × (next ≤ length bytes.now)) }
-    ensures relayed { IfRelayed result (λ bit next. (v : ScalarOf)
-        × RelaysAs bit instr.now entry.old entry.new v (drop at bytes.now) (drop next bytes.now)
-        out.old.items out.new.items) }
-    ensures entry { IfElsewhere result (entry.new ≡ entry.old) }
-    ensures out { IfElsewhere result (out.new.items ≡ out.old.items) }
-{
-    match instr.operator {
-        Operator::Plain | Operator::Default | Operator::Copy => {
-            relay_vector_whole(alloc, instr, entry, bytes, at, out)
-        }
-        _ => match relay_vector_on(alloc, instr, entry, bytes, at, out) {
-            Some(next) => Relayed::Sent(next),
-            None => Relayed::Elsewhere,
-        },
     }
 }

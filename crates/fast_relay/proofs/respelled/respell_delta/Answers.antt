@@ -3,7 +3,7 @@ use Rattle.std.proofs.Math.Seq.{take-append_seam}
 use Rattle.fast_relay.specs.Runs.{written}
 use Rattle.fast_relay.proofs.PlainTexts.{characters_text, plain_delta_relays}
 use Rattle.fast_relay.proofs.Runs.{begun, flushed, none_noted}
-use Rattle.fast_relay.proofs.plain.relay_plain_delta.Goals as goal
+use Rattle.fast_relay.proofs.respelled.respell_delta.Goals as goal
 
 pub returns-then-put_characters-clause-run : goal.returns-then-put_characters-clause-run
 returns-then-put_characters-clause-run c =

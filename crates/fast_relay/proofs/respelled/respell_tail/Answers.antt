@@ -1,7 +1,7 @@
 use Rattle.std.proofs.Common.{ℕ, List, ◌∙◌, ◌++◌, ◌-◌, length, slice_range, drop, ap, arith}
 use Rattle.fast_relay.specs.Runs.{written}
 use Rattle.fast_relay.proofs.PlainTexts.{characters_text, plain_tail_relays}
-use Rattle.fast_relay.proofs.plain.relay_plain_tail.Goals as goal
+use Rattle.fast_relay.proofs.respelled.respell_tail.Goals as goal
 
 pub returns-then-put_characters-clause-relayed : goal.returns-then-put_characters-clause-relayed
 returns-then-put_characters-clause-relayed c =
