@@ -19,15 +19,15 @@ use std::alloc::{AllocError, Global};
 use std::process::Abort;
 
 // What the bytes behind the first are judged to be, and the entry afterwards.
-struct Row {
-    part: Part,
-    kind: Kind,
-    presence: Presence,
-    operator: Operator,
-    before: Kept,
-    bytes: &'static [u8],
-    judged: Judged,
-    after: Kept,
+pub(crate) struct Row {
+    pub(crate) part: Part,
+    pub(crate) kind: Kind,
+    pub(crate) presence: Presence,
+    pub(crate) operator: Operator,
+    pub(crate) before: Kept,
+    pub(crate) bytes: &'static [u8],
+    pub(crate) judged: Judged,
+    pub(crate) after: Kept,
 }
 
 // Whether there are not too many bytes.
@@ -125,7 +125,7 @@ fn is_judged(rt: &impl Abort, alloc: Global, row: &Row) -> Result<(), AllocError
     Ok(())
 }
 
-fn all_judged(rt: &impl Abort, alloc: Global, rows: &[Row]) -> Result<(), AllocError> {
+pub(crate) fn all_judged(rt: &impl Abort, alloc: Global, rows: &[Row]) -> Result<(), AllocError> {
     for row in rows {
         is_judged(rt, alloc, row)?;
     }

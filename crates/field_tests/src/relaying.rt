@@ -8,7 +8,7 @@ use crate::fields::{Kept, Shape};
 use crate::judged::holds_scalar;
 use crate::same::same;
 use fast_dictionary::Entry;
-use fast_relay::{Relayed as Told, Run, relay_decimal, relay_null, relay_text};
+use fast_relay::{Relayed as Told, Run, relay_null, respell_text};
 use fast_template::FieldPart;
 use std::alloc::{AllocError, Global};
 use std::process::Abort;
@@ -48,7 +48,6 @@ struct Answer {
 // The call of a row.
 #[derive(Clone, Copy)]
 pub(crate) enum Call {
-    Decimal,
     Null,
     Text,
 }
@@ -69,9 +68,11 @@ fn told_by(
     ensures place { run.new.place ≤ length bytes.now }
 {
     match call {
-        Call::Decimal => relay_decimal(instr, entry, bytes, at, run),
         Call::Null => relay_null(instr, entry, bytes, at, run),
-        Call::Text => relay_text(alloc, instr, entry, bytes, at, run),
+        Call::Text => match respell_text(alloc, instr, entry, bytes, at, run) {
+            Some(next) => Told::Sent(next),
+            None => Told::Elsewhere,
+        },
     }
 }
 

@@ -1,4 +1,4 @@
-//! Rows on strings and vectors that are relayed at once.
+//! Rows on ASCII strings that are relayed at once.
 
 use crate::fields::{Kept, Shape, Value};
 use crate::relaying::{Call, NotRelayed, Relayed, all_relayed, none_relayed};
@@ -8,46 +8,7 @@ use std::alloc::AllocError;
 #[test]
 fn texts_that_are_relayed(rt: HostRuntime) -> Result<(), AllocError> {
     const RELAYED: &[Relayed] = &[
-        // copies of texts are relayed
-        Relayed {
-            of: Shape::Mandatory(Kind::Ascii, Operator::Copy),
-            before: Kept::Assigned(Value::Ascii(b"AB")),
-            bytes: &[0, 0x43, 0xc4],
-            appended: &[0x43, 0xc4],
-            after: Kept::Assigned(Value::Ascii(b"CD")),
-        },
-        // a preamble is not sent on
-        Relayed {
-            of: Shape::Mandatory(Kind::Ascii, Operator::Copy),
-            before: Kept::Assigned(Value::Ascii(b"AB")),
-            bytes: &[0, 0x00, 0x43, 0xc4],
-            appended: &[0x43, 0xc4],
-            after: Kept::Assigned(Value::Ascii(b"CD")),
-        },
-        // optional copies of texts are relayed
-        Relayed {
-            of: Shape::Optional(Kind::Ascii, Operator::Copy),
-            before: Kept::Assigned(Value::Ascii(b"AB")),
-            bytes: &[0, 0x00, 0x80],
-            appended: &[0x00, 0x80],
-            after: Kept::Assigned(Value::Ascii(b"")),
-        },
-        Relayed {
-            of: Shape::Optional(Kind::Ascii, Operator::Copy),
-            before: Kept::Empty,
-            bytes: &[0, 0x43, 0xc4],
-            appended: &[0x43, 0xc4],
-            after: Kept::Assigned(Value::Ascii(b"CD")),
-        },
-        // defaults of texts leave their entries
-        Relayed {
-            of: Shape::Optional(Kind::Ascii, Operator::Default),
-            before: Kept::Assigned(Value::Ascii(b"AB")),
-            bytes: &[0, 0x43, 0xc4],
-            appended: &[0x43, 0xc4],
-            after: Kept::Assigned(Value::Ascii(b"AB")),
-        },
-        // deltas of texts are relayed
+        // deltas
         Relayed {
             of: Shape::Mandatory(Kind::Ascii, Operator::Delta),
             before: Kept::Assigned(Value::Ascii(b"ESM6")),
@@ -63,14 +24,7 @@ fn texts_that_are_relayed(rt: HostRuntime) -> Result<(), AllocError> {
             appended: &[0x82, 0x32, 0xb2],
             after: Kept::Assigned(Value::Ascii(b"0022")),
         },
-        // the same end: removed in front are fewer
-        Relayed {
-            of: Shape::Mandatory(Kind::Ascii, Operator::Delta),
-            before: Kept::Assigned(Value::Ascii(b"0012")),
-            bytes: &[0, 0x84, 0x31, 0x30, 0x31, 0xb2],
-            appended: &[0xfe, 0xb1],
-            after: Kept::Assigned(Value::Ascii(b"1012")),
-        },
+        // one more is removed than need be
         Relayed {
             of: Shape::Mandatory(Kind::Ascii, Operator::Delta),
             before: Kept::Assigned(Value::Ascii(b"ESM6")),
@@ -78,7 +32,7 @@ fn texts_that_are_relayed(rt: HostRuntime) -> Result<(), AllocError> {
             appended: &[0x81, 0xb7],
             after: Kept::Assigned(Value::Ascii(b"ESM7")),
         },
-        // two more are removed than need be, behind an overlong removal, and a preamble stands in front of the part
+        // two more, behind an overlong removal, and a preamble stands in front of the part
         Relayed {
             of: Shape::Mandatory(Kind::Ascii, Operator::Delta),
             before: Kept::Assigned(Value::Ascii(b"ESM6")),
@@ -86,7 +40,7 @@ fn texts_that_are_relayed(rt: HostRuntime) -> Result<(), AllocError> {
             appended: &[0x81, 0xb7],
             after: Kept::Assigned(Value::Ascii(b"ESM7")),
         },
-        // tails of texts are relayed
+        // tails
         Relayed {
             of: Shape::Mandatory(Kind::Ascii, Operator::Tail),
             before: Kept::Assigned(Value::Ascii(b"xab")),
@@ -103,23 +57,51 @@ fn texts_that_are_relayed(rt: HostRuntime) -> Result<(), AllocError> {
         },
     ];
     const OTHERS: &[NotRelayed] = &[
-        // copies of texts are relayed
+        // the rest goes the general way
+        // removed in front are fewer
         NotRelayed {
-            of: Shape::Mandatory(Kind::Ascii, Operator::Copy),
-            before: Kept::Assigned(Value::Ascii(b"AB")),
-            bytes: &[0, 0x41],
+            of: Shape::Mandatory(Kind::Ascii, Operator::Delta),
+            before: Kept::Assigned(Value::Ascii(b"0012")),
+            bytes: &[0, 0x84, 0x31, 0x30, 0x31, 0xb2],
         },
-        // optional copies of texts are relayed
+        // more is removed than there is
+        NotRelayed {
+            of: Shape::Mandatory(Kind::Ascii, Operator::Delta),
+            before: Kept::Assigned(Value::Ascii(b"ESM6")),
+            bytes: &[0, 0x85, 0xb7],
+        },
+        // a tail that bit 0 gives
+        NotRelayed {
+            of: Shape::Mandatory(Kind::Ascii, Operator::Tail),
+            before: Kept::Assigned(Value::Ascii(b"xab")),
+            bytes: &[0, 0xe2],
+        },
+        // what is spelled whole: an empty string, NULL, and one with no stop bit
+        NotRelayed {
+            of: Shape::Optional(Kind::Ascii, Operator::Copy),
+            before: Kept::Assigned(Value::Ascii(b"AB")),
+            bytes: &[0, 0x00, 0x80],
+        },
         NotRelayed {
             of: Shape::Optional(Kind::Ascii, Operator::Copy),
             before: Kept::Assigned(Value::Ascii(b"AB")),
             bytes: &[0, 0x80],
         },
-        // deltas of texts are relayed
         NotRelayed {
-            of: Shape::Mandatory(Kind::Ascii, Operator::Delta),
-            before: Kept::Assigned(Value::Ascii(b"ESM6")),
-            bytes: &[0, 0x85, 0xb7],
+            of: Shape::Mandatory(Kind::Ascii, Operator::Copy),
+            before: Kept::Assigned(Value::Ascii(b"AB")),
+            bytes: &[0, 0x41],
+        },
+        // Unicode strings and byte vectors
+        NotRelayed {
+            of: Shape::Mandatory(Kind::Unicode, Operator::Tail),
+            before: Kept::Assigned(Value::Unicode("üab")),
+            bytes: &[0, 0x82, 0x61, 0x63],
+        },
+        NotRelayed {
+            of: Shape::Mandatory(Kind::Bytes, Operator::Delta),
+            before: Kept::Assigned(Value::Bytes(b"ESM6")),
+            bytes: &[0, 0x84, 0x84, 0x58, 0x53, 0x4d, 0x36],
         },
     ];
     all_relayed(&rt, rt.alloc(), Call::Text, RELAYED)?;
