@@ -43,11 +43,6 @@ use Rattle.fast_relay.proofs.Giving.{drops}
 use Rattle.fast_relay.proofs.TextRelaying.{whole_within}
 use Rattle.fast_relay.proofs.Relaying.{added_back, base_is, delta_out, delta_row, relays, whole_row}
 
--- a number of 64 bits can be sent
-pub small : (z : ℤ) → negsuc (2 ^ 64) <ℤ z → z <ℤ pos (2 ^ 64) → IsSmall z
-small (pos n) above below = omega (arith, ints, below)
-small (negsuc n) above below = omega (arith, ints, above)
-
 -- numbers of 64 bits, and their sums, are far from the ends of a long type
 pub fits_long : (z : ℤ) → negsuc (2 ^ 64) <ℤ z → z <ℤ pos (2 ^ 64) → FitsSigned w128 z
 fits_long z above below = omega (arith, ints, above, below)
@@ -163,10 +158,3 @@ decimal_whole_relays i old new x m bytes mid rest before after k p o exponent ne
 
 pub decimal_of : (i : FieldPart) (x m : ℤ) → i.kind ≡ kind.Decimal → is_of i.kind (Decimal x m) ≡ true
 decimal_of i x m k = rw k refl
-
--- where bit 0 gives it
-pub decimal_whole_drops : (i : FieldPart) (e : Entry) (x m : ℤ) (bytes mid rest : List ℕ) → i.kind ≡ kind.Decimal → i.part ≡ part.Whole → SpellsWhole i.operator → Spelt false i.presence bytes x mid → exponent_in_range x ≡ true → Spelt false Mandatory mid m rest → in_range kind.Int64 m ≡ true
-    → Passes i e e (Some (Decimal x m)) → Drops i e e (Some (Decimal x m)) bytes rest
-decimal_whole_drops i e x m bytes mid rest k p o exponent near mantissa fits passes =
-    let v = Decimal x m in
-    drops i e e (Some v) bytes rest (whole_within i.part v p) (whole_row i.operator i e bytes o ∙ whole_read i x m bytes mid rest k exponent near mantissa fits) passes

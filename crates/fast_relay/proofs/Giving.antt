@@ -106,11 +106,6 @@ copied_units i e v w o whole t is same = subst (λ (x : Entry). Passes i x x (So
 pub initial_units : (i : FieldPart) (e : Entry) (v w : Scalar) → i.operator ≡ operator.Default → i.part ≡ part.Whole → i.initial ≡ Some v → v ≡ w → Passes i e e (Some w)
 initial_units i e v w o whole initial same = initial_given i e w o (initial ∙ ap (λ (x : Scalar). Some x) same) (whole_within i.part w whole)
 
-pub copied_value : (i : FieldPart) (e : Entry) (v w : Scalar) → i.operator ≡ operator.Copy → i.part ≡ part.Whole → is_of i.kind w ≡ true → e ≡ Assigned v → v ≡ w → Passes i e e (Some w)
-copied_value i e v w o whole t is same =
-    let kept : Passes i (Assigned v) (Assigned v) (Some w) = subst (λ (x : Scalar). Passes i (Assigned x) (Assigned x) (Some w)) (sym same) (kept_given i w (rw o tt) t (whole_within i.part w whole)) in
-    subst (λ (x : Entry). Passes i x x (Some w)) (sym is) kept
-
 pub units_drop : (i : FieldPart) (e : Entry) (bytes rest : List ℕ) (w : Scalar) → i.part ≡ part.Whole → SpellsWhole i.operator → IsText i.kind w → units_spelled_at Usual i.kind i.presence bytes ≡ Ok (Some w, rest) → Passes i e e (Some w)
     → IsTrue (is_of i.kind w) × Drops i e e (Some w) bytes rest
 units_drop i e bytes rest w whole o t read p = (

@@ -49,16 +49,6 @@ module _ (bytes : List ℕ) (at n : ℕ) (fits : (k : ℕ) → get_or bytes k 0 
   unsigned_stands p is =
       stands_at true p bytes at (at + 1) (pos n) (bytes_from bytes at fits) (omega arith) (omega arith) (spelt_unsigned p is) (single true)
 
-few_byte : (p : Presence) (n : ℕ) → n < 63 → (k : ℕ) → get_or ((zero_byte p + n) ∷ []) k 0 < 256
-few_byte Mandatory n few zero = omega (arith, few)
-few_byte Optional n few zero = omega (arith, few)
-few_byte p n few (suc k) = omega arith
-
-pub removal_byte : (p : Presence) (n : ℕ) → n < 63 → ShortestSigned p (pos n) ((zero_byte p + n) ∷ [])
-removal_byte p n few =
-    let s = signed_stands ((zero_byte p + n) ∷ []) 0 n (few_byte p n few) (omega arith) p few refl in
-    shortest_signed p (pos n) ((zero_byte p + n) ∷ []) s.form s.short
-
 -- the byte of 0 has room above it
 pub zero_low : (p : Presence) → zero_byte p ≤ 129
 zero_low Mandatory = omega arith

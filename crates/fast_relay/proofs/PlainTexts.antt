@@ -124,23 +124,8 @@ some_size Optional z = groups_from-positive 9 64 (magnitude (sent_signed (Value 
 pub behind_kept : (base part : List ℕ) (n : ℕ) → n ≤ length base → drop n (take n base ++ part) ≡ part
 behind_kept base part n h = let long = length-take-le n base h in subst (λ m. drop m (take n base ++ part) ≡ part) long (drop-append_seam (take n base) part)
 
-in_front_kept : (base part : List ℕ) (n : ℕ) → n ≤ length base → take n (take n base ++ part) ≡ take n base
-in_front_kept base part n h = let long = length-take-le n base h in subst (λ m. take m (take n base ++ part) ≡ take n base) long (take-append_seam (take n base) part)
-
 part_at_kept : (base part : List ℕ) (n i : ℕ) → n ≤ length base → get_or (take n base ++ part) (n + i) 0 ≡ get_or part i 0
 part_at_kept base part n i h = let long = length-take-le n base h in subst (λ m. get_or (take n base ++ part) (m + i) 0 ≡ get_or part i 0) long (get_or-append-add (take n base) part i 0)
-
-pub prefix_stays : (base part : List ℕ) (n : ℕ) → n ≤ length base → 0 < length part → (n < length base → get_or base n 0 ≡ get_or part 0 0 → ⊥) → IsLongestPrefix base (take n base ++ part) n
-prefix_stays base part n h some differ =
-    let long = length-take-le n base h in
-    let whole = length-append (take n base) part in
-    let same = sym (in_front_kept base part n h) in
-    let on : n + 0 ≡ n = omega arith in
-    let first : get_or (take n base ++ part) n 0 ≡ get_or part 0 0 = subst (λ m. get_or (take n base ++ part) m 0 ≡ get_or part 0 0) on (part_at_kept base part n 0 h) in
-    elim (cases_lt n (length base)) [
-      | inl lt ↦ prefix_stops base (take n base ++ part) n lt (omega (arith, long, whole, some)) (λ e. differ lt (e ∙ first)) same
-      | inr ge ↦ prefix_ends base (take n base ++ part) n (omega (arith, long, whole, some, ge, h)) (omega (arith, long, whole, some, ge, h)) same
-    ]
 
 pub suffix_stays : (base part : List ℕ) (n : ℕ) → n ≤ length base → 0 < length part → (0 < length base → get_or base (length base - 1) 0 ≡ get_or part (length part - 1) 0 → ⊥) → IsLongestSuffix base (take n base ++ part) 0
 suffix_stays base part n h some differ =
@@ -167,9 +152,6 @@ plain_least : (bytes form rest : List ℕ) → IsPlain bytes form rest → (s : 
 plain_least bytes form rest h s le =
     let size : part_size kind.Ascii (groups form) ≡ length form = sym (units_is kind.Ascii Mandatory (groups form) form h.shortest) in
     omega (arith, size, le, length-map form (λ b. b % 128), no_less Mandatory s)
-
-pub none_shared : (a b : List ℕ) (n : ℕ) → IsLongestSuffix a b 0 → SharesEnd a b n
-none_shared a b n h = (0, h, omega arith)
 
 -- where as many are put there as are removed, what both have in common at the end stands behind the first of them
 behind_first : (base part : List ℕ) (n m : ℕ) → n < length base → length part ≡ length base - n → length part ≤ n → IsLongestPrefix base (take n base ++ part) n → IsLongestSuffix base (take n base ++ part) m → n < m → ⊥
@@ -295,11 +277,6 @@ group_at : (form : List ℕ) (i : ℕ) → i < length form → get_or (groups fo
 group_at [] i h = absurd (omega arith)
 group_at (b ∷ bs) zero h = refl
 group_at (b ∷ bs) (suc i) h = group_at bs i (omega arith)
-
-pub prefix_found : (base form : List ℕ) (n : ℕ) → n ≤ length base → IsEntity form → (n < length base → get_or base n 0 ≡ get_or form 0 0 % 128 → ⊥) → IsLongestPrefix base (take n base ++ groups form) n
-prefix_found base form n h entity differ =
-    let some = entity_some form entity in
-    prefix_stays base (groups form) n h (omega (arith, some, length-map form (λ b. b % 128))) (λ lt e. differ lt (e ∙ group_at form 0 some))
 
 pub no_equal : (a b : ℕ) → not (nat_eq a b) ≡ true → a ≡ b → ⊥
 no_equal a b e same = grind (arith, nat_tests)

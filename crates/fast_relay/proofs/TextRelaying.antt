@@ -78,13 +78,6 @@ text_of_type k v h = (h.of_kind, h.within)
 pub text_few : (k : Kind) (v : Scalar) → IsText k v → length (units_of v) ≤ 65535
 text_few k v h = few_units v h.within
 
-pub text_units : (k : Kind) (v : Scalar) → IsText k v → CanBeUnits k (units_of v)
-text_units k v h = value_fits k v (text_of_type k v h)
-
--- the new part of a text has its units
-pub cut_fits : (k : Kind) (v : Scalar) (removal : ℤ) (base new_part : List ℕ) → IsText k v → units_of v ≡ put_together removal base new_part → CanBeUnits k new_part
-cut_fits k v removal base new_part h made = units_fit k new_part (part_is_string k removal base new_part (units_of v) (units_of_string k v h.of_units (text_of_type k v h)) made)
-
 pub delta_as : (k : Kind) (i : FieldPart) (e : Entry) (bytes : List ℕ) → IsUnitKind k → delta_at Usual k i e bytes ≡ unit_delta_at Usual i e bytes
 unfolding delta_at
 delta_as kind.Ascii i e bytes h = refl
@@ -110,10 +103,6 @@ text_delta_relays i base v removal new_part bytes rest before after whole o h l 
     appended
 
 -- ---- tails
-
--- the tail of a text has its units
-pub tail_fits : (k : Kind) (v : Scalar) (base tail : List ℕ) → IsText k v → units_of v ≡ ended_by base tail → CanBeUnits k tail
-tail_fits k v base tail h made = units_fit k tail (back_is_string k (units_of v) (take (length base - length tail) base) tail (units_of_string k v h.of_units (text_of_type k v h)) made)
 
 pub tail_row : (o : Operator) (i : FieldPart) (e : Entry) (bytes : List ℕ) → o ≡ operator.Tail → row_at Usual o i e true bytes ≡ tail_at Usual i e bytes
 unfolding row_at

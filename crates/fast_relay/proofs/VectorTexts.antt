@@ -271,38 +271,9 @@ vector_delta_relays i base r n s bytes middle rest before after is whole o text 
     (subst (λ (x : List ℕ). IsBestCut i.kind i.presence b x (pos r) s) (sym back) (best_removal i.kind i.presence b s r n small le kept prefix suffix (λ t le. part_least i.kind s t is le)))
     appended
 
--- ---- bytes that stand behind a length of one byte
-
-length_form : (b n : ℕ) → b ≡ 128 + n → b < 256 → IsUnsigned (b ∷ []) n
-length_form b n is byte = record { entity = (omega (arith, is), byte); short = omega arith; value = omega (arith, is, byte) }
-
-counted : (IsLength : List ℕ → ℕ → Type 0) (b : ℕ) (s : List ℕ) → IsLength (b ∷ []) (length s) → IsBytes s → length s ≤ 65535 → ((front : List ℕ) → IsLength front (length s) → 1 ≤ length front) → IsShortest (IsCounted IsLength) (b ∷ s) s
-counted IsLength b s form fit few some = record {
-  form = record { front = b ∷ []; parts = refl; length_form = form; bytes_fit = fit; limit = few };
-  least = λ other h. omega (arith, some h.front h.length_form, ap length h.parts, length-append h.front s);
-}
+-- ---- what is within its type
 
 pub fits : (k : Kind) (s : List ℕ) → IsVectorKind k → IsText k (of_units k s) → IsBytes s × (length s ≤ 65535)
 fits kind.Unicode s is t = (t.within.1, t.within.0)
 fits kind.Bytes s is t = (t.within.1, t.within.0)
 fits k s is t = absurd is
-
-stands : (k : Kind) (p : Presence) (b : ℕ) (s : List ℕ) → IsVectorKind k → IsText k (of_units k s) → b < 256 → (p ≡ Mandatory → b ≡ 128 + length s) → (p ≡ Optional → b ≡ 129 + length s) → ShortestUnits k p s (b ∷ s)
-stands kind.Unicode Mandatory b s is t byte m o = let f = fits kind.Unicode s is t in counted IsUnsigned b s (length_form b (length s) (m refl) byte) f.0 f.1 (λ front h. entity_some front h.entity)
-stands kind.Bytes Mandatory b s is t byte m o = let f = fits kind.Bytes s is t in counted IsUnsigned b s (length_form b (length s) (m refl) byte) f.0 f.1 (λ front h. entity_some front h.entity)
-stands kind.Unicode Optional b s is t byte m o = let f = fits kind.Unicode s is t in let c = counted IsLengthNullable b s (length_form b (length s + 1) (omega (arith, o refl)) byte) f.0 f.1 (λ front h. entity_some front h.entity) in record { form = c.form; least = c.least }
-stands kind.Bytes Optional b s is t byte m o = let f = fits kind.Bytes s is t in let c = counted IsLengthNullable b s (length_form b (length s + 1) (omega (arith, o refl)) byte) f.0 f.1 (λ front h. entity_some front h.entity) in record { form = c.form; least = c.least }
-stands k p b s is t byte m o = absurd is
-
-length_in_front : (bytes : List ℕ) (at next : ℕ) → at < next → next ≤ length bytes → slice_range bytes at next ≡ get_or bytes at 0 ∷ slice_range bytes (at + 1) next
-length_in_front bytes at next lt le =
-    let more : next - at ≡ suc (next - (at + 1)) = omega (arith, lt) in
-    ap (λ (l : List ℕ). take (next - at) l) (drop_more bytes at 0 (omega (arith, lt, le))) ∙ ap (λ (n : ℕ). take n (get_or bytes at 0 ∷ drop (at + 1) bytes)) more
-
-pub copied : (k : Kind) (p : Presence) (bytes : List ℕ) (at start next : ℕ) → IsVectorKind k → start ≡ at + 1 → start ≤ next → next ≤ length bytes → IsText k (of_units k (slice_range bytes start next)) → get_or bytes at 0 < 256
-    → (p ≡ Mandatory → get_or bytes at 0 ≡ 128 + (next - start)) → (p ≡ Optional → get_or bytes at 0 ≡ 129 + (next - start)) → ShortestUnits k p (slice_range bytes start next) (slice_range bytes at next)
-copied k p bytes at start next is one le within t byte m o =
-    let s = slice_range bytes start next in
-    let long : length s ≡ next - start = omega (arith, length-take-le (next - start) (drop start bytes) (omega (arith, length-drop start bytes, within, le))) in
-    let front : slice_range bytes at next ≡ get_or bytes at 0 ∷ s = length_in_front bytes at next (omega (arith, one, le)) within ∙ ap (λ (x : ℕ). get_or bytes at 0 ∷ slice_range bytes x next) (sym one) in
-    rw front (stands k p (get_or bytes at 0) s is t byte (λ e. m e ∙ ap (λ (n : ℕ). 128 + n) (sym long)) (λ e. o e ∙ ap (λ (n : ℕ). 129 + n) (sym long)))

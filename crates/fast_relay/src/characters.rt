@@ -12,7 +12,7 @@ use fast_wire::plain_ascii_end;
 
 /// Whether these are characters of ASCII, and not too many.
 #[inline(always)]
-pub(crate) fn are_characters(text: &[u8]) -> bool
+fn are_characters(text: &[u8]) -> bool
     ensures { result ≡ true
         → (length text.now ≤ 65535) × AllByRecursion (λ c. c < 128) text.now }
 {

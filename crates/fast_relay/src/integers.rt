@@ -1,5 +1,4 @@
-//! Numbers as they are read and written where they are relayed. All is inline, since the type is mostly known where it is
-//! called.
+//! Numbers as they are read where a field goes a quick way. All is inline, since the type is mostly known where it is called.
 
 ghost use Rattle.std.specs.Prelude.{◌≡◌, ◌≤◌, ◌^◌, ◌<ℤ◌, pos, negsuc, length, drop, true, false, slice_range, IfSome};
 ghost use Rattle.fast_wire.specs.Entity.{IsEntity};

@@ -1,5 +1,5 @@
 //! Decimals that are judged as they stand: whether their bytes are the best form of the value, or bit 0 is. The entry goes
-//! on, and nothing is written. What is not served here goes by `relay_decimal`.
+//! on, and nothing is written. What is not served here goes the general way.
 
 ghost use Rattle.std.specs.Prelude.{◌≡◌, ◌≤◌, ◌+◌, true, false, length, IfNone, IfSome};
 ghost use Rattle.fast_value.specs.Scalar.{exponent_in_range, in_range};

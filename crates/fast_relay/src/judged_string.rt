@@ -1,5 +1,5 @@
 //! ASCII strings that are judged as they stand: whether their bytes are the best form of the value, or bit 0 is. The entry
-//! goes on, and nothing is written. What is not served here goes by `relay_text`.
+//! goes on, and nothing is written. What is not served here goes by `respell_text`, or the general way.
 
 ghost use Rattle.std.specs.Prelude.{◌≡◌, ◌≤◌, ◌+◌, true, length, drop, slice_range};
 ghost use Rattle.fast_value.specs.Scalar.{IsScalar};
@@ -269,7 +269,7 @@ fn judge_string_delta(
 }
 
 /// Judges a new end of the string that the entry has; bit 0 is the best form of one that it has already. (A call of its
-/// own, as in `plain`, so that other strings do not pay for it.)
+/// own, so that other strings do not pay for it.)
 #[inline(never)]
 fn judge_string_tail(
     alloc: Global,
@@ -312,7 +312,7 @@ fn judge_string_tail(
 }
 
 /// Judges an ASCII string that is read under bit 1, and makes the entry the one afterwards. Elsewhere: nothing has changed,
-/// and another way tells. (A call of its own, as `relay_plain` is, so that the walk over a segment stays short.)
+/// and another way tells. (A call of its own, so that the walk over a segment stays short.)
 #[inline(never)]
 pub(crate) fn judge_string(
     alloc: Global,

@@ -1,5 +1,5 @@
 //! Unicode strings and byte vectors that are judged as they stand: whether their bytes are the best form of the value, or
-//! bit 0 is. The entry goes on, and nothing is written. What is not served here goes by `relay_text`.
+//! bit 0 is. The entry goes on, and nothing is written. What is not served here goes the general way.
 
 ghost use Rattle.std.specs.Prelude.{◌≡◌, ◌≤◌, ◌+◌, ◌<◌, pos, true, false, length, IfNone, IfSome};
 ghost use Rattle.fast_value.specs.declared.kind.Operator.TheVariants as operator_type;

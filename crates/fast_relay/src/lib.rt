@@ -1,19 +1,19 @@
 //! Fields that are read from one stream and written to another at once, with no value in between.
 //!
-//! These are most fields of a feed. [`relay_text`] serves strings and vectors, [`relay_decimal`] decimals in one piece,
-//! [`relay_null`] NULL of any type: each reads a field under bit 1, makes the entry
-//! the one afterwards, and appends the best form of its value, or nothing where that is bit 0, since bit 0 gives the value
-//! too; it answers what became of the field ([`Relayed`]). [`relay_unsigned`] serves numbers that are wanted, and answers
-//! them; [`read_short_length`] reads those in one byte that no entry keeps. What bit 0 gives is
-//! `pass_left_out` of `fast_field`. Where nothing has changed the field goes the general way of `fast_field`: `find_field`
-//! and `write_found`. [`take_number`] reads an integer in the same way and writes nothing, [`take_kept`] one that its
+//! These are most fields of a feed. [`pass_quickly`] takes what bit 0 gives. [`judge_field`] reads a field under bit 1, makes
+//! the entry the one afterwards, and says whether the field's bytes are its best form as they stand, or bit 0 is
+//! ([`Judged`]); it writes nothing. Three calls read a field in the same way and append its best form to a [`Run`]:
+//! [`relay_null`] NULL of any type, and answers what became of it ([`Relayed`]), [`relay_unsigned`] a number that is wanted,
+//! and answers it, and [`respell_text`] an ASCII string that was sent as a difference or a tail and says more than it had to.
+//! [`read_short_length`] reads a length in one byte that no entry keeps. Where nothing has changed the field goes the general
+//! way of `fast_field`: `find_field` and `write_found`.
+//!
+//! For those who make messages or tell them [`take_number`] reads an integer and writes nothing, [`take_kept`] one that its
 //! entry keeps, [`take_decimal`] a decimal in one piece that it keeps, [`take_text`] an ASCII string and [`take_vector`]
-//! a Unicode string or a byte vector, and [`take_aside`] an ASCII string that it does not keep; they are for those who make
-//! messages or tell them.
-//! [`judge_field`] writes nothing either: it says whether the bytes of a field are its best form as they stand, or bit 0
-//! is ([`Judged`]).
-//! What a field's forms are is defined there; `specs/Relayed` says what it is to have relayed one, `specs/Judged` to have
-//! judged one.
+//! a Unicode string or a byte vector, and [`take_aside`] an ASCII string that it does not keep.
+//!
+//! What a field's forms are is defined in `fast_field`; `specs/Relayed` says what it is to have relayed one, `specs/Judged` to
+//! have judged one.
 #![tactic(auto)]
 
 mod characters;
