@@ -24,7 +24,7 @@ use Rattle.fast_value.specs.declared.scalar.Scalar.TheVariants.{Decimal}
 use Rattle.fast_dictionary.specs.declared.entry.Entry.{Entry}
 use Rattle.fast_dictionary.specs.declared.entry.Entry.TheVariants.{Assigned}
 use Rattle.fast_field.specs.Bases.{next}
-use Rattle.fast_field.specs.Chosen.{IsSmall, ShortestPair, ShortestWhole}
+use Rattle.fast_field.specs.Chosen.{ShortestPair, ShortestWhole}
 use Rattle.fast_field.specs.Deltas.{DeltaForm}
 use Rattle.fast_field.specs.FieldReading.{decimal_delta_at, decimal_spelled_at, decimal_value, delta_at, in_field, integer_at, mantissa_behind, mantissa_delta_behind, spelled_at, whole_at}
 use Rattle.fast_field.specs.Fields.{FormOf}
@@ -37,10 +37,7 @@ use Rattle.fast_field.proofs.ChosenForms.{decimal_value as decimal_is_first, who
 use Rattle.fast_field.proofs.ValuesWithin.{IsOfType}
 use Rattle.fast_relay.specs.Numbers.{SpellsWhole, Spelt}
 use Rattle.fast_value.specs.Scalar.{is_of}
-use Rattle.fast_field.specs.Passed.{Passes}
-use Rattle.fast_relay.specs.Relayed.{Drops, Relays}
-use Rattle.fast_relay.proofs.Giving.{drops}
-use Rattle.fast_relay.proofs.TextRelaying.{whole_within}
+use Rattle.fast_relay.specs.Relayed.{Relays}
 use Rattle.fast_relay.proofs.Relaying.{added_back, base_is, delta_out, delta_row, relays, whole_row}
 
 -- numbers of 64 bits, and their sums, are far from the ends of a long type

@@ -1,22 +1,15 @@
 -- What numbers rest on that are judged as they stand.
-use Rattle.std.proofs.Common.{◌≡◌, ◌++◌, ◌∙◌, ◌≤◌, ℕ, Bool, true, false, List, length, drop, slice_range, refl, sym, subst}
-use Rattle.std.specs.Prelude.{ℤ, ◌+ℤ◌, Option, None, Some, IsTrue, not}
+use Rattle.std.proofs.Common.{◌≡◌, ◌++◌, ◌≤◌, ℕ, Bool, true, false, List, length, drop, slice_range, refl, sym, subst}
+use Rattle.std.specs.Prelude.{ℤ, ◌+ℤ◌, Some, IsTrue}
 use Rattle.fast_wire.specs.Reader.{IsBytes}
 use Rattle.fast_value.specs.Scalar.{is_of, of_integer}
 use Rattle.fast_value.specs.declared.kind.Kind.{Kind}
-use Rattle.fast_value.specs.declared.kind.Operator.{Operator}
 use Rattle.fast_value.specs.declared.kind.Operator.TheVariants as operator
 use Rattle.fast_value.specs.declared.kind.Presence.{Presence}
-use Rattle.fast_value.specs.declared.kind.Presence.TheVariants.{Mandatory, Optional}
 use Rattle.fast_template.specs.declared.resolved.FieldPart.{FieldPart}
 use Rattle.fast_value.specs.declared.scalar.Scalar.{Scalar}
 use Rattle.fast_dictionary.specs.declared.entry.Entry.{Entry}
-use Rattle.fast_dictionary.specs.declared.entry.Entry.TheVariants.{Assigned, Empty, Undefined}
-use Rattle.fast_field.specs.Numbers.{IsFieldNumber, Predicts}
-use Rattle.fast_field.specs.Bases.{next_of, absent_or, initial_or}
-use Rattle.fast_field.specs.Planning.{default_gives, gives_same, is_same, left_out_of}
-use Rattle.fast_field.specs.declared.fault.FieldFault.{FieldFault}
-use Rattle.fast_field.specs.declared.fault.FieldFault.TheVariants as fault
+use Rattle.fast_field.specs.Numbers.{IsFieldNumber}
 use Rattle.fast_field.specs.Spelled.{overlong_number}
 use Rattle.fast_field.specs.Values.{is_unsigned}
 use Rattle.fast_field.proofs.BestForms.{bit_zero_is_best}

@@ -4,7 +4,7 @@ use Rattle.std.specs.Prelude.{Some, ℤ, pos, negsuc, nat_le, nat_lt, nat_eq, no
 use Rattle.std.proofs.lemmas.Bool.{cases_lt}
 use Rattle.std.proofs.lemmas.Bool.Decides.{nat_tests}
 use Rattle.std.proofs.lemmas.List.{drop-map, drop-take, get_or-append-add, get_or-drop, length-map, length-take-le, take-append-drop}
-use Rattle.std.proofs.Math.Seq.{drop-append_seam, take-add, take-append_seam}
+use Rattle.std.proofs.Math.Seq.{drop-append_seam, take-add}
 use Rattle.std.specs.List.{AllByRecursion}
 use Rattle.fast_wire.specs.declared.level.Level.TheVariants.{Usual}
 use Rattle.fast_wire.specs.Ascii.{IsAscii, IsAsciiNullable, SpellsAscii, SpellsAsciiNullable}
@@ -36,7 +36,7 @@ use Rattle.fast_relay.specs.Numbers.{SpellsWhole, Spelt}
 use Rattle.fast_field.specs.Planning.{is_same, left_out_of}
 use Rattle.fast_relay.specs.Relayed.{Relays}
 use Rattle.fast_relay.specs.Texts.{GivesCut, GivesTail, IsText, SharesEnd}
-use Rattle.fast_field.proofs.Agreeing.{prefix_ends, prefix_more, prefix_stops, suffix_ends, suffix_none, suffix_stops}
+use Rattle.fast_field.proofs.Agreeing.{prefix_more, suffix_ends, suffix_none, suffix_stops}
 use Rattle.fast_field.proofs.BestCuts.{best_at_end, longest_suffix}
 use Rattle.fast_field.proofs.BestTails.{shortest_is_best}
 use Rattle.fast_field.proofs.Shortest.{units_is}

@@ -1,5 +1,5 @@
 -- What strings and vectors that are read and written at once rest on.
-use Rattle.std.proofs.Common.{◌≡◌, ◌≤◌, true, false, List, ℕ, ◌-◌, ◌++◌, Ok, length, take, refl, sym, subst, ◌∙◌}
+use Rattle.std.proofs.Common.{◌≡◌, ◌≤◌, true, false, List, ℕ, ◌++◌, Ok, length, refl, sym, subst, ◌∙◌}
 use Rattle.std.specs.Prelude.{ℤ, Some, IsTrue}
 use Rattle.fast_wire.specs.declared.level.Level.TheVariants.{Usual}
 use Rattle.fast_wire.specs.Writing.{IsShortest}
@@ -16,8 +16,8 @@ use Rattle.fast_value.specs.declared.scalar.Scalar.{Scalar}
 use Rattle.fast_dictionary.specs.declared.entry.Entry.{Entry}
 use Rattle.fast_dictionary.specs.declared.entry.Entry.TheVariants.{Assigned}
 use Rattle.fast_field.specs.Bases.{next, tail_base}
-use Rattle.fast_field.specs.Chosen.{Both, CanBeUnits, IsBestCut, IsBestTail, ShortestPart, ShortestSigned, ShortestUnits}
-use Rattle.fast_field.specs.Deltas.{DeltaForm, TailForm, ended_by, put_together}
+use Rattle.fast_field.specs.Chosen.{Both, IsBestCut, IsBestTail, ShortestPart, ShortestSigned, ShortestUnits}
+use Rattle.fast_field.specs.Deltas.{DeltaForm, TailForm}
 use Rattle.fast_field.specs.FieldReading.{delta_at, row_at, spelled_at, tail_at, unit_delta_at, units_spelled_at, whole_at}
 use Rattle.fast_field.specs.Fields.{FormOf, within_part}
 use Rattle.fast_relay.specs.Numbers.{SpellsWhole}
@@ -29,11 +29,11 @@ use Rattle.fast_field.specs.Values.{units_of, IsUnitKind}
 use Rattle.fast_field.proofs.BestDeltas.{IsFirst}
 use Rattle.fast_field.proofs.BestTails.{tail_is_first}
 use Rattle.fast_field.proofs.BestValues.{delta_is_first, tail_form_is_first, whole_is_first}
-use Rattle.fast_field.proofs.ChosenForms.{back_is_string, few_units, part_is_string, string_value, units_fit, value_fits}
+use Rattle.fast_field.proofs.ChosenForms.{few_units, string_value}
 use Rattle.fast_relay.proofs.Relaying.{base_is, delta_out, delta_row, relays, whole_row}
 use Rattle.fast_field.proofs.Shortest.{units_form}
 use Rattle.fast_field.proofs.StandingForms.{string_is_shortest}
-use Rattle.fast_field.proofs.ValuesWithin.{IsOfType, units_of_string}
+use Rattle.fast_field.proofs.ValuesWithin.{IsOfType}
 
 pub whole_within : (p : Part) (v : Scalar) → p ≡ part.Whole → IsTrue (within_part p v)
 whole_within p v is = rw is refl

@@ -1,7 +1,7 @@
 -- Unicode strings and byte vectors, read and written at once.
-use Rattle.std.proofs.Common.{◌≡◌, ◌≤◌, ◌<◌, ◌+◌, ◌-◌, Bool, true, false, List, [], ◌∷◌, ℕ, suc, get_or, ◌++◌, Result, Ok, Err, length, take, drop, slice_range, refl, sym, ap, subst, ◌∙◌, arith, drop-drop, length-append, length-drop}
+use Rattle.std.proofs.Common.{◌≡◌, ◌≤◌, ◌<◌, ◌+◌, ◌-◌, Bool, true, false, List, [], ℕ, ◌++◌, Result, Ok, Err, length, take, drop, slice_range, refl, sym, ap, subst, ◌∙◌, arith, drop-drop, length-append, length-drop}
 use Rattle.std.specs.Prelude.{Some, None, ℤ, pos, IsCharBoundary}
-use Rattle.std.proofs.lemmas.List.{drop_more, length-take-le}
+use Rattle.std.proofs.lemmas.List.{length-take-le}
 use Rattle.std.proofs.lemmas.Str.{IsUtf8-append, IsUtf8-take, is_utf8-from_IsUtf8}
 use Rattle.std.proofs.Math.Seq.{take-nil}
 use Rattle.fast_wire.specs.declared.level.Level.TheVariants.{Usual}
@@ -10,11 +10,7 @@ use Rattle.fast_wire.specs.declared.fault.WireFault.{WireFault}
 use Rattle.fast_wire.specs.declared.fault.WireFault.TheVariants as wire
 use Rattle.fast_wire.specs.declared.nullable.Nullable.{Nullable}
 use Rattle.fast_wire.specs.declared.nullable.Nullable.TheVariants.{Null, Value}
-use Rattle.fast_wire.specs.Integer.{IsUnsigned}
 use Rattle.fast_wire.specs.Reader.{IsBytes}
-use Rattle.fast_wire.specs.Vector.{IsCounted, IsLengthNullable}
-use Rattle.fast_wire.specs.Writing.{IsShortest}
-use Rattle.fast_wire.proofs.UnsignedForms.{entity_some}
 use Rattle.fast_wire.specs.Sizes.{unsigned_size, vector_nullable_size}
 use Rattle.fast_wire.proofs.Sizes.{unsigned_size-grows}
 use Rattle.fast_value.specs.Scalar.{is_of, scalar_eq-exact}

@@ -1,7 +1,7 @@
 //! Units of a string or vector that others take the place of. Most often these are as many: then they are copied over, and
 //! no memory is asked for.
 
-ghost use Rattle.std.specs.Prelude.{◌≡◌, ◌≤◌, ◌+◌, ◌++◌, true, false, length, take, IsUtf8};
+ghost use Rattle.std.specs.Prelude.{◌≡◌, ◌≤◌, ◌+◌, ◌++◌, true, false, length, take};
 ghost use Rattle.fast_field.specs.Values.{of_units, units_of};
 ghost use Rattle.fast_relay.specs.Texts.{IsText};
 

@@ -1,10 +1,9 @@
 //! Deltas of ASCII strings that remove few characters at the end of the text that the entry has and put others there, and
 //! tails. What was sent may be longer than is needed: characters may be put back that were there.
 
-ghost use Rattle.std.specs.Prelude.{◌≡◌, ◌≤◌, ◌<◌, ◌-◌, ◌+◌, ◌%◌, ℕ, true, List, length, drop, slice_range, slice_index, pos, IfSome};
+ghost use Rattle.std.specs.Prelude.{◌≡◌, ◌≤◌, ◌<◌, ◌-◌, ◌+◌, ◌%◌, ℕ, List, length, drop, slice_range, slice_index, pos, IfSome};
 ghost use Rattle.fast_value.specs.declared.kind.Kind.TheVariants as kind_type;
 ghost use Rattle.fast_template.specs.declared.resolved.FieldPart.{FieldPart as PartOf};
-ghost use Rattle.fast_field.specs.Chosen.{ShortestSigned};
 ghost use Rattle.fast_relay.specs.Texts.{GivesCut, GivesTail};
 
 use crate::characters::find_plain;

@@ -2,13 +2,9 @@
 
 ghost use Rattle.std.specs.Prelude.{◌≡◌, ◌≤◌, ◌^◌, ◌<ℤ◌, pos, negsuc, length, drop, true, false, slice_range, IfSome};
 ghost use Rattle.fast_wire.specs.Entity.{IsEntity};
-ghost use Rattle.fast_value.specs.Scalar.{of_integer};
-ghost use Rattle.fast_field.specs.Chosen.{AppendsOne, IsSmall, ShortestSigned, ShortestWhole};
-ghost use Rattle.fast_field.specs.Numbers.{IsNumber};
 ghost use Rattle.fast_field.specs.Spelled.{overlong_number};
 ghost use Rattle.fast_field.specs.Values as values;
 ghost use Rattle.fast_relay.specs.Numbers.{Spelt, SpeltNull};
-ghost use Rattle.fast_relay.specs.Runs.{AppendsForm, IsRun, Stays, written};
 
 use fast_template::{Kind, Presence};
 use fast_wire::{Nullable, overlong_signed, overlong_unsigned};

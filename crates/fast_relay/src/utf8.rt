@@ -2,7 +2,7 @@
 //! letters of two bytes, or of letters of three: to step over these costs less than the call, which is made for what stands
 //! behind them, and for long texts.
 
-ghost use Rattle.std.specs.Prelude.{◌≡◌, ◌+◌, ◌<◌, ◌≤◌, ◌↔◌, length, drop, take, slice_index, IsTrue, IsUtf8};
+ghost use Rattle.std.specs.Prelude.{◌+◌, ◌<◌, ◌≤◌, ◌↔◌, length, drop, take, slice_index, IsTrue, IsUtf8};
 ghost use Rattle.std.specs.Int.{IsInRange};
 ghost use Rattle.std.specs.Str.{IsAscii};
 ghost use Rattle.fast_relay.specs.Skips.{Skips};

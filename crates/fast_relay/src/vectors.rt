@@ -1,11 +1,10 @@
 //! Unicode strings and byte vectors, whose bytes stand behind their length: they are copied from the bytes that were read
 //! into the entry, and what is asked of both.
 
-ghost use Rattle.std.specs.Prelude.{◌≡◌, ◌≤◌, ◌<◌, ◌+◌, ◌++◌, ℕ, List, Ok, pos, true, false, length, drop, slice_range, take, Some, IfNone, IfSome, IsTrue, IsUtf8, IsCharBoundary};
+ghost use Rattle.std.specs.Prelude.{◌≡◌, ◌≤◌, ◌<◌, ◌+◌, ◌++◌, Ok, pos, true, false, length, drop, slice_range, take, Some, IfSome, IsUtf8, IsCharBoundary};
 ghost use Rattle.fast_wire.specs.declared.level.Level.TheVariants.{Usual};
 ghost use Rattle.fast_wire.specs.declared.nullable.Nullable.TheVariants.{Value};
 ghost use Rattle.fast_value.specs.declared.kind.Kind.TheVariants as kind_type;
-ghost use Rattle.fast_value.specs.declared.kind.Operator.TheVariants as operator_type;
 ghost use Rattle.fast_field.specs.Bases.{next_of};
 ghost use Rattle.fast_field.specs.CommonParts.{IsLongestPrefix, IsLongestSuffix};
 ghost use Rattle.fast_field.specs.FieldReading.{units_at};
