@@ -1,5 +1,6 @@
-//! ASCII strings that were sent as a difference or a tail, and say more than they had to: characters that stay where they
-//! are, or a number in more bytes than it takes. They are read and written in their best form at once, and no string is made.
+//! ASCII strings that were sent as a difference or a tail and say more than they had to: characters that stay where they are,
+//! a preamble, or a removal in more bytes than it takes. They are read and written in their best form at once, and no string
+//! is made.
 
 ghost use Rattle.std.specs.Prelude.{◌≡◌, ◌≤◌, length, drop, IfNone, IfSome};
 ghost use Rattle.fast_value.specs.Scalar.{IsScalar};

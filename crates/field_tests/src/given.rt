@@ -2,7 +2,7 @@
 
 use crate::fields::{Kept, Shape, Value};
 use crate::relaying::{Call, Given, all_given};
-use fast_template::{Kind, Operator, Presence};
+use fast_template::{Kind, Operator};
 use std::alloc::AllocError;
 
 #[test]
