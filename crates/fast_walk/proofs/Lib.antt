@@ -11,3 +11,4 @@ pub mod Opening
 pub mod Telling
 pub mod Lacking
 pub mod NewParts
+pub mod ShortMaps

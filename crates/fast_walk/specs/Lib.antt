@@ -7,3 +7,4 @@ pub mod Told
 pub mod Room
 pub mod OneProof
 pub mod Lacks
+pub mod ShortMaps

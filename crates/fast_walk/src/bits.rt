@@ -4,9 +4,10 @@ ghost use Rattle.std.specs.Prelude.{◌≡◌, ◌≢◌, ◌≤◌, ◌<◌, �
 ghost use Rattle.fast_dictionary.specs.Dictionary.{Dictionary};
 ghost use Rattle.fast_stream.specs.Bits.{after_bit, bit_for};
 ghost use Rattle.fast_walk.specs.OpenSegments.{cursor};
+ghost use Rattle.fast_walk.specs.ShortMaps.{BeginsShortMap};
 ghost use Rattle.fast_stream.specs.Faults.{cause_of_wire};
 ghost use Rattle.fast_stream.specs.Reading.{own_map_at, stopped};
-ghost use Rattle.fast_wire.specs.Level.{judge, overlong_map as overlong_map_of, some_set};
+ghost use Rattle.fast_wire.specs.Level.{judge, overlong_map as overlong_map_of};
 ghost use Rattle.fast_field.specs.Calls.{Answers};
 ghost use Rattle.fast_wire.specs.Sizes.{CanBeMap};
 
@@ -36,8 +37,21 @@ pub(crate) fn take_for(bits: &mut Bits, needed: bool)
 /// The most bytes of a presence map.
 const MAP_LIMIT: usize = 256;
 
+/// Whether a map of one group or two stands here that reaches no further than its last 1. False says nothing.
+#[inline(always)]
+fn is_short_map(bytes: &[u8], at: usize) -> bool
+    requires { at ≤ length bytes.now }
+    ensures { result ≡ true → BeginsShortMap (drop at bytes.now) }
+{
+    if at == bytes.len() {
+        return false;
+    }
+    bytes[at] >= 128 || (bytes.len() - at > 1 && bytes[at + 1] > 128)
+}
+
 /// Judges the map that begins at `at`, at the strict level: whether it is there and has no more groups than reach its
 /// last 1.
+#[inline(always)]
 fn judge_map(level: Level, bytes: &[u8], at: usize) -> Result<(), Cause>
     requires { at ≤ length bytes.now }
     ensures { Answers (λ x. x) result
@@ -45,6 +59,8 @@ fn judge_map(level: Level, bytes: &[u8], at: usize) -> Result<(), Cause>
 {
     match level {
         Level::Usual => Ok(()),
+        // as most are
+        Level::Strict if is_short_map(bytes, at) => Ok(()),
         Level::Strict => match entity_end(bytes, at, MAP_LIMIT) {
             Err(fault) => Err(wire_cause(fault)),
             Ok(next) => {
@@ -56,18 +72,6 @@ fn judge_map(level: Level, bytes: &[u8], at: usize) -> Result<(), Cause>
             }
         },
     }
-}
-
-/// Judges the bits that a segment leaves: none may be 1. `number` is the segment's.
-pub(crate) fn judge_left(number: u32, bits: &Bits) -> Result<(), Halt>
-    ensures clear { OnOk result (some_set bits.now ≡ false) }
-    ensures refused { IfErr result (λ h. (h.cause ≡ Cause.R8) × (some_set bits.now ≡ true)) }
-    ensures number { IfErr result (λ h. h.number ≡ number) }
-{
-    if bits.left_set() {
-        return Err(Halt::new(Cause::R8, number));
-    }
-    Ok(())
 }
 
 /// Reads a segment's own map that begins at `at`, or none where it has none, and answers its bits and the place

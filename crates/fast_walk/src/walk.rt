@@ -16,7 +16,7 @@ ghost use Rattle.fast_walk.specs.Walks.{next_of, weight_of};
 ghost use Rattle.fast_walk.specs.Told.{KeepScalars};
 ghost use Rattle.fast_walk.specs.Room.{HasRoom};
 
-use crate::bits::{first_for, judge_left, read_own_map, take_for};
+use crate::bits::{first_for, read_own_map, take_for};
 use crate::halt::{Halt, HaltedBy, field_cause};
 use crate::leveled::{Leveled, Strictly, Usually};
 use crate::receiver::Receiver;
@@ -649,7 +649,12 @@ impl<'a> Walk<'a> {
     {
         match level {
             Level::Usual => Ok(()),
-            Level::Strict => judge_left(self.number(), &self.bits),
+            Level::Strict => {
+                if self.bits.left_set() {
+                    return Err(Halt::new(Cause::R8, self.number()));
+                }
+                Ok(())
+            }
         }
     }
 

@@ -1,0 +1,30 @@
+-- A map of one group or two that reaches no further than its last 1 is none that the strict level refuses.
+use Rattle.std.proofs.Common.{◌≡◌, ◌≤◌, ◌<◌, ℕ, suc, ◌%◌, ◌-◌, Bool, true, false, nat_eq, nat_le, List, [], ◌∷◌, Result, Ok, refl, arith, ◌⊎◌, inl, inr}
+use Rattle.std.specs.Prelude.{if◌then◌else◌}
+use Rattle.std.proofs.lemmas.Bool.Decides.{nat_tests}
+use Rattle.fast_wire.specs.Level.{judge, overlong_map}
+use Rattle.fast_wire.specs.Reading.{entity_at}
+use Rattle.fast_wire.specs.declared.fault.WireFault.{WireFault}
+use Rattle.fast_wire.specs.declared.level.Level.TheVariants.{Strict}
+use Rattle.fast_walk.specs.ShortMaps.{BeginsShortMap}
+
+one : {F : Type 0} (of_wire : WireFault → F) (f : F) (b : ℕ) (bs : List ℕ) → nat_le 128 b ≡ true → judge Strict 256 overlong_map of_wire f (b ∷ bs) ≡ Ok tt
+unfolding entity_at
+one of_wire f b bs ends = rw ends refl
+
+two : {F : Type 0} (of_wire : WireFault → F) (f : F) (b c : ℕ) (bs : List ℕ) → nat_le 128 b ≡ false → nat_le 128 c ≡ true → nat_eq (c % 128) 0 ≡ false → judge Strict 256 overlong_map of_wire f (b ∷ c ∷ bs) ≡ Ok tt
+unfolding entity_at
+two of_wire f b c bs on ends some = rw on (rw ends (rw some refl))
+
+either : {F : Type 0} (of_wire : WireFault → F) (f : F) (b c : ℕ) (bs : List ℕ) (ends : Bool) → nat_le 128 b ≡ ends → (128 ≤ b) ⊎ ((128 < c) × (c < 256)) → judge Strict 256 overlong_map of_wire f (b ∷ c ∷ bs) ≡ Ok tt
+either of_wire f b c bs true is h = one of_wire f b (c ∷ bs) is
+either of_wire f b c bs false is (inl h) = grind (arith, nat_tests)
+either of_wire f b c bs false is (inr h) =
+    let above = h.0 in
+    let byte = h.1 in
+    two of_wire f b c bs is (grind (arith, nat_tests)) (grind (arith, nat_tests))
+
+pub short_map : {F : Type 0} (of_wire : WireFault → F) (f : F) (bytes : List ℕ) → BeginsShortMap bytes → judge Strict 256 overlong_map of_wire f bytes ≡ Ok tt
+short_map of_wire f [] h = absurd h
+short_map of_wire f (b ∷ []) h = one of_wire f b [] (grind (arith, nat_tests))
+short_map of_wire f (b ∷ c ∷ bs) h = either of_wire f b c bs (nat_le 128 b) refl h
