@@ -5,7 +5,6 @@ use Rattle.std.proofs.lemmas.List.{take-append-drop}
 use Rattle.fast_wire.specs.declared.level.Level.TheVariants.{Usual}
 use Rattle.fast_wire.specs.Entity.{groups}
 use Rattle.fast_wire.specs.Plain.{IsPlain}
-use Rattle.fast_value.specs.Scalar.{is_integer}
 use Rattle.fast_value.specs.declared.kind.Kind.{Kind}
 use Rattle.fast_value.specs.declared.kind.Kind.TheVariants as kind
 use Rattle.fast_value.specs.declared.kind.Operator.{Operator}
@@ -13,21 +12,19 @@ use Rattle.fast_value.specs.declared.kind.Operator.TheVariants as operator
 use Rattle.fast_value.specs.declared.kind.Part.{Part}
 use Rattle.fast_value.specs.declared.kind.Part.TheVariants as part
 use Rattle.fast_value.specs.declared.kind.Presence.{Presence}
-use Rattle.fast_value.specs.declared.kind.Presence.TheVariants.{Optional}
 use Rattle.fast_template.specs.declared.resolved.FieldPart.{FieldPart}
 use Rattle.fast_value.specs.declared.scalar.Scalar.{Scalar}
 use Rattle.fast_value.specs.declared.scalar.Scalar.TheVariants.{Ascii}
 use Rattle.fast_dictionary.specs.declared.entry.Entry.{Entry}
 use Rattle.fast_dictionary.specs.declared.entry.Entry.TheVariants.{Assigned}
-use Rattle.fast_field.specs.FieldReading.{integer_spelled_at, row_at, spelled_at, tail_at, units_spelled_at, whole_at}
+use Rattle.fast_field.specs.FieldReading.{row_at, spelled_at, tail_at, units_spelled_at, whole_at}
 use Rattle.fast_field.specs.Fields.{IsWithin}
 use Rattle.fast_field.specs.Numbers.{Predicts}
 use Rattle.fast_field.specs.Passed.{Passes}
-use Rattle.fast_field.specs.Values.{is_unsigned}
 use Rattle.fast_field.proofs.FieldsGoOn.{field_goes}
 use Rattle.fast_field.proofs.Passing.{initial_given, kept_given}
 use Rattle.fast_value.specs.Scalar.{is_of}
-use Rattle.fast_relay.specs.Numbers.{SpellsWhole, SpeltNull}
+use Rattle.fast_relay.specs.Numbers.{SpellsWhole}
 use Rattle.fast_relay.specs.Relayed.{Drops}
 use Rattle.fast_relay.specs.Texts.{GivesTail, IsText}
 use Rattle.fast_relay.proofs.PlainTexts.{spelled_plain}
@@ -41,37 +38,9 @@ drops i old new v bytes rest within row p = record {
   best = p.best;
 }
 
--- ---- NULL of an integer
-
 pub predicts : (o : Operator) → (o ≡ operator.Copy) ⊎ (o ≡ operator.Increment) → Predicts o
 predicts o (inl e) = rw e tt
 predicts o (inr e) = rw e tt
-
-null_spelled : (pt : Part) (k : Kind) (p : Presence) (bytes rest : List ℕ) → p ≡ Optional → SpeltNull (is_unsigned k) bytes rest → integer_spelled_at Usual pt k p bytes ≡ Ok (None, rest)
-unfolding integer_spelled_at
-null_spelled pt k p bytes rest o h = rw (o, h) refl
-
-null_as : (pt : Part) (k : Kind) (p : Presence) (bytes : List ℕ) → IsTrue (is_integer k) → spelled_at Usual pt k p bytes ≡ integer_spelled_at Usual pt k p bytes
-unfolding spelled_at
-null_as pt kind.UInt32 p bytes h = refl
-null_as pt kind.Int32 p bytes h = refl
-null_as pt kind.UInt64 p bytes h = refl
-null_as pt kind.Int64 p bytes h = refl
-null_as pt k p bytes h = absurd cc
-
-null_whole : (i : FieldPart) (bytes rest : List ℕ) → IsTrue (is_integer i.kind) → i.presence ≡ Optional → SpeltNull (is_unsigned i.kind) bytes rest → whole_at Usual i bytes ≡ Ok (None, rest)
-unfolding whole_at
-null_whole i bytes rest n o h = null_as i.part i.kind i.presence bytes n ∙ null_spelled i.part i.kind i.presence bytes rest o h
-
-pub null_row : (k : Kind) (i : FieldPart) (e : Entry) (bytes rest : List ℕ) → k ≡ i.kind → SpellsWhole i.operator → IsTrue (is_integer k) → i.presence ≡ Optional → SpeltNull (is_unsigned k) bytes rest → row_at Usual i.operator i e true bytes ≡ Ok (None, rest)
-null_row k i e bytes rest same o =
-    subst (λ (k : Kind). IsTrue (is_integer k) → i.presence ≡ Optional → SpeltNull (is_unsigned k) bytes rest → row_at Usual i.operator i e true bytes ≡ Ok (None, rest))
-    (sym same)
-    (λ n p h. whole_row i.operator i e bytes o ∙ null_whole i bytes rest n p h)
-
-pub null_drops : (k : Kind) (i : FieldPart) (old new : Entry) (bytes rest : List ℕ) → k ≡ i.kind → SpellsWhole i.operator → IsTrue (is_integer k) → i.presence ≡ Optional → SpeltNull (is_unsigned k) bytes rest → Passes i old new None
-    → Drops i old new None bytes rest
-null_drops k i old new bytes rest same o n p h passes = drops i old new None bytes rest tt (null_row k i old bytes rest same o n p h) passes
 
 -- ---- strings
 

@@ -22,10 +22,9 @@ use Rattle.fast_field.proofs.ChosenForms.{null_best}
 use Rattle.fast_field.proofs.FieldForms.{field_forms}
 use Rattle.fast_field.proofs.FieldsGoOn.{field_goes}
 use Rattle.fast_field.proofs.WrittenForms.{appends_best}
-use Rattle.fast_relay.specs.Numbers.{SpellsWhole, SpeltNull}
+use Rattle.fast_relay.specs.Numbers.{SpellsWhole}
 use Rattle.fast_relay.specs.Relayed.{Drops, RelaysNull}
-use Rattle.fast_relay.proofs.Giving.{null_row}
-use Rattle.fast_relay.proofs.Relaying.{row_read, whole_row}
+use Rattle.fast_relay.proofs.Relaying.{whole_row}
 
 null_form : IsUnsignedNullable (128 ∷ []) Null
 null_form = record { entity = (omega arith, omega arith); short = omega arith; value = refl }
@@ -67,13 +66,6 @@ null_sent i old new bytes rest before after optional out entry appended goes = r
 pub null_relays : (i : FieldPart) (old new : Entry) (rest before after : List ℕ) → i.presence ≡ Optional → left_out_of i.operator i old None ≡ false → new ≡ next i old None → after ≡ before ++ (128 ∷ []) → RelaysNull i old new (128 ∷ rest) rest before after
 null_relays i old new rest before after optional out entry appended =
     null_sent i old new (128 ∷ rest) rest before after optional out entry appended (λ more. read i old (rest ++ more) optional out)
-
--- of an integer, in any form
-pub any_null_relays : (k : Kind) (i : FieldPart) (old new : Entry) (bytes rest before after : List ℕ) → k ≡ i.kind → SpellsWhole i.operator → IsTrue (is_integer k) → i.presence ≡ Optional → SpeltNull (is_unsigned k) bytes rest
-    → left_out_of i.operator i old None ≡ false → new ≡ next i old None → after ≡ before ++ (128 ∷ []) → RelaysNull i old new bytes rest before after
-any_null_relays k i old new bytes rest before after same o n optional spelt out entry appended =
-    null_sent i old new bytes rest before after optional out entry appended
-    (λ more. field_goes Usual i old true bytes None rest more (row_read i old bytes rest None (null_row k i old bytes rest same o n optional spelt) tt))
 
 -- ---- NULL that bit 0 gives
 

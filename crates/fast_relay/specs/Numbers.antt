@@ -1,11 +1,10 @@
 -- What is asked of a field whose value is relayed. (Own.) No public clause names these.
 use Rattle.std.specs.Prelude.{◌≡◌, ℕ, ℤ, Bool, List, Ok}
 use Rattle.fast_wire.specs.declared.level.Level.TheVariants.{Usual}
-use Rattle.fast_wire.specs.declared.nullable.Nullable.TheVariants.{Null, Value}
+use Rattle.fast_wire.specs.declared.nullable.Nullable.TheVariants.{Value}
 use Rattle.fast_value.specs.declared.kind.Operator.{Operator}
 use Rattle.fast_value.specs.declared.kind.Operator.TheVariants as operator
 use Rattle.fast_value.specs.declared.kind.Presence.{Presence}
-use Rattle.fast_value.specs.declared.kind.Presence.TheVariants.{Optional}
 use Rattle.fast_field.specs.FieldReading.{integer_at}
 
 -- bit 1 spells the whole value
@@ -25,7 +24,3 @@ KeepsNothing o = ⊥
 -- the bytes spell a number and not NULL
 abbrev pub Spelt : Bool → Presence → List ℕ → ℤ → List ℕ → Type 0
 Spelt unsigned p bytes z rest = integer_at Usual unsigned p bytes ≡ Ok (Value z, rest)
-
--- the bytes spell NULL, in its shortest form or in a longer one
-abbrev pub SpeltNull : Bool → List ℕ → List ℕ → Type 0
-SpeltNull unsigned bytes rest = integer_at Usual unsigned Optional bytes ≡ Ok (Null, rest)

@@ -4,7 +4,7 @@ ghost use Rattle.std.specs.Prelude.{◌≡◌, ◌≤◌, ◌^◌, ◌<ℤ◌, p
 ghost use Rattle.fast_wire.specs.Entity.{IsEntity};
 ghost use Rattle.fast_field.specs.Spelled.{overlong_number};
 ghost use Rattle.fast_field.specs.Values as values;
-ghost use Rattle.fast_relay.specs.Numbers.{Spelt, SpeltNull};
+ghost use Rattle.fast_relay.specs.Numbers.{Spelt};
 
 use fast_template::{Kind, Presence};
 use fast_wire::{Nullable, overlong_signed, overlong_unsigned};
@@ -55,30 +55,6 @@ pub(crate) fn read_short(
             Ok((Nullable::Null, _)) => None,
             Err(_) => None,
         },
-    }
-}
-
-/// Where NULL ends, in any form of an integer's; none where the bytes are a number, faulty or not whole.
-#[tactic(auto, unfolding(fast_field::specs::FieldReading::integer_at))]
-#[inline(always)]
-pub(crate) fn read_null(unsigned: bool, bytes: &[u8], at: usize) -> Option<usize>
-    requires { at ≤ length bytes.now }
-    ensures place { IfSome result (λ next. (at ≤ next) × (next ≤ length bytes.now)) }
-    ensures gives { IfSome result (λ next. SpeltNull unsigned (drop at bytes.now)
-        (drop next bytes.now)) }
-{
-    if unsigned {
-        match fast_wire::read_u64_nullable(bytes, at) {
-            Ok((Nullable::Null, next)) => Some(next),
-            Ok((Nullable::Value(_), _)) => None,
-            Err(_) => None,
-        }
-    } else {
-        match fast_wire::read_i64_nullable(bytes, at) {
-            Ok((Nullable::Null, next)) => Some(next),
-            Ok((Nullable::Value(_), _)) => None,
-            Err(_) => None,
-        }
     }
 }
 

@@ -1,7 +1,6 @@
-//! NULL, read and written at once: a field that is sent as absent.
+//! NULL in its shortest form, read and written at once: a field that is sent as absent.
 
-ghost use Rattle.std.specs.Prelude.{◌≡◌, ◌≤◌, ◌<◌, ◌+◌, ◌++◌, ◌∷◌, [], true, false, length, drop, None, IsTrue};
-ghost use Rattle.fast_value.specs.Scalar.{is_integer};
+ghost use Rattle.std.specs.Prelude.{◌≡◌, ◌≤◌, ◌<◌, ◌+◌, ◌++◌, ◌∷◌, [], true, false, length, drop, None};
 ghost use Rattle.fast_value.specs.declared.kind.Presence.TheVariants as presence_type;
 ghost use Rattle.fast_field.specs.Bases.{next_of};
 ghost use Rattle.fast_field.specs.Planning.{left_out_of};
@@ -11,11 +10,10 @@ ghost use Rattle.fast_relay.specs.Relayed.{IfElsewhere, IfRelayed, RelaysNullAs}
 ghost use Rattle.fast_relay.specs.Runs.{IsRun, Stays, written};
 
 use crate::given::gives_absent;
-use crate::integers::{is_unsigned, read_null};
 use crate::relayed::Relayed;
 use crate::run::Run;
 use fast_dictionary::Entry;
-use fast_template::{FieldPart, Kind, Operator, Presence};
+use fast_template::{FieldPart, Operator, Presence};
 
 /// NULL in its shortest form, which is the same for every type.
 const NULL: u8 = 0x80;
@@ -56,45 +54,6 @@ fn keep_absent(operator: Operator, entry: &mut Entry)
     match operator {
         Operator::Copy | Operator::Increment | Operator::Tail => *entry = Entry::Empty,
         Operator::Plain | Operator::Constant | Operator::Default | Operator::Delta => {}
-    }
-}
-
-/// Appends NULL behind what is noted, where that is the best form of an absent field, makes the entry the one afterwards,
-/// and goes on behind what was read; or answers false, and changes nothing.
-#[inline(never)]
-fn respell_null(
-    instr: &FieldPart,
-    entry: &mut Entry,
-    bytes: &[u8],
-    at: usize,
-    next: usize,
-    out: &mut Run,
-) -> bool
-    requires run { IsRun bytes.now at out.now }
-    requires place { at ≤ next }
-    requires within { next ≤ length bytes.now }
-    ensures best { result ≡ true
-        → left_out_of instr.now.operator instr.now entry.old None ≡ false }
-    ensures sent { result ≡ true
-        → written bytes.now out.new ≡ written bytes.now out.old ++ (128 ∷ []) }
-    ensures run { result ≡ true → IsRun bytes.now next out.new }
-    ensures kept { result ≡ true → entry.new ≡ next_of instr.now.operator entry.old None }
-    ensures entry { result ≡ false → entry.new ≡ entry.old }
-    ensures out { result ≡ false → Stays bytes.now at out.old out.new }
-{
-    if may_be_left_out(instr, entry) {
-        return false;
-    }
-    if !out.flush(bytes) {
-        return false;
-    }
-    match out.out.push(NULL) {
-        Err(_) => false,
-        Ok(()) => {
-            keep_absent(instr.operator, entry);
-            out.begin(next);
-            true
-        }
     }
 }
 
@@ -154,75 +113,7 @@ fn give_null(
     }
 }
 
-/// Relays NULL of an integer of a type that is known here, in any form.
-#[inline(always)]
-fn relay_any_null(
-    kind: Kind,
-    instr: &FieldPart,
-    entry: &mut Entry,
-    bytes: &[u8],
-    at: usize,
-    out: &mut Run,
-) -> Relayed
-    requires run { IsRun bytes.now at out.now }
-    requires kind { kind ≡ instr.now.kind }
-    requires integer { IsTrue (is_integer kind) }
-    requires operator { SpellsWhole instr.now.operator }
-    requires presence { instr.now.presence ≡ presence_type.Optional }
-    ensures place { IfRelayed result (λ bit next. (at ≤ next) × (next ≤ length bytes.now)) }
-    ensures run { IfRelayed result (λ bit next. IsRun bytes.now next out.new) }
-    ensures relayed { IfRelayed result (λ bit next. RelaysNullAs bit instr.now entry.old entry.new
-        (drop at bytes.now) (drop next bytes.now)
-        (written bytes.now out.old) (written bytes.now out.new)) }
-    ensures entry { IfElsewhere result (entry.new ≡ entry.old) }
-    ensures out { IfElsewhere result (Stays bytes.now at out.old out.new) }
-{
-    let Some(next) = read_null(is_unsigned(kind), bytes, at) else {
-        return Relayed::Elsewhere;
-    };
-    if respell_null(instr, entry, bytes, at, next, out) {
-        Relayed::Sent(next)
-    } else if give_null(instr, entry, bytes, at, next, out) {
-        Relayed::Given(next)
-    } else {
-        Relayed::Elsewhere
-    }
-}
-
-/// Relays NULL of an integer that is spelled whole, in a form that is not the shortest.
-#[inline(never)]
-fn relay_long_null(
-    instr: &FieldPart,
-    entry: &mut Entry,
-    bytes: &[u8],
-    at: usize,
-    out: &mut Run,
-) -> Relayed
-    requires run { IsRun bytes.now at out.now }
-    requires presence { instr.now.presence ≡ presence_type.Optional }
-    ensures place { IfRelayed result (λ bit next. (at ≤ next) × (next ≤ length bytes.now)) }
-    ensures run { IfRelayed result (λ bit next. IsRun bytes.now next out.new) }
-    ensures relayed { IfRelayed result (λ bit next. RelaysNullAs bit instr.now entry.old entry.new
-        (drop at bytes.now) (drop next bytes.now)
-        (written bytes.now out.old) (written bytes.now out.new)) }
-    ensures entry { IfElsewhere result (entry.new ≡ entry.old) }
-    ensures out { IfElsewhere result (Stays bytes.now at out.old out.new) }
-{
-    match instr.operator {
-        Operator::Plain | Operator::Default | Operator::Copy | Operator::Increment => {
-            match instr.kind {
-                Kind::UInt32 => relay_any_null(Kind::UInt32, instr, entry, bytes, at, out),
-                Kind::Int32 => relay_any_null(Kind::Int32, instr, entry, bytes, at, out),
-                Kind::UInt64 => relay_any_null(Kind::UInt64, instr, entry, bytes, at, out),
-                Kind::Int64 => relay_any_null(Kind::Int64, instr, entry, bytes, at, out),
-                Kind::Decimal | Kind::Ascii | Kind::Unicode | Kind::Bytes => Relayed::Elsewhere,
-            }
-        }
-        Operator::Constant | Operator::Delta | Operator::Tail => Relayed::Elsewhere,
-    }
-}
-
-/// Reads NULL under bit 1, of a field of any type that may be absent, appends it where it is the best form of that, and
+/// Reads NULL in its shortest form under bit 1, of a field of any type that may be absent, appends it where it is the best form of that, and
 /// makes the entry the one afterwards. Elsewhere: nothing has changed, and another way tells.
 #[inline(always)]
 pub fn relay_null(
@@ -244,9 +135,6 @@ pub fn relay_null(
     match instr.presence {
         Presence::Mandatory => Relayed::Elsewhere,
         Presence::Optional => {
-            if at < bytes.len() && bytes[at] == 0 {
-                return relay_long_null(instr, entry, bytes, at, out);
-            }
             if !begins_with_null(bytes, at) {
                 return Relayed::Elsewhere;
             }

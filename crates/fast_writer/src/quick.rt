@@ -13,7 +13,7 @@ ghost use Rattle.fast_walk.specs.Told.{KeepScalars};
 ghost use Rattle.fast_stream.specs.Bits.{after_bit, bit_for};
 ghost use Rattle.fast_writer.specs.Levels.{level_of};
 ghost use Rattle.fast_writer.specs.Room.{has_room};
-ghost use Rattle.fast_relay.specs.Relayed.{IfElsewhere, IfRelayed, IsThere, RelaysAs};
+ghost use Rattle.fast_relay.specs.Relayed.{IsThere};
 ghost use Rattle.fast_relay.specs.Runs.{IsRun, Stays, written};
 ghost use Rattle.fast_writer.specs.Quick.{Relayed};
 ghost use Rattle.fast_writer.specs.Written.{Spelt};
@@ -22,44 +22,13 @@ use crate::relay::relay_entry;
 use crate::segment::Segment;
 use fast_dictionary::{Entries, Entry};
 use fast_field::FieldFault;
-use fast_relay::{Relayed as Answer, Run, relay_decimal, relay_null, relay_text};
-use fast_template::{FieldPart, Kind, Presence, part_needs_bit};
+use fast_relay::{Relayed as Answer, Run, relay_null, respell_text};
+use fast_template::{FieldPart, part_needs_bit};
 use fast_wire::Level;
 use std::alloc::Global;
 
-/// The byte that NULL is in its shortest form.
-const NULL: u8 = 128;
-
-// Reads what was sent under bit 1 by its type and appends its best form.
-#[inline(always)]
-fn relay_value(
-    alloc: Global,
-    part: &FieldPart,
-    entry: &mut Entry,
-    bytes: &[u8],
-    at: usize,
-    out: &mut Run,
-) -> Answer
-    requires run { IsRun bytes.now at out.now }
-    requires kept { HoldsScalar entry.now }
-    ensures place { IfRelayed result (λ bit next. (at ≤ next) × (next ≤ length bytes.now)) }
-    ensures run { IfRelayed result (λ bit next. IsRun bytes.now next out.new) }
-    ensures relayed { IfRelayed result (λ bit next. (v : ScalarOf)
-        × RelaysAs bit part.now entry.old entry.new v (drop at bytes.now) (drop next bytes.now)
-        (written bytes.now out.old) (written bytes.now out.new)) }
-    ensures entry { IfElsewhere result (entry.new ≡ entry.old) }
-    ensures out { IfElsewhere result (Stays bytes.now at out.old out.new) }
-{
-    match part.kind {
-        // judged where it is not rare
-        Kind::UInt32 | Kind::Int32 | Kind::UInt64 | Kind::Int64 => Answer::Elsewhere,
-        Kind::Decimal => relay_decimal(part, entry, bytes, at, out),
-        Kind::Ascii | Kind::Unicode | Kind::Bytes => relay_text(alloc, part, entry, bytes, at, out),
-    }
-}
-
-// Reads what was sent under bit 1 and is not judged as it stands, or NULL, and appends its best form. Answers whether the value
-// is there, and the bit of its best form. None: nothing has changed, and the part goes another way.
+// Reads NULL, or a string that was sent as a difference or a tail and says more than it had to, and appends its best form. Answers
+// whether the value is there, and the bit of its best form. None: nothing has changed, and the part goes another way.
 #[inline(always)]
 pub(crate) fn relay_other(
     alloc: Global,
@@ -79,21 +48,12 @@ pub(crate) fn relay_other(
     ensures entry { IfNone result (entry.new ≡ entry.old) }
     ensures out { IfNone result (Stays bytes.now at out.old out.new) }
 {
-    // most that is not judged is NULL
-    if part.presence == Presence::Optional && at < bytes.len() && bytes[at] == NULL {
-        return match relay_null(part, entry, bytes, at, out) {
-            Answer::Sent(_next) => Some((false, true)),
-            Answer::Given(_next) => Some((false, false)),
-            Answer::Elsewhere => None,
-        };
-    }
-    match relay_value(alloc, part, entry, bytes, at, out) {
-        Answer::Sent(_next) => Some((true, true)),
-        Answer::Given(_next) => Some((true, false)),
-        Answer::Elsewhere => match relay_null(part, entry, bytes, at, out) {
-            Answer::Sent(_next) => Some((false, true)),
-            Answer::Given(_next) => Some((false, false)),
-            Answer::Elsewhere => None,
+    match relay_null(part, entry, bytes, at, out) {
+        Answer::Sent(_next) => Some((false, true)),
+        Answer::Given(_next) => Some((false, false)),
+        Answer::Elsewhere => match respell_text(alloc, part, entry, bytes, at, out) {
+            Some(_next) => Some((true, true)),
+            None => None,
         },
     }
 }

@@ -14,13 +14,6 @@ fn nulls_that_bit_0_gives(rt: HostRuntime) -> Result<(), AllocError> {
             bytes: &[0xff, 0x80],
             after: Kept::Empty,
         },
-        // in an overlong form
-        Given {
-            of: Shape::Optional(Kind::UInt32, Operator::Copy),
-            before: Kept::Empty,
-            bytes: &[0xff, 0x00, 0x80],
-            after: Kept::Empty,
-        },
         Given {
             of: Shape::Optional(Kind::UInt32, Operator::Default),
             before: Kept::Assigned(Value::U32(7)),

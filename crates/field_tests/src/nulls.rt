@@ -16,14 +16,6 @@ fn nulls_that_are_relayed(rt: HostRuntime) -> Result<(), AllocError> {
             appended: &[0x80],
             after: Kept::Empty,
         },
-        // an overlong NULL of a number
-        Relayed {
-            of: Shape::Optional(Kind::UInt32, Operator::Copy),
-            before: Kept::Assigned(Value::U32(7)),
-            bytes: &[0xff, 0x00, 0x80],
-            appended: &[0x80],
-            after: Kept::Empty,
-        },
         Relayed {
             of: Shape::Optional(Kind::Ascii, Operator::Copy),
             before: Kept::Assigned(Value::Ascii(b"AB")),
@@ -89,6 +81,12 @@ fn nulls_that_are_relayed(rt: HostRuntime) -> Result<(), AllocError> {
             of: Shape::Optional(Kind::UInt32, Operator::Constant),
             before: Kept::Undefined,
             bytes: &[0xff, 0x80],
+        },
+        // an overlong NULL of a number
+        NotRelayed {
+            of: Shape::Optional(Kind::UInt32, Operator::Copy),
+            before: Kept::Assigned(Value::U32(7)),
+            bytes: &[0xff, 0x00, 0x80],
         },
         // an overlong NULL of a string
         NotRelayed {
