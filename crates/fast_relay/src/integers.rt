@@ -11,7 +11,7 @@ use fast_wire::{Nullable, overlong_signed, overlong_unsigned};
 
 /// Whether the integers of a type have no sign.
 #[inline(always)]
-pub(crate) fn is_unsigned(kind: Kind) -> bool
+pub fn is_unsigned(kind: Kind) -> bool
     ensures { result ≡ values.is_unsigned kind }
 {
     match kind {

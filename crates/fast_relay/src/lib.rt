@@ -42,6 +42,7 @@ mod utf8;
 mod vectors;
 mod words;
 
+pub use integers::is_unsigned;
 pub use judged::{Judged, judge_field};
 pub use null::relay_null;
 pub use number::relay_unsigned;

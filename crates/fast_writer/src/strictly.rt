@@ -3,23 +3,12 @@
 ghost use Rattle.std.specs.Prelude.{◌≡◌, ◌≤◌, length, drop, true};
 ghost use Rattle.fast_wire.specs.declared.level.Level.TheVariants.{Strict};
 ghost use Rattle.fast_field.specs.AsUsual.{ReadsAsUsual};
-ghost use Rattle.fast_field.specs.Values as values;
 ghost use Rattle.fast_writer.specs.Beginnings.{BeginsNumber, BeginsShort, BeginsShortBehind};
 
 use fast_field::reads_as_usual;
+use fast_relay::is_unsigned;
 use fast_template::{FieldPart, Kind, Operator};
 use fast_wire::Level;
-
-// Whether the integers of a type have no sign.
-#[inline(always)]
-fn is_unsigned(kind: Kind) -> bool
-    ensures { result ≡ values.is_unsigned kind }
-{
-    match kind {
-        Kind::UInt32 | Kind::UInt64 => true,
-        _ => false,
-    }
-}
 
 // Whether two bytes show that no entity which begins with them is longer than its number needs.
 #[inline(always)]
