@@ -1,6 +1,6 @@
 -- What values rest on that were sent although bit 0 gives them.
 use Rattle.std.proofs.Common.{◌≡◌, ◌++◌, ◌-◌, ℕ, true, List, length, take, drop, Ok, refl, sym, ap, subst, ◌∙◌, inl, inr}
-use Rattle.std.specs.Prelude.{◌⊎◌, Option, Some, None, IsTrue}
+use Rattle.std.specs.Prelude.{◌⊎◌, Option, Some, IsTrue}
 use Rattle.std.proofs.lemmas.List.{take-append-drop}
 use Rattle.fast_wire.specs.declared.level.Level.TheVariants.{Usual}
 use Rattle.fast_wire.specs.Entity.{groups}
@@ -9,15 +9,13 @@ use Rattle.fast_value.specs.declared.kind.Kind.{Kind}
 use Rattle.fast_value.specs.declared.kind.Kind.TheVariants as kind
 use Rattle.fast_value.specs.declared.kind.Operator.{Operator}
 use Rattle.fast_value.specs.declared.kind.Operator.TheVariants as operator
-use Rattle.fast_value.specs.declared.kind.Part.{Part}
 use Rattle.fast_value.specs.declared.kind.Part.TheVariants as part
-use Rattle.fast_value.specs.declared.kind.Presence.{Presence}
 use Rattle.fast_template.specs.declared.resolved.FieldPart.{FieldPart}
 use Rattle.fast_value.specs.declared.scalar.Scalar.{Scalar}
 use Rattle.fast_value.specs.declared.scalar.Scalar.TheVariants.{Ascii}
 use Rattle.fast_dictionary.specs.declared.entry.Entry.{Entry}
 use Rattle.fast_dictionary.specs.declared.entry.Entry.TheVariants.{Assigned}
-use Rattle.fast_field.specs.FieldReading.{row_at, spelled_at, tail_at, units_spelled_at, whole_at}
+use Rattle.fast_field.specs.FieldReading.{row_at, tail_at, units_spelled_at}
 use Rattle.fast_field.specs.Fields.{IsWithin}
 use Rattle.fast_field.specs.Numbers.{Predicts}
 use Rattle.fast_field.specs.Passed.{Passes}

@@ -1,13 +1,11 @@
 -- NULL, read and written at once.
 use Rattle.std.proofs.Common.{◌≡◌, ℕ, true, false, List, [], ◌∷◌, ◌++◌, Ok, refl, sym, ◌∙◌, arith}
-use Rattle.std.specs.Prelude.{None, IsTrue}
+use Rattle.std.specs.Prelude.{None}
 use Rattle.fast_wire.specs.declared.level.Level.TheVariants.{Usual}
 use Rattle.fast_wire.specs.Nullable.{IsUnsignedNullable}
 use Rattle.fast_wire.specs.Writing.{IsShortest}
 use Rattle.fast_wire.specs.declared.nullable.Nullable.TheVariants.{Null}
 use Rattle.fast_wire.proofs.UnsignedForms.{entity_some}
-use Rattle.fast_value.specs.Scalar.{is_integer}
-use Rattle.fast_value.specs.declared.kind.Kind.{Kind}
 use Rattle.fast_value.specs.declared.kind.Operator.TheVariants as operator
 use Rattle.fast_value.specs.declared.kind.Presence.TheVariants.{Optional}
 use Rattle.fast_template.specs.declared.resolved.FieldPart.{FieldPart}
@@ -17,10 +15,8 @@ use Rattle.fast_field.specs.Best.{IsBest}
 use Rattle.fast_field.specs.FieldReading.{field_at, row_at, whole_at}
 use Rattle.fast_field.specs.Passed.{Passes}
 use Rattle.fast_field.specs.Planning.{left_out_of}
-use Rattle.fast_field.specs.Values.{is_unsigned}
 use Rattle.fast_field.proofs.ChosenForms.{null_best}
 use Rattle.fast_field.proofs.FieldForms.{field_forms}
-use Rattle.fast_field.proofs.FieldsGoOn.{field_goes}
 use Rattle.fast_field.proofs.WrittenForms.{appends_best}
 use Rattle.fast_relay.specs.Numbers.{SpellsWhole}
 use Rattle.fast_relay.specs.Relayed.{Drops, RelaysNull}

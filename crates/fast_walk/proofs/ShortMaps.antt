@@ -1,6 +1,5 @@
 -- A map of one group or two that reaches no further than its last 1 is none that the strict level refuses.
-use Rattle.std.proofs.Common.{◌≡◌, ◌≤◌, ◌<◌, ℕ, suc, ◌%◌, ◌-◌, Bool, true, false, nat_eq, nat_le, List, [], ◌∷◌, Result, Ok, refl, arith, ◌⊎◌, inl, inr}
-use Rattle.std.specs.Prelude.{if◌then◌else◌}
+use Rattle.std.proofs.Common.{◌≡◌, ◌≤◌, ◌<◌, ℕ, ◌%◌, Bool, true, false, nat_eq, nat_le, List, [], ◌∷◌, Ok, refl, arith, ◌⊎◌, inl, inr}
 use Rattle.std.proofs.lemmas.Bool.Decides.{nat_tests}
 use Rattle.fast_wire.specs.Level.{judge, overlong_map}
 use Rattle.fast_wire.specs.Reading.{entity_at}
