@@ -1,5 +1,5 @@
 -- Lemmas on a stream on its way to canonical bytes.
-use Rattle.std.proofs.Common.{◌≡◌, ◌≤◌, ℕ, List, length, length-append, arith, Option, Err, ap, ◌∙◌}
+use Rattle.std.proofs.Common.{◌≡◌, ◌≤◌, ℕ, List, length, length-append, arith, Option, None, Result, Ok, Err, OnOk, ap, ◌∙◌}
 use Rattle.fast_template.specs.Resolved.{Resolved}
 use Rattle.fast_template.specs.TemplateSets.{IsSound, TemplateList, templates_in}
 use Rattle.fast_stream.specs.declared.mode.Mode.{Mode}
@@ -7,10 +7,14 @@ use Rattle.fast_stream.specs.Blocks.{at_start}
 use Rattle.fast_stream.proofs.Framings.{as_messages_from}
 use Rattle.fast_stream.specs.Nodes.{Content}
 use Rattle.fast_machine.specs.Standing.{Carried}
+use Rattle.fast_io.specs.Counts.{counted_by}
+use Rattle.fast_machine.proofs.Followings.{all_carried}
+use Rattle.fast_pass.specs.declared.summary.Summary.{Summary}
+use Rattle.fast_pass.proofs.Relayings.{summary_by}
 use Rattle.fast_pass.specs.declared.fault.CanonFault.{CanonFault}
 use Rattle.fast_pass.specs.declared.fault.CanonFault.TheVariants as refusal
-use Rattle.fast_pass.specs.Passed.{Passes}
-use Rattle.fast_canon.specs.Canonicalised.{Canonicalises}
+use Rattle.fast_pass.specs.Passed.{Passes, errors_after}
+use Rattle.fast_canon.specs.Canonicalised.{Canonicalises, Checks}
 use Rattle.fast_canon.proofs.StreamLaws.{none_shorter_alone}
 use Rattle.fast_writer.specs.Canonical.{IsCanonical}
 
@@ -27,3 +31,27 @@ pub as_canonical : (mode : Mode) (set : List Resolved) (turns : ℕ) (left a b :
 as_canonical mode set turns left a b input (refusal.Stream f) p = p
 as_canonical mode set turns left a b input refusal.Write p = p
 as_canonical mode set turns left a b input refusal.Memory p = p
+
+-- What a run answers of canonical bytes: they are counted exactly, being no more than the bytes read.
+pub canonicalised : (mode : Mode) (set : TemplateList) (turns : ℕ) (left a b : Option (List ℕ)) (input : List ℕ) (r : Result Summary CanonFault) → OnOk r (IsSound set) → ((n : ℕ) → n ≤ length input → counted_by 0 n ≡ n)
+    → Passes IsCanonical mode (templates_in set) turns left a b input r → Canonicalises mode (templates_in set) turns left a b input r
+canonicalised mode set turns left a b input (Ok summary) sound exact p =
+    let less = no_longer mode set sound input p.out p.messages (all_carried mode (templates_in set) input p.messages p.ends.carried) p.made in
+    record {
+      messages = p.messages;
+      out = p.out;
+      ends = p.ends;
+      canonical = p.made;
+      written = p.written;
+      counts = p.counts ∙ ap (λ (n : ℕ). summary_by (length p.messages) (length input) n) (exact (length p.out) less);
+      no_longer = less;
+    }
+canonicalised mode set turns left a b input (Err f) sound exact p = as_canonical mode (templates_in set) turns left a b input f p
+
+-- Where nothing is written no write fails.
+pub checked : (mode : Mode) (set : List Resolved) (turns : ℕ) (left : Option (List ℕ)) (input : List ℕ) (r : Result Summary CanonFault) → 0 ≡ errors_after r 0
+    → Canonicalises mode set turns left None None input r → Checks mode set turns left input r
+checked mode set turns left input (Ok summary) none p = p
+checked mode set turns left input (Err (refusal.Stream f)) none p = p
+checked mode set turns left input (Err refusal.Write) none p = absurd (omega (arith, none))
+checked mode set turns left input (Err refusal.Memory) none p = p

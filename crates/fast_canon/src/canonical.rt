@@ -50,10 +50,7 @@ pub fn canonicalise<R: ByteInput, W: ByteOutput>(
     ensures write { W.errors writer.new ≡ errors_after result (W.errors writer.old) }
     ensures flush { FlushesOnce result (W.flushes writer.old) (W.flushes writer.new) }
 {
-    match pass_through(alloc, set, mode, Writer::new(alloc), reader, writer, turns) {
-        Ok(summary) => Ok(summary),
-        Err(fault) => Err(fault),
-    }
+    pass_through(alloc, set, mode, Writer::new(alloc), reader, writer, turns)
 }
 
 /// Reads a stream as `canonicalise` does, and writes nothing: it answers what that would count.
@@ -82,8 +79,5 @@ pub fn check<R: ByteInput>(
         calls: 0,
         flushes: 0,
     };
-    match canonicalise(alloc, set, mode, reader, &mut nowhere, turns) {
-        Ok(counted) => Ok(counted),
-        Err(fault) => Err(fault),
-    }
+    canonicalise(alloc, set, mode, reader, &mut nowhere, turns)
 }

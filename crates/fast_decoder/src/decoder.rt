@@ -90,16 +90,10 @@ impl<'a, E: Entries> Decoder<'a, E> {
             return Err(fault);
         }
         if self.machine.lacks_more(chunk) {
-            return match self.machine.hold_on(chunk) {
-                Err(fault) => Err(fault),
-                Ok(()) => Ok(()),
-            };
+            return self.machine.hold_on(chunk);
         }
         if let Some(lack) = self.machine.first_lacking(chunk) {
-            return match self.machine.feed_lacking(lack, chunk) {
-                Err(fault) => Err(fault),
-                Ok(()) => Ok(()),
-            };
+            return self.machine.feed_lacking(lack, chunk);
         }
         // the builder pushes behind the messages that are there
         let machine = &mut self.machine;
@@ -130,10 +124,7 @@ impl<'a, E: Entries> Decoder<'a, E> {
         ensures mode { mode_of self.new.machine ≡ mode_of self.old.machine }
         ensures fed { self.new.machine.fed ≡ self.old.machine.fed }
     {
-        match self.machine.finish() {
-            Err(fault) => Err(fault),
-            Ok(()) => Ok(()),
-        }
+        self.machine.finish()
     }
 
     /// The fault of a stream of which no more bytes come for this cause: where the next piece would begin.

@@ -48,13 +48,9 @@ fn put_rest<'a, E: Entries>(
         (E.contents journal.new.entries) }
     ensures unchanged { OnErr result (out.new.items ≡ out.old.items) }
 {
-    match put_nodes(members, nodes, alloc, journal, level) {
-        Err(fault) => Err(fault),
-        Ok(()) => match seal(level, out) {
-            Err(fault) => Err(fault),
-            Ok(()) => Ok(()),
-        },
-    }
+    put_nodes(members, nodes, alloc, journal, level)?;
+    seal(level, out)?;
+    Ok(())
 }
 
 // The value of an identifier.
@@ -96,21 +92,19 @@ pub(crate) fn put_message<'a, E: Entries>(
 {
     journal.keep();
     level.begin(true);
-    match put_value(
+    let before = put_value(
         alloc,
         &mut journal.entries,
         identifier,
         Some(&template_of(message)),
         level,
-    ) {
-        Err(fault) => Err(fault),
-        Ok(before) => match put_rest(members, &message.fields, alloc, journal, level, out) {
-            Err(fault) => {
-                journal.put_back();
-                put_back(&mut journal.entries, identifier, before);
-                Err(fault)
-            }
-            Ok(()) => Ok(()),
-        },
+    )?;
+    match put_rest(members, &message.fields, alloc, journal, level, out) {
+        Err(fault) => {
+            journal.put_back();
+            put_back(&mut journal.entries, identifier, before);
+            Err(fault)
+        }
+        Ok(()) => Ok(()),
     }
 }

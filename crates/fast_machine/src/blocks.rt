@@ -45,13 +45,11 @@ fn read_size(level: Level, bytes: &[u8]) -> Result<(u128, usize), Cause>
     // few bytes are there where more are wanted
     ensures few { IfErr result (λ c. c ≡ Cause.Truncated → length bytes.now ≤ 9) }
 {
-    match judge_size(level, bytes) {
-        Err(cause) => Err(cause),
-        Ok(()) => match read_unsigned(bytes, 0) {
-            Err(fault) => Err(wire_cause(fault)),
-            Ok((0, _)) => Err(Cause::D12),
-            Ok(size) => Ok(size),
-        },
+    judge_size(level, bytes)?;
+    match read_unsigned(bytes, 0) {
+        Err(fault) => Err(wire_cause(fault)),
+        Ok((0, _)) => Err(Cause::D12),
+        Ok(size) => Ok(size),
     }
 }
 
@@ -68,10 +66,7 @@ pub(crate) fn open_block(level: Level, left: u128, bytes: &[u8]) -> Result<(u128
     if left > 0 {
         return Ok((left, 0));
     }
-    match read_size(level, bytes) {
-        Err(cause) => Err(cause),
-        Ok(opened) => Ok(opened),
-    }
+    read_size(level, bytes)
 }
 
 /// How many of so many bytes belong to a block of which so many are left.

@@ -124,15 +124,11 @@ impl Receiver for Builder {
         bytes: &[u8],
         at: usize,
     ) -> Result<(u32, usize), FieldFault> {
-        match take_identifier(alloc, entries, identifier, bit, level, bytes, at) {
-            Err(fault) => Err(fault),
-            Ok((id, next)) => {
-                self.template = id;
-                self.nodes = Vec::new(alloc);
-                self.outer = Vec::new(alloc);
-                Ok((id, next))
-            }
-        }
+        let (id, next) = take_identifier(alloc, entries, identifier, bit, level, bytes, at)?;
+        self.template = id;
+        self.nodes = Vec::new(alloc);
+        self.outer = Vec::new(alloc);
+        Ok((id, next))
     }
 
     fn finish(&mut self, alloc: Global) -> Result<(), AllocError> {
@@ -162,13 +158,11 @@ impl Receiver for Builder {
         bytes: &[u8],
         at: usize,
     ) -> Result<usize, FieldFault> {
-        match take_part(alloc, entries, part, bit, level, bytes, at) {
-            Err(fault) => Err(fault),
-            Ok((value, next)) => match self.nodes.push(node_of(value)) {
-                Err(_) => Err(FieldFault::Memory),
-                Ok(()) => Ok(next),
-            },
-        }
+        let (value, next) = take_part(alloc, entries, part, bit, level, bytes, at)?;
+        self.nodes
+            .push(node_of(value))
+            .map_err(|_| FieldFault::Memory)?;
+        Ok(next)
     }
 
     fn exponent<E: Entries>(
@@ -183,13 +177,14 @@ impl Receiver for Builder {
         bytes: &[u8],
         at: usize,
     ) -> Result<(bool, usize), FieldFault> {
-        match take_exponent(alloc, entries, part, bit, level, bytes, at) {
-            Err(fault) => Err(fault),
-            Ok((None, next)) => match self.nodes.push(Node::Absent) {
-                Err(_) => Err(FieldFault::Memory),
-                Ok(()) => Ok((false, next)),
-            },
-            Ok((Some(exponent), next)) => {
+        match take_exponent(alloc, entries, part, bit, level, bytes, at)? {
+            (None, next) => {
+                self.nodes
+                    .push(Node::Absent)
+                    .map_err(|_| FieldFault::Memory)?;
+                Ok((false, next))
+            }
+            (Some(exponent), next) => {
                 self.exponent = exponent;
                 Ok((true, next))
             }
@@ -206,19 +201,12 @@ impl Receiver for Builder {
         bytes: &[u8],
         at: usize,
     ) -> Result<usize, FieldFault> {
-        match take_mantissa(alloc, entries, part, bit, level, bytes, at) {
-            Err(fault) => Err(fault),
-            Ok((mantissa, next)) => {
-                let exponent = self.exponent;
-                match self
-                    .nodes
-                    .push(Node::Value(Scalar::Decimal { exponent, mantissa }))
-                {
-                    Err(_) => Err(FieldFault::Memory),
-                    Ok(()) => Ok(next),
-                }
-            }
-        }
+        let (mantissa, next) = take_mantissa(alloc, entries, part, bit, level, bytes, at)?;
+        let exponent = self.exponent;
+        self.nodes
+            .push(Node::Value(Scalar::Decimal { exponent, mantissa }))
+            .map_err(|_| FieldFault::Memory)?;
+        Ok(next)
     }
 
     fn begin_sequence<E: Entries>(
@@ -233,13 +221,14 @@ impl Receiver for Builder {
         bytes: &[u8],
         at: usize,
     ) -> Result<(Option<u32>, usize), FieldFault> {
-        match take_length(alloc, entries, part, bit, level, bytes, at) {
-            Err(fault) => Err(fault),
-            Ok((None, next)) => match self.nodes.push(Node::Absent) {
-                Err(_) => Err(FieldFault::Memory),
-                Ok(()) => Ok((None, next)),
-            },
-            Ok((Some(length), next)) => {
+        match take_length(alloc, entries, part, bit, level, bytes, at)? {
+            (None, next) => {
+                self.nodes
+                    .push(Node::Absent)
+                    .map_err(|_| FieldFault::Memory)?;
+                Ok((None, next))
+            }
+            (Some(length), next) => {
                 self.elements = Vec::new(alloc);
                 Ok((Some(length), next))
             }

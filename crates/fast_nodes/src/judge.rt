@@ -68,9 +68,9 @@ pub fn template_for<'a>(
             cause: EncodeCause::D9,
             instruction: 0,
         }),
-        Some(template) => match judge_whole(&template.members, &message.fields) {
-            Err(fault) => Err(fault),
-            Ok(()) => Ok(template),
-        },
+        Some(template) => {
+            judge_whole(&template.members, &message.fields)?;
+            Ok(template)
+        }
     }
 }

@@ -118,13 +118,11 @@ fn put_decimal<'a, E: Entries>(
         Scalar::Decimal {
             exponent: e,
             mantissa: m,
-        } => match journal.put(alloc, exponent, Some(&exponent_of(e)), level) {
-            Err(fault) => Err(fault),
-            Ok(()) => match journal.put(alloc, mantissa, Some(&mantissa_of(m)), level) {
-                Err(fault) => Err(fault),
-                Ok(()) => Ok(()),
-            },
-        },
+        } => {
+            journal.put(alloc, exponent, Some(&exponent_of(e)), level)?;
+            journal.put(alloc, mantissa, Some(&mantissa_of(m)), level)?;
+            Ok(())
+        }
         _ => Err(no_shape()),
     }
 }
@@ -188,13 +186,9 @@ fn put_node<'a, E: Entries>(
             Node::Sequence(elements) => {
                 let members: &'a [Flat] = members;
                 let elements: &[Vec<Node>] = elements;
-                match put_length(alloc, length, elements, journal, level) {
-                    Err(fault) => Err(fault),
-                    Ok(()) => {
-                        tell_elements(members, elements, journal);
-                        put_elements(members, elements, alloc, journal, &mut level.bytes.out)
-                    }
-                }
+                put_length(alloc, length, elements, journal, level)?;
+                tell_elements(members, elements, journal);
+                put_elements(members, elements, alloc, journal, &mut level.bytes.out)
             }
             Node::Value(_) | Node::Group(_) => Err(no_shape()),
         },
@@ -229,10 +223,7 @@ pub fn put_nodes<'a, E: Entries>(
         return Err(no_shape());
     }
     'members: for at in 0..flats.len() {
-        match put_node(&flats[at], &nodes[at], alloc, journal, level) {
-            Err(fault) => return Err(fault),
-            Ok(()) => {}
-        }
+        put_node(&flats[at], &nodes[at], alloc, journal, level)?;
     }
     Ok(())
 }
@@ -259,13 +250,9 @@ fn put_segment<'a, E: Entries>(
         (E.contents journal.new.entries) }
 {
     let mut level = Segment::new(alloc, has_map(members));
-    match put_nodes(members, nodes, alloc, journal, &mut level) {
-        Err(fault) => Err(fault),
-        Ok(()) => match seal(&level, out) {
-            Err(fault) => Err(fault),
-            Ok(()) => Ok(()),
-        },
-    }
+    put_nodes(members, nodes, alloc, journal, &mut level)?;
+    seal(&level, out)?;
+    Ok(())
 }
 
 // Writes the elements of a sequence, behind its length.
@@ -291,10 +278,7 @@ fn put_elements<'a, E: Entries>(
         (E.contents journal.new.entries) }
 {
     'elements: for at in 0..elements.len() {
-        match put_segment(members, &elements[at], alloc, journal, out) {
-            Err(fault) => return Err(fault),
-            Ok(()) => {}
-        }
+        put_segment(members, &elements[at], alloc, journal, out)?;
     }
     Ok(())
 }

@@ -106,13 +106,9 @@ fn take_generally(
         → (field_at level part.now entry.old bit (drop at bytes.now) ≡ Err f)
         × (entry.new ≡ entry.old)) }
 {
-    match read_in_place(alloc, part, entry, bit, level, bytes, at) {
-        Err(fault) => Err(fault),
-        Ok((found, next)) => match found.into_value(alloc, part, entry.view()) {
-            Err(_) => Err(FieldFault::Memory),
-            Ok(value) => Ok((value, next)),
-        },
-    }
+    let (found, next) = read_in_place(alloc, part, entry, bit, level, bytes, at)?;
+    let value = found.into_value(alloc, part, entry.view())?;
+    Ok((value, next))
 }
 
 /// Takes a part's value from the bytes: an integer at once, and all else in the general way.
@@ -160,10 +156,10 @@ fn take_value(
         × (entry.new ≡ entry.old)) }
 {
     match take_given(part, entry, bit) {
-        Some(found) => match copied(alloc, found.value(part, entry.view())) {
-            Err(_) => Err(FieldFault::Memory),
-            Ok(value) => Ok((value, at)),
-        },
+        Some(found) => {
+            let value = copied(alloc, found.value(part, entry.view()))?;
+            Ok((value, at))
+        }
         None => take_sent(alloc, part, entry, bit, level, bytes, at),
     }
 }
@@ -196,13 +192,8 @@ pub fn take_part<E: Entries>(
         × (E.contents entries.new ≡ E.contents entries.old)) }
     ensures same_keys { E.serves entries.new ≡ E.serves entries.old }
 {
-    match entries.entry_mut(&part.key) {
-        Err(_) => Err(FieldFault::Memory),
-        Ok(entry) => match take_value(alloc, part, entry, bit, level, bytes, at) {
-            Err(fault) => Err(fault),
-            Ok((value, next)) => Ok((value, next)),
-        },
-    }
+    let entry = entries.entry_mut(&part.key)?;
+    take_value(alloc, part, entry, bit, level, bytes, at)
 }
 
 // The number that a value of this type is.
@@ -272,12 +263,10 @@ pub fn take_identifier<E: Entries>(
         × (E.contents entries.new ≡ E.contents entries.old)) }
     ensures same_keys { E.serves entries.new ≡ E.serves entries.old }
 {
-    match take_part(alloc, entries, identifier, bit, level, bytes, at) {
-        Err(fault) => Err(fault),
-        Ok((value, next)) => match unsigned_in(&value) {
-            Some(id) => Ok((id, next)),
-            None => unreachable!(),
-        },
+    let (value, next) = take_part(alloc, entries, identifier, bit, level, bytes, at)?;
+    match unsigned_in(&value) {
+        Some(id) => Ok((id, next)),
+        None => unreachable!(),
     }
 }
 
@@ -309,10 +298,8 @@ pub fn take_length<E: Entries>(
         × (E.contents entries.new ≡ E.contents entries.old)) }
     ensures same_keys { E.serves entries.new ≡ E.serves entries.old }
 {
-    match take_part(alloc, entries, part, bit, level, bytes, at) {
-        Err(fault) => Err(fault),
-        Ok((value, next)) => Ok((unsigned_in(&value), next)),
-    }
+    let (value, next) = take_part(alloc, entries, part, bit, level, bytes, at)?;
+    Ok((unsigned_in(&value), next))
 }
 
 /// Takes the exponent of a decimal in parts, none where that is absent, and the place behind it.
@@ -343,10 +330,8 @@ pub fn take_exponent<E: Entries>(
         × (E.contents entries.new ≡ E.contents entries.old)) }
     ensures same_keys { E.serves entries.new ≡ E.serves entries.old }
 {
-    match take_part(alloc, entries, part, bit, level, bytes, at) {
-        Err(fault) => Err(fault),
-        Ok((value, next)) => Ok((exponent_in(&value), next)),
-    }
+    let (value, next) = take_part(alloc, entries, part, bit, level, bytes, at)?;
+    Ok((exponent_in(&value), next))
 }
 
 /// Takes the mantissa of a decimal whose exponent is there, and the place behind it.
@@ -378,8 +363,6 @@ pub fn take_mantissa<E: Entries>(
         × (E.contents entries.new ≡ E.contents entries.old)) }
     ensures same_keys { E.serves entries.new ≡ E.serves entries.old }
 {
-    match take_part(alloc, entries, part, bit, level, bytes, at) {
-        Err(fault) => Err(fault),
-        Ok((value, next)) => Ok((mantissa_in(&value), next)),
-    }
+    let (value, next) = take_part(alloc, entries, part, bit, level, bytes, at)?;
+    Ok((mantissa_in(&value), next))
 }

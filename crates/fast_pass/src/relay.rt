@@ -97,10 +97,7 @@ fn hand_on_many<O: Output, W: ByteOutput, E: Entries>(
     if machine.receiver.finished().len() < MANY {
         return Ok(0);
     }
-    match hand_on(machine, alloc, writer) {
-        Err(stop) => Err(stop),
-        Ok(count) => Ok(count),
-    }
+    hand_on(machine, alloc, writer)
 }
 
 /// Takes the bytes of one read, message by message, and hands on what is made of them wherever it is many bytes;
@@ -131,10 +128,7 @@ fn take_in<O: Output, W: ByteOutput, E: Entries>(
             Err(fault) => return Ok((Reached::Fault(fault), written)),
             Ok(taken) => at += taken,
         }
-        match hand_on_many(machine, alloc, writer) {
-            Err(stop) => return Err(stop),
-            Ok(count) => written = written.saturating_add(count),
-        }
+        written = written.saturating_add(hand_on_many(machine, alloc, writer)?);
     }
     Ok((Reached::Open, written))
 }
@@ -171,10 +165,7 @@ fn read_on<O: Output, R: ByteInput, W: ByteOutput, E: Entries>(
             Ok(()) => Ok((Reached::End, 0)),
             Err(fault) => Ok((Reached::Fault(fault), 0)),
         },
-        Ok(count) => match take_in(machine, alloc, &chunk[..count], writer) {
-            Err(stop) => Err(stop),
-            Ok(came) => Ok(came),
-        },
+        Ok(count) => take_in(machine, alloc, &chunk[..count], writer),
         Err(Failed) => Ok((Reached::Fault(machine.cut(Cause::Read)), 0)),
     }
 }
@@ -223,18 +214,11 @@ fn relay<O: Output, R: ByteInput, W: ByteOutput, E: Entries>(
     // (one for all reads, since to make one anew is to fill it)
     let mut chunk = [0u8; CHUNK];
     'reads: while is_open(reached) && reads < turns {
-        match read_on(machine, alloc, reader, writer, &mut chunk) {
-            Err(stop) => return Err(stop),
-            Ok((came, count)) => {
-                reached = came;
-                written = written.saturating_add(count);
-            }
-        }
+        let (came, count) = read_on(machine, alloc, reader, writer, &mut chunk)?;
+        reached = came;
+        written = written.saturating_add(count);
         reads += 1;
-        match hand_on(machine, alloc, writer) {
-            Err(stop) => return Err(stop),
-            Ok(count) => written = written.saturating_add(count),
-        }
+        written = written.saturating_add(hand_on(machine, alloc, writer)?);
     }
     match reached {
         Reached::Open => Ok((Reached::Fault(machine.cut(Cause::Turns)), written)),

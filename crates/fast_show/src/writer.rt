@@ -138,13 +138,9 @@ impl<S: Signs> Receiver for LineWriter<'_, S> {
         bytes: &[u8],
         at: usize,
     ) -> Result<(u32, usize), FieldFault> {
-        match take_identifier(alloc, entries, identifier, bit, level, bytes, at) {
-            Err(fault) => Err(fault),
-            Ok((id, next)) => match self.open_line(id) {
-                Err(_) => Err(FieldFault::Memory),
-                Ok(()) => Ok((id, next)),
-            },
-        }
+        let (id, next) = take_identifier(alloc, entries, identifier, bit, level, bytes, at)?;
+        self.open_line(id)?;
+        Ok((id, next))
     }
 
     #[inline(always)]
@@ -171,7 +167,7 @@ impl<S: Signs> Receiver for LineWriter<'_, S> {
         bytes: &[u8],
         at: usize,
     ) -> Result<usize, FieldFault> {
-        match tell(
+        tell(
             self.signs,
             alloc,
             name,
@@ -183,10 +179,7 @@ impl<S: Signs> Receiver for LineWriter<'_, S> {
             bytes,
             at,
             &mut self.line,
-        ) {
-            Err(fault) => Err(fault),
-            Ok(next) => Ok(next),
-        }
+        )
     }
 
     #[inline(always)]
@@ -203,7 +196,7 @@ impl<S: Signs> Receiver for LineWriter<'_, S> {
     ) -> Result<Fields<'a>, AllocError> {
         // decimals in parts, groups and sequences begin no call of the loop
         match rest.first() {
-            Some(Flat::Field { .. }) => match tell_fields(
+            Some(Flat::Field { .. }) => tell_fields(
                 self.signs,
                 alloc,
                 entries,
@@ -214,10 +207,7 @@ impl<S: Signs> Receiver for LineWriter<'_, S> {
                 bytes,
                 at,
                 &mut self.line,
-            ) {
-                Err(error) => Err(error),
-                Ok(fields) => Ok(fields),
-            },
+            ),
             _ => Ok(Fields {
                 mantissa: None,
                 rest,
@@ -240,19 +230,16 @@ impl<S: Signs> Receiver for LineWriter<'_, S> {
         bytes: &[u8],
         at: usize,
     ) -> Result<(bool, usize), FieldFault> {
-        match take_exponent(alloc, entries, part, bit, level, bytes, at) {
-            Err(fault) => Err(fault),
-            Ok((None, next)) => match self.line.tell_absent(self.signs, name) {
-                Err(_) => Err(FieldFault::Memory),
-                Ok(()) => Ok((false, next)),
-            },
-            Ok((Some(exponent), next)) => match self.line.label(self.signs, name) {
-                Err(_) => Err(FieldFault::Memory),
-                Ok(()) => {
-                    self.exponent = exponent;
-                    Ok((true, next))
-                }
-            },
+        match take_exponent(alloc, entries, part, bit, level, bytes, at)? {
+            (None, next) => {
+                self.line.tell_absent(self.signs, name)?;
+                Ok((false, next))
+            }
+            (Some(exponent), next) => {
+                self.line.label(self.signs, name)?;
+                self.exponent = exponent;
+                Ok((true, next))
+            }
         }
     }
 
@@ -267,15 +254,9 @@ impl<S: Signs> Receiver for LineWriter<'_, S> {
         bytes: &[u8],
         at: usize,
     ) -> Result<usize, FieldFault> {
-        match take_mantissa(alloc, entries, part, bit, level, bytes, at) {
-            Err(fault) => Err(fault),
-            Ok((mantissa, next)) => {
-                match self.line.push_decimal(mantissa, self.exponent) {
-                    Err(_) => Err(FieldFault::Memory),
-                    Ok(()) => Ok(next),
-                }
-            }
-        }
+        let (mantissa, next) = take_mantissa(alloc, entries, part, bit, level, bytes, at)?;
+        self.line.push_decimal(mantissa, self.exponent)?;
+        Ok(next)
     }
 
     #[inline(always)]
@@ -291,16 +272,15 @@ impl<S: Signs> Receiver for LineWriter<'_, S> {
         bytes: &[u8],
         at: usize,
     ) -> Result<(Option<u32>, usize), FieldFault> {
-        match take_length(alloc, entries, part, bit, level, bytes, at) {
-            Err(fault) => Err(fault),
-            Ok((None, next)) => match self.line.tell_absent(self.signs, name) {
-                Err(_) => Err(FieldFault::Memory),
-                Ok(()) => Ok((None, next)),
-            },
-            Ok((Some(length), next)) => match self.line.open_under(self.signs, name, b'[') {
-                Err(_) => Err(FieldFault::Memory),
-                Ok(()) => Ok((Some(length), next)),
-            },
+        match take_length(alloc, entries, part, bit, level, bytes, at)? {
+            (None, next) => {
+                self.line.tell_absent(self.signs, name)?;
+                Ok((None, next))
+            }
+            (Some(length), next) => {
+                self.line.open_under(self.signs, name, b'[')?;
+                Ok((Some(length), next))
+            }
         }
     }
 

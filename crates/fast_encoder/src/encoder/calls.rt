@@ -80,18 +80,16 @@ impl<'a, E: Entries> Encoder<'a, E> {
         ensures same_keys { E.serves self.new.journal.entries
             ≡ E.serves self.old.journal.entries }
     {
-        match template_for(self.set, message) {
-            Err(fault) => Err(fault),
-            Ok(template) => put_message(
-                &template.members,
-                message,
-                self.alloc,
-                &self.identifier,
-                &mut self.journal,
-                &mut self.level,
-                out,
-            ),
-        }
+        let template = template_for(self.set, message)?;
+        put_message(
+            &template.members,
+            message,
+            self.alloc,
+            &self.identifier,
+            &mut self.journal,
+            &mut self.level,
+            out,
+        )
     }
 
     /// Begins a new stream, with all entries undefined. Takes no memory.

@@ -102,15 +102,13 @@ impl<'a, W: ByteOutput, E: Entries> MessageOutputStream<'a, W, E> {
             return Err(no_write());
         }
         self.bytes.clear();
-        match self.encoder.encode(message, &mut self.bytes) {
-            Err(fault) => Err(fault),
-            Ok(()) => match push_all(&mut self.writer, &self.bytes) {
-                Err(_) => {
-                    self.failed = true;
-                    Err(no_write())
-                }
-                Ok(()) => Ok(()),
-            },
+        self.encoder.encode(message, &mut self.bytes)?;
+        match push_all(&mut self.writer, &self.bytes) {
+            Err(_) => {
+                self.failed = true;
+                Err(no_write())
+            }
+            Ok(()) => Ok(()),
         }
     }
 

@@ -343,10 +343,7 @@ impl<'a, R: Receiver, E: Entries> Machine<'a, R, E> {
         if rest.is_empty() {
             return Ok(());
         }
-        match self.hold_some(rest) {
-            Err(fault) => Err(fault),
-            Ok(()) => Ok(()),
-        }
+        self.hold_some(rest)
     }
 
     /// Whether the piece that is not whole, or that begins here, lacks more than these bytes, in the same block, so that they
@@ -594,10 +591,8 @@ impl<'a, R: Receiver, E: Entries> Machine<'a, R, E> {
                         self.waiting = halt.number;
                         return Ok(None);
                     }
-                    match self.hold(halt.number, rest) {
-                        Err(fault) => Err(fault),
-                        Ok(()) => Ok(None),
-                    }
+                    self.hold(halt.number, rest)?;
+                    Ok(None)
                 }
                 _ => {
                     let fault = fault_of(halt, self.messages, self.fed, rest.len(), template);
@@ -633,10 +628,7 @@ impl<'a, R: Receiver, E: Entries> Machine<'a, R, E> {
     {
         self.traversal.set_is_sound();
         match cause {
-            Cause::Truncated => match self.hold(0, bytes) {
-                Err(fault) => Err(fault),
-                Ok(()) => Ok(()),
-            },
+            Cause::Truncated => self.hold(0, bytes),
             _ => Err(self.keep(cause, 0, bytes.len())),
         }
     }
@@ -683,10 +675,8 @@ impl<'a, R: Receiver, E: Entries> Machine<'a, R, E> {
         let (left, at) = match open_block(self.traversal.level(), self.left, bytes) {
             Ok(opened) => opened,
             Err(cause) => {
-                return match self.stop_at_size(cause, bytes) {
-                    Err(fault) => Err(fault),
-                    Ok(()) => Ok(None),
-                };
+                self.stop_at_size(cause, bytes)?;
+                return Ok(None);
             }
         };
         let room = within(left, bytes.len() - at);
@@ -710,10 +700,8 @@ impl<'a, R: Receiver, E: Entries> Machine<'a, R, E> {
                     if self.left <= rest.len() as u128 {
                         return Err(self.keep(Cause::BlockEnd, halt.number, rest.len()));
                     }
-                    match self.hold(halt.number, rest) {
-                        Err(fault) => Err(fault),
-                        Ok(()) => Ok(None),
-                    }
+                    self.hold(halt.number, rest)?;
+                    Ok(None)
                 }
                 _ => {
                     let fault = fault_of(halt, self.messages, self.fed, rest.len(), template);
@@ -765,14 +753,8 @@ impl<'a, R: Receiver, E: Entries> Machine<'a, R, E> {
         ensures fed { self.new.fed ≡ self.old.fed }
     {
         match self.framing {
-            Framing::Plain => match self.read_plain(bytes) {
-                Err(fault) => Err(fault),
-                Ok(next) => Ok(next),
-            },
-            Framing::Blocks => match self.read_block(bytes) {
-                Err(fault) => Err(fault),
-                Ok(next) => Ok(next),
-            },
+            Framing::Plain => self.read_plain(bytes),
+            Framing::Blocks => self.read_block(bytes),
         }
     }
 
@@ -839,21 +821,16 @@ impl<'a, R: Receiver, E: Entries> Machine<'a, R, E> {
     {
         self.end = 0;
         if self.held.is_empty() {
-            return match self.read(chunk) {
-                Err(fault) => Err(fault),
-                Ok(next) => Ok(next),
-            };
+            return self.read(chunk);
         }
         let mut bytes = mem::replace(&mut self.held, Vec::new(self.alloc));
         match append(&mut bytes, chunk) {
             Err(_) => Err(self.refuse()),
-            Ok(()) => match self.read(&bytes) {
-                Err(fault) => Err(fault),
-                Ok(next) => {
-                    hold_in(&mut self.held, bytes);
-                    Ok(next)
-                }
-            },
+            Ok(()) => {
+                let next = self.read(&bytes)?;
+                hold_in(&mut self.held, bytes);
+                Ok(next)
+            }
         }
     }
 
@@ -881,10 +858,9 @@ impl<'a, R: Receiver, E: Entries> Machine<'a, R, E> {
         self.traversal.set_is_sound();
         self.fed += chunk.len() as u64;
         let held = self.held.len();
-        match self.read_behind(chunk) {
-            Err(fault) => Err(fault),
-            Ok(None) => Ok(chunk.len()),
-            Ok(Some(next)) => {
+        match self.read_behind(chunk)? {
+            None => Ok(chunk.len()),
+            Some(next) => {
                 // (a message ends behind the bytes that were held, since no piece was whole in these)
                 let taken = next.saturating_sub(held).max(1).min(chunk.len());
                 self.end_behind(chunk.len() - taken);
@@ -922,21 +898,14 @@ impl<'a, R: Receiver, E: Entries> Machine<'a, R, E> {
             return Err(first);
         }
         if self.lacks_more(chunk) {
-            return match self.hold_on(chunk) {
-                Err(fault) => Err(fault),
-                Ok(()) => Ok(chunk.len()),
-            };
+            self.hold_on(chunk)?;
+            return Ok(chunk.len());
         }
         if let Some(lack) = self.first_lacking(chunk) {
-            return match self.feed_lacking(lack, chunk) {
-                Err(fault) => Err(fault),
-                Ok(()) => Ok(chunk.len()),
-            };
+            self.feed_lacking(lack, chunk)?;
+            return Ok(chunk.len());
         }
-        match self.take_message(chunk) {
-            Err(fault) => Err(fault),
-            Ok(taken) => Ok(taken),
-        }
+        self.take_message(chunk)
     }
 
     /// Takes the next bytes of the stream as `feed` does, of which was asked what they lack (`lacks_more`, `first_lacking`):
@@ -962,10 +931,7 @@ impl<'a, R: Receiver, E: Entries> Machine<'a, R, E> {
     {
         let mut at = 0;
         'messages: while at < chunk.len() {
-            match self.take_message(&chunk[at..]) {
-                Err(fault) => return Err(fault),
-                Ok(taken) => at += taken,
-            }
+            at += self.take_message(&chunk[at..])?;
         }
         Ok(())
     }
@@ -994,21 +960,12 @@ impl<'a, R: Receiver, E: Entries> Machine<'a, R, E> {
             return Err(kept);
         }
         if self.lacks_more(chunk) {
-            return match self.hold_on(chunk) {
-                Err(fault) => Err(fault),
-                Ok(()) => Ok(()),
-            };
+            return self.hold_on(chunk);
         }
         if let Some(lack) = self.first_lacking(chunk) {
-            return match self.feed_lacking(lack, chunk) {
-                Err(fault) => Err(fault),
-                Ok(()) => Ok(()),
-            };
+            return self.feed_lacking(lack, chunk);
         }
-        match self.feed_on(chunk) {
-            Err(fault) => Err(fault),
-            Ok(()) => Ok(()),
-        }
+        self.feed_on(chunk)
     }
 
     /// The end of the stream.

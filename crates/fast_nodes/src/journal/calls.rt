@@ -49,10 +49,7 @@ pub fn put_value<E: Entries>(
 {
     match entries.entry_mut(&part.key) {
         Err(_) => Err(no_memory()),
-        Ok(entry) => match put_part(alloc, part, entry, value, level) {
-            Err(fault) => Err(fault),
-            Ok(before) => Ok(before),
-        },
+        Ok(entry) => Ok(put_part(alloc, part, entry, value, level)?),
     }
 }
 
@@ -137,12 +134,8 @@ impl<'a, E: Entries> Journal<'a, E> {
         if self.changes.reserve(1).is_err() {
             return Err(no_memory());
         }
-        match put_value(alloc, &mut self.entries, part, value, level) {
-            Err(fault) => Err(fault),
-            Ok(before) => {
-                self.changes.push(Change { part, before }).unwrap();
-                Ok(())
-            }
-        }
+        let before = put_value(alloc, &mut self.entries, part, value, level)?;
+        self.changes.push(Change { part, before }).unwrap();
+        Ok(())
     }
 }

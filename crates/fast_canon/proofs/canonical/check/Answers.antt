@@ -1,4 +1,8 @@
+use Rattle.fast_template.specs.TemplateSets.{templates_in}
+use Rattle.fast_canon.proofs.CanonicalBytes.{checked}
 use Rattle.fast_canon.proofs.canonical.check.Goals as goal
 
-pub returns-in-Ok : goal.returns-in-Ok
-returns-in-Ok g c = record { answer = rw c.in-Ok.is at c.canonicalise.ensures.answer }
+pub returns : goal.returns
+returns g c =
+    let a = c.canonicalise.ensures.answer in
+    record { answer = (a.0, a.1, a.2, a.3, checked c.args.mode (templates_in c.args.set.now) c.args.turns _ a.1 c.canonicalise.result c.canonicalise.ensures.write a.4, a.5) }

@@ -1,5 +1,6 @@
 use Rattle.std.proofs.Common.{rules, ◌≡◌, ◌≢◌, ◌+◌, ℕ, List, ◌∷◌, ◌∙◌, true, Some, None, refl, sym, ap, length, drop, map, arith}
 use Rattle.std.proofs.lemmas.List.{drop_more, drop_all}
+use Rattle.std.proofs.lemmas.Result.{err_from_is_err_and}
 use Rattle.std.specs.Global.{Vec}
 use Rattle.fast_value.specs.declared.kind.Presence.{Presence}
 use Rattle.fast_template.specs.declared.resolved.FieldPart.{FieldPart}
@@ -60,9 +61,9 @@ put_nodes-members-preserved g t c =
       as_many = many;
       reached = reached_more (g.E.Entries.serves old.entries) (list_of c.args.flats.now) (items_in c.args.nodes.now) (g.E.Entries.contents old.entries) (level_of c.args.level.now)
           (instruction_of f) (list_of (drop (now.at + 1) c.args.flats.now)) (item_of n) (items_in (drop (now.at + 1) c.args.nodes.now))
-          (g.E.Entries.contents now.journal.entries) (g.E.Entries.contents new.journal.entries) (level_of now.level) (level_of new.level) (rw (flat, node) at now.invariant.reached) c.in-Ok.ensures.answer;
+          (g.E.Entries.contents now.journal.entries) (g.E.Entries.contents new.journal.entries) (level_of now.level) (level_of new.level) (rw (flat, node) at now.invariant.reached) c.in_ok-put_node.ensures.answer;
       goes = goes_on_then (g.E.Entries.serves old.entries) (g.E.Entries.serves now.journal.entries) (g.E.Entries.serves new.journal.entries) old.changes.items now.journal.changes.items new.journal.changes.items
-          (g.E.Entries.contents old.entries) (g.E.Entries.contents now.journal.entries) (g.E.Entries.contents new.journal.entries) now.invariant.goes c.in-Ok.ensures.goes;
+          (g.E.Entries.contents old.entries) (g.E.Entries.contents now.journal.entries) (g.E.Entries.contents new.journal.entries) now.invariant.goes c.in_ok-put_node.ensures.goes;
     }
 
 -- ---- elements
@@ -85,9 +86,9 @@ put_elements-elements-preserved g t c =
     record {
       reached = element_more (g.E.Entries.serves old.entries) (list_of c.args.members.now) (elements_of (map (λ (e : Vec Node). items_in e.items) c.args.elements.now)) (g.E.Entries.contents old.entries) c.args.out.now.items
           (items_in e.items) (elements_of (map (λ (e : Vec Node). items_in e.items) rest)) (g.E.Entries.contents now.journal.entries) (g.E.Entries.contents new.journal.entries) now.out.items new.out.items
-          (rw (here) at now.invariant.reached) (rw (c.deref.ensures.value) at c.in-Ok.ensures.answer);
+          (rw (here) at now.invariant.reached) (rw (c.deref.ensures.value) at c.in_ok-put_segment.ensures.answer);
       goes = goes_on_then (g.E.Entries.serves old.entries) (g.E.Entries.serves now.journal.entries) (g.E.Entries.serves new.journal.entries) old.changes.items now.journal.changes.items new.journal.changes.items
-          (g.E.Entries.contents old.entries) (g.E.Entries.contents now.journal.entries) (g.E.Entries.contents new.journal.entries) now.invariant.goes c.in-Ok.ensures.goes;
+          (g.E.Entries.contents old.entries) (g.E.Entries.contents now.journal.entries) (g.E.Entries.contents new.journal.entries) now.invariant.goes c.in_ok-put_segment.ensures.goes;
     }
 
 pub put_elements-put_segment-requires : goal.put_elements-put_segment-requires
@@ -102,13 +103,13 @@ put_elements-put_segment-requires g t c =
     let holds : HoldScalars (g.E.Entries.contents now.journal.entries) = now.invariant.goes.holds c.requires.holds in
     search rules
 
-pub put_elements-returns-in-Err-clause-goes : goal.put_elements-returns-in-Err-clause-goes
-put_elements-returns-in-Err-clause-goes g t c =
+pub put_elements-returns-in_err-put_segment-clause-goes : goal.put_elements-returns-in_err-put_segment-clause-goes
+put_elements-returns-in_err-put_segment-clause-goes g t c =
     let old = c.args.journal.now in
     let now = c.elements.journal in
     let new = c.put_segment.new.journal in
     goes_on_then (g.E.Entries.serves old.entries) (g.E.Entries.serves now.entries) (g.E.Entries.serves new.entries) old.changes.items now.changes.items new.changes.items
-    (g.E.Entries.contents old.entries) (g.E.Entries.contents now.entries) (g.E.Entries.contents new.entries) c.elements.invariant.goes c.in-Err.ensures.goes
+    (g.E.Entries.contents old.entries) (g.E.Entries.contents now.entries) (g.E.Entries.contents new.entries) c.elements.invariant.goes c.in_err-put_segment.ensures.goes
 
 -- ---- segments
 
@@ -116,7 +117,7 @@ pub put_segment-returns-clause-answer : goal.put_segment-returns-clause-answer
 put_segment-returns-clause-answer g t c =
     segment_added (list_of c.args.members.now) (items_in c.args.nodes.now) (g.E.Entries.contents c.args.journal.now.entries) (g.E.Entries.contents c.put_nodes.new.journal.entries)
     (level_of c.new-level.result) (level_of c.put_nodes.new.level) c.args.out.now.items c.seal.new.out.items c.new-level.ensures.bits (c.new-level.ensures.own ∙ c.has_map.ensures) c.new-level.ensures.bytes
-    c.in-Ok.ensures.answer c.in-Ok-seal.ensures.ended c.in-Ok-seal.ensures.room
+    c.in_ok-put_nodes.ensures.answer c.in_ok-seal.ensures.ended c.in_ok-seal.ensures.room
 
 -- ---- one node
 
@@ -157,17 +158,18 @@ flat_sequence : (name : List ℕ) (number : ℕ) (presence : Presence) (length :
 flat_sequence name number presence length members =
     fold_out-Flat Instruction flat_step (Sequence name number presence length members) ∙ rw (outs-Sequence name number presence length members) refl
 
-pub put_node-returns-in-Err-put_length-clause-answer : goal.put_node-returns-in-Err-put_length-clause-answer
-put_node-returns-in-Err-put_length-clause-answer g t c =
+pub put_node-returns-in_err-put_length-in-Sequence-node-clause-answer : goal.put_node-returns-in_err-put_length-in-Sequence-node-clause-answer
+put_node-returns-in_err-put_length-in-Sequence-node-clause-answer g t c =
+    let p = err_from_is_err_and c.from_residual.result c.from_residual.ensures.1 in
     let s = c.in-Sequence in
     let elements = c.in-Sequence-node.elements in
     let es = elements_of (map (λ (e : Vec Node). items_in e.items) elements.items) in
-    rw (s.is, c.in-Sequence-node.is, item_of-sequence elements, flat_sequence s.name s.number s.presence s.length s.members)
-    (length_refused s.name s.number s.presence s.length (list_of s.members.items) es (g.E.Entries.contents c.args.journal.now.entries) (level_of c.args.level.now) c.in-Err-put_length.fault
-    (rw (counted elements.items) (rw (c.deref-elements.ensures.value) at c.in-Err-put_length.ensures.answer)))
+    rw (p.1, p.2, s.is, c.in-Sequence-node.is, item_of-sequence elements, flat_sequence s.name s.number s.presence s.length s.members)
+    (length_refused s.name s.number s.presence s.length (list_of s.members.items) es (g.E.Entries.contents c.args.journal.now.entries) (level_of c.args.level.now) c.in_err-put_length-in-Sequence-node.field-0.0
+    (rw (counted elements.items) (rw (c.deref-elements.ensures.value) at c.in_err-put_length-in-Sequence-node.ensures.answer)))
 
-pub put_node-returns-in-Ok-put_length-clause-answer : goal.put_node-returns-in-Ok-put_length-clause-answer
-put_node-returns-in-Ok-put_length-clause-answer g t c =
+pub put_node-returns-in_ok-put_length-in-Sequence-node-clause-answer : goal.put_node-returns-in_ok-put_length-in-Sequence-node-clause-answer
+put_node-returns-in_ok-put_length-in-Sequence-node-clause-answer g t c =
     let s = c.in-Sequence in
     let elements = c.in-Sequence-node.elements in
     let es = elements_of (map (λ (e : Vec Node). items_in e.items) elements.items) in
@@ -175,7 +177,7 @@ put_node-returns-in-Ok-put_length-clause-answer g t c =
     let new = c.put_elements.new in
     rw (s.is, c.in-Sequence-node.is, item_of-sequence elements, flat_sequence s.name s.number s.presence s.length s.members)
     (sequence_answers s.name s.number s.presence s.length (list_of s.members.items) es (g.E.Entries.contents c.args.journal.now.entries) (g.E.Entries.contents part.journal.entries) (g.E.Entries.contents new.journal.entries)
-    (level_of c.args.level.now) (level_of part.level) new.out.items c.put_elements.result (rw (counted elements.items) (rw (c.deref-elements.ensures.value) at c.in-Ok-put_length.ensures.answer))
+    (level_of c.args.level.now) (level_of part.level) new.out.items c.put_elements.result (rw (counted elements.items) (rw (c.deref-elements.ensures.value) at c.in_ok-put_length-in-Sequence-node.ensures.answer))
     (rw (c.deref-members.ensures.value, c.deref-elements.ensures.value) at c.put_elements.ensures.answer))
 
 pub put_node-put_length-requires-clause-few : goal.put_node-put_length-requires-clause-few
@@ -192,5 +194,5 @@ put_node-tell_elements-requires g t c =
     let now = g.E.Entries.serves c.put_length.new.journal.entries in
     record {
       ready = can_each old now c.args.flat.now c.args.node.now s.name s.number s.presence s.length s.members c.in-Sequence-node.elements c.deref-members.result.now c.deref-elements.result.now
-          s.is c.in-Sequence-node.is c.deref-members.ensures.value c.deref-elements.ensures.value c.in-Ok-put_length.ensures.goes.same_keys c.requires.ready;
+          s.is c.in-Sequence-node.is c.deref-members.ensures.value c.deref-elements.ensures.value c.in_ok-put_length-in-Sequence-node.ensures.goes.same_keys c.requires.ready;
     }

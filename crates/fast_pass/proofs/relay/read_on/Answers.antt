@@ -1,4 +1,4 @@
-use Rattle.std.proofs.Common.{◌<◌, ◌∷◌, [], ℕ, take, refl, ap, sym, subst, arith, append-nil, length-take}
+use Rattle.std.proofs.Common.{◌<◌, ◌∷◌, [], ℕ, Result, Ok, Err, IfOk, OnErr, take, refl, ap, sym, subst, arith, append-nil, length-take}
 use Rattle.fast_template.specs.TemplateSets.{templates_in}
 use Rattle.fast_decoder.specs.declared.input.Reached.TheVariants as reached
 use Rattle.fast_machine.specs.Following.{Counts, mode_of}
@@ -79,35 +79,32 @@ returns-in-Err-finish-clause-read g c =
       tt,
     )
 
-pub returns-in-Ok-take_in-clause-read : goal.returns-in-Ok-take_in-clause-read
-returns-in-Ok-take_in-clause-read g c =
+if_came : {A E : Type 0} {P Q : A → Type 0} (r : Result A E) → ((x : A) → P x → Q x) → IfOk r P → IfOk r Q
+if_came (Ok x) f p = f x p
+if_came (Err e) f p = tt
+
+if_refused : {A E P Q : Type 0} (r : Result A E) → (P → Q) → OnErr r P → OnErr r Q
+if_refused (Ok x) f p = tt
+if_refused (Err e) f p = f p
+
+pub returns-in-Ok-clause-read : goal.returns-in-Ok-clause-read
+returns-in-Ok-clause-read g c =
     let a = reader_by g.R.ByteInput.left g.R.ByteInput.calls g.R.ByteInput.errors g.R.ByteInput.ends c.args.reader.now in
     let b = reader_by g.R.ByteInput.left g.R.ByteInput.calls g.R.ByteInput.errors g.R.ByteInput.ends c.pull.new.self in
     let p = c.in-Ok.ensures in
-    let came = c.in-Ok-take_in.came in
     let got = take c.in-Ok.count c.pull.new.buf in
     let some : 0 < c.in-Ok.count = omega arith in
     let taken = length-take c.in-Ok.count c.pull.new.buf in
     let few = p.bytes.0 in (
       got,
       one_read _ _ _ _ p.call p.bytes.1 (omega arith),
-      (
+      if_came c.take_in.result (λ came steps. (
         (λ h. omega (arith, some, taken, few)),
         λ turns handed input messages r.
-            let s = c.in-Ok-take_in.ensures.steps (g.R.ByteInput.left c.pull.new.self) turns handed input messages (record { holds = r.holds; made = r.made; counts = λ e. absurd cc }) in
+            let s = steps (g.R.ByteInput.left c.pull.new.self) turns handed input messages (record { holds = r.holds; made = r.made; counts = λ e. absurd cc }) in
             (s.0, s.1, s.2, s.3, s.4, caused_by_feed came.0 a b s.5.0 s.5.1 p.error (p.end.1 some)),
-      ),
-      tt,
-    )
-
-pub returns-in-Err-take_in-clause-read : goal.returns-in-Err-take_in-clause-read
-returns-in-Err-take_in-clause-read g c =
-    let p = c.in-Ok.ensures in
-    let got = take c.in-Ok.count c.pull.new.buf in (
-      got,
-      one_read _ _ _ _ p.call p.bytes.1 (omega arith),
-      tt,
-      λ turns handed input messages r. c.in-Err-take_in.ensures.fails (g.R.ByteInput.left c.args.reader.now) turns handed input messages r,
+      )) c.take_in.ensures.steps,
+      if_refused c.take_in.result (λ fails turns handed input messages r. fails (g.R.ByteInput.left c.args.reader.now) turns handed input messages r) c.take_in.ensures.fails,
     )
 
 pub returns-in-Err-clause-read : goal.returns-in-Err-clause-read

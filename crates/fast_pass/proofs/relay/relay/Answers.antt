@@ -1,4 +1,5 @@
 use Rattle.std.proofs.Common.{◌≡◌, ◌≤◌, ◌+◌, ◌++◌, ◌∷◌, ℕ, List, length-append, arith, append_assoc, append-nil, ap, sym, subst, ◌∙◌}
+use Rattle.std.proofs.lemmas.Result.{err_from_is_err_and}
 use Rattle.fast_template.specs.TemplateSets.{TemplateList, templates_in}
 use Rattle.fast_decoder.specs.declared.input.Reached.TheVariants as reached
 use Rattle.fast_decoder.specs.Inputs.{reader_by}
@@ -16,9 +17,9 @@ reads-preserved g c =
     let l = c.reads in
     let v = l.invariant in
     let O = g.O.Output in
-    let r = c.in-Ok.ensures in
-    let came = c.in-Ok.came in
-    let h = c.in-Ok-hand_on.ensures in
+    let r = c.in_ok-came.ensures in
+    let came = c.in_ok-came.came in
+    let h = c.in_ok-hand_on.ensures in
     let opened = c.is_open.ensures.yes c.reads-test.true in
     let next = c.read_on.new.machine in
     let out = O.waiting next.receiver in
@@ -54,18 +55,20 @@ reads-preserved g c =
             all,
             h.relays came c.args.turns d.left handed input messages e.2,
             Appends-trans _ _ _ handed out (Appends-trans _ _ _ i.0 e.0 i.5 e.3) h.written,
-            counts_apart c.saturating_add-written.result _ _ handed out (counts_apart l.written _ _ i.0 e.0 i.6 e.4 c.saturating_add-written.ensures) h.count c.saturating_add-written-in-Ok-hand_on.ensures,
+            counts_apart c.saturating_add-written.result _ _ handed out (counts_apart l.written _ _ i.0 e.0 i.6 e.4 c.saturating_add-written.ensures) h.count c.saturating_add-written-in-reads.ensures,
             (λ k. let some = ok.0 k in omega (arith, some, gave, size)),
             causes_on reached.Open l.reached came a b d opened i.8 e.5,
           );
     }
 
-pub returns-in-Err-clause-broken : goal.returns-in-Err-clause-broken
-returns-in-Err-clause-broken g c = λ start.
+pub returns-in_err-came-clause-broken : goal.returns-in_err-came-clause-broken
+returns-in_err-came-clause-broken g c =
+    let p = err_from_is_err_and c.from_residual.result c.from_residual.ensures.1 in
+    rw (p.1) (λ start.
     let l = c.reads in
     let v = l.invariant in
     let O = g.O.Output in
-    let r = c.in-Err.ensures in
+    let r = c.in_err-came.ensures in
     let opened = c.is_open.ensures.yes c.reads-test.true in
     let a = reader_by g.R.ByteInput.left g.R.ByteInput.calls g.R.ByteInput.errors g.R.ByteInput.ends c.args.reader.now in
     let b = reader_by g.R.ByteInput.left g.R.ByteInput.calls g.R.ByteInput.errors g.R.ByteInput.ends l.reader in
@@ -86,16 +89,18 @@ returns-in-Err-clause-broken g c = λ start.
       };
       carried = e.3;
       made = e.4;
-    }
+    })
 
-pub returns-in-Err-hand_on-clause-broken : goal.returns-in-Err-hand_on-clause-broken
-returns-in-Err-hand_on-clause-broken g c = λ start.
+pub returns-in_err-hand_on-clause-broken : goal.returns-in_err-hand_on-clause-broken
+returns-in_err-hand_on-clause-broken g c =
+    let p = err_from_is_err_and c.from_residual-in_err-hand_on.result c.from_residual-in_err-hand_on.ensures.1 in
+    rw (p.1) (λ start.
     let l = c.reads in
     let v = l.invariant in
     let O = g.O.Output in
-    let r = c.in-Ok.ensures in
-    let came = c.in-Ok.came in
-    let h = c.in-Err-hand_on.ensures in
+    let r = c.in_ok-came.ensures in
+    let came = c.in_ok-came.came in
+    let h = c.in_err-hand_on.ensures in
     let opened = c.is_open.ensures.yes c.reads-test.true in
     let next = c.read_on.new.machine in
     let last = c.hand_on.new.machine in
@@ -124,7 +129,7 @@ returns-in-Err-hand_on-clause-broken g c = λ start.
       carried = carried_as (mode_of last) (mode_of next) last.traversal.set.now next.traversal.set.now input messages (sym h.mode) (sym set) (carried_by O.waiting O.makes came next c.args.turns d.left handed input messages e.2);
       made = subst (λ (x : TemplateList). O.makes (templates_in x) messages ((handed ++ t.1.front) ++ t.0)) (sym set)
           (subst (λ (bytes : List ℕ). O.makes (templates_in next.traversal.set.now) messages bytes) (ap (λ (xs : List ℕ). handed ++ xs) t.1.parts ∙ sym (append_assoc handed t.1.front t.0)) e.2.made);
-    }
+    })
 
 pub returns-in-Open-clause-relayed : goal.returns-in-Open-clause-relayed
 returns-in-Open-clause-relayed g c = λ start.

@@ -1,4 +1,5 @@
 use Rattle.std.proofs.Common.{◌≡◌, ◌++◌, ◌∷◌, ◌+◌, ◌-◌, ◌∙◌, [], ℕ, List, length, length-drop, take, drop, take-append-drop, refl, arith, ap, sym, subst, append_assoc, append-nil}
+use Rattle.std.proofs.lemmas.Result.{err_from_is_err_and}
 use Rattle.fast_template.specs.TemplateSets.{TemplateList, templates_in}
 use Rattle.fast_stream.specs.Nodes.{Content}
 use Rattle.fast_decoder.specs.declared.input.Reached.TheVariants as reached
@@ -65,7 +66,7 @@ messages-preserved g c =
     let rest = slice_rest bytes l.at in
     let size = ap (λ (xs : List ℕ). length xs) rest ∙ length-drop l.at bytes in
     let taken = c.in-Ok.ensures.taken in
-    let h = c.in-Ok-hand_on_many.ensures in
+    let h = c.in_ok-hand_on_many.ensures in
     record {
       place = let few = taken.1 in let before = v.place in omega (arith, few, size, before);
       fault = h.fault ∙ c.in-Ok.ensures.open;
@@ -102,8 +103,10 @@ messages-preserved g c =
           );
     }
 
-pub returns-in-Err-hand_on_many-clause-fails : goal.returns-in-Err-hand_on_many-clause-fails
-returns-in-Err-hand_on_many-clause-fails g c = λ left turns handed input messages r.
+pub returns-in_err-hand_on_many-clause-fails : goal.returns-in_err-hand_on_many-clause-fails
+returns-in_err-hand_on_many-clause-fails g c =
+    let p = err_from_is_err_and c.from_residual.result c.from_residual.ensures.1 in
+    rw (p.1) (λ left turns handed input messages r.
     let l = c.messages in
     let v = l.invariant in
     let bytes = c.args.bytes.now in
@@ -119,7 +122,7 @@ returns-in-Err-hand_on_many-clause-fails g c = λ left turns handed input messag
     let kept = has_kept g.O.Receiver.has g.O.Receiver.stands g.O.Receiver.keeps new.fault new.framing new.left new.traversal new.receiver (g.E.Entries.contents new.entries) new.held.items new.waiting (handed_on before ∷ (all ++ f.0)) (front ++ take c.in-Ok.taken slice) (all ++ f.0) f.1.at in
     let made = g.met.O.Output.made new.receiver (templates_in new.traversal.set.now) before (all ++ f.0) kept.0 kept.1 in
     let relays : Relays O.waiting O.makes reached.Open new turns left before (front ++ take c.in-Ok.taken slice) (all ++ f.0) = record { holds = record { unrefused = c.in-Ok.ensures.open; follows = f.1 }; made = made; counts = λ h. absurd cc } in
-    let h = c.in-Err-hand_on_many.ensures in
+    let h = c.in_err-hand_on_many.ensures in
     let last = c.hand_on_many.new.machine in
     let set : last.traversal.set.now ≡ new.traversal.set.now = ap (λ t. t.set.now) h.set in
     let t = h.part in
@@ -137,7 +140,7 @@ returns-in-Err-hand_on_many-clause-fails g c = λ left turns handed input messag
       carried_as (mode_of last) (mode_of new) last.traversal.set.now new.traversal.set.now (input ++ bytes) (messages ++ (s.1 ++ f.0)) (sym h.mode) (sym set) all_carried,
       subst (λ (x : TemplateList). O.makes (templates_in x) (messages ++ (s.1 ++ f.0)) ((handed ++ (s.0 ++ t.1.front)) ++ t.0)) (sym set) all_made,
       Appends-trans _ _ _ s.0 t.1.front s.3 t.1.appended,
-    )
+    ))
 
 pub returns-clause-steps : goal.returns-clause-steps
 returns-clause-steps g c = λ left turns handed input messages r.

@@ -30,14 +30,8 @@ returns-clause-follows g c = λ none fed messages follows.
       },
     )
 
-pub returns-in-Err-clause-follows : goal.returns-in-Err-clause-follows
-returns-in-Err-clause-follows g c = λ none fed messages follows. ([], sym (append-nil (map content_of c.args.out.now.items)), rw (append-nil messages) (c.hold_on.ensures.follows [] fed messages follows))
+pub returns-then-lacks_more-clause-follows : goal.returns-then-lacks_more-clause-follows
+returns-then-lacks_more-clause-follows g c = λ none fed messages follows. ([], sym (append-nil (map content_of c.args.out.now.items)), rw (append-nil messages) (c.hold_on.ensures.follows [] fed messages follows))
 
-pub returns-in-Ok-clause-follows : goal.returns-in-Ok-clause-follows
-returns-in-Ok-clause-follows g c = λ none fed messages follows. ([], sym (append-nil (map content_of c.args.out.now.items)), rw (append-nil messages) (c.hold_on.ensures.follows [] fed messages follows))
-
-pub returns-in-Err-feed_lacking-clause-follows : goal.returns-in-Err-feed_lacking-clause-follows
-returns-in-Err-feed_lacking-clause-follows g c = λ none fed messages follows. ([], sym (append-nil (map content_of c.args.out.now.items)), rw (append-nil messages) (c.feed_lacking.ensures.follows [] fed messages follows))
-
-pub returns-in-Ok-feed_lacking-clause-follows : goal.returns-in-Ok-feed_lacking-clause-follows
-returns-in-Ok-feed_lacking-clause-follows g c = λ none fed messages follows. ([], sym (append-nil (map content_of c.args.out.now.items)), rw (append-nil messages) (c.feed_lacking.ensures.follows [] fed messages follows))
+pub returns-in-Some-first_lacking-clause-follows : goal.returns-in-Some-first_lacking-clause-follows
+returns-in-Some-first_lacking-clause-follows g c = λ none fed messages follows. ([], sym (append-nil (map content_of c.args.out.now.items)), rw (append-nil messages) (c.feed_lacking.ensures.follows [] fed messages follows))

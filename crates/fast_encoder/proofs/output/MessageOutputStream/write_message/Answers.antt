@@ -4,14 +4,14 @@ use Rattle.fast_stream.specs.Nodes.{content_of}
 use Rattle.fast_encoder.proofs.Outputs.{sent_more, sent_part}
 use Rattle.fast_encoder.proofs.output.MessageOutputStream.write_message.Goals as goal
 
-pub returns-in-Err-push_all-clause-sends : goal.returns-in-Err-push_all-clause-sends
-returns-in-Err-push_all-clause-sends g c = λ runs messages last sent h.
+pub returns-in-Err-clause-sends : goal.returns-in-Err-clause-sends
+returns-in-Err-clause-sends g c = λ runs messages last sent h.
     let old = c.args.self.now.encoder in
     let d = g.E.Entries.contents old.journal.entries in
     let e = g.E.Entries.contents c.encode.new.self.journal.entries in
     let m = content_of c.args.message.now in
-    let w = c.in-Ok.ensures.written in
-    let part = c.in-Err-push_all.ensures.part in
+    let w = c.in_ok-encode.ensures.written in
+    let part = c.in-Err.ensures.part in
     let bytes : c.encode.new.out.items ≡ w.0 = w.1 ∙ ap (λ (l : List ℕ). l ++ w.0) c.clear.ensures.items in (
       part.1.front,
       part.1.appended,
@@ -22,15 +22,15 @@ returns-in-Err-push_all-clause-sends g c = λ runs messages last sent h.
       ),
     )
 
-pub returns-in-Ok-push_all-clause-sends : goal.returns-in-Ok-push_all-clause-sends
-returns-in-Ok-push_all-clause-sends g c = λ runs messages last sent h.
+pub returns-in-Ok-clause-sends : goal.returns-in-Ok-clause-sends
+returns-in-Ok-clause-sends g c = λ runs messages last sent h.
     let old = c.args.self.now.encoder in
     let d = g.E.Entries.contents old.journal.entries in
     let e = g.E.Entries.contents c.encode.new.self.journal.entries in
     let m = content_of c.args.message.now in
-    let w = c.in-Ok.ensures.written in
+    let w = c.in_ok-encode.ensures.written in
     let bytes : c.encode.new.out.items ≡ w.0 = w.1 ∙ ap (λ (l : List ℕ). l ++ w.0) c.clear.ensures.items in (
       w.0,
-      rw (c.deref.ensures.value, bytes) at c.in-Ok-push_all.ensures.written,
+      rw (c.deref.ensures.value, bytes) at c.in-Ok.ensures.written,
       rw (c.if-self.false) (sent_more (templates_in old.set.now) runs messages m sent w.0 d e (rw (c.if-self.false) at h) w.2),
     )

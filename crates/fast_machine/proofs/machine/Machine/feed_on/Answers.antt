@@ -15,12 +15,12 @@ messages-init g c = record {
   follows = λ before fed messages f. ([], rw (none_before c.args.chunk.now, append-nil fed, append-nil before, append-nil messages) f);
 }
 
-pub returns-in-Err-clause-follows : goal.returns-in-Err-clause-follows
-returns-in-Err-clause-follows g c = λ none before fed messages follows.
+pub returns-in_err-at-clause-follows : goal.returns-in_err-at-clause-follows
+returns-in_err-at-clause-follows g c = λ none before fed messages follows.
     let l = c.messages in
     let chunk = c.args.chunk.now in
     let h = l.invariant.follows before fed messages follows in
-    let r = c.in-Err.ensures.follows l.invariant.fault (before ++ h.0) (fed ++ take l.at chunk) (messages ++ h.0) h.1 in
+    let r = c.in_err-at.ensures.follows l.invariant.fault (before ++ h.0) (fed ++ take l.at chunk) (messages ++ h.0) h.1 in
     let new = c.take_message.new.self in
     let all : (fed ++ take l.at chunk) ++ take (length chunk - l.at) (drop l.at chunk) ≡ fed ++ chunk =
     append_assoc fed (take l.at chunk) (take (length chunk - l.at) (drop l.at chunk)) ∙ ap (λ (xs : List ℕ). fed ++ (take l.at chunk ++ xs)) (slice_rest chunk l.at) ∙ ap (λ (xs : List ℕ). fed ++ xs) (take-append-drop l.at chunk) in
@@ -30,7 +30,7 @@ pub messages-preserved : goal.messages-preserved
 messages-preserved g c =
     let l = c.messages in
     let chunk = c.args.chunk.now in
-    let o = c.in-Ok in
+    let o = c.in_ok-at in
     let slice = take (length chunk - l.at) (drop l.at chunk) in
     let rest = slice_rest chunk l.at in
     let size = ap (λ (xs : List ℕ). length xs) rest ∙ length-drop l.at chunk in
@@ -46,8 +46,8 @@ messages-preserved g c =
           let h = l.invariant.follows before fed messages follows in
           let r = o.ensures.follows l.invariant.fault (before ++ h.0) (fed ++ take l.at chunk) (messages ++ h.0) h.1 in
           let new = c.take_message.new.self in
-          let all : (fed ++ take l.at chunk) ++ take o.taken slice ≡ fed ++ take (l.at + o.taken) chunk =
-          append_assoc fed (take l.at chunk) (take o.taken slice) ∙ ap (λ (xs : List ℕ). fed ++ (take l.at chunk ++ take o.taken xs)) rest ∙ ap (λ (xs : List ℕ). fed ++ xs) (take_again l.at o.taken chunk) in
+          let all : (fed ++ take l.at chunk) ++ take o.field-0 slice ≡ fed ++ take (l.at + o.field-0) chunk =
+          append_assoc fed (take l.at chunk) (take o.field-0 slice) ∙ ap (λ (xs : List ℕ). fed ++ (take l.at chunk ++ take o.field-0 xs)) rest ∙ ap (λ (xs : List ℕ). fed ++ xs) (take_again l.at o.field-0 chunk) in
           (h.0 ++ r.0, rw (← append_assoc before h.0 r.0, ← append_assoc messages h.0 r.0) (subst (λ (xs : List ℕ). Follows new ((before ++ h.0) ++ r.0) xs ((messages ++ h.0) ++ r.0)) all r.1));
     }
 

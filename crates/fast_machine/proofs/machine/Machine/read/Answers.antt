@@ -1,7 +1,7 @@
 use Rattle.fast_machine.proofs.machine.Machine.read.Goals as goal
 
-pub returns-in-Ok-clause-goes : goal.returns-in-Ok-clause-goes
-returns-in-Ok-clause-goes g c = rw (c.in-Plain.is) c.in-Ok.ensures.goes
+pub returns-in-Plain-clause-goes : goal.returns-in-Plain-clause-goes
+returns-in-Plain-clause-goes g c = rw (c.in-Plain.is) c.read_plain.ensures.goes
 
-pub returns-in-Ok-read_block-clause-goes : goal.returns-in-Ok-read_block-clause-goes
-returns-in-Ok-read_block-clause-goes g c = rw (c.in-Blocks.is) c.in-Ok-read_block.ensures.goes
+pub returns-in-Blocks-clause-goes : goal.returns-in-Blocks-clause-goes
+returns-in-Blocks-clause-goes g c = rw (c.in-Blocks.is) c.read_block.ensures.goes

@@ -5,8 +5,8 @@ use Rattle.fast_machine.proofs.Standings.{carried_of}
 use Rattle.fast_machine.proofs.Followings.{left_behind, memory_refused, none_of, not_memory}
 use Rattle.fast_machine.proofs.machine.Machine.read_behind.Goals as goal
 
-pub returns-in-Err-append-clause-fails : goal.returns-in-Err-append-clause-fails
-returns-in-Err-append-clause-fails g c = (
+pub returns-in-Err-clause-fails : goal.returns-in-Err-clause-fails
+returns-in-Err-clause-fails g c = (
   c.refuse.ensures.kept,
   (λ e. not_memory c.refuse.result.cause e c.refuse.ensures.cause),
   λ before fed messages short counts stands.
@@ -28,22 +28,22 @@ returns-in-Err-append-clause-fails g c = (
       ),
 )
 
-pub returns-in-Ok-clause-goes : goal.returns-in-Ok-clause-goes
-returns-in-Ok-clause-goes g c =
+pub returns-then-is_empty-clause-goes : goal.returns-then-is_empty-clause-goes
+returns-then-is_empty-clause-goes g c =
     let zero : length c.args.self.now.held.items ≡ 0 = search rules in
-    rw (none_of c.args.self.now.held.items zero) c.in-Ok.ensures.goes
+    rw (none_of c.args.self.now.held.items zero) c.read.ensures.goes
 
-pub returns-in-Ok-read-clause-goes : goal.returns-in-Ok-read-clause-goes
-returns-in-Ok-read-clause-goes g c = rw (c.deref.ensures.value, c.in-Ok-append.ensures.items, c.replace-bytes.ensures.value) at c.in-Ok-read.ensures.goes
+pub returns-in_ok-next-in-Ok-clause-goes : goal.returns-in_ok-next-in-Ok-clause-goes
+returns-in_ok-next-in-Ok-clause-goes g c = rw (c.deref.ensures.value, c.in-Ok.ensures.items, c.replace-bytes.ensures.value) at c.in_ok-next-in-Ok.ensures.goes
 
 then_none : {A B : Type 0} (place : Option ℕ) → (A → B) → IfNone place A → IfNone place B
 then_none None f a = f a
 then_none (Some n) f a = tt
 
-pub returns-in-Ok-read-clause-waits : goal.returns-in-Ok-read-clause-waits
-returns-in-Ok-read-clause-waits g c =
-    let waits = rw (c.deref.ensures.value, c.in-Ok-append.ensures.items, c.replace-bytes.ensures.value) at c.in-Ok-read.ensures.waits in
-    then_none c.in-Ok-read.next (λ w. (
+pub returns-in_ok-next-in-Ok-clause-waits : goal.returns-in_ok-next-in-Ok-clause-waits
+returns-in_ok-next-in-Ok-clause-waits g c =
+    let waits = rw (c.deref.ensures.value, c.in-Ok.ensures.items, c.replace-bytes.ensures.value) at c.in_ok-next-in-Ok.ensures.waits in
+    then_none c.in_ok-next-in-Ok.next (λ w. (
       w.0,
       λ before fed messages short counts stands.
           let f = w.1 before fed messages short counts stands in

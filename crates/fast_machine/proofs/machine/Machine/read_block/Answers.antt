@@ -1,4 +1,5 @@
 use Rattle.std.proofs.Common.{◌≢◌, ◌≡◌, ◌<◌, ◌+◌, ◌-◌, ◌∙◌, ◌++◌, [], ℕ, List, length, append-nil, take, drop, sym, ap, subst, refl, arith, inr}
+use Rattle.std.proofs.lemmas.Result.{err_from_is_err_and}
 use Rattle.fast_template.specs.TemplateSets.{templates_in}
 use Rattle.fast_stream.specs.declared.fault.Cause.TheVariants.{Truncated, BlockEnd}
 use Rattle.fast_stream.specs.declared.mode.Framing.TheVariants.{Blocks}
@@ -11,17 +12,19 @@ use Rattle.fast_machine.proofs.Followings.{counts_pushed, fault_refused, few_mes
 use Rattle.fast_machine.proofs.BlockReads.{block_carried, block_faults, block_forgets, block_has_all, block_stands, block_stands_behind, block_stops, block_waits, drop_again, open_stands, empty_window, window_is}
 use Rattle.fast_machine.proofs.machine.Machine.read_block.Goals as goal
 
-pub returns-in-Err-stop_at_size-clause-fails : goal.returns-in-Err-stop_at_size-clause-fails
-returns-in-Err-stop_at_size-clause-fails g c = (
-  c.in-Err-stop_at_size.ensures.answer,
-  c.in-Err-stop_at_size.ensures.cause,
-  λ before fed messages short counts stands. ([], rw (append-nil before, append-nil messages) (c.in-Err-stop_at_size.ensures.follows before fed messages short counts stands)),
-)
+pub returns-in_err-stop_at_size-in-Err-clause-fails : goal.returns-in_err-stop_at_size-in-Err-clause-fails
+returns-in_err-stop_at_size-in-Err-clause-fails g c =
+    let p = err_from_is_err_and c.from_residual.result c.from_residual.ensures.1 in
+    rw (p.1, p.2) (
+      c.in_err-stop_at_size-in-Err.ensures.answer,
+      c.in_err-stop_at_size-in-Err.ensures.cause,
+      λ before fed messages short counts stands. ([], rw (append-nil before, append-nil messages) (c.in_err-stop_at_size-in-Err.ensures.follows before fed messages short counts stands)),
+    )
 
-pub returns-in-Ok-stop_at_size-clause-waits : goal.returns-in-Ok-stop_at_size-clause-waits
-returns-in-Ok-stop_at_size-clause-waits g c = (
-  c.in-Ok-stop_at_size.ensures.answer,
-  λ before fed messages short counts stands. ([], rw (append-nil before, append-nil messages) (c.in-Ok-stop_at_size.ensures.follows before fed messages short counts stands)),
+pub returns-in-Err-clause-waits : goal.returns-in-Err-clause-waits
+returns-in-Err-clause-waits g c = (
+  c.in_ok-stop_at_size-in-Err.ensures.answer,
+  λ before fed messages short counts stands. ([], rw (append-nil before, append-nil messages) (c.in_ok-stop_at_size-in-Err.ensures.follows before fed messages short counts stands)),
 )
 
 pub returns-in-None-clause-goes : goal.returns-in-None-clause-goes
@@ -109,49 +112,51 @@ returns-then-self-rest-clause-fails g c = (
       ),
 )
 
-pub returns-in-Err-hold-clause-fails : goal.returns-in-Err-hold-clause-fails
-returns-in-Err-hold-clause-fails g c = (
-  c.in-Err-hold.ensures.answer,
-  (λ e. not_memory c.in-Err-hold.fault.cause e c.in-Err-hold.ensures.cause),
-  λ before fed messages short counts stands.
-      let old = c.args.self.now in
-      let t = old.traversal in
-      let p = c.read_if_any-progress in
-      let u = p.new.traversal in
-      let R = g.R.Receiver in
-      let bytes = c.args.bytes.now in
-      let room = c.in-Ok.opened.0 in
-      let at = c.in-Ok.opened.1 in
-      let unread = drop at bytes in
-      let G = ReadsOn R.has R.stands R.keeps t old.receiver (g.E.Entries.contents old.entries) before in
-      let b = open_stands G t c.level.result old.left room at bytes fed messages c.level.ensures c.in-Ok.ensures.same c.in-Ok.ensures.goes c.in-Ok.ensures.some stands in
-      let window = take ((at + c.within-room.result) - at) unread in
-      let is = window_is room at c.within-room.result bytes c.in-Ok.ensures.place c.within-room.ensures.left c.within-room.ensures.least in
-      let e = p.ensures.ended before b.start.dictionary b.ends.within [] (run_from G t window b.start.dictionary b.ends.within (subst (λ (xs : List ℕ). Unfinished G t xs b.start.dictionary b.ends.within) (sym is) b.ends.next)) in
-      let n = p.result.at in
-      let H = ReadsOn R.has R.stands R.keeps u p.new.receiver (g.E.Entries.contents p.new.entries) (before ++ e.0) in
-      let sets = ap (λ x. x.now) p.ensures.set in
-      let again = drop_again at n bytes in
-      let all = messages ++ e.0 in
-      let ended = rw (c.in-Some.is) at e.2 in
-      let halt = c.in-Some.halt in
-      let carried = block_carried G t u room n unread window fed messages e.0 b is p.ensures.place p.ensures.level sets (λ d r. Unit {0}) ended.0 in
-      let few = few_messages (framed_as Blocks u) (templates_in u.set.now) fed all carried in
-      let counts = counts_pushed old.fed old.messages p.result.messages _ fed messages e.0 counts e.1 c.counted-self.ensures few short in
-      let truncated = c.in-Truncated.is in
-      let rest : drop n unread ≡ take (length bytes - (at + n)) (drop (at + n) bytes) = again ∙ sym (slice_rest bytes (at + n)) in
-      let short_is : length (drop n unread) < room - n = let size = ap (λ (xs : List ℕ). length xs) rest in omega (arith, size, c.if-self-rest.false) in
-      let goes = block_stands G t u room n unread window fed messages e.0 b is p.ensures.place p.ensures.level sets H (omega (arith, short_is)) (ended.2 truncated) in
-      let stops = block_waits G t u room n unread window fed messages e.0 b is p.ensures.place p.ensures.level sets halt short_is (ended.1 (not_memory halt.cause truncated)) in
-      let follows = c.in-Err-hold.ensures.follows (before ++ e.0) fed all (omega (arith, short)) counts
-      (rw (c.requires.framing) (subst (λ (xs : List ℕ). Stands Blocks (room - n) H u xs fed all) rest goes))
-      (rw (c.requires.framing) (inr (subst (λ (xs : List ℕ). StopsBehind (framed_as Blocks u) (templates_in u.set.now) fed all (stop_of u.template (record { cause = Truncated; number = halt.number; by = halt.by }) xs)) rest (rw (truncated) at stops)))) in
-      (e.0, follows),
-)
+pub returns-in_err-hold-in-Truncated-clause-fails : goal.returns-in_err-hold-in-Truncated-clause-fails
+returns-in_err-hold-in-Truncated-clause-fails g c =
+    let p = err_from_is_err_and c.from_residual-in_err-hold-in-Truncated.result c.from_residual-in_err-hold-in-Truncated.ensures.1 in
+    rw (p.1, p.2) (
+      c.in_err-hold-in-Truncated.ensures.answer,
+      (λ e. not_memory c.in_err-hold-in-Truncated.field-0.0.cause e c.in_err-hold-in-Truncated.ensures.cause),
+      λ before fed messages short counts stands.
+          let old = c.args.self.now in
+          let t = old.traversal in
+          let p = c.read_if_any-progress in
+          let u = p.new.traversal in
+          let R = g.R.Receiver in
+          let bytes = c.args.bytes.now in
+          let room = c.in-Ok.opened.0 in
+          let at = c.in-Ok.opened.1 in
+          let unread = drop at bytes in
+          let G = ReadsOn R.has R.stands R.keeps t old.receiver (g.E.Entries.contents old.entries) before in
+          let b = open_stands G t c.level.result old.left room at bytes fed messages c.level.ensures c.in-Ok.ensures.same c.in-Ok.ensures.goes c.in-Ok.ensures.some stands in
+          let window = take ((at + c.within-room.result) - at) unread in
+          let is = window_is room at c.within-room.result bytes c.in-Ok.ensures.place c.within-room.ensures.left c.within-room.ensures.least in
+          let e = p.ensures.ended before b.start.dictionary b.ends.within [] (run_from G t window b.start.dictionary b.ends.within (subst (λ (xs : List ℕ). Unfinished G t xs b.start.dictionary b.ends.within) (sym is) b.ends.next)) in
+          let n = p.result.at in
+          let H = ReadsOn R.has R.stands R.keeps u p.new.receiver (g.E.Entries.contents p.new.entries) (before ++ e.0) in
+          let sets = ap (λ x. x.now) p.ensures.set in
+          let again = drop_again at n bytes in
+          let all = messages ++ e.0 in
+          let ended = rw (c.in-Some.is) at e.2 in
+          let halt = c.in-Some.halt in
+          let carried = block_carried G t u room n unread window fed messages e.0 b is p.ensures.place p.ensures.level sets (λ d r. Unit {0}) ended.0 in
+          let few = few_messages (framed_as Blocks u) (templates_in u.set.now) fed all carried in
+          let counts = counts_pushed old.fed old.messages p.result.messages _ fed messages e.0 counts e.1 c.counted-self.ensures few short in
+          let truncated = c.in-Truncated.is in
+          let rest : drop n unread ≡ take (length bytes - (at + n)) (drop (at + n) bytes) = again ∙ sym (slice_rest bytes (at + n)) in
+          let short_is : length (drop n unread) < room - n = let size = ap (λ (xs : List ℕ). length xs) rest in omega (arith, size, c.if-self-rest.false) in
+          let goes = block_stands G t u room n unread window fed messages e.0 b is p.ensures.place p.ensures.level sets H (omega (arith, short_is)) (ended.2 truncated) in
+          let stops = block_waits G t u room n unread window fed messages e.0 b is p.ensures.place p.ensures.level sets halt short_is (ended.1 (not_memory halt.cause truncated)) in
+          let follows = c.in_err-hold-in-Truncated.ensures.follows (before ++ e.0) fed all (omega (arith, short)) counts
+          (rw (c.requires.framing) (subst (λ (xs : List ℕ). Stands Blocks (room - n) H u xs fed all) rest goes))
+          (rw (c.requires.framing) (inr (subst (λ (xs : List ℕ). StopsBehind (framed_as Blocks u) (templates_in u.set.now) fed all (stop_of u.template (record { cause = Truncated; number = halt.number; by = halt.by }) xs)) rest (rw (truncated) at stops)))) in
+          (e.0, follows),
+    )
 
-pub returns-in-Ok-hold-clause-waits : goal.returns-in-Ok-hold-clause-waits
-returns-in-Ok-hold-clause-waits g c = (
-  c.in-Ok-hold.ensures.answer,
+pub returns-in_ok-hold-in-Truncated-clause-waits : goal.returns-in_ok-hold-in-Truncated-clause-waits
+returns-in_ok-hold-in-Truncated-clause-waits g c = (
+  c.in_ok-hold-in-Truncated.ensures.answer,
   λ before fed messages short counts stands.
       let old = c.args.self.now in
       let t = old.traversal in
@@ -182,7 +187,7 @@ returns-in-Ok-hold-clause-waits g c = (
       let short_is : length (drop n unread) < room - n = let size = ap (λ (xs : List ℕ). length xs) rest in omega (arith, size, c.if-self-rest.false) in
       let goes = block_stands G t u room n unread window fed messages e.0 b is p.ensures.place p.ensures.level sets H (omega (arith, short_is)) (ended.2 truncated) in
       let stops = block_waits G t u room n unread window fed messages e.0 b is p.ensures.place p.ensures.level sets halt short_is (ended.1 (not_memory halt.cause truncated)) in
-      let follows = c.in-Ok-hold.ensures.follows (before ++ e.0) fed all (omega (arith, short)) counts
+      let follows = c.in_ok-hold-in-Truncated.ensures.follows (before ++ e.0) fed all (omega (arith, short)) counts
       (rw (c.requires.framing) (subst (λ (xs : List ℕ). Stands Blocks (room - n) H u xs fed all) rest goes))
       (rw (c.requires.framing) (inr (subst (λ (xs : List ℕ). StopsBehind (framed_as Blocks u) (templates_in u.set.now) fed all (stop_of u.template (record { cause = Truncated; number = halt.number; by = halt.by }) xs)) rest (rw (truncated) at stops)))) in
       (e.0, follows),

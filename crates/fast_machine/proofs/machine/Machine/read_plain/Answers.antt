@@ -1,5 +1,6 @@
 use Rattle.std.proofs.Common.{◌≡◌, ◌≢◌, ◌++◌, [], ℕ, List, drop, length, sym, ap, subst, refl, ◌∙◌, arith, inr, rules}
 use Rattle.std.specs.Prelude.{slice_range}
+use Rattle.std.proofs.lemmas.Result.{err_from_is_err_and}
 use Rattle.fast_template.specs.TemplateSets.{templates_in}
 use Rattle.fast_stream.specs.declared.fault.Cause.TheVariants.{Truncated}
 use Rattle.fast_stream.specs.declared.mode.Framing.TheVariants.{Plain}
@@ -38,39 +39,41 @@ returns-in-None-clause-goes g c = λ before fed messages short counts stands.
       plain_stands G t u old.left bytes fed messages e.0 stands p.ensures.level sets H (drop n bytes) ended.0,
     )
 
-pub returns-in-Err-clause-fails : goal.returns-in-Err-clause-fails
-returns-in-Err-clause-fails g c = (
-  c.in-Err.ensures.answer,
-  (λ e. not_memory c.in-Err.fault.cause e c.in-Err.ensures.cause),
-  λ before fed messages short counts stands.
-      let old = c.args.self.now in
-      let t = old.traversal in
-      let p = c.read_message-progress in
-      let u = p.new.traversal in
-      let R = g.R.Receiver in
-      let bytes = c.args.bytes.now in
-      let n = p.result.at in
-      let G = ReadsOn R.has R.stands R.keeps t old.receiver (g.E.Entries.contents old.entries) before in
-      let run = run_from G t bytes stands.start.dictionary stands.rest stands.ends.0 in
-      let e = p.ensures.ended before stands.start.dictionary stands.rest [] run in
-      let H = ReadsOn R.has R.stands R.keeps u p.new.receiver (g.E.Entries.contents p.new.entries) (before ++ e.0) in
-      let sets = ap (λ x. x.now) p.ensures.set in
-      let all = messages ++ e.0 in
-      let ended = rw (c.in-Some.is) at e.2 in
-      let halt = c.in-Some.halt in
-      let carried = plain_carried G t u old.left bytes fed messages e.0 stands p.ensures.level sets (λ d r. Unit {0}) ended.0 in
-      let few = few_messages (framed_as Plain u) (templates_in u.set.now) fed all carried in
-      let counts = counts_pushed old.fed old.messages p.result.messages _ fed messages e.0 counts e.1 c.counted-self.ensures few short in
-      let truncated = c.in-Truncated.is in
-      let rest = sym (slice_rest bytes n) in
-      let goes = plain_stands G t u old.left bytes fed messages e.0 stands p.ensures.level sets H (drop n bytes) (ended.2 truncated) in
-      let stops = plain_stops G t u old.left bytes fed messages e.0 stands p.ensures.level sets (stop_of u.template halt (drop n bytes)) (ended.1 (not_memory halt.cause truncated)) in (
-        e.0,
-        c.in-Err.ensures.follows (before ++ e.0) fed all (omega (arith, short)) counts
-            (rw (c.requires.framing) (subst (λ (xs : List ℕ). Stands Plain old.left H u xs fed all) rest goes))
-            (rw (c.requires.framing) (inr (subst (λ (xs : List ℕ). StopsBehind (framed_as Plain u) (templates_in u.set.now) fed all (stop_of u.template (record { cause = Truncated; number = halt.number; by = halt.by }) xs)) rest (rw (truncated) at stops)))),
-      ),
-)
+pub returns-in_err-hold-in-Truncated-clause-fails : goal.returns-in_err-hold-in-Truncated-clause-fails
+returns-in_err-hold-in-Truncated-clause-fails g c =
+    let p = err_from_is_err_and c.from_residual.result c.from_residual.ensures.1 in
+    rw (p.1, p.2) (
+      c.in_err-hold-in-Truncated.ensures.answer,
+      (λ e. not_memory c.in_err-hold-in-Truncated.field-0.0.cause e c.in_err-hold-in-Truncated.ensures.cause),
+      λ before fed messages short counts stands.
+          let old = c.args.self.now in
+          let t = old.traversal in
+          let p = c.read_message-progress in
+          let u = p.new.traversal in
+          let R = g.R.Receiver in
+          let bytes = c.args.bytes.now in
+          let n = p.result.at in
+          let G = ReadsOn R.has R.stands R.keeps t old.receiver (g.E.Entries.contents old.entries) before in
+          let run = run_from G t bytes stands.start.dictionary stands.rest stands.ends.0 in
+          let e = p.ensures.ended before stands.start.dictionary stands.rest [] run in
+          let H = ReadsOn R.has R.stands R.keeps u p.new.receiver (g.E.Entries.contents p.new.entries) (before ++ e.0) in
+          let sets = ap (λ x. x.now) p.ensures.set in
+          let all = messages ++ e.0 in
+          let ended = rw (c.in-Some.is) at e.2 in
+          let halt = c.in-Some.halt in
+          let carried = plain_carried G t u old.left bytes fed messages e.0 stands p.ensures.level sets (λ d r. Unit {0}) ended.0 in
+          let few = few_messages (framed_as Plain u) (templates_in u.set.now) fed all carried in
+          let counts = counts_pushed old.fed old.messages p.result.messages _ fed messages e.0 counts e.1 c.counted-self.ensures few short in
+          let truncated = c.in-Truncated.is in
+          let rest = sym (slice_rest bytes n) in
+          let goes = plain_stands G t u old.left bytes fed messages e.0 stands p.ensures.level sets H (drop n bytes) (ended.2 truncated) in
+          let stops = plain_stops G t u old.left bytes fed messages e.0 stands p.ensures.level sets (stop_of u.template halt (drop n bytes)) (ended.1 (not_memory halt.cause truncated)) in (
+            e.0,
+            c.in_err-hold-in-Truncated.ensures.follows (before ++ e.0) fed all (omega (arith, short)) counts
+                (rw (c.requires.framing) (subst (λ (xs : List ℕ). Stands Plain old.left H u xs fed all) rest goes))
+                (rw (c.requires.framing) (inr (subst (λ (xs : List ℕ). StopsBehind (framed_as Plain u) (templates_in u.set.now) fed all (stop_of u.template (record { cause = Truncated; number = halt.number; by = halt.by }) xs)) rest (rw (truncated) at stops)))),
+          ),
+    )
 
 pub returns-then-is_empty-clause-waits : goal.returns-then-is_empty-clause-waits
 returns-then-is_empty-clause-waits g c = (
@@ -107,9 +110,9 @@ returns-then-is_empty-clause-waits g c = (
       ),
 )
 
-pub returns-in-Ok-clause-waits : goal.returns-in-Ok-clause-waits
-returns-in-Ok-clause-waits g c = (
-  c.in-Ok.ensures.answer,
+pub returns-in_ok-hold-in-Truncated-clause-waits : goal.returns-in_ok-hold-in-Truncated-clause-waits
+returns-in_ok-hold-in-Truncated-clause-waits g c = (
+  c.in_ok-hold-in-Truncated.ensures.answer,
   λ before fed messages short counts stands.
       let old = c.args.self.now in
       let t = old.traversal in
@@ -134,7 +137,7 @@ returns-in-Ok-clause-waits g c = (
       let goes = plain_stands G t u old.left bytes fed messages e.0 stands p.ensures.level sets H (drop n bytes) (ended.2 truncated) in
       let stops = plain_stops G t u old.left bytes fed messages e.0 stands p.ensures.level sets (stop_of u.template halt (drop n bytes)) (ended.1 (not_memory halt.cause truncated)) in (
         e.0,
-        c.in-Ok.ensures.follows (before ++ e.0) fed all (omega (arith, short)) counts
+        c.in_ok-hold-in-Truncated.ensures.follows (before ++ e.0) fed all (omega (arith, short)) counts
             (rw (c.requires.framing) (subst (λ (xs : List ℕ). Stands Plain old.left H u xs fed all) rest goes))
             (rw (c.requires.framing) (inr (subst (λ (xs : List ℕ). StopsBehind (framed_as Plain u) (templates_in u.set.now) fed all (stop_of u.template (record { cause = Truncated; number = halt.number; by = halt.by }) xs)) rest (rw (truncated) at stops)))),
       ),

@@ -9,8 +9,8 @@ use Rattle.fast_machine.proofs.Standings.{carried_of}
 use Rattle.fast_machine.proofs.Followings.{fault_refused, left_behind, not_truncated, size_other, size_template}
 use Rattle.fast_machine.proofs.machine.Machine.stop_at_size.Goals as goal
 
-pub returns-in-Err-clause-follows : goal.returns-in-Err-clause-follows
-returns-in-Err-clause-follows g c = λ before fed messages short counts stands.
+pub returns-in-Truncated-clause-follows : goal.returns-in-Truncated-clause-follows
+returns-in-Truncated-clause-follows g c = λ before fed messages short counts stands.
     let old = c.args.self.now in
     let t = old.traversal in
     let R = g.R.Receiver in
@@ -18,18 +18,7 @@ returns-in-Err-clause-follows g c = λ before fed messages short counts stands.
     let G = ReadsOn R.has R.stands R.keeps t old.receiver (g.E.Entries.contents old.entries) before in
     let some : t.stage ≡ stage.Map → 0 < length bytes = λ at. elim c.requires.some [ inl some ↦ some | inr begun ↦ absurd (none_begun t.stage at begun) ] in
     let stops = size_template G t old.left bytes fed messages c.args.cause c.requires.outside (g.E.Entries.serves old.entries) (old.ready c.requires.fault) some c.requires.stops stands in
-    c.in-Err.ensures.follows before fed messages (omega (arith, short)) counts (rw (c.requires.framing) stands) (rw (c.requires.framing) (inr (rw (c.in-Truncated.is) at stops)))
-
-pub returns-in-Ok-clause-follows : goal.returns-in-Ok-clause-follows
-returns-in-Ok-clause-follows g c = λ before fed messages short counts stands.
-    let old = c.args.self.now in
-    let t = old.traversal in
-    let R = g.R.Receiver in
-    let bytes = c.args.bytes.now in
-    let G = ReadsOn R.has R.stands R.keeps t old.receiver (g.E.Entries.contents old.entries) before in
-    let some : t.stage ≡ stage.Map → 0 < length bytes = λ at. elim c.requires.some [ inl some ↦ some | inr begun ↦ absurd (none_begun t.stage at begun) ] in
-    let stops = size_template G t old.left bytes fed messages c.args.cause c.requires.outside (g.E.Entries.serves old.entries) (old.ready c.requires.fault) some c.requires.stops stands in
-    c.in-Ok.ensures.follows before fed messages (omega (arith, short)) counts (rw (c.requires.framing) stands) (rw (c.requires.framing) (inr (rw (c.in-Truncated.is) at stops)))
+    c.hold.ensures.follows before fed messages (omega (arith, short)) counts (rw (c.requires.framing) stands) (rw (c.requires.framing) (inr (rw (c.in-Truncated.is) at stops)))
 
 pub returns-in_default : goal.returns-in_default
 returns-in_default g c =

@@ -1,5 +1,6 @@
 use Rattle.std.proofs.Common.{◌≡◌, ◌≤◌, ◌++◌, ◌-◌, ◌∙◌, ◌^◌, ℕ, List, length, length-append, length-drop, take, drop, take-append-drop, arith, ap, sym, subst, append_assoc}
 use Rattle.std.proofs.Math.Seq.{take-length}
+use Rattle.std.proofs.lemmas.Result.{err_from_is_err_and}
 use Rattle.fast_wire.proofs.Calls.{all_bytes}
 use Rattle.fast_wire.specs.declared.level.Level.{Level}
 use Rattle.fast_stream.specs.declared.mode.Framing.{Framing}
@@ -13,8 +14,10 @@ use Rattle.fast_machine.proofs.machine.Machine.take_message.Goals as goal
 abbrev framed_by : Level → Framing → Mode
 framed_by level framing = record { level = level; framing = framing }
 
-pub returns-in-Err-clause-follows : goal.returns-in-Err-clause-follows
-returns-in-Err-clause-follows g c = λ none before fed messages follows.
+pub returns-in_err-read_behind-clause-follows : goal.returns-in_err-read_behind-clause-follows
+returns-in_err-read_behind-clause-follows g c =
+    let p = err_from_is_err_and c.from_residual.result c.from_residual.ensures.1 in
+    rw (p.1) (λ none before fed messages follows.
     let old = c.args.self.now in
     let chunk = c.args.chunk.now in
     let R = g.R.Receiver in
@@ -25,11 +28,11 @@ returns-in-Err-clause-follows g c = λ none before fed messages follows.
     let more = counts_fed old.fed old.messages fed chunk messages follows.counts in
     let at = rw (none) at follows.at in
     let stands = stands_fed old.framing old.left G old.traversal old.held.items fed chunk messages (all_bytes chunk (λ k. omega (arith, c.type_inv.chunk k))) at.0 in
-    let r = c.in-Err.ensures.fails.2 before (fed ++ chunk) messages short more stands in
-    (r.0, tt, r.1)
+    let r = c.in_err-read_behind.ensures.fails.2 before (fed ++ chunk) messages short more stands in
+    (r.0, tt, r.1))
 
-pub returns-in-Ok-None-clause-follows : goal.returns-in-Ok-None-clause-follows
-returns-in-Ok-None-clause-follows g c = λ none before fed messages follows.
+pub returns-in-None-clause-follows : goal.returns-in-None-clause-follows
+returns-in-None-clause-follows g c = λ none before fed messages follows.
     let old = c.args.self.now in
     let chunk = c.args.chunk.now in
     let R = g.R.Receiver in
@@ -40,11 +43,11 @@ returns-in-Ok-None-clause-follows g c = λ none before fed messages follows.
     let more = counts_fed old.fed old.messages fed chunk messages follows.counts in
     let at = rw (none) at follows.at in
     let stands = stands_fed old.framing old.left G old.traversal old.held.items fed chunk messages (all_bytes chunk (λ k. omega (arith, c.type_inv.chunk k))) at.0 in
-    let r = (rw (c.in-Ok-None.field-0-is) at c.in-Ok-None.ensures.waits).1 before (fed ++ chunk) messages short more stands in
+    let r = (rw (c.in-None.is) at c.in_ok-read_behind.ensures.waits).1 before (fed ++ chunk) messages short more stands in
     (r.0, rw (take-length chunk) r.1, tt)
 
-pub returns-in-Ok-Some-clause-follows : goal.returns-in-Ok-Some-clause-follows
-returns-in-Ok-Some-clause-follows g c = λ none before fed messages follows.
+pub returns-in-Some-clause-follows : goal.returns-in-Some-clause-follows
+returns-in-Some-clause-follows g c = λ none before fed messages follows.
     let old = c.args.self.now in
     let chunk = c.args.chunk.now in
     let R = g.R.Receiver in
@@ -56,12 +59,12 @@ returns-in-Ok-Some-clause-follows g c = λ none before fed messages follows.
     let at = rw (none) at follows.at in
     let stands = stands_fed old.framing old.left G old.traversal old.held.items fed chunk messages (all_bytes chunk (λ k. omega (arith, c.type_inv.chunk k))) at.0 in
     let held = old.held.items in
-    let o = c.in-Ok-Some in
-    let next = o.next in
+    let o = c.in_ok-read_behind in
+    let next = c.in-Some.next in
     let new = c.read_behind.new.self in
-    let r = (rw (o.field-0-is) at o.ensures.goes) before (fed ++ chunk) messages short more stands in
-    let place = rw (o.field-0-is) at o.ensures.place in
-    let took = rw (o.field-0-is) at o.ensures.took in
+    let r = (rw (c.in-Some.is) at o.ensures.goes) before (fed ++ chunk) messages short more stands in
+    let place = rw (c.in-Some.is) at o.ensures.place in
+    let took = rw (c.in-Some.is) at o.ensures.took in
     let H = ReadsOn R.has R.stands R.keeps new.traversal new.receiver (g.E.Entries.contents new.entries) (before ++ r.0) in
     let beyond = behind_held old.framing old.left new.left G H old.traversal new.traversal held old.waiting next fed chunk messages r.0 c.set_is_sound.ensures.typed (ap (λ (m : Mode). framed_by m.level old.framing) o.ensures.mode) (ap (λ x. x.now) o.ensures.set) at.1 r.3 r.2 took place.0 c.requires.some in
     let taken = c.min-taken.result in

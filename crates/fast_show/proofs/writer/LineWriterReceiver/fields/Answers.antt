@@ -1,4 +1,4 @@
-use Rattle.std.proofs.Common.{None, ap, refl}
+use Rattle.std.proofs.Common.{None, Result, Ok, Err, IfOk, ap, refl}
 use Rattle.fast_walk.specs.declared.receiver.Fields.{Fields}
 use Rattle.fast_walk.specs.Walks.{bare_next}
 use Rattle.fast_lines.specs.Told.{HasTold, line_now}
@@ -6,10 +6,17 @@ use Rattle.fast_show.specs.Waiting.{waiting_of}
 use Rattle.fast_lines.proofs.Taking.{takes_none}
 use Rattle.fast_show.proofs.writer.LineWriterReceiver.fields.Goals as goal
 
-pub returns-in-Ok-clause-goes : goal.returns-in-Ok-clause-goes
-returns-in-Ok-clause-goes g c = λ o next first here.
+-- what is said of an answer that came, of two clauses
+if_came : {A E : Type 0} {P Q S : A → Type 0} (r : Result A E) → ((x : A) → P x → Q x → S x) → IfOk r P → IfOk r Q → IfOk r S
+if_came (Ok x) f p q = f x p q
+if_came (Err e) f p q = tt
+
+pub returns-in-Some-Field-clause-goes : goal.returns-in-Some-Field-clause-goes
+returns-in-Some-Field-clause-goes g c =
     let old = c.args.self.now in
-    rw (c.in-Ok.ensures.none) (c.in-Ok.ensures.takes (waiting_of g.S.Escape.form old.out.items old.rest) old.set.now old.exponent o (ap bare_next next) first here)
+    let e = c.tell_fields.ensures in
+    if_came c.tell_fields.result (λ f none takes o next first here.
+    rw none (takes (waiting_of g.S.Escape.form old.out.items old.rest) old.set.now old.exponent o (ap bare_next next) first here)) e.none e.takes
 
 pub returns-in_default-clause-goes : goal.returns-in_default-clause-goes
 returns-in_default-clause-goes g c = λ o next first here.

@@ -5,15 +5,15 @@ use Rattle.fast_lines.specs.Told.{line_now}
 use Rattle.fast_lines.proofs.Writing.{has_mantissa}
 use Rattle.fast_show.proofs.writer.LineWriterReceiver.mantissa.Goals as goal
 
-pub returns-in-Ok-push_decimal-clause-goes : goal.returns-in-Ok-push_decimal-clause-goes
-returns-in-Ok-push_decimal-clause-goes g c =
+pub returns-clause-goes : goal.returns-clause-goes
+returns-clause-goes g c =
     let old = c.args.self.now in
-    let m = c.in-Ok.mantissa in
+    let m = c.in_ok-mantissa.mantissa in
     let form = g.S.Escape.form in
-    let here = c.in-Ok-push_decimal.ensures.text form in
+    let here = c.in_ok-push_decimal.ensures.text form in
     let told : written_of form c.push_decimal.new.self ≡ written_of form old.line ++ decimal_text m old.exponent = search rules in (
       m,
-      c.in-Ok.ensures.took,
+      c.in_ok-mantissa.ensures.took,
       λ e o next has. (
         has.0,
         has_mantissa g.S.Escape.form old.exponent e m (line_now g.S.Escape.form old.line) (line_now g.S.Escape.form c.push_decimal.new.self) o c.args.part.now next told c.push_decimal.ensures.led has.1,
