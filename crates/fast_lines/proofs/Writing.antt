@@ -156,7 +156,3 @@ has_finished form z l o out new next rest none known end before c =
     rw (end)
     (told_more form o.set o.before (content_received o) out (l.text ++ ending form) before
     (line_told form (find (λ t. has_id o.template t.id) o.set) o.template o.members (items_of o.body.done) x.0 l.text known x.1 x.2))
-
--- what was handed on stands in front of what was not
-pub handed_told : (form : Form) (out none handed : List ℕ) (set : List Resolved) (ms : List Content) → none ≡ [] → lines_of_set form set ms ≡ Some (handed ++ out) → lines_of_set form set ms ≡ Some ((handed ++ out) ++ none)
-handed_told form out none handed set ms is e = rw (is) (e ∙ ap Some (sym (append-nil (handed ++ out))))

@@ -73,10 +73,6 @@ pub encode_front : (xs : List ℕ) (i : ℕ) (d : ℕ) → i < length xs → enc
 unfolding encode_with
 encode_front xs i d lt = ap encode_lower (drop_more xs i d lt)
 
--- and what is made of the units that are left
-pub flat_map_front : (f : ℕ → List ℕ) (xs : List ℕ) (i : ℕ) (d : ℕ) → i < length xs → flat_map f (drop i xs) ≡ f (get_or xs i d) ++ flat_map f (drop (i + 1) xs)
-flat_map_front f xs i d lt = ap (flat_map f) (drop_more xs i d lt) ∙ flat_map-cons f (get_or xs i d) (drop (i + 1) xs)
-
 pub encode_none : encode_lower [] ≡ []
 unfolding encode_with
 encode_none = refl

@@ -179,16 +179,6 @@ stands_further has stands keeps G t u r e before unread moved later origin bytes
 abbrev pub read_as : Content → Dictionary → List ℕ → Reading
 read_as m d rest = Ok (m, d, rest)
 
-pub begun_not : (s : Stage) → s ≢ stage.Map → begun_at s ≡ 1
-begun_not stage.Map h = absurd (h refl)
-begun_not stage.Identifier h = refl
-begun_not stage.Body h = refl
-
-pub begun_few : (s : Stage) → begun_at s ≤ 1
-begun_few stage.Map = omega arith
-begun_few stage.Identifier = omega arith
-begun_few stage.Body = omega arith
-
 pub none_begun : (s : Stage) → s ≡ stage.Map → begun_at s ≡ 1 → ⊥
 none_begun stage.Map e h = absurd (omega (arith, h))
 none_begun stage.Identifier e h = absurd cc

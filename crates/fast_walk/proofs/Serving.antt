@@ -62,9 +62,6 @@ members_in serves (t ∷ ts) id members typed h e =
 pub members_served : (serves : Key → Bool) (set : TemplateList) (id : ℕ) (members : Instructions) → IsSound set → ServesAll serves set → members_of (templates_in set) id ≡ Some members → AreServed serves members
 members_served serves set id members sound h e = members_in serves (templates_in set) id members sound.typed (λ k there. h k (later identifier_key k (keys_of_all (templates_in set)) there)) e
 
-pub identifier_served : (serves : Key → Bool) (set : TemplateList) → ServesAll serves set → IsTrue (serves identifier_key)
-identifier_served serves set h = h identifier_key (first identifier_key (keys_of_all (templates_in set)))
-
 -- ---- the template of an identifier
 
 abbrev members_by : Bool → FlatTemplate → Option FlatTemplate → Option Instructions

@@ -62,10 +62,6 @@ is_sequel at_instruction t h = absurd cc
 is_sequel (at_mantissa e p) t h = absurd cc
 is_sequel (at_element s) t h = record { sequel = s; is = refl; same = ap (sequel_in t) h }
 
-pub is_group : (i : Inside) → bare_inside i ≡ in_group → i ≡ in_group
-is_group in_group h = refl
-is_group (in_sequence s) h = absurd cc
-
 pub record IsElementOf (i : Inside) (t : Sequel) : Type 0 where
   pub sequel : Sequel
   pub is : i ≡ in_sequence sequel
@@ -243,9 +239,6 @@ goes_on Has Had Later read reads later a b c g h o has =
     let p = g o has in
     let q = h p.0 p.1 in
     (q.0, q.1, record { set = q.2.set ∙ p.2.set; before = q.2.before ∙ p.2.before; template = q.2.template ∙ p.2.template; members = q.2.members ∙ p.2.members; start = q.2.start ∙ p.2.start }, λ more. p.3 more ∙ q.3 more)
-
-pub goes_none : (Has : Received → Type 0) (read : Received → List ℕ → Reads Items) (a : List ℕ) → Goes Has read Has read a a
-goes_none Has read a o has = (o, has, record { set = refl; before = refl; template = refl; members = refl; start = refl }, λ more. refl)
 
 -- where nothing is read, and what was received is kept
 pub goes_kept : (Has Had : Received → Type 0) (read : Received → List ℕ → Reads Items) (a : List ℕ) → ((o : Received) → Has o → Had o) → Goes Has read Had read a a

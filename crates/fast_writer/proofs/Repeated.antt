@@ -1,5 +1,5 @@
 -- What bit 0 gave is best written with bit 0.
-use Rattle.std.proofs.Common.{◌≡◌, ℕ, Bool, true, false, List, [], Option, Result, Ok, Err, refl, sym, ◌∙◌}
+use Rattle.std.proofs.Common.{◌≡◌, ℕ, true, false, List, [], Option, Result, Ok, Err, refl, sym, ◌∙◌}
 use Rattle.std.specs.Prelude.{IfOk}
 use Rattle.fast_wire.specs.Reader.{IsBytes}
 use Rattle.fast_value.specs.declared.kind.Operator.{Operator}
@@ -51,7 +51,3 @@ no_bit operator.Copy p i e c b v is h f = absurd cc
 no_bit operator.Increment p i e c b v is h f = absurd cc
 no_bit operator.Delta p i e c b v is h f = f
 no_bit operator.Tail p i e c b v is h f = absurd cc
-
-pub best_bit : (i : FieldPart) (e : Entry) (bit : Bool) (b : List ℕ) (v : Option Scalar) → IsBest i e bit b v → part_needs_bit i ≡ false → bit ≡ true
-best_bit i e true b v best h = refl
-best_bit i e false b v best h = absurd (no_bit i.operator i.presence i e best.cut b v refl h best.form.row)
