@@ -36,7 +36,7 @@ fn show_by<S: Signs, R: ByteInput, W: ByteOutput>(
     ensures write { W.errors writer.new ≡ errors_after result (W.errors writer.old) }
     ensures flush { FlushesOnce result (W.flushes writer.old) (W.flushes writer.new) }
 {
-    match pass_through(
+    pass_through(
         alloc,
         set,
         mode,
@@ -44,10 +44,7 @@ fn show_by<S: Signs, R: ByteInput, W: ByteOutput>(
         reader,
         writer,
         turns,
-    ) {
-        Ok(summary) => Ok(summary),
-        Err(fault) => Err(fault),
-    }
+    )
 }
 
 /// Reads a stream to its end, and writes the line of each message in a form.

@@ -173,10 +173,8 @@ fn canon_in_hex<O: ByteOutput>(
         Ok(_) => write_hex_line(alloc, &kept.bytes, out),
         Err(CanonFault::Stream(fault)) => {
             notes.stream_stopped(fault);
-            match write_hex_line(alloc, &kept.bytes, out) {
-                Err(refusal) => Err(refusal),
-                Ok(()) => Err(Refusal::of_stream(alloc, fault)),
-            }
+            write_hex_line(alloc, &kept.bytes, out)?;
+            Err(Refusal::of_stream(alloc, fault))
         }
         // An output in memory fails only where there is no memory.
         Err(CanonFault::Write | CanonFault::Memory) => Err(Refusal::Memory),
@@ -224,14 +222,10 @@ fn perform_hex<I: ByteInput, O: ByteOutput>(
         (writer_by O.taken O.errors O.flushes out.old)
         (writer_by O.taken O.errors O.flushes out.new) result }
 {
-    match read_hex_input(alloc, input, turns, notes) {
-        Err(refusal) => Err(refusal),
-        Ok(stream) => {
-            let answer = perform_in_hex(alloc, request, set, &stream, out, turns, notes);
-            notes.stream_in_memory(&stream);
-            answer
-        }
-    }
+    let stream = read_hex_input(alloc, input, turns, notes)?;
+    let answer = perform_in_hex(alloc, request, set, &stream, out, turns, notes);
+    notes.stream_in_memory(&stream);
+    answer
 }
 
 /// Does what is asked of an input that is open.
@@ -321,15 +315,11 @@ fn perform_asked<S: Source, O: ByteOutput>(
         (writer_by O.taken O.errors O.flushes out.old)
         (writer_by O.taken O.errors O.flushes out.new) result }
 {
-    match load(alloc, request.templates, source, turns, notes) {
-        Err(refusal) => Err(refusal),
-        Ok(set) => {
-            notes.templates_loaded();
-            let answer = perform_with(alloc, request, &set, source, out, turns, notes);
-            notes.stream_refused(alloc, &set);
-            answer
-        }
-    }
+    let set = load(alloc, request.templates, source, turns, notes)?;
+    notes.templates_loaded();
+    let answer = perform_with(alloc, request, &set, source, out, turns, notes);
+    notes.stream_refused(alloc, &set);
+    answer
 }
 
 /// Says why the program does not do what it is asked to, and answers its exit status. An `err` that fails changes

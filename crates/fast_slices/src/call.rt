@@ -164,10 +164,8 @@ fn prepare(
     if stream.len() as u64 >= TURNS {
         return Err(Refusal::TooLong);
     }
-    match load(alloc, templates) {
-        Ok(set) => Ok((set, mode)),
-        Err(refusal) => Err(refusal),
-    }
+    let set = load(alloc, templates)?;
+    Ok((set, mode))
 }
 
 /// Writes the canonical bytes of a stream, with the templates of a text.
@@ -180,10 +178,8 @@ pub fn canon(
 ) -> Result<Summary, Refusal>
     ensures { Canons templates.now word stream.now room.old room.new result }
 {
-    match prepare(alloc, templates, word, stream) {
-        Ok((set, mode)) => canon_with(alloc, &set, mode, stream, room),
-        Err(refusal) => Err(refusal),
-    }
+    let (set, mode) = prepare(alloc, templates, word, stream)?;
+    canon_with(alloc, &set, mode, stream, room)
 }
 
 /// Writes the lines of a stream, with the templates of a text.
@@ -196,10 +192,8 @@ pub fn show(
 ) -> Result<Summary, Refusal>
     ensures { Shows templates.now word stream.now room.old room.new result }
 {
-    match prepare(alloc, templates, word, stream) {
-        Ok((set, mode)) => show_with(alloc, &set, mode, stream, room),
-        Err(refusal) => Err(refusal),
-    }
+    let (set, mode) = prepare(alloc, templates, word, stream)?;
+    show_with(alloc, &set, mode, stream, room)
 }
 
 /// Counts what a stream carries, with the templates of a text.
@@ -211,22 +205,18 @@ pub fn check_stream(
 ) -> Result<Summary, Refusal>
     ensures { Checks templates.now word stream.now result }
 {
-    match prepare(alloc, templates, word, stream) {
-        Ok((set, mode)) => check_with(alloc, &set, mode, stream),
-        Err(refusal) => Err(refusal),
-    }
+    let (set, mode) = prepare(alloc, templates, word, stream)?;
+    check_with(alloc, &set, mode, stream)
 }
 
 /// Checks a template text.
 pub fn check_templates(alloc: Global, templates: &[u8]) -> Result<Summary, Refusal>
     ensures { ChecksText templates.now result }
 {
-    match load(alloc, templates) {
-        Ok(_) => Ok(Summary {
-            messages: 0,
-            read: 0,
-            written: 0,
-        }),
-        Err(refusal) => Err(refusal),
-    }
+    load(alloc, templates)?;
+    Ok(Summary {
+        messages: 0,
+        read: 0,
+        written: 0,
+    })
 }
