@@ -282,8 +282,5 @@ chosen_can i e v x is h r none made = chosen_fits i.operator i e v x is.typed.op
 pub value_can : (i : FieldPart) (e : Entry) (v : Scalar) → IsFieldPart i → HasRange v → refusal_of i e (Some v) ≡ None → CanBeUnits i.kind (units_of v)
 value_can i e v is r none = value_fits i.kind v (field_value i e (Some v) is r none).of_field
 
-pub base_few : (i : FieldPart) (e : Entry) → IsFieldPart i → HoldsScalar e → (base : Scalar) → delta_base i e ≡ Ok base → length (units_of base) ≤ 65535
-base_few i e is h base eq = few_units base (delta_base_within i e base is h eq).1
-
 pub operator_can : (i : FieldPart) (e : Entry) (v : Scalar) → refusal_of i e (Some v) ≡ None → operator_refusal i.operator i e v ≡ None
 operator_can i e v none = operator_allows i e (Some v) none v refl

@@ -18,6 +18,7 @@ pub mod Agreeing
 pub mod Least
 pub mod BestCuts
 pub mod BestTails
+pub mod CutsAtEnd
 pub mod BestValues
 pub mod OneBest
 pub mod TwoPieces

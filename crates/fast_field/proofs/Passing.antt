@@ -43,9 +43,6 @@ of_kind k z h = (of_type k z h).0
 pub number_back : (k : Kind) (z : ℤ) → IsNumber k z → integer_of (of_integer k z) ≡ z
 number_back k z h = number_of k z h.integer h.range
 
-one_number : (k : Kind) (y z : ℤ) → IsNumber k y → IsNumber k z → of_integer k y ≡ of_integer k z → y ≡ z
-one_number k y z h l e = sym (number_back k y h) ∙ ap integer_of e ∙ number_back k z l
-
 within_as : (p : Part) (v : Scalar) (z : ℤ) → integer_of v ≡ z → IsTrue (number_within p z) → IsTrue (within_part p v)
 within_as part.Whole v z e h = refl
 within_as part.Mantissa v z e h = refl

@@ -207,14 +207,9 @@ fn read_new_part(
 }
 
 /// Reads the delta of a string or vector that begins at `at`, and answers the value that it makes, none where it is NULL,
-/// and the place after it: FAST 1.1, Field Operators, Delta Operator.
-///
-/// # Errors
-///
-/// The first fault of the delta on the bytes from `at` on; NeedMore where they end before it does. Memory: the value
-/// was refused it.
+/// and the place after it: FAST 1.1, Field Operators, Delta Operator. Memory only for the value.
 #[tactic(auto, using(crate::proofs::CallSteps::call_steps), unfolding(crate::specs::FieldReading::unit_delta_at))]
-pub fn read_unit_delta(
+fn read_unit_delta(
     alloc: Global,
     instr: &FieldPart,
     kept: EntryRef,
@@ -291,11 +286,7 @@ pub(crate) fn size_cut(kind: Kind, presence: Presence, removal: Removal, part: &
 }
 
 /// Appends a subtraction length and a new part, each in its shortest form, or nothing.
-///
-/// # Errors
-///
-/// Memory: a growth was refused.
-pub fn write_cut(
+pub(crate) fn write_cut(
     kind: Kind,
     presence: Presence,
     removal: Removal,

@@ -71,7 +71,7 @@ pub fn is_field_number(kind: Kind, part: Part, number: i128) -> bool
 
 /// One more, and after the greatest number of the type its least: FAST 1.1, Field Operators, Increment Operator.
 #[inline(always)]
-pub fn number_after(kind: Kind, number: i128) -> i128
+pub(crate) fn number_after(kind: Kind, number: i128) -> i128
     requires { IsNumber kind number }
     ensures value { result ≡ next_number kind number }
     ensures number { IsNumber kind result }
@@ -87,7 +87,7 @@ pub fn number_after(kind: Kind, number: i128) -> i128
 
 /// The number of a value of an integer type; none where the value is of another type.
 #[inline(always)]
-pub fn number_of(kind: Kind, value: &Scalar) -> Option<i128>
+fn number_of(kind: Kind, value: &Scalar) -> Option<i128>
     requires { IsTrue (is_integer kind) }
     ensures some { IfSome result (IsNumberOf kind value.now) }
     ensures none { IfNone result (is_of kind value.now ≡ false) }

@@ -6,7 +6,7 @@
 //! nothing. [`plan_field`] answers the bit and the bytes of the best form of a value and [`write_field`] appends it;
 //! [`write_in_place`] does both and changes the entry too, and [`write_found`] does so with a value that was just read.
 //! [`pass_left_out`] takes what bit 0 gives without a value in between, and [`pass_found`] answers where it lies. The rest
-//! of what is public is for `fast_relay`, which reads and writes the most frequent fields at once.
+//! of what is public is for `fast_relay`, which reads and writes the most frequent fields at once, and for `fast_lines`.
 //! The definitions stand in `specs/`: the forms that spell a value (`Fields`, over `Spelled`, `Bases` and
 //! `Deltas`), the form that a writer chooses (`Best`), and the function that reads a field from the front of a list
 //! and answers its first fault (`FieldReading`). The module [`laws`] ties forms and reading together.
@@ -15,6 +15,7 @@
 mod afterwards;
 mod base;
 mod cut;
+mod cut_at_end;
 mod delta;
 mod fault;
 mod found;
@@ -35,19 +36,17 @@ mod write;
 pub use afterwards::next_entry;
 pub use base::units;
 pub use cut::best_cut;
-pub use delta::{Removal, read_unit_delta, write_cut};
+pub use cut_at_end::{
+    agrees_no_further, begins_otherwise, goes_on_otherwise, is_cut_at_end, is_vector_cut_at_end,
+};
+pub use delta::Removal;
 pub use fast_wire::Level;
 pub use fault::{FieldFault, FieldRefusal};
 pub use found::Found;
-pub use integers::{is_field_number, kept_number, number_after, number_of, set_number};
-pub use left_out::is_left_out;
+pub use integers::{is_field_number, kept_number, set_number};
 pub use levels::reads_as_usual;
-pub use passed::{Passed, fits, pass_found, pass_left_out, pass_part};
+pub use passed::{Passed, fits, pass_found, pass_left_out};
 pub use plan::{Plan, plan_field};
 pub use read::{find_field, read_field, read_in_place};
-pub use tail::{best_tail, read_tail};
-pub use whole::{
-    exponent_within, mantissa_within, read_string, write_pair, write_signed, write_units,
-    write_unsigned,
-};
+pub use whole::{exponent_within, mantissa_within};
 pub use write::{write_field, write_found, write_in_place};

@@ -12,7 +12,7 @@ use crate::base::integer;
 use crate::found::Found;
 use crate::integers::{is_within, kept_number, number_after, set_number};
 use fast_dictionary::Entry;
-use fast_template::{FieldPart, Kind, Operator, Part, Presence, Scalar};
+use fast_template::{FieldPart, Kind, Operator, Presence, Scalar};
 use fast_value::is_of_kind;
 
 /// What bit 0 gave a field.
@@ -32,17 +32,7 @@ pub fn fits(instr: &FieldPart, value: &Scalar) -> bool
     ensures kind { result ≡ true → is_of instr.now.kind value.now ≡ true }
     ensures within { result ≡ true → IsTrue (within_part instr.now.part value.now) }
 {
-    fits_part(instr.part, instr, value)
-}
-
-/// The same, where the caller knows what part it is.
-#[inline(always)]
-fn fits_part(which: Part, instr: &FieldPart, value: &Scalar) -> bool
-    requires { which ≡ instr.now.part }
-    ensures kind { result ≡ true → is_of instr.now.kind value.now ≡ true }
-    ensures within { result ≡ true → IsTrue (within_part instr.now.part value.now) }
-{
-    is_of_kind(instr.kind, value) && is_within(which, integer(value))
+    is_of_kind(instr.kind, value) && is_within(instr.part, integer(value))
 }
 
 /// What an entry gives that has no value.
@@ -62,14 +52,13 @@ fn pass_empty(instr: &FieldPart, entry: &Entry) -> Passed
 
 /// The value that the entry has.
 #[inline(always)]
-fn pass_kept(which: Part, instr: &FieldPart, entry: &Entry) -> Passed
+fn pass_kept(instr: &FieldPart, entry: &Entry) -> Passed
     requires operator { Repeats instr.now.operator }
-    requires part { which ≡ instr.now.part }
     ensures { IsPassed instr.now entry.now entry.now result }
 {
     match entry {
         Entry::Assigned(value) => {
-            if fits_part(which, instr, value) {
+            if fits(instr, value) {
                 Passed::Present
             } else {
                 Passed::Elsewhere
@@ -81,18 +70,17 @@ fn pass_kept(which: Part, instr: &FieldPart, entry: &Entry) -> Passed
 
 /// One more than the number that the entry has.
 #[inline(always)]
-fn pass_next(which: Part, kind: Kind, instr: &FieldPart, entry: &mut Entry) -> Passed
+fn pass_next(kind: Kind, instr: &FieldPart, entry: &mut Entry) -> Passed
     requires kind { kind ≡ instr.now.kind }
     requires integer { IsTrue (is_integer kind) }
     requires operator { instr.now.operator ≡ operator_type.Increment }
-    requires part { which ≡ instr.now.part }
     ensures { IsPassed instr.now entry.old entry.new result }
 {
     let Some(kept) = kept_number(kind, entry) else {
         return pass_empty(instr, entry);
     };
     let number = number_after(kind, kept);
-    if !is_within(which, number) {
+    if !is_within(instr.part, number) {
         return Passed::Elsewhere;
     }
     set_number(kind, entry, number);
@@ -101,30 +89,28 @@ fn pass_next(which: Part, kind: Kind, instr: &FieldPart, entry: &mut Entry) -> P
 
 /// The same by the type, which is known behind this call.
 #[inline(always)]
-fn pass_increment(which: Part, instr: &FieldPart, entry: &mut Entry) -> Passed
+fn pass_increment(instr: &FieldPart, entry: &mut Entry) -> Passed
     requires operator { instr.now.operator ≡ operator_type.Increment }
-    requires part { which ≡ instr.now.part }
     ensures { IsPassed instr.now entry.old entry.new result }
 {
     match instr.kind {
-        Kind::UInt32 => pass_next(which, Kind::UInt32, instr, entry),
-        Kind::Int32 => pass_next(which, Kind::Int32, instr, entry),
-        Kind::UInt64 => pass_next(which, Kind::UInt64, instr, entry),
-        Kind::Int64 => pass_next(which, Kind::Int64, instr, entry),
+        Kind::UInt32 => pass_next(Kind::UInt32, instr, entry),
+        Kind::Int32 => pass_next(Kind::Int32, instr, entry),
+        Kind::UInt64 => pass_next(Kind::UInt64, instr, entry),
+        Kind::Int64 => pass_next(Kind::Int64, instr, entry),
         Kind::Decimal | Kind::Ascii | Kind::Unicode | Kind::Bytes => Passed::Elsewhere,
     }
 }
 
 /// The initial value, or none where there is none.
 #[inline(always)]
-fn pass_initial(which: Part, instr: &FieldPart, entry: &Entry) -> Passed
+fn pass_initial(instr: &FieldPart, entry: &Entry) -> Passed
     requires operator { instr.now.operator ≡ operator_type.Default }
-    requires part { which ≡ instr.now.part }
     ensures { IsPassed instr.now entry.now entry.now result }
 {
     match &instr.initial {
         Some(initial) => {
-            if fits_part(which, instr, initial.value()) {
+            if fits(instr, initial.value()) {
                 Passed::Present
             } else {
                 Passed::Elsewhere
@@ -155,19 +141,10 @@ fn pass_constant(instr: &FieldPart, entry: &Entry) -> Passed
 pub fn pass_left_out(instr: &FieldPart, entry: &mut Entry) -> Passed
     ensures { IsPassed instr.now entry.old entry.new result }
 {
-    pass_part(instr.part, instr, entry)
-}
-
-/// The same, where the caller knows what part it is, so that nothing is asked of it.
-#[inline(always)]
-pub fn pass_part(which: Part, instr: &FieldPart, entry: &mut Entry) -> Passed
-    requires { which ≡ instr.now.part }
-    ensures { IsPassed instr.now entry.old entry.new result }
-{
     match instr.operator {
-        Operator::Copy | Operator::Tail => pass_kept(which, instr, entry),
-        Operator::Increment => pass_increment(which, instr, entry),
-        Operator::Default => pass_initial(which, instr, entry),
+        Operator::Copy | Operator::Tail => pass_kept(instr, entry),
+        Operator::Increment => pass_increment(instr, entry),
+        Operator::Default => pass_initial(instr, entry),
         Operator::Constant => pass_constant(instr, entry),
         Operator::Plain | Operator::Delta => Passed::Elsewhere,
     }

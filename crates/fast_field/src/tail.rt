@@ -42,13 +42,9 @@ fn ended(
 }
 
 /// Reads a tail that begins at `at`, and answers the value that it makes, none where it is NULL, and the place after it.
-///
-/// # Errors
-///
-/// The first fault of the tail on the bytes from `at` on; NeedMore where they end before it does. Memory: the value was
-/// refused it.
+/// Memory only for the value.
 #[tactic(auto, using(crate::proofs::CallSteps::call_steps), unfolding(crate::specs::FieldReading::tail_at))]
-pub fn read_tail(
+pub(crate) fn read_tail(
     alloc: Global,
     instr: &FieldPart,
     kept: EntryRef,
@@ -74,7 +70,7 @@ pub fn read_tail(
 /// The best tail of a value that is no shorter than its base: the fewest bytes; of these, the shortest. That is
 /// what stands behind the longest common front, or one unit more: a nullable ASCII string that is empty or begins
 /// with NUL needs a preamble.
-pub fn best_tail<'a>(kind: Kind, presence: Presence, base: &[u8], value: &'a [u8]) -> &'a [u8]
+fn best_tail<'a>(kind: Kind, presence: Presence, base: &[u8], value: &'a [u8]) -> &'a [u8]
     requires value { CanBeUnits kind value.now }
     requires long { length base.now ≤ length value.now }
     ensures { IsBestTail kind presence base.now value.now result.now }

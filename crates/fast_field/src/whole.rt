@@ -391,14 +391,9 @@ fn read_number(
 }
 
 /// Reads a string or a vector that stands whole from `at` on, and answers its value, none where it is NULL, and the place
-/// after it.
-///
-/// # Errors
-///
-/// The first fault of the form on the bytes from `at` on; NeedMore where they end before it does. Memory: the copy was
-/// refused.
+/// after it. Memory only for the copy.
 #[tactic(auto, using(crate::proofs::CallSteps::call_steps), unfolding(crate::specs::FieldReading::units_spelled_at))]
-pub fn read_string(
+fn read_string(
     alloc: Global,
     kind: Kind,
     presence: Presence,
@@ -460,12 +455,8 @@ fn size_unsigned(presence: Presence, number: u64) -> usize
 }
 
 /// Appends a number without a sign, in the shortest form of a presence, or nothing.
-///
-/// # Errors
-///
-/// Memory: a growth was refused.
 #[inline(always)]
-pub fn write_unsigned(presence: Presence, number: u64, out: &mut Vec<u8>) -> Result<(), WireFault>
+fn write_unsigned(presence: Presence, number: u64, out: &mut Vec<u8>) -> Result<(), WireFault>
     ensures { AppendsOne (ShortestUnsigned presence number) out.old.items out.new.items result }
 {
     match presence {
@@ -488,12 +479,12 @@ pub(crate) fn size_signed(presence: Presence, number: i128) -> usize
 }
 
 /// Appends a number with a sign, in the shortest form of a presence, or nothing.
-///
-/// # Errors
-///
-/// Memory: a growth was refused.
 #[inline(always)]
-pub fn write_signed(presence: Presence, number: i128, out: &mut Vec<u8>) -> Result<(), WireFault>
+pub(crate) fn write_signed(
+    presence: Presence,
+    number: i128,
+    out: &mut Vec<u8>,
+) -> Result<(), WireFault>
     requires { IsSmall number }
     ensures { AppendsOne (ShortestSigned presence number) out.old.items out.new.items result }
 {
@@ -551,11 +542,7 @@ pub(crate) fn size_units(kind: Kind, presence: Presence, units: &[u8]) -> usize
 }
 
 /// Appends characters or bytes in the shortest form of a presence, of Unicode its bytes, or nothing.
-///
-/// # Errors
-///
-/// Memory: a growth was refused.
-pub fn write_units(
+pub(crate) fn write_units(
     kind: Kind,
     presence: Presence,
     units: &[u8],
@@ -585,12 +572,8 @@ pub(crate) fn size_pair(presence: Presence, exponent: i128, mantissa: i128) -> u
 }
 
 /// Appends an exponent in the form of a presence and then a mantissa, each in its shortest form, or nothing.
-///
-/// # Errors
-///
-/// Memory: a growth was refused.
 #[inline(always)]
-pub fn write_pair(
+pub(crate) fn write_pair(
     presence: Presence,
     exponent: i128,
     mantissa: i128,

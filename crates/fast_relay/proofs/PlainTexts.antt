@@ -30,12 +30,12 @@ use Rattle.fast_wire.proofs.Sizes.{groups_from-positive}
 use Rattle.fast_wire.proofs.UnsignedForms.{entity_some}
 use Rattle.fast_field.specs.Bases.{delta_base, next}
 use Rattle.fast_field.specs.Chosen.{IsBestCut, IsBestTail, ShortestPart, ShortestSigned, ShortestUnits, length_size, part_size, tail_size}
-use Rattle.fast_field.specs.CommonParts.{IsLongestPrefix, IsLongestSuffix}
+use Rattle.fast_field.specs.CommonParts.{IsLongestPrefix, SharesEnd}
 use Rattle.fast_field.specs.FieldReading.{ended_value, limited_value, new_part_behind, part_at, tail_at, unit_delta_at, unit_value, units_at, units_spelled_at}
 use Rattle.fast_relay.specs.Numbers.{SpellsWhole, Spelt}
 use Rattle.fast_field.specs.Planning.{is_same, left_out_of}
 use Rattle.fast_relay.specs.Relayed.{Relays}
-use Rattle.fast_relay.specs.Texts.{GivesCut, GivesTail, IsText, SharesEnd}
+use Rattle.fast_relay.specs.Texts.{GivesCut, GivesTail, IsText}
 use Rattle.fast_field.proofs.Agreeing.{prefix_more, suffix_ends, suffix_none, suffix_stops}
 use Rattle.fast_field.proofs.BestCuts.{best_at_end, longest_suffix}
 use Rattle.fast_field.proofs.BestTails.{shortest_is_best}
@@ -124,22 +124,6 @@ some_size Optional z = groups_from-positive 9 64 (magnitude (sent_signed (Value 
 pub behind_kept : (base part : List ℕ) (n : ℕ) → n ≤ length base → drop n (take n base ++ part) ≡ part
 behind_kept base part n h = let long = length-take-le n base h in subst (λ m. drop m (take n base ++ part) ≡ part) long (drop-append_seam (take n base) part)
 
-part_at_kept : (base part : List ℕ) (n i : ℕ) → n ≤ length base → get_or (take n base ++ part) (n + i) 0 ≡ get_or part i 0
-part_at_kept base part n i h = let long = length-take-le n base h in subst (λ m. get_or (take n base ++ part) (m + i) 0 ≡ get_or part i 0) long (get_or-append-add (take n base) part i 0)
-
-pub suffix_stays : (base part : List ℕ) (n : ℕ) → n ≤ length base → 0 < length part → (0 < length base → get_or base (length base - 1) 0 ≡ get_or part (length part - 1) 0 → ⊥) → IsLongestSuffix base (take n base ++ part) 0
-suffix_stays base part n h some differ =
-    let v = take n base ++ part in
-    let long = length-take-le n base h in
-    let whole = length-append (take n base) part in
-    let there : n + (length part - 1) ≡ length v - 1 - 0 = omega (arith, long, whole, some) in
-    let last : get_or v (length v - 1 - 0) 0 ≡ get_or part (length part - 1) 0 = subst (λ m. get_or v m 0 ≡ get_or part (length part - 1) 0) there (part_at_kept base part n (length part - 1) h) in
-    let back : length base - 1 - 0 ≡ length base - 1 = omega arith in
-    elim (cases_lt 0 (length base)) [
-      | inl lt ↦ suffix_stops base v 0 lt (omega (arith, long, whole, some)) (λ e. differ lt (subst (λ m. get_or base m 0 ≡ get_or v (length v - 1 - 0) 0) back e ∙ last)) (suffix_none base v)
-      | inr ge ↦ suffix_ends base v 0 (omega (arith, ge)) (omega arith) (suffix_none base v)
-    ]
-
 no_less : (p : Presence) (s : List ℕ) → length s ≤ tail_size kind.Ascii p s
 no_less Mandatory [] = omega arith
 no_less Mandatory (zero ∷ s) = omega arith
@@ -152,26 +136,6 @@ plain_least : (bytes form rest : List ℕ) → IsPlain bytes form rest → (s : 
 plain_least bytes form rest h s le =
     let size : part_size kind.Ascii (groups form) ≡ length form = sym (units_is kind.Ascii Mandatory (groups form) form h.shortest) in
     omega (arith, size, le, length-map form (λ b. b % 128), no_less Mandatory s)
-
--- where as many are put there as are removed, what both have in common at the end stands behind the first of them
-behind_first : (base part : List ℕ) (n m : ℕ) → n < length base → length part ≡ length base - n → length part ≤ n → IsLongestPrefix base (take n base ++ part) n → IsLongestSuffix base (take n base ++ part) m → n < m → ⊥
-behind_first base part n m lt as_many few prefix suffix more =
-    let v = take n base ++ part in
-    let whole : length v ≡ length base = omega (arith, length-append (take n base) part, length-take-le n base (omega (arith, lt)), as_many, lt) in
-    let in_a = suffix.in_a in
-    let j = n - (length base - m) in
-    let there : length base - m + j ≡ n = omega (arith, more, as_many, few, in_a, lt) in
-    let there' : length v - m + j ≡ n = omega (arith, more, as_many, few, in_a, lt, whole) in
-    let of_base : get_or (drop (length base - m) base) j 0 ≡ get_or base n 0 = get_or-drop (length base - m) base j 0 ∙ ap (λ (i : ℕ). get_or base i 0) there in
-    let of_v : get_or (drop (length v - m) v) j 0 ≡ get_or v n 0 = get_or-drop (length v - m) v j 0 ∙ ap (λ (i : ℕ). get_or v i 0) there' in
-    let same : get_or base n 0 ≡ get_or v n 0 = sym of_base ∙ ap (λ (l : List ℕ). get_or l j 0) suffix.common ∙ of_v in
-    let longer = prefix.longest (n + 1) (omega (arith, lt)) (omega (arith, lt, whole)) (prefix_more base v n lt (omega (arith, lt, whole)) same prefix.common) in
-    omega (arith, longer)
-
-pub few_shared : (base part : List ℕ) (n : ℕ) → n < length base → length part ≡ length base - n → length part ≤ n → IsLongestPrefix base (take n base ++ part) n → SharesEnd base (take n base ++ part) n
-few_shared base part n lt as_many few prefix =
-    let s = longest_suffix base (take n base ++ part) in
-    (s.0, s.1, elim (cases_lt n s.0) [ inl more ↦ absurd (behind_first base part n s.0 lt as_many few prefix s.1 more) | inr le ↦ le ])
 
 pub best_removal : (k : Kind) (p : Presence) (base part : List ℕ) (r n : ℕ) → r < 63 → r ≤ length base → n ≡ length base - r → IsLongestPrefix base (take n base ++ part) n → SharesEnd base (take n base ++ part) n
     → ((s : List ℕ) → length part ≤ length s → part_size k part ≤ part_size k s) → IsBestCut k p base (take n base ++ part) (pos r) part
@@ -270,22 +234,6 @@ plain_delta_relays i base r n bytes form rest before after k whole o text is cut
     (subst (λ m. unit_delta_at Usual i (Assigned (Ascii base)) bytes ≡ Ok (Some (Ascii (take m base ++ groups form)), rest)) (sym is) cut.read)
     (subst (λ (k : Kind). IsBestCut k i.presence base v (pos r) (groups form)) (sym k) (best_removal kind.Ascii i.presence base (groups form) r n cut.few cut.within is prefix suffix (plain_least cut.behind form rest h)))
     (appended.0 ++ form, appended.1 ∙ append_assoc before appended.0 form, record { front = appended.0; back = form; parts = refl; first = appended.2; second = subst (λ (k : Kind). ShortestPart k (groups form) form) (sym k) h.shortest })
-
--- ---- what a call of the code finds
-
-group_at : (form : List ℕ) (i : ℕ) → i < length form → get_or (groups form) i 0 ≡ get_or form i 0 % 128
-group_at [] i h = absurd (omega arith)
-group_at (b ∷ bs) zero h = refl
-group_at (b ∷ bs) (suc i) h = group_at bs i (omega arith)
-
-pub no_equal : (a b : ℕ) → not (nat_eq a b) ≡ true → a ≡ b → ⊥
-no_equal a b e same = grind (arith, nat_tests)
-
-pub suffix_found : (base form : List ℕ) (n : ℕ) → n ≤ length base → IsEntity form → (0 < length base → get_or base (length base - 1) 0 ≡ get_or form (length form - 1) 0 % 128 → ⊥) → IsLongestSuffix base (take n base ++ groups form) 0
-suffix_found base form n h entity differ =
-    let some = entity_some form entity in
-    let same = length-map form (λ b. b % 128) in
-    suffix_stays base (groups form) n h (omega (arith, some, same)) (λ lt e. differ lt (e ∙ ap (λ m. get_or (groups form) (m - 1) 0) same ∙ group_at form (length form - 1) (omega (arith, some))))
 
 pub characters_text : (s : List ℕ) → (length s ≤ 65535) × AllByRecursion (λ c. c < 128) s → IsText kind.Ascii (Ascii s)
 characters_text s h = let w = string_within kind.Ascii s (Ascii s) tt refl h in record { of_units = tt; of_kind = w.0; within = w.1 }

@@ -14,11 +14,10 @@ use Rattle.fast_value.specs.declared.scalar.Scalar.TheVariants.{Ascii}
 use Rattle.fast_dictionary.specs.declared.entry.Entry.{Entry}
 use Rattle.fast_dictionary.specs.declared.entry.Entry.TheVariants.{Assigned}
 use Rattle.fast_field.specs.Bases.{next as next_entry, next_of}
-use Rattle.fast_field.specs.CommonParts.{IsLongestPrefix}
+use Rattle.fast_field.specs.CommonParts.{IsLongestPrefix, SharesEnd}
 use Rattle.fast_field.specs.Planning.{left_out_of}
 use Rattle.fast_relay.specs.Judged.{Judges, JudgesFrom, StandsAt}
 use Rattle.fast_relay.specs.Numbers.{KeepsNothing, SpellsWhole}
-use Rattle.fast_relay.specs.Texts.{SharesEnd}
 use Rattle.fast_relay.proofs.Giving.{tail_drops}
 use Rattle.fast_relay.proofs.PlainTexts.{characters_text, cut_read, plain_delta_relays, plain_relays, plain_tail_relays, tail_read}
 use Rattle.fast_relay.proofs.Runs.{range_split}

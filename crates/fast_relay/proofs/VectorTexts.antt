@@ -29,14 +29,14 @@ use Rattle.fast_dictionary.specs.declared.entry.Entry.TheVariants.{Assigned, Emp
 use Rattle.fast_field.specs.declared.fault.FieldFault.{FieldFault}
 use Rattle.fast_field.specs.Bases.{next, start_of}
 use Rattle.fast_field.specs.Chosen.{Both, IsBestCut, IsBestTail, ShortestPart, ShortestSigned, ShortestUnits, part_size, tail_size}
-use Rattle.fast_field.specs.CommonParts.{IsLongestPrefix}
+use Rattle.fast_field.specs.CommonParts.{IsLongestPrefix, SharesEnd}
 use Rattle.fast_field.specs.Deltas.{ended_by}
 use Rattle.fast_field.specs.FieldReading.{ended_value, in_field, integer_at, limited_value, new_part_behind, part_at, signless, tail_at, unit_delta_at, unit_value, units_at, units_spelled_at}
 use Rattle.fast_field.specs.Planning.{left_out_of}
 use Rattle.fast_field.specs.Values.{default_of, of_units, units_of}
 use Rattle.fast_relay.specs.Numbers.{SpellsWhole, Spelt}
 use Rattle.fast_relay.specs.Relayed.{Relays}
-use Rattle.fast_relay.specs.Texts.{IsText, IsVectorKind, SharesEnd}
+use Rattle.fast_relay.specs.Texts.{IsText, IsVectorKind}
 use Rattle.fast_field.proofs.BestCuts.{parts}
 use Rattle.fast_field.proofs.BestTails.{longer_tail, shortest_is_best}
 use Rattle.fast_field.proofs.Least.{IsPartCost, vector_parts}

@@ -10,7 +10,6 @@ use Rattle.fast_value.specs.declared.scalar.Scalar.{Scalar}
 use Rattle.fast_value.specs.declared.scalar.Scalar.TheVariants.{Ascii}
 use Rattle.fast_template.specs.declared.resolved.FieldPart.{FieldPart}
 use Rattle.fast_dictionary.specs.declared.entry.Entry.TheVariants.{Assigned}
-use Rattle.fast_field.specs.CommonParts.{IsLongestSuffix}
 use Rattle.fast_field.specs.FieldReading.{tail_at, unit_delta_at}
 use Rattle.fast_field.specs.Values.{IsUnitKind}
 
@@ -25,10 +24,6 @@ abbrev pub IsVectorKind : Kind → Type 0
 IsVectorKind kind.Unicode = Unit {0}
 IsVectorKind kind.Bytes = Unit {0}
 IsVectorKind k = ⊥
-
--- two lists have no more than so much in common at their ends
-abbrev pub SharesEnd : List ℕ → List ℕ → ℕ → Type 0
-SharesEnd a b n = (m : ℕ) × IsLongestSuffix a b m × (m ≤ n)
 
 -- the bytes before `rest` give the text without so many characters at its end, and these behind it, which stand in their
 -- shortest form

@@ -22,7 +22,7 @@ use crate::judged_decimal::judge_decimal;
 use crate::judged_string::judge_string;
 use crate::judged_vector::judge_vector;
 use crate::passed::can_begin;
-use crate::short_number::ShortInteger;
+use crate::short_number::{ShortInteger, number_in};
 use fast_dictionary::Entry;
 use fast_field::set_number;
 use fast_template::{FieldPart, Kind, Operator, Part, Presence};
@@ -247,7 +247,7 @@ fn judge_copy<T: ShortInteger>(
     ensures behind { IfBehind result (λ needless n. ⊥) }
     ensures entry { IfNotJudged result (entry.new ≡ entry.old) }
 {
-    let Some(kept) = T::kept(entry) else {
+    let Some(kept) = number_in::<T>(entry) else {
         return judge_first::<T>(instr, entry, number, next);
     };
     if kept == number {
@@ -273,7 +273,7 @@ fn judge_increment<T: ShortInteger>(
     ensures behind { IfBehind result (λ needless n. ⊥) }
     ensures entry { IfNotJudged result (entry.new ≡ entry.old) }
 {
-    let Some(kept) = T::kept(entry) else {
+    let Some(kept) = number_in::<T>(entry) else {
         return judge_first::<T>(instr, entry, number, next);
     };
     // the least number follows the greatest
@@ -370,7 +370,7 @@ fn add_as<T: ShortInteger>(which: Part, entry: &mut Entry, delta: i64) -> bool
     ensures added { result ≡ true → Adds T.kind which delta entry.old entry.new }
     ensures entry { result ≡ false → entry.new ≡ entry.old }
 {
-    let Some(kept) = T::kept(entry) else {
+    let Some(kept) = number_in::<T>(entry) else {
         return false;
     };
     let Some(number) = T::sum(kept, delta) else {

@@ -18,12 +18,10 @@ use crate::characters::find_behind_zero;
 use crate::given::gives_text;
 use crate::judged::Judged;
 use crate::one_byte::read_removal;
-use crate::plain::{
-    agrees_no_further, is_cut_at_end, keep_plain, may_be_left_out, put_characters, replace_end,
-    replace_string,
-};
+use crate::plain::{keep_plain, may_be_left_out, put_characters, replace_end, replace_string};
 use crate::words::{plain_end, short_plain_end};
 use fast_dictionary::Entry;
+use fast_field::{agrees_no_further, is_cut_at_end};
 use fast_template::{ByteString, FieldPart, Operator, Scalar};
 use fast_value::UNIT_LIMIT;
 use fast_wire::is_text_of;

@@ -16,11 +16,9 @@ use crate::copied::put_part;
 use crate::given::gives_units;
 use crate::judged::{Judged, behind};
 use crate::one_byte::{read_length, read_length_behind, read_removal, read_removal_behind};
-use crate::vectors::{
-    are_text, goes_on_otherwise, is_cut_at_end, keep_bytes, make_units, may_be_left_out, may_end,
-};
+use crate::vectors::{are_text, keep_bytes, make_units, may_be_left_out, may_end};
 use fast_dictionary::Entry;
-use fast_field::units;
+use fast_field::{goes_on_otherwise, is_vector_cut_at_end, units};
 use fast_template::{FieldPart, Kind, Operator, Presence, Scalar};
 use fast_value::UNIT_LIMIT;
 use std::alloc::Global;
@@ -327,7 +325,7 @@ fn judge_vector_delta(
         return None;
     }
     let kept = base.len() - removed;
-    if !goes_on_otherwise(base, kept, part) || !is_cut_at_end(base, kept, part) {
+    if !goes_on_otherwise(base, kept, part) || !is_vector_cut_at_end(base, kept, part) {
         return None;
     }
     if !are_text(instr.kind, part) || !may_end(instr.kind, base, kept) {

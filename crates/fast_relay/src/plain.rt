@@ -7,13 +7,13 @@ ghost use Rattle.fast_value.specs.declared.kind.Operator.TheVariants as operator
 ghost use Rattle.fast_value.specs.declared.scalar.Scalar.TheVariants.{Ascii};
 ghost use Rattle.fast_wire.specs.Entity.{IsEntity, groups};
 ghost use Rattle.fast_field.specs.Bases.{next_of};
-ghost use Rattle.fast_field.specs.CommonParts.{IsLongestPrefix, IsLongestSuffix};
+ghost use Rattle.fast_field.specs.CommonParts.{IsLongestPrefix, SharesEnd};
 ghost use Rattle.fast_relay.specs.Numbers.{SpellsWhole};
 ghost use Rattle.fast_field.specs.Planning.{left_out_of};
-ghost use Rattle.fast_relay.specs.Texts.{SharesEnd};
 
 use crate::copied::{FEW, copy_few_over, copy_over};
 use fast_dictionary::Entry;
+use fast_field::begins_otherwise;
 use fast_template::{ByteString, FieldPart, Operator, Scalar};
 use fast_wire::is_text_of;
 use std::alloc::Global;
@@ -152,64 +152,6 @@ pub(crate) fn keep_plain(alloc: Global, operator: Operator, entry: &mut Entry, f
             Entry::Assigned(_) | Entry::Undefined => false,
         },
         _ => true,
-    }
-}
-
-/// Whether the first of the characters that are put behind so many of a text is not the one that is there.
-#[inline(always)]
-fn begins_otherwise(base: &[u8], kept: usize, form: &[u8]) -> bool
-    requires kept { kept < length base.now }
-    requires entity { IsEntity form.now }
-    ensures { result ≡ true
-        → IsLongestPrefix base.now (take kept base.now ++ groups form.now) kept }
-{
-    base[kept] != form[0] % 128
-}
-
-/// Whether a text has no more in common with its first units and others behind them than these first units.
-#[inline(always)]
-pub(crate) fn agrees_no_further(base: &[u8], kept: usize, form: &[u8]) -> bool
-    requires kept { kept ≤ length base.now }
-    requires entity { IsEntity form.now }
-    ensures { result ≡ true
-        → IsLongestPrefix base.now (take kept base.now ++ groups form.now) kept }
-{
-    if kept < base.len() {
-        begins_otherwise(base, kept, form)
-    } else {
-        true
-    }
-}
-
-/// Whether it ends otherwise than these do.
-#[inline(always)]
-fn ends_otherwise(base: &[u8], kept: usize, form: &[u8]) -> bool
-    requires kept { kept ≤ length base.now }
-    requires entity { IsEntity form.now }
-    ensures { result ≡ true
-        → IsLongestSuffix base.now (take kept base.now ++ groups form.now) 0 }
-{
-    if base.is_empty() {
-        true
-    } else {
-        base[base.len() - 1] != form[form.len() - 1] % 128
-    }
-}
-
-/// Whether a removal at the end, to so many units, takes no more bytes than one in front: no fewer are kept than a text
-/// has in common with what it becomes at its end. This is so where as many are put there as are removed, and no more.
-#[inline(always)]
-pub(crate) fn is_cut_at_end(base: &[u8], kept: usize, form: &[u8]) -> bool
-    requires kept { kept ≤ length base.now }
-    requires entity { IsEntity form.now }
-    requires prefix { IsLongestPrefix base.now (take kept base.now ++ groups form.now) kept }
-    ensures { result ≡ true
-        → SharesEnd base.now (take kept base.now ++ groups form.now) kept }
-{
-    if kept < base.len() && form.len() == base.len() - kept && form.len() <= kept {
-        true
-    } else {
-        ends_otherwise(base, kept, form)
     }
 }
 

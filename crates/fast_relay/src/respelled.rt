@@ -16,9 +16,10 @@ ghost use Rattle.fast_relay.specs.Runs.{IsRun, Stays, written};
 
 use crate::cut::{read_cut, read_tail};
 use crate::one_byte::push_removal;
-use crate::plain::{agrees_no_further, is_cut_at_end, put_characters};
+use crate::plain::put_characters;
 use crate::run::Run;
 use fast_dictionary::Entry;
+use fast_field::{agrees_no_further, is_cut_at_end};
 use fast_template::{ByteString, FieldPart, Kind, Operator, Part, Scalar};
 use std::alloc::Global;
 

@@ -6,12 +6,11 @@ ghost use Rattle.fast_wire.specs.declared.level.Level.TheVariants.{Usual};
 ghost use Rattle.fast_wire.specs.declared.nullable.Nullable.TheVariants.{Value};
 ghost use Rattle.fast_value.specs.declared.kind.Kind.TheVariants as kind_type;
 ghost use Rattle.fast_field.specs.Bases.{next_of};
-ghost use Rattle.fast_field.specs.CommonParts.{IsLongestPrefix, IsLongestSuffix};
 ghost use Rattle.fast_field.specs.FieldReading.{units_at};
 ghost use Rattle.fast_field.specs.Planning.{left_out_of};
 ghost use Rattle.fast_field.specs.Values.{of_units, units_of};
 ghost use Rattle.fast_relay.specs.Numbers.{SpellsWhole};
-ghost use Rattle.fast_relay.specs.Texts.{IsText, IsVectorKind, SharesEnd};
+ghost use Rattle.fast_relay.specs.Texts.{IsText, IsVectorKind};
 
 use crate::characters::are_few;
 use crate::integers::read_short;
@@ -207,54 +206,6 @@ pub(crate) fn keep_bytes(
             Entry::Undefined => false,
         },
         _ => true,
-    }
-}
-
-/// Whether bytes put behind so many units of a base have some, and the base does not go on as they do.
-#[inline(always)]
-pub(crate) fn goes_on_otherwise(base: &[u8], kept: usize, part: &[u8]) -> bool
-    requires { kept ≤ length base.now }
-    ensures some { result ≡ true → 0 < length part.now }
-    ensures prefix { result ≡ true
-        → IsLongestPrefix base.now (take kept base.now ++ part.now) kept }
-{
-    if part.is_empty() {
-        return false;
-    }
-    if kept < base.len() {
-        base[kept] != part[0]
-    } else {
-        true
-    }
-}
-
-/// Whether a base ends otherwise than bytes put behind so many units of it.
-#[inline(always)]
-fn ends_otherwise(base: &[u8], kept: usize, part: &[u8]) -> bool
-    requires kept { kept ≤ length base.now }
-    requires some { 0 < length part.now }
-    ensures { result ≡ true
-        → IsLongestSuffix base.now (take kept base.now ++ part.now) 0 }
-{
-    if base.is_empty() {
-        true
-    } else {
-        base[base.len() - 1] != part[part.len() - 1]
-    }
-}
-
-/// Whether a removal at the end, to so many bytes, takes no more bytes than one in front.
-#[inline(always)]
-pub(crate) fn is_cut_at_end(base: &[u8], kept: usize, part: &[u8]) -> bool
-    requires kept { kept ≤ length base.now }
-    requires some { 0 < length part.now }
-    requires prefix { IsLongestPrefix base.now (take kept base.now ++ part.now) kept }
-    ensures { result ≡ true → SharesEnd base.now (take kept base.now ++ part.now) kept }
-{
-    if kept < base.len() && part.len() == base.len() - kept && part.len() <= kept {
-        true
-    } else {
-        ends_otherwise(base, kept, part)
     }
 }
 

@@ -48,7 +48,7 @@ returns-then-put_part-clause-judged c =
           (vector_delta_relays i value r n s (drop c.args.at bytes) (drop c.args.middle bytes) (drop next bytes) out (out ++ form)
           c.requires.kind c.requires.part c.requires.operator text c.requires.few (omega (arith, le)) refl
           (rw c.units-base.ensures at (c.goes_on_otherwise.ensures.prefix c.if-not-goes_on_otherwise.false))
-          (rw c.units-base.ensures at (c.is_cut_at_end.ensures c.if-not-is_cut_at_end.false))
+          (rw c.units-base.ensures at (c.is_vector_cut_at_end.ensures c.if-not-is_vector_cut_at_end.false))
           t
           sent.spelt
           c.in-Some.ensures.stands.spelt (

@@ -3,7 +3,7 @@ use Rattle.std.proofs.lemmas.List.{length-map}
 use Rattle.std.specs.Prelude.{◌%◌}
 use Rattle.fast_wire.specs.Entity.{groups}
 use Rattle.fast_wire.proofs.UnsignedForms.{entity_some}
-use Rattle.fast_relay.proofs.PlainTexts.{few_shared}
+use Rattle.fast_field.proofs.CutsAtEnd.{few_shared}
 use Rattle.fast_relay.proofs.plain.replace_end.Goals as goal
 
 pub returns-clause-end : goal.returns-clause-end

@@ -2,8 +2,8 @@ use Rattle.std.proofs.Common.{arith}
 use Rattle.std.proofs.lemmas.List.{length-map}
 use Rattle.std.specs.Prelude.{◌%◌}
 use Rattle.fast_wire.specs.Entity.{groups}
-use Rattle.fast_relay.proofs.PlainTexts.{few_shared}
-use Rattle.fast_relay.proofs.plain.is_cut_at_end.Goals as goal
+use Rattle.fast_field.proofs.CutsAtEnd.{few_shared}
+use Rattle.fast_field.proofs.cut_at_end.is_cut_at_end.Goals as goal
 
 pub returns-then-form-kept : goal.returns-then-form-kept
 returns-then-form-kept c =
