@@ -1,21 +1,26 @@
 -- What numbers rest on that are judged as they stand.
-use Rattle.std.proofs.Common.{◌≡◌, ◌++◌, ◌≤◌, ℕ, Bool, true, false, List, length, drop, slice_range, refl, sym, subst}
+use Rattle.std.proofs.Common.{◌≡◌, ◌++◌, ◌≤◌, ◌+◌, ℕ, Bool, true, false, List, length, drop, slice_range, refl, rules, sym, ap, subst, ◌∙◌}
 use Rattle.std.specs.Prelude.{ℤ, ◌+ℤ◌, Some, IsTrue}
 use Rattle.fast_wire.specs.Reader.{IsBytes}
-use Rattle.fast_value.specs.Scalar.{is_of, of_integer}
+use Rattle.fast_value.specs.Scalar.{is_of, of_integer, scalar_eq-exact, scalar_eq-same}
+use Rattle.fast_value.specs.contracts.scalar.ScalarPartialEq.TheImpl as scalar_eq
 use Rattle.fast_value.specs.declared.kind.Kind.{Kind}
+use Rattle.fast_value.specs.declared.kind.Operator.{Operator}
 use Rattle.fast_value.specs.declared.kind.Operator.TheVariants as operator
 use Rattle.fast_value.specs.declared.kind.Presence.{Presence}
 use Rattle.fast_template.specs.declared.resolved.FieldPart.{FieldPart}
 use Rattle.fast_value.specs.declared.scalar.Scalar.{Scalar}
 use Rattle.fast_dictionary.specs.declared.entry.Entry.{Entry}
-use Rattle.fast_field.specs.Numbers.{IsFieldNumber}
+use Rattle.fast_dictionary.specs.declared.entry.Entry.TheVariants.{Assigned}
+use Rattle.fast_field.specs.Bases.{next}
+use Rattle.fast_field.specs.Numbers.{HasNumber, IsFieldNumber, IsNumber, next_number}
+use Rattle.fast_field.specs.Planning.{left_out_of}
 use Rattle.fast_field.specs.Spelled.{overlong_number}
-use Rattle.fast_field.specs.Values.{is_unsigned}
+use Rattle.fast_field.specs.Values.{integer_of, is_unsigned}
 use Rattle.fast_field.proofs.BestForms.{bit_zero_is_best}
 use Rattle.fast_field.proofs.BestValues.{left_out}
-use Rattle.fast_field.proofs.Passing.{of_kind, within_number}
-use Rattle.fast_relay.specs.Judged.{Adds, IfJudged, Judges, JudgesFrom, Leaves, StandsAt, StandsFrom}
+use Rattle.fast_field.proofs.Passing.{increased_is, kind_is, number_back, of_kind, within_number}
+use Rattle.fast_relay.specs.Judged.{Adds, IfBehind, IfJudged, Judges, JudgesFrom, Leaves, StandsAt, StandsFrom}
 use Rattle.fast_relay.specs.Numbers.{SpellsWhole, Spelt}
 use Rattle.fast_relay.specs.declared.judged.Judged.{Judged}
 use Rattle.fast_relay.specs.declared.judged.Judged.TheVariants.{Stands, Behind, BehindTwo, Given, Elsewhere}
@@ -24,6 +29,45 @@ use Rattle.fast_relay.proofs.Relaying.{delta_relays, whole_relays}
 use Rattle.fast_relay.proofs.Runs.{settled}
 use Rattle.fast_relay.proofs.Standing.{shortest_signed, shortest_whole, standing}
 use Rattle.fast_relay.proofs.Taking.{whole_takes}
+
+-- ---- what is handed on
+
+pub passed_at : (j : Judged) (next : ℕ) (P : ℕ → Type 0) → IfJudged j (λ bit n. n ≡ next) → P next → IfJudged j (λ bit n. P n)
+passed_at (Stands n) next P is p = subst P (sym is) p
+passed_at (Given n) next P is p = subst P (sym is) p
+passed_at (Behind n) next P is p = tt
+passed_at (BehindTwo n) next P is p = tt
+passed_at Elsewhere next P is p = tt
+
+pub judged_at : (j : Judged) (next : ℕ) (P : Bool → ℕ → Type 0) → IfJudged j (λ bit n. n ≡ next) → IfJudged j (λ bit n. P bit next) → IfJudged j P
+judged_at (Stands n) next P is p = subst (P true) (sym is) p
+judged_at (Given n) next P is p = subst (P false) (sym is) p
+judged_at (Behind n) next P is p = tt
+judged_at (BehindTwo n) next P is p = tt
+judged_at Elsewhere next P is p = tt
+
+pub none_behind : (j : Judged) (P : ℕ → ℕ → Type 0) → IfBehind j (λ needless n. ⊥) → IfBehind j P
+none_behind (Stands n) P none = tt
+none_behind (Given n) P none = tt
+none_behind (Behind n) P none = absurd none
+none_behind (BehindTwo n) P none = absurd none
+none_behind Elsewhere P none = tt
+
+pub none_judged : (j : Judged) (P : Bool → ℕ → Type 0) → IfJudged j (λ bit n. ⊥) → IfJudged j P
+none_judged (Stands n) P none = absurd none
+none_judged (Given n) P none = absurd none
+none_judged (Behind n) P none = tt
+none_judged (BehindTwo n) P none = tt
+none_judged Elsewhere P none = tt
+
+pub behind_at : (j : Judged) (at first next : ℕ) (P : ℕ → ℕ → Type 0) → IfBehind j (λ needless n. (at + needless ≡ first) × (n ≡ next)) → P first next → IfBehind j (λ needless n. P (at + needless) n)
+behind_at (Stands n) at first next P is p = tt
+behind_at (Given n) at first next P is p = tt
+behind_at (Behind n) at first next P is p = rw (is.0, is.1) p
+behind_at (BehindTwo n) at first next P is p = rw (is.0, is.1) p
+behind_at Elsewhere at first next P is p = tt
+
+-- ---- numbers
 
 pub stands_at : (u : Bool) (p : Presence) (bytes : List ℕ) (at next : ℕ) (z : ℤ) → IsBytes (drop at bytes) → at ≤ next → next ≤ length bytes → Spelt u p (drop at bytes) z (drop next bytes) → overlong_number u (slice_range bytes at next) ≡ false → StandsAt u p bytes at next z
 stands_at u p bytes at next z fits le within h short = record { spelt = h; form = standing u p bytes at next z fits le within h; short = short }
@@ -73,3 +117,40 @@ pub nothing_stands : (i : FieldPart) (e : Entry) (v : Scalar) (bytes : List ℕ)
 nothing_stands i e v bytes at h = λ out.
     let rest = drop at bytes in
     subst (λ (after : List ℕ). Relays i e e v rest rest out after) (sym (settled bytes out at)) (h rest out)
+
+-- ---- numbers by the one that the entry has
+
+increments : (k : Kind) (i : FieldPart) (e : Entry) (y : ℤ) (w : Scalar) → k ≡ i.kind → i.operator ≡ operator.Increment → HasNumber k e y → left_out_of i.operator i e (Some w) ≡ (scalar_eq.eq-value).it (of_integer k (next_number k y)) w
+increments k i (Assigned v) y w same o h =
+    let is : is_of i.kind v ≡ true = subst (λ (x : Kind). is_of x v ≡ true) same (kind_is k v y h) in
+    ap (λ (x : Operator). left_out_of x i (Assigned v) (Some w)) o ∙ rw (is, o, increased_is k v y h) refl
+increments k i e y w same o h = absurd h
+
+number_next : (i : FieldPart) (old new : Entry) (v : Scalar) → i.operator ≡ operator.Increment → new ≡ Assigned v → new ≡ next i old (Some v)
+number_next i old new v o entry = rw o entry
+
+number_kept : (k : Kind) (e : Entry) (y : ℤ) → HasNumber k e y → IsNumber k y
+number_kept k (Assigned v) y h = h.number
+number_kept k e y h = absurd h
+
+next_fits : (k : Kind) (y : ℤ) → IsNumber k y → IsNumber k (next_number k y)
+next_fits k y h = search rules depth 2
+
+pub increment_gives : (k : Kind) (i : FieldPart) (old new : Entry) (y z : ℤ) → k ≡ i.kind → i.operator ≡ operator.Increment → HasNumber k old y → next_number k y ≡ z → new ≡ Assigned (of_integer k z) → Leaves false i old new (of_integer k z)
+increment_gives k i old new y z same o h is entry = record {
+  entry = number_next i old new (of_integer k z) o entry;
+  left_out = increments k i old y (of_integer k z) same o h ∙ rw is (scalar_eq-same (of_integer k z));
+}
+
+no_same : (v w : Scalar) (b : Bool) → (v ≡ w → ⊥) → (scalar_eq.eq-value).it v w ≡ b → (scalar_eq.eq-value).it v w ≡ false
+no_same v w true differ e = absurd (differ (scalar_eq-exact v w e))
+no_same v w false differ e = e
+
+pub increment_sends : (k : Kind) (i : FieldPart) (old new : Entry) (y z : ℤ) → k ≡ i.kind → i.operator ≡ operator.Increment → HasNumber k old y → IsNumber k z → (next_number k y ≡ z → ⊥) → new ≡ Assigned (of_integer k z) → Leaves true i old new (of_integer k z)
+increment_sends k i old new y z same o h fits differ entry =
+    let v = of_integer k (next_number k y) in
+    let w = of_integer k z in
+    let follows = next_fits k y (number_kept k old y h) in record {
+      entry = number_next i old new w o entry;
+      left_out = increments k i old y w same o h ∙ no_same v w ((scalar_eq.eq-value).it v w) (λ e. differ (sym (number_back k (next_number k y) follows) ∙ ap integer_of e ∙ number_back k z fits)) refl;
+    }

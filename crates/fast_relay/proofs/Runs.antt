@@ -1,5 +1,5 @@
 -- What a run of noted bytes is.
-use Rattle.std.proofs.Common.{◌≡◌, ◌≤◌, ℕ, ◌+◌, ◌-◌, List, [], ◌++◌, take, drop, slice_range, sym, ap, subst, ◌∙◌, arith, append_assoc, append-nil, drop-drop, take-add, length}
+use Rattle.std.proofs.Common.{◌≡◌, ◌≤◌, ℕ, Bool, true, false, refl, ◌+◌, ◌-◌, List, [], ◌++◌, take, drop, slice_range, sym, ap, subst, ◌∙◌, arith, append_assoc, append-nil, drop-drop, take-add, length}
 use Rattle.fast_relay.specs.Runs.{IsRun, Stays, written}
 use Rattle.fast_relay.specs.declared.run.Run.{Run}
 
@@ -44,3 +44,16 @@ flushed bytes at old new h out from place = record {
   written = none_noted bytes new (from ∙ sym place) ∙ out;
   run = record { from = omega (arith, from, place); place = place ∙ h.place; within = h.within };
 }
+
+-- or it was not, and nothing has changed
+pub flush_stays : (bytes : List ℕ) (at : ℕ) (old new : Run) (t : Bool) → IsRun bytes at old → (t ≡ true → new.out.items ≡ written bytes old) → (t ≡ true → new.from ≡ old.place) → new.place ≡ old.place
+    → (t ≡ false → (new.out.items ≡ old.out.items) × (new.from ≡ old.from)) → Stays bytes at old new
+flush_stays bytes at old new true h out from place unchanged = flushed bytes at old new h (out refl) (from refl) place
+flush_stays bytes at old new false h out from place unchanged =
+    let same = unchanged refl in record {
+      written = rw (same.0, same.1, place) refl;
+      run = record { from = omega (arith, same.1, place, h.from); place = place ∙ h.place; within = h.within };
+    }
+
+pub still : (bytes : List ℕ) (at : ℕ) (r : Run) → IsRun bytes at r → Stays bytes at r r
+still bytes at r h = record { written = refl; run = h }

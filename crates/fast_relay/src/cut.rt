@@ -1,7 +1,7 @@
 //! Deltas of ASCII strings that remove few characters at the end of the text that the entry has and put others there, and
 //! tails. What was sent may be longer than is needed: characters may be put back that were there.
 
-ghost use Rattle.std.specs.Prelude.{◌≡◌, ◌≤◌, ◌<◌, ◌-◌, ◌+◌, ◌%◌, ℕ, List, length, drop, slice_range, slice_index, pos, IfSome};
+ghost use Rattle.std.specs.Prelude.{◌≡◌, ◌≤◌, ◌<◌, ◌-◌, ◌+◌, ◌%◌, ℕ, List, length, drop, slice_range, slice_index, IfSome};
 ghost use Rattle.fast_value.specs.declared.kind.Kind.TheVariants as kind_type;
 ghost use Rattle.fast_template.specs.declared.resolved.FieldPart.{FieldPart as PartOf};
 ghost use Rattle.fast_relay.specs.Texts.{GivesCut, GivesTail};
@@ -12,26 +12,12 @@ use fast_template::FieldPart;
 use fast_value::UNIT_LIMIT;
 use fast_wire::plain_ascii_end;
 
-/// A subtraction length below this takes one byte, with NULL and without.
-const FEW: usize = 63;
-
 /// How many characters are removed, and where those stand that are put there.
 #[derive(Clone, Copy, Drop)]
 pub(crate) struct Cut {
     pub(crate) removed: usize,
     pub(crate) first: usize,
     pub(crate) next: usize,
-}
-
-/// How many characters a subtraction length removes at the end, if they are few.
-#[inline(always)]
-pub(crate) fn few_removed(removal: i128) -> Option<usize>
-    ensures { IfSome result (λ n. (removal ≡ pos n) × (n < 63)) }
-{
-    match usize::try_from(removal) {
-        Ok(removed) if removed < FEW => Some(removed),
-        _ => None,
-    }
 }
 
 /// How many characters of a text and of an entity are the same, from their beginnings on.

@@ -20,8 +20,51 @@ pub fn is_unsigned(kind: Kind) -> bool
     }
 }
 
-/// A number that has 64 bits; none where it has more, is NULL or faulty.
+/// A number without a sign that has 64 bits; none where it has more, is NULL or faulty.
 #[tactic(auto, unfolding(fast_field::specs::FieldReading::integer_at))]
+#[inline(always)]
+pub(crate) fn read_unsigned(presence: Presence, bytes: &[u8], at: usize) -> Option<(u64, usize)>
+    requires { at ≤ length bytes.now }
+    ensures place { IfSome result (λ x. (at ≤ x.1) × (x.1 ≤ length bytes.now)) }
+    ensures gives { IfSome result (λ x. Spelt true presence (drop at bytes.now)
+        (pos x.0) (drop x.1 bytes.now)) }
+{
+    match presence {
+        Presence::Mandatory => match fast_wire::read_u64(bytes, at) {
+            Ok(found) => Some(found),
+            Err(_) => None,
+        },
+        Presence::Optional => match fast_wire::read_u64_nullable(bytes, at) {
+            Ok((Nullable::Value(number), next)) => Some((number, next)),
+            Ok((Nullable::Null, _)) => None,
+            Err(_) => None,
+        },
+    }
+}
+
+/// A number with a sign that has 64 bits; none where it has more, is NULL or faulty.
+#[tactic(auto, unfolding(fast_field::specs::FieldReading::integer_at))]
+#[inline(always)]
+pub(crate) fn read_signed(presence: Presence, bytes: &[u8], at: usize) -> Option<(i64, usize)>
+    requires { at ≤ length bytes.now }
+    ensures place { IfSome result (λ x. (at ≤ x.1) × (x.1 ≤ length bytes.now)) }
+    ensures gives { IfSome result (λ x. Spelt false presence (drop at bytes.now)
+        x.0 (drop x.1 bytes.now)) }
+{
+    match presence {
+        Presence::Mandatory => match fast_wire::read_i64(bytes, at) {
+            Ok(found) => Some(found),
+            Err(_) => None,
+        },
+        Presence::Optional => match fast_wire::read_i64_nullable(bytes, at) {
+            Ok((Nullable::Value(number), next)) => Some((number, next)),
+            Ok((Nullable::Null, _)) => None,
+            Err(_) => None,
+        },
+    }
+}
+
+/// A number that has 64 bits; none where it has more, is NULL or faulty.
 #[inline(always)]
 pub(crate) fn read_short(
     unsigned: bool,
@@ -36,25 +79,16 @@ pub(crate) fn read_short(
     ensures gives { IfSome result (λ x. Spelt unsigned presence (drop at bytes.now)
         x.0 (drop x.1 bytes.now)) }
 {
-    match (unsigned, presence) {
-        (true, Presence::Mandatory) => match fast_wire::read_u64(bytes, at) {
-            Ok((number, next)) => Some((i128::from(number), next)),
-            Err(_) => None,
-        },
-        (true, Presence::Optional) => match fast_wire::read_u64_nullable(bytes, at) {
-            Ok((Nullable::Value(number), next)) => Some((i128::from(number), next)),
-            Ok((Nullable::Null, _)) => None,
-            Err(_) => None,
-        },
-        (false, Presence::Mandatory) => match fast_wire::read_i64(bytes, at) {
-            Ok((number, next)) => Some((i128::from(number), next)),
-            Err(_) => None,
-        },
-        (false, Presence::Optional) => match fast_wire::read_i64_nullable(bytes, at) {
-            Ok((Nullable::Value(number), next)) => Some((i128::from(number), next)),
-            Ok((Nullable::Null, _)) => None,
-            Err(_) => None,
-        },
+    if unsigned {
+        match read_unsigned(presence, bytes, at) {
+            Some((number, next)) => Some((i128::from(number), next)),
+            None => None,
+        }
+    } else {
+        match read_signed(presence, bytes, at) {
+            Some((number, next)) => Some((i128::from(number), next)),
+            None => None,
+        }
     }
 }
 

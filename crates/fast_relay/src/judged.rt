@@ -17,16 +17,16 @@ ghost use Rattle.fast_field.specs.Within.{HoldsScalar};
 ghost use Rattle.fast_relay.specs.Judged.{Adds, IfBehind, IfJudged, IfNotJudged, Judges, JudgesFrom, Leaves, StandsAt, StandsFrom};
 ghost use Rattle.fast_relay.specs.Numbers.{SpellsWhole, Spelt};
 
-use crate::integers::{is_overlong, is_unsigned};
+use crate::integers::{is_overlong, is_unsigned, read_signed, read_unsigned};
 use crate::judged_decimal::judge_decimal;
 use crate::judged_string::judge_string;
 use crate::judged_vector::judge_vector;
 use crate::passed::can_begin;
-use crate::short_number::{ShortInteger, number_in};
+use crate::short_number::ShortInteger;
 use fast_dictionary::Entry;
 use fast_field::set_number;
 use fast_template::{FieldPart, Kind, Operator, Part, Presence};
-use fast_wire::{Nullable, overlong_signed, overlong_unsigned};
+use fast_wire::{overlong_signed, overlong_unsigned};
 use std::alloc::Global;
 
 /// What the best form is of a field that was read under bit 1, and the place behind what was read.
@@ -42,54 +42,6 @@ pub enum Judged {
     Given(usize),
     /// Nothing has changed: another way tells.
     Elsewhere,
-}
-
-/// A number without a sign that has 63 bits; none where it has more, is NULL or faulty.
-#[tactic(auto, unfolding(fast_field::specs::FieldReading::integer_at))]
-#[inline(always)]
-fn read_unsigned(presence: Presence, bytes: &[u8], at: usize) -> Option<(i64, usize)>
-    requires { at ≤ length bytes.now }
-    ensures place { IfSome result (λ x. (at ≤ x.1) × (x.1 ≤ length bytes.now)) }
-    ensures gives { IfSome result (λ x. Spelt true presence (drop at bytes.now)
-        x.0 (drop x.1 bytes.now)) }
-{
-    let (number, next) = match presence {
-        Presence::Mandatory => match fast_wire::read_u64(bytes, at) {
-            Ok(found) => found,
-            Err(_) => return None,
-        },
-        Presence::Optional => match fast_wire::read_u64_nullable(bytes, at) {
-            Ok((Nullable::Value(number), next)) => (number, next),
-            Ok((Nullable::Null, _)) => return None,
-            Err(_) => return None,
-        },
-    };
-    match i64::try_from(number) {
-        Ok(number) => Some((number, next)),
-        Err(_) => None,
-    }
-}
-
-/// A number with a sign that has 64 bits; none where it has more, is NULL or faulty.
-#[tactic(auto, unfolding(fast_field::specs::FieldReading::integer_at))]
-#[inline(always)]
-fn read_signed(presence: Presence, bytes: &[u8], at: usize) -> Option<(i64, usize)>
-    requires { at ≤ length bytes.now }
-    ensures place { IfSome result (λ x. (at ≤ x.1) × (x.1 ≤ length bytes.now)) }
-    ensures gives { IfSome result (λ x. Spelt false presence (drop at bytes.now)
-        x.0 (drop x.1 bytes.now)) }
-{
-    match presence {
-        Presence::Mandatory => match fast_wire::read_i64(bytes, at) {
-            Ok(found) => Some(found),
-            Err(_) => None,
-        },
-        Presence::Optional => match fast_wire::read_i64_nullable(bytes, at) {
-            Ok((Nullable::Value(number), next)) => Some((number, next)),
-            Ok((Nullable::Null, _)) => None,
-            Err(_) => None,
-        },
-    }
 }
 
 /// Whether the entity that stands from one place to the next has no needless group in front.
@@ -126,10 +78,15 @@ pub(crate) fn read_number(
     ensures gives { IfSome result (λ x. Spelt unsigned presence (drop at bytes.now)
         x.0 (drop x.1 bytes.now)) }
 {
-    if unsigned {
-        read_unsigned(presence, bytes, at)
-    } else {
-        read_signed(presence, bytes, at)
+    if !unsigned {
+        return read_signed(presence, bytes, at);
+    }
+    let Some((number, next)) = read_unsigned(presence, bytes, at) else {
+        return None;
+    };
+    match i64::try_from(number) {
+        Ok(number) => Some((number, next)),
+        Err(_) => None,
     }
 }
 
@@ -247,7 +204,7 @@ fn judge_copy<T: ShortInteger>(
     ensures behind { IfBehind result (λ needless n. ⊥) }
     ensures entry { IfNotJudged result (entry.new ≡ entry.old) }
 {
-    let Some(kept) = number_in::<T>(entry) else {
+    let Some(kept) = T::kept(entry) else {
         return judge_first::<T>(instr, entry, number, next);
     };
     if kept == number {
@@ -273,7 +230,7 @@ fn judge_increment<T: ShortInteger>(
     ensures behind { IfBehind result (λ needless n. ⊥) }
     ensures entry { IfNotJudged result (entry.new ≡ entry.old) }
 {
-    let Some(kept) = number_in::<T>(entry) else {
+    let Some(kept) = T::kept(entry) else {
         return judge_first::<T>(instr, entry, number, next);
     };
     // the least number follows the greatest
@@ -370,7 +327,7 @@ fn add_as<T: ShortInteger>(which: Part, entry: &mut Entry, delta: i64) -> bool
     ensures added { result ≡ true → Adds T.kind which delta entry.old entry.new }
     ensures entry { result ≡ false → entry.new ≡ entry.old }
 {
-    let Some(kept) = number_in::<T>(entry) else {
+    let Some(kept) = T::kept(entry) else {
         return false;
     };
     let Some(number) = T::sum(kept, delta) else {

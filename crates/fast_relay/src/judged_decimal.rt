@@ -1,7 +1,7 @@
 //! Decimals that are judged as they stand: whether their bytes are the best form of the value, or bit 0 is. The entry goes
 //! on, and nothing is written. What is not served here goes the general way.
 
-ghost use Rattle.std.specs.Prelude.{◌≡◌, ◌≤◌, ◌+◌, true, false, length, IfNone, IfSome};
+ghost use Rattle.std.specs.Prelude.{◌≡◌, ◌≤◌, ◌+◌, ◌+ℤ◌, true, false, length, IfNone, IfSome};
 ghost use Rattle.fast_value.specs.Scalar.{exponent_in_range, in_range};
 ghost use Rattle.fast_value.specs.declared.kind.Kind.TheVariants as kind_type;
 ghost use Rattle.fast_value.specs.declared.kind.Operator.TheVariants as operator_type;
@@ -18,8 +18,8 @@ use fast_dictionary::Entry;
 use fast_template::{FieldPart, Operator, Presence, Scalar};
 
 /// The numbers of a decimal.
-#[derive(Clone, Copy, Debug, PartialEq, Eq, Drop)]
-struct Parts {
+#[derive(Clone, Copy, PartialEq, Eq, Drop)]
+pub(crate) struct Parts {
     exponent: i32,
     mantissa: i64,
 }
@@ -40,7 +40,7 @@ fn parts_of(value: &Scalar) -> Option<Parts>
 
 /// The decimal that an entry has.
 #[inline(always)]
-fn kept_parts(entry: &Entry) -> Option<Parts>
+pub(crate) fn kept_parts(entry: &Entry) -> Option<Parts>
     ensures { IfSome result (λ d. entry.now
         ≡ entry_type.Assigned (scalar.Decimal d.exponent d.mantissa)) }
 {
@@ -52,7 +52,7 @@ fn kept_parts(entry: &Entry) -> Option<Parts>
 
 /// Makes an entry this decimal.
 #[inline(always)]
-fn set_decimal(entry: &mut Entry, parts: Parts)
+pub(crate) fn set_decimal(entry: &mut Entry, parts: Parts)
     ensures { entry.new ≡ entry_type.Assigned (scalar.Decimal parts.exponent parts.mantissa) }
 {
     *entry = Entry::Assigned(Scalar::Decimal {
@@ -110,7 +110,7 @@ fn read_pair_behind(presence: Presence, bytes: &[u8], at: usize) -> Option<(i64,
 
 /// The decimal of an exponent and a mantissa, where the exponent is within its limit.
 #[inline(always)]
-fn parts_within(exponent: i64, mantissa: i64) -> Option<Parts>
+pub(crate) fn parts_within(exponent: i64, mantissa: i64) -> Option<Parts>
     ensures exponent { IfSome result (λ d. d.exponent ≡ exponent) }
     ensures mantissa { IfSome result (λ d. d.mantissa ≡ mantissa) }
     ensures near { IfSome result (λ d. exponent_in_range d.exponent ≡ true) }
@@ -124,6 +124,23 @@ fn parts_within(exponent: i64, mantissa: i64) -> Option<Parts>
     } else {
         None
     }
+}
+
+/// The decimal that differences make of another one, where its parts are within their limits.
+#[inline(always)]
+pub(crate) fn parts_moved(kept: Parts, exponent_delta: i64, mantissa_delta: i64) -> Option<Parts>
+    ensures exponent { IfSome result (λ d. d.exponent ≡ kept.exponent +ℤ exponent_delta) }
+    ensures mantissa { IfSome result (λ d. d.mantissa ≡ kept.mantissa +ℤ mantissa_delta) }
+    ensures near { IfSome result (λ d. exponent_in_range d.exponent ≡ true) }
+    ensures fits { IfSome result (λ d. in_range kind_type.Int64 d.mantissa ≡ true) }
+{
+    let Some(exponent) = i64::from(kept.exponent).checked_add(exponent_delta) else {
+        return None;
+    };
+    let Some(mantissa) = kept.mantissa.checked_add(mantissa_delta) else {
+        return None;
+    };
+    parts_within(exponent, mantissa)
 }
 
 /// The bit of the best form of a decimal, by the initial value.
@@ -236,13 +253,7 @@ fn judge_decimal_delta(
     let Some(kept) = kept_parts(entry) else {
         return Judged::Elsewhere;
     };
-    let Some(exponent) = i64::from(kept.exponent).checked_add(exponent_delta) else {
-        return Judged::Elsewhere;
-    };
-    let Some(mantissa) = kept.mantissa.checked_add(mantissa_delta) else {
-        return Judged::Elsewhere;
-    };
-    let Some(parts) = parts_within(exponent, mantissa) else {
+    let Some(parts) = parts_moved(kept, exponent_delta, mantissa_delta) else {
         return Judged::Elsewhere;
     };
     set_decimal(entry, parts);

@@ -10,7 +10,7 @@ ghost use Rattle.fast_field.specs.Numbers.{Predicts, Repeats};
 ghost use Rattle.fast_field.specs.Parts.{IsFieldPart};
 ghost use Rattle.fast_field.specs.Passed.{IsPassed};
 
-use crate::short_number::{ShortInteger, number_in};
+use crate::short_number::ShortInteger;
 use fast_dictionary::Entry;
 use fast_field::{Passed, fits};
 use fast_template::{FieldPart, Kind, Operator, Part, Presence, Scalar};
@@ -109,7 +109,7 @@ fn pass_next<T: ShortInteger>(which: Part, instr: &FieldPart, entry: &mut Entry)
     requires part { which ≡ instr.now.part }
     ensures { IsPassed instr.now entry.old entry.new result }
 {
-    let Some(kept) = number_in::<T>(entry) else {
+    let Some(kept) = T::kept(entry) else {
         return pass_empty(instr, entry);
     };
     if kept >= T::greatest() || !T::is_field_number(which, kept + 1) {

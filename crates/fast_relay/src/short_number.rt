@@ -20,6 +20,10 @@ pub(crate) trait ShortInteger {
         ensures some { IfSome result (IsNumberOf kind value.now) }
         ensures none { IfNone result ((z : ℤ) → IsNumberOf kind value.now z → pos (2 ^ 63) ≤ℤ z) };
 
+    /// The number that an entry has of the type.
+    fn kept(entry: &Entry) -> Option<i64>
+        ensures { IfSome result (HasNumber kind entry.now) };
+
     /// Puts a number in the place of the one that an entry has. It takes no memory.
     fn replace(entry: &mut Entry, kept: i64, number: i64)
         requires kept { HasNumber kind entry.now kept }
@@ -40,17 +44,6 @@ pub(crate) trait ShortInteger {
         ensures { result ≤ℤ greatest_of kind };
 }
 
-/// The number of a type that an entry has.
-#[inline(always)]
-pub(crate) fn number_in<T: ShortInteger>(entry: &Entry) -> Option<i64>
-    ensures { IfSome result (HasNumber T.kind entry.now) }
-{
-    match entry {
-        Entry::Assigned(value) => T::of(value),
-        Entry::Undefined | Entry::Empty => None,
-    }
-}
-
 impl ShortInteger for u32 {
     ghost kind = { kind_type.UInt32 };
 
@@ -58,6 +51,14 @@ impl ShortInteger for u32 {
     fn of(value: &Scalar) -> Option<i64> {
         match value {
             Scalar::U32(number) => Some(i64::from(*number)),
+            _ => None,
+        }
+    }
+
+    #[inline(always)]
+    fn kept(entry: &Entry) -> Option<i64> {
+        match entry {
+            Entry::Assigned(Scalar::U32(number)) => Some(i64::from(*number)),
             _ => None,
         }
     }
@@ -100,6 +101,14 @@ impl ShortInteger for i32 {
     fn of(value: &Scalar) -> Option<i64> {
         match value {
             Scalar::I32(number) => Some(i64::from(*number)),
+            _ => None,
+        }
+    }
+
+    #[inline(always)]
+    fn kept(entry: &Entry) -> Option<i64> {
+        match entry {
+            Entry::Assigned(Scalar::I32(number)) => Some(i64::from(*number)),
             _ => None,
         }
     }
@@ -150,6 +159,17 @@ impl ShortInteger for u64 {
     }
 
     #[inline(always)]
+    fn kept(entry: &Entry) -> Option<i64> {
+        match entry {
+            Entry::Assigned(Scalar::U64(number)) => match i64::try_from(*number) {
+                Ok(number) => Some(number),
+                Err(_) => None,
+            },
+            _ => None,
+        }
+    }
+
+    #[inline(always)]
     fn replace(entry: &mut Entry, kept: i64, number: i64) {
         match entry {
             Entry::Assigned(Scalar::U64(place)) => {
@@ -186,6 +206,14 @@ impl ShortInteger for i64 {
     fn of(value: &Scalar) -> Option<i64> {
         match value {
             Scalar::I64(number) => Some(*number),
+            _ => None,
+        }
+    }
+
+    #[inline(always)]
+    fn kept(entry: &Entry) -> Option<i64> {
+        match entry {
+            Entry::Assigned(Scalar::I64(number)) => Some(*number),
             _ => None,
         }
     }

@@ -10,8 +10,7 @@ ghost use Rattle.fast_relay.specs.Relayed.{Takes};
 ghost use Rattle.fast_relay.specs.Texts.{IsVectorKind};
 
 use crate::characters::is_text;
-use crate::cut::few_removed;
-use crate::integers::read_short;
+use crate::one_byte::read_any_removal;
 use crate::vectors::{are_text, find_bytes, keep_bytes, may_end, put_units};
 use fast_dictionary::Entry;
 use fast_field::units;
@@ -109,10 +108,7 @@ fn take_delta(
         (entry_type.Assigned value.new) value.new (drop at bytes.now) (drop next bytes.now)) }
     ensures value { IfNone result (value.new ≡ value.old) }
 {
-    let Some((removal, middle)) = read_short(false, instr.presence, bytes, at) else {
-        return None;
-    };
-    let Some(removed) = few_removed(removal) else {
+    let Some((removed, middle)) = read_any_removal(instr.presence, bytes, at) else {
         return None;
     };
     let Some((start, next)) = find_bytes(instr.kind, Presence::Mandatory, bytes, middle) else {

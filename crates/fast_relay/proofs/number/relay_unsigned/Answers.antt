@@ -5,7 +5,7 @@ use Rattle.std.proofs.lemmas.Int.{to_z-of_z}
 use Rattle.fast_value.specs.declared.kind.Kind.TheVariants.{UInt32}
 use Rattle.fast_relay.specs.Runs.{written}
 use Rattle.fast_relay.proofs.Judging.{whole_given, whole_stands}
-use Rattle.fast_relay.proofs.Runs.{begun, none_noted}
+use Rattle.fast_relay.proofs.Runs.{begun, flush_stays, none_noted, still}
 use Rattle.fast_relay.proofs.number.relay_unsigned.Goals as goal
 
 pub returns-in-Stands : goal.returns-in-Stands
@@ -61,3 +61,18 @@ returns-in-Given c =
       entry = tt;
       out = tt;
     }
+
+pub returns-then-ne-clause-out : goal.returns-then-ne-clause-out
+returns-then-ne-clause-out c = still c.args.bytes.now c.args.at c.args.out.now c.requires
+
+pub returns-in_default-clause-out : goal.returns-in_default-clause-out
+returns-in_default-clause-out c = still c.args.bytes.now c.args.at c.args.out.now c.requires
+
+pub returns-then-not-is_field_number-clause-out : goal.returns-then-not-is_field_number-clause-out
+returns-then-not-is_field_number-clause-out c = still c.args.bytes.now c.args.at c.args.out.now c.requires
+
+pub returns-then-not-flush-clause-out : goal.returns-then-not-flush-clause-out
+returns-then-not-flush-clause-out c = flush_stays c.args.bytes.now c.args.at c.args.out.now c.flush.new.self c.flush.result c.requires c.flush.ensures.out c.flush.ensures.from c.flush.ensures.place c.flush.ensures.unchanged
+
+pub returns-in-Elsewhere-clause-out : goal.returns-in-Elsewhere-clause-out
+returns-in-Elsewhere-clause-out c = flush_stays c.args.bytes.now c.args.at c.args.out.now c.flush.new.self c.flush.result c.requires c.flush.ensures.out c.flush.ensures.from c.flush.ensures.place c.flush.ensures.unchanged

@@ -2,7 +2,7 @@ use Rattle.std.proofs.Common.{◌≡◌, ℕ, List, ◌∙◌, ◌++◌, ◌-◌
 use Rattle.std.proofs.Math.Seq.{take-append_seam}
 use Rattle.fast_relay.specs.Runs.{written}
 use Rattle.fast_relay.proofs.PlainTexts.{characters_text, plain_delta_relays}
-use Rattle.fast_relay.proofs.Runs.{begun, flushed, none_noted}
+use Rattle.fast_relay.proofs.Runs.{begun, flush_stays, flushed, none_noted, still}
 use Rattle.fast_relay.proofs.respelled.respell_delta.Goals as goal
 
 pub returns-then-put_characters-clause-run : goal.returns-then-put_characters-clause-run
@@ -43,3 +43,29 @@ returns-else-put_characters-clause-out c =
     ∙ subst (λ (n : ℕ). take n (old ++ sent.0) ≡ old) (sym (c.len-start.ensures ∙ long)) (take-append_seam old sent.0) in
     flushed bytes c.args.at c.args.out.now record { out = c.truncate.new.self; from = c.flush.new.self.from; place = c.flush.new.self.place } c.requires.run
     (back ∙ c.flush.ensures.out c.if-not-flush.false) (c.flush.ensures.from c.if-not-flush.false) c.flush.ensures.place
+
+pub agrees_no_further-requires-clause-entity : goal.agrees_no_further-requires-clause-entity
+agrees_no_further-requires-clause-entity c = c.in-Some.ensures.gives.plain.entity
+
+pub is_cut_at_end-requires-clause-entity : goal.is_cut_at_end-requires-clause-entity
+is_cut_at_end-requires-clause-entity c = c.in-Some.ensures.gives.plain.entity
+
+pub put_characters-requires-clause-entity : goal.put_characters-requires-clause-entity
+put_characters-requires-clause-entity c = c.in-Some.ensures.gives.plain.entity
+
+pub is_cut_at_end-requires-clause-prefix : goal.is_cut_at_end-requires-clause-prefix
+is_cut_at_end-requires-clause-prefix c = c.agrees_no_further.ensures c.if-not-agrees_no_further.false
+
+pub returns-in_default-clause-out : goal.returns-in_default-clause-out
+returns-in_default-clause-out c = still c.args.bytes.now c.args.at c.args.out.now c.requires.run
+
+pub returns-then-not-agrees_no_further-clause-out : goal.returns-then-not-agrees_no_further-clause-out
+returns-then-not-agrees_no_further-clause-out c = still c.args.bytes.now c.args.at c.args.out.now c.requires.run
+
+pub returns-then-not-flush-clause-out : goal.returns-then-not-flush-clause-out
+returns-then-not-flush-clause-out c = flush_stays c.args.bytes.now c.args.at c.args.out.now c.flush.new.self c.flush.result c.requires.run c.flush.ensures.out c.flush.ensures.from c.flush.ensures.place c.flush.ensures.unchanged
+
+pub returns-then-not-push_removal-clause-out : goal.returns-then-not-push_removal-clause-out
+returns-then-not-push_removal-clause-out c =
+    flushed c.args.bytes.now c.args.at c.args.out.now record { out = c.push_removal.new.out; from = c.flush.new.self.from; place = c.flush.new.self.place } c.requires.run
+    (c.push_removal.ensures.unchanged c.if-not-push_removal.true ∙ c.flush.ensures.out c.if-not-flush.false) (c.flush.ensures.from c.if-not-flush.false) c.flush.ensures.place

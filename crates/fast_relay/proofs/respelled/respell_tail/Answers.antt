@@ -1,6 +1,7 @@
 use Rattle.std.proofs.Common.{ℕ, List, ◌∙◌, ◌++◌, ◌-◌, length, slice_range, drop, ap, arith}
 use Rattle.fast_relay.specs.Runs.{written}
 use Rattle.fast_relay.proofs.PlainTexts.{characters_text, plain_tail_relays}
+use Rattle.fast_relay.proofs.Runs.{still}
 use Rattle.fast_relay.proofs.respelled.respell_tail.Goals as goal
 
 pub returns-then-put_characters-clause-relayed : goal.returns-then-put_characters-clause-relayed
@@ -17,3 +18,30 @@ returns-then-put_characters-clause-relayed c =
     c.in-Some.ensures.gives
     (c.agrees_no_further.ensures c.if-not-agrees_no_further.false)
     after)
+
+pub agrees_no_further-requires-clause-entity : goal.agrees_no_further-requires-clause-entity
+agrees_no_further-requires-clause-entity c = c.in-Some.ensures.gives.plain.entity
+
+pub put_characters-requires-clause-entity : goal.put_characters-requires-clause-entity
+put_characters-requires-clause-entity c = c.in-Some.ensures.gives.plain.entity
+
+pub returns-in_default-clause-out : goal.returns-in_default-clause-out
+returns-in_default-clause-out c = still c.args.bytes.now c.args.at c.args.out.now c.requires.run
+
+pub returns-then-form-base-clause-out : goal.returns-then-form-base-clause-out
+returns-then-form-base-clause-out c = still c.args.bytes.now c.args.at c.args.out.now c.requires.run
+
+pub returns-then-not-agrees_no_further-clause-out : goal.returns-then-not-agrees_no_further-clause-out
+returns-then-not-agrees_no_further-clause-out c = still c.args.bytes.now c.args.at c.args.out.now c.requires.run
+
+pub returns-then-not-ready-clause-out : goal.returns-then-not-ready-clause-out
+returns-then-not-ready-clause-out c = c.ready.ensures.stays c.args.at c.requires.run
+
+pub returns-else-put_characters-clause-out : goal.returns-else-put_characters-clause-out
+returns-else-put_characters-clause-out c = c.ready.ensures.stays c.args.at c.requires.run
+
+pub note-requires-clause-ready : goal.note-requires-clause-ready
+note-requires-clause-ready c = c.ready.ensures.ready c.if-not-ready.false
+
+pub returns-then-put_characters-clause-run : goal.returns-then-put_characters-clause-run
+returns-then-put_characters-clause-run c = c.note.ensures.run c.args.bytes.now c.args.at (c.ready.ensures.stays c.args.at c.requires.run).run c.in-Some.ensures.place.2

@@ -1,10 +1,5 @@
-use Rattle.std.proofs.Common.{arith, drop, false, length, ◌-◌, refl, slice_range, subst, sym, ◌∙◌}
-use Rattle.std.specs.Int.{w128}
-use Rattle.std.specs.Int.RustNames.{FitsSigned}
-use Rattle.std.specs.Prelude.{ℤ}
-use Rattle.std.proofs.lemmas.Int.{ints, to_z-of_z}
+use Rattle.std.proofs.Common.{arith, drop, length, ◌-◌, refl, slice_range}
 use Rattle.fast_field.specs.Values.{units_of}
-use Rattle.fast_relay.specs.Numbers.{Spelt}
 use Rattle.fast_relay.proofs.TextRelaying.{text_few}
 use Rattle.fast_relay.proofs.VectorTexts.{front_text, put_behind}
 use Rattle.fast_relay.proofs.VectorTaking.{vector_cut_takes}
@@ -15,7 +10,7 @@ put_units-requires-clause-text c =
     let i = c.args.instr.now in
     let b = units_of c.args.value.now in
     let s = slice_range c.args.bytes.now c.in-Some-find_bytes.start c.in-Some-find_bytes.next in
-    let n = length b - c.in-Some-few_removed.removed in
+    let n = length b - c.in-Some.removed in
     let few = text_few i.kind c.args.value.now (c.is_text.ensures c.if-not-is_text.false) in
     let short = rw c.units-base.ensures at c.if-part-kept.false in
     rw c.units-base.ensures
@@ -29,12 +24,8 @@ returns-then-put_units-clause-taken c =
     let b = units_of value in
     let bytes = c.args.bytes.now in
     let s = slice_range bytes c.in-Some-find_bytes.start c.in-Some-find_bytes.next in
-    let r = c.in-Some-few_removed.removed in
+    let r = c.in-Some.removed in
     let n = length b - r in
-    let z = c.in-Some.removal in
-    let read = c.in-Some.ensures in
-    let fits : FitsSigned w128 z = omega (arith, ints, read.above, read.below) in
-    let removed = c.in-Some-few_removed.ensures in
     let text = c.is_text.ensures c.if-not-is_text.false in
     let few = text_few i.kind value text in
     let short = rw c.units-base.ensures at c.if-part-kept.false in
@@ -43,7 +34,7 @@ returns-then-put_units-clause-taken c =
     (front_text i.kind c.args.value.now n c.requires.kind (c.is_text.ensures c.if-not-is_text.false) (omega arith) (rw c.units-base.ensures at (c.may_end.ensures c.if-not-may_end.false))) (c.are_text.ensures c.if-not-are_text.false) in
     rw (c.put_units.ensures.put c.if-put_units.true, c.units-base.ensures)
     (vector_cut_takes i value r n s (drop c.args.at bytes) (drop c.in-Some.middle bytes) (drop c.in-Some-find_bytes.next bytes)
-    c.requires.kind c.requires.part c.requires.operator text removed.1 (omega (arith, le)) refl
+    c.requires.kind c.requires.part c.requires.operator text c.in-Some.ensures.few (omega (arith, le)) refl
     t
-    (subst (λ (x : ℤ). Spelt false i.presence (drop c.args.at bytes) x (drop c.in-Some.middle bytes)) (sym (to_z-of_z w128 z fits) ∙ removed.0) read.gives)
+    c.in-Some.ensures.gives
     c.in-Some-find_bytes.ensures.gives)
