@@ -305,7 +305,7 @@ pub(crate) fn value_of_units(kind: Kind, units: Vec<u8>) -> Result<Scalar, Field
 
 /// An exponent within its limit, -63 to 63; none where it is not.
 #[inline(always)]
-pub fn exponent_within(exponent: i128) -> Option<i32>
+pub(crate) fn exponent_within(exponent: i128) -> Option<i32>
     ensures some { IfSome result (λ e. (e ≡ exponent) × (exponent_in_range exponent ≡ true)) }
     ensures none { IfNone result (exponent_in_range exponent ≡ false) }
 {
@@ -318,7 +318,7 @@ pub fn exponent_within(exponent: i128) -> Option<i32>
 
 /// A mantissa within its limit, that of an int64; none where it is not.
 #[inline(always)]
-pub fn mantissa_within(mantissa: i128) -> Option<i64>
+pub(crate) fn mantissa_within(mantissa: i128) -> Option<i64>
     ensures some { IfSome result (λ m. (m ≡ mantissa) × (in_range kind.Int64 mantissa ≡ true)) }
     ensures none { IfNone result (in_range kind.Int64 mantissa ≡ false) }
 {

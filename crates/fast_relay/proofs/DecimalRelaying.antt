@@ -1,10 +1,6 @@
 -- What decimals that are read and written at once rest on.
-use Rattle.std.proofs.Common.{◌≡◌, ◌≤◌, ℕ, nat_le, Bool, true, false, List, ◌++◌, Result, Ok, Err, refl, sym, ap, subst, ◌∙◌, arith}
-use Rattle.std.specs.Prelude.{ℤ, pos, negsuc, ◌&&◌, ◌^◌, ◌<ℤ◌, ◌+ℤ◌, ◌-ℤ◌, Some}
-use Rattle.std.proofs.lemmas.Int.{ints}
-use Rattle.std.proofs.lemmas.Bool.Decides.{nat_tests}
-use Rattle.std.specs.Int.{w32, w64, w128}
-use Rattle.std.specs.Int.RustNames.{FitsSigned}
+use Rattle.std.proofs.Common.{◌≡◌, ℕ, true, false, List, ◌++◌, Result, Ok, Err, refl, sym, ap, subst, ◌∙◌}
+use Rattle.std.specs.Prelude.{ℤ, ◌+ℤ◌, ◌-ℤ◌, Some}
 use Rattle.fast_wire.specs.declared.level.Level.TheVariants.{Usual}
 use Rattle.fast_wire.specs.Reading.{◌>>=◌, signed_at}
 use Rattle.fast_wire.specs.declared.nullable.Nullable.{Nullable}
@@ -39,30 +35,6 @@ use Rattle.fast_relay.specs.Numbers.{SpellsWhole, Spelt}
 use Rattle.fast_value.specs.Scalar.{is_of}
 use Rattle.fast_relay.specs.Relayed.{Relays}
 use Rattle.fast_relay.proofs.Relaying.{added_back, base_is, delta_out, delta_row, relays, whole_row}
-
--- numbers of 64 bits, and their sums, are far from the ends of a long type
-pub fits_long : (z : ℤ) → negsuc (2 ^ 64) <ℤ z → z <ℤ pos (2 ^ 64) → FitsSigned w128 z
-fits_long z above below = omega (arith, ints, above, below)
-
-pub sum_fits : (y z : ℤ) → negsuc (2 ^ 64) <ℤ y → y <ℤ pos (2 ^ 64) → negsuc (2 ^ 64) <ℤ z → z <ℤ pos (2 ^ 64) → FitsSigned w128 (y +ℤ z)
-sum_fits y z y_above y_below above below = omega (arith, ints, y_above, y_below, above, below)
-
--- the parts of a decimal fit their types
-both : (a b : Bool) → (a && b) ≡ true → (a ≡ true) × (b ≡ true)
-both true true e = (refl, refl)
-both true false e = absurd cc
-both false b e = absurd cc
-
-at_most : (m n : ℕ) → nat_le m n ≡ true → m ≤ n
-at_most m n h = grind (arith, nat_tests)
-
-pub exponent_fits : (z : ℤ) → exponent_in_range z ≡ true → FitsSigned w32 z
-exponent_fits (pos n) h = let le = at_most n 63 h in omega (arith, ints, le)
-exponent_fits (negsuc n) h = let le = at_most n 62 (both (nat_le n 62) true h).0 in omega (arith, ints, le)
-
-pub mantissa_fits : (z : ℤ) → in_range kind.Int64 z ≡ true → FitsSigned w64 z
-mantissa_fits (pos n) h = let le = at_most n 9223372036854775807 h in omega (arith, ints, le)
-mantissa_fits (negsuc n) h = let le = at_most n 9223372036854775807 (both (nat_le n 9223372036854775807) true h).0 in omega (arith, ints, le)
 
 -- a number that is spelled is read
 not_null : Result (Nullable ℤ × List ℕ) FieldFault → Result (ℤ × List ℕ) FieldFault

@@ -20,7 +20,7 @@ use Rattle.fast_field.specs.Values.{integer_of, is_unsigned}
 use Rattle.fast_field.proofs.BestForms.{bit_zero_is_best}
 use Rattle.fast_field.proofs.BestValues.{left_out}
 use Rattle.fast_field.proofs.Passing.{increased_is, kind_is, number_back, of_kind, within_number}
-use Rattle.fast_relay.specs.Judged.{Adds, IfBehind, IfJudged, Judges, JudgesFrom, Leaves, StandsAt, StandsFrom}
+use Rattle.fast_relay.specs.Judged.{Adds, IfBehind, IfJudged, IfNotJudged, Judges, JudgesFrom, Leaves, StandsAt, StandsFrom}
 use Rattle.fast_relay.specs.Numbers.{SpellsWhole, Spelt}
 use Rattle.fast_relay.specs.declared.judged.Judged.{Judged}
 use Rattle.fast_relay.specs.declared.judged.Judged.TheVariants.{Stands, Behind, BehindTwo, Given, Elsewhere}
@@ -59,6 +59,13 @@ none_judged (Given n) P none = absurd none
 none_judged (Behind n) P none = tt
 none_judged (BehindTwo n) P none = tt
 none_judged Elsewhere P none = tt
+
+pub not_elsewhere : (j : Judged) (P : Type 0) → IfNotJudged j ⊥ → IfNotJudged j P
+not_elsewhere (Stands n) P none = tt
+not_elsewhere (Given n) P none = tt
+not_elsewhere (Behind n) P none = tt
+not_elsewhere (BehindTwo n) P none = tt
+not_elsewhere Elsewhere P none = absurd none
 
 pub behind_at : (j : Judged) (at first next : ℕ) (P : ℕ → ℕ → Type 0) → IfBehind j (λ needless n. (at + needless ≡ first) × (n ≡ next)) → P first next → IfBehind j (λ needless n. P (at + needless) n)
 behind_at (Stands n) at first next P is p = tt

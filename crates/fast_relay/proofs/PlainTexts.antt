@@ -1,9 +1,8 @@
 -- Strings that stand in their shortest form, read and written at once.
-use Rattle.std.proofs.Common.{rules, ◌≡◌, ◌≤◌, ◌<◌, ◌+◌, ◌-◌, ◌%◌, true, false, List, ℕ, ◌++◌, Ok, length, take, drop, get_or, zero, suc, [], ◌∷◌, refl, sym, ap, subst, ◌∙◌, arith, inl, inr, length-append, length-drop, append_assoc, slice_range, drop-drop}
-use Rattle.std.specs.Prelude.{Some, ℤ, pos, negsuc, nat_le, nat_lt, nat_eq, not}
-use Rattle.std.proofs.lemmas.Bool.{cases_lt}
+use Rattle.std.proofs.Common.{rules, ◌≡◌, ◌≤◌, ◌<◌, ◌+◌, ◌-◌, ◌%◌, true, false, List, ℕ, ◌++◌, Ok, length, take, drop, get_or, zero, suc, [], ◌∷◌, refl, sym, ap, subst, ◌∙◌, arith, length-append, length-drop, append_assoc, slice_range, drop-drop}
+use Rattle.std.specs.Prelude.{Some, ℤ, pos, negsuc, nat_le, nat_lt}
 use Rattle.std.proofs.lemmas.Bool.Decides.{nat_tests}
-use Rattle.std.proofs.lemmas.List.{drop-map, drop-take, get_or-append-add, get_or-drop, length-map, length-take-le, take-append-drop}
+use Rattle.std.proofs.lemmas.List.{drop-map, drop-take, length-map, length-take-le, take-append-drop}
 use Rattle.std.proofs.Math.Seq.{drop-append_seam, take-add}
 use Rattle.std.specs.List.{AllByRecursion}
 use Rattle.fast_wire.specs.declared.level.Level.TheVariants.{Usual}
@@ -36,8 +35,7 @@ use Rattle.fast_relay.specs.Numbers.{SpellsWhole, Spelt}
 use Rattle.fast_field.specs.Planning.{is_same, left_out_of}
 use Rattle.fast_relay.specs.Relayed.{Relays}
 use Rattle.fast_relay.specs.Texts.{GivesCut, GivesTail, IsText}
-use Rattle.fast_field.proofs.Agreeing.{prefix_more, suffix_ends, suffix_none, suffix_stops}
-use Rattle.fast_field.proofs.BestCuts.{best_at_end, longest_suffix}
+use Rattle.fast_field.proofs.BestCuts.{best_at_end}
 use Rattle.fast_field.proofs.BestTails.{shortest_is_best}
 use Rattle.fast_field.proofs.Shortest.{units_is}
 use Rattle.fast_relay.proofs.TextRelaying.{tail_relays, text_delta_relays, whole_text_relays}

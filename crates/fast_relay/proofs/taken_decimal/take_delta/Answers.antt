@@ -1,10 +1,9 @@
 use Rattle.std.specs.Int.{w64}
 use Rattle.std.specs.Int.RustNames.{FitsSigned}
 use Rattle.std.specs.Prelude.{◌≡◌, ◌+ℤ◌, drop}
-use Rattle.std.proofs.Common.{rules, refl, ◌∙◌}
+use Rattle.std.proofs.Common.{rules}
 use Rattle.std.proofs.lemmas.Int.{to_z-of_z}
 use Rattle.fast_value.specs.declared.scalar.Scalar.TheVariants.{Decimal}
-use Rattle.fast_dictionary.specs.declared.entry.Entry.TheVariants.{Assigned}
 use Rattle.fast_relay.proofs.DecimalTaking.{decimal_takes}
 use Rattle.fast_relay.proofs.taken_decimal.take_delta.Goals as goal
 
