@@ -8,7 +8,7 @@ use Rattle.std.proofs.Math.Seq.{take-append_seam}
 use Rattle.fast_wire.specs.Entity.{IsEntity, groups}
 use Rattle.fast_wire.proofs.UnsignedForms.{entity_some}
 use Rattle.fast_field.specs.CommonParts.{IsLongestPrefix, IsLongestSuffix, SharesEnd}
-use Rattle.fast_field.proofs.Agreeing.{prefix_more, prefix_stops, suffix_ends, suffix_none, suffix_stops}
+use Rattle.fast_field.proofs.Agreeing.{prefix_ends, prefix_more, prefix_stops, suffix_ends, suffix_none, suffix_stops}
 use Rattle.fast_field.proofs.BestCuts.{longest_suffix}
 
 part_at_kept : (base part : List ℕ) (n i : ℕ) → n ≤ length base → get_or (take n base ++ part) (n + i) 0 ≡ get_or part i 0
@@ -24,6 +24,9 @@ prefix_stays base part n lt some differ =
     let first : n + 0 ≡ n = omega arith in
     let here : get_or v n 0 ≡ get_or part 0 0 = subst (λ m. get_or v m 0 ≡ get_or part 0 0) first (part_at_kept base part n 0 within) in
     prefix_stops base v n lt (omega (arith, some, length-append (take n base) part, length-take-le n base within)) (λ e. differ (e ∙ here)) (sym (kept_front base part n within))
+
+pub prefix_whole : (base part : List ℕ) (n : ℕ) → n ≤ length base → length base ≤ n → IsLongestPrefix base (take n base ++ part) n
+prefix_whole base part n le ge = prefix_ends base (take n base ++ part) n (omega arith) (omega (arith, length-append (take n base) part, length-take-le n base le)) (sym (kept_front base part n le))
 
 pub suffix_stays : (base part : List ℕ) (n : ℕ) → n ≤ length base → 0 < length part → (0 < length base → get_or base (length base - 1) 0 ≡ get_or part (length part - 1) 0 → ⊥) → IsLongestSuffix base (take n base ++ part) 0
 suffix_stays base part n h some differ =

@@ -143,20 +143,10 @@ pub fn respell_text(
     ensures entry { IfNone result (entry.new ≡ entry.old) }
     ensures out { IfNone result (Stays bytes.now at out.old out.new) }
 {
-    if instr.kind != Kind::Ascii || instr.part != Part::Whole {
-        return None;
-    }
-    match instr.operator {
-        Operator::Delta => match entry {
-            Entry::Assigned(Scalar::Ascii(text)) => {
-                respell_delta(alloc, instr, text, bytes, at, out)
-            }
-            _ => None,
-        },
-        Operator::Tail => match entry {
-            Entry::Assigned(Scalar::Ascii(text)) => {
-                respell_tail(alloc, instr, text, bytes, at, out)
-            }
+    match (instr.kind, instr.part, entry) {
+        (Kind::Ascii, Part::Whole, Entry::Assigned(Scalar::Ascii(text))) => match instr.operator {
+            Operator::Delta => respell_delta(alloc, instr, text, bytes, at, out),
+            Operator::Tail => respell_tail(alloc, instr, text, bytes, at, out),
             _ => None,
         },
         _ => None,

@@ -130,16 +130,13 @@ pub fn take_text(
         × Takes instr.now entry.old entry.new v (drop at bytes.now) (drop next bytes.now)) }
     ensures entry { IfNone result (entry.new ≡ entry.old) }
 {
-    if instr.kind != Kind::Ascii || instr.part != Part::Whole {
-        return None;
-    }
-    match instr.operator {
-        Operator::Copy => take_whole(alloc, instr, entry, bytes, at),
-        Operator::Delta => match entry {
+    match (instr.kind, instr.part, instr.operator) {
+        (Kind::Ascii, Part::Whole, Operator::Copy) => take_whole(alloc, instr, entry, bytes, at),
+        (Kind::Ascii, Part::Whole, Operator::Delta) => match entry {
             Entry::Assigned(Scalar::Ascii(text)) => take_cut(alloc, instr, text, bytes, at),
             _ => None,
         },
-        Operator::Tail => match entry {
+        (Kind::Ascii, Part::Whole, Operator::Tail) => match entry {
             Entry::Assigned(Scalar::Ascii(text)) => take_tail(alloc, instr, text, bytes, at),
             _ => None,
         },
@@ -191,11 +188,12 @@ pub fn take_aside(
         (drop at bytes.now) (drop next bytes.now)) }
     ensures value { IfNone result (value.new ≡ value.old) }
 {
-    if instr.kind != Kind::Ascii || instr.part != Part::Whole {
-        return None;
-    }
-    match instr.operator {
-        Operator::Plain | Operator::Default => match value {
+    match (instr.kind, instr.part, instr.operator) {
+        (Kind::Ascii, Part::Whole, Operator::Plain) => match value {
+            Scalar::Ascii(text) => put_aside(alloc, instr, text, bytes, at),
+            _ => None,
+        },
+        (Kind::Ascii, Part::Whole, Operator::Default) => match value {
             Scalar::Ascii(text) => put_aside(alloc, instr, text, bytes, at),
             _ => None,
         },
