@@ -72,7 +72,7 @@ impl Gaps {
     ///
     /// # Errors
     ///
-    /// An allocation was refused, and none is left.
+    /// An allocation was refused, and no gap is left for it.
     pub fn leave_label(&mut self, written: usize, name: &Name) -> Result<(), AllocError>
         requires { self.now.closed ≤ written }
         ensures left { OnOk result (self.new.placed.items ≡ self.old.placed.items
@@ -90,7 +90,7 @@ impl Gaps {
     ///
     /// # Errors
     ///
-    /// As `leave_label`.
+    /// An allocation was refused; no gap is left for it then, and those before may be forgotten.
     pub fn leave_text(
         &mut self,
         written: usize,
