@@ -2,7 +2,9 @@
 use Rattle.std.proofs.Common.{◌≡◌, ◌≢◌, ◌<◌, ◌+◌, ℕ, suc, List, [], ◌∷◌, ◌++◌, Option, None, length, drop, get_or, map, option_map, Result, Ok, Err, refl, sym, subst, ap, ap₂, ◌∙◌}
 use Rattle.std.specs.Prelude.{codes}
 use Rattle.std.proofs.lemmas.List.{drop_more}
-use Rattle.std.specs.Global.{Vec}
+use Rattle.std.specs.Global.{Vec, Global}
+use Rattle.std.specs.formers.vec.Vec.{mapped}
+use mathlib.Core.Former.{this}
 use Rattle.fast_template.specs.declared.resolved.Flat.{Flat, fold-roll-Flat}
 use Rattle.fast_template.specs.declared.resolved.Flat.TheOpen.{Flat-F}
 use Rattle.fast_template.specs.declared.resolved.Flat.TheVariants as flat
@@ -10,8 +12,9 @@ use Rattle.fast_template.specs.declared.resolved.Flat.TheVariants.{rolls-Sequenc
 use Rattle.fast_template.specs.declared.resolved.FieldPart.{FieldPart}
 use Rattle.fast_value.specs.declared.kind.Presence.{Presence}
 use Rattle.fast_template.specs.Resolved.{Instruction, flat_step, instruction_of, list_of}
-use Rattle.fast_stream.specs.declared.message.Node.{Node}
-use Rattle.fast_stream.specs.Nodes.{Item, Items, item_of, items_in, elements_of}
+use Rattle.fast_stream.specs.declared.message.Node.{Node, fold_out-Node}
+use Rattle.fast_stream.specs.declared.message.Node.TheVariants.{Sequence, outs-Sequence}
+use Rattle.fast_stream.specs.Nodes.{Item, Items, sequence_elements, item_of, items_of, items_in, elements_of, node_step}
 use Rattle.fast_lines.specs.declared.form.Form.{Form}
 use Rattle.fast_lines.specs.Signs.{between}
 use Rattle.fast_lines.specs.Lines.{braced, bracketed, elements_text, joined, member_text, members_text, node_text, sequence_text}
@@ -94,3 +97,12 @@ node_text-sequence form name number presence length members n =
 
 pub shows_bracketed_err : (t : Option (List ℕ)) (a b c : List ℕ) (f : ShowFault) (r : Result Unit ShowFault) → r ≡ Err f → b ≡ a ++ codes "[" → Shows t (Err f) b c → Shows (bracketed t) r a c
 shows_bracketed_err t a b c f r e x w = rw e (shows_err (λ s. codes "[" ++ s ++ codes "]") t a b c f (extends_by a b (codes "[") x) w)
+
+-- ---- a sequence as contracts see it, with its elements seen
+
+fused : (es : List (Vec Node)) → map (λ v. items_of v.items) (map (mapped {H = Global} ((this {0}).map Node Item item_of)) es) ≡ map (λ v. items_in v.items) es
+fused [] = refl
+fused (e ∷ es) = ap (λ (rest : List Items). items_in e.items ∷ rest) (fused es)
+
+pub item_of-sequence : (es : Vec (Vec Node)) → item_of (Sequence es) ≡ sequence_elements (elements_of (map (λ v. items_in v.items) es.items))
+item_of-sequence es = fold_out-Node Item node_step (Sequence es) ∙ rw (outs-Sequence es) (ap (λ (ns : List Items). sequence_elements (elements_of ns)) (fused es.items))

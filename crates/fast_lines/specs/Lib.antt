@@ -1,8 +1,4 @@
 pub mod Lines
 pub mod Signs
-pub mod Told
 pub mod Written
-pub mod Taking
 pub mod Pieces
-pub mod Gaps
-pub mod Filled

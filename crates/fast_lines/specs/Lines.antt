@@ -31,6 +31,11 @@ scalar_text form (Ascii s) = quoted form s
 scalar_text form (Unicode s) = quoted form s
 scalar_text form (Bytes s) = vector_text form s
 
+-- what is told of a field's value, or of one that is absent
+abbrev pub said_text : Form → Option Scalar → List ℕ
+said_text form (Some v) = scalar_text form v
+said_text form None = absent_sign form
+
 -- ---- what a message has for an instruction, or none where it is of another shape, type or presence
 
 -- one text behind another, where both are there

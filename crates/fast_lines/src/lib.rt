@@ -1,27 +1,22 @@
-//! Messages of any template set as lines, of text or of JSON: of a message that is at hand, and of fields as they are read;
-//! and what a check says.
+//! Messages of any template set as lines, of text or of JSON, and what a check says.
+//!
+//! [`push_line`] appends the line of a message that is at hand, [`push_ok_line`] what a check says that ended well. The
+//! forms of a line are known by their signs ([`Signs`]). The rest of what is public is for `fast_gaps` and `fast_told`,
+//! which write a line while its fields are read: values and strings ([`push_scalar`], [`push_quoted`]), a short [`Piece`] of a
+//! line that is laid out before it is appended ([`lay_scalar`]), and the [`Page`] that it is appended to.
 #![tactic(auto)]
 
 mod bytes;
-mod fields;
-mod filling;
 mod form;
-mod gap;
-mod gaps;
-mod line;
 mod lines;
 mod page;
 mod piece;
-mod rest;
 mod signs;
 mod strings;
-mod texts;
-mod told;
 
-pub use fields::tell_fields;
 pub use form::{Form, JsonSigns, TextSigns};
-pub use line::Line;
-pub use lines::{ShowFault, push_line, push_ok_line};
-pub use rest::Rest;
+pub use lines::{ShowFault, lay_scalar, push_line, push_ok_line, push_scalar};
+pub use page::Page;
+pub use piece::Piece;
 pub use signs::{Escape, Signs};
-pub use told::tell;
+pub use strings::{all_stand, push_quoted};

@@ -8,15 +8,14 @@ ghost use Rattle.fast_value.specs.Scalar.{is_of};
 ghost use Rattle.fast_field.specs.Refusals.{are_characters, has_characters};
 ghost use Rattle.fast_stream.specs.Nodes.{single, item_of, items_in, elements_of, content_of};
 ghost use Rattle.fast_lines.specs.declared.form.Form.{Form as FormOf};
-ghost use Rattle.fast_lines.specs.Lines.{absent_text, braced, elements_text, field_text, group_text, sequence_text, label, line_by, line_in, member_text, members_text, scalar_text, value_text, ok_text};
+ghost use Rattle.fast_lines.specs.Lines.{absent_text, braced, elements_text, field_text, group_text, sequence_text, label, line_by, line_in, member_text, members_text, scalar_text, value_text, ok_text, said_text};
 ghost use Rattle.fast_lines.specs.Signs.{label_text};
-ghost use Rattle.fast_lines.specs.Told.{said_text};
 ghost use Rattle.fast_lines.specs.Written.{Writes, Shows};
 ghost use Rattle.fast_lines.specs.declared.lines.ShowFault.TheVariants as fault;
 
 use crate::bytes::{push, push_byte, push_decimal, push_sign, push_signed, push_unsigned};
 use crate::form::{Form, JsonSigns, TextSigns};
-use crate::piece::{END, Piece};
+use crate::piece::Piece;
 use crate::signs::Signs;
 use crate::strings::{lay_quoted, push_quoted};
 use fast_stream::{Message, Node};
@@ -51,11 +50,11 @@ fn all_characters(text: &[u8]) -> bool
 }
 
 /// Appends a value of any type.
-pub(crate) fn push_scalar<S: Signs>(
-    signs: S,
-    value: &Scalar,
-    out: &mut Vec<u8>,
-) -> Result<(), AllocError>
+///
+/// # Errors
+///
+/// An allocation was refused; a front of the value may stand there.
+pub fn push_scalar<S: Signs>(signs: S, value: &Scalar, out: &mut Vec<u8>) -> Result<(), AllocError>
     ensures { Writes (scalar_text S.form value.now) result out.old.items out.new.items }
 {
     match value {
@@ -73,27 +72,23 @@ pub(crate) fn push_scalar<S: Signs>(
 /// Lays a value of any type, or what stands for none, at the end of a piece, and answers where that begins then; none where
 /// the value is not short.
 #[inline(always)]
-pub(crate) fn lay_scalar<S: Signs>(
-    signs: S,
-    value: Option<&Scalar>,
-    piece: &mut Piece,
-) -> Option<usize>
+pub fn lay_scalar<S: Signs>(signs: S, value: Option<&Scalar>, piece: &mut Piece) -> Option<usize>
     ensures room { IfSome result (λ start. start ≤ 64) }
     ensures laid { IfSome result (λ start. laid piece.new.bytes start
         ≡ said_text S.form (option_copied value.entry)) }
 {
     match value {
-        None => Some(piece.lay(END, signs.absent())),
-        Some(Scalar::U32(number)) => Some(piece.lay_unsigned(END, u64::from(*number))),
-        Some(Scalar::I32(number)) => Some(piece.lay_signed(END, i64::from(*number))),
-        Some(Scalar::U64(number)) => Some(piece.lay_unsigned(END, *number)),
-        Some(Scalar::I64(number)) => Some(piece.lay_signed(END, *number)),
+        None => Some(piece.lay(Piece::END, signs.absent())),
+        Some(Scalar::U32(number)) => Some(piece.lay_unsigned(Piece::END, u64::from(*number))),
+        Some(Scalar::I32(number)) => Some(piece.lay_signed(Piece::END, i64::from(*number))),
+        Some(Scalar::U64(number)) => Some(piece.lay_unsigned(Piece::END, *number)),
+        Some(Scalar::I64(number)) => Some(piece.lay_signed(Piece::END, *number)),
         Some(Scalar::Decimal { exponent, mantissa }) => {
             Some(piece.lay_decimal(*mantissa, *exponent))
         }
-        Some(Scalar::Ascii(text)) => lay_quoted(signs, text.as_slice(), piece, END),
-        Some(Scalar::Unicode(text)) => lay_quoted(signs, text.as_bytes(), piece, END),
-        Some(Scalar::Bytes(bytes)) => signs.lay_vector(bytes.as_slice(), piece, END),
+        Some(Scalar::Ascii(text)) => lay_quoted(signs, text.as_slice(), piece, Piece::END),
+        Some(Scalar::Unicode(text)) => lay_quoted(signs, text.as_bytes(), piece, Piece::END),
+        Some(Scalar::Bytes(bytes)) => signs.lay_vector(bytes.as_slice(), piece, Piece::END),
     }
 }
 

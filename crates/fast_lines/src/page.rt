@@ -4,7 +4,7 @@ ghost use Rattle.std.specs.Prelude.{◌≡◌, ◌≤◌, ◌+◌, ◌++◌, [],
 ghost use Rattle.fast_lines.specs.Pieces.{laid};
 ghost use Rattle.fast_lines.specs.Written.{Writes};
 
-use crate::piece::{END, Piece};
+use crate::piece::Piece;
 use std::alloc::{AllocError, Global};
 use std::marker::Model;
 
@@ -58,7 +58,7 @@ fn make_room(bytes: &mut Vec<u8>, end: usize, count: usize) -> Result<(), AllocE
 impl Page {
     /// Of nothing. Takes no memory.
     #[inline(always)]
-    pub(crate) fn new(alloc: Global) -> Page
+    pub fn new(alloc: Global) -> Page
         ensures { result ≡ [] }
     {
         Page {
@@ -69,7 +69,7 @@ impl Page {
 
     /// Forgets all that is written.
     #[inline(always)]
-    pub(crate) fn clear(&mut self)
+    pub fn clear(&mut self)
         ensures { self.new ≡ [] }
     {
         self.end = 0;
@@ -77,7 +77,7 @@ impl Page {
 
     /// What is written.
     #[inline(always)]
-    pub(crate) fn as_slice(&self) -> &[u8]
+    pub fn as_slice(&self) -> &[u8]
         ensures { result.now ≡ self.now }
     {
         &self.bytes[..self.end]
@@ -85,15 +85,19 @@ impl Page {
 
     /// How many bytes are written.
     #[inline(always)]
-    pub(crate) fn len(&self) -> usize
+    pub fn len(&self) -> usize
         ensures { result ≡ length self.now }
     {
         self.end
     }
 
     /// Appends a text.
+    ///
+    /// # Errors
+    ///
+    /// An allocation was refused.
     #[inline(always)]
-    pub(crate) fn put(&mut self, text: &[u8]) -> Result<(), AllocError>
+    pub fn put(&mut self, text: &[u8]) -> Result<(), AllocError>
         ensures { Writes text.now result self.old self.new }
     {
         make_room(&mut self.bytes, self.end, text.len())?;
@@ -104,14 +108,18 @@ impl Page {
     }
 
     /// Appends a piece that begins here.
+    ///
+    /// # Errors
+    ///
+    /// As `put`.
     #[inline(always)]
-    pub(crate) fn put_piece(&mut self, piece: &Piece, start: usize) -> Result<(), AllocError>
+    pub fn put_piece(&mut self, piece: &Piece, start: usize) -> Result<(), AllocError>
         requires { start ≤ 64 }
         ensures { Writes (laid piece.now.bytes start) result self.old self.new }
     {
-        make_room(&mut self.bytes, self.end, END)?;
+        make_room(&mut self.bytes, self.end, Piece::END)?;
         piece.put_at(start, &mut self.bytes, self.end);
-        self.end += END - start;
+        self.end += Piece::END - start;
         Ok(())
     }
 }

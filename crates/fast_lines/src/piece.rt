@@ -11,9 +11,6 @@ use crate::bytes::hex_pair;
 use itoa::write_digits;
 use std::simd::Simd;
 
-/// Where a piece ends, and how many bytes it has at most.
-pub(crate) const END: usize = 64;
-
 /// Most pieces have no more than these.
 const HALF: usize = 32;
 
@@ -41,15 +38,18 @@ fn put_word<const N: usize>(bytes: &mut [u8], at: usize, text: &[u8])
 }
 
 impl Piece {
+    /// Where a piece ends, and how many bytes it has at most.
+    pub const END: usize = 64;
+
     /// With nothing laid out.
     #[inline(always)]
-    pub(crate) fn new() -> Piece {
+    pub fn new() -> Piece {
         Piece { bytes: [0; 96] }
     }
 
     /// Lays a byte in front; answers where the piece begins then.
     #[inline(always)]
-    pub(crate) fn lay_byte(&mut self, start: usize, byte: u8) -> usize
+    pub fn lay_byte(&mut self, start: usize, byte: u8) -> usize
         requires { (0 < start) × (start ≤ 64) }
         ensures place { result + 1 ≡ start }
         ensures laid { laid self.new.bytes result ≡ byte ∷ laid self.old.bytes start }
@@ -122,7 +122,7 @@ impl Piece {
         if text.len() > LONGEST {
             return None;
         }
-        Some(self.lay(END, text))
+        Some(self.lay(Piece::END, text))
     }
 
     /// Lays two hex digits in front.
@@ -189,11 +189,11 @@ impl Piece {
 
     /// Lays a decimal, of which nothing stands behind it: its mantissa, an `e`, and its exponent.
     #[inline(always)]
-    pub(crate) fn lay_decimal(&mut self, mantissa: i64, exponent: i32) -> usize
+    pub fn lay_decimal(&mut self, mantissa: i64, exponent: i32) -> usize
         ensures place { result ≤ 64 }
         ensures laid { laid self.new.bytes result ≡ decimal_text mantissa exponent }
     {
-        let start = self.lay_signed(END, i64::from(exponent));
+        let start = self.lay_signed(Piece::END, i64::from(exponent));
         let start = self.lay_byte(start, b'e');
         self.lay_signed(start, mantissa)
     }

@@ -7,7 +7,7 @@ ghost use Rattle.fast_lines.specs.Signs.{is_plain, quoted, unit_text};
 ghost use Rattle.fast_lines.specs.Written.{Writes};
 
 use crate::bytes::{push, push_byte};
-use crate::piece::{END, Piece};
+use crate::piece::Piece;
 use crate::signs::Escape;
 use std::alloc::AllocError;
 use std::simd::prelude::*;
@@ -100,7 +100,7 @@ fn each_stands(text: &[u8]) -> bool
 
 /// Whether each byte of a string stands as it is.
 #[inline(always)]
-pub(crate) fn all_stand(text: &[u8]) -> bool
+pub fn all_stand(text: &[u8]) -> bool
     ensures { result ≡ true → list_all is_plain text.now ≡ true }
 {
     if text.len() >= 16 {
@@ -136,25 +136,6 @@ fn push_pieces<S: Escape>(escape: S, text: &[u8], out: &mut Vec<u8>) -> Result<(
     push_units(escape, &text[at..], out)
 }
 
-/// As many bytes of a string are laid out at once, each of which takes six bytes at most.
-pub(crate) const UNITS: usize = 10;
-
-/// Lays a string of few bytes without its quotes at the end of a piece, and answers where it begins then.
-#[inline(always)]
-pub(crate) fn lay_units<S: Escape>(escape: S, text: &[u8], piece: &mut Piece) -> usize
-    requires { length text.now ≤ 10 }
-    ensures place { result ≤ 64 }
-    ensures laid { laid piece.new.bytes result ≡ flat_map (unit_text S.form) text.now }
-{
-    let mut start = END;
-    let mut left = text.len();
-    while left > 0 {
-        left -= 1;
-        start = escape.lay_unit(text[left], piece, start);
-    }
-    start
-}
-
 /// Appends a string without its quotes; mostly it stands as it is, and goes there at once.
 fn push_text<S: Escape>(escape: S, text: &[u8], out: &mut Vec<u8>) -> Result<(), AllocError>
     ensures { Writes (flat_map (unit_text S.form) text.now) result out.old.items out.new.items }
@@ -166,11 +147,11 @@ fn push_text<S: Escape>(escape: S, text: &[u8], out: &mut Vec<u8>) -> Result<(),
 }
 
 /// Appends a string in its quotes.
-pub(crate) fn push_quoted<S: Escape>(
-    escape: S,
-    text: &[u8],
-    out: &mut Vec<u8>,
-) -> Result<(), AllocError>
+///
+/// # Errors
+///
+/// An allocation was refused; a front of the string may stand there.
+pub fn push_quoted<S: Escape>(escape: S, text: &[u8], out: &mut Vec<u8>) -> Result<(), AllocError>
     ensures { Writes (quoted S.form text.now) result out.old.items out.new.items }
 {
     push_byte(b'"', out)?;

@@ -1,8 +1,8 @@
 -- The lines that wait until they are handed on (our own).
 use Rattle.std.specs.Prelude.{ℕ, suc, List, ◌++◌, Option, Some, None}
 use Rattle.fast_lines.specs.declared.form.Form.{Form}
-use Rattle.fast_lines.specs.declared.rest.Rest.{Rest}
-use Rattle.fast_lines.specs.Filled.{gaps_left, left_of}
+use Rattle.fast_gaps.specs.declared.rest.Rest.{Rest}
+use Rattle.fast_gaps.specs.Filled.{gaps_left, left_of}
 
 -- those that are ready, and what is left of the last one
 abbrev pub waiting_of : Form → List ℕ → Option Rest → List ℕ

@@ -3,15 +3,16 @@
 ghost use Rattle.std.specs.Prelude.{◌≡◌, ◌++◌, None, true, false, OnOk, OnErr};
 ghost use Rattle.fast_template.specs.TemplateSets.{templates_in};
 ghost use Rattle.fast_lines.specs.Signs.{is_led};
-ghost use Rattle.fast_lines.specs.Filled.{written_of};
-ghost use Rattle.fast_lines.specs.Told.{head_in, line_now};
+ghost use Rattle.fast_told.specs.Told.{head_in, line_now, written_of};
 ghost use Rattle.fast_show.specs.Waiting.{waiting_of};
 
 use fast_dictionary::Entries;
 use fast_field::FieldFault;
-use fast_lines::{Line, Rest, Signs, tell, tell_fields};
+use fast_gaps::Rest;
+use fast_lines::Signs;
 use fast_part::{take_exponent, take_identifier, take_length, take_mantissa};
 use fast_template::{FieldPart, Flat, Name, Presence, TemplateSet};
+use fast_told::{Line, tell, tell_fields};
 use fast_walk::{Fields, Output, Receiver};
 use fast_wire::{Bits, Level};
 use std::alloc::{AllocError, Global};
@@ -109,7 +110,7 @@ impl<'a, S: Signs> LineWriter<'a, S> {
             return self.out.extend_from_slice(self.line.as_slice());
         }
         let line = mem::replace(&mut self.line, Line::new(alloc));
-        let mut rest = Rest::of(line);
+        let mut rest = line.into_rest();
         rest.tell_gap(self.signs, alloc, &mut self.out)?;
         self.rest = Some(rest);
         Ok(())
@@ -117,7 +118,7 @@ impl<'a, S: Signs> LineWriter<'a, S> {
 }
 
 impl<S: Signs> Receiver for LineWriter<'_, S> {
-    ghost use Rattle.fast_lines.specs.Told.{HasLines, HasTold};
+    ghost use Rattle.fast_told.specs.Told.{HasLines, HasTold};
 
     ghost has = { λ w o d. HasTold S.form (waiting_of S.form w.out.items w.rest) w.set.now w.exponent (line_now S.form w.line) o };
 
@@ -336,7 +337,7 @@ impl<S: Signs> Receiver for LineWriter<'_, S> {
 impl<S: Signs> Output for LineWriter<'_, S> {
     ghost use Rattle.std.specs.Prelude.{Some};
     ghost use Rattle.std.proofs.Common.{inl, inr};
-    ghost use Rattle.fast_lines.specs.Told.{lines_of_set};
+    ghost use Rattle.fast_told.specs.Told.{lines_of_set};
     ghost use Rattle.fast_show.specs.Waiting.{left_in};
 
     ghost waiting = { λ w. waiting_of S.form w.out.items w.rest };

@@ -3,11 +3,10 @@ use Rattle.std.specs.Prelude.{codes}
 use Rattle.std.proofs.lemmas.Result.{err_from_is_err_and}
 use Rattle.fast_template.specs.Resolved.{instruction_of, list_of}
 use Rattle.fast_stream.specs.Nodes.{item_of, items_in, elements_of, sequence_elements}
-use Rattle.fast_walk.proofs.Views.{item_of-sequence}
 use Rattle.fast_lines.specs.Lines.{braced, label, members_text, node_text, sequence_text}
 use Rattle.fast_lines.specs.Written.{Adds, Shows}
 use Rattle.fast_lines.proofs.Written.{adds_between, extends_by, extends_more, extends_same, leads_start, shows_behind}
-use Rattle.fast_lines.proofs.Nested.{elements_more, elements_stop, lengths_differ, members_more, members_stop, node_text-sequence, shows_bracketed_err}
+use Rattle.fast_lines.proofs.Nested.{elements_more, elements_stop, item_of-sequence, lengths_differ, members_more, members_stop, node_text-sequence, shows_bracketed_err}
 use Rattle.fast_lines.proofs.lines.+showing.Goals as goal
 
 pub show_members-returns-then-nodes-members : goal.show_members-returns-then-nodes-members

@@ -1,4 +1,4 @@
-use Rattle.fast_lines.proofs.SameLines.{name_is, name_is_not}
+use Rattle.fast_told.proofs.SameLines.{name_is, name_is_not}
 use Rattle.fast_show.proofs.writer.LineWriter.open_line.Goals as goal
 
 pub returns-in-Some-clause-line : goal.returns-in-Some-clause-line

@@ -3,11 +3,11 @@ use Rattle.fast_value.specs.declared.kind.Kind.TheVariants as kind
 use Rattle.fast_value.specs.declared.kind.Part.TheVariants as part
 use Rattle.fast_value.specs.declared.kind.Presence.TheVariants.{Optional}
 use Rattle.fast_walk.proofs.Telling.{told_there}
-use Rattle.fast_lines.proofs.ToldFields.{may_be_absent}
+use Rattle.fast_told.proofs.ToldFields.{may_be_absent}
 use Rattle.fast_value.specs.declared.kind.Presence.{Presence}
 use Rattle.fast_lines.specs.Lines.{absent_text}
-use Rattle.fast_lines.specs.Told.{Said, line_now}
-use Rattle.fast_lines.proofs.Writing.{has_length, has_no_length}
+use Rattle.fast_told.specs.Told.{Said, line_now}
+use Rattle.fast_told.proofs.Writing.{has_length, has_no_length}
 use Rattle.fast_show.proofs.writer.LineWriterReceiver.begin_sequence.Goals as goal
 
 pub returns-in_ok-tell_absent-in-None-default-clause-goes : goal.returns-in_ok-tell_absent-in-None-default-clause-goes

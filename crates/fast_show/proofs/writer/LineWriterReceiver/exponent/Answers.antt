@@ -3,13 +3,13 @@ use Rattle.fast_value.specs.declared.kind.Kind.TheVariants as kind
 use Rattle.fast_value.specs.declared.kind.Part.TheVariants as part
 use Rattle.fast_value.specs.declared.kind.Presence.TheVariants.{Optional}
 use Rattle.fast_walk.proofs.Telling.{told_there}
-use Rattle.fast_lines.proofs.ToldFields.{may_be_absent}
+use Rattle.fast_told.proofs.ToldFields.{may_be_absent}
 use Rattle.std.proofs.Common.{None, Some, rules, refl}
 use Rattle.fast_value.specs.declared.scalar.Scalar.TheVariants.{I32}
 use Rattle.fast_value.specs.declared.kind.Presence.{Presence}
 use Rattle.fast_lines.specs.Lines.{absent_text}
-use Rattle.fast_lines.specs.Told.{Said, line_now}
-use Rattle.fast_lines.proofs.Writing.{has_exponent, has_no_decimal}
+use Rattle.fast_told.specs.Told.{Said, line_now}
+use Rattle.fast_told.proofs.Writing.{has_exponent, has_no_decimal}
 use Rattle.fast_show.proofs.writer.LineWriterReceiver.exponent.Goals as goal
 
 pub returns-in_ok-tell_absent-in-None-default-clause-goes : goal.returns-in_ok-tell_absent-in-None-default-clause-goes

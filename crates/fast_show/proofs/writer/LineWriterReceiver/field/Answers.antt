@@ -1,6 +1,6 @@
 use Rattle.std.proofs.lemmas.Result.{IfOk-weaker}
-use Rattle.fast_lines.specs.Told.{line_now}
-use Rattle.fast_lines.proofs.Writing.{has_field}
+use Rattle.fast_told.specs.Told.{line_now}
+use Rattle.fast_told.proofs.Writing.{has_field}
 use Rattle.fast_show.proofs.writer.LineWriterReceiver.field.Goals as goal
 
 pub returns-clause-goes : goal.returns-clause-goes

@@ -1,6 +1,6 @@
 use Rattle.fast_walk.specs.OpenSegments.{in_group}
-use Rattle.fast_lines.specs.Told.{line_now}
-use Rattle.fast_lines.proofs.Writing.{has_ended}
+use Rattle.fast_told.specs.Told.{line_now}
+use Rattle.fast_told.proofs.Writing.{has_ended}
 use Rattle.fast_show.proofs.writer.LineWriterReceiver.leave.Goals as goal
 
 pub returns-clause-has : goal.returns-clause-has

@@ -1,5 +1,5 @@
-use Rattle.fast_lines.specs.Told.{line_now}
-use Rattle.fast_lines.proofs.Writing.{has_left_out}
+use Rattle.fast_told.specs.Told.{line_now}
+use Rattle.fast_told.proofs.Writing.{has_left_out}
 use Rattle.fast_show.proofs.writer.LineWriterReceiver.left_out.Goals as goal
 
 pub returns-clause-has : goal.returns-clause-has

@@ -1,0 +1,5 @@
+pub mod SameLines
+mod Telling
+pub mod ToldFields
+pub mod Taking
+pub mod Writing

@@ -1,0 +1,47 @@
+-- Lines told of a resolved set are the lines of the set.
+use Rattle.std.proofs.Common.{◌≡◌, ℕ, Bool, true, false, List, [], ◌∷◌, Option, Some, None, option_map, refl, sym, ap, ap₂, ◌∙◌}
+use Rattle.std.specs.Prelude.{find, map, if◌then◌else◌}
+use Rattle.fast_template.specs.declared.resolved.FlatTemplate.{FlatTemplate}
+use Rattle.fast_template.specs.Resolved.{Resolved, resolved_of}
+use Rattle.fast_template.specs.TemplateSets.{TemplateList, has_id, template_of, templates_in}
+use Rattle.fast_stream.specs.Nodes.{Content}
+use Rattle.fast_lines.specs.declared.form.Form.{Form}
+use Rattle.fast_lines.specs.Lines.{joined, line_if, line_in, lines_in}
+use Rattle.fast_told.specs.Told.{line_as, line_of_set, lines_of_set, name_if}
+
+found_if : (b : Bool) (t : FlatTemplate) (o : Option FlatTemplate) (p : Option Resolved) → p ≡ option_map resolved_of o
+    → (if b then Some (resolved_of t) else p) ≡ option_map resolved_of (if b then Some t else o)
+found_if true t o p h = refl
+found_if false t o p h = h
+
+found_in : (ts : List FlatTemplate) (id : ℕ) → find (λ t. has_id id t.id) (map resolved_of ts) ≡ option_map resolved_of (find (λ t. has_id id t.id) ts)
+found_in [] id = refl
+found_in (t ∷ ts) id = found_if (has_id id t.id) t (find (λ t. has_id id t.id) ts) (find (λ t. has_id id t.id) (map resolved_of ts)) (found_in ts id)
+
+as_found : (form : Form) (o : Option FlatTemplate) (m : Content) → line_as form (option_map resolved_of o) m ≡ line_if form o m
+as_found form None m = refl
+as_found form (Some t) m = refl
+
+pub same_line : (form : Form) (set : TemplateList) (m : Content) → line_of_set form (templates_in set) m ≡ line_in form set m
+same_line form set m = ap (λ o. line_as form o m) (found_in set.templates m.template) ∙ as_found form (template_of m.template set) m
+
+pub same_lines : (form : Form) (set : TemplateList) (ms : List Content) → lines_of_set form (templates_in set) ms ≡ lines_in form set ms
+same_lines form set [] = refl
+same_lines form set (m ∷ ms) = ap₂ joined (same_line form set m) (same_lines form set ms)
+
+name_found : (o : Option FlatTemplate) (name : List ℕ) → Some name ≡ option_map (λ t. t.name) o → name_if (option_map resolved_of o) ≡ name
+name_found None name e = absurd cc
+name_found (Some t) name e = (let same : name ≡ t.name = cc in sym same)
+
+name_not_found : (o : Option FlatTemplate) → None ≡ option_map (λ t. t.name) o → name_if (option_map resolved_of o) ≡ []
+name_not_found None e = refl
+name_not_found (Some t) e = absurd cc
+
+-- the name that a set gives, or nothing where it gives none
+pub name_is : (set : TemplateList) (id : ℕ) (name : List ℕ) → Some name ≡ option_map (λ t. t.name) (template_of id set)
+    → name_if (find (λ t. has_id id t.id) (templates_in set)) ≡ name
+name_is set id name e = ap name_if (found_in set.templates id) ∙ name_found (template_of id set) name e
+
+pub name_is_not : (set : TemplateList) (id : ℕ) → None ≡ option_map (λ t. t.name) (template_of id set)
+    → name_if (find (λ t. has_id id t.id) (templates_in set)) ≡ []
+name_is_not set id e = ap name_if (found_in set.templates id) ∙ name_not_found (template_of id set) e

@@ -1,0 +1,62 @@
+-- What was read of a field of a set is told: a value of its type, or that it is left out where it may be.
+use Rattle.std.proofs.Common.{◌≡◌, ◌<◌, ℕ, Bool, true, List, [], ◌∷◌, Option, Some, None, refl, sym, ap, subst, ◌∙◌, drop, get_or, arith}
+use Rattle.std.specs.Prelude.{nat_lt}
+use Rattle.std.specs.List.{AllByRecursion}
+use Rattle.std.proofs.lemmas.Bool.Decides.{nat_tests}
+use Rattle.fast_wire.specs.declared.level.Level.{Level}
+use Rattle.fast_value.specs.Scalar.{IsScalar}
+use Rattle.fast_value.specs.declared.kind.Presence.{Presence}
+use Rattle.fast_value.specs.declared.kind.Presence.TheVariants.{Mandatory, Optional}
+use Rattle.fast_value.specs.declared.scalar.Scalar.{Scalar}
+use Rattle.fast_value.specs.declared.scalar.Scalar.TheVariants.{U32, I32, U64, I64, Decimal, Ascii, Unicode, Bytes}
+use Rattle.fast_template.specs.declared.resolved.FieldPart.{FieldPart}
+use Rattle.fast_dictionary.specs.declared.entry.Entry.{Entry}
+use Rattle.fast_field.specs.AsUsual.{ReadsAsUsual}
+use Rattle.fast_field.specs.Parts.{IsBitOf, IsFieldPart}
+use Rattle.fast_field.specs.Refusals.{are_characters, has_characters}
+use Rattle.fast_field.specs.Within.{HoldsScalar, IsOfField}
+use Rattle.fast_field.proofs.FieldsWithin.{values_within}
+use Rattle.fast_field.proofs.ReadFields.{bytes_from}
+use Rattle.fast_relay.specs.Relayed.{Takes}
+use Rattle.fast_stream.specs.Nodes.{single}
+use Rattle.fast_walk.specs.Received.{TookFrom}
+use Rattle.fast_walk.proofs.Telling.{form_taken}
+use Rattle.fast_lines.specs.declared.form.Form.{Form}
+use Rattle.fast_lines.specs.Lines.{field_text, said_text}
+use Rattle.fast_told.specs.Told.{Line, Said}
+
+characters : (s : List ℕ) → AllByRecursion (λ c. c < 128) s → are_characters s ≡ true
+characters [] all = refl
+characters (c ∷ s) all = let low = all.0 in let t : nat_lt c 128 ≡ true = grind (arith, nat_tests) in rw (t) (characters s all.1)
+
+of_characters : (v : Scalar) → IsScalar v → has_characters v ≡ true
+of_characters (U32 n) h = refl
+of_characters (I32 z) h = refl
+of_characters (U64 n) h = refl
+of_characters (I64 z) h = refl
+of_characters (Decimal exponent mantissa) h = refl
+of_characters (Ascii s) h = characters s h.1
+of_characters (Unicode s) h = refl
+of_characters (Bytes s) h = refl
+
+told : (form : Form) (p : FieldPart) (v : Option Scalar) → IsOfField p v → field_text form p.kind p.presence (single v) ≡ Some (said_text form v)
+told form p None of_field = rw (of_field) refl
+told form p (Some v) of_field = rw (of_field.0, of_characters v of_field.1) refl
+
+-- of a part of a set whose entry is within its type
+pub tells : (form : Form) (level : Level) (p : FieldPart) (presence : Presence) (bit : Bool) (old new : Entry) (v : Option Scalar) (bytes : List ℕ) (at next : ℕ) → ((k : ℕ) → get_or bytes k 0 < 256)
+    → IsFieldPart p → p.presence ≡ presence → IsBitOf p bit → HoldsScalar old → TookFrom level p bit old new v (drop at bytes) (drop next bytes)
+    → (name : List ℕ) (l k : Line) → Said form name (Some (said_text form v)) l k → Said form name (field_text form p.kind presence (single v)) l k
+tells form level p presence bit old new v bytes at next fits is same asked holds took name l k said =
+    let f = form_taken level p bit old new v (drop at bytes) (drop next bytes) (bytes_from bytes at fits) is asked took in
+    let text = told form p v (values_within p old bit f.bytes v is holds f.form).of_field in
+    subst (λ (t : Option (List ℕ)). Said form name t l k) (sym text ∙ ap (λ (q : Presence). field_text form p.kind q (single v)) same) said
+
+-- what is taken at once where it is read as at the usual level
+pub took_as_usual : (level : Level) (p : FieldPart) (old new : Entry) (v : Scalar) (bytes rest : List ℕ) → ReadsAsUsual level p bytes → Takes p old new v bytes rest → TookFrom level p true old new (Some v) bytes rest
+took_as_usual level p old new v bytes rest usual h = record { value = λ more. usual old more ∙ h.read more; entry = h.entry }
+
+-- a part that has no value may be left out
+pub may_be_absent : (p : FieldPart) (presence : Presence) → p.presence ≡ presence → (p.presence ≡ Mandatory → ⊥) → presence ≡ Optional
+may_be_absent p Mandatory same there = absurd (there same)
+may_be_absent p Optional same there = refl

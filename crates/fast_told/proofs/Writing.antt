@@ -1,0 +1,158 @@
+-- What has been received of a message is told, call by call.
+use Rattle.std.proofs.Common.{◌≡◌, ℕ, Bool, true, false, List, [], ◌∷◌, ◌++◌, Option, Some, None, option_map, refl, sym, ap, ap₂, subst, ◌∙◌, append_assoc, append-nil}
+use Rattle.std.specs.Prelude.{ℤ, codes, find}
+use Rattle.fast_value.specs.declared.scalar.Scalar.{Scalar}
+use Rattle.fast_value.specs.declared.scalar.Scalar.TheVariants.{I32, Decimal}
+use Rattle.fast_value.specs.declared.kind.Presence.{Presence}
+use Rattle.fast_value.specs.declared.kind.Presence.TheVariants.{Optional}
+use Rattle.fast_template.specs.declared.resolved.FieldPart.{FieldPart}
+use Rattle.fast_template.specs.Resolved.{Instructions, Resolved, whole_field, field_in_parts, group_of, sequence_of, no_instructions, then_instruction, is_optional}
+use Rattle.fast_template.specs.TemplateSets.{has_id}
+use Rattle.fast_stream.specs.Nodes.{single, Items, items_of, Content}
+use Rattle.fast_stream.specs.Streams.{members_of}
+use Rattle.fast_walk.specs.OpenSegments.{Sequel, Inside, in_group, in_sequence, Waiting, Next, at_instruction, at_mantissa, at_element}
+use Rattle.fast_walk.specs.Received.{Received, passed, entered, after_exponent, after_length, in_element, after_sequence, ended_in, content_received, bytes_in}
+use Rattle.fast_lines.specs.declared.form.Form.{Form}
+use Rattle.fast_lines.specs.Signs.{ending, head_text, is_led, label_text, lead}
+use Rattle.fast_lines.specs.Lines.{absent_text, decimal_text, field_text, joined, members_text}
+use Rattle.fast_told.specs.Told.{IsTold, line_as, line_of_set, lines_of_set, Line, Opening, Tells, IsTop, IsBehind, Within, IsOpened, head_in, message_opening, name_if, Said}
+use Rattle.fast_told.proofs.Telling.{field_told, no_decimal_told, exponent_told, mantissa_told, within_on, left_out_told, group_entered, ended, segment_left, no_sequence_told, length_told, element_entered, elements_told}
+
+abbrev message_of : Form → Received → Opening
+message_of form o = message_opening form o.set o.template o.members
+
+at_next : (form : Form) (z : ℤ) (l : Line) (o : Received) (next : Next) → o.next ≡ next → IsOpened form z l o → Within form (message_of form o) o.around (λ g. IsTop form z next g l o.body)
+at_next form z l o next is c = subst (λ (n : Next). Within form (message_of form o) o.around (λ g. IsTop form z n g l o.body)) is c
+
+-- ---- fields
+
+pub has_field : (form : Form) (z : ℤ) (l k : Line) (o : Received) (name : List ℕ) (number : ℕ) (presence : Presence) (p : FieldPart) (is : Instructions) (v : Option Scalar)
+    → o.next ≡ at_instruction → o.body.rest ≡ then_instruction (whole_field name number presence p) is → Said form name (field_text form p.kind presence (single v)) l k
+    → IsOpened form z l o → IsOpened form z k (passed o is (single v))
+has_field form z l k o name number presence p is v next first s c =
+    within_on form (message_of form o) o.around (λ g. Tells form g l o.body) (λ g. Tells form g k (record { rest = is; done = o.body.done ++ single v ∷ [] }))
+    (λ g t. field_told form g l k o.body name number presence p is v first s t) (at_next form z l o at_instruction next c)
+
+pub has_no_decimal : (form : Form) (z : ℤ) (l k : Line) (o : Received) (name : List ℕ) (number : ℕ) (presence : Presence) (p q : FieldPart) (is : Instructions)
+    → o.next ≡ at_instruction → o.body.rest ≡ then_instruction (field_in_parts name number presence p q) is → Said form name (absent_text form presence) l k
+    → IsOpened form z l o → IsOpened form z k (passed o is (single None))
+has_no_decimal form z l k o name number presence p q is next first s c =
+    within_on form (message_of form o) o.around (λ g. Tells form g l o.body) (λ g. Tells form g k (record { rest = is; done = o.body.done ++ single None ∷ [] }))
+    (λ g t. no_decimal_told form g l k o.body name number presence p q is first s t) (at_next form z l o at_instruction next c)
+
+pub has_exponent : (form : Form) (z y e : ℤ) (l k : Line) (o : Received) (name : List ℕ) (number : ℕ) (presence : Presence) (p q : FieldPart) (is : Instructions)
+    → o.next ≡ at_instruction → o.body.rest ≡ then_instruction (field_in_parts name number presence p q) is
+    → k.text ≡ l.text ++ (lead form l.led ++ label_text form name) → k.led ≡ true → y ≡ e
+    → IsOpened form z l o → IsOpened form y k (after_exponent o is q (Some (I32 e)))
+has_exponent form z y e l k o name number presence p q is next first told led same c =
+    within_on form (message_of form o) o.around (λ g. Tells form g l o.body) (λ g. IsTop form y (at_mantissa e q) g k (record { rest = is; done = o.body.done }))
+    (λ g t. (same, exponent_told form g l k o.body name number presence p q is e first told led t)) (at_next form z l o at_instruction next c)
+
+pub has_mantissa : (form : Form) (z e m : ℤ) (l k : Line) (o : Received) (q : FieldPart) → o.next ≡ at_mantissa e q → k.text ≡ l.text ++ decimal_text m z → k.led ≡ l.led
+    → IsOpened form z l o → IsOpened form z k (passed o o.body.rest (single (Some (Decimal e m))))
+has_mantissa form z e m l k o q next told led c =
+    within_on form (message_of form o) o.around (λ g. IsTop form z (at_mantissa e q) g l o.body) (λ g. Tells form g k (record { rest = o.body.rest; done = o.body.done ++ single (Some (Decimal e m)) ∷ [] }))
+    (λ g t. mantissa_told form g l k o.body e m (told ∙ ap (λ x. l.text ++ decimal_text m x) t.0) led t.1) (at_next form z l o (at_mantissa e q) next c)
+
+pub has_no_length : (form : Form) (z : ℤ) (l k : Line) (o : Received) (name : List ℕ) (number : ℕ) (presence : Presence) (p : FieldPart) (members is : Instructions)
+    → o.next ≡ at_instruction → o.body.rest ≡ then_instruction (sequence_of name number presence p members) is → Said form name (absent_text form presence) l k
+    → IsOpened form z l o → IsOpened form z k (after_length o number members is None)
+has_no_length form z l k o name number presence p members is next first s c =
+    within_on form (message_of form o) o.around (λ g. Tells form g l o.body) (λ g. Tells form g k (record { rest = is; done = o.body.done ++ single None ∷ [] }))
+    (λ g t. no_sequence_told form g l k o.body name number presence p members is first s t) (at_next form z l o at_instruction next c)
+
+pub has_length : (form : Form) (z : ℤ) (n : ℕ) (l k : Line) (o : Received) (name : List ℕ) (number : ℕ) (presence : Presence) (p : FieldPart) (members is : Instructions)
+    → o.next ≡ at_instruction → o.body.rest ≡ then_instruction (sequence_of name number presence p members) is
+    → k.text ≡ l.text ++ ((lead form l.led ++ label_text form name) ++ codes "[") → k.led ≡ false
+    → IsOpened form z l o → IsOpened form z k (after_length o number members is (Some n))
+has_length form z n l k o name number presence p members is next first told led c =
+    within_on form (message_of form o) o.around (λ g. Tells form g l o.body) (λ g. IsTop form z (after_length o number members is (Some n)).next g k (record { rest = is; done = o.body.done }))
+    (λ g t. length_told form g l k o.body name number presence p members is _ n first told led t) (at_next form z l o at_instruction next c)
+
+-- ---- segments
+
+pub has_left_out : (form : Form) (z : ℤ) (l k : Line) (o : Received) (name : List ℕ) (number : ℕ) (presence : Presence) (members is : Instructions)
+    → o.next ≡ at_instruction → o.body.rest ≡ then_instruction (group_of name number presence members) is → is_optional presence ≡ true → Said form name (absent_text form Optional) l k
+    → IsOpened form z l o → IsOpened form z k (passed o is (single None))
+has_left_out form z l k o name number presence members is next first optional s c =
+    within_on form (message_of form o) o.around (λ g. Tells form g l o.body) (λ g. Tells form g k (record { rest = is; done = o.body.done ++ single None ∷ [] }))
+    (λ g t. left_out_told form g l k o.body name number presence members is first optional s t) (at_next form z l o at_instruction next c)
+
+pub has_entered : (form : Form) (z : ℤ) (l k : Line) (o : Received) (name : List ℕ) (number : ℕ) (presence : Presence) (members is : Instructions) (bits : List Bool)
+    → o.next ≡ at_instruction → o.body.rest ≡ then_instruction (group_of name number presence members) is
+    → k.text ≡ l.text ++ ((lead form l.led ++ label_text form name) ++ codes "{") → k.led ≡ false
+    → IsOpened form z l o → IsOpened form z k (entered o number bits members is)
+has_entered form z l k o name number presence members is bits next first told led c =
+    group_entered form (message_of form o) o.around l k o.body name number presence members is bits first told led (at_next form z l o at_instruction next c)
+
+pub has_element : (form : Form) (z : ℤ) (l k : Line) (o : Received) (s : Sequel) (bits : List Bool)
+    → o.next ≡ at_element s → k.text ≡ l.text ++ (lead form l.led ++ codes "{") → k.led ≡ false
+    → IsOpened form z l o → IsOpened form z k (in_element o bits s)
+has_element form z l k o s bits next told led c = element_entered form (message_of form o) o.around l k o.body s bits told led (at_next form z l o (at_element s) next c)
+
+ends_in : (form : Form) (inside : Inside) (z : ℤ) (k : Line) (o : Received) (ws : List Waiting) (w : Waiting)
+    → Within form (message_of form o) ws (λ h. IsBehind form inside h k w.body (items_of o.body.done)) → IsOpened form z k (ended_in o ws w.body inside)
+ends_in form in_group z k o ws w c = c
+ends_in form (in_sequence s) z k o ws w c = c
+
+pub has_ended : (form : Form) (inside : Inside) (z : ℤ) (l k : Line) (o : Received) (ws : List Waiting) (w : Waiting)
+    → o.next ≡ at_instruction → o.body.rest ≡ no_instructions → o.around ≡ ws ++ w ∷ [] → w.inside ≡ inside → k.text ≡ l.text ++ codes "}" → k.led ≡ true
+    → IsOpened form z l o → IsOpened form z k (ended_in o ws w.body inside)
+has_ended form inside z l k o ws w next rest is inside_is told led c =
+    ends_in form inside z k o ws w
+    (subst (λ (n : Inside). Within form (message_of form o) ws (λ h. IsBehind form n h k w.body (items_of o.body.done))) inside_is
+    (segment_left form (message_of form o) o.around ws w l k o.body rest is told led (at_next form z l o at_instruction next c)))
+
+pub has_elements : (form : Form) (z : ℤ) (l k : Line) (o : Received) (s : Sequel) → o.next ≡ at_element s → k.text ≡ l.text ++ codes "]" → k.led ≡ true
+    → IsOpened form z l o → IsOpened form z k (after_sequence o s)
+has_elements form z l k o s next told led c =
+    within_on form (message_of form o) o.around (λ g. IsTop form z (at_element s) g l o.body) (λ g. Tells form g k (after_sequence o s).body)
+    (λ g t. elements_told form g l k o.body s told led t) (at_next form z l o (at_element s) next c)
+
+-- ---- messages
+
+pub has_opened : (form : Form) (z : ℤ) (l : Line) (set : List Resolved) (id : ℕ) (members : Instructions) → l ≡ record { text = head_in form set id; led = is_led form }
+    → Within form (message_opening form set id members) [] (λ g. Tells form g l (record { rest = members; done = [] }))
+has_opened form z l set id members is = rw (is) (record { so_far = λ ns. refl })
+
+-- where two texts are there, each is
+pub joined_parts : (p q : Option (List ℕ)) (c : List ℕ) → joined p q ≡ Some c → (a : List ℕ) × (b : List ℕ) × (p ≡ Some a) × (q ≡ Some b) × (c ≡ a ++ b)
+joined_parts (Some a) (Some b) c e = (a, b, refl, refl, (let same : a ++ b ≡ c = cc in sym same))
+joined_parts (Some a) None c e = absurd cc
+joined_parts None (Some b) c e = absurd cc
+joined_parts None None c e = absurd cc
+
+none_is : (a : List ℕ) → Some [] ≡ Some a → [] ≡ a
+none_is a e = cc
+
+lines_more : (form : Form) (set : List Resolved) (ms : List Content) (m : Content) (a line : List ℕ) → lines_of_set form set ms ≡ Some a → line_of_set form set m ≡ Some line → lines_of_set form set (ms ++ m ∷ []) ≡ Some (a ++ line)
+lines_more form set [] m a line e f = ap (λ (o : Option (List ℕ)). joined o (Some [])) f ∙ ap Some (append-nil line ∙ ap (λ (x : List ℕ). x ++ line) (none_is a e))
+lines_more form set (n ∷ ms) m a line e f =
+    let p = joined_parts (line_of_set form set n) (lines_of_set form set ms) a e in
+    ap₂ joined p.2 (lines_more form set ms m p.1 line p.3 f) ∙ ap Some (sym (append_assoc p.0 p.1 line) ∙ ap (λ (x : List ℕ). x ++ line) (sym p.4))
+
+told_more : (form : Form) (set : List Resolved) (ms : List Content) (m : Content) (out line : List ℕ) → IsTold form out set ms → line_of_set form set m ≡ Some line → IsTold form (out ++ line) set (ms ++ m ∷ [])
+told_more form set [] m out line h e = absurd h
+told_more form set (n ∷ ms) m out line h e = lines_more form set ms m (bytes_in n.items ++ out) line h e ∙ ap Some (append_assoc (bytes_in n.items) out line)
+
+alone : (form : Form) (g : Opening) (ws : List Waiting) (I : Opening → Type 0) → ws ≡ [] → Within form g ws I → I g
+alone form g [] I h c = c
+alone form g (w ∷ ws) I h c = absurd cc
+
+line_told : (form : Form) (o : Option Resolved) (id : ℕ) (members : Instructions) (items : Items) (text whole : List ℕ) → option_map (λ t. t.members) o ≡ Some members → members_text form (lead form (is_led form)) members items ≡ Some text
+    → whole ≡ head_text form id (name_if o) ++ text → line_as form o (record { template = id; items = items }) ≡ Some (whole ++ ending form)
+line_told form None id members items text whole known e is = absurd cc
+line_told form (Some t) id members items text whole known e is =
+    let same : t.members ≡ members = cc in
+    ap (option_map (λ x. head_text form id t.name ++ x ++ ending form)) (ap (λ (i : Instructions). members_text form (lead form (is_led form)) i items) same ∙ e)
+    ∙ ap (λ x. Some (x ++ ending form)) (sym is)
+
+pub has_finished : (form : Form) (z : ℤ) (l : Line) (o : Received) (out new : List ℕ)
+    → o.next ≡ at_instruction → o.body.rest ≡ no_instructions → o.around ≡ [] → members_of o.set o.template ≡ Some o.members
+    → new ≡ out ++ (l.text ++ ending form) → IsTold form out o.set o.before → IsOpened form z l o → IsTold form new o.set (o.before ++ content_received o ∷ [])
+has_finished form z l o out new next rest none known end before c =
+    let t = alone form (message_of form o) o.around (λ g. Tells form g l o.body) none (at_next form z l o at_instruction next c) in
+    let x = ended form (message_of form o) l o.body rest t in
+    rw (end)
+    (told_more form o.set o.before (content_received o) out (l.text ++ ending form) before
+    (line_told form (find (λ t. has_id o.template t.id) o.set) o.template o.members (items_of o.body.done) x.0 l.text known x.1 x.2))

@@ -1,0 +1,392 @@
+//! Takes a field's value from the bytes, and tells it from where it lies.
+
+ghost use Rattle.std.specs.Prelude.{◌≡◌, ◌≢◌, ◌≤◌, true, false, Option, Err, IfOk, IfErr, IfNone, IfSome, IsTrue, length, drop};
+ghost use Rattle.fast_field.specs.AsUsual.{ReadsAsUsual};
+ghost use Rattle.fast_value.specs.declared.scalar.Scalar.{Scalar as ScalarOf};
+ghost use Rattle.fast_dictionary.specs.Dictionary.{entry_at};
+ghost use Rattle.fast_dictionary.specs.declared.entry.Entry.TheVariants.{Assigned};
+ghost use Rattle.fast_relay.specs.Relayed.{Takes};
+ghost use Rattle.fast_field.specs.FieldReading.{field_at};
+ghost use Rattle.fast_stream.specs.Nodes.{single};
+ghost use Rattle.fast_walk.specs.Received.{Took, TookFrom};
+ghost use Rattle.fast_walk.specs.Told.{IsTold, KeepScalars};
+ghost use Rattle.fast_field.specs.Parts.{IsFieldPart};
+ghost use Rattle.fast_field.specs.Within.{HoldsScalar};
+ghost use Rattle.fast_template.specs.Resolved.{part_needs_bit};
+ghost use Rattle.fast_value.specs.declared.kind.Part.TheVariants.{Whole};
+ghost use Rattle.fast_lines.specs.Lines.{field_text};
+ghost use Rattle.fast_told.specs.Told.{Said, line_now};
+
+use crate::line::Line;
+use fast_dictionary::{Entries, Entry};
+use fast_field::{FieldFault, Found, read_in_place, reads_as_usual};
+use fast_lines::Signs;
+use fast_part::take_given;
+use fast_relay::{take_aside, take_decimal, take_kept, take_number, take_text, take_vector};
+use fast_template::{FieldPart, Kind, Name, Operator, Presence};
+use fast_wire::Level;
+use std::alloc::Global;
+
+// Takes a field's value in the general way, and tells it from where it lies: it is not copied. It is a call, so that the
+// loop over the fields stays small.
+#[inline(never)]
+fn take_generally<S: Signs>(
+    signs: S,
+    alloc: Global,
+    name: &Name,
+    presence: Presence,
+    part: &FieldPart,
+    entry: &mut Entry,
+    bit: bool,
+    level: Level,
+    bytes: &[u8],
+    at: usize,
+    line: &mut Line,
+) -> Result<usize, FieldFault>
+    requires place { at ≤ length bytes.now }
+    requires part { IsFieldPart part.now }
+    requires presence { part.now.presence ≡ presence }
+    requires bit { part_needs_bit part.now ≡ false → bit ≡ true }
+    requires entry { HoldsScalar entry.old }
+    ensures place { IfOk result (λ n. (at ≤ n) × (n ≤ length bytes.now)) }
+    ensures told { IfOk result (λ n. (v : Option ScalarOf)
+        × TookFrom level part.now bit entry.old entry.new v (drop at bytes.now) (drop n bytes.now)
+        × Said S.form name.now (field_text S.form part.now.kind presence (single v)) (line_now S.form line.old)
+        (line_now S.form line.new)) }
+    ensures stops { IfErr result (λ f. f ≢ FieldFault.Memory
+        → (field_at level part.now entry.old bit (drop at bytes.now) ≡ Err f)
+        × (entry.new ≡ entry.old) × (line.new ≡ line.old)) }
+{
+    match read_in_place(alloc, part, entry, bit, level, bytes, at) {
+        Err(fault) => Err(fault),
+        Ok((found, next)) => {
+            match line.tell(signs, name, part, found.value(part, entry.view())) {
+                Err(_) => Err(FieldFault::Memory),
+                Ok(()) => Ok(next),
+            }
+        }
+    }
+}
+
+// Takes an integer under bit 1 and tells it, where it is read as at the usual level.
+#[inline(always)]
+fn take_integer<S: Signs>(
+    signs: S,
+    alloc: Global,
+    name: &Name,
+    presence: Presence,
+    part: &FieldPart,
+    entry: &mut Entry,
+    level: Level,
+    bytes: &[u8],
+    at: usize,
+    line: &mut Line,
+) -> Result<usize, FieldFault>
+    requires place { at ≤ length bytes.now }
+    requires part { IsFieldPart part.now }
+    requires presence { part.now.presence ≡ presence }
+    requires usual { ReadsAsUsual level part.now (drop at bytes.now) }
+    requires entry { HoldsScalar entry.old }
+    ensures place { IfOk result (λ n. (at ≤ n) × (n ≤ length bytes.now)) }
+    ensures told { IfOk result (λ n. (v : Option ScalarOf)
+        × TookFrom level part.now true entry.old entry.new v (drop at bytes.now) (drop n bytes.now)
+        × Said S.form name.now (field_text S.form part.now.kind presence (single v)) (line_now S.form line.old)
+        (line_now S.form line.new)) }
+    ensures stops { IfErr result (λ f. f ≢ FieldFault.Memory
+        → (field_at level part.now entry.old true (drop at bytes.now) ≡ Err f)
+        × (entry.new ≡ entry.old) × (line.new ≡ line.old)) }
+{
+    match take_number(part, entry, bytes, at) {
+        Some((value, next)) => match line.tell(signs, name, part, Some(&value)) {
+            Err(_) => Err(FieldFault::Memory),
+            Ok(()) => Ok(next),
+        },
+        None => take_generally(
+            signs, alloc, name, presence, part, entry, true, level, bytes, at, line,
+        ),
+    }
+}
+
+// Takes a value under bit 1 into the entry, where it is read as at the usual level and kept there.
+#[inline(always)]
+fn take_into(
+    alloc: Global,
+    part: &FieldPart,
+    entry: &mut Entry,
+    bytes: &[u8],
+    at: usize,
+) -> Option<usize>
+    requires { at ≤ length bytes.now }
+    ensures place { IfSome result (λ next. (at ≤ next) × (next ≤ length bytes.now)) }
+    ensures taken { IfSome result (λ next. (v : ScalarOf) × (entry.new ≡ Assigned v)
+        × Takes part.now entry.old entry.new v (drop at bytes.now) (drop next bytes.now)) }
+    ensures entry { IfNone result (entry.new ≡ entry.old) }
+{
+    match part.kind {
+        Kind::Ascii => take_text(alloc, part, entry, bytes, at),
+        Kind::Unicode | Kind::Bytes => take_vector(alloc, part, entry, bytes, at),
+        Kind::Decimal => take_decimal(part, entry, bytes, at),
+        _ => take_kept(part, entry, bytes, at),
+    }
+}
+
+// The same of what the entry keeps: it is told from there.
+#[inline(always)]
+fn take_held<S: Signs>(
+    signs: S,
+    alloc: Global,
+    name: &Name,
+    presence: Presence,
+    part: &FieldPart,
+    entry: &mut Entry,
+    level: Level,
+    bytes: &[u8],
+    at: usize,
+    line: &mut Line,
+) -> Result<usize, FieldFault>
+    requires place { at ≤ length bytes.now }
+    requires part { IsFieldPart part.now }
+    requires presence { part.now.presence ≡ presence }
+    requires usual { ReadsAsUsual level part.now (drop at bytes.now) }
+    requires entry { HoldsScalar entry.old }
+    ensures place { IfOk result (λ n. (at ≤ n) × (n ≤ length bytes.now)) }
+    ensures told { IfOk result (λ n. (v : Option ScalarOf)
+        × TookFrom level part.now true entry.old entry.new v (drop at bytes.now) (drop n bytes.now)
+        × Said S.form name.now (field_text S.form part.now.kind presence (single v)) (line_now S.form line.old)
+        (line_now S.form line.new)) }
+    ensures stops { IfErr result (λ f. f ≢ FieldFault.Memory
+        → (field_at level part.now entry.old true (drop at bytes.now) ≡ Err f)
+        × (entry.new ≡ entry.old) × (line.new ≡ line.old)) }
+{
+    match take_into(alloc, part, entry, bytes, at) {
+        Some(next) => match line.tell(signs, name, part, Found::Kept.value(part, entry.view())) {
+            Err(_) => Err(FieldFault::Memory),
+            Ok(()) => Ok(next),
+        },
+        None => take_generally(
+            signs, alloc, name, presence, part, entry, true, level, bytes, at, line,
+        ),
+    }
+}
+
+// The same of an ASCII string that the entry does not keep: it is told from a place that the line has for it.
+#[inline(always)]
+fn take_beside<S: Signs>(
+    signs: S,
+    alloc: Global,
+    name: &Name,
+    presence: Presence,
+    part: &FieldPart,
+    entry: &mut Entry,
+    level: Level,
+    bytes: &[u8],
+    at: usize,
+    line: &mut Line,
+) -> Result<usize, FieldFault>
+    requires place { at ≤ length bytes.now }
+    requires part { IsFieldPart part.now }
+    requires presence { part.now.presence ≡ presence }
+    requires usual { ReadsAsUsual level part.now (drop at bytes.now) }
+    requires entry { HoldsScalar entry.old }
+    ensures place { IfOk result (λ n. (at ≤ n) × (n ≤ length bytes.now)) }
+    ensures told { IfOk result (λ n. (v : Option ScalarOf)
+        × TookFrom level part.now true entry.old entry.new v (drop at bytes.now) (drop n bytes.now)
+        × Said S.form name.now (field_text S.form part.now.kind presence (single v)) (line_now S.form line.old)
+        (line_now S.form line.new)) }
+    ensures stops { IfErr result (λ f. f ≢ FieldFault.Memory
+        → (field_at level part.now entry.old true (drop at bytes.now) ≡ Err f)
+        × (entry.new ≡ entry.old) × (line.new ≡ line.old)) }
+{
+    match take_aside(alloc, part, &mut line.aside, bytes, at) {
+        Some(next) => match line.tell_aside(signs, name, part) {
+            Err(_) => Err(FieldFault::Memory),
+            Ok(()) => Ok(next),
+        },
+        None => take_generally(
+            signs, alloc, name, presence, part, entry, true, level, bytes, at, line,
+        ),
+    }
+}
+
+// The same of any field, of integers and ASCII strings also where the entry does not keep them.
+#[inline(always)]
+fn take_sent<S: Signs>(
+    signs: S,
+    alloc: Global,
+    name: &Name,
+    presence: Presence,
+    part: &FieldPart,
+    entry: &mut Entry,
+    level: Level,
+    bytes: &[u8],
+    at: usize,
+    line: &mut Line,
+) -> Result<usize, FieldFault>
+    requires place { at ≤ length bytes.now }
+    requires part { IsFieldPart part.now }
+    requires presence { part.now.presence ≡ presence }
+    requires usual { ReadsAsUsual level part.now (drop at bytes.now) }
+    requires entry { HoldsScalar entry.old }
+    ensures place { IfOk result (λ n. (at ≤ n) × (n ≤ length bytes.now)) }
+    ensures told { IfOk result (λ n. (v : Option ScalarOf)
+        × TookFrom level part.now true entry.old entry.new v (drop at bytes.now) (drop n bytes.now)
+        × Said S.form name.now (field_text S.form part.now.kind presence (single v)) (line_now S.form line.old)
+        (line_now S.form line.new)) }
+    ensures stops { IfErr result (λ f. f ≢ FieldFault.Memory
+        → (field_at level part.now entry.old true (drop at bytes.now) ≡ Err f)
+        × (entry.new ≡ entry.old) × (line.new ≡ line.old)) }
+{
+    match part.kind {
+        Kind::UInt32 | Kind::Int32 | Kind::UInt64 | Kind::Int64 => match part.operator {
+            Operator::Copy | Operator::Increment | Operator::Delta => {
+                take_held(
+                    signs, alloc, name, presence, part, entry, level, bytes, at, line,
+                )
+            }
+            _ => take_integer(
+                signs, alloc, name, presence, part, entry, level, bytes, at, line,
+            ),
+        },
+        Kind::Ascii => match part.operator {
+            Operator::Plain | Operator::Default => take_beside(
+                signs, alloc, name, presence, part, entry, level, bytes, at, line,
+            ),
+            _ => take_held(
+                signs, alloc, name, presence, part, entry, level, bytes, at, line,
+            ),
+        },
+        Kind::Decimal | Kind::Unicode | Kind::Bytes => take_held(
+            signs, alloc, name, presence, part, entry, level, bytes, at, line,
+        ),
+    }
+}
+
+// Takes a field's value, where bytes give it, and tells it from where it lies.
+#[inline(always)]
+fn take_read<S: Signs>(
+    signs: S,
+    alloc: Global,
+    name: &Name,
+    presence: Presence,
+    part: &FieldPart,
+    entry: &mut Entry,
+    bit: bool,
+    level: Level,
+    bytes: &[u8],
+    at: usize,
+    line: &mut Line,
+) -> Result<usize, FieldFault>
+    requires place { at ≤ length bytes.now }
+    requires part { IsFieldPart part.now }
+    requires presence { part.now.presence ≡ presence }
+    requires bit { part_needs_bit part.now ≡ false → bit ≡ true }
+    requires entry { HoldsScalar entry.old }
+    ensures place { IfOk result (λ n. (at ≤ n) × (n ≤ length bytes.now)) }
+    ensures told { IfOk result (λ n. (v : Option ScalarOf)
+        × TookFrom level part.now bit entry.old entry.new v (drop at bytes.now) (drop n bytes.now)
+        × Said S.form name.now (field_text S.form part.now.kind presence (single v)) (line_now S.form line.old)
+        (line_now S.form line.new)) }
+    ensures stops { IfErr result (λ f. f ≢ FieldFault.Memory
+        → (field_at level part.now entry.old bit (drop at bytes.now) ≡ Err f)
+        × (entry.new ≡ entry.old) × (line.new ≡ line.old)) }
+{
+    if bit && reads_as_usual(level, part, bytes, at) {
+        take_sent(
+            signs, alloc, name, presence, part, entry, level, bytes, at, line,
+        )
+    } else {
+        take_generally(
+            signs, alloc, name, presence, part, entry, bit, level, bytes, at, line,
+        )
+    }
+}
+
+// Takes a field's value, one that no byte gives at once, and tells it from where it lies.
+#[inline(always)]
+fn take<S: Signs>(
+    signs: S,
+    alloc: Global,
+    name: &Name,
+    presence: Presence,
+    part: &FieldPart,
+    entry: &mut Entry,
+    bit: bool,
+    level: Level,
+    bytes: &[u8],
+    at: usize,
+    line: &mut Line,
+) -> Result<usize, FieldFault>
+    requires place { at ≤ length bytes.now }
+    requires part { IsFieldPart part.now }
+    requires presence { part.now.presence ≡ presence }
+    requires bit { part_needs_bit part.now ≡ false → bit ≡ true }
+    requires entry { HoldsScalar entry.old }
+    ensures place { IfOk result (λ n. (at ≤ n) × (n ≤ length bytes.now)) }
+    ensures told { IfOk result (λ n. (v : Option ScalarOf)
+        × TookFrom level part.now bit entry.old entry.new v (drop at bytes.now) (drop n bytes.now)
+        × Said S.form name.now (field_text S.form part.now.kind presence (single v)) (line_now S.form line.old)
+        (line_now S.form line.new)) }
+    ensures stops { IfErr result (λ f. f ≢ FieldFault.Memory
+        → (field_at level part.now entry.old bit (drop at bytes.now) ≡ Err f)
+        × (entry.new ≡ entry.old) × (line.new ≡ line.old)) }
+{
+    match take_given(part, entry, bit) {
+        Some(found) => {
+            match line.tell(signs, name, part, found.value(part, entry.view())) {
+                Err(_) => Err(FieldFault::Memory),
+                Ok(()) => Ok(at),
+            }
+        }
+        None => take_read(
+            signs, alloc, name, presence, part, entry, bit, level, bytes, at, line,
+        ),
+    }
+}
+
+/// Takes a field's value from the bytes, makes its entry the one afterwards, and tells the value.
+///
+/// # Errors
+///
+/// The first fault of the field, and then nothing has changed. Memory: a growth was refused.
+#[inline(always)]
+pub fn tell<S: Signs, E: Entries>(
+    signs: S,
+    alloc: Global,
+    name: &Name,
+    presence: Presence,
+    entries: &mut E,
+    part: &FieldPart,
+    bit: bool,
+    level: Level,
+    bytes: &[u8],
+    at: usize,
+    line: &mut Line,
+) -> Result<usize, FieldFault>
+    requires place { at ≤ length bytes.now }
+    requires served { IsTrue (E.serves entries.now part.now.key) }
+    requires told { IsTold Whole part.now.kind part.now }
+    requires presence { part.now.presence ≡ presence }
+    requires bit { part_needs_bit part.now ≡ false → bit ≡ true }
+    requires kept { KeepScalars (E.contents entries.now) }
+    ensures place { IfOk result (λ n. (at ≤ n) × (n ≤ length bytes.now)) }
+    ensures told { IfOk result (λ n. (v : Option ScalarOf)
+        × Took level part.now bit (E.contents entries.old) (E.contents entries.new) v
+        (drop at bytes.now) (drop n bytes.now)
+        × Said S.form name.now (field_text S.form part.now.kind presence (single v)) (line_now S.form line.old)
+        (line_now S.form line.new)) }
+    ensures stops { IfErr result (λ f. f ≢ FieldFault.Memory
+        → (field_at level part.now (entry_at (E.contents entries.old) part.now.key) bit
+        (drop at bytes.now) ≡ Err f)
+        × (E.contents entries.new ≡ E.contents entries.old) × (line.new ≡ line.old)) }
+    ensures same_keys { E.serves entries.new ≡ E.serves entries.old }
+{
+    match entries.entry_mut(&part.key) {
+        Err(_) => Err(FieldFault::Memory),
+        Ok(entry) => match take(
+            signs, alloc, name, presence, part, entry, bit, level, bytes, at, line,
+        ) {
+            Err(fault) => Err(fault),
+            Ok(next) => Ok(next),
+        },
+    }
+}
