@@ -93,7 +93,7 @@ fn has_kind(part: Part, kind: Kind) -> bool
 }
 
 // Whether a field with no initial value is one.
-fn is_field_part(instr: &FieldPart) -> bool
+pub(crate) fn is_field_part(instr: &FieldPart) -> bool
     requires { instr.now.initial ≡ None }
     ensures { result ≡ true → IsFieldPart instr.now }
 {

@@ -8,6 +8,8 @@ mod entries;
 #[cfg(test)]
 mod fields;
 #[cfg(test)]
+mod general;
+#[cfg(test)]
 mod given;
 #[cfg(test)]
 mod judged;
