@@ -11,37 +11,32 @@ passed, M failed', a test each.
 """
 import argparse
 import collections
-import concurrent.futures
 import os
 import subprocess
 import sys
 import tempfile
 
-WELL, WANT_OF_MEMORY = "well", "want of memory"
+WELL, WANT_OF_MEMORY = "well", "want"
 
 # How a test says that it ended for want of memory: an allocation, a call's own answer, a decoder, serde_json, or the
 # test itself, where there is no memory to keep what another one said.
-SAID = (b"rror: AllocError", b"rror: Memory", b"rror: Fault { cause: Memory", b"rror: Error(out of memory)",
-        b"rror: AllocFailed")
+SAID = ("rror: AllocError", "rror: Memory", "rror: Fault { cause: Memory", "rror: Error(out of memory)",
+        "rror: AllocFailed")
 
 
-def run(program, test, library, number):
-    """How a test ends with one allocation refused, and how many it asked for."""
+def runs(program, test, library, refused):
+    """How a test ends with each of these allocations refused, and how many it asked for then: by number."""
     reader, writer = os.pipe()
     os.set_inheritable(writer, True)
-    environment = {"LD_PRELOAD": library, "REFUSED": str(number), "TOLD": str(writer)}
-    ended = subprocess.run([program, test], env=environment, pass_fds=[writer], stdout=subprocess.PIPE,
-                           stderr=subprocess.STDOUT)
+    environment = {"LD_PRELOAD": library, "REFUSED": " ".join(map(str, refused)), "SAID": "\n".join(SAID),
+                   "JOBS": str(os.cpu_count()), "TOLD": str(writer)}
+    started = subprocess.Popen([program, test], env=environment, pass_fds=[writer])
     os.close(writer)
     with os.fdopen(reader) as told:
-        asked = told.read()
-    if ended.returncode == 0:
-        end = WELL
-    elif any(said in ended.stdout for said in SAID):
-        end = WANT_OF_MEMORY
-    else:
-        end = f"status {ended.returncode}"
-    return end, int(asked or 0)
+        lines = [line.split() for line in told]
+    if started.wait():
+        sys.exit(f"{program} {test}: could not be run with allocations refused")
+    return {int(number): (end, int(asked)) for number, end, asked in lines}
 
 
 def numbers(asked, most):
@@ -62,7 +57,7 @@ def main():
     words = words.parse_args()
     here = os.path.dirname(os.path.abspath(__file__))
     passed = failed = 0
-    with tempfile.TemporaryDirectory() as folder, concurrent.futures.ThreadPoolExecutor(os.cpu_count()) as pool:
+    with tempfile.TemporaryDirectory() as folder:
         library = os.path.join(folder, "refused.so")
         source = os.path.join(here, "refused.c")
         subprocess.run(["cc", "-shared", "-fPIC", "-O1", "-o", library, source, "-ldl"], check=True)
@@ -72,9 +67,10 @@ def main():
             for test in [line.removesuffix(": test") for line in listed if line.endswith(": test")]:
                 if words.only not in test or any(word in test for word in words.skip):
                     continue
-                end, asked = run(program, test, library, 0)
+                end, asked = runs(program, test, library, [0])[0]
                 refused = numbers(asked, words.most)
-                ends = list(pool.map(lambda number: run(program, test, library, number)[0], refused))
+                ended = runs(program, test, library, refused) if refused else {}
+                ends = [ended[number][0] for number in refused]
                 counts = collections.Counter(ends)
                 others = [(number, it) for number, it in zip(refused, ends) if it not in (WELL, WANT_OF_MEMORY)]
                 is_good = end == WELL and not others
