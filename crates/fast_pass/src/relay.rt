@@ -226,6 +226,54 @@ fn relay<O: Output, R: ByteInput, W: ByteOutput, E: Entries>(
     }
 }
 
+/// Passes a stream through a machine that has read nothing, to its end, the first fault or the last of the reads, and
+/// flushes the writer where the relay went that far.
+fn pass_by<O: Output, R: ByteInput, W: ByteOutput, E: Entries>(
+    machine: &mut Machine<'_, O, E>,
+    alloc: Global,
+    reader: &mut R,
+    writer: &mut W,
+    turns: u64,
+) -> Result<Summary, CanonFault>
+    requires turns { turns ≤ 2 ^ 40 }
+    requires fed { machine.now.fed ≡ 0 }
+    requires fault { machine.now.fault ≡ None }
+    requires empty { O.waiting machine.now.receiver ≡ [] }
+    requires relays { Relays O.waiting O.makes reached.Open machine.now turns (R.left reader.now) [] [] [] }
+    ensures answer { (count : ℕ) × (input : List ℕ)
+        × Reads (reader_by R.left R.calls R.errors R.ends reader.old)
+        (reader_by R.left R.calls R.errors R.ends reader.new) count input
+        × (count ≤ turns)
+        × Passes O.makes (mode_of machine.old) (templates_in machine.old.traversal.set.now) turns (R.left reader.new)
+        (W.taken writer.old) (W.taken writer.new) input result
+        × IsCausedBy result (count ≡ turns)
+        (reader_by R.left R.calls R.errors R.ends reader.old)
+        (reader_by R.left R.calls R.errors R.ends reader.new) }
+    ensures write { W.errors writer.new ≡ errors_after result (W.errors writer.old) }
+    ensures flush { FlushesOnce result (W.flushes writer.old) (W.flushes writer.new) }
+{
+    match relay(machine, alloc, reader, writer, turns) {
+        Err(Stop::Write) => Err(CanonFault::Write),
+        Err(Stop::Memory) => Err(CanonFault::Memory),
+        Ok((reached, written)) => match writer.flush() {
+            Err(_) => Err(CanonFault::Write),
+            Ok(()) => match reached {
+                Reached::Fault(fault) => {
+                    if machine.receiver_refused() {
+                        return Err(CanonFault::Memory);
+                    }
+                    Err(CanonFault::Stream(fault))
+                }
+                Reached::End | Reached::Open => Ok(Summary {
+                    messages: machine.messages(),
+                    read: machine.fed(),
+                    written,
+                }),
+            },
+        },
+    }
+}
+
 /// Reads a stream of messages of a template set to its end, from undefined entries, and hands on what an output makes
 /// of them: after each read, and wherever 65,536 bytes or more wait between two messages.
 ///
@@ -268,24 +316,6 @@ pub fn pass_through<O: Output, R: ByteInput, W: ByteOutput>(
         Ok(entries) => entries,
     };
     let mut machine = Machine::new(alloc, set, mode, output, entries);
-    match relay(&mut machine, alloc, reader, writer, turns) {
-        Err(Stop::Write) => Err(CanonFault::Write),
-        Err(Stop::Memory) => Err(CanonFault::Memory),
-        Ok((reached, written)) => match writer.flush() {
-            Err(_) => Err(CanonFault::Write),
-            Ok(()) => match reached {
-                Reached::Fault(fault) => {
-                    if machine.receiver_refused() {
-                        return Err(CanonFault::Memory);
-                    }
-                    Err(CanonFault::Stream(fault))
-                }
-                Reached::End | Reached::Open => Ok(Summary {
-                    messages: machine.messages(),
-                    read: machine.fed(),
-                    written,
-                }),
-            },
-        },
-    }
+    // (the machine is let go in one place)
+    pass_by(&mut machine, alloc, reader, writer, turns)
 }
