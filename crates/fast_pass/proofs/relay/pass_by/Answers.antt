@@ -128,3 +128,6 @@ returns-in-End g c =
       write = c.in-Ok-flush.ensures.error ∙ c.in-Ok.ensures.failed;
       flush = c.in-Ok-flush.ensures.flush ∙ ap counted c.relay.ensures.flushes;
     }
+
+pub returns-in-Err-Memory-clause-write : goal.returns-in-Err-Memory-clause-write
+returns-in-Err-Memory-clause-write g c = rw (c.in-Err-Memory.field-0-is) at c.in-Err-Memory.ensures.failed
