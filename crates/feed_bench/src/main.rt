@@ -8,7 +8,7 @@ ghost use Rattle.std.specs.Prelude.{◌≤◌, ◌<◌};
 
 use fast_build::Load;
 use fast_decoder::Decoder;
-use fast_dictionary::SlotEntries;
+use fast_dictionary::{Entries, SlotEntries};
 use fast_stream::{Framing, Message, Mode};
 use fast_template::TemplateSet;
 use fast_wire::Level;
@@ -35,21 +35,21 @@ enum Failure {
     Machine,
 }
 
-/// How many messages a stream has that is fed so many bytes at a time.
-fn count(alloc: Global, set: &TemplateSet, stream: &[u8], size: usize) -> Result<usize, Failure>
+/// How many messages a decoder makes of a stream that it is fed so many bytes at a time.
+fn feed_all<E: Entries>(
+    decoder: &mut Decoder<'_, E>,
+    stream: &[u8],
+    size: usize,
+    messages: &mut Vec<Message>,
+) -> Result<usize, Failure>
     requires { 0 < size }
 {
-    let Ok(entries) = SlotEntries::new(alloc, set) else {
-        return Err(Failure::Machine);
-    };
-    let mut decoder = Decoder::new(alloc, set, PLAIN, entries);
-    let mut messages: Vec<Message> = Vec::new(alloc);
     let mut count = 0usize;
     for chunk in stream.chunks(size) {
         if decoder.fed() > LIMIT || chunk.len() as u64 > LIMIT {
             return Err(Failure::Words);
         }
-        if decoder.feed(chunk, &mut messages).is_err() {
+        if decoder.feed(chunk, messages).is_err() {
             return Err(Failure::Refused);
         }
         count = count.saturating_add(messages.len());
@@ -59,6 +59,18 @@ fn count(alloc: Global, set: &TemplateSet, stream: &[u8], size: usize) -> Result
         Ok(()) => Ok(count),
         Err(_) => Err(Failure::Refused),
     }
+}
+
+/// How many messages a stream has that is fed so many bytes at a time.
+fn count(alloc: Global, set: &TemplateSet, stream: &[u8], size: usize) -> Result<usize, Failure>
+    requires { 0 < size }
+{
+    let Ok(entries) = SlotEntries::new(alloc, set) else {
+        return Err(Failure::Machine);
+    };
+    let mut decoder = Decoder::new(alloc, set, PLAIN, entries);
+    let mut messages = Vec::new(alloc);
+    feed_all(&mut decoder, stream, size, &mut messages)
 }
 
 /// The same of files.
