@@ -161,16 +161,26 @@ fn each_reference_has_the_value_of_its_own_template(rt: HostRuntime) -> Result<(
     Ok(())
 }
 
+// A template that refers twice to the next.
+fn referring_twice(alloc: Global, number: u32) -> Result<Template, AllocError> {
+    let next = number.saturating_add(1);
+    let members = vec![in alloc; reference(alloc, next)?, reference(alloc, next)?]?;
+    numbered(alloc, number, members)
+}
+
+// A template that has a constant.
+fn with_constant(alloc: Global, number: u32, length: u32) -> Result<Template, AllocError> {
+    let members = vec![in alloc; constant(alloc, 'c', length)?]?;
+    numbered(alloc, number, members)
+}
+
 // Templates that refer twice to the next, up to the last, which has a constant.
 fn doubling(alloc: Global, levels: u32, length: u32) -> Result<Vec<Template>, AllocError> {
     let mut templates = Vec::new(alloc);
     for number in 0..levels {
-        let next = number.saturating_add(1);
-        let members = vec![in alloc; reference(alloc, next)?, reference(alloc, next)?]?;
-        templates.push(numbered(alloc, number, members)?)?;
+        templates.push(referring_twice(alloc, number)?)?;
     }
-    let members = vec![in alloc; constant(alloc, 'c', length)?]?;
-    templates.push(numbered(alloc, levels, members)?)?;
+    templates.push(with_constant(alloc, levels, length)?)?;
     Ok(templates)
 }
 
