@@ -164,7 +164,10 @@ fn each_reference_has_the_value_of_its_own_template(rt: HostRuntime) -> Result<(
 // A template that refers twice to the next.
 fn referring_twice(alloc: Global, number: u32) -> Result<Template, AllocError> {
     let next = number.saturating_add(1);
-    let members = vec![in alloc; reference(alloc, next)?, reference(alloc, next)?]?;
+    let mut members = Vec::new(alloc);
+    for _ in 0..2 {
+        members.push(reference(alloc, next)?)?;
+    }
     numbered(alloc, number, members)
 }
 
