@@ -1,4 +1,4 @@
-use Rattle.std.proofs.Common.{true, Some, ap, drop, refl, ◌∙◌}
+use Rattle.std.proofs.Common.{rules, true, Some, ap, drop, refl, ◌∙◌}
 use Rattle.fast_relay.specs.Runs.{written}
 use Rattle.fast_relay.specs.declared.run.Run.{Run}
 use Rattle.fast_writer.specs.Levels.{level_in}
@@ -32,3 +32,12 @@ returns-in-Stands-clause-took c = λ before was.
           (asked_in bytes c.args.needs true _ now asked same)),
     ))
     c.end_part.ensures.part c.end_part.ensures.asked c.end_part.ensures.run
+
+pub returns-in-Behind-clause-took : goal.returns-in-Behind-clause-took
+returns-in-Behind-clause-took g c = search rules depth 2
+
+pub returns-in-BehindTwo-clause-took : goal.returns-in-BehindTwo-clause-took
+returns-in-BehindTwo-clause-took g c = search rules depth 2
+
+pub returns-in-Given-clause-took : goal.returns-in-Given-clause-took
+returns-in-Given-clause-took g c = search rules depth 2
