@@ -7,12 +7,14 @@ ghost use Rattle.fast_value.specs.declared.scalar.Scalar.TheVariants as scalar;
 ghost use Rattle.fast_value.specs.declared.kind.Presence.TheVariants.{Optional};
 ghost use Rattle.fast_field.specs.Parts.{IsFieldPart};
 
+use crate::same::same;
 use fast_dictionary::Entry;
 use fast_template::{
     ByteString, FieldPart, Initial, Key, Kind, Name, Operator, Part, Presence, Scalar, Scope,
     UnicodeText,
 };
 use std::alloc::{AllocError, Global};
+use std::process::Abort;
 
 // A field with a key of its own.
 pub(crate) fn part_of(
@@ -173,4 +175,16 @@ impl Kept {
             Kept::Assigned(value) => Ok(Entry::Assigned(value.scalar(alloc)?)),
         }
     }
+}
+
+// Ends a test whose entry is not a row's.
+pub(crate) fn is_kept(
+    rt: &impl Abort,
+    alloc: Global,
+    entry: &Entry,
+    wanted: Kept,
+) -> Result<(), AllocError> {
+    let wanted = wanted.entry(alloc)?;
+    same(rt, entry, &wanted);
+    Ok(())
 }

@@ -1,10 +1,13 @@
 //! Fields that go the general way: what is read of their bytes, and the best form that is written of it.
 
-use crate::fields::{Kept, Value, part_of};
+ghost use Rattle.std.specs.Prelude.{◌≡◌, None};
+
+use crate::fields::{Kept, Value, is_kept, part_of};
 use crate::judged::{holds_scalar, is_field_part};
 use crate::same::same;
+use fast_dictionary::Entry;
 use fast_field::{FieldFault, FieldRefusal, Level, find_field, write_found};
-use fast_template::{Kind, Operator, Part, Presence};
+use fast_template::{FieldPart, Kind, Operator, Part, Presence};
 use std::alloc::{AllocError, Global};
 use std::process::Abort;
 
@@ -26,6 +29,41 @@ fn none<T>(rt: &impl Abort, is_memory: bool) -> Result<T, AllocError> {
 }
 
 // Want of memory leaves the entry and the output as they were, and ends the test.
+fn is_written(
+    rt: &impl Abort,
+    alloc: Global,
+    instr: &FieldPart,
+    entry: &mut Entry,
+    row: &Row,
+) -> Result<(), AllocError>
+    requires { instr.now.initial ≡ None }
+{
+    // no other is written
+    if !is_field_part(instr) || !holds_scalar(entry) {
+        same(rt, false, true);
+        return Ok(());
+    }
+    let found = match find_field(alloc, instr, entry.view(), true, Level::Usual, row.bytes, 0) {
+        Ok((found, next)) => {
+            same(rt, next, row.bytes.len());
+            found
+        }
+        Err(fault) => return none(rt, fault == FieldFault::Memory),
+    };
+    let mut out = Vec::new(alloc);
+    match write_found(alloc, instr, entry, found, &mut out) {
+        Ok((_, bit)) => {
+            same(rt, (bit, out.as_slice()), row.best);
+            is_kept(rt, alloc, entry, row.after)
+        }
+        Err(refusal) => {
+            same(rt, out.as_slice(), &[]);
+            is_kept(rt, alloc, entry, row.before)?;
+            none(rt, refusal == FieldRefusal::Memory)
+        }
+    }
+}
+
 fn is_rewritten(rt: &impl Abort, alloc: Global, row: &Row) -> Result<(), AllocError> {
     let instr = part_of(
         alloc,
@@ -36,39 +74,7 @@ fn is_rewritten(rt: &impl Abort, alloc: Global, row: &Row) -> Result<(), AllocEr
         None,
     )?;
     let mut entry = row.before.entry(alloc)?;
-    // no other is written
-    if !is_field_part(&instr) || !holds_scalar(&entry) {
-        same(rt, false, true);
-        return Ok(());
-    }
-    let found = match find_field(
-        alloc,
-        &instr,
-        entry.view(),
-        true,
-        Level::Usual,
-        row.bytes,
-        0,
-    ) {
-        Ok((found, next)) => {
-            same(rt, next, row.bytes.len());
-            found
-        }
-        Err(fault) => return none(rt, fault == FieldFault::Memory),
-    };
-    let mut out = Vec::new(alloc);
-    match write_found(alloc, &instr, &mut entry, found, &mut out) {
-        Ok((_, bit)) => {
-            same(rt, (bit, out.as_slice()), row.best);
-            same(rt, entry, row.after.entry(alloc)?);
-            Ok(())
-        }
-        Err(refusal) => {
-            same(rt, out.as_slice(), &[]);
-            same(rt, entry, row.before.entry(alloc)?);
-            none(rt, refusal == FieldRefusal::Memory)
-        }
-    }
+    is_written(rt, alloc, &instr, &mut entry, row)
 }
 
 fn all_rewritten(rt: &impl Abort, alloc: Global, rows: &[Row]) -> Result<(), AllocError> {

@@ -9,7 +9,7 @@ ghost use Rattle.fast_template.specs.TemplateSets.{applies};
 ghost use Rattle.fast_field.specs.Parts.{IsFieldPart, IsKindOfPart};
 ghost use Rattle.fast_field.specs.Within.{HoldsScalar};
 
-use crate::fields::{Kept, Value, part_of};
+use crate::fields::{Kept, Value, is_kept, part_of};
 use crate::same::same;
 use fast_dictionary::Entry;
 use fast_relay::{Judged, judge_field};
@@ -106,23 +106,35 @@ pub(crate) fn is_field_part(instr: &FieldPart) -> bool
 }
 
 // Want of memory leaves the entry as it was, and ends the test.
-fn is_judged(rt: &impl Abort, alloc: Global, row: &Row) -> Result<(), AllocError> {
-    let instr = part_of(alloc, row.part, row.kind, row.presence, row.operator, None)?;
-    let mut entry = row.before.entry(alloc)?;
+fn is_judged_so(
+    rt: &impl Abort,
+    alloc: Global,
+    instr: &FieldPart,
+    entry: &mut Entry,
+    row: &Row,
+) -> Result<(), AllocError>
+    requires part { row.now.part ≡ instr.now.part }
+    requires initial { instr.now.initial ≡ None }
+{
     let at = row.bytes.len().min(1);
     // no other is judged
-    if !is_field_part(&instr) || !holds_scalar(&entry) {
+    if !is_field_part(instr) || !holds_scalar(entry) {
         same(rt, false, true);
         return Ok(());
     }
-    let judged = judge_field(row.part, alloc, &instr, &mut entry, row.bytes, at);
+    let judged = judge_field(row.part, alloc, instr, entry, row.bytes, at);
     if judged == Judged::Elsewhere && row.judged != Judged::Elsewhere {
-        same(rt, entry, row.before.entry(alloc)?);
+        is_kept(rt, alloc, entry, row.before)?;
         return Err(AllocError);
     }
     same(rt, judged, row.judged);
-    same(rt, entry, row.after.entry(alloc)?);
-    Ok(())
+    is_kept(rt, alloc, entry, row.after)
+}
+
+fn is_judged(rt: &impl Abort, alloc: Global, row: &Row) -> Result<(), AllocError> {
+    let instr = part_of(alloc, row.part, row.kind, row.presence, row.operator, None)?;
+    let mut entry = row.before.entry(alloc)?;
+    is_judged_so(rt, alloc, &instr, &mut entry, row)
 }
 
 pub(crate) fn all_judged(rt: &impl Abort, alloc: Global, rows: &[Row]) -> Result<(), AllocError> {
@@ -157,19 +169,23 @@ fn beginning(
     part_of(alloc, Part::Whole, Kind::UInt32, presence, operator, number)
 }
 
+fn is_first_judged(rt: &impl Abort, alloc: Global, row: &First) -> Result<(), AllocError> {
+    // no other is judged
+    if !applies_to(row.operator, Kind::UInt32) {
+        same(rt, false, true);
+        return Ok(());
+    }
+    let instr = beginning(alloc, row.presence, row.operator, row.initial)?;
+    let mut entry = Entry::Undefined;
+    let at = row.bytes.len().min(1);
+    let judged = judge_field(Part::Whole, alloc, &instr, &mut entry, row.bytes, at);
+    same(rt, judged, row.judged);
+    is_kept(rt, alloc, &entry, row.after)
+}
+
 fn all_firsts_judged(rt: &impl Abort, alloc: Global, rows: &[First]) -> Result<(), AllocError> {
     for row in rows {
-        // no other is judged
-        if !applies_to(row.operator, Kind::UInt32) {
-            same(rt, false, true);
-            return Ok(());
-        }
-        let instr = beginning(alloc, row.presence, row.operator, row.initial)?;
-        let mut entry = Entry::Undefined;
-        let at = row.bytes.len().min(1);
-        let judged = judge_field(Part::Whole, alloc, &instr, &mut entry, row.bytes, at);
-        same(rt, judged, row.judged);
-        same(rt, entry, row.after.entry(alloc)?);
+        is_first_judged(rt, alloc, row)?;
     }
     Ok(())
 }

@@ -1,7 +1,7 @@
 //! Rows on fields that are passed at once, and on numbers that are answered. A test has a table of rows, since each value
 //! that is made at a call makes its proof longer.
 
-use crate::fields::{Kept, Shape, Value};
+use crate::fields::{Kept, Shape, Value, is_kept};
 use crate::same::same;
 use fast_dictionary::Entry;
 use fast_field::{Passed, pass_left_out};
@@ -52,30 +52,39 @@ struct Counted {
 }
 
 // Want of memory ends the test.
+fn counts_from(
+    rt: &impl Abort,
+    alloc: Global,
+    instr: &FieldPart,
+    entry: &mut Entry,
+    row: &Counted,
+) -> Result<(), AllocError> {
+    let mut run = Run::new(alloc);
+    let start = row.bytes.len().min(1);
+    run.begin(start);
+    match relay_unsigned(instr, entry, row.bytes, start, &mut run) {
+        Some((number, bit, next)) => {
+            same(rt, Some((number, bit)), row.number);
+            same(rt, next, row.bytes.len());
+            is_kept(rt, alloc, entry, Kept::Assigned(Value::U32(number)))
+        }
+        None => {
+            if row.number.is_some() {
+                return Err(AllocError);
+            }
+            is_kept(rt, alloc, entry, row.before)
+        }
+    }
+}
+
 fn counts_with(
     rt: &impl Abort,
     alloc: Global,
     instr: &FieldPart,
     row: &Counted,
 ) -> Result<(), AllocError> {
-    let mut run = Run::new(alloc);
     let mut entry = row.before.entry(alloc)?;
-    let start = row.bytes.len().min(1);
-    run.begin(start);
-    match relay_unsigned(instr, &mut entry, row.bytes, start, &mut run) {
-        Some((number, bit, next)) => {
-            same(rt, Some((number, bit)), row.number);
-            same(rt, next, row.bytes.len());
-            same(rt, entry, Kept::Assigned(Value::U32(number)).entry(alloc)?);
-        }
-        None => {
-            if row.number.is_some() {
-                return Err(AllocError);
-            }
-            same(rt, entry, row.before.entry(alloc)?);
-        }
-    }
-    Ok(())
+    counts_from(rt, alloc, instr, &mut entry, row)
 }
 
 fn all_counted(rt: &impl Abort, alloc: Global, rows: &[Counted]) -> Result<(), AllocError> {

@@ -1,10 +1,10 @@
 //! Rows on fields that are taken at once, and written nowhere.
 
-use crate::fields::{Kept, Shape, Value};
+use crate::fields::{Kept, Shape, Value, is_kept};
 use crate::same::same;
 use fast_dictionary::Entry;
 use fast_relay::{take_aside, take_decimal, take_number, take_vector};
-use fast_template::{Kind, Operator, Presence, Scalar};
+use fast_template::{FieldPart, Kind, Operator, Presence, Scalar};
 use std::alloc::{AllocError, Global};
 use std::process::Abort;
 
@@ -81,25 +81,32 @@ fn take_into(
     })
 }
 
+// The place behind a row's bytes where they are taken.
+fn end_of(bytes: &[u8], taken: bool) -> Option<usize> {
+    if taken { Some(bytes.len()) } else { None }
+}
+
 // Want of memory leaves the entry as it was, and ends the test.
+fn is_put(
+    rt: &impl Abort,
+    alloc: Global,
+    call: Call,
+    entry: &mut Entry,
+    row: &Put,
+) -> Result<(), AllocError> {
+    let next = take_into(alloc, call, row.of, entry, row.bytes)?;
+    if next.is_none() && row.taken {
+        is_kept(rt, alloc, entry, row.before)?;
+        return Err(AllocError);
+    }
+    same(rt, next, end_of(row.bytes, row.taken));
+    is_kept(rt, alloc, entry, row.after)
+}
+
 fn all_put(rt: &impl Abort, alloc: Global, call: Call, rows: &[Put]) -> Result<(), AllocError> {
     for row in rows {
         let mut entry = row.before.entry(alloc)?;
-        let next = take_into(alloc, call, row.of, &mut entry, row.bytes)?;
-        if next.is_none() && row.taken {
-            same(rt, entry, row.before.entry(alloc)?);
-            return Err(AllocError);
-        }
-        same(
-            rt,
-            next,
-            if row.taken {
-                Some(row.bytes.len())
-            } else {
-                None
-            },
-        );
-        same(rt, entry, row.after.entry(alloc)?);
+        is_put(rt, alloc, call, &mut entry, row)?;
     }
     Ok(())
 }
@@ -113,25 +120,39 @@ struct Aside {
     after: Value,
 }
 
+// Ends a test whose value is not a row's.
+fn is_value(
+    rt: &impl Abort,
+    alloc: Global,
+    value: &Scalar,
+    wanted: Value,
+) -> Result<(), AllocError> {
+    let wanted = wanted.scalar(alloc)?;
+    same(rt, value, &wanted);
+    Ok(())
+}
+
+fn is_aside(
+    rt: &impl Abort,
+    alloc: Global,
+    instr: &FieldPart,
+    value: &mut Scalar,
+    row: &Aside,
+) -> Result<(), AllocError> {
+    let next = take_aside(alloc, instr, value, row.bytes, row.bytes.len().min(1));
+    if next.is_none() && row.taken {
+        is_value(rt, alloc, value, row.before)?;
+        return Err(AllocError);
+    }
+    same(rt, next, end_of(row.bytes, row.taken));
+    is_value(rt, alloc, value, row.after)
+}
+
 fn all_aside(rt: &impl Abort, alloc: Global, rows: &[Aside]) -> Result<(), AllocError> {
     for row in rows {
         let instr = row.of.instr(alloc)?;
         let mut value = row.before.scalar(alloc)?;
-        let next = take_aside(alloc, &instr, &mut value, row.bytes, row.bytes.len().min(1));
-        if next.is_none() && row.taken {
-            same(rt, value, row.before.scalar(alloc)?);
-            return Err(AllocError);
-        }
-        same(
-            rt,
-            next,
-            if row.taken {
-                Some(row.bytes.len())
-            } else {
-                None
-            },
-        );
-        same(rt, value, row.after.scalar(alloc)?);
+        is_aside(rt, alloc, &instr, &mut value, row)?;
     }
     Ok(())
 }
