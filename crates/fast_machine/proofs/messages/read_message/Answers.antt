@@ -56,3 +56,6 @@ returns-in-Ok-clause-ended g c = λ before origin run messages s.
         c.in-Ok.ensures.between.0,
       ),
     )
+
+pub returns-in-Ok-clause-kept : goal.returns-in-Ok-clause-kept
+returns-in-Ok-clause-kept g c = c.in-Ok.ensures.kept

@@ -238,3 +238,6 @@ returns-in_default g c = record {
   same_keys = c.read_if_any-progress.ensures.same_keys;
   fed = refl;
 }
+
+pub read_if_any-progress-requires-clause-kept : goal.read_if_any-progress-requires-clause-kept
+read_if_any-progress-requires-clause-kept g c = c.args.self.now.kept c.requires.fault

@@ -1,5 +1,6 @@
-use Rattle.std.proofs.Common.{◌≡◌, ◌≢◌, ◌++◌, [], ℕ, List, drop, length, sym, ap, subst, refl, ◌∙◌, arith, inr, rules}
+use Rattle.std.proofs.Common.{◌≡◌, ◌≢◌, ◌≤◌, ◌++◌, [], ℕ, List, drop, length, sym, ap, subst, refl, ◌∙◌, arith, inr, rules}
 use Rattle.std.specs.Prelude.{slice_range}
+use Rattle.std.proofs.lemmas.List.{length-drop}
 use Rattle.std.proofs.lemmas.Result.{err_from_is_err_and}
 use Rattle.fast_template.specs.TemplateSets.{templates_in}
 use Rattle.fast_stream.specs.declared.fault.Cause.TheVariants.{Truncated}
@@ -181,3 +182,11 @@ returns-in_default g c = record {
   same_keys = c.read_message-progress.ensures.same_keys;
   fed = refl;
 }
+
+pub hold-requires-clause-few : goal.hold-requires-clause-few
+hold-requires-clause-few g c =
+    let bytes = c.args.bytes.now in
+    let n = c.read_message-progress.result.at in
+    let few = rw (c.in-Some.is) at c.read_message-progress.ensures.few in
+    let size = length-drop n bytes in
+    subst (λ (xs : List ℕ). length xs ≤ 65554) (sym (slice_rest bytes n)) (omega (arith, size, few c.in-Truncated.is))

@@ -1,8 +1,10 @@
 use Rattle.std.proofs.Common.{◌++◌, map, ap, ◌∙◌}
+use Rattle.std.proofs.lemmas.List.{map_push}
 use Rattle.std.proofs.lemmas.Result.{err_from_is_err_and}
 use Rattle.fast_template.specs.Resolved.{list_of}
-use Rattle.fast_walk.specs.OpenSegments.{cursor}
+use Rattle.fast_walk.specs.OpenSegments.{Waiting, cursor}
 use Rattle.fast_walk.specs.Received.{closed_in}
+use Rattle.fast_walk.specs.Room.{left_around}
 use Rattle.fast_walk.specs.Walks.{frame_of, next_of}
 use Rattle.fast_walk.proofs.Walking.{closed_bare, closed_on, closed_rest, closed_same, end_on_stops, no_frame, inside_of_last, is_instruction, last_of, popped, rest_of_last, served_pop}
 use Rattle.fast_walk.proofs.walk.Walk.end.Goals as goal
@@ -46,3 +48,12 @@ returns-clause-ready g c = λ serves ready.
     let end = c.in_ok-take_up-in-Some.ensures in
     let p = served_pop serves fs (frame_of f) (rw (popped old.around.items c.pop.new.self.items c.pop.result f c.pop.ensures.items c.in-Some.is) at ready.around) in
     record { next = end.served serves p.1.1; rest = rw (end.rest) p.1.0; around = rw (end.around) p.0 }
+
+pub returns-clause-room : goal.returns-clause-room
+returns-clause-room g c =
+    let old = c.args.self.now in
+    let f = c.in-Some.field-0 in
+    let fs = map frame_of c.pop.new.self.items in
+    let end = c.in_ok-take_up-in-Some.ensures in
+    let e = ap left_around (popped old.around.items c.pop.new.self.items c.pop.result f c.pop.ensures.items c.in-Some.is) ∙ map_push (λ (w : Waiting). w.bits) fs (frame_of f) in
+    rw (end.around, end.bits) (end.room (left_around fs) f.bits old.bits (rw e at c.requires.room))

@@ -107,3 +107,8 @@ returns-else-present-clause-kept g c =
     told_keeps c.level.result c.args.exponent.now c.first_for-bit.result (g.E.Entries.contents c.args.entries.now) (g.E.Entries.contents c.exponent.new.entries) c.args.bytes.now c.args.at c.in-Ok.next
     (λ k. omega (arith, c.type_inv.bytes k)) (asked_for c.args.exponent.now c.part_needs_bit-needs.result c.first_for-bit.result old.bits c.part_needs_bit-needs.ensures c.first_for-bit.ensures)
     part.Exponent kind.Int32 c.in-Ok.ensures.goes.0 refl (rw (c.requires.first) at c.requires.ready.rest).0.0.0.1 c.in-Ok.ensures.goes.1 c.requires.kept
+
+pub returns-else-present-clause-room : goal.returns-else-present-clause-room
+returns-else-present-clause-room g c =
+    let end = c.pass-else-present.ensures in
+    rw (end.bits, end.around, c.part_needs_bit-needs.ensures) (c.in-Ok.ensures.room _ c.args.self.now.bits (rw (c.part_needs_bit-needs.ensures) at c.first_for-bit.ensures) c.requires.room)
