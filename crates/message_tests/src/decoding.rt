@@ -5,6 +5,6 @@ mod cuts;
 mod long;
 mod messages;
 mod pieces;
-mod steps;
+pub(crate) mod steps;
 mod streams;
 mod strict;

@@ -494,17 +494,36 @@ fn same_in_each(
     agrees(alloc, set, BLOCKS, &blocks, want, moved(fault, count))
 }
 
-// Whether messages, the last of which may be refused, are the same in one block, and in a block each, as they are
-// plain. A block that is refused has room for one byte more, so that none ends too early.
+// Whether the messages of pieces are the same in one block, and in a block each, as they are in the plain stream. A
+// block that is refused has room for one byte more, so that none ends too early.
+fn same_as_plain(
+    alloc: Global,
+    set: &TemplateSet,
+    pieces: &[&[u8]],
+    plain: &[u8],
+    want: &mut Vec<Message>,
+) -> Result<bool, AllocError> {
+    let fault = plain_read(alloc, set, plain, want)?;
+    let more = if fault.is_some() { 1 } else { 0 };
+    Ok(
+        same_in_one(alloc, set, plain, want, fault, more)?
+            && same_in_each(alloc, set, pieces, want, fault, more)?,
+    )
+}
+
+// Whether messages, the last of which may be refused, are the same in blocks as they are plain.
 fn same_in_blocks(alloc: Global, set: &TemplateSet, pieces: &[&[u8]]) -> Result<bool, AllocError> {
     let plain = joined(alloc, pieces)?;
     let mut want = Vec::new(alloc);
-    let fault = plain_read(alloc, set, &plain, &mut want)?;
-    let more = if fault.is_some() { 1 } else { 0 };
-    Ok(
-        same_in_one(alloc, set, &plain, &want, fault, more)?
-            && same_in_each(alloc, set, pieces, &want, fault, more)?,
-    )
+    same_as_plain(alloc, set, pieces, &plain, &mut want)
+}
+
+fn all_same_in_blocks(rt: &impl Abort, alloc: Global, rows: &[&[&[u8]]]) -> Result<(), AllocError> {
+    let set = worked(rt, alloc)?;
+    for pieces in rows {
+        same(rt, same_in_blocks(alloc, &set, pieces)?, true);
+    }
+    Ok(())
 }
 
 #[test]
@@ -575,9 +594,5 @@ fn worked_streams_in_blocks(rt: HostRuntime) -> Result<(), AllocError> {
         &[b"\xF0\x81\x00\x00\x00\x00\x00\x00\x00\x00\x00"],
         &[b"\xF0\x81\x00\x00\x00\x00\x00\x00\x00\x00\x00\x00"],
     ];
-    let set = worked(&rt, rt.alloc())?;
-    for pieces in ROWS {
-        same(&rt, same_in_blocks(rt.alloc(), &set, pieces)?, true);
-    }
-    Ok(())
+    all_same_in_blocks(&rt, rt.alloc(), ROWS)
 }

@@ -29,6 +29,21 @@ fn ends_so(
     Ok(())
 }
 
+// A plain stream has so many messages in each of these modes, and then ends so.
+fn each_ends_so(
+    rt: &impl Abort,
+    alloc: Global,
+    set: &TemplateSet,
+    streams: &[InMode],
+    messages: u64,
+    fault: Option<Fault>,
+) -> Result<(), AllocError> {
+    for stream in streams {
+        ends_so(rt, alloc, set, stream, messages, fault)?;
+    }
+    Ok(())
+}
+
 // A stream that is cut behind so many bytes, in each mode.
 fn is_cut(
     rt: &impl Abort,
@@ -40,10 +55,8 @@ fn is_cut(
     let front = row.front(count);
     let fault = front.truncated();
     let stream = &row.stream[..count.min(row.stream.len())];
-    for stream in &in_each_mode(alloc, stream, fault.is_some())? {
-        ends_so(rt, alloc, set, stream, front.messages, fault)?;
-    }
-    Ok(())
+    let streams = in_each_mode(alloc, stream, fault.is_some())?;
+    each_ends_so(rt, alloc, set, &streams, front.messages, fault)
 }
 
 #[test]

@@ -1,6 +1,6 @@
 //! Long streams, over both kinds of entries.
 
-use crate::decoding::streams::{both_decode, both_read};
+use crate::decoding::streams::{agrees, both_decode, both_read};
 use crate::same::same;
 use crate::worked::{loaded, worked};
 use fast_stream::{Fault, Message, Node};
@@ -13,104 +13,111 @@ use stream_rows::quotes::quote;
 use stream_rows::sent::messages;
 use template_tests::texts::BARE;
 
-// A stream has these messages and ends so, in reads of 4,096 bytes and whole.
-fn is_read_so(
-    rt: &impl Abort,
+// How the bytes of a stream come.
+#[derive(Clone, Copy)]
+pub(crate) enum Coming {
+    Whole,
+    // In reads of 4,096 bytes, and whole.
+    Reads,
+    ByteByByte,
+    // In each way that a short stream is tried in.
+    EachWay,
+}
+
+// Whether a stream that comes so has these messages and then this fault, or none.
+fn comes(
     alloc: Global,
     set: &TemplateSet,
+    coming: Coming,
     given: &InMode,
     want: &[Message],
     fault: Option<Fault>,
-) -> Result<(), AllocError> {
+) -> Result<bool, AllocError> {
     let InMode { mode, stream, .. } = given;
-    let fault = given.moved(fault);
-    same(
-        rt,
-        both_read(alloc, set, *mode, stream, 4096, want, fault)?,
-        true,
-    );
-    same(
-        rt,
-        both_decode(alloc, set, *mode, stream, b"", want, fault)?,
-        true,
-    );
+    match coming {
+        Coming::Whole => both_decode(alloc, set, *mode, stream, b"", want, fault),
+        Coming::Reads => Ok(
+            both_read(alloc, set, *mode, stream, 4096, want, fault)?
+                && both_decode(alloc, set, *mode, stream, b"", want, fault)?,
+        ),
+        Coming::ByteByByte => both_read(alloc, set, *mode, stream, 1, want, fault),
+        Coming::EachWay => agrees(alloc, set, *mode, stream, want, fault),
+    }
+}
+
+// A plain stream has these messages and this fault, or none, in each of these modes.
+fn each_comes(
+    rt: &impl Abort,
+    alloc: Global,
+    set: &TemplateSet,
+    coming: Coming,
+    streams: &[InMode],
+    want: &[Message],
+    fault: Option<Fault>,
+) -> Result<(), AllocError> {
+    for given in streams {
+        let fault = given.moved(fault);
+        same(rt, comes(alloc, set, coming, given, want, fault)?, true);
+    }
     Ok(())
 }
 
+// The same in all modes.
 fn are_read(
     rt: &impl Abort,
     alloc: Global,
     set: &TemplateSet,
+    coming: Coming,
     plain: &[u8],
     want: &[Message],
     fault: Option<Fault>,
 ) -> Result<(), AllocError> {
-    for stream in &in_each_mode(alloc, plain, fault.is_some())? {
-        is_read_so(rt, alloc, set, stream, want, fault)?;
-    }
-    Ok(())
+    let streams = in_each_mode(alloc, plain, fault.is_some())?;
+    each_comes(rt, alloc, set, coming, &streams, want, fault)
 }
 
-fn all_read(
+fn is_read(
     rt: &impl Abort,
     alloc: Global,
     set: &TemplateSet,
+    coming: Coming,
+    row: &Long,
+) -> Result<(), AllocError> {
+    let plain = stream_of(alloc, row.pieces)?;
+    let want = messages(alloc, row.want)?;
+    are_read(rt, alloc, set, coming, &plain, &want, row.end.fault())
+}
+
+pub(crate) fn all_read(
+    rt: &impl Abort,
+    alloc: Global,
+    set: &TemplateSet,
+    coming: Coming,
     rows: &[Long],
 ) -> Result<(), AllocError> {
     for row in rows {
-        let plain = stream_of(alloc, row.pieces)?;
-        let want = messages(alloc, row.want)?;
-        are_read(rt, alloc, set, &plain, &want, row.end.fault())?;
-    }
-    Ok(())
-}
-
-// A stream has these messages and ends so, in each mode, whole.
-fn are_decoded(
-    rt: &impl Abort,
-    alloc: Global,
-    set: &TemplateSet,
-    plain: &[u8],
-    want: &[Message],
-    fault: Option<Fault>,
-) -> Result<(), AllocError> {
-    for given in &in_each_mode(alloc, plain, fault.is_some())? {
-        let InMode { mode, stream, .. } = given;
-        let fault = given.moved(fault);
-        let decoded = both_decode(alloc, set, *mode, stream, b"", want, fault)?;
-        same(rt, decoded, true);
-    }
-    Ok(())
-}
-
-// Streams of many nodes: what canonicalise and check make of them is tested in reads.
-fn all_decoded(
-    rt: &impl Abort,
-    alloc: Global,
-    set: &TemplateSet,
-    rows: &[Long],
-) -> Result<(), AllocError> {
-    for row in rows {
-        let plain = stream_of(alloc, row.pieces)?;
-        let want = messages(alloc, row.want)?;
-        are_decoded(rt, alloc, set, &plain, &want, row.end.fault())?;
+        is_read(rt, alloc, set, coming, row)?;
     }
     Ok(())
 }
 
 #[test]
 fn long_strings(rt: HostRuntime) -> Result<(), AllocError> {
-    all_read(&rt, rt.alloc(), &worked(&rt, rt.alloc())?, LONG)
+    let set = worked(&rt, rt.alloc())?;
+    all_read(&rt, rt.alloc(), &set, Coming::Reads, LONG)
 }
 
+// Streams of many nodes: what canonicalise and check make of them is tested in reads.
 #[test]
 fn long_streams_of_elements(rt: HostRuntime) -> Result<(), AllocError> {
-    all_decoded(&rt, rt.alloc(), &worked(&rt, rt.alloc())?, LONG_SEQUENCES)
+    let set = worked(&rt, rt.alloc())?;
+    all_read(&rt, rt.alloc(), &set, Coming::Whole, LONG_SEQUENCES)
 }
 
 #[test]
 fn long_streams_of_empty_elements(rt: HostRuntime) -> Result<(), AllocError> {
-    all_decoded(&rt, rt.alloc(), &loaded(&rt, rt.alloc(), BARE)?, LONG_BARE)
+    let set = loaded(&rt, rt.alloc(), BARE)?;
+    all_read(&rt, rt.alloc(), &set, Coming::Whole, LONG_BARE)
 }
 
 // The quotes of the stream of many: each has the next number and a price that is higher by one.
@@ -126,9 +133,14 @@ fn quotes(alloc: Global) -> Result<Vec<Message>, AllocError> {
     Ok(messages)
 }
 
+fn quotes_are_read(rt: &impl Abort, alloc: Global, set: &TemplateSet) -> Result<(), AllocError> {
+    let plain = stream_of(alloc, MANY)?;
+    let want = quotes(alloc)?;
+    are_read(rt, alloc, set, Coming::Reads, &plain, &want, None)
+}
+
 #[test]
 fn long_streams_of_many_messages(rt: HostRuntime) -> Result<(), AllocError> {
     let set = worked(&rt, rt.alloc())?;
-    let plain = stream_of(rt.alloc(), MANY)?;
-    are_read(&rt, rt.alloc(), &set, &plain, &quotes(rt.alloc())?, None)
+    quotes_are_read(&rt, rt.alloc(), &set)
 }

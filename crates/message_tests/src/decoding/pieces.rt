@@ -1,16 +1,16 @@
 //! Pieces of many bytes that come in few at a time, over both kinds of entries.
 
-use crate::decoding::streams::{Row, agrees, both_read};
+use crate::decoding::long::{Coming, all_read};
+use crate::decoding::streams::{Row, agrees};
 use crate::same::same;
 use crate::worked::{loaded, worked};
-use fast_stream::{Cause, Message};
-use fast_template::TemplateSet;
+use fast_stream::Cause;
 use std::alloc::{AllocError, Global};
 use std::process::Abort;
 use stream_rows::ends::End;
-use stream_rows::long::{LONG, Long, stream_of};
-use stream_rows::modes::{BLOCKS, InMode, STRICT_BLOCKS, in_each_mode};
-use stream_rows::sent::{Sent, Shown, messages};
+use stream_rows::long::{LONG, Long};
+use stream_rows::modes::{BLOCKS, STRICT_BLOCKS};
+use stream_rows::sent::{Sent, Shown};
 
 // A string or a vector of each form, and a number behind it.
 const STRINGS: &str = r#"{"templates":[
@@ -229,29 +229,18 @@ const EARLY: &[Long] = &[
     },
 ];
 
-// A row however its bytes come, in each mode.
-fn comes(rt: &impl Abort, alloc: Global, set: &TemplateSet, row: &Long) -> Result<(), AllocError> {
-    let plain = stream_of(alloc, row.pieces)?;
-    let want = messages(alloc, row.want)?;
-    let fault = row.end.fault();
-    for given in &in_each_mode(alloc, &plain, fault.is_some())? {
-        let fault = given.moved(fault);
-        let agree = agrees(alloc, set, given.mode, &given.stream, &want, fault)?;
-        same(rt, agree, true);
+// The streams of these tables however their bytes come.
+fn all_come(rt: &impl Abort, alloc: Global, tables: &[&[Long]]) -> Result<(), AllocError> {
+    let set = loaded(rt, alloc, STRINGS)?;
+    for rows in tables {
+        all_read(rt, alloc, &set, Coming::EachWay, rows)?;
     }
     Ok(())
 }
 
 #[test]
 fn long_pieces_in_few_bytes(rt: HostRuntime) -> Result<(), AllocError> {
-    let set = loaded(&rt, rt.alloc(), STRINGS)?;
-    for row in WHOLE {
-        comes(&rt, rt.alloc(), &set, row)?;
-    }
-    for row in EARLY {
-        comes(&rt, rt.alloc(), &set, row)?;
-    }
-    Ok(())
+    all_come(&rt, rt.alloc(), &[WHOLE, EARLY])
 }
 
 // Blocks that end inside a text and inside a vector: no byte more is waited for.
@@ -281,34 +270,9 @@ fn long_pieces_in_short_blocks(rt: HostRuntime) -> Result<(), AllocError> {
     Ok(())
 }
 
-// A stream of 65,535 characters and more, byte by byte.
-fn trickles(
-    rt: &impl Abort,
-    alloc: Global,
-    set: &TemplateSet,
-    given: &InMode,
-    want: &[Message],
-    end: End,
-) -> Result<(), AllocError> {
-    let InMode { mode, stream, .. } = given;
-    let fault = given.moved(end.fault());
-    same(
-        rt,
-        both_read(alloc, set, *mode, stream, 1, want, fault)?,
-        true,
-    );
-    Ok(())
-}
-
+// Streams of 65,535 characters and more.
 #[test]
 fn longest_pieces_byte_by_byte(rt: HostRuntime) -> Result<(), AllocError> {
     let set = worked(&rt, rt.alloc())?;
-    for row in LONG {
-        let plain = stream_of(rt.alloc(), row.pieces)?;
-        let want = messages(rt.alloc(), row.want)?;
-        for given in &in_each_mode(rt.alloc(), &plain, row.end.fault().is_some())? {
-            trickles(&rt, rt.alloc(), &set, given, &want, row.end)?;
-        }
-    }
-    Ok(())
+    all_read(&rt, rt.alloc(), &set, Coming::ByteByByte, LONG)
 }

@@ -8,7 +8,7 @@ use crate::slots::slots_of;
 use crate::worked::worked;
 use fast_decoder::{Decoder, Mode};
 use fast_dictionary::{Entries, MapEntries};
-use fast_stream::Message;
+use fast_stream::{Fault, Message};
 use fast_template::TemplateSet;
 use std::alloc::{AllocError, Global};
 use std::process::Abort;
@@ -55,6 +55,29 @@ fn holds_behind<E: Entries>(
     Ok(decoder.held() == held)
 }
 
+// Whether a fresh decoder is fed a stream that is cut in two with these messages and then this fault, or none.
+fn is_cut_so<E: Entries>(
+    decoder: &mut Decoder<'_, E>,
+    front: &[u8],
+    back: &[u8],
+    want: &[Message],
+    fault: Option<Fault>,
+    out: &mut Vec<Message>,
+) -> Result<bool, AllocError> {
+    out.clear();
+    if decoder.fed() != 0 || front.len() > 100_000 || back.len() > 100_000 {
+        return Ok(false);
+    }
+    let end = match decoder.feed(front, out) {
+        Err(fault) => Some(fault),
+        Ok(()) => match decoder.feed(back, out) {
+            Err(fault) => Some(fault),
+            Ok(()) => decoder.finish().err(),
+        },
+    };
+    Ok(granted(end)? == fault && out.as_slice() == want)
+}
+
 fn takes<E: Entries>(
     decoder: &mut Decoder<'_, E>,
     step: Step,
@@ -86,8 +109,75 @@ fn takes_all<E: Entries>(
     Ok(true)
 }
 
-// The messages of a decoder that answers all steps so. Where memory was refused, it does after a reset, and the test
-// ends.
+// What a fresh decoder must do.
+#[derive(Clone, Copy)]
+pub(crate) enum Task<'a> {
+    // Answer all steps so.
+    Follow(&'a [Step<'a>]),
+    // Give these messages of a stream that is cut in two, and then this fault, or none.
+    Cut(&'a [u8], &'a [u8], &'a [Message], Option<Fault>),
+}
+
+fn fulfils<E: Entries>(
+    decoder: &mut Decoder<'_, E>,
+    task: Task,
+    out: &mut Vec<Message>,
+) -> Result<bool, AllocError> {
+    match task {
+        Task::Follow(steps) => takes_all(decoder, steps, out),
+        Task::Cut(front, back, want, fault) => is_cut_so(decoder, front, back, want, fault, out),
+    }
+}
+
+// Whether a decoder does. Where memory was refused, it does after a reset, and the test ends.
+fn fulfils_or_resets<E: Entries>(
+    decoder: &mut Decoder<'_, E>,
+    task: Task,
+    out: &mut Vec<Message>,
+) -> Result<bool, AllocError> {
+    match fulfils(decoder, task, out) {
+        Ok(done) => Ok(done),
+        Err(error) => {
+            decoder.reset();
+            if fulfils(decoder, task, out) == Ok(true) {
+                Err(error)
+            } else {
+                Ok(false)
+            }
+        }
+    }
+}
+
+// Whether a decoder over these entries does.
+fn fulfils_over<E: Entries>(
+    alloc: Global,
+    set: &TemplateSet,
+    mode: Mode,
+    entries: E,
+    task: Task,
+    out: &mut Vec<Message>,
+) -> Result<bool, AllocError>
+    requires { ServesAll (E.serves entries) set.now }
+{
+    let mut decoder = Decoder::new(alloc, set, mode, entries);
+    fulfils_or_resets(&mut decoder, task, out)
+}
+
+// Whether decoders over both kinds of entries do.
+pub(crate) fn both_fulfil(
+    alloc: Global,
+    set: &TemplateSet,
+    mode: Mode,
+    task: Task,
+    out: &mut Vec<Message>,
+) -> Result<bool, AllocError> {
+    if !fulfils_over(alloc, set, mode, MapEntries::new(alloc), task, out)? {
+        return Ok(false);
+    }
+    fulfils_over(alloc, set, mode, slots_of(alloc, set)?, task, out)
+}
+
+// The messages of a decoder that answers all steps so.
 pub(crate) fn follow<E: Entries>(
     rt: &impl Abort,
     alloc: Global,
@@ -99,18 +189,10 @@ pub(crate) fn follow<E: Entries>(
     requires { ServesAll (E.serves entries) set.now }
 {
     let mut messages = Vec::new(alloc);
-    let mut decoder = Decoder::new(alloc, set, mode, entries);
-    match takes_all(&mut decoder, steps, &mut messages) {
-        Ok(taken) => {
-            same(rt, taken, true);
-            Ok(messages)
-        }
-        Err(error) => {
-            decoder.reset();
-            same(rt, takes_all(&mut decoder, steps, &mut messages), Ok(true));
-            Err(error)
-        }
-    }
+    let task = Task::Follow(steps);
+    let done = fulfils_over(alloc, set, mode, entries, task, &mut messages)?;
+    same(rt, done, true);
+    Ok(messages)
 }
 
 // The number of messages of a decoder that answers all steps so, over both kinds of entries.

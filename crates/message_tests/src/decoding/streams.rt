@@ -1,14 +1,13 @@
 //! Worked streams: their messages and their faults, however the bytes come.
 
-ghost use Rattle.std.specs.Prelude.{◌≤◌};
 ghost use Rattle.fast_walk.specs.Traversals.{ServesAll};
 
-use crate::decoding::steps::{Step, count, follow};
+use crate::decoding::steps::{Step, Task, both_fulfil, count, follow};
 use crate::granted::granted;
 use crate::same::same;
 use crate::slots::slots_of;
 use crate::worked::{loaded, worked};
-use fast_decoder::{Decoder, MessageInputStream, Mode};
+use fast_decoder::{MessageInputStream, Mode};
 use fast_dictionary::{Entries, MapEntries};
 use fast_io::{ByteInput, Counted, ScriptInput};
 use fast_stream::{Cause, Fault, Message};
@@ -50,26 +49,87 @@ fn ends_so<R: ByteInput, E: Entries>(
     }
 }
 
-// Whether a reader that gives so many bytes at a time gives these messages and then this fault, or none.
+// Whether a reader gives these messages and then this fault, or none.
+fn reads_all<R: ByteInput, E: Entries>(
+    input: &mut MessageInputStream<'_, R, E>,
+    want: &[Message],
+    fault: Option<Fault>,
+) -> Result<bool, AllocError> {
+    Ok(gives_all(input, want)? && ends_so(input, fault)?)
+}
+
+// The faults that two calls answer.
+fn two_faults<R: ByteInput, E: Entries>(
+    input: &mut MessageInputStream<'_, R, E>,
+) -> Result<(Option<Fault>, Option<Fault>), AllocError> {
+    let first = granted(input.read_message().err())?;
+    let second = granted(input.read_message().err())?;
+    Ok((first, second))
+}
+
+// What a reader gives.
+#[derive(Clone, Copy)]
+enum Given<'a> {
+    // These messages, and then this fault, or none.
+    Messages(&'a [Message], Option<Fault>),
+    // These faults, or none, of two calls.
+    Faults(Option<Fault>, Option<Fault>),
+}
+
+fn gives<R: ByteInput, E: Entries>(
+    input: &mut MessageInputStream<'_, R, E>,
+    given: Given,
+) -> Result<bool, AllocError> {
+    match given {
+        Given::Messages(want, fault) => reads_all(input, want, fault),
+        Given::Faults(first, second) => Ok(two_faults(input)? == (first, second)),
+    }
+}
+
+// A reader's script, at least a byte a step, and how often it is read, at most a million times.
+#[derive(Clone, Copy)]
+struct Script<'a> {
+    stream: &'a [u8],
+    step: usize,
+    fails: u64,
+    turns: u64,
+}
+
+// Whether a reader with this script gives this over these entries.
 fn reads<E: Entries>(
     alloc: Global,
     set: &TemplateSet,
     mode: Mode,
     entries: E,
-    stream: &[u8],
-    step: usize,
-    want: &[Message],
-    fault: Option<Fault>,
+    script: Script,
+    given: Given,
 ) -> Result<bool, AllocError>
-    requires step { 1 ≤ step }
-    requires served { ServesAll (E.serves entries) set.now }
+    requires { ServesAll (E.serves entries) set.now }
 {
-    let reader = Counted::new(ScriptInput::new(stream, step, 0));
-    let mut input = MessageInputStream::new(alloc, reader, set, mode, entries, 1_000_000);
-    Ok(gives_all(&mut input, want)? && ends_so(&mut input, fault)?)
+    let reader = ScriptInput::new(script.stream, script.step.max(1), script.fails);
+    let (reader, turns) = (Counted::new(reader), script.turns.min(1_000_000));
+    let mut input = MessageInputStream::new(alloc, reader, set, mode, entries, turns);
+    gives(&mut input, given)
 }
 
 // The same over both kinds of entries.
+fn both_give(
+    alloc: Global,
+    set: &TemplateSet,
+    mode: Mode,
+    script: Script,
+    given: Given,
+) -> Result<bool, AllocError> {
+    let map = MapEntries::new(alloc);
+    if !reads(alloc, set, mode, map, script, given)? {
+        return Ok(false);
+    }
+    let slots = slots_of(alloc, set)?;
+    reads(alloc, set, mode, slots, script, given)
+}
+
+// Whether a reader that gives so many bytes at a time gives these messages and then this fault, or none, over both
+// kinds of entries.
 pub(crate) fn both_read(
     alloc: Global,
     set: &TemplateSet,
@@ -78,70 +138,17 @@ pub(crate) fn both_read(
     step: usize,
     want: &[Message],
     fault: Option<Fault>,
-) -> Result<bool, AllocError>
-    requires { 1 ≤ step }
-{
-    let map = MapEntries::new(alloc);
-    if !reads(alloc, set, mode, map, stream, step, want, fault)? {
-        return Ok(false);
-    }
-    let slots = slots_of(alloc, set)?;
-    reads(alloc, set, mode, slots, stream, step, want, fault)
-}
-
-// Whether a fresh decoder answers this fault, or none, to a stream that is cut in two.
-fn is_cut_so<E: Entries>(
-    decoder: &mut Decoder<'_, E>,
-    front: &[u8],
-    back: &[u8],
-    out: &mut Vec<Message>,
-    fault: Option<Fault>,
 ) -> Result<bool, AllocError> {
-    if decoder.fed() != 0 || front.len() > 100_000 || back.len() > 100_000 {
-        return Ok(false);
-    }
-    let end = match decoder.feed(front, out) {
-        Err(fault) => Some(fault),
-        Ok(()) => match decoder.feed(back, out) {
-            Err(fault) => Some(fault),
-            Ok(()) => decoder.finish().err(),
-        },
+    let script = Script {
+        stream,
+        step,
+        fails: 0,
+        turns: 1_000_000,
     };
-    Ok(granted(end)? == fault)
+    both_give(alloc, set, mode, script, Given::Messages(want, fault))
 }
 
-// Whether a stream that is cut in two gives these messages and then this fault, or none. Where memory was refused, it
-// does after a reset, and the test ends.
-fn decodes<E: Entries>(
-    alloc: Global,
-    set: &TemplateSet,
-    mode: Mode,
-    entries: E,
-    front: &[u8],
-    back: &[u8],
-    want: &[Message],
-    fault: Option<Fault>,
-) -> Result<bool, AllocError>
-    requires { ServesAll (E.serves entries) set.now }
-{
-    let mut decoder = Decoder::new(alloc, set, mode, entries);
-    let mut messages = Vec::new(alloc);
-    match is_cut_so(&mut decoder, front, back, &mut messages, fault) {
-        Ok(ends) => Ok(ends && messages.as_slice() == want),
-        Err(error) => {
-            decoder.reset();
-            messages.clear();
-            let ends = is_cut_so(&mut decoder, front, back, &mut messages, fault)?;
-            if ends && messages.as_slice() == want {
-                Err(error)
-            } else {
-                Ok(false)
-            }
-        }
-    }
-}
-
-// The same over both kinds of entries.
+// Whether a stream that is cut in two gives these messages and then this fault, or none, over both kinds of entries.
 pub(crate) fn both_decode(
     alloc: Global,
     set: &TemplateSet,
@@ -151,12 +158,8 @@ pub(crate) fn both_decode(
     want: &[Message],
     fault: Option<Fault>,
 ) -> Result<bool, AllocError> {
-    let map = MapEntries::new(alloc);
-    if !decodes(alloc, set, mode, map, front, back, want, fault)? {
-        return Ok(false);
-    }
-    let slots = slots_of(alloc, set)?;
-    decodes(alloc, set, mode, slots, front, back, want, fault)
+    let task = Task::Cut(front, back, want, fault);
+    both_fulfil(alloc, set, mode, task, &mut Vec::new(alloc))
 }
 
 // Whether a stream gives these messages and then this fault, or none: in steps of one, two and three bytes, whole, and
@@ -656,18 +659,41 @@ fn long_message(alloc: Global, symbol: &[u8]) -> Result<Message, AllocError> {
     quote(alloc, &whole, -2, 100)
 }
 
-// Whether it is read, in reads of 4,096 bytes, or refused with this fault.
-fn reads_long(
+// A stream is read so, in reads of 4,096 bytes.
+fn is_read_in_reads(
+    rt: &impl Abort,
+    alloc: Global,
+    set: &TemplateSet,
+    mode: Mode,
+    stream: &[u8],
+    want: &[Message],
+    fault: Option<Fault>,
+) -> Result<(), AllocError> {
+    let want = if fault.is_none() { want } else { &[] };
+    let read = both_read(alloc, set, mode, stream, 4096, want, fault)?;
+    same(rt, read, true);
+    Ok(())
+}
+
+// It is read, or refused with this fault.
+fn is_read_long(
+    rt: &impl Abort,
     alloc: Global,
     set: &TemplateSet,
     mode: Mode,
     symbol: &[u8],
     fault: Option<Fault>,
-) -> Result<bool, AllocError> {
+) -> Result<(), AllocError> {
     let stream = long_stream(alloc, symbol)?;
-    let want = vec![in alloc; long_message(alloc, symbol)?]?;
-    let want = if fault.is_none() { &want[..] } else { &[] };
-    both_read(alloc, set, mode, &stream, 4096, want, fault)
+    let want = [long_message(alloc, symbol)?];
+    is_read_in_reads(rt, alloc, set, mode, &stream, &want, fault)
+}
+
+// So many zero groups and so many letters.
+fn long_symbol(alloc: Global, zeros: usize, letters: usize) -> Result<Vec<u8>, AllocError> {
+    let mut symbol = vec![in alloc; 0x00; zeros]?;
+    symbol.extend_from_slice(&vec![in alloc; 0x41; letters]?)?;
+    Ok(symbol)
 }
 
 // It is read or refused so with so many zero groups in front, so many letters and one more.
@@ -679,11 +705,9 @@ pub(crate) fn long(
     letters: usize,
     fault: Option<Fault>,
 ) -> Result<(), AllocError> {
-    let mut symbol = vec![in alloc; 0x00; zeros]?;
-    symbol.extend_from_slice(&vec![in alloc; 0x41; letters]?)?;
+    let symbol = long_symbol(alloc, zeros, letters)?;
     let set = worked(rt, alloc)?;
-    same(rt, reads_long(alloc, &set, mode, &symbol, fault)?, true);
-    Ok(())
+    is_read_long(rt, alloc, &set, mode, &symbol, fault)
 }
 
 #[test]
@@ -753,32 +777,6 @@ fn the_most_held(rt: HostRuntime) -> Result<(), AllocError> {
     Ok(())
 }
 
-// The faults that two calls answer.
-fn two_faults<R: ByteInput, E: Entries>(
-    input: &mut MessageInputStream<'_, R, E>,
-) -> Result<(Option<Fault>, Option<Fault>), AllocError> {
-    let first = granted(input.read_message().err())?;
-    let second = granted(input.read_message().err())?;
-    Ok((first, second))
-}
-
-// The same of a reader that gives so many bytes a call and fails at one, read so often.
-fn faults_over<E: Entries>(
-    alloc: Global,
-    set: &TemplateSet,
-    mode: Mode,
-    entries: E,
-    reader: ScriptInput<'_>,
-    turns: u64,
-) -> Result<(Option<Fault>, Option<Fault>), AllocError>
-    requires turns { turns ≤ 100 }
-    requires served { ServesAll (E.serves entries) set.now }
-{
-    let reader = Counted::new(reader);
-    let mut input = MessageInputStream::new(alloc, reader, set, mode, entries, turns);
-    two_faults(&mut input)
-}
-
 // A reader's script, how often it is read, and the ends that two calls tell.
 struct Reading {
     stream: &'static [u8],
@@ -796,18 +794,14 @@ fn both_answer(
     mode: Mode,
     row: &Reading,
 ) -> Result<(), AllocError> {
-    let ends = (row.ends[0].fault(), row.ends[1].fault());
-    let (step, turns) = (row.step.max(1), row.turns.min(100));
-    let reader = ScriptInput::new(row.stream, step, row.fails);
-    let map = MapEntries::new(alloc);
-    same(rt, faults_over(alloc, set, mode, map, reader, turns)?, ends);
-    let reader = ScriptInput::new(row.stream, step, row.fails);
-    let slots = slots_of(alloc, set)?;
-    same(
-        rt,
-        faults_over(alloc, set, mode, slots, reader, turns)?,
-        ends,
-    );
+    let script = Script {
+        stream: row.stream,
+        step: row.step,
+        fails: row.fails,
+        turns: row.turns,
+    };
+    let given = Given::Faults(row.ends[0].fault(), row.ends[1].fault());
+    same(rt, both_give(alloc, set, mode, script, given)?, true);
     Ok(())
 }
 

@@ -1,7 +1,7 @@
 //! Streams at the strict level: what is overlong, what is just not, and which fault comes first.
 
 use crate::decoding::streams::{Row, all_read_in, each_read, is_read, long};
-use crate::worked::{loaded, worked};
+use crate::worked::loaded;
 use fast_stream::Cause;
 use fast_template::TemplateSet;
 use std::alloc::{AllocError, Global};
@@ -9,7 +9,7 @@ use std::process::Abort;
 use stream_rows::ends::End;
 use stream_rows::modes::{PLAIN, STRICT};
 use stream_rows::sent::{Sent, Shown};
-use template_tests::texts::KINDS;
+use template_tests::texts::{KINDS, WORKED};
 
 // The set of templates with fields of each kind.
 fn kinds(rt: &impl Abort, alloc: Global) -> Result<TemplateSet, AllocError> {
@@ -22,7 +22,7 @@ struct Refused(&'static [u8], End);
 fn all_refused(
     rt: &impl Abort,
     alloc: Global,
-    set: TemplateSet,
+    set: &TemplateSet,
     rows: &[Refused],
 ) -> Result<(), AllocError> {
     for Refused(stream, end) in rows {
@@ -31,7 +31,7 @@ fn all_refused(
             want: &[],
             end: *end,
         };
-        is_read(rt, alloc, &set, STRICT, &row)?;
+        is_read(rt, alloc, set, STRICT, &row)?;
     }
     Ok(())
 }
@@ -42,7 +42,7 @@ struct Judged(&'static [u8], End, End);
 fn all_judged(
     rt: &impl Abort,
     alloc: Global,
-    set: TemplateSet,
+    set: &TemplateSet,
     rows: &[Judged],
 ) -> Result<(), AllocError> {
     for Judged(stream, usual, strict) in rows {
@@ -51,11 +51,24 @@ fn all_judged(
             want: &[],
             end: *usual,
         };
-        is_read(rt, alloc, &set, PLAIN, &row)?;
+        is_read(rt, alloc, set, PLAIN, &row)?;
         row.end = *strict;
-        is_read(rt, alloc, &set, STRICT, &row)?;
+        is_read(rt, alloc, set, STRICT, &row)?;
     }
     Ok(())
+}
+
+// The first messages of streams over the templates of a text.
+fn each_refused(
+    rt: &impl Abort,
+    alloc: Global,
+    text: &str,
+    refused: &[Refused],
+    judged: &[Judged],
+) -> Result<(), AllocError> {
+    let set = loaded(rt, alloc, text)?;
+    all_refused(rt, alloc, &set, refused)?;
+    all_judged(rt, alloc, &set, judged)
 }
 
 fn all_kinds_read(rt: &impl Abort, alloc: Global, rows: &[Row]) -> Result<(), AllocError> {
@@ -397,10 +410,8 @@ fn overlong_streams(rt: HostRuntime) -> Result<(), AllocError> {
             End::Fault(Cause::D5, 1, 9, 12, 7),
         ),
     ];
-    all_refused(&rt, rt.alloc(), worked(&rt, rt.alloc())?, REFUSED_WORKED)?;
-    all_refused(&rt, rt.alloc(), kinds(&rt, rt.alloc())?, REFUSED_KINDS)?;
-    all_judged(&rt, rt.alloc(), worked(&rt, rt.alloc())?, JUDGED_WORKED)?;
-    all_judged(&rt, rt.alloc(), kinds(&rt, rt.alloc())?, JUDGED_KINDS)
+    each_refused(&rt, rt.alloc(), WORKED, REFUSED_WORKED, JUDGED_WORKED)?;
+    each_refused(&rt, rt.alloc(), KINDS, REFUSED_KINDS, JUDGED_KINDS)
 }
 
 #[test]

@@ -2,12 +2,11 @@
 
 ghost use Rattle.fast_walk.specs.Traversals.{ServesAll};
 
-use crate::granted::granted;
+use crate::decoding::steps::{Step, follow};
 use crate::same::same;
 use crate::slots::slots_of;
 use crate::worked::worked;
 use fast_build::{Load, LoadCause};
-use fast_decoder::Decoder;
 use fast_dictionary::{Entries, MapEntries};
 use fast_encoder::{EncodeCause, EncodeFault, Encoder, MessageOutputStream};
 use fast_io::{ByteOutput, Counted, ScriptOutput};
@@ -15,18 +14,20 @@ use fast_stream::{Message, Node};
 use fast_template::{Scalar, TemplateSet, UnicodeText};
 use std::alloc::{AllocError, Global};
 use std::process::Abort;
+use stream_rows::ends::End;
 use stream_rows::modes::PLAIN;
 use stream_rows::quotes::quote;
 use stream_rows::sent::text;
 
 // The messages of a stream.
-fn decoded(alloc: Global, set: &TemplateSet, stream: &[u8]) -> Result<Vec<Message>, AllocError> {
-    let mut decoder = Decoder::new(alloc, set, PLAIN, MapEntries::new(alloc));
-    let mut messages = Vec::new(alloc);
-    if decoder.fed() < 1000 && stream.len() < 1000 {
-        granted(decoder.feed(stream, &mut messages).err())?;
-    }
-    Ok(messages)
+fn decoded(
+    rt: &impl Abort,
+    alloc: Global,
+    set: &TemplateSet,
+    stream: &[u8],
+) -> Result<Vec<Message>, AllocError> {
+    let steps = [Step::Feed(stream, End::Whole)];
+    follow(rt, alloc, set, PLAIN, MapEntries::new(alloc), &steps)
 }
 
 // Whether an answer is that of refused memory.
@@ -70,22 +71,102 @@ fn encodes_all<E: Entries>(
     Ok(true)
 }
 
-// Whether messages have these canonical bytes, over these entries.
+// Whether messages have these canonical bytes.
 fn encodes<E: Entries>(
+    encoder: &mut Encoder<'_, E>,
+    messages: &[Message],
+    canonical: &[u8],
+    out: &mut Vec<u8>,
+) -> Result<bool, AllocError> {
+    Ok(encodes_all(encoder, messages, out)? && out.as_slice() == canonical)
+}
+
+// Whether a message is refused so behind others, and nothing appended.
+fn refuses_behind<E: Entries>(
+    encoder: &mut Encoder<'_, E>,
+    before: &[Message],
+    message: &Message,
+    fault: EncodeFault,
+    out: &mut Vec<u8>,
+) -> Result<bool, AllocError> {
+    if !encodes_all(encoder, before, out)? {
+        return Ok(false);
+    }
+    let size = out.len();
+    Ok(answers(encoder, message, Err(fault), out)? && out.len() == size)
+}
+
+// Whether a refusal leaves the entries as they were, and a reset makes them undefined, and what is written.
+fn goes_on<E: Entries>(
+    encoder: &mut Encoder<'_, E>,
+    long: &Message,
+    short: &Message,
+    out: &mut Vec<u8>,
+) -> Result<bool, AllocError> {
+    const WANT: &[u8] = b"\xe0\x88\x78\x61\xe2\x80\xe0\x88\x78\x61\xe2";
+    let first = answers(encoder, long, Ok(()), out)?;
+    let second = encoder.encode(short, out).is_err();
+    let third = answers(encoder, long, Ok(()), out)?;
+    encoder.reset();
+    let fourth = answers(encoder, long, Ok(()), out)?;
+    Ok(first && second && third && fourth && out.as_slice() == WANT)
+}
+
+// What an encoder that is new must do.
+#[derive(Clone, Copy)]
+enum Task<'a> {
+    // Give messages these canonical bytes.
+    Encode(&'a [Message], &'a [u8]),
+    // Refuse a message for this behind others, and append nothing.
+    Refuse(&'a [Message], &'a Message, EncodeFault),
+    // Go on with a long string behind a short one that it refuses.
+    GoOn(&'a Message, &'a Message),
+}
+
+// Whether it does.
+fn fulfils<E: Entries>(
+    encoder: &mut Encoder<'_, E>,
+    task: &Task,
+    out: &mut Vec<u8>,
+) -> Result<bool, AllocError> {
+    match task {
+        Task::Encode(messages, canonical) => encodes(encoder, messages, canonical, out),
+        Task::Refuse(before, message, fault) => {
+            refuses_behind(encoder, before, message, *fault, out)
+        }
+        Task::GoOn(long, short) => goes_on(encoder, long, short, out),
+    }
+}
+
+// The same over these entries.
+fn fulfils_over<E: Entries>(
     alloc: Global,
     set: &TemplateSet,
     entries: E,
-    messages: &[Message],
-    canonical: &[u8],
+    task: &Task,
 ) -> Result<bool, AllocError>
     requires { ServesAll (E.serves entries) set.now }
 {
     let mut encoder = Encoder::new(alloc, set, entries);
     let mut out = Vec::new(alloc);
-    Ok(encodes_all(&mut encoder, messages, &mut out)? && out.as_slice() == canonical)
+    fulfils(&mut encoder, task, &mut out)
 }
 
-// The messages of a stream have these canonical bytes, over both kinds of entries.
+// Encoders over both kinds of entries do.
+fn both_fulfil(
+    rt: &impl Abort,
+    alloc: Global,
+    set: &TemplateSet,
+    task: &Task,
+) -> Result<(), AllocError> {
+    let map = MapEntries::new(alloc);
+    same(rt, fulfils_over(alloc, set, map, task)?, true);
+    let slots = slots_of(alloc, set)?;
+    same(rt, fulfils_over(alloc, set, slots, task)?, true);
+    Ok(())
+}
+
+// The messages of a stream have these canonical bytes.
 fn has_canonical(
     rt: &impl Abort,
     alloc: Global,
@@ -93,12 +174,8 @@ fn has_canonical(
     stream: &[u8],
     canonical: &[u8],
 ) -> Result<(), AllocError> {
-    let messages = decoded(alloc, set, stream)?;
-    let map = MapEntries::new(alloc);
-    same(rt, encodes(alloc, set, map, &messages, canonical)?, true);
-    let slots = slots_of(alloc, set)?;
-    same(rt, encodes(alloc, set, slots, &messages, canonical)?, true);
-    Ok(())
+    let messages = decoded(rt, alloc, set, stream)?;
+    both_fulfil(rt, alloc, set, &Task::Encode(&messages, canonical))
 }
 
 // Streams, and their canonical bytes.
@@ -152,59 +229,6 @@ fn canonical_messages(rt: HostRuntime) -> Result<(), AllocError> {
     all_have_canonical(&rt, rt.alloc(), ROWS)
 }
 
-// Whether a message is refused so, and nothing appended.
-fn refuses_one<E: Entries>(
-    encoder: &mut Encoder<'_, E>,
-    message: &Message,
-    fault: EncodeFault,
-    out: &mut Vec<u8>,
-) -> Result<bool, AllocError> {
-    let size = out.len();
-    Ok(answers(encoder, message, Err(fault), out)? && out.len() == size)
-}
-
-// Whether a message is refused for this behind others, and nothing appended, over these entries.
-fn refuses_over<E: Entries>(
-    alloc: Global,
-    set: &TemplateSet,
-    entries: E,
-    before: &[Message],
-    message: &Message,
-    fault: EncodeFault,
-) -> Result<bool, AllocError>
-    requires { ServesAll (E.serves entries) set.now }
-{
-    let mut encoder = Encoder::new(alloc, set, entries);
-    let mut out = Vec::new(alloc);
-    Ok(
-        encodes_all(&mut encoder, before, &mut out)?
-            && refuses_one(&mut encoder, message, fault, &mut out)?,
-    )
-}
-
-fn both_refuse(
-    rt: &impl Abort,
-    alloc: Global,
-    set: &TemplateSet,
-    before: &[Message],
-    message: &Message,
-    fault: EncodeFault,
-) -> Result<(), AllocError> {
-    let map = MapEntries::new(alloc);
-    same(
-        rt,
-        refuses_over(alloc, set, map, before, message, fault)?,
-        true,
-    );
-    let slots = slots_of(alloc, set)?;
-    same(
-        rt,
-        refuses_over(alloc, set, slots, before, message, fault)?,
-        true,
-    );
-    Ok(())
-}
-
 // A message is refused for this behind others, over both kinds of entries.
 fn is_refused(
     rt: &impl Abort,
@@ -216,7 +240,7 @@ fn is_refused(
 ) -> Result<(), AllocError> {
     let fault = EncodeFault { cause, instruction };
     let set = worked(rt, alloc)?;
-    both_refuse(rt, alloc, &set, before, message, fault)
+    both_fulfil(rt, alloc, &set, &Task::Refuse(before, message, fault))
 }
 
 fn message(template: u32, fields: Vec<Node>) -> Message {
@@ -354,57 +378,12 @@ fn messages_that_are_refused_behind_another(rt: HostRuntime) -> Result<(), Alloc
     all_refused(&rt, rt.alloc(), &[before], ROWS)
 }
 
-// Whether a refusal leaves the entries as they were, and a reset makes them undefined.
-fn goes_on_with<E: Entries>(
-    encoder: &mut Encoder<'_, E>,
-    long: &Message,
-    short: &Message,
-    out: &mut Vec<u8>,
-) -> Result<bool, AllocError> {
-    let first = answers(encoder, long, Ok(()), out)?;
-    let second = encoder.encode(short, out).is_err();
-    let third = answers(encoder, long, Ok(()), out)?;
-    encoder.reset();
-    let fourth = answers(encoder, long, Ok(()), out)?;
-    Ok(first && second && third && fourth)
-}
-
-// The same over these entries, and what is written.
-fn goes_on<E: Entries>(
-    alloc: Global,
-    set: &TemplateSet,
-    entries: E,
-    long: &Message,
-    short: &Message,
-) -> Result<bool, AllocError>
-    requires { ServesAll (E.serves entries) set.now }
-{
-    const WANT: &[u8] = b"\xe0\x88\x78\x61\xe2\x80\xe0\x88\x78\x61\xe2";
-    let mut encoder = Encoder::new(alloc, set, entries);
-    let mut out = Vec::new(alloc);
-    Ok(goes_on_with(&mut encoder, long, short, &mut out)? && out.as_slice() == WANT)
-}
-
-fn both_go_on(
-    rt: &impl Abort,
-    alloc: Global,
-    set: &TemplateSet,
-    long: &Message,
-    short: &Message,
-) -> Result<(), AllocError> {
-    let map = MapEntries::new(alloc);
-    same(rt, goes_on(alloc, set, map, long, short)?, true);
-    let slots = slots_of(alloc, set)?;
-    same(rt, goes_on(alloc, set, slots, long, short)?, true);
-    Ok(())
-}
-
 #[test]
 fn a_refusal_changes_nothing(rt: HostRuntime) -> Result<(), AllocError> {
     let long = string(rt.alloc(), 8, b"xab")?;
     let short = string(rt.alloc(), 8, b"x")?;
     let set = worked(&rt, rt.alloc())?;
-    both_go_on(&rt, rt.alloc(), &set, &long, &short)
+    both_fulfil(&rt, rt.alloc(), &set, &Task::GoOn(&long, &short))
 }
 
 const WRITE: EncodeFault = EncodeFault {
@@ -433,66 +412,6 @@ fn fails_thrice<W: ByteOutput, E: Entries>(
     let twice = fails(stream, first)?;
     stream.reset();
     Ok(once && twice && fails(stream, first)?)
-}
-
-fn keeps_failing(
-    alloc: Global,
-    set: &TemplateSet,
-    first: &Message,
-    out: &mut ScriptOutput,
-) -> Result<bool, AllocError> {
-    let writer = Counted::new(out);
-    let mut stream = MessageOutputStream::new(alloc, writer, set, MapEntries::new(alloc));
-    fails_thrice(&mut stream, first)
-}
-
-// A writer keeps failing, and has taken these bytes, or a front of them where its own memory was refused.
-fn fails_behind(
-    rt: &impl Abort,
-    alloc: Global,
-    set: &TemplateSet,
-    first: &Message,
-    writer: ScriptOutput,
-    taken: &[u8],
-) -> Result<(), AllocError> {
-    let mut out = writer;
-    same(rt, keeps_failing(alloc, set, first, &mut out)?, true);
-    same(rt, taken.starts_with(out.bytes()), true);
-    if out.bytes() != taken {
-        return Err(AllocError);
-    }
-    Ok(())
-}
-
-fn writers_fail(
-    rt: &impl Abort,
-    alloc: Global,
-    set: &TemplateSet,
-    first: &Message,
-) -> Result<(), AllocError> {
-    let full = ScriptOutput::new(alloc, 3, false, false);
-    fails_behind(rt, alloc, set, first, full, &[0xf0, 0x81, 0x81])?;
-    let none = ScriptOutput::new(alloc, 0, true, false);
-    fails_behind(rt, alloc, set, first, none, &[])
-}
-
-fn writers_fail_at(
-    rt: &impl Abort,
-    alloc: Global,
-    set: &TemplateSet,
-    stream: &[u8],
-) -> Result<(), AllocError> {
-    let messages = decoded(alloc, set, stream)?;
-    match messages.first() {
-        Some(first) => writers_fail(rt, alloc, set, first),
-        None => panic!(rt; "no message"),
-    }
-}
-
-#[test]
-fn a_writer_that_fails(rt: HostRuntime) -> Result<(), AllocError> {
-    let set = worked(&rt, rt.alloc())?;
-    writers_fail_at(&rt, rt.alloc(), &set, b"\xf0\x81\x81\x41\xc2\xfe\x00\xe4")
 }
 
 // Whether a message is written. Where memory was refused, to the stream or to the writer, the test ends.
@@ -524,15 +443,85 @@ fn writes_each<W: ByteOutput, E: Entries>(
     }
 }
 
-fn writes_all(
+// What a stream of messages meets.
+#[derive(Clone, Copy)]
+enum Writer<'a> {
+    // A writer that fails at this message.
+    Fails(&'a Message),
+    // A writer that takes all of these.
+    Takes(&'a [Message]),
+}
+
+fn meets<W: ByteOutput, E: Entries>(
+    stream: &mut MessageOutputStream<'_, W, E>,
+    writer: Writer,
+) -> Result<bool, AllocError> {
+    match writer {
+        Writer::Fails(first) => fails_thrice(stream, first),
+        Writer::Takes(two) => writes_each(stream, two),
+    }
+}
+
+// Whether a stream of messages that is new meets it.
+fn writes_to(
     alloc: Global,
     set: &TemplateSet,
-    two: &[Message],
+    writer: Writer,
     out: &mut ScriptOutput,
 ) -> Result<bool, AllocError> {
-    let writer = Counted::new(out);
-    let mut stream = MessageOutputStream::new(alloc, writer, set, MapEntries::new(alloc));
-    writes_each(&mut stream, two)
+    let counted = Counted::new(out);
+    let mut stream = MessageOutputStream::new(alloc, counted, set, MapEntries::new(alloc));
+    meets(&mut stream, writer)
+}
+
+// A writer keeps failing, and has taken these bytes, or a front of them where its own memory was refused.
+fn fails_behind(
+    rt: &impl Abort,
+    alloc: Global,
+    set: &TemplateSet,
+    first: &Message,
+    writer: ScriptOutput,
+    taken: &[u8],
+) -> Result<(), AllocError> {
+    let mut out = writer;
+    let failing = Writer::Fails(first);
+    same(rt, writes_to(alloc, set, failing, &mut out)?, true);
+    same(rt, taken.starts_with(out.bytes()), true);
+    if out.bytes() != taken {
+        return Err(AllocError);
+    }
+    Ok(())
+}
+
+fn writers_fail(
+    rt: &impl Abort,
+    alloc: Global,
+    set: &TemplateSet,
+    first: &Message,
+) -> Result<(), AllocError> {
+    let full = ScriptOutput::new(alloc, 3, false, false);
+    fails_behind(rt, alloc, set, first, full, &[0xf0, 0x81, 0x81])?;
+    let none = ScriptOutput::new(alloc, 0, true, false);
+    fails_behind(rt, alloc, set, first, none, &[])
+}
+
+fn writers_fail_at(
+    rt: &impl Abort,
+    alloc: Global,
+    set: &TemplateSet,
+    stream: &[u8],
+) -> Result<(), AllocError> {
+    let messages = decoded(rt, alloc, set, stream)?;
+    match messages.first() {
+        Some(first) => writers_fail(rt, alloc, set, first),
+        None => panic!(rt; "no message"),
+    }
+}
+
+#[test]
+fn a_writer_that_fails(rt: HostRuntime) -> Result<(), AllocError> {
+    let set = worked(&rt, rt.alloc())?;
+    writers_fail_at(&rt, rt.alloc(), &set, b"\xf0\x81\x81\x41\xc2\xfe\x00\xe4")
 }
 
 // The messages of a stream are written so.
@@ -543,9 +532,9 @@ fn are_written(
     stream: &[u8],
     want: &[u8],
 ) -> Result<(), AllocError> {
-    let two = decoded(alloc, set, stream)?;
+    let two = decoded(rt, alloc, set, stream)?;
     let mut out = ScriptOutput::new(alloc, 100, false, false);
-    let written = writes_all(alloc, set, &two, &mut out);
+    let written = writes_to(alloc, set, Writer::Takes(&two), &mut out);
     // also where memory was refused
     same(rt, want.starts_with(out.bytes()), true);
     same(rt, written?, true);
@@ -610,7 +599,8 @@ fn refuses_wide(alloc: Global, set: &TemplateSet, wide: &Message) -> Result<bool
         cause: EncodeCause::Limit,
         instruction: 0,
     };
-    refuses_over(alloc, set, MapEntries::new(alloc), &[], wide, fault)
+    let task = Task::Refuse(&[], wide, fault);
+    fulfils_over(alloc, set, MapEntries::new(alloc), &task)
 }
 
 #[test]

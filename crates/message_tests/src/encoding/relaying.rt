@@ -51,15 +51,16 @@ fn waits(
     Ok(())
 }
 
-fn is_relayed(
+// A machine that is new makes the canonical bytes of a row.
+fn relays(
     rt: &impl Abort,
     alloc: Global,
-    set: &TemplateSet,
+    machine: &mut Machine<'_, Writer, SlotEntries<'_>>,
     row: &Row,
-) -> Result<(), AllocError> {
-    let entries = slots_of(alloc, set)?;
-    let mut machine = Machine::new(alloc, set, PLAIN, Writer::new(alloc), entries);
-    let refused = is_refused(&mut machine, row.stream);
+) -> Result<(), AllocError>
+    requires { machine.now.fed ≡ 0 }
+{
+    let refused = is_refused(machine, row.stream);
     // also where memory was refused
     same(
         rt,
@@ -67,15 +68,7 @@ fn is_relayed(
         true,
     );
     same(rt, refused?, row.refused);
-    waits(rt, alloc, &mut machine, row.canonical)
-}
-
-fn all_relayed(rt: &impl Abort, alloc: Global, rows: &[Row]) -> Result<(), AllocError> {
-    let set = worked(rt, alloc)?;
-    for row in rows {
-        is_relayed(rt, alloc, &set, row)?;
-    }
-    Ok(())
+    waits(rt, alloc, machine, row.canonical)
 }
 
 // A stream all of whose growths are the reading's own, or all the writer's and the entries'.
@@ -84,16 +77,15 @@ struct Growing {
     of_receiver: bool,
 }
 
-// Where memory is refused, the machine knows whose growth it was.
-fn is_told_apart(
+// Where memory is refused, a machine that is new knows whose growth it was.
+fn tells_apart(
     rt: &impl Abort,
-    alloc: Global,
-    set: &TemplateSet,
+    machine: &mut Machine<'_, Writer, SlotEntries<'_>>,
     row: &Growing,
-) -> Result<(), AllocError> {
-    let entries = slots_of(alloc, set)?;
-    let mut machine = Machine::new(alloc, set, PLAIN, Writer::new(alloc), entries);
-    match is_refused(&mut machine, row.stream) {
+) -> Result<(), AllocError>
+    requires { machine.now.fed ≡ 0 }
+{
+    match is_refused(machine, row.stream) {
         Err(AllocError) => {
             same(rt, machine.receiver_refused(), row.of_receiver);
             Err(AllocError)
@@ -103,6 +95,48 @@ fn is_told_apart(
             Ok(())
         }
     }
+}
+
+// What a machine must do.
+#[derive(Clone, Copy)]
+enum Task<'a> {
+    Relay(&'a Row),
+    TellApart(&'a Growing),
+}
+
+// A machine that is new does.
+fn fulfils(
+    rt: &impl Abort,
+    alloc: Global,
+    machine: &mut Machine<'_, Writer, SlotEntries<'_>>,
+    task: &Task,
+) -> Result<(), AllocError>
+    requires { machine.now.fed ≡ 0 }
+{
+    match task {
+        Task::Relay(row) => relays(rt, alloc, machine, row),
+        Task::TellApart(row) => tells_apart(rt, machine, row),
+    }
+}
+
+// A machine over a writer does.
+fn is_done(
+    rt: &impl Abort,
+    alloc: Global,
+    set: &TemplateSet,
+    task: &Task,
+) -> Result<(), AllocError> {
+    let entries = slots_of(alloc, set)?;
+    let mut machine = Machine::new(alloc, set, PLAIN, Writer::new(alloc), entries);
+    fulfils(rt, alloc, &mut machine, task)
+}
+
+fn all_relayed(rt: &impl Abort, alloc: Global, rows: &[Row]) -> Result<(), AllocError> {
+    let set = worked(rt, alloc)?;
+    for row in rows {
+        is_done(rt, alloc, &set, &Task::Relay(row))?;
+    }
+    Ok(())
 }
 
 // (`bench/refused.py` refuses each growth)
@@ -127,7 +161,7 @@ fn growths_are_told_apart(rt: HostRuntime) -> Result<(), AllocError> {
     ];
     let set = worked(&rt, rt.alloc())?;
     for row in ROWS {
-        is_told_apart(&rt, rt.alloc(), &set, row)?;
+        is_done(&rt, rt.alloc(), &set, &Task::TellApart(row))?;
     }
     Ok(())
 }
