@@ -3,8 +3,8 @@
 ghost use Rattle.std.specs.Prelude.{◌≤◌};
 
 use crate::streams::{
-    At, Made, QUOTE_LINE, REFUSALS, ROWS, Refusal, Row, TWO_LINES, counted, ends, gives,
-    made_before, makes, refused, stops,
+    At, Made, QUOTE_LINE, REFUSALS, ROWS, Refusal, Row, TWO_LINES, all_end, all_stop, counted,
+    gives, made_before, makes, refused,
 };
 use crate::strict::told;
 use crate::worked::worked;
@@ -15,6 +15,7 @@ use fast_stream::Cause;
 use fast_template::TemplateSet;
 use std::alloc::{AllocError, Global};
 use std::process::Abort;
+use stream_rows::long::{MANY, stream_of};
 use stream_rows::modes::{BLOCKS, STRICT_BLOCKS};
 use stream_rows::quotes::{QUOTE, TWO_SHORT};
 
@@ -64,14 +65,7 @@ fn blocks_of_messages(rt: HostRuntime) -> Result<(), AllocError> {
             canonical: TWO_SHORT,
         },
     ];
-    let alloc = rt.alloc();
-    let set = worked(&rt, alloc)?;
-    for row in STREAMS {
-        ends(&rt, alloc, &set, BLOCKS, row, 1)?;
-        ends(&rt, alloc, &set, BLOCKS, row, 2)?;
-        ends(&rt, alloc, &set, BLOCKS, row, 4096)?;
-    }
-    Ok(())
+    all_end(&rt, rt.alloc(), BLOCKS, STREAMS)
 }
 
 #[test]
@@ -216,17 +210,8 @@ fn blocks_that_are_refused(rt: HostRuntime) -> Result<(), AllocError> {
             at: At(9, 0, 0),
         },
     ];
-    let alloc = rt.alloc();
-    let set = worked(&rt, alloc)?;
-    for row in USUALLY {
-        stops(&rt, alloc, &set, BLOCKS, row, 1)?;
-        stops(&rt, alloc, &set, BLOCKS, row, 4096)?;
-    }
-    for row in STRICTLY {
-        stops(&rt, alloc, &set, STRICT_BLOCKS, row, 1)?;
-        stops(&rt, alloc, &set, STRICT_BLOCKS, row, 4096)?;
-    }
-    Ok(())
+    all_stop(&rt, rt.alloc(), BLOCKS, USUALLY)?;
+    all_stop(&rt, rt.alloc(), STRICT_BLOCKS, STRICTLY)
 }
 
 /// A stream in one block, whose size has one byte.
@@ -270,14 +255,23 @@ fn ends_in_block(
     makes(rt, alloc, set, mode, &block, step, 0, made)
 }
 
+/// The same of its stream, and at the strict level of its canonical bytes.
+fn ends_in_blocks(
+    rt: &impl Abort,
+    alloc: Global,
+    set: &TemplateSet,
+    row: &Row,
+) -> Result<(), AllocError> {
+    ends_in_block(rt, alloc, set, BLOCKS, row, row.stream, 1)?;
+    ends_in_block(rt, alloc, set, BLOCKS, row, row.stream, 4096)?;
+    ends_in_block(rt, alloc, set, STRICT_BLOCKS, row, row.canonical, 2)
+}
+
 #[test]
 fn worked_streams_in_blocks(rt: HostRuntime) -> Result<(), AllocError> {
-    let alloc = rt.alloc();
-    let set = worked(&rt, alloc)?;
+    let set = worked(&rt, rt.alloc())?;
     for row in &ROWS {
-        ends_in_block(&rt, alloc, &set, BLOCKS, row, row.stream, 1)?;
-        ends_in_block(&rt, alloc, &set, BLOCKS, row, row.stream, 4096)?;
-        ends_in_block(&rt, alloc, &set, STRICT_BLOCKS, row, row.canonical, 2)?;
+        ends_in_blocks(&rt, rt.alloc(), &set, row)?;
     }
     Ok(())
 }
@@ -330,43 +324,47 @@ fn a_long_message_in_a_block(rt: HostRuntime) -> Result<(), AllocError> {
     )
 }
 
-// A block whose size has three bytes, and one for each message.
+/// The canonical bytes of blocks of many messages, in steps of one size.
+fn is_long_in_blocks(
+    rt: &impl Abort,
+    alloc: Global,
+    set: &TemplateSet,
+    pieces: &[(&[u8], usize)],
+    step: usize,
+    read: usize,
+    plain: &[u8],
+) -> Result<(), AllocError>
+    requires { 1 ≤ step }
+{
+    let stream = stream_of(alloc, pieces)?;
+    gives(
+        rt,
+        alloc,
+        set,
+        STRICT_BLOCKS,
+        Command::Canon,
+        ScriptInput::new(&stream, step, 0),
+        plain,
+        counted(10_001, read, 30_008),
+    )
+}
+
+fn are_long_in_blocks(
+    rt: &impl Abort,
+    alloc: Global,
+    set: &TemplateSet,
+    plain: &[u8],
+) -> Result<(), AllocError> {
+    // a block whose size has three bytes, and one for each message
+    const ONE: &[(&[u8], usize)] = &[(b"\x01\x6a\xb8", 1), (QUOTE, 1), (b"\x80\x80\x81", 10_000)];
+    const EACH: &[(&[u8], usize)] = &[(b"\x88", 1), (QUOTE, 1), (b"\x83\x80\x80\x81", 10_000)];
+    is_long_in_blocks(rt, alloc, set, ONE, 4096, 30_011, plain)?;
+    is_long_in_blocks(rt, alloc, set, EACH, 1000, 40_009, plain)
+}
+
 #[test]
 fn long_streams_in_blocks(rt: HostRuntime) -> Result<(), AllocError> {
-    let alloc = rt.alloc();
-    let set = worked(&rt, alloc)?;
-    let mut plain = Vec::from_slice(alloc, QUOTE)?;
-    let mut block = Vec::from_slice(alloc, b"\x01\x6a\xb8")?;
-    let mut blocks = Vec::from_slice(alloc, b"\x88")?;
-    block.extend_from_slice(QUOTE)?;
-    blocks.extend_from_slice(QUOTE)?;
-    for _ in 0..10_000 {
-        plain.extend_from_slice(b"\x80\x80\x81")?;
-        block.extend_from_slice(b"\x80\x80\x81")?;
-        blocks.extend_from_slice(b"\x83\x80\x80\x81")?;
-    }
-    let reader = ScriptInput::new(&block, 4096, 0);
-    let answer = counted(10_001, 30_011, 30_008);
-    gives(
-        &rt,
-        alloc,
-        &set,
-        STRICT_BLOCKS,
-        Command::Canon,
-        reader,
-        &plain,
-        answer,
-    )?;
-    let reader = ScriptInput::new(&blocks, 1000, 0);
-    let answer = counted(10_001, 40_009, 30_008);
-    gives(
-        &rt,
-        alloc,
-        &set,
-        STRICT_BLOCKS,
-        Command::Canon,
-        reader,
-        &plain,
-        answer,
-    )
+    let plain = stream_of(rt.alloc(), MANY)?;
+    let set = worked(&rt, rt.alloc())?;
+    are_long_in_blocks(&rt, rt.alloc(), &set, &plain)
 }

@@ -13,7 +13,7 @@ use stream_rows::cuts::{CUTS, Cut};
 use stream_rows::long::{LONG, LONG_BARE, LONG_SEQUENCES, Long, MANY, stream_of};
 use stream_rows::modes::{InMode, PLAIN, in_each_mode};
 use stream_rows::quotes::{TWO, TWO_SHORT};
-use template_tests::texts::BARE;
+use template_tests::texts::{BARE, WORKED};
 
 // A stream in a mode, how much of it one read gives, and which of its reads fails.
 #[derive(Clone, Copy)]
@@ -221,17 +221,39 @@ fn fails_behind(
     gives(rt, alloc, set, given, written, answer)
 }
 
+// The same behind each number of bytes.
+fn fails_in(
+    rt: &impl Abort,
+    alloc: Global,
+    set: &TemplateSet,
+    row: &Cut,
+    stream: &InMode,
+) -> Result<(), AllocError> {
+    for count in 0..=row.missing.len() {
+        fails_behind(rt, alloc, set, row, stream, count)?;
+    }
+    Ok(())
+}
+
+// The same in each mode.
+fn fails_everywhere(
+    rt: &impl Abort,
+    alloc: Global,
+    set: &TemplateSet,
+    row: &Cut,
+) -> Result<(), AllocError> {
+    let is_refused = row.front(row.missing.len()).truncated().is_some();
+    for stream in &in_each_mode(alloc, row.stream, is_refused)? {
+        fails_in(rt, alloc, set, row, stream)?;
+    }
+    Ok(())
+}
+
 #[test]
 fn a_reader_that_fails(rt: HostRuntime) -> Result<(), AllocError> {
-    let alloc = rt.alloc();
-    let set = worked(&rt, alloc)?;
+    let set = worked(&rt, rt.alloc())?;
     for row in CUTS {
-        let is_refused = row.front(row.missing.len()).truncated().is_some();
-        for stream in &in_each_mode(alloc, row.stream, is_refused)? {
-            for count in 0..=row.missing.len() {
-                fails_behind(&rt, alloc, &set, row, stream, count)?;
-            }
-        }
+        fails_everywhere(&rt, rt.alloc(), &set, row)?;
     }
     Ok(())
 }
@@ -244,7 +266,37 @@ fn reads_that_are_used_up(rt: HostRuntime) -> Result<(), AllocError> {
     is_checked(&rt, checked(alloc, &set, plainly(TWO, 4), 2), turns)
 }
 
-// A stream of so many messages that is canonical itself, or is refused with nothing before.
+// A stream of so many messages in a mode is canonical itself, or is refused with nothing before.
+fn stays_in(
+    rt: &impl Abort,
+    alloc: Global,
+    set: &TemplateSet,
+    stream: &InMode,
+    plain: &[u8],
+    messages: u64,
+    fault: Option<Fault>,
+) -> Result<(), AllocError> {
+    let given = Given {
+        mode: stream.mode,
+        stream: &stream.stream,
+        step: 4096,
+        failing: 0,
+    };
+    let (written, answer) = match stream.moved(fault) {
+        Some(fault) => (b"".as_slice(), Err(CanonFault::Stream(fault))),
+        None => {
+            let counted = Summary {
+                messages,
+                read: stream.stream.len() as u64,
+                written: plain.len() as u64,
+            };
+            (plain, Ok(counted))
+        }
+    };
+    gives(rt, alloc, set, given, written, answer)
+}
+
+// The same in each mode.
 fn stays(
     rt: &impl Abort,
     alloc: Global,
@@ -254,29 +306,12 @@ fn stays(
     fault: Option<Fault>,
 ) -> Result<(), AllocError> {
     for stream in &in_each_mode(alloc, plain, fault.is_some())? {
-        let given = Given {
-            mode: stream.mode,
-            stream: &stream.stream,
-            step: 4096,
-            failing: 0,
-        };
-        let (written, answer) = match stream.moved(fault) {
-            Some(fault) => (b"".as_slice(), Err(CanonFault::Stream(fault))),
-            None => {
-                let counted = Summary {
-                    messages,
-                    read: stream.stream.len() as u64,
-                    written: plain.len() as u64,
-                };
-                (plain, Ok(counted))
-            }
-        };
-        gives(rt, alloc, set, given, written, answer)?;
+        stays_in(rt, alloc, set, stream, plain, messages, fault)?;
     }
     Ok(())
 }
 
-fn all_stay(
+fn each_stays(
     rt: &impl Abort,
     alloc: Global,
     set: &TemplateSet,
@@ -290,19 +325,25 @@ fn all_stay(
     Ok(())
 }
 
+// The same of each stream of the templates of a text.
+fn all_stay(rt: &impl Abort, alloc: Global, text: &str, rows: &[Long]) -> Result<(), AllocError> {
+    let set = loaded(rt, alloc, text)?;
+    each_stays(rt, alloc, &set, rows)
+}
+
 #[test]
 fn long_streams(rt: HostRuntime) -> Result<(), AllocError> {
-    all_stay(&rt, rt.alloc(), &worked(&rt, rt.alloc())?, LONG)
+    all_stay(&rt, rt.alloc(), WORKED, LONG)
 }
 
 #[test]
 fn long_streams_of_elements(rt: HostRuntime) -> Result<(), AllocError> {
-    all_stay(&rt, rt.alloc(), &worked(&rt, rt.alloc())?, LONG_SEQUENCES)
+    all_stay(&rt, rt.alloc(), WORKED, LONG_SEQUENCES)
 }
 
 #[test]
 fn long_streams_of_empty_elements(rt: HostRuntime) -> Result<(), AllocError> {
-    all_stay(&rt, rt.alloc(), &loaded(&rt, rt.alloc(), BARE)?, LONG_BARE)
+    all_stay(&rt, rt.alloc(), BARE, LONG_BARE)
 }
 
 #[test]

@@ -3,12 +3,11 @@
 ghost use Rattle.std.specs.Prelude.{◌≤◌};
 
 use crate::granted::may_be_refused;
+use crate::lines::lines_of;
 use crate::same::same;
 use crate::worked::loaded;
 use fast_canon::{CanonFault, Summary};
-use fast_command::{Command, Form, run, show_line};
-use fast_decoder::Decoder;
-use fast_dictionary::MapEntries;
+use fast_command::{Command, Form, run};
 use fast_io::{Counted, ScriptInput};
 use fast_stream::Cause;
 use fast_template::TemplateSet;
@@ -271,25 +270,27 @@ const BORDER: [Row; 2] = [
     },
 ];
 
-#[test]
-fn lines_around_the_limit(rt: HostRuntime) -> Result<(), AllocError> {
-    let set = loaded(&rt, rt.alloc(), GAPPED)?;
-    for row in &AROUND {
-        is_shown_in(&rt, rt.alloc(), &set, row, 4096)?;
-    }
-    for row in &BORDER {
-        is_shown_in(&rt, rt.alloc(), &set, row, 4096)?;
+// Each row is shown in reads of so many bytes.
+fn all_shown_in(rt: &impl Abort, alloc: Global, rows: &[Row], read: usize) -> Result<(), AllocError>
+    requires { 1 ≤ read }
+{
+    let set = loaded(rt, alloc, GAPPED)?;
+    for row in rows {
+        is_shown_in(rt, alloc, &set, row, read)?;
     }
     Ok(())
 }
 
 #[test]
+fn lines_around_the_limit(rt: HostRuntime) -> Result<(), AllocError> {
+    all_shown_in(&rt, rt.alloc(), &AROUND, 4096)?;
+    all_shown_in(&rt, rt.alloc(), &BORDER, 4096)
+}
+
+#[test]
 fn long_streams_are_cut_around_the_limit(rt: HostRuntime) -> Result<(), AllocError> {
-    let set = loaded(&rt, rt.alloc(), GAPPED)?;
-    for row in &BORDER {
-        for read in 1..6 {
-            is_shown_in(&rt, rt.alloc(), &set, row, read)?;
-        }
+    for read in 1..6 {
+        all_shown_in(&rt, rt.alloc(), &BORDER, read)?;
     }
     Ok(())
 }
@@ -333,9 +334,7 @@ const TEN_MILLION: Row = Row {
 
 #[test]
 fn long_streams_of_a_hundred_times_the_limit(rt: HostRuntime) -> Result<(), AllocError> {
-    let set = loaded(&rt, rt.alloc(), GAPPED)?;
-    is_shown_in(&rt, rt.alloc(), &set, &TEN_MILLION, 4096)?;
-    is_shown_in(&rt, rt.alloc(), &set, &HUNDRED, 4096)
+    all_shown_in(&rt, rt.alloc(), &[TEN_MILLION, HUNDRED], 4096)
 }
 
 // Behind 18 elements of 65,535 units a number that is none of its type.
@@ -347,22 +346,31 @@ const REFUSED: &[(&[u8], usize)] = &[
     (b"\x10\x00\x00\x00\x80", 1),
 ];
 
-#[test]
-fn nothing_of_a_refused_line_is_written(rt: HostRuntime) -> Result<(), AllocError> {
-    let set = loaded(&rt, rt.alloc(), GAPPED)?;
-    let stream = stream_of(rt.alloc(), REFUSED)?;
-    let (answer, came) = show_over(rt.alloc(), &set, Form::Text, &stream, 4096, b"");
-    same(&rt, came, NOTHING);
+// That number is refused, or memory.
+fn is_refused(
+    rt: &impl Abort,
+    answer: Result<Summary, CanonFault>,
+    came: Came,
+) -> Result<(), AllocError> {
+    same(rt, came, NOTHING);
     match answer {
         Err(CanonFault::Stream(fault)) if fault.cause == Cause::D2 => {
-            same(&rt, fault.place.offset, 65_556);
+            same(rt, fault.place.offset, 65_556);
             Ok(())
         }
         other => {
-            same(&rt, may_be_refused(other), true);
+            same(rt, may_be_refused(other), true);
             Err(AllocError)
         }
     }
+}
+
+#[test]
+fn nothing_of_a_refused_line_is_written(rt: HostRuntime) -> Result<(), AllocError> {
+    let stream = stream_of(rt.alloc(), REFUSED)?;
+    let set = loaded(&rt, rt.alloc(), GAPPED)?;
+    let (answer, came) = show_over(rt.alloc(), &set, Form::Text, &stream, 4096, b"");
+    is_refused(&rt, answer, came)
 }
 
 // Texts of each kind, as they stand whole, by bit 0, by deltas at both ends and by tails; and a label that is no short
@@ -399,17 +407,23 @@ const EVERY: [&[(&[u8], usize)]; 2] = [
     ],
 ];
 
-// The line of a stream of one message, which is at hand.
-fn told(alloc: Global, set: &TemplateSet, form: Form, stream: &[u8]) -> Result<Vec<u8>, Fail> {
-    let mut decoder = Decoder::new(alloc, set, PLAIN, MapEntries::new(alloc));
-    let mut messages = Vec::new(alloc);
-    let stream = &stream[..stream.len().min(1_000_000)];
-    decoder.feed(stream, &mut messages)?;
-    let mut line = Vec::new(alloc);
-    for message in &messages {
-        show_line(form, set, message, &mut line)?;
-    }
-    Ok(line)
+// A stream has this line in this form, which is longer than the limit.
+fn is_long_line(
+    rt: &impl Abort,
+    alloc: Global,
+    set: &TemplateSet,
+    form: Form,
+    stream: &[u8],
+    line: &[u8],
+) -> Result<(), AllocError> {
+    same(rt, line.len() > 1_048_576, true);
+    let (answer, came) = show_over(alloc, set, form, stream, 4096, line);
+    let wanted = Came {
+        is_front: true,
+        bytes: line.len(),
+        most: came.most,
+    };
+    is_shown(rt, answer, came, wanted)
 }
 
 fn is_shown_as_told(
@@ -420,24 +434,20 @@ fn is_shown_as_told(
     pieces: &[(&[u8], usize)],
 ) -> Result<(), Fail> {
     let stream = stream_of(alloc, pieces)?;
-    let line = told(alloc, set, form, &stream)?;
-    same(rt, line.len() > 1_048_576, true);
-    let (answer, came) = show_over(alloc, set, form, &stream, 4096, &line);
-    let wanted = Came {
-        is_front: true,
-        bytes: line.len(),
-        most: came.most,
-    };
-    is_shown(rt, answer, came, wanted)?;
+    let line = lines_of(alloc, set, form, &stream)?;
+    Ok(is_long_line(rt, alloc, set, form, &stream, &line)?)
+}
+
+fn each_is_shown_as_told(rt: &impl Abort, alloc: Global, set: &TemplateSet) -> Result<(), Fail> {
+    for pieces in EVERY {
+        is_shown_as_told(rt, alloc, set, Form::Text, pieces)?;
+        is_shown_as_told(rt, alloc, set, Form::Json, pieces)?;
+    }
     Ok(())
 }
 
 #[test]
 fn long_texts_of_each_kind(rt: HostRuntime) -> Result<(), Fail> {
     let set = loaded(&rt, rt.alloc(), GAPPED)?;
-    for pieces in EVERY {
-        is_shown_as_told(&rt, rt.alloc(), &set, Form::Text, pieces)?;
-        is_shown_as_told(&rt, rt.alloc(), &set, Form::Json, pieces)?;
-    }
-    Ok(())
+    each_is_shown_as_told(&rt, rt.alloc(), &set)
 }

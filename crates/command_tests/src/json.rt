@@ -2,21 +2,21 @@
 
 ghost use Rattle.std.specs.Prelude.{◌≤◌};
 
-use crate::granted::may_be_refused;
-use crate::lines::granted;
+use crate::granted::answers;
+use crate::lines::{has_lines, one, refused};
 use crate::same::same;
+use crate::streams::{counted, play};
 use crate::worked::{loaded, worked};
-use fast_command::{Command, Form, ShowFault, run, show_line};
-use fast_decoder::Decoder;
-use fast_dictionary::MapEntries;
-use fast_io::{Counted, ScriptInput, ScriptOutput};
-use fast_stream::{Message, Node};
+use fast_command::{Command, Form};
+use fast_io::{ScriptInput, ScriptOutput};
+use fast_stream::Node;
 use fast_template::TemplateSet;
 use serde_json::Value;
 use std::alloc::{AllocError, Global};
 use std::process::Abort;
 use std::test::Fail;
 use stream_rows::modes::PLAIN;
+use template_tests::texts::WORKED;
 
 /// A stream of one message, its line, and another spelling of what that stands for.
 struct Row {
@@ -123,19 +123,6 @@ const KIND_ROWS: [Row; 2] = [
     },
 ];
 
-/// The lines of the messages of a short stream, each of which is at hand.
-fn lines_of(alloc: Global, set: &TemplateSet, stream: &[u8]) -> Result<Vec<u8>, Fail> {
-    let mut decoder = Decoder::new(alloc, set, PLAIN, MapEntries::new(alloc));
-    let mut messages = Vec::new(alloc);
-    let stream = &stream[..stream.len().min(100)];
-    decoder.feed(stream, &mut messages)?;
-    let mut lines = Vec::new(alloc);
-    for message in &messages {
-        show_line(Form::Json, set, message, &mut lines)?;
-    }
-    Ok(lines)
-}
-
 /// This is what `show` writes of a stream in JSON, in steps of one size.
 fn is_written(
     rt: &impl Abort,
@@ -147,62 +134,53 @@ fn is_written(
 ) -> Result<(), AllocError>
     requires { 1 ≤ step }
 {
-    let mut reader = Counted::new(ScriptInput::new(stream, step, 0));
     let mut out = ScriptOutput::new(alloc, 1_000_000, false, false);
-    let mut writer = Counted::new(&mut out);
-    let answer = run(
+    let got = play(
         alloc,
-        Command::Show,
         set,
         PLAIN,
         Form::Json,
-        &mut reader,
-        &mut writer,
+        Command::Show,
+        ScriptInput::new(stream, step, 0),
+        &mut out,
         1_000,
     );
-    same(rt, line.starts_with(out.bytes()), true);
-    if may_be_refused(answer) {
-        return Err(AllocError);
-    }
-    same(rt, answer.is_ok(), true);
-    same(rt, out.bytes(), line);
+    let answer = counted(1, stream.len(), line.len());
+    answers(rt, got, answer, out.bytes(), line)
+}
+
+/// The line is read as the other spelling.
+fn is_read_as(rt: &impl Abort, alloc: Global, row: &Row) -> Result<(), Fail> {
+    let read = Value::from_slice(alloc, row.line.as_bytes())?;
+    same(rt, read, Value::from_str(alloc, row.read_as)?);
     Ok(())
 }
 
 /// The line is that of the message at hand and of its stream, and is read as the other spelling.
 fn is_shown(rt: &impl Abort, alloc: Global, set: &TemplateSet, row: &Row) -> Result<(), Fail> {
     let line = row.line.as_bytes();
-    same(rt, lines_of(alloc, set, row.stream)?.as_slice(), line);
+    has_lines(rt, alloc, set, Form::Json, row.stream, line)?;
     is_written(rt, alloc, set, row.stream, 1, line)?;
     is_written(rt, alloc, set, row.stream, 4096, line)?;
-    let read = Value::from_slice(alloc, line)?;
-    same(rt, read, Value::from_str(alloc, row.read_as)?);
+    is_read_as(rt, alloc, row)
+}
+
+/// Each row is shown of the templates of a text.
+fn are_shown(rt: &impl Abort, alloc: Global, text: &str, rows: &[Row]) -> Result<(), Fail> {
+    let set = loaded(rt, alloc, text)?;
+    for row in rows {
+        is_shown(rt, alloc, &set, row)?;
+    }
     Ok(())
 }
 
 #[test]
 fn each_line_is_read_as_its_message(rt: HostRuntime) -> Result<(), Fail> {
     let alloc = rt.alloc();
-    let set = worked(&rt, alloc)?;
-    for row in &WORKED_ROWS {
-        is_shown(&rt, alloc, &set, row)?;
-    }
-    let set = loaded(&rt, alloc, KINDS)?;
-    for row in &KIND_ROWS {
-        is_shown(&rt, alloc, &set, row)?;
-    }
+    are_shown(&rt, alloc, WORKED, &WORKED_ROWS)?;
+    are_shown(&rt, alloc, KINDS, &KIND_ROWS)?;
     // a mandatory sequence is absent
-    let mut fields = Vec::new(alloc);
-    fields.push(Node::Absent)?;
-    let message = Message {
-        template: 6,
-        fields,
-    };
-    let mut out = Vec::from_slice(alloc, b"before")?;
+    let message = one(alloc, 6, Node::Absent)?;
     let set = worked(&rt, alloc)?;
-    let answer = show_line(Form::Json, &set, &message, &mut out);
-    same(&rt, out.as_slice(), b"before".as_slice());
-    granted(answer)?;
-    same(&rt, answer, Err(ShowFault::Mismatch));
-    Ok(())
+    Ok(refused(&rt, alloc, &set, Form::Json, message)?)
 }

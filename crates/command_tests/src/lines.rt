@@ -1,5 +1,7 @@
 //! Lines of messages of the worked templates, and messages that have none.
 
+ghost use Rattle.std.specs.Prelude.{◌≡◌};
+
 use crate::same::same;
 use crate::worked::worked;
 use fast_command::{Form, ShowFault, show_line};
@@ -74,17 +76,61 @@ const ROWS: [Row; 13] = [
     },
 ];
 
-/// The lines of the messages of a short stream.
-fn lines_of(alloc: Global, set: &TemplateSet, stream: &[u8]) -> Result<Vec<u8>, Fail> {
+/// Feeds a decoder that has read nothing, and pushes the messages and their lines.
+fn push_lines(
+    decoder: &mut Decoder<'_, MapEntries>,
+    set: &TemplateSet,
+    form: Form,
+    stream: &[u8],
+    messages: &mut Vec<Message>,
+    lines: &mut Vec<u8>,
+) -> Result<(), Fail>
+    requires { decoder.now.machine.fed ≡ 0 }
+{
+    let stream = &stream[..stream.len().min(1_000_000)];
+    decoder.feed(stream, messages)?;
+    for message in messages.iter() {
+        show_line(form, set, message, lines)?;
+    }
+    Ok(())
+}
+
+/// Pushes the lines of the messages of a stream.
+fn decode_lines(
+    alloc: Global,
+    set: &TemplateSet,
+    form: Form,
+    stream: &[u8],
+    lines: &mut Vec<u8>,
+) -> Result<(), Fail> {
     let mut decoder = Decoder::new(alloc, set, PLAIN, MapEntries::new(alloc));
     let mut messages = Vec::new(alloc);
-    let stream = &stream[..stream.len().min(100)];
-    decoder.feed(stream, &mut messages)?;
+    push_lines(&mut decoder, set, form, stream, &mut messages, lines)
+}
+
+/// The lines of the messages of a stream, each of which is at hand.
+pub(crate) fn lines_of(
+    alloc: Global,
+    set: &TemplateSet,
+    form: Form,
+    stream: &[u8],
+) -> Result<Vec<u8>, Fail> {
     let mut lines = Vec::new(alloc);
-    for message in &messages {
-        show_line(Form::Text, set, message, &mut lines)?;
-    }
+    decode_lines(alloc, set, form, stream, &mut lines)?;
     Ok(lines)
+}
+
+/// These are the lines of a stream in this form.
+pub(crate) fn has_lines(
+    rt: &impl Abort,
+    alloc: Global,
+    set: &TemplateSet,
+    form: Form,
+    stream: &[u8],
+    lines: &[u8],
+) -> Result<(), Fail> {
+    same(rt, lines_of(alloc, set, form, stream)?.as_slice(), lines);
+    Ok(())
 }
 
 #[test]
@@ -92,22 +138,20 @@ fn worked_streams_have_their_lines(rt: HostRuntime) -> Result<(), Fail> {
     let alloc = rt.alloc();
     let set = worked(&rt, alloc)?;
     for row in &ROWS {
-        let lines = lines_of(alloc, &set, row.stream)?;
-        same(&rt, lines.as_slice(), row.lines.as_bytes());
+        let lines = row.lines.as_bytes();
+        has_lines(&rt, alloc, &set, Form::Text, row.stream, lines)?;
     }
     Ok(())
 }
 
-fn one(alloc: Global, template: u32, node: Node) -> Result<Message, AllocError> {
-    let mut fields = Vec::new(alloc);
-    fields.push(node)?;
+/// A message of one node.
+pub(crate) fn one(alloc: Global, template: u32, node: Node) -> Result<Message, AllocError> {
+    let fields = vec![in alloc; node]?;
     Ok(Message { template, fields })
 }
 
 fn two(alloc: Global, template: u32, first: Node, second: Node) -> Result<Message, AllocError> {
-    let mut fields = Vec::new(alloc);
-    fields.push(first)?;
-    fields.push(second)?;
+    let fields = vec![in alloc; first, second]?;
     Ok(Message { template, fields })
 }
 
@@ -120,75 +164,96 @@ fn text(alloc: Global, characters: &[u8]) -> Result<Node, AllocError> {
     Ok(Node::Value(Scalar::Ascii(characters)))
 }
 
-/// Want of memory ends a test.
-pub(crate) fn granted(answer: Result<(), ShowFault>) -> Result<(), AllocError> {
-    match answer {
-        Err(ShowFault::Memory) => Err(AllocError),
-        Ok(()) | Err(ShowFault::Mismatch) => Ok(()),
+/// A message was answered this, and this stands behind what was there before. Want of memory ends a test.
+fn answers(
+    rt: &impl Abort,
+    given: Result<(), ShowFault>,
+    wanted: Result<(), ShowFault>,
+    out: &[u8],
+    line: &[u8],
+) -> Result<(), AllocError> {
+    if given.is_err() {
+        same(rt, out, b"before".as_slice());
     }
+    if given == Err(ShowFault::Memory) {
+        return Err(AllocError);
+    }
+    same(rt, given, wanted);
+    same(rt, out, line);
+    Ok(())
 }
 
-fn refused(
+/// A message is answered this, and has this line behind what was there.
+fn shows(
     rt: &impl Abort,
     alloc: Global,
     set: &TemplateSet,
+    form: Form,
     message: &Message,
-) -> Result<(), Fail> {
+    wanted: Result<(), ShowFault>,
+    line: &[u8],
+) -> Result<(), AllocError> {
     let mut out = Vec::from_slice(alloc, b"before")?;
-    let answer = show_line(Form::Text, set, message, &mut out);
-    same(rt, out.as_slice(), b"before".as_slice());
-    granted(answer)?;
-    same(rt, answer, Err(ShowFault::Mismatch));
-    Ok(())
+    let answer = show_line(form, set, message, &mut out);
+    answers(rt, answer, wanted, out.as_slice(), line)
+}
+
+/// A message has no line, and what was there stays.
+pub(crate) fn refused(
+    rt: &impl Abort,
+    alloc: Global,
+    set: &TemplateSet,
+    form: Form,
+    message: Message,
+) -> Result<(), AllocError> {
+    let mismatch = Err(ShowFault::Mismatch);
+    shows(rt, alloc, set, form, &message, mismatch, b"before")
+}
+
+fn have_no_template(rt: &impl Abort, alloc: Global, set: &TemplateSet) -> Result<(), AllocError> {
+    // no such template
+    refused(rt, alloc, set, Form::Text, one(alloc, 100, number(5))?)?;
+    // too few nodes
+    refused(rt, alloc, set, Form::Text, one(alloc, 16, number(5))?)?;
+    // a mandatory field is absent, behind one that is there
+    let absent = two(alloc, 16, number(5), Node::Absent)?;
+    refused(rt, alloc, set, Form::Text, absent)?;
+    // a mandatory sequence is absent
+    refused(rt, alloc, set, Form::Text, one(alloc, 6, Node::Absent)?)
 }
 
 #[test]
 fn a_message_of_no_template_has_no_line(rt: HostRuntime) -> Result<(), Fail> {
-    let alloc = rt.alloc();
-    let set = worked(&rt, alloc)?;
-    // no such template
-    refused(&rt, alloc, &set, &one(alloc, 100, number(5))?)?;
-    // too few nodes
-    refused(&rt, alloc, &set, &one(alloc, 16, number(5))?)?;
-    // a mandatory field is absent, behind one that is there
-    refused(&rt, alloc, &set, &two(alloc, 16, number(5), Node::Absent)?)?;
-    // a mandatory sequence is absent
-    refused(&rt, alloc, &set, &one(alloc, 6, Node::Absent)?)?;
-    Ok(())
+    let set = worked(&rt, rt.alloc())?;
+    Ok(have_no_template(&rt, rt.alloc(), &set)?)
+}
+
+fn have_other_types(rt: &impl Abort, alloc: Global, set: &TemplateSet) -> Result<(), AllocError> {
+    let signed = two(alloc, 16, number(5), Node::Value(Scalar::I32(6)))?;
+    refused(rt, alloc, set, Form::Text, signed)?;
+    // no character of ASCII
+    let wide = one(alloc, 8, text(alloc, b"\x80")?)?;
+    refused(rt, alloc, set, Form::Text, wide)?;
+    // a group for a sequence
+    let group = one(alloc, 6, Node::Group(Vec::new(alloc)))?;
+    refused(rt, alloc, set, Form::Text, group)
 }
 
 #[test]
 fn a_value_of_another_type_has_no_line(rt: HostRuntime) -> Result<(), Fail> {
-    let alloc = rt.alloc();
-    let set = worked(&rt, alloc)?;
-    let signed = Node::Value(Scalar::I32(6));
-    refused(&rt, alloc, &set, &two(alloc, 16, number(5), signed)?)?;
-    // no character of ASCII
-    refused(&rt, alloc, &set, &one(alloc, 8, text(alloc, b"\x80")?)?)?;
-    // a group for a sequence
-    refused(
-        &rt,
-        alloc,
-        &set,
-        &one(alloc, 6, Node::Group(Vec::new(alloc)))?,
-    )?;
-    Ok(())
+    let set = worked(&rt, rt.alloc())?;
+    Ok(have_other_types(&rt, rt.alloc(), &set)?)
+}
+
+fn stands_behind(rt: &impl Abort, alloc: Global, set: &TemplateSet) -> Result<(), AllocError> {
+    // a quote, a backslash, `~` and DEL
+    let message = one(alloc, 8, text(alloc, b"\"\\~\x7f")?)?;
+    let line = b"before8 Tail S=\"\\x22\\x5c~\\x7f\"\n";
+    shows(rt, alloc, set, Form::Text, &message, Ok(()), line)
 }
 
 #[test]
 fn a_line_stands_behind_what_was_there(rt: HostRuntime) -> Result<(), Fail> {
-    let alloc = rt.alloc();
-    let set = worked(&rt, alloc)?;
-    // a quote, a backslash, `~` and DEL
-    let message = one(alloc, 8, text(alloc, b"\"\\~\x7f")?)?;
-    let mut out = Vec::from_slice(alloc, b"before")?;
-    let answer = show_line(Form::Text, &set, &message, &mut out);
-    if answer.is_err() {
-        same(&rt, out.as_slice(), b"before".as_slice());
-    }
-    granted(answer)?;
-    same(&rt, answer, Ok(()));
-    let line = b"before8 Tail S=\"\\x22\\x5c~\\x7f\"\n";
-    same(&rt, out.as_slice(), line.as_slice());
-    Ok(())
+    let set = worked(&rt, rt.alloc())?;
+    Ok(stands_behind(&rt, rt.alloc(), &set)?)
 }

@@ -3,6 +3,7 @@
 ghost use Rattle.std.specs.Prelude.{◌≤◌, ◌^◌};
 
 use crate::granted::answers;
+use crate::same::same;
 use crate::strict::told;
 use crate::worked::worked;
 use fast_canon::{CanonFault, Summary};
@@ -14,6 +15,7 @@ use fast_template::TemplateSet;
 use std::alloc::{AllocError, Global};
 use std::process::Abort;
 use stream_rows::cuts::{CUTS, Cut, Front};
+use stream_rows::long::{MANY, stream_of};
 use stream_rows::modes::{BLOCKS, InMode, PLAIN, in_each_mode};
 use stream_rows::quotes::{QUOTE, TWO, TWO_SHORT};
 
@@ -317,10 +319,11 @@ pub(crate) fn refused(cause: Cause, message: u64, at: At) -> Result<Summary, Can
 }
 
 /// Runs a command over a reader and a writer, with at most so many reads.
-fn play(
+pub(crate) fn play(
     alloc: Global,
     set: &TemplateSet,
     mode: Mode,
+    form: Form,
     command: Command,
     reader: ScriptInput<'_>,
     out: &mut ScriptOutput,
@@ -335,7 +338,7 @@ fn play(
         command,
         set,
         mode,
-        Form::Text,
+        form,
         &mut reader,
         &mut writer,
         turns,
@@ -354,7 +357,16 @@ fn gives_into(
     written: &[u8],
     answer: Result<Summary, CanonFault>,
 ) -> Result<(), AllocError> {
-    let got = play(alloc, set, mode, command, reader, &mut out, 100_000);
+    let got = play(
+        alloc,
+        set,
+        mode,
+        Form::Text,
+        command,
+        reader,
+        &mut out,
+        100_000,
+    );
     answers(rt, got, answer, out.bytes(), written)
 }
 
@@ -458,16 +470,35 @@ pub(crate) fn ends(
     makes(rt, alloc, set, mode, row.stream, step, 0, made_of(row))
 }
 
-#[test]
-fn worked_streams_end(rt: HostRuntime) -> Result<(), AllocError> {
-    let alloc = rt.alloc();
-    let set = worked(&rt, alloc)?;
-    for row in &ROWS {
-        ends(&rt, alloc, &set, PLAIN, row, 1)?;
-        ends(&rt, alloc, &set, PLAIN, row, 2)?;
-        ends(&rt, alloc, &set, PLAIN, row, 4096)?;
+fn each_ends(
+    rt: &impl Abort,
+    alloc: Global,
+    set: &TemplateSet,
+    mode: Mode,
+    rows: &[Row],
+) -> Result<(), AllocError> {
+    for row in rows {
+        ends(rt, alloc, set, mode, row, 1)?;
+        ends(rt, alloc, set, mode, row, 2)?;
+        ends(rt, alloc, set, mode, row, 4096)?;
     }
     Ok(())
+}
+
+/// What each command makes of streams of the worked templates that end, in steps of several sizes.
+pub(crate) fn all_end(
+    rt: &impl Abort,
+    alloc: Global,
+    mode: Mode,
+    rows: &[Row],
+) -> Result<(), AllocError> {
+    let set = worked(rt, alloc)?;
+    each_ends(rt, alloc, &set, mode, rows)
+}
+
+#[test]
+fn worked_streams_end(rt: HostRuntime) -> Result<(), AllocError> {
+    all_end(&rt, rt.alloc(), PLAIN, &ROWS)
 }
 
 /// What is made of a stream that is refused.
@@ -501,16 +532,35 @@ pub(crate) fn stops(
     makes(rt, alloc, set, mode, row.stream, step, 0, made)
 }
 
-#[test]
-fn worked_streams_are_refused(rt: HostRuntime) -> Result<(), AllocError> {
-    let alloc = rt.alloc();
-    let set = worked(&rt, alloc)?;
-    for row in &REFUSALS {
-        stops(&rt, alloc, &set, PLAIN, row, 1)?;
-        stops(&rt, alloc, &set, PLAIN, row, 2)?;
-        stops(&rt, alloc, &set, PLAIN, row, 4096)?;
+fn each_stops(
+    rt: &impl Abort,
+    alloc: Global,
+    set: &TemplateSet,
+    mode: Mode,
+    rows: &[Refusal],
+) -> Result<(), AllocError> {
+    for row in rows {
+        stops(rt, alloc, set, mode, row, 1)?;
+        stops(rt, alloc, set, mode, row, 2)?;
+        stops(rt, alloc, set, mode, row, 4096)?;
     }
     Ok(())
+}
+
+/// What each command makes of streams of the worked templates that are refused, in steps of several sizes.
+pub(crate) fn all_stop(
+    rt: &impl Abort,
+    alloc: Global,
+    mode: Mode,
+    rows: &[Refusal],
+) -> Result<(), AllocError> {
+    let set = worked(rt, alloc)?;
+    each_stops(rt, alloc, &set, mode, rows)
+}
+
+#[test]
+fn worked_streams_are_refused(rt: HostRuntime) -> Result<(), AllocError> {
+    all_stop(&rt, rt.alloc(), PLAIN, &REFUSALS)
 }
 
 /// The answer to a stream that is refused.
@@ -768,6 +818,7 @@ fn turned(
         alloc,
         set,
         PLAIN,
+        Form::Text,
         command,
         ScriptInput::new(QUOTE, 1, 0),
         &mut out,
@@ -776,95 +827,124 @@ fn turned(
     answers(rt, got, answer, out.bytes(), written)
 }
 
-#[test]
-fn reads_are_used_up(rt: HostRuntime) -> Result<(), AllocError> {
-    let alloc = rt.alloc();
-    let set = worked(&rt, alloc)?;
+fn each_is_turned(rt: &impl Abort, alloc: Global, set: &TemplateSet) -> Result<(), AllocError> {
     let two = refused(Cause::Turns, 1, At(2, 1, 1));
-    turned(&rt, alloc, &set, Command::Show, 2, b"", two)?;
-    turned(&rt, alloc, &set, Command::Check, 2, b"", two)?;
-    turned(&rt, alloc, &set, Command::Canon, 2, b"", two)?;
+    turned(rt, alloc, set, Command::Show, 2, b"", two)?;
+    turned(rt, alloc, set, Command::Check, 2, b"", two)?;
+    turned(rt, alloc, set, Command::Canon, 2, b"", two)?;
     let line = QUOTE_LINE.as_bytes();
     let shown = counted(1, 8, line.len());
-    turned(&rt, alloc, &set, Command::Show, 9, line, shown)?;
+    turned(rt, alloc, set, Command::Show, 9, line, shown)?;
     let told = b"ok messages=1 bytes=8 canonical=8\n";
-    turned(&rt, alloc, &set, Command::Check, 9, told, counted(1, 8, 8))?;
-    turned(&rt, alloc, &set, Command::Canon, 9, QUOTE, counted(1, 8, 8))
+    turned(rt, alloc, set, Command::Check, 9, told, counted(1, 8, 8))?;
+    turned(rt, alloc, set, Command::Canon, 9, QUOTE, counted(1, 8, 8))
 }
 
 #[test]
-fn a_long_stream(rt: HostRuntime) -> Result<(), AllocError> {
-    let alloc = rt.alloc();
-    let set = worked(&rt, alloc)?;
-    let mut stream = Vec::from_slice(alloc, QUOTE)?;
-    for _ in 0..10_000 {
-        stream.extend_from_slice(b"\x80\x80\x81")?;
-    }
-    let mut out = ScriptOutput::new(alloc, 1_000_000, false, false);
-    let reader = ScriptInput::new(&stream, 4096, 0);
-    let got = play(alloc, &set, PLAIN, Command::Show, reader, &mut out, 100);
-    answers(&rt, got, counted(10_001, 30_008, 428_139), b"", b"")?;
-    let last = b"\n1 Quote Seq=10001 Sym=\"AB\" Px=10100e-2 Qty=-\n";
-    assert!(rt; out.bytes().ends_with(last));
-    let told = b"ok messages=10001 bytes=30008 canonical=30008\n";
-    let reader = ScriptInput::new(&stream, 4096, 0);
-    let answer = counted(10_001, 30_008, 30_008);
-    gives(
-        &rt,
-        alloc,
-        &set,
-        PLAIN,
-        Command::Check,
-        reader,
-        told,
-        answer,
-    )?;
-    let reader = ScriptInput::new(&stream, 4096, 0);
-    gives(
-        &rt,
-        alloc,
-        &set,
-        PLAIN,
-        Command::Canon,
-        reader,
-        &stream,
-        answer,
-    )
+fn reads_are_used_up(rt: HostRuntime) -> Result<(), AllocError> {
+    let set = worked(&rt, rt.alloc())?;
+    each_is_turned(&rt, rt.alloc(), &set)
 }
 
-// As many elements as there may be, each empty: the line has three bytes for each but the first.
-#[test]
-fn a_long_line(rt: HostRuntime) -> Result<(), AllocError> {
-    let alloc = rt.alloc();
-    let set = worked(&rt, alloc)?;
-    let stream = b"\xc0\x86\x03\x7f\xff";
+/// A command answered this, and what it wrote begins and ends so.
+fn stands_between(
+    rt: &impl Abort,
+    given: Result<Summary, CanonFault>,
+    wanted: Result<Summary, CanonFault>,
+    out: &[u8],
+    first: &[u8],
+    last: &[u8],
+) -> Result<(), AllocError> {
+    answers(rt, given, wanted, b"", b"")?;
+    same(rt, out.starts_with(first), true);
+    same(rt, out.ends_with(last), true);
+    Ok(())
+}
+
+/// What `show` answers of a stream, and how what it writes begins and ends.
+fn shows_between(
+    rt: &impl Abort,
+    alloc: Global,
+    set: &TemplateSet,
+    stream: &[u8],
+    answer: Result<Summary, CanonFault>,
+    first: &[u8],
+    last: &[u8],
+) -> Result<(), AllocError> {
     let mut out = ScriptOutput::new(alloc, 1_000_000, false, false);
-    let reader = ScriptInput::new(stream, 4096, 0);
-    let got = play(alloc, &set, PLAIN, Command::Show, reader, &mut out, 100);
-    answers(&rt, got, counted(1, 5, 196_616), b"", b"")?;
-    assert!(rt; out.bytes().starts_with(b"6 Bare L=[{} {} {} "));
-    assert!(rt; out.bytes().ends_with(b" {} {}]\n"));
-    let told = b"ok messages=1 bytes=5 canonical=5\n";
-    let reader = ScriptInput::new(stream, 1, 0);
-    gives(
-        &rt,
+    let got = play(
         alloc,
-        &set,
+        set,
         PLAIN,
-        Command::Check,
-        reader,
-        told,
-        counted(1, 5, 5),
-    )?;
-    let reader = ScriptInput::new(stream, 2, 0);
+        Form::Text,
+        Command::Show,
+        ScriptInput::new(stream, 4096, 0),
+        &mut out,
+        100,
+    );
+    stands_between(rt, got, answer, out.bytes(), first, last)
+}
+
+/// What `check` and `canon` make of a stream that is canonical itself, in steps of one size each.
+fn is_canonical(
+    rt: &impl Abort,
+    alloc: Global,
+    set: &TemplateSet,
+    stream: &[u8],
+    steps: (usize, usize),
+    told: &[u8],
+    answer: Result<Summary, CanonFault>,
+) -> Result<(), AllocError> {
+    let reader = ScriptInput::new(stream, steps.0.max(1), 0);
+    gives(rt, alloc, set, PLAIN, Command::Check, reader, told, answer)?;
+    let reader = ScriptInput::new(stream, steps.1.max(1), 0);
     gives(
-        &rt,
+        rt,
         alloc,
-        &set,
+        set,
         PLAIN,
         Command::Canon,
         reader,
         stream,
-        counted(1, 5, 5),
+        answer,
     )
+}
+
+fn is_long(
+    rt: &impl Abort,
+    alloc: Global,
+    set: &TemplateSet,
+    stream: &[u8],
+) -> Result<(), AllocError> {
+    let first = QUOTE_LINE.as_bytes();
+    let last = b"\n1 Quote Seq=10001 Sym=\"AB\" Px=10100e-2 Qty=-\n";
+    let shown = counted(10_001, 30_008, 428_139);
+    shows_between(rt, alloc, set, stream, shown, first, last)?;
+    let told = b"ok messages=10001 bytes=30008 canonical=30008\n";
+    let answer = counted(10_001, 30_008, 30_008);
+    is_canonical(rt, alloc, set, stream, (4096, 4096), told, answer)
+}
+
+#[test]
+fn a_long_stream(rt: HostRuntime) -> Result<(), AllocError> {
+    let stream = stream_of(rt.alloc(), MANY)?;
+    let set = worked(&rt, rt.alloc())?;
+    is_long(&rt, rt.alloc(), &set, &stream)
+}
+
+// As many elements as there may be, each empty: the line has three bytes for each but the first.
+fn has_a_long_line(rt: &impl Abort, alloc: Global, set: &TemplateSet) -> Result<(), AllocError> {
+    let stream = b"\xc0\x86\x03\x7f\xff";
+    let first = b"6 Bare L=[{} {} {} ";
+    let last = b" {} {}]\n";
+    let shown = counted(1, 5, 196_616);
+    shows_between(rt, alloc, set, stream, shown, first, last)?;
+    let told = b"ok messages=1 bytes=5 canonical=5\n";
+    is_canonical(rt, alloc, set, stream, (1, 2), told, counted(1, 5, 5))
+}
+
+#[test]
+fn a_long_line(rt: HostRuntime) -> Result<(), AllocError> {
+    let set = worked(&rt, rt.alloc())?;
+    has_a_long_line(&rt, rt.alloc(), &set)
 }

@@ -3,7 +3,8 @@
 ghost use Rattle.std.specs.Prelude.{◌≤◌};
 
 use crate::streams::{
-    At, Made, QUOTE_LINE, REFUSALS, ROWS, Refusal, Row, counted, ends, makes, stops,
+    At, Made, QUOTE_LINE, REFUSALS, ROWS, Refusal, Row, all_end, all_stop, counted, ends, makes,
+    stops,
 };
 use crate::worked::{loaded, worked};
 use fast_stream::Cause;
@@ -210,15 +211,12 @@ fn stays(
     makes(rt, alloc, set, STRICT, canonical, 1, 0, made)
 }
 
-#[test]
-fn canonical_streams_are_taken(rt: HostRuntime) -> Result<(), AllocError> {
-    let alloc = rt.alloc();
-    let set = worked(&rt, alloc)?;
+fn each_stays(rt: &impl Abort, alloc: Global, set: &TemplateSet) -> Result<(), AllocError> {
     for row in &ROWS {
-        stays(&rt, alloc, &set, row.messages, row.lines, row.canonical)?;
+        stays(rt, alloc, set, row.messages, row.lines, row.canonical)?;
     }
     for row in &REFUSALS {
-        stays(&rt, alloc, &set, row.messages, row.lines, row.canonical)?;
+        stays(rt, alloc, set, row.messages, row.lines, row.canonical)?;
     }
     for row in OVERLONG {
         let Row {
@@ -227,9 +225,15 @@ fn canonical_streams_are_taken(rt: HostRuntime) -> Result<(), AllocError> {
             canonical,
             ..
         } = row.usual;
-        stays(&rt, alloc, &set, messages, lines, canonical)?;
+        stays(rt, alloc, set, messages, lines, canonical)?;
     }
     Ok(())
+}
+
+#[test]
+fn canonical_streams_are_taken(rt: HostRuntime) -> Result<(), AllocError> {
+    let set = worked(&rt, rt.alloc())?;
+    each_stays(&rt, rt.alloc(), &set)
 }
 
 /// What is made of an overlong stream at both levels, in steps of one size.
@@ -254,16 +258,19 @@ fn is_overlong(
     stops(rt, alloc, set, STRICT, &refusal, step)
 }
 
-#[test]
-fn overlong_streams(rt: HostRuntime) -> Result<(), AllocError> {
-    let alloc = rt.alloc();
-    let set = worked(&rt, alloc)?;
+fn each_is_overlong(rt: &impl Abort, alloc: Global, set: &TemplateSet) -> Result<(), AllocError> {
     for row in OVERLONG {
-        is_overlong(&rt, alloc, &set, row, 1)?;
-        is_overlong(&rt, alloc, &set, row, 2)?;
-        is_overlong(&rt, alloc, &set, row, 4096)?;
+        is_overlong(rt, alloc, set, row, 1)?;
+        is_overlong(rt, alloc, set, row, 2)?;
+        is_overlong(rt, alloc, set, row, 4096)?;
     }
     Ok(())
+}
+
+#[test]
+fn overlong_streams(rt: HostRuntime) -> Result<(), AllocError> {
+    let set = worked(&rt, rt.alloc())?;
+    each_is_overlong(&rt, rt.alloc(), &set)
 }
 
 #[test]
@@ -310,21 +317,33 @@ fn streams_that_are_just_not_overlong(rt: HostRuntime) -> Result<(), AllocError>
             at: At(11, 1, 0),
         },
     ];
-    let alloc = rt.alloc();
-    let set = worked(&rt, alloc)?;
-    for row in TAKEN {
-        ends(&rt, alloc, &set, STRICT, row, 1)?;
-        ends(&rt, alloc, &set, STRICT, row, 4096)?;
-    }
-    for row in STOPPED {
-        stops(&rt, alloc, &set, STRICT, row, 1)?;
-        stops(&rt, alloc, &set, STRICT, row, 4096)?;
-    }
-    Ok(())
+    all_end(&rt, rt.alloc(), STRICT, TAKEN)?;
+    all_stop(&rt, rt.alloc(), STRICT, STOPPED)
 }
 
 // A stream whose first message is refused, why, and where.
 struct Refused(&'static [u8], Cause, At);
+
+fn each_is_refused(
+    rt: &impl Abort,
+    alloc: Global,
+    set: &TemplateSet,
+    rows: &[Refused],
+) -> Result<(), AllocError> {
+    for Refused(stream, cause, at) in rows {
+        let refusal = Refusal {
+            stream,
+            messages: 0,
+            lines: "",
+            canonical: b"",
+            cause: *cause,
+            at: *at,
+        };
+        stops(rt, alloc, set, STRICT, &refusal, 1)?;
+        stops(rt, alloc, set, STRICT, &refusal, 4096)?;
+    }
+    Ok(())
+}
 
 #[test]
 fn overlong_entities_of_each_kind(rt: HostRuntime) -> Result<(), AllocError> {
@@ -361,19 +380,6 @@ fn overlong_entities_of_each_kind(rt: HostRuntime) -> Result<(), AllocError> {
         Refused(b"\xc0\x8d\x7f\xc0", Cause::R6, At(2, 13, 1)),
         Refused(b"\xc0\x8d\x00\x80", Cause::R6, At(2, 13, 1)),
     ];
-    let alloc = rt.alloc();
-    let set = loaded(&rt, alloc, KINDS)?;
-    for Refused(stream, cause, at) in STREAMS {
-        let refusal = Refusal {
-            stream,
-            messages: 0,
-            lines: "",
-            canonical: b"",
-            cause: *cause,
-            at: *at,
-        };
-        stops(&rt, alloc, &set, STRICT, &refusal, 1)?;
-        stops(&rt, alloc, &set, STRICT, &refusal, 4096)?;
-    }
-    Ok(())
+    let set = loaded(&rt, rt.alloc(), KINDS)?;
+    each_is_refused(&rt, rt.alloc(), &set, STREAMS)
 }
