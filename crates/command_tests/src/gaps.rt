@@ -415,7 +415,7 @@ fn is_long_line(
     form: Form,
     stream: &[u8],
     line: &[u8],
-) -> Result<(), AllocError> {
+) -> Result<(), Fail> {
     same(rt, line.len() > 1_048_576, true);
     let (answer, came) = show_over(alloc, set, form, stream, 4096, line);
     let wanted = Came {
@@ -423,7 +423,7 @@ fn is_long_line(
         bytes: line.len(),
         most: came.most,
     };
-    is_shown(rt, answer, came, wanted)
+    Ok(is_shown(rt, answer, came, wanted)?)
 }
 
 fn is_shown_as_told(
@@ -435,7 +435,7 @@ fn is_shown_as_told(
 ) -> Result<(), Fail> {
     let stream = stream_of(alloc, pieces)?;
     let line = lines_of(alloc, set, form, &stream)?;
-    Ok(is_long_line(rt, alloc, set, form, &stream, &line)?)
+    is_long_line(rt, alloc, set, form, &stream, &line)
 }
 
 fn each_is_shown_as_told(rt: &impl Abort, alloc: Global, set: &TemplateSet) -> Result<(), Fail> {

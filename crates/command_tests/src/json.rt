@@ -3,7 +3,7 @@
 ghost use Rattle.std.specs.Prelude.{◌≤◌};
 
 use crate::granted::answers;
-use crate::lines::{has_lines, one, refused};
+use crate::lines::{has_lines, one_is_refused};
 use crate::same::same;
 use crate::streams::{counted, play};
 use crate::worked::{loaded, worked};
@@ -174,13 +174,16 @@ fn are_shown(rt: &impl Abort, alloc: Global, text: &str, rows: &[Row]) -> Result
     Ok(())
 }
 
+/// A mandatory sequence that is absent has no line.
+fn absent_is_refused(rt: &impl Abort, alloc: Global) -> Result<(), AllocError> {
+    let set = worked(rt, alloc)?;
+    one_is_refused(rt, alloc, &set, Form::Json, 6, Node::Absent)
+}
+
 #[test]
 fn each_line_is_read_as_its_message(rt: HostRuntime) -> Result<(), Fail> {
     let alloc = rt.alloc();
     are_shown(&rt, alloc, WORKED, &WORKED_ROWS)?;
     are_shown(&rt, alloc, KINDS, &KIND_ROWS)?;
-    // a mandatory sequence is absent
-    let message = one(alloc, 6, Node::Absent)?;
-    let set = worked(&rt, alloc)?;
-    Ok(refused(&rt, alloc, &set, Form::Json, message)?)
+    Ok(absent_is_refused(&rt, alloc)?)
 }

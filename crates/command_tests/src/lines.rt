@@ -144,14 +144,8 @@ fn worked_streams_have_their_lines(rt: HostRuntime) -> Result<(), Fail> {
     Ok(())
 }
 
-/// A message of one node.
-pub(crate) fn one(alloc: Global, template: u32, node: Node) -> Result<Message, AllocError> {
+fn one(alloc: Global, template: u32, node: Node) -> Result<Message, AllocError> {
     let fields = vec![in alloc; node]?;
-    Ok(Message { template, fields })
-}
-
-fn two(alloc: Global, template: u32, first: Node, second: Node) -> Result<Message, AllocError> {
-    let fields = vec![in alloc; first, second]?;
     Ok(Message { template, fields })
 }
 
@@ -199,7 +193,7 @@ fn shows(
 }
 
 /// A message has no line, and what was there stays.
-pub(crate) fn refused(
+fn refused(
     rt: &impl Abort,
     alloc: Global,
     set: &TemplateSet,
@@ -210,39 +204,64 @@ pub(crate) fn refused(
     shows(rt, alloc, set, form, &message, mismatch, b"before")
 }
 
+/// The same of a message of one node.
+pub(crate) fn one_is_refused(
+    rt: &impl Abort,
+    alloc: Global,
+    set: &TemplateSet,
+    form: Form,
+    template: u32,
+    node: Node,
+) -> Result<(), AllocError> {
+    refused(rt, alloc, set, form, one(alloc, template, node)?)
+}
+
+/// The same of a message of two nodes.
+fn two_are_refused(
+    rt: &impl Abort,
+    alloc: Global,
+    set: &TemplateSet,
+    template: u32,
+    first: Node,
+    second: Node,
+) -> Result<(), AllocError> {
+    let fields = vec![in alloc; first, second]?;
+    let message = Message { template, fields };
+    refused(rt, alloc, set, Form::Text, message)
+}
+
 fn have_no_template(rt: &impl Abort, alloc: Global, set: &TemplateSet) -> Result<(), AllocError> {
     // no such template
-    refused(rt, alloc, set, Form::Text, one(alloc, 100, number(5))?)?;
+    one_is_refused(rt, alloc, set, Form::Text, 100, number(5))?;
     // too few nodes
-    refused(rt, alloc, set, Form::Text, one(alloc, 16, number(5))?)?;
+    one_is_refused(rt, alloc, set, Form::Text, 16, number(5))?;
     // a mandatory field is absent, behind one that is there
-    let absent = two(alloc, 16, number(5), Node::Absent)?;
-    refused(rt, alloc, set, Form::Text, absent)?;
+    two_are_refused(rt, alloc, set, 16, number(5), Node::Absent)?;
     // a mandatory sequence is absent
-    refused(rt, alloc, set, Form::Text, one(alloc, 6, Node::Absent)?)
+    one_is_refused(rt, alloc, set, Form::Text, 6, Node::Absent)
 }
 
 #[test]
-fn a_message_of_no_template_has_no_line(rt: HostRuntime) -> Result<(), Fail> {
+fn a_message_of_no_template_has_no_line(rt: HostRuntime) -> Result<(), AllocError> {
     let set = worked(&rt, rt.alloc())?;
-    Ok(have_no_template(&rt, rt.alloc(), &set)?)
+    have_no_template(&rt, rt.alloc(), &set)
 }
 
 fn have_other_types(rt: &impl Abort, alloc: Global, set: &TemplateSet) -> Result<(), AllocError> {
-    let signed = two(alloc, 16, number(5), Node::Value(Scalar::I32(6)))?;
-    refused(rt, alloc, set, Form::Text, signed)?;
+    let signed = Node::Value(Scalar::I32(6));
+    two_are_refused(rt, alloc, set, 16, number(5), signed)?;
     // no character of ASCII
-    let wide = one(alloc, 8, text(alloc, b"\x80")?)?;
-    refused(rt, alloc, set, Form::Text, wide)?;
+    let wide = text(alloc, b"\x80")?;
+    one_is_refused(rt, alloc, set, Form::Text, 8, wide)?;
     // a group for a sequence
-    let group = one(alloc, 6, Node::Group(Vec::new(alloc)))?;
-    refused(rt, alloc, set, Form::Text, group)
+    let group = Node::Group(Vec::new(alloc));
+    one_is_refused(rt, alloc, set, Form::Text, 6, group)
 }
 
 #[test]
-fn a_value_of_another_type_has_no_line(rt: HostRuntime) -> Result<(), Fail> {
+fn a_value_of_another_type_has_no_line(rt: HostRuntime) -> Result<(), AllocError> {
     let set = worked(&rt, rt.alloc())?;
-    Ok(have_other_types(&rt, rt.alloc(), &set)?)
+    have_other_types(&rt, rt.alloc(), &set)
 }
 
 fn stands_behind(rt: &impl Abort, alloc: Global, set: &TemplateSet) -> Result<(), AllocError> {
@@ -253,7 +272,7 @@ fn stands_behind(rt: &impl Abort, alloc: Global, set: &TemplateSet) -> Result<()
 }
 
 #[test]
-fn a_line_stands_behind_what_was_there(rt: HostRuntime) -> Result<(), Fail> {
+fn a_line_stands_behind_what_was_there(rt: HostRuntime) -> Result<(), AllocError> {
     let set = worked(&rt, rt.alloc())?;
-    Ok(stands_behind(&rt, rt.alloc(), &set)?)
+    stands_behind(&rt, rt.alloc(), &set)
 }
