@@ -165,18 +165,17 @@ fn stopped_text(alloc: Global, notes: &Notes) -> Result<String, AllocError> {
     }
 }
 
-/// What a refusal means, in one or two lines with a line feed each, and what to do; nothing for a command line.
-pub fn explain(
+// What a refusal of this input means, behind whose sentences stands where a run stopped.
+fn sentences(
     alloc: Global,
-    files: Files<'_>,
+    input: &str,
+    stopped: &str,
     refusal: &Refusal,
     notes: &Notes,
 ) -> Result<String, AllocError> {
-    let input = input_text(alloc, files, notes.reading)?;
-    let stopped = stopped_text(alloc, notes)?;
     match refusal {
-        Refusal::Stream(_) => stream_text(alloc, &input, notes),
-        Refusal::Templates(_) => templates_text(alloc, &input, notes),
+        Refusal::Stream(_) => stream_text(alloc, input, notes),
+        Refusal::Templates(_) => templates_text(alloc, input, notes),
         Refusal::TemplatesTooLong => format!(in alloc;
             "explain: {input} has more than 16777216 bytes; leave out templates that the stream does not need\n"
         ),
@@ -184,7 +183,7 @@ pub fn explain(
             "explain: {input} has more than 16777216 bytes; give the stream's own bytes, without --hex\n"
         ),
         Refusal::NotHex => match notes.stray {
-            Some(stray) => stray_text(alloc, &input, stray),
+            Some(stray) => stray_text(alloc, input, stray),
             None => Ok(String::new(alloc)),
         },
         Refusal::Open => format!(in alloc;
@@ -205,4 +204,16 @@ pub fn explain(
         ),
         Refusal::Line(_) | Refusal::NotText => Ok(String::new(alloc)),
     }
+}
+
+/// What a refusal means, in one or two lines with a line feed each, and what to do; nothing for a command line.
+pub fn explain(
+    alloc: Global,
+    files: Files<'_>,
+    refusal: &Refusal,
+    notes: &Notes,
+) -> Result<String, AllocError> {
+    let input = input_text(alloc, files, notes.reading)?;
+    let stopped = stopped_text(alloc, notes)?;
+    sentences(alloc, &input, &stopped, refusal, notes)
 }
