@@ -255,23 +255,14 @@ fn ends_in_block(
     makes(rt, alloc, set, mode, &block, step, 0, made)
 }
 
-/// The same of its stream, and at the strict level of its canonical bytes.
-fn ends_in_blocks(
-    rt: &impl Abort,
-    alloc: Global,
-    set: &TemplateSet,
-    row: &Row,
-) -> Result<(), AllocError> {
-    ends_in_block(rt, alloc, set, BLOCKS, row, row.stream, 1)?;
-    ends_in_block(rt, alloc, set, BLOCKS, row, row.stream, 4096)?;
-    ends_in_block(rt, alloc, set, STRICT_BLOCKS, row, row.canonical, 2)
-}
-
 #[test]
 fn worked_streams_in_blocks(rt: HostRuntime) -> Result<(), AllocError> {
-    let set = worked(&rt, rt.alloc())?;
+    let alloc = rt.alloc();
+    let set = worked(&rt, alloc)?;
     for row in &ROWS {
-        ends_in_blocks(&rt, rt.alloc(), &set, row)?;
+        ends_in_block(&rt, alloc, &set, BLOCKS, row, row.stream, 1)?;
+        ends_in_block(&rt, alloc, &set, BLOCKS, row, row.stream, 4096)?;
+        ends_in_block(&rt, alloc, &set, STRICT_BLOCKS, row, row.canonical, 2)?;
     }
     Ok(())
 }

@@ -221,39 +221,17 @@ fn fails_behind(
     gives(rt, alloc, set, given, written, answer)
 }
 
-// The same behind each number of bytes.
-fn fails_in(
-    rt: &impl Abort,
-    alloc: Global,
-    set: &TemplateSet,
-    row: &Cut,
-    stream: &InMode,
-) -> Result<(), AllocError> {
-    for count in 0..=row.missing.len() {
-        fails_behind(rt, alloc, set, row, stream, count)?;
-    }
-    Ok(())
-}
-
-// The same in each mode.
-fn fails_everywhere(
-    rt: &impl Abort,
-    alloc: Global,
-    set: &TemplateSet,
-    row: &Cut,
-) -> Result<(), AllocError> {
-    let is_refused = row.front(row.missing.len()).truncated().is_some();
-    for stream in &in_each_mode(alloc, row.stream, is_refused)? {
-        fails_in(rt, alloc, set, row, stream)?;
-    }
-    Ok(())
-}
-
 #[test]
 fn a_reader_that_fails(rt: HostRuntime) -> Result<(), AllocError> {
-    let set = worked(&rt, rt.alloc())?;
+    let alloc = rt.alloc();
+    let set = worked(&rt, alloc)?;
     for row in CUTS {
-        fails_everywhere(&rt, rt.alloc(), &set, row)?;
+        let is_refused = row.front(row.missing.len()).truncated().is_some();
+        for stream in &in_each_mode(alloc, row.stream, is_refused)? {
+            for count in 0..=row.missing.len() {
+                fails_behind(&rt, alloc, &set, row, stream, count)?;
+            }
+        }
     }
     Ok(())
 }
@@ -266,37 +244,7 @@ fn reads_that_are_used_up(rt: HostRuntime) -> Result<(), AllocError> {
     is_checked(&rt, checked(alloc, &set, plainly(TWO, 4), 2), turns)
 }
 
-// A stream of so many messages in a mode is canonical itself, or is refused with nothing before.
-fn stays_in(
-    rt: &impl Abort,
-    alloc: Global,
-    set: &TemplateSet,
-    stream: &InMode,
-    plain: &[u8],
-    messages: u64,
-    fault: Option<Fault>,
-) -> Result<(), AllocError> {
-    let given = Given {
-        mode: stream.mode,
-        stream: &stream.stream,
-        step: 4096,
-        failing: 0,
-    };
-    let (written, answer) = match stream.moved(fault) {
-        Some(fault) => (b"".as_slice(), Err(CanonFault::Stream(fault))),
-        None => {
-            let counted = Summary {
-                messages,
-                read: stream.stream.len() as u64,
-                written: plain.len() as u64,
-            };
-            (plain, Ok(counted))
-        }
-    };
-    gives(rt, alloc, set, given, written, answer)
-}
-
-// The same in each mode.
+// A stream of so many messages that is canonical itself, or is refused with nothing before.
 fn stays(
     rt: &impl Abort,
     alloc: Global,
@@ -306,7 +254,24 @@ fn stays(
     fault: Option<Fault>,
 ) -> Result<(), AllocError> {
     for stream in &in_each_mode(alloc, plain, fault.is_some())? {
-        stays_in(rt, alloc, set, stream, plain, messages, fault)?;
+        let given = Given {
+            mode: stream.mode,
+            stream: &stream.stream,
+            step: 4096,
+            failing: 0,
+        };
+        let (written, answer) = match stream.moved(fault) {
+            Some(fault) => (b"".as_slice(), Err(CanonFault::Stream(fault))),
+            None => {
+                let counted = Summary {
+                    messages,
+                    read: stream.stream.len() as u64,
+                    written: plain.len() as u64,
+                };
+                (plain, Ok(counted))
+            }
+        };
+        gives(rt, alloc, set, given, written, answer)?;
     }
     Ok(())
 }

@@ -346,31 +346,22 @@ const REFUSED: &[(&[u8], usize)] = &[
     (b"\x10\x00\x00\x00\x80", 1),
 ];
 
-// That number is refused, or memory.
-fn is_refused(
-    rt: &impl Abort,
-    answer: Result<Summary, CanonFault>,
-    came: Came,
-) -> Result<(), AllocError> {
-    same(rt, came, NOTHING);
+#[test]
+fn nothing_of_a_refused_line_is_written(rt: HostRuntime) -> Result<(), AllocError> {
+    let set = loaded(&rt, rt.alloc(), GAPPED)?;
+    let stream = stream_of(rt.alloc(), REFUSED)?;
+    let (answer, came) = show_over(rt.alloc(), &set, Form::Text, &stream, 4096, b"");
+    same(&rt, came, NOTHING);
     match answer {
         Err(CanonFault::Stream(fault)) if fault.cause == Cause::D2 => {
-            same(rt, fault.place.offset, 65_556);
+            same(&rt, fault.place.offset, 65_556);
             Ok(())
         }
         other => {
-            same(rt, may_be_refused(other), true);
+            same(&rt, may_be_refused(other), true);
             Err(AllocError)
         }
     }
-}
-
-#[test]
-fn nothing_of_a_refused_line_is_written(rt: HostRuntime) -> Result<(), AllocError> {
-    let stream = stream_of(rt.alloc(), REFUSED)?;
-    let set = loaded(&rt, rt.alloc(), GAPPED)?;
-    let (answer, came) = show_over(rt.alloc(), &set, Form::Text, &stream, 4096, b"");
-    is_refused(&rt, answer, came)
 }
 
 // Texts of each kind, as they stand whole, by bit 0, by deltas at both ends and by tails; and a label that is no short
@@ -407,25 +398,6 @@ const EVERY: [&[(&[u8], usize)]; 2] = [
     ],
 ];
 
-// A stream has this line in this form, which is longer than the limit.
-fn is_long_line(
-    rt: &impl Abort,
-    alloc: Global,
-    set: &TemplateSet,
-    form: Form,
-    stream: &[u8],
-    line: &[u8],
-) -> Result<(), Fail> {
-    same(rt, line.len() > 1_048_576, true);
-    let (answer, came) = show_over(alloc, set, form, stream, 4096, line);
-    let wanted = Came {
-        is_front: true,
-        bytes: line.len(),
-        most: came.most,
-    };
-    Ok(is_shown(rt, answer, came, wanted)?)
-}
-
 fn is_shown_as_told(
     rt: &impl Abort,
     alloc: Global,
@@ -435,19 +407,23 @@ fn is_shown_as_told(
 ) -> Result<(), Fail> {
     let stream = stream_of(alloc, pieces)?;
     let line = lines_of(alloc, set, form, &stream)?;
-    is_long_line(rt, alloc, set, form, &stream, &line)
-}
-
-fn each_is_shown_as_told(rt: &impl Abort, alloc: Global, set: &TemplateSet) -> Result<(), Fail> {
-    for pieces in EVERY {
-        is_shown_as_told(rt, alloc, set, Form::Text, pieces)?;
-        is_shown_as_told(rt, alloc, set, Form::Json, pieces)?;
-    }
+    same(rt, line.len() > 1_048_576, true);
+    let (answer, came) = show_over(alloc, set, form, &stream, 4096, &line);
+    let wanted = Came {
+        is_front: true,
+        bytes: line.len(),
+        most: came.most,
+    };
+    is_shown(rt, answer, came, wanted)?;
     Ok(())
 }
 
 #[test]
 fn long_texts_of_each_kind(rt: HostRuntime) -> Result<(), Fail> {
     let set = loaded(&rt, rt.alloc(), GAPPED)?;
-    each_is_shown_as_told(&rt, rt.alloc(), &set)
+    for pieces in EVERY {
+        is_shown_as_told(&rt, rt.alloc(), &set, Form::Text, pieces)?;
+        is_shown_as_told(&rt, rt.alloc(), &set, Form::Json, pieces)?;
+    }
+    Ok(())
 }

@@ -258,19 +258,16 @@ fn is_overlong(
     stops(rt, alloc, set, STRICT, &refusal, step)
 }
 
-fn each_is_overlong(rt: &impl Abort, alloc: Global, set: &TemplateSet) -> Result<(), AllocError> {
-    for row in OVERLONG {
-        is_overlong(rt, alloc, set, row, 1)?;
-        is_overlong(rt, alloc, set, row, 2)?;
-        is_overlong(rt, alloc, set, row, 4096)?;
-    }
-    Ok(())
-}
-
 #[test]
 fn overlong_streams(rt: HostRuntime) -> Result<(), AllocError> {
-    let set = worked(&rt, rt.alloc())?;
-    each_is_overlong(&rt, rt.alloc(), &set)
+    let alloc = rt.alloc();
+    let set = worked(&rt, alloc)?;
+    for row in OVERLONG {
+        is_overlong(&rt, alloc, &set, row, 1)?;
+        is_overlong(&rt, alloc, &set, row, 2)?;
+        is_overlong(&rt, alloc, &set, row, 4096)?;
+    }
+    Ok(())
 }
 
 #[test]
@@ -324,27 +321,6 @@ fn streams_that_are_just_not_overlong(rt: HostRuntime) -> Result<(), AllocError>
 // A stream whose first message is refused, why, and where.
 struct Refused(&'static [u8], Cause, At);
 
-fn each_is_refused(
-    rt: &impl Abort,
-    alloc: Global,
-    set: &TemplateSet,
-    rows: &[Refused],
-) -> Result<(), AllocError> {
-    for Refused(stream, cause, at) in rows {
-        let refusal = Refusal {
-            stream,
-            messages: 0,
-            lines: "",
-            canonical: b"",
-            cause: *cause,
-            at: *at,
-        };
-        stops(rt, alloc, set, STRICT, &refusal, 1)?;
-        stops(rt, alloc, set, STRICT, &refusal, 4096)?;
-    }
-    Ok(())
-}
-
 #[test]
 fn overlong_entities_of_each_kind(rt: HostRuntime) -> Result<(), AllocError> {
     const STREAMS: &[Refused] = &[
@@ -380,6 +356,19 @@ fn overlong_entities_of_each_kind(rt: HostRuntime) -> Result<(), AllocError> {
         Refused(b"\xc0\x8d\x7f\xc0", Cause::R6, At(2, 13, 1)),
         Refused(b"\xc0\x8d\x00\x80", Cause::R6, At(2, 13, 1)),
     ];
-    let set = loaded(&rt, rt.alloc(), KINDS)?;
-    each_is_refused(&rt, rt.alloc(), &set, STREAMS)
+    let alloc = rt.alloc();
+    let set = loaded(&rt, alloc, KINDS)?;
+    for Refused(stream, cause, at) in STREAMS {
+        let refusal = Refusal {
+            stream,
+            messages: 0,
+            lines: "",
+            canonical: b"",
+            cause: *cause,
+            at: *at,
+        };
+        stops(&rt, alloc, &set, STRICT, &refusal, 1)?;
+        stops(&rt, alloc, &set, STRICT, &refusal, 4096)?;
+    }
+    Ok(())
 }
