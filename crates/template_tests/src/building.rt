@@ -483,29 +483,28 @@ fn elements_of(flat: Option<&Flat>) -> &[Flat] {
     }
 }
 
-// The number, the slot and the name of the key of each field and sequence.
+// The number of a field or a sequence, and the slot and the name of its key.
+fn key_of(flat: &Flat) -> Option<(u32, u32, &str)> {
+    let part = part_of(flat)?;
+    Some((part.number, part.key.slot, part.key.name.as_str()))
+}
+
 fn have_keys(rt: &impl Abort, flats: &[Flat], wanted: &[(u32, u32, &str)]) {
     same(rt, flats.len(), wanted.len());
     for (flat, wanted) in flats.iter().zip(wanted) {
-        match part_of(flat) {
-            Some(part) => same(
-                rt,
-                (part.number, part.key.slot, part.key.name.as_str()),
-                *wanted,
-            ),
-            None => panic!(rt; "no key"),
-        }
+        same(rt, key_of(flat), Some(*wanted));
     }
+}
+
+fn initial_of(flat: &Flat) -> Option<&Scalar> {
+    part_of(flat)?.initial()
 }
 
 // Each field begins with the number 7.
 fn begin_with_seven(rt: &impl Abort, flats: &[Flat]) {
     same(rt, flats.len(), 2);
     for flat in flats {
-        match part_of(flat) {
-            Some(part) => same(rt, part.initial(), Some(&Scalar::U32(7))),
-            None => panic!(rt; "no field"),
-        }
+        same(rt, initial_of(flat), Some(&Scalar::U32(7)));
     }
 }
 

@@ -124,12 +124,14 @@ fn field(alloc: Global) -> Result<FieldPart, AllocError> {
     })
 }
 
-fn asks(rt: &impl Abort, field: &mut FieldPart, row: &Asking) {
-    field.operator = row.operator;
-    field.presence = Presence::Mandatory;
-    same(rt, part_needs_bit(field), row.mandatory);
-    field.presence = Presence::Optional;
-    same(rt, part_needs_bit(field), row.optional);
+fn asks(rt: &impl Abort, field: &mut FieldPart, rows: &[Asking]) {
+    for row in rows {
+        field.operator = row.operator;
+        field.presence = Presence::Mandatory;
+        same(rt, part_needs_bit(field), row.mandatory);
+        field.presence = Presence::Optional;
+        same(rt, part_needs_bit(field), row.optional);
+    }
 }
 
 #[test]
@@ -172,9 +174,7 @@ fn bits_are_asked_for(rt: HostRuntime) -> Result<(), AllocError> {
         },
     ];
     let mut field = field(rt.alloc())?;
-    for row in ROWS {
-        asks(&rt, &mut field, row);
-    }
+    asks(&rt, &mut field, ROWS);
     Ok(())
 }
 
@@ -201,8 +201,8 @@ fn a_map_is_asked_for_by_a_mantissa(rt: HostRuntime) -> Result<(), AllocError> {
 // Of one name, the key of an exponent is before that of a mantissa.
 fn is_before_mantissa(rt: &impl Abort, alloc: Global, exponent: &Key) -> Result<(), AllocError> {
     let mantissa = key(alloc, Scope::Global, "Px", Part::Mantissa)?;
-    same(rt, *exponent < mantissa, true);
-    same(rt, *exponent != mantissa, true);
+    let order = [*exponent < mantissa, *exponent != mantissa];
+    same(rt, order, [true, true]);
     Ok(())
 }
 
