@@ -1,8 +1,7 @@
 //! The program over blocks: its exit status, what it writes, and what it says.
 
 use crate::serving::devices::TEMPLATES;
-use crate::serving::examples::{BOOK, TRADE};
-use crate::serving::programs::{CASE, Case, rows_are_served};
+use crate::serving::programs::{CASE, Case, Templates, rows_are_served};
 use crate::serving::strict::{OVER_QUOTES, QUOTE_LINE};
 use std::alloc::AllocError;
 
@@ -59,12 +58,12 @@ const CANON_HEX_STRICTLY: &[&str] = &[
 ];
 
 const OVER_BOOK: Case = Case {
-    templates: BOOK,
+    templates: Templates::Book,
     ..CASE
 };
 
 const OVER_TRADE: Case = Case {
-    templates: TRADE,
+    templates: Templates::Trade,
     ..CASE
 };
 

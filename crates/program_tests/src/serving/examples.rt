@@ -1,7 +1,7 @@
 //! The order book and the trade feed of examples/: their lines and canonical bytes, and those of these bytes.
 
 use crate::serving::devices::{STREAM, TEMPLATES};
-use crate::serving::programs::{CASE, Case, served};
+use crate::serving::programs::{CASE, Case, Templates, served};
 use std::alloc::{AllocError, Global};
 use std::process::Abort;
 
@@ -70,7 +70,7 @@ fn is_served<'a>(
     rt: &impl Abort,
     alloc: Global,
     words: &'a [&'a str],
-    templates: &'a str,
+    templates: Templates<'a>,
     stream: &'a str,
     want: &'a str,
 ) -> Result<(), AllocError> {
@@ -88,7 +88,7 @@ fn is_served<'a>(
 fn example(
     rt: &impl Abort,
     alloc: Global,
-    templates: &str,
+    templates: Templates<'_>,
     stream: &str,
     lines: &str,
     canon: &str,
@@ -117,7 +117,7 @@ fn an_order_book(rt: HostRuntime) -> Result<(), AllocError> {
     );
     let canon = "f0818145d382d0801b3be98ac081998081909984\n";
     let told = "ok messages=2 bytes=25 canonical=20\n";
-    example(&rt, rt.alloc(), BOOK, stream, lines, canon, told)
+    example(&rt, rt.alloc(), Templates::Book, stream, lines, canon, told)
 }
 
 #[test]
@@ -134,5 +134,13 @@ fn a_trade_feed(rt: HostRuntime) -> Result<(), AllocError> {
     );
     let canon = "c082102733c08045535ab6fe1b3be9b08f8080809901fa830aff80808248b78080\n";
     let told = "ok messages=3 bytes=36 canonical=33\n";
-    example(&rt, rt.alloc(), TRADE, stream, lines, canon, told)
+    example(
+        &rt,
+        rt.alloc(),
+        Templates::Trade,
+        stream,
+        lines,
+        canon,
+        told,
+    )
 }

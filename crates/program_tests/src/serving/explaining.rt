@@ -1,7 +1,7 @@
 //! What refusals mean: the lines behind a refusal's own, with `--explain`.
 
 use crate::serving::devices::{After, Full, STREAM, TEMPLATES};
-use crate::serving::programs::{CASE, Case, cases_are_served, rows_are_served};
+use crate::serving::programs::{CASE, Case, Templates, cases_are_served, rows_are_served};
 use std::alloc::AllocError;
 
 const SHOW: &[&str] = &["fastcat", "show", "--templates", TEMPLATES, "--explain"];
@@ -33,7 +33,7 @@ const BLOCKS: &[&str] = &[
     "--explain",
 ];
 
-const MANY: &str = r#"{"templates":[
+pub const MANY: &str = r#"{"templates":[
 {"name":"Mixed","id":1,"instructions":[
  {"kind":"uInt32","name":"N","operator":"copy","key":"K"},
  {"kind":"string","name":"S","operator":"copy","key":"K"}]},
@@ -73,7 +73,7 @@ const EXPLAINED: Case = Case {
 };
 
 const OVER_MANY: Case = Case {
-    templates: MANY,
+    templates: Templates::Many,
     ..EXPLAINED
 };
 
@@ -235,139 +235,161 @@ fn refused_templates(rt: HostRuntime) -> Result<(), AllocError> {
     };
     const ROWS: &[Case] = &[
         Case {
-            templates: "",
+            templates: Templates::Text(""),
             err: "templates refused S1 template=0 instruction=0\n\
             explain: the templates' file \"templates.json\" is no JSON text from line 1 column 0 on\n\
             explain: it ends before its last bracket; see that it was copied whole\n",
             ..REFUSED
         },
         Case {
-            templates: r#"{"templates":["#,
+            templates: Templates::Text(r#"{"templates":["#),
             err: "templates refused S1 template=0 instruction=0\n\
             explain: the templates' file \"templates.json\" is no JSON text from line 1 column 14 on\n\
             explain: it ends before its last bracket; see that it was copied whole\n",
             ..REFUSED
         },
         Case {
-            templates: "\n <templates/>",
+            templates: Templates::Text("\n <templates/>"),
             err: "templates refused S1 template=0 instruction=0\n\
             explain: the templates' file \"templates.json\" is no JSON text from line 2 column 2 on\n\
             explain: it begins with <; if it is XML, convert it by tools/xml-templates FILE.xml\n",
             ..REFUSED
         },
         Case {
-            templates: "\u{feff}{\"templates\":[]}",
+            templates: Templates::Text("\u{feff}{\"templates\":[]}"),
             err: "templates refused S1 template=0 instruction=0\n\
             explain: the templates' file \"templates.json\" is no JSON text from line 1 column 1 on\n\
             explain: it begins with a byte order mark; save it as UTF-8 without one\n",
             ..REFUSED
         },
         Case {
-            templates: "{\"templates\":[{},\n ]}",
+            templates: Templates::Text("{\"templates\":[{},\n ]}"),
             err: "templates refused S1 template=0 instruction=0\n\
             explain: the templates' file \"templates.json\" is no JSON text from line 2 column 2 on\n\
             explain: a comma stands before the bracket there; take it out\n",
             ..REFUSED
         },
         Case {
-            templates: r#"{"templates":[],}"#,
+            templates: Templates::Text(r#"{"templates":[],}"#),
             err: "templates refused S1 template=0 instruction=0\n\
             explain: the templates' file \"templates.json\" is no JSON text from line 1 column 17 on\n\
             explain: a comma stands before the bracket there; take it out\n",
             ..REFUSED
         },
         Case {
-            templates: r#"{"templates":x}"#,
+            templates: Templates::Text(r#"{"templates":x}"#),
             err: "templates refused S1 template=0 instruction=0\n\
             explain: the templates' file \"templates.json\" is no JSON text from line 1 column 14 on\n",
             ..REFUSED
         },
         Case {
-            templates: r#"{"templates":{}}"#,
+            templates: Templates::Text(r#"{"templates":{}}"#),
             err: "templates refused S1 template=0 instruction=0\n\
             explain: the templates' file \"templates.json\" is no object with \"templates\", an array, perhaps \"dictionary\", a name, and no other key\n",
             ..REFUSED
         },
         Case {
-            templates: r#"{"templates":[{"name":"T"}]}"#,
+            templates: Templates::Text(r#"{"templates":[{"name":"T"}]}"#),
             err: "templates refused S1 template=1 instruction=0\n\
             explain: template 1 \"T\": a template has \"name\" and \"instructions\", perhaps \"id\" (0 to 4294967295), \"dictionary\" and \"typeRef\", and no other key; a name is 1 to 255 characters from ! to ~\n",
             ..REFUSED
         },
         Case {
-            templates: r#"{"templates":[{"name":"T","instructions":[]},7]}"#,
+            templates: Templates::Text(r#"{"templates":[{"name":"T","instructions":[]},7]}"#),
             err: "templates refused S1 template=2 instruction=0\n\
             explain: template 2: a template has \"name\" and \"instructions\", perhaps \"id\" (0 to 4294967295), \"dictionary\" and \"typeRef\", and no other key; a name is 1 to 255 characters from ! to ~\n",
             ..REFUSED
         },
         Case {
-            templates: r#"{"templates":[{"name":"T","id":1,"instructions":[{"kind":"group","name":"G","instructions":[{"kind":"uInt32","name":"A"},{"kind":"uint32","name":"B"}]}]}]}"#,
+            templates: Templates::Text(
+                r#"{"templates":[{"name":"T","id":1,"instructions":[{"kind":"group","name":"G","instructions":[{"kind":"uInt32","name":"A"},{"kind":"uint32","name":"B"}]}]}]}"#,
+            ),
             err: "templates refused S1 template=1 instruction=3\n\
             explain: template 1 \"T\", instruction 3 \"B\": a key is missing, unknown or of the wrong type, or a word or a name is none; a name is 1 to 255 characters from ! to ~\n",
             ..REFUSED
         },
         Case {
-            templates: r#"{"templates":[{"name":"T","id":1,"instructions":[{"kind":"uInt32","name":"A"},{"kind":"uInt32"}]}]}"#,
+            templates: Templates::Text(
+                r#"{"templates":[{"name":"T","id":1,"instructions":[{"kind":"uInt32","name":"A"},{"kind":"uInt32"}]}]}"#,
+            ),
             err: "templates refused S1 template=1 instruction=2\n\
             explain: template 1 \"T\", instruction 2: a key is missing, unknown or of the wrong type, or a word or a name is none; a name is 1 to 255 characters from ! to ~\n",
             ..REFUSED
         },
         Case {
-            templates: r#"{"templates":[{"name":"T","id":1,"instructions":[{"kind":"string","name":"A","operator":"increment"}]}]}"#,
+            templates: Templates::Text(
+                r#"{"templates":[{"name":"T","id":1,"instructions":[{"kind":"string","name":"A","operator":"increment"}]}]}"#,
+            ),
             err: "templates refused S2 template=1 instruction=1\n\
             explain: template 1 \"T\", instruction 1 \"A\": increment is for integers, tail for strings and byte vectors; take another operator or kind\n",
             ..REFUSED
         },
         Case {
-            templates: r#"{"templates":[{"name":"T","id":1,"instructions":[{"kind":"int32","name":"A","operator":"copy","value":"x"}]}]}"#,
+            templates: Templates::Text(
+                r#"{"templates":[{"name":"T","id":1,"instructions":[{"kind":"int32","name":"A","operator":"copy","value":"x"}]}]}"#,
+            ),
             err: "templates refused S3 template=1 instruction=1\n\
             explain: template 1 \"T\", instruction 1 \"A\": \"value\" spells no value of the kind; an integer is as -5, a decimal as 100e-2, a byte vector as 0a0b\n",
             ..REFUSED
         },
         Case {
-            templates: r#"{"templates":[{"name":"T","id":1,"instructions":[{"kind":"int32","name":"A","operator":"constant"}]}]}"#,
+            templates: Templates::Text(
+                r#"{"templates":[{"name":"T","id":1,"instructions":[{"kind":"int32","name":"A","operator":"constant"}]}]}"#,
+            ),
             err: "templates refused S4 template=1 instruction=1\n\
             explain: template 1 \"T\", instruction 1 \"A\": a constant needs a \"value\"\n",
             ..REFUSED
         },
         Case {
-            templates: r#"{"templates":[{"name":"T","id":1,"instructions":[{"kind":"uInt32","name":"A"},{"kind":"int32","name":"B","operator":"default"}]}]}"#,
+            templates: Templates::Text(
+                r#"{"templates":[{"name":"T","id":1,"instructions":[{"kind":"uInt32","name":"A"},{"kind":"int32","name":"B","operator":"default"}]}]}"#,
+            ),
             err: "templates refused S5 template=1 instruction=2\n\
             explain: template 1 \"T\", instruction 2 \"B\": a mandatory default needs a \"value\"; give it one, or make the field optional\n",
             ..REFUSED
         },
         Case {
-            templates: r#"{"templates":[{"name":"T","id":1,"instructions":[{"kind":"templateRef","name":"Other"}]}]}"#,
+            templates: Templates::Text(
+                r#"{"templates":[{"name":"T","id":1,"instructions":[{"kind":"templateRef","name":"Other"}]}]}"#,
+            ),
             err: "templates refused D8 template=1 instruction=1\n\
             explain: template 1 \"T\", instruction 1 \"Other\": no template has the name of the reference; add the template, or mend the name\n",
             ..REFUSED
         },
         Case {
-            templates: r#"{"templates":[{"name":"T","instructions":[]},{"name":"T","instructions":[]}]}"#,
+            templates: Templates::Text(
+                r#"{"templates":[{"name":"T","instructions":[]},{"name":"T","instructions":[]}]}"#,
+            ),
             err: "templates refused DuplicateName template=2 instruction=0\n\
             explain: template 2 \"T\": an earlier template has the same name; give one of them another\n",
             ..REFUSED
         },
         Case {
-            templates: r#"{"templates":[{"name":"T","id":1,"instructions":[]},{"name":"U","id":1,"instructions":[]}]}"#,
+            templates: Templates::Text(
+                r#"{"templates":[{"name":"T","id":1,"instructions":[]},{"name":"U","id":1,"instructions":[]}]}"#,
+            ),
             err: "templates refused DuplicateId template=2 instruction=0\n\
             explain: template 2 \"U\": an earlier template has the same \"id\"; give one of them another\n",
             ..REFUSED
         },
         Case {
-            templates: r#"{"templates":[{"name":"T","id":1,"instructions":[{"kind":"templateRef","name":"T"}]}]}"#,
+            templates: Templates::Text(
+                r#"{"templates":[{"name":"T","id":1,"instructions":[{"kind":"templateRef","name":"T"}]}]}"#,
+            ),
             err: "templates refused Cycle template=1 instruction=0\n\
             explain: template 1 \"T\": its references lead back to itself; take one of them out\n",
             ..REFUSED
         },
         Case {
-            templates: r#"{"templates":[{"name":"T","id":1,"instructions":[{"kind":"group","name":"G","instructions":[{"kind":"group","name":"G","instructions":[{"kind":"group","name":"G","instructions":[{"kind":"group","name":"G","instructions":[{"kind":"group","name":"G","instructions":[{"kind":"group","name":"G","instructions":[{"kind":"group","name":"G","instructions":[{"kind":"group","name":"G","instructions":[{"kind":"group","name":"G","instructions":[{"kind":"uInt32","name":"A"}]}]}]}]}]}]}]}]}]}]}]}"#,
+            templates: Templates::Text(
+                r#"{"templates":[{"name":"T","id":1,"instructions":[{"kind":"group","name":"G","instructions":[{"kind":"group","name":"G","instructions":[{"kind":"group","name":"G","instructions":[{"kind":"group","name":"G","instructions":[{"kind":"group","name":"G","instructions":[{"kind":"group","name":"G","instructions":[{"kind":"group","name":"G","instructions":[{"kind":"group","name":"G","instructions":[{"kind":"group","name":"G","instructions":[{"kind":"uInt32","name":"A"}]}]}]}]}]}]}]}]}]}]}]}"#,
+            ),
             err: "templates refused TooDeep template=1 instruction=0\n\
             explain: template 1 \"T\": groups and sequences nest in more than 8 levels; take some out\n",
             ..REFUSED
         },
         Case {
-            templates: DOUBLED,
+            templates: Templates::Text(DOUBLED),
             err: "templates refused TooMany template=1 instruction=0\n\
             explain: template 1 \"N1\": up to here there are more than 65535 instructions, those behind references included; leave out templates that the stream does not need\n",
             ..REFUSED

@@ -2,16 +2,20 @@
 
 use crate::same::same_of;
 use crate::serving::devices::{After, Feed, Full, STREAM, Shelf, TEMPLATES, whole, with_room};
+use crate::serving::examples::{BOOK, TRADE};
+use crate::serving::explaining::MANY;
 use crate::serving::granted::granted;
+use crate::serving::strict::QUOTES;
 use fast_io::Counted;
 use fast_serve::serve::{TURNS, serve, serve_words};
 use std::alloc::{AllocError, Global};
 use std::io;
 use std::process::Abort;
 use std::str::from_utf8;
+use template_tests::texts::{BARE, WORKED};
 
 // The template of the streams, as examples/worked.json has it.
-pub const FIRST: &str = r#"{"templates":[{"name":"First","id":16,"instructions":[
+const FIRST: &str = r#"{"templates":[{"name":"First","id":16,"instructions":[
  {"kind":"uInt32","name":"A"},
  {"kind":"uInt32","name":"B","operator":"copy"}]}]}"#;
 
@@ -44,12 +48,40 @@ const TWO_LINES: &[u8] = b"16 First A=5 B=6\n16 First A=7 B=6\n";
 
 const TWO_COUNTED: &[u8] = b"ok messages=2 bytes=8 canonical=6\n";
 
+/// Templates of cases. A table has their name, since its proof takes longer with each text in it.
+#[derive(Clone, Copy)]
+pub enum Templates<'a> {
+    First,
+    Quotes,
+    Book,
+    Trade,
+    Many,
+    Bare,
+    Worked,
+    Text(&'a str),
+}
+
+impl<'a> Templates<'a> {
+    fn text(self) -> &'a str {
+        match self {
+            Templates::First => FIRST,
+            Templates::Quotes => QUOTES,
+            Templates::Book => BOOK,
+            Templates::Trade => TRADE,
+            Templates::Many => MANY,
+            Templates::Bare => BARE,
+            Templates::Worked => WORKED,
+            Templates::Text(text) => text,
+        }
+    }
+}
+
 /// A command line, what its files and its input give and what stands behind that, how many reads there may be, what room
 /// its output and what is said have, and what is answered, written and said.
 #[derive(Clone, Copy)]
 pub struct Case<'a> {
     pub words: &'a [&'a str],
-    pub templates: &'a str,
+    pub templates: Templates<'a>,
     pub templates_end: After,
     pub stream: &'a [u8],
     pub input: &'a [u8],
@@ -70,9 +102,9 @@ pub const ENOUGH: (usize, Full) = (usize::MAX, Full::Nothing);
 /// What most lines have.
 pub const CASE: Case = Case {
     words: CANON,
-    templates: FIRST,
+    templates: Templates::First,
     templates_end: After::End,
-    stream: TWO,
+    stream: b"",
     input: b"",
     width: 4096,
     input_end: After::End,
@@ -89,7 +121,7 @@ impl<'a> Case<'a> {
     fn shelf(&self) -> Shelf<'a> {
         Shelf {
             templates: Feed {
-                rest: self.templates.as_bytes(),
+                rest: self.templates.text().as_bytes(),
                 width: 4096,
                 after: self.templates_end,
             },
@@ -209,6 +241,7 @@ fn streams_are_served(rt: HostRuntime) -> Result<(), AllocError> {
         Case { ..CASE },
         Case {
             words: &["fastcat", "show", STREAM, "--templates", TEMPLATES],
+            stream: TWO,
             out: TWO_LINES,
             ..CASE
         },
@@ -415,7 +448,7 @@ fn templates_and_inputs_that_fail(rt: HostRuntime) -> Result<(), AllocError> {
         // templates come first
         Case {
             words: CANON_HEX,
-            templates: TEXT,
+            templates: Templates::Text(TEXT),
             input: b"zz",
             status: 2,
             err: "templates refused S2 template=1 instruction=1\n",
@@ -423,28 +456,28 @@ fn templates_and_inputs_that_fail(rt: HostRuntime) -> Result<(), AllocError> {
         },
         Case {
             words: MISSING,
-            templates: TEXT,
+            templates: Templates::Text(TEXT),
             input: b"zz",
             status: 2,
             err: "templates refused S2 template=1 instruction=1\n",
             ..FAILED
         },
         Case {
-            templates: "{\"templates\":[",
+            templates: Templates::Text("{\"templates\":["),
             input: b"zz",
             status: 2,
             err: "templates refused S1 template=0 instruction=0\n",
             ..FAILED
         },
         Case {
-            templates: "{",
+            templates: Templates::Text("{"),
             templates_end: After::Error,
             input: b"zz",
             err: "fault read\n",
             ..FAILED
         },
         Case {
-            templates: "{",
+            templates: Templates::Text("{"),
             templates_end: After::Error,
             input: b"zz",
             turns: 1,
@@ -722,7 +755,7 @@ fn long_text(
 ) -> Result<(), AllocError> {
     let text = blanks(alloc, count)?;
     let case = if is_templates {
-        let templates = from_utf8(&text).unwrap_or("");
+        let templates = Templates::Text(from_utf8(&text).unwrap_or(""));
         Case { templates, ..*case }
     } else {
         Case {

@@ -1,11 +1,11 @@
 //! The program at the strict level: its exit status, what it writes, and what it says.
 
 use crate::serving::devices::TEMPLATES;
-use crate::serving::programs::{CASE, Case, rows_are_served};
+use crate::serving::programs::{CASE, Case, Templates, rows_are_served};
 use std::alloc::AllocError;
 
 // Two of the worked templates.
-const QUOTES: &str = r#"{"templates":[
+pub const QUOTES: &str = r#"{"templates":[
 {"name":"Quote","id":1,"instructions":[
  {"kind":"uInt32","name":"Seq","operator":"increment"},
  {"kind":"string","name":"Sym","operator":"copy"},
@@ -17,7 +17,7 @@ const QUOTES: &str = r#"{"templates":[
  {"kind":"uInt32","name":"Flag","operator":"copy"}]}]}"#;
 
 pub const OVER_QUOTES: Case = Case {
-    templates: QUOTES,
+    templates: Templates::Quotes,
     ..CASE
 };
 

@@ -2,10 +2,9 @@
 //! fail at each place.
 
 use crate::serving::devices::{After, Feed, Full, TEMPLATES, whole};
-use crate::serving::programs::{CASE, Case, cases_are_served, served};
+use crate::serving::programs::{CASE, Case, Templates, cases_are_served, served};
 use std::alloc::{AllocError, Global};
 use std::process::Abort;
-use template_tests::texts::{BARE, WORKED};
 
 /// The line of each command in a mode.
 #[derive(Clone, Copy)]
@@ -74,7 +73,7 @@ fn is_served<'a>(
 ) -> Result<(), AllocError> {
     let case = Case {
         words,
-        templates: WORKED,
+        templates: Templates::Worked,
         input: standard.rest,
         width: standard.width,
         input_end: standard.after,
@@ -519,7 +518,7 @@ fn reads_that_fail_in_a_block(rt: HostRuntime) -> Result<(), AllocError> {
 }
 
 const OVER_WORKED: Case = Case {
-    templates: WORKED,
+    templates: Templates::Worked,
     turns: 9,
     ..CASE
 };
@@ -751,7 +750,7 @@ fn long_texts_and_streams(rt: HostRuntime) -> Result<(), AllocError> {
 fn sequences_without_members(rt: HostRuntime) -> Result<(), AllocError> {
     const MOST: &[u8] = b"\xc0\x81\x80\x03\x7f\xfe";
     const REFUSED: Case = Case {
-        templates: BARE,
+        templates: Templates::Bare,
         input: b"\xc0\x81\x80\x03\x7f\xff",
         status: 1,
         err: "refused Limit message=1 offset=6 template=1 instruction=2\n",
@@ -760,14 +759,14 @@ fn sequences_without_members(rt: HostRuntime) -> Result<(), AllocError> {
     const ROWS: &[Case] = &[
         Case {
             words: CHECK,
-            templates: BARE,
+            templates: Templates::Bare,
             input: MOST,
             out: b"ok messages=1 bytes=6 canonical=6\n",
             ..CASE
         },
         Case {
             words: CANON,
-            templates: BARE,
+            templates: Templates::Bare,
             input: MOST,
             out: MOST,
             ..CASE
