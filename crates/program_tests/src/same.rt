@@ -3,12 +3,8 @@
 use std::fmt::Debug;
 use std::process::Abort;
 
-/// Ends the test where two values differ. A call of it is proved much faster than the text of `assert_eq` in its place.
-pub(crate) fn same<T: PartialEq + Debug + Drop>(rt: &impl Abort, given: T, wanted: T) {
-    assert_eq!(rt; given, wanted);
-}
-
-/// The same of a command line.
+/// Ends the test where two values of a command line differ. A call of it is proved much faster than the text of
+/// `assert_eq` in its place.
 pub(crate) fn same_of<T: PartialEq + Debug + Drop>(
     rt: &impl Abort,
     words: &[&str],

@@ -31,16 +31,16 @@ fn operation(
 
 // A field of a row.
 #[derive(Clone, Copy)]
-struct Field {
-    name: &'static str,
-    kind: Kind,
-    presence: Presence,
-    operator: Operator,
-    initial: Option<&'static str>,
-    dictionary: Option<&'static str>,
+pub(crate) struct Field<'a> {
+    pub(crate) name: &'a str,
+    pub(crate) kind: Kind,
+    pub(crate) presence: Presence,
+    pub(crate) operator: Operator,
+    pub(crate) initial: Option<&'a str>,
+    pub(crate) dictionary: Option<&'a str>,
 }
 
-const PLAIN: Field = Field {
+pub(crate) const PLAIN: Field = Field {
     name: "F",
     kind: Kind::UInt32,
     presence: Presence::Mandatory,
@@ -49,7 +49,7 @@ const PLAIN: Field = Field {
     dictionary: None,
 };
 
-impl Field {
+impl Field<'_> {
     fn instruction(&self, alloc: Global) -> Result<Instruction, AllocError> {
         let operation = operation(alloc, self.operator, self.initial, self.dictionary)?;
         Ok(Instruction::Field {
@@ -61,24 +61,25 @@ impl Field {
     }
 }
 
-fn parts(
-    alloc: Global,
-    exponent: Operation,
-    mantissa: Operation,
-) -> Result<Instruction, AllocError> {
-    Ok(Instruction::Parts {
-        name: String::from_str(alloc, "P")?,
-        presence: Presence::Mandatory,
-        exponent,
-        mantissa,
-    })
+// An operation that takes no memory.
+fn plainly(operator: Operator) -> Operation {
+    Operation {
+        operator,
+        initial: None,
+        dictionary: None,
+        key: None,
+    }
 }
 
 // A decimal with this text beside its exponent, and a mantissa that no operator applies to.
 fn decimal(alloc: Global, exponent: &str) -> Result<Instruction, AllocError> {
     let exponent = operation(alloc, Operator::Copy, Some(exponent), None)?;
-    let mantissa = operation(alloc, Operator::Tail, None, None)?;
-    parts(alloc, exponent, mantissa)
+    Ok(Instruction::Parts {
+        name: String::from_str(alloc, "P")?,
+        presence: Presence::Mandatory,
+        exponent,
+        mantissa: plainly(Operator::Tail),
+    })
 }
 
 fn group(alloc: Global, member: Instruction) -> Result<Instruction, AllocError> {
@@ -105,28 +106,18 @@ fn in_groups(
     Ok(member)
 }
 
-fn sequence(alloc: Global, members: Vec<Instruction>) -> Result<Instruction, AllocError> {
-    let dictionary = text(alloc, Some("mine"))?;
-    Ok(Instruction::Sequence {
-        name: String::from_str(alloc, "L")?,
-        presence: Presence::Mandatory,
-        dictionary,
-        type_ref: None,
-        length_name: None,
-        length: Operation {
-            operator: Operator::Copy,
-            initial: None,
-            dictionary: None,
-            key: None,
-        },
-        members,
-    })
-}
-
 // A sequence of another template.
 fn sequence_of(alloc: Global, name: &str) -> Result<Instruction, AllocError> {
     let members = vec![in alloc; reference(alloc, name)?]?;
-    sequence(alloc, members)
+    Ok(Instruction::Sequence {
+        name: String::from_str(alloc, "L")?,
+        presence: Presence::Mandatory,
+        dictionary: text(alloc, Some("mine"))?,
+        type_ref: None,
+        length_name: None,
+        length: plainly(Operator::Copy),
+        members,
+    })
 }
 
 fn reference(alloc: Global, name: &str) -> Result<Instruction, AllocError> {
@@ -137,12 +128,12 @@ fn reference(alloc: Global, name: &str) -> Result<Instruction, AllocError> {
 
 // An instruction of a row.
 #[derive(Clone, Copy)]
-enum Made<'a> {
-    Field(Field),
+pub(crate) enum Made<'a> {
+    Field(Field<'a>),
     // with this text beside the exponent
-    Decimal(&'static str),
+    Decimal(&'a str),
     // of the template of this name
-    Sequence(&'static str),
+    Sequence(&'a str),
     Reference(&'a str),
     // in so many groups
     Groups(u32, &'a Made<'a>),
@@ -169,7 +160,7 @@ fn instructions(alloc: Global, made: &[Made]) -> Result<Vec<Instruction>, AllocE
 }
 
 // A template of a row: its name, its identifier and its instructions.
-type Described<'a> = (&'a str, Option<u32>, &'a [Made<'a>]);
+pub(crate) type Described<'a> = (&'a str, Option<u32>, &'a [Made<'a>]);
 
 fn template(alloc: Global, row: Described) -> Result<Template, AllocError> {
     let (name, id, made) = row;
@@ -192,13 +183,13 @@ fn templates(alloc: Global, rows: &[Described]) -> Result<Vec<Template>, AllocEr
 }
 
 // What is wanted of templates.
-struct Row {
-    templates: &'static [Described<'static>],
-    wanted: Wanted,
+pub(crate) struct Row {
+    pub(crate) templates: &'static [Described<'static>],
+    pub(crate) wanted: Wanted,
 }
 
 // Templates are loaded, or have this fault.
-fn all_judged(rt: &impl Abort, alloc: Global, rows: &[Row]) -> Result<(), AllocError> {
+pub(crate) fn all_judged(rt: &impl Abort, alloc: Global, rows: &[Row]) -> Result<(), AllocError> {
     for row in rows {
         let built = TemplateSet::build(alloc, templates(alloc, row.templates)?);
         answers(rt, built, row.wanted)?;
@@ -207,8 +198,9 @@ fn all_judged(rt: &impl Abort, alloc: Global, rows: &[Row]) -> Result<(), AllocE
 }
 
 #[test]
-fn fields_are_judged(rt: HostRuntime) -> Result<(), AllocError> {
+fn templates_are_judged(rt: HostRuntime) -> Result<(), AllocError> {
     const ROWS: &[Row] = &[
+        // fields
         Row {
             templates: &[(
                 "A",
@@ -279,13 +271,7 @@ fn fields_are_judged(rt: HostRuntime) -> Result<(), AllocError> {
             )],
             wanted: Wanted::Loaded,
         },
-    ];
-    all_judged(&rt, rt.alloc(), ROWS)
-}
-
-#[test]
-fn an_exponent_is_judged_before_its_mantissa(rt: HostRuntime) -> Result<(), AllocError> {
-    const ROWS: &[Row] = &[
+        // an exponent is judged before its mantissa
         Row {
             templates: &[("A", None, &[Made::Decimal("64")])],
             wanted: Wanted::Fault(LoadCause::S3, 1, 1),
@@ -302,13 +288,7 @@ fn an_exponent_is_judged_before_its_mantissa(rt: HostRuntime) -> Result<(), Allo
             templates: &[("A", None, &[Made::Decimal("-64")])],
             wanted: Wanted::Fault(LoadCause::S3, 1, 1),
         },
-    ];
-    all_judged(&rt, rt.alloc(), ROWS)
-}
-
-#[test]
-fn names_and_identifiers_are_new(rt: HostRuntime) -> Result<(), AllocError> {
-    const ROWS: &[Row] = &[
+        // names and identifiers are new
         Row {
             templates: &[],
             wanted: Wanted::Loaded,
@@ -325,13 +305,7 @@ fn names_and_identifiers_are_new(rt: HostRuntime) -> Result<(), AllocError> {
             templates: &[("A", None, &[]), ("B b", None, &[])],
             wanted: Wanted::Fault(LoadCause::S1, 2, 0),
         },
-    ];
-    all_judged(&rt, rt.alloc(), ROWS)
-}
-
-#[test]
-fn references_lead_to_templates_and_not_back(rt: HostRuntime) -> Result<(), AllocError> {
-    const ROWS: &[Row] = &[
+        // references lead to templates and not back
         Row {
             templates: &[("A", None, &[Made::Reference("Nobody")])],
             wanted: Wanted::Fault(LoadCause::D8, 1, 1),
@@ -351,13 +325,7 @@ fn references_lead_to_templates_and_not_back(rt: HostRuntime) -> Result<(), Allo
             ],
             wanted: Wanted::Fault(LoadCause::Cycle, 3, 0),
         },
-    ];
-    all_judged(&rt, rt.alloc(), ROWS)
-}
-
-#[test]
-fn depth_goes_through_references(rt: HostRuntime) -> Result<(), AllocError> {
-    const ROWS: &[Row] = &[
+        // depth goes through references
         Row {
             templates: &[
                 ("A", None, &[Made::Groups(8, &Made::Field(PLAIN))]),
@@ -390,29 +358,39 @@ fn depth_goes_through_references(rt: HostRuntime) -> Result<(), AllocError> {
     all_judged(&rt, rt.alloc(), ROWS)
 }
 
-fn numbered(alloc: Global, number: u32) -> Result<String, AllocError> {
+pub(crate) fn numbered(alloc: Global, number: u32) -> Result<String, AllocError> {
     format!(in alloc; "N{number}")
 }
 
 // The template of this number, with these instructions.
-fn of_number(alloc: Global, number: u32, members: &[Made]) -> Result<Template, AllocError> {
+pub(crate) fn of_number(
+    alloc: Global,
+    number: u32,
+    members: &[Made],
+) -> Result<Template, AllocError> {
     let name = numbered(alloc, number)?;
-    template(alloc, (&name, None, members))
+    template(alloc, (&name, Some(number), members))
 }
 
-// A template that refers to the next one twice.
-fn twice(alloc: Global, number: u32) -> Result<Template, AllocError> {
-    let next = numbered(alloc, number.saturating_add(1))?;
+// A template that refers to the next one twice; the last of so many has these instructions.
+fn twice(alloc: Global, number: u32, count: u32, members: &[Made]) -> Result<Template, AllocError> {
+    if number >= count {
+        return of_number(alloc, number, members);
+    }
+    let next = numbered(alloc, number + 1)?;
     of_number(alloc, number, &[Made::Reference(&next); 2])
 }
 
 // Templates, each of which refers to the next one twice; the last has these instructions.
-fn doubling(alloc: Global, count: u32, members: &[Made]) -> Result<Vec<Template>, AllocError> {
+pub(crate) fn doubling(
+    alloc: Global,
+    count: u32,
+    members: &[Made],
+) -> Result<Vec<Template>, AllocError> {
     let mut templates = Vec::new(alloc);
-    for number in 1..count {
-        templates.push(twice(alloc, number)?)?;
+    for number in 1..=count {
+        templates.push(twice(alloc, number, count, members)?)?;
     }
-    templates.push(of_number(alloc, count, members)?)?;
     Ok(templates)
 }
 
@@ -474,8 +452,12 @@ const SHARING: &[Described] = &[
     ),
 ];
 
-fn sharing(rt: &impl Abort, alloc: Global) -> Result<TemplateSet, AllocError> {
-    loaded(rt, TemplateSet::build(alloc, templates(alloc, SHARING)?))
+pub(crate) fn built(
+    rt: &impl Abort,
+    alloc: Global,
+    rows: &[Described],
+) -> Result<TemplateSet, AllocError> {
+    loaded(rt, TemplateSet::build(alloc, templates(alloc, rows)?))
 }
 
 fn part_of(flat: &Flat) -> Option<&FieldPart> {
@@ -486,73 +468,64 @@ fn part_of(flat: &Flat) -> Option<&FieldPart> {
     }
 }
 
-fn entry_of(alloc: Global, part: &FieldPart) -> Result<String, AllocError> {
-    format!(in alloc;
-        "{} {} {}, ",
-        part.number,
-        part.key.slot,
-        part.key.name.as_str()
-    )
+/// The instructions of a template that is there.
+pub(crate) fn members_of(template: Option<&FlatTemplate>) -> &[Flat] {
+    match template {
+        Some(template) => template.members.as_slice(),
+        None => &[],
+    }
 }
 
-// The number, the slot and the name of the key of each field and sequence, and those inside.
-fn list(alloc: Global, flats: &[Flat], line: &mut String) -> Result<(), AllocError> {
+fn elements_of(flat: Option<&Flat>) -> &[Flat] {
+    match flat {
+        Some(Flat::Sequence { members, .. }) => members.as_slice(),
+        _ => &[],
+    }
+}
+
+// The number of a field or a sequence, and the slot and the name of its key.
+fn key_of(flat: &Flat) -> Option<(u32, u32, &str)> {
+    let part = part_of(flat)?;
+    Some((part.number, part.key.slot, part.key.name.as_str()))
+}
+
+fn have_keys(rt: &impl Abort, flats: &[Flat], wanted: &[(u32, u32, &str)]) {
+    same(rt, flats.len(), wanted.len());
+    for (flat, wanted) in flats.iter().zip(wanted) {
+        same(rt, key_of(flat), Some(*wanted));
+    }
+}
+
+fn initial_of(flat: &Flat) -> Option<&Scalar> {
+    part_of(flat)?.initial()
+}
+
+// Each field begins with the number 7.
+fn begin_with_seven(rt: &impl Abort, flats: &[Flat]) {
+    same(rt, flats.len(), 2);
     for flat in flats {
-        if let Some(part) = part_of(flat) {
-            line.push_str(&entry_of(alloc, part)?)?;
-        }
-        if let Flat::Sequence { members, .. } = flat {
-            list(alloc, members, line)?;
-        }
+        same(rt, initial_of(flat), Some(&Scalar::U32(7)));
     }
-    Ok(())
 }
 
-// A template's line, or none.
-fn line_of(alloc: Global, set: &TemplateSet, id: u32) -> Result<String, AllocError> {
-    let mut line = String::new(alloc);
-    if let Some(found) = set.find(id) {
-        list(alloc, &found.members, &mut line)?;
-    }
-    Ok(line)
-}
-
-#[test]
-fn keys_are_those_where_an_instruction_was_written(rt: HostRuntime) -> Result<(), AllocError> {
-    let set = sharing(&rt, rt.alloc())?;
-    same(&rt, set.slots(), 5);
-    same(&rt, set.name(6), Some("Shared"));
-    same(&rt, set.find(7).is_none(), true);
-    let line = line_of(rt.alloc(), &set, 5)?;
-    same(
-        &rt,
-        line.as_str(),
-        "1 1 X, 2 2 Y, 3 3 L, 4 1 X, 5 2 Y, 6 4 F, ",
+// Keys are those where an instruction was written.
+fn is_shared(rt: &impl Abort, set: &TemplateSet) {
+    same(rt, set.slots(), 5);
+    same(rt, set.name(6), Some("Shared"));
+    same(rt, set.find(7).is_none(), true);
+    let flats = members_of(set.find(5));
+    have_keys(
+        rt,
+        flats,
+        &[(1, 1, "X"), (2, 2, "Y"), (3, 3, "L"), (6, 4, "F")],
     );
-    Ok(())
-}
-
-fn begins_with_seven(rt: &impl Abort, part: &FieldPart) {
-    same(rt, part.initial(), Some(&Scalar::U32(7)));
-}
-
-// Each field of a template begins with the number 7, and there are so many.
-fn all_begin_with_seven(rt: &impl Abort, template: Option<&FlatTemplate>, count: u32) {
-    let mut fields = 0u32;
-    if let Some(template) = template {
-        for flat in &template.members {
-            if let Some(part) = part_of(flat) {
-                begins_with_seven(rt, part);
-                fields = fields.saturating_add(1);
-            }
-        }
-    }
-    same(rt, fields, count);
+    have_keys(rt, elements_of(flats.get(2)), &[(4, 1, "X"), (5, 2, "Y")]);
+    begin_with_seven(rt, members_of(set.find(6)));
 }
 
 #[test]
-fn initial_values_are_read(rt: HostRuntime) -> Result<(), AllocError> {
-    let set = sharing(&rt, rt.alloc())?;
-    all_begin_with_seven(&rt, set.find(6), 2);
+fn a_template_is_shared(rt: HostRuntime) -> Result<(), AllocError> {
+    let set = built(&rt, rt.alloc(), SHARING)?;
+    is_shared(&rt, &set);
     Ok(())
 }

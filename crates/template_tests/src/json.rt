@@ -1,6 +1,6 @@
 //! Texts that are loaded.
 
-use crate::loads::{Wanted, answers, granted, loaded};
+use crate::loads::{Wanted, answers, loaded};
 use crate::same::same;
 use fast_build::{Load, LoadCause};
 use fast_template::TemplateSet;
@@ -38,75 +38,31 @@ fn each_judged(rt: &impl Abort, alloc: Global, rows: &[Row]) -> Result<(), Alloc
     Ok(())
 }
 
-#[test]
-fn instructions_are_loaded_as_written(rt: HostRuntime) -> Result<(), AllocError> {
-    const ROWS: &[Row] = &[
-        Row {
-            text: r#"{"kind":"string","name":"F","operator":"increment"}"#,
-            wanted: Wanted::Fault(LoadCause::S2, 1, 1),
-        },
-        Row {
-            text: r#"{"kind":"uInt32","name":"F","operator":"copy","value":"x"}"#,
-            wanted: Wanted::Fault(LoadCause::S3, 1, 1),
-        },
-        Row {
-            text: r#"{"kind":"uInt32","name":"F","operator":"constant"}"#,
-            wanted: Wanted::Fault(LoadCause::S4, 1, 1),
-        },
-        Row {
-            text: r#"{"kind":"uInt32","name":"F","operator":"default"}"#,
-            wanted: Wanted::Fault(LoadCause::S5, 1, 1),
-        },
-        Row {
-            text: r#"{"kind":"templateRef","name":"Nobody"}"#,
-            wanted: Wanted::Fault(LoadCause::D8, 1, 1),
-        },
-        Row {
-            text: r#"{"kind":"templateRef","name":"A"}"#,
-            wanted: Wanted::Fault(LoadCause::Cycle, 1, 0),
-        },
-        Row {
-            text: r#"{"kind":"uInt32","name":""}"#,
-            wanted: Wanted::Fault(LoadCause::S1, 1, 1),
-        },
-        // a name is judged only once all shapes are
-        Row {
-            text: r#"{"kind":"uInt32","name":""},{"kind":"x","name":"F"}"#,
-            wanted: Wanted::Fault(LoadCause::S1, 1, 2),
-        },
-    ];
-    each_judged(&rt, rt.alloc(), ROWS)
-}
+// Seventeen templates, each of which refers to the next one twice; the last has one field. As one text it is proved much
+// faster than what would write it.
+const DOUBLING: &str = r#"{"templates":[
+{"name":"N1","instructions":[{"kind":"templateRef","name":"N2"},{"kind":"templateRef","name":"N2"}]},
+{"name":"N2","instructions":[{"kind":"templateRef","name":"N3"},{"kind":"templateRef","name":"N3"}]},
+{"name":"N3","instructions":[{"kind":"templateRef","name":"N4"},{"kind":"templateRef","name":"N4"}]},
+{"name":"N4","instructions":[{"kind":"templateRef","name":"N5"},{"kind":"templateRef","name":"N5"}]},
+{"name":"N5","instructions":[{"kind":"templateRef","name":"N6"},{"kind":"templateRef","name":"N6"}]},
+{"name":"N6","instructions":[{"kind":"templateRef","name":"N7"},{"kind":"templateRef","name":"N7"}]},
+{"name":"N7","instructions":[{"kind":"templateRef","name":"N8"},{"kind":"templateRef","name":"N8"}]},
+{"name":"N8","instructions":[{"kind":"templateRef","name":"N9"},{"kind":"templateRef","name":"N9"}]},
+{"name":"N9","instructions":[{"kind":"templateRef","name":"N10"},{"kind":"templateRef","name":"N10"}]},
+{"name":"N10","instructions":[{"kind":"templateRef","name":"N11"},{"kind":"templateRef","name":"N11"}]},
+{"name":"N11","instructions":[{"kind":"templateRef","name":"N12"},{"kind":"templateRef","name":"N12"}]},
+{"name":"N12","instructions":[{"kind":"templateRef","name":"N13"},{"kind":"templateRef","name":"N13"}]},
+{"name":"N13","instructions":[{"kind":"templateRef","name":"N14"},{"kind":"templateRef","name":"N14"}]},
+{"name":"N14","instructions":[{"kind":"templateRef","name":"N15"},{"kind":"templateRef","name":"N15"}]},
+{"name":"N15","instructions":[{"kind":"templateRef","name":"N16"},{"kind":"templateRef","name":"N16"}]},
+{"name":"N16","instructions":[{"kind":"templateRef","name":"N17"},{"kind":"templateRef","name":"N17"}]},
+{"name":"N17","instructions":[{"kind":"uInt32","name":"F"}]}]}"#;
 
 #[test]
-fn decimals_and_defaults_are_loaded(rt: HostRuntime) -> Result<(), AllocError> {
+fn texts_are_judged(rt: HostRuntime) -> Result<(), AllocError> {
     const ROWS: &[Row] = &[
-        // an exponent's checks come before its mantissa's
-        Row {
-            text: r#"{"kind":"decimal","name":"F",
-                "exponent":{"operator":"copy","value":"64"},"mantissa":{"operator":"tail"}}"#,
-            wanted: Wanted::Fault(LoadCause::S3, 1, 1),
-        },
-        // a mantissa alone: the exponent is as if it were empty
-        Row {
-            text: r#"{"kind":"decimal","name":"F","mantissa":{"operator":"copy"}}"#,
-            wanted: Wanted::Loaded,
-        },
-        Row {
-            text: r#"{"kind":"uInt32","name":"F","presence":"optional","operator":"default"}"#,
-            wanted: Wanted::Loaded,
-        },
-        Row {
-            text: r#"{"kind":"uInt32","name":"F","operator":"copy","value":"4294967296"}"#,
-            wanted: Wanted::Fault(LoadCause::S3, 1, 1),
-        },
-    ];
-    each_judged(&rt, rt.alloc(), ROWS)
-}
-
-#[test]
-fn texts_of_another_shape_are_refused(rt: HostRuntime) -> Result<(), AllocError> {
-    const ROWS: &[Row] = &[
+        // of another shape
         Row {
             text: r#"{"templates":["#,
             wanted: Wanted::Fault(LoadCause::S1, 0, 0),
@@ -139,13 +95,7 @@ fn texts_of_another_shape_are_refused(rt: HostRuntime) -> Result<(), AllocError>
             text: r#"{"templates":[{"name":"A","instructions":[],"id":01}]}"#,
             wanted: Wanted::Fault(LoadCause::S1, 0, 0),
         },
-    ];
-    all_judged(&rt, rt.alloc(), ROWS)
-}
-
-#[test]
-fn templates_of_another_shape_are_refused(rt: HostRuntime) -> Result<(), AllocError> {
-    const ROWS: &[Row] = &[
+        // with a template of another shape
         Row {
             text: r#"{"templates":[1]}"#,
             wanted: Wanted::Fault(LoadCause::S1, 1, 0),
@@ -191,13 +141,92 @@ fn templates_of_another_shape_are_refused(rt: HostRuntime) -> Result<(), AllocEr
             text: r#"{"templates":[{"name":"","instructions":[]},{"name":"B"}]}"#,
             wanted: Wanted::Fault(LoadCause::S1, 2, 0),
         },
+        // with templates that stand beside others
+        Row {
+            text: r#"{"templates":[]}"#,
+            wanted: Wanted::Loaded,
+        },
+        Row {
+            text: r#"{"templates":[{"name":"A","instructions":[{"kind":"templateRef","name":"A"}]}]}"#,
+            wanted: Wanted::Fault(LoadCause::Cycle, 1, 0),
+        },
+        Row {
+            text: r#"{"templates":[{"name":"A","instructions":[{"kind":"templateRef","name":"Nobody"}]}]}"#,
+            wanted: Wanted::Fault(LoadCause::D8, 1, 1),
+        },
+        Row {
+            text: r#"{"templates":[{"name":"A","instructions":[]},{"name":"A","instructions":[]}]}"#,
+            wanted: Wanted::Fault(LoadCause::DuplicateName, 2, 0),
+        },
+        Row {
+            text: r#"{"templates":[{"name":"A","id":1,"instructions":[]},
+                {"name":"B","id":1,"instructions":[]}]}"#,
+            wanted: Wanted::Fault(LoadCause::DuplicateId, 2, 0),
+        },
+        Row {
+            text: DOUBLING,
+            wanted: Wanted::Fault(LoadCause::TooMany, 1, 0),
+        },
     ];
     all_judged(&rt, rt.alloc(), ROWS)
 }
 
 #[test]
-fn instructions_of_another_shape_are_refused(rt: HostRuntime) -> Result<(), AllocError> {
+fn instructions_are_judged(rt: HostRuntime) -> Result<(), AllocError> {
     const ROWS: &[Row] = &[
+        Row {
+            text: r#"{"kind":"string","name":"F","operator":"increment"}"#,
+            wanted: Wanted::Fault(LoadCause::S2, 1, 1),
+        },
+        Row {
+            text: r#"{"kind":"uInt32","name":"F","operator":"copy","value":"x"}"#,
+            wanted: Wanted::Fault(LoadCause::S3, 1, 1),
+        },
+        Row {
+            text: r#"{"kind":"uInt32","name":"F","operator":"constant"}"#,
+            wanted: Wanted::Fault(LoadCause::S4, 1, 1),
+        },
+        Row {
+            text: r#"{"kind":"uInt32","name":"F","operator":"default"}"#,
+            wanted: Wanted::Fault(LoadCause::S5, 1, 1),
+        },
+        Row {
+            text: r#"{"kind":"templateRef","name":"Nobody"}"#,
+            wanted: Wanted::Fault(LoadCause::D8, 1, 1),
+        },
+        Row {
+            text: r#"{"kind":"templateRef","name":"A"}"#,
+            wanted: Wanted::Fault(LoadCause::Cycle, 1, 0),
+        },
+        Row {
+            text: r#"{"kind":"uInt32","name":""}"#,
+            wanted: Wanted::Fault(LoadCause::S1, 1, 1),
+        },
+        // a name is judged only once all shapes are
+        Row {
+            text: r#"{"kind":"uInt32","name":""},{"kind":"x","name":"F"}"#,
+            wanted: Wanted::Fault(LoadCause::S1, 1, 2),
+        },
+        // an exponent's checks come before its mantissa's
+        Row {
+            text: r#"{"kind":"decimal","name":"F",
+                "exponent":{"operator":"copy","value":"64"},"mantissa":{"operator":"tail"}}"#,
+            wanted: Wanted::Fault(LoadCause::S3, 1, 1),
+        },
+        // a mantissa alone: the exponent is as if it were empty
+        Row {
+            text: r#"{"kind":"decimal","name":"F","mantissa":{"operator":"copy"}}"#,
+            wanted: Wanted::Loaded,
+        },
+        Row {
+            text: r#"{"kind":"uInt32","name":"F","presence":"optional","operator":"default"}"#,
+            wanted: Wanted::Loaded,
+        },
+        Row {
+            text: r#"{"kind":"uInt32","name":"F","operator":"copy","value":"4294967296"}"#,
+            wanted: Wanted::Fault(LoadCause::S3, 1, 1),
+        },
+        // of another shape
         Row {
             text: "1",
             wanted: Wanted::Fault(LoadCause::S1, 1, 1),
@@ -255,36 +284,7 @@ fn instructions_of_another_shape_are_refused(rt: HostRuntime) -> Result<(), Allo
             text: r#"{"kind":"group","name":"G","instructions":[{"kind":"uInt32","name":"F"},1]}"#,
             wanted: Wanted::Fault(LoadCause::S1, 1, 3),
         },
-    ];
-    each_judged(&rt, rt.alloc(), ROWS)
-}
-
-// The name of a template in a text, where the text is loaded.
-fn is_named(
-    rt: &impl Abort,
-    alloc: Global,
-    text: &str,
-    id: u32,
-    name: &str,
-) -> Result<(), AllocError> {
-    let set = loaded(rt, TemplateSet::from_json(alloc, text.as_bytes()))?;
-    same(rt, set.name(id), Some(name));
-    Ok(())
-}
-
-#[test]
-fn of_a_key_that_stands_twice_the_last_is_read(rt: HostRuntime) -> Result<(), AllocError> {
-    let twice = "{\"templates\":[{\"id\":\"x\",\"name\":\"A\",\"id\":7,\"instructions\":[]}]}";
-    is_named(&rt, rt.alloc(), twice, 7, "A")?;
-    let loaded = granted(TemplateSet::from_json(rt.alloc(), &[0xFF]))?;
-    same(&rt, loaded.is_err(), true);
-    Ok(())
-}
-
-// Nine groups, each in the one before, and eight.
-#[test]
-fn groups_in_groups_are_loaded(rt: HostRuntime) -> Result<(), AllocError> {
-    const ROWS: &[Row] = &[
+        // nine groups, each in the one before, and eight
         Row {
             text: r#"{"kind":"group","name":"G","instructions":[{"kind":"group","name":"G","instructions":[
                 {"kind":"group","name":"G","instructions":[{"kind":"group","name":"G","instructions":[
@@ -306,57 +306,23 @@ fn groups_in_groups_are_loaded(rt: HostRuntime) -> Result<(), AllocError> {
     each_judged(&rt, rt.alloc(), ROWS)
 }
 
-// Seventeen templates, each of which refers to the next one twice; the last has one field. As one text it is proved much
-// faster than what would write it.
-const DOUBLING: &str = r#"{"templates":[
-{"name":"N1","instructions":[{"kind":"templateRef","name":"N2"},{"kind":"templateRef","name":"N2"}]},
-{"name":"N2","instructions":[{"kind":"templateRef","name":"N3"},{"kind":"templateRef","name":"N3"}]},
-{"name":"N3","instructions":[{"kind":"templateRef","name":"N4"},{"kind":"templateRef","name":"N4"}]},
-{"name":"N4","instructions":[{"kind":"templateRef","name":"N5"},{"kind":"templateRef","name":"N5"}]},
-{"name":"N5","instructions":[{"kind":"templateRef","name":"N6"},{"kind":"templateRef","name":"N6"}]},
-{"name":"N6","instructions":[{"kind":"templateRef","name":"N7"},{"kind":"templateRef","name":"N7"}]},
-{"name":"N7","instructions":[{"kind":"templateRef","name":"N8"},{"kind":"templateRef","name":"N8"}]},
-{"name":"N8","instructions":[{"kind":"templateRef","name":"N9"},{"kind":"templateRef","name":"N9"}]},
-{"name":"N9","instructions":[{"kind":"templateRef","name":"N10"},{"kind":"templateRef","name":"N10"}]},
-{"name":"N10","instructions":[{"kind":"templateRef","name":"N11"},{"kind":"templateRef","name":"N11"}]},
-{"name":"N11","instructions":[{"kind":"templateRef","name":"N12"},{"kind":"templateRef","name":"N12"}]},
-{"name":"N12","instructions":[{"kind":"templateRef","name":"N13"},{"kind":"templateRef","name":"N13"}]},
-{"name":"N13","instructions":[{"kind":"templateRef","name":"N14"},{"kind":"templateRef","name":"N14"}]},
-{"name":"N14","instructions":[{"kind":"templateRef","name":"N15"},{"kind":"templateRef","name":"N15"}]},
-{"name":"N15","instructions":[{"kind":"templateRef","name":"N16"},{"kind":"templateRef","name":"N16"}]},
-{"name":"N16","instructions":[{"kind":"templateRef","name":"N17"},{"kind":"templateRef","name":"N17"}]},
-{"name":"N17","instructions":[{"kind":"uInt32","name":"F"}]}]}"#;
-
-#[test]
-fn templates_that_double_are_refused(rt: HostRuntime) -> Result<(), AllocError> {
-    let wanted = Wanted::Fault(LoadCause::TooMany, 1, 0);
-    is_judged(&rt, rt.alloc(), DOUBLING, wanted)
+// The name of a template in a text, where the text is loaded.
+fn is_named(
+    rt: &impl Abort,
+    alloc: Global,
+    text: &str,
+    id: u32,
+    name: &str,
+) -> Result<(), AllocError> {
+    let set = loaded(rt, TemplateSet::from_json(alloc, text.as_bytes()))?;
+    same(rt, set.name(id), Some(name));
+    Ok(())
 }
 
 #[test]
-fn templates_with_others_are_loaded(rt: HostRuntime) -> Result<(), AllocError> {
-    const ROWS: &[Row] = &[
-        Row {
-            text: r#"{"templates":[]}"#,
-            wanted: Wanted::Loaded,
-        },
-        Row {
-            text: r#"{"templates":[{"name":"A","instructions":[{"kind":"templateRef","name":"A"}]}]}"#,
-            wanted: Wanted::Fault(LoadCause::Cycle, 1, 0),
-        },
-        Row {
-            text: r#"{"templates":[{"name":"A","instructions":[{"kind":"templateRef","name":"Nobody"}]}]}"#,
-            wanted: Wanted::Fault(LoadCause::D8, 1, 1),
-        },
-        Row {
-            text: r#"{"templates":[{"name":"A","instructions":[]},{"name":"A","instructions":[]}]}"#,
-            wanted: Wanted::Fault(LoadCause::DuplicateName, 2, 0),
-        },
-        Row {
-            text: r#"{"templates":[{"name":"A","id":1,"instructions":[]},
-                {"name":"B","id":1,"instructions":[]}]}"#,
-            wanted: Wanted::Fault(LoadCause::DuplicateId, 2, 0),
-        },
-    ];
-    all_judged(&rt, rt.alloc(), ROWS)
+fn of_a_key_that_stands_twice_the_last_is_read(rt: HostRuntime) -> Result<(), AllocError> {
+    let wanted = Wanted::Fault(LoadCause::S1, 0, 0);
+    answers(&rt, TemplateSet::from_json(rt.alloc(), &[0xFF]), wanted)?;
+    let twice = "{\"templates\":[{\"id\":\"x\",\"name\":\"A\",\"id\":7,\"instructions\":[]}]}";
+    is_named(&rt, rt.alloc(), twice, 7, "A")
 }

@@ -8,7 +8,7 @@ use std::process::Abort;
 
 // What a load answers, where it is not refused for memory. Want of memory ends a test, so that one whose
 // allocations fail in turn ends with that error or with its row.
-pub(crate) fn granted(
+fn granted(
     loaded: Result<TemplateSet, LoadFault>,
 ) -> Result<Result<TemplateSet, LoadFault>, AllocError> {
     match loaded {

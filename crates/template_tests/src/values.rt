@@ -1,9 +1,12 @@
 //! Values, keys and what asks for a bit.
 
+use crate::building::members_of;
+use crate::loads::loaded;
 use crate::same::same;
+use fast_build::Load;
 use fast_template::{
     ByteString, FieldPart, Flat, Key, Kind, Name, Operator, Part, Presence, Scalar, Scope,
-    UnicodeText, has_map, needs_bit, part_needs_bit,
+    TemplateSet, UnicodeText, has_map, needs_bit, part_needs_bit,
 };
 use std::alloc::{AllocError, Global};
 use std::process::Abort;
@@ -12,29 +15,12 @@ fn name(alloc: Global, text: &str) -> Result<Name, AllocError> {
     Name::of(alloc, text)
 }
 
-fn key(alloc: Global, text: &str, part: Part) -> Result<Key, AllocError> {
+fn key(alloc: Global, scope: Scope, text: &str, part: Part) -> Result<Key, AllocError> {
     Ok(Key {
-        slot: 1,
-        scope: Scope::Global,
+        slot: 3,
+        scope,
         name: name(alloc, text)?,
         part,
-    })
-}
-
-fn part(
-    alloc: Global,
-    part: Part,
-    presence: Presence,
-    operator: Operator,
-) -> Result<FieldPart, AllocError> {
-    Ok(FieldPart {
-        number: 1,
-        part,
-        kind: Kind::Int64,
-        presence,
-        operator,
-        initial: None,
-        key: key(alloc, "F", part)?,
     })
 }
 
@@ -44,76 +30,65 @@ fn has_a_copy(rt: &impl Abort, alloc: Global, value: Scalar) -> Result<(), Alloc
     Ok(())
 }
 
-// A number of a row.
+// A value of a row.
 #[derive(Clone, Copy)]
-enum Number {
+enum Value {
     U32(u32),
     I32(i32),
     U64(u64),
     I64(i64),
     Decimal(i32, i64),
+    Ascii(&'static [u8]),
+    Unicode(&'static str),
+    Bytes(&'static [u8]),
 }
 
-impl Number {
-    fn scalar(self) -> Scalar {
-        match self {
-            Number::U32(number) => Scalar::U32(number),
-            Number::I32(number) => Scalar::I32(number),
-            Number::U64(number) => Scalar::U64(number),
-            Number::I64(number) => Scalar::I64(number),
-            Number::Decimal(exponent, mantissa) => Scalar::Decimal { exponent, mantissa },
-        }
+impl Value {
+    fn scalar(self, alloc: Global) -> Result<Scalar, AllocError> {
+        Ok(match self {
+            Value::U32(number) => Scalar::U32(number),
+            Value::I32(number) => Scalar::I32(number),
+            Value::U64(number) => Scalar::U64(number),
+            Value::I64(number) => Scalar::I64(number),
+            Value::Decimal(exponent, mantissa) => Scalar::Decimal { exponent, mantissa },
+            Value::Ascii(text) => Scalar::Ascii(ByteString::from_vec(text.to_vec(alloc)?)),
+            Value::Unicode(text) => {
+                Scalar::Unicode(UnicodeText::from_string(String::from_str(alloc, text)?))
+            }
+            Value::Bytes(bytes) => Scalar::Bytes(ByteString::from_vec(bytes.to_vec(alloc)?)),
+        })
     }
 }
 
 #[test]
-fn copies_of_numbers_are_equal(rt: HostRuntime) -> Result<(), AllocError> {
-    const NUMBERS: &[Number] = &[
-        Number::U32(4294967295),
-        Number::I32(-7942755),
-        Number::U64(18446744073709551615),
-        Number::I64(-9223372036854775808),
-        Number::Decimal(-2, 942755),
+fn copies_of_values_are_equal(rt: HostRuntime) -> Result<(), AllocError> {
+    const VALUES: &[Value] = &[
+        Value::U32(4294967295),
+        Value::I32(-7942755),
+        Value::U64(18446744073709551615),
+        Value::I64(-9223372036854775808),
+        Value::Decimal(-2, 942755),
+        Value::Ascii(b"GEM6"),
+        Value::Unicode("é"),
+        Value::Bytes(&[0x0A, 0xFF]),
     ];
-    for number in NUMBERS {
-        has_a_copy(&rt, rt.alloc(), number.scalar())?;
+    for value in VALUES {
+        has_a_copy(&rt, rt.alloc(), value.scalar(rt.alloc())?)?;
     }
     Ok(())
 }
 
-#[test]
-fn copies_of_characters_are_equal(rt: HostRuntime) -> Result<(), AllocError> {
-    let text = vec![in rt.alloc(); 0x47, 0x45, 0x4D, 0x36]?;
-    let text = Scalar::Ascii(ByteString::from_vec(text));
-    has_a_copy(&rt, rt.alloc(), text)
-}
-
-#[test]
-fn copies_of_texts_are_equal(rt: HostRuntime) -> Result<(), AllocError> {
-    let text = String::from_str(rt.alloc(), "é")?;
-    let text = Scalar::Unicode(UnicodeText::from_string(text));
-    has_a_copy(&rt, rt.alloc(), text)
-}
-
-#[test]
-fn copies_of_bytes_are_equal(rt: HostRuntime) -> Result<(), AllocError> {
-    let bytes = vec![in rt.alloc(); 0x0A, 0xFF]?;
-    let bytes = Scalar::Bytes(ByteString::from_vec(bytes));
-    has_a_copy(&rt, rt.alloc(), bytes)
+fn key_has_a_copy(rt: &impl Abort, key: &Key) -> Result<(), AllocError> {
+    let copy = key.copy()?;
+    same(rt, &copy, key);
+    Ok(())
 }
 
 #[test]
 fn copies_of_keys_are_equal(rt: HostRuntime) -> Result<(), AllocError> {
-    let alloc = rt.alloc();
-    let scope = Scope::User(name(alloc, "mine")?);
-    let key = Key {
-        slot: 3,
-        scope,
-        name: name(alloc, "L")?,
-        part: Part::Length,
-    };
-    same(&rt, key.copy()?, key);
-    Ok(())
+    let scope = Scope::User(name(rt.alloc(), "mine")?);
+    let key = key(rt.alloc(), scope, "L", Part::Length)?;
+    key_has_a_copy(&rt, &key)
 }
 
 #[test]
@@ -136,16 +111,27 @@ struct Asking {
     optional: bool,
 }
 
-fn asks(
-    rt: &impl Abort,
-    alloc: Global,
-    presence: Presence,
-    operator: Operator,
-    wanted: bool,
-) -> Result<(), AllocError> {
-    let of = part(alloc, Part::Whole, presence, operator)?;
-    same(rt, part_needs_bit(&of), wanted);
-    Ok(())
+// A field whose key is its own.
+fn field(alloc: Global) -> Result<FieldPart, AllocError> {
+    Ok(FieldPart {
+        number: 1,
+        part: Part::Whole,
+        kind: Kind::Int64,
+        presence: Presence::Mandatory,
+        operator: Operator::Plain,
+        initial: None,
+        key: key(alloc, Scope::Global, "F", Part::Whole)?,
+    })
+}
+
+fn asks(rt: &impl Abort, field: &mut FieldPart, rows: &[Asking]) {
+    for row in rows {
+        field.operator = row.operator;
+        field.presence = Presence::Mandatory;
+        same(rt, part_needs_bit(field), row.mandatory);
+        field.presence = Presence::Optional;
+        same(rt, part_needs_bit(field), row.optional);
+    }
 }
 
 #[test]
@@ -187,49 +173,41 @@ fn bits_are_asked_for(rt: HostRuntime) -> Result<(), AllocError> {
             optional: true,
         },
     ];
-    let alloc = rt.alloc();
-    for row in ROWS {
-        asks(&rt, alloc, Presence::Mandatory, row.operator, row.mandatory)?;
-        asks(&rt, alloc, Presence::Optional, row.operator, row.optional)?;
-    }
+    let mut field = field(rt.alloc())?;
+    asks(&rt, &mut field, ROWS);
     Ok(())
 }
 
-fn parts(name: Name, exponent: FieldPart, mantissa: FieldPart) -> Flat {
-    Flat::Parts {
-        name,
-        number: 1,
-        presence: Presence::Mandatory,
-        exponent,
-        mantissa,
-    }
-}
-
 // A decimal whose mantissa alone asks for a bit.
-fn decimal(alloc: Global) -> Result<Flat, AllocError> {
-    let name = name(alloc, "Px")?;
-    let exponent = part(alloc, Part::Exponent, Presence::Mandatory, Operator::Delta)?;
-    let mantissa = part(alloc, Part::Mantissa, Presence::Mandatory, Operator::Copy)?;
-    Ok(parts(name, exponent, mantissa))
+const DECIMAL: &[u8] = br#"{"templates":[{"name":"D","id":1,"instructions":[
+    {"kind":"decimal","name":"Px","exponent":{"operator":"delta"},"mantissa":{"operator":"copy"}}]}]}"#;
+
+fn asks_for_a_map(rt: &impl Abort, members: &[Flat]) {
+    same(rt, members.len(), 1);
+    for decimal in members {
+        same(rt, needs_bit(decimal), false);
+    }
+    same(rt, has_map(members), true);
+    same(rt, has_map(&[]), false);
 }
 
 #[test]
 fn a_map_is_asked_for_by_a_mantissa(rt: HostRuntime) -> Result<(), AllocError> {
-    let decimal = decimal(rt.alloc())?;
-    same(&rt, needs_bit(&decimal), false);
-    same(&rt, has_map(&[decimal]), true);
-    same(&rt, has_map(&[]), false);
+    let set = loaded(&rt, TemplateSet::from_json(rt.alloc(), DECIMAL))?;
+    asks_for_a_map(&rt, members_of(set.find(1)));
     Ok(())
 }
 
-fn is_before(rt: &impl Abort, first: &Key, second: &Key) {
-    same(rt, first < second, true);
-    same(rt, first != second, true);
+// Of one name, the key of an exponent is before that of a mantissa.
+fn is_before_mantissa(rt: &impl Abort, alloc: Global, exponent: &Key) -> Result<(), AllocError> {
+    let mantissa = key(alloc, Scope::Global, "Px", Part::Mantissa)?;
+    let order = [*exponent < mantissa, *exponent != mantissa];
+    same(rt, order, [true, true]);
+    Ok(())
 }
 
 #[test]
 fn keys_are_ordered(rt: HostRuntime) -> Result<(), AllocError> {
-    let exponent = key(rt.alloc(), "Px", Part::Exponent)?;
-    is_before(&rt, &exponent, &key(rt.alloc(), "Px", Part::Mantissa)?);
-    Ok(())
+    let exponent = key(rt.alloc(), Scope::Global, "Px", Part::Exponent)?;
+    is_before_mantissa(&rt, rt.alloc(), &exponent)
 }

@@ -1,115 +1,91 @@
 //! The worked templates.
 
+use crate::building::members_of;
 use crate::loads::loaded;
 use crate::same::same;
 use crate::texts::WORKED;
 use fast_build::Load;
-use fast_template::{FieldPart, Flat, Scalar, TemplateSet};
-use std::alloc::{AllocError, Global};
+use fast_template::{FieldPart, Flat, Name, Presence, Scalar, TemplateSet};
+use std::alloc::AllocError;
 use std::process::Abort;
 
-// An initial value.
-fn initial_line(alloc: Global, initial: &Scalar) -> Result<String, AllocError> {
-    match initial {
-        Scalar::U32(number) => format!(in alloc; "{number}"),
-        Scalar::I32(number) => format!(in alloc; "{number}"),
-        Scalar::Ascii(text) => format!(in alloc; "{:?}", text.as_slice()),
-        _ => String::from_str(alloc, "of another kind"),
+// What one value is read and written by, behind a mark: its kind, presence and operator, the name of its key, and its
+// initial value.
+fn list_part(mark: &str, part: &FieldPart, text: &mut String) -> Result<(), AllocError> {
+    let name = part.key.name.as_str();
+    write!(
+        text,
+        "{mark}{:?} {:?} {:?} {name}",
+        part.kind, part.presence, part.operator
+    )?;
+    match part.initial() {
+        None => Ok(()),
+        Some(Scalar::U32(number)) => write!(text, " {number}"),
+        Some(Scalar::I32(number)) => write!(text, " {number}"),
+        Some(Scalar::Ascii(characters)) => write!(text, " {:?}", characters.as_slice()),
+        Some(_) => text.push_str(" of another kind"),
     }
-}
-
-// What one value is read and written by: its kind, presence and operator, and the name of its key.
-fn keyed_line(alloc: Global, part: &FieldPart) -> Result<String, AllocError> {
-    format!(in alloc;
-        "{:?} {:?} {:?} {}",
-        part.kind,
-        part.presence,
-        part.operator,
-        part.key.name.as_str()
-    )
-}
-
-// The same, and its initial value behind it.
-fn part_line(alloc: Global, part: &FieldPart) -> Result<String, AllocError> {
-    let mut line = keyed_line(alloc, part)?;
-    if let Some(initial) = part.initial() {
-        line.push_str(" ")?;
-        line.push_str(&initial_line(alloc, initial)?)?;
-    }
-    Ok(line)
 }
 
 // An instruction's name and number, and its presence.
-fn head_of(alloc: Global, flat: &Flat) -> Result<String, AllocError> {
+fn list_head(
+    name: &Name,
+    number: u32,
+    presence: Presence,
+    text: &mut String,
+) -> Result<(), AllocError> {
+    write!(text, "{} {number} {presence:?}", name.as_str())
+}
+
+// An instruction: its name and number, its presence, and its parts.
+fn list_one(flat: &Flat, text: &mut String) -> Result<(), AllocError> {
     match flat {
         Flat::Field {
             name,
             number,
             presence,
-            ..
+            whole,
+        } => {
+            list_head(name, *number, *presence, text)?;
+            list_part(": ", whole, text)
         }
-        | Flat::Parts {
-            name,
-            number,
-            presence,
-            ..
-        }
-        | Flat::Group {
-            name,
-            number,
-            presence,
-            ..
-        }
-        | Flat::Sequence {
-            name,
-            number,
-            presence,
-            ..
-        } => format!(in alloc; "{} {number} {presence:?}", name.as_str()),
-    }
-}
-
-// One part behind a mark.
-fn list_part(
-    alloc: Global,
-    mark: &str,
-    part: &FieldPart,
-    text: &mut String,
-) -> Result<(), AllocError> {
-    text.push_str(mark)?;
-    text.push_str(&part_line(alloc, part)?)
-}
-
-// An instruction's parts.
-fn list_parts(alloc: Global, flat: &Flat, text: &mut String) -> Result<(), AllocError> {
-    match flat {
-        Flat::Field { whole, .. } => list_part(alloc, ": ", whole, text),
         Flat::Parts {
+            name,
+            number,
+            presence,
             exponent,
             mantissa,
+        } => {
+            list_head(name, *number, *presence, text)?;
+            list_part(": ", exponent, text)?;
+            list_part(", ", mantissa, text)
+        }
+        Flat::Group {
+            name,
+            number,
+            presence,
+            ..
+        } => list_head(name, *number, *presence, text),
+        Flat::Sequence {
+            name,
+            number,
+            presence,
+            length,
             ..
         } => {
-            list_part(alloc, ": ", exponent, text)?;
-            list_part(alloc, ", ", mantissa, text)
+            list_head(name, *number, *presence, text)?;
+            list_part(": ", length, text)
         }
-        Flat::Group { .. } => Ok(()),
-        Flat::Sequence { length, .. } => list_part(alloc, ": ", length, text),
     }
-}
-
-// An instruction: its name and number, its presence, and its parts.
-fn list_one(alloc: Global, flat: &Flat, text: &mut String) -> Result<(), AllocError> {
-    text.push_str(&head_of(alloc, flat)?)?;
-    list_parts(alloc, flat, text)
 }
 
 // A flat list, that of a group or a sequence in brackets.
-fn list_of(alloc: Global, flats: &[Flat], text: &mut String) -> Result<(), AllocError> {
+fn list_of(flats: &[Flat], text: &mut String) -> Result<(), AllocError> {
     for flat in flats {
-        list_one(alloc, flat, text)?;
+        list_one(flat, text)?;
         if let Flat::Group { members, .. } | Flat::Sequence { members, .. } = flat {
             text.push_str(" [")?;
-            list_of(alloc, members, text)?;
+            list_of(members, text)?;
             text.push_str("]")?;
         }
         text.push_str("; ")?;
@@ -120,35 +96,31 @@ fn list_of(alloc: Global, flats: &[Flat], text: &mut String) -> Result<(), Alloc
 // A template's identifier and name, and its flat list.
 type Row = (u32, &'static str, &'static str);
 
-// The flat list of a template, if it is there.
-fn listed(alloc: Global, set: &TemplateSet, id: u32) -> Result<String, AllocError> {
-    let mut list = String::new(alloc);
-    if let Some(template) = set.find(id) {
-        list_of(alloc, &template.members, &mut list)?;
-    }
-    Ok(list)
-}
-
+// This is a flat list.
 fn is_listed(
     rt: &impl Abort,
-    alloc: Global,
-    set: &TemplateSet,
-    row: &Row,
+    flats: &[Flat],
+    list: &str,
+    text: &mut String,
 ) -> Result<(), AllocError> {
-    same(rt, set.name(row.0), Some(row.1));
-    let list = listed(alloc, set, row.0)?;
-    same(rt, list.as_str(), row.2);
+    text.clear();
+    list_of(flats, text)?;
+    same(rt, text.as_str(), list);
     Ok(())
 }
 
+// These are listed so, and there is no template 17.
 fn all_listed(
     rt: &impl Abort,
-    alloc: Global,
     set: &TemplateSet,
     rows: &[Row],
+    text: &mut String,
 ) -> Result<(), AllocError> {
-    for row in rows {
-        is_listed(rt, alloc, set, row)?;
+    same(rt, set.find(17).is_none(), true);
+    same(rt, set.name(17), None);
+    for (id, name, list) in rows {
+        same(rt, set.name(*id), Some(*name));
+        is_listed(rt, members_of(set.find(*id)), list, text)?;
     }
     Ok(())
 }
@@ -230,8 +202,5 @@ fn the_worked_templates_have_these_flat_lists(rt: HostRuntime) -> Result<(), All
         ),
     ];
     let set = loaded(&rt, TemplateSet::from_json(rt.alloc(), WORKED.as_bytes()))?;
-    all_listed(&rt, rt.alloc(), &set, ROWS)?;
-    same(&rt, set.find(17).is_none(), true);
-    same(&rt, set.name(17), None);
-    Ok(())
+    all_listed(&rt, &set, ROWS, &mut String::new(rt.alloc()))
 }

@@ -1,222 +1,196 @@
 //! Presence maps that are written bit by bit. The bytes are worked out by the standard's rule: seven bits a byte, the
 //! first in front, no last byte of zeros but the only one, and the stop bit on the last.
 
+use crate::forms::{Form, are_alike, is_written};
 use crate::same::same;
-use fast_wire::{MapBuilder, WireFault, write_map, write_u64};
+use fast_wire::{MapBuilder, WireFault};
 use std::alloc::Global;
 use std::process::Abort;
 
-fn push_all(map: &mut MapBuilder, bits: &[bool]) -> Result<(), WireFault> {
-    for bit in bits {
-        map.push(*bit)?;
-    }
-    Ok(())
+/// What is done to a builder, and what it writes.
+#[derive(Clone, Copy)]
+enum Step<'a> {
+    /// These bits are pushed, so many times.
+    Push(usize, &'a [bool]),
+    /// It begins anew.
+    Clear,
+    /// It writes these bytes.
+    Gives(&'a [u8]),
+    /// Its map is too long.
+    TooLong,
 }
 
-// What a builder writes. Where memory was refused, nothing was appended, the same call writes it, and the test ends.
-fn gives(rt: &impl Abort, alloc: Global, map: &MapBuilder, bytes: &[u8]) -> Result<(), WireFault> {
-    let mut out = Vec::new(alloc);
-    let first = map.write(&mut out);
-    if first.is_err() {
-        same(rt, out.len(), 0);
-        map.write(&mut out)?;
-    }
-    same(rt, out.as_slice(), bytes);
-    first
-}
-
-// A builder of these bits writes these bytes.
-fn is_built(rt: &impl Abort, alloc: Global, bits: &[bool], bytes: &[u8]) -> Result<(), WireFault> {
-    let mut map = MapBuilder::new(alloc);
-    push_all(&mut map, bits)?;
-    gives(rt, alloc, &map, bytes)
-}
-
-fn all_built(rt: &impl Abort, alloc: Global, rows: &[(&[bool], &[u8])]) -> Result<(), WireFault> {
-    for (bits, bytes) in rows {
-        is_built(rt, alloc, bits, bytes)?;
-    }
-    Ok(())
-}
-
-#[test]
-fn few_bits(rt: HostRuntime) -> Result<(), WireFault> {
-    const ROWS: &[(&[bool], &[u8])] = &[
-        (&[], &[0x80]),
-        (&[true], &[0xc0]),
-        (&[false; 7], &[0x80]),
-        (&[false, false, false, false, false, false, true], &[0x81]),
-        (
-            &[false, false, false, false, false, false, false, true],
-            &[0x00, 0xc0],
-        ),
-        (
-            &[
-                true, false, true, false, true, false, true, true, true, false, false, true, true,
-                false,
-            ],
-            &[0x55, 0xe6],
-        ),
-        (&[false; 20], &[0x80]),
-    ];
-    all_built(&rt, rt.alloc(), ROWS)
-}
-
-/// What is 0 behind the last 1 is cut.
-#[test]
-fn zeros_are_cut(rt: HostRuntime) -> Result<(), WireFault> {
-    let mut map = MapBuilder::new(rt.alloc());
-    map.push(true)?;
-    push_all(&mut map, &[false; 20])?;
-    gives(&rt, rt.alloc(), &map, &[0xc0])?;
-    push_all(&mut map, &[false; 60])?;
-    gives(&rt, rt.alloc(), &map, &[0xc0])
-}
-
-// So many bits, of which the last is 1, make so many bytes, of which the last is this and each other 0.
-fn last_is_set(
-    rt: &impl Abort,
-    alloc: Global,
-    bits: usize,
-    size: usize,
-    last: u8,
-) -> Result<(), WireFault> {
-    assert!(rt; bits >= 1 && size >= 1 && size <= 18);
-    let mut map = MapBuilder::new(alloc);
-    for _ in 1..bits {
-        map.push(false)?;
-    }
-    map.push(true)?;
-    let mut bytes = [0; 18];
-    bytes[size - 1] = last;
-    gives(rt, alloc, &map, &bytes[..size])
-}
-
-/// About the end of the nine groups that stand in a word, and far behind it.
-#[test]
-fn many_bits(rt: HostRuntime) -> Result<(), WireFault> {
-    const ROWS: &[(usize, usize, u8)] = &[
-        (55, 8, 0x82),
-        (56, 8, 0x81),
-        (57, 9, 0xc0),
-        (62, 9, 0x82),
-        (63, 9, 0x81),
-        (64, 10, 0xc0),
-        (65, 10, 0xa0),
-        (120, 18, 0xc0),
-    ];
-    for (bits, size, last) in ROWS {
-        last_is_set(&rt, rt.alloc(), *bits, *size, *last)?;
-    }
-    Ok(())
-}
-
-// So many groups of 1, 0, 1, 0, 1, 0, 1 have a form, and with 1, 1, 0 behind them another one.
-fn groups_in_order(
-    rt: &impl Abort,
-    alloc: Global,
-    groups: usize,
-    form: &[u8],
-    longer: &[u8],
-) -> Result<(), WireFault> {
-    let mut map = MapBuilder::new(alloc);
-    for _ in 0..groups {
-        push_all(&mut map, &[true, false, true, false, true, false, true])?;
-    }
-    gives(rt, alloc, &map, form)?;
-    push_all(&mut map, &[true, true, false])?;
-    gives(rt, alloc, &map, longer)
-}
-
-/// All of them stand in one word.
-#[test]
-fn order_of_eight_groups(rt: HostRuntime) -> Result<(), WireFault> {
-    groups_in_order(
-        &rt,
-        rt.alloc(),
-        8,
-        &[0x55, 0x55, 0x55, 0x55, 0x55, 0x55, 0x55, 0xd5],
-        &[0x55, 0x55, 0x55, 0x55, 0x55, 0x55, 0x55, 0x55, 0xe0],
-    )
-}
-
-/// The last bits stand behind a word that is full.
-#[test]
-fn order_of_nine_groups(rt: HostRuntime) -> Result<(), WireFault> {
-    groups_in_order(
-        &rt,
-        rt.alloc(),
-        9,
-        &[0x55, 0x55, 0x55, 0x55, 0x55, 0x55, 0x55, 0x55, 0xd5],
-        &[0x55, 0x55, 0x55, 0x55, 0x55, 0x55, 0x55, 0x55, 0x55, 0xe0],
-    )
-}
-
-// As many bits as there may be, and a 0 behind them.
-fn is_filled(rt: &impl Abort, alloc: Global, map: &mut MapBuilder) -> Result<(), WireFault> {
-    let mut bytes = [0x7f; 256];
-    bytes[255] = 0xff;
-    push_all(map, &[true; 1792])?;
-    gives(rt, alloc, map, &bytes)?;
-    map.push(false)?;
-    gives(rt, alloc, map, &bytes)
-}
-
-// A 1 more is refused, and nothing is appended.
-fn is_too_long(rt: &impl Abort, map: &MapBuilder, out: &mut Vec<u8>) -> Result<(), WireFault> {
-    write_u64(17, out)?;
-    same(rt, map.write(out), Err(WireFault::TooLong));
+// What is too long is refused, and nothing is appended.
+fn is_too_long(rt: &impl Abort, alloc: Global, map: &MapBuilder) -> Result<(), WireFault> {
+    let mut out = [0x91].to_vec(alloc)?;
+    same(rt, map.write(&mut out), Err(WireFault::TooLong));
     same(rt, out.as_slice(), &[0x91]);
+    Ok(())
+}
+
+fn push_all(map: &mut MapBuilder, times: usize, bits: &[bool]) -> Result<(), WireFault> {
+    for _ in 0..times {
+        for bit in bits {
+            map.push(*bit)?;
+        }
+    }
+    Ok(())
+}
+
+fn takes_steps(
+    rt: &impl Abort,
+    alloc: Global,
+    map: &mut MapBuilder,
+    steps: &[Step],
+) -> Result<(), WireFault> {
+    for step in steps {
+        match step {
+            Step::Push(times, bits) => push_all(map, *times, bits)?,
+            Step::Clear => map.clear(),
+            Step::Gives(bytes) => is_written(rt, alloc, b"", map, bytes)?,
+            Step::TooLong => is_too_long(rt, alloc, map)?,
+        }
+    }
+    Ok(())
+}
+
+// A builder takes these steps.
+fn is_built(rt: &impl Abort, alloc: Global, steps: &[Step]) -> Result<(), WireFault> {
+    let mut map = MapBuilder::new(alloc);
+    takes_steps(rt, alloc, &mut map, steps)
+}
+
+#[test]
+fn maps_are_built(rt: HostRuntime) -> Result<(), WireFault> {
+    const ZERO: &[bool] = &[false];
+    const ONE: &[bool] = &[true];
+    const MIXED: &[bool] = &[true, false, true, false, true, false, true];
+    const BEHIND: &[bool] = &[true, true, false];
+    const ROWS: &[&[Step]] = &[
+        // few bits
+        &[Step::Gives(b"\x80")],
+        &[Step::Push(1, ONE), Step::Gives(b"\xc0")],
+        &[Step::Push(7, ZERO), Step::Gives(b"\x80")],
+        &[
+            Step::Push(6, ZERO),
+            Step::Push(1, ONE),
+            Step::Gives(b"\x81"),
+        ],
+        &[
+            Step::Push(7, ZERO),
+            Step::Push(1, ONE),
+            Step::Gives(b"\x00\xc0"),
+        ],
+        &[
+            Step::Push(1, MIXED),
+            Step::Push(1, &[true, true, false, false, true, true, false]),
+            Step::Gives(b"\x55\xe6"),
+        ],
+        &[Step::Push(20, ZERO), Step::Gives(b"\x80")],
+        // what is 0 behind the last 1 is cut
+        &[
+            Step::Push(1, ONE),
+            Step::Push(20, ZERO),
+            Step::Gives(b"\xc0"),
+            Step::Push(60, ZERO),
+            Step::Gives(b"\xc0"),
+        ],
+        // about the end of the nine groups that stand in a word, and far behind it
+        &[
+            Step::Push(54, ZERO),
+            Step::Push(1, ONE),
+            Step::Gives(b"\0\0\0\0\0\0\0\x82"),
+        ],
+        &[
+            Step::Push(55, ZERO),
+            Step::Push(1, ONE),
+            Step::Gives(b"\0\0\0\0\0\0\0\x81"),
+        ],
+        &[
+            Step::Push(56, ZERO),
+            Step::Push(1, ONE),
+            Step::Gives(b"\0\0\0\0\0\0\0\0\xc0"),
+        ],
+        &[
+            Step::Push(61, ZERO),
+            Step::Push(1, ONE),
+            Step::Gives(b"\0\0\0\0\0\0\0\0\x82"),
+        ],
+        &[
+            Step::Push(62, ZERO),
+            Step::Push(1, ONE),
+            Step::Gives(b"\0\0\0\0\0\0\0\0\x81"),
+        ],
+        &[
+            Step::Push(63, ZERO),
+            Step::Push(1, ONE),
+            Step::Gives(b"\0\0\0\0\0\0\0\0\0\xc0"),
+        ],
+        &[
+            Step::Push(64, ZERO),
+            Step::Push(1, ONE),
+            Step::Gives(b"\0\0\0\0\0\0\0\0\0\xa0"),
+        ],
+        &[
+            Step::Push(119, ZERO),
+            Step::Push(1, ONE),
+            Step::Gives(b"\0\0\0\0\0\0\0\0\0\0\0\0\0\0\0\0\0\xc0"),
+        ],
+        // all groups stand in one word
+        &[
+            Step::Push(8, MIXED),
+            Step::Gives(b"\x55\x55\x55\x55\x55\x55\x55\xd5"),
+            Step::Push(1, BEHIND),
+            Step::Gives(b"\x55\x55\x55\x55\x55\x55\x55\x55\xe0"),
+        ],
+        // the last bits stand behind a word that is full
+        &[
+            Step::Push(9, MIXED),
+            Step::Gives(b"\x55\x55\x55\x55\x55\x55\x55\x55\xd5"),
+            Step::Push(1, BEHIND),
+            Step::Gives(b"\x55\x55\x55\x55\x55\x55\x55\x55\x55\xe0"),
+        ],
+        // a builder serves again once it is cleared, of many bits or few
+        &[
+            Step::Push(60, ONE),
+            Step::Clear,
+            Step::Gives(b"\x80"),
+            Step::Push(1, &[false, true]),
+            Step::Gives(b"\xa0"),
+            Step::Push(3, ONE),
+            Step::Clear,
+            Step::Gives(b"\x80"),
+            Step::Push(1, &[false, true]),
+            Step::Gives(b"\xa0"),
+        ],
+    ];
+    for steps in ROWS {
+        is_built(&rt, rt.alloc(), steps)?;
+    }
     Ok(())
 }
 
 /// 1,792 bits fit 256 bytes. A 0 behind them changes nothing, and behind it a 1 is refused, with nothing appended.
 #[test]
 fn limits(rt: HostRuntime) -> Result<(), WireFault> {
-    let mut map = MapBuilder::new(rt.alloc());
-    is_filled(&rt, rt.alloc(), &mut map)?;
-    map.push(true)?;
-    let mut out = Vec::new(rt.alloc());
-    is_too_long(&rt, &map, &mut out)
+    let mut bytes = [0x7f; 256];
+    bytes[255] = 0xff;
+    let steps: &[Step] = &[
+        Step::Push(1792, &[true]),
+        Step::Gives(&bytes),
+        Step::Push(1, &[false]),
+        Step::Gives(&bytes),
+        Step::Push(1, &[true]),
+        Step::TooLong,
+    ];
+    is_built(&rt, rt.alloc(), steps)
 }
 
-// A builder serves again once it is cleared of so many bits.
-fn serves_again(
-    rt: &impl Abort,
-    alloc: Global,
-    map: &mut MapBuilder,
-    count: usize,
-) -> Result<(), WireFault> {
-    for _ in 0..count {
-        map.push(true)?;
-    }
-    map.clear();
-    gives(rt, alloc, map, &[0x80])?;
-    push_all(map, &[false, true])?;
-    gives(rt, alloc, map, &[0xa0])
-}
-
-/// Whether it had many bits or few.
-#[test]
-fn clears(rt: HostRuntime) -> Result<(), WireFault> {
-    let mut map = MapBuilder::new(rt.alloc());
-    serves_again(&rt, rt.alloc(), &mut map, 60)?;
-    serves_again(&rt, rt.alloc(), &mut map, 3)
-}
-
-// The last so many bits of a number, written both ways.
-fn agree(rt: &impl Abort, alloc: Global, count: usize, number: usize) -> Result<(), WireFault> {
-    assert!(rt; count <= 12);
+// A map of these bits is the same, written both ways.
+fn agrees(rt: &impl Abort, alloc: Global, bits: &[bool]) -> Result<(), WireFault> {
     let mut map = MapBuilder::new(alloc);
-    let mut bits = [false; 12];
-    for i in 0..count {
-        let bit = (number >> (count - 1 - i)) % 2 == 1;
-        map.push(bit)?;
-        bits[i] = bit;
-    }
-    let mut bytes = Vec::new(alloc);
-    write_map(&bits[..count], &mut bytes)?;
-    gives(rt, alloc, &map, &bytes)
+    push_all(&mut map, 1, bits)?;
+    are_alike(rt, alloc, &map, Form::Map(bits))
 }
 
 /// All lists of at most twelve bits.
@@ -224,7 +198,11 @@ fn agree(rt: &impl Abort, alloc: Global, count: usize, number: usize) -> Result<
 fn as_a_list_is_written(rt: HostRuntime) -> Result<(), WireFault> {
     for count in 0..=12 {
         for number in 0..1 << count {
-            agree(&rt, rt.alloc(), count, number)?;
+            let mut bits = [false; 12];
+            for i in 0..count {
+                bits[i] = (number >> i) % 2 == 1;
+            }
+            agrees(&rt, rt.alloc(), &bits[..count])?;
         }
     }
     Ok(())

@@ -17,19 +17,31 @@ fn four_pulls<R: ByteInput>(reader: &mut R) -> [Result<usize, Failed>; 4] {
     ]
 }
 
-fn push_and_flush<W: ByteOutput>(
+// A device takes so many of these bytes, for which it has room, and answers this to a flush. It fails for memory alone,
+// and that ends a test.
+fn is_pushed<W: ByteOutput>(
+    rt: &impl Abort,
     writer: &mut W,
     bytes: &[u8],
-) -> (Result<usize, Failed>, Result<(), Failed>) {
-    (writer.push(bytes), writer.flush())
-}
-
-// How many bytes a device took that has room for one. It fails for memory alone, and that ends a test.
-fn granted(taken: Result<usize, Failed>) -> Result<usize, AllocError> {
-    match taken {
-        Ok(count) => Ok(count),
+    count: usize,
+    flushed: Result<(), Failed>,
+) -> Result<(), AllocError> {
+    match writer.push(bytes) {
+        Ok(taken) => {
+            same(rt, (taken, writer.flush()), (count, flushed));
+            Ok(())
+        }
         Err(_) => Err(AllocError),
     }
+}
+
+// A device with room for two bytes whose flush fails.
+fn is_filled<W: ByteOutput>(rt: &impl Abort, writer: &mut W) -> Result<(), AllocError> {
+    is_pushed(rt, writer, b"abc", 2, Err(Failed))?;
+    let given = [writer.push(b"c"), writer.push(b"")];
+    same(rt, given, [Err(Failed), Ok(0)]);
+    same(rt, writer.flush(), Err(Failed));
+    Ok(())
 }
 
 #[test]
@@ -52,18 +64,9 @@ fn pulls(rt: HostRuntime) {
 #[test]
 fn pushes(rt: HostRuntime) -> Result<(), AllocError> {
     let mut whole = Counted::new(Vec::new(rt.alloc()));
-    let (taken, flushed) = push_and_flush(&mut &mut whole, b"abc");
-    same(&rt, (granted(taken)?, flushed), (3, Ok(())));
-    let mut narrow = Counted::new(ScriptOutput::new(rt.alloc(), 2, true, true));
-    let (taken, flushed) = push_and_flush(&mut narrow, b"abc");
-    same(&rt, (granted(taken)?, flushed), (2, Err(Failed)));
-    same(
-        &rt,
-        push_and_flush(&mut narrow, b"c"),
-        (Err(Failed), Err(Failed)),
-    );
-    same(&rt, narrow.push(b""), Ok(0));
-    Ok(())
+    is_pushed(&rt, &mut &mut whole, b"abc", 3, Ok(()))?;
+    let narrow = ScriptOutput::new(rt.alloc(), 2, true, true);
+    is_filled(&rt, &mut Counted::new(narrow))
 }
 
 // A script gives so many bytes, or fails, and these stand in the buffer.
@@ -80,27 +83,6 @@ fn reads(
     same(rt, buf.as_slice(), stands);
 }
 
-// A script takes so many of these bytes, or fails.
-fn writes(rt: &impl Abort, output: &mut ScriptOutput, bytes: &[u8], count: Option<usize>) {
-    same(rt, output.write(bytes).ok(), count);
-}
-
-// A script takes so many of these bytes, for which it has room.
-fn takes(
-    rt: &impl Abort,
-    output: &mut ScriptOutput,
-    bytes: &[u8],
-    count: usize,
-) -> Result<(), AllocError> {
-    match output.write(bytes).ok() {
-        Some(taken) => {
-            same(rt, taken, count);
-            Ok(())
-        }
-        None => Err(AllocError),
-    }
-}
-
 #[test]
 fn input_fails_where_it_says(rt: HostRuntime) {
     let mut buf = [0u8; 3];
@@ -110,16 +92,23 @@ fn input_fails_where_it_says(rt: HostRuntime) {
     reads(&rt, &mut input, &mut buf, 1, Some(1), b"cb\0");
 }
 
+// A script with room for two bytes.
+fn is_full(rt: &impl Abort, output: &mut ScriptOutput) -> Result<(), AllocError> {
+    let taken = output.write(b"abc").ok();
+    if taken.is_none() {
+        return Err(AllocError);
+    }
+    let given = [taken, output.write(b"c").ok(), output.write(b"").ok()];
+    same(rt, given, [Some(2), None, Some(0)]);
+    same(rt, output.flush().is_ok(), true);
+    same(rt, output.bytes(), b"ab".as_slice());
+    Ok(())
+}
+
 #[test]
 fn output_fails_where_it_says(rt: HostRuntime) -> Result<(), AllocError> {
-    let mut output = ScriptOutput::new(rt.alloc(), 2, false, false);
-    takes(&rt, &mut output, b"abc", 2)?;
-    writes(&rt, &mut output, b"c", None);
-    writes(&rt, &mut output, b"", Some(0));
-    same(&rt, output.flush().is_ok(), true);
-    same(&rt, output.bytes(), b"ab".as_slice());
     let mut zero = ScriptOutput::new(rt.alloc(), 0, true, true);
-    writes(&rt, &mut zero, b"c", Some(0));
+    same(&rt, zero.write(b"c").ok(), Some(0));
     same(&rt, zero.flush().is_err(), true);
-    Ok(())
+    is_full(&rt, &mut ScriptOutput::new(rt.alloc(), 2, false, false))
 }

@@ -1,9 +1,9 @@
-//! The vectors of every form, read, written and sized, and calls at their limits. A test has a table of rows, and what
-//! takes memory is made in a function of its own: each value that lies at a `?` makes a proof longer.
+//! The vectors of every form, read, written and sized, and calls at their limits. A test is a table of rows, and what is
+//! done with a row stands in a function of its own: each value that lies at a `?` makes a proof longer.
 
 use crate::same::same;
 use fast_wire::*;
-use std::alloc::{AllocError, Global};
+use std::alloc::Global;
 use std::process::Abort;
 
 #[test]
@@ -67,59 +67,39 @@ fn forms_are_written_and_read(rt: HostRuntime) -> Result<(), WireFault> {
             &[0x00, 0x00, 0x00, 0xc1],
         ),
         (Form::AsciiNullable(Nullable::Value(b"A")), &[0xc1]),
+        // ASCII strings
+        (Form::Ascii(b""), &[0x80]),
+        (Form::Ascii(b"\0"), &[0x00, 0x80]),
+        (Form::Ascii(b"\0A"), &[0x00, 0x00, 0xc1]),
+        (Form::Ascii(b"A"), &[0xc1]),
+        // vectors
+        (Form::Vector(&[0xc3, 0xa9]), &[0x82, 0xc3, 0xa9]),
+        (Form::Vector(b""), &[0x80]),
+        // vectors or NULL
+        (
+            Form::VectorNullable(Nullable::Value(&[0xc3, 0xa9])),
+            &[0x83, 0xc3, 0xa9],
+        ),
+        (Form::VectorNullable(Nullable::Value(b"")), &[0x81]),
+        (Form::VectorNullable(Nullable::Null), &[0x80]),
+        // maps
+        (Form::Map(&[true, true, true, false]), &[0xf0]),
+        (Form::Map(&[]), &[0x80]),
+        (
+            Form::Map(&[false, false, false, false, false, false, false, true]),
+            &[0x00, 0xc0],
+        ),
+        (Form::Map(&[false; 20]), &[0x80]),
     ];
     all_agree(&rt, rt.alloc(), ROWS)
 }
 
 #[test]
-fn unsigned_limits(rt: HostRuntime) {
-    same(&rt, read_unsigned(&[0x00, 0x00, 0x81], 0), Ok((1, 3)));
-    same(&rt, read_unsigned(&[0xff, 0x81], 1), Ok((1, 2)));
-    same(&rt, read_unsigned(&[0x00; 9], 0), Err(WireFault::NeedMore));
-    same(&rt, read_unsigned(&[0x00; 10], 0), Err(WireFault::TooLong));
-    same(&rt, read_unsigned(&[0x80], 1), Err(WireFault::NeedMore));
-    is_refused(&rt, rt.alloc(), Form::Unsigned(1 << 70), WireFault::Range);
-}
-
-#[test]
-fn signed_limits(rt: HostRuntime) {
-    const REFUSED: &[(Form, WireFault)] = &[
+fn forms_are_refused(rt: HostRuntime) {
+    const ROWS: &[(Form, WireFault)] = &[
+        (Form::Unsigned(1 << 70), WireFault::Range),
         (Form::Signed(1 << 69), WireFault::Range),
         (Form::Signed(-(1 << 69) - 1), WireFault::Range),
-    ];
-    all_refused(&rt, rt.alloc(), REFUSED);
-    same(&rt, read_signed(&[0x00; 10], 0), Err(WireFault::TooLong));
-    same(&rt, read_signed(&[0x00; 9], 0), Err(WireFault::NeedMore));
-}
-
-// Reads two signed integers, one behind the other.
-fn decimal_read(bytes: &[u8]) -> Result<(i128, i128, usize), WireFault> {
-    let (exponent, next) = read_signed(bytes, 0)?;
-    let (mantissa, next) = read_signed(bytes, next)?;
-    Ok((exponent, mantissa, next))
-}
-
-// Writes two signed integers, and answers their size.
-fn write_decimal(out: &mut Vec<u8>) -> Result<usize, WireFault> {
-    write_signed(2, out)?;
-    write_signed(942_755, out)?;
-    Ok(size_signed(2) + size_signed(942_755))
-}
-
-/// A decimal is two signed integers, the exponent and then the mantissa.
-#[test]
-fn decimal_vector(rt: HostRuntime) -> Result<(), WireFault> {
-    const BYTES: &[u8] = &[0x82, 0x39, 0x45, 0xa3];
-    let mut out = Vec::new(rt.alloc());
-    same(&rt, write_decimal(&mut out)?, 4);
-    same(&rt, out.as_slice(), BYTES);
-    same(&rt, decimal_read(BYTES), Ok((2, 942_755, 4)));
-    Ok(())
-}
-
-#[test]
-fn unsigned_nullable_limits(rt: HostRuntime) {
-    const REFUSED: &[(Form, WireFault)] = &[
         (
             Form::UnsignedNullable(Nullable::Value((1 << 70) - 1)),
             WireFault::Range,
@@ -128,17 +108,6 @@ fn unsigned_nullable_limits(rt: HostRuntime) {
             Form::UnsignedNullable(Nullable::Value(u128::MAX)),
             WireFault::Range,
         ),
-    ];
-    let overlong = read_unsigned_nullable(&[0x00, 0x80], 0);
-    same(&rt, overlong, Ok((Nullable::Null, 2)));
-    let endless = read_unsigned_nullable(&[0x00; 10], 0);
-    same(&rt, endless, Err(WireFault::TooLong));
-    all_refused(&rt, rt.alloc(), REFUSED);
-}
-
-#[test]
-fn signed_nullable_limits(rt: HostRuntime) {
-    const REFUSED: &[(Form, WireFault)] = &[
         (
             Form::SignedNullable(Nullable::Value((1 << 69) - 1)),
             WireFault::Range,
@@ -151,168 +120,283 @@ fn signed_nullable_limits(rt: HostRuntime) {
             Form::SignedNullable(Nullable::Value(i128::MIN)),
             WireFault::Range,
         ),
+        (Form::Ascii(&[0x80]), WireFault::Range),
     ];
-    let overlong = read_signed_nullable(&[0x00, 0x80], 0);
-    same(&rt, overlong, Ok((Nullable::Null, 2)));
-    let cut = read_signed_nullable(&[0x7f], 0);
-    same(&rt, cut, Err(WireFault::NeedMore));
-    all_refused(&rt, rt.alloc(), REFUSED);
+    all_refused(&rt, rt.alloc(), ROWS);
 }
 
-const U64S: &[u64] = &[0, 127, 128, 942_755, u64::MAX];
+#[test]
+fn long_forms_are_refused(rt: HostRuntime) {
+    let text = [0x41; 65_536];
+    let ones = [true; 1793];
+    let rows: &[(Form, WireFault)] = &[
+        (Form::Ascii(&text), WireFault::TooLong),
+        (
+            Form::AsciiNullable(Nullable::Value(&text)),
+            WireFault::TooLong,
+        ),
+        (Form::Vector(&text), WireFault::TooLong),
+        (Form::Map(&ones), WireFault::TooLong),
+    ];
+    all_refused(&rt, rt.alloc(), rows);
+}
 
-const I64S: &[i64] = &[0, 62, 63, 64, -1, -64, -65, -942_755, i64::MAX, i64::MIN];
+/// Integers that are longer than they need be, that are cut or have no end, and behind others. The readers in 64 bits
+/// answer what the others do, at one byte, at nine, and beyond.
+#[test]
+fn integers_are_read(rt: HostRuntime) {
+    const ROWS: &[(&[u8], usize, Read)] = &[
+        // unsigned integers
+        (&[0x00, 0x00, 0x81], 0, Read::Unsigned(Ok((1, 3)))),
+        (&[0xff, 0x81], 1, Read::Unsigned(Ok((1, 2)))),
+        (&[0x00; 9], 0, Read::Unsigned(Err(WireFault::NeedMore))),
+        (&[0x00; 10], 0, Read::Unsigned(Err(WireFault::TooLong))),
+        (&[0x80], 1, Read::Unsigned(Err(WireFault::NeedMore))),
+        // signed integers
+        (&[0x00; 10], 0, Read::Signed(Err(WireFault::TooLong))),
+        (&[0x00; 9], 0, Read::Signed(Err(WireFault::NeedMore))),
+        // a decimal is two of them, the exponent and then the mantissa
+        (&[0x82, 0x39, 0x45, 0xa3], 0, Read::Signed(Ok((2, 1)))),
+        (&[0x82, 0x39, 0x45, 0xa3], 1, Read::Signed(Ok((942_755, 4)))),
+        // unsigned integers or NULL
+        (
+            &[0x00, 0x80],
+            0,
+            Read::UnsignedNullable(Ok((Nullable::Null, 2))),
+        ),
+        (
+            &[0x00; 10],
+            0,
+            Read::UnsignedNullable(Err(WireFault::TooLong)),
+        ),
+        // signed integers or NULL
+        (
+            &[0x00, 0x80],
+            0,
+            Read::SignedNullable(Ok((Nullable::Null, 2))),
+        ),
+        (&[0x7f], 0, Read::SignedNullable(Err(WireFault::NeedMore))),
+        // unsigned integers in 64 bits
+        (&[0x80], 0, Read::U64(Ok((0, 1)))),
+        (&[0x39, 0x45, 0xa3], 0, Read::U64(Ok((942_755, 3)))),
+        (
+            &[0x7f, 0x7f, 0x7f, 0x7f, 0x7f, 0x7f, 0x7f, 0x7f, 0xff],
+            0,
+            Read::U64(Ok(((1 << 63) - 1, 9))),
+        ),
+        (
+            &[0x01, 0x7f, 0x7f, 0x7f, 0x7f, 0x7f, 0x7f, 0x7f, 0x7f, 0xff],
+            0,
+            Read::U64(Ok((u64::MAX, 10))),
+        ),
+        (
+            &[0x02, 0x00, 0x00, 0x00, 0x00, 0x00, 0x00, 0x00, 0x00, 0x81],
+            0,
+            Read::U64(Err(WireFault::Range)),
+        ),
+        (&[0x00; 9], 0, Read::U64(Err(WireFault::NeedMore))),
+        // signed integers in 64 bits
+        (&[0x82], 0, Read::I64(Ok((2, 1)))),
+        (&[0xff], 0, Read::I64(Ok((-1, 1)))),
+        (&[0x46, 0x3a, 0xdd], 0, Read::I64(Ok((-942_755, 3)))),
+        (
+            &[0x3f, 0x7f, 0x7f, 0x7f, 0x7f, 0x7f, 0x7f, 0x7f, 0xff],
+            0,
+            Read::I64(Ok(((1 << 62) - 1, 9))),
+        ),
+        (
+            &[0x40, 0x00, 0x00, 0x00, 0x00, 0x00, 0x00, 0x00, 0x80],
+            0,
+            Read::I64(Ok((-(1 << 62), 9))),
+        ),
+        (
+            &[0x7f, 0x00, 0x00, 0x00, 0x00, 0x00, 0x00, 0x00, 0x00, 0x80],
+            0,
+            Read::I64(Ok((i64::MIN, 10))),
+        ),
+        (
+            &[0x01, 0x7f, 0x7f, 0x7f, 0x7f, 0x7f, 0x7f, 0x7f, 0x7f, 0xff],
+            0,
+            Read::I64(Err(WireFault::Range)),
+        ),
+        (&[0x00; 10], 0, Read::I64(Err(WireFault::TooLong))),
+        // unsigned integers in 64 bits or NULL
+        (&[0x80], 0, Read::U64Nullable(Ok((Nullable::Null, 1)))),
+        (&[0x00, 0x80], 0, Read::U64Nullable(Ok((Nullable::Null, 2)))),
+        (
+            &[0x02, 0x00, 0x00, 0x00, 0x00, 0x00, 0x00, 0x00, 0x00, 0x80],
+            0,
+            Read::U64Nullable(Ok((Nullable::Value(u64::MAX), 10))),
+        ),
+        (
+            &[0x02, 0x00, 0x00, 0x00, 0x00, 0x00, 0x00, 0x00, 0x00, 0x81],
+            0,
+            Read::U64Nullable(Err(WireFault::Range)),
+        ),
+        (&[], 0, Read::U64Nullable(Err(WireFault::NeedMore))),
+        // signed integers in 64 bits or NULL
+        (&[0x80], 0, Read::I64Nullable(Ok((Nullable::Null, 1)))),
+        (&[0xc0], 0, Read::I64Nullable(Ok((Nullable::Value(-64), 1)))),
+        (
+            &[0x00, 0xc0],
+            0,
+            Read::I64Nullable(Ok((Nullable::Value(63), 2))),
+        ),
+        (
+            &[0x01, 0x7f, 0x7f, 0x7f, 0x7f, 0x7f, 0x7f, 0x7f, 0x7f, 0xff],
+            0,
+            Read::I64Nullable(Err(WireFault::Range)),
+        ),
+        (&[0x7f], 0, Read::I64Nullable(Err(WireFault::NeedMore))),
+    ];
+    all_read(&rt, ROWS);
+}
 
-fn write_short_unsigned(out: &mut Vec<u8>) -> Result<(), WireFault> {
-    for value in U64S {
-        write_u64(*value, out)?;
-        write_u64_nullable(Nullable::Value(*value), out)?;
+/// Where texts and vectors stand, and what is UTF-8.
+#[test]
+fn places_are_read(rt: HostRuntime) {
+    const LETTER: Nullable<Span> = Nullable::Value(Span { start: 1, end: 2 });
+    const ROWS: &[(&[u8], usize, Read)] = &[
+        (&[0x80], 0, Read::Text(Ok((Span { start: 1, end: 1 }, 1)))),
+        (
+            &[0x00, 0xc1],
+            0,
+            Read::Text(Ok((Span { start: 1, end: 2 }, 2))),
+        ),
+        (
+            &[0x48, 0x65, 0xf9, 0x80],
+            0,
+            Read::Text(Ok((Span { start: 0, end: 3 }, 3))),
+        ),
+        (b"Hey", 0, Read::Text(Err(WireFault::NeedMore))),
+        (
+            &[0x82, 0xc3, 0xa9],
+            0,
+            Read::Vector(Ok((Span { start: 1, end: 3 }, 3))),
+        ),
+        (&[0x83, 0xc3], 0, Read::Vector(Err(WireFault::NeedMore))),
+        (&[0x80], 0, Read::TextNullable(Ok((Nullable::Null, 1)))),
+        (&[0x00, 0xc1], 0, Read::TextNullable(Ok((LETTER, 2)))),
+        (&[0x80], 0, Read::VectorNullable(Ok((Nullable::Null, 1)))),
+        (&[0x82, 0x41], 0, Read::VectorNullable(Ok((LETTER, 2)))),
+        (&[0xc3, 0xa9], 0, Read::Utf8(Ok(()))),
+        (&[0xc3, 0x41], 0, Read::Utf8(Err(WireFault::NotUtf8))),
+    ];
+    all_read(&rt, ROWS);
+}
+
+/// What a reader answers that copies nothing: a value and the place after it.
+#[derive(Clone, Copy)]
+enum Read {
+    Unsigned(Result<(u128, usize), WireFault>),
+    Signed(Result<(i128, usize), WireFault>),
+    UnsignedNullable(Result<(Nullable<u128>, usize), WireFault>),
+    SignedNullable(Result<(Nullable<i128>, usize), WireFault>),
+    U64(Result<(u64, usize), WireFault>),
+    I64(Result<(i64, usize), WireFault>),
+    U64Nullable(Result<(Nullable<u64>, usize), WireFault>),
+    I64Nullable(Result<(Nullable<i64>, usize), WireFault>),
+    Text(Result<(Span, usize), WireFault>),
+    Vector(Result<(Span, usize), WireFault>),
+    TextNullable(Result<(Nullable<Span>, usize), WireFault>),
+    VectorNullable(Result<(Nullable<Span>, usize), WireFault>),
+    Utf8(Result<(), WireFault>),
+}
+
+// This is answered of bytes, from a place on.
+fn answers(rt: &impl Abort, bytes: &[u8], at: usize, wanted: Read) {
+    let at = at.min(bytes.len());
+    match wanted {
+        Read::Unsigned(wanted) => same(rt, read_unsigned(bytes, at), wanted),
+        Read::Signed(wanted) => same(rt, read_signed(bytes, at), wanted),
+        Read::UnsignedNullable(wanted) => same(rt, read_unsigned_nullable(bytes, at), wanted),
+        Read::SignedNullable(wanted) => same(rt, read_signed_nullable(bytes, at), wanted),
+        Read::U64(wanted) => same(rt, read_u64(bytes, at), wanted),
+        Read::I64(wanted) => same(rt, read_i64(bytes, at), wanted),
+        Read::U64Nullable(wanted) => same(rt, read_u64_nullable(bytes, at), wanted),
+        Read::I64Nullable(wanted) => same(rt, read_i64_nullable(bytes, at), wanted),
+        Read::Text(wanted) => same(rt, find_ascii(bytes, at), wanted),
+        Read::Vector(wanted) => same(rt, find_vector(bytes, at), wanted),
+        Read::TextNullable(wanted) => same(rt, find_ascii_nullable(bytes, at), wanted),
+        Read::VectorNullable(wanted) => same(rt, find_vector_nullable(bytes, at), wanted),
+        Read::Utf8(wanted) => same(rt, check_text(bytes), wanted),
     }
-    write_u64_nullable(Nullable::Null, out)
 }
 
-fn write_wide_unsigned(out: &mut Vec<u8>) -> Result<(), WireFault> {
-    for value in U64S {
-        write_unsigned(u128::from(*value), out)?;
-        write_unsigned_nullable(Nullable::Value(u128::from(*value)), out)?;
+fn all_read(rt: &impl Abort, rows: &[(&[u8], usize, Read)]) {
+    for (bytes, at, wanted) in rows {
+        answers(rt, bytes, *at, *wanted);
     }
-    out.extend_from_slice(&[0x80])?;
-    Ok(())
-}
-
-fn write_short_signed(out: &mut Vec<u8>) -> Result<(), WireFault> {
-    for value in I64S {
-        write_i64(*value, out)?;
-        write_i64_nullable(Nullable::Value(*value), out)?;
-    }
-    write_i64_nullable(Nullable::Null, out)
-}
-
-fn write_wide_signed(out: &mut Vec<u8>) -> Result<(), WireFault> {
-    for value in I64S {
-        write_signed(i128::from(*value), out)?;
-        write_signed_nullable(Nullable::Value(i128::from(*value)), out)?;
-    }
-    out.extend_from_slice(&[0x80])?;
-    Ok(())
-}
-
-fn short_ones(out: &mut Vec<u8>) -> Result<(), WireFault> {
-    write_i64(-1, out)?;
-    write_i64_nullable(Nullable::Value(62), out)?;
-    write_u64_nullable(Nullable::Value(126), out)
 }
 
 /// The writers in 64 bits append what the others do.
 #[test]
-fn short_unsigned_forms(rt: HostRuntime) -> Result<(), WireFault> {
-    let mut short = Vec::new(rt.alloc());
-    write_short_unsigned(&mut short)?;
-    let mut wide = Vec::new(rt.alloc());
-    write_wide_unsigned(&mut wide)?;
-    same(&rt, short, wide);
-    Ok(())
-}
-
-#[test]
-fn short_signed_forms(rt: HostRuntime) -> Result<(), WireFault> {
-    let mut short = Vec::new(rt.alloc());
-    write_short_signed(&mut short)?;
-    let mut wide = Vec::new(rt.alloc());
-    write_wide_signed(&mut wide)?;
-    same(&rt, short, wide);
-    Ok(())
-}
-
-#[test]
-fn short_forms_of_one_byte(rt: HostRuntime) -> Result<(), WireFault> {
-    let mut out = Vec::new(rt.alloc());
-    short_ones(&mut out)?;
-    same(&rt, out.as_slice(), [0xff, 0xbf, 0xff].as_slice());
-    Ok(())
-}
-
-fn bit_is(rt: &impl Abort, bits: &mut Bits, wanted: bool) {
-    if wanted {
-        same(rt, bits.left_set(), true);
+fn short_forms(rt: HostRuntime) -> Result<(), WireFault> {
+    const U64S: &[u64] = &[0, 127, 128, 942_755, u64::MAX];
+    const I64S: &[i64] = &[0, 62, 63, 64, -1, -64, -65, -942_755, i64::MAX, i64::MIN];
+    let alloc = rt.alloc();
+    for value in U64S {
+        let (short, wide) = (*value, u128::from(*value));
+        are_alike(&rt, alloc, &Form::U64(short), Form::Unsigned(wide))?;
+        let short = Form::U64Nullable(Nullable::Value(short));
+        let wide = Form::UnsignedNullable(Nullable::Value(wide));
+        are_alike(&rt, alloc, &short, wide)?;
     }
-    same(rt, bits.first(), wanted);
-    same(rt, bits.take(), wanted);
+    for value in I64S {
+        let (short, wide) = (*value, i128::from(*value));
+        are_alike(&rt, alloc, &Form::I64(short), Form::Signed(wide))?;
+        let short = Form::I64Nullable(Nullable::Value(short));
+        let wide = Form::SignedNullable(Nullable::Value(wide));
+        are_alike(&rt, alloc, &short, wide)?;
+    }
+    Ok(())
 }
 
-fn no_bit_left(rt: &impl Abort, bits: &mut Bits) {
-    same(rt, bits.left_set(), false);
-    bit_is(rt, bits, false);
-}
-
+// The bits of a map are these.
 fn bits_are(rt: &impl Abort, bits: &mut Bits, wanted: &[bool]) {
     for bit in wanted {
-        bit_is(rt, bits, *bit);
+        if *bit {
+            same(rt, bits.left_set(), true);
+        }
+        same(rt, bits.first(), *bit);
+        same(rt, bits.take(), *bit);
     }
-    no_bit_left(rt, bits);
+    same(rt, bits.left_set(), false);
+    same(rt, bits.first(), false);
+    same(rt, bits.take(), false);
+}
+
+fn map_is_read(
+    rt: &impl Abort,
+    alloc: Global,
+    bits: &[bool],
+    bytes: &[u8],
+) -> Result<(), WireFault> {
+    let (mut read, next) = read_map(alloc, bytes, 0)?;
+    same(rt, next, bytes.len());
+    bits_are(rt, &mut read, bits);
+    Ok(())
 }
 
 // The seven bits of each byte.
-fn bytes_are(rt: &impl Abort, bits: &mut Bits, wanted: &[u8]) {
-    const MASKS: &[u8] = &[64, 32, 16, 8, 4, 2, 1];
-    for byte in wanted {
-        for mask in MASKS {
-            bit_is(rt, bits, *byte & *mask != 0);
-        }
+fn groups_are_read(rt: &impl Abort, alloc: Global, bytes: &[u8]) -> Result<(), WireFault> {
+    let mut bits = [false; 70];
+    for (i, bit) in bits.iter_mut().enumerate() {
+        let byte = bytes.get(i / 7).copied().unwrap_or(0);
+        *bit = (byte << (i % 7)) & 64 != 0;
     }
-    no_bit_left(rt, bits);
+    map_is_read(rt, alloc, &bits, bytes)
 }
 
-/// A map of nine bytes, whose bits stand in one word, and one of ten.
+/// A map that is longer than it need be, one of nine bytes, whose bits stand in one word, and one of ten.
 #[test]
-fn wide_maps(rt: HostRuntime) -> Result<(), WireFault> {
-    const MAPS: &[&[u8]] = &[
-        &[0x41, 0x00, 0x7f, 0x02, 0x00, 0x00, 0x00, 0x01, 0xa0],
-        &[0x41, 0x00, 0x7f, 0x02, 0x00, 0x00, 0x00, 0x01, 0x20, 0xc1],
-    ];
-    for map in MAPS {
-        let (mut bits, next) = read_map(rt.alloc(), map, 0)?;
-        same(&rt, next, map.len());
-        bytes_are(&rt, &mut bits, map);
-    }
-    Ok(())
-}
-
-/// Where texts and vectors stand.
-#[test]
-fn spans(rt: HostRuntime) {
-    const TEXTS: &[(&[u8], Result<(Span, usize), WireFault>)] = &[
-        (&[0x80], Ok((Span { start: 1, end: 1 }, 1))),
-        (&[0x00, 0xc1], Ok((Span { start: 1, end: 2 }, 2))),
-        (
-            &[0x48, 0x65, 0xf9, 0x80],
-            Ok((Span { start: 0, end: 3 }, 3)),
-        ),
-        (b"Hey", Err(WireFault::NeedMore)),
-    ];
-    const VECTORS: &[(&[u8], Result<(Span, usize), WireFault>)] = &[
-        (&[0x82, 0xc3, 0xa9], Ok((Span { start: 1, end: 3 }, 3))),
-        (&[0x83, 0xc3], Err(WireFault::NeedMore)),
-    ];
-    for (bytes, wanted) in TEXTS {
-        same(&rt, find_ascii(bytes, 0), *wanted);
-    }
-    for (bytes, wanted) in VECTORS {
-        same(&rt, find_vector(bytes, 0), *wanted);
-    }
-}
-
-#[test]
-fn nullable_spans(rt: HostRuntime) {
-    const NULL: Result<(Nullable<Span>, usize), WireFault> = Ok((Nullable::Null, 1));
-    const LETTER: Result<(Nullable<Span>, usize), WireFault> = Ok((
-        Nullable::Value(Span { start: 1, end: 2 }),
-        2,
-    ));
-    same(&rt, find_ascii_nullable(&[0x80], 0), NULL);
-    same(&rt, find_ascii_nullable(&[0x00, 0xc1], 0), LETTER);
-    same(&rt, find_vector_nullable(&[0x80], 0), NULL);
-    same(&rt, find_vector_nullable(&[0x82, 0x41], 0), LETTER);
+fn maps_are_read(rt: HostRuntime) -> Result<(), WireFault> {
+    let alloc = rt.alloc();
+    map_is_read(&rt, alloc, &[true, true, true], &[0x70, 0x00, 0x80])?;
+    let nine = &[0x41, 0x00, 0x7f, 0x02, 0x00, 0x00, 0x00, 0x01, 0xa0];
+    groups_are_read(&rt, alloc, nine)?;
+    let ten = &[0x41, 0x00, 0x7f, 0x02, 0x00, 0x00, 0x00, 0x01, 0x20, 0xc1];
+    groups_are_read(&rt, alloc, ten)
 }
 
 /// A vector that is filled again.
@@ -330,97 +414,6 @@ fn tails(rt: HostRuntime) -> Result<(), WireFault> {
         same(&rt, text.as_slice(), *characters);
     }
     Ok(())
-}
-
-/// The readers in 64 bits answer what the others do, at one byte, at nine, and beyond.
-#[test]
-fn short_unsigned_integers(rt: HostRuntime) {
-    const ROWS: &[(&[u8], Result<(u64, usize), WireFault>)] = &[
-        (&[0x80], Ok((0, 1))),
-        (&[0x39, 0x45, 0xa3], Ok((942_755, 3))),
-        (
-            &[0x7f, 0x7f, 0x7f, 0x7f, 0x7f, 0x7f, 0x7f, 0x7f, 0xff],
-            Ok(((1 << 63) - 1, 9)),
-        ),
-        (
-            &[0x01, 0x7f, 0x7f, 0x7f, 0x7f, 0x7f, 0x7f, 0x7f, 0x7f, 0xff],
-            Ok((u64::MAX, 10)),
-        ),
-        (
-            &[0x02, 0x00, 0x00, 0x00, 0x00, 0x00, 0x00, 0x00, 0x00, 0x81],
-            Err(WireFault::Range),
-        ),
-        (&[0x00; 9], Err(WireFault::NeedMore)),
-    ];
-    for (bytes, wanted) in ROWS {
-        same(&rt, read_u64(bytes, 0), *wanted);
-    }
-}
-
-#[test]
-fn short_signed_integers(rt: HostRuntime) {
-    const ROWS: &[(&[u8], Result<(i64, usize), WireFault>)] = &[
-        (&[0x82], Ok((2, 1))),
-        (&[0xff], Ok((-1, 1))),
-        (&[0x46, 0x3a, 0xdd], Ok((-942_755, 3))),
-        (
-            &[0x3f, 0x7f, 0x7f, 0x7f, 0x7f, 0x7f, 0x7f, 0x7f, 0xff],
-            Ok(((1 << 62) - 1, 9)),
-        ),
-        (
-            &[0x40, 0x00, 0x00, 0x00, 0x00, 0x00, 0x00, 0x00, 0x80],
-            Ok((-(1 << 62), 9)),
-        ),
-        (
-            &[0x7f, 0x00, 0x00, 0x00, 0x00, 0x00, 0x00, 0x00, 0x00, 0x80],
-            Ok((i64::MIN, 10)),
-        ),
-        (
-            &[0x01, 0x7f, 0x7f, 0x7f, 0x7f, 0x7f, 0x7f, 0x7f, 0x7f, 0xff],
-            Err(WireFault::Range),
-        ),
-        (&[0x00; 10], Err(WireFault::TooLong)),
-    ];
-    for (bytes, wanted) in ROWS {
-        same(&rt, read_i64(bytes, 0), *wanted);
-    }
-}
-
-#[test]
-fn short_unsigned_nullable_integers(rt: HostRuntime) {
-    const ROWS: &[(&[u8], Result<(Nullable<u64>, usize), WireFault>)] = &[
-        (&[0x80], Ok((Nullable::Null, 1))),
-        (&[0x00, 0x80], Ok((Nullable::Null, 2))),
-        (
-            &[0x02, 0x00, 0x00, 0x00, 0x00, 0x00, 0x00, 0x00, 0x00, 0x80],
-            Ok((Nullable::Value(u64::MAX), 10)),
-        ),
-        (
-            &[0x02, 0x00, 0x00, 0x00, 0x00, 0x00, 0x00, 0x00, 0x00, 0x81],
-            Err(WireFault::Range),
-        ),
-        (&[], Err(WireFault::NeedMore)),
-    ];
-    for (bytes, wanted) in ROWS {
-        same(&rt, read_u64_nullable(bytes, 0), *wanted);
-    }
-}
-
-#[test]
-fn short_signed_nullable_integers(rt: HostRuntime) {
-    const ROWS: &[(&[u8], Result<(Nullable<i64>, usize), WireFault>)] = &[
-        (&[0x80], Ok((Nullable::Null, 1))),
-        (&[0xc0], Ok((Nullable::Value(-64), 1))),
-        (&[0x00, 0xc0], Ok((Nullable::Value(63), 2))),
-        (
-            &[0x01, 0x7f, 0x7f, 0x7f, 0x7f, 0x7f, 0x7f, 0x7f, 0x7f, 0xff],
-            Err(WireFault::Range),
-        ),
-        (&[0x7f], Err(WireFault::NeedMore)),
-    ];
-    for (bytes, wanted) in ROWS {
-        same(&rt, read_i64_nullable(bytes, 0), *wanted);
-    }
 }
 
 // How bytes are read: as characters or as they stand, with NULL or without.
@@ -457,6 +450,14 @@ impl Reader {
     }
 }
 
+// The bytes of a value that was read, where there is one.
+fn shown(value: &Nullable<Vec<u8>>) -> Nullable<&[u8]> {
+    match value {
+        Nullable::Null => Nullable::Null,
+        Nullable::Value(bytes) => Nullable::Value(bytes.as_slice()),
+    }
+}
+
 // This value was read, up to this place.
 fn is_value(
     rt: &impl Abort,
@@ -490,162 +491,73 @@ fn is_read_to(
     }
 }
 
-fn bytes_are_read(
-    rt: &impl Abort,
-    alloc: Global,
-    reader: Reader,
-    value: Nullable<&[u8]>,
-    bytes: &[u8],
-) -> Result<(), WireFault> {
-    is_read_to(rt, alloc, reader, value, bytes, bytes.len())
-}
-
+/// A refused copy is Memory, and the same call then gives the row's answer. Some are longer than they need be.
 #[test]
-fn ascii_vectors(rt: HostRuntime) -> Result<(), WireFault> {
-    const VECTORS: &[(Form, &[u8])] = &[
-        (Form::Ascii(b""), &[0x80]),
-        (Form::Ascii(b"\0"), &[0x00, 0x80]),
-        (Form::Ascii(b"\0A"), &[0x00, 0x00, 0xc1]),
-        (Form::Ascii(b"A"), &[0xc1]),
+fn copies_are_read(rt: HostRuntime) -> Result<(), WireFault> {
+    const LETTER: Nullable<&[u8]> = Nullable::Value(b"A");
+    const ACCENT: Nullable<&[u8]> = Nullable::Value(&[0xc3, 0xa9]);
+    const ROWS: &[(Reader, Nullable<&[u8]>, &[u8])] = &[
+        (Reader::Ascii, LETTER, &[0xc1]),
+        (Reader::Vector, ACCENT, &[0x82, 0xc3, 0xa9]),
+        (Reader::AsciiNullable, LETTER, &[0xc1]),
+        (Reader::VectorNullable, LETTER, &[0x82, 0x41]),
+        (Reader::Ascii, LETTER, &[0x00, 0xc1]),
+        (Reader::AsciiNullable, LETTER, &[0x00, 0xc1]),
+        (Reader::AsciiNullable, LETTER, &[0x00, 0x00, 0xc1]),
     ];
-    all_agree(&rt, rt.alloc(), VECTORS)?;
-    let letter = Nullable::Value(b"A".as_slice());
-    bytes_are_read(&rt, rt.alloc(), Reader::Ascii, letter, &[0x00, 0xc1])
-}
-
-// The bytes of a value that was read, where there is one.
-fn shown(value: &Nullable<Vec<u8>>) -> Nullable<&[u8]> {
-    match value {
-        Nullable::Null => Nullable::Null,
-        Nullable::Value(bytes) => Nullable::Value(bytes.as_slice()),
+    for (reader, value, bytes) in ROWS {
+        is_read_to(&rt, rt.alloc(), *reader, *value, bytes, bytes.len())?;
     }
+    map_is_read(&rt, rt.alloc(), &[true, true, true], &[0xf0])
 }
 
+/// Where no value stands no memory is asked for: the answer is the same, whichever allocation is refused.
 #[test]
-fn ascii_overlong(rt: HostRuntime) -> Result<(), WireFault> {
-    const OVERLONG: &[&[u8]] = &[&[0x00, 0xc1], &[0x00, 0x00, 0xc1]];
-    for bytes in OVERLONG {
-        let letter = Nullable::Value(b"A".as_slice());
-        bytes_are_read(&rt, rt.alloc(), Reader::AsciiNullable, letter, bytes)?;
-    }
-    Ok(())
-}
-
-#[test]
-fn ascii_is_not_written(rt: HostRuntime) {
-    let alloc = rt.alloc();
-    let long = [0x41; 65_536];
-    is_refused(&rt, alloc, Form::Ascii(&[0x80]), WireFault::Range);
-    is_refused(&rt, alloc, Form::Ascii(&long), WireFault::TooLong);
-    let long = Form::AsciiNullable(Nullable::Value(&long));
-    is_refused(&rt, alloc, long, WireFault::TooLong);
-}
-
-#[test]
-fn ascii_limits(rt: HostRuntime) -> Result<(), WireFault> {
-    let alloc = rt.alloc();
-    let mut groups = [0x00; 65_540];
-    let cut = Reader::Ascii.fault(alloc, &groups[..65_539]);
-    same(&rt, cut, Some(WireFault::NeedMore));
-    let endless = Reader::Ascii.fault(alloc, &groups);
-    same(&rt, endless, Some(WireFault::TooLong));
-    groups[65_536] = 0x80;
-    let long = Reader::Ascii.fault(alloc, &groups);
-    same(&rt, long, Some(WireFault::TooLong));
-    let zeros = Nullable::Value(&groups[..65_535]);
-    is_read_to(&rt, alloc, Reader::AsciiNullable, zeros, &groups, 65_537)
-}
-
-#[test]
-fn vector_vectors(rt: HostRuntime) -> Result<(), WireFault> {
-    const REFUSED: &[(&[u8], WireFault)] = &[
-        (&[0x82, 0xc3], WireFault::NeedMore),
-        (&[0x04, 0x00, 0x80], WireFault::TooLong),
-        (&[0x04], WireFault::NeedMore),
-    ];
-    for (bytes, fault) in REFUSED {
-        same(&rt, Reader::Vector.fault(rt.alloc(), bytes), Some(*fault));
-    }
-    const VECTORS: &[(Form, &[u8])] = &[
-        (Form::Vector(&[0xc3, 0xa9]), &[0x82, 0xc3, 0xa9]),
-        (Form::Vector(b""), &[0x80]),
-    ];
-    all_agree(&rt, rt.alloc(), VECTORS)
-}
-
-#[test]
-fn long_vectors_are_not_written(rt: HostRuntime) {
-    let long = [0x00; 65_536];
-    is_refused(&rt, rt.alloc(), Form::Vector(&long), WireFault::TooLong);
-}
-
-#[test]
-fn vector_nullable_vectors(rt: HostRuntime) -> Result<(), WireFault> {
-    const VECTORS: &[(Form, &[u8])] = &[
+fn no_memory_for_no_value(rt: HostRuntime) {
+    let zeros = [0u8; 65_540];
+    let mut closed = zeros;
+    closed[65_536] = 0x80;
+    let rows: &[(Reader, &[u8], WireFault)] = &[
+        (Reader::Ascii, b"Hey", WireFault::NeedMore),
+        (Reader::Ascii, &zeros[..65_539], WireFault::NeedMore),
+        (Reader::Ascii, &zeros, WireFault::TooLong),
+        (Reader::Ascii, &closed, WireFault::TooLong),
+        (Reader::AsciiNullable, b"Hey", WireFault::NeedMore),
+        (Reader::Vector, &[0x83, 0x41, 0x42], WireFault::NeedMore),
+        (Reader::Vector, &[0x82, 0xc3], WireFault::NeedMore),
+        (Reader::Vector, &[0x04], WireFault::NeedMore),
+        (Reader::Vector, &[0x04, 0x00, 0x80], WireFault::TooLong),
+        (Reader::VectorNullable, &[0x84, 0x41], WireFault::NeedMore),
         (
-            Form::VectorNullable(Nullable::Value(&[0xc3, 0xa9])),
-            &[0x83, 0xc3, 0xa9],
+            Reader::VectorNullable,
+            &[0x04, 0x00, 0x81],
+            WireFault::TooLong,
         ),
-        (Form::VectorNullable(Nullable::Value(b"")), &[0x81]),
-        (Form::VectorNullable(Nullable::Null), &[0x80]),
     ];
-    let long = Reader::VectorNullable.fault(rt.alloc(), &[0x04, 0x00, 0x81]);
-    same(&rt, long, Some(WireFault::TooLong));
-    all_agree(&rt, rt.alloc(), VECTORS)
+    for (reader, bytes, fault) in rows {
+        same(&rt, reader.fault(rt.alloc(), bytes), Some(*fault));
+    }
 }
 
 #[test]
-fn texts(rt: HostRuntime) {
-    same(&rt, check_text(&[0xc3, 0xa9]), Ok(()));
-    same(&rt, check_text(&[0xc3, 0x41]), Err(WireFault::NotUtf8));
-}
-
-fn map_is_read(
-    rt: &impl Abort,
-    alloc: Global,
-    bits: &[bool],
-    bytes: &[u8],
-) -> Result<(), WireFault> {
-    let (mut read, next) = read_map(alloc, bytes, 0)?;
-    same(rt, next, bytes.len());
-    bits_are(rt, &mut read, bits);
-    Ok(())
-}
-
-#[test]
-fn map_vectors(rt: HostRuntime) -> Result<(), WireFault> {
-    const VECTORS: &[(Form, &[u8])] = &[
-        (Form::Map(&[true, true, true, false]), &[0xf0]),
-        (Form::Map(&[]), &[0x80]),
-        (
-            Form::Map(&[false, false, false, false, false, false, false, true]),
-            &[0x00, 0xc0],
-        ),
-        (Form::Map(&[false; 20]), &[0x80]),
-    ];
-    all_agree(&rt, rt.alloc(), VECTORS)?;
-    map_is_read(&rt, rt.alloc(), &[true, true, true], &[0x70, 0x00, 0x80])
-}
-
-fn map_fault(alloc: Global, bytes: &[u8]) -> Option<WireFault> {
-    read_map(alloc, bytes, 0).err()
-}
-
-#[test]
-fn maps_that_are_not_read(rt: HostRuntime) {
-    no_bit_left(&rt, &mut Bits::none(rt.alloc()));
+fn maps_are_refused(rt: HostRuntime) {
     let zeros = [0u8; 256];
-    let cut = map_fault(rt.alloc(), &zeros[..255]);
-    same(&rt, cut, Some(WireFault::NeedMore));
-    same(&rt, map_fault(rt.alloc(), &zeros), Some(WireFault::TooLong));
+    let rows: &[(&[u8], WireFault)] = &[
+        (&[0x40], WireFault::NeedMore),
+        (&zeros[..255], WireFault::NeedMore),
+        (&zeros, WireFault::TooLong),
+    ];
+    for (bytes, fault) in rows {
+        same(&rt, read_map(rt.alloc(), bytes, 0).err(), Some(*fault));
+    }
+    bits_are(&rt, &mut Bits::none(rt.alloc()), &[]);
 }
 
 #[test]
-fn map_limits(rt: HostRuntime) -> Result<(), WireFault> {
-    let ones = [true; 1793];
-    is_refused(&rt, rt.alloc(), Form::Map(&ones), WireFault::TooLong);
+fn the_longest_map(rt: HostRuntime) -> Result<(), WireFault> {
+    let ones = [true; 1792];
     let mut out = Vec::new(rt.alloc());
-    write_map(&ones[..1792], &mut out)?;
+    write_map(&ones, &mut out)?;
     same(&rt, out.len(), 256);
     Ok(())
 }
@@ -670,7 +582,7 @@ fn stop_bits(rt: HostRuntime) {
 
 /// A value and the form that it is written in.
 #[derive(Clone, Copy)]
-enum Form<'a> {
+pub(crate) enum Form<'a> {
     Unsigned(u128),
     Signed(i128),
     UnsignedNullable(Nullable<u128>),
@@ -686,9 +598,20 @@ enum Form<'a> {
     Map(&'a [bool]),
 }
 
-impl Form<'_> {
-    fn write(self, out: &mut Vec<u8>) -> Result<(), WireFault> {
-        match self {
+/// What has one form.
+pub(crate) trait Written {
+    fn append(&self, out: &mut Vec<u8>) -> Result<(), WireFault>;
+}
+
+impl Written for MapBuilder {
+    fn append(&self, out: &mut Vec<u8>) -> Result<(), WireFault> {
+        self.write(out)
+    }
+}
+
+impl Written for Form<'_> {
+    fn append(&self, out: &mut Vec<u8>) -> Result<(), WireFault> {
+        match *self {
             Form::Unsigned(value) => write_unsigned(value, out),
             Form::Signed(value) => write_signed(value, out),
             Form::UnsignedNullable(value) => write_unsigned_nullable(value, out),
@@ -709,7 +632,7 @@ impl Form<'_> {
 // A value without such a form is refused, and nothing is appended.
 fn is_refused(rt: &impl Abort, alloc: Global, form: Form, fault: WireFault) {
     let mut out = Vec::new(alloc);
-    same(rt, form.write(&mut out), Err(fault));
+    same(rt, form.append(&mut out), Err(fault));
     same(rt, out.len(), 0);
 }
 
@@ -719,160 +642,110 @@ fn all_refused(rt: &impl Abort, alloc: Global, rows: &[(Form, WireFault)]) {
     }
 }
 
-// The size of a number that has a form.
-fn unsigned_size(value: u128) -> Option<usize> {
-    if value >= 1 << 70 {
-        return None;
-    }
-    Some(size_unsigned(value))
-}
-
-fn signed_size(value: i128) -> Option<usize> {
-    if value < -(1 << 69) || value >= 1 << 69 {
-        return None;
-    }
-    Some(size_signed(value))
-}
-
-fn unsigned_nullable_size(value: Nullable<u128>) -> Option<usize> {
-    match value {
-        Nullable::Value(number) if number >= (1 << 70) - 1 => None,
-        Nullable::Value(_) | Nullable::Null => Some(size_unsigned_nullable(value)),
-    }
-}
-
-fn signed_nullable_size(value: Nullable<i128>) -> Option<usize> {
-    match value {
-        Nullable::Value(number) if number < -(1 << 69) || number >= (1 << 69) - 1 => None,
-        Nullable::Value(_) | Nullable::Null => Some(size_signed_nullable(value)),
-    }
-}
-
-// The size of a text that has a form.
-fn ascii_size(text: &[u8]) -> Option<usize> {
-    if text.len() > 65_535 || !text.is_ascii() {
-        return None;
-    }
-    Some(size_ascii(text))
-}
-
-// The size of a text that has a form, or of NULL.
-fn ascii_nullable_size(value: Nullable<&[u8]>) -> Option<usize> {
-    match value {
-        Nullable::Null => Some(size_ascii_nullable(Nullable::Null)),
-        Nullable::Value(text) => {
-            if text.len() > 65_535 || !text.is_ascii() {
-                return None;
-            }
-            Some(size_ascii_nullable(Nullable::Value(text)))
-        }
-    }
-}
-
-// The size of a vector that has a form.
-fn vector_size(items: &[u8]) -> Option<usize> {
-    if items.len() > 65_535 {
-        return None;
-    }
-    Some(size_vector(items))
-}
-
-// The size of a vector that has a form, or of NULL.
-fn vector_nullable_size(value: Nullable<&[u8]>) -> Option<usize> {
-    match value {
-        Nullable::Null => Some(size_vector_nullable(Nullable::Null)),
-        Nullable::Value(items) => {
-            if items.len() > 65_535 {
-                return None;
-            }
-            Some(size_vector_nullable(Nullable::Value(items)))
-        }
-    }
-}
-
-// The size of a form; none of those that have no call for it.
+// The size of a form; none of a number, a text or a vector that has no form, nor of the forms that have no call for it.
 fn form_size(form: Form) -> Option<usize> {
     match form {
-        Form::Unsigned(value) => unsigned_size(value),
-        Form::Signed(value) => signed_size(value),
-        Form::UnsignedNullable(value) => unsigned_nullable_size(value),
-        Form::SignedNullable(value) => signed_nullable_size(value),
-        Form::Ascii(text) => ascii_size(text),
-        Form::AsciiNullable(value) => ascii_nullable_size(value),
-        Form::Vector(items) => vector_size(items),
-        Form::VectorNullable(value) => vector_nullable_size(value),
-        Form::Map(_) | Form::U64(_) | Form::I64(_) | Form::U64Nullable(_) | Form::I64Nullable(_) =>
-            { None }
+        Form::Unsigned(value) if value < 1 << 70 => Some(size_unsigned(value)),
+        Form::Signed(value) if -(1 << 69) <= value && value < 1 << 69 => Some(size_signed(value)),
+        Form::UnsignedNullable(Nullable::Null) => Some(size_unsigned_nullable(Nullable::Null)),
+        Form::UnsignedNullable(Nullable::Value(value)) if value < (1 << 70) - 1 => Some(
+            size_unsigned_nullable(Nullable::Value(value)),
+        ),
+        Form::SignedNullable(Nullable::Null) => Some(size_signed_nullable(Nullable::Null)),
+        Form::SignedNullable(Nullable::Value(value))
+            if -(1 << 69) <= value && value < (1 << 69) - 1 => Some(size_signed_nullable(
+            Nullable::Value(value),
+        )),
+        Form::Ascii(text) if text.len() <= 65_535 && text.is_ascii() => Some(size_ascii(text)),
+        Form::AsciiNullable(Nullable::Null) => Some(size_ascii_nullable(Nullable::Null)),
+        Form::AsciiNullable(Nullable::Value(text)) if text.len() <= 65_535 && text.is_ascii() =>
+            Some(size_ascii_nullable(Nullable::Value(text))),
+        Form::Vector(items) if items.len() <= 65_535 => Some(size_vector(items)),
+        Form::VectorNullable(Nullable::Null) => Some(size_vector_nullable(Nullable::Null)),
+        Form::VectorNullable(Nullable::Value(items)) if items.len() <= 65_535 => Some(
+            size_vector_nullable(Nullable::Value(items)),
+        ),
+        _ => None,
     }
 }
 
-// A form is written into an empty output as these bytes. Where memory was refused, nothing was appended, the same call
-// writes them, and the test ends.
-fn is_written(rt: &impl Abort, alloc: Global, form: Form, bytes: &[u8]) -> Result<(), WireFault> {
-    let mut out = Vec::new(alloc);
-    let first = form.write(&mut out);
+// Writes behind bytes that are there. Where memory was refused, nothing was appended, and the same call writes; that it
+// was refused is answered.
+fn appended(
+    rt: &impl Abort,
+    front: &[u8],
+    form: &impl Written,
+    out: &mut Vec<u8>,
+) -> Result<(), WireFault> {
+    let first = form.append(out);
     if first.is_err() {
-        same(rt, out.len(), 0);
-        form.write(&mut out)?;
+        same(rt, first, Err(WireFault::Memory));
+        same(rt, out.as_slice(), front);
+        form.append(out)?;
     }
-    same(rt, out.as_slice(), bytes);
     first
+}
+
+/// A form is written behind bytes that are there as these.
+pub(crate) fn is_written(
+    rt: &impl Abort,
+    alloc: Global,
+    front: &[u8],
+    form: &impl Written,
+    bytes: &[u8],
+) -> Result<(), WireFault> {
+    let mut out = front.to_vec(alloc)?;
+    let first = appended(rt, front, form, &mut out);
+    same(rt, out.get(..front.len()), Some(front));
+    same(rt, out.get(front.len()..), Some(bytes));
+    first
+}
+
+/// Two forms are written as the same bytes.
+pub(crate) fn are_alike(
+    rt: &impl Abort,
+    alloc: Global,
+    form: &impl Written,
+    other: Form,
+) -> Result<(), WireFault> {
+    let mut bytes = Vec::new(alloc);
+    other.append(&mut bytes)?;
+    is_written(rt, alloc, b"", form, &bytes)
 }
 
 // A form is read from these bytes, and they are so many.
 fn is_read(rt: &impl Abort, alloc: Global, form: Form, bytes: &[u8]) -> Result<(), WireFault> {
-    match form {
-        Form::Unsigned(value) => {
-            same(rt, read_unsigned(bytes, 0), Ok((value, bytes.len())));
-            Ok(())
+    let next = bytes.len();
+    let wanted = match form {
+        Form::Unsigned(value) => Read::Unsigned(Ok((value, next))),
+        Form::Signed(value) => Read::Signed(Ok((value, next))),
+        Form::UnsignedNullable(value) => Read::UnsignedNullable(Ok((value, next))),
+        Form::SignedNullable(value) => Read::SignedNullable(Ok((value, next))),
+        Form::Ascii(text) => {
+            let text = Nullable::Value(text);
+            return is_read_to(rt, alloc, Reader::Ascii, text, bytes, next);
         }
-        Form::Signed(value) => {
-            same(rt, read_signed(bytes, 0), Ok((value, bytes.len())));
-            Ok(())
+        Form::AsciiNullable(text) => {
+            return is_read_to(rt, alloc, Reader::AsciiNullable, text, bytes, next);
         }
-        Form::UnsignedNullable(value) => {
-            same(
-                rt,
-                read_unsigned_nullable(bytes, 0),
-                Ok((value, bytes.len())),
-            );
-            Ok(())
+        Form::Vector(items) => {
+            let items = Nullable::Value(items);
+            return is_read_to(rt, alloc, Reader::Vector, items, bytes, next);
         }
-        Form::SignedNullable(value) => {
-            same(rt, read_signed_nullable(bytes, 0), Ok((value, bytes.len())));
-            Ok(())
+        Form::VectorNullable(items) => {
+            return is_read_to(rt, alloc, Reader::VectorNullable, items, bytes, next);
         }
-        Form::Ascii(text) => bytes_are_read(rt, alloc, Reader::Ascii, Nullable::Value(text), bytes),
-        Form::AsciiNullable(value) => bytes_are_read(
-            rt,
-            alloc,
-            Reader::AsciiNullable,
-            value,
-            bytes,
-        ),
-        Form::Vector(items) => bytes_are_read(
-            rt,
-            alloc,
-            Reader::Vector,
-            Nullable::Value(items),
-            bytes,
-        ),
-        Form::VectorNullable(value) => bytes_are_read(
-            rt,
-            alloc,
-            Reader::VectorNullable,
-            value,
-            bytes,
-        ),
-        Form::Map(bits) => map_is_read(rt, alloc, bits, bytes),
-        // the tests of the readers in 64 bits have tables of their own
-        Form::U64(_) | Form::I64(_) | Form::U64Nullable(_) | Form::I64Nullable(_) => Ok(()),
-    }
+        Form::Map(bits) => return map_is_read(rt, alloc, bits, bytes),
+        // the readers in 64 bits have a table of their own
+        _ => return Ok(()),
+    };
+    answers(rt, bytes, 0, wanted);
+    Ok(())
 }
 
 // A form is written as these bytes, of which its size is the number, and read from them.
 fn agrees(rt: &impl Abort, alloc: Global, form: Form, bytes: &[u8]) -> Result<(), WireFault> {
-    is_written(rt, alloc, form, bytes)?;
+    is_written(rt, alloc, b"", &form, bytes)?;
     let size = match form {
         Form::Map(_) => None,
         _ => Some(bytes.len()),
@@ -881,57 +754,9 @@ fn agrees(rt: &impl Abort, alloc: Global, form: Form, bytes: &[u8]) -> Result<()
     is_read(rt, alloc, form, bytes)
 }
 
-fn all_agree(
-    rt: &impl Abort,
-    alloc: Global,
-    rows: &[(Form, &'static [u8])],
-) -> Result<(), WireFault> {
+fn all_agree(rt: &impl Abort, alloc: Global, rows: &[(Form, &[u8])]) -> Result<(), WireFault> {
     for (form, bytes) in rows {
         agrees(rt, alloc, *form, bytes)?;
-    }
-    Ok(())
-}
-
-/// Bytes that stand in an output before a form is written.
-const FRONT: [u8; 3] = [0xd5, 0x00, 0x80];
-
-/// An output in which these bytes stand.
-fn begun(alloc: Global) -> Result<Vec<u8>, AllocError> {
-    FRONT.to_vec(alloc)
-}
-
-/// Writes behind bytes that are there. Where memory was refused, nothing was appended, and the same call writes; that it
-/// was refused is answered.
-fn append(rt: &impl Abort, form: Form, out: &mut Vec<u8>) -> Result<(), WireFault> {
-    let first = form.write(out);
-    if first.is_err() {
-        same(rt, first, Err(WireFault::Memory));
-        same(rt, out.as_slice(), FRONT.as_slice());
-        form.write(out)?;
-    }
-    first
-}
-
-/// Behind the bytes that stood there stand these.
-fn stands_behind(rt: &impl Abort, out: &[u8], bytes: &[u8]) {
-    same(rt, out.get(..FRONT.len()), Some(FRONT.as_slice()));
-    same(rt, out.get(FRONT.len()..), Some(bytes));
-}
-
-fn is_appended(rt: &impl Abort, alloc: Global, form: Form, bytes: &[u8]) -> Result<(), WireFault> {
-    let mut out = begun(alloc)?;
-    let first = append(rt, form, &mut out);
-    stands_behind(rt, &out, bytes);
-    first
-}
-
-fn all_appended(
-    rt: &impl Abort,
-    alloc: Global,
-    rows: &[(Form, &'static [u8])],
-) -> Result<(), WireFault> {
-    for (form, bytes) in rows {
-        is_appended(rt, alloc, *form, bytes)?;
     }
     Ok(())
 }
@@ -949,7 +774,11 @@ fn refused_growths(rt: HostRuntime) -> Result<(), WireFault> {
         // integers in 64 bits
         (Form::U64(2), &[0x82]),
         (Form::I64(-2), &[0xfe]),
+        (Form::I64(-1), &[0xff]),
         (Form::U64Nullable(Nullable::Value(2)), &[0x83]),
+        (Form::U64Nullable(Nullable::Value(126)), &[0xff]),
+        (Form::U64Nullable(Nullable::Null), &[0x80]),
+        (Form::I64Nullable(Nullable::Value(62)), &[0xbf]),
         (Form::I64Nullable(Nullable::Null), &[0x80]),
         // strings
         (Form::Ascii(b"Hey"), &[0x48, 0x65, 0xf9]),
@@ -970,119 +799,91 @@ fn refused_growths(rt: HostRuntime) -> Result<(), WireFault> {
         ),
         (Form::Map(&[true, true, true]), &[0xf0]),
     ];
-    all_appended(&rt, rt.alloc(), ROWS)
-}
-
-/// A refused copy is Memory, and the same call then gives the row's answer.
-#[test]
-fn refused_copies(rt: HostRuntime) -> Result<(), WireFault> {
-    const LETTER: Nullable<&[u8]> = Nullable::Value(b"A");
-    const READ: &[(Reader, Nullable<&[u8]>, &[u8])] = &[
-        (Reader::Ascii, LETTER, &[0xc1]),
-        (
-            Reader::Vector,
-            Nullable::Value(&[0xc3, 0xa9]),
-            &[0x82, 0xc3, 0xa9],
-        ),
-        (Reader::AsciiNullable, LETTER, &[0xc1]),
-        (Reader::VectorNullable, LETTER, &[0x82, 0x41]),
-    ];
-    for (reader, value, bytes) in READ {
-        bytes_are_read(&rt, rt.alloc(), *reader, *value, bytes)?;
+    for (form, bytes) in ROWS {
+        is_written(&rt, rt.alloc(), &[0xd5, 0x00, 0x80], form, bytes)?;
     }
-    map_is_read(&rt, rt.alloc(), &[true, true, true], &[0xf0])
+    Ok(())
 }
 
-// These bytes, so many letters, and these bytes.
-fn letters(alloc: Global, front: &[u8], count: usize, back: &[u8]) -> Result<Vec<u8>, AllocError> {
-    let mut bytes = front.to_vec(alloc)?;
-    for _ in 0..count {
-        bytes.push(0x41)?;
-    }
-    bytes.extend_from_slice(back)?;
-    Ok(bytes)
-}
-
-// A text of so many letters and one more is written, sized and read, with NULL and without.
+// A text of so many letters is written, sized and read, with NULL and without.
 fn long_text_agrees(rt: &impl Abort, alloc: Global, count: usize) -> Result<(), WireFault> {
-    let text = letters(alloc, b"", count, b"A")?;
-    let entity = letters(alloc, b"", count, b"\xC1")?;
-    agrees(rt, alloc, Form::Ascii(&text), &entity)?;
-    let text = Form::AsciiNullable(Nullable::Value(&text));
-    agrees(rt, alloc, text, &entity)
+    let count = count.clamp(1, 65_535);
+    let letters = [0x41; 65_535];
+    let mut entity = letters;
+    let entity = &mut entity[..count];
+    entity[count - 1] = 0xc1;
+    let text = &letters[..count];
+    agrees(rt, alloc, Form::Ascii(text), entity)?;
+    let text = Form::AsciiNullable(Nullable::Value(text));
+    agrees(rt, alloc, text, entity)
 }
 
-// The same of a vector of so many letters, whose lengths have these forms.
+// The same of a vector of so many letters behind a length of two or three bytes, with NULL or without.
 fn long_vector_agrees(
     rt: &impl Abort,
     alloc: Global,
     count: usize,
-    lengths: [&[u8]; 2],
+    front: &[u8],
+    is_nullable: bool,
 ) -> Result<(), WireFault> {
-    let items = letters(alloc, b"", count, b"")?;
-    let vector = letters(alloc, lengths[0], count, b"")?;
-    agrees(rt, alloc, Form::Vector(&items), &vector)?;
-    let vector = letters(alloc, lengths[1], count, b"")?;
-    let items = Form::VectorNullable(Nullable::Value(&items));
-    agrees(rt, alloc, items, &vector)
+    let count = count.min(65_535);
+    let size = front.len().min(3);
+    let letters = [0x41; 65_535];
+    let mut vector = [0x41; 65_538];
+    vector[..size].copy_from_slice(&front[..size]);
+    let items = &letters[..count];
+    let form = if is_nullable {
+        Form::VectorNullable(Nullable::Value(items))
+    } else {
+        Form::Vector(items)
+    };
+    agrees(rt, alloc, form, &vector[..size + count])
 }
 
 /// Longer than a page of memory, and as long as may be.
 #[test]
 fn long_forms(rt: HostRuntime) -> Result<(), WireFault> {
-    let alloc = rt.alloc();
-    long_text_agrees(&rt, alloc, 4_096)?;
-    long_text_agrees(&rt, alloc, 65_534)?;
-    long_vector_agrees(&rt, alloc, 4_097, [&[0x20, 0x81], &[0x20, 0x82]])?;
-    let most: [&[u8]; 2] = [&[0x03, 0x7f, 0xff], &[0x04, 0x00, 0x80]];
-    long_vector_agrees(&rt, alloc, 65_535, most)
-}
-
-/// Where no value stands no memory is asked for: the answer is the same, whichever allocation is refused.
-#[test]
-fn no_memory_for_no_value(rt: HostRuntime) {
-    let alloc = rt.alloc();
-    let zeros = [0u8; 65_540];
-    let faults: &[(Reader, &[u8], WireFault)] = &[
-        (Reader::Ascii, b"Hey", WireFault::NeedMore),
-        (Reader::Ascii, &zeros, WireFault::TooLong),
-        (Reader::AsciiNullable, b"Hey", WireFault::NeedMore),
-        (Reader::Vector, &[0x83, 0x41, 0x42], WireFault::NeedMore),
-        (Reader::Vector, &[0x04, 0x00, 0x80], WireFault::TooLong),
-        (Reader::VectorNullable, &[0x84, 0x41], WireFault::NeedMore),
+    const VECTORS: &[(usize, &[u8], bool)] = &[
+        (4_097, &[0x20, 0x81], false),
+        (4_097, &[0x20, 0x82], true),
+        (65_535, &[0x03, 0x7f, 0xff], false),
+        (65_535, &[0x04, 0x00, 0x80], true),
     ];
-    for (reader, bytes, fault) in faults {
-        same(&rt, reader.fault(alloc, bytes), Some(*fault));
+    for (count, front, is_nullable) in VECTORS {
+        long_text_agrees(&rt, rt.alloc(), *count)?;
+        long_vector_agrees(&rt, rt.alloc(), *count, front, *is_nullable)?;
     }
-    same(&rt, map_fault(alloc, &[0x40]), Some(WireFault::NeedMore));
-    same(
-        &rt,
-        map_fault(alloc, &zeros[..256]),
-        Some(WireFault::TooLong),
-    );
+    Ok(())
 }
 
-// Forms of sixteen bytes.
-fn write_small(out: &mut Vec<u8>) -> Result<(), WireFault> {
-    write_unsigned(942_755, out)?;
-    write_signed(-942_755, out)?;
-    write_ascii(b"Hey", out)?;
-    write_ascii_nullable(Nullable::Value(b""), out)?;
-    write_vector(&[0xc3, 0xa9], out)?;
-    write_vector_nullable(Nullable::Null, out)?;
-    write_map(&[true], out)
+// Forms that are written one behind the other into room that is there.
+fn fit(rt: &impl Abort, forms: &[Form], bytes: &[u8], out: &mut Vec<u8>) -> Result<(), WireFault> {
+    out.reserve(64)?;
+    for form in forms {
+        form.append(out)?;
+    }
+    same(rt, out.as_slice(), bytes);
+    Ok(())
 }
 
 /// A form that fits the room that is there asks for no memory.
 #[test]
 fn no_memory_where_it_fits(rt: HostRuntime) -> Result<(), WireFault> {
-    const WANTED: &[u8] = &[
-        0x39, 0x45, 0xa3, 0x46, 0x3a, 0xdd, 0x48, 0x65, 0xf9, 0x00, 0x80, 0x82, 0xc3, 0xa9, 0x80,
-        0xc0,
+    const FORMS: &[Form] = &[
+        // a decimal: the exponent and then the mantissa
+        Form::Signed(2),
+        Form::Signed(942_755),
+        Form::Unsigned(942_755),
+        Form::Signed(-942_755),
+        Form::Ascii(b"Hey"),
+        Form::AsciiNullable(Nullable::Value(b"")),
+        Form::Vector(&[0xc3, 0xa9]),
+        Form::VectorNullable(Nullable::Null),
+        Form::Map(&[true]),
     ];
-    let mut out = Vec::new(rt.alloc());
-    out.reserve(64)?;
-    write_small(&mut out)?;
-    same(&rt, out.as_slice(), WANTED);
-    Ok(())
+    const WANTED: &[u8] = &[
+        0x82, 0x39, 0x45, 0xa3, 0x39, 0x45, 0xa3, 0x46, 0x3a, 0xdd, 0x48, 0x65, 0xf9, 0x00, 0x80,
+        0x82, 0xc3, 0xa9, 0x80, 0xc0,
+    ];
+    fit(&rt, FORMS, WANTED, &mut Vec::new(rt.alloc()))
 }

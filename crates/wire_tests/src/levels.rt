@@ -14,11 +14,14 @@ fn is_judged(rt: &impl Abort, row: &Row) {
         Ok(next) => {
             let entity = &bytes[0..next];
             same(rt, next, bytes.len());
-            same(rt, overlong_unsigned(entity), wanted[0]);
-            same(rt, overlong_signed(entity), wanted[1]);
-            same(rt, overlong_map(entity), wanted[2]);
-            same(rt, overlong_ascii(entity, false), wanted[3]);
-            same(rt, overlong_ascii(entity, true), wanted[4]);
+            let judged = [
+                overlong_unsigned(entity),
+                overlong_signed(entity),
+                overlong_map(entity),
+                overlong_ascii(entity, false),
+                overlong_ascii(entity, true),
+            ];
+            same(rt, judged, *wanted);
         }
         Err(_) => panic!(rt; "no entity"),
     }

@@ -38,6 +38,15 @@ impl Read for Feed<'_> {
     }
 }
 
+/// Bytes that are given whole.
+pub fn whole(rest: &[u8]) -> Feed<'_> {
+    Feed {
+        rest,
+        width: 4096,
+        after: After::End,
+    }
+}
+
 /// The name of the file with the templates, and of one with a stream.
 pub const TEMPLATES: &str = "templates.json";
 

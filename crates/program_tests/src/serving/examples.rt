@@ -1,8 +1,7 @@
 //! The order book and the trade feed of examples/: their lines and canonical bytes, and those of these bytes.
 
-use crate::serving::devices::{STREAM, Shelf, TEMPLATES};
-use crate::serving::programs::{Answer, served, whole};
-use fast_serve::serve::TURNS;
+use crate::serving::devices::{STREAM, TEMPLATES};
+use crate::serving::programs::{CASE, Case, Templates, served};
 use std::alloc::{AllocError, Global};
 use std::process::Abort;
 
@@ -67,47 +66,45 @@ const CANON_STRICTLY: &[&str] = &[
 ];
 
 // Serves a line over templates and a stream in hex text.
-fn is_served(
+fn is_served<'a>(
     rt: &impl Abort,
     alloc: Global,
-    words: &[&str],
-    templates: &str,
-    stream: &str,
-    want: &str,
+    words: &'a [&'a str],
+    templates: Templates<'a>,
+    stream: &'a str,
+    want: &'a str,
 ) -> Result<(), AllocError> {
-    let mut source = Shelf {
-        templates: whole(templates.as_bytes()),
-        stream: whole(stream.as_bytes()),
-        standard: whole(b""),
-    };
-    let want = Answer {
-        status: 0,
+    let case = Case {
+        words,
+        templates,
+        stream: stream.as_bytes(),
         out: want.as_bytes(),
-        err: "",
+        ..CASE
     };
-    served(rt, alloc, words, &mut source, TURNS, want)
+    served(rt, alloc, &case)
 }
 
 // An example, and the same of its canonical bytes, at both levels.
 fn example(
     rt: &impl Abort,
     alloc: Global,
-    templates: &str,
+    templates: Templates<'_>,
     stream: &str,
     lines: &str,
     canon: &str,
+    told: &str,
 ) -> Result<(), AllocError> {
-    const SHOWS: &[&[&str]] = &[SHOW, SHOW_STRICTLY];
-    const CANONS: &[&[&str]] = &[CANON, CANON_STRICTLY];
-    for words in SHOWS {
-        is_served(rt, alloc, words, templates, stream, lines)?;
-        is_served(rt, alloc, words, templates, canon, lines)?;
+    let rows: [(&[&str], &str); 4] = [
+        (SHOW, lines),
+        (SHOW_STRICTLY, lines),
+        (CANON, canon),
+        (CANON_STRICTLY, canon),
+    ];
+    for (words, want) in rows {
+        is_served(rt, alloc, words, templates, stream, want)?;
+        is_served(rt, alloc, words, templates, canon, want)?;
     }
-    for words in CANONS {
-        is_served(rt, alloc, words, templates, stream, canon)?;
-        is_served(rt, alloc, words, templates, canon, canon)?;
-    }
-    Ok(())
+    is_served(rt, alloc, CHECK, templates, stream, told)
 }
 
 #[test]
@@ -119,9 +116,8 @@ fn an_order_book(rt: HostRuntime) -> Result<(), AllocError> {
         "1 Book Seq=2 Symbol=\"ES\" Entries=[{Side=1 Price=450075e-2 Size=4}]\n",
     );
     let canon = "f0818145d382d0801b3be98ac081998081909984\n";
-    example(&rt, rt.alloc(), BOOK, stream, lines, canon)?;
     let told = "ok messages=2 bytes=25 canonical=20\n";
-    is_served(&rt, rt.alloc(), CHECK, BOOK, stream, told)
+    example(&rt, rt.alloc(), Templates::Book, stream, lines, canon, told)
 }
 
 #[test]
@@ -137,7 +133,14 @@ fn a_trade_feed(rt: HostRuntime) -> Result<(), AllocError> {
         "2 Trade Time=34200015 Symbol=\"ESH7\" Price=450050e-2 Size=100 Buyer=x0aff\n",
     );
     let canon = "c082102733c08045535ab6fe1b3be9b08f8080809901fa830aff80808248b78080\n";
-    example(&rt, rt.alloc(), TRADE, stream, lines, canon)?;
     let told = "ok messages=3 bytes=36 canonical=33\n";
-    is_served(&rt, rt.alloc(), CHECK, TRADE, stream, told)
+    example(
+        &rt,
+        rt.alloc(),
+        Templates::Trade,
+        stream,
+        lines,
+        canon,
+        told,
+    )
 }

@@ -2,17 +2,12 @@
 //! of memory or with its rows.
 
 use crate::same::same_of;
-use crate::serving::programs::Answer;
-use std::alloc::{AllocError, Global};
+use crate::serving::programs::{Case, Ended};
+use std::alloc::AllocError;
 use std::process::Abort;
 
 /// What is said where memory is refused.
 const MEMORY: &[u8] = b"fault memory\n";
-
-/// Room for all that a row writes or says, so that no writer of a test has to grow.
-pub fn room(alloc: Global) -> Result<Vec<u8>, AllocError> {
-    Vec::with_capacity(alloc, 4096)
-}
 
 /// The first line of what is said, without the line feed.
 fn first_line(said: &[u8]) -> Option<&[u8]> {
@@ -51,23 +46,20 @@ fn asks_to_explain(words: &[&str]) -> bool {
 }
 
 /// Ends a test where memory was refused. Where that is said, what was written is a front of what else would be. Where a
-/// refusal is said but less is explained, all else is as it would be.
-pub fn granted(
-    rt: &impl Abort,
-    words: &[&str],
-    status: u8,
-    said: &[u8],
-    out: &[u8],
-    want: Answer<'_>,
-) -> Result<(), AllocError> {
-    if said.starts_with(MEMORY) && !want.err.as_bytes().starts_with(MEMORY) {
-        same_of(rt, words, status, 3);
-        same_of(rt, words, is_front(out, want.out), true);
+/// refusal is said but less is explained, all else is as it would be. Where nothing can be said, the status tells it.
+pub fn granted(rt: &impl Abort, case: &Case, ended: &Ended) -> Result<(), AllocError> {
+    let (said, wanted) = (ended.err.as_slice(), case.err.as_bytes());
+    if said.starts_with(MEMORY) && !wanted.starts_with(MEMORY) {
+        same_of(rt, case.words, ended.status, 3);
+        same_of(rt, case.words, is_front(&ended.out, case.out), true);
         return Err(AllocError);
     }
-    if asks_to_explain(words) && says_less(said, want.err.as_bytes()) {
-        same_of(rt, words, status, want.status);
-        same_of(rt, words, out, want.out);
+    if asks_to_explain(case.words) && says_less(said, wanted) {
+        same_of(rt, case.words, ended.status, case.status);
+        same_of(rt, case.words, ended.out.as_slice(), case.out);
+        return Err(AllocError);
+    }
+    if case.err_room.0 == 0 && ended.status == 3 && case.status != 3 {
         return Err(AllocError);
     }
     Ok(())

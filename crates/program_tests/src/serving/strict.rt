@@ -1,7 +1,7 @@
 //! The program at the strict level: its exit status, what it writes, and what it says.
 
 use crate::serving::devices::TEMPLATES;
-use crate::serving::programs::{FIRST, Row, rows_are_served_over};
+use crate::serving::programs::{CASE, Case, Templates, rows_are_served};
 use std::alloc::AllocError;
 
 // Two of the worked templates.
@@ -15,6 +15,11 @@ pub const QUOTES: &str = r#"{"templates":[
  {"kind":"decimal","name":"Px","presence":"optional",
   "exponent":{"operator":"default","value":"2"},"mantissa":{"operator":"copy"}},
  {"kind":"uInt32","name":"Flag","operator":"copy"}]}]}"#;
+
+pub const OVER_QUOTES: Case = Case {
+    templates: Templates::Quotes,
+    ..CASE
+};
 
 const SHOW: &[&str] = &["fastcat", "show", "--templates", TEMPLATES];
 
@@ -30,162 +35,154 @@ pub const QUOTE_LINE: &[u8] = b"1 Quote Seq=1 Sym=\"AB\" Px=100e-2 Qty=-\n";
 
 #[test]
 fn overlong_streams(rt: HostRuntime) -> Result<(), AllocError> {
-    const ROWS: &[Row] = &[
-        Row {
+    const ROWS: &[Case] = &[
+        Case {
             words: SHOW_STRICTLY,
             input: b"\xf0\x81\x00\x00\x81\x41\xc2\xfe\x00\xe4",
             status: 1,
-            out: b"",
             err: "refused R6 message=1 offset=2 template=1 instruction=1\n",
+            ..OVER_QUOTES
         },
-        Row {
+        Case {
             words: CHECK_STRICTLY,
             input: b"\x70\x00\x80\x81\x81\x41\xc2\xfe\x00\xe4",
             status: 1,
-            out: b"",
             err: "refused R7 message=1 offset=0 template=0 instruction=0\n",
+            ..OVER_QUOTES
         },
-        Row {
+        Case {
             words: CANON_STRICTLY,
             input: b"\xf1\x81\x81\x41\xc2\xfe\x00\xe4",
             status: 1,
-            out: b"",
             err: "refused R8 message=1 offset=8 template=1 instruction=0\n",
+            ..OVER_QUOTES
         },
-        Row {
+        Case {
             words: SHOW_STRICTLY,
             input: b"\xf0\x81\x81\x00\xc1\xfe\x00\xe4",
             status: 1,
-            out: b"",
             err: "refused R9 message=1 offset=3 template=1 instruction=2\n",
+            ..OVER_QUOTES
         },
-        Row {
+        Case {
             words: CHECK_STRICTLY,
             input: b"\xf8\x81\x81\x41\xc2\xfe\x00\xe4\x00\x80",
             status: 1,
-            out: b"",
             err: "refused R6 message=1 offset=8 template=1 instruction=4\n",
+            ..OVER_QUOTES
         },
-        Row {
+        Case {
             words: CANON_STRICTLY,
             input: b"\xf0\x81\x81\x41\xc2\x7f\xfe\x00\xe4",
             status: 1,
-            out: b"",
             err: "refused R6 message=1 offset=5 template=1 instruction=3\n",
+            ..OVER_QUOTES
         },
-        Row {
+        Case {
             words: SHOW_STRICTLY,
             input: b"\xf8\x83\x80\x85",
             status: 1,
-            out: b"",
             err: "refused R8 message=1 offset=4 template=3 instruction=0\n",
+            ..OVER_QUOTES
         },
-        Row {
+        Case {
             words: SHOW_STRICTLY,
             input: b"\xf0\x81\x81\x41\xc2\xfe\x00\xe4\x80\x80\x00\x81",
             status: 1,
             out: QUOTE_LINE,
             err: "refused R6 message=2 offset=9 template=1 instruction=3\n",
+            ..OVER_QUOTES
         },
-        Row {
+        Case {
             words: CANON_STRICTLY,
             input: b"\xf0\x81\x81\x41\xc2\xfe\x00\xe4\x80\x80\x00\x81",
             status: 1,
             out: b"\xf0\x81\x81\x41\xc2\xfe\x00\xe4",
             err: "refused R6 message=2 offset=9 template=1 instruction=3\n",
+            ..OVER_QUOTES
         },
-        Row {
+        Case {
             words: CHECK_STRICTLY,
             input: b"\xf0\x81\x81\x41\xc2\xfe\x00\xe4\x80\x80\x00\x81",
             status: 1,
-            out: b"",
             err: "refused R6 message=2 offset=9 template=1 instruction=3\n",
+            ..OVER_QUOTES
+        },
+        Case {
+            words: SHOW_STRICTLY,
+            input: b"\xe0\x90\x85\x86\xe0\x90\x00\x87\x86",
+            status: 1,
+            out: b"16 First A=5 B=6\n",
+            err: "refused R6 message=2 offset=6 template=16 instruction=1\n",
+            ..CASE
         },
     ];
-    const LATER: &[Row] = &[Row {
-        words: SHOW_STRICTLY,
-        input: b"\xe0\x90\x85\x86\xe0\x90\x00\x87\x86",
-        status: 1,
-        out: b"16 First A=5 B=6\n",
-        err: "refused R6 message=2 offset=6 template=16 instruction=1\n",
-    }];
-    rows_are_served_over(&rt, rt.alloc(), QUOTES, ROWS)?;
-    rows_are_served_over(&rt, rt.alloc(), FIRST, LATER)
+    rows_are_served(&rt, rt.alloc(), ROWS)
 }
 
 #[test]
 fn streams_that_are_not_overlong(rt: HostRuntime) -> Result<(), AllocError> {
-    const ROWS: &[Row] = &[
-        Row {
+    const ROWS: &[Case] = &[
+        Case {
             words: SHOW_STRICTLY,
             input: b"\xf8\x83\x83\x39\x45\xa3\x85",
-            status: 0,
             out: b"3 Opt Px=942755e2 Flag=5\n",
-            err: "",
+            ..OVER_QUOTES
         },
-        Row {
+        Case {
             words: CANON_STRICTLY,
             input: b"\xf8\x83\x83\x39\x45\xa3\x85",
-            status: 0,
             out: b"\xd8\x83\x39\x45\xa3\x85",
-            err: "",
+            ..OVER_QUOTES
         },
-        Row {
+        Case {
             words: CHECK_STRICTLY,
             input: b"\xf8\x83\x83\x39\x45\xa3\x85",
-            status: 0,
             out: b"ok messages=1 bytes=7 canonical=6\n",
-            err: "",
+            ..OVER_QUOTES
         },
-        Row {
+        Case {
             words: SHOW_STRICTLY,
             input: b"\xf8\x83\x83\x00\x40\x81\x85",
-            status: 0,
             out: b"3 Opt Px=8193e2 Flag=5\n",
-            err: "",
+            ..OVER_QUOTES
         },
-        Row {
+        Case {
             words: SHOW_STRICTLY,
             input: b"\xf8\x83\x83\x7f\x3f\xff\x85",
-            status: 0,
             out: b"3 Opt Px=-8193e2 Flag=5\n",
-            err: "",
+            ..OVER_QUOTES
         },
-        Row {
+        Case {
             words: SHOW_STRICTLY,
             input: b"\xf0\x81\x81\x41\xc2\xfe\x00\xe4",
-            status: 0,
             out: QUOTE_LINE,
-            err: "",
+            ..OVER_QUOTES
         },
-        Row {
+        Case {
             words: CANON,
             input: b"\xf0\x81\x81\x00\xc1\xfe\x00\xe4",
-            status: 0,
             out: b"\xf0\x81\x81\xc1\xfe\x00\xe4",
-            err: "",
+            ..OVER_QUOTES
         },
-        Row {
+        Case {
             words: SHOW,
             input: b"\xf0\x81\x81\x00\xc1\xfe\x00\xe4",
-            status: 0,
             out: b"1 Quote Seq=1 Sym=\"A\" Px=100e-2 Qty=-\n",
-            err: "",
+            ..OVER_QUOTES
         },
-        Row {
+        Case {
             words: SHOW,
             input: b"\xf1\x81\x81\x41\xc2\xfe\x00\xe4",
-            status: 0,
             out: QUOTE_LINE,
-            err: "",
+            ..OVER_QUOTES
         },
-        Row {
+        Case {
             words: SHOW,
             input: b"\xf8\x83\x80\x85",
-            status: 0,
             out: b"3 Opt Px=- Flag=5\n",
-            err: "",
+            ..OVER_QUOTES
         },
     ];
-    rows_are_served_over(&rt, rt.alloc(), QUOTES, ROWS)
+    rows_are_served(&rt, rt.alloc(), ROWS)
 }

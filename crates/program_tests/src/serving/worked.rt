@@ -1,11 +1,10 @@
 //! Worked streams through each command of the program: whole, cut behind each of their bytes, long, and over devices that
 //! fail at each place.
 
-use crate::serving::devices::{After, Feed, Full, Shelf, TEMPLATES};
-use crate::serving::programs::{Answer, ENOUGH, served_into, whole};
+use crate::serving::devices::{After, Feed, Full, TEMPLATES, whole};
+use crate::serving::programs::{CASE, Case, Templates, cases_are_served, served};
 use std::alloc::{AllocError, Global};
 use std::process::Abort;
-use template_tests::texts::{BARE, WORKED};
 
 /// The line of each command in a mode.
 #[derive(Clone, Copy)]
@@ -63,38 +62,27 @@ struct Made<'a> {
     said: &'a str,
 }
 
-/// A standard input behind the worked templates.
-fn given(standard: Feed<'_>) -> Shelf<'_> {
-    Shelf {
-        templates: whole(WORKED.as_bytes()),
-        stream: whole(b""),
-        standard,
-    }
-}
-
 /// One command writes this.
-fn is_served(
+fn is_served<'a>(
     rt: &impl Abort,
     alloc: Global,
-    words: &[&str],
-    standard: Feed<'_>,
-    out: &[u8],
-    made: Made<'_>,
+    words: &'a [&'a str],
+    standard: Feed<'a>,
+    out: &'a [u8],
+    made: Made<'a>,
 ) -> Result<(), AllocError> {
-    let want = Answer {
+    let case = Case {
+        words,
+        templates: Templates::Worked,
+        input: standard.rest,
+        width: standard.width,
+        input_end: standard.after,
         status: made.status,
         out,
         err: made.said,
+        ..CASE
     };
-    served_into(
-        rt,
-        alloc,
-        words,
-        &mut given(standard),
-        1 << 20,
-        ENOUGH,
-        want,
-    )
+    served(rt, alloc, &case)
 }
 
 /// Each command in a mode does.
@@ -420,8 +408,11 @@ fn front(row: &Cut, count: usize) -> (usize, usize) {
     (messages, bytes.min(row.stream.len()))
 }
 
-/// What is told of so many messages whose bytes are canonical.
-fn told(alloc: Global, messages: usize, bytes: usize) -> Result<String, AllocError> {
+/// What is told of so many messages whose bytes are canonical, where nothing is said of a refusal.
+fn told(alloc: Global, messages: usize, bytes: usize, said: &str) -> Result<String, AllocError> {
+    if !said.is_empty() {
+        return Ok(String::new(alloc));
+    }
     format!(in alloc; "ok messages={messages} bytes={bytes} canonical={bytes}\n")
 }
 
@@ -430,14 +421,39 @@ fn first_bytes(stream: &[u8], count: usize) -> &[u8] {
     &stream[..count.min(stream.len())]
 }
 
-/// What is written where nothing is said of a refusal.
-fn unless_refused<'a>(said: &str, bytes: &'a [u8]) -> &'a [u8] {
-    if said.is_empty() { bytes } else { b"" }
+/// The status of what is said: done, a stream that is refused, or a machine that fails.
+fn status_for(said: &str) -> u8 {
+    if said.is_empty() {
+        0
+    } else if said.starts_with("refused") {
+        1
+    } else {
+        3
+    }
 }
 
-/// The status of what is said: done, or a stream that is refused.
-fn status_for(said: &str) -> u8 {
-    if said.is_empty() { 0 } else { 1 }
+/// So many bytes of a worked stream are served, from reads of one size, and then this is told and said.
+fn cut_serves(
+    rt: &impl Abort,
+    alloc: Global,
+    row: &Cut,
+    count: usize,
+    (width, after): (usize, After),
+    told: &str,
+    said: &str,
+) -> Result<(), AllocError> {
+    let (messages, bytes) = front(row, count);
+    let made = Made {
+        lines: first_lines(row.lines, messages),
+        told: told.as_bytes(),
+        canonical: first_bytes(row.stream, bytes),
+        status: status_for(said),
+        said,
+    };
+    let rest = first_bytes(row.stream, count);
+    let standard = Feed { rest, width, after };
+    each_serves(rt, alloc, &PLAIN, standard, made)?;
+    each_serves(rt, alloc, &STRICT, standard, made)
 }
 
 fn cut_is_served(
@@ -448,17 +464,8 @@ fn cut_is_served(
     said: &str,
 ) -> Result<(), AllocError> {
     let (messages, bytes) = front(row, count);
-    let told = told(alloc, messages, bytes)?;
-    let made = Made {
-        lines: first_lines(row.lines, messages),
-        told: unless_refused(said, told.as_bytes()),
-        canonical: first_bytes(row.stream, bytes),
-        status: status_for(said),
-        said,
-    };
-    let input = whole(first_bytes(row.stream, count));
-    each_serves(rt, alloc, &PLAIN, input, made)?;
-    each_serves(rt, alloc, &STRICT, input, made)
+    let told = told(alloc, messages, bytes, said)?;
+    cut_serves(rt, alloc, row, count, (4096, After::End), &told, said)
 }
 
 #[test]
@@ -471,47 +478,13 @@ fn streams_that_are_cut(rt: HostRuntime) -> Result<(), AllocError> {
     Ok(())
 }
 
-/// The read behind so many bytes of a stream fails, one byte a read.
-fn read_fails(
-    rt: &impl Abort,
-    alloc: Global,
-    words: &Lines,
-    input: &[u8],
-    made: Made<'_>,
-) -> Result<(), AllocError> {
-    let standard = Feed {
-        rest: input,
-        width: 1,
-        after: After::Error,
-    };
-    each_serves(rt, alloc, words, standard, made)
-}
-
-/// The read behind so many bytes of a worked stream fails.
-fn read_fails_behind(
-    rt: &impl Abort,
-    alloc: Global,
-    row: &Cut,
-    count: usize,
-) -> Result<(), AllocError> {
-    let (messages, bytes) = front(row, count);
-    let made = Made {
-        lines: first_lines(row.lines, messages),
-        told: b"",
-        canonical: first_bytes(row.stream, bytes),
-        status: 3,
-        said: "fault read\n",
-    };
-    let input = first_bytes(row.stream, count);
-    read_fails(rt, alloc, &PLAIN, input, made)?;
-    read_fails(rt, alloc, &STRICT, input, made)
-}
-
+/// The read behind so many bytes of a worked stream fails, one byte a read.
 #[test]
 fn reads_that_fail(rt: HostRuntime) -> Result<(), AllocError> {
+    let given = (1, After::Error);
     for row in CUTS {
         for count in 0..=row.said.len() {
-            read_fails_behind(&rt, rt.alloc(), row, count)?;
+            cut_serves(&rt, rt.alloc(), row, count, given, "", "fault read\n")?;
         }
     }
     Ok(())
@@ -534,46 +507,47 @@ fn reads_that_fail_in_a_block(rt: HostRuntime) -> Result<(), AllocError> {
             status: 3,
             said: "fault read\n",
         };
-        read_fails(&rt, rt.alloc(), &BLOCKS, &QUOTE[..count], made)?;
+        let standard = Feed {
+            rest: &QUOTE[..count],
+            width: 1,
+            after: After::Error,
+        };
+        each_serves(&rt, rt.alloc(), &BLOCKS, standard, made)?;
     }
     Ok(())
 }
 
-/// A line, a stream, and what is written of it.
-struct Written {
-    words: &'static [&'static str],
-    input: &'static [u8],
-    out: &'static [u8],
-}
+const OVER_WORKED: Case = Case {
+    templates: Templates::Worked,
+    turns: 9,
+    ..CASE
+};
 
-/// Its output has so much room, and then this is answered and said.
+/// Its output has so much room, and then, if that is not enough, or the flush fails, this is answered and said.
 fn breaks_at(
     rt: &impl Abort,
     alloc: Global,
-    row: &Written,
+    row: &Case,
     count: usize,
-    out_room: (usize, Full),
-    failure: (u8, &str),
+    full: Full,
 ) -> Result<(), AllocError> {
-    let want = Answer {
-        status: failure.0,
-        out: &row.out[..count.min(row.out.len())],
-        err: failure.1,
-    };
-    let mut source = given(whole(row.input));
-    served_into(rt, alloc, row.words, &mut source, 9, out_room, want)
+    let mut case = *row;
+    case.room = (count, full);
+    case.out = first_bytes(row.out, count);
+    if count < row.out.len() || matches!(full, Full::Flush) {
+        case.status = 3;
+        case.err = "fault write\n";
+    }
+    served(rt, alloc, &case)
 }
 
 /// The output fails behind each number of bytes, has room for all of them, takes none, or fails at the flush.
-fn breaks(rt: &impl Abort, alloc: Global, row: &Written) -> Result<(), AllocError> {
-    const FAILS: (u8, &str) = (3, "fault write\n");
-    let size = row.out.len();
-    for count in 0..size {
-        breaks_at(rt, alloc, row, count, (count, Full::Error), FAILS)?;
+fn breaks(rt: &impl Abort, alloc: Global, row: &Case) -> Result<(), AllocError> {
+    for count in 0..=row.out.len() {
+        breaks_at(rt, alloc, row, count, Full::Error)?;
     }
-    breaks_at(rt, alloc, row, size, (size, Full::Error), (0, ""))?;
-    breaks_at(rt, alloc, row, 0, (0, Full::Nothing), FAILS)?;
-    breaks_at(rt, alloc, row, size, (size, Full::Flush), FAILS)
+    breaks_at(rt, alloc, row, 0, Full::Nothing)?;
+    breaks_at(rt, alloc, row, row.out.len(), Full::Flush)
 }
 
 #[test]
@@ -586,56 +560,66 @@ fn writes_that_fail(rt: HostRuntime) -> Result<(), AllocError> {
     const TOLD: &[u8] = b"ok messages=2 bytes=16 canonical=11\n";
     const BLOCK_TOLD: &[u8] = b"ok messages=2 bytes=17 canonical=11\n";
     const SHORT: &[u8] = b"\xf0\x81\x81\x41\xc2\xfe\x00\xe4\x80\x80\x81";
-    const ROWS: &[Written] = &[
-        Written {
+    const ROWS: &[Case] = &[
+        Case {
             words: SHOW,
             input: TWO,
             out: LINES,
+            ..OVER_WORKED
         },
-        Written {
+        Case {
             words: CHECK,
             input: TWO,
             out: TOLD,
+            ..OVER_WORKED
         },
-        Written {
+        Case {
             words: CANON,
             input: TWO,
             out: SHORT,
+            ..OVER_WORKED
         },
-        Written {
+        Case {
             words: SHOW_STRICTLY,
             input: TWO,
             out: LINES,
+            ..OVER_WORKED
         },
-        Written {
+        Case {
             words: CHECK_STRICTLY,
             input: TWO,
             out: TOLD,
+            ..OVER_WORKED
         },
-        Written {
+        Case {
             words: CANON_STRICTLY,
             input: TWO,
             out: SHORT,
+            ..OVER_WORKED
         },
-        Written {
+        Case {
             words: SHOW_BLOCKS,
             input: BLOCK,
             out: LINES,
+            ..OVER_WORKED
         },
-        Written {
+        Case {
             words: CHECK_BLOCKS,
             input: BLOCK,
             out: BLOCK_TOLD,
+            ..OVER_WORKED
         },
-        Written {
+        Case {
             words: CANON_BLOCKS,
             input: BLOCK,
             out: SHORT,
+            ..OVER_WORKED
         },
-        Written {
+        Case {
             words: CANON_HEX,
             input: HEX,
             out: b"f0818141c2fe00e4808081\n",
+            ..OVER_WORKED
         },
     ];
     for row in ROWS {
@@ -662,23 +646,32 @@ fn stream_of(alloc: Global, pieces: &[(&[u8], usize)]) -> Result<Vec<u8>, AllocE
     Ok(stream)
 }
 
-fn long_is_served(
+fn long_serves(
     rt: &impl Abort,
     alloc: Global,
-    words: &Lines,
     row: &Long,
     stream: &[u8],
+    told: &str,
 ) -> Result<(), AllocError> {
-    let told = told(alloc, row.messages, stream.len())?;
     let made = Made {
         lines: b"",
-        told: unless_refused(row.said, told.as_bytes()),
-        canonical: unless_refused(row.said, stream),
+        told: told.as_bytes(),
+        canonical: if row.said.is_empty() { stream } else { b"" },
         status: status_for(row.said),
         said: row.said,
     };
-    is_served(rt, alloc, words.check, whole(stream), made.told, made)?;
-    is_served(rt, alloc, words.canon, whole(stream), made.canonical, made)
+    let standard = whole(stream);
+    for words in [&PLAIN, &STRICT] {
+        is_served(rt, alloc, words.check, standard, made.told, made)?;
+        is_served(rt, alloc, words.canon, standard, made.canonical, made)?;
+    }
+    Ok(())
+}
+
+fn long_is_served(rt: &impl Abort, alloc: Global, row: &Long) -> Result<(), AllocError> {
+    let stream = stream_of(alloc, row.pieces)?;
+    let told = told(alloc, row.messages, stream.len(), row.said)?;
+    long_serves(rt, alloc, row, &stream, &told)
 }
 
 #[test]
@@ -747,72 +740,49 @@ fn long_texts_and_streams(rt: HostRuntime) -> Result<(), AllocError> {
         },
     ];
     for row in ROWS {
-        let stream = stream_of(rt.alloc(), row.pieces)?;
-        long_is_served(&rt, rt.alloc(), &PLAIN, row, &stream)?;
-        long_is_served(&rt, rt.alloc(), &STRICT, row, &stream)?;
+        long_is_served(&rt, rt.alloc(), row)?;
     }
     Ok(())
-}
-
-/// A line over templates whose elements have no members, a stream, and what is answered.
-struct Bare {
-    words: &'static [&'static str],
-    input: &'static [u8],
-    want: Answer<'static>,
 }
 
 // As many nodes as there may be, and one more.
 #[test]
 fn sequences_without_members(rt: HostRuntime) -> Result<(), AllocError> {
     const MOST: &[u8] = b"\xc0\x81\x80\x03\x7f\xfe";
-    const MORE: &[u8] = b"\xc0\x81\x80\x03\x7f\xff";
-    const REFUSED: Answer = Answer {
+    const REFUSED: Case = Case {
+        templates: Templates::Bare,
+        input: b"\xc0\x81\x80\x03\x7f\xff",
         status: 1,
-        out: b"",
         err: "refused Limit message=1 offset=6 template=1 instruction=2\n",
+        ..CASE
     };
-    const ROWS: &[Bare] = &[
-        Bare {
+    const ROWS: &[Case] = &[
+        Case {
             words: CHECK,
+            templates: Templates::Bare,
             input: MOST,
-            want: Answer {
-                status: 0,
-                out: b"ok messages=1 bytes=6 canonical=6\n",
-                err: "",
-            },
+            out: b"ok messages=1 bytes=6 canonical=6\n",
+            ..CASE
         },
-        Bare {
+        Case {
             words: CANON,
+            templates: Templates::Bare,
             input: MOST,
-            want: Answer {
-                status: 0,
-                out: MOST,
-                err: "",
-            },
+            out: MOST,
+            ..CASE
         },
-        Bare {
+        Case {
             words: SHOW,
-            input: MORE,
-            want: REFUSED,
+            ..REFUSED
         },
-        Bare {
+        Case {
             words: CHECK,
-            input: MORE,
-            want: REFUSED,
+            ..REFUSED
         },
-        Bare {
+        Case {
             words: CANON,
-            input: MORE,
-            want: REFUSED,
+            ..REFUSED
         },
     ];
-    for Bare { words, input, want } in ROWS {
-        let mut shelf = Shelf {
-            templates: whole(BARE.as_bytes()),
-            stream: whole(b""),
-            standard: whole(input),
-        };
-        served_into(&rt, rt.alloc(), words, &mut shelf, 1 << 20, ENOUGH, *want)?;
-    }
-    Ok(())
+    cases_are_served(&rt, rt.alloc(), ROWS)
 }
