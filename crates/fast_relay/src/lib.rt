@@ -8,8 +8,9 @@
 //! [`read_short_length`] reads a length in one byte that no entry keeps. Where nothing has changed the field goes the general
 //! way of `fast_field`: `find_field` and `write_found`.
 //!
-//! For those who make messages or tell them [`take_number`] reads an integer and writes nothing, [`take_kept`] a value that
-//! its entry keeps, and [`take_aside`] an ASCII string that it does not keep.
+//! For those who make messages or tell them [`take_number`] reads an integer and writes nothing, [`take_kept`] one that its
+//! entry keeps, [`take_decimal`] a decimal in one piece that it keeps, [`take_text`] an ASCII string and [`take_vector`]
+//! a Unicode string or a byte vector, and [`take_aside`] an ASCII string that it does not keep.
 //!
 //! What a field's forms are is defined in `fast_field`; `specs/Relayed` says what it is to have relayed one, `specs/Judged` to
 //! have judged one.
@@ -24,7 +25,6 @@ mod judged;
 mod judged_decimal;
 mod judged_string;
 mod judged_vector;
-mod kept;
 mod null;
 mod number;
 mod one_byte;
@@ -35,14 +35,15 @@ mod respelled;
 mod run;
 mod short_number;
 mod taken;
+mod taken_decimal;
 mod taken_text;
+mod taken_vector;
 mod utf8;
 mod vectors;
 mod words;
 
 pub use integers::is_unsigned;
 pub use judged::{Judged, judge_field};
-pub use kept::take_kept;
 pub use null::relay_null;
 pub use number::relay_unsigned;
 pub use one_byte::read_short_length;
@@ -50,5 +51,7 @@ pub use passed::pass_quickly;
 pub use relayed::Relayed;
 pub use respelled::respell_text;
 pub use run::Run;
-pub use taken::take_number;
-pub use taken_text::take_aside;
+pub use taken::{take_kept, take_number};
+pub use taken_decimal::take_decimal;
+pub use taken_text::{take_aside, take_text};
+pub use taken_vector::take_vector;
