@@ -511,6 +511,22 @@ fn copies_are_read(rt: HostRuntime) -> Result<(), WireFault> {
     map_is_read(&rt, rt.alloc(), &[true, true, true], &[0xf0])
 }
 
+/// As many zeros as a text may have, behind a preamble of two.
+#[test]
+fn the_longest_text_of_zeros(rt: HostRuntime) -> Result<(), WireFault> {
+    let mut groups = [0x00; 65_540];
+    groups[65_536] = 0x80;
+    let zeros = Nullable::Value(&groups[..65_535]);
+    is_read_to(
+        &rt,
+        rt.alloc(),
+        Reader::AsciiNullable,
+        zeros,
+        &groups,
+        65_537,
+    )
+}
+
 /// Where no value stands no memory is asked for: the answer is the same, whichever allocation is refused.
 #[test]
 fn no_memory_for_no_value(rt: HostRuntime) {
