@@ -8,8 +8,6 @@ mod VectorTexts
 mod Taking
 mod TextTaking
 mod KeptTaking
-mod DecimalTaking
-mod VectorTaking
 pub mod Giving
 mod Standing
 mod Needless

@@ -46,13 +46,7 @@ pub record Drops (i : FieldPart) (old new : Entry) (v : Option Scalar) (bytes re
   pub entry : new ≡ next i old v
   pub best : IsBest i old false [] v
 
--- the best form of the value that was read has this bit: bit 1 and what was appended, or bit 0, and nothing was
-abbrev pub RelaysAs : Bool → FieldPart → Entry → Entry → Scalar → List ℕ → List ℕ → List ℕ → List ℕ → Type 0
-RelaysAs true i old new v bytes rest before after = Relays i old new v bytes rest before after
-RelaysAs false i old new v bytes rest before after =
-    IsTrue (is_of i.kind v) × Drops i old new (Some v) bytes rest × (after ≡ before)
-
--- the same of NULL
+-- the best form of NULL that was read has this bit: bit 1 and what was appended, or bit 0, and nothing was
 abbrev pub RelaysNullAs : Bool → FieldPart → Entry → Entry → List ℕ → List ℕ → List ℕ → List ℕ → Type 0
 RelaysNullAs true i old new bytes rest before after = RelaysNull i old new bytes rest before after
 RelaysNullAs false i old new bytes rest before after = Drops i old new None bytes rest × (after ≡ before)

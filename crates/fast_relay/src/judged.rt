@@ -247,7 +247,7 @@ fn judge_increment<T: ShortInteger>(
 
 /// Judges a number that was spelled whole; the entry goes on.
 #[inline(always)]
-pub(crate) fn judge_read<T: ShortInteger>(
+fn judge_read<T: ShortInteger>(
     instr: &FieldPart,
     entry: &mut Entry,
     number: i64,
@@ -499,33 +499,6 @@ fn find_behind(
         at + 1
     };
     (first, !is_overlong(unsigned, bytes, first, next))
-}
-
-/// A number, the place where its shortest form begins, as it stands or behind one needless group or two, and the one behind it.
-#[inline(always)]
-pub(crate) fn read_standing(
-    unsigned: bool,
-    presence: Presence,
-    bytes: &[u8],
-    at: usize,
-) -> Option<(i64, usize, usize)>
-    requires { at ≤ length bytes.now }
-    ensures first { IfSome result (λ x. at ≤ x.1) }
-    ensures place { IfSome result (λ x. (x.1 ≤ x.2) × (x.2 ≤ length bytes.now)) }
-    ensures stands { IfSome result (λ x. StandsFrom unsigned presence bytes.now at x.1 x.2 x.0) }
-{
-    let Some((number, next)) = read_number(unsigned, presence, bytes, at) else {
-        return None;
-    };
-    if stands_shortest(unsigned, presence, number, bytes, at, next) {
-        return Some((number, at, next));
-    }
-    let (first, stands) = find_behind(unsigned, presence, number, bytes, at, next);
-    if stands {
-        Some((number, first, next))
-    } else {
-        None
-    }
 }
 
 /// A number whose shortest form stands behind one needless group or two, the place where that begins, and the one behind it.

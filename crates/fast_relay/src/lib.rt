@@ -1,16 +1,15 @@
 //! Fields that are read from one stream and written to another at once, with no value in between.
 //!
-//! These are most fields of a feed. [`pass_quickly`] takes what bit 0 gives. [`judge_field`] reads a field under bit 1, makes
-//! the entry the one afterwards, and says whether the field's bytes are its best form as they stand, or bit 0 is
-//! ([`Judged`]); it writes nothing. Three calls read a field in the same way and append its best form to a [`Run`]:
-//! [`relay_null`] NULL of any type, and answers what became of it ([`Relayed`]), [`relay_unsigned`] a number that is wanted,
-//! and answers it, and [`respell_text`] an ASCII string that was sent as a difference or a tail and says more than it had to.
-//! [`read_short_length`] reads a length in one byte that no entry keeps. Where nothing has changed the field goes the general
-//! way of `fast_field`: `find_field` and `write_found`.
+//! These are most fields of a feed. [`pass_quickly`] takes what bit 0 gives, and [`pass_found`] answers where it lies.
+//! [`judge_field`] reads a field under bit 1, makes the entry the one afterwards, and says whether the field's bytes are its
+//! best form as they stand, or bit 0 is ([`Judged`]); it writes nothing. Two calls read a field in the same way and append its
+//! best form to a [`Run`]: [`relay_null`] NULL of any type, and answers what became of it ([`Relayed`]), and [`respell_text`]
+//! an ASCII string that was sent as a difference or a tail and says more than it had to. [`read_short_length`] reads a length
+//! in one byte that no entry keeps. Where nothing has changed the field goes the general way of `fast_field`: `find_field` and
+//! `write_found`.
 //!
-//! For those who make messages or tell them [`take_number`] reads an integer and writes nothing, [`take_kept`] one that its
-//! entry keeps, [`take_decimal`] a decimal in one piece that it keeps, [`take_text`] an ASCII string and [`take_vector`]
-//! a Unicode string or a byte vector, and [`take_aside`] an ASCII string that it does not keep.
+//! For those who make messages or tell them [`take_number`] reads an integer and writes nothing, [`take_kept`] a value that
+//! its entry keeps, and [`take_aside`] an ASCII string that it does not keep.
 //!
 //! What a field's forms are is defined in `fast_field`; `specs/Relayed` says what it is to have relayed one, `specs/Judged` to
 //! have judged one.
@@ -25,8 +24,8 @@ mod judged;
 mod judged_decimal;
 mod judged_string;
 mod judged_vector;
+mod kept;
 mod null;
-mod number;
 mod one_byte;
 mod passed;
 mod plain;
@@ -35,23 +34,19 @@ mod respelled;
 mod run;
 mod short_number;
 mod taken;
-mod taken_decimal;
 mod taken_text;
-mod taken_vector;
 mod utf8;
 mod vectors;
 mod words;
 
 pub use integers::is_unsigned;
 pub use judged::{Judged, judge_field};
+pub use kept::take_kept;
 pub use null::relay_null;
-pub use number::relay_unsigned;
 pub use one_byte::read_short_length;
-pub use passed::pass_quickly;
+pub use passed::{pass_found, pass_quickly};
 pub use relayed::Relayed;
 pub use respelled::respell_text;
 pub use run::Run;
-pub use taken::{take_kept, take_number};
-pub use taken_decimal::take_decimal;
-pub use taken_text::{take_aside, take_text};
-pub use taken_vector::take_vector;
+pub use taken::take_number;
+pub use taken_text::take_aside;

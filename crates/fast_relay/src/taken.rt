@@ -7,9 +7,6 @@ ghost use Rattle.fast_value.specs.declared.kind.Operator.TheVariants as operator
 ghost use Rattle.fast_field.specs.Bases.{next_of};
 ghost use Rattle.fast_field.specs.Numbers.{IsNumber};
 ghost use Rattle.fast_relay.specs.Numbers.{SpellsWhole};
-ghost use Rattle.fast_value.specs.declared.scalar.Scalar.{Scalar as ScalarOf};
-ghost use Rattle.fast_dictionary.specs.declared.entry.Entry.TheVariants as entry_type;
-ghost use Rattle.fast_relay.specs.Kept as kept;
 ghost use Rattle.fast_relay.specs.Relayed.{Takes};
 
 use crate::integers::{is_unsigned, read_short};
@@ -158,30 +155,6 @@ fn take_value(
     }
 }
 
-/// The same of a number that the entry keeps: the place after it alone.
-#[inline(always)]
-fn take_place(
-    kind: Kind,
-    instr: &FieldPart,
-    entry: &mut Entry,
-    bytes: &[u8],
-    at: usize,
-) -> Option<usize>
-    requires at { at ≤ length bytes.now }
-    requires kind { kind ≡ instr.now.kind }
-    requires integer { IsTrue (is_integer kind) }
-    requires operator { IsTrue (kept.keeps_number instr.now.operator) }
-    ensures place { IfSome result (λ next. (at ≤ next) × (next ≤ length bytes.now)) }
-    ensures taken { IfSome result (λ next. (v : ScalarOf) × (entry.new ≡ entry_type.Assigned v)
-        × Takes instr.now entry.old entry.new v (drop at bytes.now) (drop next bytes.now)) }
-    ensures entry { IfNone result (entry.new ≡ entry.old) }
-{
-    match take(kind, instr, entry, bytes, at) {
-        Some((_number, next)) => Some(next),
-        None => None,
-    }
-}
-
 /// Reads an integer under bit 1, makes the entry the one afterwards, and answers the number as a value and the place
 /// after it. It takes no memory. None: nothing has changed, and the general way tells.
 #[inline(never)]
@@ -202,38 +175,6 @@ pub fn take_number(
         Kind::Int32 => take_value(Kind::Int32, instr, entry, bytes, at),
         Kind::UInt64 => take_value(Kind::UInt64, instr, entry, bytes, at),
         Kind::Int64 => take_value(Kind::Int64, instr, entry, bytes, at),
-        Kind::Decimal | Kind::Ascii | Kind::Unicode | Kind::Bytes => None,
-    }
-}
-
-/// Whether a number that was read is in its entry afterwards.
-#[inline(always)]
-fn keeps_number(operator: Operator) -> bool
-    ensures { result ≡ kept.keeps_number operator }
-{
-    match operator {
-        Operator::Copy | Operator::Increment | Operator::Delta => true,
-        _ => false,
-    }
-}
-
-/// As `take_number`, of a number that is in its entry afterwards: answers the place after it alone.
-#[inline(never)]
-pub fn take_kept(instr: &FieldPart, entry: &mut Entry, bytes: &[u8], at: usize) -> Option<usize>
-    requires { at ≤ length bytes.now }
-    ensures place { IfSome result (λ next. (at ≤ next) × (next ≤ length bytes.now)) }
-    ensures taken { IfSome result (λ next. (v : ScalarOf) × (entry.new ≡ entry_type.Assigned v)
-        × Takes instr.now entry.old entry.new v (drop at bytes.now) (drop next bytes.now)) }
-    ensures entry { IfNone result (entry.new ≡ entry.old) }
-{
-    if !keeps_number(instr.operator) {
-        return None;
-    }
-    match instr.kind {
-        Kind::UInt32 => take_place(Kind::UInt32, instr, entry, bytes, at),
-        Kind::Int32 => take_place(Kind::Int32, instr, entry, bytes, at),
-        Kind::UInt64 => take_place(Kind::UInt64, instr, entry, bytes, at),
-        Kind::Int64 => take_place(Kind::Int64, instr, entry, bytes, at),
         Kind::Decimal | Kind::Ascii | Kind::Unicode | Kind::Bytes => None,
     }
 }

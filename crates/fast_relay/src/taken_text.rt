@@ -117,7 +117,7 @@ fn take_tail(
 /// Reads an ASCII string under bit 1 into the entry, which has it then, and answers the place after it. None: nothing has
 /// changed, and the general way tells.
 #[inline(never)]
-pub fn take_text(
+pub(crate) fn take_text(
     alloc: Global,
     instr: &FieldPart,
     entry: &mut Entry,

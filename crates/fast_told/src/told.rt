@@ -1,10 +1,9 @@
 //! Takes a field's value from the bytes, and tells it from where it lies.
 
-ghost use Rattle.std.specs.Prelude.{◌≡◌, ◌≢◌, ◌≤◌, true, false, Option, Err, IfOk, IfErr, IfNone, IfSome, IsTrue, length, drop};
+ghost use Rattle.std.specs.Prelude.{◌≡◌, ◌≢◌, ◌≤◌, true, false, Option, Err, IfOk, IfErr, IsTrue, length, drop};
 ghost use Rattle.fast_field.specs.AsUsual.{ReadsAsUsual};
 ghost use Rattle.fast_value.specs.declared.scalar.Scalar.{Scalar as ScalarOf};
 ghost use Rattle.fast_dictionary.specs.Dictionary.{entry_at};
-ghost use Rattle.fast_dictionary.specs.declared.entry.Entry.TheVariants.{Assigned};
 ghost use Rattle.fast_relay.specs.Relayed.{Takes};
 ghost use Rattle.fast_field.specs.FieldReading.{field_at};
 ghost use Rattle.fast_stream.specs.Nodes.{single};
@@ -22,7 +21,7 @@ use fast_dictionary::{Entries, Entry};
 use fast_field::{FieldFault, Found, read_in_place, reads_as_usual};
 use fast_lines::Signs;
 use fast_part::take_given;
-use fast_relay::{take_aside, take_decimal, take_kept, take_number, take_text, take_vector};
+use fast_relay::{take_aside, take_kept, take_number};
 use fast_template::{FieldPart, Kind, Name, Operator, Presence};
 use fast_wire::Level;
 use std::alloc::Global;
@@ -107,29 +106,6 @@ fn take_integer<S: Signs>(
     }
 }
 
-// Takes a value under bit 1 into the entry, where it is read as at the usual level and kept there.
-#[inline(always)]
-fn take_into(
-    alloc: Global,
-    part: &FieldPart,
-    entry: &mut Entry,
-    bytes: &[u8],
-    at: usize,
-) -> Option<usize>
-    requires { at ≤ length bytes.now }
-    ensures place { IfSome result (λ next. (at ≤ next) × (next ≤ length bytes.now)) }
-    ensures taken { IfSome result (λ next. (v : ScalarOf) × (entry.new ≡ Assigned v)
-        × Takes part.now entry.old entry.new v (drop at bytes.now) (drop next bytes.now)) }
-    ensures entry { IfNone result (entry.new ≡ entry.old) }
-{
-    match part.kind {
-        Kind::Ascii => take_text(alloc, part, entry, bytes, at),
-        Kind::Unicode | Kind::Bytes => take_vector(alloc, part, entry, bytes, at),
-        Kind::Decimal => take_decimal(part, entry, bytes, at),
-        _ => take_kept(part, entry, bytes, at),
-    }
-}
-
 // The same of what the entry keeps: it is told from there.
 #[inline(always)]
 fn take_held<S: Signs>(
@@ -145,6 +121,7 @@ fn take_held<S: Signs>(
     line: &mut Line,
 ) -> Result<usize, FieldFault>
     requires place { at ≤ length bytes.now }
+    requires whole { part.now.part ≡ Whole }
     requires part { IsFieldPart part.now }
     requires presence { part.now.presence ≡ presence }
     requires usual { ReadsAsUsual level part.now (drop at bytes.now) }
@@ -158,7 +135,7 @@ fn take_held<S: Signs>(
         → (field_at level part.now entry.old true (drop at bytes.now) ≡ Err f)
         × (entry.new ≡ entry.old) × (line.new ≡ line.old)) }
 {
-    match take_into(alloc, part, entry, bytes, at) {
+    match take_kept(alloc, part, entry, bytes, at) {
         Some(next) => match line.tell(signs, name, part, Found::Kept.value(part, entry.view())) {
             Err(_) => Err(FieldFault::Memory),
             Ok(()) => Ok(next),
@@ -223,6 +200,7 @@ fn take_sent<S: Signs>(
     line: &mut Line,
 ) -> Result<usize, FieldFault>
     requires place { at ≤ length bytes.now }
+    requires whole { part.now.part ≡ Whole }
     requires part { IsFieldPart part.now }
     requires presence { part.now.presence ≡ presence }
     requires usual { ReadsAsUsual level part.now (drop at bytes.now) }
@@ -236,28 +214,21 @@ fn take_sent<S: Signs>(
         → (field_at level part.now entry.old true (drop at bytes.now) ≡ Err f)
         × (entry.new ≡ entry.old) × (line.new ≡ line.old)) }
 {
-    match part.kind {
-        Kind::UInt32 | Kind::Int32 | Kind::UInt64 | Kind::Int64 => match part.operator {
-            Operator::Copy | Operator::Increment | Operator::Delta => {
-                take_held(
-                    signs, alloc, name, presence, part, entry, level, bytes, at, line,
-                )
-            }
-            _ => take_integer(
-                signs, alloc, name, presence, part, entry, level, bytes, at, line,
-            ),
-        },
-        Kind::Ascii => match part.operator {
-            Operator::Plain | Operator::Default => take_beside(
-                signs, alloc, name, presence, part, entry, level, bytes, at, line,
-            ),
-            _ => take_held(
-                signs, alloc, name, presence, part, entry, level, bytes, at, line,
-            ),
-        },
-        Kind::Decimal | Kind::Unicode | Kind::Bytes => take_held(
+    match part.operator {
+        Operator::Copy | Operator::Increment | Operator::Delta | Operator::Tail => take_held(
             signs, alloc, name, presence, part, entry, level, bytes, at, line,
         ),
+        Operator::Plain | Operator::Default | Operator::Constant => match part.kind {
+            Kind::UInt32 | Kind::Int32 | Kind::UInt64 | Kind::Int64 => take_integer(
+                signs, alloc, name, presence, part, entry, level, bytes, at, line,
+            ),
+            Kind::Ascii => take_beside(
+                signs, alloc, name, presence, part, entry, level, bytes, at, line,
+            ),
+            Kind::Decimal | Kind::Unicode | Kind::Bytes => take_generally(
+                signs, alloc, name, presence, part, entry, true, level, bytes, at, line,
+            ),
+        },
     }
 }
 
@@ -277,6 +248,7 @@ fn take_read<S: Signs>(
     line: &mut Line,
 ) -> Result<usize, FieldFault>
     requires place { at ≤ length bytes.now }
+    requires whole { part.now.part ≡ Whole }
     requires part { IsFieldPart part.now }
     requires presence { part.now.presence ≡ presence }
     requires bit { part_needs_bit part.now ≡ false → bit ≡ true }
@@ -317,6 +289,7 @@ fn take<S: Signs>(
     line: &mut Line,
 ) -> Result<usize, FieldFault>
     requires place { at ≤ length bytes.now }
+    requires whole { part.now.part ≡ Whole }
     requires part { IsFieldPart part.now }
     requires presence { part.now.presence ≡ presence }
     requires bit { part_needs_bit part.now ≡ false → bit ≡ true }

@@ -15,7 +15,6 @@ ghost use Rattle.fast_walk.specs.Received.{Took, length_of};
 ghost use Rattle.fast_value.specs.declared.kind.Part.TheVariants.{Length};
 ghost use Rattle.fast_walk.specs.Told.{IsTold, KeepScalars};
 ghost use Rattle.fast_stream.specs.Bits.{after_bit, bit_for};
-ghost use Rattle.fast_relay.specs.Runs.{IsRun, Stays, written};
 ghost use Rattle.fast_writer.specs.Levels.{level_of};
 ghost use Rattle.fast_writer.specs.Room.{has_room};
 ghost use Rattle.fast_writer.specs.Quick.{Relayed};
@@ -24,8 +23,8 @@ ghost use Rattle.fast_writer.specs.Written.{Spelt};
 use crate::relay::relay_entry;
 use crate::segment::Segment;
 use fast_dictionary::{Entries, Entry};
-use fast_field::{FieldFault, Passed, pass_left_out, reads_as_usual};
-use fast_relay::{Relayed as Answer, Run, read_short_length, relay_null, relay_unsigned};
+use fast_field::{FieldFault, Passed, reads_as_usual};
+use fast_relay::{pass_quickly, read_short_length};
 use fast_template::{FieldPart, Kind, Operator, Scalar, part_needs_bit};
 use fast_wire::Level;
 use std::alloc::{AllocError, Global};
@@ -34,12 +33,13 @@ use std::alloc::{AllocError, Global};
 // the general way.
 #[inline(always)]
 fn repeat_count(part: &FieldPart, entry: &mut Entry) -> Option<Option<u32>>
+    requires { IsFieldPart part.now }
     ensures passed { IfSome result (λ count.
         Passes part.now entry.old entry.new (length_of count)) }
     ensures entry { IfNone result (entry.new ≡ entry.old) }
 {
     match (part.operator, part.kind) {
-        (Operator::Copy, Kind::UInt32) => match pass_left_out(part, entry) {
+        (Operator::Copy, Kind::UInt32) => match pass_quickly(part.part, part, entry) {
             Passed::Elsewhere => None,
             Passed::Absent => Some(None),
             Passed::Present => match entry {
@@ -48,50 +48,6 @@ fn repeat_count(part: &FieldPart, entry: &mut Entry) -> Option<Option<u32>>
             },
         },
         _ => None,
-    }
-}
-
-// Takes what bit 0 repeats, or what was sent where it is read as at the usual level; answers the number, the bit of its best form and the
-// place behind it. None: nothing has changed, and the part goes another way.
-#[inline(always)]
-fn count_quickly(
-    part: &FieldPart,
-    entry: &mut Entry,
-    bit: bool,
-    level: Level,
-    bytes: &[u8],
-    at: usize,
-    out: &mut Run,
-) -> Option<(Option<u32>, bool, usize)>
-    requires run { IsRun bytes.now at out.now }
-    requires bit { part_needs_bit_of part.now ≡ false → bit ≡ true }
-    ensures place { IfSome result (λ x. (at ≤ x.2) × (x.2 ≤ length bytes.now)) }
-    ensures run { IfSome result (λ x. IsRun bytes.now x.2 out.new) }
-    ensures relayed { IfSome result (λ x.
-        Relayed level part.now entry.old entry.new bit x.1 (length_of x.0) (drop at bytes.now)
-        (drop x.2 bytes.now) (written bytes.now out.old) (written bytes.now out.new)) }
-    ensures lower { IfSome result (λ x. bit ≡ false → x.1 ≡ false) }
-    ensures entry { IfNone result (entry.new ≡ entry.old) }
-    ensures out { IfNone result (Stays bytes.now at out.old out.new) }
-{
-    if bit {
-        if reads_as_usual(level, part, bytes, at) {
-            match relay_unsigned(part, entry, bytes, at, out) {
-                Some((number, best, next)) => Some((Some(number), best, next)),
-                None => match relay_null(part, entry, bytes, at, out) {
-                    Answer::Sent(next) => Some((None, true, next)),
-                    Answer::Given(next) => Some((None, false, next)),
-                    Answer::Elsewhere => None,
-                },
-            }
-        } else {
-            None
-        }
-    } else {
-        match repeat_count(part, entry) {
-            None => None,
-            Some(count) => Some((count, false, at)),
-        }
     }
 }
 
@@ -108,7 +64,8 @@ fn number_in(value: Option<&Scalar>) -> Option<u32>
     }
 }
 
-// The same of any part, the general way.
+// Reads a part, and appends the best form of the number that it is; answers the number, the bit of its best form and the
+// place behind what was read.
 #[inline(never)]
 fn count_generally(
     alloc: Global,
@@ -137,44 +94,6 @@ fn count_generally(
     let (found, best, next) = relay_entry(alloc, part, entry, bit, level, bytes, at, out)?;
     let number = number_in(found.value(part, entry.view()));
     Ok((number, best, next))
-}
-
-// The same by the quick way, and by the general one where that does not serve.
-#[inline(always)]
-fn count_either(
-    alloc: Global,
-    part: &FieldPart,
-    entry: &mut Entry,
-    bit: bool,
-    level: Level,
-    bytes: &[u8],
-    at: usize,
-    out: &mut Run,
-) -> Result<(Option<u32>, bool, usize), FieldFault>
-    requires run { IsRun bytes.now at out.now }
-    requires bit { part_needs_bit_of part.now ≡ false → bit ≡ true }
-    requires part { IsFieldPart part.now }
-    requires entry { HoldsScalar entry.old }
-    requires kind { part.now.kind ≡ UInt32 }
-    ensures place { IfOk result (λ x. (at ≤ x.2) × (x.2 ≤ length bytes.now)) }
-    ensures run { IfOk result (λ x. IsRun bytes.now x.2 out.new) }
-    ensures relayed { IfOk result (λ x.
-        Relayed level part.now entry.old entry.new bit x.1 (length_of x.0) (drop at bytes.now)
-        (drop x.2 bytes.now) (written bytes.now out.old) (written bytes.now out.new)) }
-    ensures lower { IfOk result (λ x. bit ≡ false → x.1 ≡ false) }
-    ensures stops { IfErr result (λ f. f ≢ FieldFault.Memory
-        → (field_at level part.now entry.old bit (drop at bytes.now) ≡ Err f)
-        × (entry.new ≡ entry.old) × (out.new.out.items ≡ written bytes.now out.old)) }
-{
-    if let Some(counted) = count_quickly(part, entry, bit, level, bytes, at, out) {
-        return Ok(counted);
-    }
-    if !out.flush(bytes) {
-        return Err(FieldFault::Memory);
-    }
-    let counted = count_generally(alloc, part, entry, bit, level, bytes, at, &mut out.out)?;
-    out.begin(counted.2);
-    Ok(counted)
 }
 
 /// Reads a part that is a number without sign of 32 bits, and appends the best form of its value to a segment; answers
@@ -217,13 +136,9 @@ pub(crate) fn relay_count<E: Entries>(
         × (level_of segment.new ≡ level_of segment.old)) }
     ensures same_keys { E.serves entries.new ≡ E.serves entries.old }
 {
-    segment.bytes.begin(at);
     let entry = entries.entry_mut(&part.key)?;
-    let out = &mut segment.bytes;
-    let (count, best, next) = count_either(alloc, part, entry, bit, level, bytes, at, out)?;
-    if !segment.bytes.flush(bytes) {
-        return Err(FieldFault::Memory);
-    }
+    let out = &mut segment.bytes.out;
+    let (count, best, next) = count_generally(alloc, part, entry, bit, level, bytes, at, out)?;
     segment.ask(part_needs_bit(part), best)?;
     Ok((count, next))
 }
@@ -236,6 +151,7 @@ fn repeat_kept<E: Entries>(
     part: &FieldPart,
 ) -> Result<Option<Option<u32>>, AllocError>
     requires served { IsTrue (E.serves entries.now part.now.key) }
+    requires part { IsFieldPart part.now }
     ensures passed { IfOk result (λ repeated. IfSome repeated (λ count. (new : EntryOf)
         × Passes part.now (entry_at (E.contents entries.old) part.now.key) new (length_of count)
         × (E.contents entries.new ≡ set_entry (E.contents entries.old) part.now.key new))) }

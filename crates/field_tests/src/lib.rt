@@ -16,7 +16,7 @@ mod judged;
 #[cfg(test)]
 mod nulls;
 #[cfg(test)]
-mod numbers;
+mod passed;
 #[cfg(test)]
 mod reading;
 #[cfg(test)]

@@ -1,10 +1,11 @@
 //! Rows on fields that are taken at once, and written nowhere.
 
 use crate::fields::{Kept, Shape, Value, is_kept};
+use crate::judged::{holds_scalar, is_field_part};
 use crate::same::same;
 use fast_dictionary::Entry;
-use fast_relay::{take_aside, take_decimal, take_number, take_vector};
-use fast_template::{FieldPart, Kind, Operator, Presence, Scalar};
+use fast_relay::{take_aside, take_kept, take_number};
+use fast_template::{FieldPart, Kind, Operator, Part, Presence, Scalar};
 use std::alloc::{AllocError, Global};
 use std::process::Abort;
 
@@ -50,13 +51,6 @@ fn all_taken(rt: &impl Abort, alloc: Global, rows: &[Taken]) -> Result<(), Alloc
     Ok(())
 }
 
-// The call of a row.
-#[derive(Clone, Copy)]
-enum Call {
-    Decimal,
-    Vector,
-}
-
 // The bytes behind the first are read to their end into the entry; or nothing has changed.
 struct Put {
     of: Shape,
@@ -64,21 +58,6 @@ struct Put {
     bytes: &'static [u8],
     taken: bool,
     after: Kept,
-}
-
-fn take_into(
-    alloc: Global,
-    call: Call,
-    of: Shape,
-    entry: &mut Entry,
-    bytes: &[u8],
-) -> Result<Option<usize>, AllocError> {
-    let instr = of.instr(alloc)?;
-    let at = bytes.len().min(1);
-    Ok(match call {
-        Call::Decimal => take_decimal(&instr, entry, bytes, at),
-        Call::Vector => take_vector(alloc, &instr, entry, bytes, at),
-    })
 }
 
 // The place behind a row's bytes where they are taken.
@@ -90,11 +69,16 @@ fn end_of(bytes: &[u8], taken: bool) -> Option<usize> {
 fn is_put(
     rt: &impl Abort,
     alloc: Global,
-    call: Call,
+    instr: &FieldPart,
     entry: &mut Entry,
     row: &Put,
 ) -> Result<(), AllocError> {
-    let next = take_into(alloc, call, row.of, entry, row.bytes)?;
+    // no other is taken
+    if instr.part != Part::Whole || !is_field_part(instr) || !holds_scalar(entry) {
+        same(rt, false, true);
+        return Ok(());
+    }
+    let next = take_kept(alloc, instr, entry, row.bytes, row.bytes.len().min(1));
     if next.is_none() && row.taken {
         is_kept(rt, alloc, entry, row.before)?;
         return Err(AllocError);
@@ -103,10 +87,11 @@ fn is_put(
     is_kept(rt, alloc, entry, row.after)
 }
 
-fn all_put(rt: &impl Abort, alloc: Global, call: Call, rows: &[Put]) -> Result<(), AllocError> {
+fn all_put(rt: &impl Abort, alloc: Global, rows: &[Put]) -> Result<(), AllocError> {
     for row in rows {
+        let instr = row.of.instr(alloc)?;
         let mut entry = row.before.entry(alloc)?;
-        is_put(rt, alloc, call, &mut entry, row)?;
+        is_put(rt, alloc, &instr, &mut entry, row)?;
     }
     Ok(())
 }
@@ -268,7 +253,7 @@ fn decimals_that_are_taken(rt: HostRuntime) -> Result<(), AllocError> {
         // an exponent and a mantissa, whole
         Put {
             of: Shape::Mandatory(Kind::Decimal, Operator::Copy),
-            before: Kept::Undefined,
+            before: Kept::Assigned(Value::Decimal(1, 5)),
             bytes: &[0xff, 0xfe, 0x39, 0x45, 0xa3],
             taken: true,
             after: Kept::Assigned(Value::Decimal(-2, 942_755)),
@@ -335,7 +320,7 @@ fn decimals_that_are_taken(rt: HostRuntime) -> Result<(), AllocError> {
             taken: false,
             after: Kept::Undefined,
         },
-        // an operator that keeps nothing, and another type
+        // an operator that keeps nothing
         Put {
             of: Shape::Mandatory(Kind::Decimal, Operator::Plain),
             before: Kept::Undefined,
@@ -343,15 +328,82 @@ fn decimals_that_are_taken(rt: HostRuntime) -> Result<(), AllocError> {
             taken: false,
             after: Kept::Undefined,
         },
+    ];
+    all_put(&rt, rt.alloc(), ROWS)
+}
+
+#[test]
+fn numbers_and_strings_that_are_kept(rt: HostRuntime) -> Result<(), AllocError> {
+    const ROWS: &[Put] = &[
+        // numbers, whole, added to and counted on
         Put {
             of: Shape::Mandatory(Kind::Int64, Operator::Copy),
             before: Kept::Undefined,
-            bytes: &[0xff, 0x82, 0x85],
+            bytes: &[0xff, 0x82],
+            taken: true,
+            after: Kept::Assigned(Value::I64(2)),
+        },
+        Put {
+            of: Shape::Optional(Kind::UInt64, Operator::Delta),
+            before: Kept::Assigned(Value::U64(9)),
+            bytes: &[0xff, 0x82],
+            taken: true,
+            after: Kept::Assigned(Value::U64(10)),
+        },
+        Put {
+            of: Shape::Mandatory(Kind::UInt32, Operator::Increment),
+            before: Kept::Assigned(Value::U32(7)),
+            bytes: &[0xff, 0x39, 0x45, 0xa3],
+            taken: true,
+            after: Kept::Assigned(Value::U32(942_755)),
+        },
+        // one that bit 0 gives, and one behind a needless group
+        Put {
+            of: Shape::Mandatory(Kind::UInt32, Operator::Copy),
+            before: Kept::Assigned(Value::U32(7)),
+            bytes: &[0xff, 0x87],
+            taken: true,
+            after: Kept::Assigned(Value::U32(7)),
+        },
+        Put {
+            of: Shape::Mandatory(Kind::UInt32, Operator::Copy),
+            before: Kept::Assigned(Value::U32(7)),
+            bytes: &[0xff, 0x00, 0x85],
+            taken: true,
+            after: Kept::Assigned(Value::U32(5)),
+        },
+        // characters
+        Put {
+            of: Shape::Mandatory(Kind::Ascii, Operator::Copy),
+            before: Kept::Assigned(Value::Ascii(b"AB")),
+            bytes: &[0xff, 0xc3],
+            taken: true,
+            after: Kept::Assigned(Value::Ascii(b"C")),
+        },
+        Put {
+            of: Shape::Mandatory(Kind::Ascii, Operator::Tail),
+            before: Kept::Assigned(Value::Ascii(b"AB")),
+            bytes: &[0xff, 0xc3],
+            taken: true,
+            after: Kept::Assigned(Value::Ascii(b"AC")),
+        },
+        // what is not taken goes the general way: NULL, and an operator that keeps nothing
+        Put {
+            of: Shape::Optional(Kind::UInt32, Operator::Copy),
+            before: Kept::Assigned(Value::U32(7)),
+            bytes: &[0xff, 0x80],
+            taken: false,
+            after: Kept::Assigned(Value::U32(7)),
+        },
+        Put {
+            of: Shape::Mandatory(Kind::Ascii, Operator::Plain),
+            before: Kept::Undefined,
+            bytes: &[0xff, 0xc3],
             taken: false,
             after: Kept::Undefined,
         },
     ];
-    all_put(&rt, rt.alloc(), Call::Decimal, ROWS)
+    all_put(&rt, rt.alloc(), ROWS)
 }
 
 #[test]
@@ -451,7 +503,7 @@ fn vectors_that_are_taken(rt: HostRuntime) -> Result<(), AllocError> {
             taken: false,
             after: Kept::Undefined,
         },
-        // an operator that keeps nothing, and another type
+        // an operator that keeps nothing
         Put {
             of: Shape::Mandatory(Kind::Bytes, Operator::Plain),
             before: Kept::Undefined,
@@ -459,15 +511,8 @@ fn vectors_that_are_taken(rt: HostRuntime) -> Result<(), AllocError> {
             taken: false,
             after: Kept::Undefined,
         },
-        Put {
-            of: Shape::Mandatory(Kind::Ascii, Operator::Copy),
-            before: Kept::Undefined,
-            bytes: &[0xff, 0xc3],
-            taken: false,
-            after: Kept::Undefined,
-        },
     ];
-    all_put(&rt, rt.alloc(), Call::Vector, ROWS)
+    all_put(&rt, rt.alloc(), ROWS)
 }
 
 #[test]

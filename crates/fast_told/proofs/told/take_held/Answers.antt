@@ -13,7 +13,7 @@ returns-in-Ok-clause-told g c =
     let form = g.S.Escape.form in
     let taken = c.in-Some.ensures.taken in
     let v = taken.0 in
-    let new = c.take_into.new.entry in
+    let new = c.take_kept.new.entry in
     let took = took_as_usual c.args.level part c.args.entry.now new v (drop c.args.at c.args.bytes.now) (drop c.in-Some.next c.args.bytes.now) c.requires.usual taken.2 in
     let value = c.value.ensures ∙ ap (λ (e : Entry). assigned_of e) (c.view.ensures ∙ taken.1) in (
       Some v,

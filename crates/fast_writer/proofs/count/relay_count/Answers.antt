@@ -6,7 +6,7 @@ use Rattle.fast_walk.specs.Received.{length_of}
 use Rattle.fast_template.specs.Resolved.{part_needs_bit}
 use Rattle.fast_writer.specs.Levels.{level_of}
 use Rattle.fast_writer.proofs.MapRoom.{asked_room}
-use Rattle.fast_writer.proofs.Relays.{begun, level_bytes, took_of}
+use Rattle.fast_writer.proofs.Relays.{level_bytes, took_of}
 use Rattle.fast_walk.proofs.Telling.{kept_hold}
 use Rattle.fast_writer.proofs.count.relay_count.Goals as goal
 
@@ -19,20 +19,20 @@ returns-in_err-count-clause-stops g c =
     let k = c.args.part.now.key in
     let stop = c.in_err-count.ensures.stops other in (
       rw (c.in_ok-entry.ensures.value) at stop.0,
-      (c.entry_mut.follows.holds c.count_either.new.entry (ap is_ok c.in_ok-entry.was)).0 ∙ ap (set_entry d k) (stop.1 ∙ c.in_ok-entry.ensures.value) ∙ set_entry-there d k,
-      level_bytes (level_of c.args.segment.now) c.count_either.new.out.out.items (stop.2 ∙ begun c.args.bytes.now c.args.segment.now.bytes c.begin.new.self c.args.at c.begin.ensures.out c.begin.ensures.from c.begin.ensures.place),
+      (c.entry_mut.follows.holds c.count_generally.new.entry (ap is_ok c.in_ok-entry.was)).0 ∙ ap (set_entry d k) (stop.1 ∙ c.in_ok-entry.ensures.value) ∙ set_entry-there d k,
+      level_bytes (level_of c.args.segment.now) c.count_generally.new.out.items stop.2,
     )
 
 pub returns-clause-took : goal.returns-clause-took
 returns-clause-took g c =
     let d = g.E.Entries.contents c.args.entries.now in
-    let new = c.count_either.new.entry in
+    let new = c.count_generally.new.entry in
     let r = c.in_ok-count.ensures.relayed in
     took_of c.args.level c.args.part.now c.args.bit d (g.E.Entries.contents (c.entry_mut.follows.lender new)) c.in_ok-entry.entry.now new (length_of c.in_ok-count.count) _ _ c.in_ok-entry.ensures.value
     (c.entry_mut.follows.holds new (ap is_ok c.in_ok-entry.was)).0 r.entry r.read
 
-pub count_either-requires-clause-entry : goal.count_either-requires-clause-entry
-count_either-requires-clause-entry g c = rw (c.in_ok-entry.ensures.value) (kept_hold (g.E.Entries.contents c.args.entries.now) c.requires.kept c.args.part.now.key)
+pub count_generally-requires-clause-entry : goal.count_generally-requires-clause-entry
+count_generally-requires-clause-entry g c = rw (c.in_ok-entry.ensures.value) (kept_hold (g.E.Entries.contents c.args.entries.now) c.requires.kept c.args.part.now.key)
 
 pub returns-clause-room : goal.returns-clause-room
 returns-clause-room g c = λ left is room.

@@ -1,11 +1,12 @@
-//! Rows on fields that are passed at once, and on numbers that are answered. A test has a table of rows, since each value
-//! that is made at a call makes its proof longer.
+//! Rows on fields that are passed at once. A test has a table of rows, since each value that is made at a call makes its
+//! proof longer.
 
-use crate::fields::{Kept, Shape, Value, is_kept};
+use crate::fields::{Kept, Shape, Value};
+use crate::judged::is_field_part;
 use crate::same::same;
 use fast_dictionary::Entry;
-use fast_field::{Passed, pass_left_out};
-use fast_relay::{Run, relay_unsigned};
+use fast_field::Passed;
+use fast_relay::pass_quickly;
 use fast_template::{FieldPart, Kind, Operator, Presence};
 use std::alloc::{AllocError, Global};
 use std::process::Abort;
@@ -25,7 +26,12 @@ fn passes_with(
     row: &Passing,
 ) -> Result<(), AllocError> {
     let mut entry = row.before.entry(alloc)?;
-    same(rt, pass_left_out(instr, &mut entry), row.answer);
+    // no other is passed
+    if !is_field_part(instr) {
+        same(rt, false, true);
+        return Ok(());
+    }
+    same(rt, pass_quickly(instr.part, instr, &mut entry), row.answer);
     same(rt, entry, row.after.entry(alloc)?);
     Ok(())
 }
@@ -38,59 +44,6 @@ fn passes(rt: &impl Abort, alloc: Global, row: &Passing) -> Result<(), AllocErro
 fn all_pass(rt: &impl Abort, alloc: Global, rows: &[Passing]) -> Result<(), AllocError> {
     for row in rows {
         passes(rt, alloc, row)?;
-    }
-    Ok(())
-}
-
-// The number of the bytes behind the first, which are read to their end, and the bit of its best form; or none, and nothing
-// has changed.
-struct Counted {
-    of: Shape,
-    before: Kept,
-    bytes: &'static [u8],
-    number: Option<(u32, bool)>,
-}
-
-// Want of memory ends the test.
-fn counts_from(
-    rt: &impl Abort,
-    alloc: Global,
-    instr: &FieldPart,
-    entry: &mut Entry,
-    row: &Counted,
-) -> Result<(), AllocError> {
-    let mut run = Run::new(alloc);
-    let start = row.bytes.len().min(1);
-    run.begin(start);
-    match relay_unsigned(instr, entry, row.bytes, start, &mut run) {
-        Some((number, bit, next)) => {
-            same(rt, Some((number, bit)), row.number);
-            same(rt, next, row.bytes.len());
-            is_kept(rt, alloc, entry, Kept::Assigned(Value::U32(number)))
-        }
-        None => {
-            if row.number.is_some() {
-                return Err(AllocError);
-            }
-            is_kept(rt, alloc, entry, row.before)
-        }
-    }
-}
-
-fn counts_with(
-    rt: &impl Abort,
-    alloc: Global,
-    instr: &FieldPart,
-    row: &Counted,
-) -> Result<(), AllocError> {
-    let mut entry = row.before.entry(alloc)?;
-    counts_from(rt, alloc, instr, &mut entry, row)
-}
-
-fn all_counted(rt: &impl Abort, alloc: Global, rows: &[Counted]) -> Result<(), AllocError> {
-    for row in rows {
-        let instr = row.of.instr(alloc)?;
-        counts_with(rt, alloc, &instr, row)?;
     }
     Ok(())
 }
@@ -134,8 +87,8 @@ fn fields_that_are_passed(rt: HostRuntime) -> Result<(), AllocError> {
         Passing {
             of: Shape::Mandatory(Kind::UInt32, Operator::Increment),
             before: Kept::Assigned(Value::U32(u32::MAX)),
-            answer: Passed::Present,
-            after: Kept::Assigned(Value::U32(0)),
+            answer: Passed::Elsewhere,
+            after: Kept::Assigned(Value::U32(u32::MAX)),
         },
         Passing {
             of: Shape::Mandatory(Kind::UInt32, Operator::Increment),
@@ -153,8 +106,8 @@ fn fields_that_are_passed(rt: HostRuntime) -> Result<(), AllocError> {
         Passing {
             of: Shape::Optional(Kind::UInt64, Operator::Increment),
             before: Kept::Assigned(Value::U64(u64::MAX)),
-            answer: Passed::Present,
-            after: Kept::Assigned(Value::U64(0)),
+            answer: Passed::Elsewhere,
+            after: Kept::Assigned(Value::U64(u64::MAX)),
         },
         Passing {
             of: Shape::Optional(Kind::Int64, Operator::Increment),
@@ -165,15 +118,15 @@ fn fields_that_are_passed(rt: HostRuntime) -> Result<(), AllocError> {
         Passing {
             of: Shape::Optional(Kind::Int64, Operator::Increment),
             before: Kept::Assigned(Value::I64(i64::MAX)),
-            answer: Passed::Present,
-            after: Kept::Assigned(Value::I64(i64::MIN)),
+            answer: Passed::Elsewhere,
+            after: Kept::Assigned(Value::I64(i64::MAX)),
         },
         // int32 increments are passed
         Passing {
             of: Shape::Mandatory(Kind::Int32, Operator::Increment),
             before: Kept::Assigned(Value::I32(i32::MAX)),
-            answer: Passed::Present,
-            after: Kept::Assigned(Value::I32(i32::MIN)),
+            answer: Passed::Elsewhere,
+            after: Kept::Assigned(Value::I32(i32::MAX)),
         },
         Passing {
             of: Shape::Mandatory(Kind::Int32, Operator::Increment),
@@ -283,71 +236,6 @@ fn fields_that_are_passed(rt: HostRuntime) -> Result<(), AllocError> {
             answer: Passed::Elsewhere,
             after: Kept::Assigned(Value::I32(63)),
         },
-        Passing {
-            of: Shape::Exponent(Presence::Mandatory, Operator::Default, Some(64)),
-            before: Kept::Undefined,
-            answer: Passed::Elsewhere,
-            after: Kept::Undefined,
-        },
     ];
     all_pass(&rt, rt.alloc(), ROWS)
-}
-
-#[test]
-fn numbers_are_answered(rt: HostRuntime) -> Result<(), AllocError> {
-    const ROWS: &[Counted] = &[
-        Counted {
-            of: Shape::Mandatory(Kind::UInt32, Operator::Copy),
-            before: Kept::Assigned(Value::U32(5)),
-            bytes: &[0xff, 0x01, 0x80],
-            number: Some((128, true)),
-        },
-        Counted {
-            of: Shape::Optional(Kind::UInt32, Operator::Increment),
-            before: Kept::Assigned(Value::U32(5)),
-            bytes: &[0xff, 0x88],
-            number: Some((7, true)),
-        },
-        // bit 0 gives them too
-        Counted {
-            of: Shape::Mandatory(Kind::UInt32, Operator::Copy),
-            before: Kept::Assigned(Value::U32(7)),
-            bytes: &[0xff, 0x87],
-            number: Some((7, false)),
-        },
-        Counted {
-            of: Shape::Optional(Kind::UInt32, Operator::Increment),
-            before: Kept::Assigned(Value::U32(6)),
-            bytes: &[0xff, 0x00, 0x88],
-            number: Some((7, false)),
-        },
-        // behind needless groups
-        Counted {
-            of: Shape::Mandatory(Kind::UInt32, Operator::Copy),
-            before: Kept::Assigned(Value::U32(5)),
-            bytes: &[0xff, 0x00, 0x00, 0x87],
-            number: Some((7, true)),
-        },
-        // no value before
-        Counted {
-            of: Shape::Mandatory(Kind::UInt32, Operator::Copy),
-            before: Kept::Undefined,
-            bytes: &[0xff, 0x87],
-            number: Some((7, true)),
-        },
-        // another type, and NULL
-        Counted {
-            of: Shape::Mandatory(Kind::UInt64, Operator::Copy),
-            before: Kept::Undefined,
-            bytes: &[0xff, 0x87],
-            number: None,
-        },
-        Counted {
-            of: Shape::Optional(Kind::UInt32, Operator::Copy),
-            before: Kept::Undefined,
-            bytes: &[0xff, 0x80],
-            number: None,
-        },
-    ];
-    all_counted(&rt, rt.alloc(), ROWS)
 }

@@ -1,0 +1,83 @@
+//! Values that are read at once into the entries that keep them, where they are not written again.
+
+ghost use Rattle.std.specs.Prelude.{◌≡◌, ◌≤◌, length, drop, IfNone, IfSome};
+ghost use Rattle.fast_value.specs.declared.kind.Part.TheVariants as part_type;
+ghost use Rattle.fast_value.specs.declared.scalar.Scalar.{Scalar as ScalarOf};
+ghost use Rattle.fast_dictionary.specs.declared.entry.Entry.TheVariants as entry_type;
+ghost use Rattle.fast_field.specs.Parts.{IsFieldPart};
+ghost use Rattle.fast_field.specs.Within.{HoldsScalar};
+ghost use Rattle.fast_relay.specs.Kept as kept;
+ghost use Rattle.fast_relay.specs.Relayed.{Takes};
+
+use crate::judged::{Judged, judge_field};
+use crate::taken_text::take_text;
+use fast_dictionary::Entry;
+use fast_template::{FieldPart, Kind, Operator, Part};
+use std::alloc::Global;
+
+/// Whether a value that was read is in its entry afterwards.
+#[inline(always)]
+fn keeps_value(operator: Operator) -> bool
+    ensures { result ≡ kept.keeps_value operator }
+{
+    match operator {
+        Operator::Copy | Operator::Increment | Operator::Delta | Operator::Tail => true,
+        Operator::Plain | Operator::Default | Operator::Constant => false,
+    }
+}
+
+/// The place behind a value that was judged. (A call of its own, so that the loop over the fields of a line stays small.)
+#[inline(never)]
+fn judge_place(
+    alloc: Global,
+    instr: &FieldPart,
+    entry: &mut Entry,
+    bytes: &[u8],
+    at: usize,
+) -> Option<usize>
+    requires place { at ≤ length bytes.now }
+    requires whole { instr.now.part ≡ part_type.Whole }
+    requires part { IsFieldPart instr.now }
+    requires kept { HoldsScalar entry.now }
+    ensures place { IfSome result (λ next. (at ≤ next) × (next ≤ length bytes.now)) }
+    ensures taken { IfSome result (λ next. (v : ScalarOf)
+        × Takes instr.now entry.old entry.new v (drop at bytes.now) (drop next bytes.now)) }
+    ensures entry { IfNone result (entry.new ≡ entry.old) }
+{
+    match judge_field(Part::Whole, alloc, instr, entry, bytes, at) {
+        Judged::Stands(next)
+        | Judged::Behind(next)
+        | Judged::BehindTwo(next)
+        | Judged::Given(next) => Some(next),
+        Judged::Elsewhere => None,
+    }
+}
+
+/// Reads a value under bit 1 into the entry, which has it then, and answers the place after it. None: nothing has changed,
+/// and the general way tells.
+#[inline(always)]
+pub fn take_kept(
+    alloc: Global,
+    instr: &FieldPart,
+    entry: &mut Entry,
+    bytes: &[u8],
+    at: usize,
+) -> Option<usize>
+    requires place { at ≤ length bytes.now }
+    requires whole { instr.now.part ≡ part_type.Whole }
+    requires part { IsFieldPart instr.now }
+    requires kept { HoldsScalar entry.now }
+    ensures place { IfSome result (λ next. (at ≤ next) × (next ≤ length bytes.now)) }
+    ensures taken { IfSome result (λ next. (v : ScalarOf) × (entry.new ≡ entry_type.Assigned v)
+        × Takes instr.now entry.old entry.new v (drop at bytes.now) (drop next bytes.now)) }
+    ensures entry { IfNone result (entry.new ≡ entry.old) }
+{
+    if !keeps_value(instr.operator) {
+        return None;
+    }
+    // (read without a look at how it is best written: much of a feed is strings that put back what was there)
+    if instr.kind == Kind::Ascii {
+        return take_text(alloc, instr, entry, bytes, at);
+    }
+    judge_place(alloc, instr, entry, bytes, at)
+}
