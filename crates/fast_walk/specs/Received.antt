@@ -1,5 +1,5 @@
 -- What a receiver has been handed of a message that has begun.
-use Rattle.std.specs.Prelude.{◌≡◌, ◌≤◌, ℕ, zero, suc, ℤ, Bool, true, false, List, [], ◌∷◌, ◌++◌, Option, Some, None, Ok}
+use Rattle.std.specs.Prelude.{◌≡◌, ◌≤◌, ℕ, zero, suc, ℤ, Bool, true, false, List, [], ◌∷◌, ◌++◌, Option, Some, None, Ok, Err}
 use Rattle.fast_value.specs.declared.scalar.Scalar.{Scalar}
 use Rattle.fast_value.specs.declared.scalar.Scalar.TheVariants.{U32, I32, Bytes}
 use Rattle.fast_template.specs.declared.resolved.FieldPart.{FieldPart}
@@ -9,6 +9,7 @@ use Rattle.fast_dictionary.specs.Dictionary.{Dictionary, entry_at}
 use Rattle.fast_wire.specs.declared.level.Level.{Level}
 use Rattle.fast_field.specs.Bases.{next}
 use Rattle.fast_field.specs.FieldReading.{field_at}
+use Rattle.fast_field.specs.declared.fault.FieldFault.{FieldFault}
 use Rattle.fast_stream.specs.Nodes.{Item, single, group_items, sequence_elements, items_of, elements_of, nodes_in, node_limit, Content, Items, no_items, then_item}
 use Rattle.fast_stream.specs.Streams.{members_of}
 use Rattle.fast_stream.specs.Bodies.{written}
@@ -156,6 +157,10 @@ Carries Was Is = (set : List Resolved) (ms : List Content) (d : Dictionary) → 
 -- the same of the message that is open
 abbrev pub CarriesOpen : (Received → Dictionary → Type 0) → (Received → Dictionary → Type 0) → Type 0
 CarriesOpen Had Has = (o : Received) (d : Dictionary) → Had o d → Has o d
+
+-- A part is not taken: what its fault is, that no entry was put, and what is kept.
+abbrev pub Faults : Level → FieldPart → Bool → Dictionary → Dictionary → List ℕ → FieldFault → Type 0 → Type 0
+Faults level p bit d e bytes f Kept = (field_at level p (entry_at d p.key) bit bytes ≡ Err f) × (e ≡ d) × Kept
 
 -- a message that has been received whole stands behind those before it
 abbrev pub Completes : (Received → Dictionary → Type 0) → (List Resolved → List Content → Dictionary → Type 0) → Type 0

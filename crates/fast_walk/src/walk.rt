@@ -1,6 +1,6 @@
 //! A walk through the open segments of a message, without its items.
 
-ghost use Rattle.std.specs.Prelude.{◌≡◌, ◌≢◌, ◌≤◌, ◌<◌, ◌++◌, ◌∷◌, ◌-◌, ◌+◌, [], ℕ, Bool, true, false, List, Option, IsSome, ◌⊎◌, IfOk, IfErr, IfSome, OnOk, IsTrue, length, drop, map};
+ghost use Rattle.std.specs.Prelude.{◌≡◌, ◌≢◌, ◌≤◌, ◌<◌, ◌++◌, ◌∷◌, ◌-◌, ◌+◌, [], ℕ, Bool, true, false, List, Option, IsSome, ◌⊎◌, IfOk, IfErr, IfSome, OnOk, length, drop, map};
 ghost use Rattle.fast_value.specs.declared.key.Key as key_type;
 ghost use Rattle.fast_template.specs.Resolved.{list_of, then_instruction, no_instructions, whole_field, field_in_parts, group_of, sequence_of, is_optional as is_optional_of};
 ghost use Rattle.fast_dictionary.specs.Dictionary.{Dictionary};
@@ -13,7 +13,7 @@ ghost use Rattle.fast_walk.specs.Received.{Received, Carries, closed_in};
 ghost use Rattle.fast_walk.specs.Passing.{next_behind};
 ghost use Rattle.fast_walk.specs.Walks.{next_of, weight_of};
 ghost use Rattle.fast_walk.specs.Told.{KeepScalars};
-ghost use Rattle.fast_walk.specs.Room.{HasRoom};
+ghost use Rattle.fast_walk.specs.Room.{HasRoom, HasRoomInside, HasRoomOutside};
 ghost use Rattle.fast_walk.specs.Pieces.{CanWalk, Holds, Stops};
 
 use crate::bits::{first_for, read_own_map, take_for};
@@ -736,8 +736,7 @@ impl<'a> Walk<'a> {
         inside: Inside<'a>,
     ) -> Result<(), AllocError>
         requires next { self.now.next ≡ Next.Instruction }
-        requires room { (around : List (List Bool)) × (b : List Bool) × (bits : List Bool)
-            × IsTrue (R.room receiver.now (around ++ b ∷ []) bits) }
+        requires room { HasRoomInside (R.room receiver.now) }
         ensures has { OnOk result ((o : Received) (d : Dictionary) (ws : List Waiting) (w : Waiting)
             → o.next ≡ at_instruction → o.body.rest ≡ no_instructions → o.around ≡ ws ++ w ∷ []
             → bare_inside w.inside ≡ inside_of inside.entry → R.has receiver.old o d
@@ -750,9 +749,7 @@ impl<'a> Walk<'a> {
         ensures served { OnOk result ((serves : key_type.Key → Bool)
             → IsInsideServed serves (inside_of inside.entry)
             → IsNextServed serves (next_of self.new.next)) }
-        ensures room { OnOk result ((around : List (List Bool)) (b bits : List Bool)
-            → IsTrue (R.room receiver.old (around ++ b ∷ []) bits)
-            → IsTrue (R.room receiver.new around b)) }
+        ensures room { OnOk result (HasRoomOutside (R.room receiver.old) (R.room receiver.new)) }
         ensures keeps { Carries (R.keeps receiver.old) (R.keeps receiver.new) }
         ensures weight { weight_of self.new.next ≤ 2 }
     {
