@@ -12,3 +12,4 @@ pub mod Telling
 pub mod Lacking
 pub mod NewParts
 pub mod ShortMaps
+pub mod Pieces

@@ -1,7 +1,7 @@
 -- How many bytes more a piece lacks at least that has begun.
 use Rattle.std.specs.Prelude.{◌≡◌, ◌≤◌, ◌<◌, ℕ, Bool, true, false, List, [], ◌++◌, length, Result, Ok, Err, ◌⊎◌, pos}
 use Rattle.std.specs.List.{AllByRecursion}
-use Rattle.fast_wire.specs.Reading.{◌>>=◌, unsigned_at, unsigned_nullable_at}
+use Rattle.fast_wire.specs.Reading.{◌>>=◌, entity_at, unsigned_at, unsigned_nullable_at}
 use Rattle.fast_wire.specs.declared.fault.WireFault.{WireFault}
 use Rattle.fast_wire.specs.declared.nullable.Nullable.{Nullable}
 use Rattle.fast_wire.specs.declared.nullable.Nullable.TheVariants.{Value}
@@ -34,6 +34,14 @@ AreUnstopped bytes = AllByRecursion (λ b. b < 128) bytes
 pub record IsLacking (l : Lack) (more : List ℕ) : Type 0 where
   pub few : length more ≤ l.most
   pub unstopped : l.until_stop ≡ true → AreUnstopped more
+
+-- with these bytes more, too few have come to read what begins with those
+abbrev pub Wants : {A E : Type 0} → (List ℕ → Result A E) → E → List ℕ → Lack → Type 0
+Wants read want bytes l = (more : List ℕ) → IsLacking l more → read (bytes ++ more) ≡ Err want
+
+-- the same behind the entity that comes first
+abbrev pub WantsBehind : {A E : Type 0} → (List ℕ → Result A E) → E → List ℕ → Lack → Type 0
+WantsBehind read want bytes l = (entity rest : List ℕ) × (entity_at 10 bytes ≡ Ok (entity, rest)) × Wants read want rest l
 
 -- whether something of a field stands in the stream under this bit
 abbrev pub sends : Operator → Bool → Bool

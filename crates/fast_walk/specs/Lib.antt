@@ -8,3 +8,4 @@ pub mod Room
 pub mod OneProof
 pub mod Lacks
 pub mod ShortMaps
+pub mod Pieces

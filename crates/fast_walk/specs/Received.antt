@@ -1,15 +1,17 @@
 -- What a receiver has been handed of a message that has begun.
-use Rattle.std.specs.Prelude.{◌≡◌, ℕ, zero, suc, ℤ, Bool, true, false, List, [], ◌∷◌, ◌++◌, Option, Some, None, Ok}
+use Rattle.std.specs.Prelude.{◌≡◌, ◌≤◌, ℕ, zero, suc, ℤ, Bool, true, false, List, [], ◌∷◌, ◌++◌, Option, Some, None, Ok, Err}
 use Rattle.fast_value.specs.declared.scalar.Scalar.{Scalar}
 use Rattle.fast_value.specs.declared.scalar.Scalar.TheVariants.{U32, I32, Bytes}
 use Rattle.fast_template.specs.declared.resolved.FieldPart.{FieldPart}
-use Rattle.fast_template.specs.Resolved.{Instructions, has_map, Resolved}
+use Rattle.fast_template.specs.Resolved.{Instructions, no_instructions, has_map, Resolved}
 use Rattle.fast_dictionary.specs.declared.entry.Entry.{Entry}
 use Rattle.fast_dictionary.specs.Dictionary.{Dictionary, entry_at}
 use Rattle.fast_wire.specs.declared.level.Level.{Level}
 use Rattle.fast_field.specs.Bases.{next}
 use Rattle.fast_field.specs.FieldReading.{field_at}
-use Rattle.fast_stream.specs.Nodes.{Item, single, group_items, sequence_elements, items_of, elements_of, Content, Items, no_items, then_item}
+use Rattle.fast_field.specs.declared.fault.FieldFault.{FieldFault}
+use Rattle.fast_stream.specs.Nodes.{Item, single, group_items, sequence_elements, items_of, elements_of, nodes_in, node_limit, Content, Items, no_items, then_item}
+use Rattle.fast_stream.specs.Streams.{members_of}
 use Rattle.fast_stream.specs.Bodies.{written}
 use Rattle.fast_stream.specs.Reading.{Reads}
 use Rattle.fast_walk.specs.OpenSegments.{Body, Sequel, Inside, in_group, in_sequence, Waiting, Next, at_instruction, at_mantissa, at_element, with_item, with_element, fewer}
@@ -137,3 +139,31 @@ pub record Same (o p : Received) : Type 0 where
 -- Whatever has been received, something is received now from which reading goes on.
 abbrev pub Goes : (Received → Type 0) → (Received → List ℕ → Reads Items) → (Received → Type 0) → (Received → List ℕ → Reads Items) → List ℕ → List ℕ → Type 0
 Goes Has read Had later bytes rest = (o : Received) → Has o → (p : Received) × Had p × Same o p × ((more : List ℕ) → read o (bytes ++ more) ≡ later p (rest ++ more))
+
+-- ---- what receivers have
+
+-- what one has of the message that is open
+abbrev pub Having : Type 0 → Type 1
+Having R = R → Received → Dictionary → Type 0
+
+-- what one has of messages of a set, with the dictionary behind them
+abbrev pub Keeping : Type 0 → Type 1
+Keeping R = R → List Resolved → List Content → Dictionary → Type 0
+
+-- Whatever messages the first is true of, the second is.
+abbrev pub Carries : (List Resolved → List Content → Dictionary → Type 0) → (List Resolved → List Content → Dictionary → Type 0) → Type 0
+Carries Was Is = (set : List Resolved) (ms : List Content) (d : Dictionary) → Was set ms d → Is set ms d
+
+-- the same of the message that is open
+abbrev pub CarriesOpen : (Received → Dictionary → Type 0) → (Received → Dictionary → Type 0) → Type 0
+CarriesOpen Had Has = (o : Received) (d : Dictionary) → Had o d → Has o d
+
+-- A part is not taken: what its fault is, that no entry was put, and what is kept.
+abbrev pub Faults : Level → FieldPart → Bool → Dictionary → Dictionary → List ℕ → FieldFault → Type 0 → Type 0
+Faults level p bit d e bytes f Kept = (field_at level p (entry_at d p.key) bit bytes ≡ Err f) × (e ≡ d) × Kept
+
+-- a message that has been received whole stands behind those before it
+abbrev pub Completes : (Received → Dictionary → Type 0) → (List Resolved → List Content → Dictionary → Type 0) → Type 0
+Completes Had Stands = (o : Received) (d : Dictionary) → o.next ≡ at_instruction → o.body.rest ≡ no_instructions → o.around ≡ []
+    → members_of o.set o.template ≡ Some o.members → nodes_in (items_of o.body.done) ≤ node_limit → Had o d
+    → Stands o.set (o.before ++ content_received o ∷ []) d

@@ -1,5 +1,8 @@
 -- Room in the maps that a receiver writes, for the bits that are left of those that are read.
-use Rattle.std.specs.Prelude.{Bool, List, map, IsTrue}
+use Rattle.std.specs.Prelude.{◌≡◌, ◌++◌, ◌∷◌, [], Bool, List, map, IsTrue}
+use Rattle.fast_template.specs.declared.resolved.FieldPart.{FieldPart}
+use Rattle.fast_template.specs.Resolved.{part_needs_bit}
+use Rattle.fast_stream.specs.Bits.{after_bit, bit_for}
 use Rattle.fast_wire.specs.Sizes.{CanBeMap}
 use Rattle.fast_walk.specs.OpenSegments.{Waiting}
 use Rattle.fast_walk.specs.Walks.{frame_of}
@@ -20,3 +23,21 @@ abbrev pub HasRoomAt : (List (List Bool) → List Bool → Bool) → StageNow �
 HasRoomAt room stage.Map w = Unit {0}
 HasRoomAt room stage.Identifier w = CanBeMap w.bits
 HasRoomAt room stage.Body w = HasRoom room w
+
+-- ---- from a receiver to the next
+
+-- room as there was
+abbrev pub CarriesRoom : (List (List Bool) → List Bool → Bool) → (List (List Bool) → List Bool → Bool) → Type 0
+CarriesRoom was is = (around : List (List Bool)) (b : List Bool) → IsTrue (was around b) → IsTrue (is around b)
+
+-- room behind a part that was taken under this bit
+abbrev pub HasRoomBehind : Bool → FieldPart → (List (List Bool) → List Bool → Bool) → (List (List Bool) → List Bool → Bool) → Type 0
+HasRoomBehind bit p was is = (around : List (List Bool)) (b : List Bool) → bit ≡ bit_for (part_needs_bit p) b → IsTrue (was around b) → IsTrue (is around (after_bit (part_needs_bit p) b))
+
+-- room in some segment inside the message's own
+abbrev pub HasRoomInside : (List (List Bool) → List Bool → Bool) → Type 0
+HasRoomInside room = (around : List (List Bool)) × (b : List Bool) × (bits : List Bool) × IsTrue (room (around ++ b ∷ []) bits)
+
+-- room around a segment that has ended
+abbrev pub HasRoomOutside : (List (List Bool) → List Bool → Bool) → (List (List Bool) → List Bool → Bool) → Type 0
+HasRoomOutside was is = (around : List (List Bool)) (b bits : List Bool) → IsTrue (was (around ++ b ∷ []) bits) → IsTrue (is around b)

@@ -1,17 +1,17 @@
 -- How a traversal of a stream goes on from where it is.
-use Rattle.std.specs.Prelude.{◌≡◌, ℕ, Bool, List, length, Some, IsTrue, Contains}
+use Rattle.std.specs.Prelude.{◌≡◌, ◌≤◌, ◌++◌, ◌∷◌, [], ℕ, Bool, List, length, Some, Ok, Err, ◌⊎◌, IsTrue, Contains}
 use Rattle.fast_value.specs.declared.key.Key.{Key}
 use Rattle.fast_template.specs.Resolved.{Resolved}
-use Rattle.fast_template.specs.TemplateSets.{TemplateList, keys_in}
+use Rattle.fast_template.specs.TemplateSets.{TemplateList, keys_in, templates_in}
 use Rattle.fast_dictionary.specs.Dictionary.{Dictionary}
 use Rattle.fast_wire.specs.declared.level.Level.{Level}
 use Rattle.fast_wire.specs.Reading.{◌>>=◌}
-use Rattle.fast_stream.specs.Nodes.{Content, node_limit}
+use Rattle.fast_stream.specs.Nodes.{Content, nodes_in, node_limit}
 use Rattle.fast_stream.specs.Streams.{members_of, identifier}
 use Rattle.fast_stream.specs.Faults.{MessageStop}
 use Rattle.fast_stream.specs.Reading.{field_part_at, named_at, in_template, message_at}
 use Rattle.fast_walk.specs.OpenSegments.{Reading, cursor, message_of, named_on}
-use Rattle.fast_walk.specs.Received.{Received}
+use Rattle.fast_walk.specs.Received.{Received, Having, Keeping}
 use Rattle.fast_walk.specs.Walks.{IsAt, IsReady, reads_on}
 use Rattle.fast_walk.specs.declared.halt.Halt.{Halt}
 use Rattle.fast_walk.specs.declared.traversal.Stage.{Stage as StageNow}
@@ -26,8 +26,12 @@ identifier_on level set d bits bytes = named_on level (in_template 0 (field_part
 abbrev pub stop_of : ℕ → Halt → List ℕ → MessageStop
 stop_of template h bytes = record { template = template; stop = record { cause = h.cause; instruction = h.number; left = length bytes } }
 
+-- what is left to be read, behind which messages and from which dictionary
+abbrev pub Left : Type 1
+Left = List Content → Dictionary → (List ℕ → Reading) → Type 0
+
 -- The body of a message is open: of these messages before, from the dictionary behind them; and this is still read.
-pub record IsOpen {R : Type 0} (Has : R → Received → Dictionary → Type 0) (Keeps : R → List Resolved → List Content → Dictionary → Type 0)
+pub record IsOpen {R : Type 0} (Has : Having R) (Keeps : Keeping R)
     (t : TraversalNow) (r : R) (set : List Resolved) (d : Dictionary) (before : List Content) (start : Dictionary) (read : List ℕ → Reading) : Type 0 where
   pub received : Received
   pub at : IsAt t.walk received
@@ -46,15 +50,43 @@ pub record IsBetween (Stands : Type 0) (d start : Dictionary) (read now : List �
   pub reads : (bytes : List ℕ) → read bytes ≡ now bytes
 
 -- What a traversal, its receiver and its dictionary still read: behind these messages, from the dictionary there.
-abbrev pub ContinuesAt : {R : Type 0} → (R → Received → Dictionary → Type 0) → (R → List Resolved → List Content → Dictionary → Type 0) → (R → List Resolved → List Content → Dictionary → Type 0)
-    → StageNow → TraversalNow → R → List Resolved → Dictionary → List Content → Dictionary → (List ℕ → Reading) → Type 0
+abbrev pub ContinuesAt : {R : Type 0} → Having R → Keeping R → Keeping R → StageNow → TraversalNow → R → List Resolved → Dictionary → Left
 ContinuesAt has stands keeps stage.Map t r set d before start read = IsBetween (stands r set before d) d start read (message_at t.level set d)
 ContinuesAt has stands keeps stage.Identifier t r set d before start read = IsBetween (stands r set before d) d start read (identifier_on t.level set d t.walk.bits)
 ContinuesAt has stands keeps stage.Body t r set d before start read = IsOpen has keeps t r set d before start read
 
-abbrev pub Continues : {R : Type 0} → (R → Received → Dictionary → Type 0) → (R → List Resolved → List Content → Dictionary → Type 0) → (R → List Resolved → List Content → Dictionary → Type 0)
-    → TraversalNow → R → List Resolved → Dictionary → List Content → Dictionary → (List ℕ → Reading) → Type 0
+abbrev pub Continues : {R : Type 0} → Having R → Keeping R → Keeping R → TraversalNow → R → List Resolved → Dictionary → Left
 Continues has stands keeps t r set d before start read = ContinuesAt has stands keeps t.stage t r set d before start read
+
+-- the same of its own set
+abbrev pub LeftOf : {R : Type 0} → Having R → Keeping R → Keeping R → TraversalNow → R → Dictionary → Left
+LeftOf has stands keeps t r d before start read = Continues has stands keeps t r (templates_in t.set.now) d before start read
+
+-- ---- what a call comes to
+
+-- The message that is left at these bytes is read to its end, and has been received, where its nodes are not too many.
+abbrev pub Finishes : Left → (List Content → Dictionary → Type 0) → Dictionary → List ℕ → List ℕ → Type 0
+Finishes Was Stands e bytes rest = (before : List Content) (start : Dictionary) (read : List ℕ → Reading) → Was before start read
+    → (m : Content) × ((more : List ℕ) → read (bytes ++ more) ≡ Ok (m, e, rest ++ more)) × (nodes_in m.items ≤ node_limit → Stands (before ++ m ∷ []) e)
+
+-- Reading what is left at these bytes stops, at the first of the rest.
+abbrev pub StopsAt : Left → ℕ → Halt → List ℕ → List ℕ → Type 0
+StopsAt Was template h bytes rest = (before : List Content) (start : Dictionary) (read : List ℕ → Reading) → Was before start read
+    → read bytes ≡ Err (stop_of template h rest)
+
+-- Of what is left at these bytes, something is still left at the rest.
+abbrev pub LeavesOn : Left → Left → List ℕ → List ℕ → Type 0
+LeavesOn Was Is bytes rest = (before : List Content) (start : Dictionary) (read : List ℕ → Reading) → Was before start read
+    → (later : List ℕ → Reading) × Is before start later × ((more : List ℕ) → read (bytes ++ more) ≡ later (rest ++ more))
+
+-- The messages in front of what was left are kept, inside one or between two.
+abbrev pub KeepsBefore : Left → (List Content → Dictionary → Type 0) → (List Content → Dictionary → Type 0) → Type 0
+KeepsBefore Was Keeps Stands = (before : List Content) (start : Dictionary) (read : List ℕ → Reading) → Was before start read → Keeps before start ⊎ Stands before start
+
+-- The identifier of a message of this set is read, and its body opened.
+abbrev pub Opens : {R : Type 0} → Having R → Keeping R → Keeping R → R → Dictionary → TraversalNow → R → Dictionary → List Resolved → (List ℕ → Reading) → List ℕ → List ℕ → Type 0
+Opens has stands keeps r d t s e set read bytes rest = (before : List Content) → stands r set before d
+    → (later : List ℕ → Reading) × IsOpen has keeps t s set e before d later × ((more : List ℕ) → read (bytes ++ more) ≡ later (rest ++ more))
 
 -- ---- keys
 

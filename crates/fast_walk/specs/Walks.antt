@@ -1,5 +1,5 @@
 -- How a walk through a message's open segments stands to what was received.
-use Rattle.std.specs.Prelude.{◌≡◌, ℕ, ◌+◌, ◌*◌, pos, Bool, List, [], ◌∷◌, map, length, IsTrue}
+use Rattle.std.specs.Prelude.{◌≡◌, ℕ, ◌+◌, ◌*◌, pos, Bool, List, [], ◌∷◌, ◌++◌, map, length, IsTrue}
 use Rattle.fast_value.specs.declared.key.Key.{Key}
 use Rattle.fast_value.specs.declared.kind.Kind.{Kind}
 use Rattle.fast_value.specs.declared.kind.Kind.TheVariants as kind
@@ -14,7 +14,7 @@ use Rattle.fast_wire.specs.declared.level.Level.{Level}
 use Rattle.fast_stream.specs.Nodes.{Items}
 use Rattle.fast_stream.specs.Reading.{Reads, stopped}
 use Rattle.fast_walk.specs.OpenSegments.{Sequel, Inside, in_group, in_sequence, Waiting, Next, at_instruction, at_mantissa, at_element, all_around, top_on, cursor}
-use Rattle.fast_walk.specs.Received.{Received, Goes}
+use Rattle.fast_walk.specs.Received.{Received, Goes, Having}
 use Rattle.fast_walk.specs.Told.{IsTold}
 use Rattle.fast_walk.specs.declared.halt.Halt.{Halt}
 use Rattle.fast_walk.specs.declared.walk.Sequel.{Sequel as SequelNow}
@@ -75,11 +75,11 @@ abbrev pub reads_on : Level → WalkNow → Dictionary → Received → List ℕ
 reads_on level w d o bytes = all_around level o.around (top_on level o.next o.body (cursor d w.bits w.spare bytes))
 
 -- where a walk is and what its receiver has
-abbrev pub At : {R : Type 0} → (R → Received → Dictionary → Type 0) → WalkNow → R → Dictionary → Received → Type 0
+abbrev pub At : {R : Type 0} → Having R → WalkNow → R → Dictionary → Received → Type 0
 At has w r d o = IsAt w o × has r o d
 
 -- From one walk, receiver and dictionary to others: reading goes on, from these bytes to the rest.
-abbrev pub Moves : Level → {R : Type 0} → (R → Received → Dictionary → Type 0) → WalkNow → R → Dictionary → WalkNow → R → Dictionary → List ℕ → List ℕ → Type 0
+abbrev pub Moves : Level → {R : Type 0} → Having R → WalkNow → R → Dictionary → WalkNow → R → Dictionary → List ℕ → List ℕ → Type 0
 Moves level has w r d v s e bytes rest = Goes (At has w r d) (reads_on level w d) (At has v s e) (reads_on level v e) bytes rest
 
 -- Reading stops at the first of these bytes.
@@ -133,6 +133,10 @@ pub record IsReady (serves : Key → Bool) (w : WalkNow) : Type 0 where
   pub rest : AreServed serves (list_of w.rest.now)
   pub around : AreAllServed serves (map frame_of w.around.items)
 
+-- What was served still is.
+abbrev pub StaysServed : WalkNow → WalkNow → Type 0
+StaysServed w v = (serves : Key → Bool) → IsReady serves w → IsReady serves v
+
 -- ---- the end
 
 -- Each piece makes this less.
@@ -147,5 +151,15 @@ rank_of w = 4 * w.spare + 2 * length w.around.items + weight_of w.next
 abbrev pub IsInside : WalkNow → Type 0
 IsInside w = w.next ≡ next.Instruction → w.around.items ≡ [] → w.rest.now ≡ [] → ⊥
 
+-- It has.
+abbrev pub IsWhole : WalkNow → Type 0
+IsWhole w = (w.next ≡ next.Instruction) × (w.around.items ≡ []) × (w.rest.now ≡ [])
+
+-- ---- elements
+
 abbrev pub IsElement : NextNow → SequelNow → Type 0
 IsElement n s = n ≡ next.Element s
+
+-- The innermost segment is an element of this sequence.
+abbrev pub IsLast : WalkNow → SequelNow → Type 0
+IsLast w s = (ws : List Waiting) (f : Waiting) → map frame_of w.around.items ≡ ws ++ f ∷ [] → (f.inside ≡ in_sequence (sequel_of s)) × (f.number ≡ s.number)

@@ -14,7 +14,7 @@ ghost use Rattle.fast_dictionary.specs.Dictionary.{Dictionary, entry_of};
 ghost use Rattle.fast_wire.specs.Reading.{entity_at};
 ghost use Rattle.fast_field.specs.Faults.{field_fault};
 ghost use Rattle.fast_field.specs.FieldReading.{field_at, part_at, units_at};
-ghost use Rattle.fast_walk.specs.Lacks.{AreUnstopped, IsFirst, IsLacking, IsNextPart, IsUnitKind, IsVectorKind, Lacks, WalkLacks, WantsByte, count_at, first_limit as first_limit_of, sends, sends_two as sends_two_of, sends_units as sends_units_of};
+ghost use Rattle.fast_walk.specs.Lacks.{AreUnstopped, IsFirst, IsNextPart, IsUnitKind, IsVectorKind, Lacks, WalkLacks, Wants, WantsBehind, WantsByte, count_at, first_limit as first_limit_of, sends, sends_two as sends_two_of, sends_units as sends_units_of};
 
 use crate::bits::first_for;
 use crate::traversal::{Stage, Traversal};
@@ -174,8 +174,7 @@ fn units_lack(
     presence: Presence,
     bytes: &[u8],
 ) -> Option<Lack>
-    ensures lacks { IfSome result (λ l. IsVectorKind kind × ((more : List ℕ) → IsLacking l more
-        → units_at level kind presence (bytes.now ++ more) ≡ Err FieldFault.NeedMore)) }
+    ensures lacks { IfSome result (λ l. IsVectorKind kind × Wants (units_at level kind presence) FieldFault.NeedMore bytes.now l) }
     ensures number { IfSome result (λ l. l.number ≡ number) }
 {
     match kind {
@@ -202,8 +201,7 @@ fn sends_units(operator: Operator, bit: bool) -> bool
 // What a field lacks whose first entity has come.
 #[tactic(auto, using(crate::proofs::Lacking::field_waits))]
 fn rest_lack(level: Level, part: &FieldPart, bit: bool, bytes: &[u8]) -> Option<Lack>
-    ensures lacks { IfSome result (λ l. (e : Entry) (more : List ℕ) → IsLacking l more
-        → field_at level part.now e bit (bytes.now ++ more) ≡ Err FieldFault.NeedMore) }
+    ensures lacks { IfSome result (λ l. (e : Entry) → Wants (field_at level part.now e bit) FieldFault.NeedMore bytes.now l) }
     ensures number { IfSome result (λ l. l.number ≡ part.now.number) }
 {
     if sends_units(part.operator, bit) {
@@ -216,8 +214,7 @@ fn rest_lack(level: Level, part: &FieldPart, bit: bool, bytes: &[u8]) -> Option<
 // What characters lack that stand behind a removal.
 #[inline(always)]
 fn new_text_lack(number: u32, bytes: &[u8]) -> Option<Lack>
-    ensures lacks { IfSome result (λ l. (entity rest : List ℕ) × (entity_at 10 bytes.now ≡ Ok (entity, rest))
-        × ((more : List ℕ) → IsLacking l more → entity_at 65540 (rest ++ more) ≡ Err WireFault.NeedMore)) }
+    ensures lacks { IfSome result (WantsBehind (entity_at 65540) WireFault.NeedMore bytes.now) }
     ensures number { IfSome result (λ l. l.number ≡ number) }
 {
     match entity_end(bytes, 0, NUMBER_LIMIT) {
@@ -229,8 +226,7 @@ fn new_text_lack(number: u32, bytes: &[u8]) -> Option<Lack>
 // What a vector lacks that stands behind a removal.
 fn new_vector_lack(level: Level, number: u32, kind: Kind, bytes: &[u8]) -> Option<Lack>
     requires vector { IsVectorKind kind }
-    ensures lacks { IfSome result (λ l. (entity rest : List ℕ) × (entity_at 10 bytes.now ≡ Ok (entity, rest))
-        × ((more : List ℕ) → IsLacking l more → part_at level kind (rest ++ more) ≡ Err FieldFault.NeedMore)) }
+    ensures lacks { IfSome result (WantsBehind (part_at level kind) FieldFault.NeedMore bytes.now) }
     ensures number { IfSome result (λ l. l.number ≡ number) }
 {
     match entity_end(bytes, 0, NUMBER_LIMIT) {
@@ -249,8 +245,7 @@ fn new_vector_lack(level: Level, number: u32, kind: Kind, bytes: &[u8]) -> Optio
 #[inline(always)]
 fn new_part_lack(level: Level, part: &FieldPart, bytes: &[u8]) -> Option<Lack>
     ensures delta { IfSome result (λ l. (part.now.operator ≡ Operator.Delta) × IsUnitKind part.now.kind) }
-    ensures lacks { IfSome result (λ l. (entity rest : List ℕ) × (entity_at 10 bytes.now ≡ Ok (entity, rest))
-        × ((more : List ℕ) → IsLacking l more → part_at level part.now.kind (rest ++ more) ≡ Err FieldFault.NeedMore)) }
+    ensures lacks { IfSome result (WantsBehind (part_at level part.now.kind) FieldFault.NeedMore bytes.now) }
     ensures number { IfSome result (λ l. l.number ≡ part.now.number) }
 {
     match part.operator {
@@ -278,8 +273,7 @@ fn sends_two(operator: Operator, bit: bool) -> bool
 #[inline(always)]
 fn mantissa_lack(part: &FieldPart, bit: bool, bytes: &[u8]) -> Option<Lack>
     ensures decimal { IfSome result (λ l. (sends_two_of part.now.operator bit ≡ true) × (part.now.kind ≡ Kind.Decimal)) }
-    ensures lacks { IfSome result (λ l. (entity rest : List ℕ) × (entity_at 10 bytes.now ≡ Ok (entity, rest))
-        × ((more : List ℕ) → IsLacking l more → entity_at 10 (rest ++ more) ≡ Err WireFault.NeedMore)) }
+    ensures lacks { IfSome result (WantsBehind (entity_at 10) WireFault.NeedMore bytes.now) }
     ensures number { IfSome result (λ l. l.number ≡ part.now.number) }
 {
     match part.kind {
@@ -325,8 +319,7 @@ fn decimal_lack(
     bit: bool,
     bytes: &[u8],
 ) -> Option<Lack>
-    ensures lacks { IfSome result (λ l. (more : List ℕ) → IsLacking l more
-        → field_at level part.now (entry_of kept.entry) bit (bytes.now ++ more) ≡ Err FieldFault.NeedMore) }
+    ensures lacks { IfSome result (Wants (field_at level part.now (entry_of kept.entry) bit) FieldFault.NeedMore bytes.now) }
     ensures number { IfSome result (λ l. l.number ≡ part.now.number) }
 {
     match mantissa_lack(part, bit, bytes) {
@@ -352,8 +345,7 @@ fn unit_delta_lack(
     bit: bool,
     bytes: &[u8],
 ) -> Option<Lack>
-    ensures lacks { IfSome result (λ l. (more : List ℕ) → IsLacking l more
-        → field_at level part.now (entry_of kept.entry) bit (bytes.now ++ more) ≡ Err FieldFault.NeedMore) }
+    ensures lacks { IfSome result (Wants (field_at level part.now (entry_of kept.entry) bit) FieldFault.NeedMore bytes.now) }
     ensures number { IfSome result (λ l. l.number ≡ part.now.number) }
 {
     match new_part_lack(level, part, bytes) {
@@ -378,8 +370,7 @@ fn delta_lack(
     bit: bool,
     bytes: &[u8],
 ) -> Option<Lack>
-    ensures lacks { IfSome result (λ l. (more : List ℕ) → IsLacking l more
-        → field_at level part.now (entry_of kept.entry) bit (bytes.now ++ more) ≡ Err FieldFault.NeedMore) }
+    ensures lacks { IfSome result (Wants (field_at level part.now (entry_of kept.entry) bit) FieldFault.NeedMore bytes.now) }
     ensures number { IfSome result (λ l. l.number ≡ part.now.number) }
 {
     match part.kind {
@@ -397,8 +388,7 @@ fn second_lack(
     bit: bool,
     bytes: &[u8],
 ) -> Option<Lack>
-    ensures lacks { IfSome result (λ l. (more : List ℕ) → IsLacking l more
-        → field_at level part.now (entry_of kept.entry) bit (bytes.now ++ more) ≡ Err FieldFault.NeedMore) }
+    ensures lacks { IfSome result (Wants (field_at level part.now (entry_of kept.entry) bit) FieldFault.NeedMore bytes.now) }
     ensures number { IfSome result (λ l. l.number ≡ part.now.number) }
 {
     // (the operators that are met most often are looked at one by one)
@@ -414,8 +404,7 @@ fn second_lack(
 
 /// What a field lacks, of which these bytes have come.
 pub(crate) fn field_lack(level: Level, part: &FieldPart, bit: bool, bytes: &[u8]) -> Option<Lack>
-    ensures lacks { IfSome result (λ l. (e : Entry) (more : List ℕ) → IsLacking l more
-        → field_at level part.now e bit (bytes.now ++ more) ≡ Err FieldFault.NeedMore) }
+    ensures lacks { IfSome result (λ l. (e : Entry) → Wants (field_at level part.now e bit) FieldFault.NeedMore bytes.now l) }
     ensures number { IfSome result (λ l. l.number ≡ part.now.number) }
 {
     if !is_sent(part.operator, bit) {

@@ -1,6 +1,6 @@
 //! What receives the fields of a message.
 
-ghost use Rattle.std.specs.Prelude.{◌≡◌, ◌≢◌, ◌≤◌, ◌<◌, ◌++◌, ◌∷◌, [], ℕ, ℤ, Bool, true, false, List, Option, Some, None, IsSome, IfOk, IfErr, OnOk, OnErr, IsTrue, Err, length, drop};
+ghost use Rattle.std.specs.Prelude.{◌≡◌, ◌≢◌, ◌≤◌, ◌<◌, ◌++◌, ◌∷◌, [], ℕ, ℤ, Bool, true, false, List, Option, Some, None, IsSome, IfOk, IfErr, OnOk, OnErr, IsTrue, length, drop};
 ghost use Rattle.fast_value.specs.declared.scalar.Scalar.{Scalar as ScalarOf};
 ghost use Rattle.fast_value.specs.declared.scalar.Scalar.TheVariants.{U32, I64, Decimal};
 ghost use Rattle.fast_template.specs.declared.resolved.FieldPart.{FieldPart as PartOf};
@@ -9,16 +9,16 @@ ghost use Rattle.fast_value.specs.declared.kind.Presence.TheVariants.{Mandatory}
 ghost use Rattle.fast_value.specs.declared.kind.Part.TheVariants.{Whole, Exponent, Mantissa, Length};
 ghost use Rattle.fast_value.specs.declared.kind.Kind.TheVariants.{Int32, Int64, UInt32};
 ghost use Rattle.fast_template.specs.Resolved.{Instructions, Resolved, list_of, whole_field, field_in_parts, group_of, sequence_of, no_instructions, then_instruction, has_map, is_optional, part_needs_bit};
-ghost use Rattle.fast_dictionary.specs.Dictionary.{Dictionary, entry_at};
-ghost use Rattle.fast_field.specs.FieldReading.{field_at};
-ghost use Rattle.fast_stream.specs.Nodes.{single, items_of, nodes_in, node_limit, Content};
-ghost use Rattle.fast_stream.specs.Streams.{identifier as identifier_part, members_of};
+ghost use Rattle.fast_dictionary.specs.Dictionary.{Dictionary};
+ghost use Rattle.fast_stream.specs.Nodes.{single, Content};
+ghost use Rattle.fast_stream.specs.Streams.{identifier as identifier_part};
 ghost use Rattle.fast_walk.specs.OpenSegments.{Sequel, Waiting, at_instruction, at_mantissa, at_element, in_group, in_sequence};
-ghost use Rattle.fast_walk.specs.Received.{Received, Took, IsExponent, after_exponent, after_length, after_sequence, content_received, ended_in, entered, in_element, in_next, length_of, opened, passed};
+ghost use Rattle.fast_walk.specs.Received.{Received, Carries, CarriesOpen, Completes, Faults, Took, IsExponent, after_exponent, after_length, after_sequence, ended_in, entered, in_element, in_next, length_of, opened, passed};
 ghost use Rattle.fast_walk.specs.Walks.{AreServed, IsNextServed};
 ghost use Rattle.fast_walk.specs.Told.{IsTold, KeepScalars};
 ghost use Rattle.fast_stream.specs.Bits.{after_bit, bit_for};
 ghost use Rattle.fast_wire.specs.Sizes.{CanBeMap};
+ghost use Rattle.fast_walk.specs.Room.{CarriesRoom, HasRoomBehind, HasRoomInside, HasRoomOutside};
 ghost use Rattle.fast_walk.specs.Passing.{Passes, next_behind};
 
 use fast_dictionary::Entries;
@@ -85,34 +85,23 @@ pub trait Receiver: Drop {
             → has self.new (opened set ms x.0 members (E.contents entries.old)) (E.contents
             entries.new))) }
         ensures stops { IfErr result (λ f. f ≢ FieldFault.Memory
-            → (field_at level identifier.now (entry_at (E.contents entries.old) identifier.now.key) bit
-            (drop at bytes.now)
-            ≡ Err f) × (E.contents entries.new ≡ E.contents entries.old)
-            × ((set : List Resolved) (ms : List Content) (d : Dictionary)
-            → stands self.old set ms d → stands self.new set ms d)) }
+            → Faults level identifier.now bit (E.contents entries.old) (E.contents entries.new) (drop at bytes.now) f
+            (Carries (stands self.old) (stands self.new))) }
         ensures room { IfOk result (λ x. (b : List Bool) → bit ≡ bit_for (part_needs_bit identifier.now) b
             → CanBeMap b → IsTrue (room self.new [] (after_bit (part_needs_bit identifier.now) b))) }
-        ensures keeps { (set : List Resolved) (ms : List Content) (d : Dictionary)
-            → stands self.old set ms d → keeps self.new set ms d }
+        ensures keeps { Carries (stands self.old) (keeps self.new) }
         ensures same_keys { E.serves entries.new ≡ E.serves entries.old };
 
     /// The end of a message.
     fn finish(&mut self, alloc: Global) -> Result<(), AllocError>
         requires room { (b : List Bool) × IsTrue (room self.now [] b) }
-        ensures stands { OnOk result ((o : Received) (d : Dictionary) → o.next ≡ at_instruction
-            → o.body.rest ≡ no_instructions → o.around ≡ [] → members_of o.set o.template
-            ≡ Some o.members
-            → nodes_in (items_of o.body.done) ≤ node_limit → has self.old o d
-            → stands self.new o.set (o.before ++ content_received o ∷ []) d) }
-        ensures keeps { OnErr result ((set : List Resolved) (ms : List Content) (d : Dictionary)
-            → keeps self.old set ms d → keeps self.new set ms d) };
+        ensures stands { OnOk result (Completes (has self.old) (stands self.new)) }
+        ensures keeps { OnErr result (Carries (keeps self.old) (keeps self.new)) };
 
     /// Forgets what was received of the message that is open.
     fn back(&mut self, alloc: Global)
-        ensures open { (set : List Resolved) (ms : List Content) (d : Dictionary)
-            → keeps self.old set ms d → stands self.new set ms d }
-        ensures between { (set : List Resolved) (ms : List Content) (d : Dictionary)
-            → stands self.old set ms d → stands self.new set ms d };
+        ensures open { Carries (keeps self.old) (stands self.new) }
+        ensures between { Carries (stands self.old) (stands self.new) };
 
     /// Takes a field of this name from the bytes, and puts its entry; answers the place behind it.
     fn field<E: Entries>(
@@ -143,17 +132,11 @@ pub trait Receiver: Drop {
             → has self.old o (E.contents entries.old)
             → has self.new (passed o is (single v)) (E.contents entries.new))) }
         ensures stops { IfErr result (λ f. f ≢ FieldFault.Memory
-            → (field_at level part.now (entry_at (E.contents entries.old) part.now.key) bit (drop at
-            bytes.now) ≡ Err f)
-            × (E.contents entries.new ≡ E.contents entries.old)
-            × ((o : Received) (d : Dictionary) → has self.old o d → has self.new o d)) }
-        ensures room { OnOk result ((around : List (List Bool)) (b : List Bool)
-            → bit ≡ bit_for (part_needs_bit part.now) b → IsTrue (room self.old around b)
-            → IsTrue (room self.new around (after_bit (part_needs_bit part.now) b))) }
-        ensures room_on { IfErr result (λ f. f ≢ FieldFault.Memory → (around : List (List Bool)) (b : List Bool)
-            → IsTrue (room self.old around b) → IsTrue (room self.new around b)) }
-        ensures keeps { (set : List Resolved) (ms : List Content) (d : Dictionary)
-            → keeps self.old set ms d → keeps self.new set ms d }
+            → Faults level part.now bit (E.contents entries.old) (E.contents entries.new) (drop at bytes.now) f
+            (CarriesOpen (has self.old) (has self.new))) }
+        ensures room { OnOk result (HasRoomBehind bit part.now (room self.old) (room self.new)) }
+        ensures room_on { IfErr result (λ f. f ≢ FieldFault.Memory → CarriesRoom (room self.old) (room self.new)) }
+        ensures keeps { Carries (keeps self.old) (keeps self.new) }
         ensures same_keys { E.serves entries.new ≡ E.serves entries.old };
 
     /// Takes fields from the front of the open body, with their bits and nodes: as many as it likes, and none by itself.
@@ -185,8 +168,7 @@ pub trait Receiver: Drop {
         ensures kept { OnOk result (KeepScalars (E.contents entries.new)) }
         ensures room { OnOk result ((around : List (List Bool)) → IsTrue (room self.old around bits.old)
             → IsTrue (room self.new around bits.new)) }
-        ensures keeps { (set : List Resolved) (ms : List Content) (d : Dictionary)
-            → keeps self.old set ms d → keeps self.new set ms d }
+        ensures keeps { Carries (keeps self.old) (keeps self.new) }
         ensures same_keys { E.serves entries.new ≡ E.serves entries.old }
     {
         Ok(Fields {
@@ -228,17 +210,11 @@ pub trait Receiver: Drop {
             → has self.old o (E.contents entries.old)
             → has self.new (after_exponent o is mantissa v) (E.contents entries.new))) }
         ensures stops { IfErr result (λ f. f ≢ FieldFault.Memory
-            → (field_at level part.now (entry_at (E.contents entries.old) part.now.key) bit (drop at
-            bytes.now) ≡ Err f)
-            × (E.contents entries.new ≡ E.contents entries.old)
-            × ((o : Received) (d : Dictionary) → has self.old o d → has self.new o d)) }
-        ensures room { OnOk result ((around : List (List Bool)) (b : List Bool)
-            → bit ≡ bit_for (part_needs_bit part.now) b → IsTrue (room self.old around b)
-            → IsTrue (room self.new around (after_bit (part_needs_bit part.now) b))) }
-        ensures room_on { IfErr result (λ f. f ≢ FieldFault.Memory → (around : List (List Bool)) (b : List Bool)
-            → IsTrue (room self.old around b) → IsTrue (room self.new around b)) }
-        ensures keeps { (set : List Resolved) (ms : List Content) (d : Dictionary)
-            → keeps self.old set ms d → keeps self.new set ms d }
+            → Faults level part.now bit (E.contents entries.old) (E.contents entries.new) (drop at bytes.now) f
+            (CarriesOpen (has self.old) (has self.new))) }
+        ensures room { OnOk result (HasRoomBehind bit part.now (room self.old) (room self.new)) }
+        ensures room_on { IfErr result (λ f. f ≢ FieldFault.Memory → CarriesRoom (room self.old) (room self.new)) }
+        ensures keeps { Carries (keeps self.old) (keeps self.new) }
         ensures same_keys { E.serves entries.new ≡ E.serves entries.old };
 
     /// Takes the mantissa of a decimal whose exponent is there; answers the place behind it.
@@ -264,20 +240,13 @@ pub trait Receiver: Drop {
             (drop at bytes.now) (drop n bytes.now)
             × ((e : ℤ) (o : Received) → o.next ≡ at_mantissa e part.now
             → has self.old o (E.contents entries.old)
-            → has self.new (passed o o.body.rest (single (Some (Decimal e m)))) (E.contents
-            entries.new))) }
+            → has self.new (passed o o.body.rest (single (Some (Decimal e m)))) (E.contents entries.new))) }
         ensures stops { IfErr result (λ f. f ≢ FieldFault.Memory
-            → (field_at level part.now (entry_at (E.contents entries.old) part.now.key) bit (drop at
-            bytes.now) ≡ Err f)
-            × (E.contents entries.new ≡ E.contents entries.old)
-            × ((o : Received) (d : Dictionary) → has self.old o d → has self.new o d)) }
-        ensures room { OnOk result ((around : List (List Bool)) (b : List Bool)
-            → bit ≡ bit_for (part_needs_bit part.now) b → IsTrue (room self.old around b)
-            → IsTrue (room self.new around (after_bit (part_needs_bit part.now) b))) }
-        ensures room_on { IfErr result (λ f. f ≢ FieldFault.Memory → (around : List (List Bool)) (b : List Bool)
-            → IsTrue (room self.old around b) → IsTrue (room self.new around b)) }
-        ensures keeps { (set : List Resolved) (ms : List Content) (d : Dictionary)
-            → keeps self.old set ms d → keeps self.new set ms d }
+            → Faults level part.now bit (E.contents entries.old) (E.contents entries.new) (drop at bytes.now) f
+            (CarriesOpen (has self.old) (has self.new))) }
+        ensures room { OnOk result (HasRoomBehind bit part.now (room self.old) (room self.new)) }
+        ensures room_on { IfErr result (λ f. f ≢ FieldFault.Memory → CarriesRoom (room self.old) (room self.new)) }
+        ensures keeps { Carries (keeps self.old) (keeps self.new) }
         ensures same_keys { E.serves entries.new ≡ E.serves entries.old };
 
     /// Takes the length of a sequence; answers it, none where the sequence is absent, and the place behind it.
@@ -310,17 +279,11 @@ pub trait Receiver: Drop {
             → has self.old o (E.contents entries.old)
             → has self.new (after_length o number members is x.0) (E.contents entries.new))) }
         ensures stops { IfErr result (λ f. f ≢ FieldFault.Memory
-            → (field_at level part.now (entry_at (E.contents entries.old) part.now.key) bit (drop at
-            bytes.now) ≡ Err f)
-            × (E.contents entries.new ≡ E.contents entries.old)
-            × ((o : Received) (d : Dictionary) → has self.old o d → has self.new o d)) }
-        ensures room { OnOk result ((around : List (List Bool)) (b : List Bool)
-            → bit ≡ bit_for (part_needs_bit part.now) b → IsTrue (room self.old around b)
-            → IsTrue (room self.new around (after_bit (part_needs_bit part.now) b))) }
-        ensures room_on { IfErr result (λ f. f ≢ FieldFault.Memory → (around : List (List Bool)) (b : List Bool)
-            → IsTrue (room self.old around b) → IsTrue (room self.new around b)) }
-        ensures keeps { (set : List Resolved) (ms : List Content) (d : Dictionary)
-            → keeps self.old set ms d → keeps self.new set ms d }
+            → Faults level part.now bit (E.contents entries.old) (E.contents entries.new) (drop at bytes.now) f
+            (CarriesOpen (has self.old) (has self.new))) }
+        ensures room { OnOk result (HasRoomBehind bit part.now (room self.old) (room self.new)) }
+        ensures room_on { IfErr result (λ f. f ≢ FieldFault.Memory → CarriesRoom (room self.old) (room self.new)) }
+        ensures keeps { Carries (keeps self.old) (keeps self.new) }
         ensures same_keys { E.serves entries.new ≡ E.serves entries.old };
 
     /// A group that is left out.
@@ -333,8 +296,7 @@ pub trait Receiver: Drop {
         ensures room { OnOk result ((around : List (List Bool)) (optional : Bool) (b : List Bool)
             → bit_for optional b ≡ false → IsTrue (room self.old around b)
             → IsTrue (room self.new around (after_bit optional b))) }
-        ensures keeps { (set : List Resolved) (ms : List Content) (d : Dictionary)
-            → keeps self.old set ms d → keeps self.new set ms d };
+        ensures keeps { Carries (keeps self.old) (keeps self.new) };
 
     /// The beginning of a group, whether it is optional and has a map of its own, and how many instructions it has.
     fn enter(
@@ -353,21 +315,17 @@ pub trait Receiver: Drop {
         ensures room { OnOk result ((around : List (List Bool)) (b bits : List Bool)
             → bit_for optional b ≡ true → CanBeMap bits → IsTrue (room self.old around b)
             → IsTrue (room self.new (around ++ after_bit optional b ∷ []) bits)) }
-        ensures keeps { (set : List Resolved) (ms : List Content) (d : Dictionary)
-            → keeps self.old set ms d → keeps self.new set ms d };
+        ensures keeps { Carries (keeps self.old) (keeps self.new) };
 
     /// The end of a group.
     fn leave(&mut self, alloc: Global) -> Result<(), AllocError>
-        requires room { (around : List (List Bool)) × (b : List Bool) × (bits : List Bool)
-            × IsTrue (room self.now (around ++ b ∷ []) bits) }
+        requires room { HasRoomInside (room self.now) }
         ensures has { OnOk result ((o : Received) (d : Dictionary) (ws : List Waiting) (w : Waiting)
             → o.next ≡ at_instruction → o.body.rest ≡ no_instructions → o.around ≡ ws ++ w ∷ []
             → w.inside ≡ in_group → has self.old o d
             → has self.new (ended_in o ws w.body in_group) d) }
-        ensures room { OnOk result ((around : List (List Bool)) (b bits : List Bool)
-            → IsTrue (room self.old (around ++ b ∷ []) bits) → IsTrue (room self.new around b)) }
-        ensures keeps { (set : List Resolved) (ms : List Content) (d : Dictionary)
-            → keeps self.old set ms d → keeps self.new set ms d };
+        ensures room { OnOk result (HasRoomOutside (room self.old) (room self.new)) }
+        ensures keeps { Carries (keeps self.old) (keeps self.new) };
 
     /// The beginning of an element, whether it has a map of its own, and how many instructions it has.
     fn enter_element(&mut self, alloc: Global, own_map: bool, size: usize) -> Result<(), AllocError>
@@ -377,28 +335,23 @@ pub trait Receiver: Drop {
         ensures room { OnOk result ((around : List (List Bool)) (b bits : List Bool)
             → CanBeMap bits → IsTrue (room self.old around b)
             → IsTrue (room self.new (around ++ b ∷ []) bits)) }
-        ensures keeps { (set : List Resolved) (ms : List Content) (d : Dictionary)
-            → keeps self.old set ms d → keeps self.new set ms d };
+        ensures keeps { Carries (keeps self.old) (keeps self.new) };
 
     /// The end of an element.
     fn leave_element(&mut self, alloc: Global) -> Result<(), AllocError>
-        requires room { (around : List (List Bool)) × (b : List Bool) × (bits : List Bool)
-            × IsTrue (room self.now (around ++ b ∷ []) bits) }
+        requires room { HasRoomInside (room self.now) }
         ensures has { OnOk result ((o : Received) (d : Dictionary) (ws : List Waiting) (w :
             Waiting) (s : Sequel)
             → o.next ≡ at_instruction → o.body.rest ≡ no_instructions → o.around ≡ ws ++ w ∷ []
             → w.inside ≡ in_sequence s → has self.old o d
             → has self.new (ended_in o ws w.body (in_sequence s)) d) }
-        ensures room { OnOk result ((around : List (List Bool)) (b bits : List Bool)
-            → IsTrue (room self.old (around ++ b ∷ []) bits) → IsTrue (room self.new around b)) }
-        ensures keeps { (set : List Resolved) (ms : List Content) (d : Dictionary)
-            → keeps self.old set ms d → keeps self.new set ms d };
+        ensures room { OnOk result (HasRoomOutside (room self.old) (room self.new)) }
+        ensures keeps { Carries (keeps self.old) (keeps self.new) };
 
     /// The end of an element and the beginning of the next one of its sequence, whether that has a map of its own, and how
     /// many instructions it has.
     fn next_element(&mut self, alloc: Global, own_map: bool, size: usize) -> Result<(), AllocError>
-        requires room { (around : List (List Bool)) × (b : List Bool) × (bits : List Bool)
-            × IsTrue (room self.now (around ++ b ∷ []) bits) }
+        requires room { HasRoomInside (room self.now) }
         ensures has { OnOk result ((o : Received) (d : Dictionary) (ws : List Waiting) (w :
             Waiting) (s : Sequel) (bits : List Bool)
             → o.next ≡ at_instruction → o.body.rest ≡ no_instructions → o.around ≡ ws ++ w ∷ []
@@ -407,8 +360,7 @@ pub trait Receiver: Drop {
         ensures room { OnOk result ((around : List (List Bool)) (b bits later : List Bool)
             → CanBeMap later → IsTrue (room self.old (around ++ b ∷ []) bits)
             → IsTrue (room self.new (around ++ b ∷ []) later)) }
-        ensures keeps { (set : List Resolved) (ms : List Content) (d : Dictionary)
-            → keeps self.old set ms d → keeps self.new set ms d }
+        ensures keeps { Carries (keeps self.old) (keeps self.new) }
     {
         self.leave_element(alloc)?;
         self.enter_element(alloc, own_map, size)?;
@@ -420,8 +372,6 @@ pub trait Receiver: Drop {
         ensures has { OnOk result ((o : Received) (d : Dictionary) (s : Sequel)
             → o.next ≡ at_element s → s.left ≡ 0 → has self.old o d
             → has self.new (after_sequence o s) d) }
-        ensures room { OnOk result ((around : List (List Bool)) (b : List Bool)
-            → IsTrue (room self.old around b) → IsTrue (room self.new around b)) }
-        ensures keeps { (set : List Resolved) (ms : List Content) (d : Dictionary)
-            → keeps self.old set ms d → keeps self.new set ms d };
+        ensures room { OnOk result (CarriesRoom (room self.old) (room self.new)) }
+        ensures keeps { Carries (keeps self.old) (keeps self.new) };
 }

@@ -1,15 +1,14 @@
 //! The one traversal of a stream, message by message.
 
-ghost use Rattle.std.specs.Prelude.{◌≡◌, ◌≢◌, ◌≤◌, ◌<◌, ◌+◌, ◌++◌, ◌∷◌, [], ℕ, true, List, OnErr, IfOk, IfErr, OnOk, Some, Ok, Err, ◌⊎◌, length, drop};
-ghost use Rattle.fast_template.specs.Resolved.{Resolved, no_instructions};
+ghost use Rattle.std.specs.Prelude.{◌≡◌, ◌≢◌, ◌≤◌, ◌<◌, ◌+◌, ◌++◌, [], ℕ, true, List, OnErr, IfOk, IfErr, OnOk, Some, Ok, Err, length, drop};
+ghost use Rattle.fast_template.specs.Resolved.{Resolved};
 ghost use Rattle.fast_template.specs.TemplateSets.{IsSound, templates_in};
 ghost use Rattle.fast_dictionary.specs.Dictionary.{Dictionary};
-ghost use Rattle.fast_stream.specs.Nodes.{Content, items_of, nodes_in, node_limit};
-ghost use Rattle.fast_stream.specs.Streams.{identifier as identifier_part, members_of};
+ghost use Rattle.fast_stream.specs.Nodes.{node_limit};
+ghost use Rattle.fast_stream.specs.Streams.{identifier as identifier_part};
 ghost use Rattle.fast_stream.specs.Reading.{message_at};
 ghost use Rattle.fast_wire.specs.Level.{IsLeftClear, some_set};
-ghost use Rattle.fast_walk.specs.OpenSegments.{Reading, at_instruction};
-ghost use Rattle.fast_walk.specs.Received.{Received, content_received};
+ghost use Rattle.fast_walk.specs.Received.{Carries, Completes};
 ghost use Rattle.fast_walk.specs.Told.{KeepScalars};
 ghost use Rattle.fast_walk.specs.Room.{HasRoom, HasRoomAt};
 ghost use Rattle.fast_wire.specs.Sizes.{CanBeMap};
@@ -55,7 +54,7 @@ pub struct Traversal<'a> {
 }
 
 impl<'a> Traversal<'a> {
-    ghost use Rattle.fast_walk.specs.Traversals.{CanGoOn, Continues, IsOpen, ServesAll, begun_of, identifier_on, stop_of};
+    ghost use Rattle.fast_walk.specs.Traversals.{CanGoOn, Continues, Finishes, IsOpen, KeepsBefore, LeavesOn, LeftOf, Opens, ServesAll, StopsAt, begun_of, identifier_on, stop_of};
 
     /// At the beginning of a stream. Takes no memory.
     pub fn new(alloc: Global, set: &'a TemplateSet, level: Level) -> Traversal<'a>
@@ -176,18 +175,12 @@ impl<'a> Traversal<'a> {
         requires kept { KeepScalars (E.contents entries.now) }
         requires room { CanBeMap self.now.walk.bits }
         ensures place { IfOk result (λ n. (at ≤ n) × (n ≤ length bytes.now)) }
-        ensures goes { IfOk result (λ n. (before : List Content)
-            → R.stands receiver.old (templates_in self.old.set.now) before (E.contents entries.old)
-            → (later : List ℕ → Reading)
-            × IsOpen R.has R.keeps self.new receiver.new (templates_in self.old.set.now)
-            (E.contents entries.new)
-            before (E.contents entries.old) later
-            × ((more : List ℕ) → identifier_on self.old.level (templates_in self.old.set.now) (E.contents
-            entries.old)
-            self.old.walk.bits (drop at bytes.now ++ more) ≡ later (drop n bytes.now ++ more))) }
+        ensures goes { IfOk result (λ n. Opens R.has R.stands R.keeps receiver.old (E.contents entries.old)
+            self.new receiver.new (E.contents entries.new) (templates_in self.old.set.now)
+            (identifier_on self.old.level (templates_in self.old.set.now) (E.contents entries.old) self.old.walk.bits)
+            (drop at bytes.now) (drop n bytes.now)) }
         ensures stops { IfErr result (λ h. h.cause ≢ Cause.Memory
-            → identifier_on self.old.level (templates_in self.old.set.now) (E.contents entries.old)
-            self.old.walk.bits
+            → identifier_on self.old.level (templates_in self.old.set.now) (E.contents entries.old) self.old.walk.bits
             (drop at bytes.now) ≡ Err (stop_of 0 h (drop at bytes.now))) }
         ensures stage { OnOk result (self.new.stage ≡ Stage.Body) }
         ensures ready { OnOk result (CanGoOn (E.serves entries.old) self.new) }
@@ -195,12 +188,9 @@ impl<'a> Traversal<'a> {
         ensures room { OnOk result (HasRoom (R.room receiver.new) self.new.walk) }
         ensures waits { IfErr result (λ h. h.cause ≡ Cause.Truncated → (self.new ≡ self.old)
             × (E.contents entries.new ≡ E.contents entries.old)
-            × ((set : List Resolved) (ms : List Content) (d : Dictionary)
-            → R.stands receiver.old set ms d
-            → R.stands receiver.new set ms d)) }
+            × Carries (R.stands receiver.old) (R.stands receiver.new)) }
         ensures template { OnErr result (self.new.template ≡ 0) }
-        ensures keeps { (set : List Resolved) (ms : List Content) (d : Dictionary)
-            → R.stands receiver.old set ms d → R.keeps receiver.new set ms d }
+        ensures keeps { Carries (R.stands receiver.old) (R.keeps receiver.new) }
         ensures set { self.new.set ≡ self.old.set }
         ensures level { self.new.level ≡ self.old.level }
         ensures same_keys { E.serves entries.new ≡ E.serves entries.old }
@@ -229,19 +219,14 @@ impl<'a> Traversal<'a> {
         requires whole { self.now.walk.around.items ≡ [] }
         requires room { HasRoom (R.room receiver.now) self.now.walk }
         ensures clear { OnOk result (IsLeftClear self.old.level self.old.walk.bits) }
-        ensures stands { OnOk result ((o : Received) (d : Dictionary) → o.next ≡ at_instruction
-            → o.body.rest ≡ no_instructions → o.around ≡ [] → members_of o.set o.template
-            ≡ Some o.members
-            → nodes_in (items_of o.body.done) ≤ node_limit → R.has receiver.old o d
-            → R.stands receiver.new o.set (o.before ++ content_received o ∷ []) d) }
+        ensures stands { OnOk result (Completes (R.has receiver.old) (R.stands receiver.new)) }
         ensures between { OnOk result ((self.new.stage ≡ Stage.Map) × (self.new.template ≡ 0)) }
         ensures refused { IfErr result (λ h. h.cause ≢ Cause.Memory
             → (self.old.level ≡ Level.Strict) × (h.cause ≡ Cause.R8) × (h.number ≡ 0)
             × (some_set self.old.walk.bits ≡ true) × (receiver.new ≡ receiver.old)) }
         ensures waits { OnErr result ((self.new.stage ≡ self.old.stage)
             × (self.new.template ≡ self.old.template) × (self.new.walk ≡ self.old.walk)) }
-        ensures keeps { OnErr result ((set : List Resolved) (ms : List Content) (d : Dictionary)
-            → R.keeps receiver.old set ms d → R.keeps receiver.new set ms d) }
+        ensures keeps { OnErr result (Carries (R.keeps receiver.old) (R.keeps receiver.new)) }
         ensures set { self.new.set ≡ self.old.set }
         ensures level { self.new.level ≡ self.old.level }
     {
@@ -268,47 +253,24 @@ impl<'a> Traversal<'a> {
         requires kept { KeepScalars (E.contents entries.now) }
         requires room { HasRoom (R.room receiver.now) self.now.walk }
         ensures place { IfOk result (λ n. (at ≤ n) × (n ≤ length bytes.now)) }
-        ensures goes { IfOk result (λ n. (set : List Resolved) (before : List Content) (start :
-            Dictionary)
-            (read : List ℕ → Reading)
-            → IsOpen R.has R.keeps self.old receiver.old set (E.contents entries.old) before start
-            read
-            → (m : Content)
-            × ((more : List ℕ) → read (drop at bytes.now ++ more)
-            ≡ Ok (m, E.contents entries.new, drop n bytes.now ++ more))
-            × (nodes_in m.items ≤ node_limit → R.stands receiver.new set (before
-            ++ m ∷ []) (E.contents entries.new))) }
+        ensures goes { IfOk result (λ n. (set : List Resolved) → Finishes (IsOpen R.has R.keeps self.old receiver.old set (E.contents entries.old))
+            (R.stands receiver.new set) (E.contents entries.new) (drop at bytes.now) (drop n bytes.now)) }
         ensures between { OnOk result ((self.new.stage ≡ Stage.Map) × (self.new.template ≡ 0)) }
         ensures held_place { IfErr result (λ x. (at ≤ x.0) × (x.0 ≤ length bytes.now)) }
         ensures stops { IfErr result (λ x. (x.1).cause ≢ Cause.Memory
-            → (set : List Resolved) (before : List Content)
-            (start : Dictionary) (read : List ℕ → Reading)
-            → IsOpen R.has R.keeps self.old receiver.old set (E.contents entries.old) before start
-            read
-            → read (drop at bytes.now) ≡ Err (stop_of self.new.template x.1 (drop x.0 bytes.now))) }
+            → (set : List Resolved) → StopsAt (IsOpen R.has R.keeps self.old receiver.old set (E.contents entries.old))
+            self.new.template x.1 (drop at bytes.now) (drop x.0 bytes.now)) }
         ensures held { IfErr result (λ x. (x.1).cause ≢ Cause.Memory
-            → (set : List Resolved) (before : List Content)
-            (start : Dictionary) (read : List ℕ → Reading)
-            → IsOpen R.has R.keeps self.old receiver.old set (E.contents entries.old) before start
-            read
-            → (later : List ℕ → Reading)
-            × IsOpen R.has R.keeps self.new receiver.new set (E.contents entries.new) before start
-            later
-            × ((more : List ℕ) → read (drop at bytes.now ++ more) ≡ later (drop x.0 bytes.now
-            ++ more))) }
+            → (set : List Resolved) → LeavesOn (IsOpen R.has R.keeps self.old receiver.old set (E.contents entries.old))
+            (IsOpen R.has R.keeps self.new receiver.new set (E.contents entries.new)) (drop at bytes.now) (drop x.0 bytes.now)) }
         // few bytes are left where more are wanted
-        ensures few { IfErr result (λ x. (x.1).cause ≡ Cause.Truncated
-            → length bytes.now ≤ x.0 + 65554) }
-        ensures ready { IfErr result (λ x. (x.1).cause ≢ Cause.Memory
-            → CanGoOn (E.serves entries.new) self.new) }
+        ensures few { IfErr result (λ x. (x.1).cause ≡ Cause.Truncated → length bytes.now ≤ x.0 + 65554) }
+        ensures ready { IfErr result (λ x. (x.1).cause ≢ Cause.Memory → CanGoOn (E.serves entries.new) self.new) }
         ensures kept { OnOk result (KeepScalars (E.contents entries.new)) }
-        ensures kept_on { IfErr result (λ x. (x.1).cause ≢ Cause.Memory
-            → KeepScalars (E.contents entries.new)) }
-        ensures room { IfErr result (λ x. (x.1).cause ≢ Cause.Memory
-            → HasRoom (R.room receiver.new) self.new.walk) }
+        ensures kept_on { IfErr result (λ x. (x.1).cause ≢ Cause.Memory → KeepScalars (E.contents entries.new)) }
+        ensures room { IfErr result (λ x. (x.1).cause ≢ Cause.Memory → HasRoom (R.room receiver.new) self.new.walk) }
         ensures stage { OnErr result (self.new.stage ≡ Stage.Body) }
-        ensures keeps { OnErr result ((set : List Resolved) (ms : List Content) (d : Dictionary)
-            → R.keeps receiver.old set ms d → R.keeps receiver.new set ms d) }
+        ensures keeps { OnErr result (Carries (R.keeps receiver.old) (R.keeps receiver.new)) }
         ensures set { self.new.set ≡ self.old.set }
         ensures level { self.new.level ≡ self.old.level }
         ensures same_keys { E.serves entries.new ≡ E.serves entries.old }
@@ -338,54 +300,27 @@ impl<'a> Traversal<'a> {
         requires kept { KeepScalars (E.contents entries.now) }
         requires room { CanBeMap self.now.walk.bits }
         ensures place { IfOk result (λ n. (at ≤ n) × (n ≤ length bytes.now)) }
-        ensures goes { IfOk result (λ n. (before : List Content) (start : Dictionary) (read : List
-            ℕ → Reading)
-            → Continues R.has R.stands R.keeps self.old receiver.old (templates_in self.old.set.now)
-            (E.contents entries.old) before start read
-            → (m : Content)
-            × ((more : List ℕ) → read (drop at bytes.now ++ more)
-            ≡ Ok (m, E.contents entries.new, drop n bytes.now ++ more))
-            × (nodes_in m.items ≤ node_limit → R.stands receiver.new (templates_in self.old.set.now)
-            (before ++ m ∷ []) (E.contents entries.new))) }
+        ensures goes { IfOk result (λ n. Finishes (LeftOf R.has R.stands R.keeps self.old receiver.old (E.contents entries.old))
+            (R.stands receiver.new (templates_in self.old.set.now)) (E.contents entries.new) (drop at bytes.now) (drop n bytes.now)) }
         ensures between { OnOk result ((self.new.stage ≡ Stage.Map) × (self.new.template ≡ 0)) }
         ensures held_place { IfErr result (λ x. (at ≤ x.0) × (x.0 ≤ length bytes.now)) }
-        ensures stops { IfErr result (λ x. (x.1).cause ≢ Cause.Memory
-            → (before : List Content) (start : Dictionary)
-            (read : List ℕ → Reading)
-            → Continues R.has R.stands R.keeps self.old receiver.old (templates_in self.old.set.now)
-            (E.contents entries.old) before start read
-            → read (drop at bytes.now) ≡ Err (stop_of self.new.template x.1 (drop x.0 bytes.now))) }
-        ensures held { IfErr result (λ x. (x.1).cause ≡ Cause.Truncated
-            → (before : List Content) (start : Dictionary)
-            (read : List ℕ → Reading)
-            → Continues R.has R.stands R.keeps self.old receiver.old (templates_in self.old.set.now)
-            (E.contents entries.old) before start read
-            → (later : List ℕ → Reading)
-            × Continues R.has R.stands R.keeps self.new receiver.new (templates_in self.old.set.now)
-            (E.contents entries.new) before start later
-            × ((more : List ℕ) → read (drop at bytes.now ++ more) ≡ later (drop x.0 bytes.now
-            ++ more))) }
+        ensures stops { IfErr result (λ x. (x.1).cause ≢ Cause.Memory → StopsAt (LeftOf R.has R.stands R.keeps self.old receiver.old (E.contents entries.old))
+            self.new.template x.1 (drop at bytes.now) (drop x.0 bytes.now)) }
+        ensures held { IfErr result (λ x. (x.1).cause ≡ Cause.Truncated → LeavesOn (LeftOf R.has R.stands R.keeps self.old receiver.old (E.contents entries.old))
+            (Continues R.has R.stands R.keeps self.new receiver.new (templates_in self.old.set.now) (E.contents entries.new))
+            (drop at bytes.now) (drop x.0 bytes.now)) }
         // few bytes are left where more are wanted
-        ensures few { IfErr result (λ x. (x.1).cause ≡ Cause.Truncated
-            → length bytes.now ≤ x.0 + 65554) }
-        ensures ready { IfErr result (λ x. (x.1).cause ≡ Cause.Truncated
-            → CanGoOn (E.serves entries.new) self.new) }
+        ensures few { IfErr result (λ x. (x.1).cause ≡ Cause.Truncated → length bytes.now ≤ x.0 + 65554) }
+        ensures ready { IfErr result (λ x. (x.1).cause ≡ Cause.Truncated → CanGoOn (E.serves entries.new) self.new) }
         ensures kept { OnOk result (KeepScalars (E.contents entries.new)) }
-        ensures kept_on { IfErr result (λ x. (x.1).cause ≡ Cause.Truncated
-            → KeepScalars (E.contents entries.new)) }
-        ensures room { IfErr result (λ x. (x.1).cause ≡ Cause.Truncated
-            → HasRoomAt (R.room receiver.new) self.new.stage self.new.walk) }
-        ensures keeps { OnErr result ((before : List Content) (start : Dictionary) (read : List ℕ
-            → Reading)
-            → Continues R.has R.stands R.keeps self.old receiver.old (templates_in self.old.set.now)
-            (E.contents entries.old) before start read
-            → R.keeps receiver.new (templates_in self.old.set.now) before start
-            ⊎ R.stands receiver.new (templates_in self.old.set.now) before start) }
+        ensures kept_on { IfErr result (λ x. (x.1).cause ≡ Cause.Truncated → KeepScalars (E.contents entries.new)) }
+        ensures room { IfErr result (λ x. (x.1).cause ≡ Cause.Truncated → HasRoomAt (R.room receiver.new) self.new.stage self.new.walk) }
+        ensures keeps { OnErr result (KeepsBefore (LeftOf R.has R.stands R.keeps self.old receiver.old (E.contents entries.old))
+            (R.keeps receiver.new (templates_in self.old.set.now)) (R.stands receiver.new (templates_in self.old.set.now))) }
         ensures set { self.new.set ≡ self.old.set }
         ensures level { self.new.level ≡ self.old.level }
         ensures same_keys { E.serves entries.new ≡ E.serves entries.old }
-        ensures begun { IfErr result (λ x. (x.1).cause ≡ Cause.Truncated
-            → self.new.stage ≢ Stage.Map) }
+        ensures begun { IfErr result (λ x. (x.1).cause ≡ Cause.Truncated → self.new.stage ≢ Stage.Map) }
     {
         match self.identifier(receiver, entries, bytes, at) {
             Err(halt) => Err((at, halt)),
@@ -410,59 +345,31 @@ impl<'a> Traversal<'a> {
         requires kept { KeepScalars (E.contents entries.now) }
         requires room { HasRoomAt (R.room receiver.now) self.now.stage self.now.walk }
         ensures place { IfOk result (λ n. (at ≤ n) × (n ≤ length bytes.now)) }
-        ensures goes { IfOk result (λ n. (before : List Content) (start : Dictionary) (read : List
-            ℕ → Reading)
-            → Continues R.has R.stands R.keeps self.old receiver.old (templates_in self.old.set.now)
-            (E.contents entries.old) before start read
-            → (m : Content)
-            × ((more : List ℕ) → read (drop at bytes.now ++ more)
-            ≡ Ok (m, E.contents entries.new, drop n bytes.now ++ more))
-            × (nodes_in m.items ≤ node_limit → R.stands receiver.new (templates_in self.old.set.now)
-            (before ++ m ∷ []) (E.contents entries.new))) }
+        ensures goes { IfOk result (λ n. Finishes (LeftOf R.has R.stands R.keeps self.old receiver.old (E.contents entries.old))
+            (R.stands receiver.new (templates_in self.old.set.now)) (E.contents entries.new) (drop at bytes.now) (drop n bytes.now)) }
         ensures between { OnOk result ((self.new.stage ≡ Stage.Map) × (self.new.template ≡ 0)) }
         ensures held_place { IfErr result (λ x. (at ≤ x.0) × (x.0 ≤ length bytes.now)) }
-        ensures stops { IfErr result (λ x. (x.1).cause ≢ Cause.Memory
-            → (before : List Content) (start : Dictionary)
-            (read : List ℕ → Reading)
-            → Continues R.has R.stands R.keeps self.old receiver.old (templates_in self.old.set.now)
-            (E.contents entries.old) before start read
-            → read (drop at bytes.now) ≡ Err (stop_of self.new.template x.1 (drop x.0 bytes.now))) }
-        ensures held { IfErr result (λ x. (x.1).cause ≡ Cause.Truncated
-            → (before : List Content) (start : Dictionary)
-            (read : List ℕ → Reading)
-            → Continues R.has R.stands R.keeps self.old receiver.old (templates_in self.old.set.now)
-            (E.contents entries.old) before start read
-            → (later : List ℕ → Reading)
-            × Continues R.has R.stands R.keeps self.new receiver.new (templates_in self.old.set.now)
-            (E.contents entries.new) before start later
-            × ((more : List ℕ) → read (drop at bytes.now ++ more) ≡ later (drop x.0 bytes.now
-            ++ more))) }
+        ensures stops { IfErr result (λ x. (x.1).cause ≢ Cause.Memory → StopsAt (LeftOf R.has R.stands R.keeps self.old receiver.old (E.contents entries.old))
+            self.new.template x.1 (drop at bytes.now) (drop x.0 bytes.now)) }
+        ensures held { IfErr result (λ x. (x.1).cause ≡ Cause.Truncated → LeavesOn (LeftOf R.has R.stands R.keeps self.old receiver.old (E.contents entries.old))
+            (Continues R.has R.stands R.keeps self.new receiver.new (templates_in self.old.set.now) (E.contents entries.new))
+            (drop at bytes.now) (drop x.0 bytes.now)) }
         // few bytes are left where more are wanted
-        ensures few { IfErr result (λ x. (x.1).cause ≡ Cause.Truncated
-            → length bytes.now ≤ x.0 + 65554) }
-        ensures ready { IfErr result (λ x. (x.1).cause ≡ Cause.Truncated
-            → CanGoOn (E.serves entries.new) self.new) }
+        ensures few { IfErr result (λ x. (x.1).cause ≡ Cause.Truncated → length bytes.now ≤ x.0 + 65554) }
+        ensures ready { IfErr result (λ x. (x.1).cause ≡ Cause.Truncated → CanGoOn (E.serves entries.new) self.new) }
         ensures kept { OnOk result (KeepScalars (E.contents entries.new)) }
-        ensures kept_on { IfErr result (λ x. (x.1).cause ≡ Cause.Truncated
-            → KeepScalars (E.contents entries.new)) }
-        ensures room { IfErr result (λ x. (x.1).cause ≡ Cause.Truncated
-            → HasRoomAt (R.room receiver.new) self.new.stage self.new.walk) }
-        ensures keeps { OnErr result ((before : List Content) (start : Dictionary) (read : List ℕ
-            → Reading)
-            → Continues R.has R.stands R.keeps self.old receiver.old (templates_in self.old.set.now)
-            (E.contents entries.old) before start read
-            → R.keeps receiver.new (templates_in self.old.set.now) before start
-            ⊎ R.stands receiver.new (templates_in self.old.set.now) before start) }
+        ensures kept_on { IfErr result (λ x. (x.1).cause ≡ Cause.Truncated → KeepScalars (E.contents entries.new)) }
+        ensures room { IfErr result (λ x. (x.1).cause ≡ Cause.Truncated → HasRoomAt (R.room receiver.new) self.new.stage self.new.walk) }
+        ensures keeps { OnErr result (KeepsBefore (LeftOf R.has R.stands R.keeps self.old receiver.old (E.contents entries.old))
+            (R.keeps receiver.new (templates_in self.old.set.now)) (R.stands receiver.new (templates_in self.old.set.now))) }
         ensures set { self.new.set ≡ self.old.set }
         ensures level { self.new.level ≡ self.old.level }
         ensures same_keys { E.serves entries.new ≡ E.serves entries.old }
         // a message has a byte
         ensures took { IfOk result (λ n. self.old.stage ≡ Stage.Map → at < n) }
-        ensures held_between { IfErr result (λ x. (x.1).cause ≡ Cause.Truncated → self.new.stage
-            ≡ Stage.Map
+        ensures held_between { IfErr result (λ x. (x.1).cause ≡ Cause.Truncated → self.new.stage ≡ Stage.Map
             → (self.old.stage ≡ Stage.Map) × (x.0 ≡ at)) }
-        ensures begun { IfErr result (λ x. (x.1).cause ≡ Cause.Truncated → self.old.stage
-            ≡ Stage.Map
+        ensures begun { IfErr result (λ x. (x.1).cause ≡ Cause.Truncated → self.old.stage ≡ Stage.Map
             → self.new.stage ≢ Stage.Map → at < x.0) }
     {
         match self.stage {
@@ -496,59 +403,31 @@ impl<'a> Traversal<'a> {
         requires kept { KeepScalars (E.contents entries.now) }
         requires room { HasRoomAt (R.room receiver.now) self.now.stage self.now.walk }
         ensures place { IfOk result (λ n. (at ≤ n) × (n ≤ length bytes.now)) }
-        ensures goes { IfOk result (λ n. (before : List Content) (start : Dictionary) (read : List
-            ℕ → Reading)
-            → Continues R.has R.stands R.keeps self.old receiver.old (templates_in self.old.set.now)
-            (E.contents entries.old) before start read
-            → (m : Content)
-            × ((more : List ℕ) → read (drop at bytes.now ++ more)
-            ≡ Ok (m, E.contents entries.new, drop n bytes.now ++ more))
-            × (nodes_in m.items ≤ node_limit → R.stands receiver.new (templates_in self.old.set.now)
-            (before ++ m ∷ []) (E.contents entries.new))) }
+        ensures goes { IfOk result (λ n. Finishes (LeftOf R.has R.stands R.keeps self.old receiver.old (E.contents entries.old))
+            (R.stands receiver.new (templates_in self.old.set.now)) (E.contents entries.new) (drop at bytes.now) (drop n bytes.now)) }
         ensures between { OnOk result ((self.new.stage ≡ Stage.Map) × (self.new.template ≡ 0)) }
         ensures held_place { IfErr result (λ x. (at ≤ x.0) × (x.0 ≤ length bytes.now)) }
-        ensures stops { IfErr result (λ x. (x.1).cause ≢ Cause.Memory
-            → (before : List Content) (start : Dictionary)
-            (read : List ℕ → Reading)
-            → Continues R.has R.stands R.keeps self.old receiver.old (templates_in self.old.set.now)
-            (E.contents entries.old) before start read
-            → read (drop at bytes.now) ≡ Err (stop_of self.new.template x.1 (drop x.0 bytes.now))) }
-        ensures held { IfErr result (λ x. (x.1).cause ≡ Cause.Truncated
-            → (before : List Content) (start : Dictionary)
-            (read : List ℕ → Reading)
-            → Continues R.has R.stands R.keeps self.old receiver.old (templates_in self.old.set.now)
-            (E.contents entries.old) before start read
-            → (later : List ℕ → Reading)
-            × Continues R.has R.stands R.keeps self.new receiver.new (templates_in self.old.set.now)
-            (E.contents entries.new) before start later
-            × ((more : List ℕ) → read (drop at bytes.now ++ more) ≡ later (drop x.0 bytes.now
-            ++ more))) }
+        ensures stops { IfErr result (λ x. (x.1).cause ≢ Cause.Memory → StopsAt (LeftOf R.has R.stands R.keeps self.old receiver.old (E.contents entries.old))
+            self.new.template x.1 (drop at bytes.now) (drop x.0 bytes.now)) }
+        ensures held { IfErr result (λ x. (x.1).cause ≡ Cause.Truncated → LeavesOn (LeftOf R.has R.stands R.keeps self.old receiver.old (E.contents entries.old))
+            (Continues R.has R.stands R.keeps self.new receiver.new (templates_in self.old.set.now) (E.contents entries.new))
+            (drop at bytes.now) (drop x.0 bytes.now)) }
         // few bytes are left where more are wanted
-        ensures few { IfErr result (λ x. (x.1).cause ≡ Cause.Truncated
-            → length bytes.now ≤ x.0 + 65554) }
-        ensures ready { IfErr result (λ x. (x.1).cause ≡ Cause.Truncated
-            → CanGoOn (E.serves entries.new) self.new) }
+        ensures few { IfErr result (λ x. (x.1).cause ≡ Cause.Truncated → length bytes.now ≤ x.0 + 65554) }
+        ensures ready { IfErr result (λ x. (x.1).cause ≡ Cause.Truncated → CanGoOn (E.serves entries.new) self.new) }
         ensures kept { OnOk result (KeepScalars (E.contents entries.new)) }
-        ensures kept_on { IfErr result (λ x. (x.1).cause ≡ Cause.Truncated
-            → KeepScalars (E.contents entries.new)) }
-        ensures room { IfErr result (λ x. (x.1).cause ≡ Cause.Truncated
-            → HasRoomAt (R.room receiver.new) self.new.stage self.new.walk) }
-        ensures keeps { OnErr result ((before : List Content) (start : Dictionary) (read : List ℕ
-            → Reading)
-            → Continues R.has R.stands R.keeps self.old receiver.old (templates_in self.old.set.now)
-            (E.contents entries.old) before start read
-            → R.keeps receiver.new (templates_in self.old.set.now) before start
-            ⊎ R.stands receiver.new (templates_in self.old.set.now) before start) }
+        ensures kept_on { IfErr result (λ x. (x.1).cause ≡ Cause.Truncated → KeepScalars (E.contents entries.new)) }
+        ensures room { IfErr result (λ x. (x.1).cause ≡ Cause.Truncated → HasRoomAt (R.room receiver.new) self.new.stage self.new.walk) }
+        ensures keeps { OnErr result (KeepsBefore (LeftOf R.has R.stands R.keeps self.old receiver.old (E.contents entries.old))
+            (R.keeps receiver.new (templates_in self.old.set.now)) (R.stands receiver.new (templates_in self.old.set.now))) }
         ensures set { self.new.set ≡ self.old.set }
         ensures level { self.new.level ≡ self.old.level }
         ensures same_keys { E.serves entries.new ≡ E.serves entries.old }
         // a message has a byte
         ensures took { IfOk result (λ n. self.old.stage ≡ Stage.Map → at < n) }
-        ensures held_between { IfErr result (λ x. (x.1).cause ≡ Cause.Truncated → self.new.stage
-            ≡ Stage.Map
+        ensures held_between { IfErr result (λ x. (x.1).cause ≡ Cause.Truncated → self.new.stage ≡ Stage.Map
             → (self.old.stage ≡ Stage.Map) × (x.0 ≡ at)) }
-        ensures begun { IfErr result (λ x. (x.1).cause ≡ Cause.Truncated → self.old.stage
-            ≡ Stage.Map
+        ensures begun { IfErr result (λ x. (x.1).cause ≡ Cause.Truncated → self.old.stage ≡ Stage.Map
             → self.new.stage ≢ Stage.Map → at < x.0) }
     {
         match self.stage {

@@ -1,20 +1,20 @@
 //! A walk through the open segments of a message, without its items.
 
-ghost use Rattle.std.specs.Prelude.{◌≡◌, ◌≢◌, ◌≤◌, ◌<◌, ◌++◌, ◌∷◌, ◌-◌, ◌+◌, [], ℕ, Bool, true, false, List, Option, IsSome, ◌⊎◌, IfOk, IfErr, IfSome, OnOk, IsTrue, length, drop, map};
+ghost use Rattle.std.specs.Prelude.{◌≡◌, ◌≢◌, ◌≤◌, ◌<◌, ◌++◌, ◌∷◌, ◌-◌, ◌+◌, [], ℕ, Bool, true, false, List, Option, IsSome, ◌⊎◌, IfOk, IfErr, IfSome, OnOk, length, drop, map};
 ghost use Rattle.fast_value.specs.declared.key.Key as key_type;
-ghost use Rattle.fast_template.specs.Resolved.{Resolved, list_of, then_instruction, no_instructions, whole_field, field_in_parts, group_of, sequence_of, is_optional as is_optional_of};
+ghost use Rattle.fast_template.specs.Resolved.{list_of, then_instruction, no_instructions, whole_field, field_in_parts, group_of, sequence_of, is_optional as is_optional_of};
 ghost use Rattle.fast_dictionary.specs.Dictionary.{Dictionary};
-ghost use Rattle.fast_stream.specs.Nodes.{Content};
 ghost use Rattle.fast_stream.specs.Bits.{after_bit};
 ghost use Rattle.fast_wire.specs.Level.{IsLeftClear, some_set};
 ghost use Rattle.fast_stream.specs.Faults.{cause_of_field};
 ghost use Rattle.fast_stream.specs.Reading.{node_at, stopped};
 ghost use Rattle.fast_walk.specs.OpenSegments.{Waiting, at_instruction, cursor, fewer, in_sequence};
-ghost use Rattle.fast_walk.specs.Received.{Received, closed_in};
+ghost use Rattle.fast_walk.specs.Received.{Received, Carries, closed_in};
 ghost use Rattle.fast_walk.specs.Passing.{next_behind};
 ghost use Rattle.fast_walk.specs.Walks.{next_of, weight_of};
 ghost use Rattle.fast_walk.specs.Told.{KeepScalars};
-ghost use Rattle.fast_walk.specs.Room.{HasRoom};
+ghost use Rattle.fast_walk.specs.Room.{HasRoom, HasRoomInside, HasRoomOutside};
+ghost use Rattle.fast_walk.specs.Pieces.{CanWalk, Holds, Stops};
 
 use crate::bits::{first_for, read_own_map, take_for};
 use crate::halt::{Halt, HaltedBy, field_cause};
@@ -117,7 +117,7 @@ fn go_behind<'a>(next: &mut Next<'a>, mantissa: Option<&'a FieldPart>)
 }
 
 impl<'a> Walk<'a> {
-    ghost use Rattle.fast_walk.specs.Walks.{At, HaltsAs, IsElement, IsInside, IsInsideServed, IsNextServed, IsReady, Moves, bare_inside, bare_next, frame_of, inside_of, next_of, number_of, rank_of, sequel_of, weight_of};
+    ghost use Rattle.fast_walk.specs.Walks.{HaltsAs, IsElement, IsInside, IsInsideServed, IsLast, IsNextServed, IsWhole, Moves, StaysServed, bare_inside, bare_next, frame_of, inside_of, next_of, number_of, rank_of, sequel_of, weight_of};
 
     /// At the beginning of a list of instructions.
     pub(crate) fn new(alloc: Global, members: &'a [Flat], bits: Bits, spare: u32) -> Walk<'a>
@@ -259,26 +259,15 @@ impl<'a> Walk<'a> {
         requires next { self.now.next ≡ Next.Instruction }
         requires first { list_of self.now.rest.now
             ≡ then_instruction (whole_field name.now number presence whole.now) (list_of others.now) }
-        requires ready { IsReady (E.serves entries.now) self.now }
-        requires kept { KeepScalars (E.contents entries.now) }
-        requires room { HasRoom (R.room receiver.now) self.now }
-        ensures place { IfOk result (λ n. (at ≤ n) × (n ≤ length bytes.now)) }
+        requires walk { CanWalk (E.serves entries.now) (E.contents entries.now) (R.room receiver.now) self.now }
+        ensures place { IfOk result (λ n. (at ≤ n) × (n ≤ length bytes.now) × (rank_of self.new < rank_of self.old)) }
         ensures goes { IfOk result (λ n. Moves L.at R.has self.old receiver.old (E.contents entries.old)
             self.new receiver.new (E.contents entries.new) (drop at bytes.now) (drop n bytes.now)) }
-        ensures stops { IfErr result (λ h. h.cause ≢ Cause.Memory
-            → HaltsAs L.at self.old (E.contents entries.old) (drop at bytes.now) h) }
-        ensures waits { IfErr result (λ h. h.cause ≢ Cause.Memory
-            → (self.new ≡ self.old) × (E.contents entries.new ≡ E.contents entries.old)
-            × ((o : Received) (d : Dictionary) → R.has receiver.old o d → R.has receiver.new o d)) }
-        ensures ready { OnOk result (IsReady (E.serves entries.old) self.new) }
-        ensures kept { OnOk result (KeepScalars (E.contents entries.new)) }
-        ensures room_on { IfErr result (λ h. h.cause ≢ Cause.Memory
-            → HasRoom (R.room receiver.new) self.new) }
-        ensures room { OnOk result (HasRoom (R.room receiver.new) self.new) }
-        ensures keeps { (set : List Resolved) (ms : List Content) (d : Dictionary)
-            → R.keeps receiver.old set ms d → R.keeps receiver.new set ms d }
+        ensures walk { OnOk result (CanWalk (E.serves entries.old) (E.contents entries.new) (R.room receiver.new) self.new) }
+        ensures stops { IfErr result (λ h. h.cause ≢ Cause.Memory → Stops L.at R.has R.room self.old receiver.old (E.contents entries.old)
+            self.new receiver.new (E.contents entries.new) (drop at bytes.now) h) }
+        ensures keeps { Carries (R.keeps receiver.old) (R.keeps receiver.new) }
         ensures same_keys { E.serves entries.new ≡ E.serves entries.old }
-        ensures rank { OnOk result (rank_of self.new < rank_of self.old) }
     {
         self.count(number)?;
         let needs = part_needs_bit(whole);
@@ -324,26 +313,15 @@ impl<'a> Walk<'a> {
         requires first { list_of self.now.rest.now
             ≡ then_instruction (field_in_parts name.now number presence exponent.now mantissa.now)
             (list_of others.now) }
-        requires ready { IsReady (E.serves entries.now) self.now }
-        requires kept { KeepScalars (E.contents entries.now) }
-        requires room { HasRoom (R.room receiver.now) self.now }
-        ensures place { IfOk result (λ n. (at ≤ n) × (n ≤ length bytes.now)) }
+        requires walk { CanWalk (E.serves entries.now) (E.contents entries.now) (R.room receiver.now) self.now }
+        ensures place { IfOk result (λ n. (at ≤ n) × (n ≤ length bytes.now) × (rank_of self.new < rank_of self.old)) }
         ensures goes { IfOk result (λ n. Moves L.at R.has self.old receiver.old (E.contents entries.old)
             self.new receiver.new (E.contents entries.new) (drop at bytes.now) (drop n bytes.now)) }
-        ensures stops { IfErr result (λ h. h.cause ≢ Cause.Memory
-            → HaltsAs L.at self.old (E.contents entries.old) (drop at bytes.now) h) }
-        ensures waits { IfErr result (λ h. h.cause ≢ Cause.Memory
-            → (self.new ≡ self.old) × (E.contents entries.new ≡ E.contents entries.old)
-            × ((o : Received) (d : Dictionary) → R.has receiver.old o d → R.has receiver.new o d)) }
-        ensures ready { OnOk result (IsReady (E.serves entries.old) self.new) }
-        ensures kept { OnOk result (KeepScalars (E.contents entries.new)) }
-        ensures room_on { IfErr result (λ h. h.cause ≢ Cause.Memory
-            → HasRoom (R.room receiver.new) self.new) }
-        ensures room { OnOk result (HasRoom (R.room receiver.new) self.new) }
-        ensures keeps { (set : List Resolved) (ms : List Content) (d : Dictionary)
-            → R.keeps receiver.old set ms d → R.keeps receiver.new set ms d }
+        ensures walk { OnOk result (CanWalk (E.serves entries.old) (E.contents entries.new) (R.room receiver.new) self.new) }
+        ensures stops { IfErr result (λ h. h.cause ≢ Cause.Memory → Stops L.at R.has R.room self.old receiver.old (E.contents entries.old)
+            self.new receiver.new (E.contents entries.new) (drop at bytes.now) h) }
+        ensures keeps { Carries (R.keeps receiver.old) (R.keeps receiver.new) }
         ensures same_keys { E.serves entries.new ≡ E.serves entries.old }
-        ensures rank { OnOk result (rank_of self.new < rank_of self.old) }
     {
         self.count(number)?;
         let needs = part_needs_bit(exponent);
@@ -386,26 +364,15 @@ impl<'a> Walk<'a> {
     ) -> Result<usize, Halt>
         requires place { at ≤ length bytes.now }
         requires next { self.now.next ≡ Next.Mantissa mantissa }
-        requires ready { IsReady (E.serves entries.now) self.now }
-        requires kept { KeepScalars (E.contents entries.now) }
-        requires room { HasRoom (R.room receiver.now) self.now }
-        ensures place { IfOk result (λ n. (at ≤ n) × (n ≤ length bytes.now)) }
+        requires walk { CanWalk (E.serves entries.now) (E.contents entries.now) (R.room receiver.now) self.now }
+        ensures place { IfOk result (λ n. (at ≤ n) × (n ≤ length bytes.now) × (rank_of self.new < rank_of self.old)) }
         ensures goes { IfOk result (λ n. Moves L.at R.has self.old receiver.old (E.contents entries.old)
             self.new receiver.new (E.contents entries.new) (drop at bytes.now) (drop n bytes.now)) }
-        ensures stops { IfErr result (λ h. h.cause ≢ Cause.Memory
-            → HaltsAs L.at self.old (E.contents entries.old) (drop at bytes.now) h) }
-        ensures waits { IfErr result (λ h. h.cause ≢ Cause.Memory
-            → (self.new ≡ self.old) × (E.contents entries.new ≡ E.contents entries.old)
-            × ((o : Received) (d : Dictionary) → R.has receiver.old o d → R.has receiver.new o d)) }
-        ensures ready { OnOk result (IsReady (E.serves entries.old) self.new) }
-        ensures kept { OnOk result (KeepScalars (E.contents entries.new)) }
-        ensures room_on { IfErr result (λ h. h.cause ≢ Cause.Memory
-            → HasRoom (R.room receiver.new) self.new) }
-        ensures room { OnOk result (HasRoom (R.room receiver.new) self.new) }
-        ensures keeps { (set : List Resolved) (ms : List Content) (d : Dictionary)
-            → R.keeps receiver.old set ms d → R.keeps receiver.new set ms d }
+        ensures walk { OnOk result (CanWalk (E.serves entries.old) (E.contents entries.new) (R.room receiver.new) self.new) }
+        ensures stops { IfErr result (λ h. h.cause ≢ Cause.Memory → Stops L.at R.has R.room self.old receiver.old (E.contents entries.old)
+            self.new receiver.new (E.contents entries.new) (drop at bytes.now) h) }
+        ensures keeps { Carries (R.keeps receiver.old) (R.keeps receiver.new) }
         ensures same_keys { E.serves entries.new ≡ E.serves entries.old }
-        ensures rank { OnOk result (rank_of self.new < rank_of self.old) }
     {
         let needs = part_needs_bit(mantissa);
         let bit = first_for(&self.bits, needs);
@@ -440,26 +407,15 @@ impl<'a> Walk<'a> {
         requires first { list_of self.now.rest.now
             ≡ then_instruction (sequence_of name.now number presence part.now (list_of members.now))
             (list_of others.now) }
-        requires ready { IsReady (E.serves entries.now) self.now }
-        requires kept { KeepScalars (E.contents entries.now) }
-        requires room { HasRoom (R.room receiver.now) self.now }
-        ensures place { IfOk result (λ n. (at ≤ n) × (n ≤ length bytes.now)) }
+        requires walk { CanWalk (E.serves entries.now) (E.contents entries.now) (R.room receiver.now) self.now }
+        ensures place { IfOk result (λ n. (at ≤ n) × (n ≤ length bytes.now) × (rank_of self.new < rank_of self.old)) }
         ensures goes { IfOk result (λ n. Moves L.at R.has self.old receiver.old (E.contents entries.old)
             self.new receiver.new (E.contents entries.new) (drop at bytes.now) (drop n bytes.now)) }
-        ensures stops { IfErr result (λ h. h.cause ≢ Cause.Memory
-            → HaltsAs L.at self.old (E.contents entries.old) (drop at bytes.now) h) }
-        ensures waits { IfErr result (λ h. h.cause ≢ Cause.Memory
-            → (self.new ≡ self.old) × (E.contents entries.new ≡ E.contents entries.old)
-            × ((o : Received) (d : Dictionary) → R.has receiver.old o d → R.has receiver.new o d)) }
-        ensures ready { OnOk result (IsReady (E.serves entries.old) self.new) }
-        ensures kept { OnOk result (KeepScalars (E.contents entries.new)) }
-        ensures room_on { IfErr result (λ h. h.cause ≢ Cause.Memory
-            → HasRoom (R.room receiver.new) self.new) }
-        ensures room { OnOk result (HasRoom (R.room receiver.new) self.new) }
-        ensures keeps { (set : List Resolved) (ms : List Content) (d : Dictionary)
-            → R.keeps receiver.old set ms d → R.keeps receiver.new set ms d }
+        ensures walk { OnOk result (CanWalk (E.serves entries.old) (E.contents entries.new) (R.room receiver.new) self.new) }
+        ensures stops { IfErr result (λ h. h.cause ≢ Cause.Memory → Stops L.at R.has R.room self.old receiver.old (E.contents entries.old)
+            self.new receiver.new (E.contents entries.new) (drop at bytes.now) h) }
+        ensures keeps { Carries (R.keeps receiver.old) (R.keeps receiver.new) }
         ensures same_keys { E.serves entries.new ≡ E.serves entries.old }
-        ensures rank { OnOk result (rank_of self.new < rank_of self.old) }
     {
         self.count(number)?;
         let needs = part_needs_bit(part);
@@ -521,19 +477,15 @@ impl<'a> Walk<'a> {
             ≡ then_instruction (group_of name.now number presence (list_of members.now)) (list_of
             others.now) }
         requires room { HasRoom (R.room receiver.now) self.now }
-        ensures place { IfOk result (λ n. (at ≤ n) × (n ≤ length bytes.now)) }
+        ensures place { IfOk result (λ n. (at ≤ n) × (n ≤ length bytes.now) × (rank_of self.new < rank_of self.old)) }
         ensures goes { IfOk result (λ n. (d : Dictionary) → Moves L.at R.has self.old receiver.old d
             self.new receiver.new d (drop at bytes.now) (drop n bytes.now)) }
         ensures stops { IfErr result (λ h. h.cause ≢ Cause.Memory
             → (d : Dictionary) → HaltsAs L.at self.old d (drop at bytes.now) h) }
-        ensures waits { IfErr result (λ h. h.cause ≢ Cause.Memory
-            → (self.new ≡ self.old) × (receiver.new ≡ receiver.old)) }
-        ensures ready { OnOk result ((serves : key_type.Key → Bool) → IsReady serves self.old
-            → IsReady serves self.new) }
+        ensures waits { IfErr result (λ h. h.cause ≢ Cause.Memory → (self.new ≡ self.old) × (receiver.new ≡ receiver.old)) }
+        ensures ready { OnOk result (StaysServed self.old self.new) }
         ensures room { OnOk result (HasRoom (R.room receiver.new) self.new) }
-        ensures keeps { (set : List Resolved) (ms : List Content) (d : Dictionary)
-            → R.keeps receiver.old set ms d → R.keeps receiver.new set ms d }
-        ensures rank { OnOk result (rank_of self.new < rank_of self.old) }
+        ensures keeps { Carries (R.keeps receiver.old) (R.keeps receiver.new) }
     {
         self.count(number)?;
         let optional = is_optional(presence);
@@ -565,19 +517,15 @@ impl<'a> Walk<'a> {
         requires place { at ≤ length bytes.now }
         requires next { IsElement self.now.next sequel }
         requires room { HasRoom (R.room receiver.now) self.now }
-        ensures place { IfOk result (λ n. (at ≤ n) × (n ≤ length bytes.now)) }
+        ensures place { IfOk result (λ n. (at ≤ n) × (n ≤ length bytes.now) × (rank_of self.new < rank_of self.old)) }
         ensures goes { IfOk result (λ n. (d : Dictionary) → Moves L.at R.has self.old receiver.old d
             self.new receiver.new d (drop at bytes.now) (drop n bytes.now)) }
         ensures stops { IfErr result (λ h. h.cause ≢ Cause.Memory
             → (d : Dictionary) → HaltsAs L.at self.old d (drop at bytes.now) h) }
-        ensures waits { IfErr result (λ h. h.cause ≢ Cause.Memory
-            → (self.new ≡ self.old) × (receiver.new ≡ receiver.old)) }
-        ensures ready { OnOk result ((serves : key_type.Key → Bool) → IsReady serves self.old
-            → IsReady serves self.new) }
+        ensures waits { IfErr result (λ h. h.cause ≢ Cause.Memory → (self.new ≡ self.old) × (receiver.new ≡ receiver.old)) }
+        ensures ready { OnOk result (StaysServed self.old self.new) }
         ensures room { OnOk result (HasRoom (R.room receiver.new) self.new) }
-        ensures keeps { (set : List Resolved) (ms : List Content) (d : Dictionary)
-            → R.keeps receiver.old set ms d → R.keeps receiver.new set ms d }
-        ensures rank { OnOk result (rank_of self.new < rank_of self.old) }
+        ensures keeps { Carries (R.keeps receiver.old) (R.keeps receiver.new) }
     {
         if sequel.left == 0 {
             receiver.end_sequence(alloc)?;
@@ -663,9 +611,7 @@ impl<'a> Walk<'a> {
     fn next_sequel(&self) -> Option<Sequel<'a>>
         ensures left { IfSome result (λ s. 0 < s.left) }
         ensures inside { IfSome result (λ s. self.now.around.items ≢ []) }
-        ensures last { IfSome result (λ s. (ws : List Waiting) (w : Waiting)
-            → map frame_of self.now.around.items ≡ ws ++ w ∷ []
-            → (w.inside ≡ in_sequence (sequel_of s)) × (w.number ≡ s.number)) }
+        ensures last { IfSome result (IsLast self.now) }
     {
         match self.around.last() {
             None => None,
@@ -691,24 +637,18 @@ impl<'a> Walk<'a> {
         requires next { self.now.next ≡ Next.Instruction }
         requires rest { self.now.rest.now ≡ [] }
         requires inside { self.now.around.items ≢ [] }
-        requires last { (ws : List Waiting) (w : Waiting)
-            → map frame_of self.now.around.items ≡ ws ++ w ∷ []
-            → (w.inside ≡ in_sequence (sequel_of sequel)) × (w.number ≡ sequel.number) }
+        requires last { IsLast self.now sequel }
         requires left { 0 < sequel.left }
         requires room { HasRoom (R.room receiver.now) self.now }
-        ensures place { IfOk result (λ n. (at ≤ n) × (n ≤ length bytes.now)) }
+        ensures place { IfOk result (λ n. (at ≤ n) × (n ≤ length bytes.now) × (rank_of self.new < rank_of self.old)) }
         ensures goes { IfOk result (λ n. (d : Dictionary) → Moves L.at R.has self.old receiver.old d
             self.new receiver.new d (drop at bytes.now) (drop n bytes.now)) }
         ensures stops { IfErr result (λ h. h.cause ≢ Cause.Memory
             → (d : Dictionary) → HaltsAs L.at self.old d (drop at bytes.now) h) }
-        ensures waits { IfErr result (λ h. h.cause ≢ Cause.Memory
-            → (self.new ≡ self.old) × (receiver.new ≡ receiver.old)) }
-        ensures ready { OnOk result ((serves : key_type.Key → Bool) → IsReady serves self.old
-            → IsReady serves self.new) }
+        ensures waits { IfErr result (λ h. h.cause ≢ Cause.Memory → (self.new ≡ self.old) × (receiver.new ≡ receiver.old)) }
+        ensures ready { OnOk result (StaysServed self.old self.new) }
         ensures room { OnOk result (HasRoom (R.room receiver.new) self.new) }
-        ensures keeps { (set : List Resolved) (ms : List Content) (d : Dictionary)
-            → R.keeps receiver.old set ms d → R.keeps receiver.new set ms d }
-        ensures rank { OnOk result (rank_of self.new < rank_of self.old) }
+        ensures keeps { Carries (R.keeps receiver.old) (R.keeps receiver.new) }
     {
         let own_map = sequel.own_map;
         let strictness = level.level();
@@ -726,9 +666,7 @@ impl<'a> Walk<'a> {
         requires spare { 0 < self.now.spare }
         requires left { 0 < sequel.left }
         requires inside { self.now.around.items ≢ [] }
-        requires last { (ws : List Waiting) (w : Waiting)
-            → map frame_of self.now.around.items ≡ ws ++ w ∷ []
-            → (w.inside ≡ in_sequence (sequel_of sequel)) × (w.number ≡ sequel.number) }
+        requires last { IsLast self.now sequel }
         ensures bits { self.new.bits ≡ fresh }
         ensures spare { self.new.spare ≡ self.old.spare - 1 }
         ensures next { self.new.next ≡ self.old.next }
@@ -768,17 +706,13 @@ impl<'a> Walk<'a> {
         requires rest { self.now.rest.now ≡ [] }
         requires room { HasRoom (R.room receiver.now) self.now }
         ensures goes { OnOk result ((d : Dictionary) (bytes : List ℕ)
-            → Moves L.at R.has self.old receiver.old d
-            self.new receiver.new d bytes bytes) }
+            → Moves L.at R.has self.old receiver.old d self.new receiver.new d bytes bytes) }
         ensures stops { IfErr result (λ h. h.cause ≢ Cause.Memory
             → (d : Dictionary) (bytes : List ℕ) → HaltsAs L.at self.old d bytes h) }
-        ensures waits { IfErr result (λ h. h.cause ≢ Cause.Memory
-            → (self.new ≡ self.old) × (receiver.new ≡ receiver.old)) }
-        ensures ready { OnOk result ((serves : key_type.Key → Bool) → IsReady serves self.old
-            → IsReady serves self.new) }
+        ensures waits { IfErr result (λ h. h.cause ≢ Cause.Memory → (self.new ≡ self.old) × (receiver.new ≡ receiver.old)) }
+        ensures ready { OnOk result (StaysServed self.old self.new) }
         ensures room { OnOk result (HasRoom (R.room receiver.new) self.new) }
-        ensures keeps { (set : List Resolved) (ms : List Content) (d : Dictionary)
-            → R.keeps receiver.old set ms d → R.keeps receiver.new set ms d }
+        ensures keeps { Carries (R.keeps receiver.old) (R.keeps receiver.new) }
         ensures rank { OnOk result (rank_of self.new < rank_of self.old) }
     {
         self.judge_end(level.level())?;
@@ -802,8 +736,7 @@ impl<'a> Walk<'a> {
         inside: Inside<'a>,
     ) -> Result<(), AllocError>
         requires next { self.now.next ≡ Next.Instruction }
-        requires room { (around : List (List Bool)) × (b : List Bool) × (bits : List Bool)
-            × IsTrue (R.room receiver.now (around ++ b ∷ []) bits) }
+        requires room { HasRoomInside (R.room receiver.now) }
         ensures has { OnOk result ((o : Received) (d : Dictionary) (ws : List Waiting) (w : Waiting)
             → o.next ≡ at_instruction → o.body.rest ≡ no_instructions → o.around ≡ ws ++ w ∷ []
             → bare_inside w.inside ≡ inside_of inside.entry → R.has receiver.old o d
@@ -816,11 +749,8 @@ impl<'a> Walk<'a> {
         ensures served { OnOk result ((serves : key_type.Key → Bool)
             → IsInsideServed serves (inside_of inside.entry)
             → IsNextServed serves (next_of self.new.next)) }
-        ensures room { OnOk result ((around : List (List Bool)) (b bits : List Bool)
-            → IsTrue (R.room receiver.old (around ++ b ∷ []) bits)
-            → IsTrue (R.room receiver.new around b)) }
-        ensures keeps { (set : List Resolved) (ms : List Content) (d : Dictionary)
-            → R.keeps receiver.old set ms d → R.keeps receiver.new set ms d }
+        ensures room { OnOk result (HasRoomOutside (R.room receiver.old) (R.room receiver.new)) }
+        ensures keeps { Carries (R.keeps receiver.old) (R.keeps receiver.new) }
         ensures weight { weight_of self.new.next ≤ 2 }
     {
         match inside {
@@ -842,9 +772,7 @@ impl<'a> Walk<'a> {
 
     // Whether the message's own body has ended.
     fn is_whole(&self) -> bool
-        ensures yes { result ≡ true → (self.now.next ≡ Next.Instruction) × (self.now.around.items
-            ≡ [])
-            × (self.now.rest.now ≡ []) }
+        ensures yes { result ≡ true → IsWhole self.now }
         ensures no { result ≡ false → IsInside self.now }
     {
         match self.next {
@@ -865,26 +793,15 @@ impl<'a> Walk<'a> {
     ) -> Result<usize, Halt>
         requires inside { IsInside self.now }
         requires place { at ≤ length bytes.now }
-        requires ready { IsReady (E.serves entries.now) self.now }
-        requires kept { KeepScalars (E.contents entries.now) }
-        requires room { HasRoom (R.room receiver.now) self.now }
-        ensures place { IfOk result (λ n. (at ≤ n) × (n ≤ length bytes.now)) }
+        requires walk { CanWalk (E.serves entries.now) (E.contents entries.now) (R.room receiver.now) self.now }
+        ensures place { IfOk result (λ n. (at ≤ n) × (n ≤ length bytes.now) × (rank_of self.new < rank_of self.old)) }
         ensures goes { IfOk result (λ n. Moves L.at R.has self.old receiver.old (E.contents entries.old)
             self.new receiver.new (E.contents entries.new) (drop at bytes.now) (drop n bytes.now)) }
-        ensures stops { IfErr result (λ h. h.cause ≢ Cause.Memory
-            → HaltsAs L.at self.old (E.contents entries.old) (drop at bytes.now) h) }
-        ensures waits { IfErr result (λ h. h.cause ≢ Cause.Memory
-            → (self.new ≡ self.old) × (E.contents entries.new ≡ E.contents entries.old)
-            × ((o : Received) (d : Dictionary) → R.has receiver.old o d → R.has receiver.new o d)) }
-        ensures ready { OnOk result (IsReady (E.serves entries.old) self.new) }
-        ensures kept { OnOk result (KeepScalars (E.contents entries.new)) }
-        ensures room_on { IfErr result (λ h. h.cause ≢ Cause.Memory
-            → HasRoom (R.room receiver.new) self.new) }
-        ensures room { OnOk result (HasRoom (R.room receiver.new) self.new) }
-        ensures keeps { (set : List Resolved) (ms : List Content) (d : Dictionary)
-            → R.keeps receiver.old set ms d → R.keeps receiver.new set ms d }
+        ensures walk { OnOk result (CanWalk (E.serves entries.old) (E.contents entries.new) (R.room receiver.new) self.new) }
+        ensures stops { IfErr result (λ h. h.cause ≢ Cause.Memory → Stops L.at R.has R.room self.old receiver.old (E.contents entries.old)
+            self.new receiver.new (E.contents entries.new) (drop at bytes.now) h) }
+        ensures keeps { Carries (R.keeps receiver.old) (R.keeps receiver.new) }
         ensures same_keys { E.serves entries.new ≡ E.serves entries.old }
-        ensures rank { OnOk result (rank_of self.new < rank_of self.old) }
     {
         match self.next {
             Next::Mantissa(mantissa) => self.mantissa(
@@ -955,17 +872,12 @@ impl<'a> Walk<'a> {
         at: usize,
     ) -> Result<usize, AllocError>
         requires place { at ≤ length bytes.now }
-        requires ready { IsReady (E.serves entries.now) self.now }
-        requires kept { KeepScalars (E.contents entries.now) }
-        requires room { HasRoom (R.room receiver.now) self.now }
+        requires walk { CanWalk (E.serves entries.now) (E.contents entries.now) (R.room receiver.now) self.now }
         ensures place { IfOk result (λ n. (at ≤ n) × (n ≤ length bytes.now)) }
         ensures goes { IfOk result (λ n. Moves L.at R.has self.old receiver.old (E.contents entries.old)
             self.new receiver.new (E.contents entries.new) (drop at bytes.now) (drop n bytes.now)) }
-        ensures ready { OnOk result (IsReady (E.serves entries.old) self.new) }
-        ensures kept { OnOk result (KeepScalars (E.contents entries.new)) }
-        ensures room { OnOk result (HasRoom (R.room receiver.new) self.new) }
-        ensures keeps { (set : List Resolved) (ms : List Content) (d : Dictionary)
-            → R.keeps receiver.old set ms d → R.keeps receiver.new set ms d }
+        ensures walk { OnOk result (CanWalk (E.serves entries.old) (E.contents entries.new) (R.room receiver.new) self.new) }
+        ensures keeps { Carries (R.keeps receiver.old) (R.keeps receiver.new) }
         ensures same_keys { E.serves entries.new ≡ E.serves entries.old }
         ensures rank { OnOk result (rank_of self.new ≤ rank_of self.old) }
     {
@@ -1003,26 +915,15 @@ impl<'a> Walk<'a> {
     ) -> Result<usize, Halt>
         requires inside { IsInside self.now }
         requires place { at ≤ length bytes.now }
-        requires ready { IsReady (E.serves entries.now) self.now }
-        requires kept { KeepScalars (E.contents entries.now) }
-        requires room { HasRoom (R.room receiver.now) self.now }
-        ensures place { IfOk result (λ n. (at ≤ n) × (n ≤ length bytes.now)) }
+        requires walk { CanWalk (E.serves entries.now) (E.contents entries.now) (R.room receiver.now) self.now }
+        ensures place { IfOk result (λ n. (at ≤ n) × (n ≤ length bytes.now) × (rank_of self.new < rank_of self.old)) }
         ensures goes { IfOk result (λ n. Moves L.at R.has self.old receiver.old (E.contents entries.old)
             self.new receiver.new (E.contents entries.new) (drop at bytes.now) (drop n bytes.now)) }
-        ensures stops { IfErr result (λ h. h.cause ≢ Cause.Memory
-            → HaltsAs L.at self.old (E.contents entries.old) (drop at bytes.now) h) }
-        ensures waits { IfErr result (λ h. h.cause ≢ Cause.Memory
-            → (self.new ≡ self.old) × (E.contents entries.new ≡ E.contents entries.old)
-            × ((o : Received) (d : Dictionary) → R.has receiver.old o d → R.has receiver.new o d)) }
-        ensures ready { OnOk result (IsReady (E.serves entries.old) self.new) }
-        ensures kept { OnOk result (KeepScalars (E.contents entries.new)) }
-        ensures room_on { IfErr result (λ h. h.cause ≢ Cause.Memory
-            → HasRoom (R.room receiver.new) self.new) }
-        ensures room { OnOk result (HasRoom (R.room receiver.new) self.new) }
-        ensures keeps { (set : List Resolved) (ms : List Content) (d : Dictionary)
-            → R.keeps receiver.old set ms d → R.keeps receiver.new set ms d }
+        ensures walk { OnOk result (CanWalk (E.serves entries.old) (E.contents entries.new) (R.room receiver.new) self.new) }
+        ensures stops { IfErr result (λ h. h.cause ≢ Cause.Memory → Stops L.at R.has R.room self.old receiver.old (E.contents entries.old)
+            self.new receiver.new (E.contents entries.new) (drop at bytes.now) h) }
+        ensures keeps { Carries (R.keeps receiver.old) (R.keeps receiver.new) }
         ensures same_keys { E.serves entries.new ≡ E.serves entries.old }
-        ensures rank { OnOk result (rank_of self.new < rank_of self.old) }
     {
         let next = self.step(level, alloc, receiver, entries, bytes, at)?;
         let place = self.fields(level, alloc, receiver, entries, bytes, next)?;
@@ -1040,27 +941,18 @@ impl<'a> Walk<'a> {
         at: usize,
     ) -> Result<usize, (usize, Halt)>
         requires place { at ≤ length bytes.now }
-        requires ready { IsReady (E.serves entries.now) self.now }
-        requires kept { KeepScalars (E.contents entries.now) }
-        requires room { HasRoom (R.room receiver.now) self.now }
+        requires walk { CanWalk (E.serves entries.now) (E.contents entries.now) (R.room receiver.now) self.now }
         ensures place { IfOk result (λ n. (at ≤ n) × (n ≤ length bytes.now)) }
         ensures goes { IfOk result (λ n. Moves L.at R.has self.old receiver.old (E.contents entries.old)
             self.new receiver.new (E.contents entries.new) (drop at bytes.now) (drop n bytes.now)) }
-        ensures whole { OnOk result ((self.new.next ≡ Next.Instruction) × (self.new.around.items
-            ≡ [])
-            × (self.new.rest.now ≡ [])) }
+        ensures whole { OnOk result (IsWhole self.new) }
         ensures held_place { IfErr result (λ x. (at ≤ x.0) × (x.0 ≤ length bytes.now)) }
-        ensures held { IfErr result (λ x. (x.1).cause ≢ Cause.Memory
-            → Moves L.at R.has self.old receiver.old (E.contents entries.old)
-            self.new receiver.new (E.contents entries.new) (drop at bytes.now) (drop x.0 bytes.now)
-            × HaltsAs L.at self.new (E.contents entries.new) (drop x.0 bytes.now) x.1
-            × IsReady (E.serves entries.new) self.new × KeepScalars (E.contents entries.new)) }
+        ensures held { IfErr result (λ x. (x.1).cause ≢ Cause.Memory → Holds L.at R.has R.room (E.serves entries.new)
+            self.old receiver.old (E.contents entries.old) self.new receiver.new (E.contents entries.new)
+            (drop at bytes.now) (drop x.0 bytes.now) x.1) }
         ensures kept { OnOk result (KeepScalars (E.contents entries.new)) }
-        ensures room_on { IfErr result (λ x. (x.1).cause ≢ Cause.Memory
-            → HasRoom (R.room receiver.new) self.new) }
         ensures room { OnOk result (HasRoom (R.room receiver.new) self.new) }
-        ensures keeps { (set : List Resolved) (ms : List Content) (d : Dictionary)
-            → R.keeps receiver.old set ms d → R.keeps receiver.new set ms d }
+        ensures keeps { Carries (R.keeps receiver.old) (R.keeps receiver.new) }
         ensures same_keys { E.serves entries.new ≡ E.serves entries.old }
     {
         let mut place = match self.fields(level, alloc, receiver, entries, bytes, at) {
@@ -1094,27 +986,18 @@ impl<'a> Walk<'a> {
         at: usize,
     ) -> Result<usize, (usize, Halt)>
         requires place { at ≤ length bytes.now }
-        requires ready { IsReady (E.serves entries.now) self.now }
-        requires kept { KeepScalars (E.contents entries.now) }
-        requires room { HasRoom (R.room receiver.now) self.now }
+        requires walk { CanWalk (E.serves entries.now) (E.contents entries.now) (R.room receiver.now) self.now }
         ensures place { IfOk result (λ n. (at ≤ n) × (n ≤ length bytes.now)) }
         ensures goes { IfOk result (λ n. Moves level R.has self.old receiver.old (E.contents entries.old)
             self.new receiver.new (E.contents entries.new) (drop at bytes.now) (drop n bytes.now)) }
-        ensures whole { OnOk result ((self.new.next ≡ Next.Instruction) × (self.new.around.items
-            ≡ [])
-            × (self.new.rest.now ≡ [])) }
+        ensures whole { OnOk result (IsWhole self.new) }
         ensures held_place { IfErr result (λ x. (at ≤ x.0) × (x.0 ≤ length bytes.now)) }
-        ensures held { IfErr result (λ x. (x.1).cause ≢ Cause.Memory
-            → Moves level R.has self.old receiver.old (E.contents entries.old)
-            self.new receiver.new (E.contents entries.new) (drop at bytes.now) (drop x.0 bytes.now)
-            × HaltsAs level self.new (E.contents entries.new) (drop x.0 bytes.now) x.1
-            × IsReady (E.serves entries.new) self.new × KeepScalars (E.contents entries.new)) }
+        ensures held { IfErr result (λ x. (x.1).cause ≢ Cause.Memory → Holds level R.has R.room (E.serves entries.new)
+            self.old receiver.old (E.contents entries.old) self.new receiver.new (E.contents entries.new)
+            (drop at bytes.now) (drop x.0 bytes.now) x.1) }
         ensures kept { OnOk result (KeepScalars (E.contents entries.new)) }
-        ensures room_on { IfErr result (λ x. (x.1).cause ≢ Cause.Memory
-            → HasRoom (R.room receiver.new) self.new) }
         ensures room { OnOk result (HasRoom (R.room receiver.new) self.new) }
-        ensures keeps { (set : List Resolved) (ms : List Content) (d : Dictionary)
-            → R.keeps receiver.old set ms d → R.keeps receiver.new set ms d }
+        ensures keeps { Carries (R.keeps receiver.old) (R.keeps receiver.new) }
         ensures same_keys { E.serves entries.new ≡ E.serves entries.old }
     {
         match level {

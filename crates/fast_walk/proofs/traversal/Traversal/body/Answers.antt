@@ -22,9 +22,9 @@ returns-in_err-next-clause-stops g c =
     let e = g.E.Entries.contents c.run.new.entries in
     let bytes = drop c.args.at c.args.bytes.now in
     let rest = drop c.in_err-next.field-0.0.0 c.args.bytes.now in
-    let p = held.0 still.received (still.at, still.has) in
+    let p = held.goes still.received (still.at, still.has) in
     still.reads bytes
-    ∙ ap (λ (r : Reads Items). message_of c.args.self.now.level c.args.self.now.template r) (with_none (reads_on c.args.self.now.level old d still.received) (reads_on c.args.self.now.level new e p.0) bytes rest p.3 ∙ held.1 p.0 p.1.0)
+    ∙ ap (λ (r : Reads Items). message_of c.args.self.now.level c.args.self.now.template r) (with_none (reads_on c.args.self.now.level old d still.received) (reads_on c.args.self.now.level new e p.0) bytes rest p.3 ∙ held.halts p.0 p.1.0)
     ∙ content_fails c.args.self.now.level c.args.self.now.template _)
 
 pub returns-in_err-next-clause-held : goal.returns-in_err-next-clause-held
@@ -35,7 +35,7 @@ returns-in_err-next-clause-held g c =
     let new = c.run.new.self in
     let e = g.E.Entries.contents c.run.new.entries in
     let bytes = drop c.args.at c.args.bytes.now in
-    let p = held.0 still.received (still.at, still.has) in
+    let p = held.goes still.received (still.at, still.has) in
     let level = c.args.self.now.level in
     let t = c.args.self.now.template in (
       λ bytes. message_of level t (reads_on level new e p.0 bytes),
@@ -132,4 +132,4 @@ returns-in_err-next-clause-few g c =
     rw (p.1, p.2) (λ t.
     let held = c.in_err-next.ensures.held (want_of_bytes c.in_err-next.field-0.0.1.cause t) in
     let rest = drop c.in_err-next.field-0.0.0 c.args.bytes.now in
-    behind_few c.args.bytes.now c.in_err-next.field-0.0.0 (walk_few c.args.self.now.level c.run.new.self (g.E.Entries.contents c.run.new.entries) rest c.in_err-next.field-0.0.1 held.1 t))
+    behind_few c.args.bytes.now c.in_err-next.field-0.0.0 (walk_few c.args.self.now.level c.run.new.self (g.E.Entries.contents c.run.new.entries) rest c.in_err-next.field-0.0.1 held.halts t))

@@ -1,10 +1,11 @@
-use Rattle.std.proofs.Common.{◌++◌, Some, drop, refl, ap, ◌∙◌, arith}
+use Rattle.std.proofs.Common.{◌++◌, Some, drop, refl, ap, ◌∙◌, arith, rules}
 use Rattle.fast_value.specs.declared.scalar.Scalar.TheVariants.{I64, Decimal}
 use Rattle.fast_stream.specs.Nodes.{single}
 use Rattle.fast_stream.specs.Faults.{cause_of_field}
 use Rattle.fast_walk.specs.OpenSegments.{cursor}
 use Rattle.fast_walk.specs.Received.{passed}
 use Rattle.fast_walk.specs.Walks.{next_of}
+use Rattle.fast_walk.proofs.Pieces.{can_walk, stops_with}
 use Rattle.fast_walk.proofs.Steps.{part_goes, part_stops}
 use Rattle.fast_walk.proofs.Walking.{mantissa_on_goes, mantissa_on_stops, is_mantissa}
 use Rattle.fast_value.specs.declared.kind.Kind.TheVariants as kind
@@ -13,20 +14,16 @@ use Rattle.fast_walk.proofs.Telling.{asked_for, told_keeps}
 use Rattle.fast_walk.proofs.walk.Walk.mantissa.Goals as goal
 
 pub returns-in-Err-clause-stops : goal.returns-in-Err-clause-stops
-returns-in-Err-clause-stops g c = λ other o at.
+returns-in-Err-clause-stops g c = λ other.
     let old = c.args.self.now in
     let d = g.E.Entries.contents c.args.entries.now in
     let bytes = drop c.args.at c.args.bytes.now in
-    let next = is_mantissa o.next _ c.args.mantissa.now (at.next ∙ ap next_of c.requires.next) in
-    let stops = (c.in-Err.ensures.stops (λ e. other (c.part_halt.ensures.cause ∙ ap cause_of_field e))).0 in
-    let part = part_stops g.L.Leveled.at c.args.mantissa.now d old.bits old.spare bytes c.in-Err.fault (rw (c.level.ensures, c.first_for-bit.ensures, c.part_needs_bit-needs.ensures) at stops) in
-    rw (c.part_halt.ensures.cause, c.part_halt.ensures.number)
-    (mantissa_on_stops g.L.Leveled.at o.around o.next next.exponent c.args.mantissa.now o.body (cursor d old.bits old.spare bytes) _ next.is part)
-
-pub returns-in-Err-clause-waits : goal.returns-in-Err-clause-waits
-returns-in-Err-clause-waits g c = λ other.
     let stops = c.in-Err.ensures.stops (λ e. other (c.part_halt.ensures.cause ∙ ap cause_of_field e)) in
-    (refl, stops.1, stops.2)
+    let part = part_stops g.L.Leveled.at c.args.mantissa.now d old.bits old.spare bytes c.in-Err.fault (rw (c.level.ensures, c.first_for-bit.ensures, c.part_needs_bit-needs.ensures) at stops.0) in
+    stops_with
+    (λ o at. let next = is_mantissa o.next _ c.args.mantissa.now (at.next ∙ ap next_of c.requires.next) in rw (c.part_halt.ensures.cause, c.part_halt.ensures.number)
+    (mantissa_on_stops g.L.Leveled.at o.around o.next next.exponent c.args.mantissa.now o.body (cursor d old.bits old.spare bytes) _ next.is part))
+    stops.1 stops.2 (c.in-Err.ensures.room_on (λ e. other (c.part_halt.ensures.cause ∙ ap cause_of_field e)) _ _ c.requires.walk.room)
 
 pub returns-in-Ok-clause-goes : goal.returns-in-Ok-clause-goes
 returns-in-Ok-clause-goes g c = λ o at.
@@ -45,9 +42,10 @@ returns-in-Ok-clause-goes g c = λ o at.
           (rw (c.level.ensures, c.first_for-bit.ensures, c.part_needs_bit-needs.ensures) at took.1.value more))),
     )
 
-pub returns-in-Ok-clause-kept : goal.returns-in-Ok-clause-kept
-returns-in-Ok-clause-kept g c =
+pub returns-in-Ok-clause-walk : goal.returns-in-Ok-clause-walk
+returns-in-Ok-clause-walk g c =
     let old = c.args.self.now in
-    told_keeps c.level.result c.args.mantissa.now c.first_for-bit.result (g.E.Entries.contents c.args.entries.now) (g.E.Entries.contents c.mantissa.new.entries) c.args.bytes.now c.args.at c.in-Ok.next
+    can_walk (search rules) (search rules)
+    (told_keeps c.level.result c.args.mantissa.now c.first_for-bit.result (g.E.Entries.contents c.args.entries.now) (g.E.Entries.contents c.mantissa.new.entries) c.args.bytes.now c.args.at c.in-Ok.next
     (λ k. omega (arith, c.type_inv.bytes k)) (asked_for c.args.mantissa.now c.part_needs_bit-needs.result c.first_for-bit.result old.bits c.part_needs_bit-needs.ensures c.first_for-bit.ensures)
-    part.Mantissa kind.Int64 (Some (I64 c.in-Ok.ensures.goes.0)) refl (rw (c.requires.next) at c.requires.ready.next).0.1 c.in-Ok.ensures.goes.1 c.requires.kept
+    part.Mantissa kind.Int64 (Some (I64 c.in-Ok.ensures.goes.0)) refl (rw (c.requires.next) at c.requires.walk.ready.next).0.1 c.in-Ok.ensures.goes.1 c.requires.walk.kept)

@@ -3,6 +3,9 @@ use Rattle.fast_walk.specs.Walks.{At, reads_on}
 use Rattle.fast_walk.proofs.Walking.{goes_on}
 use Rattle.fast_walk.proofs.walk.Walk.turn.Goals as goal
 
+pub fields-requires-clause-walk : goal.fields-requires-clause-walk
+fields-requires-clause-walk g c = rw (c.step.ensures.same_keys) c.in_ok-next.ensures.walk
+
 pub returns-clause-goes : goal.returns-clause-goes
 returns-clause-goes g c =
     let has = g.R.Receiver.has in
