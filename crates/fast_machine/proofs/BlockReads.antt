@@ -25,9 +25,9 @@ use Rattle.fast_machine.specs.Calls.{LeavesMessage, StandsAt}
 use Rattle.fast_machine.specs.Following.{Counts}
 use Rattle.fast_machine.specs.Runs.{Ended, Forgets, Having, ReadsOn, ReadsRun, Run, RunHasAll, RunStands, RunStops, Standing, Unfinished}
 use Rattle.fast_machine.specs.Standing.{Behind, Carried, HasAll, Stands, StopsBehind, framed_as}
-use Rattle.fast_machine.proofs.Calls.{Finds, Found, StreamEnds}
+use Rattle.fast_machine.proofs.Calls.{Finds, Found, StreamEnds, found_of}
 use Rattle.fast_machine.proofs.Standings.{Onward, Opening, Window, any_onward, carried_of, end_onward, fault_onward, go_on, inside_onward, opened, run_from, waits_onward, whole_onward}
-use Rattle.fast_machine.proofs.Followings.{counts_pushed, few_messages, forgets, not_memory}
+use Rattle.fast_machine.proofs.Followings.{forgets, not_memory}
 use Rattle.fast_machine.proofs.Runs.{drop_all}
 
 pub drop_again : (n m : ℕ) (xs : List ℕ) → drop m (drop n xs) ≡ drop (n + m) xs
@@ -193,53 +193,43 @@ module _ {R E : Type 0} {receiver : Receiving R} {entries : Ghosts E} (old : Mac
       let next = subst (λ (xs : List ℕ). Unfinished (Before before) old.traversal xs b.start.dictionary b.ends.within) (sym is_window) b.ends.next in
       found before b.start.dictionary b.ends.within [] (run_from (Before before) old.traversal window b.start.dictionary b.ends.within next)
 
-  counts_now : (fed : List ℕ) (messages more : List Content) → length fed ≤ 2 ^ 60 → Counts old.fed old.messages fed messages → length more ≡ p.messages → Carried (framed_as Blocks u) (templates_in u.set.now) fed (messages ++ more) → Counts old.fed count fed (messages ++ more)
-  counts_now fed messages more short counts number carried = counts_pushed old.fed old.messages p.messages count fed messages more counts number counted (few_messages (framed_as Blocks u) (templates_in u.set.now) fed (messages ++ more) carried) short
-
   unread_is : drop p.at (drop at bytes) ≡ drop (at + p.at) bytes
   unread_is = drop_again at p.at bytes
 
   pub block_goes : p.halt ≡ None → Finds Blocks old bytes p.messages count None (room - p.at) u s (entries.contents e) (drop (at + p.at) bytes)
-  block_goes is before fed messages short counts stands =
-      let b = open_now before fed messages stands in
-      let r = ended None (rw (is) at reads) before fed messages b in
-      let H = After (before ++ r.0) in
-      let goes = block_stands_behind (Before before) old.traversal u room p.at (drop at bytes) window fed messages r.0 b is_window leaves.place leaves.level set H r.2.1 r.2.0 in
-      record {
-        ended = r.0;
-        number_is = r.1;
-        counts = counts_now fed messages r.0 short counts r.1 (carried_of Blocks (room - p.at) H u (drop p.at (drop at bytes)) fed (messages ++ r.0) goes);
-        leaves = subst (λ (xs : List ℕ). Stands Blocks (room - p.at) H u xs fed (messages ++ r.0)) unread_is goes;
-      }
+  block_goes is = record {
+    found = λ before fed messages short counts stands.
+        let b = open_now before fed messages stands in
+        let r = ended None (rw (is) at reads) before fed messages b in
+        let H = After (before ++ r.0) in
+        let goes = block_stands_behind (Before before) old.traversal u room p.at (drop at bytes) window fed messages r.0 b is_window leaves.place leaves.level set H r.2.1 r.2.0 in
+        found_of Blocks u _ _ _ count fed messages r.0 _ counted short counts r.1 (carried_of Blocks (room - p.at) H u (drop p.at (drop at bytes)) fed (messages ++ r.0) goes)
+        (subst (λ (xs : List ℕ). Stands Blocks (room - p.at) H u xs fed (messages ++ r.0)) unread_is goes);
+  }
 
   -- where bytes are wanted, the block has more of them
   pub block_halts : (h : Halt) → p.halt ≡ Some h → (h.cause ≡ Truncated → length (drop (at + p.at) bytes) < room - p.at) → Finds Blocks old bytes p.messages count (Some h) (room - p.at) u s (entries.contents e) (drop (at + p.at) bytes)
-  block_halts h is more before fed messages short counts stands =
-      let b = open_now before fed messages stands in
-      let r = ended (Some h) (rw (is) at reads) before fed messages b in
-      let halted = r.2 in
-      let G = Before before in
-      let H = After (before ++ r.0) in
-      let unread = drop at bytes in
-      let all = messages ++ r.0 in
-      let carried = block_carried G old.traversal u room p.at unread window fed messages r.0 b is_window leaves.place leaves.level set (λ d rest. Unit {0}) halted.0 in
-      record {
-        ended = r.0;
-        number_is = r.1;
-        counts = counts_now fed messages r.0 short counts r.1 carried;
-        leaves = subst (λ (xs : List ℕ). StreamEnds receiver.has receiver.stands receiver.keeps (Some h) Blocks (room - p.at) u s (entries.contents e) (before ++ r.0) xs fed all) unread_is (
+  block_halts h is more = record {
+    found = λ before fed messages short counts stands.
+        let b = open_now before fed messages stands in
+        let r = ended (Some h) (rw (is) at reads) before fed messages b in
+        let G = Before before in
+        let unread = drop at bytes in
+        let carried = block_carried G old.traversal u room p.at unread window fed messages r.0 b is_window leaves.place leaves.level set (λ d rest. Unit {0}) r.2.0 in
+        found_of Blocks u _ _ _ count fed messages r.0 _ counted short counts r.1 carried
+        (subst (λ (xs : List ℕ). StreamEnds receiver.has receiver.stands receiver.keeps (Some h) Blocks (room - p.at) u s (entries.contents e) (before ++ r.0) xs fed (messages ++ r.0)) unread_is (
           carried,
           (λ wanted.
               let few : length (drop p.at unread) < room - p.at = rw (unread_is) (more wanted) in (
-                block_waits G old.traversal u room p.at unread window fed messages r.0 b is_window leaves.place leaves.level set h few (halted.1 (not_memory h.cause wanted)),
-                block_stands G old.traversal u room p.at unread window fed messages r.0 b is_window leaves.place leaves.level set H (omega (arith, few)) (halted.2 wanted),
+                block_waits G old.traversal u room p.at unread window fed messages r.0 b is_window leaves.place leaves.level set h few (r.2.1 (not_memory h.cause wanted)),
+                block_stands G old.traversal u room p.at unread window fed messages r.0 b is_window leaves.place leaves.level set (After (before ++ r.0)) (omega (arith, few)) (r.2.2 wanted),
               )),
           (λ other. (
-            (λ known. block_faults G old.traversal u room p.at unread window fed messages r.0 b is_window leaves.place leaves.level set h other (halted.1 known)),
-            block_has_all G old.traversal u room p.at unread window fed messages r.0 b is_window leaves.place leaves.level set receiver.stands s (before ++ r.0) (halted.3 other),
+            (λ known. block_faults G old.traversal u room p.at unread window fed messages r.0 b is_window leaves.place leaves.level set h other (r.2.1 known)),
+            block_has_all G old.traversal u room p.at unread window fed messages r.0 b is_window leaves.place leaves.level set receiver.stands s (before ++ r.0) (r.2.3 other),
           )),
-        );
-      }
+        ));
+  }
 
   -- where more bytes are wanted than the block has, the message stops at its end
   pub block_cuts : (h : Halt) (after : R) (now : Framing) → now ≡ Blocks → p.halt ≡ Some h → h.cause ≡ Truncated → room - p.at ≤ length (drop (at + p.at) bytes) → Forgets receiver.stands receiver.keeps s after
@@ -250,18 +240,12 @@ module _ {R E : Type 0} {receiver : Receiving R} {entries : Ghosts E} (old : Mac
   block_cuts h after now same is wanted full forgotten before fed messages short counts stands =
       let b = open_now before fed messages stands in
       let r = ended (Some h) (rw (is) at reads) before fed messages b in
-      let halted = r.2 in
       let G = Before before in
       let unread = drop at bytes in
-      let carried = block_carried G old.traversal u room p.at unread window fed messages r.0 b is_window leaves.place leaves.level set (λ d rest. Unit {0}) halted.0 in
-      record {
-        ended = r.0;
-        number_is = r.1;
-        counts = counts_now fed messages r.0 short counts r.1 carried;
-        leaves = rw (same) (
-          carried,
-          subst (λ (xs : List ℕ). StopsBehind (framed_as Blocks u) (templates_in u.set.now) fed (messages ++ r.0) (record { template = u.template; stop = record { cause = BlockEnd; instruction = h.number; left = length xs } })) unread_is
-              (block_stops G old.traversal u room p.at unread window fed messages r.0 b is_window leaves.place leaves.level set h wanted (rw (unread_is) full) (halted.1 (not_memory h.cause wanted))),
-          block_forgets G old.traversal u room p.at unread window fed messages r.0 b is_window leaves.place leaves.level set receiver.has receiver.stands receiver.keeps s after (entries.contents e) (before ++ r.0) forgotten (halted.2 wanted),
-        );
-      }
+      let carried = block_carried G old.traversal u room p.at unread window fed messages r.0 b is_window leaves.place leaves.level set (λ d rest. Unit {0}) r.2.0 in
+      found_of Blocks u _ _ _ count fed messages r.0 _ counted short counts r.1 carried (rw (same) (
+        carried,
+        subst (λ (xs : List ℕ). StopsBehind (framed_as Blocks u) (templates_in u.set.now) fed (messages ++ r.0) (record { template = u.template; stop = record { cause = BlockEnd; instruction = h.number; left = length xs } })) unread_is
+            (block_stops G old.traversal u room p.at unread window fed messages r.0 b is_window leaves.place leaves.level set h wanted (rw (unread_is) full) (r.2.1 (not_memory h.cause wanted))),
+        block_forgets G old.traversal u room p.at unread window fed messages r.0 b is_window leaves.place leaves.level set receiver.has receiver.stands receiver.keeps s after (entries.contents e) (before ++ r.0) forgotten (r.2.2 wanted),
+      ))

@@ -18,7 +18,7 @@ use Rattle.fast_machine.specs.Standing.{Carried, HasAll, Stands, StopsBehind, fr
 use Rattle.fast_machine.specs.Following.{Counts, Follows, Refused, Waits, mode_of}
 use Rattle.fast_machine.specs.Calls.{FollowsBehind, IsFault, IsFaultOf, KeepsFault, StandsAt, StaysAt}
 use Rattle.fast_machine.proofs.Standings.{carried_of}
-use Rattle.fast_machine.proofs.Followings.{counts_fed, left_behind, memory_refused, stands_fed}
+use Rattle.fast_machine.proofs.Followings.{counts_fed, counts_pushed, few_messages, left_behind, memory_refused, stands_fed}
 
 -- ---- a chunk more
 
@@ -87,20 +87,29 @@ pub record Found (number fed count : ℕ) (bytes : List ℕ) (messages : List Co
   pub counts : Counts fed count bytes (messages ++ ended)
   pub leaves : Leaves ended
 
--- what a machine finds in bytes that it reads on in, up to these
-abbrev pub Finds : {R E : Type 0} {receiver : Receiving R} {entries : Ghosts E} → Framing → Machine R E receiver entries → List ℕ → ℕ → ℕ → Option Halt → ℕ → Traversal → R → Dictionary → List ℕ → Type 0
-Finds {receiver = receiver} framing old bytes number count halt left u s e unread = (before : List Content) (fed : List ℕ) (messages : List Content)
-    → length fed ≤ 2 ^ 60 → Counts old.fed old.messages fed messages → StandsAt framing old before bytes fed messages
-    → Found number old.fed count fed messages (λ ended. StreamEnds receiver.has receiver.stands receiver.keeps halt framing left u s e (before ++ ended) unread fed (messages ++ ended))
+-- the messages that ended are counted
+pub found_of : (framing : Framing) (u : Traversal) (number fed_before count_before count : ℕ) (fed : List ℕ) (messages more : List Content) (Leaves : List Content → Type 0) → (count_before + number < 2 ^ 62 → count ≡ count_before + number) → length fed ≤ 2 ^ 60 → Counts fed_before count_before fed messages
+    → length more ≡ number → Carried (framed_as framing u) (templates_in u.set.now) fed (messages ++ more) → Leaves more → Found number fed_before count fed messages Leaves
+found_of framing u number fed_before count_before count fed messages more Leaves counted short counts is carried leaves = record {
+  ended = more;
+  number_is = is;
+  counts = counts_pushed fed_before count_before number count fed messages more counts is counted (few_messages (framed_as framing u) (templates_in u.set.now) fed (messages ++ more) carried) short;
+  leaves = leaves;
+}
+
+-- what a machine finds in bytes that it reads on in, up to those that are unread
+pub record Finds {R E : Type 0} {receiver : Receiving R} {entries : Ghosts E} (framing : Framing) (old : Machine R E receiver entries) (bytes : List ℕ) (number count : ℕ) (halt : Option Halt) (left : ℕ) (u : Traversal) (s : R) (e : Dictionary) (unread : List ℕ) : Type 0 where
+  pub found : (before : List Content) (fed : List ℕ) (messages : List Content) → length fed ≤ 2 ^ 60 → Counts old.fed old.messages fed messages → StandsAt framing old before bytes fed messages
+      → Found number old.fed count fed messages (λ ended. StreamEnds receiver.has receiver.stands receiver.keeps halt framing left u s e (before ++ ended) unread fed (messages ++ ended))
 
 -- where bytes are wanted, those unread are held
-pub finds_waiting : {R E : Type 0} {receiver : Receiving R} {entries : Ghosts E} (framing : Framing) (old new : Machine R E receiver entries) (bytes : List ℕ) (number count : ℕ) (h : Halt) (left : ℕ) (u : Traversal) (s : R) (e : Dictionary) (unread rest : List ℕ)
+pub finds_waiting : {R E : Type 0} {receiver : Receiving R} {entries : Ghosts E} {framing : Framing} {old new : Machine R E receiver entries} {bytes : List ℕ} {number count : ℕ} {h : Halt} {left : ℕ} {u : Traversal} {s : R} {e : Dictionary} {unread rest : List ℕ}
     → Finds framing old bytes number count (Some h) left u s e unread → h.cause ≡ Truncated → unread ≡ rest
     → ((before : List Content) (fed : List ℕ) (messages : List Content) → length fed < 2 ^ 61 → Counts old.fed count fed messages
     → Stands framing left (ReadsOn receiver.has receiver.stands receiver.keeps u s e before) u rest fed messages → Waits framing left u rest h.number fed messages → Follows new before fed messages)
     → FollowsBehind framing old bytes new
-finds_waiting {receiver = receiver} framing old new bytes number count h left u s e unread rest finds is same held = λ before fed messages short counts stands.
-    let f = finds before fed messages short counts stands in
+finds_waiting {receiver = receiver} {framing = framing} {h = h} {left = left} {u = u} {s = s} {e = e} finds is same held before fed messages short counts stands =
+    let f = finds.found before fed messages short counts stands in
     let all = messages ++ f.ended in
     let waits = f.leaves.1 is in (
       f.ended,
@@ -110,12 +119,12 @@ finds_waiting {receiver = receiver} framing old new bytes number count h left u 
     )
 
 -- another fault is the first
-pub finds_fault : {R E : Type 0} {receiver : Receiving R} {entries : Ghosts E} (framing now : Framing) (old : Machine R E receiver entries) (bytes : List ℕ) (number count : ℕ) (h : Halt) (left : ℕ) (u : Traversal) (s : R) (e : Dictionary) (unread : List ℕ) (fault : Fault) (size : ℕ)
+pub finds_fault : {R E : Type 0} {receiver : Receiving R} {entries : Ghosts E} {framing now : Framing} {old : Machine R E receiver entries} {bytes : List ℕ} {number count : ℕ} {h : Halt} {left : ℕ} {u : Traversal} {s : R} {e : Dictionary} {unread : List ℕ} (fault : Fault) (size : ℕ)
     → now ≡ framing → Finds framing old bytes number count (Some h) left u s e unread → h.cause ≢ Truncated → IsSound u.set.now → length unread ≡ size → IsFaultOf h count old.fed size u.template fault
     → (before : List Content) (fed : List ℕ) (messages : List Content) → length fed ≤ 2 ^ 60 → Counts old.fed old.messages fed messages → StandsAt framing old before bytes fed messages
     → Found number old.fed count fed messages (λ ended. Refused fault (framed_as now u) (templates_in u.set.now) fed (messages ++ ended) × HasAll receiver.stands now u s (before ++ ended) fed (messages ++ ended))
-finds_fault framing now old bytes number count h left u s e unread fault size same finds other sound is refused before fed messages short counts stands =
-    let f = finds before fed messages short counts stands in
+finds_fault {framing = framing} {u = u} {unread = unread} fault size same finds other sound is refused before fed messages short counts stands =
+    let f = finds.found before fed messages short counts stands in
     let faults = f.leaves.2 other in
     record {
       ended = f.ended;

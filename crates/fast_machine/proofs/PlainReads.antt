@@ -1,5 +1,5 @@
 -- What a read of messages leaves in plain framing.
-use Rattle.std.proofs.Common.{◌≡◌, ◌≢◌, ◌≤◌, ◌<◌, ◌^◌, ℕ, ◌+◌, length, drop, List, [], ◌++◌, Option, Some, None, Err, ap, refl, inl}
+use Rattle.std.proofs.Common.{◌≡◌, ◌≢◌, ◌<◌, ◌^◌, ℕ, ◌+◌, length, drop, List, [], ◌++◌, Option, Some, None, Err, ap, refl, inl}
 use Rattle.fast_wire.specs.Reader.{IsBytes}
 use Rattle.fast_template.specs.Resolved.{Resolved}
 use Rattle.fast_template.specs.TemplateSets.{templates_in}
@@ -19,12 +19,11 @@ use Rattle.fast_walk.specs.Traversals.{stop_of}
 use Rattle.fast_machine.specs.declared.machine.Machine.{Machine}
 use Rattle.fast_machine.specs.declared.messages.Progress.{Progress}
 use Rattle.fast_machine.specs.Calls.{LeavesMessage, StandsAt}
-use Rattle.fast_machine.specs.Following.{Counts}
 use Rattle.fast_machine.specs.Runs.{Ended, ReadsOn, ReadsRun, Run, RunHasAll, RunStands, RunStops, Standing, Unfinished}
 use Rattle.fast_machine.specs.Standing.{Carried, GoesIn, HasAll, Stands, StopsBehind, framed_as}
 use Rattle.fast_machine.proofs.Standings.{carried_of, go_on, plain_onward, run_from}
-use Rattle.fast_machine.proofs.Followings.{counts_pushed, few_messages, not_memory}
-use Rattle.fast_machine.proofs.Calls.{Finds}
+use Rattle.fast_machine.proofs.Followings.{not_memory}
+use Rattle.fast_machine.proofs.Calls.{Finds, found_of}
 
 module _ (G : Dictionary → (List ℕ → Reading) → Type 0) (t u : Traversal) (left : ℕ) (bytes fed : List ℕ) (messages more : List Content)
     (b : Stands Plain left G t bytes fed messages) (level : u.level ≡ t.level) (set : u.set.now ≡ t.set.now) where
@@ -70,34 +69,24 @@ module _ {R E : Type 0} {receiver : Receiving R} {entries : Ghosts E} (old : Mac
       → (more : List Content) × (length more ≡ p.messages) × Ended receiver.has receiver.stands receiver.keeps halt u s (entries.contents e) (before ++ more) (drop p.at bytes) b.start.dictionary b.rest more
   ended halt found before fed messages b = found before b.start.dictionary b.rest [] (run_from (Before before) old.traversal bytes b.start.dictionary b.rest b.ends.0)
 
-  counts_now : (fed : List ℕ) (messages more : List Content) → length fed ≤ 2 ^ 60 → Counts old.fed old.messages fed messages → length more ≡ p.messages → Carried (framed_as Plain u) (templates_in u.set.now) fed (messages ++ more) → Counts old.fed count fed (messages ++ more)
-  counts_now fed messages more short counts number carried = counts_pushed old.fed old.messages p.messages count fed messages more counts number counted (few_messages (framed_as Plain u) (templates_in u.set.now) fed (messages ++ more) carried) short
-
   pub plain_goes : p.halt ≡ None → Finds Plain old bytes p.messages count None old.left u s (entries.contents e) (drop p.at bytes)
-  plain_goes is before fed messages short counts b =
-      let r = ended None (rw (is) at reads) before fed messages b in
-      let goes = plain_stands (Before before) old.traversal u old.left bytes fed messages r.0 b leaves.level set (Behind (before ++ r.0)) (drop p.at bytes) r.2.0 in
-      record {
-        ended = r.0;
-        number_is = r.1;
-        counts = counts_now fed messages r.0 short counts r.1 (carried_of Plain old.left (Behind (before ++ r.0)) u (drop p.at bytes) fed (messages ++ r.0) goes);
-        leaves = goes;
-      }
+  plain_goes is = record {
+    found = λ before fed messages short counts b.
+        let r = ended None (rw (is) at reads) before fed messages b in
+        let goes = plain_stands (Before before) old.traversal u old.left bytes fed messages r.0 b leaves.level set (Behind (before ++ r.0)) (drop p.at bytes) r.2.0 in
+        found_of Plain u _ _ _ count fed messages r.0 _ counted short counts r.1 (carried_of Plain old.left (Behind (before ++ r.0)) u (drop p.at bytes) fed (messages ++ r.0) goes) goes;
+  }
 
   pub plain_halts : (h : Halt) → p.halt ≡ Some h → Finds Plain old bytes p.messages count (Some h) old.left u s (entries.contents e) (drop p.at bytes)
-  plain_halts h is before fed messages short counts b =
-      let r = ended (Some h) (rw (is) at reads) before fed messages b in
-      let halted = r.2 in
-      let G = Before before in
-      let carried = plain_carried G old.traversal u old.left bytes fed messages r.0 b leaves.level set (λ d rest. Unit {0}) halted.0 in
-      let stops = λ (known : h.cause ≢ Memory). plain_stops G old.traversal u old.left bytes fed messages r.0 b leaves.level set (stop_of u.template h (drop p.at bytes)) (halted.1 known) in
-      record {
-        ended = r.0;
-        number_is = r.1;
-        counts = counts_now fed messages r.0 short counts r.1 carried;
-        leaves = (
+  plain_halts h is = record {
+    found = λ before fed messages short counts b.
+        let r = ended (Some h) (rw (is) at reads) before fed messages b in
+        let G = Before before in
+        let carried = plain_carried G old.traversal u old.left bytes fed messages r.0 b leaves.level set (λ d rest. Unit {0}) r.2.0 in
+        let stops = λ (known : h.cause ≢ Memory). plain_stops G old.traversal u old.left bytes fed messages r.0 b leaves.level set (stop_of u.template h (drop p.at bytes)) (r.2.1 known) in
+        found_of Plain u _ _ _ count fed messages r.0 _ counted short counts r.1 carried (
           carried,
-          (λ wanted. (stops (not_memory h.cause wanted), plain_stands G old.traversal u old.left bytes fed messages r.0 b leaves.level set (Behind (before ++ r.0)) (drop p.at bytes) (halted.2 wanted))),
-          (λ other. (stops, plain_has_all G old.traversal u old.left bytes fed messages r.0 b leaves.level set receiver.stands s (before ++ r.0) (halted.3 other))),
+          (λ wanted. (stops (not_memory h.cause wanted), plain_stands G old.traversal u old.left bytes fed messages r.0 b leaves.level set (Behind (before ++ r.0)) (drop p.at bytes) (r.2.2 wanted))),
+          (λ other. (stops, plain_has_all G old.traversal u old.left bytes fed messages r.0 b leaves.level set receiver.stands s (before ++ r.0) (r.2.3 other))),
         );
-      }
+  }

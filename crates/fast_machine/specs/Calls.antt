@@ -1,5 +1,5 @@
 -- What the calls of a machine answer and leave.
-use Rattle.std.specs.Prelude.{◌≡◌, ◌≢◌, ◌≤◌, ◌<◌, ◌^◌, ℕ, ◌+◌, List, [], ◌++◌, length, take, drop, Option, Some, None, Result, IfOk, IfErr, IfSome, IfNone}
+use Rattle.std.specs.Prelude.{◌≡◌, ◌≢◌, ◌≤◌, ◌<◌, ◌^◌, ℕ, ◌+◌, List, [], ◌++◌, length, take, drop, Option, Some, None, Result, Ok, Err, IfOk, IfErr, IfSome, IfNone}
 use Rattle.fast_stream.specs.declared.fault.Cause.{Cause}
 use Rattle.fast_stream.specs.declared.fault.Cause.TheVariants.{Truncated, Memory}
 use Rattle.fast_stream.specs.declared.fault.Fault.{Fault}
@@ -19,7 +19,7 @@ use Rattle.fast_machine.specs.declared.machine.Machine.{Machine}
 use Rattle.fast_machine.specs.declared.messages.Progress.{Progress}
 use Rattle.fast_machine.specs.Runs.{Forgets}
 use Rattle.fast_machine.specs.Standing.{Carried, ReadsOn, Stands, StopsBehind}
-use Rattle.fast_machine.specs.Following.{Counts, Follows, Refused, Waits}
+use Rattle.fast_machine.specs.Following.{Counts, Follows, Refused, Waits, mode_of}
 
 -- of what was fed these bytes are unread, and the machine reads on from them
 abbrev pub StandsAt : {R E : Type 0} {receiver : Receiving R} {entries : Ghosts E} → Framing → Machine R E receiver entries → List Content → List ℕ → List ℕ → List Content → Type 0
@@ -52,10 +52,8 @@ StandsBehind framing old unread place new = (before : List Content) (fed : List 
 -- A machine reads on in these bytes: it answers the place behind the next message, or none and holds what is not read,
 -- or the fault that it keeps.
 abbrev pub ReadsNext : {R E : Type 0} {receiver : Receiving R} {entries : Ghosts E} → Framing → Machine R E receiver entries → List ℕ → Result (Option ℕ) Fault → Machine R E receiver entries → Type 0
-ReadsNext framing old bytes result new =
-    IfOk result (λ o. IfSome o (λ n. StandsBehind framing old bytes n new))
-    × IfOk result (λ o. IfNone o ((new.fault ≡ None) × FollowsBehind framing old bytes new))
-    × IfErr result (λ f. (new.fault ≡ Some f) × (f.cause ≢ Truncated) × FollowsBehind framing old bytes new)
+ReadsNext framing old bytes (Ok next) new = IfSome next (λ place. StandsBehind framing old bytes place new) × IfNone next ((new.fault ≡ None) × FollowsBehind framing old bytes new)
+ReadsNext framing old bytes (Err fault) new = (new.fault ≡ Some fault) × (fault.cause ≢ Truncated) × FollowsBehind framing old bytes new
 
 -- a place that it answers is within the bytes, behind one of them where a message begins there, and none is held
 pub record IsBehind {R E : Type 0} {receiver : Receiving R} {entries : Ghosts E} (old : Machine R E receiver entries) (bytes : List ℕ) (place : ℕ) (new : Machine R E receiver entries) : Type 0 where
@@ -84,6 +82,12 @@ FollowsTaken old chunk result new = (before : List Content) (fed : List ℕ) (me
     → (ended : List Content)
     × IfOk result (λ n. Follows new (before ++ ended) (fed ++ take n chunk) (messages ++ ended))
     × IfErr result (λ f. Follows new (before ++ ended) (fed ++ chunk) (messages ++ ended))
+
+-- what no call changes
+pub record IsSameStream {R E : Type 0} {receiver : Receiving R} {entries : Ghosts E} (old new : Machine R E receiver entries) : Type 0 where
+  pub set : new.traversal.set ≡ old.traversal.set
+  pub mode : mode_of new ≡ mode_of old
+  pub same_keys : entries.serves new.entries ≡ entries.serves old.entries
 
 -- nothing but the bytes held, what is said of them, the receiver and the fault has changed
 pub record StaysAt {R E : Type 0} {receiving : Receiving R} {serving : Ghosts E} (old new : Machine R E receiving serving) : Type 0 where

@@ -9,7 +9,7 @@ ghost use Rattle.fast_stream.specs.Modes.{Carries};
 ghost use Rattle.fast_walk.specs.declared.traversal.Stage.TheVariants as stage;
 ghost use Rattle.fast_walk.specs.Lacks.{AreUnstopped, Lacks};
 ghost use Rattle.fast_walk.specs.Traversals.{CanGoOn, ServesAll, begun_of};
-ghost use Rattle.fast_machine.specs.Calls.{FollowsAll, FollowsHolding, FollowsOn, FollowsTaken, FollowsWaiting, IsBehind, IsFault, IsFaultOf, KeepsFault, ReadsNext, StandsAt, StaysAt, StillFollows};
+ghost use Rattle.fast_machine.specs.Calls.{FollowsAll, FollowsHolding, FollowsOn, FollowsTaken, FollowsWaiting, IsBehind, IsFault, IsFaultOf, IsSameStream, KeepsFault, ReadsNext, StandsAt, StaysAt, StillFollows};
 ghost use Rattle.fast_machine.specs.Following.{Counts, IsHeld};
 ghost use Rattle.fast_machine.specs.Runs.{Retains};
 
@@ -464,9 +464,7 @@ impl<'a, R: Receiver, E: Entries> Machine<'a, R, E> {
         requires some { (0 < length bytes.now) ⊎ (begun_of self.now.traversal ≡ 1) }
         ensures reads { ReadsNext Framing.Plain self.old bytes.now result self.new }
         ensures place { IfOk result (λ o. IfSome o (λ n. IsBehind self.old bytes.now n self.new)) }
-        ensures set { self.new.traversal.set ≡ self.old.traversal.set }
-        ensures mode { mode_of self.new ≡ mode_of self.old }
-        ensures same_keys { E.serves self.new.entries ≡ E.serves self.old.entries }
+        ensures same { IsSameStream self.old self.new }
         ensures fed { self.new.fed ≡ self.old.fed }
     {
         let progress = read_message(
@@ -538,9 +536,7 @@ impl<'a, R: Receiver, E: Entries> Machine<'a, R, E> {
         requires some { (0 < length bytes.now) ⊎ (begun_of self.now.traversal ≡ 1) }
         ensures reads { ReadsNext Framing.Blocks self.old bytes.now result self.new }
         ensures place { IfOk result (λ o. IfSome o (λ n. IsBehind self.old bytes.now n self.new)) }
-        ensures set { self.new.traversal.set ≡ self.old.traversal.set }
-        ensures mode { mode_of self.new ≡ mode_of self.old }
-        ensures same_keys { E.serves self.new.entries ≡ E.serves self.old.entries }
+        ensures same { IsSameStream self.old self.new }
         ensures fed { self.new.fed ≡ self.old.fed }
     {
         let (left, at) = match open_block(self.traversal.level(), self.left, bytes) {
@@ -594,9 +590,7 @@ impl<'a, R: Receiver, E: Entries> Machine<'a, R, E> {
         requires some { (0 < length bytes.now) ⊎ (begun_of self.now.traversal ≡ 1) }
         ensures reads { ReadsNext self.old.framing self.old bytes.now result self.new }
         ensures place { IfOk result (λ o. IfSome o (λ n. IsBehind self.old bytes.now n self.new)) }
-        ensures set { self.new.traversal.set ≡ self.old.traversal.set }
-        ensures mode { mode_of self.new ≡ mode_of self.old }
-        ensures same_keys { E.serves self.new.entries ≡ E.serves self.old.entries }
+        ensures same { IsSameStream self.old self.new }
         ensures fed { self.new.fed ≡ self.old.fed }
     {
         match self.framing {
@@ -634,9 +628,7 @@ impl<'a, R: Receiver, E: Entries> Machine<'a, R, E> {
         requires some { 0 < length chunk.now }
         ensures reads { ReadsNext self.old.framing self.old (self.old.held.items ++ chunk.now) result self.new }
         ensures place { IfOk result (λ o. IfSome o (λ n. IsBehind self.old (self.old.held.items ++ chunk.now) n self.new)) }
-        ensures set { self.new.traversal.set ≡ self.old.traversal.set }
-        ensures mode { mode_of self.new ≡ mode_of self.old }
-        ensures same_keys { E.serves self.new.entries ≡ E.serves self.old.entries }
+        ensures same { IsSameStream self.old self.new }
         ensures fed { self.new.fed ≡ self.old.fed }
     {
         self.end = 0;
@@ -665,9 +657,7 @@ impl<'a, R: Receiver, E: Entries> Machine<'a, R, E> {
         ensures open { IfOk result (λ n. self.new.fault ≡ None) }
         ensures refused { IfErr result (λ f. self.new.fault ≡ Some f) }
         ensures cause { self.old.fault ≡ None → IfErr result (λ f. f.cause ≢ Cause.Truncated) }
-        ensures set { self.new.traversal.set ≡ self.old.traversal.set }
-        ensures mode { mode_of self.new ≡ mode_of self.old }
-        ensures same_keys { E.serves self.new.entries ≡ E.serves self.old.entries }
+        ensures same { IsSameStream self.old self.new }
         ensures fed { self.old.fault ≡ None → IfOk result (λ n. self.new.fed ≡ self.old.fed + n)
             × IfErr result (λ f. self.new.fed ≡ self.old.fed + length chunk.now) }
     {

@@ -1,4 +1,5 @@
-use Rattle.std.proofs.Common.{◌≡◌, ◌++◌, ℕ, [], Option, Some, None, IfNone, length, arith, rules, append-nil}
+use Rattle.std.proofs.Common.{◌≡◌, ◌++◌, ℕ, List, [], Option, Some, None, IfNone, length, ap, sym, subst, arith, rules, append-nil}
+use Rattle.fast_machine.specs.Calls.{ReadsNext}
 use Rattle.fast_machine.proofs.Calls.{follows_without_memory}
 use Rattle.fast_machine.proofs.Followings.{none_of, not_memory}
 use Rattle.fast_machine.proofs.machine.Machine.read_behind.Goals as goal
@@ -6,23 +7,21 @@ use Rattle.fast_machine.proofs.machine.Machine.read_behind.Goals as goal
 pub returns-in-Err-clause-reads : goal.returns-in-Err-clause-reads
 returns-in-Err-clause-reads g c =
     let r = c.refuse.ensures in (
-      tt,
-      tt,
-      (
-        r.keeps.kept,
-        (λ e. not_memory c.refuse.result.cause e r.fault.cause_is),
-        λ before fed messages short counts stands. (
-          [],
-          rw (append-nil before, append-nil messages)
-              (follows_without_memory r.fault r.keeps before (c.args.self.now.held.items ++ c.args.chunk.now) fed messages (omega (arith, short)) counts stands),
-        ),
+      r.keeps.kept,
+      (λ e. not_memory c.refuse.result.cause e r.fault.cause_is),
+      λ before fed messages short counts stands. (
+        [],
+        rw (append-nil before, append-nil messages)
+            (follows_without_memory r.fault r.keeps before (c.args.self.now.held.items ++ c.args.chunk.now) fed messages (omega (arith, short)) counts stands),
       ),
     )
 
 pub returns-then-is_empty-clause-reads : goal.returns-then-is_empty-clause-reads
 returns-then-is_empty-clause-reads g c =
-    let zero : length c.args.self.now.held.items ≡ 0 = search rules in
-    rw (none_of c.args.self.now.held.items zero) c.read.ensures.reads
+    let old = c.args.self.now in
+    let zero : length old.held.items ≡ 0 = search rules in
+    let all = ap (λ (xs : List ℕ). xs ++ c.args.chunk.now) (none_of old.held.items zero) in
+    subst (λ (xs : List ℕ). ReadsNext old.framing old xs c.read.result c.read.new.self) (sym all) c.read.ensures.reads
 
 then_none : {A B : Type 0} (place : Option ℕ) → (A → B) → IfNone place A → IfNone place B
 then_none None f a = f a
@@ -38,5 +37,4 @@ returns-in_ok-next-in-Ok-clause-reads g c =
             let f = w.1 before fed messages short counts stands in
             (f.0, record { at = rw c.hold_in.ensures f.1.at; counts = f.1.counts }),
       )) reads.1,
-      tt,
     )

@@ -1,4 +1,4 @@
-use Rattle.std.proofs.Common.{◌≢◌, ◌≡◌, ◌<◌, ◌+◌, ◌-◌, ◌++◌, [], ℕ, List, Some, length, append-nil, take, drop, sym, ap, refl, arith}
+use Rattle.std.proofs.Common.{◌≢◌, ◌≡◌, ◌<◌, ◌+◌, ◌-◌, ◌++◌, [], ℕ, List, Some, length, append-nil, drop, sym, ap, refl, arith}
 use Rattle.std.proofs.lemmas.Result.{err_from_is_err_and}
 use Rattle.fast_template.specs.TemplateSets.{templates_in}
 use Rattle.fast_stream.specs.declared.fault.Cause.TheVariants.{Truncated, BlockEnd}
@@ -33,23 +33,19 @@ pub returns-in_err-stop_at_size-in-Err-clause-reads : goal.returns-in_err-stop_a
 returns-in_err-stop_at_size-in-Err-clause-reads g c =
     let e = err_from_is_err_and c.from_residual.result c.from_residual.ensures.1 in
     let o = c.in_err-stop_at_size-in-Err.ensures in
-    rw (e.1, e.2) (
-      tt,
-      tt,
-      (o.answer, o.cause, λ before fed messages short counts stands. ([], rw (append-nil before, append-nil messages) (o.follows before fed messages short counts stands))),
-    )
+    rw (e.1, e.2) (o.answer, o.cause, λ before fed messages short counts stands. ([], rw (append-nil before, append-nil messages) (o.follows before fed messages short counts stands)))
 
 pub returns-in-Err-clause-reads : goal.returns-in-Err-clause-reads
 returns-in-Err-clause-reads g c =
     let o = c.in_ok-stop_at_size-in-Err.ensures in
-    (tt, (o.answer, λ before fed messages short counts stands. ([], rw (append-nil before, append-nil messages) (o.follows before fed messages short counts stands))), tt)
+    (tt, (o.answer, λ before fed messages short counts stands. ([], rw (append-nil before, append-nil messages) (o.follows before fed messages short counts stands))))
 
 pub returns-in-None-clause-reads : goal.returns-in-None-clause-reads
 returns-in-None-clause-reads g c = (
   λ before fed messages short counts stands.
       let p = c.read_if_any-progress in
       let block = opened g (goal.at.returns-in-None-clause-reads g c).After-within-room in
-      let f = block_goes c.args.self.now c.counted-self.result c.level.ensures block p.ensures.leaves p.ensures.ended c.counted-self.ensures c.in-None.is before fed messages short counts stands in
+      let f = (block_goes c.args.self.now c.counted-self.result c.level.ensures block p.ensures.leaves p.ensures.ended c.counted-self.ensures c.in-None.is).found before fed messages short counts stands in
       let none = rw (c.in-None.is) at p.ensures.leaves.none in (
         f.ended,
         f.counts,
@@ -63,96 +59,67 @@ returns-in-None-clause-reads g c = (
         f.leaves,
       ),
   tt,
-  tt,
 )
 
 pub returns-then-self-rest-clause-reads : goal.returns-then-self-rest-clause-reads
 returns-then-self-rest-clause-reads g c =
     let k = c.keep.ensures in (
-      tt,
-      tt,
-      (
-        k.keeps.kept,
-        not_truncated c.keep.result.cause BlockEnd k.fault.cause_is (λ e. absurd cc),
-        λ before fed messages short counts stands.
-            let old = c.args.self.now in
-            let p = c.read_if_any-progress in
-            let u = p.new.traversal in
-            let bytes = c.args.bytes.now in
-            let next = c.in-Ok.opened.1 + p.result.at in
-            let size = ap (λ (xs : List ℕ). length xs) (slice_rest bytes next) in
-            let f = block_cuts old c.counted-self.result c.level.ensures (opened g (goal.at.returns-then-self-rest-clause-reads g c).After-within-room) p.ensures.leaves p.ensures.ended c.counted-self.ensures
-            c.in-Some.halt c.keep.new.self.receiver old.framing c.requires.framing c.in-Some.is c.in-Truncated.is (omega (arith, size, c.if-self-rest.true)) k.keeps.left before fed messages short counts stands in
-            let all = messages ++ f.ended in
-            let refused = fault_refused c.keep.result (framed_as old.framing u) (templates_in u.set.now) _ fed all old.fed c.counted-self.result p.ensures.leaves.sound.typed f.counts (omega (arith, short)) f.leaves.0 f.leaves.1 (λ e. absurd cc) (rw size at k.fault) in
-            (f.ended, follows_kept k.keeps (before ++ f.ended) fed all f.counts refused f.leaves.2),
-      ),
+      k.keeps.kept,
+      not_truncated c.keep.result.cause BlockEnd k.fault.cause_is (λ e. absurd cc),
+      λ before fed messages short counts stands.
+          let old = c.args.self.now in
+          let p = c.read_if_any-progress in
+          let u = p.new.traversal in
+          let size = ap (λ (xs : List ℕ). length xs) (slice_rest c.args.bytes.now (c.in-Ok.opened.1 + p.result.at)) in
+          let f = block_cuts old c.counted-self.result c.level.ensures (opened g (goal.at.returns-then-self-rest-clause-reads g c).After-within-room) p.ensures.leaves p.ensures.ended c.counted-self.ensures
+          c.in-Some.halt c.keep.new.self.receiver old.framing c.requires.framing c.in-Some.is c.in-Truncated.is (omega (arith, size, c.if-self-rest.true)) k.keeps.left before fed messages short counts stands in
+          let all = messages ++ f.ended in
+          let refused = fault_refused c.keep.result (framed_as old.framing u) (templates_in u.set.now) _ fed all old.fed c.counted-self.result p.ensures.leaves.sound.typed f.counts (omega (arith, short)) f.leaves.0 f.leaves.1 (λ e. absurd cc) (rw size at k.fault) in
+          (f.ended, follows_kept k.keeps (before ++ f.ended) fed all f.counts refused f.leaves.2),
     )
 
 pub returns-in_err-hold-in-Truncated-clause-reads : goal.returns-in_err-hold-in-Truncated-clause-reads
 returns-in_err-hold-in-Truncated-clause-reads g c =
     let at = goal.at.returns-in_err-hold-in-Truncated-clause-reads g c in
     let e = err_from_is_err_and c.from_residual-in_err-hold-in-Truncated.result c.from_residual-in_err-hold-in-Truncated.ensures.1 in
-    let p = c.read_if_any-progress in
-    let bytes = c.args.bytes.now in
-    let room = c.in-Ok.opened.0 - p.result.at in
-    let next = c.in-Ok.opened.1 + p.result.at in
-    let size = ap (λ (xs : List ℕ). length xs) (slice_rest bytes next) in
+    let rest = slice_rest c.args.bytes.now (c.in-Ok.opened.1 + c.read_if_any-progress.result.at) in
+    let size = ap (λ (xs : List ℕ). length xs) rest in
     let o = c.in_err-hold-in-Truncated in
     rw (e.1, e.2) (
-      tt,
-      tt,
-      (
-        o.ensures.answer,
-        (λ e. not_memory o.field-0.0.cause e o.ensures.cause),
-        finds_waiting Blocks c.args.self.now _ bytes p.result.messages c.counted-self.result c.in-Some.halt room p.new.traversal p.new.receiver (g.E.Entries.contents p.new.entries) (drop next bytes) (take (length bytes - next) (drop next bytes))
-            (halted g at.In-Some (opened g at.After-within-room) (λ wanted. omega (arith, size, c.if-self-rest.false))) c.in-Truncated.is (sym (slice_rest bytes next)) (rw (c.requires.framing) at o.ensures.follows),
-      ),
+      o.ensures.answer,
+      (λ e. not_memory o.field-0.0.cause e o.ensures.cause),
+      finds_waiting (halted g at.In-Some (opened g at.After-within-room) (λ wanted. omega (arith, size, c.if-self-rest.false))) c.in-Truncated.is (sym rest) (rw (c.requires.framing) at o.ensures.follows),
     )
 
 pub returns-in_ok-hold-in-Truncated-clause-reads : goal.returns-in_ok-hold-in-Truncated-clause-reads
 returns-in_ok-hold-in-Truncated-clause-reads g c =
     let at = goal.at.returns-in_ok-hold-in-Truncated-clause-reads g c in
-    let p = c.read_if_any-progress in
-    let bytes = c.args.bytes.now in
-    let room = c.in-Ok.opened.0 - p.result.at in
-    let next = c.in-Ok.opened.1 + p.result.at in
-    let size = ap (λ (xs : List ℕ). length xs) (slice_rest bytes next) in
+    let rest = slice_rest c.args.bytes.now (c.in-Ok.opened.1 + c.read_if_any-progress.result.at) in
+    let size = ap (λ (xs : List ℕ). length xs) rest in
     let o = c.in_ok-hold-in-Truncated in (
       tt,
       (
         o.ensures.answer,
-        finds_waiting Blocks c.args.self.now _ bytes p.result.messages c.counted-self.result c.in-Some.halt room p.new.traversal p.new.receiver (g.E.Entries.contents p.new.entries) (drop next bytes) (take (length bytes - next) (drop next bytes))
-            (halted g at.In-Some (opened g at.After-within-room) (λ wanted. omega (arith, size, c.if-self-rest.false))) c.in-Truncated.is (sym (slice_rest bytes next)) (rw (c.requires.framing) at o.ensures.follows),
+        finds_waiting (halted g at.In-Some (opened g at.After-within-room) (λ wanted. omega (arith, size, c.if-self-rest.false))) c.in-Truncated.is (sym rest) (rw (c.requires.framing) at o.ensures.follows),
       ),
-      tt,
     )
 
 pub returns-in_default : goal.returns-in_default
 returns-in_default g c =
     let at = goal.at.returns-in_default g c in
-    let p = c.read_if_any-progress in
-    let bytes = c.args.bytes.now in
-    let room = c.in-Ok.opened.0 - p.result.at in
-    let next = c.in-Ok.opened.1 + p.result.at in
+    let leaves = c.read_if_any-progress.ensures.leaves in
     let other : c.in-Some.halt.cause ≢ Truncated = λ e. c.in_default.not-Truncated e in
     record {
       reads = (
-        tt,
-        tt,
-        (
-          refl,
-          not_truncated c.fault_of-fault.result.cause c.in-Some.halt.cause c.fault_of-fault.ensures.cause other,
-          λ before fed messages short counts stands.
-              let f = finds_fault Blocks c.args.self.now.framing c.args.self.now bytes p.result.messages c.counted-self.result c.in-Some.halt room p.new.traversal p.new.receiver (g.E.Entries.contents p.new.entries) (drop next bytes) c.fault_of-fault.result _ c.requires.framing
-              (halted g at.In-Some (opened g at.After-within-room) (λ wanted. absurd (other wanted))) other p.ensures.leaves.sound (ap (λ (xs : List ℕ). length xs) (sym (slice_rest bytes next))) (rw (c.template-template.ensures) at c.fault_of-fault.ensures.refused) before fed messages short counts stands in
-              (f.ended, record { at = (f.leaves.0, c.requires.held, f.leaves.1); counts = f.counts }),
-        ),
+        refl,
+        not_truncated c.fault_of-fault.result.cause c.in-Some.halt.cause c.fault_of-fault.ensures.cause other,
+        λ before fed messages short counts stands.
+            let f = finds_fault c.fault_of-fault.result _ c.requires.framing (halted g at.In-Some (opened g at.After-within-room) (λ wanted. absurd (other wanted))) other leaves.sound
+            (ap (λ (xs : List ℕ). length xs) (sym (slice_rest c.args.bytes.now (c.in-Ok.opened.1 + c.read_if_any-progress.result.at)))) (rw (c.template-template.ensures) at c.fault_of-fault.ensures.refused) before fed messages short counts stands in
+            (f.ended, record { at = (f.leaves.0, c.requires.held, f.leaves.1); counts = f.counts }),
       );
       place = tt;
-      set = p.ensures.leaves.set;
-      mode = rw (p.ensures.leaves.level) refl;
-      same_keys = p.ensures.leaves.same_keys;
+      same = record { set = leaves.set; mode = rw (leaves.level) refl; same_keys = leaves.same_keys };
       fed = refl;
     }
 

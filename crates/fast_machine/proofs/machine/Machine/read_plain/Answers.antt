@@ -21,88 +21,60 @@ pub returns-in-None-clause-reads : goal.returns-in-None-clause-reads
 returns-in-None-clause-reads g c = (
   λ before fed messages short counts stands.
       let p = c.read_message-progress in
-      let f = plain_goes c.args.self.now c.counted-self.result p.ensures.leaves p.ensures.ended c.counted-self.ensures c.in-None.is before fed messages short counts stands in
-      let none = rw (c.in-None.is) at p.ensures.leaves.none in (
-        f.ended,
-        f.counts,
-        (λ h. let zero = ap (λ (xs : List Content). length xs) h in let count = f.number_is in let empty = none (omega (arith, zero, count)) in empty.0 ∙ sym empty.1),
-        f.leaves,
-      ),
-  tt,
+      let f = (plain_goes c.args.self.now c.counted-self.result p.ensures.leaves p.ensures.ended c.counted-self.ensures c.in-None.is).found before fed messages short counts stands in
+      let none = rw (c.in-None.is) at p.ensures.leaves.none in
+      (f.ended, f.counts, (λ h. let zero = ap (λ (xs : List Content). length xs) h in let count = f.number_is in let empty = none (omega (arith, zero, count)) in empty.0 ∙ sym empty.1), f.leaves),
   tt,
 )
 
 pub returns-in_err-hold-in-Truncated-clause-reads : goal.returns-in_err-hold-in-Truncated-clause-reads
 returns-in_err-hold-in-Truncated-clause-reads g c =
     let e = err_from_is_err_and c.from_residual.result c.from_residual.ensures.1 in
-    let p = c.read_message-progress in
-    let n = p.result.at in
     let o = c.in_err-hold-in-Truncated in
     rw (e.1, e.2) (
-      tt,
-      tt,
-      (
-        o.ensures.answer,
-        (λ e. not_memory o.field-0.0.cause e o.ensures.cause),
-        finds_waiting Plain c.args.self.now _ c.args.bytes.now p.result.messages c.counted-self.result c.in-Some.halt c.args.self.now.left p.new.traversal p.new.receiver (g.E.Entries.contents p.new.entries)
-            (drop n c.args.bytes.now) (slice_range c.args.bytes.now n (length c.args.bytes.now)) (halted g (goal.at.returns-in_err-hold-in-Truncated-clause-reads g c).In-Some) c.in-Truncated.is (sym (slice_rest c.args.bytes.now n))
-            (rw (c.requires.framing) at o.ensures.follows),
-      ),
+      o.ensures.answer,
+      (λ e. not_memory o.field-0.0.cause e o.ensures.cause),
+      finds_waiting (halted g (goal.at.returns-in_err-hold-in-Truncated-clause-reads g c).In-Some) c.in-Truncated.is (sym (slice_rest c.args.bytes.now c.read_message-progress.result.at)) (rw (c.requires.framing) at o.ensures.follows),
     )
 
 pub returns-then-is_empty-clause-reads : goal.returns-then-is_empty-clause-reads
 returns-then-is_empty-clause-reads g c =
-    let p = c.read_message-progress in
     let bytes = c.args.bytes.now in
-    let n = p.result.at in
+    let n = c.read_message-progress.result.at in
     let none : drop n bytes ≡ [] = sym (slice_rest bytes n) ∙ none_of (slice_range bytes n (length bytes)) (search rules) in (
       tt,
       (
         c.requires.fault,
-        finds_waiting Plain c.args.self.now _ bytes p.result.messages c.counted-self.result c.in-Some.halt c.args.self.now.left p.new.traversal p.new.receiver (g.E.Entries.contents p.new.entries)
-            (drop n bytes) [] (halted g (goal.at.returns-then-is_empty-clause-reads g c).In-Some) c.in-Truncated.is none
+        finds_waiting (halted g (goal.at.returns-then-is_empty-clause-reads g c).In-Some) c.in-Truncated.is none
             (λ before fed messages short counts stands waits. record { at = rw (c.requires.fault, c.requires.framing, c.requires.held) (stands, waits); counts = counts }),
       ),
-      tt,
     )
 
 pub returns-in_ok-hold-in-Truncated-clause-reads : goal.returns-in_ok-hold-in-Truncated-clause-reads
 returns-in_ok-hold-in-Truncated-clause-reads g c =
-    let p = c.read_message-progress in
-    let n = p.result.at in
     let o = c.in_ok-hold-in-Truncated in (
       tt,
       (
         o.ensures.answer,
-        finds_waiting Plain c.args.self.now _ c.args.bytes.now p.result.messages c.counted-self.result c.in-Some.halt c.args.self.now.left p.new.traversal p.new.receiver (g.E.Entries.contents p.new.entries)
-            (drop n c.args.bytes.now) (slice_range c.args.bytes.now n (length c.args.bytes.now)) (halted g (goal.at.returns-in_ok-hold-in-Truncated-clause-reads g c).In-Some) c.in-Truncated.is (sym (slice_rest c.args.bytes.now n))
-            (rw (c.requires.framing) at o.ensures.follows),
+        finds_waiting (halted g (goal.at.returns-in_ok-hold-in-Truncated-clause-reads g c).In-Some) c.in-Truncated.is (sym (slice_rest c.args.bytes.now c.read_message-progress.result.at)) (rw (c.requires.framing) at o.ensures.follows),
       ),
-      tt,
     )
 
 pub returns-in_default : goal.returns-in_default
 returns-in_default g c =
-    let p = c.read_message-progress in
-    let n = p.result.at in
+    let leaves = c.read_message-progress.ensures.leaves in
     let other : c.in-Some.halt.cause ≢ Truncated = λ e. c.in_default.not-Truncated e in
     record {
       reads = (
-        tt,
-        tt,
-        (
-          refl,
-          not_truncated c.fault_of-fault.result.cause c.in-Some.halt.cause c.fault_of-fault.ensures.cause other,
-          λ before fed messages short counts stands.
-              let f = finds_fault Plain c.args.self.now.framing c.args.self.now c.args.bytes.now p.result.messages c.counted-self.result c.in-Some.halt c.args.self.now.left p.new.traversal p.new.receiver (g.E.Entries.contents p.new.entries) (drop n c.args.bytes.now) c.fault_of-fault.result _ c.requires.framing
-              (halted g (goal.at.returns-in_default g c).In-Some) other p.ensures.leaves.sound (ap (λ (xs : List ℕ). length xs) (sym (slice_rest c.args.bytes.now n))) (rw (c.template-template.ensures) at c.fault_of-fault.ensures.refused) before fed messages short counts stands in
-              (f.ended, record { at = (f.leaves.0, c.requires.held, f.leaves.1); counts = f.counts }),
-        ),
+        refl,
+        not_truncated c.fault_of-fault.result.cause c.in-Some.halt.cause c.fault_of-fault.ensures.cause other,
+        λ before fed messages short counts stands.
+            let f = finds_fault c.fault_of-fault.result _ c.requires.framing (halted g (goal.at.returns-in_default g c).In-Some) other leaves.sound (ap (λ (xs : List ℕ). length xs) (sym (slice_rest c.args.bytes.now c.read_message-progress.result.at)))
+            (rw (c.template-template.ensures) at c.fault_of-fault.ensures.refused) before fed messages short counts stands in
+            (f.ended, record { at = (f.leaves.0, c.requires.held, f.leaves.1); counts = f.counts }),
       );
       place = tt;
-      set = p.ensures.leaves.set;
-      mode = rw (p.ensures.leaves.level) refl;
-      same_keys = p.ensures.leaves.same_keys;
+      same = record { set = leaves.set; mode = rw (leaves.level) refl; same_keys = leaves.same_keys };
       fed = refl;
     }
 

@@ -21,7 +21,7 @@ returns-in_err-read_behind-clause-follows g c =
     let old = c.args.self.now in
     let chunk = c.args.chunk.now in
     let f = chunk_fed old chunk none c.requires.room (all_bytes chunk (λ k. omega (arith, c.type_inv.chunk k))) before fed messages follows in
-    let r = c.in_err-read_behind.ensures.reads.2.2 before (fed ++ chunk) messages f.short f.counts f.stands in
+    let r = c.in_err-read_behind.ensures.reads.2 before (fed ++ chunk) messages f.short f.counts f.stands in
     (r.0, tt, r.1))
 
 pub returns-in-None-clause-follows : goal.returns-in-None-clause-follows
@@ -46,7 +46,7 @@ returns-in-Some-clause-follows g c = λ none before fed messages follows.
     let R = g.R.Receiver in
     let G = ReadsOn R.has R.stands R.keeps old.traversal old.receiver (g.E.Entries.contents old.entries) before in
     let H = ReadsOn R.has R.stands R.keeps new.traversal new.receiver (g.E.Entries.contents new.entries) (before ++ r.0) in
-    let beyond = behind_held old.framing old.left new.left G H old.traversal new.traversal held old.waiting next fed chunk messages r.0 c.set_is_sound.ensures.typed (ap (λ (m : Mode). framed_by m.level old.framing) o.ensures.mode) (ap (λ x. x.now) o.ensures.set) f.held.1 r.3 r.2 place.took place.within c.requires.some in
+    let beyond = behind_held old.framing old.left new.left G H old.traversal new.traversal held old.waiting next fed chunk messages r.0 c.set_is_sound.ensures.typed (ap (λ (m : Mode). framed_by m.level old.framing) o.ensures.same.mode) (ap (λ x. x.now) o.ensures.same.set) f.held.1 r.3 r.2 place.took place.within c.requires.some in
     let taken = c.min-taken.result in
     let held_size = length-append held chunk in
     let within = place.within in
@@ -64,6 +64,6 @@ returns-in-Some-clause-follows g c = λ none before fed messages follows.
           (subst (λ (xs : List ℕ). Counts new.fed new.messages xs ended) parts r.1)
           (subst (λ (xs : List ℕ). Stands new.framing new.left H new.traversal (drop taken chunk) xs ended) parts
           (subst (λ (xs : List ℕ). Stands new.framing new.left H new.traversal xs (fed ++ chunk) ended) rest
-          (subst (λ (f : Framing). Stands f new.left H new.traversal (drop next (held ++ chunk)) (fed ++ chunk) ended) (sym (ap (λ (m : Mode). m.framing) o.ensures.mode)) r.3))),
+          (subst (λ (f : Framing). Stands f new.left H new.traversal (drop next (held ++ chunk)) (fed ++ chunk) ended) (sym (ap (λ (m : Mode). m.framing) o.ensures.same.mode)) r.3))),
       tt,
     )
