@@ -1,25 +1,33 @@
 -- What a read of messages in what has come of a block leaves.
-use Rattle.std.proofs.Common.{◌≡◌, ◌≢◌, ◌≤◌, ◌<◌, ℕ, zero, suc, ◌+◌, ◌-◌, length, take, drop, length-drop, length-take, arith, List, [], ◌∷◌, ◌++◌, Ok, sym, ap, refl, subst, ◌∙◌, ◌⊎◌, inl, inr}
+use Rattle.std.proofs.Common.{◌≡◌, ◌≢◌, ◌≤◌, ◌<◌, ◌^◌, ℕ, zero, suc, ◌+◌, ◌-◌, length, take, drop, length-drop, length-take, arith, List, [], ◌∷◌, ◌++◌, Option, Some, None, Ok, sym, ap, refl, subst, ◌∙◌, ◌⊎◌, inl, inr}
 use Rattle.std.proofs.lemmas.List.{take_all}
 use Rattle.fast_wire.specs.declared.level.Level.{Level}
 use Rattle.fast_template.specs.Resolved.{Resolved}
 use Rattle.fast_template.specs.TemplateSets.{templates_in}
 use Rattle.fast_dictionary.specs.Dictionary.{Dictionary}
+use Rattle.fast_dictionary.specs.declared.entries.Entries.{Ghosts}
 use Rattle.fast_walk.specs.declared.halt.Halt.{Halt}
+use Rattle.fast_walk.specs.declared.receiver.Receiver.{Ghosts as Receiving}
 use Rattle.fast_walk.specs.declared.traversal.Stage.TheVariants as stage
 use Rattle.fast_walk.specs.declared.traversal.Traversal.{Traversal}
 use Rattle.fast_walk.specs.OpenSegments.{Reading}
 use Rattle.fast_walk.specs.Traversals.{stop_of}
 use Rattle.fast_stream.specs.declared.fault.Cause.TheVariants.{Truncated, BlockEnd}
+use Rattle.fast_stream.specs.declared.mode.Framing.{Framing}
 use Rattle.fast_stream.specs.declared.mode.Framing.TheVariants.{Blocks}
 use Rattle.fast_stream.specs.Nodes.{Content}
 use Rattle.fast_stream.specs.Faults.{MessageStop}
 use Rattle.fast_stream.specs.Blocks.{Stand, size_at}
 use Rattle.fast_stream.specs.Modes.{in_blocks}
-use Rattle.fast_machine.specs.Runs.{Having, ReadsOn, Run, RunHasAll, RunStands, RunStops, Standing, Unfinished}
+use Rattle.fast_machine.specs.declared.machine.Machine.{Machine}
+use Rattle.fast_machine.specs.declared.messages.Progress.{Progress}
+use Rattle.fast_machine.specs.Calls.{LeavesMessage, StandsAt}
+use Rattle.fast_machine.specs.Following.{Counts}
+use Rattle.fast_machine.specs.Runs.{Ended, Forgets, Having, ReadsOn, ReadsRun, Run, RunHasAll, RunStands, RunStops, Standing, Unfinished}
 use Rattle.fast_machine.specs.Standing.{Behind, Carried, HasAll, Stands, StopsBehind, framed_as}
-use Rattle.fast_machine.proofs.Standings.{Onward, Opening, Window, any_onward, end_onward, fault_onward, go_on, inside_onward, opened, waits_onward, whole_onward}
-use Rattle.fast_machine.proofs.Followings.{forgets}
+use Rattle.fast_machine.proofs.Calls.{Finds, Found, StreamEnds, found_of}
+use Rattle.fast_machine.proofs.Standings.{Onward, Opening, Window, any_onward, carried_of, end_onward, fault_onward, go_on, inside_onward, opened, run_from, waits_onward, whole_onward}
+use Rattle.fast_machine.proofs.Followings.{forgets, not_memory}
 use Rattle.fast_machine.proofs.Runs.{drop_all}
 
 pub drop_again : (n m : ℕ) (xs : List ℕ) → drop m (drop n xs) ≡ drop (n + m) xs
@@ -137,8 +145,107 @@ module _ (G : Dictionary → (List ℕ → Reading) → Type 0) (t u : Traversal
       onwards _ (any_onward u.level sets b.start left p unread b.ends.within b.rest opening few more (λ d rest. stands r sets before d) (λ d. stands r sets before d) (λ d rest h. h) run)
 
   pub block_forgets : {R : Type 0} (has : Having R) (stands keeps : Standing R) (r s : R) (d : Dictionary) (before : List Content)
-      → ((x : List Resolved) (ms : List Content) (e : Dictionary) → keeps r x ms e ⊎ stands r x ms e → stands s x ms e)
+      → Forgets stands keeps r s
       → RunStands (ReadsOn has stands keeps u r d before) u (drop p window) b.start.dictionary b.ends.within more → HasAll stands Blocks u s before fed (messages ++ more)
   block_forgets has stands keeps r s d before left_of run =
       onwards _ (any_onward u.level sets b.start left p unread b.ends.within b.rest opening few more (λ e rest. Unfinished (ReadsOn has stands keeps u r d before) u (drop p window) e rest) (λ e. stands s sets before e)
       (λ e rest h. forgets has stands keeps u r s d before (drop p window) e rest left_of h) run)
+
+-- a block that is open in some bytes, behind a place in them, and how many of its bytes are there
+pub record IsOpen (level : Level) (left room at count : ℕ) (bytes : List ℕ) : Type 0 where
+  pub same : 0 < left → (room ≡ left) × (at ≡ 0)
+  pub goes : left ≡ 0 → size_at level bytes ≡ Ok (room, drop at bytes)
+  pub some : 0 < room
+  pub place : at ≤ length bytes
+  pub few : count ≤ room
+  pub least : (count ≡ room) ⊎ (count ≡ length bytes - at)
+
+-- a machine reads a message in them
+module _ {R E : Type 0} {receiver : Receiving R} {entries : Ghosts E} (old : Machine R E receiver entries) {level : Level} {room at size : ℕ} {bytes : List ℕ} {u : Traversal} {s : R} {e : E} {p : Progress} (count : ℕ) (alike : level ≡ old.traversal.level) (opens : IsOpen level old.left room at size bytes)
+    (leaves : LeavesMessage receiver entries old.traversal u s old.entries e (take ((at + size) - at) (drop at bytes)) p)
+    (reads : ReadsRun receiver.has receiver.stands receiver.keeps old.traversal old.receiver (entries.contents old.entries) (take ((at + size) - at) (drop at bytes)) p.messages p.halt u s (entries.contents e) (drop p.at (take ((at + size) - at) (drop at bytes))))
+    (counted : old.messages + p.messages < 2 ^ 62 → count ≡ old.messages + p.messages) where
+  abbrev window : List ℕ
+  window = take ((at + size) - at) (drop at bytes)
+
+  abbrev Before : List Content → Dictionary → (List ℕ → Reading) → Type 0
+  Before before = ReadsOn receiver.has receiver.stands receiver.keeps old.traversal old.receiver (entries.contents old.entries) before
+
+  abbrev After : List Content → Dictionary → (List ℕ → Reading) → Type 0
+  After before = ReadsOn receiver.has receiver.stands receiver.keeps u s (entries.contents e) before
+
+  abbrev Opened : List Content → List ℕ → List Content → Type 0
+  Opened before fed messages = Behind (framed_as Blocks old.traversal) (templates_in old.traversal.set.now) fed messages (λ x rest. Opening (Before before) old.traversal room (drop at bytes) x rest)
+
+  open_now : (before : List Content) (fed : List ℕ) (messages : List Content) → StandsAt Blocks old before bytes fed messages → Opened before fed messages
+  open_now before fed messages = open_stands (Before before) old.traversal level old.left room at bytes fed messages alike opens.same opens.goes opens.some
+
+  is_window : window ≡ take room (drop at bytes)
+  is_window = window_is room at size bytes opens.place opens.few opens.least
+
+  set : u.set.now ≡ old.traversal.set.now
+  set = ap (λ x. x.now) leaves.set
+
+  ended : (halt : Option Halt) → ReadsRun receiver.has receiver.stands receiver.keeps old.traversal old.receiver (entries.contents old.entries) window p.messages halt u s (entries.contents e) (drop p.at window)
+      → (before : List Content) (fed : List ℕ) (messages : List Content) (b : Opened before fed messages)
+      → (more : List Content) × (length more ≡ p.messages) × Ended receiver.has receiver.stands receiver.keeps halt u s (entries.contents e) (before ++ more) (drop p.at window) b.start.dictionary b.ends.within more
+  ended halt found before fed messages b =
+      let next = subst (λ (xs : List ℕ). Unfinished (Before before) old.traversal xs b.start.dictionary b.ends.within) (sym is_window) b.ends.next in
+      found before b.start.dictionary b.ends.within [] (run_from (Before before) old.traversal window b.start.dictionary b.ends.within next)
+
+  unread_is : drop p.at (drop at bytes) ≡ drop (at + p.at) bytes
+  unread_is = drop_again at p.at bytes
+
+  pub block_goes : p.halt ≡ None → Finds Blocks old bytes p.messages count None (room - p.at) u s (entries.contents e) (drop (at + p.at) bytes)
+  block_goes is = record {
+    found = λ before fed messages short counts stands.
+        let b = open_now before fed messages stands in
+        let r = ended None (rw (is) at reads) before fed messages b in
+        let H = After (before ++ r.0) in
+        let goes = block_stands_behind (Before before) old.traversal u room p.at (drop at bytes) window fed messages r.0 b is_window leaves.place leaves.level set H r.2.1 r.2.0 in
+        found_of Blocks u _ _ _ count fed messages r.0 _ counted short counts r.1 (carried_of Blocks (room - p.at) H u (drop p.at (drop at bytes)) fed (messages ++ r.0) goes)
+        (subst (λ (xs : List ℕ). Stands Blocks (room - p.at) H u xs fed (messages ++ r.0)) unread_is goes);
+  }
+
+  -- where bytes are wanted, the block has more of them
+  pub block_halts : (h : Halt) → p.halt ≡ Some h → (h.cause ≡ Truncated → length (drop (at + p.at) bytes) < room - p.at) → Finds Blocks old bytes p.messages count (Some h) (room - p.at) u s (entries.contents e) (drop (at + p.at) bytes)
+  block_halts h is more = record {
+    found = λ before fed messages short counts stands.
+        let b = open_now before fed messages stands in
+        let r = ended (Some h) (rw (is) at reads) before fed messages b in
+        let G = Before before in
+        let unread = drop at bytes in
+        let carried = block_carried G old.traversal u room p.at unread window fed messages r.0 b is_window leaves.place leaves.level set (λ d rest. Unit {0}) r.2.0 in
+        found_of Blocks u _ _ _ count fed messages r.0 _ counted short counts r.1 carried
+        (subst (λ (xs : List ℕ). StreamEnds receiver.has receiver.stands receiver.keeps (Some h) Blocks (room - p.at) u s (entries.contents e) (before ++ r.0) xs fed (messages ++ r.0)) unread_is (
+          carried,
+          (λ wanted.
+              let few : length (drop p.at unread) < room - p.at = rw (unread_is) (more wanted) in (
+                block_waits G old.traversal u room p.at unread window fed messages r.0 b is_window leaves.place leaves.level set h few (r.2.1 (not_memory h.cause wanted)),
+                block_stands G old.traversal u room p.at unread window fed messages r.0 b is_window leaves.place leaves.level set (After (before ++ r.0)) (omega (arith, few)) (r.2.2 wanted),
+              )),
+          (λ other. (
+            (λ known. block_faults G old.traversal u room p.at unread window fed messages r.0 b is_window leaves.place leaves.level set h other (r.2.1 known)),
+            block_has_all G old.traversal u room p.at unread window fed messages r.0 b is_window leaves.place leaves.level set receiver.stands s (before ++ r.0) (r.2.3 other),
+          )),
+        ));
+  }
+
+  -- where more bytes are wanted than the block has, the message stops at its end
+  pub block_cuts : (h : Halt) (after : R) (now : Framing) → now ≡ Blocks → p.halt ≡ Some h → h.cause ≡ Truncated → room - p.at ≤ length (drop (at + p.at) bytes) → Forgets receiver.stands receiver.keeps s after
+      → (before : List Content) (fed : List ℕ) (messages : List Content) → length fed ≤ 2 ^ 60 → Counts old.fed old.messages fed messages → StandsAt Blocks old before bytes fed messages
+      → Found p.messages old.fed count fed messages (λ more. Carried (framed_as now u) (templates_in u.set.now) fed (messages ++ more)
+      × StopsBehind (framed_as now u) (templates_in u.set.now) fed (messages ++ more) (record { template = u.template; stop = record { cause = BlockEnd; instruction = h.number; left = length (drop (at + p.at) bytes) } })
+      × HasAll receiver.stands now u after (before ++ more) fed (messages ++ more))
+  block_cuts h after now same is wanted full forgotten before fed messages short counts stands =
+      let b = open_now before fed messages stands in
+      let r = ended (Some h) (rw (is) at reads) before fed messages b in
+      let G = Before before in
+      let unread = drop at bytes in
+      let carried = block_carried G old.traversal u room p.at unread window fed messages r.0 b is_window leaves.place leaves.level set (λ d rest. Unit {0}) r.2.0 in
+      found_of Blocks u _ _ _ count fed messages r.0 _ counted short counts r.1 carried (rw (same) (
+        carried,
+        subst (λ (xs : List ℕ). StopsBehind (framed_as Blocks u) (templates_in u.set.now) fed (messages ++ r.0) (record { template = u.template; stop = record { cause = BlockEnd; instruction = h.number; left = length xs } })) unread_is
+            (block_stops G old.traversal u room p.at unread window fed messages r.0 b is_window leaves.place leaves.level set h wanted (rw (unread_is) full) (r.2.1 (not_memory h.cause wanted))),
+        block_forgets G old.traversal u room p.at unread window fed messages r.0 b is_window leaves.place leaves.level set receiver.has receiver.stands receiver.keeps s after (entries.contents e) (before ++ r.0) forgotten (r.2.2 wanted),
+      ))

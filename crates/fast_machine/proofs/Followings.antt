@@ -27,7 +27,8 @@ use Rattle.fast_stream.specs.declared.fault.Fault.{Fault}
 use Rattle.fast_stream.specs.declared.place.Place.{Place}
 use Rattle.fast_walk.specs.OpenSegments.{Reading}
 use Rattle.fast_walk.specs.Received.{Received, behind}
-use Rattle.fast_machine.specs.Runs.{ReadsOn, Having, Standing, Unfinished}
+use Rattle.fast_machine.specs.Runs.{Forgets, ReadsOn, Having, Standing, Unfinished}
+use Rattle.fast_machine.specs.Calls.{IsFault}
 use Rattle.fast_machine.specs.Standing.{Carried, GoesIn, HasAll, Stands, StopsBehind, framed_as}
 use Rattle.std.specs.Prelude.{Bool}
 use Rattle.fast_value.specs.declared.key.Key.{Key}
@@ -131,11 +132,11 @@ stands_fed framing left G t unread bytes chunk messages fits s = record {
 -- ---- faults
 
 pub memory_refused : (f : Fault) (mode : Mode) (set : List Resolved) (bytes : List ℕ) (messages : List Content) (fed count : ℕ) → Counts fed count bytes messages → length bytes < 2 ^ 61 → Carried mode set bytes messages
-    → f.cause ≡ Memory → (count < 2 ^ 61 → f.place.message ≡ count + 1) → f.place.offset ≡ 0 → f.place.template ≡ 0 → f.place.instruction ≡ 0 → Refused f mode set bytes messages
-memory_refused f mode set bytes messages fed count counts short carried is message offset template instruction =
+    → IsFault f Memory count 0 0 0 → Refused f mode set bytes messages
+memory_refused f mode set bytes messages fed count counts short carried is =
     let few = few_messages mode set bytes messages carried in
     let same = counts.count_is in
-    (carried, message (omega (arith, few, same, short)) ∙ ap (λ (n : ℕ). n + 1) same, λ other. absurd (other is), λ _. (offset, template, instruction))
+    (carried, is.message_is (omega (arith, few, same, short)) ∙ ap (λ (n : ℕ). n + 1) same, λ other. absurd (other is.cause_is), λ _. (is.offset_is, is.template_is, is.instruction_is))
 
 abbrev place_by : ℕ → ℕ → ℕ → ℕ → Place
 place_by m o t i = record { message = m; offset = o; template = t; instruction = i }
@@ -145,12 +146,11 @@ place_same m n o p i j k l a b c d = rw (a, b, c, d) refl
 
 pub fault_refused : (f : Fault) (mode : Mode) (set : List Resolved) (stop : MessageStop) (bytes : List ℕ) (messages : List Content) (fed count : ℕ) → AllByRecursion (λ t. HaveTypedParts t.members) set
     → Counts fed count bytes messages → length bytes < 2 ^ 61 → Carried mode set bytes messages → StopsBehind mode set bytes messages stop
-    → f.cause ≡ stop.stop.cause → stop.stop.cause ≢ Memory → (count < 2 ^ 61 → f.place.message ≡ count + 1) → f.place.offset ≡ fed - stop.stop.left → f.place.template ≡ stop.template → f.place.instruction ≡ stop.stop.instruction
-    → Refused f mode set bytes messages
-fault_refused f mode set stop bytes messages fed count typed counts short carried stops is other message offset template instruction =
+    → stop.stop.cause ≢ Memory → IsFault f stop.stop.cause count (fed - stop.stop.left) stop.template stop.stop.instruction → Refused f mode set bytes messages
+fault_refused f mode set stop bytes messages fed count typed counts short carried stops other is =
     let few = few_messages mode set bytes messages carried in
     let same = counts.count_is in
-    let numbered = message (omega (arith, few, same, short)) ∙ ap (λ (n : ℕ). n + 1) same in
+    let numbered = is.message_is (omega (arith, few, same, short)) ∙ ap (λ (n : ℕ). n + 1) same in
     let first = first_fault mode set typed bytes messages stop stops in (
       carried,
       numbered,
@@ -164,12 +164,12 @@ fault_refused f mode set stop bytes messages fed count typed counts short carrie
         carried = first.carried;
         goes_on = first.goes_on;
         stops = first.stops;
-        cause_is = is ∙ first.cause_is;
+        cause_is = is.cause_is ∙ first.cause_is;
         place_is = place_same f.place.message (length messages + 1) f.place.offset (length bytes - stop.stop.left) f.place.template stop.template f.place.instruction stop.stop.instruction
-            numbered (offset ∙ ap (λ (n : ℕ). n - stop.stop.left) counts.fed_is) template instruction
+            numbered (is.offset_is ∙ ap (λ (n : ℕ). n - stop.stop.left) counts.fed_is) is.template_is is.instruction_is
             ∙ first.place_is;
       }),
-      λ memory. absurd (other (sym is ∙ memory)),
+      λ memory. absurd (other (sym is.cause_is ∙ memory)),
     )
 
 -- ---- counts
@@ -209,13 +209,12 @@ carries_all framing left G t bytes messages at none s =
 pub ends_inside : (framing : Framing) (left : ℕ) (G : Dictionary → (List ℕ → Reading) → Type 0) (f : Fault) (t : Traversal) (held : List ℕ) (waiting : ℕ) (bytes : List ℕ) (messages : List Content) (fed count : ℕ)
     → AllByRecursion (λ t. HaveTypedParts t.members) (templates_in t.set.now) → Counts fed count bytes messages → fed ≤ 2 ^ 60 → Stands framing left G t held bytes messages × Waits framing left t held waiting bytes messages
     → ((t.stage ≡ stage.Map) × (held ≡ []) × (left ≡ 0) → ⊥)
-    → f.cause ≡ Truncated → (count < 2 ^ 61 → f.place.message ≡ count + 1) → f.place.offset ≡ fed - length held → f.place.template ≡ t.template → f.place.instruction ≡ waiting
-    → Refused f (framed_as framing t) (templates_in t.set.now) bytes messages
-ends_inside framing left G f t held waiting bytes messages fed count typed counts short (stands, inl at) inside is message offset template instruction = absurd (inside at)
-ends_inside framing left G f t held waiting bytes messages fed count typed counts short (stands, inr stops) inside is message offset template instruction =
+    → IsFault f Truncated count (fed - length held) t.template waiting → Refused f (framed_as framing t) (templates_in t.set.now) bytes messages
+ends_inside framing left G f t held waiting bytes messages fed count typed counts short (stands, inl at) inside is = absurd (inside at)
+ends_inside framing left G f t held waiting bytes messages fed count typed counts short (stands, inr stops) inside is =
     let same = counts.fed_is in
     fault_refused f (framed_as framing t) (templates_in t.set.now) (record { template = t.template; stop = record { cause = Truncated; instruction = waiting; left = length held } }) bytes messages fed count typed counts
-    (omega (arith, same, short)) (carried_of framing left G t held bytes messages stands) stops is (λ e. absurd cc) message offset template instruction
+    (omega (arith, same, short)) (carried_of framing left G t held bytes messages stands) stops (λ e. absurd cc) is
 
 -- between messages no template is known
 pub no_template : (serves : Key → Bool) (t : Traversal) → t.stage ≡ stage.Map → CanGoOn serves t → t.template ≡ 0
@@ -344,19 +343,19 @@ kept_at has stands keeps t r set d start before read stage.Body c = inl c.keeps
 
 -- where the receiver forgets what is open
 pub forgets : {R : Type 0} (has : Having R) (stands keeps : Standing R) (t : Traversal) (r s : R) (d : Dictionary) (before : List Content) (unread : List ℕ) (start : Dictionary) (rest : List ℕ)
-    → ((set : List Resolved) (ms : List Content) (e : Dictionary) → keeps r set ms e ⊎ stands r set ms e → stands s set ms e)
+    → Forgets stands keeps r s
     → Unfinished (ReadsOn has stands keeps t r d before) t unread start rest → stands s (templates_in t.set.now) before start
 forgets has stands keeps t r s d before unread start rest left u = left (templates_in t.set.now) before start (kept_at has stands keeps t r (templates_in t.set.now) d start before u.read t.stage u.goes)
 
 goes_forgets : {R : Type 0} (has : Having R) (stands keeps : Standing R) (framing : Framing) (room : ℕ) (t : Traversal) (r s : R) (d : Dictionary) (before : List Content) (unread : List ℕ) (start : Stand) (rest : List ℕ)
-    → ((set : List Resolved) (ms : List Content) (e : Dictionary) → keeps r set ms e ⊎ stands r set ms e → stands s set ms e)
+    → Forgets stands keeps r s
     → GoesIn framing room (ReadsOn has stands keeps t r d before) t unread start rest → stands s (templates_in t.set.now) before start.dictionary
 goes_forgets has stands keeps Plain room t r s d before unread start rest left h = forgets has stands keeps t r s d before unread start.dictionary rest left h.0
 goes_forgets has stands keeps Blocks room t r s d before unread start rest left (inl b) = forgets has stands keeps t r s d before [] start.dictionary [] left b.next
 goes_forgets has stands keeps Blocks room t r s d before unread start rest left (inr i) = forgets has stands keeps t r s d before (take room unread) start.dictionary i.within left i.next
 
 pub left_behind : {R : Type 0} (has : Having R) (stands keeps : Standing R) (framing : Framing) (room : ℕ) (t : Traversal) (r s : R) (d : Dictionary) (before : List Content) (unread bytes : List ℕ) (messages : List Content)
-    → ((set : List Resolved) (ms : List Content) (e : Dictionary) → keeps r set ms e ⊎ stands r set ms e → stands s set ms e)
+    → Forgets stands keeps r s
     → Stands framing room (ReadsOn has stands keeps t r d before) t unread bytes messages → HasAll stands framing t s before bytes messages
 left_behind has stands keeps framing room t r s d before unread bytes messages left h = record {
   front = h.front;

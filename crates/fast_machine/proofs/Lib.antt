@@ -6,3 +6,4 @@ pub mod BlockReads
 pub mod MessageEnds
 pub mod Lackings
 pub mod Ends
+pub mod Calls

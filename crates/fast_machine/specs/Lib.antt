@@ -3,3 +3,4 @@ pub mod Standing
 pub mod Following
 pub mod OneProof
 pub mod Ends
+pub mod Calls

@@ -1,5 +1,5 @@
 -- How a traversal with its receiver stands to the messages that stand one behind the other in some bytes, from a dictionary.
-use Rattle.std.specs.Prelude.{◌≡◌, ◌≢◌, ◌<◌, ℕ, List, [], ◌++◌, length, Option, Some, None, Err}
+use Rattle.std.specs.Prelude.{◌≡◌, ◌≢◌, ◌<◌, ◌⊎◌, ℕ, List, [], ◌++◌, length, Option, Some, None, Err}
 use Rattle.fast_wire.specs.Reader.{IsBytes}
 use Rattle.fast_wire.specs.declared.level.Level.{Level}
 use Rattle.fast_template.specs.Resolved.{Resolved}
@@ -41,6 +41,14 @@ Having R = R → Received → Dictionary → Type 0
 abbrev pub Standing : Type 0 → Type 1
 Standing R = R → List Resolved → List Content → Dictionary → Type 0
 
+-- What a receiver has or keeps it still has, and nothing is open in it.
+abbrev pub Forgets : {R : Type 0} → Standing R → Standing R → R → R → Type 0
+Forgets stands keeps old new = (set : List Resolved) (ms : List Content) (d : Dictionary) → keeps old set ms d ⊎ stands old set ms d → stands new set ms d
+
+-- and it may be open
+abbrev pub Retains : {R : Type 0} → Standing R → Standing R → R → R → Type 0
+Retains stands keeps old new = (set : List Resolved) (ms : List Content) (d : Dictionary) → keeps old set ms d ⊎ stands old set ms d → keeps new set ms d ⊎ stands new set ms d
+
 -- what a traversal and its receiver still read: of messages behind these, which the receiver has
 abbrev pub ReadsOn : {R : Type 0} → Having R → Standing R → Standing R → Traversal → R → Dictionary → List Content → Dictionary → (List ℕ → Reading) → Type 0
 ReadsOn has stands keeps t r d before start read = Continues has stands keeps t r (templates_in t.set.now) d before start read
@@ -73,3 +81,9 @@ Ended has stands keeps (Some h) t r d before unread origin bytes messages =
     × (h.cause ≢ Memory → RunStops t.level (templates_in t.set.now) origin bytes messages (stop_of t.template h unread))
     × (h.cause ≡ Truncated → RunStands (ReadsOn has stands keeps t r d before) t unread origin bytes messages)
     × (h.cause ≢ Truncated → RunHasAll stands t r before origin bytes messages)
+
+-- Of any run a traversal reads on in these bytes: so many messages end, and the reading ends here.
+abbrev pub ReadsRun : {R : Type 0} → Having R → Standing R → Standing R → Traversal → R → Dictionary → List ℕ → ℕ → Option Halt → Traversal → R → Dictionary → List ℕ → Type 0
+ReadsRun has stands keeps t r d bytes count halt u s e unread = (before : List Content) (origin : Dictionary) (run : List ℕ) (messages : List Content)
+    → RunStands (ReadsOn has stands keeps t r d before) t bytes origin run messages
+    → (ended : List Content) × (length ended ≡ count) × Ended has stands keeps halt u s e (before ++ ended) unread origin run (messages ++ ended)

@@ -1,10 +1,9 @@
 -- How a traversal with its receiver stands to the bytes read since the reset and the messages found in them, in each mode.
-use Rattle.std.specs.Prelude.{◌≡◌, ◌≢◌, ◌<◌, ◌⊎◌, ℕ, ◌+◌, List, [], ◌++◌, length, take, Err}
+use Rattle.std.specs.Prelude.{◌≡◌, ◌<◌, ◌⊎◌, ℕ, ◌+◌, List, [], ◌++◌, length, take, Err}
 use Rattle.fast_wire.specs.Reader.{IsBytes}
 use Rattle.fast_template.specs.Resolved.{Resolved}
 use Rattle.fast_template.specs.TemplateSets.{templates_in}
 use Rattle.fast_dictionary.specs.Dictionary.{Dictionary}
-use Rattle.fast_stream.specs.declared.fault.Cause.TheVariants.{Truncated, Memory}
 use Rattle.fast_stream.specs.declared.mode.Framing.{Framing}
 use Rattle.fast_stream.specs.declared.mode.Framing.TheVariants.{Plain, Blocks}
 use Rattle.fast_stream.specs.declared.mode.Mode.{Mode}
@@ -12,11 +11,9 @@ use Rattle.fast_stream.specs.Blocks.{Stand, at_start, Opens}
 use Rattle.fast_stream.specs.Modes.{CarriesFrom, GoesOn, next_at}
 use Rattle.fast_stream.specs.Nodes.{Content}
 use Rattle.fast_stream.specs.Faults.{MessageStop}
-use Rattle.fast_walk.specs.declared.halt.Halt.{Halt}
 use Rattle.fast_walk.specs.declared.traversal.Stage.TheVariants as stage
 use Rattle.fast_walk.specs.declared.traversal.Traversal.{Traversal}
 use Rattle.fast_walk.specs.OpenSegments.{Reading}
-use Rattle.fast_walk.specs.Traversals.{stop_of}
 pub use Rattle.fast_machine.specs.Runs.{Having, Standing, ReadsOn, Unfinished}
 
 -- a framing, at the level of a traversal
@@ -71,12 +68,3 @@ Stands framing left Goes t unread bytes messages = Behind (framed_as framing t) 
 -- The receiver has these messages, from the dictionary behind a prefix of the bytes that carries the messages.
 abbrev pub HasAll : {R : Type 0} → Standing R → Framing → Traversal → R → List Content → List ℕ → List Content → Type 0
 HasAll stands framing t r before bytes messages = Behind (framed_as framing t) (templates_in t.set.now) bytes messages (λ s rest. stands r (templates_in t.set.now) before s.dictionary)
-
--- How the reading of a stream ends at a piece: it can go on if more bytes come, or the receiver has forgotten what was
--- open.
-abbrev pub Halted : {R : Type 0} → Having R → Standing R → Standing R → Halt → Framing → ℕ → Traversal → R → Dictionary → List Content → List ℕ → List ℕ → List Content → Type 0
-Halted has stands keeps h framing left t r d before unread bytes messages =
-    Carried (framed_as framing t) (templates_in t.set.now) bytes messages
-    × (h.cause ≢ Memory → StopsBehind (framed_as framing t) (templates_in t.set.now) bytes messages (stop_of t.template h unread))
-    × (h.cause ≡ Truncated → Stands framing left (ReadsOn has stands keeps t r d before) t unread bytes messages)
-    × (h.cause ≢ Truncated → HasAll stands framing t r before bytes messages)

@@ -2,19 +2,16 @@
 
 ghost use Rattle.std.specs.Prelude.{◌≡◌, ◌≢◌, ◌≤◌, ◌<◌, ◌+◌, ◌*◌, ◌-◌, ◌^◌, ◌++◌, ◌⊎◌, [], ℕ, true, List, None, Some, Err, OnOk, OnErr, IfOk, IfErr, IfSome, IfNone, length, take, drop, map};
 ghost use Rattle.std.specs.FinMap as finite;
-ghost use Rattle.fast_template.specs.Resolved.{Resolved};
 ghost use Rattle.fast_template.specs.TemplateSets.{IsSound, templates_in};
-ghost use Rattle.fast_dictionary.specs.Dictionary.{Dictionary};
 ghost use Rattle.fast_stream.specs.Nodes.{Content};
 ghost use Rattle.fast_stream.specs.Blocks.{size_at};
 ghost use Rattle.fast_stream.specs.Modes.{Carries};
-ghost use Rattle.fast_stream.specs.declared.mode.Mode.{Mode as ModeNow};
 ghost use Rattle.fast_walk.specs.declared.traversal.Stage.TheVariants as stage;
-ghost use Rattle.fast_walk.specs.declared.traversal.Traversal.{Traversal as TraversalNow};
-ghost use Rattle.fast_machine.specs.Following.{Counts, IsHeld, Refused, Waits};
-ghost use Rattle.fast_machine.specs.Standing.{Carried, ReadsOn, Stands, StopsBehind};
 ghost use Rattle.fast_walk.specs.Lacks.{AreUnstopped, Lacks};
-ghost use Rattle.fast_walk.specs.Traversals.{CanGoOn, ServesAll, begun_of, stop_of};
+ghost use Rattle.fast_walk.specs.Traversals.{CanGoOn, ServesAll, begun_of};
+ghost use Rattle.fast_machine.specs.Calls.{FollowsAll, FollowsHolding, FollowsOn, FollowsTaken, FollowsWaiting, IsBehind, IsFault, IsFaultOf, IsSameStream, KeepsFault, ReadsNext, StandsAt, StaysAt, StillFollows};
+ghost use Rattle.fast_machine.specs.Following.{Counts, IsHeld};
+ghost use Rattle.fast_machine.specs.Runs.{Retains};
 
 use crate::blocks::{open_block, within};
 use crate::machine::Machine;
@@ -45,11 +42,7 @@ fn fault_at(
     template: u32,
     instruction: u32,
 ) -> Fault
-    ensures cause { result.cause ≡ cause }
-    ensures message { messages < 2 ^ 61 → result.place.message ≡ messages + 1 }
-    ensures offset { result.place.offset ≡ fed - left }
-    ensures template { result.place.template ≡ template }
-    ensures instruction { result.place.instruction ≡ instruction }
+    ensures { IsFault result cause messages (fed - left) template instruction }
 {
     let place = Place {
         message: messages.saturating_add(1),
@@ -63,13 +56,7 @@ fn fault_at(
 // The fault that a halt is. Want of memory has no place but the message.
 fn fault_of(halt: Halt, messages: u64, fed: u64, left: usize, template: u32) -> Fault
     ensures cause { result.cause ≡ halt.cause }
-    ensures refused { (mode : ModeNow) (t : TraversalNow) (rest bytes : List ℕ) (ms : List Content)
-        → IsSound t.set.now → Counts fed messages bytes ms → length bytes < 2 ^ 61
-        → t.template ≡ template → length rest ≡ left
-        → Carried mode (templates_in t.set.now) bytes ms
-        → (halt.cause ≢ Cause.Memory
-        → StopsBehind mode (templates_in t.set.now) bytes ms (stop_of t.template halt rest))
-        → Refused result mode (templates_in t.set.now) bytes ms }
+    ensures refused { IsFaultOf halt messages fed left template result }
 {
     match halt.cause {
         Cause::Memory => fault_at(Cause::Memory, messages, 0, 0, 0, 0),
@@ -207,23 +194,8 @@ impl<'a, R: Receiver, E: Entries> Machine<'a, R, E> {
 
     // Keeps a fault of a piece of which so many bytes are left.
     fn keep(&mut self, cause: Cause, number: u32, left: usize) -> Fault
-        ensures cause { result.cause ≡ cause }
-        ensures message { self.old.messages < 2 ^ 61 → result.place.message
-            ≡ self.old.messages + 1 }
-        ensures offset { result.place.offset ≡ self.old.fed - left }
-        ensures template { result.place.template ≡ self.old.traversal.template }
-        ensures instruction { result.place.instruction ≡ number }
-        ensures kept { self.new.fault ≡ Some result }
-        ensures held { self.new.held.items ≡ [] }
-        ensures traversal { self.new.traversal ≡ self.old.traversal }
-        ensures left { (set : List Resolved) (ms : List Content) (d : Dictionary)
-            → R.keeps self.old.receiver set ms d ⊎ R.stands self.old.receiver set ms d
-            → R.stands self.new.receiver set ms d }
-        ensures entries { self.new.entries ≡ self.old.entries }
-        ensures fed { self.new.fed ≡ self.old.fed }
-        ensures messages { self.new.messages ≡ self.old.messages }
-        ensures framing { self.new.framing ≡ self.old.framing }
-        ensures room { self.new.left ≡ self.old.left }
+        ensures fault { IsFault result cause self.old.messages (self.old.fed - left) self.old.traversal.template number }
+        ensures keeps { KeepsFault self.old result self.new }
     {
         let template = self.traversal.template();
         let fault = fault_at(cause, self.messages, self.fed, left, template, number);
@@ -237,23 +209,8 @@ impl<'a, R: Receiver, E: Entries> Machine<'a, R, E> {
 
     // Keeps that memory was refused.
     fn refuse(&mut self) -> Fault
-        ensures cause { result.cause ≡ Cause.Memory }
-        ensures message { self.old.messages < 2 ^ 61 → result.place.message
-            ≡ self.old.messages + 1 }
-        ensures offset { result.place.offset ≡ 0 }
-        ensures template { result.place.template ≡ 0 }
-        ensures instruction { result.place.instruction ≡ 0 }
-        ensures kept { self.new.fault ≡ Some result }
-        ensures held { self.new.held.items ≡ [] }
-        ensures traversal { self.new.traversal ≡ self.old.traversal }
-        ensures left { (set : List Resolved) (ms : List Content) (d : Dictionary)
-            → R.keeps self.old.receiver set ms d ⊎ R.stands self.old.receiver set ms d
-            → R.stands self.new.receiver set ms d }
-        ensures entries { self.new.entries ≡ self.old.entries }
-        ensures fed { self.new.fed ≡ self.old.fed }
-        ensures messages { self.new.messages ≡ self.old.messages }
-        ensures framing { self.new.framing ≡ self.old.framing }
-        ensures room { self.new.left ≡ self.old.left }
+        ensures fault { IsFault result Cause.Memory self.old.messages 0 0 0 }
+        ensures keeps { KeepsFault self.old result self.new }
     {
         let fault = fault_at(Cause::Memory, self.messages, 0, 0, 0, 0);
         self.fault = Some(fault);
@@ -270,16 +227,10 @@ impl<'a, R: Receiver, E: Entries> Machine<'a, R, E> {
     fn know(&mut self, lack: Lack)
         requires unknown { self.now.end ≡ 0 }
         requires lacks { Lacks self.now.traversal (E.contents self.now.entries) self.now.held.items lack }
-        ensures follows { (before : List Content) (fed : List ℕ) (messages : List Content)
-            → Follows self.old before fed messages → Follows self.new before fed messages }
+        ensures follows { StillFollows self.old self.new }
         ensures fault { self.new.fault ≡ self.old.fault }
-        ensures traversal { self.new.traversal ≡ self.old.traversal }
         ensures receiver { self.new.receiver ≡ self.old.receiver }
-        ensures entries { self.new.entries ≡ self.old.entries }
-        ensures fed { self.new.fed ≡ self.old.fed }
-        ensures messages { self.new.messages ≡ self.old.messages }
-        ensures framing { self.new.framing ≡ self.old.framing }
-        ensures room { self.new.left ≡ self.old.left }
+        ensures stays { StaysAt self.old self.new }
     {
         let held = self.held.len();
         if lack.number == self.waiting && lack.most < HELD_LIMIT - held {
@@ -295,12 +246,7 @@ impl<'a, R: Receiver, E: Entries> Machine<'a, R, E> {
         requires unknown { self.now.end ≡ 0 }
         requires held { self.now.held.items ≡ [] }
         requires few { length rest.now ≤ 65554 }
-        ensures follows { (before : List Content) (fed : List ℕ) (messages : List Content)
-            → length fed < 2 ^ 61 → Counts self.old.fed self.old.messages fed messages
-            → Stands self.old.framing self.old.left (ReadsOn R.has R.stands R.keeps self.old.traversal self.old.receiver
-            (E.contents self.old.entries) before) self.old.traversal rest.now fed messages
-            → Waits self.old.framing self.old.left self.old.traversal rest.now self.old.waiting fed messages
-            → Follows self.new before fed messages }
+        ensures follows { FollowsWaiting self.old rest.now self.old.waiting self.new }
         ensures answer { Answers result self.new.fault }
         ensures cause { IfErr result (λ f. f.cause ≡ Cause.Memory) }
         ensures traversal { self.new.traversal ≡ self.old.traversal }
@@ -326,12 +272,7 @@ impl<'a, R: Receiver, E: Entries> Machine<'a, R, E> {
         requires unknown { self.now.end ≡ 0 }
         requires held { self.now.held.items ≡ [] }
         requires few { length rest.now ≤ 65554 }
-        ensures follows { (before : List Content) (fed : List ℕ) (messages : List Content)
-            → length fed < 2 ^ 61 → Counts self.old.fed self.old.messages fed messages
-            → Stands self.old.framing self.old.left (ReadsOn R.has R.stands R.keeps self.old.traversal self.old.receiver
-            (E.contents self.old.entries) before) self.old.traversal rest.now fed messages
-            → Waits self.old.framing self.old.left self.old.traversal rest.now number fed messages
-            → Follows self.new before fed messages }
+        ensures follows { FollowsWaiting self.old rest.now number self.new }
         ensures answer { Answers result self.new.fault }
         ensures cause { IfErr result (λ f. f.cause ≡ Cause.Memory) }
         ensures traversal { self.new.traversal ≡ self.old.traversal }
@@ -372,20 +313,11 @@ impl<'a, R: Receiver, E: Entries> Machine<'a, R, E> {
         requires unstopped { self.now.until_stop ≡ true → AreUnstopped chunk.now }
         requires room { self.now.framing ≡ Framing.Blocks
             → length (self.now.held.items ++ chunk.now) < self.now.left }
-        ensures follows { OnOk result ((before : List Content) (fed : List ℕ) (messages : List Content)
-            → length fed < 2 ^ 61 → Counts self.old.fed self.old.messages fed messages
-            → Stands self.old.framing self.old.left (ReadsOn R.has R.stands R.keeps self.old.traversal self.old.receiver
-            (E.contents self.old.entries) before) self.old.traversal (self.old.held.items ++ chunk.now) fed messages
-            → Follows self.new before fed messages) }
+        ensures follows { OnOk result (FollowsHolding self.old (self.old.held.items ++ chunk.now) self.new) }
         ensures held { OnErr result (self.new.held.items ≡ self.old.held.items) }
         ensures fault { self.new.fault ≡ None }
-        ensures traversal { self.new.traversal ≡ self.old.traversal }
         ensures receiver { self.new.receiver ≡ self.old.receiver }
-        ensures entries { self.new.entries ≡ self.old.entries }
-        ensures fed { self.new.fed ≡ self.old.fed }
-        ensures messages { self.new.messages ≡ self.old.messages }
-        ensures framing { self.new.framing ≡ self.old.framing }
-        ensures room { self.new.left ≡ self.old.left }
+        ensures stays { StaysAt self.old self.new }
     {
         append(&mut self.held, chunk)?;
         Ok(())
@@ -405,8 +337,7 @@ impl<'a, R: Receiver, E: Entries> Machine<'a, R, E> {
         requires unstopped { self.now.until_stop ≡ true → AreUnstopped chunk.now }
         requires room { self.now.framing ≡ Framing.Blocks
             → length (self.now.held.items ++ chunk.now) < self.now.left }
-        ensures follows { (before : List Content) (fed : List ℕ) (messages : List Content)
-            → Follows self.old before fed messages → Follows self.new before (fed ++ chunk.now) messages }
+        ensures follows { FollowsOn self.old chunk.now self.new }
         ensures answer { Answers result self.new.fault }
         ensures cause { IfErr result (λ f. f.cause ≡ Cause.Memory) }
         ensures traversal { self.new.traversal ≡ self.old.traversal }
@@ -480,20 +411,11 @@ impl<'a, R: Receiver, E: Entries> Machine<'a, R, E> {
         requires few { length (self.now.held.items ++ chunk.now) ≤ 65554 }
         requires room { self.now.framing ≡ Framing.Blocks
             → length (self.now.held.items ++ chunk.now) < self.now.left }
-        ensures follows { OnOk result ((before : List Content) (fed : List ℕ) (messages : List Content)
-            → length fed < 2 ^ 61 → Counts self.old.fed self.old.messages fed messages
-            → Stands self.old.framing self.old.left (ReadsOn R.has R.stands R.keeps self.old.traversal self.old.receiver
-            (E.contents self.old.entries) before) self.old.traversal (self.old.held.items ++ chunk.now) fed messages
-            → Follows self.new before fed messages) }
+        ensures follows { OnOk result (FollowsHolding self.old (self.old.held.items ++ chunk.now) self.new) }
         ensures held { OnErr result (self.new.held.items ≡ self.old.held.items) }
         ensures fault { self.new.fault ≡ None }
-        ensures traversal { self.new.traversal ≡ self.old.traversal }
         ensures receiver { self.new.receiver ≡ self.old.receiver }
-        ensures entries { self.new.entries ≡ self.old.entries }
-        ensures fed { self.new.fed ≡ self.old.fed }
-        ensures messages { self.new.messages ≡ self.old.messages }
-        ensures framing { self.new.framing ≡ self.old.framing }
-        ensures room { self.new.left ≡ self.old.left }
+        ensures stays { StaysAt self.old self.new }
     {
         self.end = 0;
         append(&mut self.held, chunk)?;
@@ -516,8 +438,7 @@ impl<'a, R: Receiver, E: Entries> Machine<'a, R, E> {
         requires few { length (self.now.held.items ++ chunk.now) ≤ 65554 }
         requires room { self.now.framing ≡ Framing.Blocks
             → length (self.now.held.items ++ chunk.now) < self.now.left }
-        ensures follows { (before : List Content) (fed : List ℕ) (messages : List Content)
-            → Follows self.old before fed messages → Follows self.new before (fed ++ chunk.now) messages }
+        ensures follows { FollowsOn self.old chunk.now self.new }
         ensures answer { Answers result self.new.fault }
         ensures cause { IfErr result (λ f. f.cause ≡ Cause.Memory) }
         ensures traversal { self.new.traversal ≡ self.old.traversal }
@@ -541,35 +462,9 @@ impl<'a, R: Receiver, E: Entries> Machine<'a, R, E> {
         requires held { self.now.held.items ≡ [] }
         requires framing { self.now.framing ≡ Framing.Plain }
         requires some { (0 < length bytes.now) ⊎ (begun_of self.now.traversal ≡ 1) }
-        ensures goes { IfOk result (λ o. IfSome o (λ n. (before : List Content) (fed : List ℕ)
-            (messages : List Content) → length fed ≤ 2 ^ 60
-            → Counts self.old.fed self.old.messages fed messages
-            → Stands Framing.Plain self.old.left (ReadsOn R.has R.stands R.keeps self.old.traversal self.old.receiver
-            (E.contents self.old.entries) before) self.old.traversal bytes.now fed messages
-            → (ended : List Content) × Counts self.new.fed self.new.messages fed (messages ++ ended)
-            × (ended ≡ [] → n ≡ length bytes.now)
-            × Stands Framing.Plain self.new.left (ReadsOn R.has R.stands R.keeps self.new.traversal self.new.receiver
-            (E.contents self.new.entries) (before ++ ended)) self.new.traversal (drop n bytes.now) fed (messages ++ ended))) }
-        ensures place { IfOk result (λ o. IfSome o (λ n. (n ≤ length bytes.now)
-            × (self.new.traversal.stage ≡ stage.Map) × (self.new.fault ≡ None)
-            × (self.new.held.items ≡ []))) }
-        ensures took { IfOk result (λ o. IfSome o (λ n. begun_of self.old.traversal ≡ 0 → 0 < n)) }
-        ensures waits { IfOk result (λ o. IfNone o ((self.new.fault ≡ None) × ((before : List Content) (fed : List ℕ)
-            (messages : List Content) → length fed ≤ 2 ^ 60
-            → Counts self.old.fed self.old.messages fed messages
-            → Stands Framing.Plain self.old.left (ReadsOn R.has R.stands R.keeps self.old.traversal self.old.receiver
-            (E.contents self.old.entries) before) self.old.traversal bytes.now fed messages
-            → (ended : List Content) × Follows self.new (before ++ ended) fed (messages ++ ended)))) }
-        ensures fails { IfErr result (λ f. (self.new.fault ≡ Some f) × (f.cause ≢ Cause.Truncated)
-            × ((before : List Content) (fed : List ℕ)
-            (messages : List Content) → length fed ≤ 2 ^ 60
-            → Counts self.old.fed self.old.messages fed messages
-            → Stands Framing.Plain self.old.left (ReadsOn R.has R.stands R.keeps self.old.traversal self.old.receiver
-            (E.contents self.old.entries) before) self.old.traversal bytes.now fed messages
-            → (ended : List Content) × Follows self.new (before ++ ended) fed (messages ++ ended))) }
-        ensures set { self.new.traversal.set ≡ self.old.traversal.set }
-        ensures mode { mode_of self.new ≡ mode_of self.old }
-        ensures same_keys { E.serves self.new.entries ≡ E.serves self.old.entries }
+        ensures reads { ReadsNext Framing.Plain self.old bytes.now result self.new }
+        ensures place { IfOk result (λ o. IfSome o (λ n. IsBehind self.old bytes.now n self.new)) }
+        ensures same { IsSameStream self.old self.new }
         ensures fed { self.new.fed ≡ self.old.fed }
     {
         let progress = read_message(
@@ -616,9 +511,7 @@ impl<'a, R: Receiver, E: Entries> Machine<'a, R, E> {
         requires stops { size_at self.now.traversal.level bytes.now ≡ Err cause }
         ensures follows { (before : List Content) (fed : List ℕ) (messages : List Content)
             → length fed ≤ 2 ^ 60 → Counts self.old.fed self.old.messages fed messages
-            → Stands Framing.Blocks self.old.left (ReadsOn R.has R.stands R.keeps self.old.traversal self.old.receiver
-            (E.contents self.old.entries) before) self.old.traversal bytes.now fed messages
-            → Follows self.new before fed messages }
+            → StandsAt Framing.Blocks self.old before bytes.now fed messages → Follows self.new before fed messages }
         ensures answer { Answers result self.new.fault }
         ensures cause { IfErr result (λ f. f.cause ≢ Cause.Truncated) }
         ensures traversal { self.new.traversal ≡ self.old.traversal }
@@ -641,35 +534,9 @@ impl<'a, R: Receiver, E: Entries> Machine<'a, R, E> {
         requires held { self.now.held.items ≡ [] }
         requires framing { self.now.framing ≡ Framing.Blocks }
         requires some { (0 < length bytes.now) ⊎ (begun_of self.now.traversal ≡ 1) }
-        ensures goes { IfOk result (λ o. IfSome o (λ n. (before : List Content) (fed : List ℕ)
-            (messages : List Content) → length fed ≤ 2 ^ 60
-            → Counts self.old.fed self.old.messages fed messages
-            → Stands Framing.Blocks self.old.left (ReadsOn R.has R.stands R.keeps self.old.traversal self.old.receiver
-            (E.contents self.old.entries) before) self.old.traversal bytes.now fed messages
-            → (ended : List Content) × Counts self.new.fed self.new.messages fed (messages ++ ended)
-            × (ended ≡ [] → n ≡ length bytes.now)
-            × Stands Framing.Blocks self.new.left (ReadsOn R.has R.stands R.keeps self.new.traversal self.new.receiver
-            (E.contents self.new.entries) (before ++ ended)) self.new.traversal (drop n bytes.now) fed (messages ++ ended))) }
-        ensures place { IfOk result (λ o. IfSome o (λ n. (n ≤ length bytes.now)
-            × (self.new.traversal.stage ≡ stage.Map) × (self.new.fault ≡ None)
-            × (self.new.held.items ≡ []))) }
-        ensures took { IfOk result (λ o. IfSome o (λ n. begun_of self.old.traversal ≡ 0 → 0 < n)) }
-        ensures waits { IfOk result (λ o. IfNone o ((self.new.fault ≡ None) × ((before : List Content) (fed : List ℕ)
-            (messages : List Content) → length fed ≤ 2 ^ 60
-            → Counts self.old.fed self.old.messages fed messages
-            → Stands Framing.Blocks self.old.left (ReadsOn R.has R.stands R.keeps self.old.traversal self.old.receiver
-            (E.contents self.old.entries) before) self.old.traversal bytes.now fed messages
-            → (ended : List Content) × Follows self.new (before ++ ended) fed (messages ++ ended)))) }
-        ensures fails { IfErr result (λ f. (self.new.fault ≡ Some f) × (f.cause ≢ Cause.Truncated)
-            × ((before : List Content) (fed : List ℕ)
-            (messages : List Content) → length fed ≤ 2 ^ 60
-            → Counts self.old.fed self.old.messages fed messages
-            → Stands Framing.Blocks self.old.left (ReadsOn R.has R.stands R.keeps self.old.traversal self.old.receiver
-            (E.contents self.old.entries) before) self.old.traversal bytes.now fed messages
-            → (ended : List Content) × Follows self.new (before ++ ended) fed (messages ++ ended))) }
-        ensures set { self.new.traversal.set ≡ self.old.traversal.set }
-        ensures mode { mode_of self.new ≡ mode_of self.old }
-        ensures same_keys { E.serves self.new.entries ≡ E.serves self.old.entries }
+        ensures reads { ReadsNext Framing.Blocks self.old bytes.now result self.new }
+        ensures place { IfOk result (λ o. IfSome o (λ n. IsBehind self.old bytes.now n self.new)) }
+        ensures same { IsSameStream self.old self.new }
         ensures fed { self.new.fed ≡ self.old.fed }
     {
         let (left, at) = match open_block(self.traversal.level(), self.left, bytes) {
@@ -721,35 +588,9 @@ impl<'a, R: Receiver, E: Entries> Machine<'a, R, E> {
         requires unknown { self.now.end ≡ 0 }
         requires held { self.now.held.items ≡ [] }
         requires some { (0 < length bytes.now) ⊎ (begun_of self.now.traversal ≡ 1) }
-        ensures goes { IfOk result (λ o. IfSome o (λ n. (before : List Content) (fed : List ℕ)
-            (messages : List Content) → length fed ≤ 2 ^ 60
-            → Counts self.old.fed self.old.messages fed messages
-            → Stands self.old.framing self.old.left (ReadsOn R.has R.stands R.keeps self.old.traversal self.old.receiver
-            (E.contents self.old.entries) before) self.old.traversal bytes.now fed messages
-            → (ended : List Content) × Counts self.new.fed self.new.messages fed (messages ++ ended)
-            × (ended ≡ [] → n ≡ length bytes.now)
-            × Stands self.old.framing self.new.left (ReadsOn R.has R.stands R.keeps self.new.traversal self.new.receiver
-            (E.contents self.new.entries) (before ++ ended)) self.new.traversal (drop n bytes.now) fed (messages ++ ended))) }
-        ensures place { IfOk result (λ o. IfSome o (λ n. (n ≤ length bytes.now)
-            × (self.new.traversal.stage ≡ stage.Map) × (self.new.fault ≡ None)
-            × (self.new.held.items ≡ []))) }
-        ensures took { IfOk result (λ o. IfSome o (λ n. begun_of self.old.traversal ≡ 0 → 0 < n)) }
-        ensures waits { IfOk result (λ o. IfNone o ((self.new.fault ≡ None) × ((before : List Content) (fed : List ℕ)
-            (messages : List Content) → length fed ≤ 2 ^ 60
-            → Counts self.old.fed self.old.messages fed messages
-            → Stands self.old.framing self.old.left (ReadsOn R.has R.stands R.keeps self.old.traversal self.old.receiver
-            (E.contents self.old.entries) before) self.old.traversal bytes.now fed messages
-            → (ended : List Content) × Follows self.new (before ++ ended) fed (messages ++ ended)))) }
-        ensures fails { IfErr result (λ f. (self.new.fault ≡ Some f) × (f.cause ≢ Cause.Truncated)
-            × ((before : List Content) (fed : List ℕ)
-            (messages : List Content) → length fed ≤ 2 ^ 60
-            → Counts self.old.fed self.old.messages fed messages
-            → Stands self.old.framing self.old.left (ReadsOn R.has R.stands R.keeps self.old.traversal self.old.receiver
-            (E.contents self.old.entries) before) self.old.traversal bytes.now fed messages
-            → (ended : List Content) × Follows self.new (before ++ ended) fed (messages ++ ended))) }
-        ensures set { self.new.traversal.set ≡ self.old.traversal.set }
-        ensures mode { mode_of self.new ≡ mode_of self.old }
-        ensures same_keys { E.serves self.new.entries ≡ E.serves self.old.entries }
+        ensures reads { ReadsNext self.old.framing self.old bytes.now result self.new }
+        ensures place { IfOk result (λ o. IfSome o (λ n. IsBehind self.old bytes.now n self.new)) }
+        ensures same { IsSameStream self.old self.new }
         ensures fed { self.new.fed ≡ self.old.fed }
     {
         match self.framing {
@@ -768,9 +609,7 @@ impl<'a, R: Receiver, E: Entries> Machine<'a, R, E> {
         ensures follows { (before : List Content) (fed rest : List ℕ) (messages : List Content)
             → length rest ≡ left
             → Counts self.old.fed self.old.messages (fed ++ rest) messages
-            → Stands self.old.framing self.old.left (ReadsOn R.has R.stands R.keeps self.old.traversal self.old.receiver
-            (E.contents self.old.entries) before) self.old.traversal rest (fed ++ rest) messages
-            → Follows self.new before fed messages }
+            → StandsAt self.old.framing self.old before rest (fed ++ rest) messages → Follows self.new before fed messages }
         ensures fault { self.new.fault ≡ None }
         ensures traversal { self.new.traversal ≡ self.old.traversal }
         ensures entries { self.new.entries ≡ self.old.entries }
@@ -787,36 +626,9 @@ impl<'a, R: Receiver, E: Entries> Machine<'a, R, E> {
     fn read_behind(&mut self, chunk: &[u8]) -> Result<Option<usize>, Fault>
         requires fault { self.now.fault ≡ None }
         requires some { 0 < length chunk.now }
-        ensures goes { IfOk result (λ o. IfSome o (λ n. (before : List Content) (fed : List ℕ)
-            (messages : List Content) → length fed ≤ 2 ^ 60
-            → Counts self.old.fed self.old.messages fed messages
-            → Stands self.old.framing self.old.left (ReadsOn R.has R.stands R.keeps self.old.traversal self.old.receiver
-            (E.contents self.old.entries) before) self.old.traversal (self.old.held.items ++ chunk.now) fed messages
-            → (ended : List Content) × Counts self.new.fed self.new.messages fed (messages ++ ended)
-            × (ended ≡ [] → n ≡ length (self.old.held.items ++ chunk.now))
-            × Stands self.old.framing self.new.left (ReadsOn R.has R.stands R.keeps self.new.traversal self.new.receiver
-            (E.contents self.new.entries) (before ++ ended)) self.new.traversal
-            (drop n (self.old.held.items ++ chunk.now)) fed (messages ++ ended))) }
-        ensures place { IfOk result (λ o. IfSome o (λ n. (n ≤ length (self.old.held.items ++ chunk.now))
-            × (self.new.traversal.stage ≡ stage.Map) × (self.new.fault ≡ None)
-            × (self.new.held.items ≡ []))) }
-        ensures took { IfOk result (λ o. IfSome o (λ n. begun_of self.old.traversal ≡ 0 → 0 < n)) }
-        ensures waits { IfOk result (λ o. IfNone o ((self.new.fault ≡ None) × ((before : List Content) (fed : List ℕ)
-            (messages : List Content) → length fed ≤ 2 ^ 60
-            → Counts self.old.fed self.old.messages fed messages
-            → Stands self.old.framing self.old.left (ReadsOn R.has R.stands R.keeps self.old.traversal self.old.receiver
-            (E.contents self.old.entries) before) self.old.traversal (self.old.held.items ++ chunk.now) fed messages
-            → (ended : List Content) × Follows self.new (before ++ ended) fed (messages ++ ended)))) }
-        ensures fails { IfErr result (λ f. (self.new.fault ≡ Some f) × (f.cause ≢ Cause.Truncated)
-            × ((before : List Content) (fed : List ℕ)
-            (messages : List Content) → length fed ≤ 2 ^ 60
-            → Counts self.old.fed self.old.messages fed messages
-            → Stands self.old.framing self.old.left (ReadsOn R.has R.stands R.keeps self.old.traversal self.old.receiver
-            (E.contents self.old.entries) before) self.old.traversal (self.old.held.items ++ chunk.now) fed messages
-            → (ended : List Content) × Follows self.new (before ++ ended) fed (messages ++ ended))) }
-        ensures set { self.new.traversal.set ≡ self.old.traversal.set }
-        ensures mode { mode_of self.new ≡ mode_of self.old }
-        ensures same_keys { E.serves self.new.entries ≡ E.serves self.old.entries }
+        ensures reads { ReadsNext self.old.framing self.old (self.old.held.items ++ chunk.now) result self.new }
+        ensures place { IfOk result (λ o. IfSome o (λ n. IsBehind self.old (self.old.held.items ++ chunk.now) n self.new)) }
+        ensures same { IsSameStream self.old self.new }
         ensures fed { self.new.fed ≡ self.old.fed }
     {
         self.end = 0;
@@ -841,17 +653,11 @@ impl<'a, R: Receiver, E: Entries> Machine<'a, R, E> {
         requires fault { self.now.fault ≡ None }
         requires some { 0 < length chunk.now }
         ensures taken { IfOk result (λ n. (0 < n) × (n ≤ length chunk.now)) }
-        ensures follows { self.old.fault ≡ None → (before : List Content) (fed : List ℕ)
-            (messages : List Content) → Follows self.old before fed messages
-            → (ended : List Content)
-            × IfOk result (λ n. Follows self.new (before ++ ended) (fed ++ take n chunk.now) (messages ++ ended))
-            × IfErr result (λ f. Follows self.new (before ++ ended) (fed ++ chunk.now) (messages ++ ended)) }
+        ensures follows { self.old.fault ≡ None → FollowsTaken self.old chunk.now result self.new }
         ensures open { IfOk result (λ n. self.new.fault ≡ None) }
         ensures refused { IfErr result (λ f. self.new.fault ≡ Some f) }
         ensures cause { self.old.fault ≡ None → IfErr result (λ f. f.cause ≢ Cause.Truncated) }
-        ensures set { self.new.traversal.set ≡ self.old.traversal.set }
-        ensures mode { mode_of self.new ≡ mode_of self.old }
-        ensures same_keys { E.serves self.new.entries ≡ E.serves self.old.entries }
+        ensures same { IsSameStream self.old self.new }
         ensures fed { self.old.fault ≡ None → IfOk result (λ n. self.new.fed ≡ self.old.fed + n)
             × IfErr result (λ f. self.new.fed ≡ self.old.fed + length chunk.now) }
     {
@@ -880,11 +686,7 @@ impl<'a, R: Receiver, E: Entries> Machine<'a, R, E> {
         requires some { 0 < length chunk.now }
         ensures kept { IfSome self.old.fault (λ f. (result ≡ Err f) × (self.new ≡ self.old)) }
         ensures taken { IfOk result (λ n. (0 < n) × (n ≤ length chunk.now)) }
-        ensures follows { self.old.fault ≡ None → (before : List Content) (fed : List ℕ)
-            (messages : List Content) → Follows self.old before fed messages
-            → (ended : List Content)
-            × IfOk result (λ n. Follows self.new (before ++ ended) (fed ++ take n chunk.now) (messages ++ ended))
-            × IfErr result (λ f. Follows self.new (before ++ ended) (fed ++ chunk.now) (messages ++ ended)) }
+        ensures follows { self.old.fault ≡ None → FollowsTaken self.old chunk.now result self.new }
         ensures open { IfOk result (λ n. self.new.fault ≡ None) }
         ensures refused { IfErr result (λ f. self.new.fault ≡ Some f) }
         ensures cause { self.old.fault ≡ None → IfErr result (λ f. f.cause ≢ Cause.Truncated) }
@@ -918,10 +720,7 @@ impl<'a, R: Receiver, E: Entries> Machine<'a, R, E> {
     pub fn feed_on(&mut self, chunk: &[u8]) -> Result<(), Fault>
         requires room { self.now.fed + length chunk.now ≤ 2 ^ 60 }
         requires fault { self.now.fault ≡ None }
-        ensures follows { self.old.fault ≡ None → (before : List Content) (fed : List ℕ)
-            (messages : List Content) → Follows self.old before fed messages
-            → (ended : List Content)
-            × Follows self.new (before ++ ended) (fed ++ chunk.now) (messages ++ ended) }
+        ensures follows { self.old.fault ≡ None → FollowsAll self.old chunk.now self.new }
         ensures answer { Answers result self.new.fault }
         ensures cause { self.old.fault ≡ None → IfErr result (λ f. f.cause ≢ Cause.Truncated) }
         ensures set { self.new.traversal.set ≡ self.old.traversal.set }
@@ -945,10 +744,7 @@ impl<'a, R: Receiver, E: Entries> Machine<'a, R, E> {
     pub fn feed(&mut self, chunk: &[u8]) -> Result<(), Fault>
         requires room { self.now.fed + length chunk.now ≤ 2 ^ 60 }
         ensures kept { IfSome self.old.fault (λ f. (result ≡ Err f) × (self.new ≡ self.old)) }
-        ensures follows { self.old.fault ≡ None → (before : List Content) (fed : List ℕ)
-            (messages : List Content) → Follows self.old before fed messages
-            → (ended : List Content)
-            × Follows self.new (before ++ ended) (fed ++ chunk.now) (messages ++ ended) }
+        ensures follows { self.old.fault ≡ None → FollowsAll self.old chunk.now self.new }
         ensures answer { Answers result self.new.fault }
         ensures cause { self.old.fault ≡ None → IfErr result (λ f. f.cause ≢ Cause.Truncated) }
         ensures set { self.new.traversal.set ≡ self.old.traversal.set }
@@ -982,9 +778,7 @@ impl<'a, R: Receiver, E: Entries> Machine<'a, R, E> {
             × ((before : List Content) (fed : List ℕ) (messages : List Content)
             → self.old.fed ≤ 2 ^ 60 → Follows self.old before fed messages
             → Follows self.new before fed messages)) }
-        ensures left { (set : List Resolved) (ms : List Content) (d : Dictionary)
-            → R.keeps self.old.receiver set ms d ⊎ R.stands self.old.receiver set ms d
-            → R.keeps self.new.receiver set ms d ⊎ R.stands self.new.receiver set ms d }
+        ensures left { Retains R.stands R.keeps self.old.receiver self.new.receiver }
         ensures answer { Answers result self.new.fault }
         ensures set { self.new.traversal.set ≡ self.old.traversal.set }
         ensures mode { mode_of self.new ≡ mode_of self.old }
@@ -1011,12 +805,8 @@ impl<'a, R: Receiver, E: Entries> Machine<'a, R, E> {
             → IsCutAt (mode_of self.old) (templates_in self.old.traversal.set.now) fed
             messages result.place }
         ensures kept { IfSome self.old.fault (λ f. self.new ≡ self.old) }
-        ensures follows { self.old.fault ≡ None → (before : List Content) (fed : List ℕ)
-            (messages : List Content) → Follows self.old before fed messages
-            → Follows self.new before fed messages }
-        ensures left { (set : List Resolved) (ms : List Content) (d : Dictionary)
-            → R.keeps self.old.receiver set ms d ⊎ R.stands self.old.receiver set ms d
-            → R.keeps self.new.receiver set ms d ⊎ R.stands self.new.receiver set ms d }
+        ensures follows { self.old.fault ≡ None → StillFollows self.old self.new }
+        ensures left { Retains R.stands R.keeps self.old.receiver self.new.receiver }
         ensures set { self.new.traversal.set ≡ self.old.traversal.set }
         ensures mode { mode_of self.new ≡ mode_of self.old }
         ensures fed { self.new.fed ≡ self.old.fed }

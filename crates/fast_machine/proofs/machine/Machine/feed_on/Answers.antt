@@ -38,9 +38,9 @@ messages-preserved g c =
     record {
       place = let few = taken.1 in let before = l.invariant.place in omega (arith, few, size, before);
       fault = o.ensures.open;
-      set = o.ensures.set ∙ l.invariant.set;
-      mode = o.ensures.mode ∙ l.invariant.mode;
-      same_keys = o.ensures.same_keys ∙ l.invariant.same_keys;
+      set = o.ensures.same.set ∙ l.invariant.set;
+      mode = o.ensures.same.mode ∙ l.invariant.mode;
+      same_keys = o.ensures.same.same_keys ∙ l.invariant.same_keys;
       fed = let more = (o.ensures.fed l.invariant.fault).0 in let before = l.invariant.fed in omega (arith, more, before);
       follows = λ before fed messages follows.
           let h = l.invariant.follows before fed messages follows in

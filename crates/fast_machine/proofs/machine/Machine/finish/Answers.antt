@@ -2,7 +2,8 @@ use Rattle.std.proofs.Common.{◌≡◌, [], ℕ, List, length, refl, ap, subst,
 use Rattle.fast_walk.specs.declared.traversal.Stage.TheVariants as stage
 use Rattle.fast_machine.specs.Standing.{ReadsOn, Stands}
 use Rattle.fast_machine.proofs.Runs.{none_begun}
-use Rattle.fast_machine.proofs.Followings.{carries_all, ends_inside, left_behind, none_of}
+use Rattle.fast_machine.proofs.Calls.{follows_refused}
+use Rattle.fast_machine.proofs.Followings.{carries_all, ends_inside, none_of}
 use Rattle.fast_machine.proofs.machine.Machine.finish.Goals.{then-has_begun-via-then-has_begun, then-has_begun-via-else-has_begun+then-held-gt0, then-has_begun-via-else-has_begun+else-held-gt0+then-self-gt0}
 use Rattle.fast_machine.proofs.machine.Machine.finish.Goals as goal
 
@@ -16,20 +17,13 @@ returns-then-has_begun-clause-truncated g c = λ none.
       | then-has_begun-via-else-has_begun+then-held-gt0 w ↦ (let size = c.held-held.ensures.held in let empty = ap (λ (xs : List ℕ). length xs) at.1 in absurd (omega (arith, size, empty, w.if-held-gt0.true)))
       | then-has_begun-via-else-has_begun+else-held-gt0+then-self-gt0 w ↦ (let empty = at.2 in absurd (omega (arith, empty, w.if-self-gt0.true)))
     ] in (
-      r.cause,
+      r.fault.cause_is,
       λ before fed messages short follows.
           let R = g.R.Receiver in
           let G = ReadsOn R.has R.stands R.keeps t old.receiver (g.E.Entries.contents old.entries) before in
           let at = rw (none) at follows.at in
-          record {
-            at = rw (r.kept, r.traversal, r.framing) (
-              ends_inside old.framing old.left G c.keep.result t old.held.items old.waiting fed messages old.fed old.messages c.set_is_sound.ensures.typed follows.counts short at
-                  inside r.cause r.message (rw (c.held-held.ensures.held) at r.offset) r.template r.instruction,
-              r.held,
-              left_behind R.has R.stands R.keeps old.framing old.left t old.receiver c.keep.new.self.receiver (g.E.Entries.contents old.entries) before old.held.items fed messages r.left at.0,
-            );
-            counts = rw (r.fed, r.messages) follows.counts;
-          },
+          follows_refused r.keeps before old.held.items fed messages follows.counts at.0
+          (ends_inside old.framing old.left G c.keep.result t old.held.items old.waiting fed messages old.fed old.messages c.set_is_sound.ensures.typed follows.counts short at inside (rw (c.held-held.ensures.held) at r.fault)),
     )
 
 pub returns-clause-ok : goal.returns-clause-ok

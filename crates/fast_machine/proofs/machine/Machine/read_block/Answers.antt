@@ -1,243 +1,127 @@
-use Rattle.std.proofs.Common.{◌≢◌, ◌≡◌, ◌<◌, ◌+◌, ◌-◌, ◌∙◌, ◌++◌, [], ℕ, List, length, append-nil, take, drop, sym, ap, subst, refl, arith, inr}
+use Rattle.std.proofs.Common.{◌≢◌, ◌≡◌, ◌<◌, ◌+◌, ◌-◌, ◌++◌, [], ℕ, List, Some, length, append-nil, drop, sym, ap, refl, arith}
 use Rattle.std.proofs.lemmas.Result.{err_from_is_err_and}
 use Rattle.fast_template.specs.TemplateSets.{templates_in}
 use Rattle.fast_stream.specs.declared.fault.Cause.TheVariants.{Truncated, BlockEnd}
 use Rattle.fast_stream.specs.declared.mode.Framing.TheVariants.{Blocks}
 use Rattle.fast_stream.specs.Nodes.{Content}
-use Rattle.fast_machine.specs.Runs.{ReadsOn, Unfinished}
-use Rattle.fast_machine.specs.Standing.{Stands, StopsBehind, framed_as}
-use Rattle.fast_walk.specs.Traversals.{stop_of}
-use Rattle.fast_machine.proofs.Standings.{run_from}
-use Rattle.fast_machine.proofs.Followings.{counts_pushed, fault_refused, few_messages, not_memory, not_truncated, slice_rest}
-use Rattle.fast_machine.proofs.BlockReads.{block_carried, block_faults, block_forgets, block_has_all, block_stands, block_stands_behind, block_stops, block_waits, drop_again, open_stands, empty_window, window_is}
+use Rattle.fast_machine.specs.Standing.{framed_as}
+use Rattle.fast_machine.proofs.Calls.{Finds, finds_fault, finds_waiting, follows_kept}
+use Rattle.fast_machine.proofs.Followings.{fault_refused, not_memory, not_truncated, slice_rest}
+use Rattle.fast_machine.proofs.BlockReads.{IsOpen, block_cuts, block_goes, block_halts, empty_window}
+use Rattle.fast_machine.proofs.machine.Machine.read_block.Given as given
 use Rattle.fast_machine.proofs.machine.Machine.read_block.Goals as goal
+use Rattle.fast_machine.proofs.machine.Machine.read_block.Goals.{In-Some, After-within-room}
 
-pub returns-in_err-stop_at_size-in-Err-clause-fails : goal.returns-in_err-stop_at_size-in-Err-clause-fails
-returns-in_err-stop_at_size-in-Err-clause-fails g c =
-    let p = err_from_is_err_and c.from_residual.result c.from_residual.ensures.1 in
-    rw (p.1, p.2) (
-      c.in_err-stop_at_size-in-Err.ensures.answer,
-      c.in_err-stop_at_size-in-Err.ensures.cause,
-      λ before fed messages short counts stands. ([], rw (append-nil before, append-nil messages) (c.in_err-stop_at_size-in-Err.ensures.follows before fed messages short counts stands)),
-    )
+opened : (g : given.Over) (c : After-within-room g) → IsOpen c.level.result c.args.self.now.left c.in-Ok.opened.0 c.in-Ok.opened.1 c.within-room.result c.args.bytes.now
+opened g c = record {
+  same = c.in-Ok.ensures.same;
+  goes = c.in-Ok.ensures.goes;
+  some = c.in-Ok.ensures.some;
+  place = c.in-Ok.ensures.place;
+  few = c.within-room.ensures.left;
+  least = c.within-room.ensures.least;
+}
 
-pub returns-in-Err-clause-waits : goal.returns-in-Err-clause-waits
-returns-in-Err-clause-waits g c = (
-  c.in_ok-stop_at_size-in-Err.ensures.answer,
-  λ before fed messages short counts stands. ([], rw (append-nil before, append-nil messages) (c.in_ok-stop_at_size-in-Err.ensures.follows before fed messages short counts stands)),
-)
+-- what the read found where it stopped, of bytes of which the block has more if more are wanted
+halted : (g : given.Over) (c : In-Some g) → IsOpen c.level.result c.args.self.now.left c.in-Ok.opened.0 c.in-Ok.opened.1 c.within-room.result c.args.bytes.now
+    → (c.in-Some.halt.cause ≡ Truncated → length (drop (c.in-Ok.opened.1 + c.read_if_any-progress.result.at) c.args.bytes.now) < c.in-Ok.opened.0 - c.read_if_any-progress.result.at)
+    → Finds Blocks c.args.self.now c.args.bytes.now c.read_if_any-progress.result.messages c.counted-self.result (Some c.in-Some.halt) (c.in-Ok.opened.0 - c.read_if_any-progress.result.at)
+    c.read_if_any-progress.new.traversal c.read_if_any-progress.new.receiver (g.E.Entries.contents c.read_if_any-progress.new.entries) (drop (c.in-Ok.opened.1 + c.read_if_any-progress.result.at) c.args.bytes.now)
+halted g c block = let p = c.read_if_any-progress in block_halts c.args.self.now c.counted-self.result c.level.ensures block p.ensures.leaves p.ensures.ended c.counted-self.ensures c.in-Some.halt c.in-Some.is
 
-pub returns-in-None-clause-goes : goal.returns-in-None-clause-goes
-returns-in-None-clause-goes g c = λ before fed messages short counts stands.
-    let old = c.args.self.now in
-    let t = old.traversal in
-    let p = c.read_if_any-progress in
-    let u = p.new.traversal in
-    let R = g.R.Receiver in
-    let bytes = c.args.bytes.now in
-    let room = c.in-Ok.opened.0 in
-    let at = c.in-Ok.opened.1 in
-    let unread = drop at bytes in
-    let G = ReadsOn R.has R.stands R.keeps t old.receiver (g.E.Entries.contents old.entries) before in
-    let b = open_stands G t c.level.result old.left room at bytes fed messages c.level.ensures c.in-Ok.ensures.same c.in-Ok.ensures.goes c.in-Ok.ensures.some stands in
-    let window = take ((at + c.within-room.result) - at) unread in
-    let is = window_is room at c.within-room.result bytes c.in-Ok.ensures.place c.within-room.ensures.left c.within-room.ensures.least in
-    let e = p.ensures.ended before b.start.dictionary b.ends.within [] (run_from G t window b.start.dictionary b.ends.within (subst (λ (xs : List ℕ). Unfinished G t xs b.start.dictionary b.ends.within) (sym is) b.ends.next)) in
-    let n = p.result.at in
-    let H = ReadsOn R.has R.stands R.keeps u p.new.receiver (g.E.Entries.contents p.new.entries) (before ++ e.0) in
-    let sets = ap (λ x. x.now) p.ensures.set in
-    let again = drop_again at n bytes in
-    let all = messages ++ e.0 in
-    let ended = rw (c.in-None.is) at e.2 in
-    let none = rw (c.in-None.is) at p.ensures.none in
-    let carried = block_carried G t u room n unread window fed messages e.0 b is p.ensures.place p.ensures.level sets (λ d r. Unfinished H u (drop n window) d r) ended.0 in
-    let few = few_messages (framed_as Blocks u) (templates_in u.set.now) fed all carried in
-    let counts = counts_pushed old.fed old.messages p.result.messages _ fed messages e.0 counts e.1 c.counted-self.ensures few short in
-    let goes = block_stands_behind G t u room n unread window fed messages e.0 b is p.ensures.place p.ensures.level sets H ended.1 ended.0 in (
-      e.0,
-      counts,
-      (λ h.
-          let zero = ap (λ (xs : List Content). length xs) h in
-          let count = e.1 in
-          let empty = none (omega (arith, zero, count)) in
-          let at_end = empty_window room at c.within-room.result bytes c.in-Ok.ensures.some c.in-Ok.ensures.place c.within-room.ensures.count c.within-room.ensures.least empty.1 in
-          let first = empty.0 in
-          omega (arith, at_end, first)),
-      subst (λ (xs : List ℕ). Stands Blocks (room - n) H u xs fed all) again goes,
-    )
+pub returns-in_err-stop_at_size-in-Err-clause-reads : goal.returns-in_err-stop_at_size-in-Err-clause-reads
+returns-in_err-stop_at_size-in-Err-clause-reads g c =
+    let e = err_from_is_err_and c.from_residual.result c.from_residual.ensures.1 in
+    let o = c.in_err-stop_at_size-in-Err.ensures in
+    rw (e.1, e.2) (o.answer, o.cause, λ before fed messages short counts stands. ([], rw (append-nil before, append-nil messages) (o.follows before fed messages short counts stands)))
 
-pub returns-then-self-rest-clause-fails : goal.returns-then-self-rest-clause-fails
-returns-then-self-rest-clause-fails g c = (
-  c.keep.ensures.kept,
-  not_truncated c.keep.result.cause BlockEnd c.keep.ensures.cause (λ e. absurd cc),
+pub returns-in-Err-clause-reads : goal.returns-in-Err-clause-reads
+returns-in-Err-clause-reads g c =
+    let o = c.in_ok-stop_at_size-in-Err.ensures in
+    (tt, (o.answer, λ before fed messages short counts stands. ([], rw (append-nil before, append-nil messages) (o.follows before fed messages short counts stands))))
+
+pub returns-in-None-clause-reads : goal.returns-in-None-clause-reads
+returns-in-None-clause-reads g c = (
   λ before fed messages short counts stands.
-      let old = c.args.self.now in
-      let t = old.traversal in
       let p = c.read_if_any-progress in
-      let u = p.new.traversal in
-      let R = g.R.Receiver in
-      let bytes = c.args.bytes.now in
-      let room = c.in-Ok.opened.0 in
-      let at = c.in-Ok.opened.1 in
-      let unread = drop at bytes in
-      let G = ReadsOn R.has R.stands R.keeps t old.receiver (g.E.Entries.contents old.entries) before in
-      let b = open_stands G t c.level.result old.left room at bytes fed messages c.level.ensures c.in-Ok.ensures.same c.in-Ok.ensures.goes c.in-Ok.ensures.some stands in
-      let window = take ((at + c.within-room.result) - at) unread in
-      let is = window_is room at c.within-room.result bytes c.in-Ok.ensures.place c.within-room.ensures.left c.within-room.ensures.least in
-      let e = p.ensures.ended before b.start.dictionary b.ends.within [] (run_from G t window b.start.dictionary b.ends.within (subst (λ (xs : List ℕ). Unfinished G t xs b.start.dictionary b.ends.within) (sym is) b.ends.next)) in
-      let n = p.result.at in
-      let H = ReadsOn R.has R.stands R.keeps u p.new.receiver (g.E.Entries.contents p.new.entries) (before ++ e.0) in
-      let sets = ap (λ x. x.now) p.ensures.set in
-      let again = drop_again at n bytes in
-      let all = messages ++ e.0 in
-      let ended = rw (c.in-Some.is) at e.2 in
-      let halt = c.in-Some.halt in
-      let carried = block_carried G t u room n unread window fed messages e.0 b is p.ensures.place p.ensures.level sets (λ d r. Unit {0}) ended.0 in
-      let few = few_messages (framed_as Blocks u) (templates_in u.set.now) fed all carried in
-      let counts = counts_pushed old.fed old.messages p.result.messages _ fed messages e.0 counts e.1 c.counted-self.ensures few short in
-      let truncated = c.in-Truncated.is in
-      let k = c.keep.ensures in
-      let rest : drop n unread ≡ take (length bytes - (at + n)) (drop (at + n) bytes) = again ∙ sym (slice_rest bytes (at + n)) in
-      let size = ap (λ (xs : List ℕ). length xs) rest in
-      let stops = block_stops G t u room n unread window fed messages e.0 b is p.ensures.place p.ensures.level sets halt truncated (omega (arith, size, c.if-self-rest.true)) (ended.1 (not_memory halt.cause truncated)) in (
-        e.0,
-        record {
-          at = rw (k.kept, k.traversal, k.framing, c.requires.framing) (
-            fault_refused c.keep.result (framed_as Blocks u) (templates_in u.set.now) _ fed all old.fed _ p.ensures.sound.typed counts (omega (arith, short)) carried stops k.cause (λ e. absurd cc) k.message (k.offset ∙ ap (λ (m : ℕ). old.fed - m) (sym size)) k.template k.instruction,
-            k.held,
-            block_forgets G t u room n unread window fed messages e.0 b is p.ensures.place p.ensures.level sets R.has R.stands R.keeps p.new.receiver c.keep.new.self.receiver (g.E.Entries.contents p.new.entries) (before ++ e.0) k.left (ended.2 truncated),
-          );
-          counts = rw (k.fed, k.messages) counts;
-        },
+      let block = opened g (goal.at.returns-in-None-clause-reads g c).After-within-room in
+      let f = (block_goes c.args.self.now c.counted-self.result c.level.ensures block p.ensures.leaves p.ensures.ended c.counted-self.ensures c.in-None.is).found before fed messages short counts stands in
+      let none = rw (c.in-None.is) at p.ensures.leaves.none in (
+        f.ended,
+        f.counts,
+        (λ h.
+            let zero = ap (λ (xs : List Content). length xs) h in
+            let count = f.number_is in
+            let empty = none (omega (arith, zero, count)) in
+            let at_end = empty_window c.in-Ok.opened.0 c.in-Ok.opened.1 c.within-room.result c.args.bytes.now block.some block.place c.within-room.ensures.count block.least empty.1 in
+            let first = empty.0 in
+            omega (arith, at_end, first)),
+        f.leaves,
       ),
+  tt,
 )
 
-pub returns-in_err-hold-in-Truncated-clause-fails : goal.returns-in_err-hold-in-Truncated-clause-fails
-returns-in_err-hold-in-Truncated-clause-fails g c =
-    let p = err_from_is_err_and c.from_residual-in_err-hold-in-Truncated.result c.from_residual-in_err-hold-in-Truncated.ensures.1 in
-    rw (p.1, p.2) (
-      c.in_err-hold-in-Truncated.ensures.answer,
-      (λ e. not_memory c.in_err-hold-in-Truncated.field-0.0.cause e c.in_err-hold-in-Truncated.ensures.cause),
+pub returns-then-self-rest-clause-reads : goal.returns-then-self-rest-clause-reads
+returns-then-self-rest-clause-reads g c =
+    let k = c.keep.ensures in (
+      k.keeps.kept,
+      not_truncated c.keep.result.cause BlockEnd k.fault.cause_is (λ e. absurd cc),
       λ before fed messages short counts stands.
           let old = c.args.self.now in
-          let t = old.traversal in
           let p = c.read_if_any-progress in
           let u = p.new.traversal in
-          let R = g.R.Receiver in
-          let bytes = c.args.bytes.now in
-          let room = c.in-Ok.opened.0 in
-          let at = c.in-Ok.opened.1 in
-          let unread = drop at bytes in
-          let G = ReadsOn R.has R.stands R.keeps t old.receiver (g.E.Entries.contents old.entries) before in
-          let b = open_stands G t c.level.result old.left room at bytes fed messages c.level.ensures c.in-Ok.ensures.same c.in-Ok.ensures.goes c.in-Ok.ensures.some stands in
-          let window = take ((at + c.within-room.result) - at) unread in
-          let is = window_is room at c.within-room.result bytes c.in-Ok.ensures.place c.within-room.ensures.left c.within-room.ensures.least in
-          let e = p.ensures.ended before b.start.dictionary b.ends.within [] (run_from G t window b.start.dictionary b.ends.within (subst (λ (xs : List ℕ). Unfinished G t xs b.start.dictionary b.ends.within) (sym is) b.ends.next)) in
-          let n = p.result.at in
-          let H = ReadsOn R.has R.stands R.keeps u p.new.receiver (g.E.Entries.contents p.new.entries) (before ++ e.0) in
-          let sets = ap (λ x. x.now) p.ensures.set in
-          let again = drop_again at n bytes in
-          let all = messages ++ e.0 in
-          let ended = rw (c.in-Some.is) at e.2 in
-          let halt = c.in-Some.halt in
-          let carried = block_carried G t u room n unread window fed messages e.0 b is p.ensures.place p.ensures.level sets (λ d r. Unit {0}) ended.0 in
-          let few = few_messages (framed_as Blocks u) (templates_in u.set.now) fed all carried in
-          let counts = counts_pushed old.fed old.messages p.result.messages _ fed messages e.0 counts e.1 c.counted-self.ensures few short in
-          let truncated = c.in-Truncated.is in
-          let rest : drop n unread ≡ take (length bytes - (at + n)) (drop (at + n) bytes) = again ∙ sym (slice_rest bytes (at + n)) in
-          let short_is : length (drop n unread) < room - n = let size = ap (λ (xs : List ℕ). length xs) rest in omega (arith, size, c.if-self-rest.false) in
-          let goes = block_stands G t u room n unread window fed messages e.0 b is p.ensures.place p.ensures.level sets H (omega (arith, short_is)) (ended.2 truncated) in
-          let stops = block_waits G t u room n unread window fed messages e.0 b is p.ensures.place p.ensures.level sets halt short_is (ended.1 (not_memory halt.cause truncated)) in
-          let follows = c.in_err-hold-in-Truncated.ensures.follows (before ++ e.0) fed all (omega (arith, short)) counts
-          (rw (c.requires.framing) (subst (λ (xs : List ℕ). Stands Blocks (room - n) H u xs fed all) rest goes))
-          (rw (c.requires.framing) (inr (subst (λ (xs : List ℕ). StopsBehind (framed_as Blocks u) (templates_in u.set.now) fed all (stop_of u.template (record { cause = Truncated; number = halt.number; by = halt.by }) xs)) rest (rw (truncated) at stops)))) in
-          (e.0, follows),
+          let size = ap (λ (xs : List ℕ). length xs) (slice_rest c.args.bytes.now (c.in-Ok.opened.1 + p.result.at)) in
+          let f = block_cuts old c.counted-self.result c.level.ensures (opened g (goal.at.returns-then-self-rest-clause-reads g c).After-within-room) p.ensures.leaves p.ensures.ended c.counted-self.ensures
+          c.in-Some.halt c.keep.new.self.receiver old.framing c.requires.framing c.in-Some.is c.in-Truncated.is (omega (arith, size, c.if-self-rest.true)) k.keeps.left before fed messages short counts stands in
+          let all = messages ++ f.ended in
+          let refused = fault_refused c.keep.result (framed_as old.framing u) (templates_in u.set.now) _ fed all old.fed c.counted-self.result p.ensures.leaves.sound.typed f.counts (omega (arith, short)) f.leaves.0 f.leaves.1 (λ e. absurd cc) (rw size at k.fault) in
+          (f.ended, follows_kept k.keeps (before ++ f.ended) fed all f.counts refused f.leaves.2),
     )
 
-pub returns-in_ok-hold-in-Truncated-clause-waits : goal.returns-in_ok-hold-in-Truncated-clause-waits
-returns-in_ok-hold-in-Truncated-clause-waits g c = (
-  c.in_ok-hold-in-Truncated.ensures.answer,
-  λ before fed messages short counts stands.
-      let old = c.args.self.now in
-      let t = old.traversal in
-      let p = c.read_if_any-progress in
-      let u = p.new.traversal in
-      let R = g.R.Receiver in
-      let bytes = c.args.bytes.now in
-      let room = c.in-Ok.opened.0 in
-      let at = c.in-Ok.opened.1 in
-      let unread = drop at bytes in
-      let G = ReadsOn R.has R.stands R.keeps t old.receiver (g.E.Entries.contents old.entries) before in
-      let b = open_stands G t c.level.result old.left room at bytes fed messages c.level.ensures c.in-Ok.ensures.same c.in-Ok.ensures.goes c.in-Ok.ensures.some stands in
-      let window = take ((at + c.within-room.result) - at) unread in
-      let is = window_is room at c.within-room.result bytes c.in-Ok.ensures.place c.within-room.ensures.left c.within-room.ensures.least in
-      let e = p.ensures.ended before b.start.dictionary b.ends.within [] (run_from G t window b.start.dictionary b.ends.within (subst (λ (xs : List ℕ). Unfinished G t xs b.start.dictionary b.ends.within) (sym is) b.ends.next)) in
-      let n = p.result.at in
-      let H = ReadsOn R.has R.stands R.keeps u p.new.receiver (g.E.Entries.contents p.new.entries) (before ++ e.0) in
-      let sets = ap (λ x. x.now) p.ensures.set in
-      let again = drop_again at n bytes in
-      let all = messages ++ e.0 in
-      let ended = rw (c.in-Some.is) at e.2 in
-      let halt = c.in-Some.halt in
-      let carried = block_carried G t u room n unread window fed messages e.0 b is p.ensures.place p.ensures.level sets (λ d r. Unit {0}) ended.0 in
-      let few = few_messages (framed_as Blocks u) (templates_in u.set.now) fed all carried in
-      let counts = counts_pushed old.fed old.messages p.result.messages _ fed messages e.0 counts e.1 c.counted-self.ensures few short in
-      let truncated = c.in-Truncated.is in
-      let rest : drop n unread ≡ take (length bytes - (at + n)) (drop (at + n) bytes) = again ∙ sym (slice_rest bytes (at + n)) in
-      let short_is : length (drop n unread) < room - n = let size = ap (λ (xs : List ℕ). length xs) rest in omega (arith, size, c.if-self-rest.false) in
-      let goes = block_stands G t u room n unread window fed messages e.0 b is p.ensures.place p.ensures.level sets H (omega (arith, short_is)) (ended.2 truncated) in
-      let stops = block_waits G t u room n unread window fed messages e.0 b is p.ensures.place p.ensures.level sets halt short_is (ended.1 (not_memory halt.cause truncated)) in
-      let follows = c.in_ok-hold-in-Truncated.ensures.follows (before ++ e.0) fed all (omega (arith, short)) counts
-      (rw (c.requires.framing) (subst (λ (xs : List ℕ). Stands Blocks (room - n) H u xs fed all) rest goes))
-      (rw (c.requires.framing) (inr (subst (λ (xs : List ℕ). StopsBehind (framed_as Blocks u) (templates_in u.set.now) fed all (stop_of u.template (record { cause = Truncated; number = halt.number; by = halt.by }) xs)) rest (rw (truncated) at stops)))) in
-      (e.0, follows),
-)
+pub returns-in_err-hold-in-Truncated-clause-reads : goal.returns-in_err-hold-in-Truncated-clause-reads
+returns-in_err-hold-in-Truncated-clause-reads g c =
+    let at = goal.at.returns-in_err-hold-in-Truncated-clause-reads g c in
+    let e = err_from_is_err_and c.from_residual-in_err-hold-in-Truncated.result c.from_residual-in_err-hold-in-Truncated.ensures.1 in
+    let rest = slice_rest c.args.bytes.now (c.in-Ok.opened.1 + c.read_if_any-progress.result.at) in
+    let size = ap (λ (xs : List ℕ). length xs) rest in
+    let o = c.in_err-hold-in-Truncated in
+    rw (e.1, e.2) (
+      o.ensures.answer,
+      (λ e. not_memory o.field-0.0.cause e o.ensures.cause),
+      finds_waiting (halted g at.In-Some (opened g at.After-within-room) (λ wanted. omega (arith, size, c.if-self-rest.false))) c.in-Truncated.is (sym rest) (rw (c.requires.framing) at o.ensures.follows),
+    )
+
+pub returns-in_ok-hold-in-Truncated-clause-reads : goal.returns-in_ok-hold-in-Truncated-clause-reads
+returns-in_ok-hold-in-Truncated-clause-reads g c =
+    let at = goal.at.returns-in_ok-hold-in-Truncated-clause-reads g c in
+    let rest = slice_rest c.args.bytes.now (c.in-Ok.opened.1 + c.read_if_any-progress.result.at) in
+    let size = ap (λ (xs : List ℕ). length xs) rest in
+    let o = c.in_ok-hold-in-Truncated in (
+      tt,
+      (
+        o.ensures.answer,
+        finds_waiting (halted g at.In-Some (opened g at.After-within-room) (λ wanted. omega (arith, size, c.if-self-rest.false))) c.in-Truncated.is (sym rest) (rw (c.requires.framing) at o.ensures.follows),
+      ),
+    )
 
 pub returns-in_default : goal.returns-in_default
-returns-in_default g c = record {
-  goes = tt;
-  place = tt;
-  took = tt;
-  waits = tt;
-  fails = (
-    refl,
-    not_truncated c.fault_of-fault.result.cause c.in-Some.halt.cause c.fault_of-fault.ensures.cause (λ e. c.in_default.not-Truncated e),
-    λ before fed messages short counts stands.
-        let old = c.args.self.now in
-        let t = old.traversal in
-        let p = c.read_if_any-progress in
-        let u = p.new.traversal in
-        let R = g.R.Receiver in
-        let bytes = c.args.bytes.now in
-        let room = c.in-Ok.opened.0 in
-        let at = c.in-Ok.opened.1 in
-        let unread = drop at bytes in
-        let G = ReadsOn R.has R.stands R.keeps t old.receiver (g.E.Entries.contents old.entries) before in
-        let b = open_stands G t c.level.result old.left room at bytes fed messages c.level.ensures c.in-Ok.ensures.same c.in-Ok.ensures.goes c.in-Ok.ensures.some stands in
-        let window = take ((at + c.within-room.result) - at) unread in
-        let is = window_is room at c.within-room.result bytes c.in-Ok.ensures.place c.within-room.ensures.left c.within-room.ensures.least in
-        let e = p.ensures.ended before b.start.dictionary b.ends.within [] (run_from G t window b.start.dictionary b.ends.within (subst (λ (xs : List ℕ). Unfinished G t xs b.start.dictionary b.ends.within) (sym is) b.ends.next)) in
-        let n = p.result.at in
-        let H = ReadsOn R.has R.stands R.keeps u p.new.receiver (g.E.Entries.contents p.new.entries) (before ++ e.0) in
-        let sets = ap (λ x. x.now) p.ensures.set in
-        let again = drop_again at n bytes in
-        let all = messages ++ e.0 in
-        let ended = rw (c.in-Some.is) at e.2 in
-        let halt = c.in-Some.halt in
-        let carried = block_carried G t u room n unread window fed messages e.0 b is p.ensures.place p.ensures.level sets (λ d r. Unit {0}) ended.0 in
-        let few = few_messages (framed_as Blocks u) (templates_in u.set.now) fed all carried in
-        let counts = counts_pushed old.fed old.messages p.result.messages _ fed messages e.0 counts e.1 c.counted-self.ensures few short in
-        let rest : drop n unread ≡ take (length bytes - (at + n)) (drop (at + n) bytes) = again ∙ sym (slice_rest bytes (at + n)) in
-        let other : c.in-Some.halt.cause ≢ Truncated = λ e. c.in_default.not-Truncated e in
-        let refused = c.fault_of-fault.ensures.refused (framed_as Blocks u) u (drop n unread) fed all p.ensures.sound counts (omega (arith, short)) (sym c.template-template.ensures) (ap (λ (xs : List ℕ). length xs) rest) carried
-        (λ known. block_faults G t u room n unread window fed messages e.0 b is p.ensures.place p.ensures.level sets halt other (ended.1 known)) in
-        (e.0, record { at = rw (c.requires.framing) (refused, c.requires.held, block_has_all G t u room n unread window fed messages e.0 b is p.ensures.place p.ensures.level sets R.stands p.new.receiver (before ++ e.0) (ended.3 other)); counts = counts }),
-  );
-  set = c.read_if_any-progress.ensures.set;
-  mode = rw (c.read_if_any-progress.ensures.level) refl;
-  same_keys = c.read_if_any-progress.ensures.same_keys;
-  fed = refl;
-}
+returns-in_default g c =
+    let at = goal.at.returns-in_default g c in
+    let leaves = c.read_if_any-progress.ensures.leaves in
+    let other : c.in-Some.halt.cause ≢ Truncated = λ e. c.in_default.not-Truncated e in
+    record {
+      reads = (
+        refl,
+        not_truncated c.fault_of-fault.result.cause c.in-Some.halt.cause c.fault_of-fault.ensures.cause other,
+        λ before fed messages short counts stands.
+            let f = finds_fault c.fault_of-fault.result _ c.requires.framing (halted g at.In-Some (opened g at.After-within-room) (λ wanted. absurd (other wanted))) other leaves.sound
+            (ap (λ (xs : List ℕ). length xs) (sym (slice_rest c.args.bytes.now (c.in-Ok.opened.1 + c.read_if_any-progress.result.at)))) (rw (c.template-template.ensures) at c.fault_of-fault.ensures.refused) before fed messages short counts stands in
+            (f.ended, record { at = (f.leaves.0, c.requires.held, f.leaves.1); counts = f.counts }),
+      );
+      place = tt;
+      same = record { set = leaves.set; mode = rw (leaves.level) refl; same_keys = leaves.same_keys };
+      fed = refl;
+    }
 
 pub read_if_any-progress-requires-clause-kept : goal.read_if_any-progress-requires-clause-kept
 read_if_any-progress-requires-clause-kept g c = c.args.self.now.kept c.requires.fault

@@ -1,4 +1,4 @@
-use Rattle.std.proofs.Common.{◌≡◌, ◌≤◌, ◌++◌, ◌-◌, ◌∙◌, ◌^◌, ℕ, List, length, length-append, length-drop, take, drop, take-append-drop, arith, ap, sym, subst, append_assoc}
+use Rattle.std.proofs.Common.{◌≡◌, ◌++◌, ◌-◌, ◌∙◌, ℕ, List, length, length-append, length-drop, take, drop, take-append-drop, arith, ap, sym, subst, append_assoc}
 use Rattle.std.proofs.Math.Seq.{take-length}
 use Rattle.std.proofs.lemmas.Result.{err_from_is_err_and}
 use Rattle.fast_wire.proofs.Calls.{all_bytes}
@@ -7,7 +7,7 @@ use Rattle.fast_stream.specs.declared.mode.Framing.{Framing}
 use Rattle.fast_stream.specs.declared.mode.Mode.{Mode}
 use Rattle.fast_machine.specs.Following.{Counts}
 use Rattle.fast_machine.specs.Standing.{ReadsOn, Stands}
-use Rattle.fast_machine.proofs.Followings.{counts_fed, stands_fed}
+use Rattle.fast_machine.proofs.Calls.{chunk_fed}
 use Rattle.fast_machine.proofs.MessageEnds.{behind_held, drop_behind}
 use Rattle.fast_machine.proofs.machine.Machine.take_message.Goals as goal
 
@@ -20,56 +20,36 @@ returns-in_err-read_behind-clause-follows g c =
     rw (p.1) (λ none before fed messages follows.
     let old = c.args.self.now in
     let chunk = c.args.chunk.now in
-    let R = g.R.Receiver in
-    let G = ReadsOn R.has R.stands R.keeps old.traversal old.receiver (g.E.Entries.contents old.entries) before in
-    let size = length-append fed chunk in
-    let is = follows.counts.fed_is in
-    let short : length (fed ++ chunk) ≤ 2 ^ 60 = omega (arith, size, is, c.requires.room) in
-    let more = counts_fed old.fed old.messages fed chunk messages follows.counts in
-    let at = rw (none) at follows.at in
-    let stands = stands_fed old.framing old.left G old.traversal old.held.items fed chunk messages (all_bytes chunk (λ k. omega (arith, c.type_inv.chunk k))) at.0 in
-    let r = c.in_err-read_behind.ensures.fails.2 before (fed ++ chunk) messages short more stands in
+    let f = chunk_fed old chunk none c.requires.room (all_bytes chunk (λ k. omega (arith, c.type_inv.chunk k))) before fed messages follows in
+    let r = c.in_err-read_behind.ensures.reads.2 before (fed ++ chunk) messages f.short f.counts f.stands in
     (r.0, tt, r.1))
 
 pub returns-in-None-clause-follows : goal.returns-in-None-clause-follows
 returns-in-None-clause-follows g c = λ none before fed messages follows.
     let old = c.args.self.now in
     let chunk = c.args.chunk.now in
-    let R = g.R.Receiver in
-    let G = ReadsOn R.has R.stands R.keeps old.traversal old.receiver (g.E.Entries.contents old.entries) before in
-    let size = length-append fed chunk in
-    let is = follows.counts.fed_is in
-    let short : length (fed ++ chunk) ≤ 2 ^ 60 = omega (arith, size, is, c.requires.room) in
-    let more = counts_fed old.fed old.messages fed chunk messages follows.counts in
-    let at = rw (none) at follows.at in
-    let stands = stands_fed old.framing old.left G old.traversal old.held.items fed chunk messages (all_bytes chunk (λ k. omega (arith, c.type_inv.chunk k))) at.0 in
-    let r = (rw (c.in-None.is) at c.in_ok-read_behind.ensures.waits).1 before (fed ++ chunk) messages short more stands in
+    let f = chunk_fed old chunk none c.requires.room (all_bytes chunk (λ k. omega (arith, c.type_inv.chunk k))) before fed messages follows in
+    let r = (rw (c.in-None.is) at c.in_ok-read_behind.ensures.reads).1.1 before (fed ++ chunk) messages f.short f.counts f.stands in
     (r.0, rw (take-length chunk) r.1, tt)
 
 pub returns-in-Some-clause-follows : goal.returns-in-Some-clause-follows
 returns-in-Some-clause-follows g c = λ none before fed messages follows.
     let old = c.args.self.now in
     let chunk = c.args.chunk.now in
-    let R = g.R.Receiver in
-    let G = ReadsOn R.has R.stands R.keeps old.traversal old.receiver (g.E.Entries.contents old.entries) before in
-    let size = length-append fed chunk in
-    let is = follows.counts.fed_is in
-    let short : length (fed ++ chunk) ≤ 2 ^ 60 = omega (arith, size, is, c.requires.room) in
-    let more = counts_fed old.fed old.messages fed chunk messages follows.counts in
-    let at = rw (none) at follows.at in
-    let stands = stands_fed old.framing old.left G old.traversal old.held.items fed chunk messages (all_bytes chunk (λ k. omega (arith, c.type_inv.chunk k))) at.0 in
+    let f = chunk_fed old chunk none c.requires.room (all_bytes chunk (λ k. omega (arith, c.type_inv.chunk k))) before fed messages follows in
     let held = old.held.items in
     let o = c.in_ok-read_behind in
     let next = c.in-Some.next in
     let new = c.read_behind.new.self in
-    let r = (rw (c.in-Some.is) at o.ensures.goes) before (fed ++ chunk) messages short more stands in
+    let r = (rw (c.in-Some.is) at o.ensures.reads).0 before (fed ++ chunk) messages f.short f.counts f.stands in
     let place = rw (c.in-Some.is) at o.ensures.place in
-    let took = rw (c.in-Some.is) at o.ensures.took in
+    let R = g.R.Receiver in
+    let G = ReadsOn R.has R.stands R.keeps old.traversal old.receiver (g.E.Entries.contents old.entries) before in
     let H = ReadsOn R.has R.stands R.keeps new.traversal new.receiver (g.E.Entries.contents new.entries) (before ++ r.0) in
-    let beyond = behind_held old.framing old.left new.left G H old.traversal new.traversal held old.waiting next fed chunk messages r.0 c.set_is_sound.ensures.typed (ap (λ (m : Mode). framed_by m.level old.framing) o.ensures.mode) (ap (λ x. x.now) o.ensures.set) at.1 r.3 r.2 took place.0 c.requires.some in
+    let beyond = behind_held old.framing old.left new.left G H old.traversal new.traversal held old.waiting next fed chunk messages r.0 c.set_is_sound.ensures.typed (ap (λ (m : Mode). framed_by m.level old.framing) o.ensures.same.mode) (ap (λ x. x.now) o.ensures.same.set) f.held.1 r.3 r.2 place.took place.within c.requires.some in
     let taken = c.min-taken.result in
     let held_size = length-append held chunk in
-    let within = place.0 in
+    let within = place.within in
     let low = c.saturating_sub.ensures in
     let one = c.max.ensures in
     let most = c.min-taken.ensures in
@@ -84,6 +64,6 @@ returns-in-Some-clause-follows g c = λ none before fed messages follows.
           (subst (λ (xs : List ℕ). Counts new.fed new.messages xs ended) parts r.1)
           (subst (λ (xs : List ℕ). Stands new.framing new.left H new.traversal (drop taken chunk) xs ended) parts
           (subst (λ (xs : List ℕ). Stands new.framing new.left H new.traversal xs (fed ++ chunk) ended) rest
-          (subst (λ (f : Framing). Stands f new.left H new.traversal (drop next (held ++ chunk)) (fed ++ chunk) ended) (sym (ap (λ (m : Mode). m.framing) o.ensures.mode)) r.3))),
+          (subst (λ (f : Framing). Stands f new.left H new.traversal (drop next (held ++ chunk)) (fed ++ chunk) ended) (sym (ap (λ (m : Mode). m.framing) o.ensures.same.mode)) r.3))),
       tt,
     )

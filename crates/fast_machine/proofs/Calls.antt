@@ -1,0 +1,134 @@
+-- What a machine follows behind a chunk more, behind a fault that it keeps, and behind a read of a message.
+use Rattle.std.proofs.Common.{◌≡◌, ◌≢◌, ◌≤◌, ◌<◌, ◌^◌, ◌+◌, ℕ, List, ◌++◌, Option, Some, None, length, length-append, arith, refl, subst, inr}
+use Rattle.fast_wire.specs.Reader.{IsBytes}
+use Rattle.fast_template.specs.TemplateSets.{IsSound, templates_in}
+use Rattle.fast_dictionary.specs.Dictionary.{Dictionary}
+use Rattle.fast_dictionary.specs.declared.entries.Entries.{Ghosts}
+use Rattle.fast_stream.specs.declared.fault.Cause.TheVariants.{Truncated, Memory}
+use Rattle.fast_stream.specs.declared.fault.Fault.{Fault}
+use Rattle.fast_stream.specs.declared.mode.Framing.{Framing}
+use Rattle.fast_stream.specs.Nodes.{Content}
+use Rattle.fast_walk.specs.declared.halt.Halt.{Halt}
+use Rattle.fast_walk.specs.declared.receiver.Receiver.{Ghosts as Receiving}
+use Rattle.fast_walk.specs.declared.traversal.Traversal.{Traversal}
+use Rattle.fast_walk.specs.Traversals.{stop_of}
+use Rattle.fast_machine.specs.declared.machine.Machine.{Machine}
+use Rattle.fast_machine.specs.Runs.{Having, ReadsOn, Standing}
+use Rattle.fast_machine.specs.Standing.{Carried, HasAll, Stands, StopsBehind, framed_as}
+use Rattle.fast_machine.specs.Following.{Counts, Follows, Refused, Waits, mode_of}
+use Rattle.fast_machine.specs.Calls.{FollowsBehind, IsFault, IsFaultOf, KeepsFault, StandsAt, StaysAt}
+use Rattle.fast_machine.proofs.Standings.{carried_of}
+use Rattle.fast_machine.proofs.Followings.{counts_fed, counts_pushed, few_messages, left_behind, memory_refused, stands_fed}
+
+-- ---- a chunk more
+
+pub record IsFed {R E : Type 0} {receiver : Receiving R} {entries : Ghosts E} (old : Machine R E receiver entries) (chunk : List ℕ) (before : List Content) (fed : List ℕ) (messages : List Content) : Type 0 where
+  pub short : length (fed ++ chunk) ≤ 2 ^ 60
+  pub counts : Counts (old.fed + length chunk) old.messages (fed ++ chunk) messages
+  pub held : StandsAt old.framing old before old.held.items fed messages × Waits old.framing old.left old.traversal old.held.items old.waiting fed messages
+  pub stands : StandsAt old.framing old before (old.held.items ++ chunk) (fed ++ chunk) messages
+
+pub chunk_fed : {R E : Type 0} {receiver : Receiving R} {entries : Ghosts E} (old : Machine R E receiver entries) (chunk : List ℕ) → old.fault ≡ None → old.fed + length chunk ≤ 2 ^ 60 → IsBytes chunk
+    → (before : List Content) (fed : List ℕ) (messages : List Content) → Follows old before fed messages → IsFed old chunk before fed messages
+chunk_fed {receiver = receiver} {entries = entries} old chunk none few fits before fed messages follows =
+    let size = length-append fed chunk in
+    let is = follows.counts.fed_is in
+    let at = rw (none) at follows.at in
+    record {
+      short = omega (arith, size, is, few);
+      counts = counts_fed old.fed old.messages fed chunk messages follows.counts;
+      held = at;
+      stands = stands_fed old.framing old.left (ReadsOn receiver.has receiver.stands receiver.keeps old.traversal old.receiver (entries.contents old.entries) before) old.traversal old.held.items fed chunk messages fits at.0;
+    }
+
+-- where nothing but the bytes held changes, it stands as it stood
+pub stands_still : {R E : Type 0} {receiver : Receiving R} {entries : Ghosts E} {old new : Machine R E receiver entries} → StaysAt old new → new.receiver ≡ old.receiver
+    → (before : List Content) (unread fed : List ℕ) (messages : List Content) → StandsAt old.framing old before unread fed messages → StandsAt new.framing new before unread fed messages
+stands_still stays same before unread fed messages stands = rw (stays.traversal, stays.entries, stays.framing, stays.left, same) stands
+
+-- ---- a fault that is kept
+
+pub follows_kept : {R E : Type 0} {receiver : Receiving R} {entries : Ghosts E} {old new : Machine R E receiver entries} {fault : Fault} → KeepsFault old fault new → (before : List Content) (fed : List ℕ) (messages : List Content)
+    → Counts old.fed old.messages fed messages → Refused fault (mode_of old) (templates_in old.traversal.set.now) fed messages → HasAll receiver.stands old.framing old.traversal new.receiver before fed messages → Follows new before fed messages
+follows_kept k before fed messages counts refused has = record {
+  at = rw (k.kept, k.stays.traversal, k.stays.framing) (refused, k.held, has);
+  counts = rw (k.stays.fed, k.stays.messages) counts;
+}
+
+pub follows_refused : {R E : Type 0} {receiver : Receiving R} {entries : Ghosts E} {old new : Machine R E receiver entries} {fault : Fault} → KeepsFault old fault new → (before : List Content) (unread fed : List ℕ) (messages : List Content)
+    → Counts old.fed old.messages fed messages → StandsAt old.framing old before unread fed messages → Refused fault (mode_of old) (templates_in old.traversal.set.now) fed messages → Follows new before fed messages
+follows_refused {receiver = receiver} {entries = entries} {old = old} {new = new} k before unread fed messages counts stands refused =
+    follows_kept k before fed messages counts refused
+    (left_behind receiver.has receiver.stands receiver.keeps old.framing old.left old.traversal old.receiver new.receiver (entries.contents old.entries) before unread fed messages k.left stands)
+
+-- memory was refused
+pub follows_without_memory : {R E : Type 0} {receiver : Receiving R} {entries : Ghosts E} {old new : Machine R E receiver entries} {fault : Fault} → IsFault fault Memory old.messages 0 0 0 → KeepsFault old fault new
+    → (before : List Content) (unread fed : List ℕ) (messages : List Content) → length fed < 2 ^ 61 → Counts old.fed old.messages fed messages → StandsAt old.framing old before unread fed messages → Follows new before fed messages
+follows_without_memory {receiver = receiver} {entries = entries} {old = old} {fault = fault} is k before unread fed messages short counts stands =
+    follows_refused k before unread fed messages counts stands
+    (memory_refused fault (mode_of old) (templates_in old.traversal.set.now) fed messages old.fed old.messages counts short
+    (carried_of old.framing old.left (ReadsOn receiver.has receiver.stands receiver.keeps old.traversal old.receiver (entries.contents old.entries) before) old.traversal unread fed messages stands) is)
+
+-- ---- a read of a message
+
+-- How the reading of a stream ends, as that of a message does: it can go on where bytes are wanted, or the receiver has
+-- forgotten what was open.
+abbrev pub StreamEnds : {R : Type 0} → Having R → Standing R → Standing R → Option Halt → Framing → ℕ → Traversal → R → Dictionary → List Content → List ℕ → List ℕ → List Content → Type 0
+StreamEnds has stands keeps None framing left t r d before unread bytes messages = Stands framing left (ReadsOn has stands keeps t r d before) t unread bytes messages
+StreamEnds has stands keeps (Some h) framing left t r d before unread bytes messages =
+    Carried (framed_as framing t) (templates_in t.set.now) bytes messages
+    × (h.cause ≡ Truncated → StopsBehind (framed_as framing t) (templates_in t.set.now) bytes messages (stop_of t.template h unread) × Stands framing left (ReadsOn has stands keeps t r d before) t unread bytes messages)
+    × (h.cause ≢ Truncated → (h.cause ≢ Memory → StopsBehind (framed_as framing t) (templates_in t.set.now) bytes messages (stop_of t.template h unread)) × HasAll stands framing t r before bytes messages)
+
+-- so many messages ended, are counted, and leave this
+pub record Found (number fed count : ℕ) (bytes : List ℕ) (messages : List Content) (Leaves : List Content → Type 0) : Type 0 where
+  pub ended : List Content
+  pub number_is : length ended ≡ number
+  pub counts : Counts fed count bytes (messages ++ ended)
+  pub leaves : Leaves ended
+
+-- the messages that ended are counted
+pub found_of : (framing : Framing) (u : Traversal) (number fed_before count_before count : ℕ) (fed : List ℕ) (messages more : List Content) (Leaves : List Content → Type 0) → (count_before + number < 2 ^ 62 → count ≡ count_before + number) → length fed ≤ 2 ^ 60 → Counts fed_before count_before fed messages
+    → length more ≡ number → Carried (framed_as framing u) (templates_in u.set.now) fed (messages ++ more) → Leaves more → Found number fed_before count fed messages Leaves
+found_of framing u number fed_before count_before count fed messages more Leaves counted short counts is carried leaves = record {
+  ended = more;
+  number_is = is;
+  counts = counts_pushed fed_before count_before number count fed messages more counts is counted (few_messages (framed_as framing u) (templates_in u.set.now) fed (messages ++ more) carried) short;
+  leaves = leaves;
+}
+
+-- what a machine finds in bytes that it reads on in, up to those that are unread
+pub record Finds {R E : Type 0} {receiver : Receiving R} {entries : Ghosts E} (framing : Framing) (old : Machine R E receiver entries) (bytes : List ℕ) (number count : ℕ) (halt : Option Halt) (left : ℕ) (u : Traversal) (s : R) (e : Dictionary) (unread : List ℕ) : Type 0 where
+  pub found : (before : List Content) (fed : List ℕ) (messages : List Content) → length fed ≤ 2 ^ 60 → Counts old.fed old.messages fed messages → StandsAt framing old before bytes fed messages
+      → Found number old.fed count fed messages (λ ended. StreamEnds receiver.has receiver.stands receiver.keeps halt framing left u s e (before ++ ended) unread fed (messages ++ ended))
+
+-- where bytes are wanted, those unread are held
+pub finds_waiting : {R E : Type 0} {receiver : Receiving R} {entries : Ghosts E} {framing : Framing} {old new : Machine R E receiver entries} {bytes : List ℕ} {number count : ℕ} {h : Halt} {left : ℕ} {u : Traversal} {s : R} {e : Dictionary} {unread rest : List ℕ}
+    → Finds framing old bytes number count (Some h) left u s e unread → h.cause ≡ Truncated → unread ≡ rest
+    → ((before : List Content) (fed : List ℕ) (messages : List Content) → length fed < 2 ^ 61 → Counts old.fed count fed messages
+    → Stands framing left (ReadsOn receiver.has receiver.stands receiver.keeps u s e before) u rest fed messages → Waits framing left u rest h.number fed messages → Follows new before fed messages)
+    → FollowsBehind framing old bytes new
+finds_waiting {receiver = receiver} {framing = framing} {h = h} {left = left} {u = u} {s = s} {e = e} finds is same held before fed messages short counts stands =
+    let f = finds.found before fed messages short counts stands in
+    let all = messages ++ f.ended in
+    let waits = f.leaves.1 is in (
+      f.ended,
+      held (before ++ f.ended) fed all (omega (arith, short)) f.counts
+          (subst (λ (xs : List ℕ). Stands framing left (ReadsOn receiver.has receiver.stands receiver.keeps u s e (before ++ f.ended)) u xs fed all) same waits.1)
+          (inr (subst (λ (xs : List ℕ). StopsBehind (framed_as framing u) (templates_in u.set.now) fed all (stop_of u.template (record { cause = Truncated; number = h.number; by = h.by }) xs)) same (rw is at waits.0))),
+    )
+
+-- another fault is the first
+pub finds_fault : {R E : Type 0} {receiver : Receiving R} {entries : Ghosts E} {framing now : Framing} {old : Machine R E receiver entries} {bytes : List ℕ} {number count : ℕ} {h : Halt} {left : ℕ} {u : Traversal} {s : R} {e : Dictionary} {unread : List ℕ} (fault : Fault) (size : ℕ)
+    → now ≡ framing → Finds framing old bytes number count (Some h) left u s e unread → h.cause ≢ Truncated → IsSound u.set.now → length unread ≡ size → IsFaultOf h count old.fed size u.template fault
+    → (before : List Content) (fed : List ℕ) (messages : List Content) → length fed ≤ 2 ^ 60 → Counts old.fed old.messages fed messages → StandsAt framing old before bytes fed messages
+    → Found number old.fed count fed messages (λ ended. Refused fault (framed_as now u) (templates_in u.set.now) fed (messages ++ ended) × HasAll receiver.stands now u s (before ++ ended) fed (messages ++ ended))
+finds_fault {framing = framing} {u = u} {unread = unread} fault size same finds other sound is refused before fed messages short counts stands =
+    let f = finds.found before fed messages short counts stands in
+    let faults = f.leaves.2 other in
+    record {
+      ended = f.ended;
+      number_is = f.number_is;
+      counts = f.counts;
+      leaves = rw (same) (refused (framed_as framing u) u unread fed (messages ++ f.ended) sound f.counts (omega (arith, short)) refl is f.leaves.0 faults.0, faults.1);
+    }

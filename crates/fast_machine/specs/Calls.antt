@@ -1,0 +1,142 @@
+-- What the calls of a machine answer and leave.
+use Rattle.std.specs.Prelude.{◌≡◌, ◌≢◌, ◌≤◌, ◌<◌, ◌^◌, ℕ, ◌+◌, List, [], ◌++◌, length, take, drop, Option, Some, None, Result, Ok, Err, IfOk, IfErr, IfSome, IfNone}
+use Rattle.fast_stream.specs.declared.fault.Cause.{Cause}
+use Rattle.fast_stream.specs.declared.fault.Cause.TheVariants.{Truncated, Memory}
+use Rattle.fast_stream.specs.declared.fault.Fault.{Fault}
+use Rattle.fast_stream.specs.declared.mode.Framing.{Framing}
+use Rattle.fast_stream.specs.declared.mode.Mode.{Mode}
+use Rattle.fast_stream.specs.Nodes.{Content}
+use Rattle.fast_template.specs.TemplateSets.{IsSound, templates_in}
+use Rattle.fast_dictionary.specs.declared.entries.Entries.{Ghosts}
+use Rattle.fast_walk.specs.declared.receiver.Receiver.{Ghosts as Receiving}
+use Rattle.fast_walk.specs.declared.traversal.Stage.TheVariants as stage
+use Rattle.fast_walk.specs.declared.traversal.Traversal.{Traversal}
+use Rattle.fast_walk.specs.declared.halt.Halt.{Halt}
+use Rattle.fast_walk.specs.Room.{HasRoomAt}
+use Rattle.fast_walk.specs.Told.{KeepScalars}
+use Rattle.fast_walk.specs.Traversals.{CanGoOn, begun_of, stop_of}
+use Rattle.fast_machine.specs.declared.machine.Machine.{Machine}
+use Rattle.fast_machine.specs.declared.messages.Progress.{Progress}
+use Rattle.fast_machine.specs.Runs.{Forgets}
+use Rattle.fast_machine.specs.Standing.{Carried, ReadsOn, Stands, StopsBehind}
+use Rattle.fast_machine.specs.Following.{Counts, Follows, Refused, Waits, mode_of}
+
+-- of what was fed these bytes are unread, and the machine reads on from them
+abbrev pub StandsAt : {R E : Type 0} {receiver : Receiving R} {entries : Ghosts E} → Framing → Machine R E receiver entries → List Content → List ℕ → List ℕ → List Content → Type 0
+StandsAt {receiver = receiver} {entries = entries} framing m before unread fed messages =
+    Stands framing m.left (ReadsOn receiver.has receiver.stands receiver.keeps m.traversal m.receiver (entries.contents m.entries) before) m.traversal unread fed messages
+
+-- The machine stands there, and the bytes and the messages are counted.
+abbrev pub FollowsHolding : {R E : Type 0} {receiver : Receiving R} {entries : Ghosts E} → Machine R E receiver entries → List ℕ → Machine R E receiver entries → Type 0
+FollowsHolding old unread new = (before : List Content) (fed : List ℕ) (messages : List Content)
+    → length fed < 2 ^ 61 → Counts old.fed old.messages fed messages → StandsAt old.framing old before unread fed messages → Follows new before fed messages
+
+-- the same where the stream stops at these bytes, at the instruction with this number
+abbrev pub FollowsWaiting : {R E : Type 0} {receiver : Receiving R} {entries : Ghosts E} → Machine R E receiver entries → List ℕ → ℕ → Machine R E receiver entries → Type 0
+FollowsWaiting old unread number new = (before : List Content) (fed : List ℕ) (messages : List Content)
+    → length fed < 2 ^ 61 → Counts old.fed old.messages fed messages → StandsAt old.framing old before unread fed messages
+    → Waits old.framing old.left old.traversal unread number fed messages → Follows new before fed messages
+
+-- the same behind the messages that end in these bytes
+abbrev pub FollowsBehind : {R E : Type 0} {receiver : Receiving R} {entries : Ghosts E} → Framing → Machine R E receiver entries → List ℕ → Machine R E receiver entries → Type 0
+FollowsBehind framing old unread new = (before : List Content) (fed : List ℕ) (messages : List Content)
+    → length fed ≤ 2 ^ 60 → Counts old.fed old.messages fed messages → StandsAt framing old before unread fed messages
+    → (ended : List Content) × Follows new (before ++ ended) fed (messages ++ ended)
+
+-- and where a message ends at a place in them, or they are all read: the bytes from there on are unread
+abbrev pub StandsBehind : {R E : Type 0} {receiver : Receiving R} {entries : Ghosts E} → Framing → Machine R E receiver entries → List ℕ → ℕ → Machine R E receiver entries → Type 0
+StandsBehind framing old unread place new = (before : List Content) (fed : List ℕ) (messages : List Content)
+    → length fed ≤ 2 ^ 60 → Counts old.fed old.messages fed messages → StandsAt framing old before unread fed messages
+    → (ended : List Content) × Counts new.fed new.messages fed (messages ++ ended) × (ended ≡ [] → place ≡ length unread) × StandsAt framing new (before ++ ended) (drop place unread) fed (messages ++ ended)
+
+-- A machine reads on in these bytes: it answers the place behind the next message, or none and holds what is not read,
+-- or the fault that it keeps.
+abbrev pub ReadsNext : {R E : Type 0} {receiver : Receiving R} {entries : Ghosts E} → Framing → Machine R E receiver entries → List ℕ → Result (Option ℕ) Fault → Machine R E receiver entries → Type 0
+ReadsNext framing old bytes (Ok next) new = IfSome next (λ place. StandsBehind framing old bytes place new) × IfNone next ((new.fault ≡ None) × FollowsBehind framing old bytes new)
+ReadsNext framing old bytes (Err fault) new = (new.fault ≡ Some fault) × (fault.cause ≢ Truncated) × FollowsBehind framing old bytes new
+
+-- a place that it answers is within the bytes, behind one of them where a message begins there, and none is held
+pub record IsBehind {R E : Type 0} {receiver : Receiving R} {entries : Ghosts E} (old : Machine R E receiver entries) (bytes : List ℕ) (place : ℕ) (new : Machine R E receiver entries) : Type 0 where
+  pub within : place ≤ length bytes
+  pub between : new.traversal.stage ≡ stage.Map
+  pub fault : new.fault ≡ None
+  pub held : new.held.items ≡ []
+  pub took : begun_of old.traversal ≡ 0 → 0 < place
+
+-- whatever the machine follows
+abbrev pub StillFollows : {R E : Type 0} {receiver : Receiving R} {entries : Ghosts E} → Machine R E receiver entries → Machine R E receiver entries → Type 0
+StillFollows old new = (before : List Content) (fed : List ℕ) (messages : List Content) → Follows old before fed messages → Follows new before fed messages
+
+-- and these bytes behind it
+abbrev pub FollowsOn : {R E : Type 0} {receiver : Receiving R} {entries : Ghosts E} → Machine R E receiver entries → List ℕ → Machine R E receiver entries → Type 0
+FollowsOn old chunk new = (before : List Content) (fed : List ℕ) (messages : List Content) → Follows old before fed messages → Follows new before (fed ++ chunk) messages
+
+-- and the messages that they end
+abbrev pub FollowsAll : {R E : Type 0} {receiver : Receiving R} {entries : Ghosts E} → Machine R E receiver entries → List ℕ → Machine R E receiver entries → Type 0
+FollowsAll old chunk new = (before : List Content) (fed : List ℕ) (messages : List Content) → Follows old before fed messages
+    → (ended : List Content) × Follows new (before ++ ended) (fed ++ chunk) (messages ++ ended)
+
+-- up to a place in them, which is answered; a fault is behind them all
+abbrev pub FollowsTaken : {R E : Type 0} {receiver : Receiving R} {entries : Ghosts E} → Machine R E receiver entries → List ℕ → Result ℕ Fault → Machine R E receiver entries → Type 0
+FollowsTaken old chunk result new = (before : List Content) (fed : List ℕ) (messages : List Content) → Follows old before fed messages
+    → (ended : List Content)
+    × IfOk result (λ n. Follows new (before ++ ended) (fed ++ take n chunk) (messages ++ ended))
+    × IfErr result (λ f. Follows new (before ++ ended) (fed ++ chunk) (messages ++ ended))
+
+-- what no call changes
+pub record IsSameStream {R E : Type 0} {receiver : Receiving R} {entries : Ghosts E} (old new : Machine R E receiver entries) : Type 0 where
+  pub set : new.traversal.set ≡ old.traversal.set
+  pub mode : mode_of new ≡ mode_of old
+  pub same_keys : entries.serves new.entries ≡ entries.serves old.entries
+
+-- nothing but the bytes held, what is said of them, the receiver and the fault has changed
+pub record StaysAt {R E : Type 0} {receiving : Receiving R} {serving : Ghosts E} (old new : Machine R E receiving serving) : Type 0 where
+  pub traversal : new.traversal ≡ old.traversal
+  pub entries : new.entries ≡ old.entries
+  pub fed : new.fed ≡ old.fed
+  pub messages : new.messages ≡ old.messages
+  pub framing : new.framing ≡ old.framing
+  pub left : new.left ≡ old.left
+
+-- the fault of the message behind so many, with this cause and this place of its piece
+pub record IsFault (fault : Fault) (cause : Cause) (messages offset template instruction : ℕ) : Type 0 where
+  pub cause_is : fault.cause ≡ cause
+  pub message_is : messages < 2 ^ 61 → fault.place.message ≡ messages + 1
+  pub offset_is : fault.place.offset ≡ offset
+  pub template_is : fault.place.template ≡ template
+  pub instruction_is : fault.place.instruction ≡ instruction
+
+-- a machine keeps a fault, and its receiver has forgotten what was open
+pub record KeepsFault {R E : Type 0} {receiver : Receiving R} {entries : Ghosts E} (old : Machine R E receiver entries) (fault : Fault) (new : Machine R E receiver entries) : Type 0 where
+  pub kept : new.fault ≡ Some fault
+  pub held : new.held.items ≡ []
+  pub left : Forgets receiver.stands receiver.keeps old.receiver new.receiver
+  pub stays : StaysAt old new
+
+-- the fault of a halt, behind which so many of the bytes fed are left: the first of what was fed
+abbrev pub IsFaultOf : Halt → ℕ → ℕ → ℕ → ℕ → Fault → Type 0
+IsFaultOf halt messages fed left template fault = (mode : Mode) (t : Traversal) (rest bytes : List ℕ) (ms : List Content)
+    → IsSound t.set.now → Counts fed messages bytes ms → length bytes < 2 ^ 61 → t.template ≡ template → length rest ≡ left
+    → Carried mode (templates_in t.set.now) bytes ms
+    → (halt.cause ≢ Memory → StopsBehind mode (templates_in t.set.now) bytes ms (stop_of t.template halt rest))
+    → Refused fault mode (templates_in t.set.now) bytes ms
+
+-- how far the reading of the next message came, and what it leaves where it ended, or where bytes are wanted
+pub record LeavesMessage {R E : Type 0} (receiver : Receiving R) (entries : Ghosts E) (t u : Traversal) (r : R) (d e : E) (bytes : List ℕ) (progress : Progress) : Type 0 where
+  pub place : progress.at ≤ length bytes
+  pub many : progress.messages ≤ 1
+  -- none ends only where there is no byte
+  pub none : IfNone progress.halt (progress.messages ≡ 0 → (progress.at ≡ 0) × (length bytes ≡ 0))
+  -- a message that begins here has a byte
+  pub took : IfNone progress.halt (begun_of t ≡ 0 → 0 < length bytes → 0 < progress.at)
+  pub between : IfNone progress.halt (u.stage ≡ stage.Map)
+  pub ready : IfNone progress.halt (CanGoOn (entries.serves e) u)
+  pub waits : IfSome progress.halt (λ h. h.cause ≡ Truncated → CanGoOn (entries.serves e) u)
+  pub kept_on : IfSome progress.halt (λ h. h.cause ≡ Truncated → KeepScalars (entries.contents e))
+  pub room : IfSome progress.halt (λ h. h.cause ≡ Truncated → HasRoomAt (receiver.room r) u.stage u.walk)
+  -- few bytes are left where more are wanted
+  pub few : IfSome progress.halt (λ h. h.cause ≡ Truncated → length bytes ≤ progress.at + 65554)
+  pub set : u.set ≡ t.set
+  pub level : u.level ≡ t.level
+  pub sound : IsSound u.set.now
+  pub same_keys : entries.serves e ≡ entries.serves d
