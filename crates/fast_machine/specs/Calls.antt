@@ -21,6 +21,12 @@ use Rattle.fast_machine.specs.Runs.{Forgets}
 use Rattle.fast_machine.specs.Standing.{Carried, ReadsOn, Stands, StopsBehind}
 use Rattle.fast_machine.specs.Following.{Counts, Follows, Refused, Waits, mode_of}
 
+-- no fault is kept and no byte is held, so that nothing is known of what follows it
+pub record HoldsNothing {R E : Type 0} {receiver : Receiving R} {entries : Ghosts E} (m : Machine R E receiver entries) : Type 0 where
+  pub fault : m.fault ≡ None
+  pub held : m.held.items ≡ []
+  pub unknown : m.end ≡ 0
+
 -- of what was fed these bytes are unread, and the machine reads on from them
 abbrev pub StandsAt : {R E : Type 0} {receiver : Receiving R} {entries : Ghosts E} → Framing → Machine R E receiver entries → List Content → List ℕ → List ℕ → List Content → Type 0
 StandsAt {receiver = receiver} {entries = entries} framing m before unread fed messages =

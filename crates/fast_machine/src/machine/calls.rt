@@ -9,7 +9,7 @@ ghost use Rattle.fast_stream.specs.Modes.{Carries};
 ghost use Rattle.fast_walk.specs.declared.traversal.Stage.TheVariants as stage;
 ghost use Rattle.fast_walk.specs.Lacks.{AreUnstopped, Lacks};
 ghost use Rattle.fast_walk.specs.Traversals.{CanGoOn, ServesAll, begun_of};
-ghost use Rattle.fast_machine.specs.Calls.{FollowsAll, FollowsHolding, FollowsOn, FollowsTaken, FollowsWaiting, IsBehind, IsFault, IsFaultOf, IsSameStream, KeepsFault, ReadsNext, StandsAt, StaysAt, StillFollows};
+ghost use Rattle.fast_machine.specs.Calls.{FollowsAll, FollowsHolding, FollowsOn, FollowsTaken, FollowsWaiting, HoldsNothing, IsBehind, IsFault, IsFaultOf, IsSameStream, KeepsFault, ReadsNext, StandsAt, StaysAt, StillFollows};
 ghost use Rattle.fast_machine.specs.Following.{Counts, IsHeld};
 ghost use Rattle.fast_machine.specs.Runs.{Retains};
 
@@ -242,9 +242,7 @@ impl<'a, R: Receiver, E: Entries> Machine<'a, R, E> {
     // Keeps the bytes of the piece that is not whole, of the instruction whose number is kept.
     #[inline(never)]
     fn hold_some(&mut self, rest: &[u8]) -> Result<(), Fault>
-        requires fault { self.now.fault ≡ None }
-        requires unknown { self.now.end ≡ 0 }
-        requires held { self.now.held.items ≡ [] }
+        requires nothing { HoldsNothing self.now }
         requires few { length rest.now ≤ 65554 }
         ensures follows { FollowsWaiting self.old rest.now self.old.waiting self.new }
         ensures answer { Answers result self.new.fault }
@@ -268,9 +266,7 @@ impl<'a, R: Receiver, E: Entries> Machine<'a, R, E> {
     // Keeps the bytes of the piece that is not whole, of the instruction with this number.
     #[inline(always)]
     fn hold(&mut self, number: u32, rest: &[u8]) -> Result<(), Fault>
-        requires fault { self.now.fault ≡ None }
-        requires unknown { self.now.end ≡ 0 }
-        requires held { self.now.held.items ≡ [] }
+        requires nothing { HoldsNothing self.now }
         requires few { length rest.now ≤ 65554 }
         ensures follows { FollowsWaiting self.old rest.now number self.new }
         ensures answer { Answers result self.new.fault }
@@ -457,9 +453,7 @@ impl<'a, R: Receiver, E: Entries> Machine<'a, R, E> {
     // the place behind it; none where they are all read or held.
     #[inline(always)]
     fn read_plain(&mut self, bytes: &[u8]) -> Result<Option<usize>, Fault>
-        requires fault { self.now.fault ≡ None }
-        requires unknown { self.now.end ≡ 0 }
-        requires held { self.now.held.items ≡ [] }
+        requires nothing { HoldsNothing self.now }
         requires framing { self.now.framing ≡ Framing.Plain }
         requires some { (0 < length bytes.now) ⊎ (begun_of self.now.traversal ≡ 1) }
         ensures reads { ReadsNext Framing.Plain self.old bytes.now result self.new }
@@ -501,9 +495,7 @@ impl<'a, R: Receiver, E: Entries> Machine<'a, R, E> {
 
     // Stops at the size of a block, with which the bytes begin: holds it where it is not whole, or keeps its fault.
     fn stop_at_size(&mut self, cause: Cause, bytes: &[u8]) -> Result<(), Fault>
-        requires fault { self.now.fault ≡ None }
-        requires unknown { self.now.end ≡ 0 }
-        requires held { self.now.held.items ≡ [] }
+        requires nothing { HoldsNothing self.now }
         requires framing { self.now.framing ≡ Framing.Blocks }
         requires few { cause ≡ Cause.Truncated → length bytes.now ≤ 9 }
         requires outside { self.now.left ≡ 0 }
@@ -529,9 +521,7 @@ impl<'a, R: Receiver, E: Entries> Machine<'a, R, E> {
     // Reads on in the block that the bytes go on with, or begin with, to the end of its next message at most, and answers
     // the place behind it; none where they are all read or held.
     fn read_block(&mut self, bytes: &[u8]) -> Result<Option<usize>, Fault>
-        requires fault { self.now.fault ≡ None }
-        requires unknown { self.now.end ≡ 0 }
-        requires held { self.now.held.items ≡ [] }
+        requires nothing { HoldsNothing self.now }
         requires framing { self.now.framing ≡ Framing.Blocks }
         requires some { (0 < length bytes.now) ⊎ (begun_of self.now.traversal ≡ 1) }
         ensures reads { ReadsNext Framing.Blocks self.old bytes.now result self.new }
@@ -584,9 +574,7 @@ impl<'a, R: Receiver, E: Entries> Machine<'a, R, E> {
     // it; none where they are all read or held.
     #[inline(always)]
     fn read(&mut self, bytes: &[u8]) -> Result<Option<usize>, Fault>
-        requires fault { self.now.fault ≡ None }
-        requires unknown { self.now.end ≡ 0 }
-        requires held { self.now.held.items ≡ [] }
+        requires nothing { HoldsNothing self.now }
         requires some { (0 < length bytes.now) ⊎ (begun_of self.now.traversal ≡ 1) }
         ensures reads { ReadsNext self.old.framing self.old bytes.now result self.new }
         ensures place { IfOk result (λ o. IfSome o (λ n. IsBehind self.old bytes.now n self.new)) }

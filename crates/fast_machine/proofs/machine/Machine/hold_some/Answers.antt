@@ -7,11 +7,11 @@ returns-in-Err-clause-follows g c = λ before fed messages short counts stands w
 
 pub returns-in_default-clause-follows : goal.returns-in_default-clause-follows
 returns-in_default-clause-follows g c = λ before fed messages short counts stands waits.
-    record { at = rw (c.requires.fault, c.in-Ok.ensures.items, c.requires.held) (stands, waits); counts = counts }
+    record { at = rw (c.requires.nothing.fault, c.in-Ok.ensures.items, c.requires.nothing.held) (stands, waits); counts = counts }
 
 pub know-requires-clause-lacks : goal.know-requires-clause-lacks
 know-requires-clause-lacks g c = rw (c.deref.ensures.value) at c.in-Some.ensures
 
 pub returns-in-Some-clause-follows : goal.returns-in-Some-clause-follows
 returns-in-Some-clause-follows g c = λ before fed messages short counts stands waits.
-    c.know.ensures.follows before fed messages (record { at = rw (c.requires.fault, c.in-Ok.ensures.items, c.requires.held) (stands, waits); counts = counts })
+    c.know.ensures.follows before fed messages (record { at = rw (c.requires.nothing.fault, c.in-Ok.ensures.items, c.requires.nothing.held) (stands, waits); counts = counts })

@@ -116,7 +116,7 @@ returns-in_default g c =
         λ before fed messages short counts stands.
             let f = finds_fault c.fault_of-fault.result _ c.requires.framing (halted g at.In-Some (opened g at.After-within-room) (λ wanted. absurd (other wanted))) other leaves.sound
             (ap (λ (xs : List ℕ). length xs) (sym (slice_rest c.args.bytes.now (c.in-Ok.opened.1 + c.read_if_any-progress.result.at)))) (rw (c.template-template.ensures) at c.fault_of-fault.ensures.refused) before fed messages short counts stands in
-            (f.ended, record { at = (f.leaves.0, c.requires.held, f.leaves.1); counts = f.counts }),
+            (f.ended, record { at = (f.leaves.0, c.requires.nothing.held, f.leaves.1); counts = f.counts }),
       );
       place = tt;
       same = record { set = leaves.set; mode = rw (leaves.level) refl; same_keys = leaves.same_keys };
@@ -124,4 +124,4 @@ returns-in_default g c =
     }
 
 pub read_if_any-progress-requires-clause-kept : goal.read_if_any-progress-requires-clause-kept
-read_if_any-progress-requires-clause-kept g c = c.args.self.now.kept c.requires.fault
+read_if_any-progress-requires-clause-kept g c = c.args.self.now.kept c.requires.nothing.fault

@@ -44,9 +44,9 @@ returns-then-is_empty-clause-reads g c =
     let none : drop n bytes ≡ [] = sym (slice_rest bytes n) ∙ none_of (slice_range bytes n (length bytes)) (search rules) in (
       tt,
       (
-        c.requires.fault,
+        c.requires.nothing.fault,
         finds_waiting (halted g (goal.at.returns-then-is_empty-clause-reads g c).In-Some) c.in-Truncated.is none
-            (λ before fed messages short counts stands waits. record { at = rw (c.requires.fault, c.requires.framing, c.requires.held) (stands, waits); counts = counts }),
+            (λ before fed messages short counts stands waits. record { at = rw (c.requires.nothing.fault, c.requires.framing, c.requires.nothing.held) (stands, waits); counts = counts }),
       ),
     )
 
@@ -71,7 +71,7 @@ returns-in_default g c =
         λ before fed messages short counts stands.
             let f = finds_fault c.fault_of-fault.result _ c.requires.framing (halted g (goal.at.returns-in_default g c).In-Some) other leaves.sound (ap (λ (xs : List ℕ). length xs) (sym (slice_rest c.args.bytes.now c.read_message-progress.result.at)))
             (rw (c.template-template.ensures) at c.fault_of-fault.ensures.refused) before fed messages short counts stands in
-            (f.ended, record { at = (f.leaves.0, c.requires.held, f.leaves.1); counts = f.counts }),
+            (f.ended, record { at = (f.leaves.0, c.requires.nothing.held, f.leaves.1); counts = f.counts }),
       );
       place = tt;
       same = record { set = leaves.set; mode = rw (leaves.level) refl; same_keys = leaves.same_keys };

@@ -23,7 +23,7 @@ stopped g c before fed messages stands =
     let R = g.R.Receiver in
     let bytes = c.args.bytes.now in
     let some : t.stage ≡ stage.Map → 0 < length bytes = λ at. elim c.requires.some [ inl some ↦ some | inr begun ↦ absurd (none_begun t.stage at begun) ] in
-    size_template (ReadsOn R.has R.stands R.keeps t old.receiver (g.E.Entries.contents old.entries) before) t old.left bytes fed messages c.args.cause c.requires.outside (g.E.Entries.serves old.entries) (old.ready c.requires.fault) some c.requires.stops stands
+    size_template (ReadsOn R.has R.stands R.keeps t old.receiver (g.E.Entries.contents old.entries) before) t old.left bytes fed messages c.args.cause c.requires.outside (g.E.Entries.serves old.entries) (old.ready c.requires.nothing.fault) some c.requires.stops stands
 
 pub returns-in-Truncated-clause-follows : goal.returns-in-Truncated-clause-follows
 returns-in-Truncated-clause-follows g c = λ before fed messages short counts stands.
