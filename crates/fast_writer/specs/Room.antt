@@ -1,5 +1,8 @@
 -- Room in the maps of the segments that are written, for the bits that are left of those that are read.
-use Rattle.std.specs.Prelude.{Bool, true, false, not, ◌&&◌, List, [], ◌∷◌, ◌++◌, drop, map}
+use Rattle.std.specs.Prelude.{◌≡◌, Bool, true, false, IsTrue, not, ◌&&◌, List, [], ◌∷◌, ◌++◌, drop, map}
+use Rattle.fast_template.specs.declared.resolved.FieldPart.{FieldPart}
+use Rattle.fast_template.specs.Resolved.{part_needs_bit}
+use Rattle.fast_stream.specs.Bits.{after_bit, bit_for}
 use Rattle.fast_writer.specs.Written.{Segment, has_set}
 use Rattle.fast_writer.specs.Levels.{level_of}
 use Rattle.fast_writer.specs.declared.writer.Writer.{Writer}
@@ -17,3 +20,7 @@ have_room ls around = false
 -- each map that is open has room for what is left of the one that was read
 abbrev pub writer_room : Writer → List (List Bool) → List Bool → Bool
 writer_room w around left = has_room (level_of w.inner) left && have_room (map level_of w.outer) around
+
+-- a map that had room for the bit of a part that was read has room for the one that is written
+abbrev pub KeepsRoom : FieldPart → Bool → Segment → Segment → Type 0
+KeepsRoom p bit old new = (left : List Bool) → bit ≡ bit_for (part_needs_bit p) left → IsTrue (has_room old left) → IsTrue (has_room new (after_bit (part_needs_bit p) left))

@@ -1,23 +1,21 @@
 //! The identifier of a template or the length of a sequence, read and written at once: a part whose number is wanted.
 
-ghost use Rattle.std.specs.Prelude.{◌≡◌, ◌≢◌, ◌≤◌, Err, IfNone, IfOk, IfErr, IfSome, OnOk, Bool, List, IsTrue, length, drop, false, true};
+ghost use Rattle.std.specs.Prelude.{◌≡◌, ◌≤◌, IfNone, IfOk, IfErr, IfSome, OnOk, IsTrue, length, drop, false, true};
 ghost use Rattle.fast_template.specs.Resolved.{part_needs_bit as part_needs_bit_of};
 ghost use Rattle.fast_dictionary.specs.Dictionary.{entry_at, set_entry};
 ghost use Rattle.fast_dictionary.specs.declared.entry.Entry.{Entry as EntryOf};
 ghost use Rattle.std.specs.Option.{option_copied};
 ghost use Rattle.fast_value.specs.Scalar.{is_of};
 ghost use Rattle.fast_value.specs.declared.kind.Kind.TheVariants.{UInt32};
-ghost use Rattle.fast_field.specs.FieldReading.{field_at};
 ghost use Rattle.fast_field.specs.Parts.{IsFieldPart};
 ghost use Rattle.fast_field.specs.Within.{HoldsScalar};
 ghost use Rattle.fast_field.specs.Passed.{Passes};
 ghost use Rattle.fast_walk.specs.Received.{Took, length_of};
 ghost use Rattle.fast_value.specs.declared.kind.Part.TheVariants.{Length};
 ghost use Rattle.fast_walk.specs.Told.{IsTold, KeepScalars};
-ghost use Rattle.fast_stream.specs.Bits.{after_bit, bit_for};
 ghost use Rattle.fast_writer.specs.Levels.{level_of};
-ghost use Rattle.fast_writer.specs.Room.{has_room};
-ghost use Rattle.fast_writer.specs.Quick.{Relayed};
+ghost use Rattle.fast_writer.specs.Room.{KeepsRoom};
+ghost use Rattle.fast_writer.specs.Quick.{Relayed, StopsPart};
 ghost use Rattle.fast_writer.specs.Written.{Spelt};
 
 use crate::relay::relay_entry;
@@ -87,9 +85,8 @@ fn count_generally(
         Relayed level part.now entry.old entry.new bit x.1 (length_of x.0) (drop at bytes.now)
         (drop x.2 bytes.now) out.old.items out.new.items) }
     ensures lower { IfOk result (λ x. bit ≡ false → x.1 ≡ false) }
-    ensures stops { IfErr result (λ f. f ≢ FieldFault.Memory
-        → (field_at level part.now entry.old bit (drop at bytes.now) ≡ Err f)
-        × (entry.new ≡ entry.old) × (out.new.items ≡ out.old.items)) }
+    ensures stops { IfErr result (StopsPart level part.now entry.old bit (drop at bytes.now) entry.old entry.new
+        out.old.items out.new.items) }
 {
     let (found, best, next) = relay_entry(alloc, part, entry, bit, level, bytes, at, out)?;
     let number = number_in(found.value(part, entry.view()));
@@ -125,15 +122,9 @@ pub(crate) fn relay_count<E: Entries>(
     ensures spelt { IfOk result (λ x.
         Spelt part.now (entry_at (E.contents entries.old) part.now.key) (length_of x.0)
         (level_of segment.old) (level_of segment.new)) }
-    // (a map that had room for the bit that was read has room for the one that is written)
-    ensures room { OnOk result ((left : List Bool) → bit ≡ bit_for (part_needs_bit_of part.now) left
-        → IsTrue (has_room (level_of segment.old) left)
-        → IsTrue (has_room (level_of segment.new) (after_bit (part_needs_bit_of part.now) left))) }
-    ensures stops { IfErr result (λ f. f ≢ FieldFault.Memory
-        → (field_at level part.now (entry_at (E.contents entries.old) part.now.key) bit
-        (drop at bytes.now) ≡ Err f)
-        × (E.contents entries.new ≡ E.contents entries.old)
-        × (level_of segment.new ≡ level_of segment.old)) }
+    ensures room { OnOk result (KeepsRoom part.now bit (level_of segment.old) (level_of segment.new)) }
+    ensures stops { IfErr result (StopsPart level part.now (entry_at (E.contents entries.old) part.now.key) bit (drop at bytes.now)
+        (E.contents entries.old) (E.contents entries.new) (level_of segment.old) (level_of segment.new)) }
     ensures same_keys { E.serves entries.new ≡ E.serves entries.old }
 {
     let entry = entries.entry_mut(&part.key)?;
@@ -191,14 +182,9 @@ pub(crate) fn relay_identifier<E: Entries>(
     ensures spelt { IfOk result (λ x.
         Spelt part.now (entry_at (E.contents entries.old) part.now.key) (length_of x.0)
         (level_of segment.old) (level_of segment.new)) }
-    ensures room { OnOk result ((left : List Bool) → bit ≡ bit_for (part_needs_bit_of part.now) left
-        → IsTrue (has_room (level_of segment.old) left)
-        → IsTrue (has_room (level_of segment.new) (after_bit (part_needs_bit_of part.now) left))) }
-    ensures stops { IfErr result (λ f. f ≢ FieldFault.Memory
-        → (field_at level part.now (entry_at (E.contents entries.old) part.now.key) bit
-        (drop at bytes.now) ≡ Err f)
-        × (E.contents entries.new ≡ E.contents entries.old)
-        × (level_of segment.new ≡ level_of segment.old)) }
+    ensures room { OnOk result (KeepsRoom part.now bit (level_of segment.old) (level_of segment.new)) }
+    ensures stops { IfErr result (StopsPart level part.now (entry_at (E.contents entries.old) part.now.key) bit (drop at bytes.now)
+        (E.contents entries.old) (E.contents entries.new) (level_of segment.old) (level_of segment.new)) }
     ensures same_keys { E.serves entries.new ≡ E.serves entries.old }
 {
     if !bit && let Some(count) = repeat_kept(entries, part)? {
@@ -235,14 +221,9 @@ pub(crate) fn relay_length<E: Entries>(
     ensures spelt { IfOk result (λ x.
         Spelt part.now (entry_at (E.contents entries.old) part.now.key) (length_of x.0)
         (level_of segment.old) (level_of segment.new)) }
-    ensures room { OnOk result ((left : List Bool) → bit ≡ bit_for (part_needs_bit_of part.now) left
-        → IsTrue (has_room (level_of segment.old) left)
-        → IsTrue (has_room (level_of segment.new) (after_bit (part_needs_bit_of part.now) left))) }
-    ensures stops { IfErr result (λ f. f ≢ FieldFault.Memory
-        → (field_at level part.now (entry_at (E.contents entries.old) part.now.key) bit
-        (drop at bytes.now) ≡ Err f)
-        × (E.contents entries.new ≡ E.contents entries.old)
-        × (level_of segment.new ≡ level_of segment.old)) }
+    ensures room { OnOk result (KeepsRoom part.now bit (level_of segment.old) (level_of segment.new)) }
+    ensures stops { IfErr result (StopsPart level part.now (entry_at (E.contents entries.old) part.now.key) bit (drop at bytes.now)
+        (E.contents entries.old) (E.contents entries.new) (level_of segment.old) (level_of segment.new)) }
     ensures same_keys { E.serves entries.new ≡ E.serves entries.old }
 {
     if reads_as_usual(level, part, bytes, at)

@@ -1,21 +1,19 @@
 //! A part that is read and written at once, with no value in between.
 
-ghost use Rattle.std.specs.Prelude.{◌≡◌, ◌≢◌, ◌≤◌, Err, IfNone, IfOk, IfErr, IfSome, OnOk, Option, Bool, List, IsTrue, length, drop, false, true};
+ghost use Rattle.std.specs.Prelude.{◌≡◌, ◌≤◌, IfNone, IfOk, IfErr, IfSome, OnOk, Option, IsTrue, length, drop, false, true};
 ghost use Rattle.fast_template.specs.Resolved.{part_needs_bit as part_needs_bit_of};
 ghost use Rattle.fast_value.specs.declared.scalar.Scalar.{Scalar as ScalarOf};
 ghost use Rattle.fast_dictionary.specs.Dictionary.{entry_at};
 ghost use Rattle.fast_wire.specs.declared.level.Level.TheVariants.{Usual};
-ghost use Rattle.fast_field.specs.FieldReading.{field_at};
 ghost use Rattle.fast_field.specs.Parts.{IsFieldPart};
 ghost use Rattle.fast_field.specs.Within.{HoldsScalar};
 ghost use Rattle.fast_walk.specs.Received.{Took};
 ghost use Rattle.fast_walk.specs.Told.{KeepScalars};
-ghost use Rattle.fast_stream.specs.Bits.{after_bit, bit_for};
 ghost use Rattle.fast_writer.specs.Levels.{level_of};
-ghost use Rattle.fast_writer.specs.Room.{has_room};
+ghost use Rattle.fast_writer.specs.Room.{KeepsRoom};
 ghost use Rattle.fast_relay.specs.Relayed.{IsThere};
 ghost use Rattle.fast_relay.specs.Runs.{IsRun, Stays, written};
-ghost use Rattle.fast_writer.specs.Quick.{Relayed};
+ghost use Rattle.fast_writer.specs.Quick.{Relayed, StopsPart};
 ghost use Rattle.fast_writer.specs.Written.{Spelt};
 
 use crate::relay::relay_entry;
@@ -80,9 +78,8 @@ fn relay_generally(
         × Relayed level part.now entry.old entry.new bit x.1 v (drop at bytes.now) (drop x.2 bytes.now)
         out.old.items out.new.items) }
     ensures lower { IfOk result (λ x. bit ≡ false → x.1 ≡ false) }
-    ensures stops { IfErr result (λ f. f ≢ FieldFault.Memory
-        → (field_at level part.now entry.old bit (drop at bytes.now) ≡ Err f)
-        × (entry.new ≡ entry.old) × (out.new.items ≡ out.old.items)) }
+    ensures stops { IfErr result (StopsPart level part.now entry.old bit (drop at bytes.now) entry.old entry.new
+        out.old.items out.new.items) }
 {
     let (found, best, next) = relay_entry(alloc, part, entry, bit, level, bytes, at, out)?;
     let there = found.value(part, entry.view()).is_some();
@@ -117,15 +114,9 @@ pub(crate) fn relay_part<E: Entries>(
         (drop at bytes.now) (drop x.1 bytes.now)
         × Spelt part.now (entry_at (E.contents entries.old) part.now.key) v
         (level_of segment.old) (level_of segment.new)) }
-    // (a map that had room for the bit that was read has room for the one that is written)
-    ensures room { OnOk result ((left : List Bool) → bit ≡ bit_for (part_needs_bit_of part.now) left
-        → IsTrue (has_room (level_of segment.old) left)
-        → IsTrue (has_room (level_of segment.new) (after_bit (part_needs_bit_of part.now) left))) }
-    ensures stops { IfErr result (λ f. f ≢ FieldFault.Memory
-        → (field_at level part.now (entry_at (E.contents entries.old) part.now.key) bit
-        (drop at bytes.now) ≡ Err f)
-        × (E.contents entries.new ≡ E.contents entries.old)
-        × (level_of segment.new ≡ level_of segment.old)) }
+    ensures room { OnOk result (KeepsRoom part.now bit (level_of segment.old) (level_of segment.new)) }
+    ensures stops { IfErr result (StopsPart level part.now (entry_at (E.contents entries.old) part.now.key) bit (drop at bytes.now)
+        (E.contents entries.old) (E.contents entries.new) (level_of segment.old) (level_of segment.new)) }
     ensures same_keys { E.serves entries.new ≡ E.serves entries.old }
 {
     let entry = entries.entry_mut(&part.key)?;
