@@ -5,7 +5,7 @@ ghost use Rattle.std.specs.Prelude.{◌≡◌, ◌^◌, ◌<ℤ◌, pos, negsuc,
 ghost use Rattle.fast_value.specs.Scalar.{greatest_of, in_range, is_integer, is_of, least_of, of_integer};
 ghost use Rattle.fast_value.specs.declared.scalar.Scalar.TheVariants as scalar;
 ghost use Rattle.fast_dictionary.specs.declared.entry.Entry.TheVariants as entry_type;
-ghost use Rattle.fast_field.specs.Numbers.{HasNumber, IsFieldNumber, IsNumber, IsNumberOf, number_within};
+ghost use Rattle.fast_field.specs.Numbers.{HasNumber, IsFieldNumber, IsNumber, IsNumberOf, next_number, number_within};
 
 use crate::read::LENGTH_LIMIT;
 use fast_dictionary::Entry;
@@ -28,7 +28,8 @@ fn least(kind: Kind) -> i128
 /// The greatest number of an integer type.
 #[inline(always)]
 fn greatest(kind: Kind) -> i128
-    ensures { result ≡ greatest_of kind }
+    ensures value { result ≡ greatest_of kind }
+    ensures small { result <ℤ pos (2 ^ 64) }
 {
     match kind {
         Kind::UInt32 => i128::from(u32::MAX),
@@ -66,6 +67,20 @@ pub fn is_field_number(kind: Kind, part: Part, number: i128) -> bool
     ensures { result ≡ true → IsFieldNumber kind part number }
 {
     is_in_range(kind, number) && is_within(part, number)
+}
+
+/// One more, and after the greatest number of the type its least: FAST 1.1, Field Operators, Increment Operator.
+#[inline(always)]
+pub(crate) fn number_after(kind: Kind, number: i128) -> i128
+    requires { IsNumber kind number }
+    ensures value { result ≡ next_number kind number }
+    ensures number { IsNumber kind result }
+{
+    if number < greatest(kind) {
+        number + 1
+    } else {
+        least(kind)
+    }
 }
 
 // ---- Kept

@@ -5,8 +5,8 @@
 //! for callers that keep the entries: it changes the entry where it lies, and copies no value. [`find_field`] changes
 //! nothing. [`plan_field`] answers the bit and the bytes of the best form of a value and [`write_field`] appends it;
 //! [`write_in_place`] does both and changes the entry too, and [`write_found`] does so with a value that was just read.
-//! The rest of what is public is for `fast_relay`, which reads and writes the most frequent fields at once, and for
-//! `fast_gaps`.
+//! [`pass_left_out`] takes what bit 0 gives without a value in between, and [`pass_found`] answers where it lies. The rest
+//! of what is public is for `fast_relay`, which reads and writes the most frequent fields at once, and for `fast_gaps`.
 //! The definitions stand in `specs/`: the forms that spell a value (`Fields`, over `Spelled`, `Bases` and
 //! `Deltas`), the form that a writer chooses (`Best`), and the function that reads a field from the front of a list
 //! and answers its first fault (`FieldReading`). The module [`laws`] ties forms and reading together.
@@ -45,7 +45,7 @@ pub use fault::{FieldFault, FieldRefusal};
 pub use found::Found;
 pub use integers::{is_field_number, kept_number, set_number};
 pub use levels::reads_as_usual;
-pub use passed::{Passed, fits};
+pub use passed::{Passed, fits, pass_found, pass_left_out};
 pub use plan::{Plan, plan_field};
 pub use read::{find_field, read_field, read_in_place};
 pub use write::{write_field, write_found, write_in_place};

@@ -17,6 +17,7 @@ use crate::base::{integer, predicted_value};
 use crate::delta::read_delta;
 use crate::fault::FieldFault;
 use crate::found::Found;
+use crate::passed::pass_found;
 use crate::tail::read_tail;
 use crate::whole::{exponent_within, read_whole};
 use fast_dictionary::{Entry, EntryRef};
@@ -184,6 +185,11 @@ pub fn read_in_place(
         → field_at level instr.now entry.old bit (drop at bytes.now ++ more)
         ≡ Ok (value_found instr.now entry.new x.0, drop x.1 bytes.now ++ more)) }
 {
+    if !bit {
+        if let Some(found) = pass_found(instr, entry) {
+            return Ok((found, at));
+        }
+    }
     let (found, next) = find_field(alloc, instr, entry.view(), bit, level, bytes, at)?;
     let found = settle(alloc, instr, entry, found)?;
     Ok((found, next))

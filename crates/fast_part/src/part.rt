@@ -12,14 +12,13 @@ ghost use Rattle.fast_template.specs.Resolved.{part_needs_bit};
 ghost use Rattle.fast_dictionary.specs.Dictionary.{entry_at};
 ghost use Rattle.fast_field.specs.FieldReading.{field_at};
 ghost use Rattle.fast_field.specs.Found.{value_found};
-ghost use Rattle.fast_field.specs.Parts.{IsFieldPart};
 ghost use Rattle.fast_stream.specs.Streams.{identifier as identifier_part};
 ghost use Rattle.fast_walk.specs.Received.{Took, TookFrom, exponent_of, length_of};
 ghost use Rattle.fast_walk.specs.Told.{IsTold};
 
 use fast_dictionary::{Entries, Entry};
-use fast_field::{FieldFault, Found, read_in_place, reads_as_usual};
-use fast_relay::{pass_found, take_number};
+use fast_field::{FieldFault, Found, pass_found, read_in_place, reads_as_usual};
+use fast_relay::take_number;
 use fast_template::{FieldPart, Kind, Operator, Part, Scalar};
 use fast_wire::Level;
 use std::alloc::{AllocError, Global};
@@ -28,7 +27,6 @@ use std::alloc::{AllocError, Global};
 /// afterwards. None: nothing has changed, and the part goes another way.
 #[inline(always)]
 pub fn take_given(part: &FieldPart, entry: &mut Entry, bit: bool) -> Option<Found>
-    requires { IsFieldPart part.now }
     ensures taken { IfSome result (λ found. (level : level_type.Level) (bytes : List ℕ)
         → TookFrom level part.now bit entry.old entry.new (value_found part.now entry.new found)
         bytes bytes) }
@@ -149,8 +147,7 @@ fn take_value(
     bytes: &[u8],
     at: usize,
 ) -> Result<(Option<Scalar>, usize), FieldFault>
-    requires place { at ≤ length bytes.now }
-    requires part { IsFieldPart part.now }
+    requires { at ≤ length bytes.now }
     ensures place { IfOk result (λ x. (at ≤ x.1) × (x.1 ≤ length bytes.now)) }
     ensures taken { IfOk result (λ x. TookFrom level part.now bit entry.old entry.new x.0
         (drop at bytes.now) (drop x.1 bytes.now)) }
@@ -185,7 +182,6 @@ pub fn take_part<E: Entries>(
 ) -> Result<(Option<Scalar>, usize), FieldFault>
     requires place { at ≤ length bytes.now }
     requires served { IsTrue (E.serves entries.now part.now.key) }
-    requires part { IsFieldPart part.now }
     ensures place { IfOk result (λ x. (at ≤ x.1) × (x.1 ≤ length bytes.now)) }
     ensures took { IfOk result (λ x. Took level part.now bit (E.contents entries.old) (E.contents
         entries.new) x.0

@@ -1,12 +1,28 @@
 -- What values that are read at once into their entries rest on.
-use Rattle.std.proofs.Common.{ℕ, Bool, true, false, List, [], drop}
+use Rattle.std.proofs.Common.{◌≡◌, ℕ, Bool, true, false, List, [], drop, refl, ◌∙◌}
+use Rattle.std.specs.Prelude.{Some}
+use Rattle.fast_value.specs.declared.kind.Operator.{Operator}
+use Rattle.fast_value.specs.declared.kind.Operator.TheVariants as operator
 use Rattle.fast_value.specs.declared.scalar.Scalar.{Scalar}
 use Rattle.fast_template.specs.declared.resolved.FieldPart.{FieldPart}
 use Rattle.fast_dictionary.specs.declared.entry.Entry.{Entry}
+use Rattle.fast_dictionary.specs.declared.entry.Entry.TheVariants.{Assigned}
+use Rattle.fast_field.specs.Bases.{next_of}
 use Rattle.fast_relay.specs.Judged.{JudgesFrom}
+use Rattle.fast_relay.specs.Kept.{keeps_value}
 use Rattle.fast_relay.specs.Relayed.{Takes}
 
 -- what is judged is read
 pub judged_takes : (bit : Bool) (i : FieldPart) (old new : Entry) (v : Scalar) (bytes : List ℕ) (at first last : ℕ) → JudgesFrom bit i old new v bytes at first last → Takes i old new v (drop at bytes) (drop last bytes)
 judged_takes true i old new v bytes at first last h = record { read = (h []).read; entry = (h []).entry }
 judged_takes false i old new v bytes at first last h = record { read = (h.1).read; entry = (h.1).entry }
+
+kept_value : (o : Operator) (e : Entry) (v : Scalar) → keeps_value o ≡ true → next_of o e (Some v) ≡ Assigned v
+kept_value operator.Copy e v h = refl
+kept_value operator.Increment e v h = refl
+kept_value operator.Delta e v h = refl
+kept_value operator.Tail e v h = refl
+kept_value o e v h = absurd cc
+
+pub kept_takes : (i : FieldPart) (old new : Entry) (v : Scalar) (bytes rest : List ℕ) → keeps_value i.operator ≡ true → Takes i old new v bytes rest → (w : Scalar) × (new ≡ Assigned w) × Takes i old new w bytes rest
+kept_takes i old new v bytes rest keeps h = (v, h.entry ∙ kept_value i.operator old v keeps, h)

@@ -10,6 +10,7 @@ ghost use Rattle.fast_relay.specs.Kept as kept;
 ghost use Rattle.fast_relay.specs.Relayed.{Takes};
 
 use crate::judged::{Judged, judge_field};
+use crate::taken::take_kept_number;
 use crate::taken_text::take_text;
 use fast_dictionary::Entry;
 use fast_template::{FieldPart, Kind, Operator, Part};
@@ -75,9 +76,12 @@ pub fn take_kept(
     if !keeps_value(instr.operator) {
         return None;
     }
-    // (read without a look at how it is best written: much of a feed is strings that put back what was there)
-    if instr.kind == Kind::Ascii {
-        return take_text(alloc, instr, entry, bytes, at);
+    match instr.kind {
+        // (read with no look at how they are best written: of a feed with slack many are not as they are best)
+        Kind::Ascii => take_text(alloc, instr, entry, bytes, at),
+        Kind::UInt32 | Kind::Int32 | Kind::UInt64 | Kind::Int64 => {
+            take_kept_number(instr, entry, bytes, at)
+        }
+        Kind::Decimal | Kind::Unicode | Kind::Bytes => judge_place(alloc, instr, entry, bytes, at),
     }
-    judge_place(alloc, instr, entry, bytes, at)
 }

@@ -1,8 +1,8 @@
 //! Fields that are read from one stream and written to another at once, with no value in between.
 //!
-//! These are most fields of a feed. [`pass_quickly`] takes what bit 0 gives, and [`pass_found`] answers where it lies.
-//! [`judge_field`] reads a field under bit 1, makes the entry the one afterwards, and says whether the field's bytes are its
-//! best form as they stand, or bit 0 is ([`Judged`]); it writes nothing. Two calls read a field in the same way and append its
+//! These are most fields of a feed. [`pass_quickly`] takes what bit 0 gives. [`judge_field`] reads a field under bit 1, makes
+//! the entry the one afterwards, and says whether the field's bytes are its best form as they stand, or bit 0 is
+//! ([`Judged`]); it writes nothing. Two calls read a field in the same way and append its
 //! best form to a [`Run`]: [`relay_null`] NULL of any type, and answers what became of it ([`Relayed`]), and [`respell_text`]
 //! an ASCII string that was sent as a difference or a tail and says more than it had to. [`read_short_length`] reads a length
 //! in one byte that no entry keeps. Where nothing has changed the field goes the general way of `fast_field`: `find_field` and
@@ -44,7 +44,7 @@ pub use judged::{Judged, judge_field};
 pub use kept::take_kept;
 pub use null::relay_null;
 pub use one_byte::read_short_length;
-pub use passed::{pass_found, pass_quickly};
+pub use passed::pass_quickly;
 pub use relayed::Relayed;
 pub use respelled::respell_text;
 pub use run::Run;

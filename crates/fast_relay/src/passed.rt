@@ -1,19 +1,18 @@
-//! What bit 0 gives of an entry, with no value in between, and with so little code that a loop over fields has room for it.
-//! What is not served here goes the general way of `find_field`.
+//! What bit 0 gives of an entry, with so little code that a loop over fields has room for it. What is not served here is
+//! `pass_left_out` of `fast_field`.
 
-ghost use Rattle.std.specs.Prelude.{◌≡◌, IfNone, IfSome, Some, IsTrue, true};
+ghost use Rattle.std.specs.Prelude.{◌≡◌, Some, IsTrue, true};
 ghost use Rattle.fast_value.specs.Scalar.{is_of};
 ghost use Rattle.fast_value.specs.declared.kind.Part.TheVariants as part_type;
 ghost use Rattle.fast_value.specs.declared.kind.Operator.TheVariants as operator_type;
 ghost use Rattle.fast_field.specs.Fields.{within_part};
 ghost use Rattle.fast_field.specs.Numbers.{Predicts, Repeats};
 ghost use Rattle.fast_field.specs.Parts.{IsFieldPart};
-ghost use Rattle.fast_field.specs.Found.{value_found};
-ghost use Rattle.fast_field.specs.Passed.{IsPassed, Passes};
+ghost use Rattle.fast_field.specs.Passed.{IsPassed};
 
 use crate::short_number::ShortInteger;
 use fast_dictionary::Entry;
-use fast_field::{Found, Passed, fits};
+use fast_field::{Passed, fits};
 use fast_template::{FieldPart, Kind, Operator, Part, Presence, Scalar};
 use fast_value::is_of_kind;
 
@@ -186,24 +185,5 @@ pub fn pass_quickly(which: Part, instr: &FieldPart, entry: &mut Entry) -> Passed
         Operator::Default => pass_initial(which, instr, entry),
         Operator::Constant => pass_constant(instr, entry),
         Operator::Plain | Operator::Delta => Passed::Elsewhere,
-    }
-}
-
-/// As `pass_quickly`, and answers where the value lies then: for those that tell or keep a value where it lies. None: nothing
-/// was done, and another way tells.
-#[inline(always)]
-pub fn pass_found(instr: &FieldPart, entry: &mut Entry) -> Option<Found>
-    requires { IsFieldPart instr.now }
-    ensures some { IfSome result (λ found. Passes instr.now entry.old entry.new
-        (value_found instr.now entry.new found)) }
-    ensures none { IfNone result (entry.new ≡ entry.old) }
-{
-    match pass_quickly(instr.part, instr, entry) {
-        Passed::Absent => Some(Found::Absent),
-        Passed::Present => match instr.operator {
-            Operator::Default => Some(Found::Initial),
-            _ => Some(Found::Kept),
-        },
-        Passed::Elsewhere => None,
     }
 }

@@ -7,6 +7,9 @@ ghost use Rattle.fast_value.specs.declared.kind.Operator.TheVariants as operator
 ghost use Rattle.fast_field.specs.Bases.{next_of};
 ghost use Rattle.fast_field.specs.Numbers.{IsNumber};
 ghost use Rattle.fast_relay.specs.Numbers.{SpellsWhole};
+ghost use Rattle.fast_value.specs.declared.scalar.Scalar.{Scalar as ScalarOf};
+ghost use Rattle.fast_dictionary.specs.declared.entry.Entry.TheVariants as entry_type;
+ghost use Rattle.fast_relay.specs.Kept.{keeps_value};
 ghost use Rattle.fast_relay.specs.Relayed.{Takes};
 
 use crate::integers::{is_unsigned, read_short};
@@ -175,6 +178,55 @@ pub fn take_number(
         Kind::Int32 => take_value(Kind::Int32, instr, entry, bytes, at),
         Kind::UInt64 => take_value(Kind::UInt64, instr, entry, bytes, at),
         Kind::Int64 => take_value(Kind::Int64, instr, entry, bytes, at),
+        Kind::Decimal | Kind::Ascii | Kind::Unicode | Kind::Bytes => None,
+    }
+}
+
+/// The same of a number that the entry keeps: the place after it alone.
+#[inline(always)]
+fn take_place(
+    kind: Kind,
+    instr: &FieldPart,
+    entry: &mut Entry,
+    bytes: &[u8],
+    at: usize,
+) -> Option<usize>
+    requires at { at ≤ length bytes.now }
+    requires kind { kind ≡ instr.now.kind }
+    requires integer { IsTrue (is_integer kind) }
+    requires operator { IsTrue (keeps_value instr.now.operator) }
+    ensures place { IfSome result (λ next. (at ≤ next) × (next ≤ length bytes.now)) }
+    ensures taken { IfSome result (λ next. (v : ScalarOf) × (entry.new ≡ entry_type.Assigned v)
+        × Takes instr.now entry.old entry.new v (drop at bytes.now) (drop next bytes.now)) }
+    ensures entry { IfNone result (entry.new ≡ entry.old) }
+{
+    match take(kind, instr, entry, bytes, at) {
+        Some((_number, next)) => Some(next),
+        None => None,
+    }
+}
+
+/// The same by the type, which is known behind this call. (A call of its own, so that the loop over the fields of a line
+/// stays small.)
+#[inline(never)]
+pub(crate) fn take_kept_number(
+    instr: &FieldPart,
+    entry: &mut Entry,
+    bytes: &[u8],
+    at: usize,
+) -> Option<usize>
+    requires at { at ≤ length bytes.now }
+    requires operator { IsTrue (keeps_value instr.now.operator) }
+    ensures place { IfSome result (λ next. (at ≤ next) × (next ≤ length bytes.now)) }
+    ensures taken { IfSome result (λ next. (v : ScalarOf) × (entry.new ≡ entry_type.Assigned v)
+        × Takes instr.now entry.old entry.new v (drop at bytes.now) (drop next bytes.now)) }
+    ensures entry { IfNone result (entry.new ≡ entry.old) }
+{
+    match instr.kind {
+        Kind::UInt32 => take_place(Kind::UInt32, instr, entry, bytes, at),
+        Kind::Int32 => take_place(Kind::Int32, instr, entry, bytes, at),
+        Kind::UInt64 => take_place(Kind::UInt64, instr, entry, bytes, at),
+        Kind::Int64 => take_place(Kind::Int64, instr, entry, bytes, at),
         Kind::Decimal | Kind::Ascii | Kind::Unicode | Kind::Bytes => None,
     }
 }

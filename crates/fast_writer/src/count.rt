@@ -21,8 +21,8 @@ ghost use Rattle.fast_writer.specs.Written.{Spelt};
 use crate::relay::relay_entry;
 use crate::segment::Segment;
 use fast_dictionary::{Entries, Entry};
-use fast_field::{FieldFault, Passed, reads_as_usual};
-use fast_relay::{pass_quickly, read_short_length};
+use fast_field::{FieldFault, Passed, pass_left_out, reads_as_usual};
+use fast_relay::read_short_length;
 use fast_template::{FieldPart, Kind, Operator, Scalar, part_needs_bit};
 use fast_wire::Level;
 use std::alloc::{AllocError, Global};
@@ -31,13 +31,12 @@ use std::alloc::{AllocError, Global};
 // the general way.
 #[inline(always)]
 fn repeat_count(part: &FieldPart, entry: &mut Entry) -> Option<Option<u32>>
-    requires { IsFieldPart part.now }
     ensures passed { IfSome result (λ count.
         Passes part.now entry.old entry.new (length_of count)) }
     ensures entry { IfNone result (entry.new ≡ entry.old) }
 {
     match (part.operator, part.kind) {
-        (Operator::Copy, Kind::UInt32) => match pass_quickly(part.part, part, entry) {
+        (Operator::Copy, Kind::UInt32) => match pass_left_out(part, entry) {
             Passed::Elsewhere => None,
             Passed::Absent => Some(None),
             Passed::Present => match entry {
@@ -142,7 +141,6 @@ fn repeat_kept<E: Entries>(
     part: &FieldPart,
 ) -> Result<Option<Option<u32>>, AllocError>
     requires served { IsTrue (E.serves entries.now part.now.key) }
-    requires part { IsFieldPart part.now }
     ensures passed { IfOk result (λ repeated. IfSome repeated (λ count. (new : EntryOf)
         × Passes part.now (entry_at (E.contents entries.old) part.now.key) new (length_of count)
         × (E.contents entries.new ≡ set_entry (E.contents entries.old) part.now.key new))) }

@@ -1,5 +1,7 @@
 //! Fields that go the general way: what is read of their bytes, and the best form that is written of it.
 
+ghost use Rattle.std.specs.Prelude.{◌≡◌, None};
+
 use crate::fields::{Kept, Value, is_kept, part_of};
 use crate::judged::{holds_scalar, is_field_part};
 use crate::same::same;
@@ -34,6 +36,7 @@ fn is_written(
     entry: &mut Entry,
     row: &Row,
 ) -> Result<(), AllocError>
+    requires { instr.now.initial ≡ None }
 {
     // no other is written
     if !is_field_part(instr) || !holds_scalar(entry) {

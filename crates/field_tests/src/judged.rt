@@ -1,11 +1,11 @@
 //! Rows on fields that are judged as they stand.
 
-ghost use Rattle.std.specs.Prelude.{◌≡◌, ◌≤◌, ◌<◌, IfOk, IsTrue, true, length};
+ghost use Rattle.std.specs.Prelude.{◌≡◌, ◌≤◌, ◌<◌, None, IfOk, IsTrue, true, length};
 ghost use Rattle.std.specs.List.{AllByRecursion};
 ghost use Rattle.fast_value.specs.Scalar.{IsScalar};
 ghost use Rattle.fast_value.specs.declared.kind.Kind.TheVariants as kind_type;
 ghost use Rattle.fast_value.specs.declared.kind.Part.TheVariants as part_type;
-ghost use Rattle.fast_template.specs.TemplateSets.{applies, IsInitial};
+ghost use Rattle.fast_template.specs.TemplateSets.{applies};
 ghost use Rattle.fast_field.specs.Parts.{IsFieldPart, IsKindOfPart};
 ghost use Rattle.fast_field.specs.Within.{HoldsScalar};
 
@@ -14,7 +14,7 @@ use crate::same::same;
 use fast_dictionary::Entry;
 use fast_relay::{Judged, judge_field};
 use fast_template::{FieldPart, Kind, Operator, Part, Presence, Scalar};
-use fast_value::{UNIT_LIMIT, is_of_kind};
+use fast_value::UNIT_LIMIT;
 use std::alloc::{AllocError, Global};
 use std::process::Abort;
 
@@ -92,24 +92,17 @@ fn has_kind(part: Part, kind: Kind) -> bool
     }
 }
 
-// Whether an initial value is one that a whole field can have.
-fn is_initial(instr: &FieldPart, value: &Scalar) -> bool
-    ensures { result ≡ true → IsInitial instr.now value.now }
-{
-    instr.part == Part::Whole && is_of_kind(instr.kind, value) && is_scalar(value)
-}
-
-// Whether a field is one of a set.
+// Whether a field with no initial value is one.
 pub(crate) fn is_field_part(instr: &FieldPart) -> bool
+    requires { instr.now.initial ≡ None }
     ensures { result ≡ true → IsFieldPart instr.now }
 {
-    let begins = match (&instr.initial, instr.operator, instr.presence) {
-        (Some(initial), _, _) => is_initial(instr, initial.value()),
-        (None, Operator::Constant, _) => false,
-        (None, Operator::Default, Presence::Mandatory) => false,
+    let needs_none = match (instr.operator, instr.presence) {
+        (Operator::Constant, _) => false,
+        (Operator::Default, Presence::Mandatory) => false,
         _ => true,
     };
-    begins && applies_to(instr.operator, instr.kind) && has_kind(instr.part, instr.kind)
+    needs_none && applies_to(instr.operator, instr.kind) && has_kind(instr.part, instr.kind)
 }
 
 // Want of memory leaves the entry as it was, and ends the test.
@@ -121,6 +114,7 @@ fn is_judged_so(
     row: &Row,
 ) -> Result<(), AllocError>
     requires part { row.now.part ≡ instr.now.part }
+    requires initial { instr.now.initial ≡ None }
 {
     let at = row.bytes.len().min(1);
     // no other is judged

@@ -2,11 +2,9 @@
 //! proof longer.
 
 use crate::fields::{Kept, Shape, Value};
-use crate::judged::is_field_part;
 use crate::same::same;
 use fast_dictionary::Entry;
-use fast_field::Passed;
-use fast_relay::pass_quickly;
+use fast_field::{Passed, pass_left_out};
 use fast_template::{FieldPart, Kind, Operator, Presence};
 use std::alloc::{AllocError, Global};
 use std::process::Abort;
@@ -26,12 +24,7 @@ fn passes_with(
     row: &Passing,
 ) -> Result<(), AllocError> {
     let mut entry = row.before.entry(alloc)?;
-    // no other is passed
-    if !is_field_part(instr) {
-        same(rt, false, true);
-        return Ok(());
-    }
-    same(rt, pass_quickly(instr.part, instr, &mut entry), row.answer);
+    same(rt, pass_left_out(instr, &mut entry), row.answer);
     same(rt, entry, row.after.entry(alloc)?);
     Ok(())
 }
@@ -87,8 +80,8 @@ fn fields_that_are_passed(rt: HostRuntime) -> Result<(), AllocError> {
         Passing {
             of: Shape::Mandatory(Kind::UInt32, Operator::Increment),
             before: Kept::Assigned(Value::U32(u32::MAX)),
-            answer: Passed::Elsewhere,
-            after: Kept::Assigned(Value::U32(u32::MAX)),
+            answer: Passed::Present,
+            after: Kept::Assigned(Value::U32(0)),
         },
         Passing {
             of: Shape::Mandatory(Kind::UInt32, Operator::Increment),
@@ -106,8 +99,8 @@ fn fields_that_are_passed(rt: HostRuntime) -> Result<(), AllocError> {
         Passing {
             of: Shape::Optional(Kind::UInt64, Operator::Increment),
             before: Kept::Assigned(Value::U64(u64::MAX)),
-            answer: Passed::Elsewhere,
-            after: Kept::Assigned(Value::U64(u64::MAX)),
+            answer: Passed::Present,
+            after: Kept::Assigned(Value::U64(0)),
         },
         Passing {
             of: Shape::Optional(Kind::Int64, Operator::Increment),
@@ -118,15 +111,15 @@ fn fields_that_are_passed(rt: HostRuntime) -> Result<(), AllocError> {
         Passing {
             of: Shape::Optional(Kind::Int64, Operator::Increment),
             before: Kept::Assigned(Value::I64(i64::MAX)),
-            answer: Passed::Elsewhere,
-            after: Kept::Assigned(Value::I64(i64::MAX)),
+            answer: Passed::Present,
+            after: Kept::Assigned(Value::I64(i64::MIN)),
         },
         // int32 increments are passed
         Passing {
             of: Shape::Mandatory(Kind::Int32, Operator::Increment),
             before: Kept::Assigned(Value::I32(i32::MAX)),
-            answer: Passed::Elsewhere,
-            after: Kept::Assigned(Value::I32(i32::MAX)),
+            answer: Passed::Present,
+            after: Kept::Assigned(Value::I32(i32::MIN)),
         },
         Passing {
             of: Shape::Mandatory(Kind::Int32, Operator::Increment),
@@ -235,6 +228,12 @@ fn fields_that_are_passed(rt: HostRuntime) -> Result<(), AllocError> {
             before: Kept::Assigned(Value::I32(63)),
             answer: Passed::Elsewhere,
             after: Kept::Assigned(Value::I32(63)),
+        },
+        Passing {
+            of: Shape::Exponent(Presence::Mandatory, Operator::Default, Some(64)),
+            before: Kept::Undefined,
+            answer: Passed::Elsewhere,
+            after: Kept::Undefined,
         },
     ];
     all_pass(&rt, rt.alloc(), ROWS)

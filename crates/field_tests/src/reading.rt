@@ -173,24 +173,6 @@ fn fields_that_are_read(rt: HostRuntime) -> Result<(), AllocError> {
                 0,
             ),
         },
-        Row {
-            of: Shape::Optional(Kind::UInt64, Operator::Increment),
-            before: Kept::Assigned(Value::U64(u64::MAX)),
-            bit: false,
-            bytes: &[],
-            wanted: Wanted::Value(Value::U64(0), Kept::Assigned(Value::U64(0)), 0),
-        },
-        Row {
-            of: Shape::Optional(Kind::Int64, Operator::Increment),
-            before: Kept::Assigned(Value::I64(i64::MAX)),
-            bit: false,
-            bytes: &[],
-            wanted: Wanted::Value(
-                Value::I64(i64::MIN),
-                Kept::Assigned(Value::I64(i64::MIN)),
-                0,
-            ),
-        },
         // copies of no value
         Row {
             of: Shape::Mandatory(Kind::Ascii, Operator::Copy),

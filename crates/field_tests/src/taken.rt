@@ -74,7 +74,11 @@ fn is_put(
     row: &Put,
 ) -> Result<(), AllocError> {
     // no other is taken
-    if instr.part != Part::Whole || !is_field_part(instr) || !holds_scalar(entry) {
+    if instr.part != Part::Whole
+        || instr.initial.is_some()
+        || !is_field_part(instr)
+        || !holds_scalar(entry)
+    {
         same(rt, false, true);
         return Ok(());
     }

@@ -2,12 +2,9 @@ use Rattle.std.proofs.Common.{arith, refl, ap, ◌∙◌}
 use Rattle.fast_value.specs.declared.kind.Kind.TheVariants as kind
 use Rattle.fast_value.specs.declared.kind.Part.TheVariants as part
 use Rattle.fast_walk.specs.Received.{length_of}
-use Rattle.fast_walk.proofs.Telling.{identifier_is, identifier_told}
+use Rattle.fast_walk.proofs.Telling.{identifier_told}
 use Rattle.fast_part.proofs.TakenKinds.{kind_taken, there_taken}
 use Rattle.fast_part.proofs.part.take_identifier.Goals as goal
-
-pub take_part-requires-clause-part : goal.take_part-requires-clause-part
-take_part-requires-clause-part g c = rw (c.requires.told) identifier_is
 
 pub unsigned_in-requires : goal.unsigned_in-requires
 unsigned_in-requires g c =

@@ -1,12 +1,8 @@
 use Rattle.std.proofs.Common.{arith, refl}
 use Rattle.fast_value.specs.declared.kind.Kind.TheVariants as kind
 use Rattle.fast_value.specs.declared.kind.Part.TheVariants as part
-use Rattle.fast_walk.proofs.Telling.{told_part}
 use Rattle.fast_part.proofs.TakenKinds.{kind_taken, there_taken}
 use Rattle.fast_part.proofs.part.take_mantissa.Goals as goal
-
-pub take_part-requires-clause-part : goal.take_part-requires-clause-part
-take_part-requires-clause-part g c = told_part part.Mantissa kind.Int64 c.args.part.now refl c.requires.told
 
 pub mantissa_in-requires-clause-kind : goal.mantissa_in-requires-clause-kind
 mantissa_in-requires-clause-kind g c =
