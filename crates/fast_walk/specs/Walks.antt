@@ -151,7 +151,7 @@ rank_of w = 4 * w.spare + 2 * length w.around.items + weight_of w.next
 abbrev pub IsInside : WalkNow → Type 0
 IsInside w = w.next ≡ next.Instruction → w.around.items ≡ [] → w.rest.now ≡ [] → ⊥
 
--- It has.
+-- It has ended.
 abbrev pub IsWhole : WalkNow → Type 0
 IsWhole w = (w.next ≡ next.Instruction) × (w.around.items ≡ []) × (w.rest.now ≡ [])
 

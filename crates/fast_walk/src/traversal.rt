@@ -304,9 +304,11 @@ impl<'a> Traversal<'a> {
             (R.stands receiver.new (templates_in self.old.set.now)) (E.contents entries.new) (drop at bytes.now) (drop n bytes.now)) }
         ensures between { OnOk result ((self.new.stage ≡ Stage.Map) × (self.new.template ≡ 0)) }
         ensures held_place { IfErr result (λ x. (at ≤ x.0) × (x.0 ≤ length bytes.now)) }
-        ensures stops { IfErr result (λ x. (x.1).cause ≢ Cause.Memory → StopsAt (LeftOf R.has R.stands R.keeps self.old receiver.old (E.contents entries.old))
+        ensures stops { IfErr result (λ x. (x.1).cause ≢ Cause.Memory → StopsAt
+            (LeftOf R.has R.stands R.keeps self.old receiver.old (E.contents entries.old))
             self.new.template x.1 (drop at bytes.now) (drop x.0 bytes.now)) }
-        ensures held { IfErr result (λ x. (x.1).cause ≡ Cause.Truncated → LeavesOn (LeftOf R.has R.stands R.keeps self.old receiver.old (E.contents entries.old))
+        ensures held { IfErr result (λ x. (x.1).cause ≡ Cause.Truncated → LeavesOn
+            (LeftOf R.has R.stands R.keeps self.old receiver.old (E.contents entries.old))
             (Continues R.has R.stands R.keeps self.new receiver.new (templates_in self.old.set.now) (E.contents entries.new))
             (drop at bytes.now) (drop x.0 bytes.now)) }
         // few bytes are left where more are wanted
@@ -349,9 +351,11 @@ impl<'a> Traversal<'a> {
             (R.stands receiver.new (templates_in self.old.set.now)) (E.contents entries.new) (drop at bytes.now) (drop n bytes.now)) }
         ensures between { OnOk result ((self.new.stage ≡ Stage.Map) × (self.new.template ≡ 0)) }
         ensures held_place { IfErr result (λ x. (at ≤ x.0) × (x.0 ≤ length bytes.now)) }
-        ensures stops { IfErr result (λ x. (x.1).cause ≢ Cause.Memory → StopsAt (LeftOf R.has R.stands R.keeps self.old receiver.old (E.contents entries.old))
+        ensures stops { IfErr result (λ x. (x.1).cause ≢ Cause.Memory → StopsAt
+            (LeftOf R.has R.stands R.keeps self.old receiver.old (E.contents entries.old))
             self.new.template x.1 (drop at bytes.now) (drop x.0 bytes.now)) }
-        ensures held { IfErr result (λ x. (x.1).cause ≡ Cause.Truncated → LeavesOn (LeftOf R.has R.stands R.keeps self.old receiver.old (E.contents entries.old))
+        ensures held { IfErr result (λ x. (x.1).cause ≡ Cause.Truncated → LeavesOn
+            (LeftOf R.has R.stands R.keeps self.old receiver.old (E.contents entries.old))
             (Continues R.has R.stands R.keeps self.new receiver.new (templates_in self.old.set.now) (E.contents entries.new))
             (drop at bytes.now) (drop x.0 bytes.now)) }
         // few bytes are left where more are wanted
@@ -407,9 +411,11 @@ impl<'a> Traversal<'a> {
             (R.stands receiver.new (templates_in self.old.set.now)) (E.contents entries.new) (drop at bytes.now) (drop n bytes.now)) }
         ensures between { OnOk result ((self.new.stage ≡ Stage.Map) × (self.new.template ≡ 0)) }
         ensures held_place { IfErr result (λ x. (at ≤ x.0) × (x.0 ≤ length bytes.now)) }
-        ensures stops { IfErr result (λ x. (x.1).cause ≢ Cause.Memory → StopsAt (LeftOf R.has R.stands R.keeps self.old receiver.old (E.contents entries.old))
+        ensures stops { IfErr result (λ x. (x.1).cause ≢ Cause.Memory → StopsAt
+            (LeftOf R.has R.stands R.keeps self.old receiver.old (E.contents entries.old))
             self.new.template x.1 (drop at bytes.now) (drop x.0 bytes.now)) }
-        ensures held { IfErr result (λ x. (x.1).cause ≡ Cause.Truncated → LeavesOn (LeftOf R.has R.stands R.keeps self.old receiver.old (E.contents entries.old))
+        ensures held { IfErr result (λ x. (x.1).cause ≡ Cause.Truncated → LeavesOn
+            (LeftOf R.has R.stands R.keeps self.old receiver.old (E.contents entries.old))
             (Continues R.has R.stands R.keeps self.new receiver.new (templates_in self.old.set.now) (E.contents entries.new))
             (drop at bytes.now) (drop x.0 bytes.now)) }
         // few bytes are left where more are wanted
