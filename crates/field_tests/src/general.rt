@@ -194,6 +194,54 @@ fn fields_that_are_spelled_at_length(rt: HostRuntime) -> Result<(), AllocError> 
             best: (true, &[0xfe, 0x81, 0x58]),
             after: Kept::Assigned(Value::Bytes(b"XSM6")),
         },
+        // numbers as identifiers and lengths are
+        Row {
+            kind: Kind::UInt32,
+            presence: Presence::Mandatory,
+            operator: Operator::Copy,
+            before: Kept::Assigned(Value::U32(5)),
+            bytes: &[0x01, 0x80],
+            best: (true, &[0x01, 0x80]),
+            after: Kept::Assigned(Value::U32(128)),
+        },
+        Row {
+            kind: Kind::UInt32,
+            presence: Presence::Optional,
+            operator: Operator::Increment,
+            before: Kept::Assigned(Value::U32(5)),
+            bytes: &[0x88],
+            best: (true, &[0x88]),
+            after: Kept::Assigned(Value::U32(7)),
+        },
+        // behind needless groups
+        Row {
+            kind: Kind::UInt32,
+            presence: Presence::Mandatory,
+            operator: Operator::Copy,
+            before: Kept::Assigned(Value::U32(5)),
+            bytes: &[0x00, 0x00, 0x87],
+            best: (true, &[0x87]),
+            after: Kept::Assigned(Value::U32(7)),
+        },
+        // no value before, and of another type
+        Row {
+            kind: Kind::UInt32,
+            presence: Presence::Mandatory,
+            operator: Operator::Copy,
+            before: Kept::Undefined,
+            bytes: &[0x87],
+            best: (true, &[0x87]),
+            after: Kept::Assigned(Value::U32(7)),
+        },
+        Row {
+            kind: Kind::UInt64,
+            presence: Presence::Mandatory,
+            operator: Operator::Copy,
+            before: Kept::Undefined,
+            bytes: &[0x87],
+            best: (true, &[0x87]),
+            after: Kept::Assigned(Value::U64(7)),
+        },
     ];
     all_rewritten(&rt, rt.alloc(), ROWS)
 }
@@ -256,6 +304,35 @@ fn fields_that_bit_0_gives(rt: HostRuntime) -> Result<(), AllocError> {
             bytes: &[0x81, 0x62],
             best: (false, &[]),
             after: Kept::Assigned(Value::Bytes(b"ab")),
+        },
+        // numbers as identifiers and lengths are
+        Row {
+            kind: Kind::UInt32,
+            presence: Presence::Mandatory,
+            operator: Operator::Copy,
+            before: Kept::Assigned(Value::U32(7)),
+            bytes: &[0x87],
+            best: (false, &[]),
+            after: Kept::Assigned(Value::U32(7)),
+        },
+        Row {
+            kind: Kind::UInt32,
+            presence: Presence::Optional,
+            operator: Operator::Increment,
+            before: Kept::Assigned(Value::U32(6)),
+            bytes: &[0x00, 0x88],
+            best: (false, &[]),
+            after: Kept::Assigned(Value::U32(7)),
+        },
+        // NULL of no value before
+        Row {
+            kind: Kind::UInt32,
+            presence: Presence::Optional,
+            operator: Operator::Copy,
+            before: Kept::Undefined,
+            bytes: &[0x80],
+            best: (false, &[]),
+            after: Kept::Empty,
         },
     ];
     all_rewritten(&rt, rt.alloc(), ROWS)
