@@ -1,5 +1,5 @@
 -- What numbers rest on that are judged as they stand.
-use Rattle.std.proofs.Common.{◌≡◌, ◌++◌, ◌≤◌, ◌+◌, ℕ, Bool, true, false, List, length, drop, slice_range, refl, rules, sym, ap, subst, ◌∙◌}
+use Rattle.std.proofs.Common.{◌≡◌, ◌++◌, ◌≤◌, ◌+◌, inl, inr, ℕ, Bool, true, false, List, length, drop, slice_range, refl, rules, sym, ap, subst, ◌∙◌}
 use Rattle.std.specs.Prelude.{ℤ, ◌+ℤ◌, Some, IsTrue}
 use Rattle.fast_wire.specs.Reader.{IsBytes}
 use Rattle.fast_value.specs.Scalar.{is_of, of_integer, scalar_eq-exact, scalar_eq-same}
@@ -20,7 +20,7 @@ use Rattle.fast_field.specs.Values.{integer_of, is_unsigned}
 use Rattle.fast_field.proofs.BestForms.{bit_zero_is_best}
 use Rattle.fast_field.proofs.BestValues.{left_out}
 use Rattle.fast_field.proofs.Passing.{increased_is, kind_is, number_back, of_kind, within_number}
-use Rattle.fast_relay.specs.Judged.{Adds, IfBehind, IfJudged, IfNotJudged, Judges, JudgesFrom, Leaves, StandsAt, StandsFrom}
+use Rattle.fast_relay.specs.Judged.{Adds, Gives, IfFound, IsBehind, IsJudged, JudgesFrom, Leaves, LeavesNumber, LeavesWhole, StandsAt, StandsFrom}
 use Rattle.fast_relay.specs.Numbers.{SpellsWhole, Spelt}
 use Rattle.fast_relay.specs.declared.judged.Judged.{Judged}
 use Rattle.fast_relay.specs.declared.judged.Judged.TheVariants.{Stands, Behind, BehindTwo, Given, Elsewhere}
@@ -32,47 +32,26 @@ use Rattle.fast_relay.proofs.Taking.{whole_takes}
 
 -- ---- what is handed on
 
-pub passed_at : (j : Judged) (next : ℕ) (P : ℕ → Type 0) → IfJudged j (λ bit n. n ≡ next) → P next → IfJudged j (λ bit n. P n)
-passed_at (Stands n) next P is p = subst P (sym is) p
-passed_at (Given n) next P is p = subst P (sym is) p
-passed_at (Behind n) next P is p = tt
-passed_at (BehindTwo n) next P is p = tt
-passed_at Elsewhere next P is p = tt
+pub found_as : (j : Judged) (next : ℕ) (P Q : Bool → Type 0) (other : Type 0) → ((bit : Bool) → P bit → Q bit) → IfFound next j P other → IfFound next j Q other
+found_as (Stands n) next P Q other h f = (f.0, h true f.1)
+found_as (Given n) next P Q other h f = (f.0, h false f.1)
+found_as (Behind n) next P Q other h f = f
+found_as (BehindTwo n) next P Q other h f = f
+found_as Elsewhere next P Q other h f = f
 
-pub judged_at : (j : Judged) (next : ℕ) (P : Bool → ℕ → Type 0) → IfJudged j (λ bit n. n ≡ next) → IfJudged j (λ bit n. P bit next) → IfJudged j P
-judged_at (Stands n) next P is p = subst (P true) (sym is) p
-judged_at (Given n) next P is p = subst (P false) (sym is) p
-judged_at (Behind n) next P is p = tt
-judged_at (BehindTwo n) next P is p = tt
-judged_at Elsewhere next P is p = tt
+pub found_judged : (j : Judged) (i : FieldPart) (old new : Entry) (bytes : List ℕ) (at next : ℕ) → at ≤ next → next ≤ length bytes → IfFound next j (λ bit. Gives bit i old new bytes at at next) (new ≡ old) → IsJudged i old new bytes at j
+found_judged (Stands n) i old new bytes at next before within f = rw (f.0) (record { place = before; within = within; gives = f.1 })
+found_judged (Given n) i old new bytes at next before within f = rw (f.0) (record { place = before; within = within; gives = f.1 })
+found_judged (Behind n) i old new bytes at next before within f = absurd f
+found_judged (BehindTwo n) i old new bytes at next before within f = absurd f
+found_judged Elsewhere i old new bytes at next before within f = f
 
-pub none_behind : (j : Judged) (P : ℕ → ℕ → Type 0) → IfBehind j (λ needless n. ⊥) → IfBehind j P
-none_behind (Stands n) P none = tt
-none_behind (Given n) P none = tt
-none_behind (Behind n) P none = absurd none
-none_behind (BehindTwo n) P none = absurd none
-none_behind Elsewhere P none = tt
-
-pub none_judged : (j : Judged) (P : Bool → ℕ → Type 0) → IfJudged j (λ bit n. ⊥) → IfJudged j P
-none_judged (Stands n) P none = absurd none
-none_judged (Given n) P none = absurd none
-none_judged (Behind n) P none = tt
-none_judged (BehindTwo n) P none = tt
-none_judged Elsewhere P none = tt
-
-pub not_elsewhere : (j : Judged) (P : Type 0) → IfNotJudged j ⊥ → IfNotJudged j P
-not_elsewhere (Stands n) P none = tt
-not_elsewhere (Given n) P none = tt
-not_elsewhere (Behind n) P none = tt
-not_elsewhere (BehindTwo n) P none = tt
-not_elsewhere Elsewhere P none = absurd none
-
-pub behind_at : (j : Judged) (at first next : ℕ) (P : ℕ → ℕ → Type 0) → IfBehind j (λ needless n. (at + needless ≡ first) × (n ≡ next)) → P first next → IfBehind j (λ needless n. P (at + needless) n)
-behind_at (Stands n) at first next P is p = tt
-behind_at (Given n) at first next P is p = tt
-behind_at (Behind n) at first next P is p = rw (is.0, is.1) p
-behind_at (BehindTwo n) at first next P is p = rw (is.0, is.1) p
-behind_at Elsewhere at first next P is p = tt
+pub behind_judged : (j : Judged) (i : FieldPart) (old new : Entry) (bytes : List ℕ) (at first next : ℕ) → first ≤ next → next ≤ length bytes → IsBehind at first next j → Gives true i old new bytes at first next → IsJudged i old new bytes at j
+behind_judged (Behind n) i old new bytes at first next before within b g = rw (b.0, ← b.1) (record { place = before; within = within; gives = g })
+behind_judged (BehindTwo n) i old new bytes at first next before within b g = rw (b.0, ← b.1) (record { place = before; within = within; gives = g })
+behind_judged (Stands n) i old new bytes at first next before within b g = absurd b
+behind_judged (Given n) i old new bytes at first next before within b g = absurd b
+behind_judged Elsewhere i old new bytes at first next before within b g = absurd b
 
 -- ---- numbers
 
@@ -101,15 +80,6 @@ whole_given k i old new z bytes at first next same o h s l =
       },
     )
 
-pub whole_judged : (j : Judged) (u : Bool) (k : Kind) (i : FieldPart) (old new : Entry) (z : ℤ) (bytes : List ℕ) (at first next : ℕ) → k ≡ i.kind → (SpellsWhole i.operator → u ≡ is_unsigned k) → StandsFrom u i.presence bytes at first next z
-    → IfJudged j (λ bit n. SpellsWhole i.operator) → IfJudged j (λ bit n. IsFieldNumber k i.part z) → IfJudged j (λ bit n. Leaves bit i old new (of_integer k z))
-    → IfJudged j (λ bit n. (v : Scalar) × JudgesFrom bit i old new v bytes at first next)
-whole_judged (Stands n) u k i old new z bytes at first next same sign s o h l = (of_integer k z, whole_stands k i old new z bytes at first next same o h (rw (sign o) at s) l)
-whole_judged (Given n) u k i old new z bytes at first next same sign s o h l = (of_integer k z, whole_given k i old new z bytes at first next same o h (rw (sign o) at s) l)
-whole_judged (Behind n) u k i old new z bytes at first next same sign s o h l = tt
-whole_judged (BehindTwo n) u k i old new z bytes at first next same sign s o h l = tt
-whole_judged Elsewhere u k i old new z bytes at first next same sign s o h l = tt
-
 pub delta_stands : (k : Kind) (i : FieldPart) (old new : Entry) (d : ℤ) (bytes : List ℕ) (at first next : ℕ) → k ≡ i.kind → i.operator ≡ operator.Delta → Adds k i.part d old new → StandsFrom false i.presence bytes at first next d
     → (v : Scalar) × JudgesFrom true i old new v bytes at first next
 delta_stands k i old new d bytes at first next same o h s = (
@@ -120,7 +90,13 @@ delta_stands k i old new d bytes at first next same o h s = (
       (form, refl, shortest_signed i.presence d form s.form s.short),
 )
 
-pub nothing_stands : (i : FieldPart) (e : Entry) (v : Scalar) (bytes : List ℕ) (at : ℕ) → ((bytes out : List ℕ) → Relays i e e v bytes bytes out out) → Judges true i e e v bytes at at
+pub number_gives : (bit u : Bool) (k : Kind) (i : FieldPart) (old new : Entry) (z : ℤ) (bytes : List ℕ) (at first next : ℕ) → k ≡ i.kind → (i.operator ≡ operator.Delta → u ≡ false) → (SpellsWhole i.operator → u ≡ is_unsigned k) → StandsFrom u i.presence bytes at first next z → LeavesNumber bit k i.part i old new z
+    → Gives bit i old new bytes at first next
+number_gives true u k i old new z bytes at first next same delta whole s (inl l) = (of_integer k z, whole_stands k i old new z bytes at first next same l.whole l.number (rw (whole l.whole) at s) l.leaves)
+number_gives false u k i old new z bytes at first next same delta whole s (inl l) = (of_integer k z, whole_given k i old new z bytes at first next same l.whole l.number (rw (whole l.whole) at s) l.leaves)
+number_gives bit u k i old new z bytes at first next same delta whole s (inr h) = rw (h.1) (delta_stands k i old new z bytes at first next same h.0 h.2 (rw (delta h.0) at s))
+
+pub nothing_stands : (i : FieldPart) (e : Entry) (v : Scalar) (bytes : List ℕ) (at : ℕ) → ((bytes out : List ℕ) → Relays i e e v bytes bytes out out) → JudgesFrom true i e e v bytes at at at
 nothing_stands i e v bytes at h = λ out.
     let rest = drop at bytes in
     subst (λ (after : List ℕ). Relays i e e v rest rest out after) (sym (settled bytes out at)) (h rest out)

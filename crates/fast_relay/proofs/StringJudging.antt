@@ -16,7 +16,7 @@ use Rattle.fast_dictionary.specs.declared.entry.Entry.TheVariants.{Assigned}
 use Rattle.fast_field.specs.Bases.{next as next_entry, next_of}
 use Rattle.fast_field.specs.CommonParts.{IsLongestPrefix, SharesEnd}
 use Rattle.fast_field.specs.Planning.{left_out_of}
-use Rattle.fast_relay.specs.Judged.{Judges, JudgesFrom, StandsAt}
+use Rattle.fast_relay.specs.Judged.{JudgesFrom, StandsAt}
 use Rattle.fast_relay.specs.Numbers.{KeepsNothing, SpellsWhole}
 use Rattle.fast_relay.proofs.Giving.{tail_drops}
 use Rattle.fast_relay.proofs.PlainTexts.{characters_text, cut_read, plain_delta_relays, plain_relays, plain_tail_relays, tail_read}
@@ -42,7 +42,7 @@ pub cut_stands : (i : FieldPart) (base bytes : List ℕ) (r at first next : ℕ)
     → (length base - r) + length (slice_range bytes first next) ≤ 65535 → StandsAt false i.presence bytes at first (pos r) → IsPlain (drop first bytes) (slice_range bytes first next) (drop next bytes)
     → IsLongestPrefix base (take (length base - r) base ++ groups (slice_range bytes first next)) (length base - r)
     → SharesEnd base (take (length base - r) base ++ groups (slice_range bytes first next)) (length base - r)
-    → Judges true i (Assigned (Ascii base)) (Assigned (Ascii (take (length base - r) base ++ groups (slice_range bytes first next)))) (Ascii (take (length base - r) base ++ groups (slice_range bytes first next))) bytes at next
+    → JudgesFrom true i (Assigned (Ascii base)) (Assigned (Ascii (take (length base - r) base ++ groups (slice_range bytes first next)))) (Ascii (take (length base - r) base ++ groups (slice_range bytes first next))) bytes at at next
 cut_stands i base bytes r at first next k whole o characters few le before behind short s h prefix suffix = λ out.
     let removal = slice_range bytes at first in
     let form = slice_range bytes first next in
@@ -54,7 +54,7 @@ cut_stands i base bytes r at first next k whole o characters few le before behin
 
 pub end_stands : (i : FieldPart) (base bytes : List ℕ) (n at next : ℕ) → i.kind ≡ kind.Ascii → i.part ≡ part.Whole → i.operator ≡ operator.Tail → AreCharacters base → n + length (slice_range bytes at next) ≡ length base
     → IsPlain (drop at bytes) (slice_range bytes at next) (drop next bytes) → IsLongestPrefix base (take n base ++ groups (slice_range bytes at next)) n
-    → Judges true i (Assigned (Ascii base)) (Assigned (Ascii (take n base ++ groups (slice_range bytes at next)))) (Ascii (take n base ++ groups (slice_range bytes at next))) bytes at next
+    → JudgesFrom true i (Assigned (Ascii base)) (Assigned (Ascii (take n base ++ groups (slice_range bytes at next)))) (Ascii (take n base ++ groups (slice_range bytes at next))) bytes at at next
 end_stands i base bytes n at next k whole o characters is h prefix = λ out.
     let form = slice_range bytes at next in
     plain_tail_relays i base n (drop at bytes) form (drop next bytes) out (out ++ form) k whole o (characters_text base characters) characters.0 is
@@ -62,7 +62,7 @@ end_stands i base bytes n at next k whole o characters is h prefix = λ out.
 
 pub end_given : (i : FieldPart) (base bytes : List ℕ) (at next : ℕ) → i.kind ≡ kind.Ascii → i.part ≡ part.Whole → i.operator ≡ operator.Tail → length base ≤ 65535 → length (slice_range bytes at next) ≤ length base
     → IsPlain (drop at bytes) (slice_range bytes at next) (drop next bytes) → drop (length base - length (slice_range bytes at next)) base ≡ groups (slice_range bytes at next)
-    → Judges false i (Assigned (Ascii base)) (Assigned (Ascii base)) (Ascii base) bytes at next
+    → JudgesFrom false i (Assigned (Ascii base)) (Assigned (Ascii base)) (Ascii base) bytes at at next
 end_given i base bytes at next k whole o short le h same =
     let form = slice_range bytes at next in
     (rw k refl, tail_drops i base (drop at bytes) form (drop next bytes) k whole o (tail_read i base (drop at bytes) form (drop next bytes) k short le h) same)

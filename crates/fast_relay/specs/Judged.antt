@@ -1,9 +1,10 @@
 -- A field whose bytes are judged as they stand: they are the best form of their value, or bit 0 is. (Own.)
-use Rattle.std.specs.Prelude.{◌≡◌, ◌≤◌, ◌+ℤ◌, ℕ, ℤ, Bool, true, false, not, List, ◌++◌, drop, slice_range, Some, Ok, IsTrue, ⊤}
+use Rattle.std.specs.Prelude.{◌≡◌, ◌≤◌, ◌+◌, ◌+ℤ◌, ◌⊎◌, ℕ, ℤ, Bool, true, false, not, List, ◌++◌, length, drop, slice_range, Some, Ok, IsTrue}
 use Rattle.fast_wire.specs.declared.level.Level.TheVariants.{Usual}
 use Rattle.fast_wire.specs.declared.nullable.Nullable.TheVariants.{Value}
 use Rattle.fast_value.specs.Scalar.{is_of, of_integer}
 use Rattle.fast_value.specs.declared.kind.Kind.{Kind}
+use Rattle.fast_value.specs.declared.kind.Operator.TheVariants as operator
 use Rattle.fast_value.specs.declared.kind.Part.{Part}
 use Rattle.fast_value.specs.declared.kind.Presence.{Presence}
 use Rattle.fast_value.specs.declared.kind.Presence.TheVariants.{Mandatory, Optional}
@@ -18,7 +19,7 @@ use Rattle.fast_field.specs.Numbers.{HasNumber, IsFieldNumber}
 use Rattle.fast_field.specs.Planning.{left_out_of}
 use Rattle.fast_field.specs.Spelled.{SpellsIntegerUsually, overlong_number}
 use Rattle.fast_field.specs.Values.{of_units}
-use Rattle.fast_relay.specs.Numbers.{Spelt}
+use Rattle.fast_relay.specs.Numbers.{SpellsWhole, Spelt}
 use Rattle.fast_relay.specs.Relayed.{Drops, Relays}
 use Rattle.fast_relay.specs.Texts.{IsText}
 use Rattle.fast_relay.specs.declared.judged.Judged.{Judged}
@@ -32,35 +33,41 @@ JudgesFrom true i old new v bytes at first next =
 JudgesFrom false i old new v bytes at first next =
     IsTrue (is_of i.kind v) × Drops i old new (Some v) (drop at bytes) (drop next bytes)
 
--- the same, where the best form is all of them as they stand
-abbrev pub Judges : Bool → FieldPart → Entry → Entry → Scalar → List ℕ → ℕ → ℕ → Type 0
-Judges bit i old new v bytes at next = JudgesFrom bit i old new v bytes at at next
+-- the same of some value
+abbrev pub Gives : Bool → FieldPart → Entry → Entry → List ℕ → ℕ → ℕ → ℕ → Type 0
+Gives bit i old new bytes at first next = (v : Scalar) × JudgesFrom bit i old new v bytes at first next
 
--- what holds of the bit of the best form and of the place behind what was read, where a field was judged whose bytes are
--- the best form as they stand, or bit 0 is
-abbrev pub IfJudged : Judged → (Bool → ℕ → Type 0) → Type 0
-IfJudged (Stands next) holds = holds true next
-IfJudged (Behind next) holds = ⊤
-IfJudged (BehindTwo next) holds = ⊤
-IfJudged (Given next) holds = holds false next
-IfJudged Elsewhere holds = ⊤
+-- the bytes from one place to another, which are there, give a value and leave the entry afterwards: those from `first` on are
+-- the value's best form, or bit 0 is
+pub record JudgedTo (bit : Bool) (i : FieldPart) (old new : Entry) (bytes : List ℕ) (at first next : ℕ) : Type 0 where
+  pub place : first ≤ next
+  pub within : next ≤ length bytes
+  pub gives : Gives bit i old new bytes at first next
 
--- what holds of how many bytes in front are needless, and of the place behind what was read, where the best form stands
--- behind the first byte or two
-abbrev pub IfBehind : Judged → (ℕ → ℕ → Type 0) → Type 0
-IfBehind (Behind next) holds = holds 1 next
-IfBehind (BehindTwo next) holds = holds 2 next
-IfBehind j holds = ⊤
-
--- what holds where it was not
-abbrev pub IfNotJudged : Judged → Type 0 → Type 0
-IfNotJudged (Stands next) holds = ⊤
-IfNotJudged (Behind next) holds = ⊤
-IfNotJudged (BehindTwo next) holds = ⊤
-IfNotJudged (Given next) holds = ⊤
-IfNotJudged Elsewhere holds = holds
+-- what is answered of a field that was read under bit 1: its best form is the bytes as they stand, or those behind the first
+-- one or two, or bit 0; or nothing has changed
+abbrev pub IsJudged : FieldPart → Entry → Entry → List ℕ → ℕ → Judged → Type 0
+IsJudged i old new bytes at (Stands next) = JudgedTo true i old new bytes at at next
+IsJudged i old new bytes at (Behind next) = JudgedTo true i old new bytes at (at + 1) next
+IsJudged i old new bytes at (BehindTwo next) = JudgedTo true i old new bytes at (at + 2) next
+IsJudged i old new bytes at (Given next) = JudgedTo false i old new bytes at at next
+IsJudged i old new bytes at Elsewhere = new ≡ old
 
 -- ---- No public clause names these.
+
+-- what holds of the bit of the best form, where what was read up to a place was judged, and what holds where it was not
+abbrev pub IfFound : ℕ → Judged → (Bool → Type 0) → Type 0 → Type 0
+IfFound next (Stands n) holds other = (n ≡ next) × holds true
+IfFound next (Given n) holds other = (n ≡ next) × holds false
+IfFound next (Behind n) holds other = ⊥
+IfFound next (BehindTwo n) holds other = ⊥
+IfFound next Elsewhere holds other = other
+
+-- the best form stands behind the first byte or two, from a place on
+abbrev pub IsBehind : ℕ → ℕ → ℕ → Judged → Type 0
+IsBehind at first next (Behind n) = (n ≡ next) × (first ≡ at + 1)
+IsBehind at first next (BehindTwo n) = (n ≡ next) × (first ≡ at + 2)
+IsBehind at first next j = ⊥
 
 -- a difference is added to the number that the entry has, and the sum is one that the field can have
 pub record Adds (k : Kind) (p : Part) (d : ℤ) (old new : Entry) : Type 0 where
@@ -104,3 +111,14 @@ pub record PairStandsFrom (p : Presence) (bytes : List ℕ) (at first next : ℕ
 pub record Leaves (bit : Bool) (i : FieldPart) (old new : Entry) (v : Scalar) : Type 0 where
   pub entry : new ≡ next i old (Some v)
   pub left_out : left_out_of i.operator i old (Some v) ≡ not bit
+
+-- the same of a number that was spelled whole, and is one that the field can have
+pub record LeavesWhole (bit : Bool) (k : Kind) (p : Part) (i : FieldPart) (old new : Entry) (z : ℤ) : Type 0 where
+  pub whole : SpellsWhole i.operator
+  pub number : IsFieldNumber k p z
+  pub leaves : Leaves bit i old new (of_integer k z)
+
+-- the same of a number that was spelled whole, or added to the one that the entry has
+abbrev pub LeavesNumber : Bool → Kind → Part → FieldPart → Entry → Entry → ℤ → Type 0
+LeavesNumber bit k p i old new z =
+    LeavesWhole bit k p i old new z ⊎ ((i.operator ≡ operator.Delta) × (bit ≡ true) × Adds k p z old new)

@@ -2,11 +2,10 @@
 //! and nothing is written. Here are integers and constants, and the way to the others; what is not judged goes by the calls
 //! that write.
 
-ghost use Rattle.std.specs.Prelude.{◌≡◌, ◌≤◌, ◌+◌, Some, true, false, not, length, drop, slice_range, IfSome};
+ghost use Rattle.std.specs.Prelude.{◌≡◌, ◌≤◌, ◌+◌, Some, true, false, not, length, drop, slice_range, IfSome, ⊤};
 ghost use Rattle.fast_value.specs.Scalar.{of_integer};
 ghost use Rattle.fast_value.specs.declared.kind.Operator.TheVariants as operator_type;
 ghost use Rattle.fast_value.specs.declared.kind.Part.TheVariants as part_type;
-ghost use Rattle.fast_value.specs.declared.scalar.Scalar.{Scalar as ScalarOf};
 ghost use Rattle.fast_wire.specs.Entity.{IsEntity};
 ghost use Rattle.fast_field.specs.Numbers.{IsFieldNumber, IsNumber, Predicts};
 ghost use Rattle.fast_field.specs.Parts.{IsFieldPart};
@@ -14,7 +13,7 @@ ghost use Rattle.fast_field.specs.Planning.{is_same};
 ghost use Rattle.fast_field.specs.Spelled.{overlong_number};
 ghost use Rattle.fast_field.specs.Values as values;
 ghost use Rattle.fast_field.specs.Within.{HoldsScalar};
-ghost use Rattle.fast_relay.specs.Judged.{Adds, IfBehind, IfJudged, IfNotJudged, Judges, JudgesFrom, Leaves, StandsAt, StandsFrom};
+ghost use Rattle.fast_relay.specs.Judged.{Adds, IfFound, IsBehind, IsJudged, Leaves, LeavesNumber, LeavesWhole, StandsAt, StandsFrom};
 ghost use Rattle.fast_relay.specs.Numbers.{SpellsWhole, Spelt};
 
 use crate::integers::{is_overlong, is_unsigned, read_signed, read_unsigned};
@@ -135,9 +134,7 @@ pub(crate) fn read_shortest(
 #[inline(always)]
 fn judge_initial<T: ShortInteger>(instr: &FieldPart, number: i64, next: usize) -> Judged
     requires { IsNumber T.kind number }
-    ensures place { IfJudged result (λ bit n. n ≡ next) }
-    ensures same { IfJudged result (λ bit n. is_same instr.now.initial (Some (of_integer T.kind number)) ≡ not bit) }
-    ensures behind { IfBehind result (λ needless n. ⊥) }
+    ensures { IfFound next result (λ bit. is_same instr.now.initial (Some (of_integer T.kind number)) ≡ not bit) ⊤ }
 {
     match &instr.initial {
         None => Judged::Stands(next),
@@ -161,10 +158,8 @@ fn judge_first<T: ShortInteger>(
     requires predicts { Predicts instr.now.operator }
     requires whole { SpellsWhole instr.now.operator }
     requires number { IsNumber T.kind number }
-    ensures place { IfJudged result (λ bit n. n ≡ next) }
-    ensures leaves { IfJudged result (λ bit n. Leaves bit instr.now entry.old entry.new (of_integer T.kind number)) }
-    ensures behind { IfBehind result (λ needless n. ⊥) }
-    ensures entry { IfNotJudged result (entry.new ≡ entry.old) }
+    ensures { IfFound next result (λ bit. Leaves bit instr.now entry.old entry.new (of_integer T.kind number))
+        (entry.new ≡ entry.old) }
 {
     match entry {
         Entry::Empty => {
@@ -199,10 +194,8 @@ fn judge_copy<T: ShortInteger>(
     requires kind { T.kind ≡ instr.now.kind }
     requires operator { instr.now.operator ≡ operator_type.Copy }
     requires number { IsNumber T.kind number }
-    ensures place { IfJudged result (λ bit n. n ≡ next) }
-    ensures leaves { IfJudged result (λ bit n. Leaves bit instr.now entry.old entry.new (of_integer T.kind number)) }
-    ensures behind { IfBehind result (λ needless n. ⊥) }
-    ensures entry { IfNotJudged result (entry.new ≡ entry.old) }
+    ensures { IfFound next result (λ bit. Leaves bit instr.now entry.old entry.new (of_integer T.kind number))
+        (entry.new ≡ entry.old) }
 {
     let Some(kept) = T::kept(entry) else {
         return judge_first::<T>(instr, entry, number, next);
@@ -225,10 +218,8 @@ fn judge_increment<T: ShortInteger>(
     requires kind { T.kind ≡ instr.now.kind }
     requires operator { instr.now.operator ≡ operator_type.Increment }
     requires number { IsNumber T.kind number }
-    ensures place { IfJudged result (λ bit n. n ≡ next) }
-    ensures leaves { IfJudged result (λ bit n. Leaves bit instr.now entry.old entry.new (of_integer T.kind number)) }
-    ensures behind { IfBehind result (λ needless n. ⊥) }
-    ensures entry { IfNotJudged result (entry.new ≡ entry.old) }
+    ensures { IfFound next result (λ bit. Leaves bit instr.now entry.old entry.new (of_integer T.kind number))
+        (entry.new ≡ entry.old) }
 {
     let Some(kept) = T::kept(entry) else {
         return judge_first::<T>(instr, entry, number, next);
@@ -255,11 +246,8 @@ fn judge_read<T: ShortInteger>(
 ) -> Judged
     requires kind { T.kind ≡ instr.now.kind }
     requires number { IsNumber T.kind number }
-    ensures place { IfJudged result (λ bit n. n ≡ next) }
-    ensures whole { IfJudged result (λ bit n. SpellsWhole instr.now.operator) }
-    ensures leaves { IfJudged result (λ bit n. Leaves bit instr.now entry.old entry.new (of_integer T.kind number)) }
-    ensures behind { IfBehind result (λ needless n. ⊥) }
-    ensures entry { IfNotJudged result (entry.new ≡ entry.old) }
+    ensures { IfFound next result (λ bit. SpellsWhole instr.now.operator
+        × Leaves bit instr.now entry.old entry.new (of_integer T.kind number)) (entry.new ≡ entry.old) }
 {
     match instr.operator {
         Operator::Plain => Judged::Stands(next),
@@ -280,12 +268,8 @@ fn judge_as<T: ShortInteger>(
     next: usize,
 ) -> Judged
     requires kind { T.kind ≡ instr.now.kind }
-    ensures place { IfJudged result (λ bit n. n ≡ next) }
-    ensures whole { IfJudged result (λ bit n. SpellsWhole instr.now.operator) }
-    ensures number { IfJudged result (λ bit n. IsFieldNumber T.kind which number) }
-    ensures leaves { IfJudged result (λ bit n. Leaves bit instr.now entry.old entry.new (of_integer T.kind number)) }
-    ensures behind { IfBehind result (λ needless n. ⊥) }
-    ensures entry { IfNotJudged result (entry.new ≡ entry.old) }
+    ensures { IfFound next result (λ bit. LeavesWhole bit T.kind which instr.now entry.old entry.new number)
+        (entry.new ≡ entry.old) }
 {
     if T::is_field_number(which, number) {
         judge_read::<T>(instr, entry, number, next)
@@ -305,12 +289,8 @@ fn judge_whole(
     next: usize,
 ) -> Judged
     requires kind { kind ≡ instr.now.kind }
-    ensures place { IfJudged result (λ bit n. n ≡ next) }
-    ensures whole { IfJudged result (λ bit n. SpellsWhole instr.now.operator) }
-    ensures number { IfJudged result (λ bit n. IsFieldNumber kind which number) }
-    ensures leaves { IfJudged result (λ bit n. Leaves bit instr.now entry.old entry.new (of_integer kind number)) }
-    ensures behind { IfBehind result (λ needless n. ⊥) }
-    ensures entry { IfNotJudged result (entry.new ≡ entry.old) }
+    ensures { IfFound next result (λ bit. LeavesWhole bit kind which instr.now entry.old entry.new number)
+        (entry.new ≡ entry.old) }
 {
     match kind {
         Kind::UInt32 => judge_as::<u32>(which, instr, entry, number, next),
@@ -367,63 +347,6 @@ fn is_sent_unsigned(kind: Kind, operator: Operator) -> bool
     }
 }
 
-/// Judges a number that was read, where bit 1 spells it whole.
-#[inline(always)]
-fn judge_spelled(
-    unsigned: bool,
-    kind: Kind,
-    which: Part,
-    instr: &FieldPart,
-    entry: &mut Entry,
-    number: i64,
-    bytes: &[u8],
-    at: usize,
-    first: usize,
-    next: usize,
-) -> Judged
-    requires part { which ≡ instr.now.part }
-    requires kind { kind ≡ instr.now.kind }
-    requires whole { SpellsWhole instr.now.operator → unsigned ≡ values.is_unsigned kind }
-    requires stands { StandsFrom unsigned instr.now.presence bytes.now at first next number }
-    ensures place { IfJudged result (λ bit n. n ≡ next) }
-    ensures judged { IfJudged result (λ bit n. (v : ScalarOf)
-        × JudgesFrom bit instr.now entry.old entry.new v bytes.now at first next) }
-    ensures behind { IfBehind result (λ needless n. ⊥) }
-    ensures entry { IfNotJudged result (entry.new ≡ entry.old) }
-{
-    judge_whole(kind, which, instr, entry, number, next)
-}
-
-/// Judges what is added to the number that the entry has, and was read.
-#[inline(always)]
-fn judge_delta(
-    kind: Kind,
-    which: Part,
-    instr: &FieldPart,
-    entry: &mut Entry,
-    delta: i64,
-    bytes: &[u8],
-    at: usize,
-    first: usize,
-    next: usize,
-) -> Judged
-    requires part { which ≡ instr.now.part }
-    requires kind { kind ≡ instr.now.kind }
-    requires operator { instr.now.operator ≡ operator_type.Delta }
-    requires stands { StandsFrom false instr.now.presence bytes.now at first next delta }
-    ensures place { IfJudged result (λ bit n. n ≡ next) }
-    ensures judged { IfJudged result (λ bit n. (v : ScalarOf)
-        × JudgesFrom bit instr.now entry.old entry.new v bytes.now at first next) }
-    ensures behind { IfBehind result (λ needless n. ⊥) }
-    ensures entry { IfNotJudged result (entry.new ≡ entry.old) }
-{
-    if add(kind, which, entry, delta) {
-        Judged::Stands(next)
-    } else {
-        Judged::Elsewhere
-    }
-}
-
 /// Judges a constant, which has no bytes.
 #[inline(always)]
 fn judge_constant(which: Part, instr: &FieldPart, entry: &Entry, bytes: &[u8], at: usize) -> Judged
@@ -431,10 +354,7 @@ fn judge_constant(which: Part, instr: &FieldPart, entry: &Entry, bytes: &[u8], a
     requires which { which ≡ instr.now.part }
     requires part { IsFieldPart instr.now }
     requires operator { instr.now.operator ≡ operator_type.Constant }
-    ensures place { IfJudged result (λ bit next. (at ≤ next) × (next ≤ length bytes.now)) }
-    ensures judged { IfJudged result (λ bit next. (v : ScalarOf)
-        × Judges bit instr.now entry.now entry.now v bytes.now at next) }
-    ensures behind { IfBehind result (λ needless next. ⊥) }
+    ensures { IsJudged instr.now entry.now entry.now bytes.now at result }
 {
     match &instr.initial {
         Some(initial) if can_begin(which, instr, initial.value()) => Judged::Stands(at),
@@ -442,36 +362,29 @@ fn judge_constant(which: Part, instr: &FieldPart, entry: &Entry, bytes: &[u8], a
     }
 }
 
-/// Judges a number that was read, whose shortest form are the bytes from `first` on.
+/// Judges a number that was read: it was spelled whole, or is added to the one that the entry has.
 #[inline(always)]
 fn judge_number(
-    unsigned: bool,
     kind: Kind,
     which: Part,
     instr: &FieldPart,
     entry: &mut Entry,
     number: i64,
-    bytes: &[u8],
-    at: usize,
-    first: usize,
     next: usize,
 ) -> Judged
-    requires part { which ≡ instr.now.part }
     requires kind { kind ≡ instr.now.kind }
-    requires delta { instr.now.operator ≡ operator_type.Delta → unsigned ≡ false }
-    requires whole { SpellsWhole instr.now.operator → unsigned ≡ values.is_unsigned kind }
-    requires stands { StandsFrom unsigned instr.now.presence bytes.now at first next number }
-    ensures place { IfJudged result (λ bit n. n ≡ next) }
-    ensures judged { IfJudged result (λ bit n. (v : ScalarOf)
-        × JudgesFrom bit instr.now entry.old entry.new v bytes.now at first next) }
-    ensures behind { IfBehind result (λ needless n. ⊥) }
-    ensures entry { IfNotJudged result (entry.new ≡ entry.old) }
+    ensures { IfFound next result (λ bit. LeavesNumber bit kind which instr.now entry.old entry.new number)
+        (entry.new ≡ entry.old) }
 {
     match instr.operator {
-        Operator::Delta => judge_delta(kind, which, instr, entry, number, bytes, at, first, next),
-        _ => judge_spelled(
-            unsigned, kind, which, instr, entry, number, bytes, at, first, next,
-        ),
+        Operator::Delta => {
+            if add(kind, which, entry, number) {
+                Judged::Stands(next)
+            } else {
+                Judged::Elsewhere
+            }
+        }
+        _ => judge_whole(kind, which, instr, entry, number, next),
     }
 }
 
@@ -536,9 +449,7 @@ pub(crate) fn read_behind(
 #[inline(always)]
 pub(crate) fn behind(at: usize, first: usize, next: usize) -> Judged
     requires first { (at + 1 ≤ first) × (first ≤ at + 2) }
-    ensures judged { IfJudged result (λ bit n. ⊥) }
-    ensures place { IfBehind result (λ needless n. (at + needless ≡ first) × (n ≡ next)) }
-    ensures other { IfNotJudged result ⊥ }
+    ensures { IsBehind at first next result }
 {
     if first == at + 1 {
         Judged::Behind(next)
@@ -569,21 +480,13 @@ fn judge_behind(
     requires whole { SpellsWhole instr.now.operator → unsigned ≡ values.is_unsigned kind }
     requires spelt { Spelt unsigned instr.now.presence (drop at bytes.now) number (drop next bytes.now) }
     requires long { overlong_number unsigned (slice_range bytes.now at next) ≡ true }
-    ensures place { IfJudged result (λ bit next. (at ≤ next) × (next ≤ length bytes.now)) }
-    ensures judged { IfJudged result (λ bit next. (v : ScalarOf)
-        × Judges bit instr.now entry.old entry.new v bytes.now at next) }
-    ensures behind_place { IfBehind result (λ needless next. (at + needless ≤ next) × (next ≤ length bytes.now)) }
-    ensures behind { IfBehind result (λ needless next. (v : ScalarOf)
-        × JudgesFrom true instr.now entry.old entry.new v bytes.now at (at + needless) next) }
-    ensures entry { IfNotJudged result (entry.new ≡ entry.old) }
+    ensures { IsJudged instr.now entry.old entry.new bytes.now at result }
 {
     let (first, stands) = find_behind(unsigned, instr.presence, number, bytes, at, next);
     if !stands {
         return Judged::Elsewhere;
     }
-    match judge_number(
-        unsigned, kind, which, instr, entry, number, bytes, at, first, next,
-    ) {
+    match judge_number(kind, which, instr, entry, number, next) {
         Judged::Stands(_next) => behind(at, first, next),
         Judged::Given(_next) => Judged::Given(next),
         Judged::Behind(_) | Judged::BehindTwo(_) => unreachable!(),
@@ -616,13 +519,7 @@ fn judge_integer(
     requires place { at ≤ length bytes.now }
     requires part { which ≡ instr.now.part }
     requires kind { kind ≡ instr.now.kind }
-    ensures place { IfJudged result (λ bit next. (at ≤ next) × (next ≤ length bytes.now)) }
-    ensures judged { IfJudged result (λ bit next. (v : ScalarOf)
-        × Judges bit instr.now entry.old entry.new v bytes.now at next) }
-    ensures behind_place { IfBehind result (λ needless next. (at + needless ≤ next) × (next ≤ length bytes.now)) }
-    ensures behind { IfBehind result (λ needless next. (v : ScalarOf)
-        × JudgesFrom true instr.now entry.old entry.new v bytes.now at (at + needless) next) }
-    ensures entry { IfNotJudged result (entry.new ≡ entry.old) }
+    ensures { IsJudged instr.now entry.old entry.new bytes.now at result }
 {
     if !can_have(which, kind) {
         return Judged::Elsewhere;
@@ -633,9 +530,7 @@ fn judge_integer(
         return Judged::Elsewhere;
     };
     if stands_shortest(unsigned, instr.presence, number, bytes, at, next) {
-        judge_number(
-            unsigned, kind, which, instr, entry, number, bytes, at, at, next,
-        )
+        judge_number(kind, which, instr, entry, number, next)
     } else {
         judge_behind(unsigned, which, kind, instr, entry, number, bytes, at, next)
     }
@@ -654,13 +549,7 @@ fn judge_long(
     requires place { at ≤ length bytes.now }
     requires part { which ≡ instr.now.part }
     requires kept { HoldsScalar entry.now }
-    ensures place { IfJudged result (λ bit next. (at ≤ next) × (next ≤ length bytes.now)) }
-    ensures judged { IfJudged result (λ bit next. (v : ScalarOf)
-        × Judges bit instr.now entry.old entry.new v bytes.now at next) }
-    ensures behind_place { IfBehind result (λ needless next. (at + needless ≤ next) × (next ≤ length bytes.now)) }
-    ensures behind { IfBehind result (λ needless next. (v : ScalarOf)
-        × JudgesFrom true instr.now entry.old entry.new v bytes.now at (at + needless) next) }
-    ensures entry { IfNotJudged result (entry.new ≡ entry.old) }
+    ensures { IsJudged instr.now entry.old entry.new bytes.now at result }
 {
     match which {
         Part::Whole => match instr.kind {
@@ -688,13 +577,7 @@ pub fn judge_field(
     requires which { which ≡ instr.now.part }
     requires part { IsFieldPart instr.now }
     requires kept { HoldsScalar entry.now }
-    ensures place { IfJudged result (λ bit next. (at ≤ next) × (next ≤ length bytes.now)) }
-    ensures judged { IfJudged result (λ bit next. (v : ScalarOf)
-        × Judges bit instr.now entry.old entry.new v bytes.now at next) }
-    ensures behind_place { IfBehind result (λ needless next. (at + needless ≤ next) × (next ≤ length bytes.now)) }
-    ensures behind { IfBehind result (λ needless next. (v : ScalarOf)
-        × JudgesFrom true instr.now entry.old entry.new v bytes.now at (at + needless) next) }
-    ensures entry { IfNotJudged result (entry.new ≡ entry.old) }
+    ensures { IsJudged instr.now entry.old entry.new bytes.now at result }
 {
     match instr.operator {
         Operator::Constant => judge_constant(which, instr, entry, bytes, at),

@@ -6,10 +6,9 @@ ghost use Rattle.fast_value.specs.Scalar.{exponent_in_range, in_range};
 ghost use Rattle.fast_value.specs.declared.kind.Kind.TheVariants as kind_type;
 ghost use Rattle.fast_value.specs.declared.kind.Operator.TheVariants as operator_type;
 ghost use Rattle.fast_value.specs.declared.kind.Part.TheVariants as part_type;
-ghost use Rattle.fast_value.specs.declared.scalar.Scalar.{Scalar as ScalarOf};
 ghost use Rattle.fast_value.specs.declared.scalar.Scalar.TheVariants as scalar;
 ghost use Rattle.fast_dictionary.specs.declared.entry.Entry.TheVariants as entry_type;
-ghost use Rattle.fast_relay.specs.Judged.{IfBehind, IfJudged, IfNotJudged, Judges, JudgesFrom, Leaves, PairStandsFrom, StandsAt};
+ghost use Rattle.fast_relay.specs.Judged.{Gives, IfFound, IsJudged, Leaves, PairStandsFrom, StandsAt};
 ghost use Rattle.fast_relay.specs.Numbers.{SpellsWhole};
 
 use crate::judged::{Judged, behind, read_behind, read_shortest};
@@ -212,11 +211,8 @@ fn judge_decimal_whole(
     requires operator { SpellsWhole instr.now.operator }
     requires kind { instr.now.kind ≡ kind_type.Decimal }
     requires stands { PairStandsFrom instr.now.presence bytes.now at first next exponent mantissa }
-    ensures place { IfJudged result (λ bit n. n ≡ next) }
-    ensures judged { IfJudged result (λ bit n. (v : ScalarOf)
-        × JudgesFrom bit instr.now entry.old entry.new v bytes.now at first next) }
-    ensures behind { IfBehind result (λ needless n. ⊥) }
-    ensures entry { IfNotJudged result (entry.new ≡ entry.old) }
+    ensures { IfFound next result (λ bit. Gives bit instr.now entry.old entry.new bytes.now at first next)
+        (entry.new ≡ entry.old) }
 {
     let Some(parts) = parts_within(exponent, mantissa) else {
         return Judged::Elsewhere;
@@ -244,11 +240,8 @@ fn judge_decimal_delta(
     requires operator { instr.now.operator ≡ operator_type.Delta }
     requires kind { instr.now.kind ≡ kind_type.Decimal }
     requires stands { PairStandsFrom instr.now.presence bytes.now at first next exponent_delta mantissa_delta }
-    ensures place { IfJudged result (λ bit n. n ≡ next) }
-    ensures judged { IfJudged result (λ bit n. (v : ScalarOf)
-        × JudgesFrom bit instr.now entry.old entry.new v bytes.now at first next) }
-    ensures behind { IfBehind result (λ needless n. ⊥) }
-    ensures entry { IfNotJudged result (entry.new ≡ entry.old) }
+    ensures { IfFound next result (λ bit. Gives bit instr.now entry.old entry.new bytes.now at first next)
+        (entry.new ≡ entry.old) }
 {
     let Some(kept) = kept_parts(entry) else {
         return Judged::Elsewhere;
@@ -276,11 +269,8 @@ fn judge_pair(
     requires part { instr.now.part ≡ part_type.Whole }
     requires kind { instr.now.kind ≡ kind_type.Decimal }
     requires stands { PairStandsFrom instr.now.presence bytes.now at first next exponent mantissa }
-    ensures place { IfJudged result (λ bit n. n ≡ next) }
-    ensures judged { IfJudged result (λ bit n. (v : ScalarOf)
-        × JudgesFrom bit instr.now entry.old entry.new v bytes.now at first next) }
-    ensures behind { IfBehind result (λ needless n. ⊥) }
-    ensures entry { IfNotJudged result (entry.new ≡ entry.old) }
+    ensures { IfFound next result (λ bit. Gives bit instr.now entry.old entry.new bytes.now at first next)
+        (entry.new ≡ entry.old) }
 {
     match instr.operator {
         Operator::Plain | Operator::Default | Operator::Copy => {
@@ -300,13 +290,7 @@ fn judge_decimal_behind(instr: &FieldPart, entry: &mut Entry, bytes: &[u8], at: 
     requires place { at ≤ length bytes.now }
     requires part { instr.now.part ≡ part_type.Whole }
     requires kind { instr.now.kind ≡ kind_type.Decimal }
-    ensures place { IfJudged result (λ bit next. (at ≤ next) × (next ≤ length bytes.now)) }
-    ensures judged { IfJudged result (λ bit next. (v : ScalarOf)
-        × Judges bit instr.now entry.old entry.new v bytes.now at next) }
-    ensures behind_place { IfBehind result (λ needless next. (at + needless ≤ next) × (next ≤ length bytes.now)) }
-    ensures behind { IfBehind result (λ needless next. (v : ScalarOf)
-        × JudgesFrom true instr.now entry.old entry.new v bytes.now at (at + needless) next) }
-    ensures entry { IfNotJudged result (entry.new ≡ entry.old) }
+    ensures { IsJudged instr.now entry.old entry.new bytes.now at result }
 {
     let Some((exponent, mantissa, first, next)) = read_pair_behind(instr.presence, bytes, at) else {
         return Judged::Elsewhere;
@@ -326,13 +310,7 @@ pub(crate) fn judge_decimal(instr: &FieldPart, entry: &mut Entry, bytes: &[u8], 
     requires place { at ≤ length bytes.now }
     requires part { instr.now.part ≡ part_type.Whole }
     requires kind { instr.now.kind ≡ kind_type.Decimal }
-    ensures place { IfJudged result (λ bit next. (at ≤ next) × (next ≤ length bytes.now)) }
-    ensures judged { IfJudged result (λ bit next. (v : ScalarOf)
-        × Judges bit instr.now entry.old entry.new v bytes.now at next) }
-    ensures behind_place { IfBehind result (λ needless next. (at + needless ≤ next) × (next ≤ length bytes.now)) }
-    ensures behind { IfBehind result (λ needless next. (v : ScalarOf)
-        × JudgesFrom true instr.now entry.old entry.new v bytes.now at (at + needless) next) }
-    ensures entry { IfNotJudged result (entry.new ≡ entry.old) }
+    ensures { IsJudged instr.now entry.old entry.new bytes.now at result }
 {
     match read_pair(instr.presence, bytes, at) {
         Some((exponent, mantissa, next)) => {

@@ -6,12 +6,11 @@ ghost use Rattle.fast_value.specs.Scalar.{IsScalar};
 ghost use Rattle.fast_value.specs.declared.kind.Kind.TheVariants as kind_type;
 ghost use Rattle.fast_value.specs.declared.kind.Operator.TheVariants as operator_type;
 ghost use Rattle.fast_value.specs.declared.kind.Part.TheVariants as part_type;
-ghost use Rattle.fast_value.specs.declared.scalar.Scalar.{Scalar as ScalarOf};
 ghost use Rattle.fast_value.specs.declared.scalar.Scalar.TheVariants.{Ascii};
 ghost use Rattle.fast_dictionary.specs.declared.entry.Entry.TheVariants as entry_type;
 ghost use Rattle.fast_wire.specs.Plain.{IsPlain};
 ghost use Rattle.fast_field.specs.Within.{HoldsScalar};
-ghost use Rattle.fast_relay.specs.Judged.{IfBehind, IfJudged, IfNotJudged, Judges, JudgesFrom};
+ghost use Rattle.fast_relay.specs.Judged.{Gives, IfFound, IsJudged};
 ghost use Rattle.fast_relay.specs.Numbers.{KeepsNothing, SpellsWhole};
 
 use crate::characters::find_behind_zero;
@@ -44,11 +43,8 @@ fn judge_plain(
     requires operator { SpellsWhole instr.now.operator }
     requires kind { instr.now.kind ≡ kind_type.Ascii }
     requires plain { IsPlain (drop at bytes.now) (slice_range bytes.now first next) (drop next bytes.now) }
-    ensures place { IfJudged result (λ bit n. n ≡ next) }
-    ensures judged { IfJudged result (λ bit n. (v : ScalarOf)
-        × JudgesFrom bit instr.now entry.old entry.new v bytes.now at first next) }
-    ensures behind { IfBehind result (λ needless n. ⊥) }
-    ensures entry { IfNotJudged result (entry.new ≡ entry.old) }
+    ensures { IfFound next result (λ bit. Gives bit instr.now entry.old entry.new bytes.now at first next)
+        (entry.new ≡ entry.old) }
 {
     let form = &bytes[first..next];
     if may_be_left_out(instr, entry, form) {
@@ -78,13 +74,7 @@ fn judge_string_behind(
     requires part { instr.now.part ≡ part_type.Whole }
     requires operator { SpellsWhole instr.now.operator }
     requires kind { instr.now.kind ≡ kind_type.Ascii }
-    ensures place { IfJudged result (λ bit next. (at ≤ next) × (next ≤ length bytes.now)) }
-    ensures judged { IfJudged result (λ bit next. (v : ScalarOf)
-        × Judges bit instr.now entry.old entry.new v bytes.now at next) }
-    ensures behind_place { IfBehind result (λ needless next. (at + needless ≤ next) × (next ≤ length bytes.now)) }
-    ensures behind { IfBehind result (λ needless next. (v : ScalarOf)
-        × JudgesFrom true instr.now entry.old entry.new v bytes.now at (at + needless) next) }
-    ensures entry { IfNotJudged result (entry.new ≡ entry.old) }
+    ensures { IsJudged instr.now entry.old entry.new bytes.now at result }
 {
     let Some((first, next)) = find_behind_zero(bytes, at) else {
         return Judged::Elsewhere;
@@ -110,13 +100,7 @@ fn judge_string_whole(
     requires part { instr.now.part ≡ part_type.Whole }
     requires operator { SpellsWhole instr.now.operator }
     requires kind { instr.now.kind ≡ kind_type.Ascii }
-    ensures place { IfJudged result (λ bit next. (at ≤ next) × (next ≤ length bytes.now)) }
-    ensures judged { IfJudged result (λ bit next. (v : ScalarOf)
-        × Judges bit instr.now entry.old entry.new v bytes.now at next) }
-    ensures behind_place { IfBehind result (λ needless next. (at + needless ≤ next) × (next ≤ length bytes.now)) }
-    ensures behind { IfBehind result (λ needless next. (v : ScalarOf)
-        × JudgesFrom true instr.now entry.old entry.new v bytes.now at (at + needless) next) }
-    ensures entry { IfNotJudged result (entry.new ≡ entry.old) }
+    ensures { IsJudged instr.now entry.old entry.new bytes.now at result }
 {
     if at < bytes.len() && bytes[at] == 0 {
         return judge_string_behind(alloc, instr, entry, bytes, at);
@@ -141,13 +125,7 @@ fn judge_string_once(
     requires operator { SpellsWhole instr.now.operator }
     requires nowhere { KeepsNothing instr.now.operator }
     requires kind { instr.now.kind ≡ kind_type.Ascii }
-    ensures place { IfJudged result (λ bit next. (at ≤ next) × (next ≤ length bytes.now)) }
-    ensures judged { IfJudged result (λ bit next. (v : ScalarOf)
-        × Judges bit instr.now entry.old entry.new v bytes.now at next) }
-    ensures behind_place { IfBehind result (λ needless next. (at + needless ≤ next) × (next ≤ length bytes.now)) }
-    ensures behind { IfBehind result (λ needless next. (v : ScalarOf)
-        × JudgesFrom true instr.now entry.old entry.new v bytes.now at (at + needless) next) }
-    ensures entry { IfNotJudged result (entry.new ≡ entry.old) }
+    ensures { IsJudged instr.now entry.old entry.new bytes.now at result }
 {
     if let Some(next) = short_plain_end(bytes, at) {
         let form = &bytes[at..next];
@@ -171,13 +149,7 @@ fn judge_string_copy(
     requires part { instr.now.part ≡ part_type.Whole }
     requires operator { instr.now.operator ≡ operator_type.Copy }
     requires kind { instr.now.kind ≡ kind_type.Ascii }
-    ensures place { IfJudged result (λ bit next. (at ≤ next) × (next ≤ length bytes.now)) }
-    ensures judged { IfJudged result (λ bit next. (v : ScalarOf)
-        × Judges bit instr.now entry.old entry.new v bytes.now at next) }
-    ensures behind_place { IfBehind result (λ needless next. (at + needless ≤ next) × (next ≤ length bytes.now)) }
-    ensures behind { IfBehind result (λ needless next. (v : ScalarOf)
-        × JudgesFrom true instr.now entry.old entry.new v bytes.now at (at + needless) next) }
-    ensures entry { IfNotJudged result (entry.new ≡ entry.old) }
+    ensures { IsJudged instr.now entry.old entry.new bytes.now at result }
 {
     if let Some(next) = short_plain_end(bytes, at) {
         if replace_string(instr, entry, &bytes[at..next]) {
@@ -202,11 +174,8 @@ fn judge_string_cut(
     requires operator { instr.now.operator ≡ operator_type.Delta }
     requires kind { instr.now.kind ≡ kind_type.Ascii }
     requires kept { IsScalar (Ascii text.now) }
-    ensures behind { IfBehind result (λ needless next. ⊥) }
-    ensures place { IfJudged result (λ bit next. (at ≤ next) × (next ≤ length bytes.now)) }
-    ensures judged { IfJudged result (λ bit next. (v : ScalarOf) × Judges bit instr.now
-        (entry_type.Assigned (Ascii text.old)) (entry_type.Assigned (Ascii text.new)) v bytes.now at next) }
-    ensures text { IfNotJudged result (text.new ≡ text.old) }
+    ensures { IsJudged instr.now (entry_type.Assigned (Ascii text.old)) (entry_type.Assigned (Ascii text.new))
+        bytes.now at result }
 {
     let Some(removed) = read_removal(instr.presence, bytes, at) else {
         return Judged::Elsewhere;
@@ -248,11 +217,8 @@ fn judge_string_delta(
     requires operator { instr.now.operator ≡ operator_type.Delta }
     requires kind { instr.now.kind ≡ kind_type.Ascii }
     requires kept { IsScalar (Ascii text.now) }
-    ensures behind { IfBehind result (λ needless next. ⊥) }
-    ensures place { IfJudged result (λ bit next. (at ≤ next) × (next ≤ length bytes.now)) }
-    ensures judged { IfJudged result (λ bit next. (v : ScalarOf) × Judges bit instr.now
-        (entry_type.Assigned (Ascii text.old)) (entry_type.Assigned (Ascii text.new)) v bytes.now at next) }
-    ensures text { IfNotJudged result (text.new ≡ text.old) }
+    ensures { IsJudged instr.now (entry_type.Assigned (Ascii text.old)) (entry_type.Assigned (Ascii text.new))
+        bytes.now at result }
 {
     let Some(removed) = read_removal(instr.presence, bytes, at) else {
         return Judged::Elsewhere;
@@ -281,11 +247,8 @@ fn judge_string_tail(
     requires operator { instr.now.operator ≡ operator_type.Tail }
     requires kind { instr.now.kind ≡ kind_type.Ascii }
     requires kept { IsScalar (Ascii text.now) }
-    ensures behind { IfBehind result (λ needless next. ⊥) }
-    ensures place { IfJudged result (λ bit next. (at ≤ next) × (next ≤ length bytes.now)) }
-    ensures judged { IfJudged result (λ bit next. (v : ScalarOf) × Judges bit instr.now
-        (entry_type.Assigned (Ascii text.old)) (entry_type.Assigned (Ascii text.new)) v bytes.now at next) }
-    ensures text { IfNotJudged result (text.new ≡ text.old) }
+    ensures { IsJudged instr.now (entry_type.Assigned (Ascii text.old)) (entry_type.Assigned (Ascii text.new))
+        bytes.now at result }
 {
     let Some(next) = plain_end(bytes, at) else {
         return Judged::Elsewhere;
@@ -323,13 +286,7 @@ pub(crate) fn judge_string(
     requires part { instr.now.part ≡ part_type.Whole }
     requires kind { instr.now.kind ≡ kind_type.Ascii }
     requires kept { HoldsScalar entry.now }
-    ensures place { IfJudged result (λ bit next. (at ≤ next) × (next ≤ length bytes.now)) }
-    ensures judged { IfJudged result (λ bit next. (v : ScalarOf)
-        × Judges bit instr.now entry.old entry.new v bytes.now at next) }
-    ensures behind_place { IfBehind result (λ needless next. (at + needless ≤ next) × (next ≤ length bytes.now)) }
-    ensures behind { IfBehind result (λ needless next. (v : ScalarOf)
-        × JudgesFrom true instr.now entry.old entry.new v bytes.now at (at + needless) next) }
-    ensures entry { IfNotJudged result (entry.new ≡ entry.old) }
+    ensures { IsJudged instr.now entry.old entry.new bytes.now at result }
 {
     match instr.operator {
         Operator::Plain | Operator::Default => judge_string_once(alloc, instr, entry, bytes, at),

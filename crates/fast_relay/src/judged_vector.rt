@@ -4,10 +4,9 @@
 ghost use Rattle.std.specs.Prelude.{◌≡◌, ◌≤◌, ◌+◌, ◌<◌, pos, true, false, length, IfNone, IfSome};
 ghost use Rattle.fast_value.specs.declared.kind.Operator.TheVariants as operator_type;
 ghost use Rattle.fast_value.specs.declared.kind.Part.TheVariants as part_type;
-ghost use Rattle.fast_value.specs.declared.scalar.Scalar.{Scalar as ScalarOf};
 ghost use Rattle.fast_dictionary.specs.declared.entry.Entry.TheVariants as entry_type;
 ghost use Rattle.fast_field.specs.Within.{HoldsScalar};
-ghost use Rattle.fast_relay.specs.Judged.{IfBehind, IfJudged, IfNotJudged, Judges, JudgesFrom, StandsFrom, UnitsStandFrom};
+ghost use Rattle.fast_relay.specs.Judged.{Gives, IfFound, IsJudged, StandsFrom, UnitsStandFrom};
 ghost use Rattle.fast_relay.specs.Numbers.{SpellsWhole};
 ghost use Rattle.fast_relay.specs.Texts.{IsVectorKind};
 
@@ -85,11 +84,8 @@ fn judge_vector_whole(
     requires operator { SpellsWhole instr.now.operator }
     requires kind { IsVectorKind instr.now.kind }
     requires stands { UnitsStandFrom instr.now.kind instr.now.presence bytes.now at first start next }
-    ensures place { IfJudged result (λ bit n. n ≡ next) }
-    ensures judged { IfJudged result (λ bit n. (v : ScalarOf)
-        × JudgesFrom bit instr.now entry.old entry.new v bytes.now at first next) }
-    ensures behind { IfBehind result (λ needless n. ⊥) }
-    ensures entry { IfNotJudged result (entry.new ≡ entry.old) }
+    ensures { IfFound next result (λ bit. Gives bit instr.now entry.old entry.new bytes.now at first next)
+        (entry.new ≡ entry.old) }
 {
     let part = &bytes[start..next];
     if !are_text(instr.kind, part) {
@@ -126,8 +122,8 @@ fn judge_vector_tail(
     requires operator { instr.now.operator ≡ operator_type.Tail }
     requires kind { IsVectorKind instr.now.kind }
     requires stands { UnitsStandFrom instr.now.kind instr.now.presence bytes.now at first start next }
-    ensures judged { result ≡ true → (v : ScalarOf) × JudgesFrom true instr.now
-        (entry_type.Assigned value.old) (entry_type.Assigned value.new) v bytes.now at first next }
+    ensures judged { result ≡ true → Gives true instr.now (entry_type.Assigned value.old) (entry_type.Assigned value.new)
+        bytes.now at first next }
     ensures value { result ≡ false → value.new ≡ value.old }
 {
     if !is_text(instr.kind, value) {
@@ -167,8 +163,7 @@ fn judge_vector_first(
     requires operator { instr.now.operator ≡ operator_type.Tail }
     requires kind { IsVectorKind instr.now.kind }
     requires stands { UnitsStandFrom instr.now.kind instr.now.presence bytes.now at first start next }
-    ensures judged { result ≡ true → (v : ScalarOf)
-        × JudgesFrom true instr.now entry.old entry.new v bytes.now at first next }
+    ensures judged { result ≡ true → Gives true instr.now entry.old entry.new bytes.now at first next }
     ensures entry { result ≡ false → entry.new ≡ entry.old }
 {
     let None = &instr.initial else {
@@ -203,8 +198,7 @@ fn judge_vector_end(
     requires operator { instr.now.operator ≡ operator_type.Tail }
     requires kind { IsVectorKind instr.now.kind }
     requires stands { UnitsStandFrom instr.now.kind instr.now.presence bytes.now at first start next }
-    ensures judged { result ≡ true → (v : ScalarOf)
-        × JudgesFrom true instr.now entry.old entry.new v bytes.now at first next }
+    ensures judged { result ≡ true → Gives true instr.now entry.old entry.new bytes.now at first next }
     ensures entry { result ≡ false → entry.new ≡ entry.old }
 {
     match entry {
@@ -234,11 +228,8 @@ fn judge_found(
     requires part { instr.now.part ≡ part_type.Whole }
     requires kind { IsVectorKind instr.now.kind }
     requires stands { UnitsStandFrom instr.now.kind instr.now.presence bytes.now at first start next }
-    ensures place { IfJudged result (λ bit n. n ≡ next) }
-    ensures judged { IfJudged result (λ bit n. (v : ScalarOf)
-        × JudgesFrom bit instr.now entry.old entry.new v bytes.now at first next) }
-    ensures behind { IfBehind result (λ needless n. ⊥) }
-    ensures entry { IfNotJudged result (entry.new ≡ entry.old) }
+    ensures { IfFound next result (λ bit. Gives bit instr.now entry.old entry.new bytes.now at first next)
+        (entry.new ≡ entry.old) }
 {
     match instr.operator {
         Operator::Plain | Operator::Default | Operator::Copy => {
@@ -268,13 +259,7 @@ fn judge_found_behind(
     requires place { at ≤ length bytes.now }
     requires part { instr.now.part ≡ part_type.Whole }
     requires kind { IsVectorKind instr.now.kind }
-    ensures place { IfJudged result (λ bit next. (at ≤ next) × (next ≤ length bytes.now)) }
-    ensures judged { IfJudged result (λ bit next. (v : ScalarOf)
-        × Judges bit instr.now entry.old entry.new v bytes.now at next) }
-    ensures behind_place { IfBehind result (λ needless next. (at + needless ≤ next) × (next ≤ length bytes.now)) }
-    ensures behind { IfBehind result (λ needless next. (v : ScalarOf)
-        × JudgesFrom true instr.now entry.old entry.new v bytes.now at (at + needless) next) }
-    ensures entry { IfNotJudged result (entry.new ≡ entry.old) }
+    ensures { IsJudged instr.now entry.old entry.new bytes.now at result }
 {
     let Some((first, start, next)) = find_behind(instr.kind, instr.presence, bytes, at) else {
         return Judged::Elsewhere;
@@ -308,9 +293,8 @@ fn judge_vector_delta(
     requires kind { IsVectorKind instr.now.kind }
     requires stands { StandsFrom false instr.now.presence bytes.now at first middle (pos removed) }
     ensures place { IfSome result (λ next. (middle ≤ next) × (next ≤ length bytes.now)) }
-    ensures judged { IfSome result (λ next. (v : ScalarOf)
-        × JudgesFrom true instr.now (entry_type.Assigned value.old) (entry_type.Assigned value.new) v
-        bytes.now at first next) }
+    ensures judged { IfSome result (λ next. Gives true instr.now (entry_type.Assigned value.old)
+        (entry_type.Assigned value.new) bytes.now at first next) }
     ensures value { IfNone result (value.new ≡ value.old) }
 {
     let Some((start, next)) = find_shortest(instr.kind, Presence::Mandatory, bytes, middle) else {
@@ -355,12 +339,7 @@ fn judge_delta_behind(
     requires part { instr.now.part ≡ part_type.Whole }
     requires operator { instr.now.operator ≡ operator_type.Delta }
     requires kind { IsVectorKind instr.now.kind }
-    ensures judged { IfJudged result (λ bit next. ⊥) }
-    ensures behind_place { IfBehind result (λ needless next. (at + needless ≤ next) × (next ≤ length bytes.now)) }
-    ensures behind { IfBehind result (λ needless next. (v : ScalarOf)
-        × JudgesFrom true instr.now (entry_type.Assigned value.old) (entry_type.Assigned value.new) v
-        bytes.now at (at + needless) next) }
-    ensures value { IfNotJudged result (value.new ≡ value.old) }
+    ensures { IsJudged instr.now (entry_type.Assigned value.old) (entry_type.Assigned value.new) bytes.now at result }
 {
     let Some((removed, first, middle)) = read_removal_behind(instr.presence, bytes, at) else {
         return Judged::Elsewhere;
@@ -384,14 +363,7 @@ fn judge_vector_on(
     requires part { instr.now.part ≡ part_type.Whole }
     requires operator { instr.now.operator ≡ operator_type.Delta }
     requires kind { IsVectorKind instr.now.kind }
-    ensures place { IfJudged result (λ bit next. (at ≤ next) × (next ≤ length bytes.now)) }
-    ensures judged { IfJudged result (λ bit next. (v : ScalarOf) × Judges bit instr.now
-        (entry_type.Assigned value.old) (entry_type.Assigned value.new) v bytes.now at next) }
-    ensures behind_place { IfBehind result (λ needless next. (at + needless ≤ next) × (next ≤ length bytes.now)) }
-    ensures behind { IfBehind result (λ needless next. (v : ScalarOf)
-        × JudgesFrom true instr.now (entry_type.Assigned value.old) (entry_type.Assigned value.new) v
-        bytes.now at (at + needless) next) }
-    ensures value { IfNotJudged result (value.new ≡ value.old) }
+    ensures { IsJudged instr.now (entry_type.Assigned value.old) (entry_type.Assigned value.new) bytes.now at result }
 {
     match read_removal(instr.presence, bytes, at) {
         Some(removed) => {
@@ -418,13 +390,7 @@ pub(crate) fn judge_vector(
     requires part { instr.now.part ≡ part_type.Whole }
     requires kind { IsVectorKind instr.now.kind }
     requires kept { HoldsScalar entry.now }
-    ensures place { IfJudged result (λ bit next. (at ≤ next) × (next ≤ length bytes.now)) }
-    ensures judged { IfJudged result (λ bit next. (v : ScalarOf)
-        × Judges bit instr.now entry.old entry.new v bytes.now at next) }
-    ensures behind_place { IfBehind result (λ needless next. (at + needless ≤ next) × (next ≤ length bytes.now)) }
-    ensures behind { IfBehind result (λ needless next. (v : ScalarOf)
-        × JudgesFrom true instr.now entry.old entry.new v bytes.now at (at + needless) next) }
-    ensures entry { IfNotJudged result (entry.new ≡ entry.old) }
+    ensures { IsJudged instr.now entry.old entry.new bytes.now at result }
 {
     if instr.operator == Operator::Delta {
         return match entry {

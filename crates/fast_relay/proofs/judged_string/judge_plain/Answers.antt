@@ -1,24 +1,26 @@
-use Rattle.std.proofs.Common.{drop, slice_range}
+use Rattle.std.proofs.Common.{drop, slice_range, refl}
 use Rattle.fast_wire.specs.Entity.{groups}
 use Rattle.fast_value.specs.declared.scalar.Scalar.TheVariants.{Ascii}
 use Rattle.fast_relay.proofs.Giving.{text_drops}
 use Rattle.fast_relay.proofs.StringJudging.{text_stands}
 use Rattle.fast_relay.proofs.judged_string.judge_plain.Goals as goal
 
-pub returns-then-keep_plain-clause-judged : goal.returns-then-keep_plain-clause-judged
-returns-then-keep_plain-clause-judged c =
+pub returns-then-keep_plain : goal.returns-then-keep_plain
+returns-then-keep_plain c =
     let bytes = c.args.bytes.now in
-    let form = slice_range bytes c.args.first c.args.next in (
+    let form = slice_range bytes c.args.first c.args.next in
+    (refl, (
       Ascii (groups form),
       text_stands c.args.instr.now c.args.entry.now c.keep_plain.new.entry bytes c.args.at c.args.first c.args.next
           c.requires.kind c.requires.part c.requires.operator c.requires.plain (c.keep_plain.ensures.kept c.if-keep_plain.true) (c.may_be_left_out.ensures c.if-may_be_left_out.false),
-    )
+    ))
 
-pub returns-then-gives_text-clause-judged : goal.returns-then-gives_text-clause-judged
-returns-then-gives_text-clause-judged c =
+pub returns-then-gives_text : goal.returns-then-gives_text
+returns-then-gives_text c =
     let bytes = c.args.bytes.now in
-    let form = slice_range bytes c.args.first c.args.next in (
+    let form = slice_range bytes c.args.first c.args.next in
+    (refl, (
       Ascii (groups form),
       text_drops c.args.instr.now c.args.entry.now (drop c.args.at bytes) form (drop c.args.next bytes)
           c.requires.kind c.requires.part c.requires.operator c.requires.plain (c.gives_text.ensures c.if-gives_text.true),
-    )
+    ))

@@ -1,19 +1,7 @@
-use Rattle.std.proofs.Common.{◌≤◌, ◌+◌, true, length, arith}
-use Rattle.fast_value.specs.declared.scalar.Scalar.{Scalar}
-use Rattle.fast_relay.specs.Judged.{Judges, JudgesFrom}
-use Rattle.fast_relay.proofs.Judging.{judged_at, none_behind, passed_at}
+use Rattle.std.proofs.Common.{arith}
+use Rattle.fast_relay.proofs.Judging.{found_judged}
 use Rattle.fast_relay.proofs.judged_vector.judge_vector.Goals as goal
 
-pub returns-in-Some-clause-place : goal.returns-in-Some-clause-place
-returns-in-Some-clause-place c = passed_at c.judge_found.result c.in-Some.next (λ n. (c.args.at ≤ n) × (n ≤ length c.args.bytes.now)) c.judge_found.ensures.place (omega (arith, c.in-Some.ensures.start), c.in-Some.ensures.end)
-
-pub returns-in-Some-clause-judged : goal.returns-in-Some-clause-judged
-returns-in-Some-clause-judged c =
-    judged_at c.judge_found.result c.in-Some.next (λ bit n. (v : Scalar) × Judges bit c.args.instr.now c.args.entry.now c.judge_found.new.entry v c.args.bytes.now c.args.at n) c.judge_found.ensures.place c.judge_found.ensures.judged
-
-pub returns-in-Some-clause-behind_place : goal.returns-in-Some-clause-behind_place
-returns-in-Some-clause-behind_place c = none_behind c.judge_found.result (λ needless n. (c.args.at + needless ≤ n) × (n ≤ length c.args.bytes.now)) c.judge_found.ensures.behind
-
-pub returns-in-Some-clause-behind : goal.returns-in-Some-clause-behind
-returns-in-Some-clause-behind c =
-    none_behind c.judge_found.result (λ needless n. (v : Scalar) × JudgesFrom true c.args.instr.now c.args.entry.now c.judge_found.new.entry v c.args.bytes.now c.args.at (c.args.at + needless) n) c.judge_found.ensures.behind
+pub returns-in-Some : goal.returns-in-Some
+returns-in-Some c =
+    found_judged c.judge_found.result c.args.instr.now c.args.entry.now c.judge_found.new.entry c.args.bytes.now c.args.at c.in-Some.next (omega (arith, c.in-Some.ensures.start)) c.in-Some.ensures.end c.judge_found.ensures
