@@ -25,15 +25,6 @@ settled bytes items at = ap (λ x. items ++ x) (range_none bytes at) ∙ append-
 pub none_noted : (bytes : List ℕ) (r : Run) → r.from ≡ r.place → written bytes r ≡ r.out.items
 none_noted bytes r none = ap (λ (k : ℕ). r.out.items ++ slice_range bytes k r.place) none ∙ settled bytes r.out.items r.place
 
--- bytes are noted behind the end of what is noted
-pub noted : (bytes : List ℕ) (at : ℕ) (r : Run) (first next : ℕ) → IsRun bytes at r → first ≡ r.place → first ≤ next → r.out.items ++ slice_range bytes r.from next ≡ written bytes r ++ slice_range bytes first next
-noted bytes at r first next h there le =
-    subst (λ (k : ℕ). r.out.items ++ slice_range bytes r.from next ≡ written bytes r ++ slice_range bytes k next) (sym (there ∙ h.place)) (kept bytes at r next h (omega (arith, there, le)))
-
--- or where nothing is
-pub noted_anew : (bytes : List ℕ) (r : Run) (first next : ℕ) → r.from ≡ r.place → r.out.items ++ slice_range bytes first next ≡ written bytes r ++ slice_range bytes first next
-noted_anew bytes r first next none = ap (λ (s : List ℕ). s ++ slice_range bytes first next) (sym (none_noted bytes r none))
-
 -- where it is begun to note
 pub begun : (bytes : List ℕ) (at : ℕ) (r : Run) → r.from ≡ at → r.place ≡ at → at ≤ length bytes → IsRun bytes at r
 begun bytes at r from place le = record { from = omega (arith, from, place); place = place; within = le }

@@ -1,5 +1,5 @@
 -- A field whose bytes are judged as they stand: they are the best form of their value, or bit 0 is. (Own.)
-use Rattle.std.specs.Prelude.{◌≡◌, ◌≤◌, ◌+◌, ◌+ℤ◌, ◌⊎◌, ℕ, ℤ, Bool, true, false, not, List, ◌++◌, length, drop, slice_range, Some, Ok, IsTrue}
+use Rattle.std.specs.Prelude.{◌≡◌, ◌≤◌, ◌+◌, ◌+ℤ◌, ◌⊎◌, ℕ, ℤ, Bool, true, false, not, List, ◌++◌, length, drop, slice_range, Option, Some, None, Ok, IsTrue, ⊤}
 use Rattle.fast_wire.specs.declared.level.Level.TheVariants.{Usual}
 use Rattle.fast_wire.specs.declared.nullable.Nullable.TheVariants.{Value}
 use Rattle.fast_value.specs.Scalar.{is_of, of_integer}
@@ -16,6 +16,7 @@ use Rattle.fast_field.specs.Bases.{next}
 use Rattle.fast_field.specs.Chosen.{ShortestUnits}
 use Rattle.fast_field.specs.FieldReading.{units_at}
 use Rattle.fast_field.specs.Numbers.{HasNumber, IsFieldNumber}
+use Rattle.fast_field.specs.Passed.{Passes}
 use Rattle.fast_field.specs.Planning.{left_out_of}
 use Rattle.fast_field.specs.Spelled.{SpellsIntegerUsually, overlong_number}
 use Rattle.fast_field.specs.Values.{of_units}
@@ -68,6 +69,13 @@ abbrev pub IsBehind : ℕ → ℕ → ℕ → Judged → Type 0
 IsBehind at first next (Behind n) = (n ≡ next) × (first ≡ at + 1)
 IsBehind at first next (BehindTwo n) = (n ≡ next) × (first ≡ at + 2)
 IsBehind at first next j = ⊥
+
+-- the best form of a value that was sent whole, or of NULL, has this bit: bit 0 gives another one, or it gives this one and leaves
+-- the entry as it is
+abbrev pub HasBit : FieldPart → Entry → Option Scalar → Option Bool → Type 0
+HasBit i e v (Some true) = left_out_of i.operator i e v ≡ false
+HasBit i e v (Some false) = Passes i e e v
+HasBit i e v None = ⊤
 
 -- a difference is added to the number that the entry has, and the sum is one that the field can have
 pub record Adds (k : Kind) (p : Part) (d : ℤ) (old new : Entry) : Type 0 where

@@ -1,6 +1,6 @@
 -- Bytes that are written while others are read. Those that stand in their best form are noted as they lie, and appended
 -- in one piece later. (Own.)
-use Rattle.std.specs.Prelude.{◌≡◌, ◌≤◌, ◌⊎◌, ℕ, List, ◌++◌, length, slice_range}
+use Rattle.std.specs.Prelude.{◌≡◌, ◌≤◌, ℕ, List, ◌++◌, length, slice_range}
 use Rattle.fast_relay.specs.declared.run.Run.{Run}
 
 -- all that is written: what was appended, and behind it what is noted of the bytes that are read
@@ -21,7 +21,3 @@ pub record Stays (bytes : List ℕ) (at : ℕ) (old new : Run) : Type 0 where
 -- behind what was written stands a form of some kind
 abbrev pub AppendsForm : (List ℕ → Type 0) → List ℕ → List ℕ → Type 0
 AppendsForm Spells before after = (b : List ℕ) × (after ≡ before ++ b) × Spells b
-
--- bytes from this place on can be noted: it ends what is noted, or nothing is
-abbrev pub IsReady : ℕ → Run → Type 0
-IsReady first r = (first ≡ r.place) ⊎ (r.from ≡ r.place)

@@ -14,10 +14,10 @@ ghost use Rattle.fast_relay.specs.Judged.{Gives, IfFound, IsJudged};
 ghost use Rattle.fast_relay.specs.Numbers.{KeepsNothing, SpellsWhole};
 
 use crate::characters::find_behind_zero;
-use crate::given::gives_text;
+use crate::given::text_bit;
 use crate::judged::Judged;
 use crate::one_byte::read_removal;
-use crate::plain::{keep_plain, may_be_left_out, put_characters, replace_end, replace_string};
+use crate::plain::{keep_plain, put_characters, replace_end, replace_string};
 use crate::words::{plain_end, short_plain_end};
 use fast_dictionary::Entry;
 use fast_field::{agrees_no_further, is_cut_at_end};
@@ -47,16 +47,16 @@ fn judge_plain(
         (entry.new ≡ entry.old) }
 {
     let form = &bytes[first..next];
-    if may_be_left_out(instr, entry, form) {
-        if gives_text(instr, entry, form) {
-            return Judged::Given(next);
+    match text_bit(instr, entry, form) {
+        Some(true) => {
+            if keep_plain(alloc, instr.operator, entry, form) {
+                Judged::Stands(next)
+            } else {
+                Judged::Elsewhere
+            }
         }
-        return Judged::Elsewhere;
-    }
-    if keep_plain(alloc, instr.operator, entry, form) {
-        Judged::Stands(next)
-    } else {
-        Judged::Elsewhere
+        Some(false) => Judged::Given(next),
+        None => Judged::Elsewhere,
     }
 }
 
@@ -128,8 +128,7 @@ fn judge_string_once(
     ensures { IsJudged instr.now entry.old entry.new bytes.now at result }
 {
     if let Some(next) = short_plain_end(bytes, at) {
-        let form = &bytes[at..next];
-        if !may_be_left_out(instr, entry, form) {
+        if let Some(true) = text_bit(instr, entry, &bytes[at..next]) {
             return Judged::Stands(next);
         }
     }

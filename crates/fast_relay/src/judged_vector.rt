@@ -12,10 +12,10 @@ ghost use Rattle.fast_relay.specs.Texts.{IsVectorKind};
 
 use crate::characters::is_text;
 use crate::copied::put_part;
-use crate::given::gives_units;
+use crate::given::units_bit;
 use crate::judged::{Judged, behind};
 use crate::one_byte::{read_length, read_length_behind, read_removal, read_removal_behind};
-use crate::vectors::{are_text, keep_bytes, make_units, may_be_left_out, may_end};
+use crate::vectors::{are_text, keep_bytes, make_units, may_end};
 use fast_dictionary::Entry;
 use fast_field::{goes_on_otherwise, is_vector_cut_at_end, units};
 use fast_template::{FieldPart, Kind, Operator, Presence, Scalar};
@@ -91,16 +91,16 @@ fn judge_vector_whole(
     if !are_text(instr.kind, part) {
         return Judged::Elsewhere;
     }
-    if may_be_left_out(instr, entry, part) {
-        if gives_units(instr, entry, part) {
-            return Judged::Given(next);
+    match units_bit(instr, entry, part) {
+        Some(true) => {
+            if keep_bytes(alloc, instr.kind, instr.operator, entry, part) {
+                Judged::Stands(next)
+            } else {
+                Judged::Elsewhere
+            }
         }
-        return Judged::Elsewhere;
-    }
-    if keep_bytes(alloc, instr.kind, instr.operator, entry, part) {
-        Judged::Stands(next)
-    } else {
-        Judged::Elsewhere
+        Some(false) => Judged::Given(next),
+        None => Judged::Elsewhere,
     }
 }
 

@@ -91,30 +91,6 @@ pub(crate) fn put_characters(alloc: Global, text: &mut ByteString, kept: usize, 
     }
 }
 
-/// Whether bit 0 may give the string that bytes spell; where false is answered, it does not.
-#[inline(always)]
-pub(crate) fn may_be_left_out(instr: &FieldPart, entry: &Entry, form: &[u8]) -> bool
-    requires operator { SpellsWhole instr.now.operator }
-    requires kind { instr.now.kind ≡ kind_type.Ascii }
-    ensures { result ≡ false → left_out_of instr.now.operator instr.now entry.now
-        (Some (Ascii (groups form.now))) ≡ false }
-{
-    match instr.operator {
-        Operator::Plain => false,
-        Operator::Default => match instr.initial() {
-            None => false,
-            Some(Scalar::Ascii(text)) => is_text_of(text.as_slice(), form),
-            Some(_) => true,
-        },
-        Operator::Copy => match entry {
-            Entry::Assigned(Scalar::Ascii(text)) => is_text_of(text.as_slice(), form),
-            Entry::Empty => false,
-            Entry::Assigned(_) | Entry::Undefined => true,
-        },
-        _ => true,
-    }
-}
-
 /// The string that bytes spell; none where memory is refused.
 #[inline(always)]
 fn make_string(alloc: Global, form: &[u8]) -> Option<ByteString>

@@ -110,11 +110,12 @@ fn respell_tail(
     if !agrees_no_further(base, kept, form) {
         return None;
     }
-    if !out.ready(bytes, first) {
+    if !out.flush(bytes) {
         return None;
     }
     if put_characters(alloc, text, kept, form) {
-        out.note(first, next);
+        out.begin(first);
+        out.keep(next);
         Some(next)
     } else {
         None

@@ -1,7 +1,7 @@
 //! What is written while fields are read: bytes that stand in their best form are noted, and appended in one piece.
 
 ghost use Rattle.std.specs.Prelude.{◌≡◌, ◌≤◌, ◌++◌, ℕ, List, [], true, false, length, slice_range};
-ghost use Rattle.fast_relay.specs.Runs.{IsReady, IsRun, Stays, written};
+ghost use Rattle.fast_relay.specs.Runs.{IsRun, Stays, written};
 
 use std::alloc::Global;
 
@@ -107,44 +107,13 @@ impl Run {
         requires place { self.now.place ≤ length bytes.now }
         ensures written { result ≡ true → written bytes.now self.new ≡ written bytes.now self.old }
         ensures run { result ≡ true → next ≤ length bytes.now → IsRun bytes.now next self.new }
+        ensures stays { (at : ℕ) → IsRun bytes.now at self.old → result ≡ false
+            → Stays bytes.now at self.old self.new }
     {
         if !self.flush(bytes) {
             return false;
         }
         self.begin(next);
         true
-    }
-
-    /// Makes ready to note bytes from a place on that is not before what was read: what is noted is appended where bytes
-    /// between are not written. Answers false where memory is refused; no more is written.
-    #[inline(always)]
-    pub fn ready(&mut self, bytes: &[u8], first: usize) -> bool
-        requires from { self.now.from ≤ self.now.place }
-        requires place { self.now.place ≤ length bytes.now }
-        ensures ready { result ≡ true → IsReady first self.new }
-        ensures stays { (at : ℕ) → IsRun bytes.now at self.old
-            → Stays bytes.now at self.old self.new }
-    {
-        if first == self.place {
-            true
-        } else {
-            self.flush(bytes)
-        }
-    }
-
-    /// Notes the bytes from a place to another, which are written as they stand.
-    #[inline(always)]
-    pub fn note(&mut self, first: usize, next: usize)
-        requires ready { IsReady first self.now }
-        requires place { first ≤ next }
-        ensures written { (bytes : List ℕ) (at : ℕ) → IsRun bytes at self.old
-            → written bytes self.new ≡ written bytes self.old ++ slice_range bytes first next }
-        ensures run { (bytes : List ℕ) (at : ℕ) → IsRun bytes at self.old
-            → next ≤ length bytes → IsRun bytes next self.new }
-    {
-        if first != self.place {
-            self.from = first;
-        }
-        self.place = next;
     }
 }

@@ -141,29 +141,6 @@ pub(crate) fn put_units(
     }
 }
 
-/// Whether bit 0 may give the string or vector that these bytes are; where false is answered, it does not.
-#[inline(always)]
-pub(crate) fn may_be_left_out(instr: &FieldPart, entry: &Entry, part: &[u8]) -> bool
-    requires operator { SpellsWhole instr.now.operator }
-    requires kind { IsVectorKind instr.now.kind }
-    ensures { result ≡ false → left_out_of instr.now.operator instr.now entry.now
-        (Some (of_units instr.now.kind part.now)) ≡ false }
-{
-    match instr.operator {
-        Operator::Plain => false,
-        Operator::Default => match &instr.initial {
-            None => false,
-            Some(initial) => *units(initial.value()) == *part,
-        },
-        Operator::Copy => match entry {
-            Entry::Assigned(value) => *units(value) == *part,
-            Entry::Empty => false,
-            Entry::Undefined => true,
-        },
-        _ => true,
-    }
-}
-
 /// The string or vector that bytes are; none where memory is refused.
 #[inline(always)]
 pub(crate) fn make_units(alloc: Global, kind: Kind, part: &[u8]) -> Option<Scalar>

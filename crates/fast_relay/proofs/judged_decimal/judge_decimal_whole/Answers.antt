@@ -15,13 +15,15 @@ returns-in-Some-true c =
     let x_fits : FitsSigned w64 x = search rules in
     let m_fits : FitsSigned w64 m = search rules in
     let x_is : c.in-Some.parts.exponent ≡ x = parts.exponent ∙ to_z-of_z w64 x x_fits in
-    let m_is : c.in-Some.parts.mantissa ≡ m = parts.mantissa ∙ to_z-of_z w64 m m_fits in
-    (refl, (
-      Decimal x m,
-      decimal_stands c.args.instr.now c.args.entry.now c.judge_read.new.entry x m c.args.bytes.now c.args.at c.args.first c.args.next
-          c.requires.kind c.requires.part c.requires.operator (rw x_is at parts.near) (rw m_is at parts.fits) c.requires.stands
-          (rw (x_is, m_is, c.in-Some-true.field-0-test) at c.in-Some-true.ensures.leaves),
-    ))
+    let m_is : c.in-Some.parts.mantissa ≡ m = parts.mantissa ∙ to_z-of_z w64 m m_fits in (
+      refl,
+      (
+        Decimal x m,
+        decimal_stands c.args.instr.now c.args.entry.now c.judge_read.new.entry x m c.args.bytes.now c.args.at c.args.first c.args.next
+            c.requires.kind c.requires.part c.requires.operator (rw x_is at parts.near) (rw m_is at parts.fits) c.requires.stands
+            (rw (x_is, m_is, c.in-Some-true.field-0-test) at c.in-Some-true.ensures.leaves),
+      ),
+    )
 
 pub returns-in-Some-false : goal.returns-in-Some-false
 returns-in-Some-false c =
@@ -31,10 +33,12 @@ returns-in-Some-false c =
     let x_fits : FitsSigned w64 x = search rules in
     let m_fits : FitsSigned w64 m = search rules in
     let x_is : c.in-Some.parts.exponent ≡ x = parts.exponent ∙ to_z-of_z w64 x x_fits in
-    let m_is : c.in-Some.parts.mantissa ≡ m = parts.mantissa ∙ to_z-of_z w64 m m_fits in
-    (refl, (
-      Decimal x m,
-      decimal_given c.args.instr.now c.args.entry.now c.judge_read.new.entry x m c.args.bytes.now c.args.at c.args.first c.args.next
-          c.requires.kind c.requires.part c.requires.operator (rw x_is at parts.near) (rw m_is at parts.fits) c.requires.stands
-          (rw (x_is, m_is, c.in-Some-false.field-0-test) at c.in-Some-false.ensures.leaves),
-    ))
+    let m_is : c.in-Some.parts.mantissa ≡ m = parts.mantissa ∙ to_z-of_z w64 m m_fits in (
+      refl,
+      (
+        Decimal x m,
+        decimal_given c.args.instr.now c.args.entry.now c.judge_read.new.entry x m c.args.bytes.now c.args.at c.args.first c.args.next
+            c.requires.kind c.requires.part c.requires.operator (rw x_is at parts.near) (rw m_is at parts.fits) c.requires.stands
+            (rw (x_is, m_is, c.in-Some-false.field-0-test) at c.in-Some-false.ensures.leaves),
+      ),
+    )

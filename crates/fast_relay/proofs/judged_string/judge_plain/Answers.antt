@@ -8,19 +8,23 @@ use Rattle.fast_relay.proofs.judged_string.judge_plain.Goals as goal
 pub returns-then-keep_plain : goal.returns-then-keep_plain
 returns-then-keep_plain c =
     let bytes = c.args.bytes.now in
-    let form = slice_range bytes c.args.first c.args.next in
-    (refl, (
-      Ascii (groups form),
-      text_stands c.args.instr.now c.args.entry.now c.keep_plain.new.entry bytes c.args.at c.args.first c.args.next
-          c.requires.kind c.requires.part c.requires.operator c.requires.plain (c.keep_plain.ensures.kept c.if-keep_plain.true) (c.may_be_left_out.ensures c.if-may_be_left_out.false),
-    ))
+    let form = slice_range bytes c.args.first c.args.next in (
+      refl,
+      (
+        Ascii (groups form),
+        text_stands c.args.instr.now c.args.entry.now c.keep_plain.new.entry bytes c.args.at c.args.first c.args.next
+            c.requires.kind c.requires.part c.requires.operator c.requires.plain (c.keep_plain.ensures.kept c.if-keep_plain.true) (rw (c.in-Some-true.field-0-test) at c.in-Some-true.ensures),
+      ),
+    )
 
-pub returns-then-gives_text : goal.returns-then-gives_text
-returns-then-gives_text c =
+pub returns-in-Some-false : goal.returns-in-Some-false
+returns-in-Some-false c =
     let bytes = c.args.bytes.now in
-    let form = slice_range bytes c.args.first c.args.next in
-    (refl, (
-      Ascii (groups form),
-      text_drops c.args.instr.now c.args.entry.now (drop c.args.at bytes) form (drop c.args.next bytes)
-          c.requires.kind c.requires.part c.requires.operator c.requires.plain (c.gives_text.ensures c.if-gives_text.true),
-    ))
+    let form = slice_range bytes c.args.first c.args.next in (
+      refl,
+      (
+        Ascii (groups form),
+        text_drops c.args.instr.now c.args.entry.now (drop c.args.at bytes) form (drop c.args.next bytes)
+            c.requires.kind c.requires.part c.requires.operator c.requires.plain (rw (c.in-Some-false.field-0-test) at c.in-Some-false.ensures),
+      ),
+    )

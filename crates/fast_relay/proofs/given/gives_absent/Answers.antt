@@ -1,9 +1,0 @@
-use Rattle.fast_field.proofs.Passing.{empty_passes, no_initial_passes}
-use Rattle.fast_relay.proofs.Giving.{predicts}
-use Rattle.fast_relay.proofs.given.gives_absent.Goals as goal
-
-pub returns-in-Empty-clause-passed : goal.returns-in-Empty-clause-passed
-returns-in-Empty-clause-passed c = λ yes. rw c.in-Empty.is (empty_passes c.args.instr.now (predicts c.args.instr.now.operator c.in-Copy.is) c.requires.presence)
-
-pub returns-in-None-clause-passed : goal.returns-in-None-clause-passed
-returns-in-None-clause-passed c = λ yes. no_initial_passes c.args.instr.now c.args.entry.now c.in-Default.is c.in-None.is c.requires.presence
