@@ -80,15 +80,11 @@ pub(crate) fn read_cut(instr: &FieldPart, base: &[u8], bytes: &[u8], at: usize) 
     ensures gives { IfSome result (λ cut. GivesCut instr.now base.now (drop at bytes.now) cut.removed
         (slice_range bytes.now cut.first cut.next) (drop cut.next bytes.now)) }
 {
-    let Some((removed, middle)) = read_any_removal(instr.presence, bytes, at) else {
-        return None;
-    };
+    let (removed, middle) = read_any_removal(instr.presence, bytes, at)?;
     if removed > base.len() {
         return None;
     }
-    let Some((first, next)) = find_plain(bytes, middle) else {
-        return None;
-    };
+    let (first, next) = find_plain(bytes, middle)?;
     let kept = base.len() - removed;
     if kept > UNIT_LIMIT || next - first > UNIT_LIMIT - kept {
         return None;
@@ -141,9 +137,7 @@ pub(crate) fn find_tail(
     ensures gives { IfSome result (λ x. GivesTail instr.now base.now (drop at bytes.now)
         (slice_range bytes.now x.0 x.1) (drop x.1 bytes.now)) }
 {
-    let Some((first, next)) = find_plain(bytes, at) else {
-        return None;
-    };
+    let (first, next) = find_plain(bytes, at)?;
     if next - first > base.len() {
         return None;
     }
@@ -165,9 +159,7 @@ pub(crate) fn read_tail(
     ensures gives { IfSome result (λ x. GivesTail instr.now base.now (drop at bytes.now)
         (slice_range bytes.now x.0 x.1) (drop x.1 bytes.now)) }
 {
-    let Some((first, next)) = find_tail(instr, base, bytes, at) else {
-        return None;
-    };
+    let (first, next) = find_tail(instr, base, bytes, at)?;
     let kept = base.len() - (next - first);
     if base[kept] == bytes[first] % 128 {
         Some((less_put(base, bytes, first, next), next))

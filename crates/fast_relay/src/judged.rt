@@ -80,9 +80,7 @@ pub(crate) fn read_number(
     if !unsigned {
         return read_signed(presence, bytes, at);
     }
-    let Some((number, next)) = read_unsigned(presence, bytes, at) else {
-        return None;
-    };
+    let (number, next) = read_unsigned(presence, bytes, at)?;
     match i64::try_from(number) {
         Ok(number) => Some((number, next)),
         Err(_) => None,
@@ -120,9 +118,7 @@ pub(crate) fn read_shortest(
     ensures place { IfSome result (λ x. (at ≤ x.1) × (x.1 ≤ length bytes.now)) }
     ensures stands { IfSome result (λ x. StandsAt unsigned presence bytes.now at x.1 x.0) }
 {
-    let Some((number, next)) = read_number(unsigned, presence, bytes, at) else {
-        return None;
-    };
+    let (number, next) = read_number(unsigned, presence, bytes, at)?;
     if stands_shortest(unsigned, presence, number, bytes, at, next) {
         Some((number, next))
     } else {
@@ -431,9 +427,7 @@ pub(crate) fn read_behind(
     if at == bytes.len() || (bytes[at] != 0 && bytes[at] != 127) {
         return None;
     }
-    let Some((number, next)) = read_number(unsigned, presence, bytes, at) else {
-        return None;
-    };
+    let (number, next) = read_number(unsigned, presence, bytes, at)?;
     if stands_shortest(unsigned, presence, number, bytes, at, next) {
         return None;
     }

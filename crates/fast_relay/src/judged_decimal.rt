@@ -80,12 +80,8 @@ fn read_pair(presence: Presence, bytes: &[u8], at: usize) -> Option<(i64, i64, u
     ensures place { IfSome result (λ x. (at ≤ x.2) × (x.2 ≤ length bytes.now)) }
     ensures stands { IfSome result (λ x. PairStandsFrom presence bytes.now at at x.2 x.0 x.1) }
 {
-    let Some((exponent, middle)) = read_exponent(presence, bytes, at) else {
-        return None;
-    };
-    let Some((mantissa, next)) = read_shortest(false, Presence::Mandatory, bytes, middle) else {
-        return None;
-    };
+    let (exponent, middle) = read_exponent(presence, bytes, at)?;
+    let (mantissa, next) = read_shortest(false, Presence::Mandatory, bytes, middle)?;
     Some((exponent, mantissa, next))
 }
 
@@ -98,12 +94,8 @@ fn read_pair_behind(presence: Presence, bytes: &[u8], at: usize) -> Option<(i64,
     ensures place { IfSome result (λ x. (x.2 ≤ x.3) × (x.3 ≤ length bytes.now)) }
     ensures stands { IfSome result (λ x. PairStandsFrom presence bytes.now at x.2 x.3 x.0 x.1) }
 {
-    let Some((exponent, first, middle)) = read_behind(false, presence, bytes, at) else {
-        return None;
-    };
-    let Some((mantissa, next)) = read_shortest(false, Presence::Mandatory, bytes, middle) else {
-        return None;
-    };
+    let (exponent, first, middle) = read_behind(false, presence, bytes, at)?;
+    let (mantissa, next) = read_shortest(false, Presence::Mandatory, bytes, middle)?;
     Some((exponent, mantissa, first, next))
 }
 
@@ -133,12 +125,8 @@ pub(crate) fn parts_moved(kept: Parts, exponent_delta: i64, mantissa_delta: i64)
     ensures near { IfSome result (λ d. exponent_in_range d.exponent ≡ true) }
     ensures fits { IfSome result (λ d. in_range kind_type.Int64 d.mantissa ≡ true) }
 {
-    let Some(exponent) = i64::from(kept.exponent).checked_add(exponent_delta) else {
-        return None;
-    };
-    let Some(mantissa) = kept.mantissa.checked_add(mantissa_delta) else {
-        return None;
-    };
+    let exponent = i64::from(kept.exponent).checked_add(exponent_delta)?;
+    let mantissa = kept.mantissa.checked_add(mantissa_delta)?;
     parts_within(exponent, mantissa)
 }
 
@@ -167,9 +155,7 @@ fn judge_copy(instr: &FieldPart, entry: &mut Entry, parts: Parts) -> Option<bool
         (scalar.Decimal parts.exponent parts.mantissa)) }
     ensures entry { IfNone result (entry.new ≡ entry.old) }
 {
-    let Some(kept) = kept_parts(entry) else {
-        return None;
-    };
+    let kept = kept_parts(entry)?;
     if kept == parts {
         return Some(false);
     }

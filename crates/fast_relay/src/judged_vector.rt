@@ -32,9 +32,7 @@ fn find_shortest(kind: Kind, presence: Presence, bytes: &[u8], at: usize) -> Opt
     ensures end { IfSome result (λ x. x.1 ≤ length bytes.now) }
     ensures stands { IfSome result (λ x. UnitsStandFrom kind presence bytes.now at at x.0 x.1) }
 {
-    let Some((count, start)) = read_length(presence, bytes, at) else {
-        return None;
-    };
+    let (count, start) = read_length(presence, bytes, at)?;
     if bytes.len() - start < count {
         return None;
     }
@@ -57,9 +55,7 @@ fn find_behind(
     ensures end { IfSome result (λ x. x.2 ≤ length bytes.now) }
     ensures stands { IfSome result (λ x. UnitsStandFrom kind presence bytes.now at x.0 x.1 x.2) }
 {
-    let Some((count, first, start)) = read_length_behind(presence, bytes, at) else {
-        return None;
-    };
+    let (count, first, start) = read_length_behind(presence, bytes, at)?;
     if bytes.len() - start < count {
         return None;
     }
@@ -297,9 +293,7 @@ fn judge_vector_delta(
         (entry_type.Assigned value.new) bytes.now at first next) }
     ensures value { IfNone result (value.new ≡ value.old) }
 {
-    let Some((start, next)) = find_shortest(instr.kind, Presence::Mandatory, bytes, middle) else {
-        return None;
-    };
+    let (start, next) = find_shortest(instr.kind, Presence::Mandatory, bytes, middle)?;
     if !is_text(instr.kind, value) {
         return None;
     }

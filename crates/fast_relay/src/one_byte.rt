@@ -74,9 +74,7 @@ fn read_long_removal(presence: Presence, bytes: &[u8], at: usize) -> Option<(usi
     ensures gives { IfSome result (λ x. Spelt false presence (drop at bytes.now)
         (pos x.0) (drop x.1 bytes.now)) }
 {
-    let Some((removal, next)) = read_number(false, presence, bytes, at) else {
-        return None;
-    };
+    let (removal, next) = read_number(false, presence, bytes, at)?;
     match few_bytes(i128::from(removal)) {
         Some(removed) if removed < usize::from(FEW) => Some((removed, next)),
         _ => None,
@@ -116,9 +114,7 @@ pub(crate) fn read_removal_behind(
     ensures few { IfSome result (λ x. x.0 < 63) }
     ensures stands { IfSome result (λ x. StandsFrom false presence bytes.now at x.1 x.2 (pos x.0)) }
 {
-    let Some((removed, first, next)) = read_behind(false, presence, bytes, at) else {
-        return None;
-    };
+    let (removed, first, next) = read_behind(false, presence, bytes, at)?;
     match few_bytes(i128::from(removed)) {
         Some(count) if count < usize::from(FEW) => Some((count, first, next)),
         _ => None,
@@ -139,9 +135,7 @@ pub(crate) fn read_length_behind(
     ensures few { IfSome result (λ x. x.0 ≤ 65535) }
     ensures stands { IfSome result (λ x. StandsFrom true presence bytes.now at x.1 x.2 (pos x.0)) }
 {
-    let Some((length, first, start)) = read_behind(true, presence, bytes, at) else {
-        return None;
-    };
+    let (length, first, start) = read_behind(true, presence, bytes, at)?;
     match few_bytes(i128::from(length)) {
         Some(count) => Some((count, first, start)),
         None => None,
@@ -156,9 +150,7 @@ fn read_long_length(presence: Presence, bytes: &[u8], at: usize) -> Option<(usiz
     ensures few { IfSome result (λ x. x.0 ≤ 65535) }
     ensures stands { IfSome result (λ x. StandsAt true presence bytes.now at x.1 (pos x.0)) }
 {
-    let Some((length, start)) = read_shortest(true, presence, bytes, at) else {
-        return None;
-    };
+    let (length, start) = read_shortest(true, presence, bytes, at)?;
     match few_bytes(i128::from(length)) {
         Some(count) => Some((count, start)),
         None => None,

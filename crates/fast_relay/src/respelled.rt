@@ -49,9 +49,7 @@ fn respell_delta(
     ensures out { IfNone result (Stays bytes.now at out.old out.new) }
 {
     let base = text.as_slice();
-    let Some(cut) = read_cut(instr, base, bytes, at) else {
-        return None;
-    };
+    let cut = read_cut(instr, base, bytes, at)?;
     let form = &bytes[cut.first..cut.next];
     let kept = base.len() - cut.removed;
     if !agrees_no_further(base, kept, form) || !is_cut_at_end(base, kept, form) {
@@ -99,9 +97,7 @@ fn respell_tail(
     ensures out { IfNone result (Stays bytes.now at out.old out.new) }
 {
     let base = text.as_slice();
-    let Some((first, next)) = read_tail(instr, base, bytes, at) else {
-        return None;
-    };
+    let (first, next) = read_tail(instr, base, bytes, at)?;
     let form = &bytes[first..next];
     if form.len() > base.len() {
         return None;

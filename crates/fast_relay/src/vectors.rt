@@ -48,12 +48,8 @@ pub(crate) fn find_bytes(
     ensures gives { IfSome result (λ x. units_at Usual kind presence (drop at bytes.now)
         ≡ Ok (Value (slice_range bytes.now x.0 x.1), drop x.1 bytes.now)) }
 {
-    let Some((length, start)) = read_short(true, presence, bytes, at) else {
-        return None;
-    };
-    let Some(count) = few_bytes(length) else {
-        return None;
-    };
+    let (length, start) = read_short(true, presence, bytes, at)?;
+    let count = few_bytes(length)?;
     if bytes.len() - start < count {
         return None;
     }

@@ -12,7 +12,7 @@ put_part-requires-clause-text c =
     let i = c.args.instr.now in
     let value = c.args.value.now in
     let b = units_of value in
-    let s = slice_range c.args.bytes.now c.in-Some.start c.in-Some.next in
+    let s = slice_range c.args.bytes.now c.in_ok-start.start c.in_ok-start.next in
     let n = length b - c.args.removed in
     let text = c.is_text.ensures c.if-not-is_text.false in
     let few = text_few i.kind value text in
@@ -27,8 +27,8 @@ returns-then-put_part-clause-judged c =
     let value = c.args.value.now in
     let b = units_of value in
     let bytes = c.args.bytes.now in
-    let start = c.in-Some.start in
-    let next = c.in-Some.next in
+    let start = c.in_ok-start.start in
+    let next = c.in_ok-start.next in
     let s = slice_range bytes start next in
     let form = slice_range bytes c.args.first next in
     let r = c.args.removed in
@@ -51,15 +51,15 @@ returns-then-put_part-clause-judged c =
           (rw c.units-base.ensures at (c.is_vector_cut_at_end.ensures c.if-not-is_vector_cut_at_end.false))
           t
           sent.spelt
-          c.in-Some.ensures.stands.spelt (
+          c.in_ok-start.ensures.stands.spelt (
             form,
             refl,
             record {
               front = front;
               back = back;
-              parts = range_split bytes c.args.first c.args.middle next c.requires.first (omega (arith, c.in-Some.ensures.start));
+              parts = range_split bytes c.args.first c.args.middle next c.requires.first (omega (arith, c.in_ok-start.ensures.start));
               first = shortest_signed i.presence (pos r) front sent.form sent.short;
-              second = c.in-Some.ensures.stands.shortest part;
+              second = c.in_ok-start.ensures.stands.shortest part;
             },
           )),
     )

@@ -8,26 +8,26 @@ pub returns-then-put_characters-clause-relayed : goal.returns-then-put_character
 returns-then-put_characters-clause-relayed c =
     let base = c.as_slice-base.result.now in
     let bytes = c.args.bytes.now in
-    let form = slice_range bytes c.in-Some.first c.in-Some.next in
-    let run = begun bytes c.in-Some.first c.begin.new.self c.begin.ensures.from c.begin.ensures.place (omega (arith, c.in-Some.ensures.place)) in
+    let form = slice_range bytes c.in_ok-first.first c.in_ok-first.next in
+    let run = begun bytes c.in_ok-first.first c.begin.new.self c.begin.ensures.from c.begin.ensures.place (omega (arith, c.in_ok-first.ensures.place)) in
     let appended = none_noted bytes c.begin.new.self (c.begin.ensures.from ∙ sym c.begin.ensures.place) ∙ c.begin.ensures.out ∙ c.flush.ensures.out c.if-not-flush.false in
-    let after = c.keep.ensures.written bytes c.in-Some.first run ∙ ap (λ (s : List ℕ). s ++ form) appended in
+    let after = c.keep.ensures.written bytes c.in_ok-first.first run ∙ ap (λ (s : List ℕ). s ++ form) appended in
     rw (c.put_characters.ensures.put c.if-put_characters.true, ← c.as_slice-base.ensures)
-    (plain_tail_relays c.args.instr.now base (length base - length form) (drop c.args.at bytes) form (drop c.in-Some.next bytes) (written bytes c.args.out.now) (written bytes c.keep.new.self)
+    (plain_tail_relays c.args.instr.now base (length base - length form) (drop c.args.at bytes) form (drop c.in_ok-first.next bytes) (written bytes c.args.out.now) (written bytes c.keep.new.self)
     c.requires.kind c.requires.part c.requires.operator
     (characters_text base (rw c.as_slice-base.ensures c.requires.kept)) (rw c.as_slice-base.ensures c.requires.kept.0) (omega (arith, c.if-form-base.false))
-    c.in-Some.ensures.gives
+    c.in_ok-first.ensures.gives
     (c.agrees_no_further.ensures c.if-not-agrees_no_further.false)
     after)
 
 pub agrees_no_further-requires-clause-entity : goal.agrees_no_further-requires-clause-entity
-agrees_no_further-requires-clause-entity c = c.in-Some.ensures.gives.plain.entity
+agrees_no_further-requires-clause-entity c = c.in_ok-first.ensures.gives.plain.entity
 
 pub put_characters-requires-clause-entity : goal.put_characters-requires-clause-entity
-put_characters-requires-clause-entity c = c.in-Some.ensures.gives.plain.entity
+put_characters-requires-clause-entity c = c.in_ok-first.ensures.gives.plain.entity
 
-pub returns-in_default-clause-out : goal.returns-in_default-clause-out
-returns-in_default-clause-out c = still c.args.bytes.now c.args.at c.args.out.now c.requires.run
+pub returns-in_err-first-clause-out : goal.returns-in_err-first-clause-out
+returns-in_err-first-clause-out c = rw (c.from_residual.ensures) (still c.args.bytes.now c.args.at c.args.out.now c.requires.run)
 
 pub returns-then-form-base-clause-out : goal.returns-then-form-base-clause-out
 returns-then-form-base-clause-out c = still c.args.bytes.now c.args.at c.args.out.now c.requires.run
@@ -45,5 +45,5 @@ returns-else-put_characters-clause-out c =
 pub returns-then-put_characters-clause-run : goal.returns-then-put_characters-clause-run
 returns-then-put_characters-clause-run c =
     let bytes = c.args.bytes.now in
-    let run = begun bytes c.in-Some.first c.begin.new.self c.begin.ensures.from c.begin.ensures.place (omega (arith, c.in-Some.ensures.place)) in
-    c.keep.ensures.run bytes c.in-Some.first run c.in-Some.ensures.place.2
+    let run = begun bytes c.in_ok-first.first c.begin.new.self c.begin.ensures.from c.begin.ensures.place (omega (arith, c.in_ok-first.ensures.place)) in
+    c.keep.ensures.run bytes c.in_ok-first.first run c.in_ok-first.ensures.place.2

@@ -10,10 +10,10 @@ use Rattle.fast_relay.proofs.vectors.find_bytes.Goals as goal
 pub returns-clause-gives : goal.returns-clause-gives
 returns-clause-gives c =
     let bytes = c.args.bytes.now in
-    let z = c.in-Some.length in
-    let read = c.in-Some.ensures in
-    let few = c.in-Some-few_bytes.ensures in
+    let z = c.in_ok-length.length in
+    let read = c.in_ok-length.ensures in
+    let few = c.in_ok-count.ensures in
     let fits : FitsSigned w128 z = omega (arith, ints, read.above, read.below) in
-    bytes_found c.args.kind c.args.presence bytes c.args.at c.in-Some.start c.in-Some-few_bytes.count c.requires.kind
-    (subst (λ (x : ℤ). Spelt true c.args.presence (drop c.args.at bytes) x (drop c.in-Some.start bytes)) (sym (to_z-of_z w128 z fits) ∙ few.0) read.gives)
+    bytes_found c.args.kind c.args.presence bytes c.args.at c.in_ok-length.start c.in_ok-count.count c.requires.kind
+    (subst (λ (x : ℤ). Spelt true c.args.presence (drop c.args.at bytes) x (drop c.in_ok-length.start bytes)) (sym (to_z-of_z w128 z fits) ∙ few.0) read.gives)
     few.1 (omega (arith, c.if-bytes-start.false)) (omega (arith, read.place))
