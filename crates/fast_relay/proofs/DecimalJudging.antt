@@ -1,5 +1,5 @@
 -- What decimals rest on that are judged as they stand.
-use Rattle.std.proofs.Common.{◌≡◌, ◌++◌, ℕ, true, false, List, drop, slice_range, refl, ◌∙◌}
+use Rattle.std.proofs.Common.{◌≡◌, ◌++◌, ℕ, Bool, true, false, List, drop, slice_range, refl, ◌∙◌}
 use Rattle.std.specs.Prelude.{ℤ, ◌+ℤ◌, Some}
 use Rattle.fast_value.specs.Scalar.{exponent_in_range, in_range}
 use Rattle.fast_value.specs.declared.kind.Kind.TheVariants as kind
@@ -14,7 +14,7 @@ use Rattle.fast_dictionary.specs.declared.entry.Entry.TheVariants.{Assigned}
 use Rattle.fast_field.specs.Chosen.{ShortestPair}
 use Rattle.fast_field.proofs.BestForms.{bit_zero_is_best}
 use Rattle.fast_field.proofs.BestValues.{left_out}
-use Rattle.fast_relay.specs.Judged.{JudgesFrom, Leaves, PairStandsFrom}
+use Rattle.fast_relay.specs.Judged.{JudgesFrom, Leaves, PairGives, PairStandsFrom}
 use Rattle.fast_relay.specs.Numbers.{SpellsWhole}
 use Rattle.fast_relay.proofs.DecimalRelaying.{decimal_of, decimal_relays, decimal_whole_relays, whole_read}
 use Rattle.fast_relay.proofs.Relaying.{whole_row}
@@ -35,14 +35,14 @@ pair_shortest p bytes at first next x m s =
       second = shortest_signed Mandatory m back s.mantissa.form s.mantissa.short;
     }
 
-pub decimal_stands : (i : FieldPart) (old new : Entry) (x m : ℤ) (bytes : List ℕ) (at first next : ℕ) → i.kind ≡ kind.Decimal → i.part ≡ part.Whole → SpellsWhole i.operator → exponent_in_range x ≡ true → in_range kind.Int64 m ≡ true → PairStandsFrom i.presence bytes at first next x m → Leaves true i old new (Decimal x m)
+decimal_stands : (i : FieldPart) (old new : Entry) (x m : ℤ) (bytes : List ℕ) (at first next : ℕ) → i.kind ≡ kind.Decimal → i.part ≡ part.Whole → SpellsWhole i.operator → exponent_in_range x ≡ true → in_range kind.Int64 m ≡ true → PairStandsFrom i.presence bytes at first next x m → Leaves true i old new (Decimal x m)
     → JudgesFrom true i old new (Decimal x m) bytes at first next
 decimal_stands i old new x m bytes at first next k p o near fits s l = λ out.
     let form = slice_range bytes first next in
     decimal_whole_relays i old new x m (drop at bytes) (drop s.middle bytes) (drop next bytes) out (out ++ form) k p o s.exponent.spelt near s.mantissa.spelt fits l.left_out l.entry
     (form, refl, pair_shortest i.presence bytes at first next x m s)
 
-pub decimal_given : (i : FieldPart) (old new : Entry) (x m : ℤ) (bytes : List ℕ) (at first next : ℕ) → i.kind ≡ kind.Decimal → i.part ≡ part.Whole → SpellsWhole i.operator → exponent_in_range x ≡ true → in_range kind.Int64 m ≡ true → PairStandsFrom i.presence bytes at first next x m → Leaves false i old new (Decimal x m)
+decimal_given : (i : FieldPart) (old new : Entry) (x m : ℤ) (bytes : List ℕ) (at first next : ℕ) → i.kind ≡ kind.Decimal → i.part ≡ part.Whole → SpellsWhole i.operator → exponent_in_range x ≡ true → in_range kind.Int64 m ≡ true → PairStandsFrom i.presence bytes at first next x m → Leaves false i old new (Decimal x m)
     → JudgesFrom false i old new (Decimal x m) bytes at first next
 decimal_given i old new x m bytes at first next k p o near fits s l =
     let v = Decimal x m in
@@ -62,3 +62,7 @@ decimal_delta_stands i old new x m dx dm bytes at first next is k o p s near fit
     let form = slice_range bytes first next in
     decimal_relays i old new x m dx dm (drop at bytes) (drop s.middle bytes) (drop next bytes) out (out ++ form) is k o p s.exponent.spelt near s.mantissa.spelt fits entry
     (form, refl, pair_shortest i.presence bytes at first next dx dm s)
+
+pub decimal_gives : (bit : Bool) (i : FieldPart) (old new : Entry) (x m : ℤ) → i.kind ≡ kind.Decimal → i.part ≡ part.Whole → SpellsWhole i.operator → exponent_in_range x ≡ true → in_range kind.Int64 m ≡ true → Leaves bit i old new (Decimal x m) → PairGives bit i old new x m
+decimal_gives true i old new x m k p o near fits l = λ bytes at first next s. (Decimal x m, decimal_stands i old new x m bytes at first next k p o near fits s l)
+decimal_gives false i old new x m k p o near fits l = λ bytes at first next s. (Decimal x m, decimal_given i old new x m bytes at first next k p o near fits s l)

@@ -70,6 +70,15 @@ IsBehind at first next (Behind n) = (n ≡ next) × (first ≡ at + 1)
 IsBehind at first next (BehindTwo n) = (n ≡ next) × (first ≡ at + 2)
 IsBehind at first next j = ⊥
 
+-- what is answered where the best form has a bit: with bit 1 it stands from a place on
+abbrev pub HasAnswer : ℕ → ℕ → ℕ → Option Bool → Judged → Type 0
+HasAnswer at first next (Some true) (Stands n) = (n ≡ next) × (first ≡ at)
+HasAnswer at first next (Some true) (Behind n) = (n ≡ next) × (first ≡ at + 1)
+HasAnswer at first next (Some true) (BehindTwo n) = (n ≡ next) × (first ≡ at + 2)
+HasAnswer at first next (Some false) (Given n) = n ≡ next
+HasAnswer at first next None Elsewhere = ⊤
+HasAnswer at first next bit j = ⊥
+
 -- the best form of a value that was sent whole, or of NULL, has this bit: bit 0 gives another one, or it gives this one and leaves
 -- the entry as it is
 abbrev pub HasBit : FieldPart → Entry → Option Scalar → Option Bool → Type 0
@@ -94,12 +103,15 @@ pub record StandsFrom (unsigned : Bool) (p : Presence) (bytes : List ℕ) (at fi
 abbrev pub StandsAt : Bool → Presence → List ℕ → ℕ → ℕ → ℤ → Type 0
 StandsAt unsigned p bytes at next z = StandsFrom unsigned p bytes at at next z
 
--- the bytes from one place to another spell a string or vector, whose own bytes are those from `start` on, and those from
--- `first` on are its shortest form if it is within its type
-pub record UnitsStandFrom (k : Kind) (p : Presence) (bytes : List ℕ) (at first start next : ℕ) : Type 0 where
-  pub spelt : units_at Usual k p (drop at bytes) ≡ Ok (Value (slice_range bytes start next), drop next bytes)
-  pub shortest : IsText k (of_units k (slice_range bytes start next))
-      → ShortestUnits k p (slice_range bytes start next) (slice_range bytes first next)
+-- the bytes from one place to another spell a string or vector, whose own bytes are these, and those from `first` on are its
+-- shortest form if it is within its type
+pub record UnitsStand (k : Kind) (p : Presence) (bytes : List ℕ) (at first next : ℕ) (part : List ℕ) : Type 0 where
+  pub spelt : units_at Usual k p (drop at bytes) ≡ Ok (Value part, drop next bytes)
+  pub shortest : IsText k (of_units k part) → ShortestUnits k p part (slice_range bytes first next)
+
+-- its own bytes are those from `start` on
+abbrev pub UnitsStandFrom : Kind → Presence → List ℕ → ℕ → ℕ → ℕ → ℕ → Type 0
+UnitsStandFrom k p bytes at first start next = UnitsStand k p bytes at first next (slice_range bytes start next)
 
 -- the byte that spells 0, as a number with a sign and without
 abbrev pub zero_byte : Presence → ℕ
@@ -114,6 +126,14 @@ pub record PairStandsFrom (p : Presence) (bytes : List ℕ) (at first next : ℕ
   pub behind : middle ≤ next
   pub exponent : StandsFrom false p bytes at first middle e
   pub mantissa : StandsAt false Mandatory bytes middle next m
+
+-- wherever these numbers stand as an exponent and a mantissa, the best form of what they give has this bit
+abbrev pub PairGives : Bool → FieldPart → Entry → Entry → ℤ → ℤ → Type 0
+PairGives bit i old new e m = (bytes : List ℕ) (at first next : ℕ) → PairStandsFrom i.presence bytes at first next e m → Gives bit i old new bytes at first next
+
+-- wherever these bytes stand behind their length, the best form of what they give has this bit
+abbrev pub UnitsGive : Bool → FieldPart → Entry → Entry → List ℕ → Type 0
+UnitsGive bit i old new part = (bytes : List ℕ) (at first next : ℕ) → UnitsStand i.kind i.presence bytes at first next part → Gives bit i old new bytes at first next
 
 -- the entry is the one after the value, and bit 0 gives the value exactly if it is the bit of the best form
 pub record Leaves (bit : Bool) (i : FieldPart) (old new : Entry) (v : Scalar) : Type 0 where

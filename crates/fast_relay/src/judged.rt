@@ -13,7 +13,7 @@ ghost use Rattle.fast_field.specs.Planning.{is_same};
 ghost use Rattle.fast_field.specs.Spelled.{overlong_number};
 ghost use Rattle.fast_field.specs.Values as values;
 ghost use Rattle.fast_field.specs.Within.{HoldsScalar};
-ghost use Rattle.fast_relay.specs.Judged.{Adds, IfFound, IsBehind, IsJudged, Leaves, LeavesNumber, LeavesWhole, StandsAt, StandsFrom};
+ghost use Rattle.fast_relay.specs.Judged.{Adds, HasAnswer, IfFound, IsBehind, IsJudged, Leaves, LeavesNumber, LeavesWhole, StandsAt, StandsFrom};
 ghost use Rattle.fast_relay.specs.Numbers.{SpellsWhole, Spelt};
 
 use crate::integers::{is_overlong, is_unsigned, read_signed, read_unsigned};
@@ -441,7 +441,7 @@ pub(crate) fn read_behind(
 
 /// The best form of a field stands behind one needless byte or two: it begins at `first`.
 #[inline(always)]
-pub(crate) fn behind(at: usize, first: usize, next: usize) -> Judged
+fn behind(at: usize, first: usize, next: usize) -> Judged
     requires first { (at + 1 ≤ first) × (first ≤ at + 2) }
     ensures { IsBehind at first next result }
 {
@@ -449,6 +449,25 @@ pub(crate) fn behind(at: usize, first: usize, next: usize) -> Judged
         Judged::Behind(next)
     } else {
         Judged::BehindTwo(next)
+    }
+}
+
+/// What is answered of a field by the bit of its best form: with bit 1 that begins at `first`.
+#[inline(always)]
+pub(crate) fn answer(bit: Option<bool>, at: usize, first: usize, next: usize) -> Judged
+    requires first { (at ≤ first) × (first ≤ at + 2) }
+    ensures { HasAnswer at first next bit result }
+{
+    match bit {
+        Some(true) => {
+            if first == at {
+                Judged::Stands(next)
+            } else {
+                behind(at, first, next)
+            }
+        }
+        Some(false) => Judged::Given(next),
+        None => Judged::Elsewhere,
     }
 }
 

@@ -8,10 +8,10 @@ ghost use Rattle.fast_value.specs.declared.kind.Operator.TheVariants as operator
 ghost use Rattle.fast_value.specs.declared.kind.Part.TheVariants as part_type;
 ghost use Rattle.fast_value.specs.declared.scalar.Scalar.TheVariants as scalar;
 ghost use Rattle.fast_dictionary.specs.declared.entry.Entry.TheVariants as entry_type;
-ghost use Rattle.fast_relay.specs.Judged.{Gives, IfFound, IsJudged, Leaves, PairStandsFrom, StandsAt};
+ghost use Rattle.fast_relay.specs.Judged.{IsJudged, Leaves, PairGives, PairStandsFrom, StandsAt};
 ghost use Rattle.fast_relay.specs.Numbers.{SpellsWhole};
 
-use crate::judged::{Judged, behind, read_behind, read_shortest};
+use crate::judged::{Judged, answer, read_behind, read_shortest};
 use crate::one_byte::read_removal;
 use fast_dictionary::Entry;
 use fast_template::{FieldPart, Operator, Presence, Scalar};
@@ -86,8 +86,8 @@ fn read_pair(presence: Presence, bytes: &[u8], at: usize) -> Option<(i64, i64, u
 }
 
 /// The same where the exponent's shortest form stands behind one needless group or two: these are no part of the shortest
-/// forms; answers also where those begin.
-#[inline(always)]
+/// forms; answers also where those begin. (A call of its own, so that others do not pay for it.)
+#[inline(never)]
 fn read_pair_behind(presence: Presence, bytes: &[u8], at: usize) -> Option<(i64, i64, usize, usize)>
     requires { at ≤ length bytes.now }
     ensures first { IfSome result (λ x. (at + 1 ≤ x.2) × (x.2 ≤ at + 2)) }
@@ -181,111 +181,27 @@ fn judge_read(instr: &FieldPart, entry: &mut Entry, parts: Parts) -> Option<bool
     }
 }
 
-/// Judges a decimal that is spelled whole and was read, whose shortest form are the bytes from `first` on.
+/// The bit of the best form of a decimal of which two numbers were read: it was spelled whole, or differs so from the one that
+/// the entry has; the entry goes on. None: nothing has changed, and another way tells.
 #[inline(always)]
-fn judge_decimal_whole(
-    instr: &FieldPart,
-    entry: &mut Entry,
-    exponent: i64,
-    mantissa: i64,
-    bytes: &[u8],
-    at: usize,
-    first: usize,
-    next: usize,
-) -> Judged
-    requires part { instr.now.part ≡ part_type.Whole }
-    requires operator { SpellsWhole instr.now.operator }
-    requires kind { instr.now.kind ≡ kind_type.Decimal }
-    requires stands { PairStandsFrom instr.now.presence bytes.now at first next exponent mantissa }
-    ensures { IfFound next result (λ bit. Gives bit instr.now entry.old entry.new bytes.now at first next)
-        (entry.new ≡ entry.old) }
-{
-    let Some(parts) = parts_within(exponent, mantissa) else {
-        return Judged::Elsewhere;
-    };
-    match judge_read(instr, entry, parts) {
-        Some(true) => Judged::Stands(next),
-        Some(false) => Judged::Given(next),
-        None => Judged::Elsewhere,
-    }
-}
-
-/// Judges what is added to the decimal that the entry has, and was read.
-#[inline(always)]
-fn judge_decimal_delta(
-    instr: &FieldPart,
-    entry: &mut Entry,
-    exponent_delta: i64,
-    mantissa_delta: i64,
-    bytes: &[u8],
-    at: usize,
-    first: usize,
-    next: usize,
-) -> Judged
-    requires part { instr.now.part ≡ part_type.Whole }
-    requires operator { instr.now.operator ≡ operator_type.Delta }
-    requires kind { instr.now.kind ≡ kind_type.Decimal }
-    requires stands { PairStandsFrom instr.now.presence bytes.now at first next exponent_delta mantissa_delta }
-    ensures { IfFound next result (λ bit. Gives bit instr.now entry.old entry.new bytes.now at first next)
-        (entry.new ≡ entry.old) }
-{
-    let Some(kept) = kept_parts(entry) else {
-        return Judged::Elsewhere;
-    };
-    let Some(parts) = parts_moved(kept, exponent_delta, mantissa_delta) else {
-        return Judged::Elsewhere;
-    };
-    set_decimal(entry, parts);
-    Judged::Stands(next)
-}
-
-/// Judges two numbers that were read, whose shortest forms are the bytes from `first` on: a decimal, or what is added to
-/// one.
-#[inline(always)]
-fn judge_pair(
-    instr: &FieldPart,
-    entry: &mut Entry,
-    exponent: i64,
-    mantissa: i64,
-    bytes: &[u8],
-    at: usize,
-    first: usize,
-    next: usize,
-) -> Judged
+fn judge_pair(instr: &FieldPart, entry: &mut Entry, exponent: i64, mantissa: i64) -> Option<bool>
     requires part { instr.now.part ≡ part_type.Whole }
     requires kind { instr.now.kind ≡ kind_type.Decimal }
-    requires stands { PairStandsFrom instr.now.presence bytes.now at first next exponent mantissa }
-    ensures { IfFound next result (λ bit. Gives bit instr.now entry.old entry.new bytes.now at first next)
-        (entry.new ≡ entry.old) }
+    ensures gives { IfSome result (λ bit. PairGives bit instr.now entry.old entry.new exponent mantissa) }
+    ensures entry { IfNone result (entry.new ≡ entry.old) }
 {
     match instr.operator {
         Operator::Plain | Operator::Default | Operator::Copy => {
-            judge_decimal_whole(instr, entry, exponent, mantissa, bytes, at, first, next)
+            let parts = parts_within(exponent, mantissa)?;
+            judge_read(instr, entry, parts)
         }
         Operator::Delta => {
-            judge_decimal_delta(instr, entry, exponent, mantissa, bytes, at, first, next)
+            let kept = kept_parts(entry)?;
+            let parts = parts_moved(kept, exponent, mantissa)?;
+            set_decimal(entry, parts);
+            Some(true)
         }
-        Operator::Constant | Operator::Increment | Operator::Tail => Judged::Elsewhere,
-    }
-}
-
-/// Judges a decimal that does not stand in its shortest form: it may behind the first byte or two. (A call of its own, so that
-/// others do not pay for it.)
-#[inline(never)]
-fn judge_decimal_behind(instr: &FieldPart, entry: &mut Entry, bytes: &[u8], at: usize) -> Judged
-    requires place { at ≤ length bytes.now }
-    requires part { instr.now.part ≡ part_type.Whole }
-    requires kind { instr.now.kind ≡ kind_type.Decimal }
-    ensures { IsJudged instr.now entry.old entry.new bytes.now at result }
-{
-    let Some((exponent, mantissa, first, next)) = read_pair_behind(instr.presence, bytes, at) else {
-        return Judged::Elsewhere;
-    };
-    match judge_pair(instr, entry, exponent, mantissa, bytes, at, first, next) {
-        Judged::Stands(_next) => behind(at, first, next),
-        Judged::Given(_next) => Judged::Given(next),
-        Judged::Behind(_) | Judged::BehindTwo(_) => unreachable!(),
-        Judged::Elsewhere => Judged::Elsewhere,
+        Operator::Constant | Operator::Increment | Operator::Tail => None,
     }
 }
 
@@ -298,10 +214,18 @@ pub(crate) fn judge_decimal(instr: &FieldPart, entry: &mut Entry, bytes: &[u8], 
     requires kind { instr.now.kind ≡ kind_type.Decimal }
     ensures { IsJudged instr.now entry.old entry.new bytes.now at result }
 {
-    match read_pair(instr.presence, bytes, at) {
-        Some((exponent, mantissa, next)) => {
-            judge_pair(instr, entry, exponent, mantissa, bytes, at, at, next)
+    if let Some((exponent, mantissa, next)) = read_pair(instr.presence, bytes, at) {
+        return answer(judge_pair(instr, entry, exponent, mantissa), at, at, next);
+    }
+    match read_pair_behind(instr.presence, bytes, at) {
+        Some((exponent, mantissa, first, next)) => {
+            answer(
+                judge_pair(instr, entry, exponent, mantissa),
+                at,
+                first,
+                next,
+            )
         }
-        None => judge_decimal_behind(instr, entry, bytes, at),
+        None => Judged::Elsewhere,
     }
 }

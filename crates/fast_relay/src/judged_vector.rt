@@ -6,15 +6,15 @@ ghost use Rattle.fast_value.specs.declared.kind.Operator.TheVariants as operator
 ghost use Rattle.fast_value.specs.declared.kind.Part.TheVariants as part_type;
 ghost use Rattle.fast_dictionary.specs.declared.entry.Entry.TheVariants as entry_type;
 ghost use Rattle.fast_field.specs.Within.{HoldsScalar};
-ghost use Rattle.fast_relay.specs.Judged.{Gives, IfFound, IsJudged, StandsFrom, UnitsStandFrom};
+ghost use Rattle.fast_relay.specs.Judged.{Gives, IsJudged, StandsFrom, UnitsGive, UnitsStandFrom};
 ghost use Rattle.fast_relay.specs.Numbers.{SpellsWhole};
 ghost use Rattle.fast_relay.specs.Texts.{IsVectorKind};
 
 use crate::characters::is_text;
 use crate::copied::put_part;
 use crate::given::units_bit;
-use crate::judged::{Judged, behind};
-use crate::one_byte::{read_length, read_length_behind, read_removal, read_removal_behind};
+use crate::judged::{Judged, answer};
+use crate::one_byte::{find_removal, read_length, read_length_behind};
 use crate::vectors::{are_text, keep_bytes, make_units, may_end};
 use fast_dictionary::Entry;
 use fast_field::{goes_on_otherwise, is_vector_cut_at_end, units};
@@ -40,8 +40,8 @@ fn find_shortest(kind: Kind, presence: Presence, bytes: &[u8], at: usize) -> Opt
 }
 
 /// The same of a string or vector whose length is spelled in its shortest form behind one needless group or two, which are
-/// no part of the shortest form; answers first where that begins.
-#[inline(always)]
+/// no part of the shortest form; answers first where that begins. (A call of its own, so that others do not pay for it.)
+#[inline(never)]
 fn find_behind(
     kind: Kind,
     presence: Presence,
@@ -62,209 +62,99 @@ fn find_behind(
     Some((first, start, start + count))
 }
 
-/// Judges a string or vector that is spelled whole, and was found.
+/// The bit of the best form of a string or vector that is spelled whole; the entry goes on. None: nothing has changed, and
+/// another way tells.
 #[inline(always)]
-fn judge_vector_whole(
-    alloc: Global,
-    instr: &FieldPart,
-    entry: &mut Entry,
-    bytes: &[u8],
-    at: usize,
-    first: usize,
-    start: usize,
-    next: usize,
-) -> Judged
-    requires start { start ≤ next }
-    requires within { next ≤ length bytes.now }
+fn judge_whole(alloc: Global, instr: &FieldPart, entry: &mut Entry, part: &[u8]) -> Option<bool>
     requires part { instr.now.part ≡ part_type.Whole }
     requires operator { SpellsWhole instr.now.operator }
     requires kind { IsVectorKind instr.now.kind }
-    requires stands { UnitsStandFrom instr.now.kind instr.now.presence bytes.now at first start next }
-    ensures { IfFound next result (λ bit. Gives bit instr.now entry.old entry.new bytes.now at first next)
-        (entry.new ≡ entry.old) }
+    ensures gives { IfSome result (λ bit. UnitsGive bit instr.now entry.old entry.new part.now) }
+    ensures entry { IfNone result (entry.new ≡ entry.old) }
 {
-    let part = &bytes[start..next];
     if !are_text(instr.kind, part) {
-        return Judged::Elsewhere;
+        return None;
     }
     match units_bit(instr, entry, part) {
         Some(true) => {
             if keep_bytes(alloc, instr.kind, instr.operator, entry, part) {
-                Judged::Stands(next)
+                Some(true)
             } else {
-                Judged::Elsewhere
+                None
             }
         }
-        Some(false) => Judged::Given(next),
-        None => Judged::Elsewhere,
+        Some(false) => Some(false),
+        None => None,
     }
 }
 
-/// Judges a new end of the string or vector that the entry has, which was found: whether it is the best form.
+/// The same of a new end of the string or vector that the entry has.
 #[inline(always)]
-fn judge_vector_tail(
-    alloc: Global,
-    instr: &FieldPart,
-    value: &mut Scalar,
-    bytes: &[u8],
-    at: usize,
-    first: usize,
-    start: usize,
-    next: usize,
-) -> bool
-    requires start { start ≤ next }
-    requires within { next ≤ length bytes.now }
+fn judge_end(alloc: Global, instr: &FieldPart, value: &mut Scalar, part: &[u8]) -> Option<bool>
     requires part { instr.now.part ≡ part_type.Whole }
     requires operator { instr.now.operator ≡ operator_type.Tail }
     requires kind { IsVectorKind instr.now.kind }
-    requires stands { UnitsStandFrom instr.now.kind instr.now.presence bytes.now at first start next }
-    ensures judged { result ≡ true → Gives true instr.now (entry_type.Assigned value.old) (entry_type.Assigned value.new)
-        bytes.now at first next }
-    ensures value { result ≡ false → value.new ≡ value.old }
+    ensures gives { IfSome result (λ bit. UnitsGive bit instr.now (entry_type.Assigned value.old)
+        (entry_type.Assigned value.new) part.now) }
+    ensures value { IfNone result (value.new ≡ value.old) }
 {
     if !is_text(instr.kind, value) {
-        return false;
+        return None;
     }
-    let part = &bytes[start..next];
     let base = units(value);
     if part.len() > base.len() {
-        return false;
+        return None;
     }
     let kept = base.len() - part.len();
     if !goes_on_otherwise(base, kept, part) {
-        return false;
+        return None;
     }
     if !are_text(instr.kind, part) || !may_end(instr.kind, base, kept) {
-        return false;
+        return None;
     }
-    put_part(alloc, instr.kind, value, kept, part)
+    if put_part(alloc, instr.kind, value, kept, part) {
+        Some(true)
+    } else {
+        None
+    }
 }
 
-/// Judges a new end of an empty entry, which was found: it is the whole value.
+/// The same of a new end of an empty entry: it is the whole value.
 #[inline(always)]
-fn judge_vector_first(
-    alloc: Global,
-    instr: &FieldPart,
-    entry: &mut Entry,
-    bytes: &[u8],
-    at: usize,
-    first: usize,
-    start: usize,
-    next: usize,
-) -> bool
-    requires start { start ≤ next }
-    requires within { next ≤ length bytes.now }
+fn judge_first(alloc: Global, instr: &FieldPart, entry: &mut Entry, part: &[u8]) -> Option<bool>
     requires entry { entry.now ≡ entry_type.Empty }
     requires part { instr.now.part ≡ part_type.Whole }
     requires operator { instr.now.operator ≡ operator_type.Tail }
     requires kind { IsVectorKind instr.now.kind }
-    requires stands { UnitsStandFrom instr.now.kind instr.now.presence bytes.now at first start next }
-    ensures judged { result ≡ true → Gives true instr.now entry.old entry.new bytes.now at first next }
-    ensures entry { result ≡ false → entry.new ≡ entry.old }
+    ensures gives { IfSome result (λ bit. UnitsGive bit instr.now entry.old entry.new part.now) }
+    ensures entry { IfNone result (entry.new ≡ entry.old) }
 {
-    let None = &instr.initial else {
-        return false;
-    };
-    let part = &bytes[start..next];
-    if part.is_empty() || !are_text(instr.kind, part) {
-        return false;
+    if instr.initial.is_some() || part.is_empty() || !are_text(instr.kind, part) {
+        return None;
     }
-    let Some(value) = make_units(alloc, instr.kind, part) else {
-        return false;
-    };
+    let value = make_units(alloc, instr.kind, part)?;
     *entry = Entry::Assigned(value);
-    true
+    Some(true)
 }
 
-/// Judges a new end of what the entry has, which was found: whether it is the best form.
+/// The same of a string or vector, or a new end of one.
 #[inline(always)]
-fn judge_vector_end(
-    alloc: Global,
-    instr: &FieldPart,
-    entry: &mut Entry,
-    bytes: &[u8],
-    at: usize,
-    first: usize,
-    start: usize,
-    next: usize,
-) -> bool
-    requires start { start ≤ next }
-    requires within { next ≤ length bytes.now }
-    requires part { instr.now.part ≡ part_type.Whole }
-    requires operator { instr.now.operator ≡ operator_type.Tail }
-    requires kind { IsVectorKind instr.now.kind }
-    requires stands { UnitsStandFrom instr.now.kind instr.now.presence bytes.now at first start next }
-    ensures judged { result ≡ true → Gives true instr.now entry.old entry.new bytes.now at first next }
-    ensures entry { result ≡ false → entry.new ≡ entry.old }
-{
-    match entry {
-        Entry::Assigned(value) => {
-            judge_vector_tail(alloc, instr, value, bytes, at, first, start, next)
-        }
-        Entry::Empty => judge_vector_first(alloc, instr, entry, bytes, at, first, start, next),
-        Entry::Undefined => false,
-    }
-}
-
-/// Judges a string or vector that was found, or a new end of one: its bytes are those from `start` to `next`, and its
-/// shortest form is what stands from `first` on.
-#[inline(always)]
-fn judge_found(
-    alloc: Global,
-    instr: &FieldPart,
-    entry: &mut Entry,
-    bytes: &[u8],
-    at: usize,
-    first: usize,
-    start: usize,
-    next: usize,
-) -> Judged
-    requires start { start ≤ next }
-    requires within { next ≤ length bytes.now }
+fn judge_units(alloc: Global, instr: &FieldPart, entry: &mut Entry, part: &[u8]) -> Option<bool>
     requires part { instr.now.part ≡ part_type.Whole }
     requires kind { IsVectorKind instr.now.kind }
-    requires stands { UnitsStandFrom instr.now.kind instr.now.presence bytes.now at first start next }
-    ensures { IfFound next result (λ bit. Gives bit instr.now entry.old entry.new bytes.now at first next)
-        (entry.new ≡ entry.old) }
+    ensures gives { IfSome result (λ bit. UnitsGive bit instr.now entry.old entry.new part.now) }
+    ensures entry { IfNone result (entry.new ≡ entry.old) }
 {
     match instr.operator {
         Operator::Plain | Operator::Default | Operator::Copy => {
-            judge_vector_whole(alloc, instr, entry, bytes, at, first, start, next)
+            judge_whole(alloc, instr, entry, part)
         }
-        Operator::Tail => {
-            if judge_vector_end(alloc, instr, entry, bytes, at, first, start, next) {
-                Judged::Stands(next)
-            } else {
-                Judged::Elsewhere
-            }
-        }
-        Operator::Constant | Operator::Increment | Operator::Delta => Judged::Elsewhere,
-    }
-}
-
-/// Judges a string or vector, or a new end of one, whose length does not stand in its shortest form: it may behind the first
-/// byte or two. (A call of its own, so that others do not pay for it.)
-#[inline(never)]
-fn judge_found_behind(
-    alloc: Global,
-    instr: &FieldPart,
-    entry: &mut Entry,
-    bytes: &[u8],
-    at: usize,
-) -> Judged
-    requires place { at ≤ length bytes.now }
-    requires part { instr.now.part ≡ part_type.Whole }
-    requires kind { IsVectorKind instr.now.kind }
-    ensures { IsJudged instr.now entry.old entry.new bytes.now at result }
-{
-    let Some((first, start, next)) = find_behind(instr.kind, instr.presence, bytes, at) else {
-        return Judged::Elsewhere;
-    };
-    match judge_found(alloc, instr, entry, bytes, at, first, start, next) {
-        Judged::Stands(_next) => behind(at, first, next),
-        Judged::Given(_next) => Judged::Given(next),
-        Judged::Behind(_) | Judged::BehindTwo(_) => unreachable!(),
-        Judged::Elsewhere => Judged::Elsewhere,
+        Operator::Tail => match entry {
+            Entry::Assigned(value) => judge_end(alloc, instr, value, part),
+            Entry::Empty => judge_first(alloc, instr, entry, part),
+            Entry::Undefined => None,
+        },
+        Operator::Constant | Operator::Increment | Operator::Delta => None,
     }
 }
 
@@ -319,34 +209,9 @@ fn judge_vector_delta(
     }
 }
 
-/// Judges a difference from a string or vector, whose removal does not stand in its shortest form: it may behind the first
-/// byte or two. (A call of its own, so that others do not pay for it.)
-#[inline(never)]
-fn judge_delta_behind(
-    alloc: Global,
-    instr: &FieldPart,
-    value: &mut Scalar,
-    bytes: &[u8],
-    at: usize,
-) -> Judged
-    requires place { at ≤ length bytes.now }
-    requires part { instr.now.part ≡ part_type.Whole }
-    requires operator { instr.now.operator ≡ operator_type.Delta }
-    requires kind { IsVectorKind instr.now.kind }
-    ensures { IsJudged instr.now (entry_type.Assigned value.old) (entry_type.Assigned value.new) bytes.now at result }
-{
-    let Some((removed, first, middle)) = read_removal_behind(instr.presence, bytes, at) else {
-        return Judged::Elsewhere;
-    };
-    match judge_vector_delta(alloc, instr, value, removed, bytes, at, first, middle) {
-        Some(next) => behind(at, first, next),
-        None => Judged::Elsewhere,
-    }
-}
-
 /// Judges a difference from the string or vector that the entry has.
 #[inline(always)]
-fn judge_vector_on(
+fn judge_difference(
     alloc: Global,
     instr: &FieldPart,
     value: &mut Scalar,
@@ -359,14 +224,12 @@ fn judge_vector_on(
     requires kind { IsVectorKind instr.now.kind }
     ensures { IsJudged instr.now (entry_type.Assigned value.old) (entry_type.Assigned value.new) bytes.now at result }
 {
-    match read_removal(instr.presence, bytes, at) {
-        Some(removed) => {
-            match judge_vector_delta(alloc, instr, value, removed, bytes, at, at, at + 1) {
-                Some(next) => Judged::Stands(next),
-                None => Judged::Elsewhere,
-            }
-        }
-        None => judge_delta_behind(alloc, instr, value, bytes, at),
+    let Some((removed, first, middle)) = find_removal(instr.presence, bytes, at) else {
+        return Judged::Elsewhere;
+    };
+    match judge_vector_delta(alloc, instr, value, removed, bytes, at, first, middle) {
+        Some(next) => answer(Some(true), at, first, next),
+        None => Judged::Elsewhere,
     }
 }
 
@@ -388,12 +251,19 @@ pub(crate) fn judge_vector(
 {
     if instr.operator == Operator::Delta {
         return match entry {
-            Entry::Assigned(value) => judge_vector_on(alloc, instr, value, bytes, at),
+            Entry::Assigned(value) => judge_difference(alloc, instr, value, bytes, at),
             Entry::Undefined | Entry::Empty => Judged::Elsewhere,
         };
     }
-    match find_shortest(instr.kind, instr.presence, bytes, at) {
-        Some((start, next)) => judge_found(alloc, instr, entry, bytes, at, at, start, next),
-        None => judge_found_behind(alloc, instr, entry, bytes, at),
+    if let Some((start, next)) = find_shortest(instr.kind, instr.presence, bytes, at) {
+        let bit = judge_units(alloc, instr, entry, &bytes[start..next]);
+        return answer(bit, at, at, next);
+    }
+    match find_behind(instr.kind, instr.presence, bytes, at) {
+        Some((first, start, next)) => {
+            let bit = judge_units(alloc, instr, entry, &bytes[start..next]);
+            answer(bit, at, first, next)
+        }
+        None => Judged::Elsewhere,
     }
 }

@@ -101,13 +101,9 @@ pub(crate) fn read_any_removal(
 }
 
 /// How many units a subtraction length removes at the end, if they are few and its shortest form stands behind one needless
-/// group or two, the place where that begins, and the one behind it.
-#[inline(always)]
-pub(crate) fn read_removal_behind(
-    presence: Presence,
-    bytes: &[u8],
-    at: usize,
-) -> Option<(usize, usize, usize)>
+/// group or two, the place where that begins, and the one behind it. (A call of its own, so that others do not pay for it.)
+#[inline(never)]
+fn read_removal_behind(presence: Presence, bytes: &[u8], at: usize) -> Option<(usize, usize, usize)>
     requires { at ≤ length bytes.now }
     ensures first { IfSome result (λ x. (at + 1 ≤ x.1) × (x.1 ≤ at + 2)) }
     ensures place { IfSome result (λ x. (x.1 ≤ x.2) × (x.2 ≤ length bytes.now)) }
@@ -118,6 +114,25 @@ pub(crate) fn read_removal_behind(
     match few_bytes(i128::from(removed)) {
         Some(count) if count < usize::from(FEW) => Some((count, first, next)),
         _ => None,
+    }
+}
+
+/// The same where its shortest form stands here, or behind one needless group or two.
+#[inline(always)]
+pub(crate) fn find_removal(
+    presence: Presence,
+    bytes: &[u8],
+    at: usize,
+) -> Option<(usize, usize, usize)>
+    requires { at ≤ length bytes.now }
+    ensures first { IfSome result (λ x. (at ≤ x.1) × (x.1 ≤ at + 2)) }
+    ensures place { IfSome result (λ x. (x.1 ≤ x.2) × (x.2 ≤ length bytes.now)) }
+    ensures few { IfSome result (λ x. x.0 < 63) }
+    ensures stands { IfSome result (λ x. StandsFrom false presence bytes.now at x.1 x.2 (pos x.0)) }
+{
+    match read_removal(presence, bytes, at) {
+        Some(removed) => Some((removed, at, at + 1)),
+        None => read_removal_behind(presence, bytes, at),
     }
 }
 
