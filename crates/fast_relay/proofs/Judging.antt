@@ -20,7 +20,7 @@ use Rattle.fast_field.specs.Values.{integer_of, is_unsigned}
 use Rattle.fast_field.proofs.BestForms.{bit_zero_is_best}
 use Rattle.fast_field.proofs.BestValues.{left_out}
 use Rattle.fast_field.proofs.Passing.{increased_is, kind_is, number_back, of_kind, within_number}
-use Rattle.fast_relay.specs.Judged.{Adds, Gives, HasAnswer, IfFound, IsBehind, IsJudged, JudgedTo, JudgesFrom, Leaves, LeavesNumber, LeavesWhole, StandsAt, StandsFrom}
+use Rattle.fast_relay.specs.Judged.{Adds, Gives, HasAnswer, IfFound, IsBehind, IsJudged, JudgedTo, JudgesFrom, Leaves, LeavesWhole, NumberGives, StandsAt, StandsFrom, sent_unsigned}
 use Rattle.fast_relay.specs.Numbers.{SpellsWhole, Spelt}
 use Rattle.fast_relay.specs.declared.judged.Judged.{Judged}
 use Rattle.fast_relay.specs.declared.judged.Judged.TheVariants.{Stands, Behind, BehindTwo, Given, Elsewhere}
@@ -38,20 +38,6 @@ found_as (Given n) next P Q other h f = (f.0, h false f.1)
 found_as (Behind n) next P Q other h f = f
 found_as (BehindTwo n) next P Q other h f = f
 found_as Elsewhere next P Q other h f = f
-
-pub found_judged : (j : Judged) (i : FieldPart) (old new : Entry) (bytes : List ℕ) (at next : ℕ) → at ≤ next → next ≤ length bytes → IfFound next j (λ bit. Gives bit i old new bytes at at next) (new ≡ old) → IsJudged i old new bytes at j
-found_judged (Stands n) i old new bytes at next before within f = rw (f.0) (record { place = before; within = within; gives = f.1 })
-found_judged (Given n) i old new bytes at next before within f = rw (f.0) (record { place = before; within = within; gives = f.1 })
-found_judged (Behind n) i old new bytes at next before within f = absurd f
-found_judged (BehindTwo n) i old new bytes at next before within f = absurd f
-found_judged Elsewhere i old new bytes at next before within f = f
-
-pub behind_judged : (j : Judged) (i : FieldPart) (old new : Entry) (bytes : List ℕ) (at first next : ℕ) → first ≤ next → next ≤ length bytes → IsBehind at first next j → Gives true i old new bytes at first next → IsJudged i old new bytes at j
-behind_judged (Behind n) i old new bytes at first next before within b g = rw (b.0, ← b.1) (record { place = before; within = within; gives = g })
-behind_judged (BehindTwo n) i old new bytes at first next before within b g = rw (b.0, ← b.1) (record { place = before; within = within; gives = g })
-behind_judged (Stands n) i old new bytes at first next before within b g = absurd b
-behind_judged (Given n) i old new bytes at first next before within b g = absurd b
-behind_judged Elsewhere i old new bytes at first next before within b g = absurd b
 
 -- ---- numbers
 
@@ -90,11 +76,16 @@ delta_stands k i old new d bytes at first next same o h s = (
       (form, refl, shortest_signed i.presence d form s.form s.short),
 )
 
-pub number_gives : (bit u : Bool) (k : Kind) (i : FieldPart) (old new : Entry) (z : ℤ) (bytes : List ℕ) (at first next : ℕ) → k ≡ i.kind → (i.operator ≡ operator.Delta → u ≡ false) → (SpellsWhole i.operator → u ≡ is_unsigned k) → StandsFrom u i.presence bytes at first next z → LeavesNumber bit k i.part i old new z
-    → Gives bit i old new bytes at first next
-number_gives true u k i old new z bytes at first next same delta whole s (inl l) = (of_integer k z, whole_stands k i old new z bytes at first next same l.whole l.number (rw (whole l.whole) at s) l.leaves)
-number_gives false u k i old new z bytes at first next same delta whole s (inl l) = (of_integer k z, whole_given k i old new z bytes at first next same l.whole l.number (rw (whole l.whole) at s) l.leaves)
-number_gives bit u k i old new z bytes at first next same delta whole s (inr h) = rw (h.1) (delta_stands k i old new z bytes at first next same h.0 h.2 (rw (delta h.0) at s))
+whole_sign : (o : Operator) (k : Kind) → SpellsWhole o → sent_unsigned o k ≡ is_unsigned k
+whole_sign operator.Plain k whole = refl
+whole_sign operator.Default k whole = refl
+whole_sign operator.Copy k whole = refl
+whole_sign operator.Increment k whole = refl
+whole_sign o k whole = absurd whole
+
+pub whole_gives : (bit : Bool) (k : Kind) (i : FieldPart) (old new : Entry) (z : ℤ) → k ≡ i.kind → LeavesWhole bit k i.part i old new z → NumberGives bit k i old new z
+whole_gives true k i old new z same l = λ bytes at first next s. (of_integer k z, whole_stands k i old new z bytes at first next same l.whole l.number (rw (whole_sign i.operator k l.whole) at s) l.leaves)
+whole_gives false k i old new z same l = λ bytes at first next s. (of_integer k z, whole_given k i old new z bytes at first next same l.whole l.number (rw (whole_sign i.operator k l.whole) at s) l.leaves)
 
 pub nothing_stands : (i : FieldPart) (e : Entry) (v : Scalar) (bytes : List ℕ) (at : ℕ) → ((bytes out : List ℕ) → Relays i e e v bytes bytes out out) → JudgesFrom true i e e v bytes at at at
 nothing_stands i e v bytes at h = λ out.

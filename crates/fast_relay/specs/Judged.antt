@@ -4,6 +4,7 @@ use Rattle.fast_wire.specs.declared.level.Level.TheVariants.{Usual}
 use Rattle.fast_wire.specs.declared.nullable.Nullable.TheVariants.{Value}
 use Rattle.fast_value.specs.Scalar.{is_of, of_integer}
 use Rattle.fast_value.specs.declared.kind.Kind.{Kind}
+use Rattle.fast_value.specs.declared.kind.Operator.{Operator}
 use Rattle.fast_value.specs.declared.kind.Operator.TheVariants as operator
 use Rattle.fast_value.specs.declared.kind.Part.{Part}
 use Rattle.fast_value.specs.declared.kind.Presence.{Presence}
@@ -19,7 +20,7 @@ use Rattle.fast_field.specs.Numbers.{HasNumber, IsFieldNumber}
 use Rattle.fast_field.specs.Passed.{Passes}
 use Rattle.fast_field.specs.Planning.{left_out_of}
 use Rattle.fast_field.specs.Spelled.{SpellsIntegerUsually, overlong_number}
-use Rattle.fast_field.specs.Values.{of_units}
+use Rattle.fast_field.specs.Values.{is_unsigned, of_units}
 use Rattle.fast_relay.specs.Numbers.{SpellsWhole, Spelt}
 use Rattle.fast_relay.specs.Relayed.{Drops, Relays}
 use Rattle.fast_relay.specs.Texts.{IsText}
@@ -146,7 +147,11 @@ pub record LeavesWhole (bit : Bool) (k : Kind) (p : Part) (i : FieldPart) (old n
   pub number : IsFieldNumber k p z
   pub leaves : Leaves bit i old new (of_integer k z)
 
--- the same of a number that was spelled whole, or added to the one that the entry has
-abbrev pub LeavesNumber : Bool → Kind → Part → FieldPart → Entry → Entry → ℤ → Type 0
-LeavesNumber bit k p i old new z =
-    LeavesWhole bit k p i old new z ⊎ ((i.operator ≡ operator.Delta) × (bit ≡ true) × Adds k p z old new)
+-- whether what is sent of an integer has no sign: a difference has one
+abbrev pub sent_unsigned : Operator → Kind → Bool
+sent_unsigned operator.Delta k = false
+sent_unsigned o k = is_unsigned k
+
+-- wherever this number stands, the best form of what it gives has this bit
+abbrev pub NumberGives : Bool → Kind → FieldPart → Entry → Entry → ℤ → Type 0
+NumberGives bit k i old new z = (bytes : List ℕ) (at first next : ℕ) → StandsFrom (sent_unsigned i.operator k) i.presence bytes at first next z → Gives bit i old new bytes at first next

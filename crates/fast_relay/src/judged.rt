@@ -13,7 +13,7 @@ ghost use Rattle.fast_field.specs.Planning.{is_same};
 ghost use Rattle.fast_field.specs.Spelled.{overlong_number};
 ghost use Rattle.fast_field.specs.Values as values;
 ghost use Rattle.fast_field.specs.Within.{HoldsScalar};
-ghost use Rattle.fast_relay.specs.Judged.{Adds, HasAnswer, IfFound, IsBehind, IsJudged, Leaves, LeavesNumber, LeavesWhole, StandsAt, StandsFrom};
+ghost use Rattle.fast_relay.specs.Judged.{Adds, HasAnswer, IfFound, IsBehind, IsJudged, Leaves, LeavesWhole, NumberGives, StandsAt, StandsFrom, sent_unsigned};
 ghost use Rattle.fast_relay.specs.Numbers.{SpellsWhole, Spelt};
 
 use crate::integers::{is_overlong, is_unsigned, read_signed, read_unsigned};
@@ -334,8 +334,7 @@ fn add(kind: Kind, which: Part, entry: &mut Entry, delta: i64) -> bool
 /// Whether what is sent of an integer has no sign: a difference has one.
 #[inline(always)]
 fn is_sent_unsigned(kind: Kind, operator: Operator) -> bool
-    ensures delta { operator ≡ operator_type.Delta → result ≡ false }
-    ensures whole { SpellsWhole operator → result ≡ values.is_unsigned kind }
+    ensures { result ≡ sent_unsigned operator kind }
 {
     match operator {
         Operator::Delta => false,
@@ -368,8 +367,9 @@ fn judge_number(
     number: i64,
     next: usize,
 ) -> Judged
+    requires part { which ≡ instr.now.part }
     requires kind { kind ≡ instr.now.kind }
-    ensures { IfFound next result (λ bit. LeavesNumber bit kind which instr.now entry.old entry.new number)
+    ensures { IfFound next result (λ bit. NumberGives bit kind instr.now entry.old entry.new number)
         (entry.new ≡ entry.old) }
 {
     match instr.operator {
@@ -489,8 +489,7 @@ fn judge_behind(
     requires within { next ≤ length bytes.now }
     requires part { which ≡ instr.now.part }
     requires kind { kind ≡ instr.now.kind }
-    requires delta { instr.now.operator ≡ operator_type.Delta → unsigned ≡ false }
-    requires whole { SpellsWhole instr.now.operator → unsigned ≡ values.is_unsigned kind }
+    requires sign { unsigned ≡ sent_unsigned instr.now.operator kind }
     requires spelt { Spelt unsigned instr.now.presence (drop at bytes.now) number (drop next bytes.now) }
     requires long { overlong_number unsigned (slice_range bytes.now at next) ≡ true }
     ensures { IsJudged instr.now entry.old entry.new bytes.now at result }

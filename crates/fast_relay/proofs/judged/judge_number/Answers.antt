@@ -1,23 +1,25 @@
 use Rattle.std.specs.Int.{w64}
 use Rattle.std.specs.Int.RustNames.{FitsSigned}
-use Rattle.std.proofs.Common.{inl, inr, rules, refl}
+use Rattle.std.proofs.Common.{rules, refl}
 use Rattle.std.proofs.lemmas.Int.{to_z-of_z}
-use Rattle.fast_relay.specs.Judged.{LeavesNumber, LeavesWhole}
-use Rattle.fast_relay.proofs.Judging.{found_as}
+use Rattle.fast_relay.specs.Judged.{LeavesWhole, NumberGives}
+use Rattle.fast_relay.proofs.Judging.{delta_stands, found_as, whole_gives}
 use Rattle.fast_relay.proofs.judged.judge_number.Goals as goal
 
 pub returns-then-add : goal.returns-then-add
 returns-then-add c =
+    let i = c.args.instr.now in
     let z = c.args.number in
     let fits : FitsSigned w64 z = search rules in
-    (refl, inr (c.in-Delta.is, refl, rw (to_z-of_z w64 z fits) at (c.add.ensures.added c.if-add.true)))
+    let adds = rw (to_z-of_z w64 z fits, c.requires.part) at (c.add.ensures.added c.if-add.true) in
+    (refl, λ bytes at first next s. delta_stands c.args.kind i c.args.entry.now c.add.new.entry z bytes at first next c.requires.kind c.in-Delta.is adds (rw (c.in-Delta.is) at s))
 
 pub returns-in_default : goal.returns-in_default
 returns-in_default c =
+    let i = c.args.instr.now in
     let z = c.args.number in
-    let fits : FitsSigned w64 z = search rules in
+    let old = c.args.entry.now in
     let new = c.judge_whole.new.entry in
-    found_as c.judge_whole.result c.args.next
-    (λ bit. LeavesWhole bit c.args.kind c.args.which c.args.instr.now c.args.entry.now new z)
-    (λ bit. LeavesNumber bit c.args.kind c.args.which c.args.instr.now c.args.entry.now new z) _
-    (λ bit h. inl h) (rw (to_z-of_z w64 z fits) at c.judge_whole.ensures)
+    let fits : FitsSigned w64 z = search rules in
+    found_as c.judge_whole.result c.args.next (λ bit. LeavesWhole bit c.args.kind i.part i old new z) (λ bit. NumberGives bit c.args.kind i old new z) _
+    (λ bit l. whole_gives bit c.args.kind i old new z c.requires.kind l) (rw (to_z-of_z w64 z fits, c.requires.part) at c.judge_whole.ensures)
