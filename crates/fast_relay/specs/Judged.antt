@@ -1,5 +1,6 @@
 -- A field whose bytes are judged as they stand: they are the best form of their value, or bit 0 is. (Own.)
 use Rattle.std.specs.Prelude.{◌≡◌, ◌≤◌, ◌+◌, ◌+ℤ◌, ◌⊎◌, ℕ, ℤ, Bool, true, false, not, List, ◌++◌, length, drop, slice_range, Option, Some, None, Ok, IsTrue, ⊤}
+use Rattle.fast_wire.specs.Plain.{IsPlain}
 use Rattle.fast_wire.specs.declared.level.Level.TheVariants.{Usual}
 use Rattle.fast_wire.specs.declared.nullable.Nullable.TheVariants.{Value}
 use Rattle.fast_value.specs.Scalar.{is_of, of_integer}
@@ -135,6 +136,11 @@ PairGives bit i old new e m = (bytes : List ℕ) (at first next : ℕ) → PairS
 -- wherever these bytes stand behind their length, the best form of what they give has this bit
 abbrev pub UnitsGive : Bool → FieldPart → Entry → Entry → List ℕ → Type 0
 UnitsGive bit i old new part = (bytes : List ℕ) (at first next : ℕ) → UnitsStand i.kind i.presence bytes at first next part → Gives bit i old new bytes at first next
+
+-- wherever these characters stand in their shortest form, the best form of the string has this bit
+abbrev pub TextGives : Bool → FieldPart → Entry → Entry → List ℕ → Type 0
+TextGives bit i old new form =
+    (bytes : List ℕ) (at first next : ℕ) → slice_range bytes first next ≡ form → IsPlain (drop at bytes) form (drop next bytes) → Gives bit i old new bytes at first next
 
 -- the entry is the one after the value, and bit 0 gives the value exactly if it is the bit of the best form
 pub record Leaves (bit : Bool) (i : FieldPart) (old new : Entry) (v : Scalar) : Type 0 where

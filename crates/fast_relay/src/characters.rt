@@ -30,7 +30,7 @@ pub(crate) fn are_few(bytes: &[u8]) -> bool
 
 /// Where a plain string begins and ends that stands behind one zero group, which is a preamble.
 #[inline(never)]
-pub(crate) fn find_behind_zero(bytes: &[u8], at: usize) -> Option<(usize, usize)>
+fn find_behind_zero(bytes: &[u8], at: usize) -> Option<(usize, usize)>
     requires { at ≤ length bytes.now }
     ensures first { IfSome result (λ x. x.0 ≡ at + 1) }
     ensures place { IfSome result (λ x. (at ≤ x.0) × (x.0 < x.1) × (x.1 ≤ length bytes.now)) }
@@ -52,6 +52,7 @@ pub(crate) fn find_behind_zero(bytes: &[u8], at: usize) -> Option<(usize, usize)
 #[inline(always)]
 pub(crate) fn find_plain(bytes: &[u8], at: usize) -> Option<(usize, usize)>
     requires { at ≤ length bytes.now }
+    ensures first { IfSome result (λ x. x.0 ≤ at + 1) }
     ensures place { IfSome result (λ x. (at ≤ x.0) × (x.0 < x.1) × (x.1 ≤ length bytes.now)) }
     ensures plain { IfSome result (λ x. IsPlain (drop at bytes.now)
         (slice_range bytes.now x.0 x.1) (drop x.1 bytes.now)) }

@@ -1,21 +1,21 @@
 //! ASCII strings that are judged as they stand: whether their bytes are the best form of the value, or bit 0 is. The entry
 //! goes on, and nothing is written. What is not served here goes by `respell_text`, or the general way.
 
-ghost use Rattle.std.specs.Prelude.{◌≡◌, ◌≤◌, ◌+◌, true, length, drop, slice_range};
+ghost use Rattle.std.specs.Prelude.{◌≡◌, ◌≤◌, length, IfNone, IfSome};
 ghost use Rattle.fast_value.specs.Scalar.{IsScalar};
 ghost use Rattle.fast_value.specs.declared.kind.Kind.TheVariants as kind_type;
 ghost use Rattle.fast_value.specs.declared.kind.Operator.TheVariants as operator_type;
 ghost use Rattle.fast_value.specs.declared.kind.Part.TheVariants as part_type;
 ghost use Rattle.fast_value.specs.declared.scalar.Scalar.TheVariants.{Ascii};
 ghost use Rattle.fast_dictionary.specs.declared.entry.Entry.TheVariants as entry_type;
-ghost use Rattle.fast_wire.specs.Plain.{IsPlain};
+ghost use Rattle.fast_wire.specs.Entity.{IsEntity};
 ghost use Rattle.fast_field.specs.Within.{HoldsScalar};
-ghost use Rattle.fast_relay.specs.Judged.{Gives, IfFound, IsJudged};
+ghost use Rattle.fast_relay.specs.Judged.{IsJudged, TextGives};
 ghost use Rattle.fast_relay.specs.Numbers.{KeepsNothing, SpellsWhole};
 
-use crate::characters::find_behind_zero;
+use crate::characters::find_plain;
 use crate::given::text_bit;
-use crate::judged::Judged;
+use crate::judged::{Judged, answer};
 use crate::one_byte::read_removal;
 use crate::plain::{keep_plain, put_characters, replace_end, replace_string};
 use crate::words::{plain_end, short_plain_end};
@@ -26,68 +26,31 @@ use fast_value::UNIT_LIMIT;
 use fast_wire::is_text_of;
 use std::alloc::Global;
 
-/// Judges a string that is spelled whole, and is the one that the bytes from `first` to `next` are the shortest form of.
+/// The bit of the best form of a string that is spelled whole by bytes that are its shortest form; the entry goes on. None:
+/// nothing has changed, and another way tells.
 #[inline(always)]
-fn judge_plain(
-    alloc: Global,
-    instr: &FieldPart,
-    entry: &mut Entry,
-    bytes: &[u8],
-    at: usize,
-    first: usize,
-    next: usize,
-) -> Judged
-    requires first { first ≤ next }
-    requires within { next ≤ length bytes.now }
+fn judge_plain(alloc: Global, instr: &FieldPart, entry: &mut Entry, form: &[u8]) -> Option<bool>
     requires part { instr.now.part ≡ part_type.Whole }
     requires operator { SpellsWhole instr.now.operator }
     requires kind { instr.now.kind ≡ kind_type.Ascii }
-    requires plain { IsPlain (drop at bytes.now) (slice_range bytes.now first next) (drop next bytes.now) }
-    ensures { IfFound next result (λ bit. Gives bit instr.now entry.old entry.new bytes.now at first next)
-        (entry.new ≡ entry.old) }
+    requires entity { IsEntity form.now }
+    ensures gives { IfSome result (λ bit. TextGives bit instr.now entry.old entry.new form.now) }
+    ensures entry { IfNone result (entry.new ≡ entry.old) }
 {
-    let form = &bytes[first..next];
     match text_bit(instr, entry, form) {
         Some(true) => {
             if keep_plain(alloc, instr.operator, entry, form) {
-                Judged::Stands(next)
+                Some(true)
             } else {
-                Judged::Elsewhere
+                None
             }
         }
-        Some(false) => Judged::Given(next),
-        None => Judged::Elsewhere,
+        Some(false) => Some(false),
+        None => None,
     }
 }
 
-/// Judges a string that is spelled whole behind a zero group, which is a preamble. (A call of its own, so that others do not
-/// pay for it.)
-#[inline(never)]
-fn judge_string_behind(
-    alloc: Global,
-    instr: &FieldPart,
-    entry: &mut Entry,
-    bytes: &[u8],
-    at: usize,
-) -> Judged
-    requires place { at ≤ length bytes.now }
-    requires part { instr.now.part ≡ part_type.Whole }
-    requires operator { SpellsWhole instr.now.operator }
-    requires kind { instr.now.kind ≡ kind_type.Ascii }
-    ensures { IsJudged instr.now entry.old entry.new bytes.now at result }
-{
-    let Some((first, next)) = find_behind_zero(bytes, at) else {
-        return Judged::Elsewhere;
-    };
-    match judge_plain(alloc, instr, entry, bytes, at, first, next) {
-        Judged::Stands(_next) => Judged::Behind(next),
-        Judged::Given(_next) => Judged::Given(next),
-        Judged::Behind(_) | Judged::BehindTwo(_) => unreachable!(),
-        Judged::Elsewhere => Judged::Elsewhere,
-    }
-}
-
-/// Judges a string that is spelled whole. (A call of its own, behind the next two, which judge most.)
+/// Judges a string that is spelled whole, be it behind a preamble. (A call of its own, behind the next two, which judge most.)
 #[inline(never)]
 fn judge_string_whole(
     alloc: Global,
@@ -102,11 +65,11 @@ fn judge_string_whole(
     requires kind { instr.now.kind ≡ kind_type.Ascii }
     ensures { IsJudged instr.now entry.old entry.new bytes.now at result }
 {
-    if at < bytes.len() && bytes[at] == 0 {
-        return judge_string_behind(alloc, instr, entry, bytes, at);
-    }
-    match plain_end(bytes, at) {
-        Some(next) => judge_plain(alloc, instr, entry, bytes, at, at, next),
+    match find_plain(bytes, at) {
+        Some((first, next)) => {
+            let bit = judge_plain(alloc, instr, entry, &bytes[first..next]);
+            answer(bit, at, first, next)
+        }
         None => Judged::Elsewhere,
     }
 }
