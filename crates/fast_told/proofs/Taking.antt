@@ -13,7 +13,10 @@ use Rattle.fast_walk.specs.OpenSegments.{at_instruction, cursor}
 use Rattle.fast_walk.specs.Received.{Received, Took, passed}
 use Rattle.fast_walk.proofs.Steps.{count_goes, part_goes}
 use Rattle.fast_walk.proofs.Walking.{field_on, is_instruction}
-use Rattle.fast_told.specs.Taking.{TakesFields}
+use Rattle.fast_lines.specs.declared.form.Form.{Form}
+use Rattle.fast_told.specs.Taking.{TakesFields, TellsFields}
+use Rattle.fast_told.specs.Told.{HasTold, line_now}
+use Rattle.fast_told.specs.declared.line.Line.{Line as LineNow}
 
 module _ {R : Type 0} (has : R → Received → Dictionary → Type 0) (level : Level) (bytes : List ℕ) where
   -- where nothing was taken
@@ -74,3 +77,9 @@ module _ {R : Type 0} (has : R → Received → Dictionary → Type 0) (level : 
             (count_goes number f.spare d bits (drop f.place bytes ++ more) (omega (arith, spare)))
             (part_goes level p d bits (f.spare - 1) (drop f.place bytes ++ more) (drop next bytes ++ more) v (took.value more)));
       }
+
+-- lines, one behind the other
+pub tells_on : {form : Form} {level : Level} {d e c : Dictionary} {bits later last : List Bool} (bytes : List ℕ) (l k m : LineNow) (f g h : Fields)
+    → TellsFields form level bytes l d bits f k e later g → TellsFields form level bytes k e later g m c last h → TellsFields form level bytes l d bits f m c last h
+tells_on {form} {level} {d} {e} {c} {bits} {later} {last} bytes l k m f g h one two out own z =
+    takes_on (λ line o d. HasTold form out own z line o) level bytes (line_now form l) (line_now form k) (line_now form m) d e c bits later last f g h (one out own z) (two out own z)
