@@ -1,5 +1,5 @@
 -- What was read of a field of a set is told: a value of its type, or that it is left out where it may be.
-use Rattle.std.proofs.Common.{◌≡◌, ◌<◌, ◌≤◌, ℕ, Bool, true, List, [], ◌∷◌, Option, Some, None, Ok, refl, ◌∙◌, length, drop, get_or, arith}
+use Rattle.std.proofs.Common.{◌≡◌, ◌<◌, ◌≤◌, ℕ, Bool, true, List, [], ◌∷◌, Option, Some, None, Ok, refl, ◌∙◌, length, drop, get_or, arith, Fits, w8}
 use Rattle.std.specs.Prelude.{nat_lt}
 use Rattle.std.specs.List.{AllByRecursion}
 use Rattle.std.proofs.lemmas.Bool.Decides.{nat_tests}
@@ -47,11 +47,11 @@ told form p (Some v) of_field = rw (of_field.0, of_characters v of_field.1) refl
 
 -- of a part of a set whose entry is within its type
 pub tells : {form : Form} {level : Level} {p : FieldPart} {bit : Bool} {old new : Entry} {v o : Option Scalar} {name : List ℕ} (bytes : List ℕ) (at next : ℕ) (l k : LineNow)
-    → ((k : ℕ) → get_or bytes k 0 < 256) → IsFieldPart p → IsBitOf p bit → HoldsScalar old → (at ≤ next) × (next ≤ length bytes)
+    → ((k : ℕ) → Fits w8 (get_or bytes k 0)) → IsFieldPart p → IsBitOf p bit → HoldsScalar old → (at ≤ next) × (next ≤ length bytes)
     → TookFrom level p bit old new v (drop at bytes) (drop next bytes) → o ≡ v → Says form name o l k
     → TellsNext form level name p bit bytes at (Ok next) old new l k
 tells {form} {level} {p} {bit} {old} {new} {v} {o} {name} bytes at next l k fits is asked holds place took same said =
-    let f = form_taken level p bit old new v (drop at bytes) (drop next bytes) (bytes_from bytes at fits) is asked took in
+    let f = form_taken level p bit old new v (drop at bytes) (drop next bytes) (bytes_from bytes at (λ k. omega (arith, fits k))) is asked took in
     let text = told form p v (values_within p old bit f.bytes v is holds f.form).of_field in
     (place.0, place.1, (v, took, rw (text) (rw (same) at said)))
 
