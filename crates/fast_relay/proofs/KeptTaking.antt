@@ -24,5 +24,5 @@ kept_value operator.Delta e v h = refl
 kept_value operator.Tail e v h = refl
 kept_value o e v h = absurd cc
 
-pub kept_takes : (i : FieldPart) (old new : Entry) (v : Scalar) (bytes rest : List ℕ) → keeps_value i.operator ≡ true → Takes i old new v bytes rest → (w : Scalar) × (new ≡ Assigned w) × Takes i old new w bytes rest
-kept_takes i old new v bytes rest keeps h = (v, h.entry ∙ kept_value i.operator old v keeps, h)
+pub kept_takes : {i : FieldPart} {old new : Entry} {v : Scalar} {bytes rest : List ℕ} → keeps_value i.operator ≡ true → Takes i old new v bytes rest → (w : Scalar) × (new ≡ Assigned w) × Takes i old new w bytes rest
+kept_takes {i} {old} {new} {v} keeps h = (v, h.entry ∙ kept_value i.operator old v keeps, h)
