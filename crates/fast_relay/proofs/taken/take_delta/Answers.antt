@@ -1,6 +1,6 @@
 use Rattle.std.specs.Int.{w128}
 use Rattle.std.specs.Int.RustNames.{FitsSigned}
-use Rattle.std.specs.Prelude.{◌+ℤ◌, drop}
+use Rattle.std.specs.Prelude.{◌+ℤ◌}
 use Rattle.std.proofs.Common.{arith}
 use Rattle.std.proofs.lemmas.Int.{ints, to_z-of_z}
 use Rattle.fast_relay.proofs.Taking.{delta_takes}
@@ -19,10 +19,5 @@ returns c =
     let delta = to_z-of_z w128 d delta_fits in
     let sum = to_z-of_z w128 (z +ℤ d) sum_fits in
     let is = rw (kept, delta, sum) at (c.is_field_number.ensures c.if-not-is_field_number.false) in
-    rw (kept, delta, sum) (
-      read.place.0,
-      read.place.1,
-      is.number,
-      delta_takes c.args.kind c.args.instr.now c.args.entry.now c.set_number.new.entry z d (drop c.args.at c.args.bytes.now) (drop c.in_ok-delta.next c.args.bytes.now)
-          c.requires.kind c.requires.operator base.number is read.gives (rw (kept, delta, sum) at c.set_number.ensures),
-    )
+    rw (kept, delta, sum)
+    (read.place.0, read.place.1, is.number, delta_takes z d c.requires.kind c.requires.operator base.number is read.gives (rw (kept, delta, sum) at c.set_number.ensures))
