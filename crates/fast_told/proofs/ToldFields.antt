@@ -12,9 +12,9 @@ use Rattle.fast_value.specs.declared.scalar.Scalar.TheVariants.{U32, I32, U64, I
 use Rattle.fast_template.specs.declared.resolved.FieldPart.{FieldPart}
 use Rattle.fast_dictionary.specs.declared.entry.Entry.{Entry}
 use Rattle.fast_field.specs.AsUsual.{ReadsAsUsual}
-use Rattle.fast_field.specs.Parts.{IsBitOf, IsFieldPart}
+use Rattle.fast_field.specs.Parts.{IsBitOf}
 use Rattle.fast_field.specs.Refusals.{are_characters, has_characters}
-use Rattle.fast_field.specs.Within.{HoldsScalar, IsOfField}
+use Rattle.fast_field.specs.Within.{IsOfField}
 use Rattle.fast_field.proofs.FieldsWithin.{values_within}
 use Rattle.fast_field.proofs.ReadFields.{bytes_from}
 use Rattle.fast_relay.specs.Relayed.{Takes}
@@ -23,7 +23,7 @@ use Rattle.fast_walk.specs.Received.{TookFrom}
 use Rattle.fast_walk.proofs.Telling.{form_taken}
 use Rattle.fast_lines.specs.declared.form.Form.{Form}
 use Rattle.fast_lines.specs.Lines.{field_text, said_text}
-use Rattle.fast_told.specs.Taking.{TellsNext}
+use Rattle.fast_told.specs.Taking.{CanTake, TellsNext}
 use Rattle.fast_told.specs.Told.{Says}
 use Rattle.fast_told.specs.declared.line.Line.{Line as LineNow}
 
@@ -47,12 +47,12 @@ told form p (Some v) of_field = rw (of_field.0, of_characters v of_field.1) refl
 
 -- of a part of a set whose entry is within its type
 pub tells : {form : Form} {level : Level} {p : FieldPart} {bit : Bool} {old new : Entry} {v o : Option Scalar} {name : List ℕ} (bytes : List ℕ) (at next : ℕ) (l k : LineNow)
-    → ((k : ℕ) → Fits w8 (get_or bytes k 0)) → IsFieldPart p → IsBitOf p bit → HoldsScalar old → (at ≤ next) × (next ≤ length bytes)
+    → ((k : ℕ) → Fits w8 (get_or bytes k 0)) → CanTake p old bytes at → IsBitOf p bit → (at ≤ next) × (next ≤ length bytes)
     → TookFrom level p bit old new v (drop at bytes) (drop next bytes) → o ≡ v → Says form name o l k
     → TellsNext form level name p bit bytes at (Ok next) old new l k
-tells {form} {level} {p} {bit} {old} {new} {v} {o} {name} bytes at next l k fits is asked holds place took same said =
-    let f = form_taken level p bit old new v (drop at bytes) (drop next bytes) (bytes_from bytes at (λ k. omega (arith, fits k))) is asked took in
-    let text = told form p v (values_within p old bit f.bytes v is holds f.form).of_field in
+tells {form} {level} {p} {bit} {old} {new} {v} {o} {name} bytes at next l k fits can asked place took same said =
+    let f = form_taken level p bit old new v (drop at bytes) (drop next bytes) (bytes_from bytes at (λ k. omega (arith, fits k))) can.part asked took in
+    let text = told form p v (values_within p old bit f.bytes v can.part can.entry f.form).of_field in
     (place.0, place.1, (v, took, rw (text) (rw (same) at said)))
 
 -- what is taken at once where it is read as at the usual level

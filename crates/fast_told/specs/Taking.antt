@@ -10,6 +10,8 @@ use Rattle.fast_wire.specs.declared.level.Level.{Level}
 use Rattle.fast_field.specs.declared.fault.FieldFault.{FieldFault}
 use Rattle.fast_field.specs.declared.fault.FieldFault.TheVariants.{Memory}
 use Rattle.fast_field.specs.FieldReading.{field_at}
+use Rattle.fast_field.specs.Parts.{IsFieldPart}
+use Rattle.fast_field.specs.Within.{HoldsScalar}
 use Rattle.fast_stream.specs.Nodes.{single}
 use Rattle.fast_walk.specs.declared.receiver.Fields.{Fields}
 use Rattle.fast_walk.specs.OpenSegments.{at_instruction}
@@ -20,6 +22,12 @@ use Rattle.fast_lines.specs.declared.form.Form.{Form}
 use Rattle.fast_lines.specs.Lines.{field_text}
 use Rattle.fast_told.specs.declared.line.Line.{Line as LineNow}
 use Rattle.fast_told.specs.Told.{HasTold, Said, line_now}
+
+-- A part of a set is next at a place in these bytes, and its entry is within its type.
+pub record CanTake (p : FieldPart) (e : Entry) (bytes : List ℕ) (at : ℕ) : Type 0 where
+  pub place : at ≤ length bytes
+  pub part : IsFieldPart p
+  pub entry : HoldsScalar e
 
 -- A field is next at a place in these bytes: the place behind it is answered, and the value that it gives is taken and
 -- told; or the fault at which it stops, and unless memory was refused nothing has changed.

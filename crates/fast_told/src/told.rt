@@ -8,12 +8,10 @@ ghost use Rattle.fast_field.specs.FieldReading.{field_at};
 ghost use Rattle.fast_stream.specs.Nodes.{single};
 ghost use Rattle.fast_walk.specs.Received.{Took};
 ghost use Rattle.fast_walk.specs.Told.{IsTold, KeepScalars};
-ghost use Rattle.fast_field.specs.Parts.{IsFieldPart};
-ghost use Rattle.fast_field.specs.Within.{HoldsScalar};
 ghost use Rattle.fast_template.specs.Resolved.{part_needs_bit};
 ghost use Rattle.fast_value.specs.declared.kind.Part.TheVariants.{Whole};
 ghost use Rattle.fast_lines.specs.Lines.{field_text};
-ghost use Rattle.fast_told.specs.Taking.{TellsNext};
+ghost use Rattle.fast_told.specs.Taking.{CanTake, TellsNext};
 ghost use Rattle.fast_told.specs.Told.{Said, line_now};
 
 use crate::line::Line;
@@ -41,10 +39,8 @@ fn take_generally<S: Signs>(
     at: usize,
     line: &mut Line,
 ) -> Result<usize, FieldFault>
-    requires place { at ≤ length bytes.now }
-    requires part { IsFieldPart part.now }
+    requires next { CanTake part.now entry.old bytes.now at }
     requires bit { part_needs_bit part.now ≡ false → bit ≡ true }
-    requires entry { HoldsScalar entry.old }
     ensures { TellsNext S.form level name.now part.now bit bytes.now at result entry.old entry.new line.old line.new }
 {
     let (found, next) = read_in_place(alloc, part, entry, bit, level, bytes, at)?;
@@ -65,10 +61,8 @@ fn take_integer<S: Signs>(
     at: usize,
     line: &mut Line,
 ) -> Result<usize, FieldFault>
-    requires place { at ≤ length bytes.now }
-    requires part { IsFieldPart part.now }
+    requires next { CanTake part.now entry.old bytes.now at }
     requires usual { ReadsAsUsual level part.now (drop at bytes.now) }
-    requires entry { HoldsScalar entry.old }
     ensures { TellsNext S.form level name.now part.now true bytes.now at result entry.old entry.new line.old line.new }
 {
     match take_number(part, entry, bytes, at) {
@@ -95,11 +89,9 @@ fn take_held<S: Signs>(
     at: usize,
     line: &mut Line,
 ) -> Result<usize, FieldFault>
-    requires place { at ≤ length bytes.now }
+    requires next { CanTake part.now entry.old bytes.now at }
     requires whole { part.now.part ≡ Whole }
-    requires part { IsFieldPart part.now }
     requires usual { ReadsAsUsual level part.now (drop at bytes.now) }
-    requires entry { HoldsScalar entry.old }
     ensures { TellsNext S.form level name.now part.now true bytes.now at result entry.old entry.new line.old line.new }
 {
     match take_kept(alloc, part, entry, bytes, at) {
@@ -126,10 +118,8 @@ fn take_beside<S: Signs>(
     at: usize,
     line: &mut Line,
 ) -> Result<usize, FieldFault>
-    requires place { at ≤ length bytes.now }
-    requires part { IsFieldPart part.now }
+    requires next { CanTake part.now entry.old bytes.now at }
     requires usual { ReadsAsUsual level part.now (drop at bytes.now) }
-    requires entry { HoldsScalar entry.old }
     ensures { TellsNext S.form level name.now part.now true bytes.now at result entry.old entry.new line.old line.new }
 {
     match take_aside(alloc, part, &mut line.aside, bytes, at) {
@@ -156,11 +146,9 @@ fn take_sent<S: Signs>(
     at: usize,
     line: &mut Line,
 ) -> Result<usize, FieldFault>
-    requires place { at ≤ length bytes.now }
+    requires next { CanTake part.now entry.old bytes.now at }
     requires whole { part.now.part ≡ Whole }
-    requires part { IsFieldPart part.now }
     requires usual { ReadsAsUsual level part.now (drop at bytes.now) }
-    requires entry { HoldsScalar entry.old }
     ensures { TellsNext S.form level name.now part.now true bytes.now at result entry.old entry.new line.old line.new }
 {
     match part.operator {
@@ -193,11 +181,9 @@ fn take_read<S: Signs>(
     at: usize,
     line: &mut Line,
 ) -> Result<usize, FieldFault>
-    requires place { at ≤ length bytes.now }
+    requires next { CanTake part.now entry.old bytes.now at }
     requires whole { part.now.part ≡ Whole }
-    requires part { IsFieldPart part.now }
     requires bit { part_needs_bit part.now ≡ false → bit ≡ true }
-    requires entry { HoldsScalar entry.old }
     ensures { TellsNext S.form level name.now part.now bit bytes.now at result entry.old entry.new line.old line.new }
 {
     if bit && reads_as_usual(level, part, bytes, at) {
@@ -221,11 +207,9 @@ fn take<S: Signs>(
     at: usize,
     line: &mut Line,
 ) -> Result<usize, FieldFault>
-    requires place { at ≤ length bytes.now }
+    requires next { CanTake part.now entry.old bytes.now at }
     requires whole { part.now.part ≡ Whole }
-    requires part { IsFieldPart part.now }
     requires bit { part_needs_bit part.now ≡ false → bit ≡ true }
-    requires entry { HoldsScalar entry.old }
     ensures { TellsNext S.form level name.now part.now bit bytes.now at result entry.old entry.new line.old line.new }
 {
     match take_given(part, entry, bit) {

@@ -4,5 +4,5 @@ use Rattle.fast_told.proofs.told.take_beside.Goals as goal
 
 pub returns-in_ok-tell_aside-in-Some : goal.returns-in_ok-tell_aside-in-Some
 returns-in_ok-tell_aside-in-Some g c =
-    tells c.args.bytes.now c.args.at c.in-Some.next c.args.line.now c.tell_aside.new.self c.type_inv.bytes c.requires.part (λ _. refl) c.requires.entry c.in-Some.ensures.place
+    tells c.args.bytes.now c.args.at c.in-Some.next c.args.line.now c.tell_aside.new.self c.type_inv.bytes c.requires.next (λ _. refl) c.in-Some.ensures.place
     (took_as_usual c.requires.usual (c.in-Some.ensures.taken c.args.entry.now)) refl c.in_ok-tell_aside-in-Some.ensures

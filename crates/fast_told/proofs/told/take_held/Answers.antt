@@ -6,5 +6,5 @@ use Rattle.fast_told.proofs.told.take_held.Goals as goal
 pub returns-in_ok-tell-in-Some : goal.returns-in_ok-tell-in-Some
 returns-in_ok-tell-in-Some g c =
     let kept = c.in-Some.ensures in
-    tells c.args.bytes.now c.args.at c.in-Some.next c.args.line.now c.tell.new.self c.type_inv.bytes c.requires.part (λ _. refl) c.requires.entry (kept.0, kept.1)
+    tells c.args.bytes.now c.args.at c.in-Some.next c.args.line.now c.tell.new.self c.type_inv.bytes c.requires.next (λ _. refl) (kept.0, kept.1)
     (took_as_usual c.requires.usual kept.2.2) (c.value.ensures ∙ ap assigned_of (c.view.ensures ∙ kept.2.1)) c.in_ok-tell-in-Some.ensures

@@ -44,8 +44,9 @@ returns-clause-told g c =
       subst (λ (q : Presence). Said form c.args.name.now (field_text form i.kind q (single told.0)) (line_now form c.args.line.now) (line_now form c.take.new.line)) c.requires.presence told.2,
     )
 
-pub take-requires-clause-part : goal.take-requires-clause-part
-take-requires-clause-part g c = told_part part.Whole c.args.part.now.kind c.args.part.now tt c.requires.told
-
-pub take-requires-clause-entry : goal.take-requires-clause-entry
-take-requires-clause-entry g c = rw (c.in_ok-entry.ensures.value) (kept_hold (g.E.Entries.contents c.args.entries.now) c.requires.kept c.args.part.now.key)
+pub take-requires-clause-next : goal.take-requires-clause-next
+take-requires-clause-next g c = record {
+  place = c.requires.place;
+  part = told_part part.Whole c.args.part.now.kind c.args.part.now tt c.requires.told;
+  entry = rw (c.in_ok-entry.ensures.value) (kept_hold (g.E.Entries.contents c.args.entries.now) c.requires.kept c.args.part.now.key);
+}
