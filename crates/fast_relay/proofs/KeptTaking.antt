@@ -1,5 +1,5 @@
 -- What values that are read at once into their entries rest on.
-use Rattle.std.proofs.Common.{◌≡◌, ℕ, Bool, true, false, List, [], drop, refl, ◌∙◌}
+use Rattle.std.proofs.Common.{◌≡◌, ◌≤◌, ℕ, Bool, true, false, List, [], drop, refl, ◌∙◌, arith}
 use Rattle.std.specs.Prelude.{Some}
 use Rattle.fast_value.specs.declared.kind.Operator.{Operator}
 use Rattle.fast_value.specs.declared.kind.Operator.TheVariants as operator
@@ -8,8 +8,8 @@ use Rattle.fast_template.specs.declared.resolved.FieldPart.{FieldPart}
 use Rattle.fast_dictionary.specs.declared.entry.Entry.{Entry}
 use Rattle.fast_dictionary.specs.declared.entry.Entry.TheVariants.{Assigned}
 use Rattle.fast_field.specs.Bases.{next_of}
-use Rattle.fast_relay.specs.Judged.{JudgesFrom}
-use Rattle.fast_relay.specs.Kept.{keeps_value}
+use Rattle.fast_relay.specs.Judged.{JudgedTo, JudgesFrom}
+use Rattle.fast_relay.specs.Kept.{TakesKept, keeps_value}
 use Rattle.fast_relay.specs.Relayed.{Takes}
 
 -- what is judged is read
@@ -24,5 +24,8 @@ kept_value operator.Delta e v h = refl
 kept_value operator.Tail e v h = refl
 kept_value o e v h = absurd cc
 
-pub kept_takes : (i : FieldPart) (old new : Entry) (v : Scalar) (bytes rest : List ℕ) → keeps_value i.operator ≡ true → Takes i old new v bytes rest → (w : Scalar) × (new ≡ Assigned w) × Takes i old new w bytes rest
-kept_takes i old new v bytes rest keeps h = (v, h.entry ∙ kept_value i.operator old v keeps, h)
+pub kept_takes : {i : FieldPart} {old new : Entry} {v : Scalar} {bytes rest : List ℕ} → keeps_value i.operator ≡ true → Takes i old new v bytes rest → (w : Scalar) × (new ≡ Assigned w) × Takes i old new w bytes rest
+kept_takes {i} {old} {new} {v} keeps h = (v, h.entry ∙ kept_value i.operator old v keeps, h)
+
+pub judged_kept : (bit : Bool) (i : FieldPart) (old new : Entry) (bytes : List ℕ) (at first next : ℕ) → keeps_value i.operator ≡ true → at ≤ first → JudgedTo bit i old new bytes at first next → TakesKept i bytes at (Some next) old new
+judged_kept bit i old new bytes at first next keeps from j = (omega (arith, j.place), j.within, kept_takes keeps (judged_takes bit i old new j.gives.0 bytes at first next j.gives.1))

@@ -53,9 +53,9 @@ entry_takes : (i : FieldPart) (old new : Entry) (z d : ℤ) (bytes rest : List �
 entry_takes i (Assigned v) new z d bytes rest o is h read entry = assigned_takes i v new z d bytes rest o is h read entry
 entry_takes i old new z d bytes rest o is h read entry = absurd is
 
-pub delta_takes : (k : Kind) (i : FieldPart) (old new : Entry) (z d : ℤ) (bytes rest : List ℕ) → k ≡ i.kind → i.operator ≡ operator.Delta → HasNumber k old z → IsFieldNumber k i.part (z +ℤ d) → Spelt false i.presence bytes d rest
+pub delta_takes : {k : Kind} {i : FieldPart} {old new : Entry} {bytes rest : List ℕ} (z d : ℤ) → k ≡ i.kind → i.operator ≡ operator.Delta → HasNumber k old z → IsFieldNumber k i.part (z +ℤ d) → Spelt false i.presence bytes d rest
     → new ≡ Assigned (of_integer k (z +ℤ d)) → Takes i old new (of_integer k (z +ℤ d)) bytes rest
-delta_takes k i old new z d bytes rest same o =
+delta_takes {k} {i} {old} {new} {bytes} {rest} z d same o =
     subst (λ (k : Kind). HasNumber k old z → IsFieldNumber k i.part (z +ℤ d) → Spelt false i.presence bytes d rest → new ≡ Assigned (of_integer k (z +ℤ d)) → Takes i old new (of_integer k (z +ℤ d)) bytes rest)
     (sym same)
     (entry_takes i old new z d bytes rest o)

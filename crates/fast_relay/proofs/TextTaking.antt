@@ -26,9 +26,9 @@ use Rattle.fast_relay.proofs.Relaying.{delta_row, whole_row}
 use Rattle.fast_relay.proofs.Taking.{takes}
 use Rattle.fast_relay.proofs.TextRelaying.{delta_as, tail_row, text_read, whole_within}
 
-pub text_takes : (i : FieldPart) (old new : Entry) (bytes form rest : List ℕ) → i.kind ≡ kind.Ascii → i.part ≡ part.Whole → i.operator ≡ operator.Copy → IsPlain bytes form rest
+pub text_takes : {i : FieldPart} {old new : Entry} {bytes form rest : List ℕ} → i.kind ≡ kind.Ascii → i.part ≡ part.Whole → i.operator ≡ operator.Copy → IsPlain bytes form rest
     → new ≡ next_of operator.Copy old (Some (Ascii (groups form))) → Takes i old new (Ascii (groups form)) bytes rest
-text_takes i old new bytes form rest k whole o h entry =
+text_takes {i} {old} {new} {bytes} {form} {rest} k whole o h entry =
     let spells : SpellsWhole i.operator = rw o tt in
     let units : IsUnitKind i.kind = rw k tt in
     let last : next i old (Some (Ascii (groups form))) ≡ next_of operator.Copy old (Some (Ascii (groups form))) = rw o refl in
@@ -47,17 +47,17 @@ spells_whole operator.Default h = tt
 spells_whole o h = absurd h
 
 -- one that its entry does not keep
-pub aside_takes : (i : FieldPart) (e : Entry) (bytes form rest : List ℕ) → i.kind ≡ kind.Ascii → i.part ≡ part.Whole → LeavesEntry i.operator → IsPlain bytes form rest → Takes i e e (Ascii (groups form)) bytes rest
-aside_takes i e bytes form rest k whole o h =
+pub aside_takes : {i : FieldPart} {e : Entry} {bytes form rest : List ℕ} → i.kind ≡ kind.Ascii → i.part ≡ part.Whole → LeavesEntry i.operator → IsPlain bytes form rest → Takes i e e (Ascii (groups form)) bytes rest
+aside_takes {i} {e} {bytes} {form} {rest} k whole o h =
     let v = Ascii (groups form) in
     let units : IsUnitKind i.kind = rw k tt in
     takes i e e v bytes rest (whole_within i.part v whole)
     (whole_row i.operator i e bytes (spells_whole i.operator o) ∙ text_read i v bytes rest units (subst (λ (k : Kind). units_spelled_at Usual k i.presence bytes ≡ Ok (Some v, rest)) (sym k) (spelled_plain i.presence bytes form rest h)))
     (sym (leaves i.operator e v o))
 
-pub cut_takes : (i : FieldPart) (base bytes : List ℕ) (removed : ℕ) (form rest : List ℕ) → i.kind ≡ kind.Ascii → i.part ≡ part.Whole → i.operator ≡ operator.Delta → GivesCut i base bytes removed form rest
+pub cut_takes : {i : FieldPart} {base bytes : List ℕ} {removed : ℕ} {form rest : List ℕ} → i.kind ≡ kind.Ascii → i.part ≡ part.Whole → i.operator ≡ operator.Delta → GivesCut i base bytes removed form rest
     → Takes i (Assigned (Ascii base)) (Assigned (Ascii (take (length base - removed) base ++ groups form))) (Ascii (take (length base - removed) base ++ groups form)) bytes rest
-cut_takes i base bytes removed form rest k whole o h =
+cut_takes {i} {base} {bytes} {removed} {form} {rest} k whole o h =
     let v = Ascii (take (length base - removed) base ++ groups form) in
     let units : IsUnitKind i.kind = rw k tt in
     let last : next i (Assigned (Ascii base)) (Some v) ≡ Assigned v = rw o refl in
@@ -65,9 +65,9 @@ cut_takes i base bytes removed form rest k whole o h =
     (delta_row i.operator i (Assigned (Ascii base)) bytes o ∙ delta_as i.kind i (Assigned (Ascii base)) bytes units ∙ h.read)
     (sym last)
 
-pub end_takes : (i : FieldPart) (base bytes form rest : List ℕ) → i.part ≡ part.Whole → i.operator ≡ operator.Tail → GivesTail i base bytes form rest
+pub end_takes : {i : FieldPart} {base bytes form rest : List ℕ} → i.part ≡ part.Whole → i.operator ≡ operator.Tail → GivesTail i base bytes form rest
     → Takes i (Assigned (Ascii base)) (Assigned (Ascii (take (length base - length form) base ++ groups form))) (Ascii (take (length base - length form) base ++ groups form)) bytes rest
-end_takes i base bytes form rest whole o h =
+end_takes {i} {base} {bytes} {form} {rest} whole o h =
     let v = Ascii (take (length base - length form) base ++ groups form) in
     let last : next i (Assigned (Ascii base)) (Some v) ≡ Assigned v = rw o refl in
     takes i (Assigned (Ascii base)) (Assigned v) v bytes rest (whole_within i.part v whole)

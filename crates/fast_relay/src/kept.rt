@@ -1,13 +1,10 @@
 //! Values that are read at once into the entries that keep them, where they are not written again.
 
-ghost use Rattle.std.specs.Prelude.{◌≡◌, ◌≤◌, length, drop, IfNone, IfSome};
+ghost use Rattle.std.specs.Prelude.{◌≡◌, ◌≤◌, length, IsTrue};
 ghost use Rattle.fast_value.specs.declared.kind.Part.TheVariants as part_type;
-ghost use Rattle.fast_value.specs.declared.scalar.Scalar.{Scalar as ScalarOf};
-ghost use Rattle.fast_dictionary.specs.declared.entry.Entry.TheVariants as entry_type;
 ghost use Rattle.fast_field.specs.Parts.{IsFieldPart};
 ghost use Rattle.fast_field.specs.Within.{HoldsScalar};
 ghost use Rattle.fast_relay.specs.Kept as kept;
-ghost use Rattle.fast_relay.specs.Relayed.{Takes};
 
 use crate::judged::{Judged, judge_field};
 use crate::taken::take_kept_number;
@@ -40,10 +37,8 @@ fn judge_place(
     requires whole { instr.now.part ≡ part_type.Whole }
     requires part { IsFieldPart instr.now }
     requires kept { HoldsScalar entry.now }
-    ensures place { IfSome result (λ next. (at ≤ next) × (next ≤ length bytes.now)) }
-    ensures taken { IfSome result (λ next. (v : ScalarOf)
-        × Takes instr.now entry.old entry.new v (drop at bytes.now) (drop next bytes.now)) }
-    ensures entry { IfNone result (entry.new ≡ entry.old) }
+    requires operator { IsTrue (kept.keeps_value instr.now.operator) }
+    ensures { kept.TakesKept instr.now bytes.now at result entry.old entry.new }
 {
     match judge_field(Part::Whole, alloc, instr, entry, bytes, at) {
         Judged::Stands(next)
@@ -68,10 +63,7 @@ pub fn take_kept(
     requires whole { instr.now.part ≡ part_type.Whole }
     requires part { IsFieldPart instr.now }
     requires kept { HoldsScalar entry.now }
-    ensures place { IfSome result (λ next. (at ≤ next) × (next ≤ length bytes.now)) }
-    ensures taken { IfSome result (λ next. (v : ScalarOf) × (entry.new ≡ entry_type.Assigned v)
-        × Takes instr.now entry.old entry.new v (drop at bytes.now) (drop next bytes.now)) }
-    ensures entry { IfNone result (entry.new ≡ entry.old) }
+    ensures { kept.TakesKept instr.now bytes.now at result entry.old entry.new }
 {
     if !keeps_value(instr.operator) {
         return None;

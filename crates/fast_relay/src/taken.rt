@@ -7,9 +7,7 @@ ghost use Rattle.fast_value.specs.declared.kind.Operator.TheVariants as operator
 ghost use Rattle.fast_field.specs.Bases.{next_of};
 ghost use Rattle.fast_field.specs.Numbers.{IsNumber};
 ghost use Rattle.fast_relay.specs.Numbers.{SpellsWhole};
-ghost use Rattle.fast_value.specs.declared.scalar.Scalar.{Scalar as ScalarOf};
-ghost use Rattle.fast_dictionary.specs.declared.entry.Entry.TheVariants as entry_type;
-ghost use Rattle.fast_relay.specs.Kept.{keeps_value};
+ghost use Rattle.fast_relay.specs.Kept.{TakesKept, TakesNumber, keeps_value};
 ghost use Rattle.fast_relay.specs.Relayed.{Takes};
 
 use crate::integers::{is_unsigned, read_short};
@@ -59,15 +57,9 @@ fn take_whole(
     requires kind { kind ≡ instr.now.kind }
     requires integer { IsTrue (is_integer kind) }
     requires operator { SpellsWhole instr.now.operator }
-    ensures place { IfSome result (λ x. (at ≤ x.1) × (x.1 ≤ length bytes.now)) }
-    ensures number { IfSome result (λ x. IsNumber kind x.0) }
-    ensures taken { IfSome result (λ x. Takes instr.now entry.old entry.new (of_integer kind x.0)
-        (drop at bytes.now) (drop x.1 bytes.now)) }
-    ensures entry { IfNone result (entry.new ≡ entry.old) }
+    ensures { TakesNumber kind instr.now bytes.now at result entry.old entry.new }
 {
-    let Some((number, next)) = read_short(is_unsigned(kind), instr.presence, bytes, at) else {
-        return None;
-    };
+    let (number, next) = read_short(is_unsigned(kind), instr.presence, bytes, at)?;
     if !is_field_number(kind, instr.part, number) {
         return None;
     }
@@ -88,18 +80,10 @@ fn take_delta(
     requires kind { kind ≡ instr.now.kind }
     requires integer { IsTrue (is_integer kind) }
     requires operator { instr.now.operator ≡ operator_type.Delta }
-    ensures place { IfSome result (λ x. (at ≤ x.1) × (x.1 ≤ length bytes.now)) }
-    ensures number { IfSome result (λ x. IsNumber kind x.0) }
-    ensures taken { IfSome result (λ x. Takes instr.now entry.old entry.new (of_integer kind x.0)
-        (drop at bytes.now) (drop x.1 bytes.now)) }
-    ensures entry { IfNone result (entry.new ≡ entry.old) }
+    ensures { TakesNumber kind instr.now bytes.now at result entry.old entry.new }
 {
-    let Some(kept) = kept_number(kind, entry) else {
-        return None;
-    };
-    let Some((delta, next)) = read_short(false, instr.presence, bytes, at) else {
-        return None;
-    };
+    let kept = kept_number(kind, entry)?;
+    let (delta, next) = read_short(false, instr.presence, bytes, at)?;
     let number = kept + delta;
     if !is_field_number(kind, instr.part, number) {
         return None;
@@ -120,11 +104,7 @@ fn take(
     requires at { at ≤ length bytes.now }
     requires kind { kind ≡ instr.now.kind }
     requires integer { IsTrue (is_integer kind) }
-    ensures place { IfSome result (λ x. (at ≤ x.1) × (x.1 ≤ length bytes.now)) }
-    ensures number { IfSome result (λ x. IsNumber kind x.0) }
-    ensures taken { IfSome result (λ x. Takes instr.now entry.old entry.new (of_integer kind x.0)
-        (drop at bytes.now) (drop x.1 bytes.now)) }
-    ensures entry { IfNone result (entry.new ≡ entry.old) }
+    ensures { TakesNumber kind instr.now bytes.now at result entry.old entry.new }
 {
     match instr.operator {
         Operator::Delta => take_delta(kind, instr, entry, bytes, at),
@@ -152,10 +132,8 @@ fn take_value(
         (drop at bytes.now) (drop x.1 bytes.now)) }
     ensures entry { IfNone result (entry.new ≡ entry.old) }
 {
-    match take(kind, instr, entry, bytes, at) {
-        Some((number, next)) => Some((value_of(kind, number), next)),
-        None => None,
-    }
+    let (number, next) = take(kind, instr, entry, bytes, at)?;
+    Some((value_of(kind, number), next))
 }
 
 /// Reads an integer under bit 1, makes the entry the one afterwards, and answers the number as a value and the place
@@ -195,15 +173,10 @@ fn take_place(
     requires kind { kind ≡ instr.now.kind }
     requires integer { IsTrue (is_integer kind) }
     requires operator { IsTrue (keeps_value instr.now.operator) }
-    ensures place { IfSome result (λ next. (at ≤ next) × (next ≤ length bytes.now)) }
-    ensures taken { IfSome result (λ next. (v : ScalarOf) × (entry.new ≡ entry_type.Assigned v)
-        × Takes instr.now entry.old entry.new v (drop at bytes.now) (drop next bytes.now)) }
-    ensures entry { IfNone result (entry.new ≡ entry.old) }
+    ensures { TakesKept instr.now bytes.now at result entry.old entry.new }
 {
-    match take(kind, instr, entry, bytes, at) {
-        Some((_number, next)) => Some(next),
-        None => None,
-    }
+    let (_number, next) = take(kind, instr, entry, bytes, at)?;
+    Some(next)
 }
 
 /// The same by the type, which is known behind this call. (A call of its own, so that the loop over the fields of a line
@@ -217,10 +190,7 @@ pub(crate) fn take_kept_number(
 ) -> Option<usize>
     requires at { at ≤ length bytes.now }
     requires operator { IsTrue (keeps_value instr.now.operator) }
-    ensures place { IfSome result (λ next. (at ≤ next) × (next ≤ length bytes.now)) }
-    ensures taken { IfSome result (λ next. (v : ScalarOf) × (entry.new ≡ entry_type.Assigned v)
-        × Takes instr.now entry.old entry.new v (drop at bytes.now) (drop next bytes.now)) }
-    ensures entry { IfNone result (entry.new ≡ entry.old) }
+    ensures { TakesKept instr.now bytes.now at result entry.old entry.new }
 {
     match instr.kind {
         Kind::UInt32 => take_place(Kind::UInt32, instr, entry, bytes, at),

@@ -5,11 +5,9 @@ ghost use Rattle.std.specs.Prelude.{◌≡◌, ◌≤◌, length, drop, IfNone, 
 ghost use Rattle.fast_value.specs.declared.kind.Kind.TheVariants as kind_type;
 ghost use Rattle.fast_value.specs.declared.kind.Operator.TheVariants as operator_type;
 ghost use Rattle.fast_value.specs.declared.kind.Part.TheVariants as part_type;
-ghost use Rattle.fast_value.specs.declared.scalar.Scalar.{Scalar as ScalarOf};
 ghost use Rattle.fast_value.specs.declared.scalar.Scalar.TheVariants.{Ascii};
 ghost use Rattle.fast_dictionary.specs.declared.entry.Entry.{Entry as EntryOf};
-ghost use Rattle.fast_dictionary.specs.declared.entry.Entry.TheVariants as entry_type;
-ghost use Rattle.fast_relay.specs.Kept.{LeavesEntry};
+ghost use Rattle.fast_relay.specs.Kept.{LeavesEntry, TakesKept, TakesText};
 ghost use Rattle.fast_relay.specs.Relayed.{Takes};
 
 use crate::characters::find_plain;
@@ -33,14 +31,9 @@ fn take_whole(
     requires part { instr.now.part ≡ part_type.Whole }
     requires kind { instr.now.kind ≡ kind_type.Ascii }
     requires operator { instr.now.operator ≡ operator_type.Copy }
-    ensures place { IfSome result (λ next. (at ≤ next) × (next ≤ length bytes.now)) }
-    ensures taken { IfSome result (λ next. (v : ScalarOf) × (entry.new ≡ entry_type.Assigned v)
-        × Takes instr.now entry.old entry.new v (drop at bytes.now) (drop next bytes.now)) }
-    ensures entry { IfNone result (entry.new ≡ entry.old) }
+    ensures { TakesKept instr.now bytes.now at result entry.old entry.new }
 {
-    let Some((first, next)) = find_plain(bytes, at) else {
-        return None;
-    };
+    let (first, next) = find_plain(bytes, at)?;
     if keep_plain(alloc, Operator::Copy, entry, &bytes[first..next]) {
         Some(next)
     } else {
@@ -61,16 +54,10 @@ fn take_cut(
     requires part { instr.now.part ≡ part_type.Whole }
     requires kind { instr.now.kind ≡ kind_type.Ascii }
     requires operator { instr.now.operator ≡ operator_type.Delta }
-    ensures place { IfSome result (λ next. (at ≤ next) × (next ≤ length bytes.now)) }
-    ensures taken { IfSome result (λ next. Takes instr.now (entry_type.Assigned (Ascii text.old))
-        (entry_type.Assigned (Ascii text.new)) (Ascii text.new) (drop at bytes.now)
-        (drop next bytes.now)) }
-    ensures text { IfNone result (text.new ≡ text.old) }
+    ensures { TakesText instr.now bytes.now at result text.old text.new }
 {
     let base = text.as_slice();
-    let Some(cut) = read_cut(instr, base, bytes, at) else {
-        return None;
-    };
+    let cut = read_cut(instr, base, bytes, at)?;
     let kept = base.len() - cut.removed;
     if put_characters(alloc, text, kept, &bytes[cut.first..cut.next]) {
         Some(cut.next)
@@ -92,19 +79,13 @@ fn take_tail(
     requires part { instr.now.part ≡ part_type.Whole }
     requires kind { instr.now.kind ≡ kind_type.Ascii }
     requires operator { instr.now.operator ≡ operator_type.Tail }
-    ensures place { IfSome result (λ next. (at ≤ next) × (next ≤ length bytes.now)) }
-    ensures taken { IfSome result (λ next. Takes instr.now (entry_type.Assigned (Ascii text.old))
-        (entry_type.Assigned (Ascii text.new)) (Ascii text.new) (drop at bytes.now)
-        (drop next bytes.now)) }
-    ensures text { IfNone result (text.new ≡ text.old) }
+    ensures { TakesText instr.now bytes.now at result text.old text.new }
 {
     let base = text.as_slice();
     if base.len() > UNIT_LIMIT {
         return None;
     }
-    let Some((first, next)) = find_tail(instr, base, bytes, at) else {
-        return None;
-    };
+    let (first, next) = find_tail(instr, base, bytes, at)?;
     let form = &bytes[first..next];
     let kept = base.len() - form.len();
     if put_characters(alloc, text, kept, form) {
@@ -125,10 +106,7 @@ pub(crate) fn take_text(
     at: usize,
 ) -> Option<usize>
     requires { at ≤ length bytes.now }
-    ensures place { IfSome result (λ next. (at ≤ next) × (next ≤ length bytes.now)) }
-    ensures taken { IfSome result (λ next. (v : ScalarOf) × (entry.new ≡ entry_type.Assigned v)
-        × Takes instr.now entry.old entry.new v (drop at bytes.now) (drop next bytes.now)) }
-    ensures entry { IfNone result (entry.new ≡ entry.old) }
+    ensures { TakesKept instr.now bytes.now at result entry.old entry.new }
 {
     match (instr.kind, instr.part, instr.operator) {
         (Kind::Ascii, Part::Whole, Operator::Copy) => take_whole(alloc, instr, entry, bytes, at),
@@ -162,9 +140,7 @@ fn put_aside(
         (drop at bytes.now) (drop next bytes.now)) }
     ensures text { IfNone result (text.new ≡ text.old) }
 {
-    let Some((first, next)) = find_plain(bytes, at) else {
-        return None;
-    };
+    let (first, next) = find_plain(bytes, at)?;
     if put_characters(alloc, text, 0, &bytes[first..next]) {
         Some(next)
     } else {

@@ -1,5 +1,5 @@
 -- What was read of a field of a set is told: a value of its type, or that it is left out where it may be.
-use Rattle.std.proofs.Common.{◌≡◌, ◌<◌, ℕ, Bool, true, List, [], ◌∷◌, Option, Some, None, refl, sym, ap, subst, ◌∙◌, drop, get_or, arith}
+use Rattle.std.proofs.Common.{◌≡◌, ◌<◌, ◌≤◌, ℕ, Bool, true, List, [], ◌∷◌, Option, Some, None, Ok, refl, ◌∙◌, length, drop, get_or, arith, Fits, w8}
 use Rattle.std.specs.Prelude.{nat_lt}
 use Rattle.std.specs.List.{AllByRecursion}
 use Rattle.std.proofs.lemmas.Bool.Decides.{nat_tests}
@@ -12,9 +12,9 @@ use Rattle.fast_value.specs.declared.scalar.Scalar.TheVariants.{U32, I32, U64, I
 use Rattle.fast_template.specs.declared.resolved.FieldPart.{FieldPart}
 use Rattle.fast_dictionary.specs.declared.entry.Entry.{Entry}
 use Rattle.fast_field.specs.AsUsual.{ReadsAsUsual}
-use Rattle.fast_field.specs.Parts.{IsBitOf, IsFieldPart}
+use Rattle.fast_field.specs.Parts.{IsBitOf}
 use Rattle.fast_field.specs.Refusals.{are_characters, has_characters}
-use Rattle.fast_field.specs.Within.{HoldsScalar, IsOfField}
+use Rattle.fast_field.specs.Within.{IsOfField}
 use Rattle.fast_field.proofs.FieldsWithin.{values_within}
 use Rattle.fast_field.proofs.ReadFields.{bytes_from}
 use Rattle.fast_relay.specs.Relayed.{Takes}
@@ -23,7 +23,9 @@ use Rattle.fast_walk.specs.Received.{TookFrom}
 use Rattle.fast_walk.proofs.Telling.{form_taken}
 use Rattle.fast_lines.specs.declared.form.Form.{Form}
 use Rattle.fast_lines.specs.Lines.{field_text, said_text}
-use Rattle.fast_told.specs.Told.{Line, Said}
+use Rattle.fast_told.specs.Taking.{CanTake, TellsNext}
+use Rattle.fast_told.specs.Told.{Says}
+use Rattle.fast_told.specs.declared.line.Line.{Line as LineNow}
 
 characters : (s : List ℕ) → AllByRecursion (λ c. c < 128) s → are_characters s ≡ true
 characters [] all = refl
@@ -44,17 +46,18 @@ told form p None of_field = rw (of_field) refl
 told form p (Some v) of_field = rw (of_field.0, of_characters v of_field.1) refl
 
 -- of a part of a set whose entry is within its type
-pub tells : (form : Form) (level : Level) (p : FieldPart) (presence : Presence) (bit : Bool) (old new : Entry) (v : Option Scalar) (bytes : List ℕ) (at next : ℕ) → ((k : ℕ) → get_or bytes k 0 < 256)
-    → IsFieldPart p → p.presence ≡ presence → IsBitOf p bit → HoldsScalar old → TookFrom level p bit old new v (drop at bytes) (drop next bytes)
-    → (name : List ℕ) (l k : Line) → Said form name (Some (said_text form v)) l k → Said form name (field_text form p.kind presence (single v)) l k
-tells form level p presence bit old new v bytes at next fits is same asked holds took name l k said =
-    let f = form_taken level p bit old new v (drop at bytes) (drop next bytes) (bytes_from bytes at fits) is asked took in
-    let text = told form p v (values_within p old bit f.bytes v is holds f.form).of_field in
-    subst (λ (t : Option (List ℕ)). Said form name t l k) (sym text ∙ ap (λ (q : Presence). field_text form p.kind q (single v)) same) said
+pub tells : {form : Form} {level : Level} {p : FieldPart} {bit : Bool} {old new : Entry} {v o : Option Scalar} {name : List ℕ} (bytes : List ℕ) (at next : ℕ) (l k : LineNow)
+    → ((k : ℕ) → Fits w8 (get_or bytes k 0)) → CanTake p old bytes at → IsBitOf p bit → (at ≤ next) × (next ≤ length bytes)
+    → TookFrom level p bit old new v (drop at bytes) (drop next bytes) → o ≡ v → Says form name o l k
+    → TellsNext form level name p bit bytes at (Ok next) old new l k
+tells {form} {level} {p} {bit} {old} {new} {v} {o} {name} bytes at next l k fits can asked place took same said =
+    let f = form_taken level p bit old new v (drop at bytes) (drop next bytes) (bytes_from bytes at (λ k. omega (arith, fits k))) can.part asked took in
+    let text = told form p v (values_within p old bit f.bytes v can.part can.entry f.form).of_field in
+    (place.0, place.1, (v, took, rw (text) (rw (same) at said)))
 
 -- what is taken at once where it is read as at the usual level
-pub took_as_usual : (level : Level) (p : FieldPart) (old new : Entry) (v : Scalar) (bytes rest : List ℕ) → ReadsAsUsual level p bytes → Takes p old new v bytes rest → TookFrom level p true old new (Some v) bytes rest
-took_as_usual level p old new v bytes rest usual h = record { value = λ more. usual old more ∙ h.read more; entry = h.entry }
+pub took_as_usual : {level : Level} {p : FieldPart} {old new : Entry} {v : Scalar} {bytes rest : List ℕ} → ReadsAsUsual level p bytes → Takes p old new v bytes rest → TookFrom level p true old new (Some v) bytes rest
+took_as_usual {old} usual h = record { value = λ more. usual old more ∙ h.read more; entry = h.entry }
 
 -- a part that has no value may be left out
 pub may_be_absent : (p : FieldPart) (presence : Presence) → p.presence ≡ presence → (p.presence ≡ Mandatory → ⊥) → presence ≡ Optional

@@ -1,5 +1,6 @@
 -- What is told of a message that is open, in the line that is written as its fields are read (our own).
 use Rattle.std.specs.Prelude.{◌≡◌, ℕ, ℤ, Bool, true, List, [], ◌∷◌, ◌++◌, codes, Option, Some, None, option_map, find}
+use Rattle.fast_value.specs.declared.scalar.Scalar.{Scalar}
 use Rattle.fast_value.specs.declared.scalar.Scalar.TheVariants.{Decimal}
 use Rattle.fast_template.specs.Resolved.{Instructions, Resolved}
 use Rattle.fast_template.specs.TemplateSets.{TemplateList, has_id, templates_in}
@@ -7,7 +8,7 @@ use Rattle.fast_stream.specs.Nodes.{single, group_items, sequence_elements, Item
 use Rattle.fast_walk.specs.OpenSegments.{items_before, elements_before, Body, Sequel, Inside, in_group, in_sequence, Waiting, Next, at_instruction, at_mantissa, at_element, with_item, with_element}
 use Rattle.fast_walk.specs.Received.{Received, bytes_in}
 use Rattle.fast_gaps.specs.Gaps.{filled, no_texts}
-use Rattle.fast_lines.specs.Lines.{decimal_text, elements_text, joined, line_by, members_text}
+use Rattle.fast_lines.specs.Lines.{decimal_text, elements_text, joined, line_by, members_text, said_text}
 use Rattle.fast_lines.specs.Signs.{between, head_text, is_led, label_text, lead}
 use Rattle.fast_lines.specs.declared.form.Form.{Form}
 use Rattle.fast_told.specs.declared.line.Line.{Line as LineNow}
@@ -139,3 +140,11 @@ pub record Said (form : Form) (name : List ℕ) (value : Option (List ℕ)) (l k
   pub there : value ≡ Some text
   pub told : k.text ≡ l.text ++ ((lead form l.led ++ label_text form name) ++ text)
   pub led : k.led ≡ true
+
+-- a text stands behind what was written
+abbrev pub Appends : Form → LineNow → List ℕ → LineNow → Type 0
+Appends form l text k = written_of form k ≡ written_of form l ++ text
+
+-- a label and a value, or what stands for one that is absent
+abbrev pub Says : Form → List ℕ → Option Scalar → LineNow → LineNow → Type 0
+Says form name v l k = Said form name (Some (said_text form v)) (line_now form l) (line_now form k)

@@ -1,14 +1,12 @@
 //! Fields that are told one after the other, with no step of the walk between them.
 
-ghost use Rattle.std.specs.Prelude.{◌≡◌, ◌≢◌, ◌≤◌, ◌<◌, ◌+◌, ℕ, ℤ, true, false, List, None, IsSome, IfOk, OnOk, length, drop};
-ghost use Rattle.fast_template.specs.TemplateSets.{TemplateList};
+ghost use Rattle.std.specs.Prelude.{◌≡◌, ◌≢◌, ◌≤◌, ◌<◌, ◌+◌, ℕ, true, false, None, IsSome, IfOk, OnOk, length, drop};
 ghost use Rattle.fast_template.specs.Resolved.{list_of, then_instruction, whole_field};
 ghost use Rattle.fast_stream.specs.Bits.{after_bit, bit_for};
 ghost use Rattle.fast_walk.specs.Passing.{next_behind};
 ghost use Rattle.fast_walk.specs.Told.{KeepScalars};
 ghost use Rattle.fast_walk.specs.Walks.{AreServed, IsNextServed};
-ghost use Rattle.fast_told.specs.Taking.{TakesFields};
-ghost use Rattle.fast_told.specs.Told.{HasTold, line_now};
+ghost use Rattle.fast_told.specs.Taking.{TellsFields};
 
 use crate::line::Line;
 use crate::told::tell;
@@ -88,10 +86,8 @@ fn tell_field<'a, S: Signs, E: Entries>(
     ensures few { OnOk result (fields.new.spare ≤ fields.old.spare) }
     ensures fewer { IfOk result (λ b. b ≡ true → fields.new.spare < fields.old.spare) }
     ensures served { OnOk result (AreServed (E.serves entries.old) (list_of fields.new.rest.now)) }
-    ensures takes { OnOk result ((out : List ℕ) (own : TemplateList) (z : ℤ)
-        → TakesFields (λ l o d. HasTold S.form out own z l o) level bytes.now (line_now S.form line.old)
-        (E.contents entries.old) bits.old fields.old (line_now S.form line.new) (E.contents entries.new)
-        bits.new fields.new) }
+    ensures takes { OnOk result (TellsFields S.form level bytes.now line.old (E.contents entries.old) bits.old fields.old
+        line.new (E.contents entries.new) bits.new fields.new) }
     ensures kept { OnOk result (KeepScalars (E.contents entries.new)) }
     ensures same_keys { E.serves entries.new ≡ E.serves entries.old }
 {
@@ -152,11 +148,9 @@ pub fn tell_fields<'a, S: Signs, E: Entries>(
     ensures served { IfOk result (λ f. AreServed (E.serves entries.old) (list_of f.rest.now)
         × IsNextServed (E.serves entries.old) (next_behind f.mantissa)) }
     ensures none { IfOk result (λ f. f.mantissa ≡ None) }
-    ensures takes { IfOk result (λ f. (out : List ℕ) (own : TemplateList) (z : ℤ)
-        → TakesFields (λ l o d. HasTold S.form out own z l o) level bytes.now (line_now S.form line.old)
-        (E.contents entries.old) bits.old
+    ensures takes { IfOk result (λ f. TellsFields S.form level bytes.now line.old (E.contents entries.old) bits.old
         (record { mantissa = None; rest = rest.entry; spare = spare; place = at })
-        (line_now S.form line.new) (E.contents entries.new) bits.new f) }
+        line.new (E.contents entries.new) bits.new f) }
     ensures kept { OnOk result (KeepScalars (E.contents entries.new)) }
     ensures same_keys { E.serves entries.new ≡ E.serves entries.old }
 {

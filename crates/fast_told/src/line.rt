@@ -35,8 +35,8 @@ impl Line {
     ghost use Rattle.std.specs.Prelude.{◌≡◌, ◌<◌, ◌≤◌, Some, None, ◌++◌, ◌∷◌, [], true, false, codes, length, IfOk, OnOk};
     ghost use Rattle.std.specs.Option.{option_copied};
     ghost use Rattle.fast_gaps.specs.Filled.{left_of};
-    ghost use Rattle.fast_told.specs.Told.{Said, line_now, written_of};
-    ghost use Rattle.fast_lines.specs.Lines.{decimal_text, said_text, scalar_text};
+    ghost use Rattle.fast_told.specs.Told.{Appends, Says, line_now, written_of};
+    ghost use Rattle.fast_lines.specs.Lines.{decimal_text, scalar_text};
     ghost use Rattle.fast_lines.specs.Pieces.{laid};
     ghost use Rattle.std.specs.List.{flat_map};
     ghost use Rattle.fast_lines.specs.Signs.{ending, head_text, is_led, label_text, lead, quoted, unit_text};
@@ -104,8 +104,7 @@ impl Line {
     // Appends what stands in front of the fields, where it is no short piece.
     #[inline(never)]
     fn put_head<S: Signs>(&mut self, signs: S, id: u32, name: &str) -> Result<(), AllocError>
-        ensures text { OnOk result ((form : Form) → written_of form self.new
-            ≡ written_of form self.old ++ head_text S.form id name.now) }
+        ensures text { OnOk result ((form : Form) → Appends form self.old (head_text S.form id name.now) self.new) }
         ensures led { self.new.led ≡ self.old.led }
     {
         self.long.clear();
@@ -116,7 +115,7 @@ impl Line {
     // Appends a text.
     #[inline(always)]
     fn put(&mut self, text: &[u8]) -> Result<(), AllocError>
-        ensures text { OnOk result ((form : Form) → written_of form self.new ≡ written_of form self.old ++ text.now) }
+        ensures text { OnOk result ((form : Form) → Appends form self.old text.now self.new) }
         ensures led { self.new.led ≡ self.old.led }
     {
         self.text.put(text)?;
@@ -125,8 +124,7 @@ impl Line {
 
     // Appends what is no short piece.
     fn put_long(&mut self) -> Result<(), AllocError>
-        ensures text { OnOk result ((form : Form) → written_of form self.new
-            ≡ written_of form self.old ++ self.old.long.items) }
+        ensures text { OnOk result ((form : Form) → Appends form self.old self.old.long.items self.new) }
         ensures led { self.new.led ≡ self.old.led }
     {
         self.text.put(&self.long)?;
@@ -140,8 +138,7 @@ impl Line {
 
     // Leaves a gap for what stands in front of a value.
     fn leave_label(&mut self, name: &Name) -> Result<(), AllocError>
-        ensures text { OnOk result ((form : Form) → written_of form self.new
-            ≡ written_of form self.old ++ label_text form name.now) }
+        ensures text { OnOk result ((form : Form) → Appends form self.old (label_text form name.now) self.new) }
         ensures led { self.new.led ≡ self.old.led }
     {
         self.gaps.leave_label(self.text.len(), name)?;
@@ -150,8 +147,7 @@ impl Line {
 
     // Leaves a gap for a text of more than a few units; answers whether it did.
     fn leave_text(&mut self, part: &FieldPart, value: &Scalar) -> Result<bool, AllocError>
-        ensures left { IfOk result (λ b. b ≡ true → (form : Form) → written_of form self.new
-            ≡ written_of form self.old ++ scalar_text form value.now) }
+        ensures left { IfOk result (λ b. b ≡ true → (form : Form) → Appends form self.old (scalar_text form value.now) self.new) }
         ensures none { IfOk result (λ b. b ≡ false → (form : Form) → written_of form self.new
             ≡ written_of form self.old) }
         ensures led { self.new.led ≡ self.old.led }
@@ -166,8 +162,7 @@ impl Line {
     #[inline(always)]
     fn put_piece(&mut self, start: usize) -> Result<(), AllocError>
         requires { start ≤ 64 }
-        ensures text { OnOk result ((form : Form) → written_of form self.new
-            ≡ written_of form self.old ++ laid self.old.piece.bytes start) }
+        ensures text { OnOk result ((form : Form) → Appends form self.old (laid self.old.piece.bytes start) self.new) }
         ensures led { self.new.led ≡ self.old.led }
     {
         self.text.put_piece(&self.piece, start)?;
@@ -177,8 +172,7 @@ impl Line {
     // Appends what stands between two where it is due.
     #[inline(always)]
     fn lead<S: Signs>(&mut self, signs: S) -> Result<(), AllocError>
-        ensures text { OnOk result (written_of S.form self.new ≡ written_of S.form self.old
-            ++ lead S.form self.old.led) }
+        ensures text { OnOk result (Appends S.form self.old (lead S.form self.old.led) self.new) }
         ensures led { self.new.led ≡ self.old.led }
     {
         if self.led {
@@ -191,8 +185,7 @@ impl Line {
     /// Appends what stands in front of a value, behind what stands between two where it is due.
     #[inline(always)]
     pub fn label<S: Signs>(&mut self, signs: S, name: &Name) -> Result<(), AllocError>
-        ensures text { OnOk result (written_of S.form self.new ≡ written_of S.form self.old
-            ++ (lead S.form self.old.led ++ label_text S.form name.now)) }
+        ensures text { OnOk result (Appends S.form self.old (lead S.form self.old.led ++ label_text S.form name.now) self.new) }
         ensures led { OnOk result (self.new.led ≡ true) }
     {
         match signs.lay_label(name.as_str(), &mut self.piece, Piece::END) {
@@ -204,8 +197,7 @@ impl Line {
     // The same of any length, one after the other; in a line that is long a long name is left out.
     #[inline(never)]
     fn label_long<S: Signs>(&mut self, signs: S, name: &Name) -> Result<(), AllocError>
-        ensures text { OnOk result (written_of S.form self.new ≡ written_of S.form self.old
-            ++ (lead S.form self.old.led ++ label_text S.form name.now)) }
+        ensures text { OnOk result (Appends S.form self.old (lead S.form self.old.led ++ label_text S.form name.now) self.new) }
         ensures led { OnOk result (self.new.led ≡ true) }
     {
         self.lead(signs)?;
@@ -227,8 +219,7 @@ impl Line {
         part: &FieldPart,
         value: Option<&Scalar>,
     ) -> Result<(), AllocError>
-        ensures { OnOk result (Said S.form name.now (Some (said_text S.form (option_copied value.entry)))
-            (line_now S.form self.old) (line_now S.form self.new)) }
+        ensures { OnOk result (Says S.form name.now (option_copied value.entry) self.old self.new) }
     {
         match lay_scalar(signs, value, &mut self.piece) {
             None => self.tell_long(signs, name, part, value),
@@ -247,8 +238,7 @@ impl Line {
         name: &Name,
         part: &FieldPart,
     ) -> Result<(), AllocError>
-        ensures { OnOk result (Said S.form name.now (Some (scalar_text S.form self.old.aside))
-            (line_now S.form self.old) (line_now S.form self.new)) }
+        ensures { OnOk result (Says S.form name.now (Some self.old.aside) self.old self.new) }
     {
         let value = mem::replace(&mut self.aside, Scalar::U32(0));
         let told = self.tell(signs, name, part, Some(&value));
@@ -265,8 +255,7 @@ impl Line {
         part: &FieldPart,
         value: Option<&Scalar>,
     ) -> Result<(), AllocError>
-        ensures { OnOk result (Said S.form name.now (Some (said_text S.form (option_copied value.entry)))
-            (line_now S.form self.old) (line_now S.form self.new)) }
+        ensures { OnOk result (Says S.form name.now (option_copied value.entry) self.old self.new) }
     {
         self.label(signs, name)?;
         match value {
@@ -282,8 +271,7 @@ impl Line {
         part: &FieldPart,
         value: &Scalar,
     ) -> Result<(), AllocError>
-        ensures text { OnOk result (written_of S.form self.new
-            ≡ written_of S.form self.old ++ scalar_text S.form value.now) }
+        ensures text { OnOk result (Appends S.form self.old (scalar_text S.form value.now) self.new) }
         ensures led { self.new.led ≡ self.old.led }
     {
         if self.is_long() && self.leave_text(part, value)? {
@@ -302,8 +290,7 @@ impl Line {
 
     // Appends a string in its quotes.
     fn put_quoted<S: Signs>(&mut self, signs: S, text: &[u8]) -> Result<(), AllocError>
-        ensures text { OnOk result (written_of S.form self.new
-            ≡ written_of S.form self.old ++ quoted S.form text.now) }
+        ensures text { OnOk result (Appends S.form self.old (quoted S.form text.now) self.new) }
         ensures led { self.new.led ≡ self.old.led }
     {
         self.put(b"\"")?;
@@ -315,8 +302,7 @@ impl Line {
     // Appends a string without its quotes; where it stands as it is, at once.
     #[inline(always)]
     fn put_text<S: Signs>(&mut self, signs: S, text: &[u8]) -> Result<(), AllocError>
-        ensures text { OnOk result (written_of S.form self.new
-            ≡ written_of S.form self.old ++ flat_map (unit_text S.form) text.now) }
+        ensures text { OnOk result (Appends S.form self.old (flat_map (unit_text S.form) text.now) self.new) }
         ensures led { self.new.led ≡ self.old.led }
     {
         if all_stand(text) {
@@ -328,8 +314,7 @@ impl Line {
 
     // The same, piece by piece.
     fn put_units<S: Signs>(&mut self, signs: S, text: &[u8]) -> Result<(), AllocError>
-        ensures text { OnOk result (written_of S.form self.new
-            ≡ written_of S.form self.old ++ flat_map (unit_text S.form) text.now) }
+        ensures text { OnOk result (Appends S.form self.old (flat_map (unit_text S.form) text.now) self.new) }
         ensures led { self.new.led ≡ self.old.led }
     {
         let mut at = 0;
@@ -346,8 +331,7 @@ impl Line {
     /// Appends the label of what is absent, and what stands for it.
     #[inline(never)]
     pub fn tell_absent<S: Signs>(&mut self, signs: S, name: &Name) -> Result<(), AllocError>
-        ensures { OnOk result (Said S.form name.now (Some (said_text S.form None))
-            (line_now S.form self.old) (line_now S.form self.new)) }
+        ensures { OnOk result (Says S.form name.now None self.old self.new) }
     {
         self.label(signs, name)?;
         self.put(signs.absent())
@@ -357,8 +341,7 @@ impl Line {
     #[inline(always)]
     fn append<S: Signs>(&mut self, signs: S, start: usize) -> Result<(), AllocError>
         requires { (0 < start) × (start ≤ 64) }
-        ensures text { OnOk result (written_of S.form self.new ≡ written_of S.form self.old
-            ++ (lead S.form self.old.led ++ laid self.old.piece.bytes start)) }
+        ensures text { OnOk result (Appends S.form self.old (lead S.form self.old.led ++ laid self.old.piece.bytes start) self.new) }
         ensures led { OnOk result (self.new.led ≡ true) }
     {
         if !self.led {
@@ -380,8 +363,7 @@ impl Line {
     /// Appends a decimal, behind its label.
     #[inline(always)]
     pub fn push_decimal(&mut self, mantissa: i64, exponent: i32) -> Result<(), AllocError>
-        ensures text { OnOk result ((form : Form) → written_of form self.new
-            ≡ written_of form self.old ++ decimal_text mantissa exponent) }
+        ensures text { OnOk result ((form : Form) → Appends form self.old (decimal_text mantissa exponent) self.new) }
         ensures led { self.new.led ≡ self.old.led }
     {
         let start = self.piece.lay_decimal(mantissa, exponent);
@@ -391,8 +373,7 @@ impl Line {
     /// Appends a brace, behind what stands between two where it is due; behind the brace it is not.
     #[inline(always)]
     pub fn open_brace<S: Signs>(&mut self, signs: S) -> Result<(), AllocError>
-        ensures text { OnOk result (written_of S.form self.new ≡ written_of S.form self.old
-            ++ (lead S.form self.old.led ++ codes "{")) }
+        ensures text { OnOk result (Appends S.form self.old (lead S.form self.old.led ++ codes "{") self.new) }
         ensures led { OnOk result (self.new.led ≡ false) }
     {
         self.lead(signs)?;
@@ -407,8 +388,8 @@ impl Line {
         name: &Name,
         bracket: u8,
     ) -> Result<(), AllocError>
-        ensures text { OnOk result (written_of S.form self.new ≡ written_of S.form self.old
-            ++ ((lead S.form self.old.led ++ label_text S.form name.now) ++ bracket ∷ [])) }
+        ensures text { OnOk result (Appends S.form self.old
+            ((lead S.form self.old.led ++ label_text S.form name.now) ++ bracket ∷ []) self.new) }
         ensures led { OnOk result (self.new.led ≡ false) }
     {
         self.label(signs, name)?;
@@ -418,7 +399,7 @@ impl Line {
     // Appends a bracket or a brace, behind which nothing is due.
     #[inline(always)]
     fn open(&mut self, bracket: u8) -> Result<(), AllocError>
-        ensures text { OnOk result ((form : Form) → written_of form self.new ≡ written_of form self.old ++ bracket ∷ []) }
+        ensures text { OnOk result ((form : Form) → Appends form self.old (bracket ∷ []) self.new) }
         ensures led { OnOk result (self.new.led ≡ false) }
     {
         self.put(&[bracket])?;
@@ -429,7 +410,7 @@ impl Line {
     /// Appends the bracket or the brace at the end, behind which what stands between two is due.
     #[inline(always)]
     pub fn close(&mut self, bracket: u8) -> Result<(), AllocError>
-        ensures text { OnOk result ((form : Form) → written_of form self.new ≡ written_of form self.old ++ bracket ∷ []) }
+        ensures text { OnOk result ((form : Form) → Appends form self.old (bracket ∷ []) self.new) }
         ensures led { OnOk result (self.new.led ≡ true) }
     {
         self.put(&[bracket])?;
@@ -440,7 +421,7 @@ impl Line {
     /// Appends what ends the line.
     #[inline(always)]
     pub fn end<S: Signs>(&mut self, signs: S) -> Result<(), AllocError>
-        ensures { OnOk result (written_of S.form self.new ≡ written_of S.form self.old ++ ending S.form) }
+        ensures { OnOk result (Appends S.form self.old (ending S.form) self.new) }
     {
         self.put(signs.ending())
     }

@@ -4,16 +4,14 @@ ghost use Rattle.std.specs.Prelude.{◌≡◌, ◌≢◌, ◌≤◌, true, false
 ghost use Rattle.fast_field.specs.AsUsual.{ReadsAsUsual};
 ghost use Rattle.fast_value.specs.declared.scalar.Scalar.{Scalar as ScalarOf};
 ghost use Rattle.fast_dictionary.specs.Dictionary.{entry_at};
-ghost use Rattle.fast_relay.specs.Relayed.{Takes};
 ghost use Rattle.fast_field.specs.FieldReading.{field_at};
 ghost use Rattle.fast_stream.specs.Nodes.{single};
-ghost use Rattle.fast_walk.specs.Received.{Took, TookFrom};
+ghost use Rattle.fast_walk.specs.Received.{Took};
 ghost use Rattle.fast_walk.specs.Told.{IsTold, KeepScalars};
-ghost use Rattle.fast_field.specs.Parts.{IsFieldPart};
-ghost use Rattle.fast_field.specs.Within.{HoldsScalar};
 ghost use Rattle.fast_template.specs.Resolved.{part_needs_bit};
 ghost use Rattle.fast_value.specs.declared.kind.Part.TheVariants.{Whole};
 ghost use Rattle.fast_lines.specs.Lines.{field_text};
+ghost use Rattle.fast_told.specs.Taking.{CanTake, TellsNext};
 ghost use Rattle.fast_told.specs.Told.{Said, line_now};
 
 use crate::line::Line;
@@ -33,7 +31,6 @@ fn take_generally<S: Signs>(
     signs: S,
     alloc: Global,
     name: &Name,
-    presence: Presence,
     part: &FieldPart,
     entry: &mut Entry,
     bit: bool,
@@ -42,29 +39,13 @@ fn take_generally<S: Signs>(
     at: usize,
     line: &mut Line,
 ) -> Result<usize, FieldFault>
-    requires place { at ≤ length bytes.now }
-    requires part { IsFieldPart part.now }
-    requires presence { part.now.presence ≡ presence }
+    requires next { CanTake part.now entry.old bytes.now at }
     requires bit { part_needs_bit part.now ≡ false → bit ≡ true }
-    requires entry { HoldsScalar entry.old }
-    ensures place { IfOk result (λ n. (at ≤ n) × (n ≤ length bytes.now)) }
-    ensures told { IfOk result (λ n. (v : Option ScalarOf)
-        × TookFrom level part.now bit entry.old entry.new v (drop at bytes.now) (drop n bytes.now)
-        × Said S.form name.now (field_text S.form part.now.kind presence (single v)) (line_now S.form line.old)
-        (line_now S.form line.new)) }
-    ensures stops { IfErr result (λ f. f ≢ FieldFault.Memory
-        → (field_at level part.now entry.old bit (drop at bytes.now) ≡ Err f)
-        × (entry.new ≡ entry.old) × (line.new ≡ line.old)) }
+    ensures { TellsNext S.form level name.now part.now bit bytes.now at result entry.old entry.new line.old line.new }
 {
-    match read_in_place(alloc, part, entry, bit, level, bytes, at) {
-        Err(fault) => Err(fault),
-        Ok((found, next)) => {
-            match line.tell(signs, name, part, found.value(part, entry.view())) {
-                Err(_) => Err(FieldFault::Memory),
-                Ok(()) => Ok(next),
-            }
-        }
-    }
+    let (found, next) = read_in_place(alloc, part, entry, bit, level, bytes, at)?;
+    line.tell(signs, name, part, found.value(part, entry.view()))?;
+    Ok(next)
 }
 
 // Takes an integer under bit 1 and tells it, where it is read as at the usual level.
@@ -73,7 +54,6 @@ fn take_integer<S: Signs>(
     signs: S,
     alloc: Global,
     name: &Name,
-    presence: Presence,
     part: &FieldPart,
     entry: &mut Entry,
     level: Level,
@@ -81,27 +61,17 @@ fn take_integer<S: Signs>(
     at: usize,
     line: &mut Line,
 ) -> Result<usize, FieldFault>
-    requires place { at ≤ length bytes.now }
-    requires part { IsFieldPart part.now }
-    requires presence { part.now.presence ≡ presence }
+    requires next { CanTake part.now entry.old bytes.now at }
     requires usual { ReadsAsUsual level part.now (drop at bytes.now) }
-    requires entry { HoldsScalar entry.old }
-    ensures place { IfOk result (λ n. (at ≤ n) × (n ≤ length bytes.now)) }
-    ensures told { IfOk result (λ n. (v : Option ScalarOf)
-        × TookFrom level part.now true entry.old entry.new v (drop at bytes.now) (drop n bytes.now)
-        × Said S.form name.now (field_text S.form part.now.kind presence (single v)) (line_now S.form line.old)
-        (line_now S.form line.new)) }
-    ensures stops { IfErr result (λ f. f ≢ FieldFault.Memory
-        → (field_at level part.now entry.old true (drop at bytes.now) ≡ Err f)
-        × (entry.new ≡ entry.old) × (line.new ≡ line.old)) }
+    ensures { TellsNext S.form level name.now part.now true bytes.now at result entry.old entry.new line.old line.new }
 {
     match take_number(part, entry, bytes, at) {
-        Some((value, next)) => match line.tell(signs, name, part, Some(&value)) {
-            Err(_) => Err(FieldFault::Memory),
-            Ok(()) => Ok(next),
-        },
+        Some((value, next)) => {
+            line.tell(signs, name, part, Some(&value))?;
+            Ok(next)
+        }
         None => take_generally(
-            signs, alloc, name, presence, part, entry, true, level, bytes, at, line,
+            signs, alloc, name, part, entry, true, level, bytes, at, line,
         ),
     }
 }
@@ -112,7 +82,6 @@ fn take_held<S: Signs>(
     signs: S,
     alloc: Global,
     name: &Name,
-    presence: Presence,
     part: &FieldPart,
     entry: &mut Entry,
     level: Level,
@@ -120,28 +89,18 @@ fn take_held<S: Signs>(
     at: usize,
     line: &mut Line,
 ) -> Result<usize, FieldFault>
-    requires place { at ≤ length bytes.now }
+    requires next { CanTake part.now entry.old bytes.now at }
     requires whole { part.now.part ≡ Whole }
-    requires part { IsFieldPart part.now }
-    requires presence { part.now.presence ≡ presence }
     requires usual { ReadsAsUsual level part.now (drop at bytes.now) }
-    requires entry { HoldsScalar entry.old }
-    ensures place { IfOk result (λ n. (at ≤ n) × (n ≤ length bytes.now)) }
-    ensures told { IfOk result (λ n. (v : Option ScalarOf)
-        × TookFrom level part.now true entry.old entry.new v (drop at bytes.now) (drop n bytes.now)
-        × Said S.form name.now (field_text S.form part.now.kind presence (single v)) (line_now S.form line.old)
-        (line_now S.form line.new)) }
-    ensures stops { IfErr result (λ f. f ≢ FieldFault.Memory
-        → (field_at level part.now entry.old true (drop at bytes.now) ≡ Err f)
-        × (entry.new ≡ entry.old) × (line.new ≡ line.old)) }
+    ensures { TellsNext S.form level name.now part.now true bytes.now at result entry.old entry.new line.old line.new }
 {
     match take_kept(alloc, part, entry, bytes, at) {
-        Some(next) => match line.tell(signs, name, part, Found::Kept.value(part, entry.view())) {
-            Err(_) => Err(FieldFault::Memory),
-            Ok(()) => Ok(next),
-        },
+        Some(next) => {
+            line.tell(signs, name, part, Found::Kept.value(part, entry.view()))?;
+            Ok(next)
+        }
         None => take_generally(
-            signs, alloc, name, presence, part, entry, true, level, bytes, at, line,
+            signs, alloc, name, part, entry, true, level, bytes, at, line,
         ),
     }
 }
@@ -152,7 +111,6 @@ fn take_beside<S: Signs>(
     signs: S,
     alloc: Global,
     name: &Name,
-    presence: Presence,
     part: &FieldPart,
     entry: &mut Entry,
     level: Level,
@@ -160,27 +118,17 @@ fn take_beside<S: Signs>(
     at: usize,
     line: &mut Line,
 ) -> Result<usize, FieldFault>
-    requires place { at ≤ length bytes.now }
-    requires part { IsFieldPart part.now }
-    requires presence { part.now.presence ≡ presence }
+    requires next { CanTake part.now entry.old bytes.now at }
     requires usual { ReadsAsUsual level part.now (drop at bytes.now) }
-    requires entry { HoldsScalar entry.old }
-    ensures place { IfOk result (λ n. (at ≤ n) × (n ≤ length bytes.now)) }
-    ensures told { IfOk result (λ n. (v : Option ScalarOf)
-        × TookFrom level part.now true entry.old entry.new v (drop at bytes.now) (drop n bytes.now)
-        × Said S.form name.now (field_text S.form part.now.kind presence (single v)) (line_now S.form line.old)
-        (line_now S.form line.new)) }
-    ensures stops { IfErr result (λ f. f ≢ FieldFault.Memory
-        → (field_at level part.now entry.old true (drop at bytes.now) ≡ Err f)
-        × (entry.new ≡ entry.old) × (line.new ≡ line.old)) }
+    ensures { TellsNext S.form level name.now part.now true bytes.now at result entry.old entry.new line.old line.new }
 {
     match take_aside(alloc, part, &mut line.aside, bytes, at) {
-        Some(next) => match line.tell_aside(signs, name, part) {
-            Err(_) => Err(FieldFault::Memory),
-            Ok(()) => Ok(next),
-        },
+        Some(next) => {
+            line.tell_aside(signs, name, part)?;
+            Ok(next)
+        }
         None => take_generally(
-            signs, alloc, name, presence, part, entry, true, level, bytes, at, line,
+            signs, alloc, name, part, entry, true, level, bytes, at, line,
         ),
     }
 }
@@ -191,7 +139,6 @@ fn take_sent<S: Signs>(
     signs: S,
     alloc: Global,
     name: &Name,
-    presence: Presence,
     part: &FieldPart,
     entry: &mut Entry,
     level: Level,
@@ -199,34 +146,22 @@ fn take_sent<S: Signs>(
     at: usize,
     line: &mut Line,
 ) -> Result<usize, FieldFault>
-    requires place { at ≤ length bytes.now }
+    requires next { CanTake part.now entry.old bytes.now at }
     requires whole { part.now.part ≡ Whole }
-    requires part { IsFieldPart part.now }
-    requires presence { part.now.presence ≡ presence }
     requires usual { ReadsAsUsual level part.now (drop at bytes.now) }
-    requires entry { HoldsScalar entry.old }
-    ensures place { IfOk result (λ n. (at ≤ n) × (n ≤ length bytes.now)) }
-    ensures told { IfOk result (λ n. (v : Option ScalarOf)
-        × TookFrom level part.now true entry.old entry.new v (drop at bytes.now) (drop n bytes.now)
-        × Said S.form name.now (field_text S.form part.now.kind presence (single v)) (line_now S.form line.old)
-        (line_now S.form line.new)) }
-    ensures stops { IfErr result (λ f. f ≢ FieldFault.Memory
-        → (field_at level part.now entry.old true (drop at bytes.now) ≡ Err f)
-        × (entry.new ≡ entry.old) × (line.new ≡ line.old)) }
+    ensures { TellsNext S.form level name.now part.now true bytes.now at result entry.old entry.new line.old line.new }
 {
     match part.operator {
         Operator::Copy | Operator::Increment | Operator::Delta | Operator::Tail => take_held(
-            signs, alloc, name, presence, part, entry, level, bytes, at, line,
+            signs, alloc, name, part, entry, level, bytes, at, line,
         ),
         Operator::Plain | Operator::Default | Operator::Constant => match part.kind {
             Kind::UInt32 | Kind::Int32 | Kind::UInt64 | Kind::Int64 => take_integer(
-                signs, alloc, name, presence, part, entry, level, bytes, at, line,
+                signs, alloc, name, part, entry, level, bytes, at, line,
             ),
-            Kind::Ascii => take_beside(
-                signs, alloc, name, presence, part, entry, level, bytes, at, line,
-            ),
+            Kind::Ascii => take_beside(signs, alloc, name, part, entry, level, bytes, at, line),
             Kind::Decimal | Kind::Unicode | Kind::Bytes => take_generally(
-                signs, alloc, name, presence, part, entry, true, level, bytes, at, line,
+                signs, alloc, name, part, entry, true, level, bytes, at, line,
             ),
         },
     }
@@ -238,7 +173,6 @@ fn take_read<S: Signs>(
     signs: S,
     alloc: Global,
     name: &Name,
-    presence: Presence,
     part: &FieldPart,
     entry: &mut Entry,
     bit: bool,
@@ -247,29 +181,15 @@ fn take_read<S: Signs>(
     at: usize,
     line: &mut Line,
 ) -> Result<usize, FieldFault>
-    requires place { at ≤ length bytes.now }
+    requires next { CanTake part.now entry.old bytes.now at }
     requires whole { part.now.part ≡ Whole }
-    requires part { IsFieldPart part.now }
-    requires presence { part.now.presence ≡ presence }
     requires bit { part_needs_bit part.now ≡ false → bit ≡ true }
-    requires entry { HoldsScalar entry.old }
-    ensures place { IfOk result (λ n. (at ≤ n) × (n ≤ length bytes.now)) }
-    ensures told { IfOk result (λ n. (v : Option ScalarOf)
-        × TookFrom level part.now bit entry.old entry.new v (drop at bytes.now) (drop n bytes.now)
-        × Said S.form name.now (field_text S.form part.now.kind presence (single v)) (line_now S.form line.old)
-        (line_now S.form line.new)) }
-    ensures stops { IfErr result (λ f. f ≢ FieldFault.Memory
-        → (field_at level part.now entry.old bit (drop at bytes.now) ≡ Err f)
-        × (entry.new ≡ entry.old) × (line.new ≡ line.old)) }
+    ensures { TellsNext S.form level name.now part.now bit bytes.now at result entry.old entry.new line.old line.new }
 {
     if bit && reads_as_usual(level, part, bytes, at) {
-        take_sent(
-            signs, alloc, name, presence, part, entry, level, bytes, at, line,
-        )
+        take_sent(signs, alloc, name, part, entry, level, bytes, at, line)
     } else {
-        take_generally(
-            signs, alloc, name, presence, part, entry, bit, level, bytes, at, line,
-        )
+        take_generally(signs, alloc, name, part, entry, bit, level, bytes, at, line)
     }
 }
 
@@ -279,7 +199,6 @@ fn take<S: Signs>(
     signs: S,
     alloc: Global,
     name: &Name,
-    presence: Presence,
     part: &FieldPart,
     entry: &mut Entry,
     bit: bool,
@@ -288,31 +207,17 @@ fn take<S: Signs>(
     at: usize,
     line: &mut Line,
 ) -> Result<usize, FieldFault>
-    requires place { at ≤ length bytes.now }
+    requires next { CanTake part.now entry.old bytes.now at }
     requires whole { part.now.part ≡ Whole }
-    requires part { IsFieldPart part.now }
-    requires presence { part.now.presence ≡ presence }
     requires bit { part_needs_bit part.now ≡ false → bit ≡ true }
-    requires entry { HoldsScalar entry.old }
-    ensures place { IfOk result (λ n. (at ≤ n) × (n ≤ length bytes.now)) }
-    ensures told { IfOk result (λ n. (v : Option ScalarOf)
-        × TookFrom level part.now bit entry.old entry.new v (drop at bytes.now) (drop n bytes.now)
-        × Said S.form name.now (field_text S.form part.now.kind presence (single v)) (line_now S.form line.old)
-        (line_now S.form line.new)) }
-    ensures stops { IfErr result (λ f. f ≢ FieldFault.Memory
-        → (field_at level part.now entry.old bit (drop at bytes.now) ≡ Err f)
-        × (entry.new ≡ entry.old) × (line.new ≡ line.old)) }
+    ensures { TellsNext S.form level name.now part.now bit bytes.now at result entry.old entry.new line.old line.new }
 {
     match take_given(part, entry, bit) {
         Some(found) => {
-            match line.tell(signs, name, part, found.value(part, entry.view())) {
-                Err(_) => Err(FieldFault::Memory),
-                Ok(()) => Ok(at),
-            }
+            line.tell(signs, name, part, found.value(part, entry.view()))?;
+            Ok(at)
         }
-        None => take_read(
-            signs, alloc, name, presence, part, entry, bit, level, bytes, at, line,
-        ),
+        None => take_read(signs, alloc, name, part, entry, bit, level, bytes, at, line),
     }
 }
 
@@ -353,13 +258,7 @@ pub fn tell<S: Signs, E: Entries>(
         × (E.contents entries.new ≡ E.contents entries.old) × (line.new ≡ line.old)) }
     ensures same_keys { E.serves entries.new ≡ E.serves entries.old }
 {
-    match entries.entry_mut(&part.key) {
-        Err(_) => Err(FieldFault::Memory),
-        Ok(entry) => match take(
-            signs, alloc, name, presence, part, entry, bit, level, bytes, at, line,
-        ) {
-            Err(fault) => Err(fault),
-            Ok(next) => Ok(next),
-        },
-    }
+    let entry = entries.entry_mut(&part.key)?;
+    let next = take(signs, alloc, name, part, entry, bit, level, bytes, at, line)?;
+    Ok(next)
 }

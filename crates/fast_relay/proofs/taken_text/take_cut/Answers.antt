@@ -1,11 +1,8 @@
-use Rattle.std.proofs.Common.{drop, slice_range}
 use Rattle.fast_relay.proofs.TextTaking.{cut_takes}
 use Rattle.fast_relay.proofs.taken_text.take_cut.Goals as goal
 
-pub returns-then-put_characters-clause-taken : goal.returns-then-put_characters-clause-taken
-returns-then-put_characters-clause-taken c =
-    let base = c.as_slice-base.result.now in
-    let cut = c.in-Some.cut in
-    let form = slice_range c.args.bytes.now cut.first cut.next in
+pub returns-then-put_characters : goal.returns-then-put_characters
+returns-then-put_characters c =
+    let cut = c.in_ok-cut.ensures in
     rw (c.put_characters.ensures.put c.if-put_characters.true, ← c.as_slice-base.ensures)
-    (cut_takes c.args.instr.now base (drop c.args.at c.args.bytes.now) cut.removed form (drop cut.next c.args.bytes.now) c.requires.kind c.requires.part c.requires.operator c.in-Some.ensures.gives)
+    (cut.place.0, cut.place.2, cut_takes c.requires.kind c.requires.part c.requires.operator cut.gives)

@@ -1,10 +1,8 @@
-use Rattle.std.proofs.Common.{drop, slice_range}
 use Rattle.fast_relay.proofs.TextTaking.{end_takes}
 use Rattle.fast_relay.proofs.taken_text.take_tail.Goals as goal
 
-pub returns-then-put_characters-clause-taken : goal.returns-then-put_characters-clause-taken
-returns-then-put_characters-clause-taken c =
-    let base = c.as_slice-base.result.now in
-    let form = slice_range c.args.bytes.now c.in-Some.first c.in-Some.next in
+pub returns-then-put_characters : goal.returns-then-put_characters
+returns-then-put_characters c =
+    let tail = c.in_ok-first.ensures in
     rw (c.put_characters.ensures.put c.if-put_characters.true, ← c.as_slice-base.ensures)
-    (end_takes c.args.instr.now base (drop c.args.at c.args.bytes.now) form (drop c.in-Some.next c.args.bytes.now) c.requires.part c.requires.operator c.in-Some.ensures.gives)
+    (tail.place.0, tail.place.2, end_takes c.requires.part c.requires.operator tail.gives)

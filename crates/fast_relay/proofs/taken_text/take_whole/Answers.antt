@@ -1,14 +1,9 @@
-use Rattle.std.proofs.Common.{drop, slice_range}
-use Rattle.fast_wire.specs.Entity.{groups}
-use Rattle.fast_value.specs.declared.scalar.Scalar.TheVariants.{Ascii}
+use Rattle.std.proofs.Common.{arith}
 use Rattle.fast_relay.proofs.TextTaking.{text_takes}
 use Rattle.fast_relay.proofs.taken_text.take_whole.Goals as goal
 
-pub returns-then-keep_plain-clause-taken : goal.returns-then-keep_plain-clause-taken
-returns-then-keep_plain-clause-taken c =
-    let form = slice_range c.args.bytes.now c.in-Some.first c.in-Some.next in
-    let kept = c.keep_plain.ensures.kept c.if-keep_plain.true in (
-      Ascii (groups form),
-      kept,
-      text_takes c.args.instr.now c.args.entry.now c.keep_plain.new.entry (drop c.args.at c.args.bytes.now) form (drop c.in-Some.next c.args.bytes.now) c.requires.kind c.requires.part c.requires.operator c.in-Some.ensures.plain kept,
-    )
+pub returns-then-keep_plain : goal.returns-then-keep_plain
+returns-then-keep_plain c =
+    let found = c.in_ok-first.ensures in
+    let kept = c.keep_plain.ensures.kept c.if-keep_plain.true in
+    (omega (arith, found.place.0, found.place.1), found.place.2, (_, kept, text_takes c.requires.kind c.requires.part c.requires.operator found.plain kept))

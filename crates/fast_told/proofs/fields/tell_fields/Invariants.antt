@@ -1,11 +1,8 @@
-use Rattle.std.proofs.Common.{◌≡◌, ◌≤◌, ℕ, List, None, length}
-use Rattle.std.specs.Prelude.{ℤ}
+use Rattle.std.proofs.Common.{◌≡◌, ◌≤◌, None, length}
 use Rattle.fast_template.specs.Resolved.{list_of}
-use Rattle.fast_template.specs.TemplateSets.{TemplateList}
 use Rattle.fast_walk.specs.Told.{KeepScalars}
 use Rattle.fast_walk.specs.Walks.{AreServed}
-use Rattle.fast_told.specs.Taking.{TakesFields}
-use Rattle.fast_told.specs.Told.{HasTold, line_now}
+use Rattle.fast_told.specs.Taking.{TellsFields}
 use Rattle.fast_told.proofs.fields.tell_fields.Given as goal
 
 abbrev pub invariant-fields : goal.invariant-fields
@@ -15,8 +12,7 @@ invariant-fields g l = record {
   few : l.fields.spare ≤ l.fn.spare;
   served : AreServed (g.E.Entries.serves l.entries) (list_of l.fields.rest.now);
   kept : KeepScalars (g.E.Entries.contents l.entries);
-  takes : (out : List ℕ) (own : TemplateList) (z : ℤ) → TakesFields (λ line o d. HasTold g.S.Escape.form out own z line o) l.fn.level l.bytes (line_now g.S.Escape.form l.fn.line) (g.E.Entries.contents l.fn.entries) l.fn.bits l.initial.fields
-      (line_now g.S.Escape.form l.line) (g.E.Entries.contents l.entries) l.bits l.fields;
+  takes : TellsFields g.S.Escape.form l.fn.level l.bytes l.fn.line (g.E.Entries.contents l.fn.entries) l.fn.bits l.initial.fields l.line (g.E.Entries.contents l.entries) l.bits l.fields;
   same_keys : g.E.Entries.serves l.entries ≡ g.E.Entries.serves l.fn.entries;
 }
 

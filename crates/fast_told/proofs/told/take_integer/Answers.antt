@@ -1,16 +1,8 @@
-use Rattle.std.proofs.Common.{true, Some, drop, arith, refl}
-use Rattle.fast_told.specs.Told.{line_now}
+use Rattle.std.proofs.Common.{refl}
 use Rattle.fast_told.proofs.ToldFields.{tells, took_as_usual}
 use Rattle.fast_told.proofs.told.take_integer.Goals as goal
 
-pub returns-in-Some-clause-told : goal.returns-in-Some-clause-told
-returns-in-Some-clause-told g c =
-    let part = c.args.part.now in
-    let v = c.in-Some.value in
-    let new = c.take_number.new.entry in
-    let took = took_as_usual c.args.level part c.args.entry.now new v (drop c.args.at c.args.bytes.now) (drop c.in-Some.next c.args.bytes.now) c.requires.usual c.in-Some.ensures.taken in (
-      Some v,
-      took,
-      tells g.S.Escape.form c.args.level part c.args.presence true c.args.entry.now new (Some v) c.args.bytes.now c.args.at c.in-Some.next (λ k. omega (arith, c.type_inv.bytes k)) c.requires.part c.requires.presence (λ _. refl) c.requires.entry took
-          c.args.name.now (line_now g.S.Escape.form c.args.line.now) (line_now g.S.Escape.form c.tell.new.self) c.in-Ok.ensures,
-    )
+pub returns-in_ok-tell-in-Some : goal.returns-in_ok-tell-in-Some
+returns-in_ok-tell-in-Some g c =
+    tells c.args.bytes.now c.args.at c.in-Some.next c.args.line.now c.tell.new.self c.type_inv.bytes c.requires.next (λ _. refl) c.in-Some.ensures.place
+    (took_as_usual c.requires.usual c.in-Some.ensures.taken) refl c.in_ok-tell-in-Some.ensures

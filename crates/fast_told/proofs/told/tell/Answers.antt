@@ -1,42 +1,52 @@
-use Rattle.std.proofs.Common.{ap, ◌∙◌}
+use Rattle.std.proofs.Common.{ap, subst, ◌∙◌}
 use Rattle.std.specs.Result.{is_ok}
+use Rattle.std.proofs.lemmas.Result.{err_from_is_err_and}
 use Rattle.fast_dictionary.specs.declared.entry.Entry.{Entry}
 use Rattle.fast_dictionary.specs.Dictionary.{set_entry, set_entry-there}
 use Rattle.fast_field.specs.Bases.{next}
 use Rattle.fast_walk.proofs.Putting.{set_written}
 use Rattle.fast_value.specs.declared.kind.Part.TheVariants as part
+use Rattle.fast_value.specs.declared.kind.Presence.{Presence}
+use Rattle.fast_stream.specs.Nodes.{single}
+use Rattle.fast_lines.specs.Lines.{field_text}
+use Rattle.fast_told.specs.Told.{Said, line_now}
 use Rattle.fast_walk.proofs.Telling.{kept_hold, told_part}
 use Rattle.fast_told.proofs.told.tell.Goals as goal
 
-pub returns-in-Err-take-clause-stops : goal.returns-in-Err-take-clause-stops
-returns-in-Err-take-clause-stops g c = λ other.
+pub returns-in_err-next-clause-stops : goal.returns-in_err-next-clause-stops
+returns-in_err-next-clause-stops g c =
+    let p = err_from_is_err_and c.from_residual-in_err-next.result c.from_residual-in_err-next.ensures.1 in
+    rw (p.1, p.2)
+    λ other.
     let d = g.E.Entries.contents c.args.entries.now in
     let k = c.args.part.now.key in
-    let stops = c.in-Err-take.ensures.stops other in (
-      rw (c.in-Ok.ensures.value) at stops.0,
-      (c.entry_mut.follows.holds c.take.new.entry (ap is_ok c.in-Ok.is)).0 ∙ ap (set_entry d k) (stops.1 ∙ c.in-Ok.ensures.value) ∙ set_entry-there d k,
+    let stops = c.in_err-next.ensures other in (
+      rw (c.in_ok-entry.ensures.value) at stops.0,
+      (c.entry_mut.follows.holds c.take.new.entry (ap is_ok c.in_ok-entry.was)).0 ∙ ap (set_entry d k) (stops.1 ∙ c.in_ok-entry.ensures.value) ∙ set_entry-there d k,
       stops.2,
     )
 
-pub returns-in-Ok-take-clause-told : goal.returns-in-Ok-take-clause-told
-returns-in-Ok-take-clause-told g c =
+pub returns-clause-told : goal.returns-clause-told
+returns-clause-told g c =
     let d = g.E.Entries.contents c.args.entries.now in
     let k = c.args.part.now.key in
     let i = c.args.part.now in
-    let told = c.in-Ok-take.ensures.told in
+    let form = g.S.Escape.form in
+    let told = c.in_ok-next.ensures.2 in
     let took = told.1 in (
       told.0,
       record {
-        value = λ more. rw (c.in-Ok.ensures.value) at took.value more;
-        entry = (c.entry_mut.follows.holds c.take.new.entry (ap is_ok c.in-Ok.is)).0
-            ∙ ap (set_entry d k) (took.entry ∙ ap (λ (e : Entry). next i e told.0) c.in-Ok.ensures.value)
+        value = λ more. rw (c.in_ok-entry.ensures.value) at took.value more;
+        entry = (c.entry_mut.follows.holds c.take.new.entry (ap is_ok c.in_ok-entry.was)).0
+            ∙ ap (set_entry d k) (took.entry ∙ ap (λ (e : Entry). next i e told.0) c.in_ok-entry.ensures.value)
             ∙ set_written i d told.0;
       },
-      told.2,
+      subst (λ (q : Presence). Said form c.args.name.now (field_text form i.kind q (single told.0)) (line_now form c.args.line.now) (line_now form c.take.new.line)) c.requires.presence told.2,
     )
 
-pub take-requires-clause-part : goal.take-requires-clause-part
-take-requires-clause-part g c = told_part part.Whole c.args.part.now.kind c.args.part.now tt c.requires.told
-
-pub take-requires-clause-entry : goal.take-requires-clause-entry
-take-requires-clause-entry g c = rw (c.in-Ok.ensures.value) (kept_hold (g.E.Entries.contents c.args.entries.now) c.requires.kept c.args.part.now.key)
+pub take-requires-clause-next : goal.take-requires-clause-next
+take-requires-clause-next g c = record {
+  place = c.requires.place;
+  part = told_part part.Whole c.args.part.now.kind c.args.part.now tt c.requires.told;
+  entry = rw (c.in_ok-entry.ensures.value) (kept_hold (g.E.Entries.contents c.args.entries.now) c.requires.kept c.args.part.now.key);
+}
