@@ -1,6 +1,6 @@
 -- A part that was read and written at once.
-use Rattle.std.proofs.Common.{IfSome, IfNone, ◌≡◌, ℕ, ◌+◌, Bool, List, ◌++◌, ◌∷◌, Option, Some, None, Ok, true, false, [], drop, refl, sym, ap, ◌∙◌, append-nil}
-use Rattle.std.specs.Prelude.{slice_index}
+use Rattle.std.proofs.Common.{◌≡◌, ◌<◌, ◌≤◌, ℕ, ◌+◌, Bool, List, ◌++◌, ◌∷◌, Option, Some, None, Ok, true, false, [], drop, length, refl, sym, ap, ◌∙◌, append-nil, arith}
+use Rattle.std.specs.Prelude.{MatchOption, slice_index}
 use Rattle.fast_template.specs.declared.resolved.FieldPart.{FieldPart}
 use Rattle.fast_value.specs.declared.scalar.Scalar.{Scalar}
 use Rattle.fast_template.specs.Resolved.{part_needs_bit}
@@ -20,8 +20,10 @@ use Rattle.fast_walk.proofs.Putting.{set_written}
 use Rattle.fast_writer.specs.Levels.{level_in, level_of}
 use Rattle.fast_stream.specs.Bits.{bit_for}
 use Rattle.fast_field.specs.Passed.{Passes as FieldPasses}
-use Rattle.fast_writer.specs.Quick.{Relayed}
+use Rattle.fast_writer.specs.Quick.{Relayed, RelaysEntry, RelaysPart, StopsEntry, StopsPart}
 use Rattle.fast_writer.specs.Takings.{TookEntry}
+use Rattle.fast_writer.proofs.MapRoom.{asked_room}
+use Rattle.fast_field.specs.declared.fault.FieldFault.{FieldFault}
 use Rattle.fast_writer.specs.Written.{Segment, AppendsForm, Asked, Spelt}
 use Rattle.fast_writer.specs.declared.segment.Segment.{Segment as LevelNow}
 
@@ -74,16 +76,12 @@ passes_relayed level i old new v bytes before needs p = record {
   form = record { form = []; appended = sym (append-nil before); best = p.best; needs = λ none. absurd (let both = sym needs ∙ none in cc) };
 }
 
--- what bit 0 repeats under a key
+-- what bit 0 repeats under a key, or that it was left as it is
 pub repeated_put : (p : FieldPart) (d e : Dictionary) (old new : Entry) (r : Option (Option ℕ)) → old ≡ entry_at d p.key → e ≡ set_entry d p.key new
-    → IfSome r (λ count. FieldPasses p old new (length_of count)) → IfSome r (λ count. (x : Entry) × FieldPasses p (entry_at d p.key) x (length_of count) × (e ≡ set_entry d p.key x))
-repeated_put p d e old new None is put passes = tt
+    → MatchOption r (new ≡ old) (λ count. FieldPasses p old new (length_of count))
+    → MatchOption r (e ≡ d) (λ count. (x : Entry) × FieldPasses p (entry_at d p.key) x (length_of count) × (e ≡ set_entry d p.key x))
+repeated_put p d e old new None is put same = put ∙ ap (set_entry d p.key) (same ∙ is) ∙ set_entry-there d p.key
 repeated_put p d e old new (Some count) is put passes = (new, rw (is) at passes, put)
-
--- and where it was left as it is
-pub nothing_put : (p : FieldPart) (d e : Dictionary) (old new : Entry) (r : Option (Option ℕ)) → old ≡ entry_at d p.key → e ≡ set_entry d p.key new → IfNone r (new ≡ old) → IfNone r (e ≡ d)
-nothing_put p d e old new (Some count) is put same = tt
-nothing_put p d e old new None is put same = put ∙ ap (set_entry d p.key) (same ∙ is) ∙ set_entry-there d p.key
 
 pub spelt_of : (p : FieldPart) (d : Dictionary) (old : Entry) (v : Option Scalar) (bit needed : Bool) (l k : Segment) (bytes : List ℕ)
     → old ≡ entry_at d p.key → needed ≡ part_needs_bit p
@@ -114,6 +112,29 @@ pub took_behind : (level : Level) (p : FieldPart) (old new : Entry) (bits : List
     → TookEntry level p old new bits v bytes rest l k → TookEntry level p old new bits v bytes later l k
 took_behind level p old new bits v bytes rest later l k same t = rw (same) t
 
+-- ---- under a key
+
+-- what was relayed into the entry that is put, and its bit asked for
+pub relays_under : (level : Level) (p : FieldPart) (d e : Dictionary) (old new : Entry) (bit best needed : Bool) (v : Option Scalar) (bytes : List ℕ) (at next : ℕ) (l k : Segment) (after : List ℕ)
+    → old ≡ entry_at d p.key → e ≡ set_entry d p.key new → needed ≡ part_needs_bit p
+    → RelaysEntry level p old new bit best v bytes at next l.bytes after → Asked needed best (record { bits = l.bits; own = l.own; bytes = after }) k → RelaysPart level p d e bit v bytes at next l k
+relays_under level p d e old new bit best needed v bytes at next l k after is put needs r asked = record {
+  place = (r.forward, r.within);
+  took = took_of level p bit d e old new v (drop at bytes) (drop next bytes) is put r.relayed.entry r.relayed.read;
+  spelt = spelt_of p d old v best needed l k after is needs r.relayed.form asked;
+  room = λ left left_is room. asked_room (part_needs_bit p) bit best l k left left_is r.lower (rw (needs) at asked.bits) asked.own room;
+}
+
+pub stops_under : (level : Level) (p : FieldPart) (d e : Dictionary) (old new : Entry) (bit : Bool) (bytes : List ℕ) (l : Segment) (after : List ℕ) (f : FieldFault)
+    → old ≡ entry_at d p.key → e ≡ set_entry d p.key new → StopsEntry level p old new bit bytes l.bytes after f → StopsPart level p d e bit bytes l (record { bits = l.bits; own = l.own; bytes = after }) f
+stops_under level p d e old new bit bytes l after f is put s other =
+    (rw (is) at (s.fault other), put ∙ ap (set_entry d p.key) (s.entry ∙ is) ∙ set_entry-there d p.key, level_bytes l after s.out)
+
+-- a part without a bit is read under bit 1
+pub needs_one : (needs bit : Bool) → (needs ≡ false → bit ≡ true) → bit ≡ false → needs ≡ true
+needs_one true bit one zero = refl
+needs_one false bit one zero = absurd (let both = sym zero ∙ one refl in cc)
+
 -- a length in one byte, whose entry stays
 pub byte_relayed : (level : Level) (i : FieldPart) (count : Option ℕ) (bytes : List ℕ) (at : ℕ) → ReadsAsUsual level i (drop at bytes) → RelaysByte i count bytes at → (e : Entry) (out : List ℕ)
     → Relayed level i e e true true (length_of count) (drop at bytes) (drop (at + 1) bytes) out (out ++ slice_index bytes at ∷ [])
@@ -124,17 +145,12 @@ byte_relayed level i None bytes at usual relays e out =
     let r = relays e out in
     record { read = λ more. usual e more ∙ r.read more; entry = r.entry; form = record { form = r.best.bytes; appended = r.best.appended; best = r.best.best; needs = λ none. refl } }
 
-pub byte_took : (level : Level) (p : FieldPart) (bit : Bool) (d : Dictionary) (count : Option ℕ) (bytes : List ℕ) (at : ℕ) → bit ≡ true → ReadsAsUsual level p (drop at bytes) → RelaysByte p count bytes at
-    → Took level p bit d d (length_of count) (drop at bytes) (drop (at + 1) bytes)
-byte_took level p bit d count bytes at is usual relays =
-    let e = entry_at d p.key in
-    let r = byte_relayed level p count bytes at usual relays e [] in
-    took_of level p bit d d e e (length_of count) (drop at bytes) (drop (at + 1) bytes) refl (sym (set_entry-there d p.key)) r.entry (rw (is) r.read)
-
 -- where no bit is asked for
-pub byte_spelt : (level : Level) (p : FieldPart) (d : Dictionary) (count : Option ℕ) (bytes : List ℕ) (at : ℕ) (l k : Segment) → part_needs_bit p ≡ false → ReadsAsUsual level p (drop at bytes) → RelaysByte p count bytes at
-    → k.bits ≡ l.bits → k.own ≡ l.own → k.bytes ≡ l.bytes ++ slice_index bytes at ∷ [] → Spelt p (entry_at d p.key) (length_of count) l k
-byte_spelt level p d count bytes at l k none usual relays bits own pushed =
+pub byte_relays : (level : Level) (p : FieldPart) (bit : Bool) (d : Dictionary) (count : Option ℕ) (bytes : List ℕ) (at : ℕ) (l k : Segment)
+    → part_needs_bit p ≡ false → bit ≡ true → at < length bytes → ReadsAsUsual level p (drop at bytes) → RelaysByte p count bytes at
+    → k.bits ≡ l.bits → k.own ≡ l.own → k.bytes ≡ l.bytes ++ slice_index bytes at ∷ [] → RelaysPart level p d d bit (length_of count) bytes at (at + 1) l k
+byte_relays level p bit d count bytes at l k none is within usual relays bits own pushed =
     let e = entry_at d p.key in
-    let r = byte_relayed level p count bytes at usual relays e l.bytes in
-    spelt_of p d e (length_of count) true false l k (l.bytes ++ slice_index bytes at ∷ []) refl (sym none) r.form (record { bits = bits ∙ sym (append-nil l.bits); own = own; bytes = pushed })
+    relays_under level p d d e e bit true false (length_of count) bytes at (at + 1) l k (l.bytes ++ slice_index bytes at ∷ []) refl (sym (set_entry-there d p.key)) (sym none)
+    (record { forward = omega arith; within = omega (arith, within); relayed = rw (is) (byte_relayed level p count bytes at usual relays e l.bytes); lower = λ zero. absurd (let both = sym is ∙ zero in cc) })
+    (record { bits = bits ∙ sym (append-nil l.bits); own = own; bytes = pushed })
