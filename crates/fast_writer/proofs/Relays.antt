@@ -1,5 +1,5 @@
 -- A part that was read and written at once.
-use Rattle.std.proofs.Common.{◌≡◌, ◌<◌, ◌≤◌, ℕ, ◌+◌, Bool, List, ◌++◌, ◌∷◌, Option, Some, None, Ok, true, false, [], drop, length, refl, sym, ap, ◌∙◌, append-nil, arith}
+use Rattle.std.proofs.Common.{◌≡◌, ◌<◌, ◌≤◌, ℕ, ◌+◌, Bool, List, ◌++◌, ◌∷◌, Option, Some, None, Ok, true, false, [], drop, length, refl, sym, ap, subst, ◌∙◌, append-nil, arith}
 use Rattle.std.specs.Prelude.{MatchOption, slice_index}
 use Rattle.fast_template.specs.declared.resolved.FieldPart.{FieldPart}
 use Rattle.fast_value.specs.declared.scalar.Scalar.{Scalar}
@@ -35,7 +35,7 @@ took_of level p bit d e old new v bytes rest is put after goes = record {
   entry = put ∙ ap (set_entry d p.key) (after ∙ ap (λ (x : Entry). next p x v) is) ∙ set_written p d v;
 }
 
-pub spelt_entry : (p : FieldPart) (old : Entry) (v : Option Scalar) (bit needed : Bool) (l k : Segment) (bytes : List ℕ) → needed ≡ part_needs_bit p
+spelt_entry : (p : FieldPart) (old : Entry) (v : Option Scalar) (bit needed : Bool) (l k : Segment) (bytes : List ℕ) → needed ≡ part_needs_bit p
     → AppendsForm p old v bit l.bytes bytes → Asked needed bit (record { bits = l.bits; own = l.own; bytes = bytes }) k → Spelt p old v l k
 spelt_entry p old v bit needed l k bytes needs form asked = record {
   bit = bit;
@@ -83,34 +83,12 @@ pub repeated_put : (p : FieldPart) (d e : Dictionary) (old new : Entry) (r : Opt
 repeated_put p d e old new None is put same = put ∙ ap (set_entry d p.key) (same ∙ is) ∙ set_entry-there d p.key
 repeated_put p d e old new (Some count) is put passes = (new, rw (is) at passes, put)
 
-pub spelt_of : (p : FieldPart) (d : Dictionary) (old : Entry) (v : Option Scalar) (bit needed : Bool) (l k : Segment) (bytes : List ℕ)
-    → old ≡ entry_at d p.key → needed ≡ part_needs_bit p
-    → AppendsForm p old v bit l.bytes bytes → Asked needed bit (record { bits = l.bits; own = l.own; bytes = bytes }) k → Spelt p (entry_at d p.key) v l k
-spelt_of p d old v bit needed l k bytes is needs form asked = record {
-  bit = bit;
-  form = form.form;
-  bits = rw (needs) at asked.bits;
-  own = asked.own;
-  bytes = asked.bytes ∙ form.appended;
-  needs = form.needs;
-  best = rw (is) at form.best;
-}
-
 pub level_bytes : (l : Segment) (bytes : List ℕ) → bytes ≡ l.bytes → record { bits = l.bits; own = l.own; bytes = bytes } ≡ l
 level_bytes l bytes is = rw (is) refl
-
--- what is noted of the bytes that are read stays noted
-pub asked_in : (bytes : List ℕ) (needed bit : Bool) (l k : LevelNow) → Asked needed bit (level_of l) (level_of k) → k.bytes ≡ l.bytes → Asked needed bit (level_in bytes l) (level_in bytes k)
-asked_in bytes needed bit l k asked same = record { bits = asked.bits; own = asked.own; bytes = ap (written bytes) same }
 
 -- where nothing is noted yet
 pub begun : (bytes : List ℕ) (r s : Run) (at : ℕ) → s.out.items ≡ r.out.items → s.from ≡ at → s.place ≡ at → written bytes s ≡ r.out.items
 begun bytes r s at out from place = rw (out, from, place) (settled bytes r.out.items at)
-
--- what is behind what was read, as it is called otherwise
-pub took_behind : (level : Level) (p : FieldPart) (old new : Entry) (bits : List Bool) (v : Option Scalar) (bytes rest later : List ℕ) (l k : Segment) → later ≡ rest
-    → TookEntry level p old new bits v bytes rest l k → TookEntry level p old new bits v bytes later l k
-took_behind level p old new bits v bytes rest later l k same t = rw (same) t
 
 -- ---- under a key
 
@@ -121,7 +99,7 @@ pub relays_under : (level : Level) (p : FieldPart) (d e : Dictionary) (old new :
 relays_under level p d e old new bit best needed v bytes at next l k after is put needs r asked = record {
   place = (r.forward, r.within);
   took = took_of level p bit d e old new v (drop at bytes) (drop next bytes) is put r.relayed.entry r.relayed.read;
-  spelt = spelt_of p d old v best needed l k after is needs r.relayed.form asked;
+  spelt = subst (λ (x : Entry). Spelt p x v l k) is (spelt_entry p old v best needed l k after needs r.relayed.form asked);
   room = λ left left_is room. asked_room (part_needs_bit p) bit best l k left left_is r.lower (rw (needs) at asked.bits) asked.own room;
 }
 

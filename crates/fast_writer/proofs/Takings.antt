@@ -3,13 +3,15 @@ use Rattle.std.proofs.Common.{◌≡◌, ◌≤◌, ◌<◌, ◌-◌, ◌+◌, �
 use Rattle.std.specs.Option.{is_some}
 use Rattle.std.specs.List.{slice_get}
 use Rattle.std.specs.Borrow.{Bor}
+use Rattle.std.specs.Prelude.{slice_range}
 use Rattle.fast_value.specs.declared.scalar.Scalar.{Scalar}
 use Rattle.fast_value.specs.declared.scalar.Scalar.TheVariants.{I64, Decimal}
 use Rattle.fast_value.specs.declared.kind.Presence.{Presence}
 use Rattle.fast_template.specs.declared.resolved.FieldPart.{FieldPart}
 use Rattle.fast_template.specs.declared.resolved.Flat.{Flat}
 use Rattle.fast_template.specs.Resolved.{Instruction, Instructions, instruction_of, whole_field, field_in_parts, group_of, sequence_of, then_instruction, list_of, part_needs_bit}
-use Rattle.fast_dictionary.specs.Dictionary.{Dictionary, entry_at}
+use Rattle.fast_dictionary.specs.Dictionary.{Dictionary, entry_at, set_entry, set_entry-there}
+use Rattle.fast_dictionary.specs.declared.entry.Entry.{Entry}
 use Rattle.fast_wire.specs.declared.level.Level.{Level}
 use Rattle.fast_stream.specs.Nodes.{single}
 use Rattle.fast_stream.specs.Bits.{bit_for, after_bit}
@@ -19,10 +21,22 @@ use Rattle.fast_walk.specs.Passing.{Passes, next_behind}
 use Rattle.fast_walk.proofs.Steps.{count_goes, part_goes}
 use Rattle.fast_walk.proofs.Walking.{field_on, exponent_on, no_exponent_on, mantissa_on_goes, is_instruction, is_mantissa}
 use Rattle.fast_writer.specs.Written.{Segment, IsOpened, Spelt}
-use Rattle.fast_writer.specs.Takings.{BeginsWith, Front, IfElsewhere, IfTaken, Takes, at_place, behind, front_at}
+use Rattle.fast_writer.specs.Takings.{BeginsWith, EndsPart, Front, IfEnded, StaysThere, Takes, TakesPart, TakesUnder, TookEntry, TookFields, TookUnder, at_place, behind, front_at}
+use Rattle.fast_writer.specs.Levels.{level_in, level_of}
+use Rattle.fast_writer.specs.Quick.{Relayed}
+use Rattle.fast_writer.specs.declared.segment.Segment.{Segment as LevelNow}
 use Rattle.fast_writer.specs.declared.fields.Taken.{Taken}
 use Rattle.fast_writer.specs.declared.fields.Taken.TheVariants.{Part, Elsewhere, Refused}
 use Rattle.fast_relay.specs.Relayed.{IsThere}
+use Rattle.fast_relay.specs.Judged.{Judges}
+use Rattle.fast_relay.specs.Runs.{IsRun, written}
+use Rattle.fast_relay.specs.declared.run.Run.{Run}
+use Rattle.fast_field.specs.AsUsual.{ReadsAsUsual}
+use Rattle.fast_field.specs.Parts.{IsFieldPart}
+use Rattle.fast_walk.specs.Told.{KeepScalars}
+use Rattle.fast_writer.proofs.MapRoom.{asked_room}
+use Rattle.fast_writer.proofs.Relays.{stands_relayed, took_entry, took_of}
+use Rattle.fast_writer.proofs.SpeltParts.{mantissa_taken, spelt_keeps}
 use Rattle.fast_writer.proofs.QuickWays.{exponent_there}
 use Rattle.fast_writer.proofs.Writers.{has_field, has_exponent, has_mantissa}
 
@@ -107,22 +121,68 @@ passes_with level Has Had o next left d e bits later spare fewer bytes rest f p 
   reads = p.reads;
 }
 
--- what holds of a part that was taken, by what holds of it
-pub taken_on : (t : Taken) (P Q R S : Bool → Type 0) → ((b : Bool) → P b → Q b → R b → S b) → IfTaken t P → IfTaken t Q → IfTaken t R → IfTaken t S
-taken_on (Part b) P Q R S f p q r = f b p q r
-taken_on Elsewhere P Q R S f p q r = tt
-taken_on Refused P Q R S f p q r = tt
+-- ---- a part
 
-pub taken_so : (t : Taken) (P Q : Bool → Type 0) → ((b : Bool) → P b → Q b) → IfTaken t P → IfTaken t Q
-taken_so (Part b) P Q f p = f b p
-taken_so Elsewhere P Q f p = tt
-taken_so Refused P Q f p = tt
+-- its form is written, and its bit taken and asked for
+pub ended : (level : Level) (p : FieldPart) (old new : Entry) (bit best needed there : Bool) (v : Option Scalar) (bits later : List Bool) (bytes : List ℕ) (at next : ℕ) (l k : LevelNow) (r : Run) (t : Taken)
+    → bit_for (part_needs_bit p) bits ≡ bit → needed ≡ part_needs_bit p → (bit ≡ false → best ≡ false) → at ≤ next → IsRun bytes next r → IsThere p.kind there v
+    → Relayed level p old new bit best v (drop at bytes) (drop next bytes) (written bytes l.bytes) (written bytes r)
+    → IfEnded there (EndsPart needed best bits later (record { bits = l.bits; own = l.own; bytes = r.out.items }) (level_of k) × (k.bytes ≡ r)) t
+    → TakesPart level p old new bits later bytes at l k t
+ended level p old new bit best needed there v bits later bytes at next l k r (Part there_now) is needs low forward run value relayed e =
+    let asked = e.1.0.asked in
+    let place : k.bytes.place ≡ next = ap (λ (s : Run). s.place) e.1.1 ∙ run.place in
+    record {
+      place = rw (place) forward;
+      run = subst (λ (s : Run). IsRun bytes s.place s) (sym e.1.1) (subst (λ (n : ℕ). IsRun bytes n r) (sym run.place) run);
+      value = v;
+      is_there = rw (e.0) value;
+      took = subst (λ (n : ℕ). TookEntry level p old new bits v (drop at bytes) (drop n bytes) (level_in bytes l) (level_in bytes k)) (sym place)
+          (took_entry level p old new bits bit best needed v (drop at bytes) (drop next bytes) (written bytes r) (level_in bytes l) (level_in bytes k) is needs low relayed
+          (record { bits = asked.bits; own = asked.own; bytes = ap (written bytes) e.1.1 }));
+      left = rw (needs) at e.1.0.left;
+    }
+ended level p old new bit best needed there v bits later bytes at next l k r Elsewhere is needs low forward run value relayed e = absurd e
+ended level p old new bit best needed there v bits later bytes at next l k r Refused is needs low forward run value relayed e = tt
 
--- and where nothing was done
-pub elsewhere_on : (t : Taken) (P Q : Type 0) → (P → Q) → IfElsewhere t P → IfElsewhere t Q
-elsewhere_on (Part b) P Q f p = tt
-elsewhere_on Elsewhere P Q f p = f p
-elsewhere_on Refused P Q f p = tt
+-- it stands in its best form
+pub stood : (level : Level) (p : FieldPart) (old new : Entry) (needed : Bool) (bits later : List Bool) (bytes : List ℕ) (at next : ℕ) (l k : LevelNow) (r : Run) (t : Taken)
+    → bit_for (part_needs_bit p) bits ≡ true → needed ≡ part_needs_bit p → ReadsAsUsual level p (drop at bytes) → at ≤ next → (v : Scalar) × Judges true p old new v bytes at next
+    → IsRun bytes next r → written bytes r ≡ written bytes l.bytes ++ slice_range bytes at next
+    → IfEnded true (EndsPart needed true bits later (record { bits = l.bits; own = l.own; bytes = r.out.items }) (level_of k) × (k.bytes ≡ r)) t
+    → TakesPart level p old new bits later bytes at l k t
+stood level p old new needed bits later bytes at next l k r t is needs usual forward judged run noted e =
+    let v = judged.0 in
+    let relays = judged.1 (written bytes l.bytes) in
+    ended level p old new true true needed true (Some v) bits later bytes at next l k r t is needs (λ low. low) forward run (v, refl, relays.of_kind)
+    (stands_relayed level p old new v (drop at bytes) (drop next bytes) (written bytes l.bytes) _ (written bytes r) usual relays noted) e
+
+-- its entry is put under its key
+pub taken_under : (level : Level) (p : FieldPart) (d e : Dictionary) (old new : Entry) (bits later : List Bool) (bytes : List ℕ) (at : ℕ) (l k : LevelNow) (t : Taken)
+    → IsFieldPart p → KeepScalars d → old ≡ entry_at d p.key → e ≡ set_entry d p.key new
+    → TakesPart level p old new bits later bytes at l k t → TakesUnder level p d e bits later bytes at l k t
+taken_under level p d e old new bits later bytes at l k (Part there) part kept is put t =
+    let needs = part_needs_bit p in
+    let v = t.value in
+    let took = took_of level p (bit_for needs bits) d e old new v (drop at bytes) (drop k.bytes.place bytes) is put t.took.entry t.took.value in
+    let spelt = subst (λ (x : Entry). Spelt p x v (level_in bytes l) (level_in bytes k)) is t.took.spelt in
+    record {
+      place = t.place;
+      run = t.run;
+      value = v;
+      is_there = t.is_there;
+      took = took;
+      spelt = spelt;
+      left = t.left;
+      room = λ room. rw (t.left)
+          (asked_room needs (bit_for needs bits) t.took.spelt.bit (level_in bytes l) (level_in bytes k) bits refl t.took.lower t.took.spelt.bits t.took.spelt.own room);
+      kept = spelt_keeps p d e v (level_in bytes l) (level_in bytes k) part kept took.entry spelt;
+    }
+taken_under level p d e old new bits later bytes at l k Elsewhere part kept is put s =
+    record { same = put ∙ ap (set_entry d p.key) (s.same ∙ is) ∙ set_entry-there d p.key; segment = s.segment; left = s.left; run = s.run }
+taken_under level p d e old new bits later bytes at l k Refused part kept is put t = tt
+
+-- ---- fields
 
 -- at the beginning of a body
 front_begins : (flats : List Flat) (spare place : ℕ) → front_at flats spare 0 None place ≡ record { mantissa = None; rest = list_of flats; spare = spare; place = place }
@@ -133,18 +193,17 @@ front_begins flats spare place =
 module _ (level : Level) (bytes : List ℕ) where
   -- where nothing was taken
   pub takes_none : (l : Segment) (d : Dictionary) (bits : List Bool) (f : Front) → Takes level bytes l d bits f l d bits f
-  takes_none l d bits f outer o next first opened = record {
-    received = o;
-    has = opened;
-    same = record { set = refl; before = refl; template = refl; members = refl; start = refl };
-    around = refl;
-    next_is = next;
-    left_is = first;
-    reads = λ more. refl;
+  takes_none l d bits f = record {
+    passes = λ outer o next first opened. record {
+      received = o;
+      has = opened;
+      same = record { set = refl; before = refl; template = refl; members = refl; start = refl };
+      around = refl;
+      next_is = next;
+      left_is = first;
+      reads = λ more. refl;
+    };
   }
-
-  pub takes_same : (l k : Segment) (d e : Dictionary) (bits later : List Bool) (f : Front) → e ≡ d → k ≡ l → later ≡ bits → Takes level bytes l d bits f k e later f
-  takes_same l k d e bits later f entries segment map = rw (entries, segment, map) (takes_none l d bits f)
 
   -- the same segments, as they are called otherwise
   pub takes_between : (l m k j : Segment) (d e : Dictionary) (bits later : List Bool) (f g : Front) → m ≡ l → j ≡ k → Takes level bytes m d bits f k e later g → Takes level bytes l d bits f j e later g
@@ -159,47 +218,51 @@ module _ (level : Level) (bytes : List ℕ) where
 
   -- one behind the other
   pub takes_on : (l k j : Segment) (d e c : Dictionary) (bits later last : List Bool) (f g h : Front) → Takes level bytes l d bits f k e later g → Takes level bytes k e later g j c last h → Takes level bytes l d bits f j c last h
-  takes_on l k j d e c bits later last f g h one two outer o next first opened =
-      let p = one outer o next first opened in
-      let q = two outer p.received p.next_is p.left_is p.has in
-      record {
-        received = q.received;
-        has = q.has;
-        same = record {
-          set = q.same.set ∙ p.same.set;
-          before = q.same.before ∙ p.same.before;
-          template = q.same.template ∙ p.same.template;
-          members = q.same.members ∙ p.same.members;
-          start = q.same.start ∙ p.same.start;
+  takes_on l k j d e c bits later last f g h one two = record {
+    passes = λ outer o next first opened.
+        let p = one.passes outer o next first opened in
+        let q = two.passes outer p.received p.next_is p.left_is p.has in
+        record {
+          received = q.received;
+          has = q.has;
+          same = record {
+            set = q.same.set ∙ p.same.set;
+            before = q.same.before ∙ p.same.before;
+            template = q.same.template ∙ p.same.template;
+            members = q.same.members ∙ p.same.members;
+            start = q.same.start ∙ p.same.start;
+          };
+          around = q.around ∙ p.around;
+          next_is = q.next_is;
+          left_is = q.left_is;
+          reads = λ more. p.reads more ∙ q.reads more;
         };
-        around = q.around ∙ p.around;
-        next_is = q.next_is;
-        left_is = q.left_is;
-        reads = λ more. p.reads more ∙ q.reads more;
-      }
+  }
 
   -- a field
   pub takes_field : (l k : Segment) (d e : Dictionary) (bits later : List Bool) (f g : Front) (name : List ℕ) (number : ℕ) (presence : Presence) (p : FieldPart) (is : Instructions) (v : Option Scalar) (next : ℕ)
       → f.mantissa ≡ None → f.rest ≡ then_instruction (whole_field name number presence p) is → g.mantissa ≡ None → g.rest ≡ is → g.spare + 1 ≡ f.spare → g.place ≡ next
       → Took level p (bit_for (part_needs_bit p) bits) d e v (drop f.place bytes) (drop next bytes) → Spelt p (entry_at d p.key) v l k → later ≡ after_bit (part_needs_bit p) bits
       → Takes level bytes l d bits f k e later g
-  takes_field l k d e bits later f g name number presence p is v next none first none_behind rest spare place took spelt map outer o at left opened =
-      let here = is_instruction o.next (at ∙ ap next_behind none) in
-      let begins = left ∙ first in
-      let less : f.spare - 1 ≡ g.spare = omega (arith, spare) in
-      record {
-        received = passed o is (single v);
-        has = has_field outer l k o name number presence p is d e v here begins took.entry spelt opened;
-        same = record { set = refl; before = refl; template = refl; members = refl; start = refl };
-        around = refl;
-        next_is = sym (ap next_behind none_behind);
-        left_is = sym rest;
-        reads = λ more.
-            rw (map, took.entry, sym less, place)
-            (field_on level [] o.next o.body name number presence p is (cursor d bits f.spare (drop f.place bytes ++ more)) (cursor d bits (f.spare - 1) (drop f.place bytes ++ more)) _ v here begins
-            (count_goes number f.spare d bits (drop f.place bytes ++ more) (omega (arith, spare)))
-            (part_goes level p d bits (f.spare - 1) (drop f.place bytes ++ more) (drop next bytes ++ more) v (took.value more)));
-      }
+  takes_field l k d e bits later f g name number presence p is v next none first none_behind rest spare place took spelt map = record {
+    passes = λ outer o at left opened.
+        let here = is_instruction o.next (at ∙ ap next_behind none) in
+        let begins = left ∙ first in
+        let less : f.spare - 1 ≡ g.spare = omega (arith, spare) in
+        record {
+          received = passed o is (single v);
+          has = has_field outer l k o name number presence p is d e v here begins took.entry spelt opened;
+          same = record { set = refl; before = refl; template = refl; members = refl; start = refl };
+          around = refl;
+          next_is = sym (ap next_behind none_behind);
+          left_is = sym rest;
+          reads = λ more.
+              rw (map, took.entry, sym less, place)
+              (field_on level [] o.next o.body name number presence p is (cursor d bits f.spare (drop f.place bytes ++ more)) (cursor d bits (f.spare - 1) (drop f.place bytes ++ more)) _ v here begins
+              (count_goes number f.spare d bits (drop f.place bytes ++ more) (omega (arith, spare)))
+              (part_goes level p d bits (f.spare - 1) (drop f.place bytes ++ more) (drop next bytes ++ more) v (took.value more)));
+        };
+  }
 
   -- the exponent of a decimal in parts
   exponent_passes : (z : Option ℤ) (there : Bool) (l k : Segment) (d e : Dictionary) (bits later : List Bool) (f g : Front) (name : List ℕ) (number : ℕ) (presence : Presence) (p q : FieldPart) (is : Instructions) (next : ℕ)
@@ -246,28 +309,32 @@ module _ (level : Level) (bytes : List ℕ) where
       → is_some z ≡ there → f.mantissa ≡ None → f.rest ≡ then_instruction (field_in_parts name number presence p q) is → next_behind g.mantissa ≡ behind_exponent there q → g.rest ≡ is → g.spare + 1 ≡ f.spare → g.place ≡ next
       → Took level p (bit_for (part_needs_bit p) bits) d e (exponent_of z) (drop f.place bytes) (drop next bytes) → Spelt p (entry_at d p.key) (exponent_of z) l k → later ≡ after_bit (part_needs_bit p) bits
       → Takes level bytes l d bits f k e later g
-  takes_exponent z there l k d e bits later f g name number presence p q is next some none first behind rest spare place took spelt map outer o at left opened =
-      exponent_passes z there l k d e bits later f g name number presence p q is next some first behind rest spare place took spelt map outer o (is_instruction o.next (at ∙ ap next_behind none)) left opened
+  takes_exponent z there l k d e bits later f g name number presence p q is next some none first behind rest spare place took spelt map = record {
+    passes = λ outer o at left opened.
+        exponent_passes z there l k d e bits later f g name number presence p q is next some first behind rest spare place took spelt map outer o (is_instruction o.next (at ∙ ap next_behind none)) left opened;
+  }
 
   -- the mantissa of a decimal whose exponent is there
   pub takes_mantissa : (l k : Segment) (d e : Dictionary) (bits later : List Bool) (f g : Front) (q : Bor FieldPart) (m : ℤ) (next : ℕ)
       → f.mantissa ≡ Some q → g.mantissa ≡ None → g.rest ≡ f.rest → g.spare ≡ f.spare → g.place ≡ next
       → Took level q.now (bit_for (part_needs_bit q.now) bits) d e (Some (I64 m)) (drop f.place bytes) (drop next bytes) → Spelt q.now (entry_at d q.now.key) (Some (I64 m)) l k → later ≡ after_bit (part_needs_bit q.now) bits
       → Takes level bytes l d bits f k e later g
-  takes_mantissa l k d e bits later f g q m next some none rest spare place took spelt map outer o at left opened =
-      let here = is_mantissa o.next (pos 0) q.now (at ∙ ap next_behind some) in
-      record {
-        received = passed o o.body.rest (single (Some (Decimal here.exponent m)));
-        has = has_mantissa outer l k o here.exponent m q.now d e here.is took.entry spelt opened;
-        same = record { set = refl; before = refl; template = refl; members = refl; start = refl };
-        around = refl;
-        next_is = sym (ap next_behind none);
-        left_is = left ∙ sym rest;
-        reads = λ more.
-            rw (map, took.entry, spare, place)
-            (mantissa_on_goes level [] o.next here.exponent m q.now o.body (cursor d bits f.spare (drop f.place bytes ++ more)) _ here.is
-            (part_goes level q.now d bits f.spare (drop f.place bytes ++ more) (drop next bytes ++ more) (Some (I64 m)) (took.value more)));
-      }
+  takes_mantissa l k d e bits later f g q m next some none rest spare place took spelt map = record {
+    passes = λ outer o at left opened.
+        let here = is_mantissa o.next (pos 0) q.now (at ∙ ap next_behind some) in
+        record {
+          received = passed o o.body.rest (single (Some (Decimal here.exponent m)));
+          has = has_mantissa outer l k o here.exponent m q.now d e here.is took.entry spelt opened;
+          same = record { set = refl; before = refl; template = refl; members = refl; start = refl };
+          around = refl;
+          next_is = sym (ap next_behind none);
+          left_is = left ∙ sym rest;
+          reads = λ more.
+              rw (map, took.entry, spare, place)
+              (mantissa_on_goes level [] o.next here.exponent m q.now o.body (cursor d bits f.spare (drop f.place bytes ++ more)) _ here.is
+              (part_goes level q.now d bits f.spare (drop f.place bytes ++ more) (drop next bytes ++ more) (Some (I64 m)) (took.value more)));
+        };
+  }
 
   -- an instruction that is a field, or begins with the exponent of a decimal in parts
   pub takes_first : (i : Instruction) (there : Bool) (l k : Segment) (d e : Dictionary) (bits later : List Bool) (f g : Front) (p : FieldPart) (m : Option (Bor FieldPart)) (is : Instructions) (v : Option Scalar) (next : ℕ)
