@@ -18,6 +18,8 @@ use Rattle.fast_stream.specs.Bits.{bit_for, after_bit}
 use Rattle.fast_walk.specs.OpenSegments.{Next, at_instruction, at_mantissa, cursor}
 use Rattle.fast_walk.specs.Received.{Received, Took, moved, passed, exponent_of}
 use Rattle.fast_walk.specs.Passing.{Passes, next_behind}
+use Rattle.fast_walk.specs.Walks.{AreServed, IsNextServed, IsServed}
+use Rattle.fast_value.specs.declared.key.Key.{Key}
 use Rattle.fast_walk.proofs.Steps.{count_goes, part_goes}
 use Rattle.fast_walk.proofs.Walking.{field_on, exponent_on, no_exponent_on, mantissa_on_goes, is_instruction, is_mantissa}
 use Rattle.fast_writer.specs.Written.{Segment, IsOpened, Spelt}
@@ -46,6 +48,11 @@ next_flat [] i f is within = absurd (omega arith)
 next_flat (g ∷ flats) zero f is within = ap (λ (x : Flat). then_instruction (instruction_of x) (list_of flats)) (sym is)
 next_flat (g ∷ flats) (suc i) f is within =
     let later : suc i + 1 ≡ suc (i + 1) = omega arith in rw later (next_flat flats i f is (omega (arith, within)))
+
+-- and the parts that it may come to are served
+pub served_next : (serves : Key → Bool) (flats : List Flat) (i : ℕ) (f : Flat) → f ≡ get_or flats i f → i < length flats → AreServed serves (list_of (drop i flats))
+    → IsServed serves (instruction_of f) × AreServed serves (list_of (drop (i + 1) flats))
+served_next serves flats i f is within served = subst (AreServed serves) (next_flat flats i f is within) served
 
 -- an instruction that stands in front of what is left of a body, where that is what stands behind so many
 pub record InFront (flats : List Flat) (i : ℕ) (f : Flat) (later : List Flat) : Type 0 where
@@ -352,32 +359,73 @@ module _ (level : Level) (bytes : List ℕ) where
   takes_first (group_of name number presence members) there l k d e bits later f g p m is v next begins value none first after rest spare place took spelt map = absurd begins
   takes_first (sequence_of name number presence part members) there l k d e bits later f g p m is v next begins value none first after rest spare place took spelt map = absurd begins
 
-  -- the first part of the instruction behind so many of a body
-  pub takes_next : (l k j : Segment) (d e c : Dictionary) (bits later last : List Bool) (from : Front) (flats : List Flat) (spare i : ℕ) (f : Flat) (there : Bool) (p : FieldPart) (m n : Option (Bor FieldPart)) (v : Option Scalar) (place next : ℕ)
-      → length flats ≤ spare → f ≡ get_or flats i f → i < length flats → BeginsWith (instruction_of f) p m → IsThere p.kind there v → n ≡ behind there m
-      → Takes level bytes l d bits from k e later (front_at flats spare i None place)
-      → Took level p (bit_for (part_needs_bit p) later) e c v (drop place bytes) (drop next bytes) → Spelt p (entry_at e p.key) v k j → last ≡ after_bit (part_needs_bit p) later
-      → Takes level bytes l d bits from j c last (front_at flats spare (i + 1) n next)
-  takes_next l k j d e c bits later last from flats spare i f there p m n v place next few is within begins value after so_far took spelt map =
-      let less : spare - (i + 1) + 1 ≡ spare - i = omega (arith, few, within) in
-      takes_on l k j d e c bits later last from (front_at flats spare i None place) (front_at flats spare (i + 1) n next) so_far
-      (takes_first (instruction_of f) there k j e c later last (front_at flats spare i None place) (front_at flats spare (i + 1) n next) p m (list_of (drop (i + 1) flats)) v next
-      begins value refl (next_flat flats i f is within) after refl less refl took spelt map)
+  -- ---- fields from the front of a body
 
-  -- the mantissa of the decimal behind which so many instructions are passed
-  pub takes_behind : (l k j : Segment) (d e c : Dictionary) (bits later last : List Bool) (from : Front) (flats : List Flat) (spare i : ℕ) (q : Bor FieldPart) (m : ℤ) (place next : ℕ)
-      → Takes level bytes l d bits from k e later (front_at flats spare i (Some q) place)
-      → Took level q.now (bit_for (part_needs_bit q.now) later) e c (Some (I64 m)) (drop place bytes) (drop next bytes) → Spelt q.now (entry_at e q.now.key) (Some (I64 m)) k j → last ≡ after_bit (part_needs_bit q.now) later
-      → Takes level bytes l d bits from j c last (front_at flats spare i None next)
-  takes_behind l k j d e c bits later last from flats spare i q m place next so_far took spelt map =
-      takes_on l k j d e c bits later last from (front_at flats spare i (Some q) place) (front_at flats spare i None next) so_far
-      (takes_mantissa k j e c later last (front_at flats spare i (Some q) place) (front_at flats spare i None next) q m next refl refl refl refl refl took spelt map)
+  pub took_none : (serves : Key → Bool) (rest : List Flat) (l : Segment) (d : Dictionary) (bits : List Bool) (at : ℕ) → AreServed serves (list_of rest) → KeepScalars d
+      → TookFields level serves rest bytes l d bits at 0 None l d bits at
+  took_none serves rest l d bits at served kept = record {
+    place = omega arith;
+    within = omega arith;
+    some = λ one. absurd cc;
+    served = served;
+    next_served = tt;
+    takes = λ spare few. takes_none l d bits (front_at rest spare 0 None at);
+    room = λ room. room;
+    kept = kept;
+  }
 
-  -- nothing more was taken
-  pub takes_stays : (l k j : Segment) (d e c : Dictionary) (bits later last : List Bool) (from : Front) (flats : List Flat) (spare i : ℕ) (n : Option (Bor FieldPart)) (place next : ℕ)
+  -- the first part of the instruction behind those that were taken
+  pub took_next : (serves : Key → Bool) (rest : List Flat) (l : Segment) (d e c : Dictionary) (bits later last : List Bool) (at count : ℕ) (f : Flat) (there : Bool) (p : FieldPart) (m n : Option (Bor FieldPart)) (k j : LevelNow)
+      → f ≡ get_or rest count f → count < length rest → BeginsWith (instruction_of f) p m → n ≡ behind there m → IsNextServed serves (next_behind n)
+      → TookUnder level p there e c later last bytes k.bytes.place k j
+      → TookFields level serves rest bytes l d bits at count None (level_in bytes k) e later k.bytes.place
+      → TookFields level serves rest bytes l d bits at (count + 1) n (level_in bytes j) c last j.bytes.place
+  took_next serves rest l d e c bits later last at count f there p m n k j is within begins after next t so_far = record {
+    place = omega (arith, so_far.place, t.place);
+    within = omega (arith, within);
+    some = λ one. omega arith;
+    served = (served_next serves rest count f is within so_far.served).1;
+    next_served = next;
+    takes = λ spare few.
+        let from = front_at rest spare 0 None at in
+        let here = front_at rest spare count None k.bytes.place in
+        let behind_it = front_at rest spare (count + 1) n j.bytes.place in
+        let less : spare - (count + 1) + 1 ≡ spare - count = omega (arith, few, within) in
+        takes_on l (level_in bytes k) (level_in bytes j) d e c bits later last from here behind_it (so_far.takes spare few)
+        (takes_first (instruction_of f) there (level_in bytes k) (level_in bytes j) e c later last here behind_it p m (list_of (drop (count + 1) rest)) t.value j.bytes.place
+        begins t.is_there refl (next_flat rest count f is within) after refl less refl t.took t.spelt t.left);
+    room = λ room. t.room (so_far.room room);
+    kept = t.kept;
+  }
+
+  -- the mantissa that is next
+  pub took_mantissa : (serves : Key → Bool) (rest : List Flat) (l : Segment) (d e c : Dictionary) (bits later last : List Bool) (at count : ℕ) (there : Bool) (q : Bor FieldPart) (k j : LevelNow)
+      → TookUnder level q.now there e c later last bytes k.bytes.place k j
+      → TookFields level serves rest bytes l d bits at count (Some q) (level_in bytes k) e later k.bytes.place
+      → TookFields level serves rest bytes l d bits at count None (level_in bytes j) c last j.bytes.place
+  took_mantissa serves rest l d e c bits later last at count there q k j t so_far =
+      let told = so_far.next_served in
+      let x = mantissa_taken q.now (entry_at e q.now.key) there t.value (level_in bytes k) (level_in bytes j) told.0.1 told.1 t.is_there t.spelt in
+      record {
+        place = omega (arith, so_far.place, t.place);
+        within = so_far.within;
+        some = λ one. absurd cc;
+        served = so_far.served;
+        next_served = tt;
+        takes = λ spare few.
+            let here = front_at rest spare count (Some q) k.bytes.place in
+            let behind_it = front_at rest spare count None j.bytes.place in
+            takes_on l (level_in bytes k) (level_in bytes j) d e c bits later last (front_at rest spare 0 None at) here behind_it (so_far.takes spare few)
+            (takes_mantissa (level_in bytes k) (level_in bytes j) e c later last here behind_it q x.0 j.bytes.place refl refl refl refl refl (rw (x.1) at t.took) (rw (x.1) at t.spelt) t.left);
+        room = λ room. t.room (so_far.room room);
+        kept = t.kept;
+      }
+
+  -- nothing more
+  pub took_stays : (serves : Key → Bool) (rest : List Flat) (l k j : Segment) (d e c : Dictionary) (bits later last : List Bool) (at count : ℕ) (n : Option (Bor FieldPart)) (place next : ℕ)
       → c ≡ e → j ≡ k → last ≡ later → next ≡ place
-      → Takes level bytes l d bits from k e later (front_at flats spare i n place) → Takes level bytes l d bits from j c last (front_at flats spare i n next)
-  takes_stays l k j d e c bits later last from flats spare i n place next entries segment map at so_far = rw (entries, segment, map, at) so_far
+      → TookFields level serves rest bytes l d bits at count n k e later place → TookFields level serves rest bytes l d bits at count n j c last next
+  took_stays serves rest l k j d e c bits later last at count n place next entries segment map at_it so_far = rw (entries, segment, map, at_it) so_far
 
   -- from the beginning of a body on, the segments and places as they are called otherwise
   pub takes_from : (l m k j : Segment) (d e : Dictionary) (bits later : List Bool) (flats : List Flat) (spare : ℕ) (g : Front) (a x b y : ℕ) → m ≡ l → j ≡ k → a ≡ x → y ≡ b
