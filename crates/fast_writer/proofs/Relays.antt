@@ -1,5 +1,5 @@
 -- A part that was read and written at once.
-use Rattle.std.proofs.Common.{◌≡◌, ◌<◌, ◌≤◌, ℕ, ◌+◌, Bool, List, ◌++◌, ◌∷◌, Option, Some, None, Ok, true, false, [], drop, length, refl, sym, ap, subst, ◌∙◌, append-nil, arith}
+use Rattle.std.proofs.Common.{◌≡◌, ◌<◌, ℕ, ◌+◌, Bool, List, ◌++◌, ◌∷◌, Option, Some, None, Ok, true, false, [], drop, length, refl, sym, ap, subst, ◌∙◌, append-nil, arith}
 use Rattle.std.specs.Prelude.{MatchOption, slice_index}
 use Rattle.fast_template.specs.declared.resolved.FieldPart.{FieldPart}
 use Rattle.fast_value.specs.declared.scalar.Scalar.{Scalar}
@@ -17,7 +17,6 @@ use Rattle.fast_relay.specs.declared.run.Run.{Run}
 use Rattle.fast_relay.proofs.Runs.{settled}
 use Rattle.fast_walk.specs.Received.{Took, length_of}
 use Rattle.fast_walk.proofs.Putting.{set_written}
-use Rattle.fast_writer.specs.Levels.{level_in, level_of}
 use Rattle.fast_stream.specs.Bits.{bit_for}
 use Rattle.fast_field.specs.Passed.{Passes as FieldPasses}
 use Rattle.fast_writer.specs.Quick.{Relayed, RelaysEntry, RelaysPart, StopsEntry, StopsPart}
@@ -25,7 +24,6 @@ use Rattle.fast_writer.specs.Takings.{TookEntry}
 use Rattle.fast_writer.proofs.MapRoom.{asked_room}
 use Rattle.fast_field.specs.declared.fault.FieldFault.{FieldFault}
 use Rattle.fast_writer.specs.Written.{Segment, AppendsForm, Asked, Spelt}
-use Rattle.fast_writer.specs.declared.segment.Segment.{Segment as LevelNow}
 
 pub took_of : (level : Level) (p : FieldPart) (bit : Bool) (d e : Dictionary) (old new : Entry) (v : Option Scalar) (bytes rest : List ℕ)
     → old ≡ entry_at d p.key → e ≡ set_entry d p.key new → new ≡ next p old v

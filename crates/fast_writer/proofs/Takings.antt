@@ -23,7 +23,7 @@ use Rattle.fast_value.specs.declared.key.Key.{Key}
 use Rattle.fast_walk.proofs.Steps.{count_goes, part_goes}
 use Rattle.fast_walk.proofs.Walking.{field_on, exponent_on, no_exponent_on, mantissa_on_goes, is_instruction, is_mantissa}
 use Rattle.fast_writer.specs.Written.{Segment, IsOpened, Spelt}
-use Rattle.fast_writer.specs.Takings.{BeginsWith, EndsPart, Front, IfEnded, StaysThere, Takes, TakesPart, TakesUnder, TookEntry, TookFields, TookUnder, at_place, behind, front_at}
+use Rattle.fast_writer.specs.Takings.{BeginsWith, EndsPart, Front, IfEnded, Takes, TakesPart, TakesUnder, TookEntry, TookFields, TookUnder, at_place, behind, front_at}
 use Rattle.fast_writer.specs.Levels.{level_in, level_of}
 use Rattle.fast_writer.specs.Quick.{Relayed}
 use Rattle.fast_writer.specs.declared.segment.Segment.{Segment as LevelNow}

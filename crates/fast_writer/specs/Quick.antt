@@ -1,5 +1,5 @@
 -- A part that was relayed with no value in between. (Own.)
-use Rattle.std.specs.Prelude.{◌≡◌, ◌≢◌, ◌≤◌, ℕ, Bool, true, false, List, ◌++◌, length, drop, Option, Result, Ok, Err}
+use Rattle.std.specs.Prelude.{◌≡◌, ◌≢◌, ◌≤◌, ℕ, Bool, true, false, List, ◌++◌, length, drop, Option, Result, Ok, Err, MatchResult}
 use Rattle.fast_template.specs.declared.resolved.FieldPart.{FieldPart}
 use Rattle.fast_value.specs.declared.scalar.Scalar.{Scalar}
 use Rattle.fast_dictionary.specs.declared.entry.Entry.{Entry}
@@ -43,8 +43,8 @@ pub record StopsEntry (level : Level) (p : FieldPart) (old new : Entry) (bit : B
 
 -- where the value lies in the entry is answered, the bit of its best form, and the place behind what was read; or a fault
 abbrev pub RelaysFound : Level → FieldPart → Entry → Entry → Bool → List ℕ → ℕ → List ℕ → List ℕ → Result (Found × Bool × ℕ) FieldFault → Type 0
-RelaysFound level p old new bit bytes at before after (Ok x) = RelaysEntry level p old new bit x.1 (value_found p new x.0) bytes at x.2 before after
-RelaysFound level p old new bit bytes at before after (Err f) = StopsEntry level p old new bit (drop at bytes) before after f
+RelaysFound level p old new bit bytes at before after result =
+    MatchResult result (λ x. RelaysEntry level p old new bit x.1 (value_found p new x.0) bytes at x.2 before after) (StopsEntry level p old new bit (drop at bytes) before after)
 
 -- a part was relayed under bit 1 as at the usual level, with what is noted, whether its value is there
 pub record RelaysRun (p : FieldPart) (old new : Entry) (there best : Bool) (bytes : List ℕ) (at : ℕ) (r s : Run) : Type 0 where
@@ -69,10 +69,10 @@ StopsPart level p d e bit bytes l k f = f ≢ Memory → (field_at level p (entr
 
 -- whether the value is there is answered, and the place behind it; or a fault
 abbrev pub RelaysField : Level → FieldPart → Dictionary → Dictionary → Bool → List ℕ → ℕ → Segment → Segment → Result (Bool × ℕ) FieldFault → Type 0
-RelaysField level p d e bit bytes at l k (Ok x) = (v : Option Scalar) × IsThere p.kind x.0 v × RelaysPart level p d e bit v bytes at x.1 l k
-RelaysField level p d e bit bytes at l k (Err f) = StopsPart level p d e bit (drop at bytes) l k f
+RelaysField level p d e bit bytes at l k result =
+    MatchResult result (λ x. (v : Option Scalar) × IsThere p.kind x.0 v × RelaysPart level p d e bit v bytes at x.1 l k) (StopsPart level p d e bit (drop at bytes) l k)
 
 -- the number that it is, and the place behind it; or a fault
 abbrev pub RelaysCount : Level → FieldPart → Dictionary → Dictionary → Bool → List ℕ → ℕ → Segment → Segment → Result (Option ℕ × ℕ) FieldFault → Type 0
-RelaysCount level p d e bit bytes at l k (Ok x) = RelaysPart level p d e bit (length_of x.0) bytes at x.1 l k
-RelaysCount level p d e bit bytes at l k (Err f) = StopsPart level p d e bit (drop at bytes) l k f
+RelaysCount level p d e bit bytes at l k result =
+    MatchResult result (λ x. RelaysPart level p d e bit (length_of x.0) bytes at x.1 l k) (StopsPart level p d e bit (drop at bytes) l k)

@@ -1,4 +1,4 @@
-use Rattle.std.proofs.Common.{◌≡◌, ◌+◌, ◌-◌, take, length-drop, None, Some, true, arith, drop, length, refl, sym, ◌∙◌}
+use Rattle.std.proofs.Common.{◌≡◌, ◌+◌, ◌-◌, take, length-drop, None, Some, arith, drop, length, refl, sym, ◌∙◌}
 use Rattle.std.proofs.lemmas.List.{take_all}
 use Rattle.fast_value.specs.declared.kind.Part.TheVariants as part
 use Rattle.fast_walk.proofs.Telling.{told_part}
