@@ -23,7 +23,7 @@ use Rattle.fast_value.specs.declared.key.Key.{Key}
 use Rattle.fast_walk.proofs.Steps.{count_goes, part_goes}
 use Rattle.fast_walk.proofs.Walking.{field_on, exponent_on, no_exponent_on, mantissa_on_goes, is_instruction, is_mantissa}
 use Rattle.fast_writer.specs.Written.{Segment, IsOpened, Spelt}
-use Rattle.fast_writer.specs.Takings.{BeginsWith, EndsPart, Front, IfEnded, Takes, TakesPart, TakesUnder, TookEntry, TookFields, TookUnder, at_place, behind, front_at}
+use Rattle.fast_writer.specs.Takings.{BeginsWith, EndsPart, Front, IfEnded, Takes, TakesPart, TakesUnder, TookEntry, TookFields, TookUnder, behind, front_at}
 use Rattle.fast_writer.specs.Levels.{level_in, level_of}
 use Rattle.fast_writer.specs.Quick.{Relayed}
 use Rattle.fast_writer.specs.declared.segment.Segment.{Segment as LevelNow}
@@ -99,20 +99,10 @@ ahead flats others f few is first =
       later_is = front.later_is;
     }
 
--- what is next behind the exponent of a decimal in parts, whether it is there
-abbrev pub behind_exponent : Bool → FieldPart → Next
-behind_exponent true q = at_mantissa (pos 0) q
-behind_exponent false q = at_instruction
-
 -- what is next behind a field's first part: nothing behind a field's own
 pub behind_whole : (there : Bool) (m : Option (Bor FieldPart)) → m ≡ None → behind there m ≡ None
 behind_whole true m none = none
 behind_whole false m none = refl
-
--- and the mantissa behind an exponent that is there
-behind_parts : (there : Bool) (m : Option (Bor FieldPart)) (r : Bor FieldPart) (q : FieldPart) → m ≡ Some r → r.now ≡ q → next_behind (behind there m) ≡ behind_exponent there q
-behind_parts true m r q some is = ap next_behind some ∙ ap (at_mantissa (pos 0)) is
-behind_parts false m r q some is = refl
 
 -- of another receiver
 pub passes_with : (level : Level) (Has Had : Received → Type 0) (o : Received) (next : Next) (left : Instructions) (d e : Dictionary) (bits later : List Bool) (spare fewer : ℕ) (bytes rest : List ℕ)
@@ -191,16 +181,10 @@ taken_under level p d e old new bits later bytes at l k Refused part kept is put
 
 -- ---- fields
 
--- at the beginning of a body
-front_begins : (flats : List Flat) (spare place : ℕ) → front_at flats spare 0 None place ≡ record { mantissa = None; rest = list_of flats; spare = spare; place = place }
-front_begins flats spare place =
-    let whole : spare - 0 ≡ spare = omega arith in
-    ap (λ (n : ℕ). let f : Front = record { mantissa = None; rest = list_of flats; spare = n; place = place } in f) whole
-
-module _ (level : Level) (bytes : List ℕ) where
+module _ {level : Level} {bytes : List ℕ} where
   -- where nothing was taken
-  pub takes_none : (l : Segment) (d : Dictionary) (bits : List Bool) (f : Front) → Takes level bytes l d bits f l d bits f
-  takes_none l d bits f = record {
+  takes_none : {l : Segment} {d : Dictionary} {bits : List Bool} {f : Front} → Takes level bytes l d bits f l d bits f
+  takes_none = record {
     passes = λ outer o next first opened. record {
       received = o;
       has = opened;
@@ -212,20 +196,9 @@ module _ (level : Level) (bytes : List ℕ) where
     };
   }
 
-  -- the same segments, as they are called otherwise
-  pub takes_between : (l m k j : Segment) (d e : Dictionary) (bits later : List Bool) (f g : Front) → m ≡ l → j ≡ k → Takes level bytes m d bits f k e later g → Takes level bytes l d bits f j e later g
-  takes_between l m k j d e bits later f g one other t = subst (λ (x : Segment). Takes level bytes x d bits f j e later g) one (subst (λ (x : Segment). Takes level bytes m d bits f x e later g) (sym other) t)
-
-  -- and the same places
-  pub takes_at : (l m k j : Segment) (d e : Dictionary) (bits later : List Bool) (f g : Front) (a x b y : ℕ) → m ≡ l → j ≡ k → a ≡ x → y ≡ b
-      → Takes level bytes m d bits (at_place f a) k e later (at_place g b) → Takes level bytes l d bits (at_place f x) j e later (at_place g y)
-  takes_at l m k j d e bits later f g a x b y one other begins ends t =
-      takes_between l m k j d e bits later (at_place f x) (at_place g y) one other
-      (subst (λ (n : ℕ). Takes level bytes m d bits (at_place f n) k e later (at_place g y)) begins (subst (λ (n : ℕ). Takes level bytes m d bits (at_place f a) k e later (at_place g n)) (sym ends) t))
-
   -- one behind the other
-  pub takes_on : (l k j : Segment) (d e c : Dictionary) (bits later last : List Bool) (f g h : Front) → Takes level bytes l d bits f k e later g → Takes level bytes k e later g j c last h → Takes level bytes l d bits f j c last h
-  takes_on l k j d e c bits later last f g h one two = record {
+  takes_on : {l k j : Segment} {d e c : Dictionary} {bits later last : List Bool} {f g h : Front} → Takes level bytes l d bits f k e later g → Takes level bytes k e later g j c last h → Takes level bytes l d bits f j c last h
+  takes_on one two = record {
     passes = λ outer o next first opened.
         let p = one.passes outer o next first opened in
         let q = two.passes outer p.received p.next_is p.left_is p.has in
@@ -247,163 +220,151 @@ module _ (level : Level) (bytes : List ℕ) where
   }
 
   -- a field
-  pub takes_field : (l k : Segment) (d e : Dictionary) (bits later : List Bool) (f g : Front) (name : List ℕ) (number : ℕ) (presence : Presence) (p : FieldPart) (is : Instructions) (v : Option Scalar) (next : ℕ)
-      → f.mantissa ≡ None → f.rest ≡ then_instruction (whole_field name number presence p) is → g.mantissa ≡ None → g.rest ≡ is → g.spare + 1 ≡ f.spare → g.place ≡ next
-      → Took level p (bit_for (part_needs_bit p) bits) d e v (drop f.place bytes) (drop next bytes) → Spelt p (entry_at d p.key) v l k → later ≡ after_bit (part_needs_bit p) bits
-      → Takes level bytes l d bits f k e later g
-  takes_field l k d e bits later f g name number presence p is v next none first none_behind rest spare place took spelt map = record {
+  takes_field : {l k : Segment} {d e : Dictionary} {bits later : List Bool} {p : FieldPart} {v : Option Scalar} (name : List ℕ) (number : ℕ) (presence : Presence) (is : Instructions) (spare place next : ℕ) → 0 < spare
+      → Took level p (bit_for (part_needs_bit p) bits) d e v (drop place bytes) (drop next bytes) → Spelt p (entry_at d p.key) v l k → later ≡ after_bit (part_needs_bit p) bits
+      → Takes level bytes l d bits (record { mantissa = None; rest = then_instruction (whole_field name number presence p) is; spare = spare; place = place }) k e later (record { mantissa = None; rest = is; spare = spare - 1; place = next })
+  takes_field {l} {k} {d} {e} {bits} {later} {p} {v} name number presence is spare place next some took spelt map = record {
     passes = λ outer o at left opened.
-        let here = is_instruction o.next (at ∙ ap next_behind none) in
-        let begins = left ∙ first in
-        let less : f.spare - 1 ≡ g.spare = omega (arith, spare) in
+        let here = is_instruction o.next at in
         record {
           received = passed o is (single v);
-          has = has_field outer l k o name number presence p is d e v here begins took.entry spelt opened;
+          has = has_field outer l k o name number presence p is d e v here left took.entry spelt opened;
           same = record { set = refl; before = refl; template = refl; members = refl; start = refl };
           around = refl;
-          next_is = sym (ap next_behind none_behind);
-          left_is = sym rest;
+          next_is = refl;
+          left_is = refl;
           reads = λ more.
-              rw (map, took.entry, sym less, place)
-              (field_on level [] o.next o.body name number presence p is (cursor d bits f.spare (drop f.place bytes ++ more)) (cursor d bits (f.spare - 1) (drop f.place bytes ++ more)) _ v here begins
-              (count_goes number f.spare d bits (drop f.place bytes ++ more) (omega (arith, spare)))
-              (part_goes level p d bits (f.spare - 1) (drop f.place bytes ++ more) (drop next bytes ++ more) v (took.value more)));
+              rw (map, took.entry)
+              (field_on level [] o.next o.body name number presence p is (cursor d bits spare (drop place bytes ++ more)) (cursor d bits (spare - 1) (drop place bytes ++ more)) _ v here left
+              (count_goes number spare d bits (drop place bytes ++ more) some)
+              (part_goes level p d bits (spare - 1) (drop place bytes ++ more) (drop next bytes ++ more) v (took.value more)));
         };
   }
 
   -- the exponent of a decimal in parts
-  exponent_passes : (z : Option ℤ) (there : Bool) (l k : Segment) (d e : Dictionary) (bits later : List Bool) (f g : Front) (name : List ℕ) (number : ℕ) (presence : Presence) (p q : FieldPart) (is : Instructions) (next : ℕ)
-      → is_some z ≡ there → f.rest ≡ then_instruction (field_in_parts name number presence p q) is → next_behind g.mantissa ≡ behind_exponent there q → g.rest ≡ is → g.spare + 1 ≡ f.spare → g.place ≡ next
-      → Took level p (bit_for (part_needs_bit p) bits) d e (exponent_of z) (drop f.place bytes) (drop next bytes) → Spelt p (entry_at d p.key) (exponent_of z) l k → later ≡ after_bit (part_needs_bit p) bits
-      → (outer : List Segment) (o : Received) → o.next ≡ at_instruction → o.body.rest ≡ f.rest → IsOpened outer l o d
-      → Passes level (λ r. IsOpened outer k r e) o (next_behind g.mantissa) (g.rest) d bits f.spare (drop f.place bytes) e later g.spare (drop g.place bytes)
-  exponent_passes None true l k d e bits later f g name number presence p q is next some first behind rest spare place took spelt map outer o here left opened = absurd cc
-  exponent_passes (Some z) false l k d e bits later f g name number presence p q is next some first behind rest spare place took spelt map outer o here left opened = absurd cc
-  exponent_passes None false l k d e bits later f g name number presence p q is next some first behind rest spare place took spelt map outer o here left opened =
-      let begins = left ∙ first in
-      let less : f.spare - 1 ≡ g.spare = omega (arith, spare) in
-      record {
-        received = passed o is (single None);
-        has = has_exponent None outer l k o name number presence p q is d e here begins took.entry spelt opened;
-        same = record { set = refl; before = refl; template = refl; members = refl; start = refl };
-        around = refl;
-        next_is = sym behind;
-        left_is = sym rest;
-        reads = λ more.
-            rw (map, took.entry, sym less, place)
-            (no_exponent_on level [] o.next o.body name number presence p q is (cursor d bits f.spare (drop f.place bytes ++ more)) (cursor d bits (f.spare - 1) (drop f.place bytes ++ more)) _ None here begins refl
-            (count_goes number f.spare d bits (drop f.place bytes ++ more) (omega (arith, spare)))
-            (part_goes level p d bits (f.spare - 1) (drop f.place bytes ++ more) (drop next bytes ++ more) None (took.value more)));
-      }
-  exponent_passes (Some z) true l k d e bits later f g name number presence p q is next some first behind rest spare place took spelt map outer o here left opened =
-      let begins = left ∙ first in
-      let less : f.spare - 1 ≡ g.spare = omega (arith, spare) in
-      record {
-        received = moved o (at_mantissa z q) (record { rest = is; done = o.body.done }) o.around;
-        has = has_exponent (Some z) outer l k o name number presence p q is d e here begins took.entry spelt opened;
-        same = record { set = refl; before = refl; template = refl; members = refl; start = refl };
-        around = refl;
-        next_is = sym behind;
-        left_is = sym rest;
-        reads = λ more.
-            rw (map, took.entry, sym less, place)
-            (exponent_on level [] o.next o.body name number presence p q is (cursor d bits f.spare (drop f.place bytes ++ more)) (cursor d bits (f.spare - 1) (drop f.place bytes ++ more)) _ (exponent_of (Some z)) z here begins refl
-            (count_goes number f.spare d bits (drop f.place bytes ++ more) (omega (arith, spare)))
-            (part_goes level p d bits (f.spare - 1) (drop f.place bytes ++ more) (drop next bytes ++ more) (exponent_of (Some z)) (took.value more)));
-      }
-
-  pub takes_exponent : (z : Option ℤ) (there : Bool) (l k : Segment) (d e : Dictionary) (bits later : List Bool) (f g : Front) (name : List ℕ) (number : ℕ) (presence : Presence) (p q : FieldPart) (is : Instructions) (next : ℕ)
-      → is_some z ≡ there → f.mantissa ≡ None → f.rest ≡ then_instruction (field_in_parts name number presence p q) is → next_behind g.mantissa ≡ behind_exponent there q → g.rest ≡ is → g.spare + 1 ≡ f.spare → g.place ≡ next
-      → Took level p (bit_for (part_needs_bit p) bits) d e (exponent_of z) (drop f.place bytes) (drop next bytes) → Spelt p (entry_at d p.key) (exponent_of z) l k → later ≡ after_bit (part_needs_bit p) bits
-      → Takes level bytes l d bits f k e later g
-  takes_exponent z there l k d e bits later f g name number presence p q is next some none first behind rest spare place took spelt map = record {
+  takes_exponent : {l k : Segment} {d e : Dictionary} {bits later : List Bool} {p : FieldPart} (z : Option ℤ) (there : Bool) (name : List ℕ) (number : ℕ) (presence : Presence) (q : Bor FieldPart) (is : Instructions) (spare place next : ℕ)
+      → is_some z ≡ there → 0 < spare
+      → Took level p (bit_for (part_needs_bit p) bits) d e (exponent_of z) (drop place bytes) (drop next bytes) → Spelt p (entry_at d p.key) (exponent_of z) l k → later ≡ after_bit (part_needs_bit p) bits
+      → Takes level bytes l d bits (record { mantissa = None; rest = then_instruction (field_in_parts name number presence p q.now) is; spare = spare; place = place })
+      k e later (record { mantissa = behind there (Some q); rest = is; spare = spare - 1; place = next })
+  takes_exponent None true name number presence q is spare place next there_is some took spelt map = absurd cc
+  takes_exponent (Some z) false name number presence q is spare place next there_is some took spelt map = absurd cc
+  takes_exponent {l} {k} {d} {e} {bits} {later} {p} None false name number presence q is spare place next there_is some took spelt map = record {
     passes = λ outer o at left opened.
-        exponent_passes z there l k d e bits later f g name number presence p q is next some first behind rest spare place took spelt map outer o (is_instruction o.next (at ∙ ap next_behind none)) left opened;
+        let here = is_instruction o.next at in
+        record {
+          received = passed o is (single None);
+          has = has_exponent None outer l k o name number presence p q.now is d e here left took.entry spelt opened;
+          same = record { set = refl; before = refl; template = refl; members = refl; start = refl };
+          around = refl;
+          next_is = refl;
+          left_is = refl;
+          reads = λ more.
+              rw (map, took.entry)
+              (no_exponent_on level [] o.next o.body name number presence p q.now is (cursor d bits spare (drop place bytes ++ more)) (cursor d bits (spare - 1) (drop place bytes ++ more)) _ None here left refl
+              (count_goes number spare d bits (drop place bytes ++ more) some)
+              (part_goes level p d bits (spare - 1) (drop place bytes ++ more) (drop next bytes ++ more) None (took.value more)));
+        };
+  }
+  takes_exponent {l} {k} {d} {e} {bits} {later} {p} (Some z) true name number presence q is spare place next there_is some took spelt map = record {
+    passes = λ outer o at left opened.
+        let here = is_instruction o.next at in
+        record {
+          received = moved o (at_mantissa z q.now) (record { rest = is; done = o.body.done }) o.around;
+          has = has_exponent (Some z) outer l k o name number presence p q.now is d e here left took.entry spelt opened;
+          same = record { set = refl; before = refl; template = refl; members = refl; start = refl };
+          around = refl;
+          next_is = refl;
+          left_is = refl;
+          reads = λ more.
+              rw (map, took.entry)
+              (exponent_on level [] o.next o.body name number presence p q.now is (cursor d bits spare (drop place bytes ++ more)) (cursor d bits (spare - 1) (drop place bytes ++ more)) _ (exponent_of (Some z)) z here left refl
+              (count_goes number spare d bits (drop place bytes ++ more) some)
+              (part_goes level p d bits (spare - 1) (drop place bytes ++ more) (drop next bytes ++ more) (exponent_of (Some z)) (took.value more)));
+        };
   }
 
   -- the mantissa of a decimal whose exponent is there
-  pub takes_mantissa : (l k : Segment) (d e : Dictionary) (bits later : List Bool) (f g : Front) (q : Bor FieldPart) (m : ℤ) (next : ℕ)
-      → f.mantissa ≡ Some q → g.mantissa ≡ None → g.rest ≡ f.rest → g.spare ≡ f.spare → g.place ≡ next
-      → Took level q.now (bit_for (part_needs_bit q.now) bits) d e (Some (I64 m)) (drop f.place bytes) (drop next bytes) → Spelt q.now (entry_at d q.now.key) (Some (I64 m)) l k → later ≡ after_bit (part_needs_bit q.now) bits
-      → Takes level bytes l d bits f k e later g
-  takes_mantissa l k d e bits later f g q m next some none rest spare place took spelt map = record {
+  takes_mantissa : {l k : Segment} {d e : Dictionary} {bits later : List Bool} (q : Bor FieldPart) (m : ℤ) (is : Instructions) (spare place next : ℕ)
+      → Took level q.now (bit_for (part_needs_bit q.now) bits) d e (Some (I64 m)) (drop place bytes) (drop next bytes) → Spelt q.now (entry_at d q.now.key) (Some (I64 m)) l k → later ≡ after_bit (part_needs_bit q.now) bits
+      → Takes level bytes l d bits (record { mantissa = Some q; rest = is; spare = spare; place = place }) k e later (record { mantissa = None; rest = is; spare = spare; place = next })
+  takes_mantissa {l} {k} {d} {e} {bits} {later} q m is spare place next took spelt map = record {
     passes = λ outer o at left opened.
-        let here = is_mantissa o.next (pos 0) q.now (at ∙ ap next_behind some) in
+        let here = is_mantissa o.next (pos 0) q.now at in
         record {
           received = passed o o.body.rest (single (Some (Decimal here.exponent m)));
           has = has_mantissa outer l k o here.exponent m q.now d e here.is took.entry spelt opened;
           same = record { set = refl; before = refl; template = refl; members = refl; start = refl };
           around = refl;
-          next_is = sym (ap next_behind none);
-          left_is = left ∙ sym rest;
+          next_is = refl;
+          left_is = left;
           reads = λ more.
-              rw (map, took.entry, spare, place)
-              (mantissa_on_goes level [] o.next here.exponent m q.now o.body (cursor d bits f.spare (drop f.place bytes ++ more)) _ here.is
-              (part_goes level q.now d bits f.spare (drop f.place bytes ++ more) (drop next bytes ++ more) (Some (I64 m)) (took.value more)));
+              rw (map, took.entry)
+              (mantissa_on_goes level [] o.next here.exponent m q.now o.body (cursor d bits spare (drop place bytes ++ more)) _ here.is
+              (part_goes level q.now d bits spare (drop place bytes ++ more) (drop next bytes ++ more) (Some (I64 m)) (took.value more)));
         };
   }
 
   -- an instruction that is a field, or begins with the exponent of a decimal in parts
-  pub takes_first : (i : Instruction) (there : Bool) (l k : Segment) (d e : Dictionary) (bits later : List Bool) (f g : Front) (p : FieldPart) (m : Option (Bor FieldPart)) (is : Instructions) (v : Option Scalar) (next : ℕ)
-      → BeginsWith i p m → IsThere p.kind there v → f.mantissa ≡ None → f.rest ≡ then_instruction i is → g.mantissa ≡ behind there m → g.rest ≡ is → g.spare + 1 ≡ f.spare → g.place ≡ next
-      → Took level p (bit_for (part_needs_bit p) bits) d e v (drop f.place bytes) (drop next bytes) → Spelt p (entry_at d p.key) v l k → later ≡ after_bit (part_needs_bit p) bits
-      → Takes level bytes l d bits f k e later g
-  takes_first (whole_field name number presence whole) there l k d e bits later f g p m is v next begins value none first after rest spare place took spelt map =
-      takes_field l k d e bits later f g name number presence whole is v next none first (after ∙ behind_whole there m begins.1) rest spare place
-      (rw (begins.0) at took) (rw (begins.0) at spelt) (map ∙ ap (λ (p : FieldPart). after_bit (part_needs_bit p) bits) begins.0)
-  takes_first (field_in_parts name number presence exponent q) there l k d e bits later f g p m is v next begins value none first after rest spare place took spelt map =
-      let x = exponent_there p.kind there v begins.1 value in
-      takes_exponent x.0 there l k d e bits later f g name number presence exponent q is next x.2 none first
-      (ap next_behind after ∙ behind_parts there m begins.2.0 q begins.2.1 begins.2.2) rest spare place
-      (rw (begins.0, x.1) at took) (rw (begins.0, x.1) at spelt) (map ∙ ap (λ (p : FieldPart). after_bit (part_needs_bit p) bits) begins.0)
-  takes_first (group_of name number presence members) there l k d e bits later f g p m is v next begins value none first after rest spare place took spelt map = absurd begins
-  takes_first (sequence_of name number presence part members) there l k d e bits later f g p m is v next begins value none first after rest spare place took spelt map = absurd begins
+  takes_first : (i : Instruction) {there : Bool} {p : FieldPart} {d e : Dictionary} {bits later : List Bool} {k j : LevelNow} (m : Option (Bor FieldPart)) (is : Instructions) (spare : ℕ)
+      → BeginsWith i p m → 0 < spare → TookUnder level p there d e bits later bytes k.bytes.place k j
+      → Takes level bytes (level_in bytes k) d bits (record { mantissa = None; rest = then_instruction i is; spare = spare; place = k.bytes.place })
+      (level_in bytes j) e later (record { mantissa = behind there m; rest = is; spare = spare - 1; place = j.bytes.place })
+  takes_first (whole_field name number presence whole) {there} m is spare begins some t =
+      rw (behind_whole there m begins.1, sym begins.0) (takes_field name number presence is spare _ _ some t.took t.spelt t.left)
+  takes_first (field_in_parts name number presence exponent q) {there} {p} m is spare begins some t =
+      let x = exponent_there p.kind there t.value begins.1 t.is_there in
+      rw (begins.2.1, sym begins.0, sym begins.2.2) (takes_exponent x.0 there name number presence begins.2.0 is spare _ _ x.2 some (rw (x.1) at t.took) (rw (x.1) at t.spelt) t.left)
+  takes_first (group_of name number presence members) m is spare begins some t = absurd begins
+  takes_first (sequence_of name number presence part members) m is spare begins some t = absurd begins
+
+  -- from the beginning of a body on, the segment and the place as they are called otherwise
+  pub takes_from : (l m k : Segment) (d e : Dictionary) (bits later : List Bool) (flats : List Flat) (spare a at : ℕ) (g : Front) → m ≡ l → a ≡ at
+      → Takes level bytes m d bits (front_at flats spare 0 None a) k e later g → Takes level bytes l d bits (record { mantissa = None; rest = list_of flats; spare = spare; place = at }) k e later g
+  takes_from l m k d e bits later flats spare a at g same place t =
+      let whole : spare - 0 ≡ spare = omega arith in
+      rw (sym same, sym place) (subst (λ (n : ℕ). Takes level bytes m d bits (record { mantissa = None; rest = list_of flats; spare = n; place = a }) k e later g) whole t)
 
   -- ---- fields from the front of a body
 
-  pub took_none : (serves : Key → Bool) (rest : List Flat) (l : Segment) (d : Dictionary) (bits : List Bool) (at : ℕ) → AreServed serves (list_of rest) → KeepScalars d
+  pub took_none : {serves : Key → Bool} {rest : List Flat} {l : Segment} {d : Dictionary} {bits : List Bool} {at : ℕ} → AreServed serves (list_of rest) → KeepScalars d
       → TookFields level serves rest bytes l d bits at 0 None l d bits at
-  took_none serves rest l d bits at served kept = record {
+  took_none served kept = record {
     place = omega arith;
     within = omega arith;
     some = λ one. absurd cc;
     served = served;
     next_served = tt;
-    takes = λ spare few. takes_none l d bits (front_at rest spare 0 None at);
+    takes = λ spare few. takes_none;
     room = λ room. room;
     kept = kept;
   }
 
   -- the first part of the instruction behind those that were taken
-  pub took_next : (serves : Key → Bool) (rest : List Flat) (l : Segment) (d e c : Dictionary) (bits later last : List Bool) (at count : ℕ) (f : Flat) (there : Bool) (p : FieldPart) (m n : Option (Bor FieldPart)) (k j : LevelNow)
+  pub took_next : {serves : Key → Bool} {rest : List Flat} {l : Segment} {d e c : Dictionary} {bits later last : List Bool} {at count : ℕ} {f : Flat} {there : Bool} {p : FieldPart} {k j : LevelNow} (m n : Option (Bor FieldPart))
+      → TookUnder level p there e c later last bytes k.bytes.place k j → TookFields level serves rest bytes l d bits at count None (level_in bytes k) e later k.bytes.place
       → f ≡ get_or rest count f → count < length rest → BeginsWith (instruction_of f) p m → n ≡ behind there m → IsNextServed serves (next_behind n)
-      → TookUnder level p there e c later last bytes k.bytes.place k j
-      → TookFields level serves rest bytes l d bits at count None (level_in bytes k) e later k.bytes.place
       → TookFields level serves rest bytes l d bits at (count + 1) n (level_in bytes j) c last j.bytes.place
-  took_next serves rest l d e c bits later last at count f there p m n k j is within begins after next t so_far = record {
+  took_next {serves = serves} {rest = rest} {count = count} {f = f} m n t so_far is within begins after next = record {
     place = omega (arith, so_far.place, t.place);
     within = omega (arith, within);
     some = λ one. omega arith;
     served = (served_next serves rest count f is within so_far.served).1;
     next_served = next;
     takes = λ spare few.
-        let from = front_at rest spare 0 None at in
-        let here = front_at rest spare count None k.bytes.place in
-        let behind_it = front_at rest spare (count + 1) n j.bytes.place in
-        let less : spare - (count + 1) + 1 ≡ spare - count = omega (arith, few, within) in
-        takes_on l (level_in bytes k) (level_in bytes j) d e c bits later last from here behind_it (so_far.takes spare few)
-        (takes_first (instruction_of f) there (level_in bytes k) (level_in bytes j) e c later last here behind_it p m (list_of (drop (count + 1) rest)) t.value j.bytes.place
-        begins t.is_there refl (next_flat rest count f is within) after refl less refl t.took t.spelt t.left);
+        let less : spare - (count + 1) ≡ spare - count - 1 = omega arith in
+        takes_on (so_far.takes spare few)
+        (rw (after, less, next_flat rest count f is within) (takes_first (instruction_of f) m (list_of (drop (count + 1) rest)) (spare - count) begins (omega (arith, few, within)) t));
     room = λ room. t.room (so_far.room room);
     kept = t.kept;
   }
 
   -- the mantissa that is next
-  pub took_mantissa : (serves : Key → Bool) (rest : List Flat) (l : Segment) (d e c : Dictionary) (bits later last : List Bool) (at count : ℕ) (there : Bool) (q : Bor FieldPart) (k j : LevelNow)
+  pub took_mantissa : {serves : Key → Bool} {rest : List Flat} {l : Segment} {d e c : Dictionary} {bits later last : List Bool} {at count : ℕ} {there : Bool} {q : Bor FieldPart} {k j : LevelNow}
       → TookUnder level q.now there e c later last bytes k.bytes.place k j
       → TookFields level serves rest bytes l d bits at count (Some q) (level_in bytes k) e later k.bytes.place
       → TookFields level serves rest bytes l d bits at count None (level_in bytes j) c last j.bytes.place
-  took_mantissa serves rest l d e c bits later last at count there q k j t so_far =
+  took_mantissa {rest = rest} {e = e} {count = count} {there = there} {q = q} {k = k} {j = j} t so_far =
       let told = so_far.next_served in
       let x = mantissa_taken q.now (entry_at e q.now.key) there t.value (level_in bytes k) (level_in bytes j) told.0.1 told.1 t.is_there t.spelt in
       record {
@@ -412,24 +373,13 @@ module _ (level : Level) (bytes : List ℕ) where
         some = λ one. absurd cc;
         served = so_far.served;
         next_served = tt;
-        takes = λ spare few.
-            let here = front_at rest spare count (Some q) k.bytes.place in
-            let behind_it = front_at rest spare count None j.bytes.place in
-            takes_on l (level_in bytes k) (level_in bytes j) d e c bits later last (front_at rest spare 0 None at) here behind_it (so_far.takes spare few)
-            (takes_mantissa (level_in bytes k) (level_in bytes j) e c later last here behind_it q x.0 j.bytes.place refl refl refl refl refl (rw (x.1) at t.took) (rw (x.1) at t.spelt) t.left);
+        takes = λ spare few. takes_on (so_far.takes spare few) (takes_mantissa q x.0 (list_of (drop count rest)) (spare - count) _ _ (rw (x.1) at t.took) (rw (x.1) at t.spelt) t.left);
         room = λ room. t.room (so_far.room room);
         kept = t.kept;
       }
 
   -- nothing more
-  pub took_stays : (serves : Key → Bool) (rest : List Flat) (l k j : Segment) (d e c : Dictionary) (bits later last : List Bool) (at count : ℕ) (n : Option (Bor FieldPart)) (place next : ℕ)
+  pub took_stays : {serves : Key → Bool} {rest : List Flat} {l k j : Segment} {d e c : Dictionary} {bits later last : List Bool} {at count : ℕ} {n : Option (Bor FieldPart)} {place next : ℕ}
       → c ≡ e → j ≡ k → last ≡ later → next ≡ place
       → TookFields level serves rest bytes l d bits at count n k e later place → TookFields level serves rest bytes l d bits at count n j c last next
-  took_stays serves rest l k j d e c bits later last at count n place next entries segment map at_it so_far = rw (entries, segment, map, at_it) so_far
-
-  -- from the beginning of a body on, the segments and places as they are called otherwise
-  pub takes_from : (l m k j : Segment) (d e : Dictionary) (bits later : List Bool) (flats : List Flat) (spare : ℕ) (g : Front) (a x b y : ℕ) → m ≡ l → j ≡ k → a ≡ x → y ≡ b
-      → Takes level bytes m d bits (front_at flats spare 0 None a) k e later (at_place g b) → Takes level bytes l d bits (record { mantissa = None; rest = list_of flats; spare = spare; place = x }) j e later (at_place g y)
-  takes_from l m k j d e bits later flats spare g a x b y one other begins ends t =
-      takes_at l m k j d e bits later (record { mantissa = None; rest = list_of flats; spare = spare; place = x }) g a x b y one other begins ends
-      (subst (λ (f : Front). Takes level bytes m d bits f k e later (at_place g b)) (front_begins flats spare a) t)
+  took_stays entries segment map at_it so_far = rw (entries, segment, map, at_it) so_far

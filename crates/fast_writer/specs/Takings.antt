@@ -69,10 +69,6 @@ abbrev pub behind : Bool → Option (Bor FieldPart) → Option (Bor FieldPart)
 behind true mantissa = mantissa
 behind false mantissa = None
 
--- the same, from a place on
-abbrev pub at_place : Front → ℕ → Front
-at_place f place = record { mantissa = f.mantissa; rest = f.rest; spare = f.spare; place = place }
-
 -- The next bit, or 1, and the bytes before `rest` give the value of a part, its entry is the one afterwards, and its best
 -- form was put into a segment.
 pub record TookEntry (level : Level) (p : FieldPart) (old new : Entry) (bits : List Bool) (v : Option Scalar)

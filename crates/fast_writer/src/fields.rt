@@ -1,7 +1,7 @@
 //! Fields that are taken one after the other, with no call of the walk between them.
 
-ghost use Rattle.std.specs.Prelude.{◌≡◌, ◌≤◌, ◌<◌, ◌+◌, ◌*◌, ℕ, Bool, true, false, Option, Some, None, IsSome, IfNone, IfOk, IfSome, OnOk, IsTrue, length, drop, slice_range};
-ghost use Rattle.fast_template.specs.Resolved.{instruction_of, list_of, part_needs_bit as part_needs_bit_of, then_instruction};
+ghost use Rattle.std.specs.Prelude.{◌≡◌, ◌≤◌, ◌<◌, ◌+◌, Bool, true, false, Option, None, IsSome, IfOk, IfSome, MatchOption, OnOk, IsTrue, length, drop, slice_range};
+ghost use Rattle.fast_template.specs.Resolved.{instruction_of, list_of, part_needs_bit as part_needs_bit_of};
 ghost use Rattle.fast_value.specs.declared.scalar.Scalar.{Scalar as ScalarOf};
 ghost use Rattle.fast_dictionary.specs.declared.entry.Entry.{Entry as EntryOf};
 ghost use Rattle.fast_stream.specs.Bits.{after_bit, bit_for};
@@ -9,8 +9,8 @@ ghost use Rattle.fast_field.specs.Parts.{IsFieldPart};
 ghost use Rattle.fast_field.specs.Passed.{Passes};
 ghost use Rattle.fast_field.specs.AsUsual.{ReadsAsUsual};
 ghost use Rattle.fast_field.specs.Within.{HoldsScalar};
-ghost use Rattle.fast_walk.specs.Told.{IsTold, KeepScalars};
-ghost use Rattle.fast_walk.specs.Walks.{AreServed, IsMantissaServed, IsNextServed, IsServed};
+ghost use Rattle.fast_walk.specs.Told.{KeepScalars};
+ghost use Rattle.fast_walk.specs.Walks.{AreServed, IsNextServed, IsServed};
 ghost use Rattle.fast_walk.specs.Passing.{next_behind};
 ghost use Rattle.fast_relay.specs.Relayed.{IsThere};
 ghost use Rattle.fast_relay.specs.Judged.{IfBehind, IfJudged, IfNotJudged};
@@ -131,9 +131,8 @@ fn take_other(
 fn pass_given(which: Part, part: &FieldPart, entry: &mut Entry) -> Option<bool>
     requires which { which ≡ part.now.part }
     requires part { IsFieldPart part.now }
-    ensures passed { IfSome result (λ there. (v : Option ScalarOf)
+    ensures { MatchOption result (entry.new ≡ entry.old) (λ there. (v : Option ScalarOf)
         × IsThere part.now.kind there v × Passes part.now entry.old entry.new v) }
-    ensures entry { IfNone result (entry.new ≡ entry.old) }
 {
     match pass_quickly(which, part, entry) {
         Passed::Present => Some(true),

@@ -13,7 +13,7 @@ pieces-init g c =
       within = omega arith;
       others = refl;
       run = c.requires.run;
-      took = took_none g.L.Leveled.at c.args.bytes.now (g.E.Entries.serves c.args.entries.now) c.args.rest.now _ (g.E.Entries.contents c.args.entries.now) c.args.bits.now c.args.segment.now.bytes.place c.requires.served c.requires.kept;
+      took = took_none c.requires.served c.requires.kept;
       same_keys = refl;
     })
 
@@ -37,11 +37,6 @@ pieces-preserved-in-Part g c =
     let flat = c.in-Some.flat.now in
     let front = ahead rest now.others.now flat inv.within inv.others c.in-Some.ensures.value in
     let count = length rest - length now.others.now in
-    let bytes = c.args.bytes.now in
-    let l = level_in bytes c.args.segment.now in
-    let d = g.E.Entries.contents c.args.entries.now in
-    let bits = c.args.bits.now in
-    let at = c.args.segment.now.bytes.place in
     let serves = g.E.Entries.serves now.entries in
     let whole : take (length now.others.now - 1) (drop 1 now.others.now) ≡ drop 1 now.others.now = take_all (length now.others.now - 1) (drop 1 now.others.now) (omega (arith, length-drop 1 now.others.now)) in
     let begins = c.in-Some-default-None in
@@ -52,8 +47,7 @@ pieces-preserved-in-Part g c =
       others = rw (front.next) front.later_is;
       run = taken.run;
       took = rw (front.next, one.ensures.same_keys)
-          (took_next g.L.Leveled.at bytes serves rest l d _ _ bits _ _ at count flat c.in-Part._there begins.whole.now None None now.segment one.new.segment
-          front.is front.within (rw (begins.field-0-1-is) at begins.ensures.begins) (sym (behind_whole c.in-Part._there None refl)) tt taken inv.took);
+          (took_next None None taken inv.took front.is front.within (rw (begins.field-0-1-is) at begins.ensures.begins) (sym (behind_whole c.in-Part._there None refl)) tt);
       same_keys = one.ensures.same_keys ∙ inv.same_keys;
     })
 
@@ -65,11 +59,6 @@ pieces-preserved g c =
     let flat = c.in-Some.flat.now in
     let front = ahead rest now.others.now flat inv.within inv.others c.in-Some.ensures.value in
     let count = length rest - length now.others.now in
-    let bytes = c.args.bytes.now in
-    let l = level_in bytes c.args.segment.now in
-    let d = g.E.Entries.contents c.args.entries.now in
-    let bits = c.args.bits.now in
-    let at = c.args.segment.now.bytes.place in
     let serves = g.E.Entries.serves now.entries in
     let whole : take (length now.others.now - 1) (drop 1 now.others.now) ≡ drop 1 now.others.now = take_all (length now.others.now - 1) (drop 1 now.others.now) (omega (arith, length-drop 1 now.others.now)) in
     let parts = c.in-Some-default-Some in
@@ -80,8 +69,7 @@ pieces-preserved g c =
       others = rw (front.next) front.later_is;
       run = taken.run;
       took = rw (front.next, one.ensures.same_keys)
-          (took_next g.L.Leveled.at bytes serves rest l d _ _ bits _ _ at count flat c.in-Part-false.field-0 parts.exponent.now (Some parts.mantissa) None now.segment one.new.segment
-          front.is front.within (rw (parts.field-0-1-is) at parts.ensures.begins) (rw (c.in-Part-false.field-0-test) refl) tt taken inv.took);
+          (took_next (Some parts.mantissa) None taken inv.took front.is front.within (rw (parts.field-0-1-is) at parts.ensures.begins) (rw (c.in-Part-false.field-0-test) refl) tt);
       same_keys = one.ensures.same_keys ∙ inv.same_keys;
     })
 
@@ -93,11 +81,6 @@ pieces-preserved-in-Part-take_part g c =
     let flat = c.in-Some.flat.now in
     let front = ahead rest now.others.now flat inv.within inv.others c.in-Some.ensures.value in
     let count = length rest - length now.others.now in
-    let bytes = c.args.bytes.now in
-    let l = level_in bytes c.args.segment.now in
-    let d = g.E.Entries.contents c.args.entries.now in
-    let bits = c.args.bits.now in
-    let at = c.args.segment.now.bytes.place in
     let serves = g.E.Entries.serves now.entries in
     let whole : take (length now.others.now - 1) (drop 1 now.others.now) ≡ drop 1 now.others.now = take_all (length now.others.now - 1) (drop 1 now.others.now) (omega (arith, length-drop 1 now.others.now)) in
     let parts = c.in-Some-default-Some in
@@ -111,9 +94,8 @@ pieces-preserved-in-Part-take_part g c =
       others = rw (front.next) front.later_is;
       run = last.run;
       took = rw (front.next, two.ensures.same_keys, one.ensures.same_keys)
-          (took_mantissa g.L.Leveled.at bytes serves rest l d _ _ bits _ _ at (count + 1) c.in-Part-take_part._there m one.new.segment two.new.segment last
-          (took_next g.L.Leveled.at bytes serves rest l d _ _ bits _ _ at count flat c.in-Part-true.field-0 parts.exponent.now (Some m) (Some m) now.segment one.new.segment
-          front.is front.within (rw (parts.field-0-1-is) at parts.ensures.begins) (rw (c.in-Part-true.field-0-test) refl) next c.in-Part-true.ensures.taken inv.took));
+          (took_mantissa last
+          (took_next (Some m) (Some m) c.in-Part-true.ensures.taken inv.took front.is front.within (rw (parts.field-0-1-is) at parts.ensures.begins) (rw (c.in-Part-true.field-0-test) refl) next));
       same_keys = two.ensures.same_keys ∙ one.ensures.same_keys ∙ inv.same_keys;
     })
 
@@ -125,11 +107,6 @@ returns-in-Elsewhere-take_part-2-clause-took g c =
     let flat = c.in-Some.flat.now in
     let front = ahead rest now.others.now flat inv.within inv.others c.in-Some.ensures.value in
     let count = length rest - length now.others.now in
-    let bytes = c.args.bytes.now in
-    let l = level_in bytes c.args.segment.now in
-    let d = g.E.Entries.contents c.args.entries.now in
-    let bits = c.args.bits.now in
-    let at = c.args.segment.now.bytes.place in
     let serves = g.E.Entries.serves c.args.entries.now in
     let parts = c.in-Some-default-Some in
     let m = parts.mantissa in
@@ -138,9 +115,8 @@ returns-in-Elsewhere-take_part-2-clause-took g c =
     let same = c.in-Elsewhere-take_part-2.ensures.taken in
     let so_far = rw (inv.same_keys) at inv.took in
     let next = (rw (parts.field-0-1-is) at (parts.ensures.served serves (served_next serves rest count flat front.is front.within so_far.served).0)).2 in
-    took_stays g.L.Leveled.at bytes serves rest l _ _ d _ _ bits _ _ at (count + 1) (Some m) _ _ same.same same.segment same.left same.run.place
-    (took_next g.L.Leveled.at bytes serves rest l d _ _ bits _ _ at count flat c.in-Part-true.field-0 parts.exponent.now (Some m) (Some m) now.segment one.new.segment
-    front.is front.within (rw (parts.field-0-1-is) at parts.ensures.begins) (rw (c.in-Part-true.field-0-test) refl) next c.in-Part-true.ensures.taken so_far)
+    took_stays same.same same.segment same.left same.run.place
+    (took_next (Some m) (Some m) c.in-Part-true.ensures.taken so_far front.is front.within (rw (parts.field-0-1-is) at parts.ensures.begins) (rw (c.in-Part-true.field-0-test) refl) next)
 
 pub returns-clause-took : goal.returns-clause-took
 returns-clause-took g c = rw (sym (none_ahead c.args.rest.now c.pieces.others.now c.in_default.ensures.value)) (rw (c.pieces.invariant.same_keys) at c.pieces.invariant.took)

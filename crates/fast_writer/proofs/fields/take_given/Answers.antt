@@ -13,7 +13,7 @@ returns g c =
     let l = c.args.segment.now in
     let old = c.args.entry.now in
     let new = c.pass_given.new.entry in
-    let given = c.in-Some.ensures.passed in
+    let given = c.in-Some.ensures in
     let zero : bit_for (part_needs_bit p) c.args.bits.now ≡ false = rw (c.requires.needs) c.requires.bit in
     ended g.L.Leveled.at p old new false false _ _ given.0 c.args.bits.now c.end_part.new.bits bytes l.bytes.place l.bytes.place l c.end_part.new.segment l.bytes c.end_part.result
     zero (sym c.requires.needs) (λ none. none) (omega arith) c.requires.run given.1 (passes_relayed g.L.Leveled.at p old new given.0 (drop l.bytes.place bytes) (written bytes l.bytes) c.requires.needs given.2)

@@ -7,5 +7,4 @@ use Rattle.fast_writer.proofs.fields.take_run.Goals as goal
 pub returns-clause-took : goal.returns-clause-took
 returns-clause-took g c =
     let now = c.take_all.new.segment in
-    took_stays g.L.Leveled.at c.args.bytes.now (g.E.Entries.serves c.args.entries.now) c.args.rest.now _ (level_in c.args.bytes.now now) _ (g.E.Entries.contents c.args.entries.now) _ _ c.args.bits.now _ _ c.args.segment.now.bytes.place c.in_ok-count.count _ _ _
-    refl (level_bytes (level_in c.args.bytes.now now) c.flush.new.self.out.items (c.flush.ensures.out c.if-not-flush.false)) refl c.flush.ensures.place c.in_ok-count.ensures.took
+    took_stays refl (level_bytes (level_in c.args.bytes.now now) c.flush.new.self.out.items (c.flush.ensures.out c.if-not-flush.false)) refl c.flush.ensures.place c.in_ok-count.ensures.took
