@@ -1,5 +1,6 @@
 -- Fields that are taken one after the other into the segment that is open.
-use Rattle.std.proofs.Common.{◌≡◌, ◌≤◌, ◌<◌, ◌-◌, ◌+◌, ℕ, zero, suc, ℤ, pos, Bool, true, false, List, [], ◌∷◌, ◌++◌, length, get_or, Option, Some, None, drop, refl, sym, ap, ◌∙◌, subst, arith}
+use Rattle.std.proofs.Common.{◌≡◌, ◌≤◌, ◌<◌, ◌-◌, ◌+◌, ℕ, zero, suc, ℤ, pos, Bool, true, false, List, [], ◌∷◌, ◌++◌, length, get_or, Option, Some, None, drop, take, refl, sym, ap, ◌∙◌, subst, arith}
+use Rattle.std.proofs.lemmas.List.{take_all}
 use Rattle.std.specs.Option.{is_some}
 use Rattle.std.specs.List.{slice_get}
 use Rattle.std.specs.Borrow.{Bor}
@@ -49,11 +50,6 @@ next_flat (g ∷ flats) zero f is within = ap (λ (x : Flat). then_instruction (
 next_flat (g ∷ flats) (suc i) f is within =
     let later : suc i + 1 ≡ suc (i + 1) = omega arith in rw later (next_flat flats i f is (omega (arith, within)))
 
--- and the parts that it may come to are served
-pub served_next : (serves : Key → Bool) (flats : List Flat) (i : ℕ) (f : Flat) → f ≡ get_or flats i f → i < length flats → AreServed serves (list_of (drop i flats))
-    → IsServed serves (instruction_of f) × AreServed serves (list_of (drop (i + 1) flats))
-served_next serves flats i f is within served = subst (AreServed serves) (next_flat flats i f is within) served
-
 -- an instruction that stands in front of what is left of a body, where that is what stands behind so many
 pub record InFront (flats : List Flat) (i : ℕ) (f : Flat) (later : List Flat) : Type 0 where
   pub within : i < length flats
@@ -69,13 +65,16 @@ in_front (g ∷ flats) (suc i) f later front =
     let more : suc i + 1 ≡ suc (i + 1) = omega arith in
     record { within = omega (arith, on.within); is = on.is; later_is = rw more on.later_is }
 
+abbrev behind_first : List Flat → List Flat
+behind_first others = take (length others - 1) (drop 1 others)
+
 -- the instruction in front of what is left of a body, told by how many are left, and what is left behind it
 pub record Ahead (flats others : List Flat) (f : Flat) : Type 0 where
   pub within : length flats - length others < length flats
   pub is : f ≡ get_or flats (length flats - length others) f
-  pub fewer : length (drop 1 others) ≤ length flats
-  pub next : length flats - length (drop 1 others) ≡ length flats - length others + 1
-  pub later_is : drop 1 others ≡ drop (length flats - length others + 1) flats
+  pub fewer : length (behind_first others) ≤ length flats
+  pub next : length flats - length (behind_first others) ≡ length flats - length others + 1
+  pub later_is : behind_first others ≡ drop (length flats - length others + 1) flats
 
 first_of : (others : List Flat) (f : Flat) → Some f ≡ slice_get others 0 → others ≡ f ∷ drop 1 others
 first_of [] f is = absurd cc
@@ -86,18 +85,24 @@ pub none_ahead : (flats others : List Flat) → None ≡ slice_get others 0 → 
 none_ahead flats [] none = omega arith
 none_ahead flats (g ∷ others) none = absurd cc
 
-pub ahead : (flats others : List Flat) (f : Flat) → length others ≤ length flats → others ≡ drop (length flats - length others) flats → Some f ≡ slice_get others 0 → Ahead flats others f
-ahead flats others f few is first =
+pub ahead : (flats : List Flat) {others : List Flat} {f : Flat} → length others ≤ length flats → others ≡ drop (length flats - length others) flats → Some f ≡ slice_get others 0 → Ahead flats others f
+ahead flats {others} {f} few is first =
     let whole = first_of others f first in
     let front = in_front flats (length flats - length others) f (drop 1 others) (sym is ∙ whole) in
     let one : length others ≡ suc (length (drop 1 others)) = ap length whole in
+    let all : behind_first others ≡ drop 1 others = take_all (length others - 1) (drop 1 others) (omega (arith, one)) in
     record {
       within = front.within;
       is = front.is;
-      fewer = omega (arith, one, few);
-      next = omega (arith, one, few);
-      later_is = front.later_is;
+      fewer = rw all (omega (arith, one, few));
+      next = rw all (omega (arith, one, few));
+      later_is = rw all front.later_is;
     }
+
+-- the parts that it may come to are served
+pub served_ahead : (serves : Key → Bool) {flats others : List Flat} {f : Flat} → Ahead flats others f → AreServed serves (list_of (drop (length flats - length others) flats))
+    → IsServed serves (instruction_of f) × AreServed serves (list_of (drop (length flats - length others + 1) flats))
+served_ahead serves {flats} {others} {f} front served = subst (AreServed serves) (next_flat flats (length flats - length others) f front.is front.within) served
 
 -- what is next behind a field's first part: nothing behind a field's own
 pub behind_whole : (there : Bool) (m : Option (Bor FieldPart)) → m ≡ None → behind there m ≡ None
@@ -341,23 +346,25 @@ module _ {level : Level} {bytes : List ℕ} where
   }
 
   -- the first part of the instruction behind those that were taken
-  pub took_next : {serves : Key → Bool} {rest : List Flat} {l : Segment} {d e c : Dictionary} {bits later last : List Bool} {at count : ℕ} {f : Flat} {there : Bool} {p : FieldPart} {k j : LevelNow} (m n : Option (Bor FieldPart))
-      → TookUnder level p there e c later last bytes k.bytes.place k j → TookFields level serves rest bytes l d bits at count None (level_in bytes k) e later k.bytes.place
-      → f ≡ get_or rest count f → count < length rest → BeginsWith (instruction_of f) p m → n ≡ behind there m → IsNextServed serves (next_behind n)
-      → TookFields level serves rest bytes l d bits at (count + 1) n (level_in bytes j) c last j.bytes.place
-  took_next {serves = serves} {rest = rest} {count = count} {f = f} m n t so_far is within begins after next = record {
-    place = omega (arith, so_far.place, t.place);
-    within = omega (arith, within);
-    some = λ one. omega arith;
-    served = (served_next serves rest count f is within so_far.served).1;
-    next_served = next;
-    takes = λ spare few.
-        let less : spare - (count + 1) ≡ spare - count - 1 = omega arith in
-        takes_on (so_far.takes spare few)
-        (rw (after, less, next_flat rest count f is within) (takes_first (instruction_of f) m (list_of (drop (count + 1) rest)) (spare - count) begins (omega (arith, few, within)) t));
-    room = λ room. t.room (so_far.room room);
-    kept = t.kept;
-  }
+  pub took_next : {serves : Key → Bool} {rest others : List Flat} {l : Segment} {d e c : Dictionary} {bits later last : List Bool} {at : ℕ} {f : Flat} {there : Bool} {p : FieldPart} {k j : LevelNow} (m n : Option (Bor FieldPart)) → Ahead rest others f
+      → TookUnder level p there e c later last bytes k.bytes.place k j → TookFields level serves rest bytes l d bits at (length rest - length others) None (level_in bytes k) e later k.bytes.place
+      → BeginsWith (instruction_of f) p m → n ≡ behind there m → IsNextServed serves (next_behind n)
+      → TookFields level serves rest bytes l d bits at (length rest - length others + 1) n (level_in bytes j) c last j.bytes.place
+  took_next {serves = serves} {rest = rest} {others = others} {f = f} m n front t so_far begins after next =
+      let count = length rest - length others in
+      record {
+        place = omega (arith, so_far.place, t.place);
+        within = omega (arith, front.within);
+        some = λ one. omega arith;
+        served = (served_ahead serves front so_far.served).1;
+        next_served = next;
+        takes = λ spare few.
+            let less : spare - (count + 1) ≡ spare - count - 1 = omega arith in
+            takes_on (so_far.takes spare few)
+            (rw (after, less, next_flat rest count f front.is front.within) (takes_first (instruction_of f) m (list_of (drop (count + 1) rest)) (spare - count) begins (omega (arith, few, front.within)) t));
+        room = λ room. t.room (so_far.room room);
+        kept = t.kept;
+      }
 
   -- the mantissa that is next
   pub took_mantissa : {serves : Key → Bool} {rest : List Flat} {l : Segment} {d e c : Dictionary} {bits later last : List Bool} {at count : ℕ} {there : Bool} {q : Bor FieldPart} {k j : LevelNow}
