@@ -16,14 +16,14 @@ use Rattle.fast_dictionary.specs.declared.entry.Entry.{Entry}
 use Rattle.fast_wire.specs.declared.level.Level.{Level}
 use Rattle.fast_stream.specs.Nodes.{single}
 use Rattle.fast_stream.specs.Bits.{bit_for, after_bit}
-use Rattle.fast_walk.specs.OpenSegments.{Next, at_instruction, at_mantissa, cursor}
+use Rattle.fast_walk.specs.OpenSegments.{Next, at_mantissa, cursor}
 use Rattle.fast_walk.specs.Received.{Received, Took, moved, passed, exponent_of}
 use Rattle.fast_walk.specs.Passing.{Passes, next_behind}
 use Rattle.fast_walk.specs.Walks.{AreServed, IsNextServed, IsServed}
 use Rattle.fast_value.specs.declared.key.Key.{Key}
 use Rattle.fast_walk.proofs.Steps.{count_goes, part_goes}
 use Rattle.fast_walk.proofs.Walking.{field_on, exponent_on, no_exponent_on, mantissa_on_goes, is_instruction, is_mantissa}
-use Rattle.fast_writer.specs.Written.{Segment, IsOpened, Spelt}
+use Rattle.fast_writer.specs.Written.{Segment, Spelt}
 use Rattle.fast_writer.specs.Takings.{BeginsWith, EndsPart, Front, IfEnded, Takes, TakesPart, TakesUnder, TookEntry, TookFields, TookUnder, behind, front_at}
 use Rattle.fast_writer.specs.Levels.{level_in, level_of}
 use Rattle.fast_writer.specs.Quick.{Relayed}

@@ -32,7 +32,7 @@ impl Writer {
     ghost use Rattle.fast_walk.specs.Received.{handed_on};
     ghost use Rattle.fast_writer.specs.Levels.{level_of};
     ghost use Rattle.fast_writer.specs.Room.{writer_room};
-    ghost use Rattle.fast_writer.specs.Written.{Closes, ClosesIn};
+    ghost use Rattle.fast_writer.specs.Written.{Closes, ClosesIn, IsEmpty};
 
     /// With no message, and nothing handed on. Takes no memory.
     #[inline(always)]
@@ -53,9 +53,7 @@ impl Writer {
     fn open(&mut self, alloc: Global, own: bool) -> Result<(), AllocError>
         ensures outer { OnOk result (map level_of self.new.outer
             ≡ map level_of self.old.outer ++ level_of self.old.inner ∷ []) }
-        ensures bits { OnOk result (self.new.inner.bits ≡ []) }
-        ensures own { OnOk result (self.new.inner.own ≡ own) }
-        ensures bytes { OnOk result (self.new.inner.bytes.out.items ≡ []) }
+        ensures begun { OnOk result (IsEmpty own (level_of self.new.inner)) }
         ensures out { self.new.out ≡ self.old.out }
     {
         self.outer.push(alloc, &mut self.inner)?;
@@ -87,9 +85,7 @@ impl Writer {
             × IsTrue (writer_room self.now (around ++ left ∷ []) bits) }
         ensures closed { OnOk result (ClosesIn (map level_of self.old.outer)
             (level_of self.old.inner) (map level_of self.new.outer)) }
-        ensures bits { OnOk result (self.new.inner.bits ≡ []) }
-        ensures own { OnOk result (self.new.inner.own ≡ own) }
-        ensures bytes { OnOk result (self.new.inner.bytes.out.items ≡ []) }
+        ensures begun { OnOk result (IsEmpty own (level_of self.new.inner)) }
         ensures out { self.new.out ≡ self.old.out }
     {
         self.outer.end(&self.inner)?;

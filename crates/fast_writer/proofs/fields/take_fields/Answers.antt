@@ -1,4 +1,4 @@
-use Rattle.std.proofs.Common.{◌≡◌, ◌-◌, arith, drop, length, length-drop, refl, take}
+use Rattle.std.proofs.Common.{◌≡◌, ◌-◌, arith, drop, length, length-drop, take}
 use Rattle.std.proofs.lemmas.List.{take_all}
 use Rattle.fast_relay.specs.Runs.{written}
 use Rattle.fast_writer.specs.Levels.{level_of}

@@ -15,7 +15,7 @@ returns-clause-goes g c =
       λ set ms members stands. (
         stands,
         has_opened (map level_of c.clear.new.self) (level_of c.begin.new.self) (level_of c.relay_identifier.new.segment) set ms c.in-Some.id members d e
-            (ap (map level_of) c.clear.ensures) c.begin.ensures.bits c.begin.ensures.own c.begin.ensures.bytes (rw (named) at relays.took.entry) (rw (named) at relays.spelt),
+            (ap (map level_of) c.clear.ensures) (record { bits = c.begin.ensures.bits; own_is = c.begin.ensures.own; bytes = c.begin.ensures.bytes }) (rw (named) at relays.took.entry) (rw (named) at relays.spelt),
       ),
     )
 

@@ -19,7 +19,7 @@ returns-clause-has c = λ o d ws w s bits next rest is inside own some has.
     let closed = end.closed in (
       subst (λ (v : Vec ℕ). IsFinished v.items o.set o.before o.start) (sym c.close_and_open.ensures.out) has.0,
       has_element closed.fore (map level_of new.outer) closed.next (level_of new.inner) (ended_in o ws w.body (in_sequence s)) (with_element s (items_of o.body.done)) bits d c.args.own_map
-          refl own some closed.later_is end.bits end.own end.bytes
+          refl own some closed.later_is end.begun
           (has_ended (in_sequence s) (map level_of old.outer) closed.fore (level_of old.inner) closed.next o ws w d next rest is inside closed.closes has.1),
     )
 
@@ -32,5 +32,5 @@ returns-clause-room c = λ around left bits later few room.
     let closes = closed.closes in
     let opened = (both_room (has_room (level_of old.inner) bits) (have_room (map level_of old.outer) (around ++ left ∷ [])) room).1 in
     let r = pop_room closed.fore around closes.around left (subst (λ (ls : List Segment). IsTrue (have_room ls (around ++ left ∷ []))) closes.outer_is opened) in
-    rw (fresh_room (level_of new.inner) later end.bits few, closed.later_is)
+    rw (fresh_room (level_of new.inner) later end.begun.bits few, closed.later_is)
     (push_room closed.fore around closed.next left r.0 (rw (closes.next_is) r.1))
