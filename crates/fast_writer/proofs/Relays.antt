@@ -25,17 +25,16 @@ use Rattle.fast_writer.proofs.MapRoom.{asked_room}
 use Rattle.fast_field.specs.declared.fault.FieldFault.{FieldFault}
 use Rattle.fast_writer.specs.Written.{Segment, AppendsForm, Asked, Spelt}
 
-pub took_of : (level : Level) (p : FieldPart) (bit : Bool) (d e : Dictionary) (old new : Entry) (v : Option Scalar) (bytes rest : List ℕ)
-    → old ≡ entry_at d p.key → e ≡ set_entry d p.key new → new ≡ next p old v
+pub took_of : {level : Level} {p : FieldPart} {bit : Bool} {d e : Dictionary} {old new : Entry} {v : Option Scalar} {bytes rest : List ℕ} → old ≡ entry_at d p.key → e ≡ set_entry d p.key new → new ≡ next p old v
     → ((more : List ℕ) → field_at level p old bit (bytes ++ more) ≡ Ok (v, rest ++ more)) → Took level p bit d e v bytes rest
-took_of level p bit d e old new v bytes rest is put after goes = record {
+took_of {p = p} {d = d} {v = v} is put after goes = record {
   value = λ more. rw (is) at (goes more);
   entry = put ∙ ap (set_entry d p.key) (after ∙ ap (λ (x : Entry). next p x v) is) ∙ set_written p d v;
 }
 
-spelt_entry : (p : FieldPart) (old : Entry) (v : Option Scalar) (bit needed : Bool) (l k : Segment) (bytes : List ℕ) → needed ≡ part_needs_bit p
-    → AppendsForm p old v bit l.bytes bytes → Asked needed bit (record { bits = l.bits; own = l.own; bytes = bytes }) k → Spelt p old v l k
-spelt_entry p old v bit needed l k bytes needs form asked = record {
+spelt_entry : {p : FieldPart} {old : Entry} {v : Option Scalar} {bit needed : Bool} {l k : Segment} {bytes : List ℕ} → needed ≡ part_needs_bit p → AppendsForm p old v bit l.bytes bytes
+    → Asked needed bit (record { bits = l.bits; own = l.own; bytes = bytes }) k → Spelt p old v l k
+spelt_entry {bit = bit} needs form asked = record {
   bit = bit;
   form = form.form;
   bits = rw (needs) at asked.bits;
@@ -46,29 +45,29 @@ spelt_entry p old v bit needed l k bytes needs form asked = record {
 }
 
 -- a part that was relayed and whose bit was asked for
-pub took_entry : (level : Level) (p : FieldPart) (old new : Entry) (bits : List Bool) (bit best needed : Bool) (v : Option Scalar) (bytes rest middle : List ℕ) (l k : Segment)
+pub took_entry : {level : Level} {p : FieldPart} {old new : Entry} {bits : List Bool} {bit best needed : Bool} {v : Option Scalar} {bytes rest middle : List ℕ} {l k : Segment}
     → bit_for (part_needs_bit p) bits ≡ bit → needed ≡ part_needs_bit p → (bit ≡ false → best ≡ false)
     → Relayed level p old new bit best v bytes rest l.bytes middle → Asked needed best (record { bits = l.bits; own = l.own; bytes = middle }) k → TookEntry level p old new bits v bytes rest l k
 unfolding spelt_entry
-took_entry level p old new bits bit best needed v bytes rest middle l k is needs low r asked = record {
+took_entry is needs low r asked = record {
   value = λ more. rw (is) (r.read more);
   entry = r.entry;
-  spelt = spelt_entry p old v best needed l k middle needs r.form asked;
+  spelt = spelt_entry needs r.form asked;
   lower = λ zero. low (sym is ∙ zero);
 }
 
 -- what stands in its best form is relayed by its bytes
-pub stands_relayed : (level : Level) (i : FieldPart) (old new : Entry) (v : Scalar) (bytes rest before after all : List ℕ) → ReadsAsUsual level i bytes → Relays i old new v bytes rest before after → all ≡ after
+pub stands_relayed : {level : Level} {i : FieldPart} {old new : Entry} {v : Scalar} {bytes rest before after all : List ℕ} → ReadsAsUsual level i bytes → Relays i old new v bytes rest before after → all ≡ after
     → Relayed level i old new true true (Some v) bytes rest before all
-stands_relayed level i old new v bytes rest before after all usual r same = record {
+stands_relayed {old = old} usual r same = record {
   read = λ more. usual old more ∙ r.read more;
   entry = r.entry;
   form = record { form = r.best.bytes; appended = same ∙ r.best.appended; best = r.best.best; needs = λ none. refl };
 }
 
 -- what bit 0 gives is relayed by nothing
-pub passes_relayed : (level : Level) (i : FieldPart) (old new : Entry) (v : Option Scalar) (bytes before : List ℕ) → part_needs_bit i ≡ true → FieldPasses i old new v → Relayed level i old new false false v bytes bytes before before
-passes_relayed level i old new v bytes before needs p = record {
+pub passes_relayed : {level : Level} {i : FieldPart} {old new : Entry} {v : Option Scalar} {bytes before : List ℕ} → part_needs_bit i ≡ true → FieldPasses i old new v → Relayed level i old new false false v bytes bytes before before
+passes_relayed {level = level} {bytes = bytes} {before = before} needs p = record {
   read = λ more. p.read level (bytes ++ more);
   entry = p.entry;
   form = record { form = []; appended = sym (append-nil before); best = p.best; needs = λ none. absurd (let both = sym needs ∙ none in cc) };
@@ -91,13 +90,13 @@ begun bytes r s at out from place = rw (out, from, place) (settled bytes r.out.i
 -- ---- under a key
 
 -- what was relayed into the entry that is put, and its bit asked for
-pub relays_under : (level : Level) (p : FieldPart) (d e : Dictionary) (old new : Entry) (bit best needed : Bool) (v : Option Scalar) (bytes : List ℕ) (at next : ℕ) (l k : Segment) (after : List ℕ)
+pub relays_under : {level : Level} {p : FieldPart} {d e : Dictionary} {old new : Entry} {bit best needed : Bool} {v : Option Scalar} {bytes : List ℕ} {at next : ℕ} {l k : Segment} {after : List ℕ}
     → old ≡ entry_at d p.key → e ≡ set_entry d p.key new → needed ≡ part_needs_bit p
     → RelaysEntry level p old new bit best v bytes at next l.bytes after → Asked needed best (record { bits = l.bits; own = l.own; bytes = after }) k → RelaysPart level p d e bit v bytes at next l k
-relays_under level p d e old new bit best needed v bytes at next l k after is put needs r asked = record {
+relays_under {p = p} {bit = bit} {best = best} {v = v} {l = l} {k = k} is put needs r asked = record {
   place = (r.forward, r.within);
-  took = took_of level p bit d e old new v (drop at bytes) (drop next bytes) is put r.relayed.entry r.relayed.read;
-  spelt = subst (λ (x : Entry). Spelt p x v l k) is (spelt_entry p old v best needed l k after needs r.relayed.form asked);
+  took = took_of is put r.relayed.entry r.relayed.read;
+  spelt = subst (λ (x : Entry). Spelt p x v l k) is (spelt_entry needs r.relayed.form asked);
   room = λ left left_is room. asked_room (part_needs_bit p) bit best l k left left_is r.lower (rw (needs) at asked.bits) asked.own room;
 }
 
@@ -127,6 +126,6 @@ pub byte_relays : (level : Level) (p : FieldPart) (bit : Bool) (d : Dictionary) 
     → k.bits ≡ l.bits → k.own ≡ l.own → k.bytes ≡ l.bytes ++ slice_index bytes at ∷ [] → RelaysPart level p d d bit (length_of count) bytes at (at + 1) l k
 byte_relays level p bit d count bytes at l k none is within usual relays bits own pushed =
     let e = entry_at d p.key in
-    relays_under level p d d e e bit true false (length_of count) bytes at (at + 1) l k (l.bytes ++ slice_index bytes at ∷ []) refl (sym (set_entry-there d p.key)) (sym none)
+    relays_under {best = true} {after = l.bytes ++ slice_index bytes at ∷ []} refl (sym (set_entry-there d p.key)) (sym none)
     (record { forward = omega arith; within = omega (arith, within); relayed = rw (is) (byte_relayed level p count bytes at usual relays e l.bytes); lower = λ zero. absurd (let both = sym is ∙ zero in cc) })
     (record { bits = bits ∙ sym (append-nil l.bits); own = own; bytes = pushed })

@@ -140,8 +140,7 @@ ended level p old new bit best needed there v bits later bytes at next l k r (Pa
       value = v;
       is_there = rw (e.0) value;
       took = subst (λ (n : ℕ). TookEntry level p old new bits v (drop at bytes) (drop n bytes) (level_in bytes l) (level_in bytes k)) (sym place)
-          (took_entry level p old new bits bit best needed v (drop at bytes) (drop next bytes) (written bytes r) (level_in bytes l) (level_in bytes k) is needs low relayed
-          (record { bits = asked.bits; own = asked.own; bytes = ap (written bytes) e.1.1 }));
+          (took_entry is needs low relayed (record { bits = asked.bits; own = asked.own; bytes = ap (written bytes) e.1.1 }));
       left = rw (needs) at e.1.0.left;
     }
 ended level p old new bit best needed there v bits later bytes at next l k r Elsewhere is needs low forward run value relayed e = absurd e
@@ -157,7 +156,7 @@ stood level p old new needed bits later bytes at next l k r t is needs usual for
     let v = judged.0 in
     let relays = judged.1 (written bytes l.bytes) in
     ended level p old new true true needed true (Some v) bits later bytes at next l k r t is needs (λ low. low) forward run (v, refl, relays.of_kind)
-    (stands_relayed level p old new v (drop at bytes) (drop next bytes) (written bytes l.bytes) _ (written bytes r) usual relays noted) e
+    (stands_relayed usual relays noted) e
 
 -- its entry is put under its key
 pub taken_under : (level : Level) (p : FieldPart) (d e : Dictionary) (old new : Entry) (bits later : List Bool) (bytes : List ℕ) (at : ℕ) (l k : LevelNow) (t : Taken)
@@ -166,7 +165,7 @@ pub taken_under : (level : Level) (p : FieldPart) (d e : Dictionary) (old new : 
 taken_under level p d e old new bits later bytes at l k (Part there) part kept is put t =
     let needs = part_needs_bit p in
     let v = t.value in
-    let took = took_of level p (bit_for needs bits) d e old new v (drop at bytes) (drop k.bytes.place bytes) is put t.took.entry t.took.value in
+    let took : Took level p (bit_for needs bits) d e v (drop at bytes) (drop k.bytes.place bytes) = took_of is put t.took.entry t.took.value in
     let spelt = subst (λ (x : Entry). Spelt p x v (level_in bytes l) (level_in bytes k)) is t.took.spelt in
     record {
       place = t.place;

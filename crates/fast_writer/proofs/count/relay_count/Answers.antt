@@ -19,5 +19,4 @@ returns-in_err-count-clause-relays g c =
 pub returns-clause-relays : goal.returns-clause-relays
 returns-clause-relays g c =
     let new = c.count_generally.new.entry in
-    relays_under c.args.level c.args.part.now (g.E.Entries.contents c.args.entries.now) _ c.in_ok-entry.entry.now new c.args.bit _ _ _ _ _ _ (level_of c.args.segment.now) _ c.count_generally.new.out.items
-    c.in_ok-entry.ensures.value (c.entry_mut.follows.holds new (ap is_ok c.in_ok-entry.was)).0 c.part_needs_bit.ensures c.in_ok-count.ensures c.in_ok-ask.ensures.asked
+    relays_under c.in_ok-entry.ensures.value (c.entry_mut.follows.holds new (ap is_ok c.in_ok-entry.was)).0 c.part_needs_bit.ensures c.in_ok-count.ensures c.in_ok-ask.ensures.asked

@@ -22,6 +22,5 @@ returns-clause-relays g c =
     let r = c.in_ok-there.ensures in (
       r.0,
       r.1,
-      relays_under c.args.level c.args.part.now (g.E.Entries.contents c.args.entries.now) _ c.in_ok-entry.entry.now new c.args.bit _ _ r.0 _ _ _ (level_of c.args.segment.now) _ c.relay_generally.new.out.items
-          c.in_ok-entry.ensures.value (c.entry_mut.follows.holds new (ap is_ok c.in_ok-entry.was)).0 c.part_needs_bit.ensures r.2 c.in_ok-ask.ensures.asked,
+      relays_under c.in_ok-entry.ensures.value (c.entry_mut.follows.holds new (ap is_ok c.in_ok-entry.was)).0 c.part_needs_bit.ensures r.2 c.in_ok-ask.ensures.asked,
     )
