@@ -94,7 +94,7 @@ pub relays_under : {level : Level} {p : FieldPart} {d e : Dictionary} {old new :
     → old ≡ entry_at d p.key → e ≡ set_entry d p.key new → needed ≡ part_needs_bit p
     → RelaysEntry level p old new bit best v bytes at next l.bytes after → Asked needed best (record { bits = l.bits; own = l.own; bytes = after }) k → RelaysPart level p d e bit v bytes at next l k
 relays_under {p = p} {bit = bit} {best = best} {v = v} {l = l} {k = k} is put needs r asked = record {
-  place = (r.forward, r.within);
+  place = r.place;
   took = took_of is put r.relayed.entry r.relayed.read;
   spelt = subst (λ (x : Entry). Spelt p x v l k) is (spelt_entry needs r.relayed.form asked);
   room = λ left left_is room. asked_room (part_needs_bit p) bit best l k left left_is r.lower (rw (needs) at asked.bits) asked.own room;
@@ -127,5 +127,5 @@ pub byte_relays : (level : Level) (p : FieldPart) (bit : Bool) (d : Dictionary) 
 byte_relays level p bit d count bytes at l k none is within usual relays bits own pushed =
     let e = entry_at d p.key in
     relays_under {best = true} {after = l.bytes ++ slice_index bytes at ∷ []} refl (sym (set_entry-there d p.key)) (sym none)
-    (record { forward = omega arith; within = omega (arith, within); relayed = rw (is) (byte_relayed level p count bytes at usual relays e l.bytes); lower = λ zero. absurd (let both = sym is ∙ zero in cc) })
+    (record { place = (omega arith, omega (arith, within)); relayed = rw (is) (byte_relayed level p count bytes at usual relays e l.bytes); lower = λ zero. absurd (let both = sym is ∙ zero in cc) })
     (record { bits = bits ∙ sym (append-nil l.bits); own = own; bytes = pushed })

@@ -24,7 +24,7 @@ use Rattle.fast_value.specs.declared.key.Key.{Key}
 use Rattle.fast_walk.proofs.Steps.{count_goes, part_goes}
 use Rattle.fast_walk.proofs.Walking.{field_on, exponent_on, no_exponent_on, mantissa_on_goes, is_instruction, is_mantissa}
 use Rattle.fast_writer.specs.Written.{Segment, Spelt}
-use Rattle.fast_writer.specs.Takings.{BeginsWith, EndsPart, Front, IfEnded, Takes, TakesPart, TakesUnder, TookEntry, TookFields, TookUnder, behind, front_at}
+use Rattle.fast_writer.specs.Takings.{BeginsWith, EndsPart, Front, MatchTaken, Takes, TakesPart, TakesUnder, TookEntry, TookFields, TookUnder, behind, front_at}
 use Rattle.fast_writer.specs.Levels.{level_in, level_of}
 use Rattle.fast_writer.specs.Quick.{Relayed}
 use Rattle.fast_writer.specs.declared.segment.Segment.{Segment as LevelNow}
@@ -129,19 +129,19 @@ passes_with level Has Had o next left d e bits later spare fewer bytes rest f p 
 pub ended : (level : Level) (p : FieldPart) (old new : Entry) (bit best needed there : Bool) (v : Option Scalar) (bits later : List Bool) (bytes : List ℕ) (at next : ℕ) (l k : LevelNow) (r : Run) (t : Taken)
     → bit_for (part_needs_bit p) bits ≡ bit → needed ≡ part_needs_bit p → (bit ≡ false → best ≡ false) → at ≤ next → IsRun bytes next r → IsThere p.kind there v
     → Relayed level p old new bit best v (drop at bytes) (drop next bytes) (written bytes l.bytes) (written bytes r)
-    → IfEnded there (EndsPart needed best bits later (record { bits = l.bits; own = l.own; bytes = r.out.items }) (level_of k) × (k.bytes ≡ r)) t
+    → MatchTaken t (λ is. (is ≡ there) × EndsPart needed best bits later (record { bits = l.bits; own = l.own; bytes = r.out.items }) (level_of k) × (k.bytes ≡ r)) ⊥
     → TakesPart level p old new bits later bytes at l k t
 ended level p old new bit best needed there v bits later bytes at next l k r (Part there_now) is needs low forward run value relayed e =
-    let asked = e.1.0.asked in
-    let place : k.bytes.place ≡ next = ap (λ (s : Run). s.place) e.1.1 ∙ run.place in
+    let asked = e.1.asked in
+    let place : k.bytes.place ≡ next = ap (λ (s : Run). s.place) e.2 ∙ run.place in
     record {
       place = rw (place) forward;
-      run = subst (λ (s : Run). IsRun bytes s.place s) (sym e.1.1) (subst (λ (n : ℕ). IsRun bytes n r) (sym run.place) run);
+      run = subst (λ (s : Run). IsRun bytes s.place s) (sym e.2) (subst (λ (n : ℕ). IsRun bytes n r) (sym run.place) run);
       value = v;
       is_there = rw (e.0) value;
       took = subst (λ (n : ℕ). TookEntry level p old new bits v (drop at bytes) (drop n bytes) (level_in bytes l) (level_in bytes k)) (sym place)
-          (took_entry is needs low relayed (record { bits = asked.bits; own = asked.own; bytes = ap (written bytes) e.1.1 }));
-      left = rw (needs) at e.1.0.left;
+          (took_entry is needs low relayed (record { bits = asked.bits; own = asked.own; bytes = ap (written bytes) e.2 }));
+      left = rw (needs) at e.1.left;
     }
 ended level p old new bit best needed there v bits later bytes at next l k r Elsewhere is needs low forward run value relayed e = absurd e
 ended level p old new bit best needed there v bits later bytes at next l k r Refused is needs low forward run value relayed e = tt
@@ -150,7 +150,7 @@ ended level p old new bit best needed there v bits later bytes at next l k r Ref
 pub stood : (level : Level) (p : FieldPart) (old new : Entry) (needed : Bool) (bits later : List Bool) (bytes : List ℕ) (at next : ℕ) (l k : LevelNow) (r : Run) (t : Taken)
     → bit_for (part_needs_bit p) bits ≡ true → needed ≡ part_needs_bit p → ReadsAsUsual level p (drop at bytes) → at ≤ next → (v : Scalar) × Judges true p old new v bytes at next
     → IsRun bytes next r → written bytes r ≡ written bytes l.bytes ++ slice_range bytes at next
-    → IfEnded true (EndsPart needed true bits later (record { bits = l.bits; own = l.own; bytes = r.out.items }) (level_of k) × (k.bytes ≡ r)) t
+    → MatchTaken t (λ is. (is ≡ true) × EndsPart needed true bits later (record { bits = l.bits; own = l.own; bytes = r.out.items }) (level_of k) × (k.bytes ≡ r)) ⊥
     → TakesPart level p old new bits later bytes at l k t
 stood level p old new needed bits later bytes at next l k r t is needs usual forward judged run noted e =
     let v = judged.0 in

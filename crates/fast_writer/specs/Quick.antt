@@ -27,11 +27,10 @@ pub record Relayed (level : Level) (p : FieldPart) (old new : Entry) (bit best :
   pub entry : new ≡ next p old v
   pub form : AppendsForm p old v best before after
 
--- the same between two places; what bit 0 gave has bit 0
+-- the same between two places in the bytes; what bit 0 gave is best with bit 0
 pub record RelaysEntry (level : Level) (p : FieldPart) (old new : Entry) (bit best : Bool) (v : Option Scalar) (bytes : List ℕ) (at next : ℕ)
     (before after : List ℕ) : Type 0 where
-  pub forward : at ≤ next
-  pub within : next ≤ length bytes
+  pub place : (at ≤ next) × (next ≤ length bytes)
   pub relayed : Relayed level p old new bit best v (drop at bytes) (drop next bytes) before after
   pub lower : bit ≡ false → best ≡ false
 
@@ -46,7 +45,7 @@ abbrev pub RelaysFound : Level → FieldPart → Entry → Entry → Bool → Li
 RelaysFound level p old new bit bytes at before after result =
     MatchResult result (λ x. RelaysEntry level p old new bit x.1 (value_found p new x.0) bytes at x.2 before after) (StopsEntry level p old new bit (drop at bytes) before after)
 
--- a part was relayed under bit 1 as at the usual level, with what is noted, whether its value is there
+-- the same under bit 1 and as at the usual level, behind what is noted: whether the value is there
 pub record RelaysRun (p : FieldPart) (old new : Entry) (there best : Bool) (bytes : List ℕ) (at : ℕ) (r s : Run) : Type 0 where
   pub place : at ≤ s.place
   pub run : IsRun bytes s.place s

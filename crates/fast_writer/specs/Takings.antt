@@ -106,28 +106,24 @@ pub record StaysThere {X : Type 0} (old new : X) (bits later : List Bool) (bytes
   pub left : later ≡ bits
   pub run : IsRun bytes at k.bytes
 
+-- what holds of a part that was taken, whether its value is there, and what holds where nothing was done
+abbrev pub MatchTaken : Taken → (Bool → Type 0) → Type 0 → Type 0
+MatchTaken (Part there) P Q = P there
+MatchTaken Elsewhere P Q = Q
+MatchTaken Refused P Q = Unit {0}
+
 -- what became of a part and its entry
 abbrev pub TakesPart : Level → FieldPart → Entry → Entry → List Bool → List Bool → List ℕ → ℕ → LevelNow → LevelNow → Taken → Type 0
-TakesPart level p old new bits later bytes at l k (Part there) = TookThere level p there old new bits later bytes at l k
-TakesPart level p old new bits later bytes at l k Elsewhere = StaysThere old new bits later bytes at l k
-TakesPart level p old new bits later bytes at l k Refused = Unit {0}
+TakesPart level p old new bits later bytes at l k taken = MatchTaken taken (λ there. TookThere level p there old new bits later bytes at l k) (StaysThere old new bits later bytes at l k)
 
 -- and under its key
 abbrev pub TakesUnder : Level → FieldPart → Dictionary → Dictionary → List Bool → List Bool → List ℕ → ℕ → LevelNow → LevelNow → Taken → Type 0
-TakesUnder level p d e bits later bytes at l k (Part there) = TookUnder level p there d e bits later bytes at l k
-TakesUnder level p d e bits later bytes at l k Elsewhere = StaysThere d e bits later bytes at l k
-TakesUnder level p d e bits later bytes at l k Refused = Unit {0}
+TakesUnder level p d e bits later bytes at l k taken = MatchTaken taken (λ there. TookUnder level p there d e bits later bytes at l k) (StaysThere d e bits later bytes at l k)
 
 -- the bit of a part is taken, and the one of its best form asked for
 pub record EndsPart (needs best : Bool) (bits later : List Bool) (l k : Segment) : Type 0 where
   pub asked : Asked needs best l k
   pub left : later ≡ after_bit needs bits
-
--- a part ended so, whose value is there or not
-abbrev pub IfEnded : Bool → Type 0 → Taken → Type 0
-IfEnded there holds (Part is) = (is ≡ there) × holds
-IfEnded there holds Elsewhere = ⊥
-IfEnded there holds Refused = Unit {0}
 
 -- Fields were taken from the front of a body: so many instructions, and the mantissa is next where only the exponent of the last one was.
 pub record TookFields (level : Level) (serves : Key → Bool) (rest : List Flat) (bytes : List ℕ) (l : Segment) (d : Dictionary) (bits : List Bool) (at : ℕ)

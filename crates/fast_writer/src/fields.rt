@@ -19,7 +19,7 @@ ghost use Rattle.fast_writer.specs.Levels.{level_in, level_of};
 ghost use Rattle.fast_writer.specs.Room.{has_room};
 ghost use Rattle.fast_wire.specs.PresenceMap.{next_bit};
 ghost use Rattle.fast_writer.specs.Written.{with_bytes};
-ghost use Rattle.fast_writer.specs.Takings.{BeginsWith, EndsPart, IfEnded, IsFirstTold, Takes, TakesPart, TakesUnder, TookFields, WasJudged, front_of};
+ghost use Rattle.fast_writer.specs.Takings.{BeginsWith, EndsPart, IsFirstTold, MatchTaken, Takes, TakesPart, TakesUnder, TookFields, WasJudged, front_of};
 ghost use Rattle.fast_value.specs.declared.key.Key.{Key};
 ghost use Rattle.fast_value.specs.declared.kind.Kind.TheVariants.{Int32};
 ghost use Rattle.fast_value.specs.declared.kind.Part.TheVariants.{Exponent, Whole};
@@ -58,8 +58,9 @@ fn take_for(bits: &mut Bits, needed: bool)
 // Takes the bit of a part that was taken, and asks for the one of its best form.
 #[inline(always)]
 fn end_part(bits: &mut Bits, needs: bool, best: bool, segment: &mut Segment, there: bool) -> Taken
-    ensures { IfEnded there (EndsPart needs best bits.old bits.new (level_of segment.old) (level_of segment.new)
-        × (segment.new.bytes ≡ segment.old.bytes)) result }
+    ensures { MatchTaken result (λ is. (is ≡ there)
+        × EndsPart needs best bits.old bits.new (level_of segment.old) (level_of segment.new)
+        × (segment.new.bytes ≡ segment.old.bytes)) ⊥ }
 {
     take_for(bits, needs);
     match segment.ask(needs, best) {
@@ -82,9 +83,9 @@ fn end_from(
     requires run { IsRun bytes.now segment.now.bytes.place segment.now.bytes }
     requires first { first ≤ next }
     requires within { next ≤ length bytes.now }
-    ensures { IfEnded true (EndsPart needs best bits.old bits.new
+    ensures { MatchTaken result (λ is. (is ≡ true) × EndsPart needs best bits.old bits.new
         (with_bytes (level_in bytes.now segment.old) (slice_range bytes.now first next))
-        (level_in bytes.now segment.new) × IsRun bytes.now next segment.new.bytes) result }
+        (level_in bytes.now segment.new) × IsRun bytes.now next segment.new.bytes) ⊥ }
 {
     match end_part(bits, needs, best, segment, true) {
         Taken::Part(there) => {

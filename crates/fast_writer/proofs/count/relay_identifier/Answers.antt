@@ -10,8 +10,7 @@ returns-clause-relays g c =
     rw (zero)
     (relays_under refl r.2 c.part_needs_bit.ensures
     (record {
-      forward = omega arith;
-      within = c.requires.place;
+      place = (omega arith, c.requires.place);
       relayed = passes_relayed (needs_one (part_needs_bit c.args.part.now) c.args.bit c.requires.bit zero) r.1;
       lower = λ none. refl;
     })
